@@ -1,0 +1,5 @@
+pub mod NameLemmas
+pub mod RunsLemmas
+pub mod RunsReach
+pub mod RunsEnds
+pub mod RunsFault

@@ -1,0 +1,11 @@
+use Rattle.std.proofs.Common.{◌≡◌, take, Some}
+use Rattle.geo_base.proofs.RunsReach.{Reached}
+use Rattle.geo_base.proofs.RunsFault.{from_start}
+use Rattle.geo_base.proofs.RunsEnds.{at_place}
+use Rattle.geo_base.proofs.runs.read_runs.Given as goal
+
+abbrev pub invariant-loop-at : goal.invariant-loop-at
+invariant-loop-at l = record {
+  reached : Reached l.place l.bytes.items (take l.at l.text);
+  ran : from_start (take l.at l.text) ≡ Some (at_place l.place l.bytes.items);
+}

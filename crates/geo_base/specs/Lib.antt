@@ -1,0 +1,9 @@
+pub mod Name
+pub mod Padded
+pub mod Errno
+pub mod Kind
+pub mod Runs
+pub mod Faults
+pub mod Sectors
+pub mod Written
+pub mod RunsReader

@@ -1,0 +1,30 @@
+//! Why a class declines the sector that it was shown.
+use thiserror::Error;
+
+/// The first cause by which a sector isn't what a class looks for.
+#[derive(Clone, Copy, Debug, PartialEq, Eq)]
+pub enum DeclineCause {
+    /// A partition table without 0x55, 0xAA at its end.
+    Signature,
+    /// A partition table with an entry of type 0xEE, which protects a table of another kind.
+    Protective,
+    /// A partition table of which no entry is kept.
+    Nothing,
+    /// A record of another magic.
+    Magic,
+    /// A record of another version.
+    Version,
+    /// A record whose name isn't one.
+    BadName,
+    /// A record with no place, or with a place past its count.
+    Place,
+    /// A record of a stripe whose stripe size doesn't fit.
+    Size,
+}
+
+/// A sector that a class declined.
+#[derive(Clone, Copy, Debug, PartialEq, Eq, Error)]
+#[error("declined: {cause:?}")]
+pub struct Declined {
+    pub cause: DeclineCause,
+}
