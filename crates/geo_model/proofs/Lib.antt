@@ -1,0 +1,10 @@
+pub mod LogLemmas
+pub mod FullLemmas
+pub mod NeverFull
+pub mod ErrorLemmas
+pub mod RestLemmas
+pub mod RecordLemmas
+pub mod DemandLemmas
+pub mod RankLemmas
+pub mod PlaceLemmas
+pub mod PartitionLemmas

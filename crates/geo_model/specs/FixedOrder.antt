@@ -1,0 +1,109 @@
+-- Whose step stands where in a log: the fixed order of one thread, and the jobs of many.
+use Rattle.std.specs.Prelude.{◌≡◌, ◌≢◌, ◌⊎◌, ℕ, ◌+◌, ◌%◌, false, List, [], ◌∷◌, ◌++◌, length, Option, Some, None, IsSome, IsSomeAnd, IsTrue, All, ⊤}
+use Rattle.geo_model.specs.declared.command.Command.{Command}
+use Rattle.geo_model.specs.declared.command.Command.TheVariants as commands
+use Rattle.geo_model.specs.declared.step.Entry.{Entry}
+use Rattle.geo_model.specs.declared.step.Step.{Step}
+use Rattle.geo_model.specs.declared.step.Step.TheVariants as steps
+use Rattle.geo_model.specs.World.{World, Plan}
+use Rattle.geo_model.specs.Step.{is_enabled}
+use Rattle.geo_model.specs.Order.{pick}
+use Rattle.geo_model.specs.Log.{replay, IsSplitBy, IsPrefixOf, is_full}
+use Rattle.geo_model.specs.Passes.{entries_of_seat}
+use Rattle.geo_model.specs.History.{next_command}
+
+-- One thread
+
+-- the bio that a step takes, and the one that it delivers
+abbrev pub taken_in : Step → Option ℕ
+taken_in (steps.Take disk b) = Some b
+taken_in _ = None
+
+abbrev pub delivered_in : Step → Option ℕ
+delivered_in (steps.Deliver b got) = Some b
+delivered_in _ = None
+
+-- the step is the Deliver of the bio that the last entry took
+abbrev pub FollowsTake : List Entry → Step → Type 0
+FollowsTake earlier s =
+    (start : List Entry) × (e : Entry) × (earlier ≡ start ++ e ∷ []) × IsSome (taken_in e.step) × (taken_in e.step ≡ delivered_in s)
+
+-- the entry is of seat 0, and its step is the one of the fixed order or the Deliver after its Take
+pub record IsInOrder (opened : World) (earlier : List Entry) (e : Entry) : Type 0 where
+  pub seat : e.seat ≡ 0
+  pub picked : (pick (replay opened earlier) ≡ Some e.step) ⊎ FollowsTake earlier e.step
+
+-- after the first part come only such entries
+abbrev pub FollowsOrder : World → List Entry → List Entry → Type 0
+FollowsOrder opened first_part log =
+    (earlier : List Entry) (e : Entry) → IsSplitBy log earlier e → IsInOrder opened (first_part ++ earlier) e
+
+-- Jobs
+
+-- the seat of the event worker, which comes after one for each client; the down worker and the up worker follow
+abbrev pub event_seat : Plan → ℕ
+event_seat plan = length plan.actors + 1
+
+-- the seat of the disk worker to which a disk belongs: there are two, and the disks go to them in turn
+abbrev pub disk_seat : Plan → ℕ → ℕ
+disk_seat plan disk = event_seat plan + 3 + disk % 2
+
+-- the step is of the kind of the job whose pass has the seat
+abbrev pub IsOfItsJob : Plan → ℕ → Step → Type 0
+IsOfItsJob plan seat (steps.Go actor) = seat ≡ actor + 1
+IsOfItsJob plan seat steps.Event = seat ≡ event_seat plan
+IsOfItsJob plan seat steps.Judge = seat ≡ event_seat plan
+IsOfItsJob plan seat steps.Reap = seat ≡ event_seat plan
+IsOfItsJob plan seat steps.Wash = seat ≡ event_seat plan
+IsOfItsJob plan seat (steps.Start b) = seat ≡ event_seat plan + 1
+IsOfItsJob plan seat (steps.Up b) = seat ≡ event_seat plan + 2
+IsOfItsJob plan seat (steps.Take disk b) = seat ≡ disk_seat plan disk
+IsOfItsJob plan seat (steps.Deliver b got) = (seat ≡ disk_seat plan 0) ⊎ (seat ≡ disk_seat plan 1)
+
+-- a job that tried a step was idle: the step isn't enabled in the world that it had seen
+abbrev pub WasIdle : World → List Entry → ℕ → Step → Type 0
+WasIdle opened seen seat s = is_enabled (replay opened seen) seat s ≡ false
+
+-- a client has finished: its actor has no command left in the world that it had seen
+abbrev pub HasFinished : World → List Entry → ℕ → Type 0
+HasFinished opened seen actor = next_command (replay opened seen) actor ≡ None
+
+-- a job found the log full: the step that it tried has no place in the log that it had seen
+abbrev pub FoundFull : World → List Entry → ℕ → Step → Type 0
+FoundFull opened seen seat s = IsTrue (is_full seen (replay opened seen) seat s)
+
+-- the event worker was idle: none of its four steps was enabled, each at its own try
+pub record EventWorkerIdle (opened : World) (plan : Plan) (last : List Entry) : Type 0 where
+  pub at_judge : (seen : List Entry) × IsPrefixOf seen last × WasIdle opened seen (event_seat plan) steps.Judge
+  pub at_event : (seen : List Entry) × IsPrefixOf seen last × WasIdle opened seen (event_seat plan) steps.Event
+  pub at_reap : (seen : List Entry) × IsPrefixOf seen last × WasIdle opened seen (event_seat plan) steps.Reap
+  pub at_wash : (seen : List Entry) × IsPrefixOf seen last × WasIdle opened seen (event_seat plan) steps.Wash
+
+-- a seat was idle at the step after all of its own entries
+abbrev pub EndedIdle : World → List Entry → ℕ → Step → Type 0
+EndedIdle opened threads seat s =
+    (seen : List Entry) × IsPrefixOf seen threads × (entries_of_seat seat seen ≡ entries_of_seat seat threads)
+    × WasIdle opened seen seat s
+
+abbrev pub IsWait : Command → Type 0
+IsWait commands.Sync = ⊤
+IsWait commands.Settle = ⊤
+IsWait _ = ⊥
+
+-- the first Go of an actor in the last part is for a sync or a settle at which its client was idle
+abbrev pub ClientStopped : World → List Entry → List Entry → ℕ → Type 0
+ClientStopped opened threads rest actor =
+    (earlier : List Entry) (e : Entry) → IsSplitBy rest earlier e → e.step ≡ steps.Go actor
+    → All (λ x. x.step ≢ steps.Go actor) earlier
+    → IsSomeAnd (next_command (replay opened (threads ++ earlier)) actor) (λ c. IsWait c.command)
+    × EndedIdle opened threads (actor + 1) (steps.Go actor)
+
+-- the log of threads: what the jobs did, and then what was left in the fixed order
+pub record FollowsJobs (plan : Plan) (opened : World) (threads rest : List Entry) : Type 0 where
+  pub own_kind : All (λ e. (e.seat ≢ 0) × IsOfItsJob plan e.seat e.step) threads
+  pub order : FollowsOrder opened threads rest
+  pub clients : (actor : ℕ) → ClientStopped opened threads rest actor
+  pub judge : EndedIdle opened threads (event_seat plan) steps.Judge
+  pub event : EndedIdle opened threads (event_seat plan) steps.Event
+  pub reap : EndedIdle opened threads (event_seat plan) steps.Reap
+  pub wash : EndedIdle opened threads (event_seat plan) steps.Wash

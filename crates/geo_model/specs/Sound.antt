@@ -1,0 +1,174 @@
+-- What holds of the mesh at every moment.
+use Rattle.std.specs.Prelude.{◌≡◌, ◌≢◌, ◌↔◌, ◌⊎◌, ℕ, ◌%◌, ◌^◌, ◌<◌, ◌≤◌, ◌==◌, Bool, true, false, not, ◌&&◌, List, [], ◌∷◌, map, count_by, Some, IsSome, IsSomeAnd, IfSome, MatchOption, IsTrue, All, AllPairs, option_and_then, slice_get}
+use Rattle.std.specs.List.{list_any}
+use Rattle.std.specs.List.Sorted.{IsStrictlyIncreasing}
+use Rattle.std.specs.Option.{option_map_or}
+use Rattle.geo_base.specs.declared.kind.Kind.{Kind}
+use Rattle.geo_base.specs.declared.kind.Kind.TheVariants as kinds
+use Rattle.geo_model.specs.Words.{is_kind, names_number, same_name}
+use Rattle.geo_model.specs.Topology.{Topology, Geom, Provider, Consumer, geom_at, provider_at, consumer_at, geom_of_provider, providers_of, consumers_of, is_withering}
+use Rattle.geo_model.specs.Rank.{rank, rank_limit, Ranked}
+use Rattle.geo_model.specs.Demand.{have, is_zero, is_exclusive, fits_limit}
+use Rattle.geo_model.specs.World.{World, Config, Nothing, Disk, Mbr, Label, Concat, Stripe, Nop, Handle, Taste, Asked, NoClass, NextSector, ReadOut, ReadBack, granted_in, is_read_out, is_taste_root}
+use Rattle.geo_model.specs.Place.{Spot, place, component, disk_of}
+use Rattle.geo_model.specs.Events.{provider_of_event, taste_limit}
+use Rattle.geo_model.specs.SoundBios.{IsBioInOrder, IsFamilyInOrder, DisksHold}
+
+-- Ranks
+
+-- a geom stands, isn't withering and has no provider
+pub record StandsBare (t : Topology Config) (g : ℕ) : Type 0 where
+  pub stands : IsSomeAnd (geom_at t g) (λ x. x.withering ≡ false)
+  pub no_provider : providers_of t g ≡ []
+
+-- there is no loop, no geom but DEV and TASTE is too deep, and these two stand
+pub record RanksHold (t : Topology Config) : Type 0 where
+  pub ranked : Ranked t
+  pub not_deep : All (λ x. x.number ≢ 1 → x.number ≢ 2 → rank t x.number ≤ rank_limit) t.geoms
+  pub dev : StandsBare t 1
+  pub taste : StandsBare t 2
+
+-- Counts
+
+-- no writer stands beside another's exclusive count, and no count is above the limit
+pub record CountsHold (w : World) : Type 0 where
+  pub exclusive : IsTrue (is_exclusive (granted_in w) w.topology)
+  pub limited : IsTrue (fits_limit (granted_in w) w.topology)
+
+-- Names and sizes
+
+-- not both are without an error under one name
+abbrev pub DifferInName : Provider → Provider → Type 0
+DifferInName x y = IsTrue (not (not x.errored && (not y.errored && same_name x.name y.name)))
+
+-- the size is a whole positive number of sectors and at most 2 ^ 60
+pub record IsMediaSize (size sector : ℕ) : Type 0 where
+  pub positive : 1 ≤ size
+  pub whole : size % sector ≡ 0
+  pub limited : size ≤ 2 ^ 60
+
+pub record ProvidersHold (t : Topology Config) : Type 0 where
+  pub names : AllPairs DifferInName t.providers
+  pub withering : All (λ x. IsTrue (is_withering t x.geom) → x.errored ≡ true) t.providers
+  pub sizes : All (λ x. IsMediaSize x.size x.sector) t.providers
+
+-- Classes
+
+-- the configuration of a geom is one of its class
+abbrev pub fits_kind : Kind → Config → Bool
+fits_kind kinds.Disk (Disk disk) = true
+fits_kind kinds.Dev Nothing = true
+fits_kind kinds.Taste Nothing = true
+fits_kind kinds.Mbr (Mbr below slices) = true
+fits_kind kinds.Label (Label below) = true
+fits_kind kinds.Concat (Concat id places sizes) = true
+fits_kind kinds.Stripe (Stripe id stripe places sizes) = true
+fits_kind kinds.Nop (Nop below offset fail) = true
+fits_kind _ _ = false
+
+-- a geom's class, number and configuration say the same: geom 1 alone is DEV, and geom 2 alone is TASTE
+pub record IsOfItsClass (x : Geom Config) : Type 0 where
+  pub config : IsTrue (fits_kind x.kind x.config)
+  pub dev : is_kind x.kind kinds.Dev ≡ (x.number == 1)
+  pub taste : is_kind x.kind kinds.Taste ≡ (x.number == 2)
+
+-- Numbers and disks
+
+-- the numbers rise, and are below the next one
+abbrev pub AreNumbers : List ℕ → ℕ → Type 0
+AreNumbers numbers next = IsStrictlyIncreasing numbers × All (λ n. n < next) numbers
+
+-- not both are geoms of one disk
+abbrev pub DifferInDisk : Geom Config → Geom Config → Type 0
+DifferInDisk x y = (d : ℕ) → disk_of x.config ≡ Some d → disk_of y.config ≢ Some d
+
+-- a DISK geom is of a disk of the header, and each provider of it has that disk's sizes
+abbrev pub HasDiskSizes : World → Geom Config → Type 0
+HasDiskSizes w x =
+    IfSome (disk_of x.config) (λ d. IsSomeAnd (slice_get w.disks d) (λ disk.
+    All (λ p. (p.sector ≡ disk.sector) × (p.size ≡ disk.size)) (providers_of w.topology x.number)))
+
+pub record NumbersHold (w : World) : Type 0 where
+  pub geoms : AreNumbers (map (λ x. x.number) w.topology.geoms) w.topology.next_geom
+  pub providers : AreNumbers (map (λ x. x.number) w.topology.providers) w.topology.next_provider
+  pub consumers : AreNumbers (map (λ x. x.number) w.topology.consumers) w.topology.next_consumer
+  pub handles : AreNumbers (map (λ x. x.number) w.handles) w.next_handle
+  pub bios : AreNumbers (map (λ x. x.number) w.bios) w.next_bio
+  pub classes : All IsOfItsClass w.topology.geoms
+  pub one_geom_of_disk : AllPairs DifferInDisk w.topology.geoms
+  pub disk_sizes : All (HasDiskSizes w) w.topology.geoms
+
+-- Handles and the taste's consumer
+
+-- a consumer of DEV is attached, and is the consumer of exactly one handle
+pub record IsHandleConsumer (w : World) (c : Consumer) : Type 0 where
+  pub attached : IsSome c.provider
+  pub one_handle : count_by (λ h. names_number h.consumer c.number) w.handles ≡ 1
+
+-- a reaped handle is dead; another one has a consumer of DEV
+abbrev pub HasItsConsumer : World → Handle → Type 0
+HasItsConsumer w h = MatchOption h.consumer (h.dead ≡ true) (λ c. IsSomeAnd (consumer_at w.topology c) (λ x. x.geom ≡ 1))
+
+-- TASTE has one consumer, at the tasted provider, while a taste is under way, and none else
+abbrev pub HasTasteConsumer : World → Type 0
+HasTasteConsumer w =
+    MatchOption w.taste
+    (consumers_of w.topology 2 ≡ [])
+    (λ s. (marked : Bool) × (consumers_of w.topology 2
+    ≡ record { number = s.consumer; geom = 2; provider = Some s.provider; spoiled = marked } ∷ []))
+
+pub record HandlesHold (w : World) : Type 0 where
+  pub consumers : All (IsHandleConsumer w) (consumers_of w.topology 1)
+  pub handles : All (HasItsConsumer w) w.handles
+  pub taste : HasTasteConsumer w
+
+-- Address maps
+
+-- a place is inside a provider of the same sector size, to which a consumer of the geom is attached
+abbrev pub IsPlaceInside : Topology Config → Geom Config → Provider → Spot → Type 0
+IsPlaceInside t g p spot =
+    IsSomeAnd (option_and_then (consumer_at t) (component g.config spot.component)) (λ c.
+    (c.geom ≡ g.number) × IsSomeAnd (option_and_then (provider_at t) c.provider) (λ q.
+    (spot.offset < q.size) × (q.sector ≡ p.sector)))
+
+-- each offset below the size has such a place
+abbrev pub IsPlaced : Topology Config → Geom Config → Provider → Type 0
+IsPlaced t g p = (o : ℕ) → o < p.size → IsSomeAnd (place g.config p.name o) (IsPlaceInside t g p)
+
+-- a provider that is open, or whose geom isn't withering, is that of a disk or is placed
+abbrev pub LeadsDown : World → Provider → Type 0
+LeadsDown w p =
+    IsSomeAnd (geom_at w.topology p.geom) (λ g.
+    (is_zero (have (granted_in w) w.topology p.number) ≡ false) ⊎ (g.withering ≡ false)
+    → IsSome (disk_of g.config) ⊎ IsPlaced w.topology g p)
+
+-- Events and the taste
+
+-- the reads made for the class asked are at most 33, at most 32 where one more is to come, and none where no class is asked
+abbrev pub AreReadsInOrder : Asked → ℕ → Type 0
+AreReadsInOrder NoClass reads = reads ≡ 0
+AreReadsInOrder (NextSector kind sector) reads = reads ≤ 32
+AreReadsInOrder (ReadOut kind) reads = reads ≤ 33
+AreReadsInOrder (ReadBack kind got) reads = reads ≤ 33
+
+pub record IsTasteInOrder (w : World) (s : Taste) : Type 0 where
+  pub rank : IsSomeAnd (geom_of_provider w.topology s.provider) (λ g. rank w.topology g.number < taste_limit)
+  pub reads : AreReadsInOrder s.asked s.reads
+
+pub record EventsHold (w : World) : Type 0 where
+  pub living : All (λ e. IsSome (provider_at w.topology (provider_of_event e))) w.events
+  pub read_out : IsTrue (list_any (λ x. is_taste_root x.owner) w.bios) ↔ IsTrue (option_map_or (λ s. is_read_out s.asked) w.taste false)
+  pub taste : IfSome w.taste (IsTasteInOrder w)
+
+-- all of it
+pub record Sound (w : World) : Type 0 where
+  pub ranks : RanksHold w.topology
+  pub counts : CountsHold w
+  pub providers : ProvidersHold w.topology
+  pub numbers : NumbersHold w
+  pub handles : HandlesHold w
+  pub places : All (LeadsDown w) w.topology.providers
+  pub bios : All (IsBioInOrder w) w.bios
+  pub families : All (IsFamilyInOrder w) w.bios
+  pub disks : DisksHold w
+  pub events : EventsHold w

@@ -1,0 +1,92 @@
+-- What holds of the bios of the mesh at every moment (g_bio(9)).
+use Rattle.std.specs.Prelude.{◌≡◌, ◌≢◌, ℕ, ◌+◌, ◌%◌, ◌<◌, ◌≤◌, false, ◌||◌, List, length, map, Some, IsSome, IsSomeAnd, IsTrue, All, AllPairs, take, drop, ⊤}
+use Rattle.std.specs.List.{enumerate_from}
+use Rattle.geo_base.specs.declared.request.BioCmd.{BioCmd}
+use Rattle.geo_model.specs.declared.span.Piece.{Piece}
+use Rattle.geo_model.specs.declared.step.Owner.{Owner}
+use Rattle.geo_model.specs.declared.step.Owner.TheVariants as owners
+use Rattle.geo_model.specs.Words.{is_read, is_write, is_flush}
+use Rattle.geo_model.specs.Topology.{Provider, Consumer, geom_at, provider_at, consumer_at}
+use Rattle.geo_model.specs.Demand.{want}
+use Rattle.geo_model.specs.World.{World, Bio, granted_in, bio_at, children_of, is_root, is_done, is_busy, is_sent, is_waiting}
+use Rattle.geo_model.specs.Bios.{piece_targets, disk_of_bio, is_complete}
+use Rattle.geo_model.specs.Requests.{request_limit}
+
+-- the range is one or more whole sectors, inside the provider and no longer than the longest request
+pub record IsRangeInside (x : Bio) (p : Provider) : Type 0 where
+  pub some_byte : 1 ≤ x.len
+  pub not_long : x.len ≤ request_limit
+  pub offset_whole : x.offset % p.sector ≡ 0
+  pub len_whole : x.len % p.sector ≡ 0
+  pub inside : x.offset + x.len ≤ p.size
+
+-- the counts that a consumer needs for a command: a read count for READ, else a write count
+abbrev pub HasCountFor : World → Bio → Consumer → Type 0
+HasCountFor w x c =
+    (IsTrue (is_read x.cmd) → 0 < (want (granted_in w) w.topology c).r)
+    × (is_read x.cmd ≡ false → 0 < (want (granted_in w) w.topology c).w)
+
+-- a bio is from an attached consumer to that consumer's provider, with the count, the range and the bytes
+pub record IsBioInOrder (w : World) (x : Bio) : Type 0 where
+  pub source : IsSomeAnd (consumer_at w.topology x.source) (λ c. (c.provider ≡ Some x.target) × HasCountFor w x c)
+  pub target : IsSomeAnd (provider_at w.topology x.target) (λ p. is_flush x.cmd ≡ false → IsRangeInside x p)
+  pub bytes : IsTrue (is_write x.cmd) → length x.bytes ≡ x.len
+
+-- what a child is in its parent
+pub record ChildShape : Type 0 where
+  pub cmd : BioCmd
+  pub index : ℕ
+  pub source : ℕ
+  pub offset : ℕ
+  pub len : ℕ
+  pub bytes : List ℕ
+
+abbrev pub index_of : Owner → ℕ
+index_of (owners.Child parent index) = index
+index_of _ = 0
+
+abbrev pub shape_of_child : Bio → ChildShape
+shape_of_child x = record {
+  cmd = x.cmd;
+  index = index_of x.owner;
+  source = x.source;
+  offset = x.offset;
+  len = x.len;
+  bytes = x.bytes;
+}
+
+-- what the child for a piece of a bio is; its bytes are those of the parent at the piece's place
+abbrev pub shape_of_piece : Bio → ℕ × (ℕ × Piece) → ChildShape
+shape_of_piece x item = record {
+  cmd = x.cmd;
+  index = item.0;
+  source = item.1.0;
+  offset = item.1.1.span.offset;
+  len = item.1.1.span.len;
+  bytes = take item.1.1.span.len (drop item.1.1.at x.bytes);
+}
+
+-- the children of a Waiting bio are its pieces in order, each index once
+abbrev pub HasItsPieces : World → Bio → Type 0
+HasItsPieces w x =
+    IsSomeAnd (provider_at w.topology x.target) (λ p. IsSomeAnd (geom_at w.topology p.geom) (λ g.
+    map shape_of_child (children_of w x.number) ≡ map (shape_of_piece x) (enumerate_from 0 (piece_targets g.config p x))))
+
+-- a bio owned by a child's place names a Waiting parent
+abbrev pub HasItsParent : World → Owner → Type 0
+HasItsParent w (owners.Child parent index) = IsSomeAnd (bio_at w parent) (λ y. IsTrue (is_waiting y.phase))
+HasItsParent w owner = ⊤
+
+pub record IsFamilyInOrder (w : World) (x : Bio) : Type 0 where
+  pub parent : HasItsParent w x.owner
+  pub pieces : IsTrue (is_waiting x.phase) → HasItsPieces w x
+  pub not_complete : IsTrue (is_waiting x.phase) → is_complete w x.number ≡ false
+  pub root : IsTrue (is_root x.owner) → is_done x.phase ≡ false
+
+-- not both are Busy at one disk
+abbrev pub NotBothBusy : World → Bio → Bio → Type 0
+NotBothBusy w x y = IsTrue (is_busy x.phase) → IsTrue (is_busy y.phase) → (d : ℕ) → disk_of_bio w x ≡ Some d → disk_of_bio w y ≢ Some d
+
+pub record DisksHold (w : World) : Type 0 where
+  pub at_disk : All (λ x. IsTrue (is_sent x.phase || is_busy x.phase) → IsSome (disk_of_bio w x)) w.bios
+  pub one_busy : AllPairs (NotBothBusy w) w.bios

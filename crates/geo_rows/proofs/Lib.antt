@@ -1,0 +1,10 @@
+pub mod RowTexts
+pub mod StepListReplies
+pub mod TowerCounts
+pub mod ScriptPlans
+pub mod RunLaws
+pub mod PartFacts
+pub mod RunSound
+pub mod WrongPrograms
+pub mod RunSteady
+pub mod WordFacts

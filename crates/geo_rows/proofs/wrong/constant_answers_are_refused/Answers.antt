@@ -1,0 +1,20 @@
+use Rattle.geo_rows.proofs.WrongPrograms.{usage-refused, fault_of_script-refused, read_fault-refused, write_fault-refused, log_full-refused, too_long-refused}
+use Rattle.geo_rows.proofs.wrong.constant_answers_are_refused.Goals as goal
+
+pub returns-clause-usage : goal.returns-clause-usage
+returns-clause-usage c = usage-refused
+
+pub returns-clause-fault_of_script : goal.returns-clause-fault_of_script
+returns-clause-fault_of_script c = fault_of_script-refused
+
+pub returns-clause-read_fault : goal.returns-clause-read_fault
+returns-clause-read_fault c = read_fault-refused
+
+pub returns-clause-write_fault : goal.returns-clause-write_fault
+returns-clause-write_fault c = write_fault-refused
+
+pub returns-clause-log_full : goal.returns-clause-log_full
+returns-clause-log_full c = log_full-refused
+
+pub returns-clause-too_long : goal.returns-clause-too_long
+returns-clause-too_long c = too_long-refused

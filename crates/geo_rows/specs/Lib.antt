@@ -1,0 +1,12 @@
+pub mod FixedRuns
+pub mod Rows
+pub mod Scripts
+pub mod StepLists
+pub mod Towers
+pub mod WorkedLaws
+pub mod WorkedParts
+pub mod WorkedSound
+pub mod WorkedSteady
+pub mod WorkedIdle
+pub mod WrongPrograms
+pub mod WorkedWords

@@ -1,0 +1,221 @@
+-- The facts of Sound as tests, so that they can be computed at each moment of the worked runs. Offsets of a provider are
+-- tried at the beginning of each sector.
+use Rattle.std.specs.Prelude.{ℕ, ◌+◌, ◌*◌, ◌/◌, ◌%◌, ◌^◌, ◌==◌, nat_lt, nat_le, Bool, true, false, not, ◌&&◌, ◌||◌, List, [], ◌∷◌, length, map, count_by, Option, Some, None, is_some, slice_get, option_and_then, bytes_eq, if◌then◌else◌}
+use Rattle.std.specs.List.{list_all, list_any, enumerate_from, range_with_len}
+use Rattle.std.specs.Option.{option_map_or}
+use Rattle.geo_base.specs.declared.kind.Kind.TheVariants as kinds
+use Rattle.geo_model.specs.declared.step.Entry.{Entry}
+use Rattle.geo_model.specs.Words.{is_read, is_write, is_flush, is_kind, same_cmd, names_number, same_name}
+use Rattle.geo_model.specs.Topology.{Topology, Geom, Provider, Consumer, geom_at, provider_at, consumer_at, geom_of_provider, provider_with_geom, providers_of, consumers_of, is_withering}
+use Rattle.geo_model.specs.Rank.{rank, rank_limit}
+use Rattle.geo_model.specs.Demand.{have, want, is_zero, is_exclusive, fits_limit}
+use Rattle.geo_model.specs.World.{World, Config, Plan, Bio, Taste, Asked, NoClass, NextSector, granted_in, bio_at, children_of, is_read_out, is_root, is_taste_root, is_done, is_busy, is_sent, is_waiting}
+use Rattle.geo_model.specs.declared.step.Owner.{Owner}
+use Rattle.geo_model.specs.declared.step.Owner.TheVariants as owners
+use Rattle.geo_model.specs.Place.{Spot, place, component, disk_of}
+use Rattle.geo_model.specs.Bios.{piece_targets, disk_of_bio, is_complete}
+use Rattle.geo_model.specs.Events.{provider_of_event, taste_limit}
+use Rattle.geo_model.specs.Requests.{request_limit}
+use Rattle.geo_model.specs.Log.{moments, replay}
+use Rattle.geo_model.specs.Opening.{opening}
+use Rattle.geo_rows.specs.FixedRuns.{run_fixed, zero_devices}
+use Rattle.geo_model.specs.Sound.{fits_kind}
+use Rattle.geo_model.specs.SoundBios.{ChildShape, shape_of_child, shape_of_piece}
+
+-- whether there is a value, and it passes the test
+abbrev pub some_and : {A : Type 0} → Option A → (A → Bool) → Bool
+some_and o test = option_map_or test o false
+
+-- whether there is no value, or it passes the test
+abbrev pub none_or : {A : Type 0} → Option A → (A → Bool) → Bool
+none_or o test = option_map_or test o true
+
+-- whether each two items, in order, pass the test
+abbrev pub all_pairs : {A : Type 0} → (A → A → Bool) → List A → Bool
+all_pairs test [] = true
+all_pairs test (x ∷ xs) = list_all (test x) xs && all_pairs test xs
+
+-- whether both tests have the same answer
+abbrev pub same_test : Bool → Bool → Bool
+same_test true b = b
+same_test false b = not b
+
+-- whether the tests all hold
+abbrev pub all_hold : List Bool → Bool
+all_hold tests = list_all (λ b. b) tests
+
+abbrev pub stands_bare : Topology Config → ℕ → Bool
+stands_bare t g = some_and (geom_at t g) (λ x. not x.withering) && (length (providers_of t g) == 0)
+
+abbrev pub ranks_hold : Topology Config → Bool
+ranks_hold t = all_hold
+    (list_all (λ c. none_or c.provider (λ p. some_and (provider_at t p) (λ x. nat_lt (rank t x.geom) (rank t c.geom)))) t.consumers
+    ∷ list_all (λ x. (x.number == 1) || ((x.number == 2) || nat_le (rank t x.number) rank_limit)) t.geoms
+    ∷ stands_bare t 1
+    ∷ stands_bare t 2
+    ∷ [])
+
+abbrev pub counts_hold : World → Bool
+counts_hold w = is_exclusive (granted_in w) w.topology && fits_limit (granted_in w) w.topology
+
+abbrev pub providers_hold : Topology Config → Bool
+providers_hold t = all_hold
+    (all_pairs (λ x y. not (not x.errored && (not y.errored && same_name x.name y.name))) t.providers
+    ∷ list_all (λ x. not (is_withering t x.geom) || x.errored) t.providers
+    ∷ list_all (λ x. nat_le 1 x.size && ((x.size % x.sector == 0) && nat_le x.size (2 ^ 60))) t.providers
+    ∷ [])
+
+abbrev pub are_numbers : List ℕ → ℕ → Bool
+are_numbers numbers next = all_pairs nat_lt numbers && list_all (λ n. nat_lt n next) numbers
+
+abbrev pub has_disk_sizes : World → Geom Config → Bool
+has_disk_sizes w x =
+    none_or (disk_of x.config) (λ d. some_and (slice_get w.disks d) (λ disk.
+    list_all (λ p. (p.sector == disk.sector) && (p.size == disk.size)) (providers_of w.topology x.number)))
+
+abbrev pub differ_in_disk : Geom Config → Geom Config → Bool
+differ_in_disk x y = none_or (disk_of x.config) (λ d. not (names_number (disk_of y.config) d))
+
+abbrev pub is_of_its_class : Geom Config → Bool
+is_of_its_class x = all_hold
+    (fits_kind x.kind x.config
+    ∷ same_test (is_kind x.kind kinds.Dev) (x.number == 1)
+    ∷ same_test (is_kind x.kind kinds.Taste) (x.number == 2)
+    ∷ [])
+
+abbrev pub numbers_hold : World → Bool
+numbers_hold w = all_hold
+    (are_numbers (map (λ x. x.number) w.topology.geoms) w.topology.next_geom
+    ∷ are_numbers (map (λ x. x.number) w.topology.providers) w.topology.next_provider
+    ∷ are_numbers (map (λ x. x.number) w.topology.consumers) w.topology.next_consumer
+    ∷ are_numbers (map (λ x. x.number) w.handles) w.next_handle
+    ∷ are_numbers (map (λ x. x.number) w.bios) w.next_bio
+    ∷ list_all is_of_its_class w.topology.geoms
+    ∷ all_pairs differ_in_disk w.topology.geoms
+    ∷ list_all (has_disk_sizes w) w.topology.geoms
+    ∷ [])
+
+abbrev pub has_taste_consumer : List Consumer → Option Taste → Bool
+has_taste_consumer [] None = true
+has_taste_consumer (c ∷ []) (Some s) = (c.number == s.consumer) && names_number c.provider s.provider
+has_taste_consumer _ _ = false
+
+abbrev pub handles_hold : World → Bool
+handles_hold w = all_hold
+    (list_all
+    (λ c. is_some c.provider && (count_by (λ h. names_number h.consumer c.number) w.handles == 1))
+    (consumers_of w.topology 1)
+    ∷ list_all (λ h. option_map_or (λ c. some_and (consumer_at w.topology c) (λ x. x.geom == 1)) h.consumer h.dead) w.handles
+    ∷ has_taste_consumer (consumers_of w.topology 2) w.taste
+    ∷ [])
+
+abbrev pub is_place_inside : Topology Config → Geom Config → Provider → Spot → Bool
+is_place_inside t g p spot =
+    some_and (option_and_then (consumer_at t) (component g.config spot.component)) (λ c.
+    (c.geom == g.number) && some_and (option_and_then (provider_at t) c.provider) (λ q.
+    nat_lt spot.offset q.size && (q.sector == p.sector)))
+
+abbrev pub is_placed : Topology Config → Geom Config → Provider → Bool
+is_placed t g p =
+    list_all
+    (λ k. some_and (place g.config p.name (k * p.sector)) (is_place_inside t g p))
+    (range_with_len 0 (p.size / p.sector))
+
+abbrev pub leads_down : World → Provider → Bool
+leads_down w p =
+    some_and (geom_at w.topology p.geom) (λ g.
+    (is_zero (have (granted_in w) w.topology p.number) && g.withering)
+    || (is_some (disk_of g.config) || is_placed w.topology g p))
+
+abbrev pub has_count_for : World → Bio → Consumer → Bool
+has_count_for w x c =
+    if is_read x.cmd
+    then nat_lt 0 (want (granted_in w) w.topology c).r
+    else nat_lt 0 (want (granted_in w) w.topology c).w
+
+abbrev pub is_range_inside : Bio → Provider → Bool
+is_range_inside x p = all_hold
+    (nat_le 1 x.len
+    ∷ nat_le x.len request_limit
+    ∷ (x.offset % p.sector == 0)
+    ∷ (x.len % p.sector == 0)
+    ∷ nat_le (x.offset + x.len) p.size
+    ∷ [])
+
+abbrev pub is_bio_in_order : World → Bio → Bool
+is_bio_in_order w x = all_hold
+    (some_and (consumer_at w.topology x.source) (λ c. names_number c.provider x.target && has_count_for w x c)
+    ∷ some_and (provider_at w.topology x.target) (λ p. is_flush x.cmd || is_range_inside x p)
+    ∷ (not (is_write x.cmd) || (length x.bytes == x.len))
+    ∷ [])
+
+abbrev pub same_shapes : List ChildShape → List ChildShape → Bool
+same_shapes [] [] = true
+same_shapes (a ∷ as') (b ∷ bs) =
+    same_cmd a.cmd b.cmd && ((a.index == b.index) && ((a.source == b.source) && ((a.offset == b.offset)
+    && ((a.len == b.len) && (bytes_eq a.bytes b.bytes && same_shapes as' bs)))))
+same_shapes _ _ = false
+
+abbrev pub has_its_pieces : World → Bio → Bool
+has_its_pieces w x =
+    some_and (provider_with_geom w.topology x.target) (λ here.
+    same_shapes
+    (map shape_of_child (children_of w x.number))
+    (map (shape_of_piece x) (enumerate_from 0 (piece_targets here.1.config here.0 x))))
+
+abbrev pub has_its_parent : World → Owner → Bool
+has_its_parent w (owners.Child parent index) = some_and (bio_at w parent) (λ y. is_waiting y.phase)
+has_its_parent w _ = true
+
+abbrev pub is_family_in_order : World → Bio → Bool
+is_family_in_order w x = all_hold
+    (has_its_parent w x.owner
+    ∷ (not (is_waiting x.phase) || (has_its_pieces w x && not (is_complete w x.number)))
+    ∷ (not (is_root x.owner) || not (is_done x.phase))
+    ∷ [])
+
+abbrev pub not_both_busy : World → Bio → Bio → Bool
+not_both_busy w x y =
+    not (is_busy x.phase && is_busy y.phase) || none_or (disk_of_bio w x) (λ d. not (names_number (disk_of_bio w y) d))
+
+abbrev pub disks_hold : World → Bool
+disks_hold w =
+    list_all (λ x. not (is_sent x.phase || is_busy x.phase) || is_some (disk_of_bio w x)) w.bios
+    && all_pairs (not_both_busy w) w.bios
+
+abbrev pub are_reads_in_order : Asked → ℕ → Bool
+are_reads_in_order NoClass reads = reads == 0
+are_reads_in_order (NextSector kind sector) reads = nat_le reads 32
+are_reads_in_order _ reads = nat_le reads 33
+
+abbrev pub events_hold : World → Bool
+events_hold w = all_hold
+    (list_all (λ e. is_some (provider_at w.topology (provider_of_event e))) w.events
+    ∷ same_test (list_any (λ x. is_taste_root x.owner) w.bios) (some_and w.taste (λ s. is_read_out s.asked))
+    ∷ none_or w.taste (λ s.
+    are_reads_in_order s.asked s.reads
+    && some_and (geom_of_provider w.topology s.provider) (λ g. nat_lt (rank w.topology g.number) taste_limit))
+    ∷ [])
+
+-- whether the world is sound
+unfoldable pub is_sound : World → Bool
+is_sound w = all_hold
+    (ranks_hold w.topology
+    ∷ counts_hold w
+    ∷ providers_hold w.topology
+    ∷ numbers_hold w
+    ∷ handles_hold w
+    ∷ list_all (leads_down w) w.topology.providers
+    ∷ list_all (is_bio_in_order w) w.bios
+    ∷ list_all (is_family_in_order w) w.bios
+    ∷ disks_hold w
+    ∷ events_hold w
+    ∷ [])
+
+-- whether each world of a log is sound
+abbrev pub sound_along : World → List Entry → Bool
+sound_along opened log = list_all (λ m. is_sound m.before) (moments opened log) && is_sound (replay opened log)
+
+-- whether each world of the run of a plan is sound
+abbrev pub run_is_sound : Plan → List (ℕ × ℕ) → Bool
+run_is_sound plan facts = sound_along (opening plan facts) (run_fixed 400 (opening plan facts) (zero_devices facts)).log
