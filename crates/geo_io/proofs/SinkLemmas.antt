@@ -1,0 +1,23 @@
+-- Bytes added to a sink.
+use Rattle.std.proofs.Common.{ℕ, ◌+◌, ◌-◌, List, [], ◌++◌, length, take, drop, Option, Some, None, sym, ◌∙◌, ap, append_assoc, append-nil}
+use Rattle.std.proofs.Math.Seq.{take-add}
+use Rattle.geo_io.specs.Sink.{Grows}
+use Rattle.geo_io.proofs.SourceLemmas.{tail_range}
+
+-- added, and then more
+pub Grows-more : (a b c : Option (List ℕ)) (x y : List ℕ) → Grows a x b → Grows b y c → Grows a (x ++ y) c
+Grows-more None None None x y h k = tt
+Grows-more (Some a) (Some b) (Some c) x y h k = k ∙ ap (λ t. t ++ y) h ∙ append_assoc a x y
+Grows-more None None (Some c) x y h k = absurd k
+Grows-more None (Some b) c x y h k = absurd h
+Grows-more (Some a) None c x y h k = absurd h
+Grows-more (Some a) (Some b) None x y h k = absurd k
+
+-- adding nothing
+pub Grows-none : (a : Option (List ℕ)) → Grows a [] a
+Grows-none None = tt
+Grows-none (Some a) = sym (append-nil a)
+
+-- one more part of the bytes was added
+pub Grows-part : (a b c : Option (List ℕ)) (n k : ℕ) (xs : List ℕ) → Grows a (take n xs) b → Grows b (take k (take (length xs - n) (drop n xs))) c → Grows a (take (n + k) xs) c
+Grows-part a b c n k xs h m = rw (take-add n k xs) (Grows-more a b c (take n xs) (take k (drop n xs)) h (rw tail_range at m))

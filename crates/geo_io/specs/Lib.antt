@@ -1,0 +1,5 @@
+pub mod Counts
+pub mod Source
+pub mod Sink
+pub mod MemSource
+pub mod MemSink

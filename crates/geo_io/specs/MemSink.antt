@@ -1,0 +1,24 @@
+-- A sink in memory.
+use Rattle.std.specs.Prelude.{ℕ, ◌-◌, min, List, ◌++◌, length}
+use Rattle.geo_io.specs.Counts.{raised}
+
+-- the bytes written, how many it can hold, how many a call takes at most, the numbers of the calls that fail, and the calls and faults so far
+pub record Store : Type 0 where
+  pub written : List ℕ
+  pub room : ℕ
+  pub piece : ℕ
+  pub fails : List ℕ
+  pub calls : ℕ
+  pub faults : ℕ
+
+-- how many of so many bytes a call takes
+abbrev pub stored_count : Store → ℕ → ℕ
+stored_count s count = min (min count (s.room - length s.written)) s.piece
+
+-- after a call that took these bytes
+abbrev pub after_write : Store → List ℕ → Store
+after_write s bytes = record s { written = s.written ++ bytes; calls = raised s.calls }
+
+-- after a call that failed
+abbrev pub after_failed_write : Store → Store
+after_failed_write s = record s { calls = raised s.calls; faults = raised s.faults }

@@ -1,0 +1,23 @@
+-- A source in memory.
+use Rattle.std.specs.Prelude.{ℕ, min, List, length, drop}
+use Rattle.geo_io.specs.Counts.{raised}
+
+-- the bytes left, how many a call gives at most, the numbers of the calls that fail, and the calls and faults so far
+pub record Feed : Type 0 where
+  pub left : List ℕ
+  pub piece : ℕ
+  pub fails : List ℕ
+  pub calls : ℕ
+  pub faults : ℕ
+
+-- how many bytes a call with so much room gives
+abbrev pub fed_count : Feed → ℕ → ℕ
+fed_count f room = min (min (length f.left) room) f.piece
+
+-- after a call that gave so many bytes
+abbrev pub after_read : Feed → ℕ → Feed
+after_read f n = record f { left = drop n f.left; calls = raised f.calls }
+
+-- after a call that failed
+abbrev pub after_failed_read : Feed → Feed
+after_failed_read f = record f { calls = raised f.calls; faults = raised f.faults }

@@ -1,0 +1,35 @@
+//! Writing all bytes to a sink.
+ghost use Rattle.std.specs.Prelude.{◌≡◌, ◌≤◌, ◌<◌, IfErr, OnOk, length, take};
+ghost use Rattle.geo_base.specs.Faults.{HasCause};
+ghost use Rattle.geo_io.specs.Sink.{Grows};
+
+use crate::sink::Sink;
+use thiserror::Error;
+
+/// A write failed, after so many bytes.
+#[derive(Clone, Copy, Debug, PartialEq, Eq, Error)]
+#[error("write fault after {written} bytes")]
+pub struct WriteFault {
+    pub written: u64,
+}
+
+/// Appends all the bytes. Where a write fails, exactly the first `written` bytes were appended.
+pub fn write_out<K: Sink>(sink: &mut K, bytes: &[u8]) -> Result<(), WriteFault>
+    ensures ok { OnOk result (Grows (K.written sink.old) bytes.now (K.written sink.new)) }
+    ensures some_left { IfErr result (λ fault. fault.written < length bytes.now) }
+    ensures err { IfErr result (λ fault. Grows (K.written sink.old) (take fault.written bytes.now) (K.written sink.new)) }
+    ensures cause { HasCause (K.faults sink.old) (K.faults sink.new) result }
+{
+    let mut done = 0;
+    while done < bytes.len() {
+        match sink.write(&bytes[done..]) {
+            Ok(count) => done += count,
+            Err(_) => {
+                return Err(WriteFault {
+                    written: done as u64,
+                });
+            }
+        }
+    }
+    Ok(())
+}
