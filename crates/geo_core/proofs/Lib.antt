@@ -1,0 +1,13 @@
+pub mod RowsLemmas
+pub mod Keeps
+pub mod Owed
+pub mod Changes
+pub mod SoundSteps
+pub mod BusySteps
+pub mod NearSteps
+pub mod Picks
+pub mod Served
+pub mod OpeningSound
+pub mod Sectors
+pub mod MeshLemmas
+pub mod ListLemmas

@@ -1,0 +1,38 @@
+//! The mesh and its steps: what a plan begins, what each step does to it, and the log of all steps.
+#![tactic(auto)]
+
+mod close;
+mod command;
+mod deliver;
+mod facts;
+mod go;
+pub mod laws;
+mod list_mesh;
+mod log;
+mod look;
+mod mesh;
+mod mesh_list;
+mod open;
+mod order;
+mod places;
+mod plan;
+mod read;
+mod rows;
+mod seq;
+mod stand;
+mod start;
+mod step;
+mod take;
+#[cfg(test)]
+mod tests;
+mod up;
+
+pub use command::{Command, DiskDecl, DiskKind, LineCommand};
+pub use facts::DiskFacts;
+pub use log::Log;
+pub use mesh::Mesh;
+pub use mesh_list::{ConsLine, ConsLines, GeomLine, MeshList, ProvLine, ProvLines};
+pub use plan::Plan;
+pub use rows::{Owner, Phase};
+pub use seq::Seq;
+pub use step::{ApplyRefusal, DeviceResult, Entry, Found, Outcome, Reply, Request, Step};
