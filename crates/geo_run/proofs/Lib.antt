@@ -1,0 +1,9 @@
+pub mod NumberLemmas
+pub mod LineLemmas
+pub mod ScriptLemmas
+pub mod ReportLemmas
+pub mod PlanLemmas
+pub mod EndLemmas
+pub mod OrderLemmas
+pub mod OpeningLemmas
+pub mod ReplyLemmas

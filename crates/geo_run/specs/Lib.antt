@@ -1,0 +1,9 @@
+pub mod Words
+pub mod Script
+pub mod Reads
+pub mod Report
+pub mod Replies
+pub mod FixedOrder
+pub mod RamDisk
+pub mod OneDisk
+pub mod Run
