@@ -1,0 +1,16 @@
+use Rattle.std.proofs.Common.{◌∙◌, ap, sym, length}
+use Rattle.geo_lane.proofs.Keeps.{puts, learns}
+use Rattle.geo_lane.proofs.Sounds.{put_sound, order}
+use Rattle.geo_lane.proofs.lane.Lane.put.Goals as goal
+
+pub push_as-requires-clause-rule : goal.push_as-requires-clause-rule
+push_as-requires-clause-rule g c = let s = c.pass.invariant.1 in (
+  puts _ _ _ _ s.live (c.requires.sender ∙ sym (s.number ∙ ap (λ p. p.sender) c.pass.view_is)) (c.requires.number ∙ sym (ap (λ p. length p.put) c.pass.view_is)),
+  learns _ _ s.live,
+)
+
+pub invariant_of-pass : goal.invariant_of-pass
+invariant_of-pass g c = (c.push_as.ensures.queue.2 ∙ c.pass.invariant.0, put_sound _ _ _ _ c.pass.invariant.1 _ _ c.in-Ok.ensures.rule)
+
+pub returns-in-Ok-clause-order : goal.returns-in-Ok-clause-order
+returns-in-Ok-clause-order g c = order _ _ _ _ (put_sound _ _ _ _ c.pass.invariant.1 _ _ c.in-Ok.ensures.rule)

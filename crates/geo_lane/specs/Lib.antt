@@ -1,0 +1,4 @@
+pub mod Delivery
+pub mod LanePass
+pub mod Ticket
+pub mod View

@@ -1,0 +1,5 @@
+mod Closing
+mod Keeps
+mod Prefixes
+mod Sounds
+mod TallyLemmas

@@ -1,0 +1,7 @@
+pub mod Logged
+pub mod Pass
+pub mod PassList
+pub mod Tally
+pub mod Turns
+pub mod View
+pub mod Yard
