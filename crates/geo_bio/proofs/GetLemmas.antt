@@ -1,0 +1,40 @@
+-- What a look-up tells of the children of a bio.
+use Rattle.std.proofs.Common.{◌≡◌, ℕ, suc, ◌+◌, List, [], ◌∷◌, map, length, cond, true, Option, Some, None, sym, refl, ap, ◌∙◌, IfSome}
+use Rattle.std.proofs.lemmas.List.Sums.{sum_by-cons}
+use Rattle.std.specs.Prelude.{count_by}
+use Rattle.geo_model.specs.World.{BioOf, is_done, is_waiting, children_among}
+use Rattle.geo_slots.specs.Slots.{value_at}
+use Rattle.geo_bio.specs.declared.bio.Bio.{Bio}
+use Rattle.geo_bio.specs.declared.bio.Held.{Held}
+use Rattle.geo_bio.specs.Rows.{seen_row, Child, family, IsTable, CountsChildren}
+use Rattle.geo_bio.proofs.FamilyLemmas.{MatchBool_true}
+use Rattle.geo_bio.proofs.CompleteLemmas.{standing, kid, stranger}
+
+-- the family of a bio among what contracts see
+record IsSeenFamily (seen_children : List (BioOf Held)) (children : List Child) : Type 0 where
+  pub same_length : length seen_children ≡ length children
+  pub same_count : count_by (λ x. is_done x.phase) seen_children ≡ count_by (λ c. c.done) children
+
+one_seen : (x : BioOf Held) (c : Child) (xs : List (BioOf Held)) (cs : List Child) → is_done x.phase ≡ c.done → IsSeenFamily xs cs → IsSeenFamily (x ∷ xs) (c ∷ cs)
+one_seen x c xs cs same rest = record {
+  same_length = ap suc rest.same_length;
+  same_count = sum_by-cons (λ (y : BioOf Held). cond (is_done y.phase) 1 0) x xs ∙ (λ i. cond (same i) 1 0 + rest.same_count i) ∙ sym (sum_by-cons (λ (d : Child). cond d.done 1 0) c cs);
+}
+
+seen_family : (p : ℕ) (rows : List (ℕ × Bio)) → IsSeenFamily (children_among (map seen_row rows) p) (family rows p)
+seen_family p [] = record { same_length = refl; same_count = refl }
+seen_family p (row ∷ rows) =
+    let rest = seen_family p rows in
+    elim (standing p row.0 (is_done row.1.phase) row.1.owner) [
+      | kid index owner inside mine ↦ rw (inside, mine) (one_seen (seen_row row) (record { number = row.0; place = index; done = is_done row.1.phase }) _ _ refl rest)
+      | stranger outside none ↦ rw (outside, none) rest
+    ]
+
+-- a Waiting bio counts its children, and those that are Done
+pub family_told : (rows : List (ℕ × Bio)) (next n : ℕ) → IsTable rows next → (o : Option Bio) → o ≡ value_at rows n → IfSome o (λ x. is_waiting x.phase ≡ true → CountsChildren (children_among (map seen_row rows) n) x)
+family_told rows next n t None found = tt
+family_told rows next n t (Some x) found =
+    λ waits.
+    let s = MatchBool_true _ _ waits (t.families n x (sym found)) in
+    let f = seen_family n rows in
+    record { all = sym s.count ∙ sym f.same_length; done = sym s.finished ∙ sym f.same_count }

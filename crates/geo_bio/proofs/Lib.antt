@@ -1,0 +1,9 @@
+pub mod ValueLemmas
+pub mod TableLemmas
+pub mod SplitLemmas
+pub mod GatherLemmas
+pub mod KeptLemmas
+pub mod FamilyLemmas
+pub mod CompleteLemmas
+pub mod UpLemmas
+pub mod GetLemmas

@@ -1,0 +1,42 @@
+-- The table of bios, as contracts see it.
+use Rattle.std.specs.Prelude.{ℕ, ◌==◌, nat_le, Bool, false, List, Option, Some, None, find, if◌then◌else◌}
+use Rattle.std.specs.Option.{option_map, option_map_or}
+use Rattle.geo_base.specs.declared.request.BioCmd.{BioCmd}
+use Rattle.geo_base.specs.declared.errno.Errno.{Errno}
+use Rattle.geo_model.specs.declared.step.Phase.{Phase}
+use Rattle.geo_model.specs.declared.step.Phase.TheVariants as phases
+use Rattle.geo_model.specs.World.{BioOf}
+use Rattle.geo_model.specs.Words.{is_read}
+use Rattle.geo_bio.specs.declared.bio.Held.{Held}
+use Rattle.geo_bio.specs.declared.bio.Held.TheVariants as held
+
+-- the bios in order of numbers, the next number, and for how many more there is room
+pub record BioTableView : Type 0 where
+  pub bios : List (BioOf Held)
+  pub next : ℕ
+  pub spare : ℕ
+
+-- the bio of a number
+abbrev pub bio_among : {R : Type 0} → List (BioOf R) → ℕ → Option (BioOf R)
+bio_among bios bio = find (λ x. x.number == bio) bios
+
+-- whether the bio of a number is there, in a phase that passes
+abbrev pub has_phase : {R : Type 0} → (Phase → Bool) → List (BioOf R) → ℕ → Bool
+has_phase test bios bio = option_map_or (λ x. test x.phase) (bio_among bios bio) false
+
+-- the first bio that isn't below a number
+abbrev pub first_bio : {R : Type 0} → List (BioOf R) → ℕ → Option ℕ
+first_bio bios number = option_map (λ x. x.number) (find (λ x. nat_le number x.number) bios)
+
+-- the bio in another phase
+abbrev pub with_phase : {R : Type 0} → Phase → BioOf R → BioOf R
+with_phase phase x = record x { phase = phase }
+
+-- what a bio holds once it is delivered: the place of a READ's bytes in the log, or its error
+abbrev pub delivered_result : BioCmd → ℕ → Option Errno → Held
+delivered_result cmd place (Some errno) = held.Failed errno
+delivered_result cmd place None = if is_read cmd then held.AtPlace place else held.Done
+
+-- the bio goes up with what was delivered
+abbrev pub delivered : ℕ → Option Errno → BioOf Held → BioOf Held
+delivered place errno x = record x { phase = phases.Up; result = Some (delivered_result x.cmd place errno) }

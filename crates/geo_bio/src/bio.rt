@@ -1,0 +1,40 @@
+//! A request on its way (g_bio(9)).
+use geo_base::{BioCmd, BioId, Block, ConsId, Errno, ProvId};
+use geo_model::{BioResult, Owner, Phase, Span};
+
+/// How a bio ended, as the table keeps it: `AtPlace` names the bytes of a READ by their place in the log.
+#[derive(Debug, Drop)]
+pub enum Held {
+    Done,
+    Bytes(Block),
+    AtPlace(u64),
+    Failed(Errno),
+}
+
+/// A request from a consumer to a provider. The offset and the length of its span are in bytes, and `bytes` are those
+/// of a WRITE.
+#[derive(Debug, Drop)]
+pub struct Bio {
+    pub cmd: BioCmd,
+    pub span: Span,
+    pub bytes: Block,
+    pub from: ConsId,
+    pub to: ProvId,
+    pub owner: Owner,
+    pub phase: Phase,
+    /// How many bios it was split into.
+    pub children: u32,
+    /// How many of them came in.
+    pub finished: u32,
+    /// The number of the first of them; the others have the numbers that follow.
+    pub first_child: u64,
+    pub held: Option<Held>,
+}
+
+/// What became of a bio that went up: a child counts in its parent, which may be complete; a root is gone, and its
+/// result is handed on.
+#[derive(Debug, Drop)]
+pub enum Risen {
+    InParent { parent: BioId, complete: bool },
+    Root(BioResult),
+}

@@ -1,0 +1,46 @@
+use Rattle.std.proofs.Common.{◌<◌, ◌^◌, arith, subst, ◌≡◌, Some, is_some, refl, ap, sym, ◌∙◌, inr}
+use borrow.Follows.Closed.{read_of}
+use Rattle.std.specs.Option.{ghost_name_of}
+use Rattle.slab.proofs.SlabLemmas.{Updates-with_value}
+use Rattle.geo_slots.specs.Slots.{with_value}
+use Rattle.geo_slots.specs.Index.{key_at}
+use Rattle.geo_slots.proofs.IndexLemmas.{value_of_key, rising_rows, rows_with_value, index_with_value, value_held, HasRoomFor-with_value}
+use Rattle.geo_slots.proofs.slots.Slots.get_mut.Goals as goal
+
+pub invariant_of-self-lent : goal.invariant_of-self-lent
+invariant_of-self-lent g c =
+    let found : key_at c.args.number c.self.inside.index.entries ≡ Some c.in-Some.key = sym c.key_of.ensures ∙ c.in-Some.is in
+    let held = value_held _ _ _ _ c.args.number _ c.self.invariant found in λ _. (
+      λ w.
+          let updates = Updates-with_value c.self.inside.values c.in-Some.key w (ap is_some held.1) in
+          let room = HasRoomFor-with_value c.self.inside.values c.in-Some.key c.self.inside.spare w held c.self.invariant.room in
+          index_with_value _ _ _ _ _ c.args.number _ w c.self.invariant found updates room,
+      c.self.invariant,
+    )
+
+pub returns-in-Some : goal.returns-in-Some
+returns-in-Some g c =
+    let found : key_at c.args.number c.self.inside.index.entries ≡ Some c.in-Some.key = sym c.key_of.ensures ∙ c.in-Some.is in
+    let held = value_held _ _ _ _ c.args.number _ c.self.invariant found in
+    let value = value_of_key _ _ _ _ c.args.number c.self.invariant in
+    let rows = λ (w : g.row.T.Denot). rows_with_value _ _ _ _ _ c.args.number _ w c.self.invariant found (Updates-with_value c.self.inside.values c.in-Some.key w (ap is_some held.1)) in (
+      (λ i. read_of (ghost_name_of c.get_mut.result) (λ w. record { rows = (rows w ∙ ap (λ v. with_value v.rows c.args.number w) c.self.view_is) i; next = (c.self.view_is i).next; spare = (c.self.view_is i).spare }) (c.self.view_is i)),
+      record {
+        writes_back = tt;
+        value = rw (← c.self.view_is, ← value, ← c.key_of.ensures, c.in-Some.is) c.get_mut.ensures.value;
+        rising = rw (← c.self.view_is) (rising_rows _ _ _ _ c.self.invariant);
+        bound = subst (λ v. v.next < 2 ^ 64) c.self.view_is (omega (arith, c.self.invariant.numbers));
+      },
+    )
+
+pub returns-in-None : goal.returns-in-None
+returns-in-None g c =
+    let value = value_of_key _ _ _ _ c.args.number c.self.invariant in (
+      ap inr c.self.view_is,
+      record {
+        writes_back = tt;
+        value = rw (← c.self.view_is, ← value, ← c.key_of.ensures, c.in-None.is) refl;
+        rising = rw (← c.self.view_is) (rising_rows _ _ _ _ c.self.invariant);
+        bound = subst (λ v. v.next < 2 ^ 64) c.self.view_is (omega (arith, c.self.invariant.numbers));
+      },
+    )

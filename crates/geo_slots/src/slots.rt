@@ -1,0 +1,173 @@
+//! A table of values under numbers.
+ghost use Rattle.std.specs.Prelude.{◌≡◌, ◌<◌, ◌≤◌, ◌^◌, [], IsOk, OnOk, IsTrue, option_copied};
+ghost use Rattle.std.specs.Option.{option_copied_mut};
+ghost use Rattle.std.specs.Borrow.{sem};
+ghost use Rattle.geo_slots.specs.Index.{key_at, first_key_from, has_row, with_key};
+ghost use Rattle.geo_slots.specs.Slots.{IsRising, value_at, first_from, with_insert, without};
+
+use slab::Slab;
+use std::alloc::{AllocError, Global};
+use std::collections::BTreeMap;
+use std::marker::Model;
+
+/// Want of memory.
+pub type NoMemory = AllocError;
+
+/// Values under numbers that count from 1 on. A number is given out once: it isn't used again where its value is
+/// removed.
+///
+/// Contracts see the rows, each a number with its value, in rising order of the numbers, beside the next number and
+/// the spare room. The values stand in a slab; the index tells the key of each number, in order. It has a row for each
+/// number that room was reserved for, so that an insert finds its row and takes no memory.
+#[derive(Drop)]
+pub struct Slots<T> {
+    // The key of each number that has a value, and then None for each of the next `spare` numbers.
+    index: BTreeMap<u64, Option<usize>>,
+    values: Slab<T>,
+    next: u64,
+    spare: u64,
+}
+
+impl<T> Model for Slots<T> {
+    ghost use Rattle.geo_slots.specs.Slots.{SlotsView};
+    ghost use Rattle.geo_slots.specs.Index.{rows_of, IsIndex};
+
+    ghost Value = { SlotsView T };
+
+    ghost view = { λ s. record { rows = rows_of s.values s.index.entries; next = s.next; spare = s.spare } };
+
+    ghost invariant = { λ s. IsIndex s.index.entries s.values s.next s.spare };
+}
+
+impl<T> Slots<T> {
+    ghost use Rattle.geo_slots.specs.Lending.{lends_value};
+
+    /// A table without values, whose first number will be 1. It takes no memory yet.
+    pub fn new(alloc: Global) -> Slots<T>
+        ensures { result ≡ record { rows = []; next = 1; spare = 0 } }
+    {
+        Slots {
+            index: BTreeMap::new(alloc),
+            values: Slab::new(alloc),
+            next: 1,
+            spare: 0,
+        }
+    }
+
+    /// The value under a number.
+    pub fn get(&self, number: u64) -> Option<&T>
+        ensures value { option_copied result ≡ value_at self.now.rows number }
+        ensures rising { IsRising 1 self.now.rows self.now.next }
+        ensures bound { self.now.next < 2 ^ 64 }
+    {
+        match key_of(&self.index, number) {
+            Some(key) => self.values.get(key),
+            None => None,
+        }
+    }
+
+    /// The value under a number, to be changed.
+    pub fn get_mut(&mut self, number: u64) -> Option<&mut T>
+        ensures* writes_back { sem 𝓛 (lends_value T.row self.entry number result) }
+        ensures value { option_copied_mut result ≡ value_at self.old.rows number }
+        ensures rising { IsRising 1 self.old.rows self.old.next }
+        ensures bound { self.old.next < 2 ^ 64 }
+    {
+        match key_of(&self.index, number) {
+            Some(key) => self.values.get_mut(key),
+            None => None,
+        }
+    }
+
+    /// The least number that has a value and isn't below a number.
+    pub fn first_from(&self, number: u64) -> Option<u64>
+        ensures first { result ≡ first_from self.now.rows number }
+        ensures rising { IsRising 1 self.now.rows self.now.next }
+        ensures bound { self.now.next < 2 ^ 64 }
+    {
+        first_keyed(&self.index, number)
+    }
+
+    /// Makes room for `count` values, so that as many inserts take no memory. Where memory is wanting the values
+    /// stay, and the room is no less than it was.
+    pub fn reserve(&mut self, count: u64) -> Result<(), NoMemory>
+        ensures values_stay { self.new ≡ record self.old { spare = self.new.spare } }
+        ensures room_stays { self.old.spare ≤ self.new.spare }
+        ensures room { OnOk result (count ≤ self.new.spare) }
+        ensures had_room { count ≤ self.old.spare → IsOk result }
+    {
+        if count <= self.spare {
+            return Ok(());
+        }
+        let Some(_) = self.next.checked_add(count) else {
+            return Err(AllocError);
+        };
+        self.values.reserve(count as usize)?;
+        while self.spare < count {
+            self.index.insert(self.next + self.spare, None)?;
+            self.spare += 1;
+        }
+        Ok(())
+    }
+
+    /// Puts a value under the next number, which is answered. It takes no memory.
+    pub fn insert(&mut self, value: T) -> u64
+        requires { 1 ≤ self.old.spare }
+        ensures number { result ≡ self.old.next }
+        ensures inserted { self.new ≡ with_insert self.old value }
+        ensures rising { IsRising 1 self.old.rows self.old.next }
+    {
+        let number = self.next;
+        let key = self.values.insert_reserved(value);
+        give_key(&mut self.index, number, key);
+        self.next += 1;
+        self.spare -= 1;
+        number
+    }
+
+    /// Takes out the value under a number. The number isn't used again.
+    pub fn remove(&mut self, number: u64) -> Option<T>
+        ensures value { result ≡ value_at self.old.rows number }
+        ensures removed { self.new ≡ record self.old { rows = without self.old.rows number } }
+        ensures rising { IsRising 1 self.old.rows self.old.next }
+    {
+        match key_of(&self.index, number) {
+            Some(key) => {
+                let _ = self.index.remove(&number);
+                self.values.try_remove(key)
+            }
+            None => None,
+        }
+    }
+}
+
+// The key of a number, if it has one.
+fn key_of(index: &BTreeMap<u64, Option<usize>>, number: u64) -> Option<usize>
+    ensures { result ≡ key_at number index.now.entries }
+{
+    match index.get(&number) {
+        Some(key) => *key,
+        None => None,
+    }
+}
+
+// The first number that isn't below a number and has a key.
+fn first_keyed(index: &BTreeMap<u64, Option<usize>>, number: u64) -> Option<u64>
+    ensures { result ≡ first_key_from number index.now.entries }
+{
+    let (first, key) = index.range(number..).next()?;
+    match key {
+        Some(_) => Some(*first),
+        None => None,
+    }
+}
+
+// Gives the row of a number its key.
+fn give_key(index: &mut BTreeMap<u64, Option<usize>>, number: u64, key: usize)
+    requires { IsTrue (has_row number index.old.entries) }
+    ensures { index.new.entries ≡ with_key number key index.old.entries }
+{
+    if let Some(row) = index.get_mut(&number) {
+        *row = Some(key);
+    }
+}
