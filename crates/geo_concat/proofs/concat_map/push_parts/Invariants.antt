@@ -1,0 +1,6 @@
+use Rattle.geo_concat.proofs.ConcatLemmas.{PartsSoFar}
+use Rattle.geo_concat.proofs.concat_map.push_parts.Given as goal
+
+abbrev pub invariant-loop-component : goal.invariant-loop-component
+invariant-loop-component l =
+    PartsSoFar l.span.offset l.span.len l.sizes l.component l.start l.fn.list.items l.list.items l.list.spare

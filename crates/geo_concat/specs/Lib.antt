@@ -1,0 +1,4 @@
+pub mod ConcatMap
+pub mod Kept
+pub mod ConcatLaws
+pub mod Record

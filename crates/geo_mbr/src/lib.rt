@@ -1,0 +1,11 @@
+//! The class MBR: the slices of a partition table.
+#![tactic(auto)]
+
+mod mbr_map;
+mod table;
+#[cfg(test)]
+mod tests;
+
+pub use geo_model::{MbrTable, Slice};
+pub use mbr_map::MbrMap;
+pub use table::decode;

@@ -1,0 +1,3 @@
+pub mod PieceList
+pub mod Window
+pub mod WindowLaws

@@ -1,0 +1,3 @@
+pub mod StripeMap
+pub mod StripeLaws
+pub mod Record
