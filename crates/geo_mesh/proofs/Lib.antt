@@ -1,0 +1,4 @@
+pub mod RowLemmas
+pub mod ViewLemmas
+pub mod WalkLemmas
+pub mod GraphLemmas

@@ -1,0 +1,428 @@
+-- The mesh that the rows stand for, after a change of one row.
+use Rattle.std.specs.Prelude.{◌≡◌, ℕ, ◌+◌, ◌-◌, ◌==◌, nat_le, Bool, true, false, not, ◌&&◌, List, [], ◌∷◌, Option, Some, None, IsSome, map, find, filter, option_map}
+use Rattle.std.specs.List.{last_or, list_any}
+use Rattle.std.specs.Prelude.{◌||◌, is_some}
+use Rattle.std.specs.Option.{option_or}
+use Rattle.std.proofs.Common.{arith, ap, ◌∙◌}
+use Rattle.std.specs.Prelude.{suc, ◌<◌, ◌≤◌, length}
+use Rattle.std.proofs.lemmas.Bool.{eqb-true, ne_eqb}
+use Rattle.geo_mesh.specs.Cells.{IsCount}
+use Rattle.std.proofs.lemmas.Bool.{le-leb}
+use Rattle.std.proofs.lemmas.List.{map-append}
+use Rattle.geo_model.specs.Words.{names_number, same_name}
+use Rattle.std.proofs.Common.{refl, sym}
+use Rattle.geo_base.specs.declared.request.Counts.{Counts}
+use Rattle.geo_model.specs.Topology.{Topology, Geom, Provider, Consumer, geom_at, provider_at, consumer_at, set_error, set_withering, set_marks, set_config, note_started, providers_of, consumers_of, attached_to, find_provider, attach, is_errored, is_name_taken}
+use Rattle.geo_slots.specs.Slots.{SlotsView, IsRising, value_at, with_value, without, first_from, with_insert}
+use Rattle.geo_mesh.specs.declared.records.Scratch.{Scratch}
+use Rattle.geo_mesh.specs.declared.records.GeomCell.{GeomCell}
+use Rattle.geo_mesh.specs.declared.records.ProvCell.{ProvCell}
+use Rattle.geo_mesh.specs.declared.records.ConsCell.{ConsCell}
+use Rattle.geo_mesh.specs.Rows.{row_with, rows_with, change_at, first_row, passes}
+use Rattle.geo_mesh.specs.Topo.{TopoView, detach, no_counts, no_scratch, first_geom, first_provider, first_consumer, with_provider, with_consumer, with_topology, with_want, with_have, with_notes, with_active, with_geom_scratch, with_provider_scratch, with_consumer_scratch, without_geom, without_provider, without_consumer}
+use Rattle.geo_mesh.specs.Cells.{geom_row, provider_row, consumer_row, have_of, risen_of, fallen_of, want_of, active_of, geom_scratch_of, provider_scratch_of, consumer_scratch_of, graph_of, view_of}
+use Rattle.geo_mesh.proofs.RowLemmas.{OnlyValue, only, map-with_value, map-with_value_same, rows_with-with_value, rows_with-change_at, map-without, find-map, value_at-rows_with}
+use Rattle.geo_mesh.proofs.WalkLemmas.{first-map, last-map, find-filter}
+
+module _ {C : Type 0} (gs : SlotsView (GeomCell C)) (ps : SlotsView ProvCell) (cs : SlotsView ConsCell) (n : ℕ) where
+  -- the geom of a number
+  pub geom_at-view : geom_at (graph_of gs ps cs) n ≡ option_map (λ v. geom_row (n, v)) (value_at gs.rows n)
+  geom_at-view = find-map geom_row n (λ (x : Geom C). x.number == n) (λ row. refl) gs.rows
+
+  -- a geom that is there has its row
+  pub geom_stands : IsSome (geom_at (graph_of gs ps cs) n) → None ≡ value_at gs.rows n → ⊥
+  geom_stands lives none =
+      let here : IsSome (option_map (λ v. geom_row (n, v)) (value_at gs.rows n)) = rw geom_at-view at lives in
+      let no : false ≡ true = rw (← none) at here in cc
+
+  -- the provider of a number
+  pub provider_at-view : provider_at (graph_of gs ps cs) n ≡ option_map (λ v. provider_row (n, v)) (value_at ps.rows n)
+  provider_at-view = find-map provider_row n (λ (x : Provider). x.number == n) (λ row. refl) ps.rows
+
+  -- a provider that is there has its row
+  pub provider_stands : IsSome (provider_at (graph_of gs ps cs) n) → None ≡ value_at ps.rows n → ⊥
+  provider_stands lives none =
+      let here : IsSome (option_map (λ v. provider_row (n, v)) (value_at ps.rows n)) = rw provider_at-view at lives in
+      let no : false ≡ true = rw (← none) at here in cc
+
+  -- the consumer of a number
+  pub consumer_at-view : consumer_at (graph_of gs ps cs) n ≡ option_map (λ v. consumer_row (n, v)) (value_at cs.rows n)
+  consumer_at-view = find-map consumer_row n (λ (x : Consumer). x.number == n) (λ row. refl) cs.rows
+
+  -- a consumer that is there has its row
+  pub consumer_stands : IsSome (consumer_at (graph_of gs ps cs) n) → None ≡ value_at cs.rows n → ⊥
+  consumer_stands lives none =
+      let here : IsSome (option_map (λ v. consumer_row (n, v)) (value_at cs.rows n)) = rw consumer_at-view at lives in
+      let no : false ≡ true = rw (← none) at here in cc
+
+  pub set_error-view : (v : ProvCell) → IsRising 1 ps.rows ps.next → Some v ≡ value_at ps.rows n
+      → view_of gs (record ps { rows = with_value ps.rows n (record v { provider = record v.provider { errored = true } }) }) cs ≡ with_topology (view_of gs ps cs) (set_error (graph_of gs ps cs) n)
+  set_error-view v rising at =
+      let w : ProvCell = record v { provider = record v.provider { errored = true } } in
+      let is : OnlyValue n v ps.rows = only n 1 ps.next v ps.rows rising (sym at) in
+      rw (
+        map-with_value provider_row n (λ (x : Provider). x.number == n) (λ x. record x { errored = true }) v w (λ row. refl) refl ps.rows is,
+        map-with_value_same (row_with have_of) n v w refl ps.rows is,
+        map-with_value_same (row_with risen_of) n v w refl ps.rows is,
+        map-with_value_same (row_with fallen_of) n v w refl ps.rows is,
+        map-with_value_same (row_with provider_scratch_of) n v w refl ps.rows is,
+      ) refl
+
+  pub set_withering-view : (v : GeomCell C) → IsRising 1 gs.rows gs.next → Some v ≡ value_at gs.rows n
+      → view_of (record gs { rows = with_value gs.rows n (record v { geom = record v.geom { withering = true } }) }) ps cs ≡ with_topology (view_of gs ps cs) (set_withering (graph_of gs ps cs) n)
+  set_withering-view v rising at =
+      let w : GeomCell C = record v { geom = record v.geom { withering = true } } in
+      let is : OnlyValue n v gs.rows = only n 1 gs.next v gs.rows rising (sym at) in
+      rw (
+        map-with_value geom_row n (λ (x : Geom C). x.number == n) (λ x. record x { withering = true }) v w (λ row. refl) refl gs.rows is,
+        map-with_value_same (row_with (geom_scratch_of {C = C})) n v w refl gs.rows is,
+      ) refl
+
+  pub set_spoiled-view : (marked : Bool) (v : ConsCell) → IsRising 1 cs.rows cs.next → Some v ≡ value_at cs.rows n
+      → view_of gs ps (record cs { rows = with_value cs.rows n (record v { consumer = record v.consumer { spoiled = marked } }) }) ≡ with_topology (view_of gs ps cs) (set_marks (graph_of gs ps cs) (λ x. x.number == n) marked)
+  set_spoiled-view marked v rising at =
+      let w : ConsCell = record v { consumer = record v.consumer { spoiled = marked } } in
+      let is : OnlyValue n v cs.rows = only n 1 cs.next v cs.rows rising (sym at) in
+      rw (
+        map-with_value consumer_row n (λ (x : Consumer). x.number == n) (λ x. record x { spoiled = marked }) v w (λ row. refl) refl cs.rows is,
+        map-with_value_same (row_with want_of) n v w refl cs.rows is,
+        map-with_value_same (row_with active_of) n v w refl cs.rows is,
+        map-with_value_same (row_with consumer_scratch_of) n v w refl cs.rows is,
+      ) refl
+
+  pub note_active-view : (v : ConsCell) → IsRising 1 cs.rows cs.next → Some v ≡ value_at cs.rows n
+      → view_of gs ps (record cs { rows = with_value cs.rows n (record v { consumer = record v.consumer { active = v.consumer.active + 1 } }) }) ≡ with_active (view_of gs ps cs) n (λ m. m + 1)
+  note_active-view v rising at =
+      let w : ConsCell = record v { consumer = record v.consumer { active = v.consumer.active + 1 } } in
+      let is : OnlyValue n v cs.rows = only n 1 cs.next v cs.rows rising (sym at) in
+      rw (
+        map-with_value_same consumer_row n v w refl cs.rows is,
+        map-with_value_same (row_with want_of) n v w refl cs.rows is,
+        rows_with-change_at active_of n (λ m. m + 1) v w refl cs.rows is,
+        map-with_value_same (row_with consumer_scratch_of) n v w refl cs.rows is,
+      ) refl
+
+  pub note_back-view : (v : ConsCell) → IsRising 1 cs.rows cs.next → Some v ≡ value_at cs.rows n
+      → view_of gs ps (record cs { rows = with_value cs.rows n (record v { consumer = record v.consumer { active = v.consumer.active - 1 } }) }) ≡ with_active (view_of gs ps cs) n (λ m. m - 1)
+  note_back-view v rising at =
+      let w : ConsCell = record v { consumer = record v.consumer { active = v.consumer.active - 1 } } in
+      let is : OnlyValue n v cs.rows = only n 1 cs.next v cs.rows rising (sym at) in
+      rw (
+        map-with_value_same consumer_row n v w refl cs.rows is,
+        map-with_value_same (row_with want_of) n v w refl cs.rows is,
+        rows_with-change_at active_of n (λ m. m - 1) v w refl cs.rows is,
+        map-with_value_same (row_with consumer_scratch_of) n v w refl cs.rows is,
+      ) refl
+
+  pub set_want-view : (want : Counts) (v : ConsCell) → IsRising 1 cs.rows cs.next → Some v ≡ value_at cs.rows n
+      → view_of gs ps (record cs { rows = with_value cs.rows n (record v { consumer = record v.consumer { want = want } }) }) ≡ with_want (view_of gs ps cs) n want
+  set_want-view want v rising at =
+      let w : ConsCell = record v { consumer = record v.consumer { want = want } } in
+      let is : OnlyValue n v cs.rows = only n 1 cs.next v cs.rows rising (sym at) in
+      rw (
+        map-with_value_same consumer_row n v w refl cs.rows is,
+        rows_with-with_value want_of n w cs.rows,
+        map-with_value_same (row_with active_of) n v w refl cs.rows is,
+        map-with_value_same (row_with consumer_scratch_of) n v w refl cs.rows is,
+      ) refl
+
+  pub set_have-view : (have : Counts) (v : ProvCell) → IsRising 1 ps.rows ps.next → Some v ≡ value_at ps.rows n
+      → view_of gs (record ps { rows = with_value ps.rows n (record v { provider = record v.provider { have = have } }) }) cs ≡ with_have (view_of gs ps cs) n have
+  set_have-view have v rising at =
+      let w : ProvCell = record v { provider = record v.provider { have = have } } in
+      let is : OnlyValue n v ps.rows = only n 1 ps.next v ps.rows rising (sym at) in
+      rw (
+        map-with_value_same provider_row n v w refl ps.rows is,
+        rows_with-with_value have_of n w ps.rows,
+        map-with_value_same (row_with risen_of) n v w refl ps.rows is,
+        map-with_value_same (row_with fallen_of) n v w refl ps.rows is,
+        map-with_value_same (row_with provider_scratch_of) n v w refl ps.rows is,
+      ) refl
+
+  pub set_noted-view : (risen : Bool) (fallen : Bool) (v : ProvCell) → IsRising 1 ps.rows ps.next → Some v ≡ value_at ps.rows n
+      → view_of gs (record ps { rows = with_value ps.rows n (record v { provider = record v.provider { risen = risen; fallen = fallen } }) }) cs ≡ with_notes (view_of gs ps cs) n risen fallen
+  set_noted-view risen fallen v rising at =
+      let w : ProvCell = record v { provider = record v.provider { risen = risen; fallen = fallen } } in
+      let is : OnlyValue n v ps.rows = only n 1 ps.next v ps.rows rising (sym at) in
+      rw (
+        map-with_value_same provider_row n v w refl ps.rows is,
+        map-with_value_same (row_with have_of) n v w refl ps.rows is,
+        rows_with-with_value risen_of n w ps.rows,
+        rows_with-with_value fallen_of n w ps.rows,
+        map-with_value_same (row_with provider_scratch_of) n v w refl ps.rows is,
+      ) refl
+
+  pub set_geom_scratch-view : (scratch : Scratch) (v : GeomCell C) → IsRising 1 gs.rows gs.next → Some v ≡ value_at gs.rows n
+      → view_of (record gs { rows = with_value gs.rows n (record v { scratch = scratch }) }) ps cs ≡ with_geom_scratch (view_of gs ps cs) n scratch
+  set_geom_scratch-view scratch v rising at =
+      let w : GeomCell C = record v { scratch = scratch } in
+      let is : OnlyValue n v gs.rows = only n 1 gs.next v gs.rows rising (sym at) in
+      rw (
+        map-with_value_same geom_row n v w refl gs.rows is,
+        rows_with-with_value (geom_scratch_of {C = C}) n w gs.rows,
+      ) refl
+
+  pub set_provider_scratch-view : (scratch : Scratch) (v : ProvCell) → IsRising 1 ps.rows ps.next → Some v ≡ value_at ps.rows n
+      → view_of gs (record ps { rows = with_value ps.rows n (record v { scratch = scratch }) }) cs ≡ with_provider_scratch (view_of gs ps cs) n scratch
+  set_provider_scratch-view scratch v rising at =
+      let w : ProvCell = record v { scratch = scratch } in
+      let is : OnlyValue n v ps.rows = only n 1 ps.next v ps.rows rising (sym at) in
+      rw (
+        map-with_value_same provider_row n v w refl ps.rows is,
+        map-with_value_same (row_with have_of) n v w refl ps.rows is,
+        map-with_value_same (row_with risen_of) n v w refl ps.rows is,
+        map-with_value_same (row_with fallen_of) n v w refl ps.rows is,
+        rows_with-with_value provider_scratch_of n w ps.rows,
+      ) refl
+
+  pub set_consumer_scratch-view : (scratch : Scratch) (v : ConsCell) → IsRising 1 cs.rows cs.next → Some v ≡ value_at cs.rows n
+      → view_of gs ps (record cs { rows = with_value cs.rows n (record v { scratch = scratch }) }) ≡ with_consumer_scratch (view_of gs ps cs) n scratch
+  set_consumer_scratch-view scratch v rising at =
+      let w : ConsCell = record v { scratch = scratch } in
+      let is : OnlyValue n v cs.rows = only n 1 cs.next v cs.rows rising (sym at) in
+      rw (
+        map-with_value_same consumer_row n v w refl cs.rows is,
+        map-with_value_same (row_with want_of) n v w refl cs.rows is,
+        map-with_value_same (row_with active_of) n v w refl cs.rows is,
+        rows_with-with_value consumer_scratch_of n w cs.rows,
+      ) refl
+
+  pub note_started-view : (v : GeomCell C) → IsRising 1 gs.rows gs.next → Some v ≡ value_at gs.rows n
+      → view_of (record gs { rows = with_value gs.rows n (record v { geom = record v.geom { started = v.geom.started + 1 } }) }) ps cs ≡ with_topology (view_of gs ps cs) (note_started (graph_of gs ps cs) n)
+  note_started-view v rising at =
+      let w : GeomCell C = record v { geom = record v.geom { started = v.geom.started + 1 } } in
+      let is : OnlyValue n v gs.rows = only n 1 gs.next v gs.rows rising (sym at) in
+      rw (
+        map-with_value geom_row n (λ (x : Geom C). x.number == n) (λ x. record x { started = x.started + 1 }) v w (λ row. refl) refl gs.rows is,
+        map-with_value_same (row_with (geom_scratch_of {C = C})) n v w refl gs.rows is,
+      ) refl
+
+  pub detach-view : (v : ConsCell) → IsRising 1 cs.rows cs.next → Some v ≡ value_at cs.rows n
+      → view_of gs ps (record cs { rows = with_value cs.rows n (record v { consumer = record v.consumer { prov = None } }) }) ≡ with_topology (view_of gs ps cs) (detach (graph_of gs ps cs) n)
+  detach-view v rising at =
+      let w : ConsCell = record v { consumer = record v.consumer { prov = None } } in
+      let is : OnlyValue n v cs.rows = only n 1 cs.next v cs.rows rising (sym at) in
+      rw (
+        map-with_value consumer_row n (λ (x : Consumer). x.number == n) (λ x. record x { provider = None }) v w (λ row. refl) refl cs.rows is,
+        map-with_value_same (row_with want_of) n v w refl cs.rows is,
+        map-with_value_same (row_with active_of) n v w refl cs.rows is,
+        map-with_value_same (row_with consumer_scratch_of) n v w refl cs.rows is,
+      ) refl
+
+  pub attach-view : (p : ℕ) (v : ConsCell) → IsRising 1 cs.rows cs.next → Some v ≡ value_at cs.rows n
+      → view_of gs ps (record cs { rows = with_value cs.rows n (record v { consumer = record v.consumer { prov = Some p } }) }) ≡ with_topology (view_of gs ps cs) (attach (graph_of gs ps cs) n p)
+  attach-view p v rising at =
+      let w : ConsCell = record v { consumer = record v.consumer { prov = Some p } } in
+      let is : OnlyValue n v cs.rows = only n 1 cs.next v cs.rows rising (sym at) in
+      rw (
+        map-with_value consumer_row n (λ (x : Consumer). x.number == n) (λ x. record x { provider = Some p }) v w (λ row. refl) refl cs.rows is,
+        map-with_value_same (row_with want_of) n v w refl cs.rows is,
+        map-with_value_same (row_with active_of) n v w refl cs.rows is,
+        map-with_value_same (row_with consumer_scratch_of) n v w refl cs.rows is,
+      ) refl
+
+  pub swap_config-view : (config : C) (v : GeomCell C) → IsRising 1 gs.rows gs.next → Some v ≡ value_at gs.rows n
+      → view_of (record gs { rows = with_value gs.rows n (record v { geom = record v.geom { config = config } }) }) ps cs ≡ with_topology (view_of gs ps cs) (set_config (graph_of gs ps cs) n config)
+  swap_config-view config v rising at =
+      let w : GeomCell C = record v { geom = record v.geom { config = config } } in
+      let is : OnlyValue n v gs.rows = only n 1 gs.next v gs.rows rising (sym at) in
+      rw (
+        map-with_value geom_row n (λ (x : Geom C). x.number == n) (λ x. record x { config = config }) v w (λ row. refl) refl gs.rows is,
+        map-with_value_same (row_with (geom_scratch_of {C = C})) n v w refl gs.rows is,
+      ) refl
+
+  pub without_geom-view : view_of (record gs { rows = without gs.rows n }) ps cs ≡ without_geom (view_of gs ps cs) n
+  without_geom-view =
+      rw (
+        map-without geom_row n (λ (x : Geom C). x.number == n) (λ row. refl) gs.rows,
+        map-without (row_with (geom_scratch_of {C = C})) n (λ x. x.0 == n) (λ row. refl) gs.rows,
+      ) refl
+
+  pub without_provider-view : view_of gs (record ps { rows = without ps.rows n }) cs ≡ without_provider (view_of gs ps cs) n
+  without_provider-view =
+      rw (
+        map-without provider_row n (λ (x : Provider). x.number == n) (λ row. refl) ps.rows,
+        map-without (row_with have_of) n (λ x. x.0 == n) (λ row. refl) ps.rows,
+        map-without (row_with risen_of) n (λ x. x.0 == n) (λ row. refl) ps.rows,
+        map-without (row_with fallen_of) n (λ x. x.0 == n) (λ row. refl) ps.rows,
+        map-without (row_with provider_scratch_of) n (λ x. x.0 == n) (λ row. refl) ps.rows,
+      ) refl
+
+  pub without_consumer-view : view_of gs ps (record cs { rows = without cs.rows n }) ≡ without_consumer (view_of gs ps cs) n
+  without_consumer-view =
+      rw (
+        map-without consumer_row n (λ (x : Consumer). x.number == n) (λ row. refl) cs.rows,
+        map-without (row_with want_of) n (λ x. x.0 == n) (λ row. refl) cs.rows,
+        map-without (row_with active_of) n (λ x. x.0 == n) (λ row. refl) cs.rows,
+        map-without (row_with consumer_scratch_of) n (λ x. x.0 == n) (λ row. refl) cs.rows,
+      ) refl
+
+  -- the first number from a number on
+  pub next_geom-view : (low : ℕ) → first_geom (graph_of gs ps cs).geoms low ≡ first_from gs.rows low
+  next_geom-view low = first-map geom_row (λ (x : Geom C). x.number) (λ (x : Geom C). nat_le low x.number) (λ row. nat_le low row.0) (λ row. refl) (λ row. refl) gs.rows
+
+  pub next_provider-view : (low : ℕ) → first_provider (graph_of gs ps cs).providers low ≡ first_from ps.rows low
+  next_provider-view low = first-map provider_row (λ (x : Provider). x.number) (λ (x : Provider). nat_le low x.number) (λ row. nat_le low row.0) (λ row. refl) (λ row. refl) ps.rows
+
+  pub next_consumer-view : (low : ℕ) → first_consumer (graph_of gs ps cs).consumers low ≡ first_from cs.rows low
+  next_consumer-view low = first-map consumer_row (λ (x : Consumer). x.number) (λ (x : Consumer). nat_le low x.number) (λ row. nat_le low row.0) (λ row. refl) (λ row. refl) cs.rows
+
+  -- the providers and the consumers of a geom, and the consumers attached to a provider, from a number on
+  pub provider_of-view : (low : ℕ) → first_provider (providers_of (graph_of gs ps cs) n) low ≡ option_map (λ r. r.0) (first_row (λ (x : ProvCell). x.provider.geom == n) ps.rows low)
+  provider_of-view low =
+      rw (find-filter (λ (x : Provider). nat_le low x.number) (λ (x : Provider). x.geom == n) (map provider_row ps.rows))
+      (first-map provider_row (λ (x : Provider). x.number) (λ (x : Provider). nat_le low x.number && (x.geom == n)) (λ row. nat_le low row.0 && (row.1.provider.geom == n)) (λ row. refl) (λ row. refl) ps.rows)
+
+  pub consumer_of-view : (low : ℕ) → first_consumer (consumers_of (graph_of gs ps cs) n) low ≡ option_map (λ r. r.0) (first_row (λ (x : ConsCell). x.consumer.geom == n) cs.rows low)
+  consumer_of-view low =
+      rw (find-filter (λ (x : Consumer). nat_le low x.number) (λ (x : Consumer). x.geom == n) (map consumer_row cs.rows))
+      (first-map consumer_row (λ (x : Consumer). x.number) (λ (x : Consumer). nat_le low x.number && (x.geom == n)) (λ row. nat_le low row.0 && (row.1.consumer.geom == n)) (λ row. refl) (λ row. refl) cs.rows)
+
+  pub attached_to-view : (low : ℕ) → first_consumer (attached_to (graph_of gs ps cs) n) low ≡ option_map (λ r. r.0) (first_row (λ (x : ConsCell). names_number x.consumer.prov n) cs.rows low)
+  attached_to-view low =
+      rw (find-filter (λ (x : Consumer). nat_le low x.number) (λ (x : Consumer). names_number x.provider n) (map consumer_row cs.rows))
+      (first-map consumer_row (λ (x : Consumer). x.number) (λ (x : Consumer). nat_le low x.number && names_number x.provider n) (λ row. nat_le low row.0 && names_number row.1.consumer.prov n) (λ row. refl) (λ row. refl) cs.rows)
+
+-- a value of the first, else of the second
+option_map-or : {X Y : Type 0} (f : X → Y) (o p : Option X) → option_map f (option_or o p) ≡ option_or (option_map f o) (option_map f p)
+option_map-or f None p = refl
+option_map-or f (Some x) p = refl
+
+module _ {C : Type 0} (gs : SlotsView (GeomCell C)) (ps : SlotsView ProvCell) (cs : SlotsView ConsCell) where
+  -- the provider of a name, by the rows
+  pub find-view : (name : List ℕ) → find_provider (graph_of gs ps cs) name ≡
+      option_or (option_map (λ r. r.0) (first_row (λ (x : ProvCell). not x.provider.errored && same_name x.provider.name name) ps.rows 0))
+      (option_map (λ r. r.0) (last_or None (filter (λ row. same_name row.1.provider.name name) ps.rows)))
+  find-view name =
+      rw (
+        option_map-or (λ (x : Provider). x.number) (find (λ (x : Provider). not x.errored && same_name x.name name) (map provider_row ps.rows)) (last_or None (filter (λ (x : Provider). same_name x.name name) (map provider_row ps.rows))),
+        first-map provider_row (λ (x : Provider). x.number) (λ (x : Provider). not x.errored && same_name x.name name) (λ row. nat_le 0 row.0 && (not row.1.provider.errored && same_name row.1.provider.name name)) (λ row. refl) (λ row. rw (le-leb 0 row.0 (omega arith)) refl) ps.rows,
+        last-map provider_row (λ (x : Provider). x.number) (λ (x : Provider). same_name x.name name) (λ row. same_name row.1.provider.name name) (λ row. refl) (λ row. refl) ps.rows None None refl,
+      ) refl
+
+  -- a new consumer, in room that was kept
+  pub with_consumer-view : (geom room : ℕ) →
+      view_of gs ps (with_insert (record cs { spare = room }) (record { consumer = record { geom = geom; prov = None; want = no_counts; active = 0; spoiled = false }; scratch = no_scratch }))
+      ≡ record (with_consumer (view_of gs ps cs) geom) { room = record { geoms = gs.spare; providers = ps.spare; consumers = room - 1 } }
+  with_consumer-view geom room =
+      let cell : ConsCell = record { consumer = record { geom = geom; prov = None; want = no_counts; active = 0; spoiled = false }; scratch = no_scratch } in
+      let row : List (ℕ × ConsCell) = (cs.next, cell) ∷ [] in
+      rw (map-append consumer_row cs.rows row, map-append (row_with want_of) cs.rows row, map-append (row_with active_of) cs.rows row, map-append (row_with consumer_scratch_of) cs.rows row) refl
+
+  -- a new provider, in room that was kept
+  pub with_provider-view : (geom : ℕ) (name : List ℕ) (size sector room : ℕ) →
+      view_of gs (with_insert (record ps { spare = room }) (record { provider = record { geom = geom; name = name; size = size; sector = sector; errored = false; have = no_counts; risen = false; fallen = false }; scratch = no_scratch })) cs
+      ≡ record (with_provider (view_of gs ps cs) geom name size sector) { room = record { geoms = gs.spare; providers = room - 1; consumers = cs.spare } }
+  with_provider-view geom name size sector room =
+      let cell : ProvCell = record { provider = record { geom = geom; name = name; size = size; sector = sector; errored = false; have = no_counts; risen = false; fallen = false }; scratch = no_scratch } in
+      let row : List (ℕ × ProvCell) = (ps.next, cell) ∷ [] in
+      rw (map-append provider_row ps.rows row, map-append (row_with have_of) ps.rows row, map-append (row_with risen_of) ps.rows row, map-append (row_with fallen_of) ps.rows row, map-append (row_with provider_scratch_of) ps.rows row) refl
+
+module _ {C : Type 0} (gs : SlotsView (GeomCell C)) (n : ℕ) where
+  length-with_value : (w : GeomCell C) (rows : List (ℕ × GeomCell C)) → length (with_value rows n w) ≡ length rows
+  length-with_value w [] = refl
+  length-with_value w (row ∷ rows) = ap (λ k. suc k) (length-with_value w rows)
+
+  -- as many geoms after one is changed
+  pub count_stays : (w : GeomCell C) (live : ℕ) → IsCount (length gs.rows) live → IsCount (length (with_value gs.rows n w)) live
+  count_stays w live counted = record { counted = counted.counted ∙ sym (length-with_value w gs.rows); few = counted.few }
+
+  all_stay : (low high : ℕ) (rows : List (ℕ × GeomCell C)) → IsRising low rows high → n < low → without rows n ≡ rows
+  all_stay low high [] rising below = refl
+  all_stay low high (row ∷ rows) rising below =
+      rw (ne_eqb row.0 n (λ same. omega (arith, same, rising.0)), all_stay (row.0 + 1) high rows rising.1 (omega (arith, rising.0))) refl
+
+  taken_step : (low high : ℕ) (v : GeomCell C) (row : ℕ × GeomCell C) (rows : List (ℕ × GeomCell C)) (b : Bool) → (row.0 == n) ≡ b → IsRising low (row ∷ rows) high
+      → Some v ≡ value_at (row ∷ rows) n → (Some v ≡ value_at rows n → length (without rows n) + 1 ≡ length rows) → length (without (row ∷ rows) n) + 1 ≡ length (row ∷ rows)
+  taken_step low high v row rows true e rising at so =
+      let same : row.0 ≡ n = eqb-true row.0 n e in
+      rw (e, all_stay (row.0 + 1) high rows rising.1 (omega arith)) (omega arith)
+  taken_step low high v row rows false e rising at so = let rest = so (rw e at at) in rw e (omega (arith, rest))
+
+  -- one less where one is taken away
+  pub length-without : (low high : ℕ) (v : GeomCell C) (rows : List (ℕ × GeomCell C)) → IsRising low rows high → Some v ≡ value_at rows n → length (without rows n) + 1 ≡ length rows
+  length-without low high v [] rising at = absurd cc
+  length-without low high v (row ∷ rows) rising at = taken_step low high v row rows (row.0 == n) refl rising at (λ h. length-without (row.0 + 1) high v rows rising.1 h)
+
+  none_step : (row : ℕ × GeomCell C) (rows : List (ℕ × GeomCell C)) (b : Bool) → (row.0 == n) ≡ b → None ≡ value_at (row ∷ rows) n
+      → (None ≡ value_at rows n → without rows n ≡ rows) → without (row ∷ rows) n ≡ row ∷ rows
+  none_step row rows true e none so = let no : None ≡ Some row.1 = rw e at none in absurd cc
+  none_step row rows false e none so = rw (e, so (rw e at none)) refl
+
+  -- all stay where there is none
+  pub without-none : (rows : List (ℕ × GeomCell C)) → None ≡ value_at rows n → without rows n ≡ rows
+  without-none [] none = refl
+  without-none (row ∷ rows) none = none_step row rows (row.0 == n) refl none (λ h. without-none rows h)
+
+  -- one geom less
+  pub count_falls : (live : ℕ) (v : GeomCell C) → IsRising 1 gs.rows gs.next → Some v ≡ value_at gs.rows n → IsCount (length gs.rows) live → IsCount (length (without gs.rows n)) (live - 1)
+  count_falls live v rising at counted =
+      let one : length (without gs.rows n) + 1 ≡ length gs.rows = length-without 1 gs.next v gs.rows rising at in
+      record { counted = omega (arith, one, counted.counted); few = omega (arith, counted.few) }
+
+module _ (n : ℕ) where
+  unmarked : (low high : ℕ) (rows : List (ℕ × ProvCell)) → IsRising low rows high → n < low
+      → list_any (λ (x : Provider). (x.number == n) && x.errored) (map provider_row rows) ≡ false
+  unmarked low high [] rising below = refl
+  unmarked low high (row ∷ rows) rising below =
+      rw (ne_eqb row.0 n (λ same. omega (arith, same, rising.0)), unmarked (row.0 + 1) high rows rising.1 (omega (arith, rising.0))) refl
+
+  or_false : (b : Bool) → (b || false) ≡ b
+  or_false true = refl
+  or_false false = refl
+
+  error_step : (low high : ℕ) (row : ℕ × ProvCell) (rows : List (ℕ × ProvCell)) (b : Bool) → (row.0 == n) ≡ b → IsRising low (row ∷ rows) high
+      → list_any (λ (x : Provider). (x.number == n) && x.errored) (map provider_row rows) ≡ passes (λ (x : ProvCell). x.provider.errored) (value_at rows n)
+      → list_any (λ (x : Provider). (x.number == n) && x.errored) (map provider_row (row ∷ rows)) ≡ passes (λ (x : ProvCell). x.provider.errored) (value_at (row ∷ rows) n)
+  error_step low high row rows true e rising rest =
+      let same : row.0 ≡ n = eqb-true row.0 n e in
+      rw (e, unmarked (row.0 + 1) high rows rising.1 (omega arith)) (or_false row.1.provider.errored)
+  error_step low high row rows false e rising rest = rw e rest
+
+  -- whether the provider of a number carries an error, by its row
+  pub is_errored-rows : (low high : ℕ) (rows : List (ℕ × ProvCell)) → IsRising low rows high
+      → list_any (λ (x : Provider). (x.number == n) && x.errored) (map provider_row rows) ≡ passes (λ (x : ProvCell). x.provider.errored) (value_at rows n)
+  is_errored-rows low high [] rising = refl
+  is_errored-rows low high (row ∷ rows) rising = error_step low high row rows (row.0 == n) refl rising (is_errored-rows (row.0 + 1) high rows rising.1)
+
+module _ {C : Type 0} (n : ℕ) where
+  unwithered : (low high : ℕ) (rows : List (ℕ × GeomCell C)) → IsRising low rows high → n < low
+      → list_any (λ (x : Geom C). (x.number == n) && x.withering) (map geom_row rows) ≡ false
+  unwithered low high [] rising below = refl
+  unwithered low high (row ∷ rows) rising below =
+      rw (ne_eqb row.0 n (λ same. omega (arith, same, rising.0)), unwithered (row.0 + 1) high rows rising.1 (omega (arith, rising.0))) refl
+
+  wither_step : (low high : ℕ) (row : ℕ × GeomCell C) (rows : List (ℕ × GeomCell C)) (b : Bool) → (row.0 == n) ≡ b → IsRising low (row ∷ rows) high
+      → list_any (λ (x : Geom C). (x.number == n) && x.withering) (map geom_row rows) ≡ passes (λ (x : GeomCell C). x.geom.withering) (value_at rows n)
+      → list_any (λ (x : Geom C). (x.number == n) && x.withering) (map geom_row (row ∷ rows)) ≡ passes (λ (x : GeomCell C). x.geom.withering) (value_at (row ∷ rows) n)
+  wither_step low high row rows true e rising rest =
+      let same : row.0 ≡ n = eqb-true row.0 n e in
+      rw (e, unwithered (row.0 + 1) high rows rising.1 (omega arith)) (or_false n row.1.geom.withering)
+  wither_step low high row rows false e rising rest = rw e rest
+
+  -- whether the geom of a number withers, by its row
+  pub is_withering-rows : (low high : ℕ) (rows : List (ℕ × GeomCell C)) → IsRising low rows high
+      → list_any (λ (x : Geom C). (x.number == n) && x.withering) (map geom_row rows) ≡ passes (λ (x : GeomCell C). x.geom.withering) (value_at rows n)
+  is_withering-rows low high [] rising = refl
+  is_withering-rows low high (row ∷ rows) rising = wither_step low high row rows (row.0 == n) refl rising (is_withering-rows (row.0 + 1) high rows rising.1)
+
+any_found_step : {X : Type 0} (test : X → Bool) (x : X) (xs : List X) (b : Bool) → test x ≡ b → list_any test xs ≡ is_some (find test xs) → list_any test (x ∷ xs) ≡ is_some (find test (x ∷ xs))
+any_found_step test x xs true e rest = rw e refl
+any_found_step test x xs false e rest = rw e rest
+
+any_found : {X : Type 0} (test : X → Bool) (xs : List X) → list_any test xs ≡ is_some (find test xs)
+any_found test [] = refl
+any_found test (x ∷ xs) = any_found_step test x xs (test x) refl (any_found test xs)
+
+some_map : {X Y : Type 0} (f : X → Y) (o : Option X) → is_some (option_map f o) ≡ is_some o
+some_map f None = refl
+some_map f (Some x) = refl
+
+module _ {C : Type 0} (gs : SlotsView (GeomCell C)) (ps : SlotsView ProvCell) (cs : SlotsView ConsCell) where
+  -- whether a name is taken, by the rows
+  pub is_name_taken-view : (name : List ℕ) → is_name_taken (graph_of gs ps cs) name
+      ≡ is_some (option_map (λ r. r.0) (first_row (λ (x : ProvCell). not x.provider.errored && same_name x.provider.name name) ps.rows 0))
+  is_name_taken-view name =
+      any_found (λ (x : Provider). not x.errored && same_name x.name name) (map provider_row ps.rows)
+      ∙ sym (some_map (λ (x : Provider). x.number) (find (λ (x : Provider). not x.errored && same_name x.name name) (map provider_row ps.rows)))
+      ∙ ap is_some (first-map provider_row (λ (x : Provider). x.number) (λ (x : Provider). not x.errored && same_name x.name name) (λ row. nat_le 0 row.0 && (not row.1.provider.errored && same_name row.1.provider.name name)) (λ row. refl) (λ row. rw (le-leb 0 row.0 (omega arith)) refl) ps.rows)

@@ -1,0 +1,12 @@
+use Rattle.geo_mesh.specs.Cells.{within_limit}
+use Rattle.geo_mesh.proofs.ViewLemmas.{attach-view, consumer_stands}
+use Rattle.geo_mesh.proofs.topo.Topo.link.Goals as goal
+
+pub returns-in_default : goal.returns-in_default
+returns-in_default g c =
+    absurd (consumer_stands (within_limit c.self.inside.geoms c.self.inside.live) c.self.inside.providers c.self.inside.consumers c.number.result (rw (← c.self.view_is, ← c.number.ensures) at c.requires) c.in_default.ensures.value)
+
+pub returns : goal.returns
+returns g c =
+    rw (← c.self.view_is, ← c.number.ensures)
+    (attach-view (within_limit c.self.inside.geoms c.self.inside.live) c.self.inside.providers c.self.inside.consumers c.number.result c.args.prov c.in-Some.cell.now c.in-Some.ensures.rising c.in-Some.ensures.value)

@@ -1,0 +1,19 @@
+use Rattle.geo_mesh.specs.Cells.{within_limit}
+use Rattle.std.proofs.Common.{◌<◌, ◌≤◌, ◌^◌, rules}
+use Rattle.geo_mesh.proofs.RowLemmas.{value_at-rows_with}
+use Rattle.geo_mesh.specs.Cells.{active_of}
+use Rattle.geo_mesh.proofs.ViewLemmas.{note_back-view, consumer_stands}
+use Rattle.geo_mesh.proofs.topo.Topo.note_back.Goals as goal
+
+pub returns-in_default : goal.returns-in_default
+returns-in_default g c =
+    absurd (consumer_stands (within_limit c.self.inside.geoms c.self.inside.live) c.self.inside.providers c.self.inside.consumers c.number.result (rw (← c.self.view_is, ← c.number.ensures) at c.requires.lives) c.in_default.ensures.value)
+
+pub returns : goal.returns
+returns g c =
+    rw (← c.self.view_is, ← c.number.ensures)
+    (note_back-view (within_limit c.self.inside.geoms c.self.inside.live) c.self.inside.providers c.self.inside.consumers c.number.result c.in-Some.cell.now c.in-Some.ensures.rising c.in-Some.ensures.value)
+
+pub overflow_sub-cell : goal.overflow_sub-cell
+overflow_sub-cell g c =
+    rw (← c.self.view_is, ← c.number.ensures, value_at-rows_with active_of c.number.result c.self.inside.consumers.rows, ← c.in-Some.ensures.value) at c.requires.some_out

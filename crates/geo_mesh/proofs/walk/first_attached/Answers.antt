@@ -1,0 +1,32 @@
+use Rattle.std.proofs.Common.{◌≡◌, ℕ, ◌+◌, ◌<◌, ◌≤◌, ◌^◌, Some, sym, ◌∙◌, refl, arith, rules}
+use Rattle.std.specs.Prelude.{◌==◌, ◌&&◌, not, option_map}
+use Rattle.geo_model.specs.Words.{names_number, same_name}
+use Rattle.geo_mesh.specs.declared.records.ConsCell.{ConsCell}
+use Rattle.geo_mesh.specs.Rows.{first_row}
+use Rattle.geo_mesh.proofs.WalkLemmas.{walk_hit, walk_miss, walk_end, first_from-le, first_from-lt}
+use Rattle.geo_mesh.proofs.walk.first_attached.Goals as goal
+
+pub returns-then-is_attached : goal.returns-then-is_attached
+returns-then-is_attached c =
+    let hit : option_map (λ r. r.0) (first_row (λ (x : ConsCell). names_number x.consumer.prov c.args.prov) c.args.consumers.now.rows c.loop-number.at) ≡ Some c.in-Some.number =
+    walk_hit (λ (x : ConsCell). names_number x.consumer.prov c.args.prov) c.in-Some.number c.loop-number.at c.args.consumers.now.rows c.in-Some.ensures.first (sym c.is_attached.ensures ∙ c.if-is_attached.true) in
+    rw (← c.loop-number.invariant) (sym hit)
+
+pub overflow_add-at : goal.overflow_add-at
+overflow_add-at c =
+    let below : c.in-Some.number < c.args.consumers.now.next = first_from-lt c.in-Some.number c.loop-number.at 1 c.args.consumers.now.next c.args.consumers.now.rows c.in-Some.ensures.rising c.in-Some.ensures.first in
+    let bound : c.args.consumers.now.next < 2 ^ 64 = c.in-Some.ensures.bound in
+    search rules
+
+pub loop-number-smaller : goal.loop-number-smaller
+loop-number-smaller c =
+    let below : c.in-Some.number < c.args.consumers.now.next = first_from-lt c.in-Some.number c.loop-number.at 1 c.args.consumers.now.next c.args.consumers.now.rows c.in-Some.ensures.rising c.in-Some.ensures.first in
+    let above : c.loop-number.at ≤ c.in-Some.number = first_from-le c.in-Some.number c.loop-number.at c.args.consumers.now.rows c.in-Some.ensures.first in
+    omega arith
+
+pub loop-number-preserved : goal.loop-number-preserved
+loop-number-preserved c =
+    sym (walk_miss (λ (x : ConsCell). names_number x.consumer.prov c.args.prov) c.in-Some.number c.loop-number.at 1 c.args.consumers.now.next c.args.consumers.now.rows c.in-Some.ensures.rising c.in-Some.ensures.first (sym c.is_attached.ensures ∙ c.if-is_attached.false)) ∙ c.loop-number.invariant
+
+pub returns : goal.returns
+returns c = rw (← c.loop-number.invariant, walk_end (λ (x : ConsCell). names_number x.consumer.prov c.args.prov) c.loop-number.at c.args.consumers.now.rows c.in_default.ensures.first) refl

@@ -1,0 +1,97 @@
+-- The mesh that the rows of geoms, providers and consumers stand for.
+use Rattle.std.specs.Prelude.{◌≡◌, ℕ, ◌-◌, ◌≤◌, min, Bool, List, length, map}
+use Rattle.geo_base.specs.declared.request.Counts.{Counts}
+use Rattle.geo_model.specs.Topology.{Topology, Geom, Provider, Consumer}
+use Rattle.geo_slots.specs.Slots.{SlotsView}
+use Rattle.geo_mesh.specs.declared.records.Scratch.{Scratch}
+use Rattle.geo_mesh.specs.declared.records.GeomRec.{GeomRec}
+use Rattle.geo_mesh.specs.declared.records.ProvRec.{ProvRec}
+use Rattle.geo_mesh.specs.declared.records.ConsRec.{ConsRec}
+use Rattle.geo_mesh.specs.declared.records.GeomCell.{GeomCell}
+use Rattle.geo_mesh.specs.declared.records.ProvCell.{ProvCell}
+use Rattle.geo_mesh.specs.declared.records.ConsCell.{ConsCell}
+use Rattle.geo_mesh.specs.Rows.{rows_with}
+use Rattle.geo_mesh.specs.Topo.{TopoView}
+
+-- the geom that stands under a number
+abbrev pub geom_seen : {C : Type 0} → ℕ → GeomRec C → Geom C
+geom_seen n x = record { number = n; kind = x.kind; name = x.name; config = x.config; automatic = x.automatic; withering = x.withering; started = x.started }
+
+-- the provider that stands under a number
+abbrev pub provider_seen : ℕ → ProvRec → Provider
+provider_seen n x = record { number = n; geom = x.geom; name = x.name; size = x.size; sector = x.sector; errored = x.errored }
+
+-- the consumer that stands under a number
+abbrev pub consumer_seen : ℕ → ConsRec → Consumer
+consumer_seen n x = record { number = n; geom = x.geom; provider = x.prov; spoiled = x.spoiled }
+
+abbrev pub geom_row : {C : Type 0} → ℕ × GeomCell C → Geom C
+geom_row row = geom_seen row.0 row.1.geom
+
+abbrev pub provider_row : ℕ × ProvCell → Provider
+provider_row row = provider_seen row.0 row.1.provider
+
+abbrev pub consumer_row : ℕ × ConsCell → Consumer
+consumer_row row = consumer_seen row.0 row.1.consumer
+
+-- parts of cells
+abbrev pub have_of : ProvCell → Counts
+have_of x = x.provider.have
+
+abbrev pub risen_of : ProvCell → Bool
+risen_of x = x.provider.risen
+
+abbrev pub fallen_of : ProvCell → Bool
+fallen_of x = x.provider.fallen
+
+abbrev pub want_of : ConsCell → Counts
+want_of x = x.consumer.want
+
+abbrev pub active_of : ConsCell → ℕ
+active_of x = x.consumer.active
+
+abbrev pub geom_scratch_of : {C : Type 0} → GeomCell C → Scratch
+geom_scratch_of x = x.scratch
+
+abbrev pub provider_scratch_of : ProvCell → Scratch
+provider_scratch_of x = x.scratch
+
+abbrev pub consumer_scratch_of : ConsCell → Scratch
+consumer_scratch_of x = x.scratch
+
+-- the graph
+abbrev pub graph_of : {C : Type 0} → SlotsView (GeomCell C) → SlotsView ProvCell → SlotsView ConsCell → Topology C
+graph_of geoms providers consumers = record {
+  geoms = map geom_row geoms.rows;
+  providers = map provider_row providers.rows;
+  consumers = map consumer_row consumers.rows;
+  next_geom = geoms.next;
+  next_provider = providers.next;
+  next_consumer = consumers.next;
+}
+
+-- the mesh
+abbrev pub view_of : {C : Type 0} → SlotsView (GeomCell C) → SlotsView ProvCell → SlotsView ConsCell → TopoView C
+view_of geoms providers consumers = record {
+  topology = graph_of geoms providers consumers;
+  haves = rows_with have_of providers.rows;
+  risen = rows_with risen_of providers.rows;
+  fallen = rows_with fallen_of providers.rows;
+  wants = rows_with want_of consumers.rows;
+  active = rows_with active_of consumers.rows;
+  scratches = record {
+    geoms = rows_with geom_scratch_of geoms.rows;
+    providers = rows_with provider_scratch_of providers.rows;
+    consumers = rows_with consumer_scratch_of consumers.rows;
+  };
+  room = record { geoms = geoms.spare; providers = providers.spare; consumers = consumers.spare };
+}
+
+-- the geoms, with room for no more than may be
+abbrev pub within_limit : {C : Type 0} → SlotsView (GeomCell C) → ℕ → SlotsView (GeomCell C)
+within_limit geoms live = record geoms { spare = min geoms.spare (4294967294 - live) }
+
+-- the number of the geoms is kept, and isn't too great
+pub record IsCount (count live : ℕ) : Type 0 where
+  pub counted : live ≡ count
+  pub few : live ≤ 4294967294

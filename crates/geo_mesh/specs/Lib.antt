@@ -1,0 +1,5 @@
+pub mod Rows
+pub mod Topo
+pub mod Cells
+pub mod Below
+pub mod Refusals

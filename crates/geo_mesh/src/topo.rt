@@ -1,0 +1,739 @@
+//! The mesh: geoms, providers and consumers under their numbers.
+ghost use Rattle.std.specs.Prelude.{◌≡◌, ◌≢◌, ◌≤◌, ◌<◌, ◌^◌, ◌+◌, ◌-◌, ◌==◌, [], true, false, Some, IsSome, IsOk, IfSome, IfOk, OnErr, OnOk, option_map, option_copied, length, not, ◌&&◌, nat_lt, IsSomeAnd, MatchResult, None};
+ghost use Rattle.geo_base.specs.Name.{is_name};
+ghost use Rattle.geo_model.specs.Words.{is_granted_kind};
+ghost use Rattle.geo_model.specs.Topology.{geom_at, provider_at, consumer_at, providers_of, consumers_of, attached_to, find_provider, is_name_taken, is_withering, set_error, set_withering, set_marks, set_config, note_started, attach, is_errored};
+ghost use Rattle.std.specs.List.{list_any};
+ghost use Rattle.std.specs.Option.{option_and_then};
+ghost use Rattle.geo_model.specs.Rank.{rank, rank_limit, rank_within, geoms_reached_within, is_too_deep, would_loop, attach_refusal};
+ghost use Rattle.geo_slots.specs.Slots.{value_at};
+ghost use Rattle.geo_mesh.specs.Topo.{first_mesh, with_geom, with_provider, with_consumer, without_geom, without_provider, without_consumer, with_topology, with_want, with_have, with_notes, with_active, with_geom_scratch, with_provider_scratch, with_consumer_scratch, first_geom, first_consumer, first_provider, is_provider_size, detach, no_counts, ConsumersRise, GeomsRise};
+ghost use Rattle.geo_mesh.specs.Below.{below_of};
+ghost use Rattle.geo_mesh.specs.Rows.{passes};
+ghost use Rattle.geo_mesh.specs.Refusals.{errno_of};
+ghost use Rattle.geo_mesh.specs.Cells.{geom_seen, provider_seen, consumer_seen};
+
+use crate::records::{
+    AttachRefusal, ConsCell, ConsRec, GeomCell, GeomRec, ProvCell, ProvRec, Scratch,
+};
+use crate::walk;
+use geo_base::{ConsId, Counts, GeomId, Kind, Name, NoMemory, ProvId};
+use geo_slots::Slots;
+use std::alloc::Global;
+use std::marker::Model;
+
+/// The mesh: geoms, providers and consumers, generic in the configuration of a class (geom(4)). Contracts see the graph,
+/// and beside it the counts, the requests that are out, the notes, the scratch and the room that is kept.
+#[derive(Drop)]
+pub struct Topo<C> {
+    geoms: Slots<GeomCell<C>>,
+    providers: Slots<ProvCell>,
+    consumers: Slots<ConsCell>,
+    // How many geoms there are: fewer than 2^32, so that a rank fits its type.
+    live: u64,
+}
+
+impl<C> Model for Topo<C> {
+    ghost use Rattle.geo_mesh.specs.Topo.{TopoView};
+
+    ghost Value = { TopoView C };
+
+    ghost use Rattle.std.specs.Prelude.{length};
+    ghost use Rattle.geo_mesh.specs.Cells.{view_of, within_limit, IsCount};
+
+    ghost view = { λ t. view_of (within_limit t.geoms t.live) t.providers t.consumers };
+
+    ghost invariant = { λ t. IsCount (length t.geoms.rows) t.live };
+}
+
+// There are at most so many geoms: more would want more memory than there is.
+const MOST_GEOMS: u64 = 4294967294;
+
+// The greatest rank of a geom other than DEV and TASTE.
+const RANK_LIMIT: u64 = 32;
+
+const NO_SCRATCH: Scratch = Scratch {
+    mark: 0,
+    trial: NO_COUNTS,
+};
+
+const NO_COUNTS: Counts = Counts { r: 0, w: 0, e: 0 };
+
+impl<C> Topo<C> {
+    /// The provider gets an error; its consumers stay attached.
+    pub fn set_error(&mut self, prov: ProvId)
+        requires { IsSome (provider_at self.old.topology prov) }
+        ensures { self.new ≡ with_topology self.old (set_error self.old.topology prov) }
+    {
+        let Some(cell) = self.providers.get_mut(prov.number()) else {
+            return;
+        };
+        cell.provider.errored = true;
+    }
+
+    /// The geom withers (g_wither_geom(9)).
+    pub fn set_withering(&mut self, geom: GeomId)
+        requires { IsSome (geom_at self.old.topology geom) }
+        ensures { self.new ≡ with_topology self.old (set_withering self.old.topology geom) }
+    {
+        let Some(cell) = self.geoms.get_mut(geom.number()) else {
+            return;
+        };
+        cell.geom.withering = true;
+    }
+
+    /// The consumer is marked as spoiled, or the mark is taken away.
+    pub fn set_spoiled(&mut self, cons: ConsId, marked: bool)
+        requires { IsSome (consumer_at self.old.topology cons) }
+        ensures { self.new ≡ with_topology self.old (set_marks self.old.topology (λ x. x.number == cons) marked) }
+    {
+        let Some(cell) = self.consumers.get_mut(cons.number()) else {
+            return;
+        };
+        cell.consumer.spoiled = marked;
+    }
+
+    /// One more request is out through the consumer.
+    pub fn note_active(&mut self, cons: ConsId)
+        requires lives { IsSome (consumer_at self.old.topology cons) }
+        requires few { IfSome (value_at self.old.active cons) (λ n. n < 2 ^ 63) }
+        ensures { self.new ≡ with_active self.old cons (λ n. n + 1) }
+    {
+        let Some(cell) = self.consumers.get_mut(cons.number()) else {
+            return;
+        };
+        cell.consumer.active += 1;
+    }
+
+    /// A request through the consumer is back.
+    pub fn note_back(&mut self, cons: ConsId)
+        requires lives { IsSome (consumer_at self.old.topology cons) }
+        requires some_out { IfSome (value_at self.old.active cons) (λ n. 1 ≤ n) }
+        ensures { self.new ≡ with_active self.old cons (λ n. n - 1) }
+    {
+        let Some(cell) = self.consumers.get_mut(cons.number()) else {
+            return;
+        };
+        cell.consumer.active -= 1;
+    }
+
+    /// The counts of a consumer (g_access(9)).
+    pub fn set_want(&mut self, cons: ConsId, want: Counts)
+        requires { IsSome (consumer_at self.old.topology cons) }
+        ensures { self.new ≡ with_want self.old cons want }
+    {
+        let Some(cell) = self.consumers.get_mut(cons.number()) else {
+            return;
+        };
+        cell.consumer.want = want;
+    }
+
+    /// The counts of a provider (g_access(9)).
+    pub fn set_have(&mut self, prov: ProvId, have: Counts)
+        requires { IsSome (provider_at self.old.topology prov) }
+        ensures { self.new ≡ with_have self.old prov have }
+    {
+        let Some(cell) = self.providers.get_mut(prov.number()) else {
+            return;
+        };
+        cell.provider.have = have;
+    }
+
+    /// Whether the write count of a provider left zero, and whether it reached zero.
+    pub fn set_noted(&mut self, prov: ProvId, risen: bool, fallen: bool)
+        requires { IsSome (provider_at self.old.topology prov) }
+        ensures { self.new ≡ with_notes self.old prov risen fallen }
+    {
+        let Some(cell) = self.providers.get_mut(prov.number()) else {
+            return;
+        };
+        cell.provider.risen = risen;
+        cell.provider.fallen = fallen;
+    }
+
+    /// The scratch of a geom.
+    pub fn set_geom_scratch(&mut self, geom: GeomId, scratch: Scratch)
+        requires { IsSome (geom_at self.old.topology geom) }
+        ensures { self.new ≡ with_geom_scratch self.old geom scratch }
+    {
+        let Some(cell) = self.geoms.get_mut(geom.number()) else {
+            return;
+        };
+        cell.scratch = scratch;
+    }
+
+    /// The scratch of a provider.
+    pub fn set_provider_scratch(&mut self, prov: ProvId, scratch: Scratch)
+        requires { IsSome (provider_at self.old.topology prov) }
+        ensures { self.new ≡ with_provider_scratch self.old prov scratch }
+    {
+        let Some(cell) = self.providers.get_mut(prov.number()) else {
+            return;
+        };
+        cell.scratch = scratch;
+    }
+
+    /// The scratch of a consumer.
+    pub fn set_consumer_scratch(&mut self, cons: ConsId, scratch: Scratch)
+        requires { IsSome (consumer_at self.old.topology cons) }
+        ensures { self.new ≡ with_consumer_scratch self.old cons scratch }
+    {
+        let Some(cell) = self.consumers.get_mut(cons.number()) else {
+            return;
+        };
+        cell.scratch = scratch;
+    }
+
+    /// Takes the consumer off its provider (g_detach(9)). It holds no counts, and no request is out through it.
+    pub fn detach(&mut self, cons: ConsId)
+        requires lives { IsSome (consumer_at self.old.topology cons) }
+        requires attached { IfSome (consumer_at self.old.topology cons) (λ x. IsSome x.provider) }
+        requires no_counts { value_at self.old.wants cons ≡ Some no_counts }
+        requires none_out { value_at self.old.active cons ≡ Some 0 }
+        ensures { self.new ≡ with_topology self.old (detach self.old.topology cons) }
+    {
+        self.unlink(cons);
+    }
+
+    /// The geom started one more request.
+    pub fn note_started(&mut self, geom: GeomId)
+        requires lives { IsSome (geom_at self.old.topology geom) }
+        requires few { IfSome (geom_at self.old.topology geom) (λ x. x.started < 2 ^ 63) }
+        ensures { self.new ≡ with_topology self.old (note_started self.old.topology geom) }
+    {
+        let Some(cell) = self.geoms.get_mut(geom.number()) else {
+            return;
+        };
+        cell.geom.started += 1;
+    }
+
+    /// Gives the geom another configuration. The old one comes back.
+    pub fn swap_config(&mut self, geom: GeomId, config: C) -> C
+        requires { IsSome (geom_at self.old.topology geom) }
+        ensures swapped { self.new ≡ with_topology self.old (set_config self.old.topology geom config) }
+        ensures old { option_map (λ x. x.config) (geom_at self.old.topology geom) ≡ Some result }
+    {
+        let Some(cell) = self.geoms.get_mut(geom.number()) else {
+            return config;
+        };
+        std::mem::replace(&mut cell.geom.config, config)
+    }
+
+    /// Takes away a consumer that is attached to nothing.
+    pub fn destroy_consumer(&mut self, cons: ConsId)
+        requires { IfSome (consumer_at self.old.topology cons) (λ x. x.provider ≡ None) }
+        ensures { self.new ≡ without_consumer self.old cons }
+    {
+        let _ = self.consumers.remove(cons.number());
+    }
+
+    /// Takes away a provider to which nothing is attached.
+    pub fn destroy_provider(&mut self, prov: ProvId)
+        requires { attached_to self.old.topology prov ≡ [] }
+        ensures { self.new ≡ without_provider self.old prov }
+    {
+        let _ = self.providers.remove(prov.number());
+    }
+
+    /// The geom of a number.
+    pub fn geom(&self, id: GeomId) -> Option<&GeomRec<C>>
+        ensures { geom_at self.now.topology id ≡ option_map (geom_seen id) (option_copied result) }
+    {
+        match self.geoms.get(id.number()) {
+            Some(cell) => Some(&cell.geom),
+            None => None,
+        }
+    }
+
+    /// The provider of a number.
+    pub fn provider(&self, id: ProvId) -> Option<&ProvRec>
+        ensures provider { provider_at self.now.topology id ≡ option_map (provider_seen id) (option_copied result) }
+        ensures have { value_at self.now.haves id ≡ option_map (λ x. x.have) (option_copied result) }
+        ensures risen { value_at self.now.risen id ≡ option_map (λ x. x.risen) (option_copied result) }
+        ensures fallen { value_at self.now.fallen id ≡ option_map (λ x. x.fallen) (option_copied result) }
+    {
+        match self.providers.get(id.number()) {
+            Some(cell) => Some(&cell.provider),
+            None => None,
+        }
+    }
+
+    /// The consumer of a number.
+    pub fn consumer(&self, id: ConsId) -> Option<&ConsRec>
+        ensures consumer { consumer_at self.now.topology id ≡ option_map (consumer_seen id) (option_copied result) }
+        ensures want { value_at self.now.wants id ≡ option_map (λ x. x.want) (option_copied result) }
+        ensures active { value_at self.now.active id ≡ option_map (λ x. x.active) (option_copied result) }
+        ensures rising { ConsumersRise 1 self.now.topology.consumers self.now.topology.next_consumer }
+    {
+        match self.consumers.get(id.number()) {
+            Some(cell) => Some(&cell.consumer),
+            None => None,
+        }
+    }
+
+    /// The scratch of a geom.
+    pub fn geom_scratch(&self, geom: GeomId) -> Scratch
+        requires { IsSome (geom_at self.now.topology geom) }
+        ensures { value_at self.now.scratches.geoms geom ≡ Some result }
+    {
+        match self.geoms.get(geom.number()) {
+            Some(cell) => cell.scratch,
+            None => NO_SCRATCH,
+        }
+    }
+
+    /// The scratch of a provider.
+    pub fn provider_scratch(&self, prov: ProvId) -> Scratch
+        requires { IsSome (provider_at self.now.topology prov) }
+        ensures { value_at self.now.scratches.providers prov ≡ Some result }
+    {
+        match self.providers.get(prov.number()) {
+            Some(cell) => cell.scratch,
+            None => NO_SCRATCH,
+        }
+    }
+
+    /// The scratch of a consumer.
+    pub fn consumer_scratch(&self, cons: ConsId) -> Scratch
+        requires { IsSome (consumer_at self.now.topology cons) }
+        ensures { value_at self.now.scratches.consumers cons ≡ Some result }
+    {
+        match self.consumers.get(cons.number()) {
+            Some(cell) => cell.scratch,
+            None => NO_SCRATCH,
+        }
+    }
+
+    /// The least number of a geom that isn't below a number.
+    pub fn next_geom(&self, from: u64) -> Option<GeomId>
+        ensures first { result ≡ first_geom self.now.topology.geoms from }
+        ensures rising { GeomsRise 1 self.now.topology.geoms self.now.topology.next_geom }
+        ensures bound { self.now.topology.next_geom < 2 ^ 64 }
+    {
+        match self.geoms.first_from(from) {
+            Some(number) => Some(GeomId::new(number)),
+            None => None,
+        }
+    }
+
+    /// The least number of a provider that isn't below a number.
+    pub fn next_provider(&self, from: u64) -> Option<ProvId>
+        ensures { result ≡ first_provider self.now.topology.providers from }
+    {
+        match self.providers.first_from(from) {
+            Some(number) => Some(ProvId::new(number)),
+            None => None,
+        }
+    }
+
+    /// The least number of a consumer that isn't below a number.
+    pub fn next_consumer(&self, from: u64) -> Option<ConsId>
+        ensures first { result ≡ first_consumer self.now.topology.consumers from }
+        ensures rising { ConsumersRise 1 self.now.topology.consumers self.now.topology.next_consumer }
+        ensures bound { self.now.topology.next_consumer < 2 ^ 64 }
+    {
+        match self.consumers.first_from(from) {
+            Some(number) => Some(ConsId::new(number)),
+            None => None,
+        }
+    }
+
+    /// The least number of a provider of the geom that isn't below a number.
+    pub fn provider_of(&self, geom: GeomId, from: u64) -> Option<ProvId>
+        ensures { result ≡ first_provider (providers_of self.now.topology geom) from }
+    {
+        match walk::first_provider_of(&self.providers, geom.number(), from) {
+            Some(number) => Some(ProvId::new(number)),
+            None => None,
+        }
+    }
+
+    /// The least number of a consumer of the geom that isn't below a number.
+    pub fn consumer_of(&self, geom: GeomId, from: u64) -> Option<ConsId>
+        ensures { result ≡ first_consumer (consumers_of self.now.topology geom) from }
+    {
+        match walk::first_consumer_of(&self.consumers, geom.number(), from) {
+            Some(number) => Some(ConsId::new(number)),
+            None => None,
+        }
+    }
+
+    /// The least number of a consumer attached to the provider that isn't below a number.
+    pub fn attached_to(&self, prov: ProvId, from: u64) -> Option<ConsId>
+        ensures { result ≡ first_consumer (attached_to self.now.topology prov) from }
+    {
+        match walk::first_attached(&self.consumers, prov.number(), from) {
+            Some(number) => Some(ConsId::new(number)),
+            None => None,
+        }
+    }
+
+    /// The provider of the name that carries no error, else the one of the name with the greatest number.
+    pub fn find(&self, name: &Name) -> Option<ProvId>
+        ensures { result ≡ find_provider self.now.topology name.now }
+    {
+        match walk::first_sound(&self.providers, name, 0) {
+            Some(number) => Some(ProvId::new(number)),
+            None => match walk::last_named(&self.providers, name) {
+                Some(number) => Some(ProvId::new(number)),
+                None => None,
+            },
+        }
+    }
+
+    /// Whether the geom is there and withers (g_wither_geom(9)).
+    pub fn is_withering(&self, geom: GeomId) -> bool
+        ensures { result ≡ is_withering self.now.topology geom }
+    {
+        match self.geoms.get(geom.number()) {
+            Some(cell) => cell.geom.withering,
+            None => false,
+        }
+    }
+
+    /// Whether a provider without an error has the name.
+    pub fn is_name_taken(&self, name: &Name) -> bool
+        ensures { result ≡ is_name_taken self.now.topology name.now }
+    {
+        walk::first_sound(&self.providers, name, 0).is_some()
+    }
+
+    // How many geoms there are.
+    fn live(&self) -> u64
+        ensures count { result ≡ length self.now.topology.geoms }
+        ensures few { result ≤ 4294967294 }
+    {
+        self.live
+    }
+
+    /// The rank of a geom (geom(4)): 1 where nothing is attached below it, else one more than the highest rank below.
+    pub fn rank(&self, geom: GeomId) -> Option<u32>
+        ensures { result ≡ option_map (λ x. rank self.now.topology geom) (geom_at self.now.topology geom) }
+    {
+        let levels = self.live();
+        match self.geom(geom) {
+            Some(_) => Some(self.rank_within(levels, geom.number()) as u32),
+            None => None,
+        }
+    }
+
+    // The geom below the consumer, if this is a consumer of the geom and is attached.
+    fn geom_below(&self, geom: u64, cons: ConsId) -> Option<u64>
+        ensures { result ≡ option_and_then (below_of self.now.topology geom) (consumer_at self.now.topology cons) }
+    {
+        let consumer = self.consumer(cons)?;
+        if consumer.geom.number() != geom {
+            return None;
+        }
+        let prov = consumer.prov?;
+        let provider = self.provider(prov)?;
+        Some(provider.geom.number())
+    }
+
+    // The rank of a geom over so many levels.
+    fn rank_within(&self, levels: u64, geom: u64) -> u64
+        requires { levels < 2 ^ 32 }
+        ensures { result ≡ rank_within levels self.now.topology geom }
+    {
+        if levels == 0 {
+            return 1;
+        }
+        let mut highest: u64 = 0;
+        let mut at = 0;
+        while let Some(cons) = self.next_consumer(at) {
+            if let Some(below) = self.geom_below(geom, cons) {
+                highest = highest.max(self.rank_within(levels - 1, below));
+            }
+            at = cons.number() + 1;
+        }
+        1 + highest
+    }
+
+    // Whether a geom is another, or reaches it downwards over so many levels.
+    fn reaches_within(&self, levels: u64, geom: u64, other: u64) -> bool
+        ensures { result ≡ list_any (λ g. g == other) (geoms_reached_within levels self.now.topology geom) }
+    {
+        if geom == other {
+            return true;
+        }
+        if levels == 0 {
+            return false;
+        }
+        let mut at = 0;
+        while let Some(cons) = self.next_consumer(at) {
+            if let Some(below) = self.geom_below(geom, cons) {
+                if self.reaches_within(levels - 1, below, other) {
+                    return true;
+                }
+            }
+            at = cons.number() + 1;
+        }
+        false
+    }
+
+    // Whether the geom is of another class than DEV and TASTE, and has too great a rank.
+    fn is_deep(&self, levels: u64, id: GeomId) -> bool
+        requires { levels < 2 ^ 32 }
+        ensures { result ≡ passes (λ x. not (is_granted_kind x.kind) && nat_lt rank_limit (rank_within levels self.now.topology x.number)) (geom_at self.now.topology id) }
+    {
+        match self.geom(id) {
+            Some(geom) => {
+                if is_granted(geom.kind) {
+                    return false;
+                }
+                RANK_LIMIT < self.rank_within(levels, id.number())
+            }
+            None => false,
+        }
+    }
+
+    // Whether a geom of another class than DEV and TASTE has too great a rank.
+    fn is_too_deep(&self) -> bool
+        ensures { result ≡ is_too_deep self.now.topology }
+    {
+        let levels = self.live();
+        let mut at = 0;
+        while let Some(id) = self.next_geom(at) {
+            if self.is_deep(levels, id) {
+                return true;
+            }
+            at = id.number() + 1;
+        }
+        false
+    }
+
+    // Whether the provider is there and carries an error.
+    fn is_errored(&self, prov: ProvId) -> bool
+        ensures { result ≡ is_errored self.now.topology prov }
+    {
+        match self.providers.get(prov.number()) {
+            Some(cell) => cell.provider.errored,
+            None => false,
+        }
+    }
+
+    // Whether the geom of the consumer would reach itself.
+    fn would_loop(&self, cons: ConsId, prov: ProvId) -> bool
+        ensures loops { result ≡ would_loop self.now.topology (consumer_at self.now.topology cons) (provider_at self.now.topology prov) }
+        ensures rising { ConsumersRise 1 self.now.topology.consumers self.now.topology.next_consumer }
+    {
+        let levels = self.live();
+        match self.consumer(cons) {
+            Some(consumer) => match self.provider(prov) {
+                Some(provider) => {
+                    self.reaches_within(levels, provider.geom.number(), consumer.geom.number())
+                }
+                None => false,
+            },
+            None => false,
+        }
+    }
+
+    // Attaches the consumer, whatever the ranks.
+    fn link(&mut self, cons: ConsId, prov: ProvId)
+        requires { IsSome (consumer_at self.old.topology cons) }
+        ensures { self.new ≡ with_topology self.old (attach self.old.topology cons prov) }
+    {
+        let Some(cell) = self.consumers.get_mut(cons.number()) else {
+            return;
+        };
+        cell.consumer.prov = Some(prov);
+    }
+
+    // Takes the consumer off its provider.
+    fn unlink(&mut self, cons: ConsId)
+        requires { IsSome (consumer_at self.old.topology cons) }
+        ensures { self.new ≡ with_topology self.old (detach self.old.topology cons) }
+    {
+        let Some(cell) = self.consumers.get_mut(cons.number()) else {
+            return;
+        };
+        cell.consumer.prov = None;
+    }
+
+    /// Attaches the consumer to the provider (g_attach(9)). It is refused where the provider carries an error, else where
+    /// the geom would reach itself, else where a geom other than DEV and TASTE would get a rank above 32.
+    pub fn attach(&mut self, cons: ConsId, prov: ProvId) -> Result<(), AttachRefusal>
+        requires consumer { IsSomeAnd (consumer_at self.old.topology cons) (λ x. x.provider ≡ None) }
+        requires provider { IsSome (provider_at self.old.topology prov) }
+        ensures answer { MatchResult result (λ _. attach_refusal self.old.topology cons prov ≡ None) (λ e. attach_refusal self.old.topology cons prov ≡ Some (errno_of e)) }
+        ensures attached { OnOk result (self.new ≡ with_topology self.old (attach self.old.topology cons prov)) }
+        ensures same { OnErr result (self.new ≡ self.old) }
+    {
+        if self.is_errored(prov) {
+            return Err(AttachRefusal::Enxio);
+        }
+        if self.would_loop(cons, prov) {
+            return Err(AttachRefusal::Eloop);
+        }
+        self.link(cons, prov);
+        if self.is_too_deep() {
+            self.unlink(cons);
+            return Err(AttachRefusal::Edeep);
+        }
+        Ok(())
+    }
+
+    /// Keeps room, so that so many geoms, providers and consumers can be made without want of memory.
+    pub fn reserve(&mut self, geoms: u64, providers: u64, consumers: u64) -> Result<(), NoMemory>
+        ensures same { self.new ≡ record self.old { room = self.new.room } }
+        ensures geoms { OnOk result (geoms ≤ self.new.room.geoms) }
+        ensures providers { OnOk result (providers ≤ self.new.room.providers) }
+        ensures consumers { OnOk result (consumers ≤ self.new.room.consumers) }
+        ensures geoms_stay { self.old.room.geoms ≤ self.new.room.geoms }
+        ensures providers_stay { self.old.room.providers ≤ self.new.room.providers }
+        ensures consumers_stay { self.old.room.consumers ≤ self.new.room.consumers }
+    {
+        if MOST_GEOMS - self.live < geoms {
+            return Err(NoMemory);
+        }
+        self.geoms.reserve(geoms)?;
+        self.providers.reserve(providers)?;
+        self.consumers.reserve(consumers)?;
+        Ok(())
+    }
+
+    /// A new provider of the geom, with no counts (g_new_providerf). After `NoMemory` nothing changed.
+    pub fn new_provider(
+        &mut self,
+        geom: GeomId,
+        name: Name,
+        size: u64,
+        sector: u32,
+    ) -> Result<ProvId, NoMemory>
+        requires lives { IsSome (geom_at self.old.topology geom) }
+        requires stays { is_withering self.old.topology geom ≡ false }
+        requires not_dev { geom ≢ 1 }
+        requires not_taste { geom ≢ 2 }
+        requires size { is_provider_size size sector ≡ true }
+        requires free { is_name_taken self.old.topology name ≡ false }
+        ensures number { IfOk result (λ id. id ≡ self.old.topology.next_provider) }
+        ensures added { OnOk result (self.new ≡ record (with_provider self.old geom name size sector) { room = self.new.room }) }
+        ensures same { OnErr result (self.new ≡ record self.old { room = self.new.room }) }
+        ensures room { self.old.room.providers ≤ self.new.room.providers + 1 }
+        ensures other_room { self.new.room ≡ record self.old.room { providers = self.new.room.providers } }
+        ensures had_room { 1 ≤ self.old.room.providers → IsOk result }
+    {
+        self.providers.reserve(1)?;
+        let number = self.providers.insert(ProvCell {
+            provider: ProvRec {
+                geom,
+                name,
+                size,
+                sector,
+                errored: false,
+                have: NO_COUNTS,
+                risen: false,
+                fallen: false,
+            },
+            scratch: NO_SCRATCH,
+        });
+        Ok(ProvId::new(number))
+    }
+
+    /// A new consumer of the geom, attached to nothing and with no counts (g_new_consumer). After `NoMemory` nothing
+    /// changed.
+    pub fn new_consumer(&mut self, geom: GeomId) -> Result<ConsId, NoMemory>
+        requires { IsSome (geom_at self.old.topology geom) }
+        ensures number { IfOk result (λ id. id ≡ self.old.topology.next_consumer) }
+        ensures added { OnOk result (self.new ≡ record (with_consumer self.old geom) { room = self.new.room }) }
+        ensures same { OnErr result (self.new ≡ record self.old { room = self.new.room }) }
+        ensures room { self.old.room.consumers ≤ self.new.room.consumers + 1 }
+        ensures other_room { self.new.room ≡ record self.old.room { consumers = self.new.room.consumers } }
+        ensures had_room { 1 ≤ self.old.room.consumers → IsOk result }
+    {
+        self.consumers.reserve(1)?;
+        let number = self.consumers.insert(ConsCell {
+            consumer: ConsRec {
+                geom,
+                prov: None,
+                want: NO_COUNTS,
+                active: 0,
+                spoiled: false,
+            },
+            scratch: NO_SCRATCH,
+        });
+        Ok(ConsId::new(number))
+    }
+}
+
+impl<C: Drop> Topo<C> {
+    /// The mesh that stands at first: geom 1 of class DEV and geom 2 of class TASTE, with these configurations.
+    pub fn new(alloc: Global, dev: C, taste: C) -> Result<Topo<C>, NoMemory>
+        ensures { IfOk result (λ topo. topo ≡ first_mesh dev taste topo.room) }
+    {
+        let mut topo = Topo {
+            geoms: Slots::new(alloc),
+            providers: Slots::new(alloc),
+            consumers: Slots::new(alloc),
+            live: 0,
+        };
+        topo.new_geom(Kind::Dev, fixed_name(b"dev"), dev, false)?;
+        topo.new_geom(Kind::Taste, fixed_name(b"taste"), taste, false)?;
+        Ok(topo)
+    }
+
+    /// A new geom of the class, with no provider and no consumer (g_new_geomf). After `NoMemory` nothing changed.
+    pub fn new_geom(
+        &mut self,
+        kind: Kind,
+        name: Name,
+        config: C,
+        automatic: bool,
+    ) -> Result<GeomId, NoMemory>
+        ensures number { IfOk result (λ id. id ≡ self.old.topology.next_geom) }
+        ensures added { OnOk result (self.new ≡ record (with_geom self.old kind name config automatic) { room = self.new.room }) }
+        ensures same { OnErr result (self.new ≡ record self.old { room = self.new.room }) }
+        ensures room { self.old.room.geoms ≤ self.new.room.geoms + 1 }
+        ensures other_room { self.new.room ≡ record self.old.room { geoms = self.new.room.geoms } }
+        ensures had_room { 1 ≤ self.old.room.geoms → IsOk result }
+    {
+        if MOST_GEOMS <= self.live {
+            return Err(NoMemory);
+        }
+        self.geoms.reserve(1)?;
+        let number = self.geoms.insert(GeomCell {
+            geom: GeomRec {
+                kind,
+                name,
+                config,
+                automatic,
+                withering: false,
+                started: 0,
+            },
+            scratch: NO_SCRATCH,
+        });
+        self.live += 1;
+        Ok(GeomId::new(number))
+    }
+
+    /// Takes away a geom, other than the first two, that has neither provider nor consumer.
+    pub fn destroy_geom(&mut self, geom: GeomId)
+        requires not_dev { geom ≢ 1 }
+        requires not_taste { geom ≢ 2 }
+        requires no_provider { providers_of self.old.topology geom ≡ [] }
+        requires no_consumer { consumers_of self.old.topology geom ≡ [] }
+        ensures removed { self.new ≡ record (without_geom self.old geom) { room = self.new.room } }
+        ensures room { self.old.room.geoms ≤ self.new.room.geoms }
+        ensures other_room { self.new.room ≡ record self.old.room { geoms = self.new.room.geoms } }
+    {
+        if let Some(_cell) = self.geoms.remove(geom.number()) {
+            self.live -= 1;
+        }
+    }
+}
+
+// Whether the class is DEV or TASTE.
+fn is_granted(kind: Kind) -> bool
+    ensures { result ≡ is_granted_kind kind }
+{
+    matches!(kind, Kind::Dev | Kind::Taste)
+}
+
+// The name of these bytes.
+fn fixed_name(bytes: &[u8]) -> Name
+    requires { is_name bytes.now ≡ true }
+    ensures { result ≡ bytes.now }
+{
+    Name::new(bytes).unwrap()
+}
