@@ -1,5 +1,5 @@
 -- How a run ends, and what it writes.
-use Rattle.std.specs.Prelude.{◌≡◌, ◌≢◌, ℕ, ◌<◌, ◌≤◌, List, [], ◌∷◌, ◌++◌, length, take, Option, Ok, Err, IsSomeAnd, IfSome, IsNone, ⊤, codes, decimal, string_bytes}
+use Rattle.std.specs.Prelude.{◌≡◌, ◌≢◌, ℕ, ◌<◌, ◌≤◌, List, [], ◌∷◌, ◌++◌, length, take, Option, Ok, Err, IsSomeAnd, IfSome, IsNone, codes, decimal, string_bytes}
 use Rattle.std.specs.declared.string.String.{String}
 use Rattle.std.specs.declared.alloc.Global.{Global}
 use Rattle.geo_base.specs.Faults.{Rose}
@@ -11,6 +11,8 @@ use Rattle.geo_core.specs.Plans.{PlanView}
 use Rattle.geo_core.specs.Opening.{opening}
 use Rattle.geo_core.specs.Order.{Rest}
 use Rattle.geo_core.specs.Mesh.{world_of}
+use Rattle.geo_run.specs.declared.drain.DrainRefusal.{DrainRefusal}
+use Rattle.geo_run.specs.declared.drain.DrainRefusal.TheVariants as refusals
 use Rattle.geo_run.specs.FixedOrder.{IsOrderly, IsDueFull}
 use Rattle.geo_run.specs.Report.{report}
 use Rattle.geo_run.specs.Script.{script}
@@ -54,6 +56,11 @@ due_text OutOfMemory = codes "out of memory\n"
 due_text LogFull = codes "log full\n"
 due_text TooLong = codes "script too long\n"
 
+-- how a run ends whose mesh didn't come to rest
+abbrev pub ending_of : DrainRefusal → Ending
+ending_of refusals.LogFull = LogFull
+ending_of refusals.NoMemory = OutOfMemory
+
 -- the first bytes of a text were written, but not all
 pub record WritesPart (text : List ℕ) (old new : Option (List ℕ)) : Type 0 where
   pub count : ℕ
@@ -77,23 +84,37 @@ pub record IsToRest (plan : PlanView) (facts : List (ℕ × ℕ)) (log : List En
   pub orderly : IsOrderly (record { plan = plan; facts = facts; log = log })
   pub rest : Rest (world_of (record { plan = plan; facts = facts; log = log }))
 
--- the log is that of a plan over disks of these sizes: legal, and in the fixed order
-pub record IsOrderlyLog (sizes : List (ℕ × ℕ)) (entries : List Entry) : Type 0 where
+-- the log, where it is there, is that of this plan over disks of these sizes: legal, and in the fixed order
+abbrev pub HasPlanLog : PlanView → List (ℕ × ℕ) → Option (Room Entry) → Type 0
+HasPlanLog plan sizes log = IfSome log (λ l. IsOrderly (record { plan = plan; facts = sizes; log = l.items }))
+
+-- the log is that of the plan of this text
+pub record IsTextLog (text : List ℕ) (sizes : List (ℕ × ℕ)) (entries : List Entry) : Type 0 where
   pub plan : PlanView
+  pub parsed : script text ≡ Ok plan
   pub orderly : IsOrderly (record { plan = plan; facts = sizes; log = entries })
 
--- wherever a log is there, it is such a one
-abbrev pub HasOrderlyLog : Option (Room Entry) → List (ℕ × ℕ) → Type 0
-HasOrderlyLog log sizes = IfSome log (λ l. IsOrderlyLog sizes l.items)
+abbrev pub HasTextLog : List ℕ → List (ℕ × ℕ) → Option (Room Entry) → Type 0
+HasTextLog text sizes log = IfSome log (λ l. IsTextLog text sizes l.items)
 
--- a log is there, and the step that is due has no place in it
+-- the source was read whole, and the log is that of the plan of its text
+pub record IsReadLog (old new : Option (List ℕ)) (sizes : List (ℕ × ℕ)) (entries : List Entry) : Type 0 where
+  pub text : List ℕ
+  pub read : IsReadWhole old new text
+  pub of_text : IsTextLog text sizes entries
+
+abbrev pub HasReadLog : Option (List ℕ) → Option (List ℕ) → List (ℕ × ℕ) → Option (Room Entry) → Type 0
+HasReadLog old new sizes log = IfSome log (λ l. IsReadLog old new sizes l.items)
+
+-- the log is there, is that of the plan, and has no place for the step that is due
 pub record StopsFull (plan : PlanView) (facts : List (ℕ × ℕ)) (log : Option (Room Entry)) : Type 0 where
+  pub orderly : HasPlanLog plan facts log
   pub full : IsSomeAnd log (λ l. IsDueFull (record { plan = plan; facts = facts; log = l.items }))
 
--- when a run of a plan ends so, and whether there is a log
+-- when a run of a plan ends so, and what its log is
 abbrev pub HasPlanCause : Ending → PlanView → Option (Room Entry) → List (ℕ × ℕ) → Type 0
 HasPlanCause (Reported own facts entries) plan log sizes = (own ≡ plan) × IsToRest plan facts entries × IsSomeAnd log (λ l. l.items ≡ entries) × (sizes ≡ facts)
-HasPlanCause OutOfMemory plan log sizes = ⊤
+HasPlanCause OutOfMemory plan log sizes = HasPlanLog plan sizes log
 HasPlanCause LogFull plan log sizes = StopsFull plan sizes log
 HasPlanCause BadWords plan log sizes = ⊥
 HasPlanCause (NoScript line) plan log sizes = ⊥
@@ -104,7 +125,7 @@ HasPlanCause TooLong plan log sizes = ⊥
 abbrev pub HasTextCause : Ending → List ℕ → Option (Room Entry) → List (ℕ × ℕ) → Type 0
 HasTextCause (Reported plan facts entries) text log sizes = (script text ≡ Ok plan) × IsToRest plan facts entries × IsSomeAnd log (λ l. l.items ≡ entries) × (sizes ≡ facts)
 HasTextCause (NoScript line) text log sizes = (script text ≡ Err line) × IsNone log
-HasTextCause OutOfMemory text log sizes = ⊤
+HasTextCause OutOfMemory text log sizes = HasTextLog text sizes log
 HasTextCause LogFull text log sizes = (plan : PlanView) × (script text ≡ Ok plan) × StopsFull plan sizes log
 HasTextCause BadWords text log sizes = ⊥
 HasTextCause ReadFault text log sizes = ⊥
@@ -133,7 +154,7 @@ abbrev pub HasRunCause : Ending → Option (List ℕ) → Option (List ℕ) → 
 HasRunCause (Reported plan facts entries) old new before now log sizes = HasRead (Reported plan facts entries) old new log sizes
 HasRunCause (NoScript line) old new before now log sizes = HasRead (NoScript line) old new log sizes
 HasRunCause LogFull old new before now log sizes = HasRead LogFull old new log sizes
-HasRunCause OutOfMemory old new before now log sizes = ⊤
+HasRunCause OutOfMemory old new before now log sizes = HasReadLog old new sizes log
 HasRunCause ReadFault old new before now log sizes = Rose before now × IsNone log
 HasRunCause TooLong old new before now log sizes = Takes old 4194305 new × IsNone log
 HasRunCause BadWords old new before now log sizes = ⊥

@@ -12,4 +12,4 @@ mod text;
 mod top;
 mod words;
 
-pub use top::{Ended, run};
+pub use top::{Ended, run, without_memory};

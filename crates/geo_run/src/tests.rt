@@ -1,4 +1,6 @@
-use crate::{Ended, run};
+use crate::drain::DrainRefusal;
+use crate::top::stopped;
+use crate::{Ended, run, without_memory};
 use geo_base::{Block, Calls};
 use geo_io::{MemSink, MemSource};
 use std::alloc::Global;
@@ -60,6 +62,46 @@ fn faults_of_source_and_sink_are_told(rt: HostRuntime) -> Result<(), Fail> {
     let (ended, sink) = run_on(alloc, "step", SCRIPT, &[], 10)?;
     assert!(rt; ended.status == 4 && ended.log.is_some());
     assert_eq!(rt; sink.written(), b"3 ok\n4 ok ".as_slice());
+    Ok(())
+}
+
+// Run with each allocation failing in turn, the run ends with its report, or with the status of want of memory.
+#[test]
+fn want_of_memory_is_told(rt: HostRuntime) -> Result<(), Fail> {
+    let (ended, sink) = run_on(rt.alloc(), "step", SCRIPT, &[], 1000)?;
+    let due = if ended.status == 0 {
+        REPORT
+    } else {
+        b"out of memory\n".as_slice()
+    };
+    assert!(rt; ended.status == 0 || ended.status == 6);
+    assert_eq!(rt; sink.written(), due);
+    Ok(())
+}
+
+#[test]
+fn a_mesh_that_stops_has_its_status(rt: HostRuntime) {
+    assert_eq!(rt;
+        stopped(DrainRefusal::LogFull),
+        (7, b"log full\n".as_slice())
+    );
+    assert_eq!(rt;
+        stopped(DrainRefusal::NoMemory),
+        (6, b"out of memory\n".as_slice())
+    );
+}
+
+#[test]
+fn want_of_memory_for_the_words_is_told(rt: HostRuntime) -> Result<(), Fail> {
+    let alloc = rt.alloc();
+    for (room, status, due) in [
+        (100, 6, b"out of memory\n".as_slice()),
+        (7, 4, b"out of ".as_slice()),
+    ] {
+        let mut sink = MemSink::new(alloc, room, 7, Calls::of(alloc, &[])?)?;
+        assert_eq!(rt; without_memory(&mut sink), status);
+        assert_eq!(rt; sink.written(), due);
+    }
     Ok(())
 }
 

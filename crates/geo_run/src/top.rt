@@ -1,8 +1,8 @@
 //! The top call.
 ghost use Rattle.std.specs.Prelude.{◌≡◌, ◌≢◌, ◌↔◌, ◌≤◌, ◌∷◌, [], None, Some, IfOk, IfSome, IsTrue, IsSomeAnd, IsNone, codes, length};
-ghost use Rattle.geo_run.specs.FixedOrder.{IsBetween, IsOrderly};
+ghost use Rattle.geo_run.specs.FixedOrder.{IsBetween};
 ghost use Rattle.geo_run.specs.OneDisk.{HasOneRam, IsDiskOf, IsRamDecl};
-ghost use Rattle.geo_run.specs.Run.{EndsPlan, EndsRun, EndsText, HasOrderlyLog, IsStep, Writes, fault_text};
+ghost use Rattle.geo_run.specs.Run.{EndsPlan, EndsRun, EndsText, HasReadLog, IsStep, Writes, due_text, ending_of, fault_text, status_of};
 
 use crate::drain::{DrainRefusal, run_to_rest};
 use crate::ram_disk::RamDisk;
@@ -45,7 +45,8 @@ fn fault_text(alloc: Global, line: u32) -> Result<Block, NoMemory>
 /// Writes the due text. A fault of the sink turns the status into 4.
 fn written<K: Sink>(sink: &mut K, status: u8, text: &[u8]) -> u8
     requires { status ≢ 4 }
-    ensures { Writes result status (K.faults sink.old) (K.faults sink.new) text.now (K.written sink.old) (K.written sink.new) }
+    ensures { Writes result status (K.faults sink.old) (K.faults sink.new)
+        text.now (K.written sink.old) (K.written sink.new) }
 {
     match write_out(sink, text) {
         Ok(()) => status,
@@ -57,9 +58,8 @@ fn written<K: Sink>(sink: &mut K, status: u8, text: &[u8]) -> u8
 fn unopened<K: Sink>(alloc: Global, sink: &mut K, status: u8, text: &[u8]) -> Ended
     requires { status ≢ 4 }
     ensures no_log { result.log ≡ None }
-    ensures no_facts { result.facts.items ≡ [] }
-    ensures orderly { HasOrderlyLog result.log result.facts.items }
-    ensures writes { Writes result.status status (K.faults sink.old) (K.faults sink.new) text.now (K.written sink.old) (K.written sink.new) }
+    ensures writes { Writes result.status status (K.faults sink.old) (K.faults sink.new)
+        text.now (K.written sink.old) (K.written sink.new) }
 {
     Ended {
         status: written(sink, status, text),
@@ -80,18 +80,27 @@ fn facts_of(alloc: Global, disk: &DiskDecl) -> Result<DiskFacts, NoMemory>
 
 /// The end of a run whose mesh opened.
 fn opened<K: Sink>(sink: &mut K, status: u8, text: &[u8], mesh: Mesh, facts: DiskFacts) -> Ended
-    requires other { status ≢ 4 }
-    requires orderly { IsOrderly mesh }
-    requires facts { facts.items ≡ mesh.facts }
-    ensures orderly { HasOrderlyLog result.log result.facts.items }
+    requires { status ≢ 4 }
     ensures log { IsSomeAnd result.log (λ log. log.items ≡ mesh.log) }
     ensures facts { result.facts.items ≡ facts.items }
-    ensures writes { Writes result.status status (K.faults sink.old) (K.faults sink.new) text.now (K.written sink.old) (K.written sink.new) }
+    ensures writes { Writes result.status status (K.faults sink.old) (K.faults sink.new)
+        text.now (K.written sink.old) (K.written sink.new) }
 {
     Ended {
         status: written(sink, status, text),
         log: Some(mesh.into_log()),
         facts,
+    }
+}
+
+/// The status and the text of a run whose mesh didn't come to rest.
+pub(crate) fn stopped(refusal: DrainRefusal) -> (u8, &'static [u8])
+    ensures status { result.0 ≡ status_of (ending_of refusal) }
+    ensures text { result.1.now ≡ due_text (ending_of refusal) }
+{
+    match refusal {
+        DrainRefusal::LogFull => (7, LOG_FULL),
+        DrainRefusal::NoMemory => (6, OUT_OF_MEMORY),
     }
 }
 
@@ -105,16 +114,18 @@ fn run_mesh<K: Sink>(
 ) -> Ended
     requires between { IsBetween disk.now mesh }
     requires facts { facts.items ≡ mesh.facts }
-    ensures orderly { HasOrderlyLog result.log result.facts.items }
-    ensures ends { EndsPlan mesh.plan result.log result.facts.items result.status (K.faults sink.old) (K.faults sink.new) (K.written sink.old) (K.written sink.new) }
+    ensures { EndsPlan mesh.plan result.log result.facts.items result.status
+        (K.faults sink.old) (K.faults sink.new) (K.written sink.old) (K.written sink.new) }
 {
     match run_to_rest(alloc, &mut mesh, disk) {
         Ok(()) => match report(alloc, &mesh) {
             Ok(text) => opened(sink, 0, text.bytes(), mesh, facts),
             Err(_) => opened(sink, 6, OUT_OF_MEMORY, mesh, facts),
         },
-        Err(DrainRefusal::LogFull) => opened(sink, 7, LOG_FULL, mesh, facts),
-        Err(DrainRefusal::NoMemory) => opened(sink, 6, OUT_OF_MEMORY, mesh, facts),
+        Err(refusal) => {
+            let (status, text) = stopped(refusal);
+            opened(sink, status, text, mesh, facts)
+        }
     }
 }
 
@@ -143,8 +154,8 @@ fn only_disk(plan: &Plan) -> DiskDecl
 /// Runs a plan.
 fn run_plan<K: Sink>(alloc: Global, plan: Plan, sink: &mut K) -> Ended
     requires { HasOneRam plan }
-    ensures orderly { HasOrderlyLog result.log result.facts.items }
-    ensures ends { EndsPlan plan result.log result.facts.items result.status (K.faults sink.old) (K.faults sink.new) (K.written sink.old) (K.written sink.new) }
+    ensures { EndsPlan plan result.log result.facts.items result.status
+        (K.faults sink.old) (K.faults sink.new) (K.written sink.old) (K.written sink.new) }
 {
     let decl = only_disk(&plan);
     match disk_of(alloc, &decl) {
@@ -158,8 +169,8 @@ fn run_plan<K: Sink>(alloc: Global, plan: Plan, sink: &mut K) -> Ended
 
 /// Runs a text.
 fn run_text<K: Sink>(alloc: Global, text: &[u8], sink: &mut K) -> Ended
-    ensures orderly { HasOrderlyLog result.log result.facts.items }
-    ensures ends { EndsText text.now result.log result.facts.items result.status (K.faults sink.old) (K.faults sink.new) (K.written sink.old) (K.written sink.new) }
+    ensures { EndsText text.now result.log result.facts.items result.status
+        (K.faults sink.old) (K.faults sink.new) (K.written sink.old) (K.written sink.new) }
 {
     match plan_of_text(alloc, text) {
         Ok(plan) => run_plan(alloc, plan, sink),
@@ -173,8 +184,9 @@ fn run_text<K: Sink>(alloc: Global, text: &[u8], sink: &mut K) -> Ended
 
 /// Reads the source to its end, and runs its text.
 fn run_step<S: Source, K: Sink>(alloc: Global, source: &mut S, sink: &mut K) -> Ended
-    ensures orderly { HasOrderlyLog result.log result.facts.items }
-    ensures ends { EndsRun (S.left source.old) (S.left source.new) (S.faults source.old) (S.faults source.new) result.log result.facts.items result.status (K.faults sink.old) (K.faults sink.new) (K.written sink.old) (K.written sink.new) }
+    ensures { EndsRun (S.left source.old) (S.left source.new) (S.faults source.old) (S.faults source.new)
+        result.log result.facts.items result.status
+        (K.faults sink.old) (K.faults sink.new) (K.written sink.old) (K.written sink.new) }
 {
     match read_all(alloc, source, LONGEST) {
         Ok(text) => run_text(alloc, text.bytes(), sink),
@@ -194,6 +206,15 @@ fn is_step(words: &[String]) -> bool
     }
 }
 
+/// The end of a program that has no memory even for its words: it writes `out of memory`, and gives the exit status, which is
+/// 6, or 4 where the sink fails.
+pub fn without_memory<K: Sink>(sink: &mut K) -> u8
+    ensures { Writes result 6 (K.faults sink.old) (K.faults sink.new)
+        (codes "out of memory\n") (K.written sink.old) (K.written sink.new) }
+{
+    written(sink, 6, OUT_OF_MEMORY)
+}
+
 /// The whole program: on the word `step` it reads a script from the source, runs it and writes the report to the sink.
 pub fn run<S: Source, K: Sink>(
     alloc: Global,
@@ -202,12 +223,19 @@ pub fn run<S: Source, K: Sink>(
     sink: &mut K,
 ) -> Ended
     // On the word `step` the run of the source ends by its cause, and writes what is due.
-    ensures step { IsStep words.now → EndsRun (S.left source.old) (S.left source.new) (S.faults source.old) (S.faults source.new) result.log result.facts.items result.status (K.faults sink.old) (K.faults sink.new) (K.written sink.old) (K.written sink.new) }
+    ensures step { IsStep words.now → EndsRun
+        (S.left source.old) (S.left source.new) (S.faults source.old) (S.faults source.new)
+        result.log result.facts.items result.status
+        (K.faults sink.old) (K.faults sink.new) (K.written sink.old) (K.written sink.new) }
+
+    // Wherever a log is there, the source was read whole, its text is a script, and the log is legal from the opening of
+    // the plan of that script, in the fixed order.
+    ensures log { HasReadLog (S.left source.old) (S.left source.new) result.facts.items result.log }
 
     // On other words the usage line is written, and nothing is read.
-    ensures usage { (IsStep words.now → ⊥) → Writes result.status 1 (K.faults sink.old) (K.faults sink.new) (codes "usage: geomrun step | run | gen START COUNT\n") (K.written sink.old) (K.written sink.new) }
+    ensures usage { (IsStep words.now → ⊥) → Writes result.status 1 (K.faults sink.old) (K.faults sink.new)
+        (codes "usage: geomrun step | run | gen START COUNT\n") (K.written sink.old) (K.written sink.new) }
     ensures no_log { (IsStep words.now → ⊥) → result.log ≡ None }
-    ensures orderly { HasOrderlyLog result.log result.facts.items }
     ensures unread { (IsStep words.now → ⊥) → S.left source.new ≡ S.left source.old }
 {
     if is_step(words) {

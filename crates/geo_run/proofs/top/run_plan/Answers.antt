@@ -5,11 +5,11 @@ use Rattle.geo_run.proofs.EndLemmas.{EndsPlan-memory}
 use Rattle.geo_run.proofs.OpeningLemmas.{between_first}
 use Rattle.geo_run.proofs.top.run_plan.Goals as goal
 
-pub returns-in-Ok-clause-ends : goal.returns-in-Ok-clause-ends
-returns-in-Ok-clause-ends g c = EndsPlan-memory c.args.plan _ _ _ _ _ _ _ c.unopened.ensures.writes
+pub returns-in-Ok : goal.returns-in-Ok
+returns-in-Ok g c = EndsPlan-memory c.args.plan _ _ _ _ _ _ _ c.unopened.ensures.no_log c.unopened.ensures.writes
 
-pub returns-clause-ends : goal.returns-clause-ends
-returns-clause-ends g c = EndsPlan-memory c.args.plan _ _ _ _ _ _ _ c.unopened-in-Err.ensures.writes
+pub returns : goal.returns
+returns g c = EndsPlan-memory c.args.plan _ _ _ _ _ _ _ c.unopened-in-Err.ensures.no_log c.unopened-in-Err.ensures.writes
 
 pub run_mesh-requires-clause-between : goal.run_mesh-requires-clause-between
 run_mesh-requires-clause-between g c =
