@@ -250,7 +250,7 @@ abbrev pub two_spaces_script : List ℕ
 two_spaces_script = text_of (codes "actor a" ∷ codes "a  sync" ∷ [])
 
 abbrev pub zero_in_front_script : List ℕ
-zero_in_front_script = text_of (codes "actor a" ∷ codes "a read h 01 512" ∷ [])
+zero_in_front_script = text_of (codes "actor a" ∷ codes "a read h 07 512" ∷ [])
 
 abbrev pub odd_sector_script : List ℕ
 odd_sector_script = text_of (codes "ram md0 513 4" ∷ [])
