@@ -1,0 +1,7 @@
+pub mod WordsLemmas
+pub mod NumberLemmas
+pub mod TextLemmas
+pub mod RunsAgree
+pub mod FormLemmas
+pub mod ReaderLaws
+pub mod PlanLaw

@@ -1,0 +1,13 @@
+use Rattle.std.proofs.Common.{◌≡◌, ◌+◌, ◌≤◌, length}
+use Rattle.geo_model.specs.Script.{script}
+use Rattle.geo_script.proofs.TextLemmas.{rest_read}
+use Rattle.geo_script.proofs.text.draft_of.Given as goal
+
+abbrev pub invariant-loop-rest : goal.invariant-loop-rest
+invariant-loop-rest l = record {
+  read : rest_read l.draft l.number l.rest ≡ script l.text;
+  room : l.number + length l.rest ≤ length l.text;
+}
+
+abbrev pub decreases-loop-rest : goal.decreases-loop-rest
+decreases-loop-rest l = length l.rest
