@@ -1,5 +1,5 @@
 //! The calls of a device in memory that are to fail.
-ghost use Rattle.std.specs.Prelude.{◌≡◌, ◌↔◌, Contains, IfOk, IsTrue};
+ghost use Rattle.std.specs.Prelude.{◌≡◌, ◌↔◌, [], Contains, IfOk, IsTrue};
 
 use crate::block::NoMemory;
 use std::alloc::Global;
@@ -20,6 +20,15 @@ impl Model for Calls {
 }
 
 impl Calls {
+    /// No call. It takes no memory.
+    pub fn none(alloc: Global) -> Calls
+        ensures { result ≡ [] }
+    {
+        Calls {
+            numbers: Vec::new(alloc),
+        }
+    }
+
     /// The calls of these numbers.
     pub fn of(alloc: Global, numbers: &[u64]) -> Result<Calls, NoMemory>
         ensures { IfOk result (λ calls. calls ≡ numbers.now) }

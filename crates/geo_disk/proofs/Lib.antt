@@ -1,0 +1,4 @@
+pub mod CountLemmas
+pub mod ImageLemmas
+pub mod NameLemmas
+pub mod SectorLemmas

@@ -1,0 +1,102 @@
+-- What a shelf tells, and what its calls do to it.
+use Rattle.std.specs.Prelude.{◌≡◌, ◌≢◌, ℕ, ◌*◌, ◌%◌, ◌^◌, ◌≤◌, ◌⊎◌, List, ◌∷◌, [], ◌++◌, length, Option, Some, None, Result, Ok, Err, IfSome, IsSomeAnd}
+use Rattle.geo_base.specs.Sectors.{joined_sectors, sectors_of}
+use Rattle.geo_disk.specs.Names.{without}
+use Rattle.geo_disk.specs.declared.shelf.Taken.{Taken}
+use Rattle.geo_disk.specs.declared.shelf.Taken.TheVariants.{Disk, Missing, BadSize}
+use Rattle.geo_disk.specs.declared.shelf.ShelfFault.{ShelfFault}
+
+-- the bytes under each name of a shelf
+abbrev pub Images : Type 0
+Images = List ℕ → Option (List ℕ)
+
+-- a disk has sectors of 512 or of 4,096 bytes
+abbrev pub IsSectorSize : ℕ → Type 0
+IsSectorSize sector = (sector ≡ 512) ⊎ (sector ≡ 4096)
+
+-- so many bytes are one or more whole sectors, and at most 2 ^ 40
+pub record IsDiskSize (sector size : ℕ) : Type 0 where
+  pub some : 1 ≤ size
+  pub whole : size % sector ≡ 0
+  pub limited : size ≤ 2 ^ 40
+
+-- a disk has sectors of the size that was asked for, one or more, and at most 2 ^ 40 bytes
+pub record IsOfSize (sector bytes count : ℕ) : Type 0 where
+  pub asked : bytes ≡ sector
+  pub some : 1 ≤ count
+  pub limited : count * bytes ≤ 2 ^ 40
+
+-- a fact on what a shelf tells before and after a call; a shelf that doesn't tell goes on not telling
+abbrev pub WhereTold : (Images → Images → Type 0) → Option Images → Option Images → Type 0
+WhereTold P None None = Unit {0}
+WhereTold P (Some old) (Some new) = P old new
+WhereTold P None (Some new) = ⊥
+WhereTold P (Some old) None = ⊥
+
+-- each name has what it had
+abbrev pub IsAsBefore : Images → Images → Type 0
+IsAsBefore old new = (name : List ℕ) → new name ≡ old name
+
+-- a disk was taken: it has the bytes of the name, under which nothing is any more; each other name has what it had
+pub record IsTakenFrom (name : List ℕ) (sector : ℕ) (held : Option (List (List ℕ))) (old new : Images) : Type 0 where
+  pub bytes : IsSomeAnd (old name) (λ bytes. IsDiskSize sector (length bytes) × (held ≡ Some (sectors_of sector bytes)))
+  pub gone : new name ≡ None
+  pub others : (other : List ℕ) → other ≢ name → new other ≡ old other
+
+-- a disk was given back: the name has its bytes, where it tells them; each other name has what it had
+pub record IsGivenTo (name : List ℕ) (held : Option (List (List ℕ))) (old new : Images) : Type 0 where
+  pub bytes : IfSome held (λ sectors. new name ≡ Some (joined_sectors sectors))
+  pub others : (other : List ℕ) → other ≢ name → new other ≡ old other
+
+-- the shelf has no such name
+abbrev pub IsMissing : List ℕ → Images → Images → Type 0
+IsMissing name old new = (old name ≡ None) × IsAsBefore old new
+
+-- what the shelf has under the name isn't whole sectors, or is too long
+abbrev pub IsOfBadSize : List ℕ → ℕ → Images → Images → Type 0
+IsOfBadSize name sector old new = IsSomeAnd (old name) (λ bytes. IsDiskSize sector (length bytes) → ⊥) × IsAsBefore old new
+
+-- a fact on the disk, if one was taken
+abbrev pub IfTaken : {D : Type 0} → Result (Taken D) ShelfFault → (D → Type 0) → Type 0
+IfTaken (Ok (Disk d)) P = P d
+IfTaken (Ok Missing) P = Unit {0}
+IfTaken (Ok BadSize) P = Unit {0}
+IfTaken (Err _) P = Unit {0}
+
+-- a fact for each answer of `take`, where the last is that of both faults
+abbrev pub MatchTaken : {D : Type 0} → Result (Taken D) ShelfFault → (D → Type 0) → Type 0 → Type 0 → Type 0 → Type 0
+MatchTaken (Ok (Disk d)) disk missing bad fault = disk d
+MatchTaken (Ok Missing) disk missing bad fault = missing
+MatchTaken (Ok BadSize) disk missing bad fault = bad
+MatchTaken (Err _) disk missing bad fault = fault
+
+-- what `take` does to what a shelf tells
+abbrev pub Takes : {D : Type 0} → (D → Option (List (List ℕ))) → List ℕ → ℕ → Result (Taken D) ShelfFault → Option Images → Option Images → Type 0
+Takes held name sector result old new =
+    MatchTaken result
+    (λ d. WhereTold (IsTakenFrom name sector (held d)) old new)
+    (WhereTold (IsMissing name) old new)
+    (WhereTold (IsOfBadSize name sector) old new)
+    (WhereTold IsAsBefore old new)
+
+-- the names that are lent after a call of `take`
+abbrev pub lent_by : {D : Type 0} → Result (Taken D) ShelfFault → List ℕ → List (List ℕ) → List (List ℕ)
+lent_by (Ok (Disk d)) name lent = lent ++ name ∷ []
+lent_by (Ok Missing) name lent = lent
+lent_by (Ok BadSize) name lent = lent
+lent_by (Err _) name lent = lent
+
+-- what `give` does to what a shelf tells
+abbrev pub Gives : {E : Type 0} → Option (List (List ℕ)) → List ℕ → Result (Unit {0}) E → Option Images → Option Images → Type 0
+Gives held name (Ok _) old new = WhereTold (IsGivenTo name held) old new
+Gives held name (Err _) old new = WhereTold IsAsBefore old new
+
+-- the names that are lent after a call of `give`
+abbrev pub lent_without : {E : Type 0} → Result (Unit {0}) E → List ℕ → List (List ℕ) → List (List ℕ)
+lent_without (Ok _) name lent = without name lent
+lent_without (Err _) name lent = lent
+
+-- the counts of faults after a call of `give`: a disk that came back has brought its count
+abbrev pub Counts : {E : Type 0} → Result (Unit {0}) E → List ℕ → ℕ → (List ℕ → ℕ) → (List ℕ → ℕ) → Type 0
+Counts (Ok _) name faults old new = (new name ≡ faults) × ((other : List ℕ) → other ≢ name → new other ≡ old other)
+Counts (Err _) name faults old new = (other : List ℕ) → new other ≡ old other

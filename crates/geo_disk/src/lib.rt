@@ -1,0 +1,18 @@
+//! Disks, and the shelf that they are taken from.
+#![tactic(auto)]
+
+mod disk;
+mod drive;
+mod lending;
+mod mem_disk;
+mod mem_shelf;
+mod shelf;
+#[cfg(test)]
+mod tests;
+
+pub use disk::{Disk, DiskFailed};
+pub use drive::Drive;
+pub use lending::Lending;
+pub use mem_disk::MemDisk;
+pub use mem_shelf::MemShelf;
+pub use shelf::{GiveFault, Shelf, ShelfFault, Taken, is_disk_size};

@@ -1,0 +1,136 @@
+//! A folder of image files as a shelf.
+ghost use Rattle.std.specs.Prelude.{◌≡◌, ℕ, ◌<◌, ◌≤◌, ◌↔◌, [], None, List, Contains, IfOk, IsTrue};
+ghost use Rattle.geo_base.specs.Faults.{Rose};
+ghost use Rattle.geo_disk.specs.Lending.{faults_of};
+ghost use Rattle.geo_file.specs.Files.{tells_nothing};
+
+use crate::file_disk::FileDisk;
+use geo_base::{Name, NoMemory};
+use geo_disk::{Disk, GiveFault, Lending, Shelf, ShelfFault, Taken, is_disk_size};
+use std::alloc::Global;
+use std::fs::File;
+use std::io;
+use std::io::{ErrorKind, Seek, SeekFrom};
+use std::marker::Model;
+use std::rt::Files;
+
+/// A folder as a shelf: the disk of a name is the file `NAME.img` in it. It doesn't tell what it holds. A name with a
+/// slash isn't one of the folder. No file is made or read here: its size is where its end is.
+#[derive(Drop)]
+pub struct FileShelf<R: Files<File = File> + Drop> {
+    rt: R,
+    alloc: Global,
+    folder: String,
+    lending: Lending,
+    faults: u64,
+}
+
+impl<R: Files<File = File> + Drop> Model for FileShelf<R> {
+    ghost use Rattle.geo_file.specs.Files.{Folder};
+
+    ghost Value = { Folder };
+
+    ghost view = { λ s. record { loans = s.lending; faults = s.faults } };
+}
+
+impl<R: Files<File = File> + Drop> FileShelf<R> {
+    /// The shelf of this folder, of which nothing is lent.
+    pub fn new(rt: R, alloc: Global, folder: &str) -> Result<FileShelf<R>, NoMemory>
+        ensures { IfOk result (λ shelf. shelf ≡ record { loans = record { lent = []; counts = [] }; faults = 0 }) }
+    {
+        Ok(FileShelf {
+            rt,
+            alloc,
+            folder: String::from_str(alloc, folder)?,
+            lending: Lending::new(alloc),
+            faults: 0,
+        })
+    }
+
+    /// Counts a failure.
+    fn failed(&mut self)
+        ensures loans { self.new.loans ≡ self.old.loans }
+        ensures later { self.old.faults ≤ self.new.faults }
+        ensures rose { Rose self.old.faults self.new.faults }
+    {
+        self.faults = self.faults.saturating_add(1);
+    }
+
+    /// Opens the file of a name, and says how long it is. None where there is no such file.
+    fn open(&self, path: &str) -> io::Result<Option<(File, u64)>> {
+        let mut file = match File::options().read(true).write(true).open(&self.rt, path) {
+            Ok(file) => file,
+            Err(e) if e.kind() == ErrorKind::NotFound => return Ok(None),
+            Err(e) => return Err(e),
+        };
+        let size = file.seek(SeekFrom::End(0))?;
+        Ok(Some((file, size)))
+    }
+}
+
+/// Whether a name has a slash.
+fn has_slash(name: &Name) -> bool
+    ensures { IsTrue result ↔ Contains name.now 47 }
+{
+    name.bytes().contains(&b'/')
+}
+
+/// The place of the file of a name.
+fn path_of(alloc: Global, folder: &str, name: &Name) -> Result<String, NoMemory> {
+    let mut path = String::from_str(alloc, folder)?;
+    path.push('/')?;
+    for byte in name.bytes() {
+        path.push(char::from(*byte))?;
+    }
+    path.push_str(".img")?;
+    Ok(path)
+}
+
+impl<R: Files<File = File> + Drop> Shelf for FileShelf<R> {
+    type D = FileDisk;
+
+    ghost told = { λ _. None };
+
+    ghost lent = { λ s. s.loans.lent };
+
+    ghost faults_of = { λ s. faults_of s.loans };
+
+    ghost faults = { λ s. s.faults };
+
+    fn take(&mut self, name: &Name, sector: u32) -> Result<Taken<FileDisk>, ShelfFault> {
+        if self.lending.has(name) || has_slash(name) {
+            return Ok(Taken::Missing);
+        }
+        let Ok(path) = path_of(self.alloc, self.folder.as_str(), name) else {
+            return Err(ShelfFault::NoMemory);
+        };
+        let (file, size) = match self.open(path.as_str()) {
+            Ok(Some(found)) => found,
+            Ok(None) => return Ok(Taken::Missing),
+            Err(_) => {
+                self.failed();
+                return Err(ShelfFault::Failed);
+            }
+        };
+        if !is_disk_size(size, sector) {
+            return Ok(Taken::BadSize);
+        }
+        let faults = self.lending.faults_of(name);
+        let Ok(()) = self.lending.lend(name) else {
+            return Err(ShelfFault::NoMemory);
+        };
+        let sectors = size / u64::from(sector);
+        Ok(Taken::Disk(FileDisk::new(file, sector, sectors, faults)))
+    }
+
+    fn give(&mut self, name: &Name, disk: FileDisk) -> Result<(), GiveFault<FileDisk>> {
+        if disk.sync().is_err() {
+            self.failed();
+            return Err(GiveFault { name: *name, disk });
+        }
+        self.lending.give_back(name, disk.faults());
+        Ok(())
+    }
+
+    ghost lent_is_missing = { tells_nothing };
+}

@@ -1,0 +1,10 @@
+//! Image files of a folder as disks of a shelf.
+#![tactic(auto)]
+
+mod file_disk;
+mod file_shelf;
+#[cfg(test)]
+mod tests;
+
+pub use file_disk::FileDisk;
+pub use file_shelf::FileShelf;
