@@ -1,0 +1,6 @@
+pub mod Members
+pub mod Lists
+pub mod Numbered
+pub mod Spared
+pub mod Found
+pub mod Living

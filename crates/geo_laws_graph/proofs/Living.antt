@@ -1,0 +1,282 @@
+-- What lives goes on living through each change of one thing.
+use Rattle.std.specs.Prelude.{◌≡◌, ◌≢◌, ℕ, ◌+◌, ◌==◌, Bool, true, not, List, [], ◌++◌, find, Option, Some, None, All, Contains, IfSome, IsSome, option_map, option_and_then}
+use Rattle.std.proofs.Common.{refl, sym, ◌∙◌, ap, subst}
+use Rattle.std.proofs.lemmas.Bool.{eqb-true, eq-eqb, ne_eqb}
+use Rattle.std.proofs.lemmas.List.Elements.{recursion_from_All, All-from_recursion, All-push, All-filter, All-weaker}
+use Rattle.std.proofs.lemmas.List.Folds.{find-append}
+use Rattle.geo_base.specs.declared.kind.Kind.{Kind}
+use Rattle.geo_model.specs.Words.{change_where, names_number}
+use Rattle.geo_model.specs.Topology.{Topology, Geom, Provider, Consumer, geom_at, provider_at, providers_of, consumers_of, attached_to, add_geom, add_provider, add_consumer, remove_geom, remove_provider, remove_consumer, attach, set_error, set_marks}
+use Rattle.geo_laws_graph.specs.Lookups.{OfferersLive, GeomsLive, ProvidersLive, PartsLive}
+use Rattle.geo_laws_graph.specs.LookupLaws.{PartsStayAlive, SoundIsInOrder, SteadyPartsLive}
+use Rattle.geo_laws_graph.proofs.Members.{has, Contains-filter, All-from_contained, at_contained, nothing_in}
+use Rattle.geo_laws_graph.proofs.Lists.{changed, find-changed, all-changed, find-kept, find-gone}
+
+-- what is found stays found where items are added behind
+pub found-before : {X : Type 0} (test : X → Bool) (xs ys : List X) (x : X) → find test xs ≡ Some x → find test (xs ++ ys) ≡ Some x
+found-before test xs ys x e = find-append test xs ys ∙ (rw e refl)
+
+-- a fact of what there is, if anything, that follows from another
+pub if_some_weaker : {X : Type 0} (P Q : X → Type 0) → ((x : X) → P x → Q x) → (o : Option X) → IfSome o P → IfSome o Q
+if_some_weaker P Q so None fact = fact
+if_some_weaker P Q so (Some x) fact = so x fact
+
+-- a fact of each member that follows from another
+pub all_members : {X : Type 0} (P Q : X → Type 0) (xs : List X) → ((x : X) → Contains xs x → P x → Q x) → All P xs → All Q xs
+all_members P Q xs so facts =
+    All-from_recursion Q xs (All-from_contained Q xs (λ x here. so x here (at_contained P xs x (recursion_from_All P xs facts) here)))
+
+map_there : {X : Type 0} (f : X → X) (o : Option X) → IsSome o → IsSome (option_map f o)
+map_there f None there = there
+map_there f (Some x) there = refl
+
+module _ {C : Type 0} (t : Topology C) where
+  module _ (geom : ℕ) (name : List ℕ) (size sector : ℕ) where
+    -- a provider that lives is found as before where one is added
+    pub provider_stays : (p : ℕ) (y : Provider) → provider_at t p ≡ Some y → provider_at (add_provider t geom name size sector) p ≡ Some y
+    provider_stays p y e = found-before (λ (x : Provider). x.number == p) t.providers _ y e
+
+    -- each attached consumer's provider lives where one is added
+    pub add_provider-providers : ProvidersLive t → ProvidersLive (add_provider t geom name size sector)
+    add_provider-providers live =
+        All-weaker (λ (c : Consumer). IfSome c.provider (λ p. IsSome (provider_at t p)))
+        (λ (c : Consumer). IfSome c.provider (λ p. IsSome (provider_at (add_provider t geom name size sector) p)))
+        (λ c. if_some_weaker (λ p. IsSome (provider_at t p)) (λ p. IsSome (provider_at (add_provider t geom name size sector) p))
+        (λ p there. let x = has (provider_at t p) there in let still = provider_stays p x.item x.is in rw still refl) c.provider)
+        t.consumers live
+
+  module _ (p : ℕ) where
+    -- another provider is found as before
+    pub provider_at-removed : (q : ℕ) → q ≢ p → provider_at (remove_provider t p) q ≡ provider_at t q
+    provider_at-removed q other =
+        find-kept (λ (x : Provider). not (x.number == p)) (λ (x : Provider). x.number == q)
+        (λ x e. let is = eqb-true x.number q e in rw (ne_eqb x.number p (λ same. other (sym is ∙ same))) refl) t.providers
+
+    pub provider_at-gone : provider_at (remove_provider t p) p ≡ None
+    provider_at-gone = find-gone (λ (x : Provider). not (x.number == p)) (λ (x : Provider). x.number == p) (λ x e. rw e refl) t.providers
+
+    -- nobody is attached to it
+    pub not_there : (x : Consumer) (q : ℕ) → attached_to t p ≡ [] → Contains t.consumers x → x.provider ≡ Some q → q ≢ p
+    not_there x q none here to same =
+        let names : names_number x.provider p ≡ true = rw to (eq-eqb q p same) in
+        let member : Contains (attached_to t p) x = Contains-filter (λ (y : Consumer). names_number y.provider p) t.consumers x here names in
+        nothing_in x (subst (λ (cs : List Consumer). Contains cs x) none member)
+
+    live_at : (x : Consumer) → attached_to t p ≡ [] → Contains t.consumers x → (o : Option ℕ) → x.provider ≡ o
+        → IfSome o (λ q. IsSome (provider_at t q)) → IfSome o (λ q. IsSome (provider_at (remove_provider t p) q))
+    live_at x none here None to live = live
+    live_at x none here (Some q) to live = rw (provider_at-removed q (not_there x q none here to)) live
+
+    pub remove_provider-providers : attached_to t p ≡ [] → ProvidersLive t → ProvidersLive (remove_provider t p)
+    remove_provider-providers none live =
+        All-from_recursion (λ (x : Consumer). IfSome x.provider (λ q. IsSome (provider_at (remove_provider t p) q))) t.consumers
+        (All-from_contained (λ (x : Consumer). IfSome x.provider (λ q. IsSome (provider_at (remove_provider t p) q))) t.consumers
+        (λ x here. live_at x none here x.provider refl
+        (at_contained (λ (c : Consumer). IfSome c.provider (λ q. IsSome (provider_at t q))) t.consumers x
+        (recursion_from_All (λ (c : Consumer). IfSome c.provider (λ q. IsSome (provider_at t q))) t.consumers live) here)))
+
+  -- each consumer's geom lives where a geom is added
+  pub add_geom-geoms : (kind : Kind) (name : List ℕ) (config : C) (automatic : Bool) → GeomsLive t → GeomsLive (add_geom t kind name config automatic)
+  add_geom-geoms kind name config automatic live =
+      All-weaker (λ (c : Consumer). IsSome (geom_at t c.geom)) (λ (c : Consumer). IsSome (geom_at (add_geom t kind name config automatic) c.geom))
+      (λ c there.
+      let x = has (geom_at t c.geom) there in
+      let still : geom_at (add_geom t kind name config automatic) c.geom ≡ Some x.item = found-before (λ (y : Geom C). y.number == c.geom) t.geoms _ x.item x.is in
+      rw still refl)
+      t.consumers live
+
+  -- and where one without consumers goes
+  pub remove_geom-geoms : (g : ℕ) → consumers_of t g ≡ [] → GeomsLive t → GeomsLive (remove_geom t g)
+  remove_geom-geoms g none live =
+      All-from_recursion (λ (c : Consumer). IsSome (geom_at (remove_geom t g) c.geom)) t.consumers
+      (All-from_contained (λ (c : Consumer). IsSome (geom_at (remove_geom t g) c.geom)) t.consumers
+      (λ c here.
+      let other = not_of c here in
+      let same : geom_at (remove_geom t g) c.geom ≡ geom_at t c.geom =
+      find-kept (λ (x : Geom C). not (x.number == g)) (λ (x : Geom C). x.number == c.geom)
+      (λ x e. let is = eqb-true x.number c.geom e in rw (ne_eqb x.number g (λ same. other (sym is ∙ same))) refl) t.geoms in
+      rw same
+      (at_contained (λ (y : Consumer). IsSome (geom_at t y.geom)) t.consumers c
+      (recursion_from_All (λ (y : Consumer). IsSome (geom_at t y.geom)) t.consumers live) here)))
+    where
+      not_of : (c : Consumer) → Contains t.consumers c → c.geom ≢ g
+      not_of c here same =
+          nothing_in c (subst (λ (cs : List Consumer). Contains cs c) none (Contains-filter (λ (y : Consumer). y.geom == g) t.consumers c here (eq-eqb c.geom g same)))
+
+  -- a consumer more, of a geom that lives
+  pub add_consumer-geoms : (g : ℕ) (o : Option ℕ) → IsSome (geom_at t g) → GeomsLive t → GeomsLive (add_consumer t g o)
+  add_consumer-geoms g o there live = All-push (λ (c : Consumer). IsSome (geom_at t c.geom)) t.consumers _ live there
+
+  -- attached to nothing, or to a provider that lives
+  pub add_consumer-providers : (g : ℕ) (o : Option ℕ) → IfSome o (λ p. IsSome (provider_at t p)) → ProvidersLive t → ProvidersLive (add_consumer t g o)
+  add_consumer-providers g o there live = All-push (λ (c : Consumer). IfSome c.provider (λ p. IsSome (provider_at t p))) t.consumers _ live there
+
+  -- a consumer less
+  pub remove_consumer-geoms : (c : ℕ) → GeomsLive t → GeomsLive (remove_consumer t c)
+  remove_consumer-geoms c live = All-filter (λ (x : Consumer). not (x.number == c)) (λ (x : Consumer). IsSome (geom_at t x.geom)) t.consumers live
+
+  pub remove_consumer-providers : (c : ℕ) → ProvidersLive t → ProvidersLive (remove_consumer t c)
+  remove_consumer-providers c live =
+      All-filter (λ (x : Consumer). not (x.number == c)) (λ (x : Consumer). IfSome x.provider (λ p. IsSome (provider_at t p))) t.consumers live
+
+  -- providers changed, but not their geoms
+  pub changed-providers : (P : Provider → Type 0) (hit : Provider → Bool) (change : Provider → Provider) → ((x : Provider) → hit x ≡ true → P x → P (change x))
+      → All P t.providers → All P (change_where hit change t.providers)
+  changed-providers P hit change so facts =
+      All-from_recursion P (change_where hit change t.providers) (all-changed hit change P so t.providers (recursion_from_All P t.providers facts))
+
+  -- consumers changed, but not their geoms and providers
+  pub changed-consumers : (P : Consumer → Type 0) (hit : Consumer → Bool) (change : Consumer → Consumer) → ((x : Consumer) → hit x ≡ true → P x → P (change x))
+      → All P t.consumers → All P (change_where hit change t.consumers)
+  changed-consumers P hit change so facts =
+      All-from_recursion P (change_where hit change t.consumers) (all-changed hit change P so t.consumers (recursion_from_All P t.consumers facts))
+
+  module _ (c p : ℕ) where
+    -- each attached consumer's provider still lives, and each consumer's geom
+    pub attach-providers : IsSome (provider_at t p) → ProvidersLive t → ProvidersLive (attach t c p)
+    attach-providers there live =
+        All-from_recursion (λ (x : Consumer). IfSome x.provider (λ q. IsSome (provider_at t q))) (attach t c p).consumers
+        (all-changed (λ (y : Consumer). y.number == c) (λ y. record y { provider = Some p })
+        (λ (x : Consumer). IfSome x.provider (λ q. IsSome (provider_at t q)))
+        (λ x e fact. there)
+        t.consumers
+        (recursion_from_All (λ (x : Consumer). IfSome x.provider (λ q. IsSome (provider_at t q))) t.consumers live))
+
+    pub attach-geoms : GeomsLive t → GeomsLive (attach t c p)
+    attach-geoms live =
+        All-from_recursion (λ (x : Consumer). IsSome (geom_at t x.geom)) (attach t c p).consumers
+        (all-changed (λ (y : Consumer). y.number == c) (λ y. record y { provider = Some p })
+        (λ (x : Consumer). IsSome (geom_at t x.geom)) (λ x e fact. fact) t.consumers
+        (recursion_from_All (λ (x : Consumer). IsSome (geom_at t x.geom)) t.consumers live))
+
+module _ {C : Type 0} where
+  -- an error, marks
+  pub set_error-providers : (t : Topology C) (p : ℕ) → ProvidersLive t → ProvidersLive (set_error t p)
+  set_error-providers t p live =
+      All-weaker (λ (c : Consumer). IfSome c.provider (λ q. IsSome (provider_at t q))) (λ (c : Consumer). IfSome c.provider (λ q. IsSome (provider_at (set_error t p) q)))
+      (λ c. if_some_weaker (λ q. IsSome (provider_at t q)) (λ q. IsSome (provider_at (set_error t p) q))
+      (λ q there.
+      let x = has (provider_at t q) there in
+      let found : provider_at t q ≡ Some x.item = x.is in
+      let same = find-changed (λ (y : Provider). y.number == p) (λ y. record y { errored = true }) (λ (y : Provider). y.number == q) (λ y e. refl) t.providers in
+      rw (same, found) refl)
+      c.provider)
+      t.consumers live
+
+  pub set_marks-providers : (t : Topology C) (test : Consumer → Bool) (mark : Bool) → ProvidersLive t → ProvidersLive (set_marks t test mark)
+  set_marks-providers t test mark live =
+      changed-consumers t (λ c. IfSome c.provider (λ q. IsSome (provider_at t q))) test (λ x. record x { spoiled = mark }) (λ x e fact. fact) live
+
+  -- geoms that are changed but keep their numbers live on
+  changed_geom : (t : Topology C) (hit : Geom C → Bool) (change : Geom C → Geom C) → ((x : Geom C) → (change x).number ≡ x.number)
+      → (g : ℕ) → IsSome (geom_at t g) → IsSome (find (λ (x : Geom C). x.number == g) (change_where hit change t.geoms))
+  changed_geom t hit change same g there =
+      subst (λ (o : Option (Geom C)). IsSome o) (sym (find-changed hit change (λ (x : Geom C). x.number == g) (λ x e. ap (λ n. n == g) (same x)) t.geoms))
+      (map_there (changed hit change) (geom_at t g) there)
+
+  changed_parts : (t : Topology C) (hit : Geom C → Bool) (change : Geom C → Geom C) → ((x : Geom C) → (change x).number ≡ x.number)
+      → PartsLive t → PartsLive (record t { geoms = change_where hit change t.geoms })
+  changed_parts t hit change same live = record {
+    offerers = All-weaker (λ (p : Provider). IsSome (geom_at t p.geom)) (λ (p : Provider). IsSome (find (λ (x : Geom C). x.number == p.geom) (change_where hit change t.geoms)))
+        (λ p. changed_geom t hit change same p.geom) t.providers live.offerers;
+    geoms = All-weaker (λ (c : Consumer). IsSome (geom_at t c.geom)) (λ (c : Consumer). IsSome (find (λ (x : Geom C). x.number == c.geom) (change_where hit change t.geoms)))
+        (λ c. changed_geom t hit change same c.geom) t.consumers live.geoms;
+    providers = live.providers;
+  }
+
+  added_offerers : (t : Topology C) (kind : Kind) (name : List ℕ) (config : C) (automatic : Bool) → OfferersLive t → OfferersLive (add_geom t kind name config automatic)
+  added_offerers t kind name config automatic live =
+      All-weaker (λ (p : Provider). IsSome (geom_at t p.geom)) (λ (p : Provider). IsSome (geom_at (add_geom t kind name config automatic) p.geom))
+      (λ p there.
+      let x = has (geom_at t p.geom) there in
+      let still : geom_at (add_geom t kind name config automatic) p.geom ≡ Some x.item = found-before (λ (y : Geom C). y.number == p.geom) t.geoms _ x.item x.is in
+      rw still refl)
+      t.providers live
+
+  removed_offerers : (t : Topology C) (g : ℕ) → providers_of t g ≡ [] → OfferersLive t → OfferersLive (remove_geom t g)
+  removed_offerers t g none live =
+      all_members (λ (p : Provider). IsSome (geom_at t p.geom)) (λ (p : Provider). IsSome (geom_at (remove_geom t g) p.geom)) t.providers
+      (λ p here there.
+      let same : geom_at (remove_geom t g) p.geom ≡ geom_at t p.geom =
+      find-kept (λ (x : Geom C). not (x.number == g)) (λ (x : Geom C). x.number == p.geom)
+      (λ x e. let is = eqb-true x.number p.geom e in rw (ne_eqb x.number g (λ k. not_of p here (sym is ∙ k))) refl) t.geoms in
+      rw same there)
+      live
+    where
+      not_of : (p : Provider) → Contains t.providers p → p.geom ≢ g
+      not_of p here same =
+          nothing_in p (subst (λ (ps : List Provider). Contains ps p) none (Contains-filter (λ (y : Provider). y.geom == g) t.providers p here (eq-eqb p.geom g same)))
+
+  -- what lives goes on living
+  pub parts-alive : PartsStayAlive C
+  parts-alive = record {
+    geom_added = λ t kind name config automatic live. record {
+      offerers = added_offerers t kind name config automatic live.offerers;
+      geoms = add_geom-geoms t kind name config automatic live.geoms;
+      providers = live.providers;
+    };
+    provider_added = λ t geom name size sector there live. record {
+      offerers = All-push (λ (p : Provider). IsSome (geom_at t p.geom)) t.providers _ live.offerers there;
+      geoms = live.geoms;
+      providers = add_provider-providers t geom name size sector live.providers;
+    };
+    consumer_added = λ t geom o there offered live. record {
+      offerers = live.offerers;
+      geoms = add_consumer-geoms t geom o there live.geoms;
+      providers = add_consumer-providers t geom o offered live.providers;
+    };
+    geom_removed = λ t g no_provider no_consumer live. record {
+      offerers = removed_offerers t g no_provider live.offerers;
+      geoms = remove_geom-geoms t g no_consumer live.geoms;
+      providers = live.providers;
+    };
+    provider_removed = λ t p none live. record {
+      offerers = All-filter (λ (x : Provider). not (x.number == p)) (λ (x : Provider). IsSome (geom_at t x.geom)) t.providers live.offerers;
+      geoms = live.geoms;
+      providers = remove_provider-providers t p none live.providers;
+    };
+    consumer_removed = λ t c live. record {
+      offerers = live.offerers;
+      geoms = remove_consumer-geoms t c live.geoms;
+      providers = remove_consumer-providers t c live.providers;
+    };
+    attached = λ t c p there live. record {
+      offerers = live.offerers;
+      geoms = attach-geoms t c p live.geoms;
+      providers = attach-providers t c p there live.providers;
+    };
+    detached = λ t c live. record {
+      offerers = live.offerers;
+      geoms = changed-consumers t (λ x. IsSome (geom_at t x.geom)) (λ x. x.number == c) (λ x. record x { provider = None }) (λ x e fact. fact) live.geoms;
+      providers = changed-consumers t (λ x. IfSome x.provider (λ q. IsSome (provider_at t q))) (λ x. x.number == c) (λ x. record x { provider = None }) (λ x e fact. tt) live.providers;
+    };
+    errored = λ t p live. record {
+      offerers = changed-providers t (λ x. IsSome (geom_at t x.geom)) (λ x. x.number == p) (λ x. record x { errored = true }) (λ x e fact. fact) live.offerers;
+      geoms = live.geoms;
+      providers = set_error-providers t p live.providers;
+    };
+    marked = λ t test mark live. record {
+      offerers = live.offerers;
+      geoms = changed-consumers t (λ x. IsSome (geom_at t x.geom)) test (λ x. record x { spoiled = mark }) (λ x e fact. fact) live.geoms;
+      providers = set_marks-providers t test mark live.providers;
+    };
+    withering = λ t g live. changed_parts t (λ x. x.number == g) (λ x. record x { withering = true }) (λ x. refl) live;
+    config = λ t g config live. changed_parts t (λ x. x.number == g) (λ x. record x { config = config }) (λ x. refl) live;
+    started = λ t g live. changed_parts t (λ x. x.number == g) (λ x. record x { started = x.started + 1 }) (λ x. refl) live;
+  }
+
+attached_there : {C : Type 0} (t : Topology C) (o : Option ℕ) → IsSome (option_and_then (provider_at t) o) → IfSome o (λ p. IsSome (provider_at t p))
+attached_there t None there = tt
+attached_there t (Some p) there = there
+
+-- a sound world's lists are in order, and what a steady one's parts name lives
+pub sound-order : SoundIsInOrder
+sound-order w numbers = record { geoms = numbers.geoms; providers = numbers.providers; consumers = numbers.consumers }
+
+pub steady-parts : SteadyPartsLive
+steady-parts t parts attached = record {
+  offerers = parts.providers;
+  geoms = parts.consumers;
+  providers = All-weaker (λ (c : Consumer). IsSome (option_and_then (provider_at t) c.provider)) (λ (c : Consumer). IfSome c.provider (λ p. IsSome (provider_at t p)))
+      (λ c. attached_there t c.provider) t.consumers attached;
+}

@@ -1,0 +1,56 @@
+//! Laws of look-ups, for any configuration of a class.
+ghost use Rattle.geo_laws_graph.specs.LookupLaws.{AddedConsumerIsFound, AddedGeomIsFound, AddedProviderIsFound, AttachedIsFound, ConfigIsFound, DetachedIsFound, EachIsFound, ErrorIsFound, MarksAreFound, PartsStayAlive, RemovedConsumerIsGone, RemovedGeomIsGone, RemovedProviderIsGone, SeenGeomIsFound, SoundIsInOrder, StartIsFound, SteadyPartsLive, WitheringIsFound};
+
+/// In lists in order of numbers each thing is what is found at its number.
+pub fn each_is_found<C>()
+    ensures { EachIsFound C }
+{}
+
+/// A new thing is found at its number, and all others as before.
+pub fn added_is_found<C>()
+    ensures geom { AddedGeomIsFound C }
+    ensures provider { AddedProviderIsFound C }
+    ensures consumer { AddedConsumerIsFound C }
+{}
+
+/// A thing that is removed isn't found any more, and all others are as before.
+pub fn removed_is_gone<C>()
+    ensures geom { RemovedGeomIsGone C }
+    ensures provider { RemovedProviderIsGone C }
+    ensures consumer { RemovedConsumerIsGone C }
+{}
+
+/// A consumer that is attached, detached or marked is found so, and all others as before.
+pub fn changed_consumer_is_found<C>()
+    ensures attached { AttachedIsFound C }
+    ensures detached { DetachedIsFound C }
+    ensures marks { MarksAreFound C }
+{}
+
+/// A provider with an error is found so, and all others as before.
+pub fn error_is_found<C>()
+    ensures { ErrorIsFound C }
+{}
+
+/// A geom that withers, is configured anew or starts a request is found so, and all others as before.
+pub fn changed_geom_is_found<C>()
+    ensures withering { WitheringIsFound C }
+    ensures config { ConfigIsFound C }
+    ensures started { StartIsFound C }
+{}
+
+/// In a graph whose configurations are seen otherwise each geom is found so.
+pub fn seen_geom_is_found<C, D>()
+    ensures { SeenGeomIsFound C D }
+{}
+
+/// What the parts of the graph name goes on living.
+pub fn parts_stay_alive<C>()
+    ensures { PartsStayAlive C }
+{}
+
+/// A sound world's lists stand in order, and what the parts of a steady one name lives.
+pub fn sound_graphs_are_in_order()
+    ensures order { SoundIsInOrder }
+    ensures parts { SteadyPartsLive }
+{}

@@ -1,0 +1,4 @@
+pub mod Standing
+pub mod Standers
+pub mod Parts
+pub mod Opened

@@ -1,0 +1,5 @@
+use Rattle.geo_laws_opening.proofs.Opened.{opening-sound, opening-steady}
+use Rattle.geo_laws_opening.proofs.openings_are_sound.Goals as goal
+
+pub returns : goal.returns
+returns c = record { sound = opening-sound; steady = opening-steady }

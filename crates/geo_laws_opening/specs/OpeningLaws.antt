@@ -1,0 +1,15 @@
+-- Laws of the world with which a plan begins.
+use Rattle.std.specs.Prelude.{ℕ, List}
+use Rattle.geo_model.specs.World.{Plan}
+use Rattle.geo_model.specs.Plans.{IsPlan, FactsFit}
+use Rattle.geo_model.specs.Opening.{opening}
+use Rattle.geo_model.specs.Sound.{Sound}
+use Rattle.geo_model.specs.Steady.{Steady}
+
+-- the world with which a plan begins is sound
+abbrev pub OpeningsAreSound : Type 0
+OpeningsAreSound = (plan : Plan) (facts : List (ℕ × ℕ)) → IsPlan plan → FactsFit plan facts → Sound (opening plan facts)
+
+-- and steady
+abbrev pub OpeningsAreSteady : Type 0
+OpeningsAreSteady = (plan : Plan) (facts : List (ℕ × ℕ)) → IsPlan plan → FactsFit plan facts → Steady (opening plan facts)

@@ -1,0 +1,5 @@
+pub mod Attaching
+pub mod KeptEdges
+pub mod RankChanges
+pub mod Opens
+pub mod Holding

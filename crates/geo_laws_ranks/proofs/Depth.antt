@@ -1,0 +1,67 @@
+-- The depth of a graph whose geoms are of their classes.
+use Rattle.std.specs.Prelude.{◌≡◌, ◌≢◌, ◌↔◌, ◌≤◌, nat_lt, Bool, true, false, not, ◌&&◌, ◌||◌, List, [], ◌∷◌, All}
+use Rattle.std.specs.List.{AllByRecursion, list_any}
+use Rattle.std.proofs.Common.{refl, sym, ◌∙◌}
+use Rattle.std.proofs.lemmas.Bool.{eqb-false, ne_eqb, or_parts, or_from, ltb-false, le-ltb}
+use Rattle.std.proofs.lemmas.List.Elements.{recursion_from_All, All-from_recursion}
+use Rattle.geo_base.specs.declared.kind.Kind.{Kind}
+use Rattle.geo_base.specs.declared.kind.Kind.TheVariants as kinds
+use Rattle.geo_model.specs.Words.{is_kind, is_granted_kind}
+use Rattle.geo_model.specs.Topology.{Topology, Geom}
+use Rattle.geo_model.specs.Rank.{rank, rank_limit, is_too_deep}
+use Rattle.geo_model.specs.World.{Config}
+use Rattle.geo_model.specs.Sound.{IsOfItsClass}
+
+-- a class is DEV, or TASTE, or grants nothing
+granted_is : (kind : Kind) → is_granted_kind kind ≡ (is_kind kind kinds.Dev || is_kind kind kinds.Taste)
+granted_is kinds.Disk = refl
+granted_is kinds.Dev = refl
+granted_is kinds.Taste = refl
+granted_is kinds.Mbr = refl
+granted_is kinds.Label = refl
+granted_is kinds.Concat = refl
+granted_is kinds.Stripe = refl
+granted_is kinds.Nop = refl
+
+module _ (t : Topology Config) where
+  abbrev is_deep : Geom Config → Bool
+  is_deep x = not (is_granted_kind x.kind) && nat_lt rank_limit (rank t x.number)
+
+  abbrev IsShallow : Geom Config → Type 0
+  IsShallow x = x.number ≢ 1 → x.number ≢ 2 → rank t x.number ≤ rank_limit
+
+  not_granted : (x : Geom Config) → IsOfItsClass x → x.number ≢ 1 → x.number ≢ 2 → is_granted_kind x.kind ≡ false
+  not_granted x of apart other =
+      granted_is x.kind
+      ∙ or_from (is_kind x.kind kinds.Dev) (is_kind x.kind kinds.Taste)
+      (of.dev ∙ ne_eqb x.number 1 apart) (of.taste ∙ ne_eqb x.number 2 other)
+
+  shallow_from : (x : Geom Config) → IsOfItsClass x → is_deep x ≡ false → IsShallow x
+  shallow_from x of e apart other = ltb-false rank_limit (rank t x.number) (rw (not_granted x of apart other) at e)
+
+  apart_from : (x : Geom Config) (b : Bool) → is_granted_kind x.kind ≡ b → IsOfItsClass x → IsShallow x → is_deep x ≡ false
+  apart_from x true e of low = rw e refl
+  apart_from x false e of low =
+      let both : (is_kind x.kind kinds.Dev || is_kind x.kind kinds.Taste) ≡ false = sym (granted_is x.kind) ∙ e in
+      let parts = or_parts (is_kind x.kind kinds.Dev) (is_kind x.kind kinds.Taste) both in
+      let less : rank t x.number ≤ rank_limit = low (eqb-false x.number 1 (sym of.dev ∙ parts.0)) (eqb-false x.number 2 (sym of.taste ∙ parts.1)) in
+      rw (e, le-ltb rank_limit (rank t x.number) less) refl
+
+  shallow_all : (xs : List (Geom Config)) → AllByRecursion IsOfItsClass xs → list_any is_deep xs ≡ false → AllByRecursion IsShallow xs
+  shallow_all [] of e = tt
+  shallow_all (x ∷ xs) of e =
+      let parts = or_parts (is_deep x) (list_any is_deep xs) e in
+      (shallow_from x of.0 parts.0, shallow_all xs of.1 parts.1)
+
+  deep_none : (xs : List (Geom Config)) → AllByRecursion IsOfItsClass xs → AllByRecursion IsShallow xs → list_any is_deep xs ≡ false
+  deep_none [] of low = refl
+  deep_none (x ∷ xs) of low =
+      or_from (is_deep x) (list_any is_deep xs) (apart_from x (is_granted_kind x.kind) refl of.0 low.0) (deep_none xs of.1 low.1)
+
+  -- only geoms 1 and 2 may be deeper than the limit
+  pub depth : All IsOfItsClass t.geoms → (is_too_deep t ≡ false) ↔ All IsShallow t.geoms
+  depth classes =
+      let of = recursion_from_All IsOfItsClass t.geoms classes in (
+        (λ e. All-from_recursion IsShallow t.geoms (shallow_all t.geoms of e)),
+        (λ low. deep_none t.geoms of (recursion_from_All IsShallow t.geoms low)),
+      )

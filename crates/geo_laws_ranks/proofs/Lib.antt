@@ -1,0 +1,5 @@
+pub mod Climbing
+pub mod Paths
+pub mod AddedEdges
+pub mod EdgeRanks
+pub mod Depth
