@@ -1,0 +1,14 @@
+pub mod Sums
+pub mod Wants
+pub mod Levels
+pub mod Upward
+pub mod Members
+pub mod BareParts
+pub mod Quiet
+pub mod SeenCounts
+pub mod LimitFacts
+pub mod Keeping
+pub mod Stays
+pub mod Unseen
+pub mod Counters
+pub mod Numbers

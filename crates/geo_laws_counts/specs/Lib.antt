@@ -1,0 +1,4 @@
+pub mod CountWords
+pub mod CountLaws
+pub mod ChangeLaws
+pub mod LimitLaws

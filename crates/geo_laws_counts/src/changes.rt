@@ -1,0 +1,39 @@
+//! Laws of the changes of one thing that leave all counts as they are.
+ghost use Rattle.geo_laws_counts.specs.ChangeLaws.{ConfigsAreNotSeen, ErrorsAreNotSeen, GoneGeomsChangeNothing, GoneProvidersChangeNothing, GrantsOfConsumers, MarksAreNotSeen, NewConsumersChangeNothing, NewGeomsChangeNothing, NewProvidersChangeNothing, NextNumbersAreNotSeen, OtherConfigsAreNotSeen, QuietConsumersCome, QuietConsumersGo, QuietConsumersMove, SeenIsAll, StartsAreNotSeen, WitheringIsNotSeen};
+
+/// Demand depends on numbers, classes and who is attached where, and on nothing else of a graph.
+pub fn seen_is_all<C, D>()
+    ensures seen { SeenIsAll C D }
+    ensures configs { OtherConfigsAreNotSeen C D }
+{}
+
+/// So errors, withering, marks, configurations, started requests and the next numbers leave it.
+pub fn little_is_seen<C>()
+    ensures errors { ErrorsAreNotSeen C }
+    ensures withering { WitheringIsNotSeen C }
+    ensures marks { MarksAreNotSeen C }
+    ensures configs { ConfigsAreNotSeen C }
+    ensures started { StartsAreNotSeen C }
+    ensures numbers { NextNumbersAreNotSeen C }
+{}
+
+/// Only the grants of the consumers that stand matter.
+pub fn grants_are_of_consumers<C>()
+    ensures { GrantsOfConsumers C }
+{}
+
+/// Geoms without parts and providers with nothing attached come and go without any count changing.
+pub fn bare_parts_change_nothing<C>()
+    ensures new_geom { NewGeomsChangeNothing C }
+    ensures gone_geom { GoneGeomsChangeNothing C }
+    ensures new_provider { NewProvidersChangeNothing C }
+    ensures gone_provider { GoneProvidersChangeNothing C }
+{}
+
+/// Consumers that want nothing come, are attached and detached, and go without any count changing.
+pub fn quiet_consumers_change_nothing<C>()
+    ensures unattached { NewConsumersChangeNothing C }
+    ensures come { QuietConsumersCome C }
+    ensures attach { QuietConsumersMove C }
+    ensures go { QuietConsumersGo C }
+{}

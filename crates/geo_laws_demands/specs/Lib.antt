@@ -1,0 +1,2 @@
+pub mod DemandLaws
+pub mod AllowedLaws
