@@ -75,7 +75,7 @@ fn has_slash(name: &Name) -> bool
     name.bytes().contains(&b'/')
 }
 
-/// The place of the file of a name.
+/// The place of the file of a name. The bytes of a name are ASCII.
 fn path_of(alloc: Global, folder: &str, name: &Name) -> Result<String, NoMemory> {
     let mut path = String::from_str(alloc, folder)?;
     path.push('/')?;
