@@ -2,3 +2,16 @@ pub mod RowLemmas
 pub mod ViewLemmas
 pub mod WalkLemmas
 pub mod GraphLemmas
+pub mod IndexLemmas
+pub mod MeshLemmas
+pub mod NameLemmas
+pub mod IdLemmas
+pub mod AlikeLemmas
+pub mod RankHeights
+pub mod RankMend
+pub mod RankRows
+pub mod RankWalk
+pub mod RankKept
+pub mod RankMesh
+pub mod RankSwitch
+pub mod WholeLemmas

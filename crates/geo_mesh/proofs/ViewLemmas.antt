@@ -7,8 +7,13 @@ use Rattle.std.proofs.Common.{arith, ap, ◌∙◌}
 use Rattle.std.specs.Prelude.{suc, ◌<◌, ◌≤◌, length}
 use Rattle.std.proofs.lemmas.Bool.{eqb-true, ne_eqb}
 use Rattle.geo_mesh.specs.Cells.{IsCount}
+use Rattle.geo_mesh.specs.declared.names.Names.{Names}
+use Rattle.geo_mesh.specs.Names.{AreNames, AreIds, sound_of, newest_of, is_sound_named}
+use Rattle.geo_mesh.proofs.AlikeLemmas.{newest-names}
 use Rattle.std.proofs.lemmas.Bool.{le-leb}
-use Rattle.std.proofs.lemmas.List.{map-append}
+use Rattle.std.proofs.lemmas.List.{map-append, length-map}
+use Rattle.std.specs.Prelude.{if◌then◌else◌}
+use Rattle.std.proofs.Common.{subst}
 use Rattle.geo_model.specs.Words.{names_number, same_name}
 use Rattle.std.proofs.Common.{refl, sym}
 use Rattle.geo_base.specs.declared.request.Counts.{Counts}
@@ -18,7 +23,7 @@ use Rattle.geo_mesh.specs.declared.records.Scratch.{Scratch}
 use Rattle.geo_mesh.specs.declared.records.GeomCell.{GeomCell}
 use Rattle.geo_mesh.specs.declared.records.ProvCell.{ProvCell}
 use Rattle.geo_mesh.specs.declared.records.ConsCell.{ConsCell}
-use Rattle.geo_mesh.specs.Rows.{row_with, rows_with, change_at, first_row, passes}
+use Rattle.geo_mesh.specs.Rows.{row_with, rows_with, change_at, passes}
 use Rattle.geo_mesh.specs.Topo.{TopoView, detach, no_counts, no_scratch, first_geom, first_provider, first_consumer, with_provider, with_consumer, with_topology, with_want, with_have, with_notes, with_active, with_geom_scratch, with_provider_scratch, with_consumer_scratch, without_geom, without_provider, without_consumer}
 use Rattle.geo_mesh.specs.Cells.{geom_row, provider_row, consumer_row, have_of, risen_of, fallen_of, want_of, active_of, geom_scratch_of, provider_scratch_of, consumer_scratch_of, graph_of, view_of}
 use Rattle.geo_mesh.proofs.RowLemmas.{OnlyValue, only, map-with_value, map-with_value_same, rows_with-with_value, rows_with-change_at, map-without, find-map, value_at-rows_with}
@@ -266,22 +271,7 @@ module _ {C : Type 0} (gs : SlotsView (GeomCell C)) (ps : SlotsView ProvCell) (c
 
   pub next_consumer-view : (low : ℕ) → first_consumer (graph_of gs ps cs).consumers low ≡ first_from cs.rows low
   next_consumer-view low = first-map consumer_row (λ (x : Consumer). x.number) (λ (x : Consumer). nat_le low x.number) (λ row. nat_le low row.0) (λ row. refl) (λ row. refl) cs.rows
-
   -- the providers and the consumers of a geom, and the consumers attached to a provider, from a number on
-  pub provider_of-view : (low : ℕ) → first_provider (providers_of (graph_of gs ps cs) n) low ≡ option_map (λ r. r.0) (first_row (λ (x : ProvCell). x.provider.geom == n) ps.rows low)
-  provider_of-view low =
-      rw (find-filter (λ (x : Provider). nat_le low x.number) (λ (x : Provider). x.geom == n) (map provider_row ps.rows))
-      (first-map provider_row (λ (x : Provider). x.number) (λ (x : Provider). nat_le low x.number && (x.geom == n)) (λ row. nat_le low row.0 && (row.1.provider.geom == n)) (λ row. refl) (λ row. refl) ps.rows)
-
-  pub consumer_of-view : (low : ℕ) → first_consumer (consumers_of (graph_of gs ps cs) n) low ≡ option_map (λ r. r.0) (first_row (λ (x : ConsCell). x.consumer.geom == n) cs.rows low)
-  consumer_of-view low =
-      rw (find-filter (λ (x : Consumer). nat_le low x.number) (λ (x : Consumer). x.geom == n) (map consumer_row cs.rows))
-      (first-map consumer_row (λ (x : Consumer). x.number) (λ (x : Consumer). nat_le low x.number && (x.geom == n)) (λ row. nat_le low row.0 && (row.1.consumer.geom == n)) (λ row. refl) (λ row. refl) cs.rows)
-
-  pub attached_to-view : (low : ℕ) → first_consumer (attached_to (graph_of gs ps cs) n) low ≡ option_map (λ r. r.0) (first_row (λ (x : ConsCell). names_number x.consumer.prov n) cs.rows low)
-  attached_to-view low =
-      rw (find-filter (λ (x : Consumer). nat_le low x.number) (λ (x : Consumer). names_number x.provider n) (map consumer_row cs.rows))
-      (first-map consumer_row (λ (x : Consumer). x.number) (λ (x : Consumer). nat_le low x.number && names_number x.provider n) (λ row. nat_le low row.0 && names_number row.1.consumer.prov n) (λ row. refl) (λ row. refl) cs.rows)
 
 -- a value of the first, else of the second
 option_map-or : {X Y : Type 0} (f : X → Y) (o p : Option X) → option_map f (option_or o p) ≡ option_or (option_map f o) (option_map f p)
@@ -290,14 +280,12 @@ option_map-or f (Some x) p = refl
 
 module _ {C : Type 0} (gs : SlotsView (GeomCell C)) (ps : SlotsView ProvCell) (cs : SlotsView ConsCell) where
   -- the provider of a name, by the rows
-  pub find-view : (name : List ℕ) → find_provider (graph_of gs ps cs) name ≡
-      option_or (option_map (λ r. r.0) (first_row (λ (x : ProvCell). not x.provider.errored && same_name x.provider.name name) ps.rows 0))
-      (option_map (λ r. r.0) (last_or None (filter (λ row. same_name row.1.provider.name name) ps.rows)))
-  find-view name =
+  pub find-names : (n : Names) → AreNames (map provider_row ps.rows) ps.next n → AreIds n → (name : List ℕ) → find_provider (graph_of gs ps cs) name ≡ option_or (sound_of n name) (newest_of n name)
+  find-names n are ids name =
       rw (
-        option_map-or (λ (x : Provider). x.number) (find (λ (x : Provider). not x.errored && same_name x.name name) (map provider_row ps.rows)) (last_or None (filter (λ (x : Provider). same_name x.name name) (map provider_row ps.rows))),
-        first-map provider_row (λ (x : Provider). x.number) (λ (x : Provider). not x.errored && same_name x.name name) (λ row. nat_le 0 row.0 && (not row.1.provider.errored && same_name row.1.provider.name name)) (λ row. refl) (λ row. rw (le-leb 0 row.0 (omega arith)) refl) ps.rows,
-        last-map provider_row (λ (x : Provider). x.number) (λ (x : Provider). same_name x.name name) (λ row. same_name row.1.provider.name name) (λ row. refl) (λ row. refl) ps.rows None None refl,
+        option_map-or (λ (x : Provider). x.number) (find (is_sound_named name) (map provider_row ps.rows)) (last_or None (filter (λ (x : Provider). same_name x.name name) (map provider_row ps.rows))),
+        are.sound name,
+        newest-names (map provider_row ps.rows) ps.next n are ids name,
       ) refl
 
   -- a new consumer, in room that was kept
@@ -418,11 +406,20 @@ some_map : {X Y : Type 0} (f : X → Y) (o : Option X) → is_some (option_map f
 some_map f None = refl
 some_map f (Some x) = refl
 
-module _ {C : Type 0} (gs : SlotsView (GeomCell C)) (ps : SlotsView ProvCell) (cs : SlotsView ConsCell) where
-  -- whether a name is taken, by the rows
-  pub is_name_taken-view : (name : List ℕ) → is_name_taken (graph_of gs ps cs) name
-      ≡ is_some (option_map (λ r. r.0) (first_row (λ (x : ProvCell). not x.provider.errored && same_name x.provider.name name) ps.rows 0))
-  is_name_taken-view name =
-      any_found (λ (x : Provider). not x.errored && same_name x.name name) (map provider_row ps.rows)
-      ∙ sym (some_map (λ (x : Provider). x.number) (find (λ (x : Provider). not x.errored && same_name x.name name) (map provider_row ps.rows)))
-      ∙ ap is_some (first-map provider_row (λ (x : Provider). x.number) (λ (x : Provider). not x.errored && same_name x.name name) (λ row. nat_le 0 row.0 && (not row.1.provider.errored && same_name row.1.provider.name name)) (λ row. refl) (λ row. rw (le-leb 0 row.0 (omega arith)) refl) ps.rows)
+-- where none passes, none is found
+pub none_found : {X : Type 0} (test : X → Bool) (xs : List X) → list_any test xs ≡ false → find test xs ≡ None
+none_found test xs none = nothing (find test xs) (sym (any_found test xs) ∙ none)
+  where
+    nothing : {X : Type 0} (o : Option X) → is_some o ≡ false → o ≡ None
+    nothing None e = refl
+    nothing (Some x) e = absurd (cc)
+
+-- whether a name is taken, by the names
+pub taken : (ps : List Provider) (next : ℕ) (n : Names) → AreNames ps next n → (name : List ℕ) → is_some (sound_of n name) ≡ list_any (is_sound_named name) ps
+taken ps next n are name =
+    ap is_some (are.sound name) ∙ some_map (λ (x : Provider). x.number) (find (is_sound_named name) ps) ∙ sym (any_found (is_sound_named name) ps)
+
+-- another value under a number leaves the count
+pub count-with_value : {C : Type 0} (n : ℕ) (v : GeomCell C) (rows : List (ℕ × GeomCell C)) (live : ℕ) → IsCount (length rows) live → IsCount (length (with_value rows n v)) live
+count-with_value {C} n v rows live counted =
+    subst (λ m. IsCount m live) (sym (length-map rows (λ (row : ℕ × GeomCell C). if row.0 == n then (n, v) else row))) counted

@@ -1,5 +1,10 @@
 pub mod Rows
 pub mod Topo
 pub mod Cells
-pub mod Below
 pub mod Refusals
+pub mod Index
+pub mod Mesh
+pub mod Names
+pub mod Mending
+pub mod Ranks
+pub mod Whole

@@ -1,5 +1,5 @@
 -- Lists of rows, each a number with a value, in rising order of the numbers.
-use Rattle.std.specs.Prelude.{ℕ, ◌==◌, nat_le, Bool, false, ◌&&◌, List, Option, Some, None, map, find, option_map, if◌then◌else◌}
+use Rattle.std.specs.Prelude.{ℕ, ◌==◌, nat_le, Bool, false, ◌&&◌, List, Option, Some, None, map, find, if◌then◌else◌}
 
 module _ {T U : Type 0} where
   -- a row with its value seen otherwise

@@ -58,10 +58,11 @@ pub enum AttachRefusal {
     Edeep,
 }
 
-/// A geom, and the scratch beside it.
+/// A geom, its rank, and the scratch beside it.
 #[derive(Drop)]
 pub struct GeomCell<C> {
     pub geom: GeomRec<C>,
+    pub rank: u64,
     pub scratch: Scratch,
 }
 

@@ -1,22 +1,19 @@
 //! The mesh: geoms, providers and consumers under their numbers.
 ghost use Rattle.std.specs.Prelude.{◌≡◌, ◌≢◌, ◌≤◌, ◌<◌, ◌^◌, ◌+◌, ◌-◌, ◌==◌, [], true, false, Some, IsSome, IsOk, IfSome, IfOk, OnErr, OnOk, option_map, option_copied, length, not, ◌&&◌, nat_lt, IsSomeAnd, MatchResult, None};
 ghost use Rattle.geo_base.specs.Name.{is_name};
-ghost use Rattle.geo_model.specs.Words.{is_granted_kind};
 ghost use Rattle.geo_model.specs.Topology.{geom_at, provider_at, consumer_at, providers_of, consumers_of, attached_to, find_provider, is_name_taken, is_withering, set_error, set_withering, set_marks, set_config, note_started, attach, is_errored};
-ghost use Rattle.std.specs.List.{list_any};
-ghost use Rattle.std.specs.Option.{option_and_then};
-ghost use Rattle.geo_model.specs.Rank.{rank, rank_limit, rank_within, geoms_reached_within, is_too_deep, would_loop, attach_refusal};
+ghost use Rattle.geo_model.specs.Rank.{rank, attach_refusal};
 ghost use Rattle.geo_slots.specs.Slots.{value_at};
 ghost use Rattle.geo_mesh.specs.Topo.{first_mesh, with_geom, with_provider, with_consumer, without_geom, without_provider, without_consumer, with_topology, with_want, with_have, with_notes, with_active, with_geom_scratch, with_provider_scratch, with_consumer_scratch, first_geom, first_consumer, first_provider, is_provider_size, detach, no_counts, ConsumersRise, GeomsRise};
-ghost use Rattle.geo_mesh.specs.Below.{below_of};
-ghost use Rattle.geo_mesh.specs.Rows.{passes};
 ghost use Rattle.geo_mesh.specs.Refusals.{errno_of};
 ghost use Rattle.geo_mesh.specs.Cells.{geom_seen, provider_seen, consumer_seen};
 
+use crate::index::Index;
+use crate::names::Names;
+use crate::ranks;
 use crate::records::{
     AttachRefusal, ConsCell, ConsRec, GeomCell, GeomRec, ProvCell, ProvRec, Scratch,
 };
-use crate::walk;
 use geo_base::{ConsId, Counts, GeomId, Kind, Name, NoMemory, ProvId};
 use geo_slots::Slots;
 use std::alloc::Global;
@@ -31,6 +28,8 @@ pub struct Topo<C> {
     consumers: Slots<ConsCell>,
     // How many geoms there are: fewer than 2^32, so that a rank fits its type.
     live: u64,
+    index: Index,
+    names: Names,
 }
 
 impl<C> Model for Topo<C> {
@@ -38,19 +37,16 @@ impl<C> Model for Topo<C> {
 
     ghost Value = { TopoView C };
 
-    ghost use Rattle.std.specs.Prelude.{length};
-    ghost use Rattle.geo_mesh.specs.Cells.{view_of, within_limit, IsCount};
+    ghost use Rattle.geo_mesh.specs.Cells.{view_of, within_limit};
+    ghost use Rattle.geo_mesh.specs.Whole.{IsWhole};
 
     ghost view = { λ t. view_of (within_limit t.geoms t.live) t.providers t.consumers };
 
-    ghost invariant = { λ t. IsCount (length t.geoms.rows) t.live };
+    ghost invariant = { λ t. IsWhole t.geoms t.providers t.consumers t.live t.index t.names };
 }
 
 // There are at most so many geoms: more would want more memory than there is.
 const MOST_GEOMS: u64 = 4294967294;
-
-// The greatest rank of a geom other than DEV and TASTE.
-const RANK_LIMIT: u64 = 32;
 
 const NO_SCRATCH: Scratch = Scratch {
     mark: 0,
@@ -68,6 +64,8 @@ impl<C> Topo<C> {
         let Some(cell) = self.providers.get_mut(prov.number()) else {
             return;
         };
+        self.names
+            .retire(&cell.provider.name, cell.provider.errored);
         cell.provider.errored = true;
     }
 
@@ -192,7 +190,25 @@ impl<C> Topo<C> {
         requires none_out { value_at self.old.active cons ≡ Some 0 }
         ensures { self.new ≡ with_topology self.old (detach self.old.topology cons) }
     {
-        self.unlink(cons);
+        let Some(cell) = self.consumers.get_mut(cons.number()) else {
+            return;
+        };
+        let Some(prov) = cell.consumer.prov else {
+            return;
+        };
+        cell.consumer.prov = None;
+        let upper = cell.consumer.geom.number();
+        self.index.detach(cons.number());
+        let under = ranks::owner(&self.providers, prov.number());
+        if ranks::stored(&self.geoms, under) + 1 == ranks::stored(&self.geoms, upper) {
+            ranks::lower(
+                &mut self.geoms,
+                &self.providers,
+                &self.consumers,
+                &self.index,
+                upper,
+            );
+        }
     }
 
     /// The geom started one more request.
@@ -225,6 +241,7 @@ impl<C> Topo<C> {
         ensures { self.new ≡ without_consumer self.old cons }
     {
         let _ = self.consumers.remove(cons.number());
+        self.index.remove_consumer(cons.number());
     }
 
     /// Takes away a provider to which nothing is attached.
@@ -232,7 +249,11 @@ impl<C> Topo<C> {
         requires { attached_to self.old.topology prov ≡ [] }
         ensures { self.new ≡ without_provider self.old prov }
     {
-        let _ = self.providers.remove(prov.number());
+        if let Some(cell) = self.providers.remove(prov.number()) {
+            self.names
+                .remove(&cell.provider.name, prov.number(), cell.provider.errored);
+            self.index.remove_provider(prov.number());
+        }
     }
 
     /// The geom of a number.
@@ -342,7 +363,7 @@ impl<C> Topo<C> {
     pub fn provider_of(&self, geom: GeomId, from: u64) -> Option<ProvId>
         ensures { result ≡ first_provider (providers_of self.now.topology geom) from }
     {
-        match walk::first_provider_of(&self.providers, geom.number(), from) {
+        match self.index.offered.first_from(geom.number(), from) {
             Some(number) => Some(ProvId::new(number)),
             None => None,
         }
@@ -352,7 +373,7 @@ impl<C> Topo<C> {
     pub fn consumer_of(&self, geom: GeomId, from: u64) -> Option<ConsId>
         ensures { result ≡ first_consumer (consumers_of self.now.topology geom) from }
     {
-        match walk::first_consumer_of(&self.consumers, geom.number(), from) {
+        match self.index.owned.first_from(geom.number(), from) {
             Some(number) => Some(ConsId::new(number)),
             None => None,
         }
@@ -362,7 +383,7 @@ impl<C> Topo<C> {
     pub fn attached_to(&self, prov: ProvId, from: u64) -> Option<ConsId>
         ensures { result ≡ first_consumer (attached_to self.now.topology prov) from }
     {
-        match walk::first_attached(&self.consumers, prov.number(), from) {
+        match self.index.attached.first_from(prov.number(), from) {
             Some(number) => Some(ConsId::new(number)),
             None => None,
         }
@@ -372,9 +393,9 @@ impl<C> Topo<C> {
     pub fn find(&self, name: &Name) -> Option<ProvId>
         ensures { result ≡ find_provider self.now.topology name.now }
     {
-        match walk::first_sound(&self.providers, name, 0) {
+        match self.names.sound(name) {
             Some(number) => Some(ProvId::new(number)),
-            None => match walk::last_named(&self.providers, name) {
+            None => match self.names.newest(name) {
                 Some(number) => Some(ProvId::new(number)),
                 None => None,
             },
@@ -395,111 +416,17 @@ impl<C> Topo<C> {
     pub fn is_name_taken(&self, name: &Name) -> bool
         ensures { result ≡ is_name_taken self.now.topology name.now }
     {
-        walk::first_sound(&self.providers, name, 0).is_some()
-    }
-
-    // How many geoms there are.
-    fn live(&self) -> u64
-        ensures count { result ≡ length self.now.topology.geoms }
-        ensures few { result ≤ 4294967294 }
-    {
-        self.live
+        self.names.sound(name).is_some()
     }
 
     /// The rank of a geom (geom(4)): 1 where nothing is attached below it, else one more than the highest rank below.
     pub fn rank(&self, geom: GeomId) -> Option<u32>
         ensures { result ≡ option_map (λ x. rank self.now.topology geom) (geom_at self.now.topology geom) }
     {
-        let levels = self.live();
-        match self.geom(geom) {
-            Some(_) => Some(self.rank_within(levels, geom.number()) as u32),
+        match self.geoms.get(geom.number()) {
+            Some(cell) => Some(cell.rank as u32),
             None => None,
         }
-    }
-
-    // The geom below the consumer, if this is a consumer of the geom and is attached.
-    fn geom_below(&self, geom: u64, cons: ConsId) -> Option<u64>
-        ensures { result ≡ option_and_then (below_of self.now.topology geom) (consumer_at self.now.topology cons) }
-    {
-        let consumer = self.consumer(cons)?;
-        if consumer.geom.number() != geom {
-            return None;
-        }
-        let prov = consumer.prov?;
-        let provider = self.provider(prov)?;
-        Some(provider.geom.number())
-    }
-
-    // The rank of a geom over so many levels.
-    fn rank_within(&self, levels: u64, geom: u64) -> u64
-        requires { levels < 2 ^ 32 }
-        ensures { result ≡ rank_within levels self.now.topology geom }
-    {
-        if levels == 0 {
-            return 1;
-        }
-        let mut highest: u64 = 0;
-        let mut at = 0;
-        while let Some(cons) = self.next_consumer(at) {
-            if let Some(below) = self.geom_below(geom, cons) {
-                highest = highest.max(self.rank_within(levels - 1, below));
-            }
-            at = cons.number() + 1;
-        }
-        1 + highest
-    }
-
-    // Whether a geom is another, or reaches it downwards over so many levels.
-    fn reaches_within(&self, levels: u64, geom: u64, other: u64) -> bool
-        ensures { result ≡ list_any (λ g. g == other) (geoms_reached_within levels self.now.topology geom) }
-    {
-        if geom == other {
-            return true;
-        }
-        if levels == 0 {
-            return false;
-        }
-        let mut at = 0;
-        while let Some(cons) = self.next_consumer(at) {
-            if let Some(below) = self.geom_below(geom, cons) {
-                if self.reaches_within(levels - 1, below, other) {
-                    return true;
-                }
-            }
-            at = cons.number() + 1;
-        }
-        false
-    }
-
-    // Whether the geom is of another class than DEV and TASTE, and has too great a rank.
-    fn is_deep(&self, levels: u64, id: GeomId) -> bool
-        requires { levels < 2 ^ 32 }
-        ensures { result ≡ passes (λ x. not (is_granted_kind x.kind) && nat_lt rank_limit (rank_within levels self.now.topology x.number)) (geom_at self.now.topology id) }
-    {
-        match self.geom(id) {
-            Some(geom) => {
-                if is_granted(geom.kind) {
-                    return false;
-                }
-                RANK_LIMIT < self.rank_within(levels, id.number())
-            }
-            None => false,
-        }
-    }
-
-    // Whether a geom of another class than DEV and TASTE has too great a rank.
-    fn is_too_deep(&self) -> bool
-        ensures { result ≡ is_too_deep self.now.topology }
-    {
-        let levels = self.live();
-        let mut at = 0;
-        while let Some(id) = self.next_geom(at) {
-            if self.is_deep(levels, id) {
-                return true;
-            }
-            at = id.number() + 1;
-        }
-        false
     }
 
     // Whether the provider is there and carries an error.
@@ -510,45 +437,6 @@ impl<C> Topo<C> {
             Some(cell) => cell.provider.errored,
             None => false,
         }
-    }
-
-    // Whether the geom of the consumer would reach itself.
-    fn would_loop(&self, cons: ConsId, prov: ProvId) -> bool
-        ensures loops { result ≡ would_loop self.now.topology (consumer_at self.now.topology cons) (provider_at self.now.topology prov) }
-        ensures rising { ConsumersRise 1 self.now.topology.consumers self.now.topology.next_consumer }
-    {
-        let levels = self.live();
-        match self.consumer(cons) {
-            Some(consumer) => match self.provider(prov) {
-                Some(provider) => {
-                    self.reaches_within(levels, provider.geom.number(), consumer.geom.number())
-                }
-                None => false,
-            },
-            None => false,
-        }
-    }
-
-    // Attaches the consumer, whatever the ranks.
-    fn link(&mut self, cons: ConsId, prov: ProvId)
-        requires { IsSome (consumer_at self.old.topology cons) }
-        ensures { self.new ≡ with_topology self.old (attach self.old.topology cons prov) }
-    {
-        let Some(cell) = self.consumers.get_mut(cons.number()) else {
-            return;
-        };
-        cell.consumer.prov = Some(prov);
-    }
-
-    // Takes the consumer off its provider.
-    fn unlink(&mut self, cons: ConsId)
-        requires { IsSome (consumer_at self.old.topology cons) }
-        ensures { self.new ≡ with_topology self.old (detach self.old.topology cons) }
-    {
-        let Some(cell) = self.consumers.get_mut(cons.number()) else {
-            return;
-        };
-        cell.consumer.prov = None;
     }
 
     /// Attaches the consumer to the provider (g_attach(9)). It is refused where the provider carries an error, else where
@@ -563,15 +451,26 @@ impl<C> Topo<C> {
         if self.is_errored(prov) {
             return Err(AttachRefusal::Enxio);
         }
-        if self.would_loop(cons, prov) {
-            return Err(AttachRefusal::Eloop);
+        let upper = ranks::user(&self.consumers, cons.number());
+        let under = ranks::owner(&self.providers, prov.number());
+        match ranks::join(
+            &mut self.geoms,
+            &self.providers,
+            &self.consumers,
+            &self.index,
+            upper,
+            under,
+        ) {
+            Ok(()) => {
+                let Some(cell) = self.consumers.get_mut(cons.number()) else {
+                    return Ok(());
+                };
+                cell.consumer.prov = Some(prov);
+                self.index.attach(cons.number(), prov.number());
+                Ok(())
+            }
+            Err(refusal) => Err(refusal),
         }
-        self.link(cons, prov);
-        if self.is_too_deep() {
-            self.unlink(cons);
-            return Err(AttachRefusal::Edeep);
-        }
-        Ok(())
     }
 
     /// Keeps room, so that so many geoms, providers and consumers can be made without want of memory.
@@ -587,6 +486,8 @@ impl<C> Topo<C> {
         if MOST_GEOMS - self.live < geoms {
             return Err(NoMemory);
         }
+        self.index.reserve(geoms, providers, consumers)?;
+        self.names.reserve(providers)?;
         self.geoms.reserve(geoms)?;
         self.providers.reserve(providers)?;
         self.consumers.reserve(consumers)?;
@@ -614,6 +515,8 @@ impl<C> Topo<C> {
         ensures other_room { self.new.room ≡ record self.old.room { providers = self.new.room.providers } }
         ensures had_room { 1 ≤ self.old.room.providers → IsOk result }
     {
+        self.index.reserve(0, 1, 0)?;
+        self.names.reserve(1)?;
         self.providers.reserve(1)?;
         let number = self.providers.insert(ProvCell {
             provider: ProvRec {
@@ -628,6 +531,8 @@ impl<C> Topo<C> {
             },
             scratch: NO_SCRATCH,
         });
+        self.names.add(&name, number);
+        self.index.add_provider(geom.number());
         Ok(ProvId::new(number))
     }
 
@@ -642,6 +547,7 @@ impl<C> Topo<C> {
         ensures other_room { self.new.room ≡ record self.old.room { consumers = self.new.room.consumers } }
         ensures had_room { 1 ≤ self.old.room.consumers → IsOk result }
     {
+        self.index.reserve(0, 0, 1)?;
         self.consumers.reserve(1)?;
         let number = self.consumers.insert(ConsCell {
             consumer: ConsRec {
@@ -653,6 +559,7 @@ impl<C> Topo<C> {
             },
             scratch: NO_SCRATCH,
         });
+        self.index.add_consumer(geom.number());
         Ok(ConsId::new(number))
     }
 }
@@ -667,6 +574,8 @@ impl<C: Drop> Topo<C> {
             providers: Slots::new(alloc),
             consumers: Slots::new(alloc),
             live: 0,
+            index: Index::new(alloc),
+            names: Names::new(alloc),
         };
         topo.new_geom(Kind::Dev, fixed_name(b"dev"), dev, false)?;
         topo.new_geom(Kind::Taste, fixed_name(b"taste"), taste, false)?;
@@ -691,6 +600,7 @@ impl<C: Drop> Topo<C> {
         if MOST_GEOMS <= self.live {
             return Err(NoMemory);
         }
+        self.index.reserve(1, 0, 0)?;
         self.geoms.reserve(1)?;
         let number = self.geoms.insert(GeomCell {
             geom: GeomRec {
@@ -701,8 +611,10 @@ impl<C: Drop> Topo<C> {
                 withering: false,
                 started: 0,
             },
+            rank: 1,
             scratch: NO_SCRATCH,
         });
+        self.index.add_geom();
         self.live += 1;
         Ok(GeomId::new(number))
     }
@@ -719,15 +631,9 @@ impl<C: Drop> Topo<C> {
     {
         if let Some(_cell) = self.geoms.remove(geom.number()) {
             self.live -= 1;
+            self.index.remove_geom(geom.number());
         }
     }
-}
-
-// Whether the class is DEV or TASTE.
-fn is_granted(kind: Kind) -> bool
-    ensures { result ≡ is_granted_kind kind }
-{
-    matches!(kind, Kind::Dev | Kind::Taste)
 }
 
 // The name of these bytes.

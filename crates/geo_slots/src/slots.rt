@@ -1,5 +1,5 @@
 //! A table of values under numbers.
-ghost use Rattle.std.specs.Prelude.{◌≡◌, ◌<◌, ◌≤◌, ◌^◌, [], IsOk, OnOk, IsTrue, option_copied};
+ghost use Rattle.std.specs.Prelude.{◌≡◌, ◌<◌, ◌≤◌, ◌^◌, max, [], IsOk, OnOk, IsTrue, option_copied};
 ghost use Rattle.std.specs.Option.{option_copied_mut};
 ghost use Rattle.std.specs.Borrow.{sem};
 ghost use Rattle.geo_slots.specs.Index.{key_at, first_key_from, has_row, with_key};
@@ -95,6 +95,7 @@ impl<T> Slots<T> {
         ensures room_stays { self.old.spare ≤ self.new.spare }
         ensures room { OnOk result (count ≤ self.new.spare) }
         ensures had_room { count ≤ self.old.spare → IsOk result }
+        ensures no_more { self.new.spare ≤ max self.old.spare count }
     {
         if count <= self.spare {
             return Ok(());

@@ -1,9 +1,10 @@
-use Rattle.std.proofs.Common.{refl}
-use Rattle.geo_mesh.specs.Cells.{within_limit}
-use Rattle.geo_mesh.proofs.ViewLemmas.{is_name_taken-view}
+use Rattle.std.proofs.Common.{map, ap, ◌∙◌}
+use Rattle.std.specs.Option.{is_some}
+use Rattle.geo_mesh.specs.Cells.{provider_row}
+use Rattle.geo_mesh.proofs.ViewLemmas.{taken}
 use Rattle.geo_mesh.proofs.topo.Topo.is_name_taken.Goals as goal
 
 pub returns : goal.returns
 returns g c =
-    rw (← c.self.view_is, is_name_taken-view (within_limit c.self.inside.geoms c.self.inside.live) c.self.inside.providers c.self.inside.consumers c.args.name.now, ← c.first_sound.ensures)
-    c.is_some.ensures
+    rw (← c.self.view_is)
+    (c.is_some.ensures ∙ ap is_some c.sound.ensures ∙ taken (map provider_row c.self.inside.providers.rows) c.self.inside.providers.next c.self.inside.names c.self.invariant.tables.names_are c.args.name.now)

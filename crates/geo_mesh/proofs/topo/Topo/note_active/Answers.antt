@@ -1,9 +1,10 @@
-use Rattle.geo_mesh.specs.Cells.{within_limit}
-use Rattle.std.proofs.Common.{◌<◌, ◌≤◌, ◌^◌, rules}
+use Rattle.std.proofs.Common.{sym, ap, subst, ◌<◌, ◌^◌, rules, refl}
+use Rattle.geo_mesh.specs.Index.{IsIndexed}
+use Rattle.geo_mesh.specs.Cells.{within_limit, active_of}
 use Rattle.geo_mesh.proofs.RowLemmas.{value_at-rows_with}
-use Rattle.geo_mesh.specs.Cells.{active_of}
 use Rattle.geo_mesh.proofs.ViewLemmas.{note_active-view, consumer_stands}
 use Rattle.geo_mesh.proofs.topo.Topo.note_active.Goals as goal
+use Rattle.geo_mesh.proofs.RankMesh.{mesh-consumer}
 
 pub returns-in_default : goal.returns-in_default
 returns-in_default g c =
@@ -19,3 +20,18 @@ overflow_add-cell g c =
     let few : c.in-Some.cell.now.consumer.active < 2 ^ 63 =
     rw (← c.self.view_is, ← c.number.ensures, value_at-rows_with active_of c.number.result c.self.inside.consumers.rows, ← c.in-Some.ensures.value) at c.requires.few in
     search rules
+
+pub invariant_of-self-2 : goal.invariant_of-self-2
+invariant_of-self-2 g c = record {
+  tables =
+      record {
+        count = c.self.invariant.tables.count;
+        indexed = subst (λ t. IsIndexed t c.self.inside.index) (sym (ap (λ v. v.topology) (note_active-view c.self.inside.geoms c.self.inside.providers c.self.inside.consumers c.number.result c.in-Some.cell.now c.in-Some.ensures.rising c.in-Some.ensures.value))) c.self.invariant.tables.indexed;
+        room = c.self.invariant.tables.room;
+        names_are = c.self.invariant.tables.names_are;
+        names_ids = c.self.invariant.tables.names_ids;
+        names_room = c.self.invariant.tables.names_room;
+      };
+  ranks =
+      mesh-consumer c.self.inside.geoms c.self.inside.providers c.self.inside.consumers c.self.inside.live c.number.result c.self.invariant.ranks c.in-Some.cell.now _ c.in-Some.ensures.rising c.in-Some.ensures.value refl;
+}

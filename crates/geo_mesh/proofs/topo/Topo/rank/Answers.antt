@@ -1,13 +1,24 @@
-use Rattle.std.proofs.Common.{◌≡◌, ◌+◌, ◌<◌, ◌≤◌, ◌^◌, arith, rules}
-use Rattle.geo_model.proofs.DemandLemmas.{rank_within-le}
-use Rattle.geo_model.specs.Rank.{rank_within}
+use Rattle.geo_mesh.proofs.RankMesh.{mesh-few, stored-rank}
+use Rattle.geo_mesh.specs.Ranks.{rank_of, stored}
+use Rattle.geo_mesh.proofs.RowLemmas.{value_at-rows_with}
+use Rattle.std.proofs.Common.{◌≡◌, ℕ, Some, ap, sym, ◌∙◌, ◌<◌, ◌≤◌, ◌^◌, refl, arith, rules}
+use Rattle.geo_model.specs.Rank.{rank}
+use Rattle.geo_mesh.specs.Cells.{graph_of, within_limit}
+use Rattle.geo_mesh.proofs.ViewLemmas.{geom_at-view}
 use Rattle.geo_mesh.proofs.topo.Topo.rank.Goals as goal
 
 pub overflow_cast-result : goal.overflow_cast-result
 overflow_cast-result g c =
-    let low : rank_within c.live-levels.result c.args.self.now.topology c.number.result ≤ c.live-levels.result + 1 =
-    rank_within-le c.live-levels.result c.args.self.now.topology c.number.result in
-    let few : c.live-levels.result ≤ 4294967294 = c.live-levels.ensures.few in
-    let is : c.rank_within.result ≡ rank_within c.live-levels.result c.args.self.now.topology c.number.result = c.rank_within.ensures in
-    let fits : c.rank_within.result < 2 ^ 32 = omega arith in
+    let few : stored c.self.inside.geoms c.number.result ≤ 4294967295 = mesh-few c.self.inside.geoms c.self.inside.providers c.self.inside.consumers c.self.inside.live c.self.invariant.ranks c.number.result in
+    let here : stored c.self.inside.geoms c.number.result ≡ c.in-Some.cell.now.rank = rw (value_at-rows_with rank_of c.number.result c.self.inside.geoms.rows, ← c.in-Some.ensures.value) refl in
+    let fits : c.in-Some.cell.now.rank < 2 ^ 32 = omega arith in
     search rules
+
+pub returns-in-Some : goal.returns-in-Some
+returns-in-Some g c =
+    let here : rank (graph_of c.self.inside.geoms c.self.inside.providers c.self.inside.consumers) c.number.result ≡ c.in-Some.cell.now.rank =
+    stored-rank c.self.inside.geoms c.self.inside.providers c.self.inside.consumers c.self.inside.live c.self.invariant.ranks c.number.result ∙ (rw (value_at-rows_with rank_of c.number.result c.self.inside.geoms.rows, ← c.in-Some.ensures.value) refl) in
+    rw (← c.self.view_is, ← c.number.ensures, geom_at-view (within_limit c.self.inside.geoms c.self.inside.live) c.self.inside.providers c.self.inside.consumers c.number.result, ← c.in-Some.ensures.value) (ap (λ (n : ℕ). Some n) (sym here))
+
+pub returns-in-None : goal.returns-in-None
+returns-in-None g c = rw (← c.self.view_is, ← c.number.ensures, geom_at-view (within_limit c.self.inside.geoms c.self.inside.live) c.self.inside.providers c.self.inside.consumers c.number.result, ← c.in-None.ensures.value) refl

@@ -1,0 +1,232 @@
+-- Names after each call.
+use Rattle.std.proofs.Common.{◌≡◌, ℕ, ◌+◌, ◌==◌, List, [], ◌∷◌, ◌++◌, map, Bool, true, false, Some, None, Option, IsSome, sym, refl, ap, ◌∙◌, subst, inl, inr, not, filter, find}
+use Rattle.std.proofs.lemmas.Bool.{cases_eq, eq-eqb, ne_eqb}
+use Rattle.std.proofs.lemmas.List.{map-append}
+use Rattle.std.specs.Prelude.{if◌then◌else◌, ◌&&◌, ◌||◌}
+use Rattle.std.specs.List.{list_any, last_or}
+use Rattle.std.specs.Option.{option_map, option_and_then}
+use Rattle.geo_model.specs.Words.{change_where, same_name}
+use Rattle.geo_model.specs.Topology.{Provider}
+use Rattle.geo_slots.specs.Slots.{without}
+use Rattle.geo_family.specs.Family.{names, has_child, last_child}
+use Rattle.geo_mesh.specs.declared.names.Names.{Names}
+use Rattle.geo_mesh.specs.Names.{is_sound_named, OneEach, AreNames, AreIds, AreKnown, sound_of, id_of, newest_of, AddsName, RetiresName, RemovesName, SameNames}
+use Rattle.geo_mesh.proofs.IndexLemmas.{map-change_where, map-filter_row}
+use Rattle.geo_mesh.proofs.NameLemmas.{same_is, is_same, OnlyProvider, errored_fails, retired, retired-same, retired-gone, retired-one, retired-change, retired-filter, pushed-here, pushed-other, pushed-one, with_error}
+
+-- each provider under the number of its name
+abbrev pub under_ids : (List ℕ → Option ℕ) → List Provider → List (ℕ × Option ℕ)
+under_ids id ps = map (λ x. (x.number, id x.name)) ps
+
+-- two ways of numbering agree on the names of the providers
+abbrev pub Agree : (List ℕ → Option ℕ) → (List ℕ → Option ℕ) → List Provider → Type 0
+Agree f g [] = Unit {0}
+Agree f g (x ∷ xs) = (g x.name ≡ f x.name) × Agree f g xs
+
+module _ (f g : List ℕ → Option ℕ) where
+  agree-under : (ps : List Provider) → Agree f g ps → under_ids f ps ≡ under_ids g ps
+  agree-under [] agree = refl
+  agree-under (x ∷ xs) agree = λ i. (x.number, sym agree.0 i) ∷ agree-under xs agree.1 i
+
+  agree-known : (ps : List Provider) → Agree f g ps → AreKnown f ps → AreKnown g ps
+  agree-known [] agree known = tt
+  agree-known (x ∷ xs) agree known = (subst (λ o. IsSome o) (sym agree.0) known.0, agree-known xs agree.1 known.1)
+
+  agree-all : ((q : List ℕ) → g q ≡ f q) → (ps : List Provider) → Agree f g ps
+  agree-all same [] = tt
+  agree-all same (x ∷ xs) = (same x.name, agree-all same xs)
+
+  module _ (name : List ℕ) (others : (q : List ℕ) → same_name name q ≡ false → g q ≡ f q) where
+    agree_other : (y : Provider) (b : Bool) → same_name name y.name ≡ b → ((name ≡ y.name) → g y.name ≡ f y.name) → g y.name ≡ f y.name
+    agree_other y true e here = here (same_is name y.name e)
+    agree_other y false e here = others y.name e
+
+    opened_here : (id : ℕ) → g name ≡ Some id → ((i : ℕ) → f name ≡ Some i → i ≡ id) → (o : Option ℕ) → f name ≡ o → IsSome o → g name ≡ f name
+    opened_here id here kept None e never = absurd (cc)
+    opened_here id here kept (Some i) e is = here ∙ ap (λ k. Some k) (sym (kept i e)) ∙ sym e
+
+    -- where the name was opened
+    agree-opened : (id : ℕ) → g name ≡ Some id → ((i : ℕ) → f name ≡ Some i → i ≡ id) → (ps : List Provider) → AreKnown f ps → Agree f g ps
+    agree-opened id here kept [] known = tt
+    agree-opened id here kept (y ∷ ys) known = (
+      agree_other y (same_name name y.name) refl (λ same.
+          let has : IsSome (f name) = subst (λ m. IsSome (f m)) (sym same) known.0 in
+          subst (λ m. g m ≡ f m) same (opened_here id here kept (f name) refl has)),
+      agree-opened id here kept ys known.1,
+    )
+
+    closed_here : (o : Option ℕ) → f name ≡ o → IsSome o → ((i : ℕ) → f name ≡ Some i → g name ≡ Some i) → g name ≡ f name
+    closed_here None e never here = absurd (cc)
+    closed_here (Some i) e is here = here i e ∙ sym e
+
+    -- where the name was closed, if nobody had its number
+    agree-closed : (ps : List Provider) → AreKnown f ps → ((i : ℕ) → f name ≡ Some i → has_child (under_ids f ps) i ≡ true → g name ≡ Some i) → Agree f g ps
+    agree-closed [] known here = tt
+    agree-closed (y ∷ ys) known here = (
+      agree_other y (same_name name y.name) refl (λ same.
+          let has : IsSome (f name) = subst (λ m. IsSome (f m)) (sym same) known.0 in
+          let at_name = closed_here (f name) refl has (λ i is. here i is (first_has y ys i (subst (λ m. f m ≡ Some i) same is))) in
+          subst (λ m. g m ≡ f m) same at_name),
+      agree-closed ys known.1 (λ i is has. here i is (or_later (names (f y.name) i) (has_child (under_ids f ys) i) has)),
+    )
+      where
+        or_later : (a b : Bool) → b ≡ true → (a || b) ≡ true
+        or_later true b e = refl
+        or_later false b e = e
+
+        first_has : (y : Provider) (ys : List Provider) (i : ℕ) → f y.name ≡ Some i → has_child (under_ids f (y ∷ ys)) i ≡ true
+        first_has y ys i is = rw (is, eq-eqb i i refl) refl
+
+known-push : (f : List ℕ → Option ℕ) (x : Provider) (ps : List Provider) → AreKnown f ps → IsSome (f x.name) → AreKnown f (ps ++ x ∷ [])
+known-push f x [] known has = (has, tt)
+known-push f x (y ∷ ys) known has = (known.0, known-push f x ys known.1 has)
+
+known-change : (f : List ℕ → Option ℕ) (n : ℕ) (ps : List Provider) → AreKnown f ps → AreKnown f (change_where (λ y. y.number == n) with_error ps)
+known-change f n [] known = tt
+known-change f n (y ∷ ys) known =
+    elim (cases_eq y.number n) [
+      | inl here ↦ rw (eq-eqb y.number n here) (known.0, known-change f n ys known.1)
+      | inr other ↦ rw (ne_eqb y.number n other) (known.0, known-change f n ys known.1)
+    ]
+
+known-filter : (f : List ℕ → Option ℕ) (n : ℕ) (ps : List Provider) → AreKnown f ps → AreKnown f (filter (λ y. not (y.number == n)) ps)
+known-filter f n [] known = tt
+known-filter f n (y ∷ ys) known =
+    elim (cases_eq y.number n) [
+      | inl here ↦ rw (eq-eqb y.number n here) (known-filter f n ys known.1)
+      | inr other ↦ rw (ne_eqb y.number n other) (known.0, known-filter f n ys known.1)
+    ]
+
+module _ (ps : List Provider) (next : ℕ) (old new : Names) (are : AreNames ps next old) where
+  -- the same names
+  pub names-same : SameNames old new → AreNames ps next new
+  names-same same =
+      let agree = agree-all (id_of old) (id_of new) same.ids ps in
+      record {
+        sound = λ name. same.sound name ∙ are.sound name;
+        one = are.one;
+        alike = ap (λ v. v.children) same.alike ∙ are.alike ∙ agree-under (id_of old) (id_of new) ps agree;
+        known = agree-known (id_of old) (id_of new) ps agree are.known;
+        next_child = ap (λ v. v.next_child) same.alike ∙ are.next_child;
+      }
+
+  added_step : (x : Provider) → x.errored ≡ false → find (is_sound_named x.name) ps ≡ None → AddsName old new x.name x.number → (name : List ℕ) (b : Bool) → same_name x.name name ≡ b
+      → sound_of new name ≡ option_map (λ (y : Provider). y.number) (find (is_sound_named name) (ps ++ x ∷ []))
+  added_step x sound free adds name true e =
+      let same : x.name ≡ name = same_is x.name name e in
+      adds.sound name ∙ rw (e, ← same, pushed-here x sound ps free) refl
+  added_step x sound free adds name false e = adds.sound name ∙ rw (e, pushed-other x sound name ps e) (are.sound name)
+
+  -- one more provider
+  pub names-added : (x : Provider) → x.errored ≡ false → x.number ≡ next → find (is_sound_named x.name) ps ≡ None → AddsName old new x.name x.number → AreNames (ps ++ x ∷ []) (next + 1) new
+  names-added x sound number free adds =
+      let agree = agree-opened (id_of old) (id_of new) x.name adds.others adds.id adds.here adds.kept ps are.known in
+      record {
+        sound = λ name. added_step x sound free adds name (same_name x.name name) refl;
+        one = pushed-one x sound ps are.one free;
+        alike =
+            adds.children
+            ∙ (λ i. (are.alike ∙ agree-under (id_of old) (id_of new) ps agree) i ++ ((are.next_child ∙ sym number) i, sym adds.here i) ∷ [])
+            ∙ sym (map-append (λ (y : Provider). (y.number, id_of new y.name)) ps (x ∷ []));
+        known = known-push (id_of new) x ps (agree-known (id_of old) (id_of new) ps agree are.known) (subst (λ o. IsSome o) (sym adds.here) refl);
+        next_child = adds.next_child ∙ ap (λ k. k + 1) are.next_child;
+      }
+
+  module _ (n : ℕ) (x : Provider) (only : OnlyProvider n x ps) (found : find (λ z. z.number == n) ps ≡ Some x)
+      (retires : (q : List ℕ) → sound_of new q ≡ (if not x.errored && same_name x.name q then None else sound_of old q)) where
+    retired_step : (mark : Provider → Option Provider) (marked : (y z : Provider) → mark y ≡ Some z → z.errored ≡ true) (name : List ℕ) (a b : Bool) → x.errored ≡ a → same_name x.name name ≡ b
+        → sound_of new name ≡ option_map (λ (y : Provider). y.number) (find (is_sound_named name) (retired n mark marked ps))
+    retired_step mark marked name true b e f =
+        retires name ∙ rw (e, retired-same n mark marked name x ps only (errored_fails name x e)) (are.sound name)
+    retired_step mark marked name false true e f =
+        let same : x.name ≡ name = same_is x.name name f in
+        retires name ∙ rw (e, f, ← same, retired-gone n mark marked x ps e only are.one found) refl
+    retired_step mark marked name false false e f =
+        retires name ∙ rw (e, f, retired-same n mark marked name x ps only (rw (e, f) refl)) (are.sound name)
+
+    error_marked : (y z : Provider) → Some (with_error y) ≡ Some z → z.errored ≡ true
+    error_marked y z is = let e : with_error y ≡ z = cc in sym (ap (λ w. w.errored) e)
+
+    -- a provider that gets an error
+    pub names-marked : new.ids ≡ old.ids → new.alike ≡ old.alike → AreNames (change_where (λ y. y.number == n) (λ y. record y { errored = true }) ps) next new
+    names-marked ids alike =
+        let same : (q : List ℕ) → id_of new q ≡ id_of old q = λ q. ap (λ m. id_of (record old { ids = m }) q) ids in
+        let agree = agree-all (id_of old) (id_of new) same ps in
+        let children = ap (λ v. v.children) alike ∙ are.alike ∙ agree-under (id_of old) (id_of new) ps agree in
+        record {
+          sound = λ name. retired_step (λ y. Some (with_error y)) error_marked name x.errored (same_name x.name name) refl refl
+              ∙ ap (λ xs. option_map (λ (y : Provider). y.number) (find (is_sound_named name) xs)) (retired-change n ps);
+          one = subst (λ xs. OneEach xs) (retired-change n ps) (retired-one n (λ y. Some (with_error y)) error_marked ps are.one);
+          alike = children ∙ sym (map-change_where (λ (y : Provider). (y.number, id_of new y.name)) (λ y. y.number == n) (λ y. record y { errored = true }) (λ y. refl) ps);
+          known = known-change (id_of new) n ps (agree-known (id_of old) (id_of new) ps agree are.known);
+          next_child = ap (λ v. v.next_child) alike ∙ are.next_child;
+        }
+
+    never_marked : (y z : Provider) → None ≡ Some z → z.errored ≡ true
+    never_marked y z never = absurd (cc)
+
+    -- a provider that goes
+    pub names-removed : RemovesName old new x.name n x.errored → AreNames (filter (λ y. not (y.number == n)) ps) next new
+    names-removed removes =
+        let left : List Provider = filter (λ y. not (y.number == n)) ps in
+        let children : new.alike.children ≡ under_ids (id_of old) left =
+        removes.children ∙ ap (λ xs. without xs n) are.alike ∙ map-filter_row (λ (y : Provider). y.number) (λ y. id_of old y.name) n ps in
+        let known : AreKnown (id_of old) left = known-filter (id_of old) n ps are.known in
+        let agree : Agree (id_of old) (id_of new) left =
+        agree-closed (id_of old) (id_of new) x.name removes.others left known
+        (λ i is has. removes.here i is (ap (λ xs. has_child xs i) (sym removes.children ∙ children) ∙ has)) in
+        record {
+          sound = λ name. retired_step (λ y. None) never_marked name x.errored (same_name x.name name) refl refl
+              ∙ ap (λ xs. option_map (λ (y : Provider). y.number) (find (is_sound_named name) xs)) (retired-filter n ps);
+          one = subst (λ xs. OneEach xs) (retired-filter n ps) (retired-one n (λ y. None) never_marked ps are.one);
+          alike = children ∙ agree-under (id_of old) (id_of new) left agree;
+          known = agree-known (id_of old) (id_of new) left agree known;
+          next_child = removes.next_child ∙ are.next_child;
+        }
+
+-- The provider of a name with the greatest number
+
+module _ (f : List ℕ → Option ℕ) (name : List ℕ) where
+  no_name : (ps : List Provider) → AreKnown f ps → f name ≡ None → filter (λ (x : Provider). same_name x.name name) ps ≡ []
+  no_name [] known none = refl
+  no_name (x ∷ xs) known none = step (same_name x.name name) refl (no_name xs known.1 none)
+    where
+      step : (b : Bool) → same_name x.name name ≡ b → filter (λ (x : Provider). same_name x.name name) xs ≡ [] → filter (λ (x : Provider). same_name x.name name) (x ∷ xs) ≡ []
+      step true e rest =
+          let has : false ≡ true = subst (λ o. IsSome o) (ap f (same_is x.name name e) ∙ none) known.0 in absurd (cc)
+      step false e rest = rw e rest
+
+  module _ (id : ℕ) (is : f name ≡ Some id) (apart : (q : List ℕ) → f q ≡ Some id → q ≡ name) where
+    same_test : (q : List ℕ) (o : Option ℕ) (b : Bool) → f q ≡ o → same_name q name ≡ b → names o id ≡ b
+    same_test q None true e s = let never : None ≡ Some id = sym e ∙ ap f (same_is q name s) ∙ is in absurd (cc)
+    same_test q None false e s = refl
+    same_test q (Some i) true e s = let same : Some i ≡ Some id = sym e ∙ ap f (same_is q name s) ∙ is in let k : i ≡ id = cc in eq-eqb i id k
+    same_test q (Some i) false e s =
+        ne_eqb i id (λ same. let names : q ≡ name = apart q (e ∙ ap (λ k. Some k) same) in let never : true ≡ false = sym (is_same name) ∙ ap (λ m. same_name m name) (sym names) ∙ s in cc)
+
+    last_step : (x : Provider) (b : Bool) → same_name x.name name ≡ b → names (f x.name) id ≡ b
+    last_step x b e = same_test x.name (f x.name) b refl e
+
+    -- the last child under the number of the name is the last provider of the name
+    last-under : (ps : List Provider) (o : Option Provider) (p : Option (ℕ × Option ℕ)) → option_map (λ (r : ℕ × Option ℕ). r.0) p ≡ option_map (λ (x : Provider). x.number) o
+        → option_map (λ (r : ℕ × Option ℕ). r.0) (last_or p (filter (λ r. names r.1 id) (under_ids f ps))) ≡ option_map (λ (x : Provider). x.number) (last_or o (filter (λ (x : Provider). same_name x.name name) ps))
+    last-under [] o p so = so
+    last-under (x ∷ xs) o p so = step (same_name x.name name) refl (λ o p so. last-under xs o p so)
+      where
+        step : (b : Bool) → same_name x.name name ≡ b
+            → ((o : Option Provider) (p : Option (ℕ × Option ℕ)) → option_map (λ (r : ℕ × Option ℕ). r.0) p ≡ option_map (λ (x : Provider). x.number) o
+            → option_map (λ (r : ℕ × Option ℕ). r.0) (last_or p (filter (λ r. names r.1 id) (under_ids f xs))) ≡ option_map (λ (x : Provider). x.number) (last_or o (filter (λ (x : Provider). same_name x.name name) xs)))
+            → option_map (λ (r : ℕ × Option ℕ). r.0) (last_or p (filter (λ r. names r.1 id) (under_ids f (x ∷ xs)))) ≡ option_map (λ (x : Provider). x.number) (last_or o (filter (λ (x : Provider). same_name x.name name) (x ∷ xs)))
+        step true e rest = rw (e, last_step x true e) (rest (Some x) (Some (x.number, f x.name)) refl)
+        step false e rest = rw (e, last_step x false e) (rest o p so)
+
+  newest_step : (children : List (ℕ × Option ℕ)) (ps : List Provider) → children ≡ under_ids f ps → AreKnown f ps → ((a b : List ℕ) (i : ℕ) → f a ≡ Some i → f b ≡ Some i → a ≡ b)
+      → (o : Option ℕ) → f name ≡ o
+      → option_and_then (λ id. last_child children id) o ≡ option_map (λ (x : Provider). x.number) (last_or None (filter (λ (x : Provider). same_name x.name name) ps))
+  newest_step children ps same known apart None e = rw (no_name ps known e) refl
+  newest_step children ps same known apart (Some id) e = ap (λ xs. last_child xs id) same ∙ last-under id e (λ q is. apart q name id is e) ps None None refl
+
+-- the newest provider of a name, by the names
+pub newest-names : (ps : List Provider) (next : ℕ) (n : Names) → AreNames ps next n → AreIds n → (name : List ℕ)
+    → newest_of n name ≡ option_map (λ (x : Provider). x.number) (last_or None (filter (λ (x : Provider). same_name x.name name) ps))
+newest-names ps next n are ids name = newest_step (id_of n) name n.alike.children ps are.alike are.known ids.apart (id_of n name) refl

@@ -1,0 +1,90 @@
+use Rattle.std.proofs.Common.{◌≡◌, ℕ, ◌+◌, ◌<◌, ◌≤◌, true, length, refl, ap, ◌∙◌, arith}
+use Rattle.geo_slots.specs.Slots.{value_at}
+use Rattle.geo_mesh.specs.Rows.{passes}
+use Rattle.geo_mesh.specs.Mending.{IsAmong, above, height}
+use Rattle.geo_mesh.specs.Ranks.{kinds, bare, offers, ends, stored, below, owner, user, is_offered, is_attached, IsFirst}
+use Rattle.geo_mesh.proofs.RankMend.{lowered-none, lowered-store, lowered-whole, climbs-apart}
+use Rattle.geo_mesh.proofs.RankHeights.{height-most}
+use Rattle.geo_mesh.proofs.RankRows.{kinds-bare}
+use Rattle.geo_mesh.proofs.RankWalk.{walkable-bare, offered-is, owner-is, user-above, above-user, user-lives}
+use Rattle.geo_mesh.proofs.ranks.+lower.Goals as goal
+
+pub lower-loop-prov-init : goal.lower-loop-prov-init
+lower-loop-prov-init g t c =
+    let apart : IsAmong (below c.args.providers.now c.args.consumers.now c.args.geom) c.args.geom → ⊥ = climbs-apart (below c.args.providers.now c.args.consumers.now) (height (below c.args.providers.now c.args.consumers.now) (length (kinds c.args.geoms.now))) c.requires.walkable.climbs c.args.geom in
+    let high : above (below c.args.providers.now c.args.consumers.now) (stored c.args.geoms.now) c.args.geom < stored c.args.geoms.now c.args.geom = omega (arith, c.stored-rank.ensures, c.highest_below-new.ensures, c.if-rank-new.false) in
+    let here : stored c.store.new.geoms c.args.geom ≡ above (below c.args.providers.now c.args.consumers.now) (stored c.args.geoms.now) c.args.geom = omega (arith, c.store.ensures.here, c.highest_below-new.ensures) in
+    let parts = lowered-store (below c.args.providers.now c.args.consumers.now) c.args.geom (stored c.args.geoms.now) (stored c.store.new.geoms) apart c.requires.enough high here c.store.ensures.others in
+    record {
+      same = refl;
+      lowered = lowered-none (below c.args.providers.now c.args.consumers.now) (stored c.store.new.geoms) parts.1;
+      low = λ p m low. absurd (omega arith);
+    }
+
+pub lower-lower_attached-requires : goal.lower-lower_attached-requires
+lower-lower_attached-requires g t c κs within =
+    let first : IsFirst (is_offered c.args.geom) (offers c.args.providers.now).rows c.args.providers.now.next c.loop-prov.at c.in-Some.prov = c.in-Some.ensures in
+    let own : owner c.args.providers.now c.in-Some.prov ≡ c.args.geom = owner-is c.args.providers.now c.args.consumers.now c.args.geom c.in-Some.prov first.passing in
+    let same : bare c.loop-prov.geoms ≡ bare c.args.geoms.now = c.loop-prov.invariant.same ∙ c.store.ensures.same in
+    let classes : kinds c.loop-prov.geoms ≡ kinds c.args.geoms.now = kinds-bare c.args.geoms.now c.loop-prov.geoms same in
+    let most : height (below c.args.providers.now c.args.consumers.now) (length (kinds c.args.geoms.now)) c.args.geom ≤ length (kinds c.args.geoms.now) + 1 = height-most (below c.args.providers.now c.args.consumers.now) (length (kinds c.args.geoms.now)) c.args.geom in
+    let tall : height (below c.args.providers.now c.args.consumers.now) (length (kinds c.loop-prov.geoms)) (owner c.args.providers.now c.in-Some.prov) ≡ height (below c.args.providers.now c.args.consumers.now) (length (kinds c.args.geoms.now)) c.args.geom = rw (own, classes) refl in
+    let count : length (kinds c.loop-prov.geoms) ≡ length (kinds c.args.geoms.now) = ap length classes in (
+      omega (arith, c.decreases),
+      (
+        λ a there. within a there,
+        (
+          c.requires.kin,
+          (
+            walkable-bare c.args.geoms.now c.loop-prov.geoms c.args.providers.now c.args.consumers.now same c.requires.walkable,
+            (
+              rw (offered-is c.args.geom (value_at (offers c.args.providers.now).rows c.in-Some.prov) first.passing) refl,
+              c.loop-prov.invariant.lowered.enough,
+            ),
+          ),
+        ),
+      ),
+    )
+
+pub lower-returns-clause-lowered : goal.lower-returns-clause-lowered
+lower-returns-clause-lowered g t c =
+    let apart : IsAmong (below c.args.providers.now c.args.consumers.now c.args.geom) c.args.geom → ⊥ = climbs-apart (below c.args.providers.now c.args.consumers.now) (height (below c.args.providers.now c.args.consumers.now) (length (kinds c.args.geoms.now))) c.requires.walkable.climbs c.args.geom in
+    let high : above (below c.args.providers.now c.args.consumers.now) (stored c.args.geoms.now) c.args.geom < stored c.args.geoms.now c.args.geom = omega (arith, c.stored-rank.ensures, c.highest_below-new.ensures, c.if-rank-new.false) in
+    let here : stored c.store.new.geoms c.args.geom ≡ above (below c.args.providers.now c.args.consumers.now) (stored c.args.geoms.now) c.args.geom = omega (arith, c.store.ensures.here, c.highest_below-new.ensures) in
+    let none : (m : ℕ) → passes (is_offered c.args.geom) (value_at (offers c.args.providers.now).rows m) ≡ true → m < c.loop-prov.at = c.in_default.ensures in
+    (lowered-whole (below c.args.providers.now c.args.consumers.now) c.args.geom (stored c.args.geoms.now) (stored c.store.new.geoms) (stored c.loop-prov.geoms) apart c.requires.enough high here c.store.ensures.others c.loop-prov.invariant.lowered
+    (above-user c.args.providers.now c.args.consumers.now c.requires.walkable.consumers_rise (λ x. stored c.loop-prov.geoms x ≤ above (below c.args.providers.now c.args.consumers.now) (stored c.loop-prov.geoms) x) c.args.geom
+    (λ p m offered attached. c.loop-prov.invariant.low p m (none p offered) offered attached))).0
+
+pub lower-returns-clause-low : goal.lower-returns-clause-low
+lower-returns-clause-low g t c =
+    let apart : IsAmong (below c.args.providers.now c.args.consumers.now c.args.geom) c.args.geom → ⊥ = climbs-apart (below c.args.providers.now c.args.consumers.now) (height (below c.args.providers.now c.args.consumers.now) (length (kinds c.args.geoms.now))) c.requires.walkable.climbs c.args.geom in
+    let high : above (below c.args.providers.now c.args.consumers.now) (stored c.args.geoms.now) c.args.geom < stored c.args.geoms.now c.args.geom = omega (arith, c.stored-rank.ensures, c.highest_below-new.ensures, c.if-rank-new.false) in
+    let here : stored c.store.new.geoms c.args.geom ≡ above (below c.args.providers.now c.args.consumers.now) (stored c.args.geoms.now) c.args.geom = omega (arith, c.store.ensures.here, c.highest_below-new.ensures) in
+    c.loop-prov.invariant.lowered.stays c.args.geom (lowered-store (below c.args.providers.now c.args.consumers.now) c.args.geom (stored c.args.geoms.now) (stored c.store.new.geoms) apart c.requires.enough high here c.store.ensures.others).2
+
+pub lower_attached-lower-requires : goal.lower_attached-lower-requires
+lower_attached-lower-requires g t c κs within =
+    let first : IsFirst (is_attached c.args.prov) (ends c.args.consumers.now).rows c.args.consumers.now.next c.loop-cons.at c.in-Some.cons = c.in-Some.ensures in
+    let classes : kinds c.loop-cons.geoms ≡ kinds c.args.geoms.now = kinds-bare c.args.geoms.now c.loop-cons.geoms c.loop-cons.invariant.same in
+    let walkable = walkable-bare c.args.geoms.now c.loop-cons.geoms c.args.providers.now c.args.consumers.now c.loop-cons.invariant.same c.requires.walkable in
+    let count : length (kinds c.loop-cons.geoms) ≡ length (kinds c.args.geoms.now) = ap length classes in
+    let near : IsAmong (below c.args.providers.now c.args.consumers.now (user c.args.consumers.now c.in-Some.cons)) (owner c.args.providers.now c.args.prov) = user-above c.args.providers.now c.args.consumers.now c.args.prov c.in-Some.cons c.requires.lives first.passing in
+    let climbs : height (below c.args.providers.now c.args.consumers.now) (length (kinds c.args.geoms.now)) (owner c.args.providers.now c.args.prov) < height (below c.args.providers.now c.args.consumers.now) (length (kinds c.args.geoms.now)) (user c.args.consumers.now c.in-Some.cons) = c.requires.walkable.climbs (user c.args.consumers.now c.in-Some.cons) (owner c.args.providers.now c.args.prov) near in
+    let most : height (below c.args.providers.now c.args.consumers.now) (length (kinds c.args.geoms.now)) (user c.args.consumers.now c.in-Some.cons) ≤ length (kinds c.args.geoms.now) + 1 = height-most (below c.args.providers.now c.args.consumers.now) (length (kinds c.args.geoms.now)) (user c.args.consumers.now c.in-Some.cons) in
+    let tall : height (below c.args.providers.now c.args.consumers.now) (length (kinds c.loop-cons.geoms)) c.user.result ≡ height (below c.args.providers.now c.args.consumers.now) (length (kinds c.args.geoms.now)) (user c.args.consumers.now c.in-Some.cons) = rw (c.user.ensures.user, classes) refl in (
+      omega (arith, c.decreases),
+      (
+        λ a there. within a there,
+        (
+          c.requires.kin,
+          (
+            walkable,
+            (
+              rw c.user.ensures.user (user-lives c.args.providers.now c.args.consumers.now (kinds c.loop-cons.geoms) c.args.prov c.in-Some.cons walkable first.passing),
+              c.loop-cons.invariant.lowered.enough,
+            ),
+          ),
+        ),
+      ),
+    )

@@ -1,0 +1,102 @@
+-- What finds the providers and the consumers of a geom, and the consumers of a provider, over the graph.
+use Rattle.std.specs.Prelude.{◌≡◌, ℕ, ◌+◌, ◌-◌, ◌≤◌, ◌==◌, not, List, [], ◌∷◌, ◌++◌, Option, Some, None, map, filter}
+use Rattle.geo_model.specs.Topology.{Topology, Geom, Provider, Consumer}
+use Rattle.geo_slots.specs.Slots.{with_value, without}
+use Rattle.geo_family.specs.Family.{FamilyView}
+use Rattle.geo_mesh.specs.declared.index.Index.{Index}
+
+abbrev pub no_family : FamilyView
+no_family = record { parents = []; children = []; next_parent = 1; next_child = 1; parent_room = 0; child_room = 0 }
+
+abbrev pub no_index : Index
+no_index = record { offered = no_family; owned = no_family; attached = no_family }
+
+-- room for so many geoms, providers and consumers
+pub record HaveRoom (geoms providers consumers : ℕ) (i : Index) : Type 0 where
+  pub offered_parents : geoms ≤ i.offered.parent_room
+  pub offered_children : providers ≤ i.offered.child_room
+  pub owned_parents : geoms ≤ i.owned.parent_room
+  pub owned_children : consumers ≤ i.owned.child_room
+  pub attached_parents : providers ≤ i.attached.parent_room
+  pub attached_children : consumers ≤ i.attached.child_room
+
+-- the same rows with the room of another one
+abbrev pub family_with_rooms : FamilyView → FamilyView → FamilyView
+family_with_rooms v w = record v { parent_room = w.parent_room; child_room = w.child_room }
+
+abbrev pub with_rooms : Index → Index → Index
+with_rooms i j = record {
+  offered = family_with_rooms i.offered j.offered;
+  owned = family_with_rooms i.owned j.owned;
+  attached = family_with_rooms i.attached j.attached;
+}
+
+-- with a new parent, with a new child that may have a parent
+abbrev pub with_parent : FamilyView → FamilyView
+with_parent v = record v { parents = v.parents ++ v.next_parent ∷ []; next_parent = v.next_parent + 1; parent_room = v.parent_room - 1 }
+
+abbrev pub with_child : FamilyView → Option ℕ → FamilyView
+with_child v p = record v { children = v.children ++ (v.next_child, p) ∷ []; next_child = v.next_child + 1; child_room = v.child_room - 1 }
+
+-- without a parent, without a child
+abbrev pub without_parent : FamilyView → ℕ → FamilyView
+without_parent v n = record v { parents = filter (λ m. not (m == n)) v.parents }
+
+abbrev pub without_child : FamilyView → ℕ → FamilyView
+without_child v n = record v { children = without v.children n }
+
+-- with a new geom, provider, consumer
+abbrev pub with_geom_index : Index → Index
+with_geom_index i = record i { offered = with_parent i.offered; owned = with_parent i.owned }
+
+abbrev pub with_provider_index : Index → ℕ → Index
+with_provider_index i geom = record i { offered = with_child i.offered (Some geom); attached = with_parent i.attached }
+
+abbrev pub with_consumer_index : Index → ℕ → Index
+with_consumer_index i geom = record i { owned = with_child i.owned (Some geom); attached = with_child i.attached None }
+
+-- without a geom, a provider, a consumer
+abbrev pub without_geom_index : Index → ℕ → Index
+without_geom_index i geom = record i { offered = without_parent i.offered geom; owned = without_parent i.owned geom }
+
+abbrev pub without_provider_index : Index → ℕ → Index
+without_provider_index i prov = record i { offered = without_child i.offered prov; attached = without_parent i.attached prov }
+
+abbrev pub without_consumer_index : Index → ℕ → Index
+without_consumer_index i cons = record i { owned = without_child i.owned cons; attached = without_child i.attached cons }
+
+-- with a consumer attached, with a consumer detached
+abbrev pub attached_index : Index → ℕ → ℕ → Index
+attached_index i cons prov = record i { attached = record i.attached { children = with_value i.attached.children cons (Some prov) } }
+
+abbrev pub detached_index : Index → ℕ → Index
+detached_index i cons = record i { attached = record i.attached { children = with_value i.attached.children cons None } }
+
+-- the family has these parents and children, and the next numbers
+pub record IsFamilyOf (v : FamilyView) (the_parents : List ℕ) (the_children : List (ℕ × Option ℕ)) (next_p next_c : ℕ) : Type 0 where
+  pub parents : v.parents ≡ the_parents
+  pub children : v.children ≡ the_children
+  pub next_parent : v.next_parent ≡ next_p
+  pub next_child : v.next_child ≡ next_c
+
+-- the numbers of the geoms and of the providers, and whose each provider and each consumer is
+abbrev pub geom_numbers : {C : Type 0} → List (Geom C) → List ℕ
+geom_numbers xs = map (λ x. x.number) xs
+
+abbrev pub provider_numbers : List Provider → List ℕ
+provider_numbers xs = map (λ x. x.number) xs
+
+abbrev pub provider_geoms : List Provider → List (ℕ × Option ℕ)
+provider_geoms xs = map (λ x. (x.number, Some x.geom)) xs
+
+abbrev pub consumer_geoms : List Consumer → List (ℕ × Option ℕ)
+consumer_geoms xs = map (λ x. (x.number, Some x.geom)) xs
+
+abbrev pub consumer_providers : List Consumer → List (ℕ × Option ℕ)
+consumer_providers xs = map (λ x. (x.number, x.provider)) xs
+
+-- the index is that of the graph
+pub record IsIndexed {C : Type 0} (t : Topology C) (i : Index) : Type 0 where
+  pub offered : IsFamilyOf i.offered (geom_numbers t.geoms) (provider_geoms t.providers) t.next_geom t.next_provider
+  pub owned : IsFamilyOf i.owned (geom_numbers t.geoms) (consumer_geoms t.consumers) t.next_geom t.next_consumer
+  pub attached : IsFamilyOf i.attached (provider_numbers t.providers) (consumer_providers t.consumers) t.next_provider t.next_consumer

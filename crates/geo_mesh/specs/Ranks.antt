@@ -1,0 +1,148 @@
+-- The ranks that stand in the cells of the geoms, and the graph below them, by the rows.
+use Rattle.std.specs.Prelude.{◌≡◌, ℕ, ◌<◌, ◌≤◌, ◌^◌, ◌==◌, nat_lt, Bool, true, false, not, ◌&&◌, List, Option, Some, None, IsSome, IfSome, filter, filter_map, length, option_map}
+use Rattle.std.specs.List.{list_any, AllByRecursion}
+use Rattle.geo_base.specs.declared.kind.Kind.{Kind}
+use Rattle.geo_model.specs.Words.{is_granted_kind, names_number}
+use Rattle.geo_model.specs.Rank.{rank_limit}
+use Rattle.geo_slots.specs.Slots.{SlotsView, IsRising, value_at}
+use Rattle.geo_mesh.specs.declared.records.Scratch.{Scratch}
+use Rattle.geo_mesh.specs.declared.records.GeomRec.{GeomRec}
+use Rattle.geo_mesh.specs.declared.records.GeomCell.{GeomCell}
+use Rattle.geo_mesh.specs.declared.records.ProvCell.{ProvCell}
+use Rattle.geo_mesh.specs.declared.records.ConsCell.{ConsCell}
+use Rattle.geo_mesh.specs.Rows.{rows_with, passes}
+use Rattle.geo_mesh.specs.Cells.{IsCount}
+use Rattle.geo_mesh.specs.declared.records.AttachRefusal.{AttachRefusal}
+use Rattle.geo_mesh.specs.declared.records.AttachRefusal.TheVariants.{Enxio, Eloop, Edeep}
+use Rattle.geo_mesh.specs.Mending.{Climbs, StandsAbove, IsJoinable, above, height}
+
+-- the number, and another where there is none
+abbrev pub number_or : ℕ → Option ℕ → ℕ
+number_or n None = n
+number_or n (Some m) = m
+
+-- parts of cells
+abbrev pub kind_of : {C : Type 0} → GeomCell C → Kind
+kind_of x = x.geom.kind
+
+abbrev pub rank_of : {C : Type 0} → GeomCell C → ℕ
+rank_of x = x.rank
+
+abbrev pub rest_of : {C : Type 0} → GeomCell C → GeomRec C × Scratch
+rest_of x = (x.geom, x.scratch)
+
+abbrev pub owner_of : ProvCell → ℕ
+owner_of x = x.provider.geom
+
+abbrev pub ends_of : ConsCell → ℕ × Option ℕ
+ends_of x = (x.consumer.geom, x.consumer.prov)
+
+-- the class of each geom
+abbrev pub kinds : {C : Type 0} → SlotsView (GeomCell C) → List (ℕ × Kind)
+kinds {C} gs = rows_with (kind_of {C = C}) gs.rows
+
+-- the rank that stands in each cell
+abbrev pub ranks : {C : Type 0} → SlotsView (GeomCell C) → List (ℕ × ℕ)
+ranks {C} gs = rows_with (rank_of {C = C}) gs.rows
+
+-- all but the ranks
+abbrev pub bare : {C : Type 0} → SlotsView (GeomCell C) → SlotsView (GeomRec C × Scratch)
+bare {C} gs = record { rows = rows_with (rest_of {C = C}) gs.rows; next = gs.next; spare = gs.spare }
+
+-- the geom that offers each provider
+abbrev pub offers : SlotsView ProvCell → SlotsView ℕ
+offers ps = record { rows = rows_with owner_of ps.rows; next = ps.next; spare = ps.spare }
+
+-- the geom of each consumer, and the provider to which it is attached
+abbrev pub ends : SlotsView ConsCell → SlotsView (ℕ × Option ℕ)
+ends cs = record { rows = rows_with ends_of cs.rows; next = cs.next; spare = cs.spare }
+
+-- the rank under a number, and 1 where there is none
+abbrev pub rank_at : List (ℕ × ℕ) → ℕ → ℕ
+rank_at rows g = number_or 1 (value_at rows g)
+
+-- the rank that stands in the cell of a geom, and 1 where there is no geom
+abbrev pub stored : {C : Type 0} → SlotsView (GeomCell C) → ℕ → ℕ
+stored gs g = rank_at (ranks gs) g
+
+-- the geoms directly below a geom
+abbrev pub under : List (ℕ × ℕ) → List (ℕ × (ℕ × Option ℕ)) → ℕ → List ℕ
+under owners users g = filter_map (value_at owners) (filter_map (λ row. row.1.1) (filter (λ row. row.1.0 == g) users))
+
+abbrev pub below : SlotsView ProvCell → SlotsView ConsCell → ℕ → List ℕ
+below ps cs = under (offers ps).rows (ends cs).rows
+
+-- the geom that offers the provider, and the geom of the consumer: 0 where there is none
+abbrev pub owner : SlotsView ProvCell → ℕ → ℕ
+owner ps p = number_or 0 (value_at (offers ps).rows p)
+
+abbrev pub user_of : Option (ℕ × Option ℕ) → ℕ
+user_of None = 0
+user_of (Some e) = e.0
+
+abbrev pub user : SlotsView ConsCell → ℕ → ℕ
+user cs c = user_of (value_at (ends cs).rows c)
+
+-- whether the provider is offered by the geom, and the consumer attached to the provider, and the consumer the geom's
+abbrev pub is_offered : ℕ → ℕ → Bool
+is_offered g o = o == g
+
+abbrev pub is_attached : ℕ → ℕ × Option ℕ → Bool
+is_attached p e = names_number e.1 p
+
+abbrev pub belongs : ℕ → ℕ × Option ℕ → Bool
+belongs g e = e.0 == g
+
+-- the value at the geom to whose provider a consumer is attached, and 0 where it is attached to nothing
+abbrev pub rank_through : (ℕ → ℕ) → List (ℕ × ℕ) → Option ℕ → ℕ
+rank_through f owners None = 0
+rank_through f owners (Some p) = number_or 0 (option_map f (value_at owners p))
+
+abbrev pub rank_under : (ℕ → ℕ) → List (ℕ × ℕ) → Option (ℕ × Option ℕ) → ℕ
+rank_under f owners None = 0
+rank_under f owners (Some e) = rank_through f owners e.1
+
+-- whether a geom other than DEV and TASTE is above the limit
+abbrev pub is_high : List (ℕ × Kind) → (ℕ → ℕ) → Bool
+is_high classes f = list_any (λ row. not (is_granted_kind row.1) && nat_lt rank_limit (f row.0)) classes
+
+-- the first number from a number on whose value passes a test
+pub record IsFirst {T : Type 0} (test : T → Bool) (rows : List (ℕ × T)) (next at n : ℕ) : Type 0 where
+  pub past : at ≤ n
+  pub passing : passes test (value_at rows n) ≡ true
+  pub least : (m : ℕ) → at ≤ m → passes test (value_at rows m) ≡ true → n ≤ m
+  pub known : n < next
+  pub bound : next < 2 ^ 64
+
+abbrev pub FirstIs : {T : Type 0} → (T → Bool) → SlotsView T → ℕ → Option ℕ → Type 0
+FirstIs test s at None = (m : ℕ) → passes test (value_at s.rows m) ≡ true → m < at
+FirstIs test s at (Some n) = IsFirst test s.rows s.next at n
+
+-- the graph has no loop, each consumer's geom is there, the numbers rise, and there aren't too many of them
+pub record IsWalkable (classes : List (ℕ × Kind)) (ps : SlotsView ProvCell) (cs : SlotsView ConsCell) : Type 0 where
+  pub climbs : Climbs (below ps cs) (height (below ps cs) (length classes))
+  pub owned : AllByRecursion (λ row. IsSome (value_at classes row.1.0)) (ends cs).rows
+  pub providers_rise : IsRising 1 ps.rows ps.next
+  pub providers_few : ps.next < 2 ^ 64
+  pub consumers_rise : IsRising 1 cs.rows cs.next
+  pub consumers_few : cs.next < 2 ^ 64
+  pub few : length classes ≤ 4294967294
+
+-- each rank that stands in a cell is one more than the highest below, no geom other than DEV and TASTE is above the limit,
+-- and each consumer's geom and each attached provider are there
+pub record AreRanks (classes : List (ℕ × Kind)) (standing owners : List (ℕ × ℕ)) (users : List (ℕ × (ℕ × Option ℕ))) : Type 0 where
+  pub local : (g : ℕ) → rank_at standing g ≡ above (under owners users) (rank_at standing) g
+  pub low : is_high classes (rank_at standing) ≡ false
+  pub owned : AllByRecursion (λ row. IsSome (value_at classes row.1.0)) users
+  pub attached : AllByRecursion (λ row. IfSome row.1.1 (λ p. IsSome (value_at owners p))) users
+
+-- the mesh that stands: its geoms are counted, and their ranks stand in their cells
+pub record HaveRanks {C : Type 0} (gs : SlotsView (GeomCell C)) (ps : SlotsView ProvCell) (cs : SlotsView ConsCell) (live : ℕ) : Type 0 where
+  pub count : IsCount (length gs.rows) live
+  pub standing : AreRanks (kinds gs) (ranks gs) (offers ps).rows (ends cs).rows
+
+-- why one geom isn't put below another: the other stands below it already, or a geom other than DEV and TASTE would be above the limit
+abbrev pub IsRefusedFor : {C : Type 0} → AttachRefusal → SlotsView (GeomCell C) → (ℕ → List ℕ) → ℕ → ℕ → Type 0
+IsRefusedFor Enxio gs below upper lower = ⊥
+IsRefusedFor Eloop gs below upper lower = StandsAbove below lower upper
+IsRefusedFor {C} Edeep gs below upper lower = (ns : SlotsView (GeomCell C)) × (bare ns ≡ bare gs) × IsJoinable below upper lower (stored ns) × (is_high (kinds gs) (stored ns) ≡ true)

@@ -1,0 +1,337 @@
+//! The ranks that stand in the cells of the geoms, and how they are mended after the graph changed (geom(4)).
+ghost use Rattle.std.specs.Prelude.{◌≡◌, ℕ, ◌≤◌, ◌<◌, ◌+◌, ◌^◌, IsSome, IfErr, OnOk, OnErr, length, map, false, true};
+ghost use Rattle.geo_model.specs.Words.{largest, is_granted_kind};
+ghost use Rattle.geo_slots.specs.Slots.{IsRising, value_at};
+ghost use Rattle.geo_mesh.specs.Rows.{passes};
+ghost use Rattle.geo_mesh.specs.Cells.{provider_row, consumer_row};
+ghost use Rattle.geo_mesh.specs.Index.{provider_geoms, consumer_geoms, consumer_providers};
+ghost use Rattle.geo_mesh.specs.Whole.{IsKin};
+ghost use Rattle.geo_mesh.specs.Mending.{above, height, Lifted, Lowered, IsJoinable};
+ghost use Rattle.geo_mesh.specs.Ranks.{kinds, bare, offers, ends, stored, below, owner, user, is_offered, is_attached, belongs, is_high, rank_under, FirstIs, IsRefusedFor, IsWalkable};
+
+use crate::index::Index;
+use crate::records::{AttachRefusal, ConsCell, GeomCell, ProvCell};
+use geo_base::Kind;
+use geo_slots::Slots;
+
+// The greatest rank of a geom other than DEV and TASTE.
+const RANK_LIMIT: u64 = 32;
+
+// Whether the class is DEV or TASTE.
+fn is_granted(kind: Kind) -> bool
+    ensures { result ≡ is_granted_kind kind }
+{
+    matches!(kind, Kind::Dev | Kind::Taste)
+}
+
+// The first provider of a geom from a number on.
+fn offered(index: &Index, providers: &Slots<ProvCell>, geom: u64, from: u64) -> Option<u64>
+    requires kin { index.now.offered.children ≡ provider_geoms (map provider_row providers.now.rows) }
+    requires rising { IsRising 1 providers.now.rows providers.now.next }
+    requires bound { providers.now.next < 2 ^ 64 }
+    ensures { FirstIs (is_offered geom) (offers providers.now) from result }
+{
+    index.offered.first_from(geom, from)
+}
+
+// The first consumer that is attached to a provider, from a number on.
+fn attached(index: &Index, consumers: &Slots<ConsCell>, prov: u64, from: u64) -> Option<u64>
+    requires kin { index.now.attached.children ≡ consumer_providers (map consumer_row consumers.now.rows) }
+    requires rising { IsRising 1 consumers.now.rows consumers.now.next }
+    requires bound { consumers.now.next < 2 ^ 64 }
+    ensures { FirstIs (is_attached prov) (ends consumers.now) from result }
+{
+    index.attached.first_from(prov, from)
+}
+
+// The first consumer of a geom from a number on.
+fn belonging(index: &Index, consumers: &Slots<ConsCell>, geom: u64, from: u64) -> Option<u64>
+    requires kin { index.now.owned.children ≡ consumer_geoms (map consumer_row consumers.now.rows) }
+    requires rising { IsRising 1 consumers.now.rows consumers.now.next }
+    requires bound { consumers.now.next < 2 ^ 64 }
+    ensures { FirstIs (belongs geom) (ends consumers.now) from result }
+{
+    index.owned.first_from(geom, from)
+}
+
+/// The geom of a consumer, and 0 where there is none.
+pub fn user(consumers: &Slots<ConsCell>, cons: u64) -> u64
+    ensures user { result ≡ user consumers.now cons }
+    ensures rising { IsRising 1 consumers.now.rows consumers.now.next }
+    ensures bound { consumers.now.next < 2 ^ 64 }
+{
+    match consumers.get(cons) {
+        Some(cell) => cell.consumer.geom.number(),
+        None => 0,
+    }
+}
+
+/// The geom that offers a provider, and 0 where there is none.
+pub fn owner(providers: &Slots<ProvCell>, prov: u64) -> u64
+    ensures owner { result ≡ owner providers.now prov }
+    ensures rising { IsRising 1 providers.now.rows providers.now.next }
+    ensures bound { providers.now.next < 2 ^ 64 }
+{
+    match providers.get(prov) {
+        Some(cell) => cell.provider.geom.number(),
+        None => 0,
+    }
+}
+
+/// The rank that stands in the cell of a geom, and 1 where there is no geom.
+pub fn stored<C>(geoms: &Slots<GeomCell<C>>, geom: u64) -> u64
+    ensures { result ≡ stored geoms.now geom }
+{
+    match geoms.get(geom) {
+        Some(cell) => cell.rank,
+        None => 1,
+    }
+}
+
+// Gives the geom this rank.
+fn store<C>(geoms: &mut Slots<GeomCell<C>>, geom: u64, rank: u64)
+    requires lives { IsSome (value_at (kinds geoms.old) geom) }
+    ensures same { bare geoms.new ≡ bare geoms.old }
+    ensures here { stored geoms.new geom ≡ rank }
+    ensures others { (x : ℕ) → (x ≡ geom → ⊥) → stored geoms.new x ≡ stored geoms.old x }
+    ensures rising { IsRising 1 geoms.old.rows geoms.old.next }
+{
+    let Some(cell) = geoms.get_mut(geom) else {
+        return;
+    };
+    cell.rank = rank;
+}
+
+// Gives the geom a greater rank. Whether a geom other than DEV and TASTE is above the limit; before it was so or not.
+fn lift<C>(geoms: &mut Slots<GeomCell<C>>, geom: u64, rank: u64, high: bool) -> bool
+    requires lives { IsSome (value_at (kinds geoms.old) geom) }
+    requires more { stored geoms.old geom < rank }
+    requires high { high ≡ is_high (kinds geoms.old) (stored geoms.old) }
+    ensures same { bare geoms.new ≡ bare geoms.old }
+    ensures here { stored geoms.new geom ≡ rank }
+    ensures others { (x : ℕ) → (x ≡ geom → ⊥) → stored geoms.new x ≡ stored geoms.old x }
+    ensures high { result ≡ is_high (kinds geoms.old) (stored geoms.new) }
+{
+    store(geoms, geom, rank);
+    high || (RANK_LIMIT < rank && !is_granted_at(geoms, geom))
+}
+
+// Whether the geom is there and of class DEV or TASTE.
+fn is_granted_at<C>(geoms: &Slots<GeomCell<C>>, geom: u64) -> bool
+    ensures { result ≡ passes is_granted_kind (value_at (kinds geoms.now) geom) }
+{
+    match geoms.get(geom) {
+        Some(cell) => is_granted(cell.geom.kind),
+        None => false,
+    }
+}
+
+/// Gives the geom at least this rank, and those above it as great ranks as they then have to have. Whether a geom other
+/// than DEV and TASTE is above the limit, where it is told whether one was before.
+#[cycle(raise)]
+pub fn raise<C>(
+    geoms: &mut Slots<GeomCell<C>>,
+    providers: &Slots<ProvCell>,
+    consumers: &Slots<ConsCell>,
+    index: &Index,
+    geom: u64,
+    least: u64,
+    high: bool,
+) -> bool
+    requires kin { IsKin index.now providers.now consumers.now }
+    requires walkable { IsWalkable (kinds geoms.old) providers.now consumers.now }
+    requires lives { IsSome (value_at (kinds geoms.old) geom) }
+    requires fits { least ≤ height (below providers.now consumers.now) (length (kinds geoms.old)) geom + 2 ^ 33 }
+    requires high { high ≡ is_high (kinds geoms.old) (stored geoms.old) }
+    ensures same { bare geoms.new ≡ bare geoms.old }
+    ensures lifted { Lifted (below providers.now consumers.now) geom least (stored geoms.old) (stored geoms.new) }
+    ensures raised { least ≤ stored geoms.new geom }
+    ensures high { result ≡ is_high (kinds geoms.old) (stored geoms.new) }
+{
+    if least <= stored(geoms, geom) {
+        return high;
+    }
+    let mut high = lift(geoms, geom, least, high);
+    let mut at = 0;
+    while let Some(prov) = offered(index, providers, geom, at) {
+        high = raise_attached(geoms, providers, consumers, index, prov, least + 1, high);
+        at = prov + 1;
+    }
+    high
+}
+
+// Raises the geoms of the consumers that are attached to a provider.
+#[cycle(raise)]
+fn raise_attached<C>(
+    geoms: &mut Slots<GeomCell<C>>,
+    providers: &Slots<ProvCell>,
+    consumers: &Slots<ConsCell>,
+    index: &Index,
+    prov: u64,
+    least: u64,
+    high: bool,
+) -> bool
+    requires kin { IsKin index.now providers.now consumers.now }
+    requires walkable { IsWalkable (kinds geoms.old) providers.now consumers.now }
+    requires lives { IsSome (value_at (offers providers.now).rows prov) }
+    requires low { least ≤ stored geoms.old (owner providers.now prov) + 1 }
+    requires fits { least ≤ height (below providers.now consumers.now) (length (kinds geoms.old)) (owner providers.now prov) + 1 + 2 ^ 33 }
+    requires high { high ≡ is_high (kinds geoms.old) (stored geoms.old) }
+    ensures same { bare geoms.new ≡ bare geoms.old }
+    ensures lifted { Lifted (below providers.now consumers.now) (owner providers.now prov) 0 (stored geoms.old) (stored geoms.new) }
+    ensures raised { (c : ℕ) → passes (is_attached prov) (value_at (ends consumers.now).rows c) ≡ true → least ≤ stored geoms.new (user consumers.now c) }
+    ensures high { result ≡ is_high (kinds geoms.old) (stored geoms.new) }
+{
+    let mut high = high;
+    let mut at = 0;
+    while let Some(cons) = attached(index, consumers, prov, at) {
+        high = raise(
+            geoms,
+            providers,
+            consumers,
+            index,
+            user(consumers, cons),
+            least,
+            high,
+        );
+        at = cons + 1;
+    }
+    high
+}
+
+// The highest rank directly below a geom, which is at most `most`: where it is met, the walk ends.
+fn highest_below<C>(
+    geoms: &Slots<GeomCell<C>>,
+    providers: &Slots<ProvCell>,
+    consumers: &Slots<ConsCell>,
+    index: &Index,
+    geom: u64,
+    most: u64,
+) -> u64
+    requires kin { IsKin index.now providers.now consumers.now }
+    requires rising { IsRising 1 consumers.now.rows consumers.now.next }
+    requires bound { consumers.now.next < 2 ^ 64 }
+    requires most { largest (map (stored geoms.now) (below providers.now consumers.now geom)) ≤ most }
+    ensures { result ≡ largest (map (stored geoms.now) (below providers.now consumers.now geom)) }
+{
+    let mut highest: u64 = 0;
+    let mut at = 0;
+    while let Some(cons) = belonging(index, consumers, geom, at) {
+        highest = highest.max(rank_below(geoms, providers, consumers, cons));
+        if highest == most {
+            return most;
+        }
+        at = cons + 1;
+    }
+    highest
+}
+
+// The rank of the geom to whose provider a consumer is attached, and 0 where it is attached to nothing.
+fn rank_below<C>(
+    geoms: &Slots<GeomCell<C>>,
+    providers: &Slots<ProvCell>,
+    consumers: &Slots<ConsCell>,
+    cons: u64,
+) -> u64
+    ensures { result ≡ rank_under (stored geoms.now) (offers providers.now).rows (value_at (ends consumers.now).rows cons) }
+{
+    let Some(consumer) = consumers.get(cons) else {
+        return 0;
+    };
+    let Some(prov) = consumer.consumer.prov else {
+        return 0;
+    };
+    match providers.get(prov.number()) {
+        Some(provider) => stored(geoms, provider.provider.geom.number()),
+        None => 0,
+    }
+}
+
+/// Gives the geom the rank that it has to have, where that is lower, and then those above it too.
+#[cycle(lower)]
+pub fn lower<C>(
+    geoms: &mut Slots<GeomCell<C>>,
+    providers: &Slots<ProvCell>,
+    consumers: &Slots<ConsCell>,
+    index: &Index,
+    geom: u64,
+)
+    requires kin { IsKin index.now providers.now consumers.now }
+    requires walkable { IsWalkable (kinds geoms.old) providers.now consumers.now }
+    requires lives { IsSome (value_at (kinds geoms.old) geom) }
+    requires enough { (x : ℕ) → above (below providers.now consumers.now) (stored geoms.old) x ≤ stored geoms.old x }
+    ensures same { bare geoms.new ≡ bare geoms.old }
+    ensures lowered { Lowered (below providers.now consumers.now) (stored geoms.old) (stored geoms.new) }
+    ensures low { stored geoms.new geom ≤ above (below providers.now consumers.now) (stored geoms.new) geom }
+{
+    let rank = stored(geoms, geom);
+    let new = 1 + highest_below(geoms, providers, consumers, index, geom, rank - 1);
+    if rank <= new {
+        return;
+    }
+    store(geoms, geom, new);
+    let mut at = 0;
+    while let Some(prov) = offered(index, providers, geom, at) {
+        lower_attached(geoms, providers, consumers, index, prov);
+        at = prov + 1;
+    }
+}
+
+// Lowers the geoms of the consumers that are attached to a provider.
+#[cycle(lower)]
+fn lower_attached<C>(
+    geoms: &mut Slots<GeomCell<C>>,
+    providers: &Slots<ProvCell>,
+    consumers: &Slots<ConsCell>,
+    index: &Index,
+    prov: u64,
+)
+    requires kin { IsKin index.now providers.now consumers.now }
+    requires walkable { IsWalkable (kinds geoms.old) providers.now consumers.now }
+    requires lives { IsSome (value_at (offers providers.now).rows prov) }
+    requires enough { (x : ℕ) → above (below providers.now consumers.now) (stored geoms.old) x ≤ stored geoms.old x }
+    ensures same { bare geoms.new ≡ bare geoms.old }
+    ensures lowered { Lowered (below providers.now consumers.now) (stored geoms.old) (stored geoms.new) }
+    ensures low { (c : ℕ) → passes (is_attached prov) (value_at (ends consumers.now).rows c) ≡ true → stored geoms.new (user consumers.now c) ≤ above (below providers.now consumers.now) (stored geoms.new) (user consumers.now c) }
+{
+    let mut at = 0;
+    while let Some(cons) = attached(index, consumers, prov, at) {
+        lower(geoms, providers, consumers, index, user(consumers, cons));
+        at = cons + 1;
+    }
+}
+
+/// Gives the upper geom, and those above it, the ranks that they have once the lower geom is below it. It's refused where
+/// the lower geom stands above the upper one, else where a geom other than DEV and TASTE would be above the limit: then
+/// the ranks are as before.
+pub fn join<C>(
+    geoms: &mut Slots<GeomCell<C>>,
+    providers: &Slots<ProvCell>,
+    consumers: &Slots<ConsCell>,
+    index: &Index,
+    upper: u64,
+    under: u64,
+) -> Result<(), AttachRefusal>
+    requires kin { IsKin index.now providers.now consumers.now }
+    requires walkable { IsWalkable (kinds geoms.old) providers.now consumers.now }
+    requires lives { IsSome (value_at (kinds geoms.old) upper) }
+    requires local { (x : ℕ) → stored geoms.old x ≡ above (below providers.now consumers.now) (stored geoms.old) x }
+    requires low { is_high (kinds geoms.old) (stored geoms.old) ≡ false }
+    ensures same { bare geoms.new ≡ bare geoms.old }
+    ensures joined { OnOk result (IsJoinable (below providers.now consumers.now) upper under (stored geoms.new)) }
+    ensures low { OnOk result (is_high (kinds geoms.old) (stored geoms.new) ≡ false) }
+    ensures refused { IfErr result (λ e. IsRefusedFor e geoms.old (below providers.now consumers.now) upper under) }
+    ensures kept { OnErr result ((x : ℕ) → stored geoms.new x ≡ stored geoms.old x) }
+{
+    let rank = stored(geoms, under);
+    let high = raise(geoms, providers, consumers, index, upper, rank + 1, false);
+    if stored(geoms, under) != rank {
+        lower(geoms, providers, consumers, index, upper);
+        return Err(AttachRefusal::Eloop);
+    }
+    if high {
+        lower(geoms, providers, consumers, index, upper);
+        return Err(AttachRefusal::Edeep);
+    }
+    Ok(())
+}
