@@ -16,6 +16,7 @@ use Rattle.std.proofs.lemmas.Slice.Eq.{bytes_eq-Decides}
 use Rattle.geo_laws_graph.proofs.Spared.{IsUntouched, find-untouched, filter-untouched, any-untouched, filter-away, any-fewer, IsSpared, find-spared, filter-spared, any-spared}
 use Rattle.geo_laws_graph.proofs.Numbered.{find-pushed, filter-pushed, filter-pushed_hit, find-pushed_hit, any-pushed, find-none, each_found, unique, at-new, at-others, at-gone, at-kept, any-kept_at, at-here, at-unchanged, any-unchanged, any-here}
 
+-- or false changes no truth value
 or_false : (b : Bool) → (b || false) ≡ b
 or_false true = refl
 or_false false = refl
@@ -25,6 +26,7 @@ provider_list : (o : Option ℕ) (x : Consumer) → x.provider ≡ o → filter_
 provider_list None x e = rw e refl
 provider_list (Some p) x e = rw e refl
 
+-- of one consumer alone: its provider, if it is attached
 single_provider : (x : Consumer) → filter_map (λ (y : Consumer). y.provider) (x ∷ []) ≡ option_to_list x.provider
 single_provider x = provider_list x.provider x refl
 
@@ -33,6 +35,7 @@ spared_by : {X : Type 0} (hit test : X → Bool) (x : X) (xs : List X) → test 
     → AllByRecursion (IsSpared hit test) xs
 spared_by hit test x xs out only = all_weaker (λ y. hit y ≡ true → y ≡ x) (IsSpared hit test) (λ y so e. ap test (so e) ∙ out) xs only
 
+-- so for a change of one thing alone that passes neither before nor after
 untouched_by : {X : Type 0} (hit test : X → Bool) (change : X → X) (x : X) (xs : List X) → test x ≡ false → test (change x) ≡ false
     → AllByRecursion (λ y. hit y ≡ true → y ≡ x) xs → AllByRecursion (IsUntouched hit test change) xs
 untouched_by hit test change x xs out after only =
@@ -42,10 +45,12 @@ untouched_by hit test change x xs out after only =
 marked_one : (test : Consumer → Bool) (mark : Bool) (x : Consumer) → test x ≡ true → changed test (λ y. record y { spoiled = mark }) x ≡ record x { spoiled = mark }
 marked_one test mark x e = rw e refl
 
+-- one that doesn't pass is as before
 unmarked_one : (test : Consumer → Bool) (mark : Bool) (x : Consumer) → test x ≡ false → changed test (λ y. record y { spoiled = mark }) x ≡ x
 unmarked_one test mark x e = rw e refl
 
 module _ {C : Type 0} where
+  -- in lists in order each is what is found at its number
   pub each-found : EachIsFound C
   each-found = record {
     geoms = λ t order. each_found (λ (x : Geom C). x.number) t.next_geom t.geoms order.geoms;
@@ -55,6 +60,7 @@ module _ {C : Type 0} where
 
   -- Adding
 
+  -- a new geom is found at its number, the others as before
   pub added-geom : AddedGeomIsFound C
   added-geom = record {
     new = λ t kind name config automatic order.
@@ -70,6 +76,7 @@ module _ {C : Type 0} where
     };
   }
 
+  -- a new provider is found at its number, among those of its geom and by its name, the others as before
   pub added-provider : AddedProviderIsFound C
   added-provider = record {
     new = λ t geom name size sector order. at-new (λ (x : Provider). x.number) t.next_provider t.providers (new_provider t geom name size sector) refl order.providers;
@@ -97,6 +104,7 @@ module _ {C : Type 0} where
     };
   }
 
+  -- a new consumer is found at its number, among those of its geom and at its provider, the others as before
   pub added-consumer : AddedConsumerIsFound C
   added-consumer = record {
     new = λ t geom o order. at-new (λ (x : Consumer). x.number) t.next_consumer t.consumers (new_consumer t geom o) refl order.consumers;
@@ -118,6 +126,7 @@ module _ {C : Type 0} where
 
   -- Removing
 
+  -- a geom that is removed isn't found any more, the others as before
   pub removed-geom : RemovedGeomIsGone C
   removed-geom = record {
     gone = λ t g. at-gone (λ (x : Geom C). x.number) g t.geoms;
@@ -134,9 +143,11 @@ module _ {C : Type 0} where
   only_provider : (t : Topology C) (p : ℕ) (x : Provider) → IsInOrder t → provider_at t p ≡ Some x → AllByRecursion (λ (y : Provider). (y.number == p) ≡ true → y ≡ x) t.providers
   only_provider t p x order found = unique (λ (y : Provider). y.number) t.next_provider p t.providers x order.providers found
 
+  -- and only the consumer of the number has it
   only_consumer : (t : Topology C) (c : ℕ) (x : Consumer) → IsInOrder t → consumer_at t c ≡ Some x → AllByRecursion (λ (y : Consumer). (y.number == c) ≡ true → y ≡ x) t.consumers
   only_consumer t c x order found = unique (λ (y : Consumer). y.number) t.next_consumer c t.consumers x order.consumers found
 
+  -- so for a provider that is removed; names that aren't its own are found as before
   pub removed-provider : RemovedProviderIsGone C
   removed-provider = record {
     gone = λ t p. at-gone (λ (x : Provider). x.number) p t.providers;
@@ -160,6 +171,7 @@ module _ {C : Type 0} where
     };
   }
 
+  -- and for a consumer that is removed
   pub removed-consumer : RemovedConsumerIsGone C
   removed-consumer = record {
     gone = λ t c. at-gone (λ (x : Consumer). x.number) c t.consumers;
@@ -179,6 +191,7 @@ module _ {C : Type 0} where
 
   -- Changing
 
+  -- consumers that are changed but keep their numbers leave the lists in order
   consumers_ordered : (t : Topology C) (hit : Consumer → Bool) (change : Consumer → Consumer) → ((x : Consumer) → hit x ≡ true → (change x).number ≡ x.number)
       → IsInOrder t → IsInOrder (record t { consumers = change_where hit change t.consumers })
   consumers_ordered t hit change same order = record {
@@ -187,6 +200,7 @@ module _ {C : Type 0} where
     consumers = numbers-changed (λ (x : Consumer). x.number) hit change same t.next_consumer t.consumers order.consumers;
   }
 
+  -- so do geoms
   geoms_ordered : (t : Topology C) (hit : Geom C → Bool) (change : Geom C → Geom C) → ((x : Geom C) → hit x ≡ true → (change x).number ≡ x.number)
       → IsInOrder t → IsInOrder (record t { geoms = change_where hit change t.geoms })
   geoms_ordered t hit change same order = record {
@@ -195,6 +209,7 @@ module _ {C : Type 0} where
     consumers = order.consumers;
   }
 
+  -- a consumer that is attached is found so, the others as before
   pub attached-found : AttachedIsFound C
   attached-found = record {
     here = λ t c p x found. at-here (λ (y : Consumer). y.number) (λ y. record y { provider = Some p }) (λ y. refl) c t.consumers x found;
@@ -211,6 +226,7 @@ module _ {C : Type 0} where
     order = λ t c p order. consumers_ordered t (λ (y : Consumer). y.number == c) (λ y. record y { provider = Some p }) (λ y e. refl) order;
   }
 
+  -- so is one that is detached
   pub detached-found : DetachedIsFound C
   detached-found = record {
     here = λ t c x found. at-here (λ (y : Consumer). y.number) (λ y. record y { provider = None }) (λ y. refl) c t.consumers x found;
@@ -226,6 +242,7 @@ module _ {C : Type 0} where
     order = λ t c order. consumers_ordered t (λ (y : Consumer). y.number == c) (λ y. record y { provider = None }) (λ y e. refl) order;
   }
 
+  -- a provider with an error is found so; no name is taken that wasn't, and other names stay
   pub error-found : ErrorIsFound C
   error-found = record {
     here = λ t p x found. at-here (λ (y : Provider). y.number) (λ y. record y { errored = true }) (λ y. refl) p t.providers x found;
@@ -254,6 +271,7 @@ module _ {C : Type 0} where
     };
   }
 
+  -- a geom that withers is found so, the others as before
   pub withering-found : WitheringIsFound C
   withering-found = record {
     here = λ t g x found. at-here (λ (y : Geom C). y.number) (λ y. record y { withering = true }) (λ y. refl) g t.geoms x found;
@@ -263,10 +281,12 @@ module _ {C : Type 0} where
     order = λ t g order. geoms_ordered t (λ (y : Geom C). y.number == g) (λ y. record y { withering = true }) (λ y e. refl) order;
   }
 
+  -- what is found at a consumer's number is what was found, marked where it passes
   marked : (t : Topology C) (test : Consumer → Bool) (mark : Bool) (c : ℕ)
       → consumer_at (set_marks t test mark) c ≡ option_map (changed test (λ x. record x { spoiled = mark })) (consumer_at t c)
   marked t test mark c = find-changed test (λ x. record x { spoiled = mark }) (λ (x : Consumer). x.number == c) (λ x e. refl) t.consumers
 
+  -- marks are found at the consumers that pass, and change nothing else
   pub marks-found : MarksAreFound C
   marks-found = record {
     at = λ t test mark c x found passes.
@@ -282,6 +302,7 @@ module _ {C : Type 0} where
     order = λ t test mark order. consumers_ordered t test (λ x. record x { spoiled = mark }) (λ x e. refl) order;
   }
 
+  -- another configuration is found at the geom, the other geoms as before
   pub config-found : ConfigIsFound C
   config-found = record {
     here = λ t g config x found. at-here (λ (y : Geom C). y.number) (λ y. record y { config = config }) (λ y. refl) g t.geoms x found;
@@ -290,6 +311,7 @@ module _ {C : Type 0} where
     order = λ t g config order. geoms_ordered t (λ (y : Geom C). y.number == g) (λ y. record y { config = config }) (λ y e. refl) order;
   }
 
+  -- and so is one more request started
   pub start-found : StartIsFound C
   start-found = record {
     here = λ t g x found. at-here (λ (y : Geom C). y.number) (λ y. record y { started = y.started + 1 }) (λ y. refl) g t.geoms x found;
@@ -299,26 +321,31 @@ module _ {C : Type 0} where
   }
 
 module _ {C D : Type 0} (see : C → D) where
+  -- one geom more of the walk that finds it
   seen_step : (g : ℕ) (x : Geom C) (xs : List (Geom C)) (b : Bool) → (x.number == g) ≡ b
       → find (λ (y : Geom D). y.number == g) (map (seen_geom see) xs) ≡ option_map (seen_geom see) (find (λ (y : Geom C). y.number == g) xs)
       → find (λ (y : Geom D). y.number == g) (map (seen_geom see) (x ∷ xs)) ≡ option_map (seen_geom see) (find (λ (y : Geom C). y.number == g) (x ∷ xs))
   seen_step g x xs true e rest = rw e refl
   seen_step g x xs false e rest = rw e rest
 
+  -- each geom is found with its configuration seen otherwise
   find_seen : (g : ℕ) (xs : List (Geom C))
       → find (λ (y : Geom D). y.number == g) (map (seen_geom see) xs) ≡ option_map (seen_geom see) (find (λ (y : Geom C). y.number == g) xs)
   find_seen g [] = refl
   find_seen g (x ∷ xs) = seen_step g x xs (x.number == g) refl (find_seen g xs)
 
+  -- it withers just where it did
   any_seen : (g : ℕ) (xs : List (Geom C))
       → list_any (λ (y : Geom D). (y.number == g) && y.withering) (map (seen_geom see) xs) ≡ list_any (λ (y : Geom C). (y.number == g) && y.withering) xs
   any_seen g [] = refl
   any_seen g (x ∷ xs) = ap (λ b. ((x.number == g) && x.withering) || b) (any_seen g xs)
 
+  -- geoms have the numbers that they had
   numbers_seen : (xs : List (Geom C)) → map (λ (y : Geom D). y.number) (map (seen_geom see) xs) ≡ map (λ (y : Geom C). y.number) xs
   numbers_seen [] = refl
   numbers_seen (x ∷ xs) = ap (λ ns. x.number ∷ ns) (numbers_seen xs)
 
+-- configurations that are seen otherwise: each geom is found so
 pub seen-found : {C D : Type 0} → SeenGeomIsFound C D
 seen-found = record {
   at = λ see t g. find_seen see g t.geoms;

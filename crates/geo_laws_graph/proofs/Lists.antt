@@ -14,6 +14,7 @@ module _ {X : Type 0} (hit : X → Bool) (change : X → X) where
   abbrev pub changed : X → X
   changed x = if hit x then change x else x
 
+  -- what an item keeps, where it is changed and where it isn't
   changed_at : {Y : Type 0} (f : X → Y) → ((x : X) → hit x ≡ true → f (change x) ≡ f x) → (x : X) (b : Bool) → hit x ≡ b → f (changed x) ≡ f x
   changed_at f same x true e = rw e (same x e)
   changed_at f same x false e = rw e refl
@@ -23,6 +24,7 @@ module _ {X : Type 0} (hit : X → Bool) (change : X → X) where
   changed-keeps f same x = changed_at f same x (hit x) refl
 
   module _ (test : X → Bool) (same : (x : X) → hit x ≡ true → test (change x) ≡ test x) where
+    -- one item more of the walk that finds one
     find_step : (x : X) (xs : List X) (b : Bool) → test x ≡ b → find test (change_where hit change xs) ≡ option_map changed (find test xs)
         → find test (change_where hit change (x ∷ xs)) ≡ option_map changed (find test (x ∷ xs))
     find_step x xs true e rest = rw (changed-keeps test same x, e) refl
@@ -33,6 +35,7 @@ module _ {X : Type 0} (hit : X → Bool) (change : X → X) where
     find-changed [] = refl
     find-changed (x ∷ xs) = find_step x xs (test x) refl (find-changed xs)
 
+    -- one item more of those that pass
     filter_step : (x : X) (xs : List X) (b : Bool) → test x ≡ b → filter test (change_where hit change xs) ≡ change_where hit change (filter test xs)
         → filter test (change_where hit change (x ∷ xs)) ≡ change_where hit change (filter test (x ∷ xs))
     filter_step x xs true e rest = rw (changed-keeps test same x, e, rest) refl
@@ -54,10 +57,12 @@ module _ {X : Type 0} (hit : X → Bool) (change : X → X) where
     map-changed f same [] = refl
     map-changed f same (x ∷ xs) = ap (λ y. y ∷ map f (change_where hit change xs)) (changed-keeps f same x) ∙ ap (λ ys. f x ∷ ys) (map-changed f same xs)
 
+    -- so is what some items give and others don't
     pub filter_map-changed : (f : X → Option Y) → ((x : X) → hit x ≡ true → f (change x) ≡ f x) → (xs : List X) → filter_map f (change_where hit change xs) ≡ filter_map f xs
     filter_map-changed f same [] = refl
     filter_map-changed f same (x ∷ xs) = rw (changed-keeps f same x, filter_map-changed f same xs) refl
 
+  -- a fact of an item after the change, where it is changed and where it isn't
   all_at : (P : X → Type 0) → ((x : X) → hit x ≡ true → P x → P (change x)) → (x : X) (b : Bool) → hit x ≡ b → P x → P (changed x)
   all_at P so x true e fact = rw e (so x e fact)
   all_at P so x false e fact = rw e fact
@@ -67,6 +72,7 @@ module _ {X : Type 0} (hit : X → Bool) (change : X → X) where
   all-changed P so [] facts = facts
   all-changed P so (x ∷ xs) facts = (all_at P so x (hit x) refl facts.0, all-changed P so xs facts.1)
 
+  -- there are as many items as before
   pub length-changed : (xs : List X) → length (change_where hit change xs) ≡ length xs
   length-changed [] = refl
   length-changed (x ∷ xs) = ap (λ n. suc n) (length-changed xs)
@@ -75,11 +81,13 @@ module _ {X : Type 0} (hit : X → Bool) (change : X → X) where
   unhit_step : (x : X) (xs : List X) → hit x ≡ false → change_where hit change xs ≡ xs → change_where hit change (x ∷ xs) ≡ x ∷ xs
   unhit_step x xs e rest = rw (e, rest) refl
 
+  -- so for the whole list
   pub unhit : (xs : List X) → AllByRecursion (λ x. hit x ≡ false) xs → change_where hit change xs ≡ xs
   unhit [] none = refl
   unhit (x ∷ xs) none = unhit_step x xs none.0 (unhit xs none.1)
 
 module _ {X : Type 0} (keep test : X → Bool) where
+  -- one item more of the walk, where what passes stays
   kept_step : (x : X) (xs : List X) (b c : Bool) → test x ≡ b → keep x ≡ c → (test x ≡ true → keep x ≡ true) → find test (filter keep xs) ≡ find test xs
       → find test (filter keep (x ∷ xs)) ≡ find test (x ∷ xs)
   kept_step x xs true true e f so rest = rw (f, e) refl
@@ -92,6 +100,7 @@ module _ {X : Type 0} (keep test : X → Bool) where
   find-kept so [] = refl
   find-kept so (x ∷ xs) = kept_step x xs (test x) (keep x) refl refl (so x) (find-kept so xs)
 
+  -- one item more of the walk, where what passes goes
   gone_step : (x : X) (xs : List X) (b c : Bool) → test x ≡ b → keep x ≡ c → (test x ≡ true → keep x ≡ false) → find test (filter keep xs) ≡ None
       → find test (filter keep (x ∷ xs)) ≡ None
   gone_step x xs true true e f so rest = let goes : keep x ≡ false = so e in absurd cc
@@ -104,6 +113,7 @@ module _ {X : Type 0} (keep test : X → Bool) where
   find-gone so [] = refl
   find-gone so (x ∷ xs) = gone_step x xs (test x) (keep x) refl refl (so x) (find-gone so xs)
 
+  -- one item more of the two filters
   twice_step : (x : X) (xs : List X) (b c : Bool) → test x ≡ b → keep x ≡ c → filter test (filter keep xs) ≡ filter keep (filter test xs)
       → filter test (filter keep (x ∷ xs)) ≡ filter keep (filter test (x ∷ xs))
   twice_step x xs true true e f rest = rw (f, e, f, rest) refl
@@ -116,6 +126,7 @@ module _ {X : Type 0} (keep test : X → Bool) where
   filter-filter [] = refl
   filter-filter (x ∷ xs) = twice_step x xs (test x) (keep x) refl refl (filter-filter xs)
 
+  -- one item more of those that pass, where they stay
   still_step : (x : X) (xs : List X) (b c : Bool) → test x ≡ b → keep x ≡ c → (test x ≡ true → keep x ≡ true) → filter test (filter keep xs) ≡ filter test xs
       → filter test (filter keep (x ∷ xs)) ≡ filter test (x ∷ xs)
   still_step x xs true true e f so rest = rw (f, e, rest) refl
@@ -128,6 +139,7 @@ module _ {X : Type 0} (keep test : X → Bool) where
   filter-kept so [] = refl
   filter-kept so (x ∷ xs) = still_step x xs (test x) (keep x) refl refl (so x) (filter-kept so xs)
 
+  -- one item more of the question whether any passes, where they stay
   any_step : (x : X) (xs : List X) (b c : Bool) → test x ≡ b → keep x ≡ c → (test x ≡ true → keep x ≡ true) → list_any test (filter keep xs) ≡ list_any test xs
       → list_any test (filter keep (x ∷ xs)) ≡ list_any test (x ∷ xs)
   any_step x xs true true e f so rest = rw (f, e) refl
@@ -135,6 +147,7 @@ module _ {X : Type 0} (keep test : X → Bool) where
   any_step x xs false true e f so rest = rw (f, e) rest
   any_step x xs false false e f so rest = rw (f, e) rest
 
+  -- what passes stays: some item passes just where one did
   pub any-kept : ((x : X) → test x ≡ true → keep x ≡ true) → (xs : List X) → list_any test (filter keep xs) ≡ list_any test xs
   any-kept so [] = refl
   any-kept so (x ∷ xs) = any_step x xs (test x) (keep x) refl refl (so x) (any-kept so xs)
@@ -146,12 +159,15 @@ abbrev pub Rise : ℕ → List ℕ → ℕ → Type 0
 Rise low [] high = Unit {0}
 Rise low (n ∷ ns) high = (low ≤ n) × (n < high) × Rise (n + 1) ns high
 
+-- of increasing numbers the rest increase
 rest_increases : (n : ℕ) (ns : List ℕ) → IsStrictlyIncreasing (n ∷ ns) → IsStrictlyIncreasing ns
 rest_increases n ns up k less = let e : suc k + 1 ≡ suc (k + 1) = omega arith in rw e at (up (suc k) (omega (arith, less)))
 
+-- and the first is below the second
 first_below : (n m : ℕ) (ns : List ℕ) → IsStrictlyIncreasing (n ∷ m ∷ ns) → n < m
 first_below n m ns up = up 0 (omega arith)
 
+-- increasing numbers below an end rise from the first of them, or from a lower number
 rise_on : (low n high : ℕ) (ns : List ℕ) → low ≤ n → IsStrictlyIncreasing (n ∷ ns) → All (λ k. k < high) (n ∷ ns) → Rise low (n ∷ ns) high
 rise_on low n high [] above up below = (above, All-head (λ k. k < high) n [] below, tt)
 rise_on low n high (m ∷ ns) above up below = (
@@ -160,19 +176,23 @@ rise_on low n high (m ∷ ns) above up below = (
   rise_on (n + 1) m high ns (omega (arith, first_below n m ns up)) (rest_increases n (m ∷ ns) up) (All-tail (λ k. k < high) n (m ∷ ns) below),
 )
 
+-- numbers in order, all of them given out, rise from 0
 pub rise-from : (high : ℕ) (ns : List ℕ) → AreNumbers ns high → Rise 0 ns high
 rise-from high [] are = tt
 rise-from high (n ∷ ns) are = rise_on 0 n high ns (omega arith) are.0 are.1
 
+-- increasing numbers still increase with a lower number before them
 increases_on : (n : ℕ) (ns : List ℕ) (high : ℕ) → Rise (n + 1) ns high → IsStrictlyIncreasing ns → IsStrictlyIncreasing (n ∷ ns)
 increases_on n [] high rise up zero less = absurd (omega (arith, less))
 increases_on n [] high rise up (suc k) less = absurd (omega (arith, less))
 increases_on n (m ∷ ns) high rise up zero less = omega (arith, rise.0)
 increases_on n (m ∷ ns) high rise up (suc k) less = let e : suc k + 1 ≡ suc (k + 1) = omega arith in rw e (up k (omega (arith, less)))
 
+-- an empty list of numbers is increasing
 no_numbers : IsStrictlyIncreasing []
 no_numbers k less = absurd (omega (arith, less))
 
+-- numbers that rise are in order, all of them given out
 pub numbers-from : (low high : ℕ) (ns : List ℕ) → Rise low ns high → AreNumbers ns high
 numbers-from low high [] rise = (no_numbers, All-nil (λ k. k < high))
 numbers-from low high (n ∷ ns) rise =
@@ -192,6 +212,7 @@ module _ {X : Type 0} (number : X → ℕ) where
   rise-push low next (x ∷ xs) y above is rise =
       (rise.0, omega (arith, rise.1), rise-push (number x + 1) next xs y (omega (arith, rise.1)) is rise.2)
 
+  -- one item more, which stays or goes
   kept_rise : (keep : X → Bool) (low high : ℕ) (x : X) (xs : List X) (b : Bool) → keep x ≡ b → Rise low (map number (x ∷ xs)) high
       → Rise (number x + 1) (map number (filter keep xs)) high → Rise low (map number (filter keep (x ∷ xs))) high
   kept_rise keep low high x xs true e rise rest = rw e (rise.0, rise.1, rest)
@@ -203,12 +224,15 @@ module _ {X : Type 0} (number : X → ℕ) where
   rise-kept keep low high [] rise = rise
   rise-kept keep low high (x ∷ xs) rise = kept_rise keep low high x xs (keep x) refl rise (rise-kept keep (number x + 1) high xs rise.2)
 
+  -- with one more of the next number the list stays in order of numbers
   pub numbers-push : (next : ℕ) (xs : List X) (y : X) → number y ≡ next → AreNumbers (map number xs) next → AreNumbers (map number (xs ++ y ∷ [])) (next + 1)
   numbers-push next xs y is are = numbers-from 0 (next + 1) _ (rise-push 0 next xs y (omega arith) is (rise-from next _ are))
 
+  -- some of the items stay in order too
   pub numbers-kept : (keep : X → Bool) (next : ℕ) (xs : List X) → AreNumbers (map number xs) next → AreNumbers (map number (filter keep xs)) next
   numbers-kept keep next xs are = numbers-from 0 next _ (rise-kept keep 0 next xs (rise-from next _ are))
 
+  -- and so do items that are changed but keep their numbers
   pub numbers-changed : (hit : X → Bool) (change : X → X) → ((x : X) → hit x ≡ true → number (change x) ≡ number x) → (next : ℕ) (xs : List X)
       → AreNumbers (map number xs) next → AreNumbers (map number (change_where hit change xs)) next
   numbers-changed hit change same next xs are = rw (map-changed hit change number same xs) are
@@ -221,9 +245,11 @@ module _ {X : Type 0} (number : X → ℕ) where
     none_outside (number x + 1) high n xs rise.2 (elim out [ inl below ↦ inl (omega (arith, rise.0)) | inr above ↦ inr above ]),
   )
 
+  -- an item of another number is passed over
   none_step : (n : ℕ) (x : X) (xs : List X) → (number x == n) ≡ false → find (λ (y : X). number y == n) xs ≡ None → find (λ (y : X). number y == n) (x ∷ xs) ≡ None
   none_step n x xs e rest = rw e rest
 
+  -- nothing is found at a number that no item has
   pub found_nowhere : (n : ℕ) (xs : List X) → AllByRecursion (λ x. (number x == n) ≡ false) xs → find (λ (y : X). number y == n) xs ≡ None
   found_nowhere n [] none = refl
   found_nowhere n (x ∷ xs) none = none_step n x xs none.0 (found_nowhere n xs none.1)
@@ -232,6 +258,7 @@ module _ {X : Type 0} (number : X → ℕ) where
   pub found_fresh : (next n : ℕ) (xs : List X) → AreNumbers (map number xs) next → next ≤ n → find (λ (y : X). number y == n) xs ≡ None
   found_fresh next n xs are above = found_nowhere n xs (none_outside 0 next n xs (rise-from next _ are) (inr above))
 
+  -- one item more of the walk that finds an item at its number
   itself_step : (low high : ℕ) (x : X) (xs : List X) (y : X) (b : Bool) → (number x == number y) ≡ b → Rise low (map number (x ∷ xs)) high
       → Contains xs y → find (λ (z : X). number z == number y) xs ≡ Some y → find (λ (z : X). number z == number y) (x ∷ xs) ≡ Some y
   itself_step low high x xs y true e rise c rest =
@@ -241,6 +268,7 @@ module _ {X : Type 0} (number : X → ℕ) where
       absurd (let bad : ⊥ = cc in bad)
   itself_step low high x xs y false e rise c rest = rw e rest
 
+  -- where numbers rise each item is what is found at its number
   itself_on : (low high : ℕ) (xs : List X) (y : X) → Rise low (map number xs) high → Contains xs y → find (λ (z : X). number z == number y) xs ≡ Some y
   itself_on low high [] y rise c = absurd (nothing_in y c)
   itself_on low high (x ∷ xs) y rise c =

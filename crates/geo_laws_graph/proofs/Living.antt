@@ -26,6 +26,7 @@ pub all_members : {X : Type 0} (P Q : X → Type 0) (xs : List X) → ((x : X) �
 all_members P Q xs so facts =
     All-from_recursion Q xs (All-from_contained Q xs (λ x here. so x here (at_contained P xs x (recursion_from_All P xs facts) here)))
 
+-- where there is something, there is something after a change of it
 map_there : {X : Type 0} (f : X → X) (o : Option X) → IsSome o → IsSome (option_map f o)
 map_there f None there = there
 map_there f (Some x) there = refl
@@ -52,6 +53,7 @@ module _ {C : Type 0} (t : Topology C) where
         find-kept (λ (x : Provider). not (x.number == p)) (λ (x : Provider). x.number == q)
         (λ x e. let is = eqb-true x.number q e in rw (ne_eqb x.number p (λ same. other (sym is ∙ same))) refl) t.providers
 
+    -- the one that is removed isn't found any more
     pub provider_at-gone : provider_at (remove_provider t p) p ≡ None
     provider_at-gone = find-gone (λ (x : Provider). not (x.number == p)) (λ (x : Provider). x.number == p) (λ x e. rw e refl) t.providers
 
@@ -62,11 +64,13 @@ module _ {C : Type 0} (t : Topology C) where
         let member : Contains (attached_to t p) x = Contains-filter (λ (y : Consumer). names_number y.provider p) t.consumers x here names in
         nothing_in x (subst (λ (cs : List Consumer). Contains cs x) none member)
 
+    -- what a consumer is attached to, if anything, lives without that provider
     live_at : (x : Consumer) → attached_to t p ≡ [] → Contains t.consumers x → (o : Option ℕ) → x.provider ≡ o
         → IfSome o (λ q. IsSome (provider_at t q)) → IfSome o (λ q. IsSome (provider_at (remove_provider t p) q))
     live_at x none here None to live = live
     live_at x none here (Some q) to live = rw (provider_at-removed q (not_there x q none here to)) live
 
+    -- each attached consumer's provider lives where one goes to which nobody is attached
     pub remove_provider-providers : attached_to t p ≡ [] → ProvidersLive t → ProvidersLive (remove_provider t p)
     remove_provider-providers none live =
         All-from_recursion (λ (x : Consumer). IfSome x.provider (λ q. IsSome (provider_at (remove_provider t p) q))) t.consumers
@@ -99,6 +103,7 @@ module _ {C : Type 0} (t : Topology C) where
       (at_contained (λ (y : Consumer). IsSome (geom_at t y.geom)) t.consumers c
       (recursion_from_All (λ (y : Consumer). IsSome (geom_at t y.geom)) t.consumers live) here)))
     where
+      -- no consumer is of the geom that goes
       not_of : (c : Consumer) → Contains t.consumers c → c.geom ≢ g
       not_of c here same =
           nothing_in c (subst (λ (cs : List Consumer). Contains cs c) none (Contains-filter (λ (y : Consumer). y.geom == g) t.consumers c here (eq-eqb c.geom g same)))
@@ -115,6 +120,7 @@ module _ {C : Type 0} (t : Topology C) where
   pub remove_consumer-geoms : (c : ℕ) → GeomsLive t → GeomsLive (remove_consumer t c)
   remove_consumer-geoms c live = All-filter (λ (x : Consumer). not (x.number == c)) (λ (x : Consumer). IsSome (geom_at t x.geom)) t.consumers live
 
+  -- so each attached consumer's provider lives too
   pub remove_consumer-providers : (c : ℕ) → ProvidersLive t → ProvidersLive (remove_consumer t c)
   remove_consumer-providers c live =
       All-filter (λ (x : Consumer). not (x.number == c)) (λ (x : Consumer). IfSome x.provider (λ p. IsSome (provider_at t p))) t.consumers live
@@ -142,6 +148,7 @@ module _ {C : Type 0} (t : Topology C) where
         t.consumers
         (recursion_from_All (λ (x : Consumer). IfSome x.provider (λ q. IsSome (provider_at t q))) t.consumers live))
 
+    -- each consumer's geom lives where a consumer is attached
     pub attach-geoms : GeomsLive t → GeomsLive (attach t c p)
     attach-geoms live =
         All-from_recursion (λ (x : Consumer). IsSome (geom_at t x.geom)) (attach t c p).consumers
@@ -163,6 +170,7 @@ module _ {C : Type 0} where
       c.provider)
       t.consumers live
 
+  -- each attached consumer's provider lives where consumers are marked
   pub set_marks-providers : (t : Topology C) (test : Consumer → Bool) (mark : Bool) → ProvidersLive t → ProvidersLive (set_marks t test mark)
   set_marks-providers t test mark live =
       changed-consumers t (λ c. IfSome c.provider (λ q. IsSome (provider_at t q))) test (λ x. record x { spoiled = mark }) (λ x e fact. fact) live
@@ -174,6 +182,7 @@ module _ {C : Type 0} where
       subst (λ (o : Option (Geom C)). IsSome o) (sym (find-changed hit change (λ (x : Geom C). x.number == g) (λ x e. ap (λ n. n == g) (same x)) t.geoms))
       (map_there (changed hit change) (geom_at t g) there)
 
+  -- so what the parts name lives where geoms are changed but keep their numbers
   changed_parts : (t : Topology C) (hit : Geom C → Bool) (change : Geom C → Geom C) → ((x : Geom C) → (change x).number ≡ x.number)
       → PartsLive t → PartsLive (record t { geoms = change_where hit change t.geoms })
   changed_parts t hit change same live = record {
@@ -184,6 +193,7 @@ module _ {C : Type 0} where
     providers = live.providers;
   }
 
+  -- each provider's geom lives where a geom is added
   added_offerers : (t : Topology C) (kind : Kind) (name : List ℕ) (config : C) (automatic : Bool) → OfferersLive t → OfferersLive (add_geom t kind name config automatic)
   added_offerers t kind name config automatic live =
       All-weaker (λ (p : Provider). IsSome (geom_at t p.geom)) (λ (p : Provider). IsSome (geom_at (add_geom t kind name config automatic) p.geom))
@@ -193,6 +203,7 @@ module _ {C : Type 0} where
       rw still refl)
       t.providers live
 
+  -- and where one without providers goes
   removed_offerers : (t : Topology C) (g : ℕ) → providers_of t g ≡ [] → OfferersLive t → OfferersLive (remove_geom t g)
   removed_offerers t g none live =
       all_members (λ (p : Provider). IsSome (geom_at t p.geom)) (λ (p : Provider). IsSome (geom_at (remove_geom t g) p.geom)) t.providers
@@ -203,6 +214,7 @@ module _ {C : Type 0} where
       rw same there)
       live
     where
+      -- no provider is of the geom that goes
       not_of : (p : Provider) → Contains t.providers p → p.geom ≢ g
       not_of p here same =
           nothing_in p (subst (λ (ps : List Provider). Contains ps p) none (Contains-filter (λ (y : Provider). y.geom == g) t.providers p here (eq-eqb p.geom g same)))
@@ -265,6 +277,7 @@ module _ {C : Type 0} where
     started = λ t g live. changed_parts t (λ x. x.number == g) (λ x. record x { started = x.started + 1 }) (λ x. refl) live;
   }
 
+-- a number that leads to a provider is that of one that lives
 attached_there : {C : Type 0} (t : Topology C) (o : Option ℕ) → IsSome (option_and_then (provider_at t) o) → IfSome o (λ p. IsSome (provider_at t p))
 attached_there t None there = tt
 attached_there t (Some p) there = there
@@ -273,6 +286,7 @@ attached_there t (Some p) there = there
 pub sound-order : SoundIsInOrder
 sound-order w numbers = record { geoms = numbers.geoms; providers = numbers.providers; consumers = numbers.consumers }
 
+-- what the parts of a steady world name lives
 pub steady-parts : SteadyPartsLive
 steady-parts t parts attached = record {
   offerers = parts.providers;

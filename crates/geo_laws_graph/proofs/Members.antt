@@ -24,6 +24,7 @@ module _ {X : Type 0} where
   pub nothing_in : (y : X) → Contains [] y → ⊥
   nothing_in y c = omega (arith, c.1)
 
+  -- what stands at a place of a list of one item is that item
   only_one : (x y : X) (k : ℕ) → k < length (x ∷ []) → get_or (x ∷ []) k y ≡ y → x ≡ y
   only_one x y zero l e = e
   only_one x y (suc k) l e = absurd (omega (arith, l))
@@ -41,6 +42,7 @@ module _ {X : Type 0} where
   All-from_contained P [] so = tt
   All-from_contained P (x ∷ xs) so = (so x (Contains-here x xs), All-from_contained P xs (λ y c. so y (Contains-there x y xs c)))
 
+  -- what holds of all items holds of each that is contained
   pub at_contained : (P : X → Type 0) (xs : List X) (y : X) → AllByRecursion P xs → Contains xs y → P y
   at_contained P [] y facts c = absurd (nothing_in y c)
   at_contained P (x ∷ xs) y facts c =
@@ -54,10 +56,12 @@ module _ {X : Type 0} where
   kept_first test x y xs true e same passes = rw e (subst (λ z. Contains (x ∷ filter test xs) z) same (Contains-here x (filter test xs)))
   kept_first test x y xs false e same passes = let here : test x ≡ true = rw same passes in absurd cc
 
+  -- what is kept of the rest is kept of the whole list
   kept_behind : (test : X → Bool) (x y : X) (xs : List X) (b : Bool) → test x ≡ b → Contains (filter test xs) y → Contains (filter test (x ∷ xs)) y
   kept_behind test x y xs true e rest = rw e (Contains-there x y (filter test xs) rest)
   kept_behind test x y xs false e rest = rw e rest
 
+  -- so each that is contained and passes is kept, wherever it stands
   pub Contains-filter : (test : X → Bool) (xs : List X) (y : X) → Contains xs y → test y ≡ true → Contains (filter test xs) y
   Contains-filter test [] y c passes = c
   Contains-filter test (x ∷ xs) y c passes =
@@ -76,10 +80,12 @@ module _ {X : Type 0} where
       ]
   passed_step test x y xs false e so c = let more = so (rw e at c) in (Contains-there x y xs more.0, more.1)
 
+  -- so for the whole list
   pub filter-Contains : (test : X → Bool) (xs : List X) (y : X) → Contains (filter test xs) y → Contains xs y × (test y ≡ true)
   filter-Contains test [] y c = absurd (nothing_in y c)
   filter-Contains test (x ∷ xs) y c = passed_step test x y xs (test x) refl (λ h. filter-Contains test xs y h) c
 
+  -- a member of the rest with a fact is one of the whole list
   further : (R : X → Type 0) (x : X) (xs : List X) → Origin R xs → Origin R (x ∷ xs)
   further R x xs o = record { item = o.item; stands = Contains-there x o.item xs o.stands; fact = o.fact }
 
@@ -106,10 +112,12 @@ module _ {X Y : Type 0} where
   mapped_first : (h : X → Option Y) (z x : X) (xs : List X) (y : Y) → z ≡ x → h x ≡ Some y → Contains (filter_map h (z ∷ xs)) y
   mapped_first h z x xs y same e = rw (same, e) (Contains-here y (filter_map h xs))
 
+  -- what filter_map gives of the rest, it gives of the whole list
   mapped_behind : (h : X → Option Y) (z : X) (xs : List X) (y : Y) (o : Option Y) → h z ≡ o → Contains (filter_map h xs) y → Contains (filter_map h (z ∷ xs)) y
   mapped_behind h z xs y None none rest = rw none rest
   mapped_behind h z xs y (Some v) some rest = rw some (Contains-there v y (filter_map h xs) rest)
 
+  -- so what it gives of any member is contained
   pub Contains-filter_map : (h : X → Option Y) (xs : List X) (x : X) (y : Y) → Contains xs x → h x ≡ Some y → Contains (filter_map h xs) y
   Contains-filter_map h [] x y c e = absurd (nothing_in x c)
   Contains-filter_map h (z ∷ xs) x y c e =
@@ -128,6 +136,7 @@ module _ {X Y : Type 0} where
         | inr rest ↦ further (λ x. h x ≡ Some y) x xs (so rest)
       ]
 
+  -- so for the whole list
   pub filter_map-Contains : (h : X → Option Y) (xs : List X) (y : Y) → Contains (filter_map h xs) y → Origin (λ x. h x ≡ Some y) xs
   filter_map-Contains h [] y c = absurd (nothing_in y c)
   filter_map-Contains h (x ∷ xs) y c = origin_step h x xs y (h x) refl (λ k. filter_map-Contains h xs y k) c
@@ -154,6 +163,7 @@ pub record Has {X : Type 0} (o : Option X) : Type 0 where
   pub item : X
   pub is : o ≡ Some item
 
+-- an option that isn't empty has something
 pub has : {X : Type 0} (o : Option X) → IsSome o → Has o
 has None some = absurd (let no : ⊥ = cc in no)
 has (Some x) some = record { item = x; is = refl }
@@ -164,6 +174,7 @@ find_step : {X : Type 0} (test : X → Bool) (x : X) (xs : List X) (y : X) (b : 
 find_step test x xs y true e so found = let same : x ≡ y = cc in subst (λ z. Contains (x ∷ xs) z) same (Contains-here x xs)
 find_step test x xs y false e so found = Contains-there x y xs (so (rw e at found))
 
+-- so for the whole list
 pub find-Contains : {X : Type 0} (test : X → Bool) (xs : List X) (y : X) → find test xs ≡ Some y → Contains xs y
 find-Contains test [] y found = absurd (let no : ⊥ = cc in no)
 find-Contains test (x ∷ xs) y found = find_step test x xs y (test x) refl (λ h. find-Contains test xs y h) found

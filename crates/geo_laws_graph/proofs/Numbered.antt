@@ -18,15 +18,19 @@ pub or_none : {X : Type 0} (o : Option X) → option_or o None ≡ o
 or_none None = refl
 or_none (Some x) = refl
 
+-- in a list of one item that doesn't pass nothing is found
 single_miss : {X : Type 0} (test : X → Bool) (y : X) → test y ≡ false → find test (y ∷ []) ≡ None
 single_miss test y e = rw e refl
 
+-- in a list of one that passes it is found
 single_hit : {X : Type 0} (test : X → Bool) (y : X) → test y ≡ true → find test (y ∷ []) ≡ Some y
 single_hit test y e = rw e refl
 
+-- of one item that doesn't pass nothing is kept
 filter_miss : {X : Type 0} (test : X → Bool) (y : X) → test y ≡ false → filter test (y ∷ []) ≡ []
 filter_miss test y e = rw e refl
 
+-- one that passes is kept
 filter_hit : {X : Type 0} (test : X → Bool) (y : X) → test y ≡ true → filter test (y ∷ []) ≡ y ∷ []
 filter_hit test y e = rw e refl
 
@@ -35,6 +39,7 @@ module _ {X : Type 0} (test : X → Bool) (xs : List X) (y : X) where
   pub find-pushed : test y ≡ false → find test (xs ++ y ∷ []) ≡ find test xs
   find-pushed e = find-append test xs (y ∷ []) ∙ ap (option_or (find test xs)) (single_miss test y e) ∙ or_none (find test xs)
 
+  -- so what is kept is as before
   pub filter-pushed : test y ≡ false → filter test (xs ++ y ∷ []) ≡ filter test xs
   filter-pushed e = filter-append test xs (y ∷ []) ∙ ap (λ ys. filter test xs ++ ys) (filter_miss test y e) ∙ append-nil (filter test xs)
 
@@ -42,11 +47,14 @@ module _ {X : Type 0} (test : X → Bool) (xs : List X) (y : X) where
   pub filter-pushed_hit : test y ≡ true → filter test (xs ++ y ∷ []) ≡ filter test xs ++ y ∷ []
   filter-pushed_hit e = filter-append test xs (y ∷ []) ∙ ap (λ ys. filter test xs ++ ys) (filter_hit test y e)
 
+  -- it is found where nothing was
   pub find-pushed_hit : find test xs ≡ None → test y ≡ true → find test (xs ++ y ∷ []) ≡ Some y
   find-pushed_hit none e = find-append test xs (y ∷ []) ∙ (rw (none, e) refl)
 
+  -- with one more some item passes just where one did or the new one does
   pub any-pushed : list_any test (xs ++ y ∷ []) ≡ (list_any test xs || test y)
   any-pushed = list_any-append test xs (y ∷ []) ∙ ap (λ b. list_any test xs || b) (last (test y)) where
+    -- or false changes no truth value
     last : (b : Bool) → (b || false) ≡ b
     last true = refl
     last false = refl
@@ -57,6 +65,7 @@ none_step : {X : Type 0} (test : X → Bool) (x : X) (xs : List X) (b : Bool) �
 none_step test x xs true e so none = let bad : true ≡ false = rw e at none in absurd cc
 none_step test x xs false e so none = rw e (so (rw e at none))
 
+-- so for the whole list
 pub find-none : {X : Type 0} (test : X → Bool) (xs : List X) → list_any test xs ≡ false → find test xs ≡ None
 find-none test [] none = refl
 find-none test (x ∷ xs) none = none_step test x xs (test x) refl (λ h. find-none test xs h) none
@@ -79,6 +88,7 @@ module _ {X : Type 0} (number : X → ℕ) where
   pub each_found : (next : ℕ) (xs : List X) → AreNumbers (map number xs) next → AllByRecursion (λ (x : X). at xs (number x) ≡ Some x) xs
   each_found next xs are = All-from_contained (λ (x : X). at xs (number x) ≡ Some x) xs (λ x here. found_itself number next xs x are here)
 
+  -- what is found at a number has it
   pub number_found : (xs : List X) (n : ℕ) (x : X) → at xs n ≡ Some x → number x ≡ n
   number_found xs n x e = eqb-true (number x) n (find_passes (λ (y : X). number y == n) xs x e)
 
@@ -87,6 +97,7 @@ module _ {X : Type 0} (number : X → ℕ) where
   at-new next xs y is are =
       find-pushed_hit (λ (x : X). number x == next) xs y (found_fresh number next next xs are (omega arith)) (eq-eqb (number y) next is)
 
+  -- at other numbers the same is found
   pub at-others : (xs : List X) (y : X) (n : ℕ) → n ≢ number y → at (xs ++ y ∷ []) n ≡ at xs n
   at-others xs y n apart = find-pushed (λ (x : X). number x == n) xs y (ne_eqb (number y) n (λ same. apart (sym same)))
 
@@ -94,9 +105,11 @@ module _ {X : Type 0} (number : X → ℕ) where
   pub at-gone : (n : ℕ) (xs : List X) → at (filter (λ (x : X). not (number x == n)) xs) n ≡ None
   at-gone n xs = find-gone (λ (x : X). not (number x == n)) (λ (x : X). number x == n) (λ x e. rw e refl) xs
 
+  -- an item of another number stays
   stays_if : (n m : ℕ) → m ≢ n → (x : X) → (number x == m) ≡ true → not (number x == n) ≡ true
   stays_if n m apart x e = let is = eqb-true (number x) m e in rw (ne_eqb (number x) n (λ same. apart (sym is ∙ same))) refl
 
+  -- so at other numbers the same is found
   pub at-kept : (n m : ℕ) → m ≢ n → (xs : List X) → at (filter (λ (x : X). not (number x == n)) xs) m ≡ at xs m
   at-kept n m apart xs = find-kept (λ (x : X). not (number x == n)) (λ (x : X). number x == m) (stays_if n m apart) xs
 
@@ -113,11 +126,13 @@ module _ {X : Type 0} (number : X → ℕ) where
       let is_too : at xs n ≡ Some y = subst (λ (m : ℕ). at xs m ≡ Some y) (eqb-true (number y) n e) is in
       cc
 
+  -- only what is found at a number has it
   pub unique : (next n : ℕ) (xs : List X) (x : X) → AreNumbers (map number xs) next → at xs n ≡ Some x
       → AllByRecursion (λ (y : X). (number y == n) ≡ true → y ≡ x) xs
   unique next n xs x are found = All-from_contained (λ (y : X). (number y == n) ≡ true → y ≡ x) xs (unique_step next n xs x are found)
 
   module _ (change : X → X) (same : (x : X) → number (change x) ≡ number x) (n : ℕ) where
+    -- what is changed has the number that it had
     keeps_number : (m : ℕ) (x : X) → (number x == n) ≡ true → (number (change x) == m) ≡ (number x == m)
     keeps_number m x e = ap (λ k. k == m) (same x)
 
@@ -128,9 +143,11 @@ module _ {X : Type 0} (number : X → ℕ) where
         ∙ ap (option_map (changed (λ (y : X). number y == n) change)) found
         ∙ ap (λ y. Some y) (changed_hit (find_passes (λ (y : X). number y == n) xs x found))
       where
+        -- the one of the number is changed
         changed_hit : (number x == n) ≡ true → changed (λ (y : X). number y == n) change x ≡ change x
         changed_hit e = rw e refl
 
+    -- what is found at another number isn't changed
     unchanged : (m : ℕ) → m ≢ n → (xs : List X) (o : Option X) → at xs m ≡ o → option_map (changed (λ (y : X). number y == n) change) o ≡ o
     unchanged m apart xs None e = refl
     unchanged m apart xs (Some x) e =
@@ -138,6 +155,7 @@ module _ {X : Type 0} (number : X → ℕ) where
         let other : (number x == n) ≡ false = ne_eqb (number x) n (λ k. apart (sym is ∙ k)) in
         rw other refl
 
+    -- so at other numbers the same is found
     pub at-unchanged : (m : ℕ) → m ≢ n → (xs : List X) → at (change_where (λ (y : X). number y == n) change xs) m ≡ at xs m
     at-unchanged m apart xs =
         find-changed (λ (y : X). number y == n) change (λ (y : X). number y == m) (keeps_number m) xs ∙ unchanged m apart xs (at xs m) refl
@@ -150,6 +168,7 @@ module _ {X : Type 0} (number : X → ℕ) where
         let after : (number (change x) == m) ≡ false = ap (λ k. k == m) (same x) ∙ before in
         and_left (number (change x) == m) (test (change x)) after ∙ sym (and_left (number x == m) (test x) before)
 
+    -- so one of another number passes just where it did
     pub any-unchanged : (test : X → Bool) (m : ℕ) → m ≢ n → (xs : List X)
         → list_any (λ (x : X). (number x == m) && test x) (change_where (λ (y : X). number y == n) change xs) ≡ list_any (λ (x : X). (number x == m) && test x) xs
     any-unchanged test m apart xs =

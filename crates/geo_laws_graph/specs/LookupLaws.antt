@@ -15,10 +15,12 @@ abbrev pub new_geom : {C : Type 0} → Topology C → Kind → List ℕ → C �
 new_geom t kind name config automatic =
     record { number = t.next_geom; kind = kind; name = name; config = config; automatic = automatic; withering = false; started = 0 }
 
+-- a new provider of a geom, of the next number and without an error
 abbrev pub new_provider : {C : Type 0} → Topology C → ℕ → List ℕ → ℕ → ℕ → Provider
 new_provider t geom name size sector =
     record { number = t.next_provider; geom = geom; name = name; size = size; sector = sector; errored = false }
 
+-- a new consumer of a geom, of the next number and without a mark, attached or not
 abbrev pub new_consumer : {C : Type 0} → Topology C → ℕ → Option ℕ → Consumer
 new_consumer t geom provider = record { number = t.next_consumer; geom = geom; provider = provider; spoiled = false }
 

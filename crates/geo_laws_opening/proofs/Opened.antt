@@ -32,30 +32,38 @@ nowhere k less = absurd (omega (arith, less))
 abbrev dev_geom : Geom Config
 dev_geom = record { number = 1; kind = kinds.Dev; name = dev_name; config = Nothing; automatic = false; withering = false; started = 0 }
 
+-- the second of them, TASTE
 abbrev taste_geom : Geom Config
 taste_geom = record { number = 2; kind = kinds.Taste; name = taste_name; config = Nothing; automatic = false; withering = false; started = 0 }
 
 module _ (plan : Plan) (facts : List (ℕ × ℕ)) (xs : List Stander) where
+  -- the disks of the header, with their sizes
   abbrev disks : List HeaderDisk
   disks = map disk_in_size (zip plan.disks facts)
 
+  -- the world in which these disks stand
   abbrev w : World
   w = stood (bare_world plan facts) xs
 
+  -- its graph
   abbrev t : Topology Config
   t = w.topology
 
+  -- the geoms after DEV and TASTE are those of disks
   geoms_of_disks : AllByRecursion (IsDiskGeom 3) (disk_geoms 3 xs)
   geoms_of_disks = geoms-are 3 xs
 
+  -- without consumers each geom's rank is 1
   rank_one : (g : ℕ) → rank t g ≡ 1
   rank_one g = refl
 
+  -- no geom withers
   none_withers : (g : ℕ) → is_withering t g ≡ false
   none_withers g =
       no-withering g t.geoms
       (refl, (refl, all_weaker (IsDiskGeom 3) (λ (x : Geom Config). x.withering ≡ false) (λ x is. is.withering) (disk_geoms 3 xs) geoms_of_disks))
 
+  -- so there is no loop, nothing is too deep, and DEV and TASTE stand bare
   ranks : RanksHold t
   ranks = record {
     ranked = λ k d short. nowhere k short;
@@ -64,6 +72,7 @@ module _ (plan : Plan) (facts : List (ℕ × ℕ)) (xs : List Stander) where
     taste = record { stands = refl; no_provider = none-of 3 2 (disk_providers 1 3 xs) (omega arith) (providers-above 1 3 3 xs (omega arith)) };
   }
 
+  -- nothing is open, so all counts are within their limits
   counts : CountsHold w
   counts = record {
     exclusive = each-passes (λ (x : Provider). stand_together (granted_in w) t (attached_to t x.number)) (λ x. refl) t.providers;
@@ -73,10 +82,12 @@ module _ (plan : Plan) (facts : List (ℕ × ℕ)) (xs : List Stander) where
   }
 
   module _ (stand : AllByRecursion (IsStander disks) xs) (apart : PairsByRecursion AreApart xs) where
+    -- each provider is of a disk's geom, with the sizes of the disk
     providers_of_disks : AllByRecursion (IsOfDisk disks t.geoms) t.providers
     providers_of_disks =
         of_disk-behind disks dev_geom (taste_geom ∷ disk_geoms 3 xs) t.providers (of_disk-behind disks taste_geom (disk_geoms 3 xs) t.providers (providers-are disks 1 3 xs stand))
 
+    -- no two providers have one name, no geom of theirs withers, and their sizes are those of media
     providers : ProvidersHold t
     providers = record {
       names = pairs-from_recursion DifferInName (disk_providers 1 3 xs) (names-differ 1 3 xs apart);
@@ -87,20 +98,25 @@ module _ (plan : Plan) (facts : List (ℕ × ℕ)) (xs : List Stander) where
           (all_weaker (IsOfDisk disks t.geoms) (λ (x : Provider). IsMediaSize x.size x.sector) (λ x is. is.media) t.providers providers_of_disks);
     }
 
+    -- the geoms stand in order of numbers
     geom_numbers : AreNumbers (map (λ x. x.number) t.geoms) t.next_geom
     geom_numbers =
         numbers-from 1 t.next_geom (map (λ x. x.number) t.geoms)
         ((omega arith, omega arith, (omega arith, omega arith, geoms-rise 3 xs)))
 
+    -- so do the providers
     provider_numbers : AreNumbers (map (λ x. x.number) t.providers) t.next_provider
     provider_numbers = numbers-from 1 t.next_provider (map (λ x. x.number) t.providers) (providers-rise 1 3 xs)
 
+    -- each geom is what is found at its number
     geom_found : (x : Geom Config) → Contains t.geoms x → geom_at t x.number ≡ Some x
     geom_found x here = found_itself (λ (y : Geom Config). y.number) t.next_geom t.geoms x geom_numbers here
 
+    -- so each provider's geom is found
     geom_of : (p : Provider) (is : IsOfDisk disks t.geoms p) → geom_at t p.geom ≡ Some is.geom
     geom_of p is = subst (λ (n : ℕ). geom_at t n ≡ Some is.geom) is.number (geom_found is.geom is.stands)
 
+    -- a provider of a disk's geom has the sizes of that disk
     same_sizes : (x : Geom Config) (h : HasDisk disks x) → Contains t.geoms x → (p : Provider) → IsOfDisk disks t.geoms p → p.geom ≡ x.number
         → (p.sector ≡ h.disk.sector) × (p.size ≡ h.disk.size)
     same_sizes x h here p is own =
@@ -114,6 +130,7 @@ module _ (plan : Plan) (facts : List (ℕ × ℕ)) (xs : List Stander) where
         let disk : is.disk ≡ h.disk = cc in
         (is.sector ∙ ap (λ (d : HeaderDisk). d.sector) disk, is.size ∙ ap (λ (d : HeaderDisk). d.size) disk)
 
+    -- so have all that the geom offers
     disk_sizes_of : (x : Geom Config) → Contains t.geoms x → HasDisk disks x → HasDiskSizes w x
     disk_sizes_of x here h =
         let sizes : All (λ (p : Provider). (p.sector ≡ h.disk.sector) × (p.size ≡ h.disk.size)) (providers_of t x.number) =
@@ -124,6 +141,7 @@ module _ (plan : Plan) (facts : List (ℕ × ℕ)) (xs : List Stander) where
         let at : slice_get disks h.place ≡ Some h.disk = h.at in
         rw (config, at) sizes
 
+    -- numbers are in order, each geom is of its class, and no disk has two geoms
     numbers : NumbersHold w
     numbers = record {
       geoms = geom_numbers;
@@ -150,6 +168,7 @@ module _ (plan : Plan) (facts : List (ℕ × ℕ)) (xs : List Stander) where
       );
     }
 
+    -- there is no consumer, no handle and no taste yet
     handles : HandlesHold w
     handles = record {
       consumers = λ k d short. nowhere k short;
@@ -157,6 +176,7 @@ module _ (plan : Plan) (facts : List (ℕ × ℕ)) (xs : List Stander) where
       taste = refl;
     }
 
+    -- each provider is that of a disk
     leads_down : (p : Provider) → IsOfDisk disks t.geoms p → LeadsDown w p
     leads_down p is =
         let found = geom_of p is in
@@ -164,12 +184,14 @@ module _ (plan : Plan) (facts : List (ℕ × ℕ)) (xs : List Stander) where
         let some : IsSome (disk_of is.geom.config) = rw config refl in
         rw found (λ used. inl some)
 
+    -- what an event offers is a provider that lives
     offered : (e : Event) → IsOffered t.providers e → IsSome (provider_at t (provider_of_event e))
     offered e is =
         let found : provider_at t is.provider.number ≡ Some is.provider = found_itself (λ (y : Provider). y.number) t.next_provider t.providers is.provider provider_numbers is.stands in
         let there : provider_at t (provider_of_event e) ≡ Some is.provider = subst (λ (n : ℕ). provider_at t n ≡ Some is.provider) is.number found in
         rw there refl
 
+    -- so each event is of a provider that lives, and no taste goes on
     events : EventsHold w
     events = record {
       living = All-from_recursion (λ (e : Event). IsSome (provider_at t (provider_of_event e))) w.events
@@ -178,6 +200,7 @@ module _ (plan : Plan) (facts : List (ℕ × ℕ)) (xs : List Stander) where
       taste = tt;
     }
 
+    -- the world in which disks stand is sound
     pub stood-sound : Sound w
     stood-sound = record {
       ranks = ranks;
@@ -192,15 +215,19 @@ module _ (plan : Plan) (facts : List (ℕ × ℕ)) (xs : List Stander) where
       events = events;
     }
 
+    -- each provider's geom lives
     lives : (p : Provider) → IsOfDisk disks t.geoms p → IsSome (geom_at t p.geom)
     lives p is = let found = geom_of p is in rw found refl
 
+    -- a disk's geom has no components
     no_components : (x : Geom Config) → IsDiskGeom 3 x → HasItsComponents w x
     no_components x is = let config : x.config ≡ Disk is.disk = is.config in rw config (λ used k d short. nowhere k short)
 
+    -- and no free places
     no_places : (x : Geom Config) → IsDiskGeom 3 x → WaitsForPlaces w x
     no_places x is = let config : x.config ≡ Disk is.disk = is.config in rw config (λ free. let bad : false ≡ true = free in absurd (let no_way : ⊥ = cc in no_way))
 
+    -- the world in which disks stand is steady
     pub stood-steady : Steady w
     stood-steady = record {
       made = All-from_recursion (λ (g : Geom Config). (g.number ≡ 1) ⊎ (g.number ≡ 2) → g.automatic ≡ false) t.geoms (

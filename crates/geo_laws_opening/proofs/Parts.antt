@@ -26,6 +26,7 @@ geoms-rise n (x ∷ xs) = (
   rise-wider (n + 1) (n + 1) (n + 1 + length xs) (n + length (x ∷ xs)) (map (λ y. y.number) (disk_geoms (n + 1) xs)) (omega arith) (omega arith) (geoms-rise (n + 1) xs),
 )
 
+-- so do those of the providers
 pub providers-rise : (n g : ℕ) (xs : List Stander) → Rise n (map (λ x. x.number) (disk_providers n g xs)) (n + length xs)
 providers-rise n g [] = tt
 providers-rise n g (x ∷ xs) = (
@@ -44,10 +45,12 @@ pub record IsDiskGeom (low : ℕ) (x : Geom Config) : Type 0 where
   pub withering : x.withering ≡ false
   pub automatic : x.automatic ≡ false
 
+-- a disk's geom above a number is above any lower one
 disk_geom_above : (low n : ℕ) (x : Geom Config) → low ≤ n → IsDiskGeom n x → IsDiskGeom low x
 disk_geom_above low n x less is =
     record { above = omega (arith, is.above); disk = is.disk; config = is.config; kind = is.kind; withering = is.withering; automatic = is.automatic }
 
+-- the geoms of disks that are numbered from a number on are so
 pub geoms-are : (n : ℕ) (xs : List Stander) → AllByRecursion (IsDiskGeom n) (disk_geoms n xs)
 geoms-are n [] = tt
 geoms-are n (x ∷ xs) = (
@@ -69,6 +72,7 @@ pub record IsOfDisk (disks : List HeaderDisk) (geoms : List (Geom Config)) (y : 
   pub media : IsMediaSize y.size y.sector
   pub errored : y.errored ≡ false
 
+-- with one geom more a provider is still of a disk's geom
 further : (disks : List HeaderDisk) (x : Geom Config) (geoms : List (Geom Config)) (y : Provider) → IsOfDisk disks geoms y → IsOfDisk disks (x ∷ geoms) y
 further disks x geoms y is = record {
   geom = is.geom;
@@ -84,10 +88,12 @@ further disks x geoms y is = record {
   errored = is.errored;
 }
 
+-- so are all of them
 pub of_disk-behind : (disks : List HeaderDisk) (x : Geom Config) (geoms : List (Geom Config)) (ys : List Provider)
     → AllByRecursion (IsOfDisk disks geoms) ys → AllByRecursion (IsOfDisk disks (x ∷ geoms)) ys
 of_disk-behind disks x geoms ys are = all_weaker (IsOfDisk disks geoms) (IsOfDisk disks (x ∷ geoms)) (further disks x geoms) ys are
 
+-- the providers of disks are of their geoms, with their sizes
 pub providers-are : (disks : List HeaderDisk) (n g : ℕ) (xs : List Stander) → AllByRecursion (IsStander disks) xs
     → AllByRecursion (IsOfDisk disks (disk_geoms g xs)) (disk_providers n g xs)
 providers-are disks n g [] are = tt
@@ -113,6 +119,7 @@ pub providers-above : (n g low : ℕ) (xs : List Stander) → low ≤ g → AllB
 providers-above n g low [] less = tt
 providers-above n g low (x ∷ xs) less = (less, providers-above (n + 1) (g + 1) low xs (omega arith))
 
+-- a provider of another geom is passed over
 none_step : (h : ℕ) (y : Provider) (ys : List Provider) → (y.geom == h) ≡ false → filter (λ z. z.geom == h) ys ≡ [] → filter (λ z. z.geom == h) (y ∷ ys) ≡ []
 none_step h y ys e rest = rw e rest
 
@@ -134,15 +141,18 @@ disks_apart n a g config (y ∷ xs) x is apart = (
   disks_apart (n + 1) a g config xs x is apart.1,
 )
 
+-- so no two geoms are of one disk
 pub geoms-differ : (n : ℕ) (xs : List Stander) → PairsByRecursion AreApart xs → PairsByRecursion DifferInDisk (disk_geoms n xs)
 geoms-differ n [] apart = tt
 geoms-differ n (x ∷ xs) apart = (disks_apart (n + 1) x.0 (disk_geom n x) refl xs x refl apart.0, geoms-differ (n + 1) xs apart.1)
 
+-- a disk's provider differs in name from those of disks of other names
 names_apart : (n g : ℕ) (p : Provider) (xs : List Stander) (x : Stander) → p.name ≡ x.1.0.name → p.errored ≡ false → AllByRecursion (AreApart x) xs
     → AllByRecursion (DifferInName p) (disk_providers n g xs)
 names_apart n g p [] x named well apart = tt
 names_apart n g p (y ∷ xs) x named well apart = (rw (well, named) apart.0.names, names_apart (n + 1) (g + 1) p xs x named well apart.1)
 
+-- so no two providers have one name
 pub names-differ : (n g : ℕ) (xs : List Stander) → PairsByRecursion AreApart xs → PairsByRecursion DifferInName (disk_providers n g xs)
 names-differ n g [] apart = tt
 names-differ n g (x ∷ xs) apart = (names_apart (n + 1) (g + 1) (disk_provider n g x) xs x refl refl apart.0, names-differ (n + 1) (g + 1) xs apart.1)
@@ -153,9 +163,11 @@ pub record IsOffered (ys : List Provider) (e : Event) : Type 0 where
   pub stands : Contains ys provider
   pub number : provider.number ≡ provider_of_event e
 
+-- with one provider more an offer is still of one that stands
 offered_behind : (y : Provider) (ys : List Provider) (e : Event) → IsOffered ys e → IsOffered (y ∷ ys) e
 offered_behind y ys e is = record { provider = is.provider; stands = Contains-there y is.provider ys is.stands; number = is.number }
 
+-- the offers of disks are of their providers
 pub offers-are : (n g : ℕ) (xs : List Stander) → AllByRecursion (IsOffered (disk_providers n g xs)) (disk_offers n xs)
 offers-are n g [] = tt
 offers-are n g (x ∷ xs) = (
@@ -189,6 +201,7 @@ pub record HasDisk (disks : List HeaderDisk) (x : Geom Config) : Type 0 where
   pub disk : HeaderDisk
   pub at : slice_get disks place ≡ Some disk
 
+-- the geoms of disks are of disks of the header
 pub geoms-have : (disks : List HeaderDisk) (n : ℕ) (xs : List Stander) → AllByRecursion (IsStander disks) xs → AllByRecursion (HasDisk disks) (disk_geoms n xs)
 geoms-have disks n [] are = tt
 geoms-have disks n (x ∷ xs) are =

@@ -20,6 +20,7 @@ Stander = ℕ × (DiskDecl × (ℕ × ℕ))
 abbrev pub disk_geom : ℕ → Stander → Geom Config
 disk_geom n x = record { number = n; kind = kinds.Disk; name = x.1.0.name; config = Disk x.0; automatic = false; withering = false; started = 0 }
 
+-- the provider of a disk, of its geom and with its sizes
 abbrev pub disk_provider : ℕ → ℕ → Stander → Provider
 disk_provider n g x = record { number = n; geom = g; name = x.1.0.name; size = x.1.1.0 * x.1.1.1; sector = x.1.1.0; errored = false }
 
@@ -28,10 +29,12 @@ abbrev pub disk_geoms : ℕ → List Stander → List (Geom Config)
 disk_geoms n [] = []
 disk_geoms n (x ∷ xs) = disk_geom n x ∷ disk_geoms (n + 1) xs
 
+-- their providers, from a number on, of geoms from another number on
 abbrev pub disk_providers : ℕ → ℕ → List Stander → List Provider
 disk_providers n g [] = []
 disk_providers n g (x ∷ xs) = disk_provider n g x ∷ disk_providers (n + 1) (g + 1) xs
 
+-- and the events that offer these providers for taste
 abbrev pub disk_offers : ℕ → List Stander → List Event
 disk_offers n [] = []
 disk_offers n (x ∷ xs) = events.NewProvider n ∷ disk_offers (n + 1) xs
@@ -53,6 +56,7 @@ stood w xs =
     (w.topology.next_provider + length xs)
     (w.events ++ disk_offers w.topology.next_provider xs)
 
+-- worlds with the same lists are the same
 same_lists : (w : World) (gs hs : List (Geom Config)) (ps qs : List Provider) (a b c d : ℕ) (es fs : List Event)
     → gs ≡ hs → ps ≡ qs → a ≡ b → c ≡ d → es ≡ fs → with_lists w gs ps a c es ≡ with_lists w hs qs b d fs
 same_lists w gs hs ps qs a b c d es fs g p n m e =
@@ -62,6 +66,7 @@ same_lists w gs hs ps qs a b c d es fs g p n m e =
     ∙ ap (λ (x : ℕ). with_lists w hs qs b x es) m
     ∙ ap (λ (x : List Event). with_lists w hs qs b d x) e
 
+-- disks that are set up one after another make the world in which they all stand
 pub stand-all : (xs : List Stander) (w : World) → fold (λ v item. stand v (item.0, disk_in_size item.1)) w xs ≡ stood w xs
 stand-all [] w =
     same_lists w
@@ -87,6 +92,7 @@ stand-all (x ∷ xs) w =
 abbrev pub standers : Plan → List (ℕ × ℕ) → List Stander
 standers plan facts = filter (λ item. not item.1.0.later) (enumerate_from 0 (zip plan.disks facts))
 
+-- the opening of a plan is the bare world in which its disks stand
 pub opening-stood : (plan : Plan) (facts : List (ℕ × ℕ)) → opening plan facts ≡ stood (bare_world plan facts) (standers plan facts)
 unfolding opening
 opening-stood plan facts = stand-all (standers plan facts) (bare_world plan facts)

@@ -16,6 +16,7 @@ abbrev number_of : Consumer → ℕ
 number_of x = x.number
 
 module _ {C : Type 0} (t : Topology C) (order : IsInOrder t) (c : ℕ) (consumer : Consumer) (stands : consumer_at t c ≡ Some consumer) where
+  -- in lists in order only the consumer that is found at a number has it
   only_consumer : (x : Consumer) → Contains t.consumers x → x.number ≡ c → x ≡ consumer
   only_consumer x here same =
       let found : find (λ (z : Consumer). z.number == x.number) t.consumers ≡ Some x = found_itself number_of t.next_consumer t.consumers x order.consumers here in
@@ -23,9 +24,11 @@ module _ {C : Type 0} (t : Topology C) (order : IsInOrder t) (c : ℕ) (consumer
       cc
 
 module _ {C : Type 0} (t : Topology C) (c p : ℕ) where
+  -- the consumer of the number is attached
   changed_hit : (x : Consumer) → (x.number == c) ≡ true → changed (λ (y : Consumer). y.number == c) (λ y. record y { provider = Some p }) x ≡ record x { provider = Some p }
   changed_hit x e = rw e refl
 
+  -- any other is as before
   changed_miss : (x : Consumer) → (x.number == c) ≡ false → changed (λ (y : Consumer). y.number == c) (λ y. record y { provider = Some p }) x ≡ x
   changed_miss x e = rw e refl
 
@@ -41,6 +44,7 @@ module _ {C : Type 0} (t : Topology C) (c p : ℕ) where
   }
 
   module _ (order : IsInOrder t) (can : CanAttach t c p) where
+    -- a consumer that is attached to nothing makes no edge
     not_attached : (g h : ℕ) (b : Below t g h) → (b.consumer.number == c) ≡ true → ⊥
     not_attached g h b e =
         let same : b.consumer ≡ can.consumer = only_consumer t order c can.consumer can.stands b.consumer b.stands (eqb-true b.consumer.number c e) in
@@ -48,6 +52,7 @@ module _ {C : Type 0} (t : Topology C) (c p : ℕ) where
         let none : option_and_then (provider_at t) None ≡ Some b.provider = rw free at b.attached in
         cc
 
+    -- so with this one attached all edges stay
     old_edges : (g h : ℕ) → Below t g h → Below (attach t c p) g h
     old_edges g h b =
         elim (cases_Bool (b.consumer.number == c)) [
@@ -55,6 +60,7 @@ module _ {C : Type 0} (t : Topology C) (c p : ℕ) where
           | inr other ↦ kept_edge g h b other
         ]
 
+    -- and there is an edge from its geom down to the provider's
     new_edge : Below (attach t c p) can.consumer.geom can.provider.geom
     new_edge =
         let number : (can.consumer.number == c) ≡ true = find_passes (λ (x : Consumer). x.number == c) t.consumers can.consumer can.stands in
@@ -68,6 +74,7 @@ module _ {C : Type 0} (t : Topology C) (c p : ℕ) where
           below = refl;
         }
 
+    -- an edge that is there then was there before, or is that one
     only_edge : (g h : ℕ) (b : Below (attach t c p) g h) (x : Consumer) → Contains t.consumers x
         → changed (λ (y : Consumer). y.number == c) (λ y. record y { provider = Some p }) x ≡ b.consumer → (d : Bool) → (x.number == c) ≡ d
         → Below t g h ⊎ (g ≡ can.consumer.geom) × (h ≡ can.provider.geom)
@@ -118,6 +125,7 @@ module _ {C : Type 0} (t : Topology C) (c : ℕ) where
     below = b.below;
   }
 
+  -- the edge of a consumer that isn't this one stays
   staying_edge : (g h : ℕ) (b : Below t g h) → (b.consumer.number == c) ≡ false → Below (remove_consumer t c) g h
   staying_edge g h b other = record {
     consumer = b.consumer;
@@ -129,6 +137,7 @@ module _ {C : Type 0} (t : Topology C) (c : ℕ) where
   }
 
   module _ (order : IsInOrder t) where
+    -- the edge of the consumer that goes leads from its geom down to its provider's
     lost_edge : (at : IsAttached t c) (g h : ℕ) (b : Below t g h) → (b.consumer.number == c) ≡ true → (g ≡ at.consumer.geom) × (h ≡ at.provider.geom)
     lost_edge at g h b e =
         let same : b.consumer ≡ at.consumer = only_consumer t order c at.consumer at.stands b.consumer b.stands (eqb-true b.consumer.number c e) in
@@ -139,6 +148,7 @@ module _ {C : Type 0} (t : Topology C) (c : ℕ) where
         let one : b.provider ≡ at.provider = cc in
         (sym b.above ∙ above, sym b.below ∙ ap (λ (y : Provider). y.geom) one)
 
+    -- an attached consumer makes such an edge
     attached_edge : (at : IsAttached t c) → Below t at.consumer.geom at.provider.geom
     attached_edge at = record {
       consumer = at.consumer;
@@ -162,6 +172,7 @@ module _ {C : Type 0} (t : Topology C) (c : ℕ) where
           ];
     }
 
+    -- one that is attached to nothing makes none
     no_edge : (consumer : Consumer) → consumer_at t c ≡ Some consumer → consumer.provider ≡ None → (g h : ℕ) (b : Below t g h) → (b.consumer.number == c) ≡ true → ⊥
     no_edge consumer stands free g h b e =
         let same : b.consumer ≡ consumer = only_consumer t order c consumer stands b.consumer b.stands (eqb-true b.consumer.number c e) in
@@ -183,6 +194,7 @@ module _ {C : Type 0} (t : Topology C) (c : ℕ) where
         let o = map-Contains (changed (λ (y : Consumer). y.number == c) (λ y. record y { provider = None })) t.consumers b.consumer b.stands in
         from o.item o.stands o.fact (o.item.number == c) refl
       where
+        -- a consumer with an edge isn't the one that is detached
         from : (x : Consumer) → Contains t.consumers x → changed (λ (y : Consumer). y.number == c) (λ y. record y { provider = None }) x ≡ b.consumer
             → (d : Bool) → (x.number == c) ≡ d → Below (remove_consumer t c) g h
         from x here is true e =
@@ -201,6 +213,7 @@ module _ {C : Type 0} (t : Topology C) (c : ℕ) where
               below = b.below;
             }
 
+    -- and a detach leaves the same edges as the removal
     remaining_edge : (g h : ℕ) → Below (remove_consumer t c) g h → Below (detach t c) g h
     remaining_edge g h b =
         let both = filter-Contains (λ (y : Consumer). not (y.number == c)) t.consumers b.consumer b.stands in
@@ -240,6 +253,7 @@ module _ {C : Type 0} (t : Topology C) (geom : ℕ) (o : Option ℕ) where
     below = b.below;
   }
 
+  -- the edge of a consumer that was there was there too
   former_edge : (g h : ℕ) (b : Below (add_consumer t geom o) g h) → Contains t.consumers b.consumer → Below t g h
   former_edge g h b here = record {
     consumer = b.consumer;
@@ -250,6 +264,7 @@ module _ {C : Type 0} (t : Topology C) (geom : ℕ) (o : Option ℕ) where
     below = b.below;
   }
 
+  -- the new consumer
   abbrev made : Consumer
   made = record { number = t.next_consumer; geom = geom; provider = o; spoiled = false }
 

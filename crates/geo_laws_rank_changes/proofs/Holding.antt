@@ -32,9 +32,11 @@ shallower : (t u : Topology Config) → ((g : ℕ) → g ≢ 1 → g ≢ 2 → r
 shallower t u less xs low =
     All-weaker (IsShallow t) (IsShallow u) (λ x so apart other. let a = so apart other in let b = less x.number apart other in omega arith) xs low
 
+-- a number is no greater than one that is the same
 same_le : (a b : ℕ) → a ≡ b → a ≤ b
 same_le a b e = omega arith
 
+-- a geom that stands without withering is there
 there : (o : Option (Geom Config)) → IsSomeAnd o (λ x. x.withering ≡ false) → IsSome o
 there None fact = absurd fact
 there (Some x) fact = refl
@@ -43,10 +45,12 @@ there (Some x) fact = refl
 opened : (t : Topology Config) (geom p : ℕ) (x : Provider) → (geom ≡ 1) ⊎ (geom ≡ 2) → RanksHold t → GeomsLive t
     → provider_at t p ≡ Some x → RanksHold (add_consumer t geom (Some p))
 opened t geom p x which hold live found = by which (bare which) where
+  -- DEV or TASTE, whichever it is, stands bare
   bare : (geom ≡ 1) ⊎ (geom ≡ 2) → StandsBare t geom
   bare (inl e) = rw e hold.dev
   bare (inr e) = rw e hold.taste
 
+  -- so with the new consumer the ranks hold
   by : (geom ≡ 1) ⊎ (geom ≡ 2) → StandsBare t geom → RanksHold (add_consumer t geom (Some p))
   by which stands =
       let rise = open-rises t geom p x hold.ranked live (there (geom_at t geom) stands.stands) stands.no_provider found in
@@ -64,10 +68,12 @@ bare_with_provider : (t : Topology Config) (geom : ℕ) (name : List ℕ) (size 
 bare_with_provider t geom name size sector g apart bare =
     record { stands = bare.stands; no_provider = added-provider.others_of t geom name size sector g apart ∙ bare.no_provider }
 
+-- a bare geom stays so where a provider goes
 bare_without_provider : (t : Topology Config) (p g : ℕ) → StandsBare t g → StandsBare (remove_provider t p) g
 bare_without_provider t p g bare =
     record { stands = bare.stands; no_provider = removed-provider.of t p g ∙ ap (filter (λ (x : Provider). not (x.number == p))) bare.no_provider }
 
+-- where another geom goes
 bare_without_geom : (t : Topology Config) (h g : ℕ) → g ≢ h → StandsBare t g → StandsBare (remove_geom t h) g
 bare_without_geom t h g apart bare =
     record {
@@ -75,6 +81,7 @@ bare_without_geom t h g apart bare =
       no_provider = bare.no_provider;
     }
 
+-- where a provider has an error
 bare_with_error : (t : Topology Config) (p g : ℕ) → StandsBare t g → StandsBare (set_error t p) g
 bare_with_error t p g bare =
     record {
@@ -82,6 +89,7 @@ bare_with_error t p g bare =
       no_provider = error-found.of t p g ∙ ap (change_where (λ (x : Provider). x.number == p) (λ x. record x { errored = true })) bare.no_provider;
     }
 
+-- and where another geom withers
 bare_beside : (t : Topology Config) (h g : ℕ) → g ≢ h → StandsBare t g → StandsBare (set_withering t h) g
 bare_beside t h g apart bare =
     record {
@@ -89,9 +97,11 @@ bare_beside t h g apart bare =
       no_provider = bare.no_provider;
     }
 
+-- numbers that differ, differ the other way round too
 apart_from : (g h : ℕ) → h ≢ g → g ≢ h
 apart_from g h apart same = apart (sym same)
 
+-- a bare geom stays so where a geom is added
 bare_with_geom : (t : Topology Config) (kind : Kind) (name : List ℕ) (config : Config) (automatic : Bool) (g : ℕ) → StandsBare t g → StandsBare (add_geom t kind name config automatic) g
 bare_with_geom t kind name config automatic g bare =
     let x = has (geom_at t g) (there (geom_at t g) bare.stands) in
@@ -119,6 +129,7 @@ over_bare : (n g : ℕ) (ps : List Provider) (u : Topology Config) → StandsBar
 over_bare n g [] u bare = bare
 over_bare n g (p ∷ ps) u bare = over_bare n g ps (add_consumer u n (Some p.number)) (record { stands = bare.stands; no_provider = bare.no_provider })
 
+-- so the geoms are as before
 over_geoms : (n : ℕ) (ps : List Provider) (u : Topology Config) → (over n u ps).geoms ≡ u.geoms
 over_geoms n [] u = refl
 over_geoms n (p ∷ ps) u = over_geoms n ps (add_consumer u n (Some p.number))
@@ -138,6 +149,7 @@ geom_made t kind name config ps hold live offerers order found low =
       taste = over_bare t.next_geom 2 ps (add_geom t kind name config false) (bare_with_geom t kind name config false 2 hold.taste);
     }
   where
+    -- a geom within the limit stays so once the new one stands
     deep_at : OneRankRises t (with_geom_at t kind name config ps) t.next_geom → rank (with_geom_at t kind name config ps) t.next_geom ≡ rank_over t ps
         → (g : ℕ) → rank t g ≤ rank_limit → rank (with_geom_at t kind name config ps) g ≤ rank_limit
     deep_at rise top g less =
@@ -156,9 +168,11 @@ upright_map f same (Some x) fact = same x ∙ fact
 
 module _ (t : Topology Config) (hit : Geom Config → Bool) (change : Geom Config → Geom Config)
     (same : (x : Geom Config) → hit x ≡ true → (change x).number ≡ x.number) (upright : (x : Geom Config) → hit x ≡ true → (change x).withering ≡ x.withering) where
+  -- the graph with these geoms changed
   abbrev after : Topology Config
   after = record t { geoms = change_where hit change t.geoms }
 
+  -- a bare geom stays so
   bare_changed : (g : ℕ) → StandsBare t g → StandsBare after g
   bare_changed g bare =
       record {
@@ -168,6 +182,7 @@ module _ (t : Topology Config) (hit : Geom Config → Bool) (change : Geom Confi
         no_provider = bare.no_provider;
       }
 
+  -- and the ranks hold, where none changes
   changed_hold : AllRanksStay t after → RanksHold t → RanksHold after
   changed_hold stay hold =
       record {
@@ -180,6 +195,7 @@ module _ (t : Topology Config) (hit : Geom Config → Bool) (change : Geom Confi
         taste = bare_changed 2 hold.taste;
       }
 
+-- all of these changes keep the ranks of a sound world
 pub sound-ranks : SoundRanksStay
 sound-ranks = record {
   opened = opened;

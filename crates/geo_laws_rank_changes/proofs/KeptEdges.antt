@@ -12,10 +12,12 @@ use Rattle.geo_laws_graph.proofs.Lists.{changed, changed-keeps, find-changed, fi
 use Rattle.geo_laws_graph.specs.Lookups.{ProvidersLive}
 use Rattle.geo_laws_graph.proofs.Living.{provider_at-removed, provider_at-gone, not_there, provider_stays}
 
+-- two functions that give the same of each item give the same of a list
 filter_map_same : {X Y : Type 0} (f h : X → Option Y) → ((x : X) → f x ≡ h x) → (xs : List X) → filter_map f xs ≡ filter_map h xs
 filter_map_same f h same [] = refl
 filter_map_same f h same (x ∷ xs) = rw (same x, filter_map_same f h same xs) refl
 
+-- what a change keeps is as before, where there is anything
 option_map_twice : {X Y : Type 0} (f : X → X) (h : X → Y) → ((x : X) → h (f x) ≡ h x) → (o : Option X) → option_map h (option_map f o) ≡ option_map h o
 option_map_twice f h same None = refl
 option_map_twice f h same (Some x) = ap (λ y. Some y) (same x)
@@ -43,6 +45,7 @@ module _ {C : Type 0} (t : Topology C) where
       ap (filter_map (λ (x : Consumer). x.provider)) (filter-changed test (λ x. record x { spoiled = mark }) (λ (x : Consumer). x.geom == g) (λ x e. refl) t.consumers)
       ∙ filter_map-changed test (λ x. record x { spoiled = mark }) (λ (x : Consumer). x.provider) (λ x e. refl) (consumers_of t g)
 
+  -- so the geoms under a geom are as before
   pub geoms_under-set_marks : (test : Consumer → Bool) (mark : Bool) (g : ℕ) → geoms_under (set_marks t test mark) g ≡ geoms_under t g
   geoms_under-set_marks test mark g =
       ap (filter_map (λ p. option_map (λ (x : Provider). x.geom) (provider_at t p))) (providers_under-set_marks test mark g)
@@ -60,10 +63,12 @@ module _ {C : Type 0} (t : Topology C) where
       (providers_under t g)
 
   module _ (geom : ℕ) (name : List ℕ) (size sector : ℕ) where
+    -- what a consumer is attached to is as before where a provider is added
     attached_stays : (o : Option ℕ) (y : Provider) → option_and_then (provider_at t) o ≡ Some y → option_and_then (provider_at (add_provider t geom name size sector)) o ≡ Some y
     attached_stays None y e = e
     attached_stays (Some p) y e = provider_stays t geom name size sector p y e
 
+    -- so all edges stay
     pub add_provider-edges : HasEdgesOf (add_provider t geom name size sector) t
     add_provider-edges g h b = record {
       consumer = b.consumer;
@@ -74,6 +79,7 @@ module _ {C : Type 0} (t : Topology C) where
       below = b.below;
     }
 
+    -- and what it is attached to then, it was attached to before, where its provider lived
     was_attached : (o : Option ℕ) (y : Provider) → IfSome o (λ p. IsSome (provider_at t p)) → option_and_then (provider_at (add_provider t geom name size sector)) o ≡ Some y
         → option_and_then (provider_at t) o ≡ Some y
     was_attached None y live e = e
@@ -83,6 +89,7 @@ module _ {C : Type 0} (t : Topology C) where
         let still = provider_stays t geom name size sector p x.item x.is in
         cc
 
+    -- so no edge comes
     pub before_provider-edges : ProvidersLive t → HasEdgesOf t (add_provider t geom name size sector)
     before_provider-edges live g h b = record {
       consumer = b.consumer;
@@ -96,11 +103,13 @@ module _ {C : Type 0} (t : Topology C) where
     }
 
   module _ (p : ℕ) where
+    -- what a consumer is attached to is as before where one goes to which nobody is attached
     removed_stays : (x : Consumer) (o : Option ℕ) (y : Provider) → attached_to t p ≡ [] → Contains t.consumers x → x.provider ≡ o
         → option_and_then (provider_at t) o ≡ Some y → option_and_then (provider_at (remove_provider t p)) o ≡ Some y
     removed_stays x None y none here to e = e
     removed_stays x (Some q) y none here to e = provider_at-removed t p q (not_there t p x q none here to) ∙ e
 
+    -- and what it is attached to then, it was attached to before
     was_there : (o : Option ℕ) (y : Provider) → option_and_then (provider_at (remove_provider t p)) o ≡ Some y → option_and_then (provider_at t) o ≡ Some y
     was_there None y e = e
     was_there (Some q) y e =
@@ -122,6 +131,7 @@ module _ {C : Type 0} (t : Topology C) where
       below = b.below;
     }
 
+    -- no edge comes where a provider goes
     pub before_removal-edges : HasEdgesOf t (remove_provider t p)
     before_removal-edges g h b = record {
       consumer = b.consumer;

@@ -25,12 +25,14 @@ use Rattle.geo_laws_graph.proofs.Living.{add_geom-geoms, add_consumer-geoms}
 
 module _ {C : Type 0} (t : Topology C) (geom p : ℕ) (x : Provider) (ranked : Ranked t) (live : GeomsLive t) (there : IsSome (geom_at t geom))
     (none : providers_of t geom ≡ []) (found : provider_at t p ≡ Some x) where
+  -- the provider isn't of the geom that has none
   offers_other : x.geom ≢ geom
   offers_other same =
       nothing_in x
       (subst (λ (ys : List Provider). Contains ys x) none
       (Contains-filter (λ (y : Provider). y.geom == geom) t.providers x (find-Contains (λ (y : Provider). y.number == p) t.providers x found) (eq-eqb x.geom geom same)))
 
+  -- so the new consumer makes no loop, and the ranks rise as by one edge more
   raised : RanksRise t (add_consumer t geom (Some p)) geom x.geom
   raised = opening-rises t geom p x ranked live there found (reaches-none t x.geom geom none offers_other)
 
@@ -39,6 +41,7 @@ module _ {C : Type 0} (t : Topology C) (geom p : ℕ) (x : Provider) (ranked : R
   open-rises =
       (record { ranked = raised.ranked; same = λ g apart. raised.elsewhere g (reaches-none t g geom none apart) }, raised.above)
 
+  -- and the provider's geom is another one
   pub open-other : x.geom ≢ geom
   open-other = offers_other
 
@@ -90,6 +93,7 @@ module _ {C : Type 0} (t : Topology C) (order : IsInOrder t) where
       not_yet y.geom (eqb-true y.geom t.next_geom both.1)
       (at_contained (λ (z : Provider). IsSome (geom_at t z.geom)) t.providers y (recursion_from_All (λ (z : Provider). IsSome (geom_at t z.geom)) t.providers live) both.0)))
 
+  -- nor is anything below it
   nothing_below : GeomsLive t → geoms_under t t.next_geom ≡ []
   nothing_below live =
       no_items (geoms_under t t.next_geom)
@@ -99,10 +103,12 @@ module _ {C : Type 0} (t : Topology C) (order : IsInOrder t) where
       not_yet b.consumer.geom b.above
       (at_contained (λ (z : Consumer). IsSome (geom_at t z.geom)) t.consumers b.consumer (recursion_from_All (λ (z : Consumer). IsSome (geom_at t z.geom)) t.consumers live) b.stands)))
 
+  -- so its rank would be 1
   pub rank-next : Ranked t → GeomsLive t → rank t t.next_geom ≡ 1
   rank-next ranked live = rank-largest t ranked t.next_geom ∙ ap (λ hs. 1 + largest (map (rank t) hs)) (nothing_below live)
 
 module _ (t : Topology Config) (kind : Kind) (name : List ℕ) (config : Config) where
+  -- the graph with the new geom, before it has consumers
   abbrev grown : Topology Config
   grown = add_geom t kind name config false
 

@@ -77,6 +77,7 @@ module _ {C : Type 0} where
 
 module _ {C : Type 0} (t : Topology C) (c : ℕ) where
   module _ (p : ℕ) (can : CanAttach t c p) (ranked : Ranked t) (live : GeomsLive t) (order : IsInOrder t) where
+    -- the provider lives
     offered : IsSome (provider_at t p)
     offered = let offers : provider_at t p ≡ Some can.provider = can.offers in rw offers refl
 
@@ -86,9 +87,11 @@ module _ {C : Type 0} (t : Topology C) (c : ℕ) where
         ranked-added t (attach t c p) can.consumer.geom can.provider.geom (attach-edge t c p order can) ranked
         (attach-geoms t c p live) (attach-providers t c p offered (ranked-live t ranked)) none
 
+    -- then the ranks rise as by one edge more
     pub attach-rises : reaches t can.provider.geom can.consumer.geom ≡ false → RanksRise t (attach t c p) can.consumer.geom can.provider.geom
     attach-rises none = rises-edge t (attach t c p) can.consumer.geom can.provider.geom (attach-edge t c p order can) ranked (attach-ranked none)
 
+    -- an attach is refused as a loop just where the provider's geom reaches the consumer's
     loop_is : would_loop t (consumer_at t c) (provider_at t p) ≡ reaches t can.provider.geom can.consumer.geom
     loop_is =
         let found : consumer_at t c ≡ Some can.consumer = can.stands in
@@ -122,6 +125,7 @@ module _ {C : Type 0} (t : Topology C) (c : ℕ) where
         let both = no_refusal (is_errored t p) (would_loop t (consumer_at t c) (provider_at t p)) (is_too_deep (attach t c p)) none in
         (attach-rises (sym loop_is ∙ both.0), both.1)
       where
+        -- without an error there is no loop, and nothing is too deep
         no_refusal : (x y z : Bool) → first_error ((x, ENXIO) ∷ (y, ELOOP) ∷ (z, EDEEP) ∷ []) ≡ None → (y ≡ false) × (z ≡ false)
         no_refusal true y z e = absurd (let bad : ⊥ = cc in bad)
         no_refusal false true z e = absurd (let bad : ⊥ = cc in bad)
@@ -129,6 +133,7 @@ module _ {C : Type 0} (t : Topology C) (c : ℕ) where
         no_refusal false false false e = (refl, refl)
 
   module _ (at : IsAttached t c) (ranked : Ranked t) (live : GeomsLive t) (order : IsInOrder t) where
+    -- the graph is ranked after a detach
     detach_ranked : Ranked (detach t c)
     detach_ranked =
         ranked-fewer t (detach t c) ranked (detach-edge t c order at).old
@@ -139,6 +144,7 @@ module _ {C : Type 0} (t : Topology C) (c : ℕ) where
     pub detach-lowers : Ranked (detach t c) × RanksRise (detach t c) t at.consumer.geom at.provider.geom
     detach-lowers = (detach_ranked, rises-edge (detach t c) t at.consumer.geom at.provider.geom (detach-edge t c order at) detach_ranked ranked)
 
+    -- and after a removal
     removal_ranked : Ranked (remove_consumer t c)
     removal_ranked =
         ranked-fewer t (remove_consumer t c) ranked (removed-edges t c) (remove_consumer-geoms t c live) (remove_consumer-providers t c (ranked-live t ranked))

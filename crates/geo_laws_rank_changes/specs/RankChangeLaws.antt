@@ -75,6 +75,7 @@ DetachLowersRanks C =
     (t : Topology C) (c : ℕ) (at : IsAttached t c) → Ranked t → GeomsLive t → IsInOrder t
     → Ranked (detach t c) × RanksRise (detach t c) t at.consumer.geom at.provider.geom
 
+-- so for the removal
 abbrev pub RemovalLowersRanks : Type 0 → Type 0
 RemovalLowersRanks C =
     (t : Topology C) (c : ℕ) (at : IsAttached t c) → Ranked t → GeomsLive t → IsInOrder t

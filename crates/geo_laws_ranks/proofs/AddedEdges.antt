@@ -78,6 +78,7 @@ module _ {C D : Type 0} (t : Topology C) (u : Topology D) (a b : ℕ) (added : A
       let most : rank_within (length t.geoms) t g ≤ rank_within (length t.geoms) u g = rank_within-edges t u added.old (length t.geoms) g in
       rw e most
 
+  -- an edge from a geom other than the upper end was there before
   pub old_edge : (g h : ℕ) → (g == a) ≡ false → Below u g h → Below t g h
   old_edge g h other below =
       elim (added.only g h below) [
@@ -102,6 +103,7 @@ module _ {C D : Type 0} (t : Topology C) (u : Topology D) (a b : ℕ) (added : A
       (new, omega arith)) in
       omega arith
     where
+      -- where the geoms under a geom don't reach the upper end, none of them does
       below_none : (k g h : ℕ) → list_any (λ x. x == a) (flat_map (geoms_reached_within k t) (geoms_under t g)) ≡ false
           → Contains (geoms_under t g) h → reached t k h a ≡ false
       below_none k g h none c =
@@ -127,15 +129,18 @@ module _ {C D : Type 0} (t : Topology C) (u : Topology D) (a b : ℕ) (added : A
   lifted_by true n = n
   lifted_by false n = 0
 
+  -- the rank of a geom, and more where it reaches the upper end
   lifted : ℕ → ℕ
   lifted g = rank t g + lifted_by (reaches t g a) (rank t b + 1)
 
+  -- where a geom is lifted only if another is, it is lifted no more than that one
   lifted_le : (x y : Bool) (n : ℕ) → (x ≡ true → y ≡ true) → lifted_by x n ≤ lifted_by y n
   unfolding lifted_by
   lifted_le true true n so = omega arith
   lifted_le true false n so = let e = so refl in absurd (let bad : ⊥ = cc in bad)
   lifted_le false y n so = omega arith
 
+  -- so lifted ranks fall along each edge, the new one too
   lifted_falls : Ranked t → reaches t b a ≡ false → (g h : ℕ) → Below u g h → lifted h < lifted g
   unfolding lifted lifted_by
   lifted_falls ranked none g h below =
@@ -161,6 +166,7 @@ module _ {C D : Type 0} (t : Topology C) (u : Topology D) (a b : ℕ) (added : A
       let p = path-from_reaches t b a e in
       record { over = p.over; is = path-edges t u added.old b a p.over p.is }
 
+  -- where the upper end has a way to itself, the lower end reached it before
   pub reaches-from_loop : Ranked t → GeomsLive u → ProvidersLive u → (g : ℕ) → Below u a g → Path u g a → reaches t b a ≡ true
   reaches-from_loop ranked geoms providers g first p =
       true_from_ne_false (reaches t b a)
@@ -197,6 +203,7 @@ module _ {C D : Type 0} (t : Topology C) (u : Topology D) (a b : ℕ) (added : A
       let one = largest-above (map (rank u) (geoms_under u a)) (rank u b) (Contains-map (rank u) (geoms_under u a) b new) in
       omega arith
     where
+      -- a geom below the upper end doesn't reach back up to it
       not_back : Ranked t → (h : ℕ) → Below t a h → reaches t h a ≡ false
       not_back ranked h old =
           false_from_ne_true (reaches t h a)
@@ -222,12 +229,14 @@ module _ {C D : Type 0} (t : Topology C) (u : Topology D) (a b : ℕ) (added : A
         | inr more ↦ inr (record { item = n; stands = Contains-here n ns; fact = omega arith })
       ]
     where
+      -- where the first is less, the largest is one of the rest
       behind : (ns ≡ []) ⊎ Origin (λ k. f k ≡ largest (map f ns)) ns → f n < largest (map f ns) → Origin (λ k. f k ≡ largest (map f (n ∷ ns))) (n ∷ ns)
       behind (inl none) less = let zero_largest : largest (map f ns) ≡ 0 = rw none refl in absurd (omega arith)
       behind (inr o) less =
           let is : f o.item ≡ largest (map f ns) = o.fact in
           record { item = o.item; stands = Contains-there n o.item ns o.stands; fact = omega arith }
 
+  -- ranks up to a number are what they were, or lead over a way to the upper end
   way_by : Ranked t → Ranked u → (k g : ℕ) → rank u g ≤ k → (rank u g ≡ rank t g) ⊎ LongWay t u g a
   way_by ranked now zero g low = absurd (omega (arith, rank_within-positive (length u.geoms) u g))
   way_by ranked now (suc k) g low =
@@ -240,6 +249,7 @@ module _ {C D : Type 0} (t : Topology C) (u : Topology D) (a b : ℕ) (added : A
             highest (one_largest (rank u) (geoms_under t g)) after (λ h less. way_by ranked now k h (omega (arith, less)))
       ]
     where
+      -- so is a rank that is one more than the highest below
       highest : (geoms_under t g ≡ []) ⊎ Origin (λ n. rank u n ≡ largest (map (rank u) (geoms_under t g))) (geoms_under t g)
           → rank u g ≡ 1 + largest (map (rank u) (geoms_under t g))
           → ((h : ℕ) → rank u h < rank u g → (rank u h ≡ rank t h) ⊎ LongWay t u h a) → (rank u g ≡ rank t g) ⊎ LongWay t u g a

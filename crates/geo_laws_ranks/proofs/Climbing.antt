@@ -17,9 +17,11 @@ use Rattle.geo_laws_graph.specs.Lookups.{GeomsLive, ProvidersLive}
 pub some_and : {X : Type 0} (P : X → Type 0) (o : Option X) (x : X) → o ≡ Some x → P x → IsSomeAnd o P
 some_and P o x e fact = rw e fact
 
+-- what holds of something that must be there holds of what is there
 pub of_some : {X : Type 0} (P : X → Type 0) (o : Option X) (x : X) → o ≡ Some x → IsSomeAnd o P → P x
 of_some P o x e fact = rw e at fact
 
+-- so does what holds of something that may be there
 if_some : {X : Type 0} (P : X → Type 0) (o : Option X) (x : X) → o ≡ Some x → IfSome o P → P x
 if_some P o x e fact = rw e at fact
 
@@ -28,10 +30,12 @@ module _ {C : Type 0} (t : Topology C) where
   pub attached_geom : (o : Option ℕ) (y : Provider) → option_and_then (provider_at t) o ≡ Some y → (p : ℕ) → o ≡ Some p → provider_at t p ≡ Some y
   attached_geom o y e p is = rw is at e
 
+  -- a consumer with an edge is attached to a provider of some number
   pub provider_there : (o : Option ℕ) (y : Provider) → option_and_then (provider_at t) o ≡ Some y → Has o
   provider_there None y e = absurd (let no : ⊥ = cc in no)
   provider_there (Some p) y e = record { item = p; is = refl }
 
+  -- the geom that the provider's number gives is its geom
   of_number : (p : ℕ) (y : Provider) (h : ℕ) → provider_at t p ≡ Some y → y.geom ≡ h → option_map (λ (x : Provider). x.geom) (provider_at t p) ≡ Some h
   of_number p y h e is = rw (e, is) refl
 
@@ -45,9 +49,11 @@ module _ {C : Type 0} (t : Topology C) where
       Contains-filter_map (λ q. option_map (λ (x : Provider). x.geom) (provider_at t q)) (providers_under t g) p.item h number
       (of_number p.item b.provider h (attached_geom b.consumer.provider b.provider b.attached p.item p.is) b.below)
 
+  -- a geom that a provider's number gives is that of the provider
   geom_is : (p h : ℕ) (y : Provider) → provider_at t p ≡ Some y → option_map (λ (x : Provider). x.geom) (provider_at t p) ≡ Some h → y.geom ≡ h
   geom_is p h y e is = let same : Some y.geom ≡ Some h = rw e at is in cc
 
+  -- and where a geom is given there is a provider
   some_mapped : (o : Option Provider) (h : ℕ) → option_map (λ (x : Provider). x.geom) o ≡ Some h → Has o
   some_mapped None h e = absurd (let no : ⊥ = cc in no)
   some_mapped (Some y) h e = record { item = y; is = refl }
@@ -77,6 +83,7 @@ module _ {C : Type 0} (t : Topology C) where
       let less = of_some (λ (x : Provider). f x.geom < f b.consumer.geom) (provider_at t p.item) b.provider (attached_geom b.consumer.provider b.provider b.attached p.item p.is) one in
       rw (b.below, b.above) at less
 
+  -- an attached consumer makes an edge from its geom down to its provider's
   edge_of : (c : Consumer) → Contains t.consumers c → (p : ℕ) → c.provider ≡ Some p → (y : Provider) → provider_at t p ≡ Some y → Below t c.geom y.geom
   edge_of c here p is y found = record {
     consumer = c;
@@ -87,6 +94,7 @@ module _ {C : Type 0} (t : Topology C) where
     below = refl;
   }
 
+  -- so it climbs at each consumer, attached or not
   climbs_at : (f : ℕ → ℕ) → ((g h : ℕ) → Below t g h → f h < f g) → (c : Consumer) → Contains t.consumers c
       → (o : Option ℕ) → c.provider ≡ o → IfSome c.provider (λ p. IsSome (provider_at t p))
       → IfSome c.provider (λ p. IsSomeAnd (provider_at t p) (λ x. f x.geom < f c.geom))
@@ -95,6 +103,7 @@ module _ {C : Type 0} (t : Topology C) where
       let y = has (provider_at t p) (rw e at live) in
       rw e (some_and (λ (x : Provider). f x.geom < f c.geom) (provider_at t p) y.item y.is (so c.geom y.item.geom (edge_of c here p e y.item y.is)))
 
+  -- and at all of them
   pub climbs_from : (f : ℕ → ℕ) → ProvidersLive t → ((g h : ℕ) → Below t g h → f h < f g) → Climbs t f
   climbs_from f live so =
       All-from_recursion (λ (c : Consumer). IfSome c.provider (λ p. IsSomeAnd (provider_at t p) (λ x. f x.geom < f c.geom))) t.consumers
@@ -124,28 +133,34 @@ module _ {C : Type 0} (t : Topology C) where
 abbrev passing : {X : Type 0} → (X → Bool) → List X → ℕ
 passing test xs = length (filter test xs)
 
+-- one item more, which passes or not
 passing_step : {X : Type 0} (test : X → Bool) (x : X) (xs : List X) (b : Bool) → test x ≡ b → passing test xs ≤ length xs → passing test (x ∷ xs) ≤ length (x ∷ xs)
 passing_step test x xs true e less = rw e (omega arith)
 passing_step test x xs false e less = rw e (omega arith)
 
+-- no more pass than there are
 passing-length : {X : Type 0} (test : X → Bool) (xs : List X) → passing test xs ≤ length xs
 passing-length test [] = omega arith
 passing-length test (x ∷ xs) = passing_step test x xs (test x) refl (passing-length test xs)
 
 module _ {X : Type 0} (p q : X → Bool) (so : (x : X) → p x ≡ true → q x ≡ true) where
+  -- nothing passes the one test but not the other
   no_pass : (x : X) → p x ≡ true → q x ≡ false → ⊥
   no_pass x e f = let here : q x ≡ true = so x e in cc
 
+  -- one item more, which passes each test or not
   more_step : (x : X) (xs : List X) (a b : Bool) → p x ≡ a → q x ≡ b → passing p xs ≤ passing q xs → passing p (x ∷ xs) ≤ passing q (x ∷ xs)
   more_step x xs true true e f less = rw (e, f) (omega arith)
   more_step x xs true false e f less = absurd (no_pass x e f)
   more_step x xs false true e f less = rw (e, f) (omega arith)
   more_step x xs false false e f less = rw (e, f) less
 
+  -- no more pass the test that asks for more
   more_pass : (xs : List X) → passing p xs ≤ passing q xs
   more_pass [] = omega arith
   more_pass (x ∷ xs) = more_step x xs (p x) (q x) refl refl (more_pass xs)
 
+  -- one item more, where fewer of the rest pass
   less_step : (x : X) (xs : List X) (a b : Bool) → p x ≡ a → q x ≡ b → passing p xs < passing q xs → passing p (x ∷ xs) < passing q (x ∷ xs)
   less_step x xs true true e f less = rw (e, f) (omega arith)
   less_step x xs true false e f less = absurd (no_pass x e f)
@@ -169,6 +184,7 @@ module _ {C : Type 0} (t : Topology C) (f : ℕ → ℕ) (so : (g h : ℕ) → B
   low : ℕ → ℕ
   low g = passing (λ (x : Geom C). nat_le (f x.number) (f g)) t.geoms
 
+  -- they are fewer at the lower end of an edge than at its upper end
   low_falls : (g h : ℕ) → Below t g h → low h < low g
   unfolding low
   low_falls g h b =
@@ -185,6 +201,7 @@ module _ {C : Type 0} (t : Topology C) (f : ℕ → ℕ) (so : (g h : ℕ) → B
       (rw number (lt-leb (f g) (f h) less))
       (rw number (le-leb (f g) (f g) (omega arith)))
 
+  -- and no more than all geoms
   low-length : (g : ℕ) → low g ≤ length t.geoms
   unfolding low
   low-length g = passing-length (λ (x : Geom C). nat_le (f x.number) (f g)) t.geoms
@@ -221,6 +238,7 @@ module _ {C : Type 0} (t : Topology C) where
   pub rank_within-enough : Ranked t → (k g : ℕ) → rank t g ≤ k + 1 → rank_within k t g ≡ rank t g
   rank_within-enough ranked k g low = rank_within-is (rank t) (rank-largest t ranked) k g low
 
+  -- up to a rank a function that is one more than those below is the rank
   same_by : (r : ℕ → ℕ) → IsOneMoreThanBelow t r → Ranked t → (k g : ℕ) → rank t g ≤ k → r g ≡ rank t g
   same_by r is ranked zero g low = absurd (omega (arith, rank_within-positive (length t.geoms) t g))
   same_by r is ranked (suc k) g low =

@@ -24,21 +24,26 @@ granted_is kinds.Stripe = refl
 granted_is kinds.Nop = refl
 
 module _ (t : Topology Config) where
+  -- a geom deeper than the limit, of a class other than DEV and TASTE
   abbrev is_deep : Geom Config → Bool
   is_deep x = not (is_granted_kind x.kind) && nat_lt rank_limit (rank t x.number)
 
+  -- a geom within the limit, if it is neither geom 1 nor 2
   abbrev IsShallow : Geom Config → Type 0
   IsShallow x = x.number ≢ 1 → x.number ≢ 2 → rank t x.number ≤ rank_limit
 
+  -- a geom of its class, neither 1 nor 2, is neither DEV nor TASTE
   not_granted : (x : Geom Config) → IsOfItsClass x → x.number ≢ 1 → x.number ≢ 2 → is_granted_kind x.kind ≡ false
   not_granted x of apart other =
       granted_is x.kind
       ∙ or_from (is_kind x.kind kinds.Dev) (is_kind x.kind kinds.Taste)
       (of.dev ∙ ne_eqb x.number 1 apart) (of.taste ∙ ne_eqb x.number 2 other)
 
+  -- so one that isn't too deep is within the limit
   shallow_from : (x : Geom Config) → IsOfItsClass x → is_deep x ≡ false → IsShallow x
   shallow_from x of e apart other = ltb-false rank_limit (rank t x.number) (rw (not_granted x of apart other) at e)
 
+  -- and one within the limit isn't too deep
   apart_from : (x : Geom Config) (b : Bool) → is_granted_kind x.kind ≡ b → IsOfItsClass x → IsShallow x → is_deep x ≡ false
   apart_from x true e of low = rw e refl
   apart_from x false e of low =
@@ -47,12 +52,14 @@ module _ (t : Topology Config) where
       let less : rank t x.number ≤ rank_limit = low (eqb-false x.number 1 (sym of.dev ∙ parts.0)) (eqb-false x.number 2 (sym of.taste ∙ parts.1)) in
       rw (e, le-ltb rank_limit (rank t x.number) less) refl
 
+  -- where none is too deep all are within the limit
   shallow_all : (xs : List (Geom Config)) → AllByRecursion IsOfItsClass xs → list_any is_deep xs ≡ false → AllByRecursion IsShallow xs
   shallow_all [] of e = tt
   shallow_all (x ∷ xs) of e =
       let parts = or_parts (is_deep x) (list_any is_deep xs) e in
       (shallow_from x of.0 parts.0, shallow_all xs of.1 parts.1)
 
+  -- where all are within the limit none is too deep
   deep_none : (xs : List (Geom Config)) → AllByRecursion IsOfItsClass xs → AllByRecursion IsShallow xs → list_any is_deep xs ≡ false
   deep_none [] of low = refl
   deep_none (x ∷ xs) of low =

@@ -19,6 +19,7 @@ is_there : {X : Type 0} (P : X → Type 0) (o : Option X) → IsSomeAnd o P → 
 is_there P None fact = absurd fact
 is_there P (Some x) fact = refl
 
+-- where some function climbs each attached consumer's provider lives
 pub climbing-live : {C : Type 0} (t : Topology C) (f : ℕ → ℕ) → Climbs t f → ProvidersLive t
 climbing-live t f up =
     All-weaker (λ (c : Consumer). IfSome c.provider (λ p. IsSomeAnd (provider_at t p) (λ x. f x.geom < f c.geom)))
@@ -27,6 +28,7 @@ climbing-live t f up =
     (λ p. is_there (λ (x : Provider). f x.geom < f c.geom) (provider_at t p)) c.provider)
     t.consumers up
 
+-- so it does in a ranked graph
 pub ranked-live : {C : Type 0} (t : Topology C) → Ranked t → ProvidersLive t
 ranked-live t ranked = climbing-live t (rank t) ranked
 
@@ -35,12 +37,14 @@ pub climbing-ranked : {C : Type 0} (t : Topology C) (f : ℕ → ℕ) → Climbs
 climbing-ranked t f up live = ranked-from_climbing t f live (climbing-live t f up) (climbs_along t f up)
 
 module _ {C : Type 0} (t : Topology C) where
+  -- a way to a geom without providers is only from that geom
   way_on : (h : ℕ) → providers_of t h ≡ [] → (g : ℕ) (over : List ℕ) → IsPath t g over h → g ≡ h
   way_on h none g [] is = is
   way_on h none g (x ∷ over) is =
       let last : x ≡ h = way_on h none x over is.1 in
       absurd (offers_none is.0 last)
     where
+      -- no edge leads down to it
       offers_none : Below t g x → x ≡ h → ⊥
       offers_none b same =
           let p = provider_there t b.consumer.provider b.provider b.attached in
@@ -77,6 +81,7 @@ module _ {C : Type 0} (t u : Topology C) where
       let now = ranked-fewer t u ranked less geoms providers in
       record { ranked = now; same = rank-kept t u ranked now more less; reached = reaches-kept t u more less ranked now }
 
+  -- some of the edges: the graph stays ranked, with no greater ranks
   pub fewer-edges : Ranked t → GeomsLive u → ProvidersLive u → HasEdgesOf t u → Ranked u × ((g : ℕ) → rank u g ≤ rank t g)
   fewer-edges ranked geoms providers less =
       let now = ranked-fewer t u ranked less geoms providers in
@@ -94,6 +99,7 @@ module _ {C : Type 0} (t u : Topology C) where
               record { over = x ∷ rest.over; is = (old_edge t u a b added g x other is.0, rest.is) }
         ]
 
+    -- so the upper end is reached from where it was before
     reached_same : Ranked t → Ranked u → (g : ℕ) → reaches u g a ≡ reaches t g a
     reached_same ranked now g =
         same_bool (reaches u g a) (reaches t g a)

@@ -38,6 +38,7 @@ module _ {C : Type 0} (t : Topology C) where
   abbrev pub reached : ℕ → ℕ → ℕ → Bool
   reached k g h = list_any (λ x. x == h) (geoms_reached_within k t g)
 
+  -- each geom is reached from itself
   pub reached-itself : (k g : ℕ) → reached k g g ≡ true
   reached-itself zero g = rw (eq-eqb g g refl) refl
   reached-itself (suc k) g = rw (eq-eqb g g refl) refl
@@ -75,6 +76,7 @@ module _ {C : Type 0} (t : Topology C) where
       let rest = path-ranks ranked x h over is.1 in
       omega arith
 
+  -- in a ranked graph a geom reaches what it has a way to
   pub reaches-from_path : Ranked t → (g h : ℕ) → Path t g h → reaches t g h ≡ true
   reaches-from_path ranked g h p =
       let short = path-ranks ranked g h p.over p.is in
@@ -82,6 +84,7 @@ module _ {C : Type 0} (t : Topology C) where
       let some = rank_within-positive (length t.geoms) t h in
       reached-from_path (length t.geoms) g h p.over (omega arith) p.is
 
+  -- and it has a way to what it reaches
   pub path-from_reaches : (g h : ℕ) → reaches t g h ≡ true → Path t g h
   path-from_reaches g h e = path-from_reached (length t.geoms) g h e
 

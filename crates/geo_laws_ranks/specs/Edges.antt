@@ -37,6 +37,7 @@ abbrev pub IsPath : {C : Type 0} → Topology C → ℕ → List ℕ → ℕ →
 IsPath t g [] h = g ≡ h
 IsPath t g (x ∷ xs) h = Below t g x × IsPath t x xs h
 
+-- some way down from a geom to another
 pub record Path {C : Type 0} (t : Topology C) (g h : ℕ) : Type 0 where
   pub over : List ℕ
   pub is : IsPath t g over h

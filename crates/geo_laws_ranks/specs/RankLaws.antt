@@ -18,6 +18,7 @@ ClimbingIsRanked C = (t : Topology C) (f : ℕ → ℕ) → Climbs t f → Geoms
 abbrev pub RankIsOneMore : Type 0 → Type 0
 RankIsOneMore C = (t : Topology C) → Ranked t → IsOneMoreThanBelow t (rank t)
 
+-- a function that is one more than the highest below is the rank
 abbrev pub RankIsTheOnly : Type 0 → Type 0
 RankIsTheOnly C = (t : Topology C) → Ranked t → (r : ℕ → ℕ) → IsOneMoreThanBelow t r → (g : ℕ) → r g ≡ rank t g
 
