@@ -13,21 +13,27 @@ use Rattle.geo_family.proofs.OrderLemmas.{link_next, link_first, unlink_next, un
 
 -- the two orders
 
+-- upwards, no number stands before itself
 up_irreflexive : (a : ℕ) → Up a a → ⊥
 up_irreflexive a h = omega arith
 
+-- upwards, what stands before another stands before all that is behind that one
 up_transitive : (a b c : ℕ) → Up a b → Up b c → Up a c
 up_transitive a b c h k = omega arith
 
+-- upwards, of two different numbers one stands before the other
 up_total : (a b : ℕ) → (a ≡ b → ⊥) → Up a b ⊎ Up b a
 up_total a b other = elim (cases_lt a b) [ inl below ↦ inl below | inr above ↦ inr (omega (arith, other, above)) ]
 
+-- downwards, no number stands before itself
 down_irreflexive : (a : ℕ) → Down a a → ⊥
 down_irreflexive a h = omega arith
 
+-- downwards, what stands before another stands before all that is behind that one
 down_transitive : (a b c : ℕ) → Down a b → Down b c → Down a c
 down_transitive a b c h k = omega arith
 
+-- downwards, of two different numbers one stands before the other
 down_total : (a b : ℕ) → (a ≡ b → ⊥) → Down a b ⊎ Down b a
 down_total a b other = elim (cases_lt a b) [ inl below ↦ inr below | inr above ↦ inl (omega (arith, other, above)) ]
 
@@ -92,54 +98,67 @@ module _ {T : Type 0} (part : T → Option ℕ) where
 
 -- Parts after another neighbour
 
+-- another number after a child leaves all parents
 with_after-parent : (o to : Option ℕ) (links : List (ℕ × Link)) → part_at parent_of (with_after o to links) ≡ part_at parent_of links
 with_after-parent None to links = refl
 with_after-parent (Some c) to links = part-kept c parent_of (λ l. record l { after = to }) (λ l. refl) links
 
+-- another number after a child leaves what is before each child
 with_after-before : (o to : Option ℕ) (links : List (ℕ × Link)) → part_at before_of (with_after o to links) ≡ part_at before_of links
 with_after-before None to links = refl
 with_after-before (Some c) to links = part-kept c before_of (λ l. record l { after = to }) (λ l. refl) links
 
+-- another number after a child changes what is after that child alone
 with_after-after : (o to : Option ℕ) (links : List (ℕ × Link)) → ((c : ℕ) → o ≡ Some c → IsSome (value_at links c)) → part_at after_of (with_after o to links) ≡ put_at (part_at after_of links) o to
 with_after-after None to links there = refl
 with_after-after (Some c) to links there = part-set c after_of (λ l. record l { after = to }) to (λ l. refl) links (there c refl)
 
+-- with another number after a child, who was there still is
 with_after-there : (o to : Option ℕ) (links : List (ℕ × Link)) (c : ℕ) → IsSome (value_at links c) → IsSome (value_at (with_after o to links) c)
 with_after-there None to links c there = there
 with_after-there (Some b) to links c there = IsSome-change b (λ l. record l { after = to }) c links there
 
+-- another number before a child leaves all parents
 with_before-parent : (o to : Option ℕ) (links : List (ℕ × Link)) → part_at parent_of (with_before o to links) ≡ part_at parent_of links
 with_before-parent None to links = refl
 with_before-parent (Some c) to links = part-kept c parent_of (λ l. record l { before = to }) (λ l. refl) links
 
+-- another number before a child leaves what is after each child
 with_before-after : (o to : Option ℕ) (links : List (ℕ × Link)) → part_at after_of (with_before o to links) ≡ part_at after_of links
 with_before-after None to links = refl
 with_before-after (Some c) to links = part-kept c after_of (λ l. record l { before = to }) (λ l. refl) links
 
+-- another number before a child changes what is before that child alone
 with_before-before : (o to : Option ℕ) (links : List (ℕ × Link)) → ((c : ℕ) → o ≡ Some c → IsSome (value_at links c)) → part_at before_of (with_before o to links) ≡ put_at (part_at before_of links) o to
 with_before-before None to links there = refl
 with_before-before (Some c) to links there = part-set c before_of (λ l. record l { before = to }) to (λ l. refl) links (there c refl)
 
+-- with another number before a child, who was there still is
 with_before-there : (o to : Option ℕ) (links : List (ℕ × Link)) (c : ℕ) → IsSome (value_at links c) → IsSome (value_at (with_before o to links) c)
 with_before-there None to links c there = there
 with_before-there (Some b) to links c there = IsSome-change b (λ l. record l { before = to }) c links there
 
+-- where no child stands before, the parent has another first child, and the other parents keep theirs
 with_first-first : (o : Option ℕ) (p : ℕ) (to : Option ℕ) (ends : List (ℕ × Ends)) → IsSome (value_at ends p) → part_at first_of (with_first o p to ends) ≡ put_unless (part_at first_of ends) o p to
 with_first-first None p to ends there = part-set p first_of (λ e. record e { first = to }) to (λ e. refl) ends there
 with_first-first (Some c) p to ends there = refl
 
+-- another first child leaves the last child of each parent
 with_first-last : (o : Option ℕ) (p : ℕ) (to : Option ℕ) (ends : List (ℕ × Ends)) → part_at last_of (with_first o p to ends) ≡ part_at last_of ends
 with_first-last None p to ends = part-kept p last_of (λ e. record e { first = to }) (λ e. refl) ends
 with_first-last (Some c) p to ends = refl
 
+-- with another first child, each parent that was there still is
 with_first-there : (o : Option ℕ) (p : ℕ) (to : Option ℕ) (ends : List (ℕ × Ends)) (q : ℕ) → IsSome (value_at ends q) → IsSome (value_at (with_first o p to ends) q)
 with_first-there None p to ends q there = IsSome-change p (λ e. record e { first = to }) q ends there
 with_first-there (Some c) p to ends q there = there
 
+-- where no child stands behind, the parent has another last child, and the other parents keep theirs
 with_last-last : (o : Option ℕ) (p : ℕ) (to : Option ℕ) (ends : List (ℕ × Ends)) → IsSome (value_at ends p) → part_at last_of (with_last o p to ends) ≡ put_unless (part_at last_of ends) o p to
 with_last-last None p to ends there = part-set p last_of (λ e. record e { last = to }) to (λ e. refl) ends there
 with_last-last (Some c) p to ends there = refl
 
+-- another last child leaves the first child of each parent
 with_last-first : (o : Option ℕ) (p : ℕ) (to : Option ℕ) (ends : List (ℕ × Ends)) → part_at first_of (with_last o p to ends) ≡ part_at first_of ends
 with_last-first None p to ends = part-kept p first_of (λ e. record e { last = to }) (λ e. refl) ends
 with_last-first (Some c) p to ends = refl
@@ -147,9 +166,11 @@ with_last-first (Some c) p to ends = refl
 -- All the changes at once: another number after the child before, another one before the child behind, another link of the
 -- child, and other ends of the parent
 module _ (links : List (ℕ × Link)) (ends : List (ℕ × Ends)) (child parent : ℕ) (prev behind : Option ℕ) (to_after to_before : Option ℕ) (link : Link) where
+  -- the links of the children with all the changes
   abbrev pub relinked : List (ℕ × Link)
   relinked = with_link child link (with_before behind to_before (with_after prev to_after links))
 
+  -- the ends of the parents with all the changes
   abbrev pub rehung : List (ℕ × Ends)
   rehung = with_last behind parent to_before (with_first prev parent to_after ends)
 
@@ -160,19 +181,23 @@ module _ (links : List (ℕ × Link)) (ends : List (ℕ × Ends)) (child parent 
     pub the_prev : (c : ℕ) → prev ≡ Some c → IsSome (value_at links c)
     pub the_behind : (c : ℕ) → behind ≡ Some c → IsSome (value_at links c)
 
+  -- the child is there after the changes at its neighbours
   still_there : AreThere → IsSome (value_at (with_before behind to_before (with_after prev to_after links)) child)
   still_there there = with_before-there behind to_before (with_after prev to_after links) child (with_after-there prev to_after links child there.the_child)
 
+  -- all keep their parents but the child, which has that of its new link
   pub relinked-parent : AreThere → part_at parent_of relinked ≡ put (part_at parent_of links) child link.parent
   relinked-parent there =
       part-set child parent_of (λ _. link) link.parent (λ l. refl) (with_before behind to_before (with_after prev to_after links)) (still_there there)
       ∙ ap (λ f. put f child link.parent) (with_before-parent behind to_before (with_after prev to_after links) ∙ with_after-parent prev to_after links)
 
+  -- what is after each: it changes for the child before, and for the child itself
   pub relinked-after : AreThere → part_at after_of relinked ≡ put (put_at (part_at after_of links) prev to_after) child link.after
   relinked-after there =
       part-set child after_of (λ _. link) link.after (λ l. refl) (with_before behind to_before (with_after prev to_after links)) (still_there there)
       ∙ ap (λ f. put f child link.after) (with_before-after behind to_before (with_after prev to_after links) ∙ with_after-after prev to_after links there.the_prev)
 
+  -- what is before each: it changes for the child behind, and for the child itself
   pub relinked-before : AreThere → part_at before_of relinked ≡ put (put_at (part_at before_of links) behind to_before) child link.before
   relinked-before there =
       part-set child before_of (λ _. link) link.before (λ l. refl) (with_before behind to_before (with_after prev to_after links)) (still_there there)
@@ -180,9 +205,11 @@ module _ (links : List (ℕ × Link)) (ends : List (ℕ × Ends)) (child parent 
       (with_before-before behind to_before (with_after prev to_after links) (λ c is. with_after-there prev to_after links c (there.the_behind c is))
       ∙ ap (λ f. put_at f behind to_before) (with_after-before prev to_after links))
 
+  -- the first children: that of the parent changes where no child stands before
   pub rehung-first : AreThere → part_at first_of rehung ≡ put_unless (part_at first_of ends) prev parent to_after
   rehung-first there = with_last-first behind parent to_before (with_first prev parent to_after ends) ∙ with_first-first prev parent to_after ends there.the_parent
 
+  -- the last children: that of the parent changes where no child stands behind
   pub rehung-last : AreThere → part_at last_of rehung ≡ put_unless (part_at last_of ends) behind parent to_before
   rehung-last there =
       with_last-last behind parent to_before (with_first prev parent to_after ends) (with_first-there prev parent to_after ends parent there.the_parent)
@@ -199,12 +226,14 @@ family_of links ends f a b x z is_f is_a is_b is_x is_z afters befores firsts la
   lasts = subst (λ g. IsFirst Down g (part_at last_of ends)) (sym is_f) (subst (λ g. IsFirst Down f g) (sym is_z) lasts);
 }
 
+-- the nearest child of a parent is there
 nearest_there : (links : List (ℕ × Link)) (S : ℕ → Type 0) (R : ℕ → ℕ → Type 0) (p : ℕ) (o : Option ℕ) → IsNearest S R (part_at parent_of links) p o
     → (c : ℕ) → o ≡ Some c → IsSome (value_at links c)
 nearest_there links S R p None is c here = let never : None ≡ Some c = here in absurd (cc)
 nearest_there links S R p (Some b) is c here = let same : b ≡ c = cc in subst (λ m. IsSome (value_at links m)) same (part_there parent_of links b p is.1)
 
 module _ (links : List (ℕ × Link)) (ends : List (ℕ × Ends)) (family : IsFamily links ends) (child parent : ℕ) (parent_stands : IsSome (value_at ends parent)) where
+  -- the next one after the child before, else the first child, is the nearest behind the new child
   behind_is : (free : part_at parent_of links child ≡ None) (prev : Option ℕ) → IsNearest (λ d. d < child) Down (part_at parent_of links) parent prev
       → IsNearest (λ d. child < d) Up (part_at parent_of links) parent (next_of links ends prev parent)
   behind_is free None is =
@@ -297,12 +326,14 @@ module _ (links : List (ℕ × Link)) (ends : List (ℕ × Ends)) (family : IsFa
       family_of links (ends ++ (n, e) ∷ []) (part_at parent_of links) (part_at after_of links) (part_at before_of links) (part_at first_of ends) (part_at last_of ends)
       refl refl refl (part-push first_of ends n e no_first) (part-push last_of ends n e no_last) family.afters family.befores family.firsts family.lasts
 
+  -- a new child without a parent
   pub family-push_links : (n : ℕ) (l : Link) → l.parent ≡ None → l.before ≡ None → l.after ≡ None → IsFamily (links ++ (n, l) ∷ []) ends
   family-push_links n l no_parent no_before no_after =
       family_of (links ++ (n, l) ∷ []) ends (part_at parent_of links) (part_at after_of links) (part_at before_of links) (part_at first_of ends) (part_at last_of ends)
       (part-push parent_of links n l no_parent) (part-push after_of links n l no_after) (part-push before_of links n l no_before) refl refl
       family.afters family.befores family.firsts family.lasts
 
+  -- putting none where there is none changes nothing
   put_same : (f : ℕ → Option ℕ) (n : ℕ) → f n ≡ None → put f n None ≡ f
   put_same f n none = λ i. λ c. same c i
     where

@@ -10,6 +10,7 @@ use Rattle.geo_family.specs.Nearest.{IsNearest, Down}
 use Rattle.geo_family.specs.Family.{names, last_child}
 use Rattle.geo_family.specs.Links.{part_at, parent_of, children_of}
 
+-- another parent, or none, isn't the one that is named
 not_named : (p : ℕ) (o : Option ℕ) → (o ≡ Some p → ⊥) → names o p ≡ false
 not_named p None other = refl
 not_named p (Some q) other = ne_eqb q p (λ same. other (ap (λ m. Some m) same))
@@ -32,12 +33,14 @@ module _ (p : ℕ) where
       rw (not_named p row.1.parent (λ is. none row.0 (rw (eq-eqb row.0 row.0 refl) is)))
       (last_none (row.0 + 1) high rows rising.1 (λ d had. none d (later low high row rows rising d had).1) before)
 
+  -- one row more in front, whether it is the parent's or not, leaves the last child that the others have
   either : (row : ℕ × Link) (rows : List (ℕ × Link)) (c : ℕ) (before : Option (ℕ × Option ℕ)) (b : Bool) → names row.1.parent p ≡ b
       → ((before : Option (ℕ × Option ℕ)) → option_map (λ row. row.0) (last_or before (filter (λ row. names row.1 p) (children_of rows))) ≡ Some c)
       → option_map (λ row. row.0) (last_or before (filter (λ row. names row.1 p) (children_of (row ∷ rows)))) ≡ Some c
   either row rows c before true e so = rw e (so (Some (row.0, row.1.parent)))
   either row rows c before false e so = rw e (so before)
 
+  -- a child of the parent with no greater one behind it is the last one
   last_some : (low high : ℕ) (rows : List (ℕ × Link)) (c : ℕ) → IsRising low rows high → part_at parent_of rows c ≡ Some p → ((d : ℕ) → c < d → part_at parent_of rows d ≡ Some p → ⊥)
       → (before : Option (ℕ × Option ℕ)) → option_map (λ row. row.0) (last_or before (filter (λ row. names row.1 p) (children_of rows))) ≡ Some c
   last_some low high [] c rising had none before = let never : None ≡ Some p = had in absurd (cc)

@@ -14,6 +14,7 @@ module _ {T : Type 0} (n : ℕ) where
   change_at_below g low high (row ∷ rows) rising below =
       rw (ne_eqb row.0 n (λ same. omega (arith, same, rising.0))) (ap (λ xs. row ∷ xs) (change_at_below g (row.0 + 1) high rows rising.1 (omega (arith, rising.0))))
 
+  -- past a number no row gets another value
   with_value_below : (w : T) (low high : ℕ) (rows : List (ℕ × T)) → IsRising low rows high → n < low → with_value rows n w ≡ rows
   with_value_below w low high [] rising below = refl
   with_value_below w low high (row ∷ rows) rising below =

@@ -4,9 +4,11 @@ use Rattle.std.proofs.lemmas.Bool.{cases_eq, eq-eqb, ne_eqb}
 use Rattle.geo_family.specs.Nearest.{IsNearest, put}
 
 module _ (f : ℕ → Option ℕ) (c : ℕ) (o : Option ℕ) where
+  -- where a value is put, it stands
   pub put-here : put f c o c ≡ o
   put-here = rw (eq-eqb c c refl) refl
 
+  -- elsewhere the value stays
   pub put-other : (d : ℕ) → (d ≡ c → ⊥) → put f c o d ≡ f d
   put-other d other = rw (ne_eqb d c other) refl
 

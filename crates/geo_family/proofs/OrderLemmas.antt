@@ -31,6 +31,7 @@ module _
     same_parent : (c p q : ℕ) → f c ≡ Some p → f c ≡ Some q → p ≡ q
     same_parent c p q one two = let e : Some p ≡ Some q = sym one ∙ two in cc
 
+    -- for all but the one before the new child, what comes next stays
     link_other : (free : f child ≡ None) (next : ℕ → Option ℕ) (prev : Option ℕ) → IsNext R f next → IsBefore prev
         → (c p : ℕ) → f c ≡ Some p → ((b : ℕ) → prev ≡ Some b → c ≡ b → ⊥)
         → IsNearest (λ d. R c d) R (put f child (Some parent)) p (next c)
@@ -46,6 +47,7 @@ module _
               ]
         ]
 
+    -- for each child that was there, what comes next: for the one before the new child it is that one
     link_prev : (free : f child ≡ None) (next : ℕ → Option ℕ) (prev : Option ℕ) → IsNext R f next → IsBefore prev
         → (c p : ℕ) → f c ≡ Some p → IsNearest (λ d. R c d) R (put f child (Some parent)) p (put_at next prev (Some child) c)
     link_prev free next None nexts prev c p had = link_other free next None nexts prev c p had (λ b no _. let never : None ≡ Some b = no in cc)
@@ -105,6 +107,7 @@ module _
               λ d behind before had. is.2 d (transitive b child d prev.0 behind) before had,
             )
 
+    -- where none is before the new child, the first child of its parent is behind it
     pub behind_first : (free : f child ≡ None) (first : ℕ → Option ℕ) → IsFirst R f first → IsBefore None → IsBehind (first parent)
     behind_first free first firsts prev = later free prev (first parent) (firsts parent)
       where
@@ -139,6 +142,7 @@ module _
               | inr late ↦ is_prev.2 c (rw same at is.0) late (rw parents at had)
             ]
 
+    -- for each child, what comes next once one is taken off: for the one before that, the one behind it
     unlink_prev : (under : f child ≡ Some parent) (next : ℕ → Option ℕ) (prev behind : Option ℕ) → IsNext R f next → IsBefore prev → IsBehind behind
         → (c p : ℕ) → f c ≡ Some p → IsNearest (λ d. R c d) R (put f child None) p (put_at next prev behind c)
     unlink_prev under next None behind nexts prev is_behind c p had = unlink_other under next None nexts prev c p had (λ b no _. let never : None ≡ Some b = no in cc)

@@ -14,6 +14,7 @@ use Rattle.geo_family.specs.Links.{change_at, part_at, parent_of, children_of, w
 abbrev pub numbers_of : {T : Type 0} → List (ℕ × T) → List ℕ
 numbers_of rows = map (λ row. row.0) rows
 
+-- a change under one number leaves the numbers
 numbers-change : {T : Type 0} (g : T → T) (n : ℕ) (rows : List (ℕ × T)) → numbers_of (change_at g rows n) ≡ numbers_of rows
 numbers-change g n [] = refl
 numbers-change g n (row ∷ rows) =
@@ -22,14 +23,17 @@ numbers-change g n (row ∷ rows) =
       | inr other ↦ rw (ne_eqb row.0 n other) (ap (λ xs. row.0 ∷ xs) (numbers-change g n rows))
     ]
 
+-- another first child leaves the numbers of the parents
 pub numbers-with_first : (o : Option ℕ) (p : ℕ) (to : Option ℕ) (ends : List (ℕ × Ends)) → numbers_of (with_first o p to ends) ≡ numbers_of ends
 numbers-with_first None p to ends = numbers-change (λ e. record e { first = to }) p ends
 numbers-with_first (Some c) p to ends = refl
 
+-- another last child leaves the numbers of the parents
 pub numbers-with_last : (o : Option ℕ) (p : ℕ) (to : Option ℕ) (ends : List (ℕ × Ends)) → numbers_of (with_last o p to ends) ≡ numbers_of ends
 numbers-with_last None p to ends = numbers-change (λ e. record e { last = to }) p ends
 numbers-with_last (Some c) p to ends = refl
 
+-- the numbers once a row was taken away
 pub numbers-without : {T : Type 0} (n : ℕ) (rows : List (ℕ × T)) → numbers_of (without rows n) ≡ filter (λ m. not (m == n)) (numbers_of rows)
 numbers-without n [] = refl
 numbers-without n (row ∷ rows) =
@@ -38,6 +42,7 @@ numbers-without n (row ∷ rows) =
       | inr other ↦ rw (ne_eqb row.0 n other) (ap (λ xs. row.0 ∷ xs) (numbers-without n rows))
     ]
 
+-- the numbers with one more row at the end
 pub numbers-push : {T : Type 0} (n : ℕ) (v : T) (rows : List (ℕ × T)) → numbers_of (rows ++ (n, v) ∷ []) ≡ numbers_of rows ++ n ∷ []
 numbers-push n v [] = refl
 numbers-push n v (row ∷ rows) = ap (λ xs. row.0 ∷ xs) (numbers-push n v rows)
@@ -51,6 +56,7 @@ parent_stands p (row ∷ rows) stands =
       | inr other ↦ rw (ne_eqb row.0 p other) (parent_stands p rows (rw (ne_eqb row.0 p other) at stands))
     ]
 
+-- a change that keeps the parent leaves each child with its parent
 children-change : (g : Link → Link) → ((l : Link) → parent_of (g l) ≡ parent_of l) → (n : ℕ) (links : List (ℕ × Link)) → children_of (change_at g links n) ≡ children_of links
 children-change g same n [] = refl
 children-change g same n (row ∷ rows) =
@@ -59,14 +65,17 @@ children-change g same n (row ∷ rows) =
       | inr other ↦ rw (ne_eqb row.0 n other) (ap (λ xs. (row.0, row.1.parent) ∷ xs) (children-change g same n rows))
     ]
 
+-- another number after a child leaves each child with its parent
 pub children-with_after : (o to : Option ℕ) (links : List (ℕ × Link)) → children_of (with_after o to links) ≡ children_of links
 children-with_after None to links = refl
 children-with_after (Some c) to links = children-change (λ l. record l { after = to }) (λ l. refl) c links
 
+-- another number before a child leaves each child with its parent
 pub children-with_before : (o to : Option ℕ) (links : List (ℕ × Link)) → children_of (with_before o to links) ≡ children_of links
 children-with_before None to links = refl
 children-with_before (Some c) to links = children-change (λ l. record l { before = to }) (λ l. refl) c links
 
+-- another link of a child gives it the parent of that link
 pub children-with_link : (n : ℕ) (l : Link) (links : List (ℕ × Link)) → children_of (with_link n l links) ≡ with_value (children_of links) n l.parent
 children-with_link n l [] = refl
 children-with_link n l (row ∷ rows) =
@@ -82,6 +91,7 @@ children-relinked child link prev behind to_after to_before links =
     children-with_link child link (with_before behind to_before (with_after prev to_after links))
     ∙ ap (λ rows. with_value rows child link.parent) (children-with_before behind to_before (with_after prev to_after links) ∙ children-with_after prev to_after links)
 
+-- the children once one was taken away
 pub children-without : (n : ℕ) (links : List (ℕ × Link)) → children_of (without links n) ≡ without (children_of links) n
 children-without n [] = refl
 children-without n (row ∷ rows) =
@@ -90,6 +100,7 @@ children-without n (row ∷ rows) =
       | inr other ↦ rw (ne_eqb row.0 n other) (ap (λ xs. (row.0, row.1.parent) ∷ xs) (children-without n rows))
     ]
 
+-- the children with one more at the end
 pub children-push : (n : ℕ) (l : Link) (links : List (ℕ × Link)) → children_of (links ++ (n, l) ∷ []) ≡ children_of links ++ (n, l.parent) ∷ []
 children-push n l [] = refl
 children-push n l (row ∷ rows) = ap (λ xs. (row.0, row.1.parent) ∷ xs) (children-push n l rows)

@@ -19,15 +19,19 @@ module _ {T : Type 0} where
 abbrev pub parent_of : Link → Option ℕ
 parent_of l = l.parent
 
+-- the child before, of a link
 abbrev pub before_of : Link → Option ℕ
 before_of l = l.before
 
+-- the child after, of a link
 abbrev pub after_of : Link → Option ℕ
 after_of l = l.after
 
+-- the first child, of the ends
 abbrev pub first_of : Ends → Option ℕ
 first_of e = e.first
 
+-- the last child, of the ends
 abbrev pub last_of : Ends → Option ℕ
 last_of e = e.last
 

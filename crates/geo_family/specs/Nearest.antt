@@ -32,6 +32,7 @@ IsFirst R f first = (p : ℕ) → IsNearest (λ d. Unit {0}) R f p (first p)
 abbrev pub Up : ℕ → ℕ → Type 0
 Up a b = a < b
 
+-- downwards: the greater number comes first
 abbrev pub Down : ℕ → ℕ → Type 0
 Down a b = b < a
 

@@ -24,23 +24,28 @@ Agree f g [] = Unit {0}
 Agree f g (x ∷ xs) = (g x.name ≡ f x.name) × Agree f g xs
 
 module _ (f g : List ℕ → Option ℕ) where
+  -- two ways that agree put each provider under the same number
   agree-under : (ps : List Provider) → Agree f g ps → under_ids f ps ≡ under_ids g ps
   agree-under [] agree = refl
   agree-under (x ∷ xs) agree = λ i. (x.number, sym agree.0 i) ∷ agree-under xs agree.1 i
 
+  -- where each name has a number by one way, it has one by the other
   agree-known : (ps : List Provider) → Agree f g ps → AreKnown f ps → AreKnown g ps
   agree-known [] agree known = tt
   agree-known (x ∷ xs) agree known = (subst (λ o. IsSome o) (sym agree.0) known.0, agree-known xs agree.1 known.1)
 
+  -- two ways that give each name the same number agree on the names of the providers
   agree-all : ((q : List ℕ) → g q ≡ f q) → (ps : List Provider) → Agree f g ps
   agree-all same [] = tt
   agree-all same (x ∷ xs) = (same x.name, agree-all same xs)
 
   module _ (name : List ℕ) (others : (q : List ℕ) → same_name name q ≡ false → g q ≡ f q) where
+    -- the ways agree on a provider's name if they do where it is the one name that was touched
     agree_other : (y : Provider) (b : Bool) → same_name name y.name ≡ b → ((name ≡ y.name) → g y.name ≡ f y.name) → g y.name ≡ f y.name
     agree_other y true e here = here (same_is name y.name e)
     agree_other y false e here = others y.name e
 
+    -- the name that was opened keeps the number that it had
     opened_here : (id : ℕ) → g name ≡ Some id → ((i : ℕ) → f name ≡ Some i → i ≡ id) → (o : Option ℕ) → f name ≡ o → IsSome o → g name ≡ f name
     opened_here id here kept None e never = absurd (cc)
     opened_here id here kept (Some i) e is = here ∙ ap (λ k. Some k) (sym (kept i e)) ∙ sym e
@@ -55,6 +60,7 @@ module _ (f g : List ℕ → Option ℕ) where
       agree-opened id here kept ys known.1,
     )
 
+    -- the name that was closed keeps the number that it had, where it must keep it
     closed_here : (o : Option ℕ) → f name ≡ o → IsSome o → ((i : ℕ) → f name ≡ Some i → g name ≡ Some i) → g name ≡ f name
     closed_here None e never here = absurd (cc)
     closed_here (Some i) e is here = here i e ∙ sym e
@@ -77,10 +83,12 @@ module _ (f g : List ℕ → Option ℕ) where
         first_has : (y : Provider) (ys : List Provider) (i : ℕ) → f y.name ≡ Some i → has_child (under_ids f (y ∷ ys)) i ≡ true
         first_has y ys i is = rw (is, eq-eqb i i refl) refl
 
+-- with one more provider, whose name has a number, each name has one
 known-push : (f : List ℕ → Option ℕ) (x : Provider) (ps : List Provider) → AreKnown f ps → IsSome (f x.name) → AreKnown f (ps ++ x ∷ [])
 known-push f x [] known has = (has, tt)
 known-push f x (y ∷ ys) known has = (known.0, known-push f x ys known.1 has)
 
+-- an error at a provider leaves each name its number
 known-change : (f : List ℕ → Option ℕ) (n : ℕ) (ps : List Provider) → AreKnown f ps → AreKnown f (change_where (λ y. y.number == n) with_error ps)
 known-change f n [] known = tt
 known-change f n (y ∷ ys) known =
@@ -89,6 +97,7 @@ known-change f n (y ∷ ys) known =
       | inr other ↦ rw (ne_eqb y.number n other) (known.0, known-change f n ys known.1)
     ]
 
+-- without a provider, the names of the others still have numbers
 known-filter : (f : List ℕ → Option ℕ) (n : ℕ) (ps : List Provider) → AreKnown f ps → AreKnown f (filter (λ y. not (y.number == n)) ps)
 known-filter f n [] known = tt
 known-filter f n (y ∷ ys) known =
@@ -110,6 +119,7 @@ module _ (ps : List Provider) (next : ℕ) (old new : Names) (are : AreNames ps 
         next_child = ap (λ v. v.next_child) same.alike ∙ are.next_child;
       }
 
+  -- the provider without an error of a name, with one more provider: of its own name, and of the others
   added_step : (x : Provider) → x.errored ≡ false → find (is_sound_named x.name) ps ≡ None → AddsName old new x.name x.number → (name : List ℕ) (b : Bool) → same_name x.name name ≡ b
       → sound_of new name ≡ option_map (λ (y : Provider). y.number) (find (is_sound_named name) (ps ++ x ∷ []))
   added_step x sound free adds name true e =
@@ -134,6 +144,7 @@ module _ (ps : List Provider) (next : ℕ) (old new : Names) (are : AreNames ps 
 
   module _ (n : ℕ) (x : Provider) (only : OnlyProvider n x ps) (found : find (λ z. z.number == n) ps ≡ Some x)
       (retires : (q : List ℕ) → sound_of new q ≡ (if not x.errored && same_name x.name q then None else sound_of old q)) where
+    -- the provider without an error of a name, once one was marked or went
     retired_step : (mark : Provider → Option Provider) (marked : (y z : Provider) → mark y ≡ Some z → z.errored ≡ true) (name : List ℕ) (a b : Bool) → x.errored ≡ a → same_name x.name name ≡ b
         → sound_of new name ≡ option_map (λ (y : Provider). y.number) (find (is_sound_named name) (retired n mark marked ps))
     retired_step mark marked name true b e f =
@@ -144,6 +155,7 @@ module _ (ps : List Provider) (next : ℕ) (old new : Names) (are : AreNames ps 
     retired_step mark marked name false false e f =
         retires name ∙ rw (e, f, retired-same n mark marked name x ps only (rw (e, f) refl)) (are.sound name)
 
+    -- who got an error carries one
     error_marked : (y z : Provider) → Some (with_error y) ≡ Some z → z.errored ≡ true
     error_marked y z is = let e : with_error y ≡ z = cc in sym (ap (λ w. w.errored) e)
 
@@ -162,6 +174,7 @@ module _ (ps : List Provider) (next : ℕ) (old new : Names) (are : AreNames ps 
           next_child = ap (λ v. v.next_child) alike ∙ are.next_child;
         }
 
+    -- nothing is left of one that goes
     never_marked : (y z : Provider) → None ≡ Some z → z.errored ≡ true
     never_marked y z never = absurd (cc)
 
@@ -187,6 +200,7 @@ module _ (ps : List Provider) (next : ℕ) (old new : Names) (are : AreNames ps 
 -- The provider of a name with the greatest number
 
 module _ (f : List ℕ → Option ℕ) (name : List ℕ) where
+  -- a name without a number is no provider's
   no_name : (ps : List Provider) → AreKnown f ps → f name ≡ None → filter (λ (x : Provider). same_name x.name name) ps ≡ []
   no_name [] known none = refl
   no_name (x ∷ xs) known none = step (same_name x.name name) refl (no_name xs known.1 none)
@@ -197,6 +211,7 @@ module _ (f : List ℕ → Option ℕ) (name : List ℕ) where
       step false e rest = rw e rest
 
   module _ (id : ℕ) (is : f name ≡ Some id) (apart : (q : List ℕ) → f q ≡ Some id → q ≡ name) where
+    -- a name has this number just where it is this name
     same_test : (q : List ℕ) (o : Option ℕ) (b : Bool) → f q ≡ o → same_name q name ≡ b → names o id ≡ b
     same_test q None true e s = let never : None ≡ Some id = sym e ∙ ap f (same_is q name s) ∙ is in absurd (cc)
     same_test q None false e s = refl
@@ -204,6 +219,7 @@ module _ (f : List ℕ → Option ℕ) (name : List ℕ) where
     same_test q (Some i) false e s =
         ne_eqb i id (λ same. let names : q ≡ name = apart q (e ∙ ap (λ k. Some k) same) in let never : true ≡ false = sym (is_same name) ∙ ap (λ m. same_name m name) (sym names) ∙ s in cc)
 
+    -- a provider's name has this number just where it is this name
     last_step : (x : Provider) (b : Bool) → same_name x.name name ≡ b → names (f x.name) id ≡ b
     last_step x b e = same_test x.name (f x.name) b refl e
 
@@ -220,6 +236,7 @@ module _ (f : List ℕ → Option ℕ) (name : List ℕ) where
         step true e rest = rw (e, last_step x true e) (rest (Some x) (Some (x.number, f x.name)) refl)
         step false e rest = rw (e, last_step x false e) (rest o p so)
 
+  -- the last of the providers of a name, by the number that the name may have
   newest_step : (children : List (ℕ × Option ℕ)) (ps : List Provider) → children ≡ under_ids f ps → AreKnown f ps → ((a b : List ℕ) (i : ℕ) → f a ≡ Some i → f b ≡ Some i → a ≡ b)
       → (o : Option ℕ) → f name ≡ o
       → option_and_then (λ id. last_child children id) o ≡ option_map (λ (x : Provider). x.number) (last_or None (filter (λ (x : Provider). same_name x.name name) ps))

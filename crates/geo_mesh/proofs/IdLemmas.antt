@@ -11,6 +11,7 @@ use Rattle.geo_mesh.specs.declared.names.Names.{Names}
 use Rattle.geo_mesh.specs.Names.{id_of, AreIds, SameNames}
 use Rattle.geo_mesh.proofs.NameLemmas.{same_is, is_same}
 
+-- a parent stays one when another comes
 parent_push : (ps : List ℕ) (n i : ℕ) → is_parent ps i ≡ true → is_parent (ps ++ n ∷ []) i ≡ true
 parent_push [] n i stands = absurd (cc)
 parent_push (p ∷ ps) n i stands =
@@ -19,6 +20,7 @@ parent_push (p ∷ ps) n i stands =
       | inr other ↦ rw (ne_eqb p i other) (parent_push ps n i (rw (ne_eqb p i other) at stands))
     ]
 
+-- the parent that comes is one
 parent_here : (ps : List ℕ) (n : ℕ) → is_parent (ps ++ n ∷ []) n ≡ true
 parent_here [] n = rw (eq-eqb n n refl) refl
 parent_here (p ∷ ps) n =
@@ -27,6 +29,7 @@ parent_here (p ∷ ps) n =
       | inr other ↦ rw (ne_eqb p n other) (parent_here ps n)
     ]
 
+-- a parent stays one when another goes
 parent_stays : (ps : List ℕ) (n i : ℕ) → (i ≡ n → ⊥) → is_parent ps i ≡ true → is_parent (filter (λ m. not (m == n)) ps) i ≡ true
 parent_stays [] n i apart stands = stands
 parent_stays (p ∷ ps) n i apart stands =
@@ -51,6 +54,7 @@ module _ (old new : Names) (are : AreIds old) where
 
   module _ (name : List ℕ) (id : ℕ) (fresh : id ≡ old.alike.next_parent) (update : (q : List ℕ) → id_of new q ≡ (if same_name name q then Some id else id_of old q))
       (parents : new.alike.parents ≡ old.alike.parents ++ id ∷ []) (next : new.alike.next_parent ≡ old.alike.next_parent + 1) where
+    -- a number after a name was opened: the new one, of this name, or one that its name had before
     open_cases : (q : List ℕ) (i : ℕ) (b : Bool) → same_name name q ≡ b → id_of new q ≡ Some i → ((b ≡ true) × (name ≡ q) × (i ≡ id)) ⊎ ((b ≡ false) × (id_of old q ≡ Some i))
     open_cases q i true e is = let same : Some id ≡ Some i = (let u = update q in rw (u, e) at is) in inl (refl, same_is name q e, (let k : id ≡ i = cc in sym k))
     open_cases q i false e is = inr (refl, (let u = update q in rw (u, e) at is))
@@ -80,10 +84,12 @@ module _ (old new : Names) (are : AreIds old) where
 
   module _ (name : List ℕ) (id : ℕ) (had : id_of old name ≡ Some id) (update : (q : List ℕ) → id_of new q ≡ (if same_name name q then None else id_of old q))
       (parents : new.alike.parents ≡ filter (λ m. not (m == id)) old.alike.parents) (next : new.alike.next_parent ≡ old.alike.next_parent) where
+    -- a number after a name was closed: another name had it before
     close_cases : (q : List ℕ) (i : ℕ) (b : Bool) → same_name name q ≡ b → id_of new q ≡ Some i → (b ≡ false) × (id_of old q ≡ Some i)
     close_cases q i true e is = let never : None ≡ Some i = (let u = update q in rw (u, e) at is) in absurd (cc)
     close_cases q i false e is = (refl, (let u = update q in rw (u, e) at is))
 
+    -- and it isn't the number that was given back
     other_id : (q : List ℕ) (i : ℕ) → id_of new q ≡ Some i → i ≡ id → ⊥
     other_id q i is same =
         let was = close_cases q i (same_name name q) refl is in
@@ -99,10 +105,12 @@ module _ (old new : Names) (are : AreIds old) where
     }
 
 -- where a parent has no last child, it has none
+-- behind an item there is a last one
 last_is_some : {X : Type 0} (x : X) (xs : List X) → is_some (last_or (Some x) xs) ≡ true
 last_is_some x [] = refl
 last_is_some x (y ∷ ys) = last_is_some y ys
 
+-- so a parent without a last child has no child
 pub no_last : (children : List (ℕ × Option ℕ)) (p : ℕ) → is_some (last_child children p) ≡ false → has_child children p ≡ false
 no_last [] p none = refl
 no_last (row ∷ rows) p none = step (names row.1 p) refl none (λ h. no_last rows p h)

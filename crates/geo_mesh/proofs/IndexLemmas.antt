@@ -15,6 +15,7 @@ use Rattle.geo_mesh.specs.Topo.{detach, first_provider, first_consumer}
 use Rattle.geo_mesh.specs.Index.{IsIndexed, IsFamilyOf, with_rooms, with_geom_index, with_provider_index, with_consumer_index, without_geom_index, without_provider_index, without_consumer_index, attached_index, detached_index, geom_numbers, provider_numbers, provider_geoms, consumer_geoms, consumer_providers}
 
 module _ {X Y : Type 0} (seen : X → Y) (test : X → Bool) (change : X → X) (same : (x : X) → seen (change x) ≡ seen x) where
+  -- one item more in front, changed or not, is seen as before
   change_step : (x : X) (xs : List X) (b : Bool) → test x ≡ b → map seen (change_where test change xs) ≡ map seen xs → map seen (change_where test change (x ∷ xs)) ≡ map seen (x ∷ xs)
   change_step x xs true e rest = rw (e, same x, rest) refl
   change_step x xs false e rest = rw (e, rest) refl
@@ -46,6 +47,7 @@ map-filter_number number n (x ∷ xs) =
       | inr other ↦ rw (ne_eqb (number x) n other) (ap (λ ns. number x ∷ ns) (map-filter_number number n xs))
     ]
 
+-- rows without a number, by what is seen
 pub map-filter_row : {X : Type 0} (number : X → ℕ) (value : X → Option ℕ) (n : ℕ) (xs : List X) → without (map (λ x. (number x, value x)) xs) n ≡ map (λ x. (number x, value x)) (filter (λ x. not (number x == n)) xs)
 map-filter_row number value n [] = refl
 map-filter_row number value n (x ∷ xs) =
@@ -73,6 +75,7 @@ value_at-map number value n (x ∷ xs) =
     ]
 
 module _ {X : Type 0} (number : X → ℕ) (value : X → Option ℕ) (p : ℕ) (test : X → Bool) (same : (x : X) → names (value x) p ≡ test x) where
+  -- one item more in front: whether it passes, and whether its number is past
   first_step : (n : ℕ) (x : X) (xs : List X) (a b : Bool) → test x ≡ a → nat_le n (number x) ≡ b
       → first_child (map (λ x. (number x, value x)) xs) p n ≡ option_map number (find (λ x. nat_le n (number x)) (filter test xs))
       → first_child (map (λ x. (number x, value x)) (x ∷ xs)) p n ≡ option_map number (find (λ x. nat_le n (number x)) (filter test (x ∷ xs)))
@@ -86,6 +89,7 @@ module _ {X : Type 0} (number : X → ℕ) (value : X → Option ℕ) (p : ℕ) 
   first_child-map n [] = refl
   first_child-map n (x ∷ xs) = first_step n x xs (test x) (nat_le n (number x)) refl refl (first_child-map n xs)
 
+  -- one item more in front, which doesn't pass, is no child either
   childless_step : (x : X) (xs : List X) (a : Bool) → test x ≡ a → filter test (x ∷ xs) ≡ []
       → (filter test xs ≡ [] → has_child (map (λ x. (number x, value x)) xs) p ≡ false) → has_child (map (λ x. (number x, value x)) (x ∷ xs)) p ≡ false
   childless_step x xs true e none so = let never : x ∷ filter test xs ≡ [] = rw e at none in absurd (cc)
@@ -96,6 +100,7 @@ module _ {X : Type 0} (number : X → ℕ) (value : X → Option ℕ) (p : ℕ) 
   childless-map [] none = refl
   childless-map (x ∷ xs) none = childless_step x xs (test x) refl none (λ h. childless-map xs h)
 
+-- whether one is named as the parent, as the model says it
 pub names-same : (o : Option ℕ) (p : ℕ) → names o p ≡ names_number o p
 names-same None p = refl
 names-same (Some q) p = refl
@@ -107,11 +112,13 @@ module _ {C : Type 0} (t : Topology C) (i : Index) (h : IsIndexed t i) where
       ap (λ xs. first_child xs geom n) h.offered.children
       ∙ first_child-map (λ (x : Provider). x.number) (λ x. Some x.geom) geom (λ x. x.geom == geom) (λ x. refl) n t.providers
 
+  -- the first consumer of a geom, from a number on
   pub owned_first : (geom n : ℕ) → first_child i.owned.children geom n ≡ first_consumer (consumers_of t geom) n
   owned_first geom n =
       ap (λ xs. first_child xs geom n) h.owned.children
       ∙ first_child-map (λ (x : Consumer). x.number) (λ x. Some x.geom) geom (λ x. x.geom == geom) (λ x. refl) n t.consumers
 
+  -- the first consumer attached to a provider, from a number on
   pub attached_first : (prov n : ℕ) → first_child i.attached.children prov n ≡ first_consumer (attached_to t prov) n
   attached_first prov n =
       ap (λ xs. first_child xs prov n) h.attached.children
@@ -121,27 +128,33 @@ module _ {C : Type 0} (t : Topology C) (i : Index) (h : IsIndexed t i) where
   pub offered_parent : (geom : ℕ) → IsSome (geom_at t geom) → is_parent i.offered.parents geom ≡ true
   offered_parent geom lives = ap (λ xs. is_parent xs geom) h.offered.parents ∙ found_parent (λ (x : Geom C). x.number) geom t.geoms lives
 
+  -- a geom that is there is a parent of consumers
   pub owned_parent : (geom : ℕ) → IsSome (geom_at t geom) → is_parent i.owned.parents geom ≡ true
   owned_parent geom lives = ap (λ xs. is_parent xs geom) h.owned.parents ∙ found_parent (λ (x : Geom C). x.number) geom t.geoms lives
 
+  -- a provider that is there is a parent of consumers that are attached
   pub attached_parent : (prov : ℕ) → IsSome (provider_at t prov) → is_parent i.attached.parents prov ≡ true
   attached_parent prov lives = ap (λ xs. is_parent xs prov) h.attached.parents ∙ found_parent (λ (x : Provider). x.number) prov t.providers lives
 
+  -- a geom without providers has no child among them
   pub offered_none : (geom : ℕ) → providers_of t geom ≡ [] → has_child i.offered.children geom ≡ false
   offered_none geom none =
       ap (λ xs. has_child xs geom) h.offered.children
       ∙ childless-map (λ (x : Provider). x.number) (λ x. Some x.geom) geom (λ x. x.geom == geom) (λ x. refl) t.providers none
 
+  -- a geom without consumers has no child among them
   pub owned_none : (geom : ℕ) → consumers_of t geom ≡ [] → has_child i.owned.children geom ≡ false
   owned_none geom none =
       ap (λ xs. has_child xs geom) h.owned.children
       ∙ childless-map (λ (x : Consumer). x.number) (λ x. Some x.geom) geom (λ x. x.geom == geom) (λ x. refl) t.consumers none
 
+  -- a provider to which nothing is attached has no child
   pub attached_none : (prov : ℕ) → attached_to t prov ≡ [] → has_child i.attached.children prov ≡ false
   attached_none prov none =
       ap (λ xs. has_child xs prov) h.attached.children
       ∙ childless-map (λ (x : Consumer). x.number) (λ x. x.provider) prov (λ x. names_number x.provider prov) (λ x. names-same x.provider prov) t.consumers none
 
+  -- a consumer that is attached to nothing has no parent there
   pub attached_free : (cons : ℕ) → IsSomeAnd (consumer_at t cons) (λ x. x.provider ≡ None) → value_at i.attached.children cons ≡ Some None
   attached_free cons free =
       ap (λ xs. value_at xs cons) h.attached.children
@@ -156,6 +169,7 @@ module _ {C : Type 0} (t : Topology C) (i : Index) (h : IsIndexed t i) where
   pub indexed-rooms : (j : Index) → j ≡ with_rooms i j → IsIndexed t j
   indexed-rooms j same = subst (λ k. IsIndexed t k) (sym same) (record { offered = record { parents = h.offered.parents; children = h.offered.children; next_parent = h.offered.next_parent; next_child = h.offered.next_child }; owned = record { parents = h.owned.parents; children = h.owned.children; next_parent = h.owned.next_parent; next_child = h.owned.next_child }; attached = record { parents = h.attached.parents; children = h.attached.children; next_parent = h.attached.next_parent; next_child = h.attached.next_child } })
 
+  -- the index with a new geom is that of the graph with it
   pub indexed-add_geom : (kind : Kind) (name : List ℕ) (config : C) (automatic : Bool) → IsIndexed (add_geom t kind name config automatic) (with_geom_index i)
   indexed-add_geom kind name config automatic =
       let x : Geom C = record { number = t.next_geom; kind = kind; name = name; config = config; automatic = automatic; withering = false; started = 0 } in
@@ -165,6 +179,7 @@ module _ {C : Type 0} (t : Topology C) (i : Index) (h : IsIndexed t i) where
         attached = h.attached;
       }
 
+  -- the index with a new provider is that of the graph with it
   pub indexed-add_provider : (geom : ℕ) (name : List ℕ) (size sector : ℕ) → IsIndexed (add_provider t geom name size sector) (with_provider_index i geom)
   indexed-add_provider geom name size sector =
       let x : Provider = record { number = t.next_provider; geom = geom; name = name; size = size; sector = sector; errored = false } in
@@ -174,6 +189,7 @@ module _ {C : Type 0} (t : Topology C) (i : Index) (h : IsIndexed t i) where
         attached = record { parents = rw (h.attached.parents, h.attached.next_parent) (sym (map-append (λ (x : Provider). x.number) t.providers (x ∷ []))); children = h.attached.children; next_parent = ap (λ n. n + 1) h.attached.next_parent; next_child = h.attached.next_child };
       }
 
+  -- the index with a new consumer is that of the graph with it
   pub indexed-add_consumer : (geom : ℕ) → IsIndexed (add_consumer t geom None) (with_consumer_index i geom)
   indexed-add_consumer geom =
       let x : Consumer = record { number = t.next_consumer; geom = geom; provider = None; spoiled = false } in
@@ -183,6 +199,7 @@ module _ {C : Type 0} (t : Topology C) (i : Index) (h : IsIndexed t i) where
         attached = record { parents = h.attached.parents; children = rw (h.attached.children, h.attached.next_child) (sym (map-append (λ (x : Consumer). (x.number, x.provider)) t.consumers (x ∷ []))); next_parent = h.attached.next_parent; next_child = ap (λ n. n + 1) h.attached.next_child };
       }
 
+  -- the index without a geom is that of the graph without it
   pub indexed-remove_geom : (geom : ℕ) → IsIndexed (remove_geom t geom) (without_geom_index i geom)
   indexed-remove_geom geom = record {
     offered = record { parents = rw h.offered.parents (map-filter_number (λ (x : Geom C). x.number) geom t.geoms); children = h.offered.children; next_parent = h.offered.next_parent; next_child = h.offered.next_child };
@@ -190,6 +207,7 @@ module _ {C : Type 0} (t : Topology C) (i : Index) (h : IsIndexed t i) where
     attached = h.attached;
   }
 
+  -- the index without a provider is that of the graph without it
   pub indexed-remove_provider : (prov : ℕ) → IsIndexed (remove_provider t prov) (without_provider_index i prov)
   indexed-remove_provider prov = record {
     offered = record { parents = h.offered.parents; children = rw h.offered.children (map-filter_row (λ (x : Provider). x.number) (λ x. Some x.geom) prov t.providers); next_parent = h.offered.next_parent; next_child = h.offered.next_child };
@@ -197,6 +215,7 @@ module _ {C : Type 0} (t : Topology C) (i : Index) (h : IsIndexed t i) where
     attached = record { parents = rw h.attached.parents (map-filter_number (λ (x : Provider). x.number) prov t.providers); children = h.attached.children; next_parent = h.attached.next_parent; next_child = h.attached.next_child };
   }
 
+  -- the index without a consumer is that of the graph without it
   pub indexed-remove_consumer : (cons : ℕ) → IsIndexed (remove_consumer t cons) (without_consumer_index i cons)
   indexed-remove_consumer cons = record {
     offered = h.offered;
@@ -204,6 +223,7 @@ module _ {C : Type 0} (t : Topology C) (i : Index) (h : IsIndexed t i) where
     attached = record { parents = h.attached.parents; children = rw h.attached.children (map-filter_row (λ (x : Consumer). x.number) (λ x. x.provider) cons t.consumers); next_parent = h.attached.next_parent; next_child = h.attached.next_child };
   }
 
+  -- the index with a consumer attached is that of the graph with it attached
   pub indexed-attach : (cons prov : ℕ) → IsIndexed (attach t cons prov) (attached_index i cons prov)
   indexed-attach cons prov = record {
     offered = h.offered;
@@ -211,6 +231,7 @@ module _ {C : Type 0} (t : Topology C) (i : Index) (h : IsIndexed t i) where
     attached = record { parents = h.attached.parents; children = rw h.attached.children (map-change_number (λ (x : Consumer). x.number) (λ x. x.provider) (λ x. record x { provider = Some prov }) cons (Some prov) (λ x. refl) (λ x. refl) t.consumers); next_parent = h.attached.next_parent; next_child = h.attached.next_child };
   }
 
+  -- the index with a consumer detached is that of the graph with it detached
   pub indexed-detach : (cons : ℕ) → IsIndexed (detach t cons) (detached_index i cons)
   indexed-detach cons = record {
     offered = h.offered;
@@ -218,6 +239,7 @@ module _ {C : Type 0} (t : Topology C) (i : Index) (h : IsIndexed t i) where
     attached = record { parents = h.attached.parents; children = rw h.attached.children (map-change_number (λ (x : Consumer). x.number) (λ x. x.provider) (λ x. record x { provider = None }) cons None (λ x. refl) (λ x. refl) t.consumers); next_parent = h.attached.next_parent; next_child = h.attached.next_child };
   }
 
+  -- an error at a provider leaves the index
   pub indexed-set_error : (prov : ℕ) → IsIndexed (set_error t prov) i
   indexed-set_error prov = record {
     offered = record { parents = h.offered.parents; children = h.offered.children ∙ sym (map-change_where (λ (x : Provider). (x.number, Some x.geom)) (λ x. x.number == prov) (λ x. record x { errored = true }) (λ x. refl) t.providers); next_parent = h.offered.next_parent; next_child = h.offered.next_child };
@@ -225,6 +247,7 @@ module _ {C : Type 0} (t : Topology C) (i : Index) (h : IsIndexed t i) where
     attached = record { parents = h.attached.parents ∙ sym (map-change_where (λ (x : Provider). x.number) (λ x. x.number == prov) (λ x. record x { errored = true }) (λ x. refl) t.providers); children = h.attached.children; next_parent = h.attached.next_parent; next_child = h.attached.next_child };
   }
 
+  -- other marks of consumers leave the index
   pub indexed-set_marks : (test : Consumer → Bool) (marked : Bool) → IsIndexed (set_marks t test marked) i
   indexed-set_marks test marked = record {
     offered = h.offered;
@@ -240,16 +263,19 @@ module _ {C : Type 0} (t : Topology C) (i : Index) (h : IsIndexed t i) where
     attached = h.attached;
   }
 
+  -- a geom that withers leaves the index
   pub indexed-set_withering : (geom : ℕ) → IsIndexed (set_withering t geom) i
   indexed-set_withering geom =
       let xs : List (Geom C) = change_where (λ x. x.number == geom) (λ x. record x { withering = true }) t.geoms in
       indexed-geoms xs (map-change_where (λ (x : Geom C). x.number) (λ x. x.number == geom) (λ x. record x { withering = true }) (λ x. refl) t.geoms)
 
+  -- another configuration of a geom leaves the index
   pub indexed-set_config : (geom : ℕ) (config : C) → IsIndexed (set_config t geom config) i
   indexed-set_config geom config =
       let xs : List (Geom C) = change_where (λ x. x.number == geom) (λ x. record x { config = config }) t.geoms in
       indexed-geoms xs (map-change_where (λ (x : Geom C). x.number) (λ x. x.number == geom) (λ x. record x { config = config }) (λ x. refl) t.geoms)
 
+  -- one more started request at a geom leaves the index
   pub indexed-note_started : (geom : ℕ) → IsIndexed (note_started t geom) i
   indexed-note_started geom =
       let xs : List (Geom C) = change_where (λ x. x.number == geom) (λ x. record x { started = x.started + 1 }) t.geoms in

@@ -42,6 +42,7 @@ room_for a b c d e f g p q i one two most_g most_p most_q = record {
   attached_children = omega (arith, one.attached_children, two.attached_children, most_q);
 }
 
+-- room for names, for what there was room for, and for more of it
 pub name_room_for : (a b p : ℕ) (m : Names) → HaveNameRoom a m → HaveNameRoom b m → p ≤ max a b → HaveNameRoom p m
 name_room_for a b p m one two most = record { in_sound = omega (arith, one.in_sound, two.in_sound, most); in_ids = omega (arith, one.in_ids, two.in_ids, most); in_parents = omega (arith, one.in_parents, two.in_parents, most); in_children = omega (arith, one.in_children, two.in_children, most) }
 
@@ -64,6 +65,7 @@ module _ {C : Type 0} (gs : SlotsView (GeomCell C)) (ps : SlotsView ProvCell) (c
       (subst (λ c. IsMesh (record gs { spare = gs'.spare }) (record ps { spare = ps'.spare }) c live j m) (sym same_c)
       (record { count = mesh.count; indexed = indexed-rooms (graph_of gs ps cs) i mesh.indexed j same; room = room; names_are = names-same (map provider_row ps.rows) ps.next n m mesh.names_are same_names; names_ids = ids-same n m mesh.names_ids same_names; names_room = name_room })))
 
+  -- the graph with a new provider's row is the graph with a new provider
   graph-provider : (v : ProvCell) → v.provider.errored ≡ false → graph_of gs (with_insert ps v) cs ≡ add_provider (graph_of gs ps cs) v.provider.geom v.provider.name v.provider.size v.provider.sector
   graph-provider v sound = rw (map-append provider_row ps.rows ((ps.next, v) ∷ []), sound) refl
 
@@ -86,6 +88,7 @@ module _ {C : Type 0} (gs : SlotsView (GeomCell C)) (ps : SlotsView ProvCell) (c
     };
   }
 
+  -- the graph with a new consumer's row is the graph with a new consumer
   graph-consumer : (v : ConsCell) → v.consumer.prov ≡ None → v.consumer.spoiled ≡ false → graph_of gs ps (with_insert cs v) ≡ add_consumer (graph_of gs ps cs) v.consumer.geom None
   graph-consumer v free clean = rw (map-append consumer_row cs.rows ((cs.next, v) ∷ []), free, clean) refl
 
@@ -107,6 +110,7 @@ module _ {C : Type 0} (gs : SlotsView (GeomCell C)) (ps : SlotsView ProvCell) (c
     };
   }
 
+  -- the graph with a new geom's row is the graph with a new geom
   graph-geom : (v : GeomCell C) → v.geom.withering ≡ false → v.geom.started ≡ 0 → graph_of (with_insert gs v) ps cs ≡ add_geom (graph_of gs ps cs) v.geom.kind v.geom.name v.geom.config v.geom.automatic
   graph-geom v stays none = rw (map-append geom_row gs.rows ((gs.next, v) ∷ []), stays, none) refl
 
@@ -128,9 +132,11 @@ module _ {C : Type 0} (gs : SlotsView (GeomCell C)) (ps : SlotsView ProvCell) (c
     };
   }
 
+  -- without a geom the index has the same room
   same_room_geom : (k : ℕ) → HaveRoom gs.spare ps.spare cs.spare (without_geom_index i k)
   same_room_geom k = record { offered_parents = mesh.room.offered_parents; offered_children = mesh.room.offered_children; owned_parents = mesh.room.owned_parents; owned_children = mesh.room.owned_children; attached_parents = mesh.room.attached_parents; attached_children = mesh.room.attached_children }
 
+  -- the provider of a number is that of the row under it
   found_provider : (k : ℕ) (v : ProvCell) (rows : List (ℕ × ProvCell)) → Some v ≡ value_at rows k → find (λ (x : Provider). x.number == k) (map provider_row rows) ≡ Some (provider_row (k, v))
   found_provider k v rows at = find-map provider_row k (λ (x : Provider). x.number == k) (λ row. refl) rows ∙ ap (option_map (λ w. provider_row (k, w))) (sym at)
 

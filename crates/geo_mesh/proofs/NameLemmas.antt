@@ -12,6 +12,7 @@ use Rattle.geo_mesh.specs.Cells.{provider_row}
 use Rattle.geo_mesh.specs.Names.{is_sound_named, OneEach, AreNames, sound_of, AddsName, RetiresName, SameNames}
 use Rattle.geo_mesh.proofs.RowLemmas.{OnlyValue, find-map}
 
+-- where both hold, each does
 both_true : (a b : Bool) → (a && b) ≡ true → (a ≡ true) × (b ≡ true)
 both_true true b e = (refl, e)
 both_true false b e = absurd (cc)
@@ -24,6 +25,7 @@ same_is (x ∷ xs) [] e = absurd (cc)
 same_is (x ∷ xs) (y ∷ ys) e =
     let parts = both_true (x == y) (same_name xs ys) e in λ i. eqb-true x y parts.0 i ∷ same_is xs ys parts.1 i
 
+-- and a name is the same as itself
 pub is_same : (a : List ℕ) → same_name a a ≡ true
 is_same [] = refl
 is_same (x ∷ xs) = rw (eq-eqb x x refl) (is_same xs)
@@ -33,14 +35,17 @@ abbrev pub OnlyProvider : ℕ → Provider → List Provider → Type 0
 OnlyProvider n x [] = Unit {0}
 OnlyProvider n x (y ∷ ys) = ((y.number == n) ≡ true → y ≡ x) × OnlyProvider n x ys
 
+-- what doesn't hold is false
 not_true : (a : Bool) → not a ≡ true → a ≡ false
 not_true true e = absurd (cc)
 not_true false e = refl
 
+-- a provider with an error isn't one without an error of any name
 pub errored_fails : (name : List ℕ) (z : Provider) → z.errored ≡ true → is_sound_named name z ≡ false
 errored_fails name z e = rw e refl
 
 module _ {X : Type 0} (test : X → Bool) where
+  -- where none is found, by whether the first passes
   miss_step : (y : X) (ys : List X) (b : Bool) → test y ≡ b → find test (y ∷ ys) ≡ None → (test y ≡ false) × (find test ys ≡ None)
   miss_step y ys true e none = let never : Some y ≡ None = rw e at none in absurd (cc)
   miss_step y ys false e none = (e, rw e at none)
@@ -49,18 +54,22 @@ module _ {X : Type 0} (test : X → Bool) where
   missed : (y : X) (ys : List X) → find test (y ∷ ys) ≡ None → (test y ≡ false) × (find test ys ≡ None)
   missed y ys none = miss_step y ys (test y) refl none
 
+  -- the first is skipped where it doesn't pass
   skip : (y : X) (ys : List X) → test y ≡ false → find test (y ∷ ys) ≡ find test ys
   skip y ys e = rw e refl
 
+  -- one item more in front of those that another one joins at the end
   push_step : (x y : X) (ys : List X) (b : Bool) → test y ≡ b → find test (ys ++ x ∷ []) ≡ option_or (find test ys) (if test x then Some x else None)
       → find test ((y ∷ ys) ++ x ∷ []) ≡ option_or (find test (y ∷ ys)) (if test x then Some x else None)
   push_step x y ys true e so = rw e refl
   push_step x y ys false e so = rw e so
 
+  -- with one item more at the end: what was found before, else that item if it passes
   find-push : (x : X) (ys : List X) → find test (ys ++ x ∷ []) ≡ option_or (find test ys) (if test x then Some x else None)
   find-push x [] = refl
   find-push x (y ∷ ys) = push_step x y ys (test y) refl (find-push x ys)
 
+  -- one item more in front of one that is found and passes another test too
   found_step : (other : X → Bool) (x y : X) (ys : List X) (b : Bool) → test y ≡ b → find test (y ∷ ys) ≡ Some x → other x ≡ true → find other (y ∷ ys) ≡ None
       → (find test ys ≡ Some x → find other ys ≡ None → ⊥) → (other y ≡ false) × (find other ys ≡ None) → ⊥
   found_step other x y ys true e found passes none so miss =
@@ -77,12 +86,15 @@ found_too test other x (y ∷ ys) found passes none =
 
 -- The providers with that of a number marked by an error, or gone
 module _ (n : ℕ) (mark : Provider → Option Provider) (marked : (y z : Provider) → mark y ≡ Some z → z.errored ≡ true) where
+  -- the provider of the number marked or gone, another one as it is
   abbrev pub retire : Provider → Option Provider
   retire y = if y.number == n then mark y else Some y
 
+  -- all the providers so
   abbrev pub retired : List Provider → List Provider
   retired ys = filter_map retire ys
 
+  -- whether it was marked or has gone, the one of the number isn't found
   marked_step : (name : List ℕ) (y : Provider) (ys : List Provider) (o : Option Provider) → mark y ≡ o → (y.number == n) ≡ true
       → find (is_sound_named name) (retired (y ∷ ys)) ≡ find (is_sound_named name) (retired ys)
   marked_step name y ys None e here = rw (here, e) refl
@@ -92,6 +104,7 @@ module _ (n : ℕ) (mark : Provider → Option Provider) (marked : (y z : Provid
   marked-find : (name : List ℕ) (y : Provider) (ys : List Provider) → (y.number == n) ≡ true → find (is_sound_named name) (retired (y ∷ ys)) ≡ find (is_sound_named name) (retired ys)
   marked-find name y ys here = marked_step name y ys (mark y) refl here
 
+  -- another one is found if it is of the name, else one behind it
   kept-find : (name : List ℕ) (y : Provider) (ys : List Provider) (b : Bool) → (y.number == n) ≡ false → is_sound_named name y ≡ b
       → find (is_sound_named name) (retired (y ∷ ys)) ≡ (if b then Some y else find (is_sound_named name) (retired ys))
   kept-find name y ys b apart e = rw (apart, e) refl
@@ -102,12 +115,14 @@ module _ (n : ℕ) (mark : Provider → Option Provider) (marked : (y z : Provid
   none_step name y ys true e fails so = marked-find name y ys e ∙ so
   none_step name y ys false e fails so = kept-find name y ys false e fails ∙ so
 
+  -- a name that had no provider without an error has none after
   pub retired-none : (name : List ℕ) (ys : List Provider) → find (is_sound_named name) ys ≡ None → find (is_sound_named name) (retired ys) ≡ None
   retired-none name [] none = refl
   retired-none name (y ∷ ys) none =
       let miss = missed (is_sound_named name) y ys none in
       none_step name y ys (y.number == n) refl miss.0 (retired-none name ys miss.1)
 
+  -- one provider more in front: the one of the number, one of the name, or neither
   same_step : (name : List ℕ) (x y : Provider) (ys : List Provider) (a b : Bool) → (y.number == n) ≡ a → is_sound_named name y ≡ b
       → ((y.number == n) ≡ true → y ≡ x) → is_sound_named name x ≡ false → find (is_sound_named name) (retired ys) ≡ find (is_sound_named name) ys
       → find (is_sound_named name) (retired (y ∷ ys)) ≡ find (is_sound_named name) (y ∷ ys)
@@ -120,6 +135,7 @@ module _ (n : ℕ) (mark : Provider → Option Provider) (marked : (y z : Provid
   retired-same name x [] only fails = refl
   retired-same name x (y ∷ ys) only fails = same_step name x y ys (y.number == n) (is_sound_named name y) refl refl only.0 fails (retired-same name x ys only.1 fails)
 
+  -- one provider more in front: the one of the number, another of the name, or neither
   gone_step : (x y : Provider) (ys : List Provider) (a b : Bool) → (y.number == n) ≡ a → is_sound_named x.name y ≡ b → x.errored ≡ false
       → OnlyProvider n x (y ∷ ys) → OneEach (y ∷ ys) → find (λ z. z.number == n) (y ∷ ys) ≡ Some x
       → (find (λ z. z.number == n) ys ≡ Some x → find (is_sound_named x.name) (retired ys) ≡ None) → find (is_sound_named x.name) (retired (y ∷ ys)) ≡ None
@@ -143,10 +159,12 @@ module _ (n : ℕ) (mark : Provider → Option Provider) (marked : (y z : Provid
   retired-gone x (y ∷ ys) sound only one found =
       gone_step x y ys (y.number == n) (is_sound_named x.name y) refl refl sound only one found (λ f. retired-gone x ys sound only.1 one.1 f)
 
+  -- one more in front that is marked or gone leaves at most one of each name
   one_marked : (y : Provider) (ys : List Provider) (o : Option Provider) → mark y ≡ o → (y.number == n) ≡ true → OneEach (retired ys) → OneEach (retired (y ∷ ys))
   one_marked y ys None e here so = rw (here, e) so
   one_marked y ys (Some z) e here so = rw (here, e) ((λ sound. let never : true ≡ false = sym (marked y z e) ∙ sound in absurd (cc)), so)
 
+  -- so does one more in front, whether it is that of the number or not
   one_step : (y : Provider) (ys : List Provider) (a : Bool) → (y.number == n) ≡ a → (y.errored ≡ false → find (is_sound_named y.name) ys ≡ None) → OneEach (retired ys) → OneEach (retired (y ∷ ys))
   one_step y ys true e one so = one_marked y ys (mark y) refl e so
   one_step y ys false e one so = rw e ((λ sound. retired-none y.name ys (one sound)), so)
@@ -170,6 +188,7 @@ module _ (x : Provider) (sound : x.errored ≡ false) where
       or_none None = refl
       or_none (Some y) = refl
 
+  -- one without an error that isn't found by the new name has another name
   apart : (y : Provider) (b : Bool) → same_name x.name y.name ≡ b → y.errored ≡ false → is_sound_named x.name y ≡ false → b ≡ false
   apart y false e clean fails = refl
   apart y true e clean fails =
@@ -177,6 +196,7 @@ module _ (x : Provider) (sound : x.errored ≡ false) where
       let passes : is_sound_named x.name y ≡ true = rw (clean, names, is_same y.name) refl in
       let never : true ≡ false = sym passes ∙ fails in absurd (cc)
 
+  -- and still there is at most one of each name
   pub pushed-one : (ys : List Provider) → OneEach ys → find (is_sound_named x.name) ys ≡ None → OneEach (ys ++ x ∷ [])
   pushed-one [] one none = ((λ _. refl), tt)
   pushed-one (y ∷ ys) one none =
@@ -198,6 +218,7 @@ retired-change n (y ∷ ys) =
       | inr other ↦ rw (ne_eqb y.number n other) (ap (λ zs. y ∷ zs) (retired-change n ys))
     ]
 
+-- a removal leaves the providers of the other numbers
 pub retired-filter : (n : ℕ) (ys : List Provider) → filter_map (λ (y : Provider). if y.number == n then None else Some y) ys ≡ filter (λ y. not (y.number == n)) ys
 retired-filter n [] = refl
 retired-filter n (y ∷ ys) =

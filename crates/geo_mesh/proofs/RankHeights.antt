@@ -61,15 +61,18 @@ count_low f n [] = 0
 count_low f n (x ∷ xs) = count_low f n xs + (if nat_le (f x) n then 1 else 0)
 
 module _ (f : ℕ → ℕ) where
+  -- a value that counts still counts under the next bound
   one_grows : (n v : ℕ) (a b : Bool) → nat_le v n ≡ a → nat_le v (n + 1) ≡ b → (if a then 1 else 0) ≤ (if b then 1 else 0)
   one_grows n v false b e k = omega arith
   one_grows n v true true e k = omega arith
   one_grows n v true false e k = absurd (omega (arith, leb-true v n e, leb-false v (n + 1) k))
 
+  -- under the next bound no fewer count
   count_low-grows : (n : ℕ) (xs : List ℕ) → count_low f n xs ≤ count_low f (n + 1) xs
   count_low-grows n [] = omega arith
   count_low-grows n (x ∷ xs) = omega (arith, count_low-grows n xs, one_grows n (f x) (nat_le (f x) n) (nat_le (f x) (n + 1)) refl refl)
 
+  -- the next value counts under the next bound, and not before
   one_more : (n v : ℕ) (a b : Bool) → nat_le v n ≡ a → nat_le v (n + 1) ≡ b → v ≡ n + 1 → (if a then 1 else 0) + 1 ≤ (if b then 1 else 0)
   one_more n v false true e k is = omega arith
   one_more n v true b e k is = absurd (omega (arith, leb-true v n e))
@@ -84,10 +87,12 @@ module _ (f : ℕ → ℕ) where
   count_low-more n x (y ∷ ys) (inr later) is =
       omega (arith, count_low-more n x ys later is, one_grows n (f y) (nat_le (f y) n) (nat_le (f y) (n + 1)) refl refl)
 
+  -- each counts once at most
   at_most_one : (b : Bool) → (if b then 1 else 0) ≤ 1
   at_most_one true = omega arith
   at_most_one false = omega arith
 
+  -- no more count than are in the list
   count_low-most : (n : ℕ) (xs : List ℕ) → count_low f n xs ≤ length xs
   count_low-most n [] = omega arith
   count_low-most n (x ∷ xs) = omega (arith, count_low-most n xs, at_most_one (nat_le (f x) n))
@@ -130,19 +135,23 @@ module _ (f : ℕ → ℕ) where
 abbrev pub reached_in : {C : Type 0} → Topology C → ℕ → ℕ → ℕ → Bool
 reached_in t k y g = list_any (λ h. h == g) (geoms_reached_within k t y)
 
+-- of two, of which one holds, it is the first or the second
 any_both_step : (a b c : Bool) → (a || b) ≡ true → (a ≡ true) ⊎ (b ≡ true)
 any_both_step true b c e = inl refl
 any_both_step false b c e = inr e
 
+-- where the first holds, one of both does
 or_left : (a b : Bool) → a ≡ true → (a || b) ≡ true
 or_left true b e = refl
 or_left false b e = absurd cc
 
+-- where the second holds, one of both does
 or_right : (a b : Bool) → b ≡ true → (a || b) ≡ true
 or_right true b e = refl
 or_right false b e = e
 
 module _ (test : ℕ → Bool) where
+  -- an item of two lists passes where one of the first or of the second does
   any_append : (xs ys : List ℕ) → list_any test (xs ++ ys) ≡ (list_any test xs || list_any test ys)
   any_append [] ys = refl
   any_append (x ∷ xs) ys = rw (any_append xs ys) (joined (test x) (list_any test xs) (list_any test ys)) where
@@ -158,6 +167,7 @@ module _ (test : ℕ → Bool) where
   any_flat f (m ∷ ms) h (inr later) passes =
       any_append (f m) (flat_map f ms) ∙ or_right (list_any test (f m)) (list_any test (flat_map f ms)) (any_flat f ms h later passes)
 
+  -- an item of many lists that passes is in one of them
   flat_any : (f : ℕ → List ℕ) (ms : List ℕ) → list_any test (flat_map f ms) ≡ true → (h : ℕ) × IsAmong ms h × (list_any test (f h) ≡ true)
   flat_any f [] passes = absurd cc
   flat_any f (m ∷ ms) passes = pick (any_both_step (list_any test (f m)) (list_any test (flat_map f ms)) true (sym (any_append (f m) (flat_map f ms)) ∙ passes)) (λ e. flat_any f ms e) where
@@ -167,10 +177,12 @@ module _ (test : ℕ → Bool) where
     pick (inr rest) so = let found : (h : ℕ) × IsAmong ms h × (list_any test (f h) ≡ true) = so rest in (found.0, inr found.1, found.2)
 
 module _ {C : Type 0} (t : Topology C) where
+  -- a geom reaches itself over any number of levels
   reached_self : (k g y : ℕ) → (y ≡ g) → reached_in t k y g ≡ true
   reached_self zero g y same = or_left (y == g) false (eq-eqb y g same)
   reached_self (suc k) g y same = or_left (y == g) (list_any (λ h. h == g) (flat_map (geoms_reached_within k t) (geoms_under t y))) (eq-eqb y g same)
 
+  -- what a geom directly below reaches is reached over one level more
   reached_under : (k g y h : ℕ) → IsAmong (geoms_under t y) h → reached_in t k h g ≡ true → reached_in t (suc k) y g ≡ true
   reached_under k g y h under there =
       or_right (y == g) (list_any (λ h. h == g) (flat_map (geoms_reached_within k t) (geoms_under t y)))

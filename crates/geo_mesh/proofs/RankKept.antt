@@ -159,6 +159,7 @@ module _ (classes : List (ℕ × Kind)) (standing owners : List (ℕ × ℕ)) (u
         peak_same f x [] facts = refl
         peak_same f x (row ∷ users) facts = rw (through f row.1.1 facts.0, peak_same f x users facts.1) refl
 
+  -- one more that doesn't hold changes nothing where none holds
   or_false : (a : Bool) → a ≡ false → (a || false) ≡ false
   or_false true e = e
   or_false false e = refl

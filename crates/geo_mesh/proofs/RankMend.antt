@@ -10,6 +10,7 @@ is_or_not_step : (m n : ℕ) (b : Bool) → (m == n) ≡ b → (m ≡ n) ⊎ (m 
 is_or_not_step m n true e = inl (eqb-true m n e)
 is_or_not_step m n false e = inr (eqb-false m n e)
 
+-- so for any two numbers
 pub is_or_not : (m n : ℕ) → (m ≡ n) ⊎ (m ≡ n → ⊥)
 is_or_not m n = is_or_not_step m n (m == n) refl
 
@@ -231,11 +232,13 @@ module _ (below : ℕ → List ℕ) (f : ℕ → ℕ) where
           at h under (inr differs) = omega (arith, one.mended x h under (omega (arith, one.grows h, differs)))
 
     module _ (local : (x : ℕ) → f x ≡ above below f x) where
+      -- after a lift no other geom has a greater value than it has to have
       lifted-low : (x : ℕ) → (x ≡ g → ⊥) → r x ≤ above below r x
       lifted-low x other =
           let up : above below f x ≤ above below r x = above-grows below f r x one.grows in
           omega (arith, local x, one.bounded x other)
 
+      -- after a lift of values that are one more than the largest below, each value is enough
       enough_all : (x : ℕ) → above below r x ≤ r x
       enough_all = lifted-enough (λ x. omega (arith, local x))
 

@@ -24,6 +24,7 @@ use Rattle.geo_mesh.proofs.RankHeights.{local-climbs, local-height, local-few, h
 use Rattle.geo_mesh.proofs.RankRows.{peak, peak-is, peak-with, adds, all-at, passing-between, rising-with, with_value-same, kinds-bare}
 use Rattle.geo_mesh.proofs.RankKept.{ranks-new_consumer, ranks-destroy_consumer, ranks-new_provider, ranks-destroy_provider, ranks-new_geom, ranks-destroy_geom}
 
+-- two functions with the same values take the same from a list
 filter_map-same : {X Y : Type 0} (f h : X → Option Y) → ((x : X) → f x ≡ h x) → (xs : List X) → filter_map f xs ≡ filter_map h xs
 filter_map-same f h same [] = refl
 filter_map-same f h same (x ∷ xs) = at (h x) refl (filter_map-same f h same xs) where
@@ -32,6 +33,7 @@ filter_map-same f h same (x ∷ xs) = at (h x) refl (filter_map-same f h same xs
   at (Some y) e rest = rw (same x, e) (ap (λ ys. y ∷ ys) rest)
 
 module _ {C : Type 0} (gs : SlotsView (GeomCell C)) (ps : SlotsView ProvCell) (cs : SlotsView ConsCell) where
+  -- the providers to which the consumers of a geom are attached, by the rows
   provs_under : (g : ℕ) (rows : List (ℕ × ConsCell))
       → filter_map (λ (x : Consumer). x.provider) (filter (λ (x : Consumer). x.geom == g) (map consumer_row rows)) ≡ filter_map (λ (row : ℕ × (ℕ × Option ℕ)). row.1.1) (filter (λ (row : ℕ × (ℕ × Option ℕ)). row.1.0 == g) (rows_with ends_of rows))
   provs_under g [] = refl
@@ -43,6 +45,7 @@ module _ {C : Type 0} (gs : SlotsView (GeomCell C)) (ps : SlotsView ProvCell) (c
     at true e None k rest = rw (e, k) rest
     at true e (Some p) k rest = rw (e, k) (ap (λ qs. p ∷ qs) rest)
 
+  -- the geom of a provider, by the rows
   owner_seen : (p : ℕ) → option_map (λ (x : Provider). x.geom) (provider_at (graph_of gs ps cs) p) ≡ value_at (offers ps).rows p
   owner_seen p = rw (provider_at-view gs ps cs p, value_at-rows_with owner_of p ps.rows) (at (value_at ps.rows p)) where
     at : (o : Option ProvCell) → option_map (λ (x : Provider). x.geom) (option_map (λ v. provider_row (p, v)) o) ≡ option_map owner_of o
@@ -84,6 +87,7 @@ module _ {C : Type 0} (gs : SlotsView (GeomCell C)) (ps : SlotsView ProvCell) (c
     each r same (row ∷ rows) = rw (same row.0, each r same rows) refl
 
   module _ (f : ℕ → ℕ) (local : (x : ℕ) → f x ≡ above (below ps cs) f x) (few : (x : ℕ) → f x ≤ length gs.rows + 1) where
+    -- the values, each less by one, still climb
     lowered_climbs : Climbs (geoms_under (graph_of gs ps cs)) (λ x. f x - 1)
     lowered_climbs x h there =
         let near : IsAmong (below ps cs x) h = subst (λ ms. IsAmong ms h) (under-graph x) there in
@@ -107,6 +111,7 @@ module _ {C : Type 0} (gs : SlotsView (GeomCell C)) (ps : SlotsView ProvCell) (c
     pub stored-rank : (x : ℕ) → rank (graph_of gs ps cs) x ≡ stored gs x
     stored-rank x = rank-is (stored gs) mesh.standing.local (stored-few (below ps cs) mesh.standing.local) x
 
+    -- each rank that stands in a cell fits in 32 bits
     pub mesh-few : (x : ℕ) → stored gs x ≤ 4294967295
     mesh-few x = omega (arith, stored-few (below ps cs) mesh.standing.local x, mesh.count.counted, mesh.count.few)
 
@@ -170,6 +175,7 @@ stored-unique gs ns users same local again x =
 
 -- the mesh stands as it did after a change of one row that leaves classes, ranks and the graph
 module _ {C : Type 0} (gs : SlotsView (GeomCell C)) (ps : SlotsView ProvCell) (cs : SlotsView ConsCell) (live n : ℕ) (mesh : HaveRanks gs ps cs live) where
+  -- after a change of a geom that leaves its class and its rank
   pub mesh-geom : (v w : GeomCell C) → IsRising 1 gs.rows gs.next → Some v ≡ value_at gs.rows n → kind_of w ≡ kind_of v → rank_of w ≡ rank_of v
       → HaveRanks (record gs { rows = with_value gs.rows n w }) ps cs live
   mesh-geom v w rising at kind rank =
@@ -178,6 +184,7 @@ module _ {C : Type 0} (gs : SlotsView (GeomCell C)) (ps : SlotsView ProvCell) (c
       let standing : rows_with (rank_of {C = C}) (with_value gs.rows n w) ≡ rows_with (rank_of {C = C}) gs.rows = map-with_value_same (row_with (rank_of {C = C})) n v w (ap (λ (k : ℕ). (n, k)) rank) gs.rows is in
       record { count = count_stays gs n w live mesh.count; standing = rw (classes, standing) mesh.standing }
 
+  -- after a change of a provider that leaves its geom
   pub mesh-provider : (v w : ProvCell) → IsRising 1 ps.rows ps.next → Some v ≡ value_at ps.rows n → owner_of w ≡ owner_of v
       → HaveRanks gs (record ps { rows = with_value ps.rows n w }) cs live
   mesh-provider v w rising at owner =
@@ -185,6 +192,7 @@ module _ {C : Type 0} (gs : SlotsView (GeomCell C)) (ps : SlotsView ProvCell) (c
       let same : rows_with owner_of (with_value ps.rows n w) ≡ rows_with owner_of ps.rows = map-with_value_same (row_with owner_of) n v w (ap (λ (k : ℕ). (n, k)) owner) ps.rows is in
       record { count = mesh.count; standing = rw same mesh.standing }
 
+  -- after a change of a consumer that leaves its geom and where it is attached
   pub mesh-consumer : (v w : ConsCell) → IsRising 1 cs.rows cs.next → Some v ≡ value_at cs.rows n → ends_of w ≡ ends_of v
       → HaveRanks gs ps (record cs { rows = with_value cs.rows n w }) live
   mesh-consumer v w rising at ends =
@@ -193,10 +201,12 @@ module _ {C : Type 0} (gs : SlotsView (GeomCell C)) (ps : SlotsView ProvCell) (c
       record { count = mesh.count; standing = rw same mesh.standing }
 
 module _ {C : Type 0} (gs : SlotsView (GeomCell C)) (ps : SlotsView ProvCell) (cs : SlotsView ConsCell) (live : ℕ) where
+  -- what is seen is there
   some_seen : {X Y : Type 0} (f : X → Y) (o : Option X) → IsSome (option_map f o) → IsSome o
   some_seen f None there = there
   some_seen f (Some v) there = refl
 
+  -- what is there is seen
   some_mapped : {X Y : Type 0} (f : X → Y) (o : Option X) → IsSome o → IsSome (option_map f o)
   some_mapped f None there = there
   some_mapped f (Some v) there = refl
@@ -208,16 +218,19 @@ module _ {C : Type 0} (gs : SlotsView (GeomCell C)) (ps : SlotsView ProvCell) (c
       rw (value_at-rows_with (kind_of {C = C}) g gs.rows) (some_mapped (kind_of {C = C}) (value_at gs.rows g) (some_seen (λ v. geom_row (g, v)) (value_at gs.rows g) there))
 
   module _ (mesh : HaveRanks gs ps cs live) where
+    -- the mesh stands with a new consumer, which is attached to nothing
     pub mesh-new_consumer : (n g next spare : ℕ) (v : ConsCell) → ends_of v ≡ (g, None) → IsSome (value_at (kinds gs) g) → HaveRanks gs ps (record { rows = cs.rows ++ (n, v) ∷ []; next = next; spare = spare }) live
     mesh-new_consumer n g next spare v is lives =
         let same : rows_with ends_of (cs.rows ++ (n, v) ∷ []) ≡ rows_with ends_of cs.rows ++ (n, (g, None)) ∷ [] = map-append (row_with ends_of) cs.rows ((n, v) ∷ []) ∙ ap (λ (e : ℕ × Option ℕ). rows_with ends_of cs.rows ++ (n, e) ∷ []) is in
         record { count = mesh.count; standing = rw same (ranks-new_consumer (kinds gs) (ranks gs) (offers ps).rows (ends cs).rows mesh.standing n g lives) }
 
+    -- the mesh stands with a new provider
     pub mesh-new_provider : (n next spare : ℕ) (v : ProvCell) → HaveRanks gs (record { rows = ps.rows ++ (n, v) ∷ []; next = next; spare = spare }) cs live
     mesh-new_provider n next spare v =
         let same : rows_with owner_of (ps.rows ++ (n, v) ∷ []) ≡ rows_with owner_of ps.rows ++ (n, owner_of v) ∷ [] = map-append (row_with owner_of) ps.rows ((n, v) ∷ []) in
         record { count = mesh.count; standing = rw same (ranks-new_provider (kinds gs) (ranks gs) (offers ps).rows (ends cs).rows mesh.standing n (owner_of v)) }
 
+    -- the mesh stands with a new geom of rank 1
     pub mesh-new_geom : (next spare : ℕ) (v : GeomCell C) → rank_of v ≡ 1 → IsRising 1 gs.rows gs.next → live < 4294967294 → HaveRanks (record { rows = gs.rows ++ (gs.next, v) ∷ []; next = next; spare = spare }) ps cs (live + 1)
     mesh-new_geom next spare v is rising few =
         let classes : rows_with (kind_of {C = C}) (gs.rows ++ (gs.next, v) ∷ []) ≡ kinds gs ++ (gs.next, kind_of v) ∷ [] = map-append (row_with (kind_of {C = C})) gs.rows ((gs.next, v) ∷ []) in
@@ -232,6 +245,7 @@ module _ {C : Type 0} (gs : SlotsView (GeomCell C)) (ps : SlotsView ProvCell) (c
               let there : passes (λ x. true) (value_at (ranks gs) gs.next) ≡ true = rw e refl in
               absurd (omega (arith, (passing-between (λ x. true) gs.next 1 gs.next (ranks gs) (rising-with (rank_of {C = C}) 1 gs.next gs.rows rising) there).1))
 
+    -- the mesh stands without a consumer that is attached to nothing
     pub mesh-destroy_consumer : (n : ℕ) → IsRising 1 cs.rows cs.next → IfSome (consumer_at (graph_of gs ps cs) n) (λ x. x.provider ≡ None) → HaveRanks gs ps (record cs { rows = without cs.rows n }) live
     mesh-destroy_consumer n rising free =
         let same : rows_with ends_of (without cs.rows n) ≡ without (rows_with ends_of cs.rows) n = map-without (row_with ends_of) n (λ (row : ℕ × (ℕ × Option ℕ)). row.0 == n) (λ row. refl) cs.rows in
@@ -240,6 +254,7 @@ module _ {C : Type 0} (gs : SlotsView (GeomCell C)) (ps : SlotsView ProvCell) (c
           free_of e None there free = absurd cc
           free_of e (Some v) there free = let same : ends_of v ≡ e = cc in ap (λ (e : ℕ × Option ℕ). e.1) (sym same) ∙ free
 
+    -- where no consumer is attached to a provider, no row is
     none_attached : (n : ℕ) (rows : List (ℕ × ConsCell)) → filter (λ (x : Consumer). names_number x.provider n) (map consumer_row rows) ≡ [] → AllByRecursion (λ (row : ℕ × (ℕ × Option ℕ)). names_number row.1.1 n ≡ false) (rows_with ends_of rows)
     none_attached n [] none = tt
     none_attached n (row ∷ rows) none = at (names_number row.1.consumer.prov n) refl none (λ e. none_attached n rows e) where
@@ -248,11 +263,13 @@ module _ {C : Type 0} (gs : SlotsView (GeomCell C)) (ps : SlotsView ProvCell) (c
       at true e none so = let no = rw e at none in absurd cc
       at false e none so = (e, so (rw e at none))
 
+    -- the mesh stands without a provider to which nothing is attached
     pub mesh-destroy_provider : (n : ℕ) → attached_to (graph_of gs ps cs) n ≡ [] → HaveRanks gs (record ps { rows = without ps.rows n }) cs live
     mesh-destroy_provider n none =
         let same : rows_with owner_of (without ps.rows n) ≡ without (rows_with owner_of ps.rows) n = map-without (row_with owner_of) n (λ (row : ℕ × ℕ). row.0 == n) (λ row. refl) ps.rows in
         record { count = mesh.count; standing = rw same (ranks-destroy_provider (kinds gs) (ranks gs) (offers ps).rows (ends cs).rows mesh.standing n (none_attached n cs.rows none)) }
 
+    -- where a geom has no consumer, no row is one of the geom's
     none_used : (n : ℕ) (rows : List (ℕ × ConsCell)) → filter (λ (x : Consumer). x.geom == n) (map consumer_row rows) ≡ [] → AllByRecursion (λ (row : ℕ × (ℕ × Option ℕ)). (row.1.0 == n) ≡ false) (rows_with ends_of rows)
     none_used n [] none = tt
     none_used n (row ∷ rows) none = at (row.1.consumer.geom == n) refl none (λ e. none_used n rows e) where
@@ -261,6 +278,7 @@ module _ {C : Type 0} (gs : SlotsView (GeomCell C)) (ps : SlotsView ProvCell) (c
       at true e none so = let no = rw e at none in absurd cc
       at false e none so = (e, so (rw e at none))
 
+    -- the mesh stands without a geom that has no consumer
     pub mesh-destroy_geom : (n next spare : ℕ) (v : GeomCell C) → IsRising 1 gs.rows gs.next → Some v ≡ value_at gs.rows n → consumers_of (graph_of gs ps cs) n ≡ [] → HaveRanks (record { rows = without gs.rows n; next = next; spare = spare }) ps cs (live - 1)
     mesh-destroy_geom n next spare v rising at none =
         let classes : rows_with (kind_of {C = C}) (without gs.rows n) ≡ without (kinds gs) n = map-without (row_with (kind_of {C = C})) n (λ (row : ℕ × Kind). row.0 == n) (λ row. refl) gs.rows in
@@ -307,10 +325,12 @@ module _ {C : Type 0} (gs : SlotsView (GeomCell C)) (ps : SlotsView ProvCell) (c
 pub same-cells : (cs : SlotsView ConsCell) (n : ℕ) (v : ConsCell) → IsRising 1 cs.rows cs.next → Some v ≡ value_at cs.rows n → record cs { rows = with_value cs.rows n v } ≡ cs
 same-cells cs n v rising at = rw (with_value-same n 1 cs.next v cs.rows rising (sym at)) refl
 
+-- the geoms are seen without the ranks
 geoms_rest : {C : Type 0} (rows : List (ℕ × GeomCell C)) → map geom_row rows ≡ map (λ (row : ℕ × (GeomRec C × Scratch)). geom_seen row.0 row.1.0) (rows_with (rest_of {C = C}) rows)
 geoms_rest [] = refl
 geoms_rest (row ∷ rows) = ap (λ xs. geom_row row ∷ xs) (geoms_rest rows)
 
+-- and so is their scratch
 scratch_rest : {C : Type 0} (rows : List (ℕ × GeomCell C)) → rows_with (geom_scratch_of {C = C}) rows ≡ rows_with (λ (x : GeomRec C × Scratch). x.1) (rows_with (rest_of {C = C}) rows)
 scratch_rest [] = refl
 scratch_rest {C} (row ∷ rows) = ap (λ xs. (row.0, row.1.scratch) ∷ xs) (scratch_rest {C = C} rows)

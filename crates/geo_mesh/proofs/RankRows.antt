@@ -104,6 +104,7 @@ module _ {T : Type 0} where
     here false e rest = rw e rest
 
 module _ {T : Type 0} (test : T → Bool) (at : ℕ) where
+  -- where both hold, each does
   both_true : (a b : Bool) → (a && b) ≡ true → (a ≡ true) × (b ≡ true)
   both_true true true e = (refl, refl)
   both_true true false e = absurd cc
@@ -180,10 +181,12 @@ module _ (owners : List (ℕ × ℕ)) where
     pub user : value_at users cons ≡ Some (x, Some prov)
     pub owner : value_at owners prov ≡ Some h
 
+  -- what one row more puts below a geom: nothing, or the geom of the provider to which its consumer is attached
   abbrev Step : ℕ × (ℕ × Option ℕ) → List (ℕ × (ℕ × Option ℕ)) → ℕ → Type 0
   Step row users x = (under owners (row ∷ users) x ≡ under owners users x)
       ⊎ ((h : ℕ) × (p : ℕ) × (row.1 ≡ (x, Some p)) × (value_at owners p ≡ Some h) × (under owners (row ∷ users) x ≡ h ∷ under owners users x))
 
+  -- what it puts there, by whether the provider has a geom
   step_owner : (row : ℕ × (ℕ × Option ℕ)) (users : List (ℕ × (ℕ × Option ℕ))) (x p : ℕ) (o : Option ℕ) → (row.1.0 == x) ≡ true → row.1.1 ≡ Some p → value_at owners p ≡ o → Step row users x
   step_owner row users x p None own at offer = inl (rw (own, at, offer) refl)
   step_owner row users x p (Some h) own at offer =
@@ -191,14 +194,17 @@ module _ (owners : List (ℕ × ℕ)) where
       let whole : (row.1.0, row.1.1) ≡ (x, Some p) = rw (number, at) refl in
       inr (h, p, whole, offer, rw (own, at, offer) refl)
 
+  -- what it puts there, by whether its consumer is attached
   step_prov : (row : ℕ × (ℕ × Option ℕ)) (users : List (ℕ × (ℕ × Option ℕ))) (x : ℕ) (o : Option ℕ) → (row.1.0 == x) ≡ true → row.1.1 ≡ o → Step row users x
   step_prov row users x None own at = inl (rw (own, at) refl)
   step_prov row users x (Some p) own at = step_owner row users x p (value_at owners p) own at refl
 
+  -- what it puts there, by whether its consumer is the geom's
   step_user : (row : ℕ × (ℕ × Option ℕ)) (users : List (ℕ × (ℕ × Option ℕ))) (x : ℕ) (b : Bool) → (row.1.0 == x) ≡ b → Step row users x
   step_user row users x true own = step_prov row users x row.1.1 own refl
   step_user row users x false own = inl (rw own refl)
 
+  -- so for any row
   step : (row : ℕ × (ℕ × Option ℕ)) (users : List (ℕ × (ℕ × Option ℕ))) (x : ℕ) → Step row users x
   step row users x = step_user row users x (row.1.0 == x) refl
 
@@ -248,16 +254,19 @@ module _ (owners : List (ℕ × ℕ)) where
     peak [] = 0
     peak (row ∷ users) = max (adds row.1) (peak users)
 
+    -- the largest with one row more, by whether the provider has a geom
     peak_owner : (row : ℕ × (ℕ × Option ℕ)) (users : List (ℕ × (ℕ × Option ℕ))) (p : ℕ) (o : Option ℕ) → (row.1.0 == x) ≡ true → row.1.1 ≡ Some p → value_at owners p ≡ o
         → largest (map f (under owners users x)) ≡ peak users → largest (map f (under owners (row ∷ users) x)) ≡ peak (row ∷ users)
     peak_owner row users p None own at offer rest = rw (own, at, offer, rest) (omega arith)
     peak_owner row users p (Some h) own at offer rest = rw (own, at, offer, rest) refl
 
+    -- the largest with one row more, by whether its consumer is attached
     peak_prov : (row : ℕ × (ℕ × Option ℕ)) (users : List (ℕ × (ℕ × Option ℕ))) (o : Option ℕ) → (row.1.0 == x) ≡ true → row.1.1 ≡ o
         → largest (map f (under owners users x)) ≡ peak users → largest (map f (under owners (row ∷ users) x)) ≡ peak (row ∷ users)
     peak_prov row users None own at rest = rw (own, at, rest) (omega arith)
     peak_prov row users (Some p) own at rest = peak_owner row users p (value_at owners p) own at refl rest
 
+    -- the largest with one row more, by whether its consumer is the geom's
     peak_user : (row : ℕ × (ℕ × Option ℕ)) (users : List (ℕ × (ℕ × Option ℕ))) (b : Bool) → (row.1.0 == x) ≡ b
         → largest (map f (under owners users x)) ≡ peak users → largest (map f (under owners (row ∷ users) x)) ≡ peak (row ∷ users)
     peak_user row users true own rest = peak_prov row users row.1.1 own refl rest
@@ -315,18 +324,21 @@ module _ {C : Type 0} (gs : SlotsView (GeomCell C)) (n r : ℕ) (v : GeomCell C)
       let lives : IsSome (value_at gs.rows n) = rw there refl in
       rw (value_at-rows_with (rank_of {C = C}) n (with_value gs.rows n w), value_at-here n w gs.rows lives) refl
 
+  -- the other geoms keep their ranks
   pub store-others : (x : ℕ) → (x ≡ n → ⊥) → stored (record gs { rows = with_value gs.rows n (record v { rank = r }) }) x ≡ stored gs x
   store-others x other =
       let w : GeomCell C = record v { rank = r } in
       rw (value_at-rows_with (rank_of {C = C}) x (with_value gs.rows n w), value_at-other n x w gs.rows other, value_at-rows_with (rank_of {C = C}) x gs.rows) refl
 
 module _ (f : ℕ → ℕ) where
+  -- where only a geom that isn't listed has another value, whether one is above the limit stays
   high_past : (classes : List (ℕ × Kind)) (r : ℕ → ℕ) (n low high : ℕ) → IsRising low classes high → n < low → ((x : ℕ) → (x ≡ n → ⊥) → r x ≡ f x) → is_high classes r ≡ is_high classes f
   high_past [] r n low high rising less others = refl
   high_past (row ∷ classes) r n low high rising less others =
       let here : r row.0 ≡ f row.0 = others row.0 (λ k. omega (arith, rising.0)) in
       rw (here, high_past classes r n (row.0 + 1) high rising.1 (omega (arith, rising.0)) others) refl
 
+  -- with a geom in front whose value grew, one is above the limit where one was or this one is now
   high_same : (k a b : Bool) → (a ≡ true → b ≡ true) → (x : Bool) → ((k && b) || x) ≡ (((k && a) || x) || (b && k))
   high_same true true true so x = refl
   high_same true true false so x = let no : false ≡ true = so refl in absurd cc
@@ -339,6 +351,7 @@ module _ (f : ℕ → ℕ) where
   high_same false a false so true = refl
   high_same false a false so false = refl
 
+  -- of three it doesn't matter which two are taken first
   moved : (a x y : Bool) → (a || (x || y)) ≡ ((a || x) || y)
   moved true x y = refl
   moved false x y = refl
@@ -373,6 +386,7 @@ module _ (f : ℕ → ℕ) where
         at false a b x y so none rest = rest none
 
 module _ {C : Type 0} where
+  -- the classes are those of the rows without the ranks
   kinds-rest : (rows : List (ℕ × GeomCell C)) → rows_with (kind_of {C = C}) rows ≡ rows_with (λ (x : GeomRec C × Scratch). x.0.kind) (rows_with (rest_of {C = C}) rows)
   kinds-rest [] = refl
   kinds-rest (row ∷ rows) = rw (kinds-rest rows) refl

@@ -28,6 +28,7 @@ use Rattle.geo_mesh.proofs.RankMesh.{all-with_value, same-cells, mesh-switch, sw
 
 module _ {C : Type 0} (gs : SlotsView (GeomCell C)) (ps : SlotsView ProvCell) (cs : SlotsView ConsCell) (live : ℕ) (mesh : HaveRanks gs ps cs live)
     (n p : ℕ) (v : ConsCell) (rising : IsRising 1 cs.rows cs.next) (at : Some v ≡ value_at cs.rows n) where
+  -- the consumer's cell, attached to a provider or to nothing
   abbrev put : Option ℕ → ConsCell
   put o = record v { consumer = record v.consumer { prov = o } }
 
@@ -35,6 +36,7 @@ module _ {C : Type 0} (gs : SlotsView (GeomCell C)) (ps : SlotsView ProvCell) (c
   abbrev switched : Option ℕ → SlotsView ConsCell
   switched o = record cs { rows = with_value cs.rows n (put o) }
 
+  -- the consumer's row has its geom, and its provider if it has one
   found : value_at (rows_with ends_of cs.rows) n ≡ Some (ends_of v)
   found = rw (value_at-rows_with ends_of n cs.rows, ← at) refl
 
@@ -42,13 +44,16 @@ module _ {C : Type 0} (gs : SlotsView (GeomCell C)) (ps : SlotsView ProvCell) (c
   pub user-stands : IsSome (value_at (kinds gs) v.consumer.geom)
   user-stands = all-at (λ (row : ℕ × (ℕ × Option ℕ)). IsSome (value_at (kinds gs) row.1.0)) (rows_with ends_of cs.rows) n (ends_of v) mesh.standing.owned found
 
+  -- attached to what it is attached to, the consumers are as they were
   unchanged : (o : Option ℕ) → v.consumer.prov ≡ o → switched o ≡ cs
   unchanged o is = ap (λ (o : Option ℕ). switched o) (sym is) ∙ same-cells cs n v rising at
 
   module _ (is : v.consumer.prov ≡ Some p) where
+    -- the provider to which it is attached is there
     offered : IsSome (value_at (offers ps).rows p)
     offered = rw is at (all-at (λ (row : ℕ × (ℕ × Option ℕ)). IfSome row.1.1 (λ p. IsSome (value_at (offers ps).rows p))) (rows_with ends_of cs.rows) n (ends_of v) mesh.standing.attached found)
 
+    -- the graph is that after the detach, with the provider's geom below the consumer's
     off-joined : Joined (below ps (switched None)) (below ps cs) v.consumer.geom (owner ps p)
     off-joined =
         subst (λ us. Joined (below ps (switched None)) (below ps us) v.consumer.geom (owner ps p)) (unchanged (Some p) is)
@@ -88,6 +93,7 @@ module _ {C : Type 0} (gs : SlotsView (GeomCell C)) (ps : SlotsView ProvCell) (c
         mesh.standing.low
 
   module _ (is : v.consumer.prov ≡ None) (offered : IsSome (value_at (offers ps).rows p)) where
+    -- the graph after the attach is that before it, with the provider's geom below the consumer's
     on-joined : Joined (below ps cs) (below ps (switched (Some p))) v.consumer.geom (owner ps p)
     on-joined =
         subst (λ us. Joined (below ps us) (below ps (switched (Some p))) v.consumer.geom (owner ps p)) (unchanged None is)
@@ -98,9 +104,11 @@ module _ {C : Type 0} (gs : SlotsView (GeomCell C)) (ps : SlotsView ProvCell) (c
     on-mesh ns same joinable low =
         mesh-switch gs ps cs live mesh ns n p (Some p) v (put (Some p)) same at refl offered (joinable.local (below ps (switched (Some p))) on-joined) low
 
+    -- the graph with the consumer's row attached is that after an attach
     on-graph : graph_of gs ps (switched (Some p)) ≡ attach (graph_of gs ps cs) n p
     on-graph = ap (λ (t : TopoView C). t.topology) (attach-view gs ps cs n p v rising at)
 
+    -- after the attach no rank is more than one above the number of geoms
     on-few : (ns : SlotsView (GeomCell C)) → bare ns ≡ bare gs → IsJoinable (below ps cs) v.consumer.geom (owner ps p) (stored ns) → (x : ℕ) → stored ns x ≤ length gs.rows + 1
     on-few ns same joinable x =
         let count : length (kinds ns) ≡ length (kinds gs) = ap length (kinds-bare gs ns same) in
@@ -115,20 +123,25 @@ module _ {C : Type 0} (gs : SlotsView (GeomCell C)) (ps : SlotsView ProvCell) (c
         deep-is gs ps (switched (Some p)) (stored ns) (rank-is gs ps (switched (Some p)) (stored ns) (joinable.local (below ps (switched (Some p))) on-joined) (on-few ns same joinable))
         in rw on-graph at deep
 
+    -- the consumer of the number, by its row
     consumer_seen_at : consumer_at (graph_of gs ps cs) n ≡ Some (consumer_row (n, v))
     consumer_seen_at = rw (consumer_at-view gs ps cs n, ← at) refl
 
+    -- whether a loop would arise, by the provider's row: whether its geom reaches the consumer's
     owned_by : (o : Option ProvCell) → value_at ps.rows p ≡ o → IsSome (option_map owner_of o) → would_loop (graph_of gs ps cs) (Some (consumer_row (n, v))) (option_map (λ y. provider_row (p, y)) o) ≡ reaches (graph_of gs ps cs) (owner ps p) v.consumer.geom
     owned_by None e there = absurd cc
     owned_by (Some y) e there = let here : owner ps p ≡ y.provider.geom = rw (value_at-rows_with owner_of p ps.rows, e) refl in rw here refl
 
+    -- a loop would arise just where the provider's geom reaches the consumer's
     loop_is : would_loop (graph_of gs ps cs) (consumer_at (graph_of gs ps cs) n) (provider_at (graph_of gs ps cs) p) ≡ reaches (graph_of gs ps cs) (owner ps p) v.consumer.geom
     loop_is = rw (consumer_seen_at, provider_at-view gs ps cs p) (owned_by (value_at ps.rows p) refl (rw (value_at-rows_with owner_of p ps.rows) at offered))
 
+    -- what doesn't hold is false
     bool_false : (b : Bool) → (b ≡ true → ⊥) → b ≡ false
     bool_false true = λ no. absurd (no refl)
     bool_false false = λ no. refl
 
+    -- where the consumer's geom may have the other below it, the other doesn't reach it
     no_loop : (f : ℕ → ℕ) → IsJoinable (below ps cs) v.consumer.geom (owner ps p) f → reaches (graph_of gs ps cs) (owner ps p) v.consumer.geom ≡ false
     no_loop f joinable = bool_false (reaches (graph_of gs ps cs) (owner ps p) v.consumer.geom) (λ e. joinable.apart (reaches-stands gs ps cs (owner ps p) v.consumer.geom e))
 
@@ -139,9 +152,11 @@ module _ {C : Type 0} (gs : SlotsView (GeomCell C)) (ps : SlotsView ProvCell) (c
         stands-reaches gs ps cs (stored gs) mesh.standing.local (stored-few gs ps cs (below ps cs) mesh.standing.local) (owner ps p) v.consumer.geom stands
         in rw (sound, loop_is, loops) refl
 
+    -- where a geom would be too deep, it is refused with EDEEP
     pub on-high : (ns : SlotsView (GeomCell C)) → is_errored (graph_of gs ps cs) p ≡ false → bare ns ≡ bare gs → IsJoinable (below ps cs) v.consumer.geom (owner ps p) (stored ns) → is_high (kinds gs) (stored ns) ≡ true → attach_refusal (graph_of gs ps cs) n p ≡ Some EDEEP
     on-high ns sound same joinable high = rw (sound, loop_is, no_loop (stored ns) joinable, on-deep ns same joinable, high) refl
 
+    -- where no loop would arise and no geom be too deep, it isn't refused
     pub on-free : (ns : SlotsView (GeomCell C)) → is_errored (graph_of gs ps cs) p ≡ false → bare ns ≡ bare gs → IsJoinable (below ps cs) v.consumer.geom (owner ps p) (stored ns) → is_high (kinds gs) (stored ns) ≡ false → attach_refusal (graph_of gs ps cs) n p ≡ None
     on-free ns sound same joinable low = rw (sound, loop_is, no_loop (stored ns) joinable, on-deep ns same joinable, low) refl
 

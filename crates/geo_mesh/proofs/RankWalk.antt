@@ -23,6 +23,7 @@ pub offered-is : (g : ℕ) (o : Option ℕ) → passes (is_offered g) o ≡ true
 offered-is g None there = absurd cc
 offered-is g (Some h) there = ap (λ (n : ℕ). Some n) (eqb-true h g there)
 
+-- where a number is named, it is that one
 names-some : (o : Option ℕ) (p : ℕ) → names_number o p ≡ true → o ≡ Some p
 names-some None p there = absurd cc
 names-some (Some q) p there = ap (λ (n : ℕ). Some n) (eqb-true q p there)
@@ -33,6 +34,7 @@ attached-is p None there = absurd cc
 attached-is p (Some e) there = ap (λ (q : Option ℕ). Some (e.0, q)) (names-some e.1 p there)
 
 module _ (ps : SlotsView ProvCell) (cs : SlotsView ConsCell) where
+  -- the owner of a provider that a geom offers is that geom
   pub owner-is : (g p : ℕ) → passes (is_offered g) (value_at (offers ps).rows p) ≡ true → owner ps p ≡ g
   owner-is g p there = rw (offered-is g (value_at (offers ps).rows p) there) refl
 

@@ -18,6 +18,7 @@ module _ {T : Type 0} where
   past n low high v (row ∷ rows) above rising =
       ((λ e. let same : row.0 ≡ n = eqb-true row.0 n e in absurd (omega (arith, rising.0))), past n (row.0 + 1) high v rows (omega (arith, rising.0)) rising.1)
 
+  -- one row more in front: it is the one under the number, or the others have it
   only_step : (n low high : ℕ) (v : T) (row : ℕ × T) (rows : List (ℕ × T)) (b : Bool) → (row.0 == n) ≡ b
       → IsRising low (row ∷ rows) high → value_at (row ∷ rows) n ≡ Some v
       → (value_at rows n ≡ Some v → OnlyValue n v rows) → OnlyValue n v (row ∷ rows)
@@ -36,6 +37,7 @@ module _ {T : Type 0} where
       only_step n low high v row rows (row.0 == n) refl rising at (λ rest. only n (row.0 + 1) high v rows rising.1 rest)
 
 module _ {T Y : Type 0} (f : ℕ × T → Y) (n : ℕ) where
+  -- one row, with the other value where it is under the number
   changed_row : (test : Y → Bool) (change : Y → Y) (v w : T) (row : ℕ × T) (b : Bool) → (row.0 == n) ≡ b
       → test (f row) ≡ (row.0 == n) → f (n, w) ≡ change (f (n, v)) → ((row.0 == n) ≡ true → row ≡ (n, v))
       → f (if row.0 == n then (n, w) else row) ≡ (if test (f row) then change (f row) else f row)
@@ -52,6 +54,7 @@ module _ {T Y : Type 0} (f : ℕ × T → Y) (n : ℕ) where
       let rest = map-with_value test change v w same so rows is.1 in
       rw (first, rest) refl
 
+  -- one row, which is seen as before
   kept_row : (v w : T) (row : ℕ × T) (b : Bool) → (row.0 == n) ≡ b → f (n, w) ≡ f (n, v)
       → ((row.0 == n) ≡ true → row ≡ (n, v)) → f (if row.0 == n then (n, w) else row) ≡ f row
   kept_row v w row true e so is = rw (e, is e) so
@@ -67,6 +70,7 @@ module _ {T Y : Type 0} (f : ℕ × T → Y) (n : ℕ) where
       rw (first, rest) refl
 
 module _ {T U : Type 0} (h : T → U) (n : ℕ) where
+  -- one row with the other value, seen otherwise
   put_row : (w : T) (row : ℕ × T) (b : Bool) → (row.0 == n) ≡ b
       → row_with h (if row.0 == n then (n, w) else row) ≡ (if row.0 == n then (n, h w) else row_with h row)
   put_row w row true e = rw e refl
@@ -81,6 +85,7 @@ module _ {T U : Type 0} (h : T → U) (n : ℕ) where
       rw (first, rest) refl
 
 module _ {T Y : Type 0} (f : ℕ × T → Y) (n : ℕ) where
+  -- one row more in front, which is taken away or stays
   without_step : (test : Y → Bool) (row : ℕ × T) (rows : List (ℕ × T)) (b : Bool) → (row.0 == n) ≡ b → test (f row) ≡ (row.0 == n)
       → map f (without rows n) ≡ filter (λ y. not (test y)) (map f rows)
       → map f (without (row ∷ rows) n) ≡ filter (λ y. not (test y)) (map f (row ∷ rows))
@@ -94,6 +99,7 @@ module _ {T Y : Type 0} (f : ℕ × T → Y) (n : ℕ) where
   map-without test same (row ∷ rows) =
       without_step test row rows (row.0 == n) refl (same row) (map-without test same rows)
 
+  -- one row more in front, which is found or not
   found_step : (test : Y → Bool) (row : ℕ × T) (rows : List (ℕ × T)) (b : Bool) → (row.0 == n) ≡ b → test (f row) ≡ (row.0 == n)
       → find test (map f rows) ≡ option_map (λ v. f (n, v)) (value_at rows n)
       → find test (map f (row ∷ rows)) ≡ option_map (λ v. f (n, v)) (value_at (row ∷ rows) n)
@@ -109,6 +115,7 @@ module _ {T Y : Type 0} (f : ℕ × T → Y) (n : ℕ) where
   find-map test same (row ∷ rows) = found_step test row rows (row.0 == n) refl (same row) (find-map test same rows)
 
 module _ {T U : Type 0} (h : T → U) (n : ℕ) where
+  -- one row, of which the changed part is seen
   changed_at_row : (change : U → U) (v w : T) (row : ℕ × T) (b : Bool) → (row.0 == n) ≡ b → h w ≡ change (h v)
       → ((row.0 == n) ≡ true → row ≡ (n, v))
       → row_with h (if row.0 == n then (n, w) else row) ≡ (if row.0 == n then (n, change (h row.1)) else row_with h row)
@@ -124,6 +131,7 @@ module _ {T U : Type 0} (h : T → U) (n : ℕ) where
       let rest = rows_with-change_at change v w so rows is.1 in
       rw (first, rest) refl
 
+  -- one row more in front: its value is seen, or that of a later one
   value_step : (row : ℕ × T) (rows : List (ℕ × T)) (b : Bool) → (row.0 == n) ≡ b
       → value_at (rows_with h rows) n ≡ option_map h (value_at rows n)
       → value_at (rows_with h (row ∷ rows)) n ≡ option_map h (value_at (row ∷ rows) n)

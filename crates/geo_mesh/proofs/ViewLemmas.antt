@@ -60,6 +60,7 @@ module _ {C : Type 0} (gs : SlotsView (GeomCell C)) (ps : SlotsView ProvCell) (c
       let here : IsSome (option_map (λ v. consumer_row (n, v)) (value_at cs.rows n)) = rw consumer_at-view at lives in
       let no : false ≡ true = rw (← none) at here in cc
 
+  -- the mesh after a provider gets an error
   pub set_error-view : (v : ProvCell) → IsRising 1 ps.rows ps.next → Some v ≡ value_at ps.rows n
       → view_of gs (record ps { rows = with_value ps.rows n (record v { provider = record v.provider { errored = true } }) }) cs ≡ with_topology (view_of gs ps cs) (set_error (graph_of gs ps cs) n)
   set_error-view v rising at =
@@ -73,6 +74,7 @@ module _ {C : Type 0} (gs : SlotsView (GeomCell C)) (ps : SlotsView ProvCell) (c
         map-with_value_same (row_with provider_scratch_of) n v w refl ps.rows is,
       ) refl
 
+  -- the mesh after a geom begins to wither
   pub set_withering-view : (v : GeomCell C) → IsRising 1 gs.rows gs.next → Some v ≡ value_at gs.rows n
       → view_of (record gs { rows = with_value gs.rows n (record v { geom = record v.geom { withering = true } }) }) ps cs ≡ with_topology (view_of gs ps cs) (set_withering (graph_of gs ps cs) n)
   set_withering-view v rising at =
@@ -83,6 +85,7 @@ module _ {C : Type 0} (gs : SlotsView (GeomCell C)) (ps : SlotsView ProvCell) (c
         map-with_value_same (row_with (geom_scratch_of {C = C})) n v w refl gs.rows is,
       ) refl
 
+  -- the mesh after a consumer is marked as spoiled, or unmarked
   pub set_spoiled-view : (marked : Bool) (v : ConsCell) → IsRising 1 cs.rows cs.next → Some v ≡ value_at cs.rows n
       → view_of gs ps (record cs { rows = with_value cs.rows n (record v { consumer = record v.consumer { spoiled = marked } }) }) ≡ with_topology (view_of gs ps cs) (set_marks (graph_of gs ps cs) (λ x. x.number == n) marked)
   set_spoiled-view marked v rising at =
@@ -95,6 +98,7 @@ module _ {C : Type 0} (gs : SlotsView (GeomCell C)) (ps : SlotsView ProvCell) (c
         map-with_value_same (row_with consumer_scratch_of) n v w refl cs.rows is,
       ) refl
 
+  -- the mesh after one more request is out through a consumer
   pub note_active-view : (v : ConsCell) → IsRising 1 cs.rows cs.next → Some v ≡ value_at cs.rows n
       → view_of gs ps (record cs { rows = with_value cs.rows n (record v { consumer = record v.consumer { active = v.consumer.active + 1 } }) }) ≡ with_active (view_of gs ps cs) n (λ m. m + 1)
   note_active-view v rising at =
@@ -107,6 +111,7 @@ module _ {C : Type 0} (gs : SlotsView (GeomCell C)) (ps : SlotsView ProvCell) (c
         map-with_value_same (row_with consumer_scratch_of) n v w refl cs.rows is,
       ) refl
 
+  -- the mesh after one request less is out through a consumer
   pub note_back-view : (v : ConsCell) → IsRising 1 cs.rows cs.next → Some v ≡ value_at cs.rows n
       → view_of gs ps (record cs { rows = with_value cs.rows n (record v { consumer = record v.consumer { active = v.consumer.active - 1 } }) }) ≡ with_active (view_of gs ps cs) n (λ m. m - 1)
   note_back-view v rising at =
@@ -119,6 +124,7 @@ module _ {C : Type 0} (gs : SlotsView (GeomCell C)) (ps : SlotsView ProvCell) (c
         map-with_value_same (row_with consumer_scratch_of) n v w refl cs.rows is,
       ) refl
 
+  -- the mesh after a consumer gets other counts
   pub set_want-view : (want : Counts) (v : ConsCell) → IsRising 1 cs.rows cs.next → Some v ≡ value_at cs.rows n
       → view_of gs ps (record cs { rows = with_value cs.rows n (record v { consumer = record v.consumer { want = want } }) }) ≡ with_want (view_of gs ps cs) n want
   set_want-view want v rising at =
@@ -131,6 +137,7 @@ module _ {C : Type 0} (gs : SlotsView (GeomCell C)) (ps : SlotsView ProvCell) (c
         map-with_value_same (row_with consumer_scratch_of) n v w refl cs.rows is,
       ) refl
 
+  -- the mesh after a provider gets other counts
   pub set_have-view : (have : Counts) (v : ProvCell) → IsRising 1 ps.rows ps.next → Some v ≡ value_at ps.rows n
       → view_of gs (record ps { rows = with_value ps.rows n (record v { provider = record v.provider { have = have } }) }) cs ≡ with_have (view_of gs ps cs) n have
   set_have-view have v rising at =
@@ -144,6 +151,7 @@ module _ {C : Type 0} (gs : SlotsView (GeomCell C)) (ps : SlotsView ProvCell) (c
         map-with_value_same (row_with provider_scratch_of) n v w refl ps.rows is,
       ) refl
 
+  -- the mesh after a provider gets other notes
   pub set_noted-view : (risen : Bool) (fallen : Bool) (v : ProvCell) → IsRising 1 ps.rows ps.next → Some v ≡ value_at ps.rows n
       → view_of gs (record ps { rows = with_value ps.rows n (record v { provider = record v.provider { risen = risen; fallen = fallen } }) }) cs ≡ with_notes (view_of gs ps cs) n risen fallen
   set_noted-view risen fallen v rising at =
@@ -157,6 +165,7 @@ module _ {C : Type 0} (gs : SlotsView (GeomCell C)) (ps : SlotsView ProvCell) (c
         map-with_value_same (row_with provider_scratch_of) n v w refl ps.rows is,
       ) refl
 
+  -- the mesh after a geom gets other scratch
   pub set_geom_scratch-view : (scratch : Scratch) (v : GeomCell C) → IsRising 1 gs.rows gs.next → Some v ≡ value_at gs.rows n
       → view_of (record gs { rows = with_value gs.rows n (record v { scratch = scratch }) }) ps cs ≡ with_geom_scratch (view_of gs ps cs) n scratch
   set_geom_scratch-view scratch v rising at =
@@ -167,6 +176,7 @@ module _ {C : Type 0} (gs : SlotsView (GeomCell C)) (ps : SlotsView ProvCell) (c
         rows_with-with_value (geom_scratch_of {C = C}) n w gs.rows,
       ) refl
 
+  -- the mesh after a provider gets other scratch
   pub set_provider_scratch-view : (scratch : Scratch) (v : ProvCell) → IsRising 1 ps.rows ps.next → Some v ≡ value_at ps.rows n
       → view_of gs (record ps { rows = with_value ps.rows n (record v { scratch = scratch }) }) cs ≡ with_provider_scratch (view_of gs ps cs) n scratch
   set_provider_scratch-view scratch v rising at =
@@ -180,6 +190,7 @@ module _ {C : Type 0} (gs : SlotsView (GeomCell C)) (ps : SlotsView ProvCell) (c
         rows_with-with_value provider_scratch_of n w ps.rows,
       ) refl
 
+  -- the mesh after a consumer gets other scratch
   pub set_consumer_scratch-view : (scratch : Scratch) (v : ConsCell) → IsRising 1 cs.rows cs.next → Some v ≡ value_at cs.rows n
       → view_of gs ps (record cs { rows = with_value cs.rows n (record v { scratch = scratch }) }) ≡ with_consumer_scratch (view_of gs ps cs) n scratch
   set_consumer_scratch-view scratch v rising at =
@@ -192,6 +203,7 @@ module _ {C : Type 0} (gs : SlotsView (GeomCell C)) (ps : SlotsView ProvCell) (c
         rows_with-with_value consumer_scratch_of n w cs.rows,
       ) refl
 
+  -- the mesh with one more started request at a geom
   pub note_started-view : (v : GeomCell C) → IsRising 1 gs.rows gs.next → Some v ≡ value_at gs.rows n
       → view_of (record gs { rows = with_value gs.rows n (record v { geom = record v.geom { started = v.geom.started + 1 } }) }) ps cs ≡ with_topology (view_of gs ps cs) (note_started (graph_of gs ps cs) n)
   note_started-view v rising at =
@@ -202,6 +214,7 @@ module _ {C : Type 0} (gs : SlotsView (GeomCell C)) (ps : SlotsView ProvCell) (c
         map-with_value_same (row_with (geom_scratch_of {C = C})) n v w refl gs.rows is,
       ) refl
 
+  -- the mesh after a consumer is detached
   pub detach-view : (v : ConsCell) → IsRising 1 cs.rows cs.next → Some v ≡ value_at cs.rows n
       → view_of gs ps (record cs { rows = with_value cs.rows n (record v { consumer = record v.consumer { prov = None } }) }) ≡ with_topology (view_of gs ps cs) (detach (graph_of gs ps cs) n)
   detach-view v rising at =
@@ -214,6 +227,7 @@ module _ {C : Type 0} (gs : SlotsView (GeomCell C)) (ps : SlotsView ProvCell) (c
         map-with_value_same (row_with consumer_scratch_of) n v w refl cs.rows is,
       ) refl
 
+  -- the mesh after a consumer is attached
   pub attach-view : (p : ℕ) (v : ConsCell) → IsRising 1 cs.rows cs.next → Some v ≡ value_at cs.rows n
       → view_of gs ps (record cs { rows = with_value cs.rows n (record v { consumer = record v.consumer { prov = Some p } }) }) ≡ with_topology (view_of gs ps cs) (attach (graph_of gs ps cs) n p)
   attach-view p v rising at =
@@ -226,6 +240,7 @@ module _ {C : Type 0} (gs : SlotsView (GeomCell C)) (ps : SlotsView ProvCell) (c
         map-with_value_same (row_with consumer_scratch_of) n v w refl cs.rows is,
       ) refl
 
+  -- the mesh after a geom gets another configuration
   pub swap_config-view : (config : C) (v : GeomCell C) → IsRising 1 gs.rows gs.next → Some v ≡ value_at gs.rows n
       → view_of (record gs { rows = with_value gs.rows n (record v { geom = record v.geom { config = config } }) }) ps cs ≡ with_topology (view_of gs ps cs) (set_config (graph_of gs ps cs) n config)
   swap_config-view config v rising at =
@@ -236,6 +251,7 @@ module _ {C : Type 0} (gs : SlotsView (GeomCell C)) (ps : SlotsView ProvCell) (c
         map-with_value_same (row_with (geom_scratch_of {C = C})) n v w refl gs.rows is,
       ) refl
 
+  -- the mesh without a geom
   pub without_geom-view : view_of (record gs { rows = without gs.rows n }) ps cs ≡ without_geom (view_of gs ps cs) n
   without_geom-view =
       rw (
@@ -243,6 +259,7 @@ module _ {C : Type 0} (gs : SlotsView (GeomCell C)) (ps : SlotsView ProvCell) (c
         map-without (row_with (geom_scratch_of {C = C})) n (λ x. x.0 == n) (λ row. refl) gs.rows,
       ) refl
 
+  -- the mesh without a provider
   pub without_provider-view : view_of gs (record ps { rows = without ps.rows n }) cs ≡ without_provider (view_of gs ps cs) n
   without_provider-view =
       rw (
@@ -253,6 +270,7 @@ module _ {C : Type 0} (gs : SlotsView (GeomCell C)) (ps : SlotsView ProvCell) (c
         map-without (row_with provider_scratch_of) n (λ x. x.0 == n) (λ row. refl) ps.rows,
       ) refl
 
+  -- the mesh without a consumer
   pub without_consumer-view : view_of gs ps (record cs { rows = without cs.rows n }) ≡ without_consumer (view_of gs ps cs) n
   without_consumer-view =
       rw (
@@ -266,9 +284,11 @@ module _ {C : Type 0} (gs : SlotsView (GeomCell C)) (ps : SlotsView ProvCell) (c
   pub next_geom-view : (low : ℕ) → first_geom (graph_of gs ps cs).geoms low ≡ first_from gs.rows low
   next_geom-view low = first-map geom_row (λ (x : Geom C). x.number) (λ (x : Geom C). nat_le low x.number) (λ row. nat_le low row.0) (λ row. refl) (λ row. refl) gs.rows
 
+  -- the first provider from a number on
   pub next_provider-view : (low : ℕ) → first_provider (graph_of gs ps cs).providers low ≡ first_from ps.rows low
   next_provider-view low = first-map provider_row (λ (x : Provider). x.number) (λ (x : Provider). nat_le low x.number) (λ row. nat_le low row.0) (λ row. refl) (λ row. refl) ps.rows
 
+  -- the first consumer from a number on
   pub next_consumer-view : (low : ℕ) → first_consumer (graph_of gs ps cs).consumers low ≡ first_from cs.rows low
   next_consumer-view low = first-map consumer_row (λ (x : Consumer). x.number) (λ (x : Consumer). nat_le low x.number) (λ row. nat_le low row.0) (λ row. refl) (λ row. refl) cs.rows
   -- the providers and the consumers of a geom, and the consumers attached to a provider, from a number on
@@ -307,6 +327,7 @@ module _ {C : Type 0} (gs : SlotsView (GeomCell C)) (ps : SlotsView ProvCell) (c
       rw (map-append provider_row ps.rows row, map-append (row_with have_of) ps.rows row, map-append (row_with risen_of) ps.rows row, map-append (row_with fallen_of) ps.rows row, map-append (row_with provider_scratch_of) ps.rows row) refl
 
 module _ {C : Type 0} (gs : SlotsView (GeomCell C)) (n : ℕ) where
+  -- another value under a number leaves as many rows
   length-with_value : (w : GeomCell C) (rows : List (ℕ × GeomCell C)) → length (with_value rows n w) ≡ length rows
   length-with_value w [] = refl
   length-with_value w (row ∷ rows) = ap (λ k. suc k) (length-with_value w rows)
@@ -315,11 +336,13 @@ module _ {C : Type 0} (gs : SlotsView (GeomCell C)) (n : ℕ) where
   pub count_stays : (w : GeomCell C) (live : ℕ) → IsCount (length gs.rows) live → IsCount (length (with_value gs.rows n w)) live
   count_stays w live counted = record { counted = counted.counted ∙ sym (length-with_value w gs.rows); few = counted.few }
 
+  -- past the number no row is taken away
   all_stay : (low high : ℕ) (rows : List (ℕ × GeomCell C)) → IsRising low rows high → n < low → without rows n ≡ rows
   all_stay low high [] rising below = refl
   all_stay low high (row ∷ rows) rising below =
       rw (ne_eqb row.0 n (λ same. omega (arith, same, rising.0)), all_stay (row.0 + 1) high rows rising.1 (omega (arith, rising.0))) refl
 
+  -- one row more in front: it is taken away, or a later one
   taken_step : (low high : ℕ) (v : GeomCell C) (row : ℕ × GeomCell C) (rows : List (ℕ × GeomCell C)) (b : Bool) → (row.0 == n) ≡ b → IsRising low (row ∷ rows) high
       → Some v ≡ value_at (row ∷ rows) n → (Some v ≡ value_at rows n → length (without rows n) + 1 ≡ length rows) → length (without (row ∷ rows) n) + 1 ≡ length (row ∷ rows)
   taken_step low high v row rows true e rising at so =
@@ -332,6 +355,7 @@ module _ {C : Type 0} (gs : SlotsView (GeomCell C)) (n : ℕ) where
   length-without low high v [] rising at = absurd cc
   length-without low high v (row ∷ rows) rising at = taken_step low high v row rows (row.0 == n) refl rising at (λ h. length-without (row.0 + 1) high v rows rising.1 h)
 
+  -- one row more in front, which isn't under the number
   none_step : (row : ℕ × GeomCell C) (rows : List (ℕ × GeomCell C)) (b : Bool) → (row.0 == n) ≡ b → None ≡ value_at (row ∷ rows) n
       → (None ≡ value_at rows n → without rows n ≡ rows) → without (row ∷ rows) n ≡ row ∷ rows
   none_step row rows true e none so = let no : None ≡ Some row.1 = rw e at none in absurd cc
@@ -349,16 +373,19 @@ module _ {C : Type 0} (gs : SlotsView (GeomCell C)) (n : ℕ) where
       record { counted = omega (arith, one, counted.counted); few = omega (arith, counted.few) }
 
 module _ (n : ℕ) where
+  -- past the number no provider of it carries an error
   unmarked : (low high : ℕ) (rows : List (ℕ × ProvCell)) → IsRising low rows high → n < low
       → list_any (λ (x : Provider). (x.number == n) && x.errored) (map provider_row rows) ≡ false
   unmarked low high [] rising below = refl
   unmarked low high (row ∷ rows) rising below =
       rw (ne_eqb row.0 n (λ same. omega (arith, same, rising.0)), unmarked (row.0 + 1) high rows rising.1 (omega (arith, rising.0))) refl
 
+  -- with one that doesn't hold, it holds as without it
   or_false : (b : Bool) → (b || false) ≡ b
   or_false true = refl
   or_false false = refl
 
+  -- one row more in front: it is the provider of the number, or a later one may be
   error_step : (low high : ℕ) (row : ℕ × ProvCell) (rows : List (ℕ × ProvCell)) (b : Bool) → (row.0 == n) ≡ b → IsRising low (row ∷ rows) high
       → list_any (λ (x : Provider). (x.number == n) && x.errored) (map provider_row rows) ≡ passes (λ (x : ProvCell). x.provider.errored) (value_at rows n)
       → list_any (λ (x : Provider). (x.number == n) && x.errored) (map provider_row (row ∷ rows)) ≡ passes (λ (x : ProvCell). x.provider.errored) (value_at (row ∷ rows) n)
@@ -374,12 +401,14 @@ module _ (n : ℕ) where
   is_errored-rows low high (row ∷ rows) rising = error_step low high row rows (row.0 == n) refl rising (is_errored-rows (row.0 + 1) high rows rising.1)
 
 module _ {C : Type 0} (n : ℕ) where
+  -- past the number no geom of it withers
   unwithered : (low high : ℕ) (rows : List (ℕ × GeomCell C)) → IsRising low rows high → n < low
       → list_any (λ (x : Geom C). (x.number == n) && x.withering) (map geom_row rows) ≡ false
   unwithered low high [] rising below = refl
   unwithered low high (row ∷ rows) rising below =
       rw (ne_eqb row.0 n (λ same. omega (arith, same, rising.0)), unwithered (row.0 + 1) high rows rising.1 (omega (arith, rising.0))) refl
 
+  -- one row more in front: it is the geom of the number, or a later one may be
   wither_step : (low high : ℕ) (row : ℕ × GeomCell C) (rows : List (ℕ × GeomCell C)) (b : Bool) → (row.0 == n) ≡ b → IsRising low (row ∷ rows) high
       → list_any (λ (x : Geom C). (x.number == n) && x.withering) (map geom_row rows) ≡ passes (λ (x : GeomCell C). x.geom.withering) (value_at rows n)
       → list_any (λ (x : Geom C). (x.number == n) && x.withering) (map geom_row (row ∷ rows)) ≡ passes (λ (x : GeomCell C). x.geom.withering) (value_at (row ∷ rows) n)
@@ -394,14 +423,17 @@ module _ {C : Type 0} (n : ℕ) where
   is_withering-rows low high [] rising = refl
   is_withering-rows low high (row ∷ rows) rising = wither_step low high row rows (row.0 == n) refl rising (is_withering-rows (row.0 + 1) high rows rising.1)
 
+-- one item more in front: it passes, or a later one may
 any_found_step : {X : Type 0} (test : X → Bool) (x : X) (xs : List X) (b : Bool) → test x ≡ b → list_any test xs ≡ is_some (find test xs) → list_any test (x ∷ xs) ≡ is_some (find test (x ∷ xs))
 any_found_step test x xs true e rest = rw e refl
 any_found_step test x xs false e rest = rw e rest
 
+-- one passes just where one is found
 any_found : {X : Type 0} (test : X → Bool) (xs : List X) → list_any test xs ≡ is_some (find test xs)
 any_found test [] = refl
 any_found test (x ∷ xs) = any_found_step test x xs (test x) refl (any_found test xs)
 
+-- seen otherwise, what may be there is there as before
 some_map : {X Y : Type 0} (f : X → Y) (o : Option X) → is_some (option_map f o) ≡ is_some o
 some_map f None = refl
 some_map f (Some x) = refl

@@ -8,6 +8,7 @@ use Rattle.geo_mesh.specs.Rows.{first_row, passes}
 
 module _ {T Y : Type 0} (f : ℕ × T → Y) (name : Y → ℕ) (test : Y → Bool) (passed : ℕ × T → Bool)
     (same_name : (row : ℕ × T) → name (f row) ≡ row.0) (same : (row : ℕ × T) → test (f row) ≡ passed row) where
+  -- one row more in front, which passes or doesn't
   first_step : (row : ℕ × T) (rows : List (ℕ × T)) (b : Bool) → passed row ≡ b
       → option_map name (find test (map f rows)) ≡ option_map (λ r. r.0) (find passed rows)
       → option_map name (find test (map f (row ∷ rows))) ≡ option_map (λ r. r.0) (find passed (row ∷ rows))
@@ -19,6 +20,7 @@ module _ {T Y : Type 0} (f : ℕ × T → Y) (name : Y → ℕ) (test : Y → Bo
   first-map [] = refl
   first-map (row ∷ rows) = first_step row rows (passed row) refl (first-map rows)
 
+  -- one row more in front: it is the last so far if it passes
   last_step : (o : Option Y) (p : Option (ℕ × T)) → option_map name o ≡ option_map (λ r. r.0) p → (row : ℕ × T) (rows : List (ℕ × T))
       → ((o : Option Y) (p : Option (ℕ × T)) → option_map name o ≡ option_map (λ r. r.0) p → option_map name (last_or o (filter test (map f rows))) ≡ option_map (λ r. r.0) (last_or p (filter passed rows)))
       → (b : Bool) → passed row ≡ b
@@ -33,16 +35,19 @@ module _ {T Y : Type 0} (f : ℕ × T → Y) (name : Y → ℕ) (test : Y → Bo
   last-map (row ∷ rows) o p so = last_step o p so row rows (λ o p so. last-map rows o p so) (passed row) refl
 
 module _ {Y : Type 0} (p q : Y → Bool) where
+  -- an item in front that was kept
   find_kept_here : (y : Y) (ys : List Y) (b : Bool) → p y ≡ b → find p (filter q ys) ≡ find (λ y. p y && q y) ys
       → find p (y ∷ filter q ys) ≡ (if p y && true then Some y else find (λ y. p y && q y) ys)
   find_kept_here y ys true e rest = rw e refl
   find_kept_here y ys false e rest = rw e rest
 
+  -- an item in front that wasn't kept
   find_kept_gone : (y : Y) (ys : List Y) (b : Bool) → p y ≡ b → find p (filter q ys) ≡ find (λ y. p y && q y) ys
       → find p (filter q ys) ≡ (if p y && false then Some y else find (λ y. p y && q y) ys)
   find_kept_gone y ys true e rest = rw e rest
   find_kept_gone y ys false e rest = rw e rest
 
+  -- one item more in front, which was kept or wasn't
   find_kept_step : (y : Y) (ys : List Y) (b : Bool) → q y ≡ b → find p (filter q ys) ≡ find (λ y. p y && q y) ys
       → find p (filter q (y ∷ ys)) ≡ find (λ y. p y && q y) (y ∷ ys)
   find_kept_step y ys true e rest = rw e (find_kept_here y ys (p y) refl rest)
@@ -54,6 +59,7 @@ module _ {Y : Type 0} (p q : Y → Bool) where
   find-filter (y ∷ ys) = find_kept_step y ys (q y) refl (find-filter ys)
 
 module _ {T : Type 0} where
+  -- one row more in front: its number is the first, or a later one is
   from_step : (n at : ℕ) (row : ℕ × T) (rows : List (ℕ × T)) (b : Bool) → nat_le at row.0 ≡ b → Some n ≡ first_from (row ∷ rows) at
       → (Some n ≡ first_from rows at → at ≤ n) → at ≤ n
   from_step n at row rows true e here so =
@@ -68,6 +74,7 @@ module _ {T : Type 0} where
   first_from-le n at [] here = absurd cc
   first_from-le n at (row ∷ rows) here = from_step n at row rows (nat_le at row.0) refl here (λ h. first_from-le n at rows h)
 
+  -- one row more in front: its number is the first, or a later one is, and both are below
   below_step : (n at low high : ℕ) (row : ℕ × T) (rows : List (ℕ × T)) (b : Bool) → nat_le at row.0 ≡ b → row.0 < high → Some n ≡ first_from (row ∷ rows) at
       → (Some n ≡ first_from rows at → n < high) → n < high
   below_step n at low high row rows true e top here so =
@@ -76,6 +83,7 @@ module _ {T : Type 0} where
       omega arith
   below_step n at low high row rows false e top here so = so (rw e at here)
 
+  -- the bounds of rows that rise are in order
   rising-le : (low high : ℕ) (rows : List (ℕ × T)) → IsRising low rows high → low ≤ high
   rising-le low high [] rising = rising
   rising-le low high (row ∷ rows) rising = let rest = rising-le (row.0 + 1) high rows rising.1 in omega (arith, rising.0)
@@ -97,6 +105,7 @@ module _ {T : Type 0} (test : T → Bool) where
       let rest : first_row test rows a ≡ first_row test rows b = past_both a b (row.0 + 1) high rows rising.1 (omega (arith, rising.0)) (omega (arith, rising.0)) in
       rw (ea, eb, rest) refl
 
+  -- one row more in front: the walk stops at it, or at a later one
   hit_step : (n at : ℕ) (row : ℕ × T) (rows : List (ℕ × T)) (b : Bool) → nat_le at row.0 ≡ b → Some n ≡ first_from (row ∷ rows) at
       → passes test (value_at (row ∷ rows) n) ≡ true
       → (Some n ≡ first_from rows at → passes test (value_at rows n) ≡ true → option_map (λ r. r.0) (first_row test rows at) ≡ Some n)
@@ -122,6 +131,7 @@ module _ {T : Type 0} (test : T → Bool) where
   walk_hit n at [] here passed = absurd cc
   walk_hit n at (row ∷ rows) here passed = hit_step n at row rows (nat_le at row.0) refl here passed (λ h p. walk_hit n at rows h p)
 
+  -- one row more in front, which comes before the number
   none_step : (at : ℕ) (row : ℕ × T) (rows : List (ℕ × T)) (b : Bool) → nat_le at row.0 ≡ b → None ≡ first_from (row ∷ rows) at
       → (None ≡ first_from rows at → first_row test rows at ≡ None) → first_row test (row ∷ rows) at ≡ None
   none_step at row rows true e none so = let no : None ≡ Some row.0 = rw e at none in absurd cc
@@ -132,6 +142,7 @@ module _ {T : Type 0} (test : T → Bool) where
   walk_end at [] none = refl
   walk_end at (row ∷ rows) none = none_step at row rows (nat_le at row.0) refl none (λ h. walk_end at rows h)
 
+  -- one row more in front: the walk goes past it, or past a later one
   miss_step : (n at low high : ℕ) (row : ℕ × T) (rows : List (ℕ × T)) (b : Bool) → nat_le at row.0 ≡ b → IsRising low (row ∷ rows) high → Some n ≡ first_from (row ∷ rows) at
       → passes test (value_at (row ∷ rows) n) ≡ false
       → (Some n ≡ first_from rows at → passes test (value_at rows n) ≡ false → first_row test rows at ≡ first_row test rows (n + 1))
@@ -167,6 +178,7 @@ last_number test [] at o = o
 last_number test (row ∷ rows) at o = last_number test rows at (if nat_le at row.0 && test row.1 then Some row.0 else o)
 
 module _ {T : Type 0} (test : T → Bool) where
+  -- where all rows are past both numbers, the last number is the same
   last_both : (a b low high : ℕ) (rows : List (ℕ × T)) (o : Option ℕ) → IsRising low rows high → a ≤ low → b ≤ low → last_number test rows a o ≡ last_number test rows b o
   last_both a b low high [] o rising h k = refl
   last_both a b low high (row ∷ rows) o rising h k =
@@ -174,6 +186,7 @@ module _ {T : Type 0} (test : T → Bool) where
       let eb : nat_le b row.0 ≡ true = le-leb b row.0 (omega (arith, rising.0)) in
       rw (ea, eb) (last_both a b (row.0 + 1) high rows _ rising.1 (omega (arith, rising.0)) (omega (arith, rising.0)))
 
+  -- one row more in front: the walk looks at it, or at a later one
   last_here : (n at low high : ℕ) (o p : Option ℕ) (row : ℕ × T) (rows : List (ℕ × T)) (b : Bool) → nat_le at row.0 ≡ b → IsRising low (row ∷ rows) high → Some n ≡ first_from (row ∷ rows) at
       → (answer : Bool) → passes test (value_at (row ∷ rows) n) ≡ answer → p ≡ (if answer then Some n else o)
       → (Some n ≡ first_from rows at → passes test (value_at rows n) ≡ answer → last_number test rows at o ≡ last_number test rows (n + 1) p)
@@ -206,15 +219,18 @@ module _ {T : Type 0} (test : T → Bool) where
       last_here n at low high o p row rows (nat_le at row.0) refl rising here answer passed is
       (λ h q. last_more n at (row.0 + 1) high o p rows rising.1 h answer q is)
 
+  -- one row more in front, which comes before the number
   last_none : (at : ℕ) (o : Option ℕ) (row : ℕ × T) (rows : List (ℕ × T)) (b : Bool) → nat_le at row.0 ≡ b → None ≡ first_from (row ∷ rows) at
       → (None ≡ first_from rows at → last_number test rows at o ≡ o) → last_number test (row ∷ rows) at o ≡ o
   last_none at o row rows true e none so = let no : None ≡ Some row.0 = rw e at none in absurd cc
   last_none at o row rows false e none so = rw e (so (rw e at none))
 
+  -- where there is no number any more, the last one so far stays
   pub last_end : (at : ℕ) (o : Option ℕ) (rows : List (ℕ × T)) → None ≡ first_from rows at → last_number test rows at o ≡ o
   last_end at o [] none = refl
   last_end at o (row ∷ rows) none = last_none at o row rows (nat_le at row.0) refl none (λ h. last_end at o rows h)
 
+  -- one row more in front: it is the last so far if it passes
   whole_step : (o : Option ℕ) (p : Option (ℕ × T)) → o ≡ option_map (λ r. r.0) p → (row : ℕ × T) (rows : List (ℕ × T)) (b : Bool) → test row.1 ≡ b
       → ((o : Option ℕ) (p : Option (ℕ × T)) → o ≡ option_map (λ r. r.0) p → last_number test rows 0 o ≡ option_map (λ r. r.0) (last_or p (filter (λ r. test r.1) rows)))
       → last_number test (row ∷ rows) 0 o ≡ option_map (λ r. r.0) (last_or p (filter (λ r. test r.1) (row ∷ rows)))

@@ -21,11 +21,13 @@ use Rattle.geo_mesh.proofs.RankMesh.{view-bare}
 
 -- the first child of a parent is the first row whose value passes
 module _ {T X : Type 0} (seen : ℕ × T → X) (pair : X → ℕ × Option ℕ) (child : T → Option ℕ) (is : (row : ℕ × T) → pair (seen row) ≡ (row.0, child row.1)) (test : T → Bool) (parent at : ℕ) (same : (x : T) → names (child x) parent ≡ test x) where
+  -- one row more in front: it is the first child, or a later one is
   first_step : (row : ℕ × T) (rows : List (ℕ × T)) (b : Bool) → (nat_le at row.0 && test row.1) ≡ b → first_child (map pair (map seen rows)) parent at ≡ option_map (λ r. r.0) (first_row test rows at)
       → first_child (map pair (map seen (row ∷ rows))) parent at ≡ option_map (λ r. r.0) (first_row test (row ∷ rows) at)
   first_step row rows true e rest = rw (is row, same row.1, e) refl
   first_step row rows false e rest = rw (is row, same row.1, e) rest
 
+  -- over all rows, the first child is the number of the first row that passes
   pub first-kin : (rows : List (ℕ × T)) → first_child (map pair (map seen rows)) parent at ≡ option_map (λ r. r.0) (first_row test rows at)
   first-kin [] = refl
   first-kin (row ∷ rows) = first_step row rows (nat_le at row.0 && test row.1) refl (first-kin rows)

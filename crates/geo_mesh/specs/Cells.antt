@@ -25,12 +25,15 @@ provider_seen n x = record { number = n; geom = x.geom; name = x.name; size = x.
 abbrev pub consumer_seen : ℕ → ConsRec → Consumer
 consumer_seen n x = record { number = n; geom = x.geom; provider = x.prov; spoiled = x.spoiled }
 
+-- the geom of a row
 abbrev pub geom_row : {C : Type 0} → ℕ × GeomCell C → Geom C
 geom_row row = geom_seen row.0 row.1.geom
 
+-- the provider of a row
 abbrev pub provider_row : ℕ × ProvCell → Provider
 provider_row row = provider_seen row.0 row.1.provider
 
+-- the consumer of a row
 abbrev pub consumer_row : ℕ × ConsCell → Consumer
 consumer_row row = consumer_seen row.0 row.1.consumer
 
@@ -38,24 +41,31 @@ consumer_row row = consumer_seen row.0 row.1.consumer
 abbrev pub have_of : ProvCell → Counts
 have_of x = x.provider.have
 
+-- whether the provider's write count left zero
 abbrev pub risen_of : ProvCell → Bool
 risen_of x = x.provider.risen
 
+-- whether the provider's write count reached zero
 abbrev pub fallen_of : ProvCell → Bool
 fallen_of x = x.provider.fallen
 
+-- the consumer's counts
 abbrev pub want_of : ConsCell → Counts
 want_of x = x.consumer.want
 
+-- how many requests are out through the consumer
 abbrev pub active_of : ConsCell → ℕ
 active_of x = x.consumer.active
 
+-- the geom's scratch
 abbrev pub geom_scratch_of : {C : Type 0} → GeomCell C → Scratch
 geom_scratch_of x = x.scratch
 
+-- the provider's scratch
 abbrev pub provider_scratch_of : ProvCell → Scratch
 provider_scratch_of x = x.scratch
 
+-- the consumer's scratch
 abbrev pub consumer_scratch_of : ConsCell → Scratch
 consumer_scratch_of x = x.scratch
 

@@ -5,9 +5,11 @@ use Rattle.geo_slots.specs.Slots.{with_value, without}
 use Rattle.geo_family.specs.Family.{FamilyView}
 use Rattle.geo_mesh.specs.declared.index.Index.{Index}
 
+-- the family of no parent and no child
 abbrev pub no_family : FamilyView
 no_family = record { parents = []; children = []; next_parent = 1; next_child = 1; parent_room = 0; child_room = 0 }
 
+-- the index of no geom
 abbrev pub no_index : Index
 no_index = record { offered = no_family; owned = no_family; attached = no_family }
 
@@ -24,6 +26,7 @@ pub record HaveRoom (geoms providers consumers : ℕ) (i : Index) : Type 0 where
 abbrev pub family_with_rooms : FamilyView → FamilyView → FamilyView
 family_with_rooms v w = record v { parent_room = w.parent_room; child_room = w.child_room }
 
+-- the same index with the room of another one
 abbrev pub with_rooms : Index → Index → Index
 with_rooms i j = record {
   offered = family_with_rooms i.offered j.offered;
@@ -35,6 +38,7 @@ with_rooms i j = record {
 abbrev pub with_parent : FamilyView → FamilyView
 with_parent v = record v { parents = v.parents ++ v.next_parent ∷ []; next_parent = v.next_parent + 1; parent_room = v.parent_room - 1 }
 
+-- with a new child, which may have a parent
 abbrev pub with_child : FamilyView → Option ℕ → FamilyView
 with_child v p = record v { children = v.children ++ (v.next_child, p) ∷ []; next_child = v.next_child + 1; child_room = v.child_room - 1 }
 
@@ -42,6 +46,7 @@ with_child v p = record v { children = v.children ++ (v.next_child, p) ∷ []; n
 abbrev pub without_parent : FamilyView → ℕ → FamilyView
 without_parent v n = record v { parents = filter (λ m. not (m == n)) v.parents }
 
+-- without a child
 abbrev pub without_child : FamilyView → ℕ → FamilyView
 without_child v n = record v { children = without v.children n }
 
@@ -49,9 +54,11 @@ without_child v n = record v { children = without v.children n }
 abbrev pub with_geom_index : Index → Index
 with_geom_index i = record i { offered = with_parent i.offered; owned = with_parent i.owned }
 
+-- with a new provider of a geom
 abbrev pub with_provider_index : Index → ℕ → Index
 with_provider_index i geom = record i { offered = with_child i.offered (Some geom); attached = with_parent i.attached }
 
+-- with a new consumer of a geom, which is attached to nothing
 abbrev pub with_consumer_index : Index → ℕ → Index
 with_consumer_index i geom = record i { owned = with_child i.owned (Some geom); attached = with_child i.attached None }
 
@@ -59,9 +66,11 @@ with_consumer_index i geom = record i { owned = with_child i.owned (Some geom); 
 abbrev pub without_geom_index : Index → ℕ → Index
 without_geom_index i geom = record i { offered = without_parent i.offered geom; owned = without_parent i.owned geom }
 
+-- without a provider
 abbrev pub without_provider_index : Index → ℕ → Index
 without_provider_index i prov = record i { offered = without_child i.offered prov; attached = without_parent i.attached prov }
 
+-- without a consumer
 abbrev pub without_consumer_index : Index → ℕ → Index
 without_consumer_index i cons = record i { owned = without_child i.owned cons; attached = without_child i.attached cons }
 
@@ -69,6 +78,7 @@ without_consumer_index i cons = record i { owned = without_child i.owned cons; a
 abbrev pub attached_index : Index → ℕ → ℕ → Index
 attached_index i cons prov = record i { attached = record i.attached { children = with_value i.attached.children cons (Some prov) } }
 
+-- with a consumer detached
 abbrev pub detached_index : Index → ℕ → Index
 detached_index i cons = record i { attached = record i.attached { children = with_value i.attached.children cons None } }
 
@@ -83,15 +93,19 @@ pub record IsFamilyOf (v : FamilyView) (the_parents : List ℕ) (the_children : 
 abbrev pub geom_numbers : {C : Type 0} → List (Geom C) → List ℕ
 geom_numbers xs = map (λ x. x.number) xs
 
+-- the numbers of the providers
 abbrev pub provider_numbers : List Provider → List ℕ
 provider_numbers xs = map (λ x. x.number) xs
 
+-- each provider with its geom
 abbrev pub provider_geoms : List Provider → List (ℕ × Option ℕ)
 provider_geoms xs = map (λ x. (x.number, Some x.geom)) xs
 
+-- each consumer with its geom
 abbrev pub consumer_geoms : List Consumer → List (ℕ × Option ℕ)
 consumer_geoms xs = map (λ x. (x.number, Some x.geom)) xs
 
+-- each consumer with the provider to which it may be attached
 abbrev pub consumer_providers : List Consumer → List (ℕ × Option ℕ)
 consumer_providers xs = map (λ x. (x.number, x.provider)) xs
 

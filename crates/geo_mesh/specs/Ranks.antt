@@ -25,15 +25,19 @@ number_or n (Some m) = m
 abbrev pub kind_of : {C : Type 0} → GeomCell C → Kind
 kind_of x = x.geom.kind
 
+-- the rank that stands in the cell
 abbrev pub rank_of : {C : Type 0} → GeomCell C → ℕ
 rank_of x = x.rank
 
+-- all but the rank
 abbrev pub rest_of : {C : Type 0} → GeomCell C → GeomRec C × Scratch
 rest_of x = (x.geom, x.scratch)
 
+-- the geom that offers the provider
 abbrev pub owner_of : ProvCell → ℕ
 owner_of x = x.provider.geom
 
+-- the consumer's geom, and the provider to which it may be attached
 abbrev pub ends_of : ConsCell → ℕ × Option ℕ
 ends_of x = (x.consumer.geom, x.consumer.prov)
 
@@ -69,6 +73,7 @@ stored gs g = rank_at (ranks gs) g
 abbrev pub under : List (ℕ × ℕ) → List (ℕ × (ℕ × Option ℕ)) → ℕ → List ℕ
 under owners users g = filter_map (value_at owners) (filter_map (λ row. row.1.1) (filter (λ row. row.1.0 == g) users))
 
+-- the geoms directly below a geom, by the tables of providers and consumers
 abbrev pub below : SlotsView ProvCell → SlotsView ConsCell → ℕ → List ℕ
 below ps cs = under (offers ps).rows (ends cs).rows
 
@@ -76,10 +81,12 @@ below ps cs = under (offers ps).rows (ends cs).rows
 abbrev pub owner : SlotsView ProvCell → ℕ → ℕ
 owner ps p = number_or 0 (value_at (offers ps).rows p)
 
+-- the geom of a consumer that may be there, and 0 where there is none
 abbrev pub user_of : Option (ℕ × Option ℕ) → ℕ
 user_of None = 0
 user_of (Some e) = e.0
 
+-- the geom of the consumer of a number, and 0 where there is none
 abbrev pub user : SlotsView ConsCell → ℕ → ℕ
 user cs c = user_of (value_at (ends cs).rows c)
 
@@ -87,9 +94,11 @@ user cs c = user_of (value_at (ends cs).rows c)
 abbrev pub is_offered : ℕ → ℕ → Bool
 is_offered g o = o == g
 
+-- whether the consumer is attached to the provider
 abbrev pub is_attached : ℕ → ℕ × Option ℕ → Bool
 is_attached p e = names_number e.1 p
 
+-- whether the consumer is the geom's
 abbrev pub belongs : ℕ → ℕ × Option ℕ → Bool
 belongs g e = e.0 == g
 
@@ -98,6 +107,7 @@ abbrev pub rank_through : (ℕ → ℕ) → List (ℕ × ℕ) → Option ℕ →
 rank_through f owners None = 0
 rank_through f owners (Some p) = number_or 0 (option_map f (value_at owners p))
 
+-- the value at the geom below a consumer that may be there, and 0 where there is none
 abbrev pub rank_under : (ℕ → ℕ) → List (ℕ × ℕ) → Option (ℕ × Option ℕ) → ℕ
 rank_under f owners None = 0
 rank_under f owners (Some e) = rank_through f owners e.1
@@ -114,6 +124,7 @@ pub record IsFirst {T : Type 0} (test : T → Bool) (rows : List (ℕ × T)) (ne
   pub known : n < next
   pub bound : next < 2 ^ 64
 
+-- the first number from a number on whose value passes, or none where all that pass come before
 abbrev pub FirstIs : {T : Type 0} → (T → Bool) → SlotsView T → ℕ → Option ℕ → Type 0
 FirstIs test s at None = (m : ℕ) → passes test (value_at s.rows m) ≡ true → m < at
 FirstIs test s at (Some n) = IsFirst test s.rows s.next at n

@@ -33,9 +33,11 @@ pub record TopoView (C : Type 0) : Type 0 where
   pub scratches : Scratches
   pub room : Room
 
+-- no counts
 abbrev pub no_counts : Counts
 no_counts = record { r = 0; w = 0; e = 0 }
 
+-- the scratch that each has at first
 abbrev pub no_scratch : Scratch
 no_scratch = record { mark = 0; trial = no_counts }
 
@@ -47,6 +49,7 @@ detach t c = record t { consumers = change_where (λ (x : Consumer). x.number ==
 abbrev pub first_consumer : List Consumer → ℕ → Option ℕ
 first_consumer xs from_number = option_map (λ x. x.number) (find (λ x. nat_le from_number x.number) xs)
 
+-- the first number of the geoms that isn't below a number
 abbrev pub first_geom : {C : Type 0} → List (Geom C) → ℕ → Option ℕ
 first_geom xs from_number = option_map (λ x. x.number) (find (λ x. nat_le from_number x.number) xs)
 
@@ -55,6 +58,7 @@ first_geom xs from_number = option_map (λ x. x.number) (find (λ x. nat_le from
 abbrev pub is_provider_size : ℕ → ℕ → Bool
 is_provider_size size sector = ((sector == 512) || (sector == 4096)) && (nat_le 1 size && (nat_le size (2 ^ 60) && (size % sector == 0)))
 
+-- the first number of the providers that isn't below a number
 abbrev pub first_provider : List Provider → ℕ → Option ℕ
 first_provider xs from_number = option_map (λ x. x.number) (find (λ x. nat_le from_number x.number) xs)
 
@@ -63,12 +67,15 @@ abbrev pub NumbersRise : {X : Type 0} → (X → ℕ) → ℕ → List X → ℕ
 NumbersRise number low [] high = low ≤ high
 NumbersRise number low (x ∷ xs) high = (low ≤ number x) × NumbersRise number (number x + 1) xs high
 
+-- the numbers of the consumers rise
 abbrev pub ConsumersRise : ℕ → List Consumer → ℕ → Type 0
 ConsumersRise = NumbersRise (λ (x : Consumer). x.number)
 
+-- the numbers of the providers rise
 abbrev pub ProvidersRise : ℕ → List Provider → ℕ → Type 0
 ProvidersRise = NumbersRise (λ (x : Provider). x.number)
 
+-- the numbers of the geoms rise
 abbrev pub GeomsRise : {C : Type 0} → ℕ → List (Geom C) → ℕ → Type 0
 GeomsRise {C} = NumbersRise (λ (x : Geom C). x.number)
 
@@ -123,6 +130,7 @@ module _ {C : Type 0} where
     scratches = record t.scratches { geoms = without t.scratches.geoms geom };
   }
 
+  -- without a provider, its counts, its notes and its scratch
   abbrev pub without_provider : TopoView C → ℕ → TopoView C
   without_provider t prov = record t {
     topology = remove_provider t.topology prov;
@@ -132,6 +140,7 @@ module _ {C : Type 0} where
     scratches = record t.scratches { providers = without t.scratches.providers prov };
   }
 
+  -- without a consumer, its counts and its scratch
   abbrev pub without_consumer : TopoView C → ℕ → TopoView C
   without_consumer t cons = record t {
     topology = remove_consumer t.topology cons;
@@ -148,6 +157,7 @@ module _ {C : Type 0} where
   abbrev pub with_want : TopoView C → ℕ → Counts → TopoView C
   with_want t cons want = record t { wants = with_value t.wants cons want }
 
+  -- with other counts of a provider
   abbrev pub with_have : TopoView C → ℕ → Counts → TopoView C
   with_have t prov have = record t { haves = with_value t.haves prov have }
 
@@ -163,9 +173,11 @@ module _ {C : Type 0} where
   abbrev pub with_geom_scratch : TopoView C → ℕ → Scratch → TopoView C
   with_geom_scratch t geom scratch = record t { scratches = record t.scratches { geoms = with_value t.scratches.geoms geom scratch } }
 
+  -- with other scratch of a provider
   abbrev pub with_provider_scratch : TopoView C → ℕ → Scratch → TopoView C
   with_provider_scratch t prov scratch = record t { scratches = record t.scratches { providers = with_value t.scratches.providers prov scratch } }
 
+  -- with other scratch of a consumer
   abbrev pub with_consumer_scratch : TopoView C → ℕ → Scratch → TopoView C
   with_consumer_scratch t cons scratch = record t { scratches = record t.scratches { consumers = with_value t.scratches.consumers cons scratch } }
 
