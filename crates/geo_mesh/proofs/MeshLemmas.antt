@@ -26,11 +26,6 @@ use Rattle.geo_family.specs.Family.{is_parent}
 use Rattle.geo_mesh.proofs.ViewLemmas.{without_geom-view, without_provider-view, without_consumer-view, attach-view, detach-view}
 use Rattle.geo_mesh.proofs.IndexLemmas.{indexed-rooms, indexed-add_geom, indexed-add_provider, indexed-add_consumer, indexed-remove_geom, indexed-remove_provider, indexed-remove_consumer, indexed-attach, indexed-detach}
 
--- what is there and keeps a fact is there
-pub some_and : {X : Type 0} (P : X → Type 0) (o : Option X) → IsSomeAnd o P → IsSome o
-some_and P None never = absurd never
-some_and P (Some x) is = refl
-
 -- room for what there was room for, and for more of it
 pub room_for : (a b c d e f g p q : ℕ) (i : Index) → HaveRoom a b c i → HaveRoom d e f i → g ≤ max a d → p ≤ max b e → q ≤ max c f → HaveRoom g p q i
 room_for a b c d e f g p q i one two most_g most_p most_q = record {

@@ -27,7 +27,7 @@ use Rattle.geo_mesh.specs.Rows.{row_with, rows_with, change_at, passes}
 use Rattle.geo_mesh.specs.Topo.{TopoView, detach, no_counts, no_scratch, first_geom, first_provider, first_consumer, with_provider, with_consumer, with_topology, with_want, with_have, with_notes, with_active, with_geom_scratch, with_provider_scratch, with_consumer_scratch, without_geom, without_provider, without_consumer}
 use Rattle.geo_mesh.specs.Cells.{geom_row, provider_row, consumer_row, have_of, risen_of, fallen_of, want_of, active_of, geom_scratch_of, provider_scratch_of, consumer_scratch_of, graph_of, view_of}
 use Rattle.geo_mesh.proofs.RowLemmas.{OnlyValue, only, map-with_value, map-with_value_same, rows_with-with_value, rows_with-change_at, map-without, find-map, value_at-rows_with}
-use Rattle.geo_mesh.proofs.WalkLemmas.{first-map, last-map, find-filter}
+use Rattle.geo_mesh.proofs.WalkLemmas.{first-map}
 
 module _ {C : Type 0} (gs : SlotsView (GeomCell C)) (ps : SlotsView ProvCell) (cs : SlotsView ConsCell) (n : ℕ) where
   -- the geom of a number
