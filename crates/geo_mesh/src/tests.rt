@@ -68,21 +68,6 @@ fn tower(topo: &mut Topo<u8>, height: u8) -> Result<(ConsId, GeomId, ProvId), Fa
     Ok((foot, top, below))
 }
 
-// A geom that is attached twice to the provider: it, its consumers and its provider.
-fn storey(
-    topo: &mut Topo<u8>,
-    text: &[u8],
-    below: ProvId,
-) -> Result<(GeomId, ConsId, ConsId, ProvId), Fail> {
-    let (geom, prov) = geom_of(topo, text)?;
-    let left = consumer_of(topo, geom)?;
-    let right = consumer_of(topo, geom)?;
-    if attach(topo, left, below)?.is_some() || attach(topo, right, below)?.is_some() {
-        return Err(Fail::from("refused"));
-    }
-    Ok((geom, left, right, prov))
-}
-
 // The provider gets an error.
 fn fail(topo: &mut Topo<u8>, prov: ProvId) -> Result<(), Fail> {
     if topo.provider(prov).is_none() {
@@ -126,28 +111,6 @@ fn a_tower_falls_by_a_storey(rt: HostRuntime) -> Result<(), Fail> {
     detach(&mut topo, foot)?;
     assert_eq!(rt; topo.rank(top), Some(30));
     assert_eq!(rt; topo.rank(GeomId::new(99)), None);
-    Ok(())
-}
-
-#[test]
-fn a_tower_of_double_storeys_falls_storey_by_storey(rt: HostRuntime) -> Result<(), Fail> {
-    let mut topo: Topo<u8> = Topo::new(rt.alloc(), 1, 2)?;
-    let (_, mut below) = geom_of(&mut topo, b"ground")?;
-    let (mut top, mut left, mut right, mut upper) = storey(&mut topo, b"first", below)?;
-    let foot = (left, right);
-    for number in 2..31 {
-        below = upper;
-        let name = [b'c', 65 + number % 26, 65 + number / 26];
-        (top, left, right, upper) = storey(&mut topo, &name, below)?;
-    }
-    assert_eq!(rt; topo.rank(top), Some(31));
-    detach(&mut topo, foot.0)?;
-    assert_eq!(rt; topo.rank(top), Some(31));
-    detach(&mut topo, foot.1)?;
-    assert_eq!(rt; topo.rank(top), Some(30));
-    detach(&mut topo, left)?;
-    detach(&mut topo, right)?;
-    assert_eq!(rt; topo.rank(top), Some(1));
     Ok(())
 }
 
