@@ -92,53 +92,80 @@ fn detach(topo: &mut Topo<u8>, cons: ConsId) -> Result<(), Fail> {
     Ok(())
 }
 
+// What attaching a geom to its own provider is answered, and then with an error at it.
+fn own_provider(topo: &mut Topo<u8>) -> Result<[Option<AttachRefusal>; 2], Fail> {
+    let (geom, prov) = geom_of(topo, b"ada0")?;
+    let cons = consumer_of(topo, geom)?;
+    let own = attach(topo, cons, prov)?;
+    fail(topo, prov)?;
+    Ok([own, attach(topo, cons, prov)?])
+}
+
 #[test]
 fn a_geom_would_reach_itself(rt: HostRuntime) -> Result<(), Fail> {
     let mut topo: Topo<u8> = Topo::new(rt.alloc(), 1, 2)?;
-    let (geom, prov) = geom_of(&mut topo, b"ada0")?;
-    let cons = consumer_of(&mut topo, geom)?;
-    assert_eq!(rt; attach(&mut topo, cons, prov)?, Some(AttachRefusal::Eloop));
-    fail(&mut topo, prov)?;
-    assert_eq!(rt; attach(&mut topo, cons, prov)?, Some(AttachRefusal::Enxio));
+    let answers = own_provider(&mut topo)?;
+    assert_eq!(rt;
+        answers,
+        [Some(AttachRefusal::Eloop), Some(AttachRefusal::Enxio)]
+    );
     Ok(())
+}
+
+// The rank of the top of a tower of 31 geoms, before and after a detach at its foot; and that of no geom.
+fn falling_tower(topo: &mut Topo<u8>) -> Result<[Option<u32>; 3], Fail> {
+    let (foot, top, _) = tower(topo, 31)?;
+    let whole = topo.rank(top);
+    detach(topo, foot)?;
+    Ok([whole, topo.rank(top), topo.rank(GeomId::new(99))])
 }
 
 #[test]
 fn a_tower_falls_by_a_storey(rt: HostRuntime) -> Result<(), Fail> {
     let mut topo: Topo<u8> = Topo::new(rt.alloc(), 1, 2)?;
-    let (foot, top, _) = tower(&mut topo, 31)?;
-    assert_eq!(rt; topo.rank(top), Some(31));
-    detach(&mut topo, foot)?;
-    assert_eq!(rt; topo.rank(top), Some(30));
-    assert_eq!(rt; topo.rank(GeomId::new(99)), None);
+    let ranks = falling_tower(&mut topo)?;
+    assert_eq!(rt; ranks, [Some(31), Some(30), None]);
     Ok(())
+}
+
+// What attaching a geom, and then a handle, above a tower of 32 geoms is answered.
+fn above_the_limit(topo: &mut Topo<u8>) -> Result<[Option<AttachRefusal>; 2], Fail> {
+    let (_, _, upper) = tower(topo, 32)?;
+    let (geom, _) = geom_of(topo, b"over")?;
+    let cons = consumer_of(topo, geom)?;
+    let refused = attach(topo, cons, upper)?;
+    let handle = consumer_of(topo, GeomId::new(1))?;
+    Ok([refused, attach(topo, handle, upper)?])
 }
 
 #[test]
 fn rank_33_is_too_deep(rt: HostRuntime) -> Result<(), Fail> {
     let mut topo: Topo<u8> = Topo::new(rt.alloc(), 1, 2)?;
-    let (_, top, upper) = tower(&mut topo, 32)?;
-    assert_eq!(rt; topo.rank(top), Some(32));
-    let (geom, _) = geom_of(&mut topo, b"over")?;
-    let cons = consumer_of(&mut topo, geom)?;
-    assert_eq!(rt; attach(&mut topo, cons, upper)?, Some(AttachRefusal::Edeep));
-    let handle = consumer_of(&mut topo, GeomId::new(1))?;
-    assert_eq!(rt; attach(&mut topo, handle, upper)?, None);
+    let answers = above_the_limit(&mut topo)?;
+    assert_eq!(rt; answers, [Some(AttachRefusal::Edeep), None]);
     assert_eq!(rt; topo.rank(GeomId::new(1)), Some(33));
     Ok(())
+}
+
+// Two providers of one name, of which the first gets an error, and then the second.
+fn two_of_a_name(topo: &mut Topo<u8>) -> Result<(ProvId, [Option<ProvId>; 3]), Fail> {
+    topo.reserve(2, 2, 2)?;
+    let (_, first) = geom_of(topo, b"ada0")?;
+    fail(topo, first)?;
+    let (_, second) = geom_of(topo, b"ada0")?;
+    let ada0 = name(b"ada0")?;
+    let sound = topo.find(&ada0);
+    fail(topo, second)?;
+    Ok((
+        second,
+        [sound, topo.find(&ada0), topo.find(&name(b"ada1")?)],
+    ))
 }
 
 #[test]
 fn a_sound_provider_is_found_first(rt: HostRuntime) -> Result<(), Fail> {
     let mut topo: Topo<u8> = Topo::new(rt.alloc(), 1, 2)?;
-    topo.reserve(2, 2, 2)?;
-    let (_, first) = geom_of(&mut topo, b"ada0")?;
-    fail(&mut topo, first)?;
-    let (_, second) = geom_of(&mut topo, b"ada0")?;
-    let ada0 = name(b"ada0")?;
-    assert_eq!(rt; topo.find(&ada0), Some(second));
-    fail(&mut topo, second)?;
-    assert_eq!(rt; topo.find(&ada0), Some(second));
-    assert_eq!(rt; topo.find(&name(b"ada1")?), None);
+    let (second, found) = two_of_a_name(&mut topo)?;
+    assert_eq!(rt; found, [Some(second), Some(second), None]);
     Ok(())
 }
