@@ -62,7 +62,7 @@ ok: # anything at all: \x01||a sync
 3 Counts: a open h p r10w0e0
 3 Counts: a open h p R1w0e0
 3 Counts: a open h p r1w0e0e
-3 Number: a read h 01 1
+3 Number: a read h 09 1
 3 Number: a read h 00 1
 3 Number: a read h 18446744073709551616 x
 3 Number: a read h -1 1
