@@ -5,5 +5,6 @@ pub mod Kind
 pub mod Runs
 pub mod Faults
 pub mod Sectors
+pub mod Images
 pub mod Written
 pub mod RunsReader

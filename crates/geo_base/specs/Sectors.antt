@@ -1,6 +1,10 @@
 -- Bytes in sectors of one size.
-use Rattle.std.specs.Prelude.{ℕ, zero, suc, ◌+◌, ◌/◌, List, [], ◌∷◌, length, take, drop, replicate, flat_map}
+use Rattle.std.specs.Prelude.{◌≡◌, ◌⊎◌, ℕ, zero, suc, ◌+◌, ◌/◌, List, [], ◌∷◌, length, take, drop, replicate, flat_map}
 use Rattle.std.specs.List.{replace_range}
+
+-- a disk has sectors of 512 or of 4,096 bytes
+abbrev pub IsSectorSize : ℕ → Type 0
+IsSectorSize size = (size ≡ 512) ⊎ (size ≡ 4096)
 
 -- the first n sectors of some bytes
 abbrev pub cut_into : ℕ → ℕ → List ℕ → List (List ℕ)

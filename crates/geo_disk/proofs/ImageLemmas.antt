@@ -3,11 +3,12 @@ use Rattle.std.proofs.Common.{◌≡◌, ◌≢◌, ℕ, Bool, true, false, List
 use Rattle.std.proofs.Math.Bool.{or-false}
 use Rattle.std.proofs.lemmas.Bool.{false_from_ne_true}
 use Rattle.std.specs.Option.{option_map}
-use Rattle.geo_base.specs.Sectors.{sectors_of}
+use Rattle.geo_base.specs.Sectors.{sectors_of, IsSectorSize}
 use Rattle.geo_disk.specs.Names.{is_among, without}
 use Rattle.geo_disk.specs.Memory.{Memory}
 use Rattle.geo_disk.specs.MemShelf.{HasSlots, emptied_slot, image_in, kept_slot, slot_of}
-use Rattle.geo_disk.specs.Shelf.{IsDiskSize, IsGivenTo, IsOfSize, IsSectorSize, IsTakenFrom}
+use Rattle.geo_base.specs.Images.{IsDiskSize}
+use Rattle.geo_disk.specs.Shelf.{IsGivenTo, IsOfSize, IsTakenFrom}
 use Rattle.geo_disk.proofs.SectorLemmas.{sectors_length}
 use Rattle.std.proofs.Math.Nat.{mul_comm, zero-mul}
 use Rattle.geo_disk.specs.declared.mem_shelf.Slot.{Slot}

@@ -1,24 +1,11 @@
 -- What a shelf tells, and what its calls do to it.
-use Rattle.std.specs.Prelude.{◌≡◌, ◌≢◌, ℕ, ◌*◌, ◌%◌, ◌^◌, ◌≤◌, ◌⊎◌, List, ◌∷◌, [], ◌++◌, length, Option, Some, None, Result, Ok, Err, IfSome, IsSomeAnd}
+use Rattle.std.specs.Prelude.{◌≡◌, ◌≢◌, ℕ, ◌*◌, ◌^◌, ◌≤◌, List, ◌∷◌, [], ◌++◌, length, Option, Some, None, Result, Ok, Err, IfSome, IsSomeAnd}
+use Rattle.geo_base.specs.Images.{Images, IsDiskSize}
 use Rattle.geo_base.specs.Sectors.{joined_sectors, sectors_of}
 use Rattle.geo_disk.specs.Names.{without}
 use Rattle.geo_disk.specs.declared.shelf.Taken.{Taken}
 use Rattle.geo_disk.specs.declared.shelf.Taken.TheVariants.{Disk, Missing, BadSize}
 use Rattle.geo_disk.specs.declared.shelf.ShelfFault.{ShelfFault}
-
--- the bytes under each name of a shelf
-abbrev pub Images : Type 0
-Images = List ℕ → Option (List ℕ)
-
--- a disk has sectors of 512 or of 4,096 bytes
-abbrev pub IsSectorSize : ℕ → Type 0
-IsSectorSize sector = (sector ≡ 512) ⊎ (sector ≡ 4096)
-
--- so many bytes are one or more whole sectors, and at most 2 ^ 40
-pub record IsDiskSize (sector size : ℕ) : Type 0 where
-  pub some : 1 ≤ size
-  pub whole : size % sector ≡ 0
-  pub limited : size ≤ 2 ^ 40
 
 -- a disk has sectors of the size that was asked for, one or more, and at most 2 ^ 40 bytes
 pub record IsOfSize (sector bytes count : ℕ) : Type 0 where

@@ -4,11 +4,11 @@ ghost use Rattle.std.specs.Bool.{OnTrue};
 ghost use Rattle.std.specs.Option.{option_copied};
 ghost use Rattle.std.specs.List.{position};
 ghost use Rattle.geo_base.specs.Faults.{HasCause, Rose};
-ghost use Rattle.geo_base.specs.Sectors.{joined_sectors};
+ghost use Rattle.geo_base.specs.Sectors.{joined_sectors, IsSectorSize};
 ghost use Rattle.geo_disk.specs.Memory.{AreWhole, counted_on};
 ghost use Rattle.geo_disk.specs.Names.{is_named, without};
 ghost use Rattle.geo_disk.specs.Lending.{faults_of};
-ghost use Rattle.geo_disk.specs.Shelf.{Counts, Gives, IfTaken, IsGivenTo, IsOfSize, IsSectorSize, Takes, lent_by, lent_without};
+ghost use Rattle.geo_disk.specs.Shelf.{Counts, Gives, IfTaken, IsGivenTo, IsOfSize, Takes, lent_by, lent_without};
 ghost use Rattle.geo_disk.specs.MemShelf.{AreSameCalls, disk_of, emptied_slot, images_of, kept_slot, lent_has_nothing, shelf_called, slot_at, slot_of, with_slot};
 
 use crate::lending::{Lending, is_same};

@@ -1,7 +1,9 @@
 //! Where disks are taken from and given back.
 ghost use Rattle.std.specs.Prelude.{◌≡◌, ℕ, ◌≤◌, ◌<◌, ◌↔◌, List, Option, Contains, IfErr, IfSome, IsErrOf, IsTrue, None};
 ghost use Rattle.geo_base.specs.Faults.{HasCause, Rose};
-ghost use Rattle.geo_disk.specs.Shelf.{Counts, Gives, IfTaken, Images, IsDiskSize, IsOfSize, IsSectorSize, Takes, lent_by, lent_without};
+ghost use Rattle.geo_base.specs.Images.{Images, IsDiskSize};
+ghost use Rattle.geo_base.specs.Sectors.{IsSectorSize};
+ghost use Rattle.geo_disk.specs.Shelf.{Counts, Gives, IfTaken, IsOfSize, Takes, lent_by, lent_without};
 
 use crate::disk::Disk;
 use geo_base::Name;

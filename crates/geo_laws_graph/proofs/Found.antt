@@ -8,8 +8,7 @@ use Rattle.std.proofs.lemmas.List.Elements.{filter_map-append}
 use Rattle.geo_model.specs.Words.{same_name, names_number, change_where}
 use Rattle.geo_model.specs.Topology.{Topology, Geom, Provider, Consumer, provider_at, consumer_at, consumers_of, providers_under, is_errored, is_withering, add_provider, remove_provider, set_error, set_marks}
 use Rattle.geo_model.proofs.DemandLemmas.{all_weaker}
-use Rattle.geo_model.specs.Sound.{AreNumbers}
-use Rattle.geo_laws_graph.specs.Lookups.{IsInOrder}
+use Rattle.geo_model.specs.Graph.{AreNumbers, IsInOrder}
 use Rattle.geo_laws_graph.specs.LookupLaws.{seen_geom, SeenGeomIsFound, new_geom, new_provider, new_consumer, EachIsFound, AddedGeomIsFound, AddedProviderIsFound, AddedConsumerIsFound, RemovedGeomIsGone, RemovedProviderIsGone, RemovedConsumerIsGone, AttachedIsFound, DetachedIsFound, ErrorIsFound, WitheringIsFound, MarksAreFound, ConfigIsFound, StartIsFound}
 use Rattle.geo_laws_graph.proofs.Lists.{changed, find-changed, filter-changed, any-changed, filter_map-changed, filter-filter, numbers-push, numbers-kept, numbers-changed}
 use Rattle.std.proofs.lemmas.Slice.Eq.{bytes_eq-Decides}

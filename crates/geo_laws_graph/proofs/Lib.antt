@@ -3,4 +3,5 @@ pub mod Lists
 pub mod Numbered
 pub mod Spared
 pub mod Found
+pub mod TwoChanges
 pub mod Living

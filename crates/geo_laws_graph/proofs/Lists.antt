@@ -6,7 +6,7 @@ use Rattle.std.proofs.Common.{inl, inr, refl, ◌∙◌, ap, arith}
 use Rattle.std.proofs.lemmas.Bool.{eqb-true, eq-eqb, ne_eqb}
 use Rattle.std.proofs.lemmas.List.Elements.{All-head, All-tail, All-cons, All-nil}
 use Rattle.geo_model.specs.Words.{change_where}
-use Rattle.geo_model.specs.Sound.{AreNumbers}
+use Rattle.geo_model.specs.Graph.{AreNumbers}
 use Rattle.geo_laws_graph.proofs.Members.{Contains-cases, nothing_in}
 
 module _ {X : Type 0} (hit : X → Bool) (change : X → X) where
@@ -46,7 +46,7 @@ module _ {X : Type 0} (hit : X → Bool) (change : X → X) where
     filter-changed [] = refl
     filter-changed (x ∷ xs) = filter_step x xs (test x) refl (filter-changed xs)
 
-    -- as many pass as did
+    -- whether one passes stays
     pub any-changed : (xs : List X) → list_any test (change_where hit change xs) ≡ list_any test xs
     any-changed [] = refl
     any-changed (x ∷ xs) = rw (changed-keeps test same x, any-changed xs) refl

@@ -7,7 +7,7 @@ use Rattle.std.proofs.lemmas.List.Folds.{find-append}
 use Rattle.geo_base.specs.declared.kind.Kind.{Kind}
 use Rattle.geo_model.specs.Words.{change_where, names_number}
 use Rattle.geo_model.specs.Topology.{Topology, Geom, Provider, Consumer, geom_at, provider_at, providers_of, consumers_of, attached_to, add_geom, add_provider, add_consumer, remove_geom, remove_provider, remove_consumer, attach, set_error, set_marks}
-use Rattle.geo_laws_graph.specs.Lookups.{OfferersLive, GeomsLive, ProvidersLive, PartsLive}
+use Rattle.geo_model.specs.Graph.{OfferersLive, GeomsLive, ProvidersLive, PartsLive}
 use Rattle.geo_laws_graph.specs.LookupLaws.{PartsStayAlive, SoundIsInOrder, SteadyPartsLive}
 use Rattle.geo_laws_graph.proofs.Members.{has, Contains-filter, All-from_contained, at_contained, nothing_in}
 use Rattle.geo_laws_graph.proofs.Lists.{changed, find-changed, all-changed, find-kept, find-gone}

@@ -8,7 +8,7 @@ use Rattle.std.proofs.lemmas.List.{append-nil}
 use Rattle.std.proofs.lemmas.List.Folds.{find-append, list_any-append}
 use Rattle.std.proofs.lemmas.List.Elements.{filter-append}
 use Rattle.geo_model.specs.Words.{change_where}
-use Rattle.geo_model.specs.Sound.{AreNumbers}
+use Rattle.geo_model.specs.Graph.{AreNumbers}
 use Rattle.geo_model.proofs.DemandLemmas.{find_passes}
 use Rattle.geo_laws_graph.proofs.Members.{has, find-Contains, Contains-map, All-from_contained, Contains-cases, nothing_in}
 use Rattle.geo_laws_graph.proofs.Lists.{changed, find-changed, any-changed, find-kept, find-gone, any-kept, found_fresh, found_itself}

@@ -4,11 +4,11 @@ use Rattle.std.specs.List.{AllByRecursion}
 use Rattle.std.specs.Option.{option_to_list}
 use Rattle.geo_base.specs.declared.kind.Kind.{Kind}
 use Rattle.geo_model.specs.Words.{same_name, names_number, change_where}
-use Rattle.geo_model.specs.Topology.{with_configs, Topology, Geom, Provider, Consumer, geom_at, provider_at, consumer_at, providers_of, consumers_of, attached_to, providers_under, is_name_taken, find_provider, is_errored, is_withering, add_geom, add_provider, add_consumer, remove_geom, remove_provider, remove_consumer, attach, set_error, set_withering, set_marks, set_config, note_started}
+use Rattle.geo_model.specs.Topology.{with_configs, Topology, Geom, Provider, Consumer, geom_at, provider_at, consumer_at, providers_of, consumers_of, attached_to, providers_under, is_name_taken, find_provider, is_errored, is_withering, add_geom, add_provider, add_consumer, remove_geom, remove_provider, remove_consumer, attach, set_error, set_withering, set_marks, set_config, note_started, detach}
 use Rattle.geo_model.specs.World.{World, Config}
 use Rattle.geo_model.specs.Sound.{NumbersHold}
 use Rattle.geo_model.specs.Steady.{PartsHaveGeoms, AreAttached}
-use Rattle.geo_laws_graph.specs.Lookups.{IsInOrder, PartsLive, detach}
+use Rattle.geo_model.specs.Graph.{IsInOrder, PartsLive}
 
 -- what is made by adding
 abbrev pub new_geom : {C : Type 0} → Topology C → Kind → List ℕ → C → Bool → Geom C
@@ -138,6 +138,13 @@ pub record DetachedIsFound (C : Type 0) : Type 0 where
   pub under : (t : Topology C) (c g : ℕ) (x : Consumer) → IsInOrder t → consumer_at t c ≡ Some x → x.geom ≢ g
       → providers_under (detach t c) g ≡ providers_under t g
   pub order : (t : Topology C) (c : ℕ) → IsInOrder t → IsInOrder (detach t c)
+
+-- a consumer that is made and then attached is one that is made attached, and one that is detached and then removed is one that
+-- is removed: so two calls make the one change that a step of the mesh speaks of
+pub record TwoChangesAreOne (C : Type 0) : Type 0 where
+  pub made : (t : Topology C) (geom p : ℕ) → IsInOrder t
+      → attach (add_consumer t geom None) t.next_consumer p ≡ add_consumer t geom (Some p)
+  pub removed : (t : Topology C) (c : ℕ) → remove_consumer (detach t c) c ≡ remove_consumer t c
 
 -- a provider with an error is found so; no name is taken that wasn't, and other names stay
 pub record ErrorIsFound (C : Type 0) : Type 0 where

@@ -1,5 +1,5 @@
 //! Laws of look-ups, for any configuration of a class.
-ghost use Rattle.geo_laws_graph.specs.LookupLaws.{AddedConsumerIsFound, AddedGeomIsFound, AddedProviderIsFound, AttachedIsFound, ConfigIsFound, DetachedIsFound, EachIsFound, ErrorIsFound, MarksAreFound, PartsStayAlive, RemovedConsumerIsGone, RemovedGeomIsGone, RemovedProviderIsGone, SeenGeomIsFound, SoundIsInOrder, StartIsFound, SteadyPartsLive, WitheringIsFound};
+ghost use Rattle.geo_laws_graph.specs.LookupLaws.{AddedConsumerIsFound, AddedGeomIsFound, AddedProviderIsFound, AttachedIsFound, ConfigIsFound, DetachedIsFound, EachIsFound, ErrorIsFound, MarksAreFound, PartsStayAlive, RemovedConsumerIsGone, RemovedGeomIsGone, RemovedProviderIsGone, SeenGeomIsFound, SoundIsInOrder, StartIsFound, SteadyPartsLive, TwoChangesAreOne, WitheringIsFound};
 
 /// In lists in order of numbers each thing is what is found at its number.
 pub fn each_is_found<C>()
@@ -25,6 +25,11 @@ pub fn changed_consumer_is_found<C>()
     ensures attached { AttachedIsFound C }
     ensures detached { DetachedIsFound C }
     ensures marks { MarksAreFound C }
+{}
+
+/// A consumer that is made and attached is made attached, and one that is detached and removed is removed.
+pub fn two_changes_are_one<C>()
+    ensures { TwoChangesAreOne C }
 {}
 
 /// A provider with an error is found so, and all others as before.

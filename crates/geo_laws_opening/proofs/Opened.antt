@@ -15,7 +15,8 @@ use Rattle.geo_model.specs.Events.{provider_of_event}
 use Rattle.geo_model.specs.World.{World, Config, Nothing, Disk, HeaderDisk, Plan, granted_in}
 use Rattle.geo_model.specs.Plans.{IsPlan, FactsFit}
 use Rattle.geo_model.specs.Opening.{disk_in_size, bare_world, opening}
-use Rattle.geo_model.specs.Sound.{Sound, AreNumbers, IsOfItsClass, IsMediaSize, DifferInName, DifferInDisk, HasDiskSizes, LeadsDown, RanksHold, CountsHold, ProvidersHold, NumbersHold, HandlesHold, EventsHold}
+use Rattle.geo_model.specs.Graph.{AreNumbers}
+use Rattle.geo_model.specs.Sound.{Sound, IsOfItsClass, IsMediaSize, DifferInName, DifferInDisk, HasDiskSizes, LeadsDown, RanksHold, CountsHold, ProvidersHold, NumbersHold, HandlesHold, EventsHold}
 use Rattle.geo_model.specs.Steady.{Steady, HasItsComponents, WaitsForPlaces}
 use Rattle.geo_model.proofs.DemandLemmas.{all_weaker, kept_by}
 use Rattle.geo_laws_graph.proofs.Members.{Contains-there, All-from_contained, at_contained}

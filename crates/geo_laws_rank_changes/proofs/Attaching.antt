@@ -3,13 +3,13 @@ use Rattle.std.specs.Prelude.{◌≡◌, ◌⊎◌, ℕ, ◌==◌, Bool, true, f
 use Rattle.std.proofs.Common.{inl, inr, refl, sym, ◌∙◌, ap, subst}
 use Rattle.std.proofs.lemmas.Bool.{eqb-true, cases_Bool, not-true}
 use Rattle.std.proofs.lemmas.List.Elements.{Contains-append_left, Contains-push, Contains-push_cases}
-use Rattle.geo_model.specs.Topology.{Topology, Provider, Consumer, provider_at, consumer_at, attach, add_consumer, remove_consumer}
+use Rattle.geo_model.specs.Topology.{Topology, Provider, Consumer, provider_at, consumer_at, attach, add_consumer, remove_consumer, detach}
 use Rattle.geo_model.proofs.DemandLemmas.{find_passes}
 use Rattle.geo_laws_ranks.specs.Edges.{Below, AddsEdge}
 use Rattle.geo_laws_rank_changes.specs.Attach.{CanAttach, IsAttached}
 use Rattle.geo_laws_graph.proofs.Members.{find-Contains, Contains-map, map-Contains, Contains-filter, filter-Contains}
 use Rattle.geo_laws_graph.proofs.Lists.{changed, found_itself}
-use Rattle.geo_laws_graph.specs.Lookups.{IsInOrder, detach}
+use Rattle.geo_model.specs.Graph.{IsInOrder}
 
 -- a consumer of a number is the one that is found there
 abbrev number_of : Consumer → ℕ

@@ -12,7 +12,7 @@ use Rattle.geo_model.specs.Topology.{attach, add_geom, Topology, Geom, Provider,
 use Rattle.geo_model.specs.Rank.{rank, rank_limit}
 use Rattle.geo_model.specs.World.{Config}
 use Rattle.geo_model.specs.Sound.{RanksHold, StandsBare}
-use Rattle.geo_laws_graph.specs.Lookups.{GeomsLive, OfferersLive, IsInOrder}
+use Rattle.geo_model.specs.Graph.{GeomsLive, OfferersLive, IsInOrder}
 use Rattle.geo_laws_graph.proofs.Lists.{changed, changed-keeps, find-changed, all-changed}
 use Rattle.geo_laws_graph.proofs.Living.{found-before, remove_consumer-geoms, remove_consumer-providers}
 use Rattle.geo_laws_graph.proofs.Found.{added-provider, removed-provider, removed-geom, error-found, withering-found}

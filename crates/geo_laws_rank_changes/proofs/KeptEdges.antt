@@ -9,7 +9,7 @@ use Rattle.geo_laws_ranks.specs.Edges.{HasEdgesOf}
 use Rattle.geo_laws_graph.proofs.Members.{has, at_contained}
 use Rattle.geo_laws_ranks.proofs.Climbing.{under-from_below, below-from_under}
 use Rattle.geo_laws_graph.proofs.Lists.{changed, changed-keeps, find-changed, filter-changed, filter_map-changed}
-use Rattle.geo_laws_graph.specs.Lookups.{ProvidersLive}
+use Rattle.geo_model.specs.Graph.{ProvidersLive}
 use Rattle.geo_laws_graph.proofs.Living.{provider_at-removed, provider_at-gone, not_there, provider_stays}
 
 -- two functions that give the same of each item give the same of a list

@@ -20,7 +20,7 @@ use Rattle.geo_laws_rank_changes.specs.RankChangeLaws.{OneRankRises}
 use Rattle.geo_laws_ranks.proofs.Climbing.{below-from_under}
 use Rattle.geo_laws_ranks.proofs.EdgeRanks.{reaches-none}
 use Rattle.geo_laws_rank_changes.proofs.RankChanges.{opening-rises, adding-stay}
-use Rattle.geo_laws_graph.specs.Lookups.{OfferersLive, GeomsLive, IsInOrder}
+use Rattle.geo_model.specs.Graph.{OfferersLive, GeomsLive, IsInOrder}
 use Rattle.geo_laws_graph.proofs.Living.{add_geom-geoms, add_consumer-geoms}
 
 module _ {C : Type 0} (t : Topology C) (geom p : ℕ) (x : Provider) (ranked : Ranked t) (live : GeomsLive t) (there : IsSome (geom_at t geom))

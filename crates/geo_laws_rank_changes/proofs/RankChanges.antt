@@ -5,7 +5,7 @@ use Rattle.geo_base.specs.declared.errno.Errno.TheVariants.{ENXIO, ELOOP, EDEEP}
 use Rattle.std.proofs.lemmas.List.{length-map}
 use Rattle.geo_laws_graph.specs.LookupLaws.{seen_geom}
 use Rattle.geo_model.specs.Words.{first_error}
-use Rattle.geo_model.specs.Topology.{with_configs, Topology, Geom, Provider, geom_at, provider_at, consumer_at, add_geom, add_provider, add_consumer, remove_geom, remove_provider, remove_consumer, attach, set_error, set_withering, set_marks, set_config, note_started, is_errored}
+use Rattle.geo_model.specs.Topology.{with_configs, Topology, Geom, Provider, geom_at, provider_at, consumer_at, add_geom, add_provider, add_consumer, remove_geom, remove_provider, remove_consumer, attach, set_error, set_withering, set_marks, set_config, note_started, is_errored, detach}
 use Rattle.geo_model.specs.Rank.{reaches, Ranked, would_loop, attach_refusal, is_too_deep}
 use Rattle.geo_laws_ranks.specs.Edges.{Loop}
 use Rattle.geo_laws_rank_changes.specs.Attach.{CanAttach, IsAttached}
@@ -15,7 +15,7 @@ use Rattle.geo_laws_ranks.proofs.AddedEdges.{ranked-fewer, ranked-added, added-r
 use Rattle.geo_laws_rank_changes.proofs.Attaching.{attach-edge, removed-edge, removed-edges, loose-edges, detach-edge, added-edges, unattached-edges, opened-edge}
 use Rattle.geo_laws_rank_changes.proofs.KeptEdges.{parts-edges, under-edges, geoms_under-set_marks, geoms_under-set_error, add_provider-edges, before_provider-edges, remove_provider-edges, before_removal-edges}
 use Rattle.geo_laws_graph.proofs.Lists.{length-changed}
-use Rattle.geo_laws_graph.specs.Lookups.{GeomsLive, IsInOrder, detach}
+use Rattle.geo_model.specs.Graph.{GeomsLive, IsInOrder}
 use Rattle.geo_laws_graph.proofs.Living.{add_provider-providers, remove_provider-providers, add_geom-geoms, remove_geom-geoms, add_consumer-geoms, add_consumer-providers, remove_consumer-geoms, remove_consumer-providers, changed-consumers, attach-providers, attach-geoms, set_error-providers, set_marks-providers}
 use Rattle.geo_laws_ranks.proofs.EdgeRanks.{ranked-live, stays_all, stays-same_edges, rises-edge}
 

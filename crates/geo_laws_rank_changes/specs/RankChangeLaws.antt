@@ -1,14 +1,14 @@
 -- What each change of one thing does to ranks, for any configuration C of a class.
 use Rattle.std.specs.Prelude.{◌⊎◌, ◌≡◌, ◌≢◌, ◌↔◌, ℕ, ◌+◌, ◌≤◌, max, Bool, true, false, List, [], Some, None, IsSome, All}
 use Rattle.geo_base.specs.declared.kind.Kind.{Kind}
-use Rattle.geo_model.specs.Topology.{with_configs, Topology, Provider, Consumer, geom_at, provider_at, consumer_at, providers_of, consumers_of, attached_to, add_geom, add_provider, add_consumer, remove_geom, remove_provider, remove_consumer, attach, set_error, set_withering, set_marks, set_config, note_started}
+use Rattle.geo_model.specs.Topology.{with_configs, Topology, Provider, Consumer, geom_at, provider_at, consumer_at, providers_of, consumers_of, attached_to, add_geom, add_provider, add_consumer, remove_geom, remove_provider, remove_consumer, attach, set_error, set_withering, set_marks, set_config, note_started, detach}
 use Rattle.geo_model.specs.Rank.{rank, rank_limit, reaches, Ranked, would_loop, attach_refusal, is_too_deep}
 use Rattle.geo_model.specs.World.{Config}
 use Rattle.geo_model.specs.GeomCommands.{with_geom_at, rank_over}
 use Rattle.geo_model.specs.Sound.{IsOfItsClass, RanksHold}
 use Rattle.geo_laws_ranks.specs.Edges.{Loop}
 use Rattle.geo_laws_rank_changes.specs.Attach.{CanAttach, IsAttached}
-use Rattle.geo_laws_graph.specs.Lookups.{OfferersLive, GeomsLive, IsInOrder, detach}
+use Rattle.geo_model.specs.Graph.{OfferersLive, GeomsLive, IsInOrder}
 use Rattle.geo_laws_ranks.specs.RankLaws.{RanksStay, AllRanksStay, RanksRise}
 
 -- what has no part in the edges keeps all ranks

@@ -12,7 +12,7 @@ use Rattle.geo_laws_ranks.specs.Edges.{LongWay, Below, HasEdgesOf, AddsEdge, Pat
 use Rattle.geo_laws_graph.proofs.Members.{Origin, Contains-here, Contains-there, Contains-map, map-Contains, largest-above, largest-least}
 use Rattle.geo_laws_ranks.proofs.Climbing.{under-from_below, below-from_under, ranked-from_climbing, rank-falls, rank_within-enough}
 use Rattle.geo_laws_ranks.proofs.Paths.{reached, any-flat_map, reaches-above, reaches-rank, path-from_reaches, path-edges, reached-itself, path-ranks}
-use Rattle.geo_laws_graph.specs.Lookups.{GeomsLive, ProvidersLive}
+use Rattle.geo_model.specs.Graph.{GeomsLive, ProvidersLive}
 
 -- the largest of the values of some, and of others among which each has its like
 largest-among : (f h : ℕ → ℕ) (xs ys : List ℕ) → ((x : ℕ) → Contains xs x → Contains ys x × (f x ≤ h x)) → largest (map f xs) ≤ largest (map h ys)

@@ -11,7 +11,7 @@ use Rattle.geo_model.proofs.DemandLemmas.{map_same, all_weaker, no_items, find_p
 use Rattle.geo_model.proofs.RankLemmas.{rank-largest}
 use Rattle.geo_laws_ranks.specs.Edges.{Below, Climbs, IsOneMoreThanBelow}
 use Rattle.geo_laws_graph.proofs.Members.{Has, has, find-Contains, All-from_contained, at_contained, Contains-cases, Contains-filter, filter-Contains, Contains-map, Contains-filter_map, filter_map-Contains, largest-above, nothing_in}
-use Rattle.geo_laws_graph.specs.Lookups.{GeomsLive, ProvidersLive}
+use Rattle.geo_model.specs.Graph.{GeomsLive, ProvidersLive}
 
 -- a fact of what is there, where it is known what is there
 pub some_and : {X : Type 0} (P : X → Type 0) (o : Option X) (x : X) → o ≡ Some x → P x → IsSomeAnd o P

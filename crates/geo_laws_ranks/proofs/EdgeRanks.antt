@@ -11,7 +11,7 @@ use Rattle.std.proofs.lemmas.List.Elements.{All-weaker}
 use Rattle.geo_laws_ranks.proofs.Climbing.{provider_there, attached_geom, ranked-from_climbing, climbs_along, climbs_from, rank-falls}
 use Rattle.geo_laws_ranks.proofs.Paths.{same_bool, reaches-same_edges, reaches-kept, reaches-from_path, path-from_reaches, path-edges}
 use Rattle.geo_laws_ranks.proofs.AddedEdges.{rank-ways, ranked-fewer, rank-fewer, rank-kept, rank-same_edges, rank-rises, rank-elsewhere, rank-above_edge, rank-mended, old_edge}
-use Rattle.geo_laws_graph.specs.Lookups.{GeomsLive, ProvidersLive}
+use Rattle.geo_model.specs.Graph.{GeomsLive, ProvidersLive}
 use Rattle.geo_laws_graph.proofs.Living.{if_some_weaker}
 
 -- in a ranked graph each attached consumer's provider lives

@@ -6,7 +6,7 @@ use Rattle.geo_model.specs.Rank.{rank, rank_within, rank_limit, geoms_under, rea
 use Rattle.geo_model.specs.World.{Config}
 use Rattle.geo_model.specs.Sound.{IsOfItsClass}
 use Rattle.geo_laws_ranks.specs.Edges.{AddsEdge, LongWay, Climbs, IsOneMoreThanBelow, HasEdgesOf, Path}
-use Rattle.geo_laws_graph.specs.Lookups.{GeomsLive, ProvidersLive}
+use Rattle.geo_model.specs.Graph.{GeomsLive, ProvidersLive}
 
 -- Of one graph
 

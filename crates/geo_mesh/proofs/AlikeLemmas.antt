@@ -3,14 +3,14 @@ use Rattle.std.proofs.Common.{◌≡◌, ℕ, ◌+◌, ◌==◌, List, [], ◌�
 use Rattle.std.proofs.lemmas.Bool.{cases_eq, eq-eqb, ne_eqb}
 use Rattle.std.proofs.lemmas.List.{map-append}
 use Rattle.std.specs.Prelude.{if◌then◌else◌, ◌&&◌, ◌||◌}
-use Rattle.std.specs.List.{list_any, last_or}
+use Rattle.std.specs.List.{last_or}
 use Rattle.std.specs.Option.{option_map, option_and_then}
 use Rattle.geo_model.specs.Words.{change_where, same_name}
 use Rattle.geo_model.specs.Topology.{Provider}
 use Rattle.geo_slots.specs.Slots.{without}
 use Rattle.geo_family.specs.Family.{names, has_child, last_child}
 use Rattle.geo_mesh.specs.declared.names.Names.{Names}
-use Rattle.geo_mesh.specs.Names.{is_sound_named, OneEach, AreNames, AreIds, AreKnown, sound_of, id_of, newest_of, AddsName, RetiresName, RemovesName, SameNames}
+use Rattle.geo_mesh.specs.Names.{is_sound_named, OneEach, AreNames, AreIds, AreKnown, sound_of, id_of, newest_of, AddsName, RemovesName, SameNames}
 use Rattle.geo_mesh.proofs.IndexLemmas.{map-change_where, map-filter_row}
 use Rattle.geo_mesh.proofs.NameLemmas.{same_is, is_same, OnlyProvider, errored_fails, retired, retired-same, retired-gone, retired-one, retired-change, retired-filter, pushed-here, pushed-other, pushed-one, with_error}
 

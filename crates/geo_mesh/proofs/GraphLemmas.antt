@@ -1,17 +1,117 @@
--- The numbers of what the rows are seen as rise.
-use Rattle.std.specs.Prelude.{ℕ, ◌+◌, List, [], ◌∷◌, map}
-use Rattle.geo_slots.specs.Slots.{IsRising}
+-- What a mesh keeps makes its graph a sound one.
+use Rattle.std.specs.Prelude.{◌≡◌, ℕ, ◌+◌, ◌<◌, ◌==◌, Bool, true, false, List, [], ◌∷◌, find, filter, map, Option, Some, None, All, AllPairs, Contains, IfSome, IsSome, IsSomeAnd}
+use Rattle.std.specs.Option.{option_map}
+use Rattle.std.proofs.Common.{refl, sym, ◌∙◌, ap, subst, arith}
+use Rattle.std.proofs.lemmas.Bool.{eq-eqb}
+use Rattle.std.proofs.lemmas.List.Elements.{recursion_from_All, All-from_recursion}
+use Rattle.std.proofs.lemmas.List.Kept.{AllPairs-cons}
+use Rattle.geo_model.specs.Words.{largest, same_name}
+use Rattle.geo_model.specs.Topology.{Provider, Consumer, provider_at, consumers_of, providers_under}
+use Rattle.geo_model.specs.Rank.{rank, geoms_under, Ranked}
+use Rattle.geo_model.specs.Sound.{DifferInName}
+use Rattle.geo_laws_graph.proofs.Members.{Has, has, All-from_contained, at_contained, Contains-filter, Contains-filter_map, Contains-map, largest-above, nothing_in}
+use Rattle.geo_slots.specs.Slots.{SlotsView}
 use Rattle.geo_mesh.specs.declared.records.GeomCell.{GeomCell}
+use Rattle.geo_mesh.specs.declared.records.ProvCell.{ProvCell}
 use Rattle.geo_mesh.specs.declared.records.ConsCell.{ConsCell}
-use Rattle.geo_mesh.specs.Topo.{ConsumersRise, GeomsRise}
-use Rattle.geo_mesh.specs.Cells.{consumer_row, geom_row}
+use Rattle.geo_mesh.specs.declared.index.Index.{Index}
+use Rattle.geo_mesh.specs.declared.names.Names.{Names}
+use Rattle.geo_mesh.specs.Cells.{graph_of, provider_row}
+use Rattle.geo_mesh.specs.Graph.{IsSoundGraph}
+use Rattle.geo_mesh.specs.Names.{OneEach, is_sound_named}
+use Rattle.geo_mesh.specs.Ranks.{HaveRanks, below, stored}
+use Rattle.geo_mesh.specs.Whole.{IsWhole}
+use Rattle.geo_mesh.proofs.NameLemmas.{same_is, is_same}
+use Rattle.geo_mesh.proofs.RankMesh.{under-graph, stored-rank, deep-is}
 
--- the numbers of the consumers rise
-pub consumers_rise : (low high : ℕ) (rows : List (ℕ × ConsCell)) → IsRising low rows high → ConsumersRise low (map consumer_row rows) high
-consumers_rise low high [] rising = rising
-consumers_rise low high (row ∷ rows) rising = (rising.0, consumers_rise (row.0 + 1) high rows rising.1)
+-- two functions with the same values give the same list
+map_same : {X Y : Type 0} (f h : X → Y) → ((x : X) → f x ≡ h x) → (xs : List X) → map f xs ≡ map h xs
+map_same f h same [] = refl
+map_same f h same (x ∷ xs) = rw (same x, map_same f h same xs) refl
 
--- the numbers of the geoms rise
-pub geoms_rise : {C : Type 0} (low high : ℕ) (rows : List (ℕ × GeomCell C)) → IsRising low rows high → GeomsRise low (map geom_row rows) high
-geoms_rise low high [] rising = rising
-geoms_rise low high (row ∷ rows) rising = (rising.0, geoms_rise (row.0 + 1) high rows rising.1)
+-- Ranks
+
+module _ {C : Type 0} (gs : SlotsView (GeomCell C)) (ps : SlotsView ProvCell) (cs : SlotsView ConsCell) (live : ℕ) (mesh : HaveRanks gs ps cs live) where
+  -- a rank is one more than the highest below
+  rank-above : (g : ℕ) → rank (graph_of gs ps cs) g ≡ 1 + largest (map (rank (graph_of gs ps cs)) (geoms_under (graph_of gs ps cs) g))
+  rank-above g =
+      stored-rank gs ps cs live mesh g
+      ∙ mesh.standing.local g
+      ∙ ap (λ n. 1 + largest n) (sym (map_same (rank (graph_of gs ps cs)) (stored gs) (stored-rank gs ps cs live mesh) (below ps cs g)))
+      ∙ ap (λ hs. 1 + largest (map (rank (graph_of gs ps cs)) hs)) (sym (under-graph gs ps cs g))
+
+  -- the geom of a provider to which a consumer is attached is below the consumer's geom
+  under_consumer : (c : Consumer) (p : ℕ) (x : Provider) → Contains (graph_of gs ps cs).consumers c → c.provider ≡ Some p → provider_at (graph_of gs ps cs) p ≡ Some x
+      → Contains (geoms_under (graph_of gs ps cs) c.geom) x.geom
+  under_consumer c p x here attached found =
+      Contains-filter_map (λ q. option_map (λ (y : Provider). y.geom) (provider_at (graph_of gs ps cs) q)) (providers_under (graph_of gs ps cs) c.geom) p x.geom
+      (Contains-filter_map (λ (d : Consumer). d.provider) (consumers_of (graph_of gs ps cs) c.geom) c p
+      (Contains-filter (λ (d : Consumer). d.geom == c.geom) (graph_of gs ps cs).consumers c here (eq-eqb c.geom c.geom refl))
+      attached)
+      (rw found refl)
+
+  -- so its rank is less
+  less_below : (c : Consumer) (p : ℕ) (x : Provider) → Contains (graph_of gs ps cs).consumers c → c.provider ≡ Some p → provider_at (graph_of gs ps cs) p ≡ Some x
+      → rank (graph_of gs ps cs) x.geom < rank (graph_of gs ps cs) c.geom
+  less_below c p x here attached found =
+      let among = Contains-map (rank (graph_of gs ps cs)) (geoms_under (graph_of gs ps cs) c.geom) x.geom (under_consumer c p x here attached found) in
+      omega (arith, rank-above c.geom, largest-above (map (rank (graph_of gs ps cs)) (geoms_under (graph_of gs ps cs) c.geom)) (rank (graph_of gs ps cs) x.geom) among)
+
+  -- there is no loop, where the providers live
+  graph_ranked : All (λ c. IfSome c.provider (λ p. IsSome (provider_at (graph_of gs ps cs) p))) (graph_of gs ps cs).consumers → Ranked (graph_of gs ps cs)
+  graph_ranked live_providers =
+      All-from_recursion (λ c. IfSome c.provider (λ p. IsSomeAnd (provider_at (graph_of gs ps cs) p) (λ x. rank (graph_of gs ps cs) x.geom < rank (graph_of gs ps cs) c.geom))) (graph_of gs ps cs).consumers
+      (All-from_contained (λ c. IfSome c.provider (λ p. IsSomeAnd (provider_at (graph_of gs ps cs) p) (λ x. rank (graph_of gs ps cs) x.geom < rank (graph_of gs ps cs) c.geom))) (graph_of gs ps cs).consumers
+      (λ c here. each c here c.provider refl
+      (at_contained (λ (d : Consumer). IfSome d.provider (λ p. IsSome (provider_at (graph_of gs ps cs) p))) (graph_of gs ps cs).consumers c
+      (recursion_from_All (λ (d : Consumer). IfSome d.provider (λ p. IsSome (provider_at (graph_of gs ps cs) p))) (graph_of gs ps cs).consumers live_providers) here)))
+    where
+      each : (c : Consumer) → Contains (graph_of gs ps cs).consumers c → (o : Option ℕ) → c.provider ≡ o → IfSome o (λ p. IsSome (provider_at (graph_of gs ps cs) p))
+          → IfSome o (λ p. IsSomeAnd (provider_at (graph_of gs ps cs) p) (λ x. rank (graph_of gs ps cs) x.geom < rank (graph_of gs ps cs) c.geom))
+      each c here None attached there = there
+      each c here (Some p) attached there =
+          let x : Has (provider_at (graph_of gs ps cs) p) = has (provider_at (graph_of gs ps cs) p) there in
+          rw x.is (less_below c p x.item here attached x.is)
+
+-- Names
+
+-- a provider without an error that comes behind another of its name
+alike_found : (x y : Provider) (ys : List Provider) → Contains ys y → is_sound_named x.name y ≡ true → find (is_sound_named x.name) ys ≡ None → DifferInName x y
+alike_found x y ys here passes none =
+    absurd (nothing_in y (subst (λ zs. Contains zs y) (empty ys none) (Contains-filter (is_sound_named x.name) ys y here passes)))
+  where
+    step : (z : Provider) (zs : List Provider) (b : Bool) → is_sound_named x.name z ≡ b → find (is_sound_named x.name) (z ∷ zs) ≡ None → (find (is_sound_named x.name) zs ≡ None → filter (is_sound_named x.name) zs ≡ [])
+        → filter (is_sound_named x.name) (z ∷ zs) ≡ []
+    step z zs true e none so = let never = rw e at none in absurd (cc)
+    step z zs false e none so = rw e (so (rw e at none))
+
+    -- what isn't found isn't there
+    empty : (zs : List Provider) → find (is_sound_named x.name) zs ≡ None → filter (is_sound_named x.name) zs ≡ []
+    empty [] none = refl
+    empty (z ∷ zs) none = step z zs (is_sound_named x.name z) refl none (empty zs)
+
+-- one of a name at most: two providers without an error differ in name
+names_differ : (ps : List Provider) → OneEach ps → AllPairs DifferInName ps
+names_differ [] one = λ i j d less within. absurd (omega arith)
+names_differ (x ∷ xs) one =
+    AllPairs-cons DifferInName x xs
+    (All-from_recursion (DifferInName x) xs (All-from_contained (DifferInName x) xs (λ y here. apart y here x.errored refl y.errored refl (same_name x.name y.name) refl)))
+    (names_differ xs one.1)
+  where
+    apart : (y : Provider) → Contains xs y → (a : Bool) → x.errored ≡ a → (b : Bool) → y.errored ≡ b → (s : Bool) → same_name x.name y.name ≡ s → DifferInName x y
+    apart y here true e b f s g = rw e refl
+    apart y here false e true f s g = rw (e, f) refl
+    apart y here false e false f false g = rw (e, f, g) refl
+    apart y here false e false f true g =
+        let names : x.name ≡ y.name = same_is x.name y.name g in
+        let passes : is_sound_named x.name y ≡ true = rw f (subst (λ n. same_name y.name n ≡ true) (sym names) (is_same y.name)) in
+        alike_found x y xs here passes (one.0 e)
+
+-- what a mesh keeps makes its graph a sound one
+pub sound-graph : {C : Type 0} (gs : SlotsView (GeomCell C)) (ps : SlotsView ProvCell) (cs : SlotsView ConsCell) (live : ℕ) (i : Index) (n : Names) → IsWhole gs ps cs live i n → IsSoundGraph (graph_of gs ps cs)
+sound-graph gs ps cs live i n whole = record {
+  orderly = whole.graph;
+  ranked = graph_ranked gs ps cs live whole.ranks whole.graph.parts.providers;
+  not_deep = deep-is gs ps cs (stored gs) (stored-rank gs ps cs live whole.ranks) ∙ whole.ranks.standing.low;
+  names = names_differ (map provider_row ps.rows) whole.tables.names_are.one;
+}

@@ -1,18 +1,17 @@
 -- The index after each change of the graph.
-use Rattle.std.proofs.Common.{◌≡◌, ℕ, ◌+◌, ◌==◌, List, [], ◌∷◌, ◌++◌, map, Bool, true, false, Some, None, Option, sym, refl, ap, ◌∙◌, subst, inl, inr, arith, not, filter, find, IsSome}
+use Rattle.std.proofs.Common.{◌≡◌, ℕ, ◌+◌, ◌==◌, List, [], ◌∷◌, map, Bool, true, false, Some, None, Option, sym, refl, ap, ◌∙◌, subst, inl, inr, not, filter, find, IsSome}
 use Rattle.std.proofs.lemmas.Bool.{cases_eq, eq-eqb, ne_eqb}
 use Rattle.std.proofs.lemmas.List.{map-append}
-use Rattle.std.specs.Prelude.{if◌then◌else◌, ◌&&◌, nat_le, IsSomeAnd}
-use Rattle.std.specs.List.{list_any}
-use Rattle.std.specs.Option.{option_map, is_some}
+use Rattle.std.specs.Prelude.{nat_le, IsSomeAnd}
+use Rattle.std.specs.Option.{option_map}
 use Rattle.geo_base.specs.declared.kind.Kind.{Kind}
 use Rattle.geo_model.specs.Words.{change_where, names_number}
-use Rattle.geo_model.specs.Topology.{Topology, Geom, Provider, Consumer, add_geom, add_provider, add_consumer, remove_geom, remove_provider, remove_consumer, set_error, set_marks, set_withering, set_config, note_started, attach, geom_at, provider_at, consumer_at, providers_of, consumers_of, attached_to}
+use Rattle.geo_model.specs.Topology.{Topology, Geom, Provider, Consumer, add_geom, add_provider, add_consumer, remove_geom, remove_provider, remove_consumer, set_error, set_marks, set_withering, set_config, note_started, attach, geom_at, provider_at, consumer_at, providers_of, consumers_of, attached_to, detach}
 use Rattle.geo_slots.specs.Slots.{with_value, without, value_at}
-use Rattle.geo_family.specs.Family.{FamilyView, names, is_parent, has_child, first_child}
+use Rattle.geo_family.specs.Family.{names, is_parent, has_child, first_child}
 use Rattle.geo_mesh.specs.declared.index.Index.{Index}
-use Rattle.geo_mesh.specs.Topo.{detach, first_provider, first_consumer}
-use Rattle.geo_mesh.specs.Index.{IsIndexed, IsFamilyOf, with_rooms, with_geom_index, with_provider_index, with_consumer_index, without_geom_index, without_provider_index, without_consumer_index, attached_index, detached_index, geom_numbers, provider_numbers, provider_geoms, consumer_geoms, consumer_providers}
+use Rattle.geo_mesh.specs.Topo.{first_provider, first_consumer}
+use Rattle.geo_mesh.specs.Index.{IsIndexed, with_rooms, with_geom_index, with_provider_index, with_consumer_index, without_geom_index, without_provider_index, without_consumer_index, attached_index, detached_index, geom_numbers}
 
 module _ {X Y : Type 0} (seen : X → Y) (test : X → Bool) (change : X → X) (same : (x : X) → seen (change x) ≡ seen x) where
   -- one item more in front, changed or not, is seen as before

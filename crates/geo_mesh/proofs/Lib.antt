@@ -1,7 +1,8 @@
 pub mod RowLemmas
 pub mod ViewLemmas
 pub mod WalkLemmas
-pub mod GraphLemmas
+pub mod Orderly
+pub mod FirstGraph
 pub mod IndexLemmas
 pub mod MeshLemmas
 pub mod NameLemmas
@@ -15,3 +16,4 @@ pub mod RankKept
 pub mod RankMesh
 pub mod RankSwitch
 pub mod WholeLemmas
+pub mod GraphLemmas

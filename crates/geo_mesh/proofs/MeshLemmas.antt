@@ -1,10 +1,10 @@
 -- What the tables, the count and the index keep, after each call.
-use Rattle.std.proofs.Common.{◌≡◌, ℕ, ◌+◌, ◌-◌, ◌≤◌, ◌==◌, List, [], ◌∷◌, ◌++◌, map, false, Some, None, Option, IsSome, sym, refl, ap, ◌∙◌, subst, arith}
-use Rattle.std.specs.Prelude.{max, IsSomeAnd, length}
+use Rattle.std.proofs.Common.{◌≡◌, ℕ, ◌+◌, ◌-◌, ◌≤◌, ◌==◌, List, [], ◌∷◌, ◌++◌, map, false, Some, None, sym, refl, ap, ◌∙◌, subst, arith}
+use Rattle.std.specs.Prelude.{max, length}
 use Rattle.std.proofs.lemmas.List.{map-append}
 use Rattle.std.proofs.Common.{length-append, ◌<◌}
 use Rattle.geo_slots.specs.Slots.{SlotsView, IsRising, value_at, with_value, without, with_insert}
-use Rattle.geo_model.specs.Topology.{Topology, Geom, Provider, Consumer, add_geom, add_provider, add_consumer}
+use Rattle.geo_model.specs.Topology.{Provider, add_geom, add_provider, add_consumer}
 use Rattle.geo_mesh.specs.declared.records.GeomCell.{GeomCell}
 use Rattle.geo_mesh.specs.declared.records.ProvCell.{ProvCell}
 use Rattle.geo_mesh.specs.declared.records.ConsCell.{ConsCell}
@@ -106,7 +106,7 @@ module _ {C : Type 0} (gs : SlotsView (GeomCell C)) (ps : SlotsView ProvCell) (c
   }
 
   -- the graph with a new geom's row is the graph with a new geom
-  graph-geom : (v : GeomCell C) → v.geom.withering ≡ false → v.geom.started ≡ 0 → graph_of (with_insert gs v) ps cs ≡ add_geom (graph_of gs ps cs) v.geom.kind v.geom.name v.geom.config v.geom.automatic
+  pub graph-geom : (v : GeomCell C) → v.geom.withering ≡ false → v.geom.started ≡ 0 → graph_of (with_insert gs v) ps cs ≡ add_geom (graph_of gs ps cs) v.geom.kind v.geom.name v.geom.config v.geom.automatic
   graph-geom v stays none = rw (map-append geom_row gs.rows ((gs.next, v) ∷ []), stays, none) refl
 
   -- with a new geom

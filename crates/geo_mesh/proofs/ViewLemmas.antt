@@ -1,32 +1,25 @@
 -- The mesh that the rows stand for, after a change of one row.
-use Rattle.std.specs.Prelude.{◌≡◌, ℕ, ◌+◌, ◌-◌, ◌==◌, nat_le, Bool, true, false, not, ◌&&◌, List, [], ◌∷◌, Option, Some, None, IsSome, map, find, filter, option_map}
+use Rattle.std.specs.Prelude.{◌≡◌, ℕ, ◌+◌, ◌-◌, ◌==◌, nat_le, Bool, true, false, ◌&&◌, List, [], ◌∷◌, Option, Some, None, IsSome, map, find, filter, option_map, ◌||◌, is_some, suc, ◌<◌, length, if◌then◌else◌}
 use Rattle.std.specs.List.{last_or, list_any}
-use Rattle.std.specs.Prelude.{◌||◌, is_some}
 use Rattle.std.specs.Option.{option_or}
-use Rattle.std.proofs.Common.{arith, ap, ◌∙◌}
-use Rattle.std.specs.Prelude.{suc, ◌<◌, ◌≤◌, length}
+use Rattle.std.proofs.Common.{arith, ap, ◌∙◌, subst, refl, sym}
 use Rattle.std.proofs.lemmas.Bool.{eqb-true, ne_eqb}
-use Rattle.geo_mesh.specs.Cells.{IsCount}
+use Rattle.geo_mesh.specs.Cells.{IsCount, geom_row, provider_row, consumer_row, have_of, risen_of, fallen_of, want_of, active_of, geom_scratch_of, provider_scratch_of, consumer_scratch_of, graph_of, view_of}
 use Rattle.geo_mesh.specs.declared.names.Names.{Names}
 use Rattle.geo_mesh.specs.Names.{AreNames, AreIds, sound_of, newest_of, is_sound_named}
 use Rattle.geo_mesh.proofs.AlikeLemmas.{newest-names}
-use Rattle.std.proofs.lemmas.Bool.{le-leb}
 use Rattle.std.proofs.lemmas.List.{map-append, length-map}
-use Rattle.std.specs.Prelude.{if◌then◌else◌}
-use Rattle.std.proofs.Common.{subst}
-use Rattle.geo_model.specs.Words.{names_number, same_name}
-use Rattle.std.proofs.Common.{refl, sym}
+use Rattle.geo_model.specs.Words.{same_name}
 use Rattle.geo_base.specs.declared.request.Counts.{Counts}
-use Rattle.geo_model.specs.Topology.{Topology, Geom, Provider, Consumer, geom_at, provider_at, consumer_at, set_error, set_withering, set_marks, set_config, note_started, providers_of, consumers_of, attached_to, find_provider, attach, is_errored, is_name_taken}
+use Rattle.geo_model.specs.Topology.{Geom, Provider, Consumer, geom_at, provider_at, consumer_at, set_error, set_withering, set_marks, set_config, note_started, find_provider, attach, detach}
 use Rattle.geo_slots.specs.Slots.{SlotsView, IsRising, value_at, with_value, without, first_from, with_insert}
 use Rattle.geo_mesh.specs.declared.records.Scratch.{Scratch}
 use Rattle.geo_mesh.specs.declared.records.GeomCell.{GeomCell}
 use Rattle.geo_mesh.specs.declared.records.ProvCell.{ProvCell}
 use Rattle.geo_mesh.specs.declared.records.ConsCell.{ConsCell}
-use Rattle.geo_mesh.specs.Rows.{row_with, rows_with, change_at, passes}
-use Rattle.geo_mesh.specs.Topo.{TopoView, detach, no_counts, no_scratch, first_geom, first_provider, first_consumer, with_provider, with_consumer, with_topology, with_want, with_have, with_notes, with_active, with_geom_scratch, with_provider_scratch, with_consumer_scratch, without_geom, without_provider, without_consumer}
-use Rattle.geo_mesh.specs.Cells.{geom_row, provider_row, consumer_row, have_of, risen_of, fallen_of, want_of, active_of, geom_scratch_of, provider_scratch_of, consumer_scratch_of, graph_of, view_of}
-use Rattle.geo_mesh.proofs.RowLemmas.{OnlyValue, only, map-with_value, map-with_value_same, rows_with-with_value, rows_with-change_at, map-without, find-map, value_at-rows_with}
+use Rattle.geo_mesh.specs.Rows.{row_with, passes}
+use Rattle.geo_mesh.specs.Topo.{no_counts, no_scratch, first_geom, first_provider, first_consumer, with_provider, with_consumer, with_topology, with_want, with_have, with_notes, with_active, with_geom_scratch, with_provider_scratch, with_consumer_scratch, without_geom, without_provider, without_consumer}
+use Rattle.geo_mesh.proofs.RowLemmas.{OnlyValue, only, map-with_value, map-with_value_same, rows_with-with_value, rows_with-change_at, map-without, find-map}
 use Rattle.geo_mesh.proofs.WalkLemmas.{first-map}
 
 module _ {C : Type 0} (gs : SlotsView (GeomCell C)) (ps : SlotsView ProvCell) (cs : SlotsView ConsCell) (n : ℕ) where

@@ -1,5 +1,6 @@
 -- The mesh that the rows of geoms, providers and consumers stand for.
-use Rattle.std.specs.Prelude.{◌≡◌, ℕ, ◌-◌, ◌≤◌, min, Bool, map}
+use Rattle.std.specs.Prelude.{◌≡◌, ℕ, ◌-◌, ◌≤◌, min, Bool, false, List, map}
+use Rattle.geo_base.specs.declared.kind.Kind.{Kind}
 use Rattle.geo_base.specs.declared.request.Counts.{Counts}
 use Rattle.geo_model.specs.Topology.{Topology, Geom, Provider, Consumer}
 use Rattle.geo_slots.specs.Slots.{SlotsView}
@@ -11,7 +12,7 @@ use Rattle.geo_mesh.specs.declared.records.GeomCell.{GeomCell}
 use Rattle.geo_mesh.specs.declared.records.ProvCell.{ProvCell}
 use Rattle.geo_mesh.specs.declared.records.ConsCell.{ConsCell}
 use Rattle.geo_mesh.specs.Rows.{rows_with}
-use Rattle.geo_mesh.specs.Topo.{TopoView}
+use Rattle.geo_mesh.specs.Topo.{TopoView, no_scratch}
 
 -- the geom that stands under a number
 abbrev pub geom_seen : {C : Type 0} → ℕ → GeomRec C → Geom C
@@ -68,6 +69,14 @@ provider_scratch_of x = x.scratch
 -- the consumer's scratch
 abbrev pub consumer_scratch_of : ConsCell → Scratch
 consumer_scratch_of x = x.scratch
+
+-- a geom that was just made, with nothing below it
+abbrev pub made_cell : {C : Type 0} → Kind → List ℕ → C → Bool → GeomCell C
+made_cell kind name config automatic = record {
+  geom = record { kind = kind; name = name; config = config; automatic = automatic; withering = false; started = 0 };
+  rank = 1;
+  scratch = no_scratch;
+}
 
 -- the graph
 abbrev pub graph_of : {C : Type 0} → SlotsView (GeomCell C) → SlotsView ProvCell → SlotsView ConsCell → Topology C

@@ -1,5 +1,6 @@
 pub mod Rows
 pub mod Topo
+pub mod Graph
 pub mod Cells
 pub mod Refusals
 pub mod Index

@@ -1,9 +1,8 @@
 -- The mesh as contracts see it: the graph of the model, and beside it what is kept for its geoms, providers and consumers.
-use Rattle.std.specs.Prelude.{ℕ, ◌+◌, ◌≤◌, ◌^◌, ◌%◌, ◌==◌, ◌&&◌, ◌||◌, nat_le, Bool, false, List, [], ◌∷◌, ◌++◌, Option, None, find, option_map, codes}
+use Rattle.std.specs.Prelude.{ℕ, ◌^◌, ◌%◌, ◌==◌, ◌&&◌, ◌||◌, nat_le, Bool, false, List, [], ◌∷◌, ◌++◌, Option, None, find, option_map, codes}
 use Rattle.geo_base.specs.declared.request.Counts.{Counts}
 use Rattle.geo_base.specs.declared.kind.Kind.{Kind}
 use Rattle.geo_base.specs.declared.kind.Kind.TheVariants as kinds
-use Rattle.geo_model.specs.Words.{change_where}
 use Rattle.geo_model.specs.Topology.{Topology, Geom, Provider, Consumer, add_geom, add_provider, add_consumer, remove_geom, remove_provider, remove_consumer}
 use Rattle.geo_mesh.specs.declared.records.Scratch.{Scratch}
 use Rattle.geo_slots.specs.Slots.{with_value, without}
@@ -41,10 +40,6 @@ no_counts = record { r = 0; w = 0; e = 0 }
 abbrev pub no_scratch : Scratch
 no_scratch = record { mark = 0; trial = no_counts }
 
--- the graph with the consumer attached to nothing (g_detach(9))
-abbrev pub detach : {C : Type 0} → Topology C → ℕ → Topology C
-detach t c = record t { consumers = change_where (λ (x : Consumer). x.number == c) (λ x. record x { provider = None }) t.consumers }
-
 -- the first number of the consumers, the geoms, the providers that isn't below a number
 abbrev pub first_consumer : List Consumer → ℕ → Option ℕ
 first_consumer xs from_number = option_map (λ x. x.number) (find (λ x. nat_le from_number x.number) xs)
@@ -61,23 +56,6 @@ is_provider_size size sector = ((sector == 512) || (sector == 4096)) && (nat_le 
 -- the first number of the providers that isn't below a number
 abbrev pub first_provider : List Provider → ℕ → Option ℕ
 first_provider xs from_number = option_map (λ x. x.number) (find (λ x. nat_le from_number x.number) xs)
-
--- the numbers rise strictly from `low` on, and stay below `high`
-abbrev pub NumbersRise : {X : Type 0} → (X → ℕ) → ℕ → List X → ℕ → Type 0
-NumbersRise number low [] high = low ≤ high
-NumbersRise number low (x ∷ xs) high = (low ≤ number x) × NumbersRise number (number x + 1) xs high
-
--- the numbers of the consumers rise
-abbrev pub ConsumersRise : ℕ → List Consumer → ℕ → Type 0
-ConsumersRise = NumbersRise (λ (x : Consumer). x.number)
-
--- the numbers of the providers rise
-abbrev pub ProvidersRise : ℕ → List Provider → ℕ → Type 0
-ProvidersRise = NumbersRise (λ (x : Provider). x.number)
-
--- the numbers of the geoms rise
-abbrev pub GeomsRise : {C : Type 0} → ℕ → List (Geom C) → ℕ → Type 0
-GeomsRise {C} = NumbersRise (λ (x : Geom C). x.number)
 
 module _ {C : Type 0} where
   -- the graph of no geom

@@ -1,12 +1,13 @@
 //! The mesh: geoms, providers and consumers under their numbers.
 ghost use Rattle.std.specs.Prelude.{◌≡◌, ◌≢◌, ◌≤◌, ◌<◌, ◌^◌, ◌+◌, ◌-◌, ◌==◌, [], true, false, Some, IsSome, IsOk, IfSome, IfOk, OnErr, OnOk, option_map, option_copied, length, not, ◌&&◌, nat_lt, IsSomeAnd, MatchResult, None};
 ghost use Rattle.geo_base.specs.Name.{is_name};
-ghost use Rattle.geo_model.specs.Topology.{geom_at, provider_at, consumer_at, providers_of, consumers_of, attached_to, find_provider, is_name_taken, is_withering, set_error, set_withering, set_marks, set_config, note_started, attach, is_errored};
+ghost use Rattle.geo_model.specs.Topology.{geom_at, provider_at, consumer_at, providers_of, consumers_of, attached_to, find_provider, is_name_taken, is_withering, set_error, set_withering, set_marks, set_config, note_started, attach, is_errored, detach};
 ghost use Rattle.geo_model.specs.Rank.{rank, attach_refusal};
 ghost use Rattle.geo_slots.specs.Slots.{value_at};
-ghost use Rattle.geo_mesh.specs.Topo.{first_mesh, with_geom, with_provider, with_consumer, without_geom, without_provider, without_consumer, with_topology, with_want, with_have, with_notes, with_active, with_geom_scratch, with_provider_scratch, with_consumer_scratch, first_geom, first_consumer, first_provider, is_provider_size, detach, no_counts, ConsumersRise, GeomsRise};
+ghost use Rattle.geo_mesh.specs.Topo.{first_mesh, with_geom, with_provider, with_consumer, without_geom, without_provider, without_consumer, with_topology, with_want, with_have, with_notes, with_active, with_geom_scratch, with_provider_scratch, with_consumer_scratch, first_geom, first_consumer, first_provider, is_provider_size, no_counts};
+ghost use Rattle.geo_mesh.specs.Graph.{IsSoundGraph};
 ghost use Rattle.geo_mesh.specs.Refusals.{errno_of};
-ghost use Rattle.geo_mesh.specs.Cells.{geom_seen, provider_seen, consumer_seen};
+ghost use Rattle.geo_mesh.specs.Cells.{geom_seen, provider_seen, consumer_seen, made_cell};
 
 use crate::index::Index;
 use crate::names::Names;
@@ -258,7 +259,8 @@ impl<C> Topo<C> {
 
     /// The geom of a number.
     pub fn geom(&self, id: GeomId) -> Option<&GeomRec<C>>
-        ensures { geom_at self.now.topology id ≡ option_map (geom_seen id) (option_copied result) }
+        ensures geom { geom_at self.now.topology id ≡ option_map (geom_seen id) (option_copied result) }
+        ensures sound { IsSoundGraph self.now.topology }
     {
         match self.geoms.get(id.number()) {
             Some(cell) => Some(&cell.geom),
@@ -272,6 +274,7 @@ impl<C> Topo<C> {
         ensures have { value_at self.now.haves id ≡ option_map (λ x. x.have) (option_copied result) }
         ensures risen { value_at self.now.risen id ≡ option_map (λ x. x.risen) (option_copied result) }
         ensures fallen { value_at self.now.fallen id ≡ option_map (λ x. x.fallen) (option_copied result) }
+        ensures sound { IsSoundGraph self.now.topology }
     {
         match self.providers.get(id.number()) {
             Some(cell) => Some(&cell.provider),
@@ -284,7 +287,7 @@ impl<C> Topo<C> {
         ensures consumer { consumer_at self.now.topology id ≡ option_map (consumer_seen id) (option_copied result) }
         ensures want { value_at self.now.wants id ≡ option_map (λ x. x.want) (option_copied result) }
         ensures active { value_at self.now.active id ≡ option_map (λ x. x.active) (option_copied result) }
-        ensures rising { ConsumersRise 1 self.now.topology.consumers self.now.topology.next_consumer }
+        ensures sound { IsSoundGraph self.now.topology }
     {
         match self.consumers.get(id.number()) {
             Some(cell) => Some(&cell.consumer),
@@ -328,8 +331,7 @@ impl<C> Topo<C> {
     /// The least number of a geom that isn't below a number.
     pub fn next_geom(&self, from: u64) -> Option<GeomId>
         ensures first { result ≡ first_geom self.now.topology.geoms from }
-        ensures rising { GeomsRise 1 self.now.topology.geoms self.now.topology.next_geom }
-        ensures bound { self.now.topology.next_geom < 2 ^ 64 }
+        ensures sound { IsSoundGraph self.now.topology }
     {
         match self.geoms.first_from(from) {
             Some(number) => Some(GeomId::new(number)),
@@ -339,7 +341,8 @@ impl<C> Topo<C> {
 
     /// The least number of a provider that isn't below a number.
     pub fn next_provider(&self, from: u64) -> Option<ProvId>
-        ensures { result ≡ first_provider self.now.topology.providers from }
+        ensures first { result ≡ first_provider self.now.topology.providers from }
+        ensures sound { IsSoundGraph self.now.topology }
     {
         match self.providers.first_from(from) {
             Some(number) => Some(ProvId::new(number)),
@@ -350,8 +353,7 @@ impl<C> Topo<C> {
     /// The least number of a consumer that isn't below a number.
     pub fn next_consumer(&self, from: u64) -> Option<ConsId>
         ensures first { result ≡ first_consumer self.now.topology.consumers from }
-        ensures rising { ConsumersRise 1 self.now.topology.consumers self.now.topology.next_consumer }
-        ensures bound { self.now.topology.next_consumer < 2 ^ 64 }
+        ensures sound { IsSoundGraph self.now.topology }
     {
         match self.consumers.first_from(from) {
             Some(number) => Some(ConsId::new(number)),
@@ -421,7 +423,8 @@ impl<C> Topo<C> {
 
     /// The rank of a geom (geom(4)): 1 where nothing is attached below it, else one more than the highest rank below.
     pub fn rank(&self, geom: GeomId) -> Option<u32>
-        ensures { result ≡ option_map (λ x. rank self.now.topology geom) (geom_at self.now.topology geom) }
+        ensures rank { result ≡ option_map (λ x. rank self.now.topology geom) (geom_at self.now.topology geom) }
+        ensures sound { IsSoundGraph self.now.topology }
     {
         match self.geoms.get(geom.number()) {
             Some(cell) => Some(cell.rank as u32),
@@ -569,17 +572,22 @@ impl<C: Drop> Topo<C> {
     pub fn new(alloc: Global, dev: C, taste: C) -> Result<Topo<C>, NoMemory>
         ensures { IfOk result (λ topo. topo ≡ first_mesh dev taste topo.room) }
     {
-        let mut topo = Topo {
-            geoms: Slots::new(alloc),
+        let mut geoms = Slots::new(alloc);
+        let mut index = Index::new(alloc);
+        geoms.reserve(2)?;
+        index.reserve(2, 0, 0)?;
+        geoms.insert(new_cell(Kind::Dev, fixed_name(b"dev"), dev, false));
+        index.add_geom();
+        geoms.insert(new_cell(Kind::Taste, fixed_name(b"taste"), taste, false));
+        index.add_geom();
+        Ok(Topo {
+            geoms,
             providers: Slots::new(alloc),
             consumers: Slots::new(alloc),
-            live: 0,
-            index: Index::new(alloc),
+            live: 2,
+            index,
             names: Names::new(alloc),
-        };
-        topo.new_geom(Kind::Dev, fixed_name(b"dev"), dev, false)?;
-        topo.new_geom(Kind::Taste, fixed_name(b"taste"), taste, false)?;
-        Ok(topo)
+        })
     }
 
     /// A new geom of the class, with no provider and no consumer (g_new_geomf). After `NoMemory` nothing changed.
@@ -602,18 +610,7 @@ impl<C: Drop> Topo<C> {
         }
         self.index.reserve(1, 0, 0)?;
         self.geoms.reserve(1)?;
-        let number = self.geoms.insert(GeomCell {
-            geom: GeomRec {
-                kind,
-                name,
-                config,
-                automatic,
-                withering: false,
-                started: 0,
-            },
-            rank: 1,
-            scratch: NO_SCRATCH,
-        });
+        let number = self.geoms.insert(new_cell(kind, name, config, automatic));
         self.index.add_geom();
         self.live += 1;
         Ok(GeomId::new(number))
@@ -633,6 +630,24 @@ impl<C: Drop> Topo<C> {
             self.live -= 1;
             self.index.remove_geom(geom.number());
         }
+    }
+}
+
+// A geom that was just made, with nothing below it.
+fn new_cell<C>(kind: Kind, name: Name, config: C, automatic: bool) -> GeomCell<C>
+    ensures { result ≡ made_cell kind name config automatic }
+{
+    GeomCell {
+        geom: GeomRec {
+            kind,
+            name,
+            config,
+            automatic,
+            withering: false,
+            started: 0,
+        },
+        rank: 1,
+        scratch: NO_SCRATCH,
     }
 }
 

@@ -13,7 +13,8 @@ use Rattle.geo_model.specs.declared.class.LabelRecord.{LabelRecord}
 use Rattle.geo_model.specs.declared.class.StripeRecord.{StripeRecord}
 use Rattle.geo_model.specs.Words.{first_error}
 use Rattle.geo_model.specs.Records.{padded, record_head, label_magic, label_record, label_sector, record_name, head_tests, place_test, concat_magic, concat_tests, concat_record, concat_sector, stripe_magic, stripe_tests, stripe_record, stripe_sector, size_test, is_stripe_size, u16_at, u32_at}
-use Rattle.geo_model.specs.FormatLaws.{IsPlaceOf, IsSectorSize}
+use Rattle.geo_base.specs.Sectors.{IsSectorSize}
+use Rattle.geo_model.specs.FormatLaws.{IsPlaceOf}
 
 -- a name as its field of 16 bytes
 padded-length : (name : List ℕ) → length name ≤ 16 → length (padded 16 name) ≡ 16

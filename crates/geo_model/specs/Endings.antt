@@ -16,7 +16,8 @@ use Rattle.geo_model.specs.Plans.{FactsFit}
 use Rattle.geo_model.specs.Opening.{opening}
 use Rattle.geo_model.specs.Generator.{Mode, RunMode, GenMode, Accepts, generated}
 use Rattle.geo_model.specs.FixedOrder.{IsOfItsJob, FoundFull}
-use Rattle.geo_model.specs.Outside.{Outside, ShelfView, Images, IsThere, IsMissing, IsBadSize, HasToldSize, IsShelf, is_shelf, kept_back}
+use Rattle.geo_base.specs.Images.{Images}
+use Rattle.geo_model.specs.Outside.{Outside, ShelfView, IsThere, IsMissing, IsBadSize, HasToldSize, IsShelf, is_shelf, kept_back}
 
 -- Endings
 

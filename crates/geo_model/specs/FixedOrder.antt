@@ -29,14 +29,14 @@ FollowsTake earlier s =
     (start : List Entry) × (e : Entry) × (earlier ≡ start ++ e ∷ []) × IsSome (taken_in e.step) × (taken_in e.step ≡ delivered_in s)
 
 -- the entry is of seat 0, and its step is the one of the fixed order or the Deliver after its Take
-pub record IsInOrder (opened : World) (earlier : List Entry) (e : Entry) : Type 0 where
+pub record IsOfFixedOrder (opened : World) (earlier : List Entry) (e : Entry) : Type 0 where
   pub seat : e.seat ≡ 0
   pub picked : (pick (replay opened earlier) ≡ Some e.step) ⊎ FollowsTake earlier e.step
 
 -- after the first part come only such entries
 abbrev pub FollowsOrder : World → List Entry → List Entry → Type 0
 FollowsOrder opened first_part log =
-    (earlier : List Entry) (e : Entry) → IsSplitBy log earlier e → IsInOrder opened (first_part ++ earlier) e
+    (earlier : List Entry) (e : Entry) → IsSplitBy log earlier e → IsOfFixedOrder opened (first_part ++ earlier) e
 
 -- Jobs
 

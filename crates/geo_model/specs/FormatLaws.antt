@@ -1,7 +1,8 @@
 -- The laws of the formats: what is written is read again, and what is read keeps its rules.
-use Rattle.std.specs.Prelude.{◌≡◌, ◌↔◌, ◌⊎◌, ℕ, ◌^◌, ◌<◌, ◌≤◌, List, Option, Some, Ok, IsTrue, option_and_then}
+use Rattle.std.specs.Prelude.{◌≡◌, ◌↔◌, ℕ, ◌^◌, ◌<◌, ◌≤◌, List, Option, Some, Ok, IsTrue, option_and_then}
 use Rattle.geo_base.specs.Name.{is_short_name}
 use Rattle.geo_base.specs.Runs.{IsRuns}
+use Rattle.geo_base.specs.Sectors.{IsSectorSize}
 use Rattle.geo_model.specs.declared.class.ConcatRecord.{ConcatRecord}
 use Rattle.geo_model.specs.declared.class.LabelRecord.{LabelRecord}
 use Rattle.geo_model.specs.declared.class.StripeRecord.{StripeRecord}
@@ -26,10 +27,6 @@ runs_read text = option_and_then fitting_bytes (runs_in (words_of text))
 -- the reader of a line and the one text of some bytes agree on what a text of runs is
 abbrev pub RunsAgree : Type 0
 RunsAgree = (text bytes : List ℕ) → (runs_read text ≡ Some bytes) ↔ IsRuns text bytes
-
--- a sector has one of the two sizes
-abbrev pub IsSectorSize : ℕ → Type 0
-IsSectorSize size = (size ≡ 512) ⊎ (size ≡ 4096)
 
 -- a place of an assembly: the numbers fit their fields, and the place is one of 1 to 16
 pub record IsPlaceOf (id place count : ℕ) : Type 0 where

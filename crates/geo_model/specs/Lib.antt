@@ -1,6 +1,7 @@
 pub mod Words
 pub mod Names
 pub mod Topology
+pub mod Graph
 pub mod Rank
 pub mod Demand
 pub mod Opens

@@ -1,7 +1,8 @@
 -- What a call finds outside, and what it leaves there: source, sink, and the shelf with its disks.
-use Rattle.std.specs.Prelude.{◌≡◌, ◌≢◌, ℕ, ◌*◌, ◌%◌, ◌^◌, ◌≤◌, ◌==◌, Bool, true, false, not, ◌&&◌, List, length, count_by, filter, Option, Some, None, IsSomeAnd, IfSome, IsTrue, All, Contains, option_and_then}
+use Rattle.std.specs.Prelude.{◌≡◌, ◌≢◌, ℕ, ◌*◌, ◌==◌, Bool, true, false, not, ◌&&◌, List, length, count_by, filter, Option, Some, None, IsSomeAnd, IfSome, IsTrue, All, Contains, option_and_then}
 use Rattle.std.specs.List.{list_any, enumerate_from}
 use Rattle.geo_base.specs.Faults.{RoseBy}
+use Rattle.geo_base.specs.Images.{Images, IsDiskSize}
 use Rattle.geo_base.specs.Sectors.{sectors_of, joined_sectors, zero_sectors}
 use Rattle.geo_model.specs.declared.command.DiskDecl.{DiskDecl}
 use Rattle.geo_model.specs.declared.command.DiskKind.{DiskKind}
@@ -16,10 +17,6 @@ use Rattle.geo_model.specs.World.{Plan}
 use Rattle.geo_model.specs.Results.{request_of}
 use Rattle.geo_model.specs.Contents.{contents, AreTrue}
 use Rattle.geo_model.specs.FixedOrder.{delivered_in}
-
--- the bytes under each name, where a shelf tells them
-abbrev pub Images : Type 0
-Images = List ℕ → Option (List ℕ)
 
 -- a shelf: what it tells, the names that are lent, and its counts of faults, which never fall
 pub record ShelfView : Type 0 where
@@ -57,12 +54,6 @@ abbrev pub is_of_plan : Plan → List ℕ → Bool
 is_of_plan plan name = list_any (λ d. is_shelf d.kind && same_name d.name name) plan.disks
 
 -- Disks of the shelf before the call
-
--- so many bytes are one or more whole sectors, and at most 2 ^ 40
-pub record IsDiskSize (sector size : ℕ) : Type 0 where
-  pub some : 1 ≤ size
-  pub whole : size % sector ≡ 0
-  pub limited : size ≤ 2 ^ 40
 
 -- the name has an image of such a size
 abbrev pub HasImage : DiskDecl → Images → Type 0

@@ -4,6 +4,7 @@ use Rattle.std.specs.List.{AllZip, list_any}
 use Rattle.std.specs.List.Sorted.{IsStrictlyIncreasing}
 use Rattle.geo_base.specs.Kind.{adds_exclusive}
 use Rattle.geo_base.specs.Name.{is_short_name, is_name}
+use Rattle.geo_base.specs.Sectors.{IsSectorSize}
 use Rattle.geo_base.specs.declared.request.Counts.{Counts}
 use Rattle.geo_base.specs.declared.kind.Kind.{Kind}
 use Rattle.geo_base.specs.declared.kind.Kind.TheVariants as kinds
@@ -95,7 +96,7 @@ HasSectors disk_kinds.Shelf sector sectors = sectors ≡ 0
 
 pub record IsDiskDecl (d : DiskDecl) : Type 0 where
   pub name : IsShortName d.name
-  pub sector : (d.sector ≡ 512) ⊎ (d.sector ≡ 4096)
+  pub sector : IsSectorSize d.sector
   pub sectors : HasSectors d.kind d.sector d.sectors
 
 -- a name of an actor that isn't a word of the header

@@ -1,12 +1,12 @@
 -- What holds of the mesh at every moment.
-use Rattle.std.specs.Prelude.{◌≡◌, ◌≢◌, ◌↔◌, ◌⊎◌, ℕ, ◌%◌, ◌^◌, ◌<◌, ◌≤◌, ◌==◌, Bool, true, false, not, ◌&&◌, List, [], ◌∷◌, map, count_by, Some, IsSome, IsSomeAnd, IfSome, MatchOption, IsTrue, All, AllPairs, option_and_then, slice_get}
+use Rattle.std.specs.Prelude.{◌≡◌, ◌≢◌, ◌↔◌, ◌⊎◌, ℕ, ◌%◌, ◌^◌, ◌<◌, ◌≤◌, ◌==◌, Bool, true, false, not, ◌&&◌, [], ◌∷◌, map, count_by, Some, IsSome, IsSomeAnd, IfSome, MatchOption, IsTrue, All, AllPairs, option_and_then, slice_get}
 use Rattle.std.specs.List.{list_any}
-use Rattle.std.specs.List.Sorted.{IsStrictlyIncreasing}
 use Rattle.std.specs.Option.{option_map_or}
 use Rattle.geo_base.specs.declared.kind.Kind.{Kind}
 use Rattle.geo_base.specs.declared.kind.Kind.TheVariants as kinds
 use Rattle.geo_model.specs.Words.{is_kind, names_number, same_name}
 use Rattle.geo_model.specs.Topology.{Topology, Geom, Provider, Consumer, geom_at, provider_at, consumer_at, geom_of_provider, providers_of, consumers_of, is_withering}
+use Rattle.geo_model.specs.Graph.{AreNumbers}
 use Rattle.geo_model.specs.Rank.{rank, rank_limit, Ranked}
 use Rattle.geo_model.specs.Demand.{have, is_zero, is_exclusive, fits_limit}
 use Rattle.geo_model.specs.World.{World, Config, Nothing, Disk, Mbr, Label, Concat, Stripe, Nop, Handle, Taste, Asked, NoClass, NextSector, ReadOut, ReadBack, granted_in, is_read_out, is_taste_root}
@@ -73,10 +73,6 @@ pub record IsOfItsClass (x : Geom Config) : Type 0 where
   pub taste : is_kind x.kind kinds.Taste ≡ (x.number == 2)
 
 -- Numbers and disks
-
--- the numbers rise, and are below the next one
-abbrev pub AreNumbers : List ℕ → ℕ → Type 0
-AreNumbers numbers next = IsStrictlyIncreasing numbers × All (λ n. n < next) numbers
 
 -- not both are geoms of one disk
 abbrev pub DifferInDisk : Geom Config → Geom Config → Type 0

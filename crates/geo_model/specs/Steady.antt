@@ -1,5 +1,5 @@
 -- What holds of the mesh at every moment beside soundness, so that each step of a sound mesh leaves it sound.
-use Rattle.std.specs.Prelude.{◌≡◌, ◌⊎◌, ℕ, ◌<◌, ◌==◌, Bool, false, not, ◌||◌, List, length, ⊤, [], count_by, Some, is_none, IsSome, IsSomeAnd, IsTrue, All, find, option_and_then}
+use Rattle.std.specs.Prelude.{◌≡◌, ◌⊎◌, ℕ, ◌<◌, ◌==◌, Bool, false, not, ◌||◌, length, ⊤, [], count_by, Some, is_none, IsSome, IsSomeAnd, IsTrue, All, find, option_and_then}
 use Rattle.std.specs.List.{list_any}
 use Rattle.geo_model.specs.declared.step.BioResult.{BioResult}
 use Rattle.geo_model.specs.declared.step.BioResult.TheVariants as results
@@ -8,7 +8,8 @@ use Rattle.geo_model.specs.declared.step.Event.TheVariants as events
 use Rattle.geo_model.specs.declared.step.Owner.{Owner}
 use Rattle.geo_model.specs.declared.step.Owner.TheVariants as owners
 use Rattle.geo_model.specs.Words.{is_read}
-use Rattle.geo_model.specs.Topology.{Topology, Geom, geom_at, provider_at, consumer_at, providers_of, consumers_of, is_errored, geom_of_provider}
+use Rattle.geo_model.specs.Topology.{Topology, Geom, provider_at, consumer_at, providers_of, consumers_of, is_errored, geom_of_provider}
+use Rattle.geo_model.specs.Graph.{OfferersLive, GeomsLive}
 use Rattle.geo_model.specs.Demand.{have, is_zero}
 use Rattle.geo_model.specs.World.{World, Config, Bio, granted_in, is_up, is_done}
 use Rattle.geo_model.specs.Place.{components}
@@ -20,8 +21,8 @@ AreMade t = All (λ g. (g.number ≡ 1) ⊎ (g.number ≡ 2) → g.automatic ≡
 
 -- each provider's geom lives, and so does each consumer's geom
 pub record PartsHaveGeoms (t : Topology Config) : Type 0 where
-  pub providers : All (λ p. IsSome (geom_at t p.geom)) t.providers
-  pub consumers : All (λ c. IsSome (geom_at t c.geom)) t.consumers
+  pub providers : OfferersLive t
+  pub consumers : GeomsLive t
 
 -- each consumer is attached to a provider that lives
 abbrev pub AreAttached : Topology Config → Type 0

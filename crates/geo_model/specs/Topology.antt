@@ -162,6 +162,10 @@ remove_consumer t c = record t { consumers = filter (λ x. not (x.number == c)) 
 abbrev pub attach : {C : Type 0} → Topology C → ℕ → ℕ → Topology C
 attach t c p = record t { consumers = change_where (λ x. x.number == c) (λ x. record x { provider = Some p }) t.consumers }
 
+-- with the consumer attached to nothing (g_detach(9))
+abbrev pub detach : {C : Type 0} → Topology C → ℕ → Topology C
+detach t c = record t { consumers = change_where (λ x. x.number == c) (λ x. record x { provider = None }) t.consumers }
+
 -- with an error at the provider
 abbrev pub set_error : {C : Type 0} → Topology C → ℕ → Topology C
 set_error t p = record t { providers = change_where (λ x. x.number == p) (λ x. record x { errored = true }) t.providers }

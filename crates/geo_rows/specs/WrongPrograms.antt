@@ -5,7 +5,8 @@ use Rattle.geo_model.specs.declared.command.DiskDecl.{DiskDecl}
 use Rattle.geo_model.specs.World.{Plan}
 use Rattle.geo_model.specs.Script.{IsScript}
 use Rattle.geo_model.specs.Generator.{Mode, StepMode, Accepts}
-use Rattle.geo_model.specs.Outside.{Images, IsShelf, kept_back}
+use Rattle.geo_base.specs.Images.{Images}
+use Rattle.geo_model.specs.Outside.{IsShelf, kept_back}
 use Rattle.geo_model.specs.Endings.{Call, Ending, script_limit}
 use Rattle.geo_model.specs.Headline.{KeepsAll}
 

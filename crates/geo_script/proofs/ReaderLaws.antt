@@ -5,6 +5,7 @@ use Rattle.std.specs.Option.{option_map_or}
 use Rattle.std.proofs.lemmas.Bool.Decides.{nat_tests}
 use Rattle.std.proofs.lemmas.List.Elements.{All-nil, All-cons}
 use Rattle.geo_base.specs.Name.{is_name, is_short_name}
+use Rattle.geo_base.specs.Sectors.{IsSectorSize}
 use Rattle.geo_base.specs.declared.request.Counts.{Counts}
 use Rattle.geo_model.specs.declared.command.Cause.{Cause}
 use Rattle.geo_model.specs.declared.command.Cause.TheVariants as causes
@@ -125,10 +126,6 @@ weaker P Q (Err cause) h g = tt
 -- a number has at most 64 bits
 pub any_number-gives : (ws : Words) → Gives (OfValue IsWord64) (any_number ws)
 any_number-gives ws = weaker (OfValue (InRange (λ n. true))) (OfValue IsWord64) (any_number ws) (λ x h. h.1) (ranged-gives (λ n. true) ws)
-
--- one of the two sizes
-abbrev pub IsSectorSize : ℕ → Type 0
-IsSectorSize n = (n ≡ 512) ⊎ (n ≡ 4096)
 
 -- the test of a sector size
 sector-one : (n : ℕ) → ((n == 512) || (n == 4096)) ≡ true → IsSectorSize n

@@ -117,6 +117,7 @@ impl<T> Slots<T> {
         ensures number { result ≡ self.old.next }
         ensures inserted { self.new ≡ with_insert self.old value }
         ensures rising { IsRising 1 self.old.rows self.old.next }
+        ensures bound { self.new.next < 2 ^ 64 }
     {
         let number = self.next;
         let key = self.values.insert_reserved(value);

@@ -1,6 +1,6 @@
 use Rattle.std.proofs.Common.{◌≡◌, List, [], length, Some, true, get_or, set, refl, ap, ◌∙◌, sym}
 use Rattle.geo_disk.specs.MemShelf.{disk_of, emptied_slot, slot_at, slot_of}
-use Rattle.geo_disk.specs.Shelf.{IsDiskSize}
+use Rattle.geo_base.specs.Images.{IsDiskSize}
 use Rattle.geo_disk.specs.declared.mem_shelf.Slot.{Slot}
 use Rattle.geo_disk.proofs.ImageLemmas.{after_take, image_none, image_there, size_of_disk, slots_after_take, some_bytes}
 use Rattle.geo_disk.proofs.NameLemmas.{IsPlace, has_name, named_at, no_place_found, place_found}

@@ -1,4 +1,4 @@
-use Rattle.std.proofs.Common.{◌≡◌, Some, None, false, sym, ◌∙◌}
+use Rattle.std.proofs.Common.{◌≡◌, Some, None, false, sym, ◌∙◌, ap, subst}
 use Rattle.std.specs.Prelude.{IsSome}
 use Rattle.geo_model.specs.Topology.{is_errored}
 use Rattle.geo_slots.specs.Slots.{value_at, with_value}
@@ -12,6 +12,8 @@ use Rattle.geo_mesh.proofs.RankSwitch.{free-cell, free-at, provider-offered, use
 use Rattle.geo_mesh.proofs.IndexLemmas.{attached_free, attached_parent}
 use Rattle.geo_mesh.proofs.MeshLemmas.{mesh-attached}
 use Rattle.geo_mesh.proofs.WholeLemmas.{kin-of, tables-bare}
+use Rattle.geo_mesh.specs.Graph.{IsOrderly}
+use Rattle.geo_mesh.proofs.Orderly.{orderly-attach}
 use Rattle.geo_mesh.proofs.topo.Topo.attach.Goals as goal
 
 pub join-requires-clause-walkable : goal.join-requires-clause-walkable
@@ -37,6 +39,7 @@ invariant_of-self-in-Ok g c =
           (tables-bare c.self.inside.geoms c.self.inside.providers (record c.self.inside.consumers { rows = with_value c.self.inside.consumers.rows c.number-in-Ok.result (record c.in-Some.cell.now { consumer = record c.in-Some.cell.now.consumer { prov = Some c.args.prov } }) }) c.self.inside.live (attached_index c.self.inside.index c.number-in-Ok.result c.args.prov) c.self.inside.names
           (mesh-attached c.self.inside.geoms c.self.inside.providers c.self.inside.consumers c.self.inside.live c.self.inside.index c.self.inside.names c.self.invariant.tables c.number-in-Ok.result c.args.prov c.in-Some.cell.now c.in-Some.ensures.rising c.in-Some.ensures.value) c.join.new.geoms c.join.ensures.same);
       ranks = rw (← c.number-2.ensures) (on-mesh c.self.inside.geoms c.self.inside.providers c.self.inside.consumers c.self.inside.live c.self.invariant.ranks c.number-in-Ok.result c.number-2.result c.in-Some.cell.now c.in-Some.ensures.rising c.in-Some.ensures.value free offered c.join.new.geoms c.join.ensures.same joinable c.in-Ok.ensures.low);
+      graph = subst (λ t. IsOrderly t) (sym (ap (λ v. v.topology) (view-bare c.self.inside.geoms c.join.new.geoms c.self.inside.providers (record c.self.inside.consumers { rows = with_value c.self.inside.consumers.rows c.number-in-Ok.result (record c.in-Some.cell.now { consumer = record c.in-Some.cell.now.consumer { prov = Some c.args.prov } }) }) c.self.inside.live c.join.ensures.same) ∙ ap (λ v. v.topology) (attach-view c.self.inside.geoms c.self.inside.providers c.self.inside.consumers c.number-in-Ok.result c.args.prov c.in-Some.cell.now c.in-Some.ensures.rising c.in-Some.ensures.value))) (orderly-attach (graph_of c.self.inside.geoms c.self.inside.providers c.self.inside.consumers) c.self.invariant.graph c.number-in-Ok.result c.args.prov (rw (← c.self.view_is) at c.requires.provider));
     }
 
 pub returns-in-Some-clause-answer : goal.returns-in-Some-clause-answer
@@ -79,6 +82,7 @@ invariant_of-self-in-Err g c =
     record {
       tables = tables-bare c.self.inside.geoms c.self.inside.providers c.self.inside.consumers c.self.inside.live c.self.inside.index c.self.inside.names c.self.invariant.tables c.join.new.geoms c.in-Err.ensures.same;
       ranks = mesh-kept c.self.inside.geoms c.join.new.geoms c.self.inside.providers c.self.inside.consumers c.self.inside.live c.self.invariant.ranks c.in-Err.ensures.same c.in-Err.ensures.kept;
+      graph = subst (λ t. IsOrderly t) (sym (ap (λ v. v.topology) (view-bare c.self.inside.geoms c.join.new.geoms c.self.inside.providers c.self.inside.consumers c.self.inside.live c.in-Err.ensures.same))) c.self.invariant.graph;
     }
 
 pub returns-in-Err-clause-same : goal.returns-in-Err-clause-same

@@ -1,4 +1,4 @@
-use Rattle.geo_mesh.proofs.GraphLemmas.{consumers_rise}
+use Rattle.geo_mesh.proofs.GraphLemmas.{sound-graph}
 use Rattle.geo_mesh.specs.Cells.{within_limit}
 use Rattle.geo_mesh.proofs.ViewLemmas.{consumer_at-view}
 use Rattle.geo_mesh.proofs.RowLemmas.{value_at-rows_with}
@@ -30,8 +30,8 @@ pub returns-in-None-clause-active : goal.returns-in-None-clause-active
 returns-in-None-clause-active g c =
     rw (← c.self.view_is, ← c.number.ensures, value_at-rows_with active_of c.number.result c.self.inside.consumers.rows, ← c.in-None.ensures.value) refl
 
-pub returns-in-Some-clause-rising : goal.returns-in-Some-clause-rising
-returns-in-Some-clause-rising g c = rw (← c.self.view_is) (consumers_rise 1 c.self.inside.consumers.next c.self.inside.consumers.rows c.in-Some.ensures.rising)
+pub returns-in-Some-clause-sound : goal.returns-in-Some-clause-sound
+returns-in-Some-clause-sound g c = rw (← c.self.view_is) (sound-graph c.self.inside.geoms c.self.inside.providers c.self.inside.consumers c.self.inside.live c.self.inside.index c.self.inside.names c.self.invariant)
 
-pub returns-in-None-clause-rising : goal.returns-in-None-clause-rising
-returns-in-None-clause-rising g c = rw (← c.self.view_is) (consumers_rise 1 c.self.inside.consumers.next c.self.inside.consumers.rows c.in-None.ensures.rising)
+pub returns-in-None-clause-sound : goal.returns-in-None-clause-sound
+returns-in-None-clause-sound g c = rw (← c.self.view_is) (sound-graph c.self.inside.geoms c.self.inside.providers c.self.inside.consumers c.self.inside.live c.self.inside.index c.self.inside.names c.self.invariant)

@@ -1,7 +1,10 @@
-use Rattle.geo_mesh.specs.Cells.{within_limit}
+use Rattle.geo_mesh.specs.Cells.{within_limit, graph_of}
 use Rattle.geo_mesh.proofs.ViewLemmas.{without_consumer-view}
 use Rattle.geo_mesh.proofs.MeshLemmas.{mesh-without_consumer}
 use Rattle.geo_mesh.proofs.topo.Topo.destroy_consumer.Goals as goal
+use Rattle.std.proofs.Common.{sym, ap, subst}
+use Rattle.geo_mesh.specs.Graph.{IsOrderly}
+use Rattle.geo_mesh.proofs.Orderly.{orderly-remove_consumer}
 use Rattle.geo_mesh.proofs.RankMesh.{mesh-destroy_consumer}
 
 pub returns : goal.returns
@@ -16,4 +19,5 @@ invariant_of-self g c = record {
   ranks =
       rw c.remove.ensures.removed
       (mesh-destroy_consumer c.self.inside.geoms c.self.inside.providers c.self.inside.consumers c.self.inside.live c.self.invariant.ranks c.number.result c.remove.ensures.rising (rw (← c.self.view_is, ← c.number.ensures) at c.requires));
+  graph = rw c.remove.ensures.removed (subst (λ t. IsOrderly t) (sym (ap (λ v. v.topology) (without_consumer-view c.self.inside.geoms c.self.inside.providers c.self.inside.consumers c.number.result))) (orderly-remove_consumer (graph_of c.self.inside.geoms c.self.inside.providers c.self.inside.consumers) c.self.invariant.graph c.number.result));
 }

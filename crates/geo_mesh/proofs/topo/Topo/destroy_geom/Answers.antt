@@ -1,9 +1,11 @@
-use Rattle.std.proofs.Common.{◌-◌}
+use Rattle.std.proofs.Common.{◌-◌, sym, ap, subst}
 use Rattle.geo_mesh.specs.Cells.{within_limit, graph_of}
 use Rattle.geo_mesh.proofs.ViewLemmas.{without_geom-view, count_falls, without-none}
 use Rattle.geo_mesh.proofs.IndexLemmas.{offered_none, owned_none}
 use Rattle.geo_mesh.proofs.MeshLemmas.{mesh-without_geom}
 use Rattle.geo_mesh.proofs.topo.Topo.destroy_geom.Goals as goal
+use Rattle.geo_mesh.specs.Graph.{IsOrderly}
+use Rattle.geo_mesh.proofs.Orderly.{orderly-remove_geom}
 use Rattle.geo_mesh.proofs.RankMesh.{mesh-destroy_geom}
 
 pub remove_geom-requires-clause-no_provider : goal.remove_geom-requires-clause-no_provider
@@ -23,6 +25,7 @@ invariant_of-self g c = record {
   ranks =
       rw c.remove.ensures.removed
       (mesh-destroy_geom c.self.inside.geoms c.self.inside.providers c.self.inside.consumers c.self.inside.live c.self.invariant.ranks c.number.result _ _ c.in-Some._cell c.in-Some.ensures.rising c.in-Some.ensures.value (rw (← c.self.view_is, ← c.number.ensures) at c.requires.no_consumer));
+  graph = rw c.remove.ensures.removed (subst (λ t. IsOrderly t) (sym (ap (λ v. v.topology) (without_geom-view c.self.inside.geoms c.self.inside.providers c.self.inside.consumers c.number.result))) (orderly-remove_geom (graph_of c.self.inside.geoms c.self.inside.providers c.self.inside.consumers) c.self.invariant.graph c.number.result (rw (← c.number.ensures) at c.requires.not_dev) (rw (← c.number.ensures) at c.requires.not_taste) (rw (← c.self.view_is, ← c.number.ensures) at c.requires.no_provider) (rw (← c.self.view_is, ← c.number.ensures) at c.requires.no_consumer)));
 }
 
 pub invariant_of-self-in_default : goal.invariant_of-self-in_default
@@ -31,6 +34,7 @@ invariant_of-self-in_default g c = record {
       rw (c.remove.ensures.removed, without-none c.self.inside.geoms c.number.result c.self.inside.geoms.rows c.in_default.ensures.value) c.self.invariant.tables;
   ranks =
       rw (c.remove.ensures.removed, without-none c.self.inside.geoms c.number.result c.self.inside.geoms.rows c.in_default.ensures.value) c.self.invariant.ranks;
+  graph = rw (c.remove.ensures.removed, without-none c.self.inside.geoms c.number.result c.self.inside.geoms.rows c.in_default.ensures.value) c.self.invariant.graph;
 }
 
 pub returns-in-Some-clause-removed : goal.returns-in-Some-clause-removed

@@ -1,4 +1,4 @@
-use Rattle.std.proofs.Common.{refl, sym, subst, ◌∙◌}
+use Rattle.std.proofs.Common.{sym, subst, ◌∙◌, ap}
 use Rattle.geo_mesh.specs.Names.{RemovesName}
 use Rattle.geo_slots.proofs.RowLemmas.{without_absent}
 use Rattle.geo_mesh.specs.Cells.{within_limit, graph_of}
@@ -6,6 +6,8 @@ use Rattle.geo_mesh.proofs.ViewLemmas.{without_provider-view}
 use Rattle.geo_mesh.proofs.IndexLemmas.{attached_none}
 use Rattle.geo_mesh.proofs.MeshLemmas.{mesh-without_provider}
 use Rattle.geo_mesh.proofs.topo.Topo.destroy_provider.Goals as goal
+use Rattle.geo_mesh.specs.Graph.{IsOrderly}
+use Rattle.geo_mesh.proofs.Orderly.{orderly-remove_provider}
 use Rattle.geo_mesh.proofs.RankMesh.{mesh-destroy_provider}
 
 pub remove_provider-requires : goal.remove_provider-requires
@@ -20,6 +22,7 @@ invariant_of-self g c = record {
   ranks =
       rw c.remove.ensures.removed
       (mesh-destroy_provider c.self.inside.geoms c.self.inside.providers c.self.inside.consumers c.self.inside.live c.self.invariant.ranks c.number.result (rw (← c.self.view_is, ← c.number.ensures) at c.requires));
+  graph = rw c.remove.ensures.removed (subst (λ t. IsOrderly t) (sym (ap (λ v. v.topology) (without_provider-view c.self.inside.geoms c.self.inside.providers c.self.inside.consumers c.number.result))) (orderly-remove_provider (graph_of c.self.inside.geoms c.self.inside.providers c.self.inside.consumers) c.self.invariant.graph c.number.result (rw (← c.self.view_is, ← c.number.ensures) at c.requires)));
 }
 
 pub invariant_of-self-in_default : goal.invariant_of-self-in_default

@@ -1,5 +1,5 @@
-use Rattle.std.proofs.Common.{◌≡◌, ◌≤◌, None, subst, ◌∙◌, arith, rules}
-use Rattle.geo_mesh.specs.Cells.{within_limit}
+use Rattle.std.proofs.Common.{◌≡◌, ◌≤◌, None, subst, ◌∙◌, arith, rules, sym, ap}
+use Rattle.geo_mesh.specs.Cells.{within_limit, graph_of}
 use Rattle.geo_slots.specs.Slots.{with_value}
 use Rattle.geo_mesh.specs.Mending.{Lowered, above}
 use Rattle.geo_mesh.specs.Ranks.{stored, below, owner}
@@ -9,6 +9,8 @@ use Rattle.geo_mesh.proofs.RankSwitch.{bound-at, user-stands, off-enough, off-wa
 use Rattle.geo_mesh.proofs.MeshLemmas.{mesh-detached}
 use Rattle.geo_mesh.proofs.WholeLemmas.{kin-of, tables-bare}
 use Rattle.geo_mesh.specs.Index.{detached_index}
+use Rattle.geo_mesh.specs.Graph.{IsOrderly}
+use Rattle.geo_mesh.proofs.Orderly.{orderly-detach}
 use Rattle.geo_mesh.proofs.topo.Topo.detach.Goals as goal
 
 pub returns-in_default : goal.returns-in_default
@@ -51,6 +53,7 @@ invariant_of-self-then-stored g c =
           (tables-bare c.self.inside.geoms c.self.inside.providers (record c.self.inside.consumers { rows = with_value c.self.inside.consumers.rows c.number.result (record c.in-Some.cell.now { consumer = record c.in-Some.cell.now.consumer { prov = None } }) }) c.self.inside.live (detached_index c.self.inside.index c.number.result) c.self.inside.names
           (mesh-detached c.self.inside.geoms c.self.inside.providers c.self.inside.consumers c.self.inside.live c.self.inside.index c.self.inside.names c.self.invariant.tables c.number.result c.in-Some.cell.now c.in-Some.ensures.rising c.in-Some.ensures.value) c.lower.new.geoms c.lower.ensures.same);
       ranks = off-lowered c.self.inside.geoms c.self.inside.providers c.self.inside.consumers c.self.inside.live c.self.invariant.ranks c.number.result c.in-Some-prov.prov c.in-Some.cell.now c.in-Some.ensures.rising c.in-Some.ensures.value c.in-Some-prov.is c.lower.new.geoms c.lower.ensures.same lowered low;
+      graph = subst (λ t. IsOrderly t) (sym (ap (λ v. v.topology) (view-bare c.self.inside.geoms c.lower.new.geoms c.self.inside.providers (record c.self.inside.consumers { rows = with_value c.self.inside.consumers.rows c.number.result (record c.in-Some.cell.now { consumer = record c.in-Some.cell.now.consumer { prov = None } }) }) c.self.inside.live c.lower.ensures.same) ∙ ap (λ v. v.topology) (detach-view c.self.inside.geoms c.self.inside.providers c.self.inside.consumers c.number.result c.in-Some.cell.now c.in-Some.ensures.rising c.in-Some.ensures.value))) (orderly-detach (graph_of c.self.inside.geoms c.self.inside.providers c.self.inside.consumers) c.self.invariant.graph c.number.result);
     }
 
 pub invariant_of-self-else-stored : goal.invariant_of-self-else-stored
@@ -62,6 +65,7 @@ invariant_of-self-else-stored g c =
           (mesh-detached c.self.inside.geoms c.self.inside.providers c.self.inside.consumers c.self.inside.live c.self.inside.index c.self.inside.names c.self.invariant.tables c.number.result c.in-Some.cell.now c.in-Some.ensures.rising c.in-Some.ensures.value);
       ranks = off-kept c.self.inside.geoms c.self.inside.providers c.self.inside.consumers c.self.inside.live c.self.invariant.ranks c.number.result c.in-Some-prov.prov c.in-Some.cell.now c.in-Some.ensures.rising c.in-Some.ensures.value c.in-Some-prov.is
           (λ e. c.if-stored.false (rw (c.stored.ensures, c.stored-2.ensures, under, c.number-upper.ensures) e));
+      graph = subst (λ t. IsOrderly t) (sym (ap (λ v. v.topology) (detach-view c.self.inside.geoms c.self.inside.providers c.self.inside.consumers c.number.result c.in-Some.cell.now c.in-Some.ensures.rising c.in-Some.ensures.value))) (orderly-detach (graph_of c.self.inside.geoms c.self.inside.providers c.self.inside.consumers) c.self.invariant.graph c.number.result);
     }
 
 pub returns-then-stored : goal.returns-then-stored

@@ -1,22 +1,36 @@
-use Rattle.std.proofs.Common.{refl, arith, rules}
+use Rattle.std.proofs.Common.{◌≤◌, refl, arith, rules}
+use Rattle.geo_mesh.proofs.FirstGraph.{orderly-first, first_ranks}
 use Rattle.geo_mesh.proofs.topo.Topo.new.Goals as goal
 
-pub invariant_of-topo : goal.invariant_of-topo
-invariant_of-topo g c = record {
-  tables =
-      rw (c.new.ensures, c.new-2.ensures, c.new-3.ensures, c.new-4.ensures)
-      (record {
-        count = record { counted = refl; few = omega arith };
-        indexed = search rules;
-        room = search rules;
-        names_are = c.new-5.ensures.names;
-        names_ids = c.new-5.ensures.ids;
-        names_room = search rules;
-      });
-  ranks =
-      rw (c.new.ensures, c.new-2.ensures, c.new-3.ensures)
-      (record {
-        count = record { counted = refl; few = omega arith };
-        standing = record { local = λ x. refl; low = refl; owned = tt; attached = tt };
-      });
-}
+pub invariant_of-result : goal.invariant_of-result
+invariant_of-result g c =
+    let few : c.reserve.new.self.spare ≤ 2 = rw c.new-geoms.ensures at c.reserve.ensures.no_more in
+    rw (c.insert-2.ensures.inserted, c.insert.ensures.inserted, c.new_cell-2.ensures, c.new_cell.ensures, c.fixed_name-2.ensures, c.fixed_name.ensures, c.reserve.ensures.values_stay, c.new-geoms.ensures, c.new.ensures, c.new-2.ensures, c.add_geom-2.ensures, c.add_geom.ensures, c.reserve-2.ensures.same, c.new-index.ensures)
+    (record {
+      tables =
+          record {
+            count = record { counted = refl; few = omega arith };
+            indexed = record {
+              offered = record { parents = refl; children = refl; next_parent = refl; next_child = refl };
+              owned = record { parents = refl; children = refl; next_parent = refl; next_child = refl };
+              attached = record { parents = refl; children = refl; next_parent = refl; next_child = refl };
+            };
+            room = record {
+              offered_parents = omega arith;
+              offered_children = omega arith;
+              owned_parents = omega arith;
+              owned_children = omega arith;
+              attached_parents = omega arith;
+              attached_children = omega arith;
+            };
+            names_are = c.new-3.ensures.names;
+            names_ids = c.new-3.ensures.ids;
+            names_room = search rules;
+          };
+      ranks =
+          record {
+            count = record { counted = refl; few = omega arith };
+            standing = record { local = λ x. first_ranks x; low = refl; owned = tt; attached = tt };
+          };
+      graph = orderly-first c.args.dev c.args.taste;
+    })

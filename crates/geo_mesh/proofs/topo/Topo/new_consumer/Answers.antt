@@ -1,9 +1,11 @@
-use Rattle.std.proofs.Common.{refl, arith}
+use Rattle.std.proofs.Common.{refl, arith, sym, ap, subst}
 use Rattle.geo_mesh.specs.Cells.{within_limit, graph_of}
 use Rattle.geo_mesh.proofs.ViewLemmas.{with_consumer-view}
 use Rattle.geo_mesh.proofs.IndexLemmas.{indexed-rooms, owned_parent}
 use Rattle.geo_mesh.proofs.MeshLemmas.{mesh-reserved, mesh-consumer, room_for, untouched}
 use Rattle.geo_mesh.proofs.topo.Topo.new_consumer.Goals as goal
+use Rattle.geo_mesh.specs.Graph.{IsOrderly}
+use Rattle.geo_mesh.proofs.Orderly.{orderly-add_consumer}
 use Rattle.geo_mesh.proofs.RankMesh.{mesh-new_consumer, lives-kinds}
 
 pub invariant_of-self : goal.invariant_of-self
@@ -11,6 +13,7 @@ invariant_of-self g c = record {
   tables =
       mesh-reserved c.self.inside.geoms c.self.inside.providers c.self.inside.consumers c.self.inside.live c.self.inside.index c.self.inside.names c.self.invariant.tables c.self.inside.geoms c.self.inside.providers c.self.inside.consumers c.reserve.new.self refl refl refl c.reserve.ensures.same (c.reserve.ensures.room_stays _ _ _ c.self.invariant.tables.room) c.self.inside.names (untouched c.self.inside.names) c.self.invariant.tables.names_room;
   ranks = c.self.invariant.ranks;
+  graph = c.self.invariant.graph;
 }
 
 pub invariant_of-self-in_err-reserve-2 : goal.invariant_of-self-in_err-reserve-2
@@ -18,6 +21,7 @@ invariant_of-self-in_err-reserve-2 g c = record {
   tables =
       mesh-reserved c.self.inside.geoms c.self.inside.providers c.self.inside.consumers c.self.inside.live c.self.inside.index c.self.inside.names c.self.invariant.tables c.self.inside.geoms c.self.inside.providers c.reserve-2.new.self c.reserve.new.self refl refl c.reserve-2.ensures.values_stay c.reserve.ensures.same (room_for c.self.inside.geoms.spare c.self.inside.providers.spare c.self.inside.consumers.spare 0 0 1 c.self.inside.geoms.spare c.self.inside.providers.spare c.reserve-2.new.self.spare c.reserve.new.self (c.reserve.ensures.room_stays _ _ _ c.self.invariant.tables.room) c.in_ok-reserve.ensures.room (omega arith) (omega (arith, c.reserve-2.ensures.no_more)) (omega (arith, c.reserve-2.ensures.no_more))) c.self.inside.names (untouched c.self.inside.names) c.self.invariant.tables.names_room;
   ranks = rw c.reserve-2.ensures.values_stay (record { count = c.self.invariant.ranks.count; standing = c.self.invariant.ranks.standing });
+  graph = rw c.reserve-2.ensures.values_stay c.self.invariant.graph;
 }
 
 pub add_consumer-requires-clause-geom : goal.add_consumer-requires-clause-geom
@@ -34,6 +38,7 @@ invariant_of-self-2 g c = record {
   ranks =
       rw (c.insert-number.ensures.inserted, c.reserve-2.ensures.values_stay)
       (mesh-new_consumer c.self.inside.geoms c.self.inside.providers c.self.inside.consumers c.self.inside.live c.self.invariant.ranks c.self.inside.consumers.next c.args.geom _ _ _ refl (lives-kinds c.self.inside.geoms c.self.inside.providers c.self.inside.consumers c.self.inside.live c.args.geom (rw (← c.self.view_is) at c.requires)));
+  graph = rw (c.insert-number.ensures.inserted, c.reserve-2.ensures.values_stay) (subst (λ t. IsOrderly t) (sym (ap (λ v. v.topology) (with_consumer-view c.self.inside.geoms c.self.inside.providers c.self.inside.consumers c.args.geom c.reserve-2.new.self.spare))) (orderly-add_consumer (graph_of c.self.inside.geoms c.self.inside.providers c.self.inside.consumers) c.self.invariant.graph c.args.geom (rw (← c.self.view_is) at c.requires) (rw (c.insert-number.ensures.inserted, c.reserve-2.ensures.values_stay) at c.insert-number.ensures.bound)));
 }
 
 pub returns-clause-added : goal.returns-clause-added

@@ -4,6 +4,7 @@ use Rattle.geo_mesh.specs.Cells.{within_limit, active_of}
 use Rattle.geo_mesh.proofs.RowLemmas.{value_at-rows_with}
 use Rattle.geo_mesh.proofs.ViewLemmas.{note_active-view, consumer_stands}
 use Rattle.geo_mesh.proofs.topo.Topo.note_active.Goals as goal
+use Rattle.geo_mesh.specs.Graph.{IsOrderly}
 use Rattle.geo_mesh.proofs.RankMesh.{mesh-consumer}
 
 pub returns-in_default : goal.returns-in_default
@@ -34,4 +35,6 @@ invariant_of-self-2 g c = record {
       };
   ranks =
       mesh-consumer c.self.inside.geoms c.self.inside.providers c.self.inside.consumers c.self.inside.live c.number.result c.self.invariant.ranks c.in-Some.cell.now _ c.in-Some.ensures.rising c.in-Some.ensures.value refl;
+  graph =
+      subst (λ t. IsOrderly t) (sym (ap (λ v. v.topology) (note_active-view c.self.inside.geoms c.self.inside.providers c.self.inside.consumers c.number.result c.in-Some.cell.now c.in-Some.ensures.rising c.in-Some.ensures.value))) c.self.invariant.graph;
 }

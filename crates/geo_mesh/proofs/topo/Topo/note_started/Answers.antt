@@ -4,6 +4,8 @@ use Rattle.geo_mesh.specs.Cells.{graph_of, within_limit}
 use Rattle.geo_mesh.proofs.IndexLemmas.{indexed-note_started}
 use Rattle.geo_mesh.proofs.ViewLemmas.{count-with_value, geom_at-view, note_started-view, geom_stands}
 use Rattle.geo_mesh.proofs.topo.Topo.note_started.Goals as goal
+use Rattle.geo_mesh.specs.Graph.{IsOrderly}
+use Rattle.geo_mesh.proofs.Orderly.{orderly-note_started}
 use Rattle.geo_mesh.proofs.RankMesh.{mesh-geom}
 
 pub returns-in_default : goal.returns-in_default
@@ -34,4 +36,6 @@ invariant_of-self-2 g c = record {
       };
   ranks =
       mesh-geom c.self.inside.geoms c.self.inside.providers c.self.inside.consumers c.self.inside.live c.number.result c.self.invariant.ranks c.in-Some.cell.now _ c.in-Some.ensures.rising c.in-Some.ensures.value refl refl;
+  graph =
+      subst (λ t. IsOrderly t) (sym (ap (λ v. v.topology) (note_started-view c.self.inside.geoms c.self.inside.providers c.self.inside.consumers c.number.result c.in-Some.cell.now c.in-Some.ensures.rising c.in-Some.ensures.value))) (orderly-note_started (graph_of c.self.inside.geoms c.self.inside.providers c.self.inside.consumers) c.self.invariant.graph c.number.result);
 }

@@ -3,6 +3,7 @@ use Rattle.geo_mesh.proofs.ViewLemmas.{provider_at-view}
 use Rattle.geo_mesh.proofs.RowLemmas.{value_at-rows_with}
 use Rattle.geo_mesh.specs.Cells.{have_of, risen_of, fallen_of}
 use Rattle.std.proofs.Common.{refl}
+use Rattle.geo_mesh.proofs.GraphLemmas.{sound-graph}
 use Rattle.geo_mesh.proofs.topo.Topo.provider.Goals as goal
 
 pub returns-in-Some-clause-provider : goal.returns-in-Some-clause-provider
@@ -36,3 +37,9 @@ returns-in-None-clause-risen g c =
 pub returns-in-None-clause-fallen : goal.returns-in-None-clause-fallen
 returns-in-None-clause-fallen g c =
     rw (← c.self.view_is, ← c.number.ensures, value_at-rows_with fallen_of c.number.result c.self.inside.providers.rows, ← c.in-None.ensures.value) refl
+
+pub returns-in-Some-clause-sound : goal.returns-in-Some-clause-sound
+returns-in-Some-clause-sound g c = rw (← c.self.view_is) (sound-graph c.self.inside.geoms c.self.inside.providers c.self.inside.consumers c.self.inside.live c.self.inside.index c.self.inside.names c.self.invariant)
+
+pub returns-in-None-clause-sound : goal.returns-in-None-clause-sound
+returns-in-None-clause-sound g c = rw (← c.self.view_is) (sound-graph c.self.inside.geoms c.self.inside.providers c.self.inside.consumers c.self.inside.live c.self.inside.index c.self.inside.names c.self.invariant)

@@ -6,6 +6,8 @@ use Rattle.geo_mesh.specs.Cells.{graph_of, within_limit}
 use Rattle.geo_mesh.proofs.IndexLemmas.{indexed-set_error}
 use Rattle.geo_mesh.proofs.ViewLemmas.{set_error-view, provider_stands}
 use Rattle.geo_mesh.proofs.topo.Topo.set_error.Goals as goal
+use Rattle.geo_mesh.specs.Graph.{IsOrderly}
+use Rattle.geo_mesh.proofs.Orderly.{orderly-set_error}
 use Rattle.geo_mesh.proofs.RankMesh.{mesh-provider}
 
 pub returns-in_default : goal.returns-in_default
@@ -30,4 +32,6 @@ invariant_of-self-2 g c = record {
       };
   ranks =
       mesh-provider c.self.inside.geoms c.self.inside.providers c.self.inside.consumers c.self.inside.live c.number.result c.self.invariant.ranks c.in-Some.cell.now _ c.in-Some.ensures.rising c.in-Some.ensures.value refl;
+  graph =
+      subst (λ t. IsOrderly t) (sym (ap (λ v. v.topology) (set_error-view c.self.inside.geoms c.self.inside.providers c.self.inside.consumers c.number.result c.in-Some.cell.now c.in-Some.ensures.rising c.in-Some.ensures.value))) (orderly-set_error (graph_of c.self.inside.geoms c.self.inside.providers c.self.inside.consumers) c.self.invariant.graph c.number.result);
 }

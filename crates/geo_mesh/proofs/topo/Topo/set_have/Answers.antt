@@ -4,6 +4,7 @@ use Rattle.geo_mesh.specs.Index.{IsIndexed}
 use Rattle.geo_mesh.specs.Cells.{within_limit}
 use Rattle.geo_mesh.proofs.ViewLemmas.{set_have-view, provider_stands}
 use Rattle.geo_mesh.proofs.topo.Topo.set_have.Goals as goal
+use Rattle.geo_mesh.specs.Graph.{IsOrderly}
 use Rattle.geo_mesh.proofs.RankMesh.{mesh-provider}
 
 pub returns-in_default : goal.returns-in_default
@@ -28,4 +29,6 @@ invariant_of-self-2 g c = record {
       };
   ranks =
       mesh-provider c.self.inside.geoms c.self.inside.providers c.self.inside.consumers c.self.inside.live c.number.result c.self.invariant.ranks c.in-Some.cell.now _ c.in-Some.ensures.rising c.in-Some.ensures.value refl;
+  graph =
+      subst (λ t. IsOrderly t) (sym (ap (λ v. v.topology) (set_have-view c.self.inside.geoms c.self.inside.providers c.self.inside.consumers c.number.result c.args.have c.in-Some.cell.now c.in-Some.ensures.rising c.in-Some.ensures.value))) c.self.invariant.graph;
 }

@@ -4,6 +4,8 @@ use Rattle.geo_mesh.specs.Cells.{graph_of, within_limit}
 use Rattle.geo_mesh.proofs.IndexLemmas.{indexed-set_marks}
 use Rattle.geo_mesh.proofs.ViewLemmas.{set_spoiled-view, consumer_stands}
 use Rattle.geo_mesh.proofs.topo.Topo.set_spoiled.Goals as goal
+use Rattle.geo_mesh.specs.Graph.{IsOrderly}
+use Rattle.geo_mesh.proofs.Orderly.{orderly-set_marks}
 use Rattle.geo_mesh.proofs.RankMesh.{mesh-consumer}
 
 pub returns-in_default : goal.returns-in_default
@@ -28,4 +30,6 @@ invariant_of-self-2 g c = record {
       };
   ranks =
       mesh-consumer c.self.inside.geoms c.self.inside.providers c.self.inside.consumers c.self.inside.live c.number.result c.self.invariant.ranks c.in-Some.cell.now _ c.in-Some.ensures.rising c.in-Some.ensures.value refl;
+  graph =
+      subst (λ t. IsOrderly t) (sym (ap (λ v. v.topology) (set_spoiled-view c.self.inside.geoms c.self.inside.providers c.self.inside.consumers c.number.result c.args.marked c.in-Some.cell.now c.in-Some.ensures.rising c.in-Some.ensures.value))) (orderly-set_marks (graph_of c.self.inside.geoms c.self.inside.providers c.self.inside.consumers) c.self.invariant.graph (λ x. x.number == c.number.result) c.args.marked);
 }

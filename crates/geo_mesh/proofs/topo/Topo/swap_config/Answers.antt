@@ -4,6 +4,8 @@ use Rattle.geo_mesh.specs.Cells.{graph_of, within_limit}
 use Rattle.geo_mesh.proofs.IndexLemmas.{indexed-set_config}
 use Rattle.geo_mesh.proofs.ViewLemmas.{count-with_value, geom_at-view, swap_config-view, geom_stands}
 use Rattle.geo_mesh.proofs.topo.Topo.swap_config.Goals as goal
+use Rattle.geo_mesh.specs.Graph.{IsOrderly}
+use Rattle.geo_mesh.proofs.Orderly.{orderly-set_config}
 use Rattle.geo_mesh.proofs.RankMesh.{mesh-geom}
 
 pub returns-in_default-clause-swapped : goal.returns-in_default-clause-swapped
@@ -36,4 +38,6 @@ invariant_of-self-2 g c = record {
       });
   ranks =
       mesh-geom c.self.inside.geoms c.self.inside.providers c.self.inside.consumers c.self.inside.live c.number.result c.self.invariant.ranks c.in-Some.cell.now _ c.in-Some.ensures.rising c.in-Some.ensures.value refl refl;
+  graph =
+      rw c.replace.ensures.after (subst (λ t. IsOrderly t) (sym (ap (λ v. v.topology) (swap_config-view c.self.inside.geoms c.self.inside.providers c.self.inside.consumers c.number.result c.args.config c.in-Some.cell.now c.in-Some.ensures.rising c.in-Some.ensures.value))) (orderly-set_config (graph_of c.self.inside.geoms c.self.inside.providers c.self.inside.consumers) c.self.invariant.graph c.number.result c.args.config));
 }

@@ -29,3 +29,8 @@ returns-clause-inserted g c =
 
 pub returns-clause-rising : goal.returns-clause-rising
 returns-clause-rising g c = rw (← c.self.view_is) (rising_rows _ _ _ _ c.self.invariant)
+
+pub returns-clause-bound : goal.returns-clause-bound
+returns-clause-bound g c =
+    let some : 1 ≤ c.self.inside.spare = subst (λ v. 1 ≤ v.spare) (sym c.self.view_is) c.requires in
+    omega (arith, c.self.invariant.numbers)

@@ -1,0 +1,272 @@
+-- An orderly graph stays orderly through each change of one thing.
+use Rattle.std.specs.Prelude.{◌≡◌, ◌≢◌, ℕ, ◌+◌, ◌<◌, ◌≤◌, ◌^◌, ◌==◌, Bool, true, not, List, [], ◌++◌, find, Option, Some, None, All, IsSome, IsSomeAnd}
+use Rattle.std.specs.Option.{option_map, option_or}
+use Rattle.std.proofs.Common.{refl, sym, ◌∙◌, ap, subst, arith}
+use Rattle.std.proofs.lemmas.List.Elements.{recursion_from_All, All-from_recursion, All-push, All-filter}
+use Rattle.std.proofs.lemmas.List.Folds.{find-append}
+use Rattle.geo_base.specs.declared.kind.Kind.{Kind}
+use Rattle.geo_base.specs.declared.kind.Kind.TheVariants as kinds
+use Rattle.geo_model.specs.Words.{change_where}
+use Rattle.geo_model.specs.Topology.{Topology, Geom, Provider, Consumer, geom_at, provider_at, providers_of, consumers_of, attached_to, add_geom, add_provider, add_consumer, remove_geom, remove_provider, remove_consumer, attach, detach, set_error, set_withering, set_marks, set_config, note_started}
+use Rattle.geo_model.specs.Graph.{IsInOrder, PartsLive}
+use Rattle.geo_laws_graph.specs.LookupLaws.{AddedGeomIsFound, AddedProviderIsFound, AddedConsumerIsFound, RemovedGeomIsGone, RemovedProviderIsGone, RemovedConsumerIsGone, AttachedIsFound, DetachedIsFound, MarksAreFound, ErrorIsFound, WitheringIsFound, ConfigIsFound, StartIsFound, PartsStayAlive}
+use Rattle.geo_laws_graph.proofs.Lists.{changed, changed-keeps, find-changed, all-changed}
+use Rattle.geo_laws_graph.proofs.Found.{added-geom, added-provider, added-consumer, removed-geom, removed-provider, removed-consumer, attached-found, detached-found, marks-found, error-found, withering-found, config-found, start-found}
+use Rattle.geo_laws_graph.proofs.Living.{parts-alive}
+use Rattle.geo_mesh.specs.Topo.{is_provider_size}
+use Rattle.geo_mesh.specs.Graph.{IsNumber, IsOffer, IsOrderly}
+
+-- a fact of each item, where some are changed and the fact stays
+all_through : {X : Type 0} (P : X → Type 0) (hit : X → Bool) (change : X → X) → ((x : X) → P x → P (change x)) → (xs : List X) → All P xs → All P (change_where hit change xs)
+all_through P hit change so xs facts =
+    All-from_recursion P (change_where hit change xs) (all-changed hit change P (λ x e fact. so x fact) xs (recursion_from_All P xs facts))
+
+-- a fact of what there is, seen otherwise
+some_through : {X : Type 0} (P : X → Type 0) (f : X → X) → ((x : X) → P x → P (f x)) → (o : Option X) → IsSomeAnd o P → IsSomeAnd (option_map f o) P
+some_through P f so (Some x) fact = so x fact
+some_through P f so None never = never
+
+-- a fact of the first of a list stays where another item comes behind it
+some_behind : {X : Type 0} (P : X → Type 0) (test : X → Bool) (xs ys : List X) → IsSomeAnd (find test xs) P → IsSomeAnd (find test (xs ++ ys)) P
+some_behind P test xs ys fact = rw find-append (at (find test xs) fact) where
+  at : (o : Option _) → IsSomeAnd o P → IsSomeAnd (option_or o (find test ys)) P
+  at (Some x) fact = fact
+  at None never = absurd never
+
+-- the number after a number, where it fits
+next_number : (n : ℕ) → n + 1 < 2 ^ 64 → IsNumber (n + 1)
+next_number n fits = record { some = omega arith; fits = fits }
+
+module _ {C : Type 0} (t : Topology C) (is : IsOrderly t) where
+  -- what lives goes on living
+  alive : PartsStayAlive C
+  alive = parts-alive
+
+  module _ (g : ℕ) (change : Geom C → Geom C) (number : (x : Geom C) → (change x).number ≡ x.number) (kind : (x : Geom C) → (change x).kind ≡ x.kind) where
+    -- the graph with a geom changed
+    abbrev with_change : Topology C
+    with_change = record t { geoms = change_where (λ (x : Geom C). x.number == g) change t.geoms }
+
+    -- a geom keeps its class
+    class_stays : (n : ℕ) (k : Kind) → IsSomeAnd (geom_at t n) (λ x. x.kind ≡ k) → IsSomeAnd (geom_at with_change n) (λ x. x.kind ≡ k)
+    class_stays n k stands =
+        rw (find-changed (λ (x : Geom C). x.number == g) change (λ (x : Geom C). x.number == n) (λ x e. ap (λ m. m == n) (number x)) t.geoms)
+        (some_through (λ (x : Geom C). x.kind ≡ k) (changed (λ (x : Geom C). x.number == g) change)
+        (λ x was. changed-keeps (λ (x : Geom C). x.number == g) change (λ (x : Geom C). x.kind) (λ y e. kind y) x ∙ was)
+        (geom_at t n) stands)
+
+    -- a geom that is changed keeps its number and its class
+    geom_changed : IsInOrder with_change → PartsLive with_change → IsOrderly with_change
+    geom_changed order parts = record {
+      order = order;
+      numbers = record {
+        geoms = all_through (λ (x : Geom C). 1 ≤ x.number) (λ (x : Geom C). x.number == g) change (λ x some. subst (λ n. 1 ≤ n) (sym (number x)) some) t.geoms is.numbers.geoms;
+        providers = is.numbers.providers;
+        consumers = is.numbers.consumers;
+        next_geom = is.numbers.next_geom;
+        next_provider = is.numbers.next_provider;
+        next_consumer = is.numbers.next_consumer;
+      };
+      parts = parts;
+      first = record { dev = class_stays 1 kinds.Dev is.first.dev; taste = class_stays 2 kinds.Taste is.first.taste };
+      offers = is.offers;
+    }
+
+  -- a geom that withers
+  pub orderly-set_withering : (g : ℕ) → IsOrderly (set_withering t g)
+  orderly-set_withering g =
+      let law : WitheringIsFound C = withering-found in
+      geom_changed g (λ x. record x { withering = true }) (λ x. refl) (λ x. refl) (law.order t g is.order) (alive.withering t g is.parts)
+
+  -- a geom of another configuration
+  pub orderly-set_config : (g : ℕ) (config : C) → IsOrderly (set_config t g config)
+  orderly-set_config g config =
+      let law : ConfigIsFound C = config-found in
+      geom_changed g (λ x. record x { config = config }) (λ x. refl) (λ x. refl) (law.order t g config is.order) (alive.config t g config is.parts)
+
+  -- a geom that started one more request
+  pub orderly-note_started : (g : ℕ) → IsOrderly (note_started t g)
+  orderly-note_started g =
+      let law : StartIsFound C = start-found in
+      geom_changed g (λ x. record x { started = x.started + 1 }) (λ x. refl) (λ x. refl) (law.order t g is.order) (alive.started t g is.parts)
+
+  -- a provider with an error
+  pub orderly-set_error : (p : ℕ) → IsOrderly (set_error t p)
+  orderly-set_error p =
+      let law : ErrorIsFound C = error-found in
+      record {
+        order = law.order t p is.order;
+        numbers = record {
+          geoms = is.numbers.geoms;
+          providers = all_through (λ (x : Provider). 1 ≤ x.number) (λ (x : Provider). x.number == p) (λ x. record x { errored = true }) (λ x some. some) t.providers is.numbers.providers;
+          consumers = is.numbers.consumers;
+          next_geom = is.numbers.next_geom;
+          next_provider = is.numbers.next_provider;
+          next_consumer = is.numbers.next_consumer;
+        };
+        parts = alive.errored t p is.parts;
+        first = record { dev = is.first.dev; taste = is.first.taste };
+        offers = all_through IsOffer (λ (x : Provider). x.number == p) (λ x. record x { errored = true })
+            (λ x offer. record { not_dev = offer.not_dev; not_taste = offer.not_taste; sizes = offer.sizes }) t.providers is.offers;
+      }
+
+  module _ (hit : Consumer → Bool) (change : Consumer → Consumer) (number : (x : Consumer) → (change x).number ≡ x.number) where
+    -- the graph with some consumers changed
+    abbrev with_changes : Topology C
+    with_changes = record t { consumers = change_where hit change t.consumers }
+
+    -- consumers that are changed keep their numbers
+    consumers_changed : IsInOrder with_changes → PartsLive with_changes → IsOrderly with_changes
+    consumers_changed order parts = record {
+      order = order;
+      numbers = record {
+        geoms = is.numbers.geoms;
+        providers = is.numbers.providers;
+        consumers = all_through (λ (x : Consumer). 1 ≤ x.number) hit change (λ x some. subst (λ n. 1 ≤ n) (sym (number x)) some) t.consumers is.numbers.consumers;
+        next_geom = is.numbers.next_geom;
+        next_provider = is.numbers.next_provider;
+        next_consumer = is.numbers.next_consumer;
+      };
+      parts = parts;
+      first = record { dev = is.first.dev; taste = is.first.taste };
+      offers = is.offers;
+    }
+
+  -- a consumer that is attached
+  pub orderly-attach : (c p : ℕ) → IsSome (provider_at t p) → IsOrderly (attach t c p)
+  orderly-attach c p there =
+      let law : AttachedIsFound C = attached-found in
+      consumers_changed (λ x. x.number == c) (λ x. record x { provider = Some p }) (λ x. refl) (law.order t c p is.order) (alive.attached t c p there is.parts)
+
+  -- a consumer that is detached
+  pub orderly-detach : (c : ℕ) → IsOrderly (detach t c)
+  orderly-detach c =
+      let law : DetachedIsFound C = detached-found in
+      consumers_changed (λ x. x.number == c) (λ x. record x { provider = None }) (λ x. refl) (law.order t c is.order) (alive.detached t c is.parts)
+
+  -- consumers with a mark, or without
+  pub orderly-set_marks : (test : Consumer → Bool) (mark : Bool) → IsOrderly (set_marks t test mark)
+  orderly-set_marks test mark =
+      let law : MarksAreFound C = marks-found in
+      consumers_changed test (λ x. record x { spoiled = mark }) (λ x. refl) (law.order t test mark is.order) (alive.marked t test mark is.parts)
+
+  -- a geom more
+  pub orderly-add_geom : (kind : Kind) (name : List ℕ) (config : C) (automatic : Bool) → t.next_geom + 1 < 2 ^ 64 → IsOrderly (add_geom t kind name config automatic)
+  orderly-add_geom kind name config automatic fits =
+      let law : AddedGeomIsFound C = added-geom in
+      record {
+        order = law.order t kind name config automatic is.order;
+        numbers = record {
+          geoms = All-push (λ (x : Geom C). 1 ≤ x.number) t.geoms _ is.numbers.geoms is.numbers.next_geom.some;
+          providers = is.numbers.providers;
+          consumers = is.numbers.consumers;
+          next_geom = next_number t.next_geom fits;
+          next_provider = is.numbers.next_provider;
+          next_consumer = is.numbers.next_consumer;
+        };
+        parts = alive.geom_added t kind name config automatic is.parts;
+        first = record {
+          dev = some_behind (λ (x : Geom C). x.kind ≡ kinds.Dev) (λ (x : Geom C). x.number == 1) t.geoms _ is.first.dev;
+          taste = some_behind (λ (x : Geom C). x.kind ≡ kinds.Taste) (λ (x : Geom C). x.number == 2) t.geoms _ is.first.taste;
+        };
+        offers = is.offers;
+      }
+
+  -- a provider more, of a geom other than the first two
+  pub orderly-add_provider : (geom : ℕ) (name : List ℕ) (size sector : ℕ) → IsSome (geom_at t geom) → geom ≢ 1 → geom ≢ 2 → is_provider_size size sector ≡ true
+      → t.next_provider + 1 < 2 ^ 64 → IsOrderly (add_provider t geom name size sector)
+  orderly-add_provider geom name size sector there not_dev not_taste sizes fits =
+      let law : AddedProviderIsFound C = added-provider in
+      record {
+        order = law.order t geom name size sector is.order;
+        numbers = record {
+          geoms = is.numbers.geoms;
+          providers = All-push (λ (x : Provider). 1 ≤ x.number) t.providers _ is.numbers.providers is.numbers.next_provider.some;
+          consumers = is.numbers.consumers;
+          next_geom = is.numbers.next_geom;
+          next_provider = next_number t.next_provider fits;
+          next_consumer = is.numbers.next_consumer;
+        };
+        parts = alive.provider_added t geom name size sector there is.parts;
+        first = record { dev = is.first.dev; taste = is.first.taste };
+        offers = All-push IsOffer t.providers _ is.offers (record { not_dev = not_dev; not_taste = not_taste; sizes = sizes });
+      }
+
+  -- a consumer more, attached to nothing
+  pub orderly-add_consumer : (geom : ℕ) → IsSome (geom_at t geom) → t.next_consumer + 1 < 2 ^ 64 → IsOrderly (add_consumer t geom None)
+  orderly-add_consumer geom there fits =
+      let law : AddedConsumerIsFound C = added-consumer in
+      record {
+        order = law.order t geom None is.order;
+        numbers = record {
+          geoms = is.numbers.geoms;
+          providers = is.numbers.providers;
+          consumers = All-push (λ (x : Consumer). 1 ≤ x.number) t.consumers _ is.numbers.consumers is.numbers.next_consumer.some;
+          next_geom = is.numbers.next_geom;
+          next_provider = is.numbers.next_provider;
+          next_consumer = next_number t.next_consumer fits;
+        };
+        parts = alive.consumer_added t geom None there tt is.parts;
+        first = record { dev = is.first.dev; taste = is.first.taste };
+        offers = is.offers;
+      }
+
+  -- a geom less, other than the first two, without parts
+  pub orderly-remove_geom : (g : ℕ) → g ≢ 1 → g ≢ 2 → providers_of t g ≡ [] → consumers_of t g ≡ [] → IsOrderly (remove_geom t g)
+  orderly-remove_geom g not_dev not_taste no_provider no_consumer =
+      let law : RemovedGeomIsGone C = removed-geom in
+      record {
+        order = law.order t g is.order;
+        numbers = record {
+          geoms = All-filter (λ (x : Geom C). not (x.number == g)) (λ (x : Geom C). 1 ≤ x.number) t.geoms is.numbers.geoms;
+          providers = is.numbers.providers;
+          consumers = is.numbers.consumers;
+          next_geom = is.numbers.next_geom;
+          next_provider = is.numbers.next_provider;
+          next_consumer = is.numbers.next_consumer;
+        };
+        parts = alive.geom_removed t g no_provider no_consumer is.parts;
+        first = record {
+          dev = rw (law.others t g 1 (λ same. not_dev (sym same))) is.first.dev;
+          taste = rw (law.others t g 2 (λ same. not_taste (sym same))) is.first.taste;
+        };
+        offers = is.offers;
+      }
+
+  -- a provider less, to which nothing is attached
+  pub orderly-remove_provider : (p : ℕ) → attached_to t p ≡ [] → IsOrderly (remove_provider t p)
+  orderly-remove_provider p none =
+      let law : RemovedProviderIsGone C = removed-provider in
+      record {
+        order = law.order t p is.order;
+        numbers = record {
+          geoms = is.numbers.geoms;
+          providers = All-filter (λ (x : Provider). not (x.number == p)) (λ (x : Provider). 1 ≤ x.number) t.providers is.numbers.providers;
+          consumers = is.numbers.consumers;
+          next_geom = is.numbers.next_geom;
+          next_provider = is.numbers.next_provider;
+          next_consumer = is.numbers.next_consumer;
+        };
+        parts = alive.provider_removed t p none is.parts;
+        first = record { dev = is.first.dev; taste = is.first.taste };
+        offers = All-filter (λ (x : Provider). not (x.number == p)) IsOffer t.providers is.offers;
+      }
+
+  -- a consumer less
+  pub orderly-remove_consumer : (c : ℕ) → IsOrderly (remove_consumer t c)
+  orderly-remove_consumer c =
+      let law : RemovedConsumerIsGone C = removed-consumer in
+      record {
+        order = law.order t c is.order;
+        numbers = record {
+          geoms = is.numbers.geoms;
+          providers = is.numbers.providers;
+          consumers = All-filter (λ (x : Consumer). not (x.number == c)) (λ (x : Consumer). 1 ≤ x.number) t.consumers is.numbers.consumers;
+          next_geom = is.numbers.next_geom;
+          next_provider = is.numbers.next_provider;
+          next_consumer = is.numbers.next_consumer;
+        };
+        parts = alive.consumer_removed t c is.parts;
+        first = record { dev = is.first.dev; taste = is.first.taste };
+        offers = is.offers;
+      }
