@@ -4,4 +4,5 @@ pub mod Numbered
 pub mod Spared
 pub mod Found
 pub mod TwoChanges
+pub mod Walks
 pub mod Living

@@ -1,5 +1,5 @@
 -- Laws of look-ups after a change of one thing, for any configuration C of a class.
-use Rattle.std.specs.Prelude.{◌≡◌, ◌≢◌, ℕ, ◌+◌, ◌==◌, Bool, true, false, not, ◌&&◌, ◌||◌, List, [], ◌∷◌, ◌++◌, Option, Some, None, IfSome, IsSome, filter, option_map}
+use Rattle.std.specs.Prelude.{◌≡◌, ◌≢◌, ℕ, ◌+◌, ◌<◌, ◌≤◌, ◌==◌, nat_le, Bool, true, false, not, ◌&&◌, ◌||◌, List, [], ◌∷◌, ◌++◌, Option, Some, None, IfSome, IsSome, filter, find, map, option_map}
 use Rattle.std.specs.List.{AllByRecursion}
 use Rattle.std.specs.Option.{option_to_list}
 use Rattle.geo_base.specs.declared.kind.Kind.{Kind}
@@ -8,7 +8,7 @@ use Rattle.geo_model.specs.Topology.{with_configs, Topology, Geom, Provider, Con
 use Rattle.geo_model.specs.World.{World, Config}
 use Rattle.geo_model.specs.Sound.{NumbersHold}
 use Rattle.geo_model.specs.Steady.{PartsHaveGeoms, AreAttached}
-use Rattle.geo_model.specs.Graph.{IsInOrder, PartsLive}
+use Rattle.geo_model.specs.Graph.{AreNumbers, IsInOrder, PartsLive}
 
 -- what is made by adding
 abbrev pub new_geom : {C : Type 0} → Topology C → Kind → List ℕ → C → Bool → Geom C
@@ -218,6 +218,30 @@ pub record SeenGeomIsFound (C D : Type 0) : Type 0 where
   pub at : (see : C → D) (t : Topology C) (g : ℕ) → geom_at (with_configs see t) g ≡ option_map (seen_geom see) (geom_at t g)
   pub withering : (see : C → D) (t : Topology C) (g : ℕ) → is_withering (with_configs see t) g ≡ is_withering t g
   pub order : (see : C → D) (t : Topology C) → IsInOrder t → IsInOrder (with_configs see t)
+
+-- Walks
+
+-- what is left of a walk over a list from a number on
+abbrev pub left_from : {X : Type 0} → (X → ℕ) → ℕ → List X → List X
+left_from number from_number xs = filter (λ x. nat_le from_number (number x)) xs
+
+-- one step of a walk: the item of the number comes next, and what is left then comes behind it
+pub record IsStep {X : Type 0} (number : X → ℕ) (xs : List X) (next from_number n : ℕ) : Type 0 where
+  pub item : X
+  pub is : number item ≡ n
+  pub left : left_from number from_number xs ≡ item ∷ left_from number (n + 1) xs
+  pub past : from_number ≤ n
+  pub known : n < next
+
+-- a walk over a list in order of numbers, each time to the first number that isn't below one more than the last, meets each item once
+pub record WalksMeetAll (X : Type 0) : Type 0 where
+  pub begin : (number : X → ℕ) (xs : List X) → left_from number 0 xs ≡ xs
+  pub step : (number : X → ℕ) (xs : List X) (next from_number n : ℕ) → AreNumbers (map number xs) next
+      → option_map number (find (λ x. nat_le from_number (number x)) xs) ≡ Some n → IsStep number xs next from_number n
+  pub rest : (number : X → ℕ) (xs : List X) (from_number : ℕ)
+      → option_map number (find (λ x. nat_le from_number (number x)) xs) ≡ None → left_from number from_number xs ≡ []
+  pub part : (number : X → ℕ) (keep : X → Bool) (xs : List X) (next : ℕ) → AreNumbers (map number xs) next
+      → AreNumbers (map number (filter keep xs)) next
 
 -- What lives
 

@@ -1,5 +1,5 @@
 //! Laws of look-ups, for any configuration of a class.
-ghost use Rattle.geo_laws_graph.specs.LookupLaws.{AddedConsumerIsFound, AddedGeomIsFound, AddedProviderIsFound, AttachedIsFound, ConfigIsFound, DetachedIsFound, EachIsFound, ErrorIsFound, MarksAreFound, PartsStayAlive, RemovedConsumerIsGone, RemovedGeomIsGone, RemovedProviderIsGone, SeenGeomIsFound, SoundIsInOrder, StartIsFound, SteadyPartsLive, TwoChangesAreOne, WitheringIsFound};
+ghost use Rattle.geo_laws_graph.specs.LookupLaws.{AddedConsumerIsFound, AddedGeomIsFound, AddedProviderIsFound, AttachedIsFound, ConfigIsFound, DetachedIsFound, EachIsFound, ErrorIsFound, MarksAreFound, PartsStayAlive, RemovedConsumerIsGone, RemovedGeomIsGone, RemovedProviderIsGone, SeenGeomIsFound, SoundIsInOrder, StartIsFound, SteadyPartsLive, TwoChangesAreOne, WalksMeetAll, WitheringIsFound};
 
 /// In lists in order of numbers each thing is what is found at its number.
 pub fn each_is_found<C>()
@@ -47,6 +47,12 @@ pub fn changed_geom_is_found<C>()
 /// In a graph whose configurations are seen otherwise each geom is found so.
 pub fn seen_geom_is_found<C, D>()
     ensures { SeenGeomIsFound C D }
+{}
+
+/// A walk over a list in order of numbers, each time to the first number that isn't below one more than the last, meets each
+/// item once.
+pub fn walks_meet_all<X>()
+    ensures { WalksMeetAll X }
 {}
 
 /// What the parts of the graph name goes on living.

@@ -363,7 +363,8 @@ impl<C> Topo<C> {
 
     /// The least number of a provider of the geom that isn't below a number.
     pub fn provider_of(&self, geom: GeomId, from: u64) -> Option<ProvId>
-        ensures { result ≡ first_provider (providers_of self.now.topology geom) from }
+        ensures first { result ≡ first_provider (providers_of self.now.topology geom) from }
+        ensures sound { IsSoundGraph self.now.topology }
     {
         match self.index.offered.first_from(geom.number(), from) {
             Some(number) => Some(ProvId::new(number)),
@@ -373,7 +374,8 @@ impl<C> Topo<C> {
 
     /// The least number of a consumer of the geom that isn't below a number.
     pub fn consumer_of(&self, geom: GeomId, from: u64) -> Option<ConsId>
-        ensures { result ≡ first_consumer (consumers_of self.now.topology geom) from }
+        ensures first { result ≡ first_consumer (consumers_of self.now.topology geom) from }
+        ensures sound { IsSoundGraph self.now.topology }
     {
         match self.index.owned.first_from(geom.number(), from) {
             Some(number) => Some(ConsId::new(number)),
@@ -383,7 +385,8 @@ impl<C> Topo<C> {
 
     /// The least number of a consumer attached to the provider that isn't below a number.
     pub fn attached_to(&self, prov: ProvId, from: u64) -> Option<ConsId>
-        ensures { result ≡ first_consumer (attached_to self.now.topology prov) from }
+        ensures first { result ≡ first_consumer (attached_to self.now.topology prov) from }
+        ensures sound { IsSoundGraph self.now.topology }
     {
         match self.index.attached.first_from(prov.number(), from) {
             Some(number) => Some(ConsId::new(number)),
