@@ -19,10 +19,11 @@ use Rattle.geo_mesh.specs.declared.names.Names.{Names}
 use Rattle.geo_mesh.specs.Cells.{graph_of, provider_row}
 use Rattle.geo_mesh.specs.Graph.{IsSoundGraph}
 use Rattle.geo_mesh.specs.Names.{OneEach, is_sound_named}
-use Rattle.geo_mesh.specs.Ranks.{HaveRanks, below, stored}
+use Rattle.geo_mesh.specs.Ranks.{HaveRanks, AreFirst, beneath, found, stored}
 use Rattle.geo_mesh.specs.Whole.{IsWhole}
 use Rattle.geo_mesh.proofs.NameLemmas.{same_is, is_same}
-use Rattle.geo_mesh.proofs.RankMesh.{under-graph, stored-rank, deep-is}
+use Rattle.geo_mesh.proofs.RankFirst.{first-two, found-local}
+use Rattle.geo_mesh.proofs.RankMesh.{under-graph, found-rank, mesh-low}
 
 -- two functions with the same values give the same list
 map_same : {X Y : Type 0} (f h : X → Y) → ((x : X) → f x ≡ h x) → (xs : List X) → map f xs ≡ map h xs
@@ -31,13 +32,13 @@ map_same f h same (x ∷ xs) = rw (same x, map_same f h same xs) refl
 
 -- Ranks
 
-module _ {C : Type 0} (gs : SlotsView (GeomCell C)) (ps : SlotsView ProvCell) (cs : SlotsView ConsCell) (live : ℕ) (mesh : HaveRanks gs ps cs live) where
+module _ {C : Type 0} (gs : SlotsView (GeomCell C)) (ps : SlotsView ProvCell) (cs : SlotsView ConsCell) (live : ℕ) (mesh : HaveRanks gs ps cs live) (first : AreFirst gs ps) where
   -- a rank is one more than the highest below
   rank-above : (g : ℕ) → rank (graph_of gs ps cs) g ≡ 1 + largest (map (rank (graph_of gs ps cs)) (geoms_under (graph_of gs ps cs) g))
   rank-above g =
-      stored-rank gs ps cs live mesh g
-      ∙ mesh.standing.local g
-      ∙ ap (λ n. 1 + largest n) (sym (map_same (rank (graph_of gs ps cs)) (stored gs) (stored-rank gs ps cs live mesh) (below ps cs g)))
+      found-rank gs ps cs live mesh first g
+      ∙ found-local ps cs first.bare (stored gs) mesh.standing.local g
+      ∙ ap (λ n. 1 + largest n) (sym (map_same (rank (graph_of gs ps cs)) (found (stored gs) ps cs) (found-rank gs ps cs live mesh first) (beneath ps cs g)))
       ∙ ap (λ hs. 1 + largest (map (rank (graph_of gs ps cs)) hs)) (sym (under-graph gs ps cs g))
 
   -- the geom of a provider to which a consumer is attached is below the consumer's geom
@@ -111,7 +112,7 @@ names_differ (x ∷ xs) one =
 pub sound-graph : {C : Type 0} (gs : SlotsView (GeomCell C)) (ps : SlotsView ProvCell) (cs : SlotsView ConsCell) (live : ℕ) (i : Index) (n : Names) → IsWhole gs ps cs live i n → IsSoundGraph (graph_of gs ps cs)
 sound-graph gs ps cs live i n whole = record {
   orderly = whole.graph;
-  ranked = graph_ranked gs ps cs live whole.ranks whole.graph.parts.providers;
-  not_deep = deep-is gs ps cs (stored gs) (stored-rank gs ps cs live whole.ranks) ∙ whole.ranks.standing.low;
+  ranked = graph_ranked gs ps cs live whole.ranks (first-two gs ps cs whole.graph) whole.graph.parts.providers;
+  not_deep = mesh-low gs ps cs live whole.ranks (first-two gs ps cs whole.graph);
   names = names_differ (map provider_row ps.rows) whole.tables.names_are.one;
 }

@@ -12,6 +12,7 @@ pub mod RankHeights
 pub mod RankMend
 pub mod RankRows
 pub mod RankWalk
+pub mod RankFirst
 pub mod RankKept
 pub mod RankMesh
 pub mod RankSwitch

@@ -17,11 +17,12 @@ use Rattle.geo_mesh.specs.declared.records.ConsCell.{ConsCell}
 use Rattle.geo_mesh.specs.Rows.{row_with, rows_with, passes}
 use Rattle.geo_mesh.specs.Cells.{graph_of, view_of, within_limit, geom_seen, geom_scratch_of, geom_row, provider_row, consumer_row}
 use Rattle.geo_mesh.specs.Mending.{IsAmong, StandsAbove, Climbs, Joined, above, height}
-use Rattle.geo_mesh.specs.Ranks.{kind_of, rank_of, rest_of, owner, owner_of, ends_of, kinds, ranks, stored, offers, ends, rank_at, under, below, number_or, is_high, IsWalkable, HaveRanks, bare}
+use Rattle.geo_mesh.specs.Ranks.{kind_of, rank_of, rest_of, owner, owner_of, ends_of, links_of, kinds, ranks, stored, offers, ends, rank_at, under, below, beneath, found, footing, is_first, number_or, is_high, IsWalkable, HaveRanks, AreFirst, bare}
 use Rattle.geo_mesh.proofs.RowLemmas.{OnlyValue, only, map-with_value_same, map-without, rows_with-with_value, value_at-rows_with}
 use Rattle.geo_mesh.proofs.ViewLemmas.{geom_at-view, provider_at-view, consumer_at-view, count_falls, count_stays}
 use Rattle.geo_mesh.proofs.RankHeights.{local-climbs, local-height, local-few, height-climbs, rank-height, reached-stands, stands-reached}
 use Rattle.geo_mesh.proofs.RankRows.{peak, peak-is, peak-with, adds, all-at, passing-between, rising-with, with_value-same, kinds-bare}
+use Rattle.geo_mesh.proofs.RankFirst.{footing-none, footing-unnamed, found-local, found-few, found-high}
 use Rattle.geo_mesh.proofs.RankKept.{ranks-new_consumer, ranks-destroy_consumer, ranks-new_provider, ranks-destroy_provider, ranks-new_geom, ranks-destroy_geom}
 
 -- two functions with the same values take the same from a list
@@ -35,12 +36,12 @@ filter_map-same f h same (x ∷ xs) = at (h x) refl (filter_map-same f h same xs
 module _ {C : Type 0} (gs : SlotsView (GeomCell C)) (ps : SlotsView ProvCell) (cs : SlotsView ConsCell) where
   -- the providers to which the consumers of a geom are attached, by the rows
   provs_under : (g : ℕ) (rows : List (ℕ × ConsCell))
-      → filter_map (λ (x : Consumer). x.provider) (filter (λ (x : Consumer). x.geom == g) (map consumer_row rows)) ≡ filter_map (λ (row : ℕ × (ℕ × Option ℕ)). row.1.1) (filter (λ (row : ℕ × (ℕ × Option ℕ)). row.1.0 == g) (rows_with ends_of rows))
+      → filter_map (λ (x : Consumer). x.provider) (filter (λ (x : Consumer). x.geom == g) (map consumer_row rows)) ≡ filter_map (λ (row : ℕ × (ℕ × Option ℕ)). row.1.1) (filter (λ (row : ℕ × (ℕ × Option ℕ)). row.1.0 == g) (rows_with links_of rows))
   provs_under g [] = refl
   provs_under g (row ∷ rows) = at (row.1.consumer.geom == g) refl row.1.consumer.prov refl (provs_under g rows) where
     at : (b : Bool) → (row.1.consumer.geom == g) ≡ b → (o : Option ℕ) → row.1.consumer.prov ≡ o
-        → filter_map (λ (x : Consumer). x.provider) (filter (λ (x : Consumer). x.geom == g) (map consumer_row rows)) ≡ filter_map (λ (row : ℕ × (ℕ × Option ℕ)). row.1.1) (filter (λ (row : ℕ × (ℕ × Option ℕ)). row.1.0 == g) (rows_with ends_of rows))
-        → filter_map (λ (x : Consumer). x.provider) (filter (λ (x : Consumer). x.geom == g) (map consumer_row (row ∷ rows))) ≡ filter_map (λ (row : ℕ × (ℕ × Option ℕ)). row.1.1) (filter (λ (row : ℕ × (ℕ × Option ℕ)). row.1.0 == g) (rows_with ends_of (row ∷ rows)))
+        → filter_map (λ (x : Consumer). x.provider) (filter (λ (x : Consumer). x.geom == g) (map consumer_row rows)) ≡ filter_map (λ (row : ℕ × (ℕ × Option ℕ)). row.1.1) (filter (λ (row : ℕ × (ℕ × Option ℕ)). row.1.0 == g) (rows_with links_of rows))
+        → filter_map (λ (x : Consumer). x.provider) (filter (λ (x : Consumer). x.geom == g) (map consumer_row (row ∷ rows))) ≡ filter_map (λ (row : ℕ × (ℕ × Option ℕ)). row.1.1) (filter (λ (row : ℕ × (ℕ × Option ℕ)). row.1.0 == g) (rows_with links_of (row ∷ rows)))
     at false e o k rest = rw e rest
     at true e None k rest = rw (e, k) rest
     at true e (Some p) k rest = rw (e, k) (ap (λ qs. p ∷ qs) rest)
@@ -53,7 +54,7 @@ module _ {C : Type 0} (gs : SlotsView (GeomCell C)) (ps : SlotsView ProvCell) (c
     at (Some v) = refl
 
   -- the geoms directly below a geom, by the rows
-  pub under-graph : (g : ℕ) → geoms_under (graph_of gs ps cs) g ≡ below ps cs g
+  pub under-graph : (g : ℕ) → geoms_under (graph_of gs ps cs) g ≡ beneath ps cs g
   under-graph g =
       filter_map-same (λ p. option_map (λ (x : Provider). x.geom) (provider_at (graph_of gs ps cs) p)) (value_at (offers ps).rows) owner_seen (filter_map (λ (x : Consumer). x.provider) (filter (λ (x : Consumer). x.geom == g) (map consumer_row cs.rows)))
       ∙ ap (filter_map (value_at (offers ps).rows)) (provs_under g cs.rows)
@@ -73,10 +74,10 @@ module _ {C : Type 0} (gs : SlotsView (GeomCell C)) (ps : SlotsView ProvCell) (c
       rw (length-map gs.rows (λ (row : ℕ × GeomCell C). row.0)) at few
 
   -- a function that is one more than its largest value below, with few values, is the rank
-  pub rank-is : (f : ℕ → ℕ) → ((x : ℕ) → f x ≡ above (below ps cs) f x) → ((x : ℕ) → f x ≤ length gs.rows + 1) → (x : ℕ) → rank (graph_of gs ps cs) x ≡ f x
+  pub rank-is : (f : ℕ → ℕ) → ((x : ℕ) → f x ≡ above (beneath ps cs) f x) → ((x : ℕ) → f x ≤ length gs.rows + 1) → (x : ℕ) → rank (graph_of gs ps cs) x ≡ f x
   rank-is f local few x =
-      rank-height (graph_of gs ps cs) (below ps cs) under-graph (length (map geom_row gs.rows)) x
-      ∙ local-height (below ps cs) f local (length (map geom_row gs.rows)) x (rw (length-map gs.rows geom_row) (few x))
+      rank-height (graph_of gs ps cs) (beneath ps cs) under-graph (length (map geom_row gs.rows)) x
+      ∙ local-height (beneath ps cs) f local (length (map geom_row gs.rows)) x (rw (length-map gs.rows geom_row) (few x))
 
   -- whether a geom would be too deep, by the classes
   pub deep-is : (f : ℕ → ℕ) → ((x : ℕ) → rank (graph_of gs ps cs) x ≡ f x) → is_too_deep (graph_of gs ps cs) ≡ is_high (kinds gs) f
@@ -86,30 +87,42 @@ module _ {C : Type 0} (gs : SlotsView (GeomCell C)) (ps : SlotsView ProvCell) (c
     each r same [] = refl
     each r same (row ∷ rows) = rw (same row.0, each r same rows) refl
 
-  module _ (f : ℕ → ℕ) (local : (x : ℕ) → f x ≡ above (below ps cs) f x) (few : (x : ℕ) → f x ≤ length gs.rows + 1) where
+  module _ (f : ℕ → ℕ) (local : (x : ℕ) → f x ≡ above (beneath ps cs) f x) (few : (x : ℕ) → f x ≤ length gs.rows + 1) where
     -- the values, each less by one, still climb
     lowered_climbs : Climbs (geoms_under (graph_of gs ps cs)) (λ x. f x - 1)
     lowered_climbs x h there =
-        let near : IsAmong (below ps cs x) h = subst (λ ms. IsAmong ms h) (under-graph x) there in
-        omega (arith, local-climbs (below ps cs) f local x h near, local h)
+        let near : IsAmong (beneath ps cs x) h = subst (λ ms. IsAmong ms h) (under-graph x) there in
+        omega (arith, local-climbs (beneath ps cs) f local x h near, local h)
 
     -- what stands above a geom reaches it downwards
-    pub stands-reaches : (x g : ℕ) → StandsAbove (below ps cs) x g → reaches (graph_of gs ps cs) x g ≡ true
+    pub stands-reaches : (x g : ℕ) → StandsAbove (beneath ps cs) x g → reaches (graph_of gs ps cs) x g ≡ true
     stands-reaches x g stands =
         stands-reached (graph_of gs ps cs) (λ x. f x - 1) lowered_climbs (length (map geom_row gs.rows)) x g
         (λ y. rw (length-map gs.rows geom_row) (omega (arith, few y)))
         (λ has at so. stands has at (λ y h there is. so y h (subst (λ ms. IsAmong ms h) (sym (under-graph y)) there) is))
 
   -- what reaches a geom downwards stands above it
-  pub reaches-stands : (x g : ℕ) → reaches (graph_of gs ps cs) x g ≡ true → StandsAbove (below ps cs) x g
+  pub reaches-stands : (x g : ℕ) → reaches (graph_of gs ps cs) x g ≡ true → StandsAbove (beneath ps cs) x g
   reaches-stands x g there =
       let stands : StandsAbove (geoms_under (graph_of gs ps cs)) x g = reached-stands (graph_of gs ps cs) (length (map geom_row gs.rows)) x g there in
       λ has at so. stands has at (λ y h near is. so y h (subst (λ ms. IsAmong ms h) (under-graph y) near) is)
 
   module _ (live : ℕ) (mesh : HaveRanks gs ps cs live) where
-    -- the rank that stands in the cell is the model's
-    pub stored-rank : (x : ℕ) → rank (graph_of gs ps cs) x ≡ stored gs x
-    stored-rank x = rank-is (stored gs) mesh.standing.local (stored-few (below ps cs) mesh.standing.local) x
+    module _ (first : AreFirst gs ps) where
+      -- the ranks are at most one more than there are geoms
+      pub found-most : (x : ℕ) → found (stored gs) ps cs x ≤ length gs.rows + 1
+      found-most x =
+          let few : found (stored gs) ps cs x ≤ length (map (λ (row : ℕ × GeomCell C). row.0) gs.rows) + 1 =
+          found-few ps cs first.bare (stored gs) mesh.standing.local (map (λ (row : ℕ × GeomCell C). row.0) gs.rows) first.listed (stored-listed gs.rows) x in
+          rw (length-map gs.rows (λ (row : ℕ × GeomCell C). row.0)) at few
+
+      -- the ranks that stand in the cells, and those found from them, are the model's
+      pub found-rank : (x : ℕ) → rank (graph_of gs ps cs) x ≡ found (stored gs) ps cs x
+      found-rank x = rank-is (found (stored gs) ps cs) (found-local ps cs first.bare (stored gs) mesh.standing.local) found-most x
+
+      -- no geom is too deep
+      pub mesh-low : is_too_deep (graph_of gs ps cs) ≡ false
+      mesh-low = deep-is (found (stored gs) ps cs) found-rank ∙ found-high ps cs (stored gs) (kinds gs) first.granted ∙ mesh.standing.low
 
     -- each rank that stands in a cell fits in 32 bits
     pub mesh-few : (x : ℕ) → stored gs x ≤ 4294967295
@@ -252,7 +265,7 @@ module _ {C : Type 0} (gs : SlotsView (GeomCell C)) (ps : SlotsView ProvCell) (c
         record { count = mesh.count; standing = rw same (ranks-destroy_consumer (kinds gs) (ranks gs) (offers ps).rows (ends cs).rows mesh.standing n cs.next (rising-with ends_of 1 cs.next cs.rows rising) (λ e there. free_of e (value_at cs.rows n) (rw (value_at-rows_with ends_of n cs.rows) at there) (rw (consumer_at-view gs ps cs n) at free))) } where
           free_of : (e : ℕ × Option ℕ) (o : Option ConsCell) → option_map ends_of o ≡ Some e → IfSome (option_map (λ v. consumer_row (n, v)) o) (λ x. x.provider ≡ None) → e.1 ≡ None
           free_of e None there free = absurd cc
-          free_of e (Some v) there free = let same : ends_of v ≡ e = cc in ap (λ (e : ℕ × Option ℕ). e.1) (sym same) ∙ free
+          free_of e (Some v) there free = let same : ends_of v ≡ e = cc in ap (λ (e : ℕ × Option ℕ). e.1) (sym same) ∙ ap (footing v.consumer.geom) free ∙ footing-none v.consumer.geom
 
     -- where no consumer is attached to a provider, no row is
     none_attached : (n : ℕ) (rows : List (ℕ × ConsCell)) → filter (λ (x : Consumer). names_number x.provider n) (map consumer_row rows) ≡ [] → AllByRecursion (λ (row : ℕ × (ℕ × Option ℕ)). names_number row.1.1 n ≡ false) (rows_with ends_of rows)
@@ -261,7 +274,7 @@ module _ {C : Type 0} (gs : SlotsView (GeomCell C)) (ps : SlotsView ProvCell) (c
       at : (b : Bool) → names_number row.1.consumer.prov n ≡ b → filter (λ (x : Consumer). names_number x.provider n) (map consumer_row (row ∷ rows)) ≡ [] → (filter (λ (x : Consumer). names_number x.provider n) (map consumer_row rows) ≡ [] → AllByRecursion (λ (row : ℕ × (ℕ × Option ℕ)). names_number row.1.1 n ≡ false) (rows_with ends_of rows))
           → AllByRecursion (λ (row : ℕ × (ℕ × Option ℕ)). names_number row.1.1 n ≡ false) (rows_with ends_of (row ∷ rows))
       at true e none so = let no = rw e at none in absurd cc
-      at false e none so = (e, so (rw e at none))
+      at false e none so = (footing-unnamed row.1.consumer.geom n row.1.consumer.prov e, so (rw e at none))
 
     -- the mesh stands without a provider to which nothing is attached
     pub mesh-destroy_provider : (n : ℕ) → attached_to (graph_of gs ps cs) n ≡ [] → HaveRanks gs (record ps { rows = without ps.rows n }) cs live

@@ -24,7 +24,7 @@ offered-is g None there = absurd cc
 offered-is g (Some h) there = ap (λ (n : ℕ). Some n) (eqb-true h g there)
 
 -- where a number is named, it is that one
-names-some : (o : Option ℕ) (p : ℕ) → names_number o p ≡ true → o ≡ Some p
+pub names-some : (o : Option ℕ) (p : ℕ) → names_number o p ≡ true → o ≡ Some p
 names-some None p there = absurd cc
 names-some (Some q) p there = ap (λ (n : ℕ). Some n) (eqb-true q p there)
 

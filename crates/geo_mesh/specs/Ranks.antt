@@ -1,5 +1,5 @@
 -- The ranks that stand in the cells of the geoms, and the graph below them, by the rows.
-use Rattle.std.specs.Prelude.{◌≡◌, ℕ, ◌<◌, ◌≤◌, ◌^◌, ◌==◌, nat_lt, Bool, true, false, not, ◌&&◌, List, Option, Some, None, IsSome, IfSome, filter, filter_map, length, option_map}
+use Rattle.std.specs.Prelude.{◌≡◌, ℕ, ◌<◌, ◌≤◌, ◌^◌, ◌==◌, nat_lt, Bool, true, false, not, ◌&&◌, ◌||◌, List, Option, Some, None, IsSome, IfSome, filter, filter_map, length, map, option_map, if◌then◌else◌}
 use Rattle.std.specs.List.{list_any, AllByRecursion}
 use Rattle.geo_base.specs.declared.kind.Kind.{Kind}
 use Rattle.geo_model.specs.Words.{is_granted_kind, names_number}
@@ -14,7 +14,7 @@ use Rattle.geo_mesh.specs.Rows.{rows_with, passes}
 use Rattle.geo_mesh.specs.Cells.{IsCount}
 use Rattle.geo_mesh.specs.declared.records.AttachRefusal.{AttachRefusal}
 use Rattle.geo_mesh.specs.declared.records.AttachRefusal.TheVariants.{Enxio, Eloop, Edeep}
-use Rattle.geo_mesh.specs.Mending.{Climbs, StandsAbove, IsJoinable, above, height}
+use Rattle.geo_mesh.specs.Mending.{IsAmong, Climbs, StandsAbove, IsJoinable, above, height}
 
 -- the number, and another where there is none
 abbrev pub number_or : ℕ → Option ℕ → ℕ
@@ -37,9 +37,21 @@ rest_of x = (x.geom, x.scratch)
 abbrev pub owner_of : ProvCell → ℕ
 owner_of x = x.provider.geom
 
--- the consumer's geom, and the provider to which it may be attached
+-- whether the geom is one of the first two, DEV and TASTE: they have no provider, so no geom stands on their ranks
+abbrev pub is_first : ℕ → Bool
+is_first g = (g == 1) || (g == 2)
+
+-- on which provider the rank of a consumer's geom stands: that to which it is attached, but none for the first two geoms
+abbrev pub footing : ℕ → Option ℕ → Option ℕ
+footing g o = if is_first g then None else o
+
+-- the consumer's geom, and the provider on which the geom's rank stands by it
 abbrev pub ends_of : ConsCell → ℕ × Option ℕ
-ends_of x = (x.consumer.geom, x.consumer.prov)
+ends_of x = (x.consumer.geom, footing x.consumer.geom x.consumer.prov)
+
+-- the consumer's geom, and the provider to which it may be attached
+abbrev pub links_of : ConsCell → ℕ × Option ℕ
+links_of x = (x.consumer.geom, x.consumer.prov)
 
 -- the class of each geom
 abbrev pub kinds : {C : Type 0} → SlotsView (GeomCell C) → List (ℕ × Kind)
@@ -57,9 +69,13 @@ bare {C} gs = record { rows = rows_with (rest_of {C = C}) gs.rows; next = gs.nex
 abbrev pub offers : SlotsView ProvCell → SlotsView ℕ
 offers ps = record { rows = rows_with owner_of ps.rows; next = ps.next; spare = ps.spare }
 
--- the geom of each consumer, and the provider to which it is attached
+-- the geom of each consumer, and the provider on which the geom's rank stands by it
 abbrev pub ends : SlotsView ConsCell → SlotsView (ℕ × Option ℕ)
 ends cs = record { rows = rows_with ends_of cs.rows; next = cs.next; spare = cs.spare }
+
+-- the geom of each consumer, and the provider to which it is attached
+abbrev pub links : SlotsView ConsCell → SlotsView (ℕ × Option ℕ)
+links cs = record { rows = rows_with links_of cs.rows; next = cs.next; spare = cs.spare }
 
 -- the rank under a number, and 1 where there is none
 abbrev pub rank_at : List (ℕ × ℕ) → ℕ → ℕ
@@ -73,9 +89,17 @@ stored gs g = rank_at (ranks gs) g
 abbrev pub under : List (ℕ × ℕ) → List (ℕ × (ℕ × Option ℕ)) → ℕ → List ℕ
 under owners users g = filter_map (value_at owners) (filter_map (λ row. row.1.1) (filter (λ row. row.1.0 == g) users))
 
--- the geoms directly below a geom, by the tables of providers and consumers
+-- the geoms on which the stored rank of a geom stands: those directly below it, but none for the first two geoms
 abbrev pub below : SlotsView ProvCell → SlotsView ConsCell → ℕ → List ℕ
 below ps cs = under (offers ps).rows (ends cs).rows
+
+-- the geoms directly below a geom
+abbrev pub beneath : SlotsView ProvCell → SlotsView ConsCell → ℕ → List ℕ
+beneath ps cs = under (offers ps).rows (links cs).rows
+
+-- the rank of a geom: it stands in the cell, but for the first two geoms it is found from the ranks of the geoms beneath
+abbrev pub found : (ℕ → ℕ) → SlotsView ProvCell → SlotsView ConsCell → ℕ → ℕ
+found f ps cs g = if is_first g then above (beneath ps cs) f g else f g
 
 -- the geom that offers the provider, and the geom of the consumer: 0 where there is none
 abbrev pub owner : SlotsView ProvCell → ℕ → ℕ
@@ -157,3 +181,14 @@ abbrev pub IsRefusedFor : {C : Type 0} → AttachRefusal → SlotsView (GeomCell
 IsRefusedFor Enxio gs below upper lower = ⊥
 IsRefusedFor Eloop gs below upper lower = StandsAbove below lower upper
 IsRefusedFor {C} Edeep gs below upper lower = (ns : SlotsView (GeomCell C)) × (bare ns ≡ bare gs) × IsJoinable below upper lower (stored ns) × (is_high (kinds gs) (stored ns) ≡ true)
+
+-- one geom is let below another: the other is one of the first two, and the ranks stay, or the ranks fit the graph with the edge
+abbrev pub IsAdmitted : Bool → (ℕ → List ℕ) → ℕ → ℕ → (ℕ → ℕ) → (ℕ → ℕ) → Type 0
+IsAdmitted true below upper lower old new = (x : ℕ) → new x ≡ old x
+IsAdmitted false below upper lower old new = IsJoinable below upper lower new
+
+-- what the ranks need of the first two geoms: they are there, of classes without a limit, and offer no provider
+pub record AreFirst {C : Type 0} (gs : SlotsView (GeomCell C)) (ps : SlotsView ProvCell) : Type 0 where
+  pub listed : (g : ℕ) → is_first g ≡ true → IsAmong (map (λ row. row.0) gs.rows) g
+  pub granted : AllByRecursion (λ row. is_first row.0 ≡ true → is_granted_kind row.1 ≡ true) (kinds gs)
+  pub bare : AllByRecursion (λ row. is_first row.1 ≡ false) (offers ps).rows

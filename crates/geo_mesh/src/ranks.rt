@@ -7,7 +7,7 @@ ghost use Rattle.geo_mesh.specs.Cells.{provider_row, consumer_row};
 ghost use Rattle.geo_mesh.specs.Index.{provider_geoms, consumer_geoms, consumer_providers};
 ghost use Rattle.geo_mesh.specs.Whole.{IsKin};
 ghost use Rattle.geo_mesh.specs.Mending.{above, height, Lifted, Lowered, IsJoinable};
-ghost use Rattle.geo_mesh.specs.Ranks.{kinds, bare, offers, ends, stored, below, owner, user, is_offered, is_attached, belongs, is_high, rank_under, FirstIs, IsRefusedFor, IsWalkable};
+ghost use Rattle.geo_mesh.specs.Ranks.{kinds, bare, offers, ends, links, stored, below, beneath, owner, user, is_first, is_offered, is_attached, belongs, is_high, rank_under, found, FirstIs, IsRefusedFor, IsWalkable, IsAdmitted};
 
 use crate::index::Index;
 use crate::records::{AttachRefusal, ConsCell, GeomCell, ProvCell};
@@ -16,6 +16,9 @@ use geo_slots::Slots;
 
 // The greatest rank of a geom other than DEV and TASTE.
 const RANK_LIMIT: u64 = 32;
+
+// No rank that stands in a cell is greater, since there are fewer geoms.
+const RANK_MOST: u64 = 4294967295;
 
 // Whether the class is DEV or TASTE.
 fn is_granted(kind: Kind) -> bool
@@ -34,12 +37,37 @@ fn offered(index: &Index, providers: &Slots<ProvCell>, geom: u64, from: u64) -> 
     index.offered.first_from(geom, from)
 }
 
-// The first consumer that is attached to a provider, from a number on.
+/// Whether the geom is DEV or TASTE, the first two: they have no provider, so no geom stands on their ranks, which are found
+/// where they are asked for and don't stand in their cells.
+pub fn is_first(geom: u64) -> bool
+    ensures { result ≡ is_first geom }
+{
+    geom == 1 || geom == 2
+}
+
+// The first consumer of a geom other than the first two that is attached to a provider, from a number on.
 fn attached(index: &Index, consumers: &Slots<ConsCell>, prov: u64, from: u64) -> Option<u64>
     requires kin { index.now.attached.children ≡ consumer_providers (map consumer_row consumers.now.rows) }
     requires rising { IsRising 1 consumers.now.rows consumers.now.next }
     requires bound { consumers.now.next < 2 ^ 64 }
     ensures { FirstIs (is_attached prov) (ends consumers.now) from result }
+{
+    let mut at = from;
+    while let Some(cons) = linked(index, consumers, prov, at) {
+        if !is_first(user(consumers, cons)) {
+            return Some(cons);
+        }
+        at = cons + 1;
+    }
+    None
+}
+
+// The first consumer that is attached to a provider, from a number on.
+fn linked(index: &Index, consumers: &Slots<ConsCell>, prov: u64, from: u64) -> Option<u64>
+    requires kin { index.now.attached.children ≡ consumer_providers (map consumer_row consumers.now.rows) }
+    requires rising { IsRising 1 consumers.now.rows consumers.now.next }
+    requires bound { consumers.now.next < 2 ^ 64 }
+    ensures { FirstIs (is_attached prov) (links consumers.now) from result }
 {
     index.attached.first_from(prov, from)
 }
@@ -49,7 +77,7 @@ fn belonging(index: &Index, consumers: &Slots<ConsCell>, geom: u64, from: u64) -
     requires kin { index.now.owned.children ≡ consumer_geoms (map consumer_row consumers.now.rows) }
     requires rising { IsRising 1 consumers.now.rows consumers.now.next }
     requires bound { consumers.now.next < 2 ^ 64 }
-    ensures { FirstIs (belongs geom) (ends consumers.now) from result }
+    ensures { FirstIs (belongs geom) (links consumers.now) from result }
 {
     index.owned.first_from(geom, from)
 }
@@ -211,8 +239,8 @@ fn highest_below<C>(
     requires kin { IsKin index.now providers.now consumers.now }
     requires rising { IsRising 1 consumers.now.rows consumers.now.next }
     requires bound { consumers.now.next < 2 ^ 64 }
-    requires most { largest (map (stored geoms.now) (below providers.now consumers.now geom)) ≤ most }
-    ensures { result ≡ largest (map (stored geoms.now) (below providers.now consumers.now geom)) }
+    requires most { largest (map (stored geoms.now) (beneath providers.now consumers.now geom)) ≤ most }
+    ensures { result ≡ largest (map (stored geoms.now) (beneath providers.now consumers.now geom)) }
 {
     let mut highest: u64 = 0;
     let mut at = 0;
@@ -233,7 +261,7 @@ fn rank_below<C>(
     consumers: &Slots<ConsCell>,
     cons: u64,
 ) -> u64
-    ensures { result ≡ rank_under (stored geoms.now) (offers providers.now).rows (value_at (ends consumers.now).rows cons) }
+    ensures { result ≡ rank_under (stored geoms.now) (offers providers.now).rows (value_at (links consumers.now).rows cons) }
 {
     let Some(consumer) = consumers.get(cons) else {
         return 0;
@@ -244,6 +272,27 @@ fn rank_below<C>(
     match providers.get(prov.number()) {
         Some(provider) => stored(geoms, provider.provider.geom.number()),
         None => 0,
+    }
+}
+
+/// The rank of a geom (geom(4)). That of DEV and of TASTE is found from the ranks of the geoms below.
+pub fn found<C>(
+    geoms: &Slots<GeomCell<C>>,
+    providers: &Slots<ProvCell>,
+    consumers: &Slots<ConsCell>,
+    index: &Index,
+    geom: u64,
+) -> u64
+    requires kin { IsKin index.now providers.now consumers.now }
+    requires rising { IsRising 1 consumers.now.rows consumers.now.next }
+    requires bound { consumers.now.next < 2 ^ 64 }
+    requires few { (x : ℕ) → stored geoms.now x ≤ 4294967295 }
+    ensures { result ≡ found (stored geoms.now) providers.now consumers.now geom }
+{
+    if is_first(geom) {
+        1 + highest_below(geoms, providers, consumers, index, geom, RANK_MOST)
+    } else {
+        stored(geoms, geom)
     }
 }
 
@@ -259,6 +308,7 @@ pub fn lower<C>(
     requires kin { IsKin index.now providers.now consumers.now }
     requires walkable { IsWalkable (kinds geoms.old) providers.now consumers.now }
     requires lives { IsSome (value_at (kinds geoms.old) geom) }
+    requires later { is_first geom ≡ false }
     requires enough { (x : ℕ) → above (below providers.now consumers.now) (stored geoms.old) x ≤ stored geoms.old x }
     ensures same { bare geoms.new ≡ bare geoms.old }
     ensures lowered { Lowered (below providers.now consumers.now) (stored geoms.old) (stored geoms.new) }
@@ -301,10 +351,9 @@ fn lower_attached<C>(
     }
 }
 
-/// Gives the upper geom, and those above it, the ranks that they have once the lower geom is below it. It's refused where
-/// the lower geom stands above the upper one, else where a geom other than DEV and TASTE would be above the limit: then
-/// the ranks are as before.
-pub fn join<C>(
+/// Lets the lower geom be put below the upper one, to which ranks are given as `join` says. No rank stands on that of one of
+/// the first two geoms, so there nothing changes and nothing is refused.
+pub fn admit<C>(
     geoms: &mut Slots<GeomCell<C>>,
     providers: &Slots<ProvCell>,
     consumers: &Slots<ConsCell>,
@@ -315,6 +364,36 @@ pub fn join<C>(
     requires kin { IsKin index.now providers.now consumers.now }
     requires walkable { IsWalkable (kinds geoms.old) providers.now consumers.now }
     requires lives { IsSome (value_at (kinds geoms.old) upper) }
+    requires local { (x : ℕ) → stored geoms.old x ≡ above (below providers.now consumers.now) (stored geoms.old) x }
+    requires low { is_high (kinds geoms.old) (stored geoms.old) ≡ false }
+    ensures same { bare geoms.new ≡ bare geoms.old }
+    ensures admitted { OnOk result (IsAdmitted (is_first upper) (below providers.now consumers.now) upper under (stored geoms.old) (stored geoms.new)) }
+    ensures low { OnOk result (is_high (kinds geoms.old) (stored geoms.new) ≡ false) }
+    ensures later { OnErr result (is_first upper ≡ false) }
+    ensures refused { IfErr result (λ e. IsRefusedFor e geoms.old (below providers.now consumers.now) upper under) }
+    ensures kept { OnErr result ((x : ℕ) → stored geoms.new x ≡ stored geoms.old x) }
+{
+    if is_first(upper) {
+        return Ok(());
+    }
+    join(geoms, providers, consumers, index, upper, under)
+}
+
+// Gives the upper geom, and those above it, the ranks that they have once the lower geom is below it. It's refused where
+// the lower geom stands above the upper one, else where a geom other than DEV and TASTE would be above the limit: then
+// the ranks are as before.
+fn join<C>(
+    geoms: &mut Slots<GeomCell<C>>,
+    providers: &Slots<ProvCell>,
+    consumers: &Slots<ConsCell>,
+    index: &Index,
+    upper: u64,
+    under: u64,
+) -> Result<(), AttachRefusal>
+    requires kin { IsKin index.now providers.now consumers.now }
+    requires walkable { IsWalkable (kinds geoms.old) providers.now consumers.now }
+    requires lives { IsSome (value_at (kinds geoms.old) upper) }
+    requires later { is_first upper ≡ false }
     requires local { (x : ℕ) → stored geoms.old x ≡ above (below providers.now consumers.now) (stored geoms.old) x }
     requires low { is_high (kinds geoms.old) (stored geoms.old) ≡ false }
     ensures same { bare geoms.new ≡ bare geoms.old }

@@ -429,10 +429,15 @@ impl<C> Topo<C> {
         ensures rank { result ≡ option_map (λ x. rank self.now.topology geom) (geom_at self.now.topology geom) }
         ensures sound { IsSoundGraph self.now.topology }
     {
-        match self.geoms.get(geom.number()) {
-            Some(cell) => Some(cell.rank as u32),
-            None => None,
-        }
+        let _ = self.geoms.get(geom.number())?;
+        let rank = ranks::found(
+            &self.geoms,
+            &self.providers,
+            &self.consumers,
+            &self.index,
+            geom.number(),
+        );
+        Some(rank as u32)
     }
 
     // Whether the provider is there and carries an error.
@@ -459,7 +464,7 @@ impl<C> Topo<C> {
         }
         let upper = ranks::user(&self.consumers, cons.number());
         let under = ranks::owner(&self.providers, prov.number());
-        match ranks::join(
+        match ranks::admit(
             &mut self.geoms,
             &self.providers,
             &self.consumers,

@@ -1,19 +1,22 @@
-use Rattle.std.proofs.Common.{◌≡◌, ℕ, ◌+◌, ◌<◌, ◌≤◌, true, length, refl, ap, ◌∙◌, arith}
+use Rattle.std.proofs.Common.{◌≡◌, ℕ, ◌+◌, ◌-◌, ◌<◌, ◌≤◌, true, length, map, refl, sym, ap, subst, ◌∙◌, arith, rules}
+use Rattle.geo_model.specs.Words.{largest}
 use Rattle.geo_slots.specs.Slots.{value_at}
 use Rattle.geo_mesh.specs.Rows.{passes}
 use Rattle.geo_mesh.specs.Mending.{IsAmong, above, height}
-use Rattle.geo_mesh.specs.Ranks.{kinds, bare, offers, ends, stored, below, owner, user, is_offered, is_attached, IsFirst}
+use Rattle.geo_mesh.specs.Ranks.{kinds, bare, offers, ends, stored, below, beneath, owner, user, is_offered, is_attached, IsFirst}
 use Rattle.geo_mesh.proofs.RankMend.{lowered-none, lowered-store, lowered-whole, climbs-apart}
 use Rattle.geo_mesh.proofs.RankHeights.{height-most}
 use Rattle.geo_mesh.proofs.RankRows.{kinds-bare}
+use Rattle.geo_mesh.proofs.RankFirst.{below-beneath, attached-later}
 use Rattle.geo_mesh.proofs.RankWalk.{walkable-bare, offered-is, owner-is, user-above, above-user, user-lives}
 use Rattle.geo_mesh.proofs.ranks.+lower.Goals as goal
 
 pub lower-loop-prov-init : goal.lower-loop-prov-init
 lower-loop-prov-init g t c =
     let apart : IsAmong (below c.args.providers.now c.args.consumers.now c.args.geom) c.args.geom → ⊥ = climbs-apart (below c.args.providers.now c.args.consumers.now) (height (below c.args.providers.now c.args.consumers.now) (length (kinds c.args.geoms.now))) c.requires.walkable.climbs c.args.geom in
-    let high : above (below c.args.providers.now c.args.consumers.now) (stored c.args.geoms.now) c.args.geom < stored c.args.geoms.now c.args.geom = omega (arith, c.stored-rank.ensures, c.highest_below-new.ensures, c.if-rank-new.false) in
-    let here : stored c.store.new.geoms c.args.geom ≡ above (below c.args.providers.now c.args.consumers.now) (stored c.args.geoms.now) c.args.geom = omega (arith, c.store.ensures.here, c.highest_below-new.ensures) in
+    let most : c.highest_below-new.result ≡ largest (map (stored c.args.geoms.now) (below c.args.providers.now c.args.consumers.now c.args.geom)) = subst (λ ms. c.highest_below-new.result ≡ largest (map (stored c.args.geoms.now) ms)) (sym (below-beneath c.args.providers.now c.args.consumers.now c.args.geom c.requires.later)) c.highest_below-new.ensures in
+    let high : above (below c.args.providers.now c.args.consumers.now) (stored c.args.geoms.now) c.args.geom < stored c.args.geoms.now c.args.geom = omega (arith, c.stored-rank.ensures, c.if-rank-new.false) in
+    let here : stored c.store.new.geoms c.args.geom ≡ above (below c.args.providers.now c.args.consumers.now) (stored c.args.geoms.now) c.args.geom = omega (arith, c.store.ensures.here) in
     let parts = lowered-store (below c.args.providers.now c.args.consumers.now) c.args.geom (stored c.args.geoms.now) (stored c.store.new.geoms) apart c.requires.enough high here c.store.ensures.others in
     record {
       same = refl;
@@ -49,8 +52,9 @@ lower-lower_attached-requires g t c κs within =
 pub lower-returns-clause-lowered : goal.lower-returns-clause-lowered
 lower-returns-clause-lowered g t c =
     let apart : IsAmong (below c.args.providers.now c.args.consumers.now c.args.geom) c.args.geom → ⊥ = climbs-apart (below c.args.providers.now c.args.consumers.now) (height (below c.args.providers.now c.args.consumers.now) (length (kinds c.args.geoms.now))) c.requires.walkable.climbs c.args.geom in
-    let high : above (below c.args.providers.now c.args.consumers.now) (stored c.args.geoms.now) c.args.geom < stored c.args.geoms.now c.args.geom = omega (arith, c.stored-rank.ensures, c.highest_below-new.ensures, c.if-rank-new.false) in
-    let here : stored c.store.new.geoms c.args.geom ≡ above (below c.args.providers.now c.args.consumers.now) (stored c.args.geoms.now) c.args.geom = omega (arith, c.store.ensures.here, c.highest_below-new.ensures) in
+    let most : c.highest_below-new.result ≡ largest (map (stored c.args.geoms.now) (below c.args.providers.now c.args.consumers.now c.args.geom)) = subst (λ ms. c.highest_below-new.result ≡ largest (map (stored c.args.geoms.now) ms)) (sym (below-beneath c.args.providers.now c.args.consumers.now c.args.geom c.requires.later)) c.highest_below-new.ensures in
+    let high : above (below c.args.providers.now c.args.consumers.now) (stored c.args.geoms.now) c.args.geom < stored c.args.geoms.now c.args.geom = omega (arith, c.stored-rank.ensures, c.if-rank-new.false) in
+    let here : stored c.store.new.geoms c.args.geom ≡ above (below c.args.providers.now c.args.consumers.now) (stored c.args.geoms.now) c.args.geom = omega (arith, c.store.ensures.here) in
     let none : (m : ℕ) → passes (is_offered c.args.geom) (value_at (offers c.args.providers.now).rows m) ≡ true → m < c.loop-prov.at = c.in_default.ensures in
     (lowered-whole (below c.args.providers.now c.args.consumers.now) c.args.geom (stored c.args.geoms.now) (stored c.store.new.geoms) (stored c.loop-prov.geoms) apart c.requires.enough high here c.store.ensures.others c.loop-prov.invariant.lowered
     (above-user c.args.providers.now c.args.consumers.now c.requires.walkable.consumers_rise (λ x. stored c.loop-prov.geoms x ≤ above (below c.args.providers.now c.args.consumers.now) (stored c.loop-prov.geoms) x) c.args.geom
@@ -59,8 +63,9 @@ lower-returns-clause-lowered g t c =
 pub lower-returns-clause-low : goal.lower-returns-clause-low
 lower-returns-clause-low g t c =
     let apart : IsAmong (below c.args.providers.now c.args.consumers.now c.args.geom) c.args.geom → ⊥ = climbs-apart (below c.args.providers.now c.args.consumers.now) (height (below c.args.providers.now c.args.consumers.now) (length (kinds c.args.geoms.now))) c.requires.walkable.climbs c.args.geom in
-    let high : above (below c.args.providers.now c.args.consumers.now) (stored c.args.geoms.now) c.args.geom < stored c.args.geoms.now c.args.geom = omega (arith, c.stored-rank.ensures, c.highest_below-new.ensures, c.if-rank-new.false) in
-    let here : stored c.store.new.geoms c.args.geom ≡ above (below c.args.providers.now c.args.consumers.now) (stored c.args.geoms.now) c.args.geom = omega (arith, c.store.ensures.here, c.highest_below-new.ensures) in
+    let most : c.highest_below-new.result ≡ largest (map (stored c.args.geoms.now) (below c.args.providers.now c.args.consumers.now c.args.geom)) = subst (λ ms. c.highest_below-new.result ≡ largest (map (stored c.args.geoms.now) ms)) (sym (below-beneath c.args.providers.now c.args.consumers.now c.args.geom c.requires.later)) c.highest_below-new.ensures in
+    let high : above (below c.args.providers.now c.args.consumers.now) (stored c.args.geoms.now) c.args.geom < stored c.args.geoms.now c.args.geom = omega (arith, c.stored-rank.ensures, c.if-rank-new.false) in
+    let here : stored c.store.new.geoms c.args.geom ≡ above (below c.args.providers.now c.args.consumers.now) (stored c.args.geoms.now) c.args.geom = omega (arith, c.store.ensures.here) in
     c.loop-prov.invariant.lowered.stays c.args.geom (lowered-store (below c.args.providers.now c.args.consumers.now) c.args.geom (stored c.args.geoms.now) (stored c.store.new.geoms) apart c.requires.enough high here c.store.ensures.others).2
 
 pub lower_attached-lower-requires : goal.lower_attached-lower-requires
@@ -82,9 +87,28 @@ lower_attached-lower-requires g t c κs within =
             walkable,
             (
               rw c.user.ensures.user (user-lives c.args.providers.now c.args.consumers.now (kinds c.loop-cons.geoms) c.args.prov c.in-Some.cons walkable first.passing),
-              c.loop-cons.invariant.lowered.enough,
+              (
+                rw c.user.ensures.user (attached-later c.args.consumers.now c.args.prov c.in-Some.cons first.passing),
+                c.loop-cons.invariant.lowered.enough,
+              ),
             ),
           ),
         ),
       ),
     )
+
+pub lower-highest_below-new-requires-clause-most : goal.lower-highest_below-new-requires-clause-most
+lower-highest_below-new-requires-clause-most g t c =
+    subst (λ ms. largest (map (stored c.args.geoms.now) ms) ≤ c.stored-rank.result - 1) (below-beneath c.args.providers.now c.args.consumers.now c.args.geom c.requires.later)
+    (omega (arith, c.stored-rank.ensures, c.requires.enough c.args.geom))
+
+pub lower-overflow_add-new : goal.lower-overflow_add-new
+lower-overflow_add-new g t c =
+    let most : c.highest_below-new.result ≡ largest (map (stored c.args.geoms.now) (below c.args.providers.now c.args.consumers.now c.args.geom)) = subst (λ ms. c.highest_below-new.result ≡ largest (map (stored c.args.geoms.now) ms)) (sym (below-beneath c.args.providers.now c.args.consumers.now c.args.geom c.requires.later)) c.highest_below-new.ensures in
+    let fits : 1 + c.highest_below-new.result ≤ c.stored-rank.result = omega (arith, c.stored-rank.ensures, c.requires.enough c.args.geom) in
+    search rules
+
+pub lower-returns-then-rank-new-clause-low : goal.lower-returns-then-rank-new-clause-low
+lower-returns-then-rank-new-clause-low g t c =
+    let most : c.highest_below-new.result ≡ largest (map (stored c.args.geoms.now) (below c.args.providers.now c.args.consumers.now c.args.geom)) = subst (λ ms. c.highest_below-new.result ≡ largest (map (stored c.args.geoms.now) ms)) (sym (below-beneath c.args.providers.now c.args.consumers.now c.args.geom c.requires.later)) c.highest_below-new.ensures in
+    omega (arith, c.stored-rank.ensures, c.if-rank-new.true)

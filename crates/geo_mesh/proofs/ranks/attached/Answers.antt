@@ -1,16 +1,49 @@
-use Rattle.std.proofs.Common.{ap, refl, ◌∙◌}
-use Rattle.geo_family.specs.Family.{first_child}
-use Rattle.geo_mesh.specs.Cells.{consumer_row}
-use Rattle.geo_mesh.specs.Ranks.{ends_of, ends, is_attached}
-use Rattle.geo_mesh.proofs.IndexLemmas.{names-same}
-use Rattle.geo_mesh.proofs.RankRows.{rising-with, first-with, first-is}
-use Rattle.geo_mesh.proofs.WholeLemmas.{first-kin}
+use Rattle.std.proofs.Common.{◌≡◌, ◌⊎◌, ℕ, ◌+◌, ◌<◌, ◌≤◌, Bool, true, false, nat_le, refl, sym, ◌∙◌, subst, inl, inr, arith}
+use Rattle.std.proofs.lemmas.Bool.{leb-true, leb-false}
+use Rattle.geo_slots.specs.Slots.{value_at}
+use Rattle.geo_mesh.specs.Rows.{passes}
+use Rattle.geo_mesh.specs.Ranks.{ends, links, user, is_first, is_attached, IsFirst}
+use Rattle.geo_mesh.proofs.RankMend.{is_or_not}
+use Rattle.geo_mesh.proofs.RankFirst.{attached-later, attached-linked, linked-attached}
 use Rattle.geo_mesh.proofs.ranks.attached.Goals as goal
 
+pub returns-then-not-is_first : goal.returns-then-not-is_first
+returns-then-not-is_first c =
+    let first : IsFirst (is_attached c.args.prov) (links c.args.consumers.now).rows c.args.consumers.now.next c.loop-cons.at c.in-Some.cons = c.in-Some.ensures in
+    let later : is_first (user c.args.consumers.now c.in-Some.cons) ≡ false = subst (λ x. is_first x ≡ false) c.user.ensures.user (sym c.is_first.ensures ∙ c.if-not-is_first.true) in
+    record {
+      past = omega (arith, first.past, c.loop-cons.invariant.past);
+      passing = linked-attached c.args.consumers.now c.args.prov c.in-Some.cons later first.passing;
+      least = λ m from_here there. pick m from_here there (nat_le c.loop-cons.at m) refl;
+      known = first.known;
+      bound = first.bound;
+    }
+  where
+    pick : (m : ℕ) → c.args.from ≤ m → passes (is_attached c.args.prov) (value_at (ends c.args.consumers.now).rows m) ≡ true → (b : Bool) → nat_le c.loop-cons.at m ≡ b → c.in-Some.cons ≤ m
+    pick m from_here there true e = c.in-Some.ensures.least m (leb-true c.loop-cons.at m e) (attached-linked c.args.consumers.now c.args.prov m there)
+    pick m from_here there false e = absurd (c.loop-cons.invariant.none m from_here (leb-false c.loop-cons.at m e) there)
+
+pub loop-cons-preserved : goal.loop-cons-preserved
+loop-cons-preserved c =
+    let first : IsFirst (is_attached c.args.prov) (links c.args.consumers.now).rows c.args.consumers.now.next c.loop-cons.at c.in-Some.cons = c.in-Some.ensures in
+    record {
+      past = omega (arith, first.past, c.loop-cons.invariant.past);
+      none = λ m from_here low there. pick m from_here low there (is_or_not m c.in-Some.cons) (nat_le c.loop-cons.at m) refl;
+    }
+  where
+    pick : (m : ℕ) → c.args.from ≤ m → m < c.in-Some.cons + 1 → passes (is_attached c.args.prov) (value_at (ends c.args.consumers.now).rows m) ≡ true → (m ≡ c.in-Some.cons) ⊎ (m ≡ c.in-Some.cons → ⊥)
+        → (b : Bool) → nat_le c.loop-cons.at m ≡ b → ⊥
+    pick m from_here low there (inl same) b e =
+        let later : is_first (user c.args.consumers.now m) ≡ false = attached-later c.args.consumers.now c.args.prov m there in
+        let here : is_first (user c.args.consumers.now m) ≡ true = subst (λ n. is_first (user c.args.consumers.now n) ≡ true) (sym same) (subst (λ x. is_first x ≡ true) c.user.ensures.user (sym c.is_first.ensures ∙ c.if-not-is_first.false)) in
+        let never : true ≡ false = sym here ∙ later in cc
+    pick m from_here low there (inr differs) true e = absurd (omega (arith, c.in-Some.ensures.least m (leb-true c.loop-cons.at m e) (attached-linked c.args.consumers.now c.args.prov m there), differs))
+    pick m from_here low there (inr differs) false e = c.loop-cons.invariant.none m from_here (leb-false c.loop-cons.at m e) there
+
 pub returns : goal.returns
-returns c =
-    first-is (is_attached c.args.prov) c.args.from _ (ends c.args.consumers.now) (rising-with ends_of 1 c.args.consumers.now.next c.args.consumers.now.rows c.requires.rising) c.requires.bound
-    (c.first_from.ensures
-    ∙ ap (λ rows. first_child rows c.args.prov c.args.from) c.requires.kin
-    ∙ first-kin consumer_row (λ x. (x.number, x.provider)) (λ x. x.consumer.prov) (λ row. refl) (λ x. is_attached c.args.prov (ends_of x)) c.args.prov c.args.from (λ x. names-same x.consumer.prov c.args.prov) c.args.consumers.now.rows
-    ∙ first-with ends_of (is_attached c.args.prov) c.args.from c.args.consumers.now.rows)
+returns c = λ m there. pick m there (nat_le c.args.from m) refl where
+  pick : (m : ℕ) → passes (is_attached c.args.prov) (value_at (ends c.args.consumers.now).rows m) ≡ true → (b : Bool) → nat_le c.args.from m ≡ b → m < c.args.from
+  pick m there true e =
+      let before : m < c.loop-cons.at = c.in_default.ensures m (attached-linked c.args.consumers.now c.args.prov m there) in
+      absurd (c.loop-cons.invariant.none m (leb-true c.args.from m e) before there)
+  pick m there false e = leb-false c.args.from m e

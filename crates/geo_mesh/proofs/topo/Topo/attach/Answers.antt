@@ -4,11 +4,11 @@ use Rattle.geo_model.specs.Topology.{is_errored}
 use Rattle.geo_slots.specs.Slots.{value_at, with_value}
 use Rattle.geo_mesh.specs.Cells.{graph_of, within_limit}
 use Rattle.geo_mesh.specs.Index.{attached_index}
-use Rattle.geo_mesh.specs.Mending.{IsJoinable}
-use Rattle.geo_mesh.specs.Ranks.{IsRefusedFor, offers, stored, below, owner}
+use Rattle.geo_mesh.specs.Ranks.{IsRefusedFor, IsAdmitted, AreFirst, is_first, offers, stored, below, owner}
 use Rattle.geo_mesh.proofs.ViewLemmas.{attach-view}
+use Rattle.geo_mesh.proofs.RankFirst.{first-two}
 use Rattle.geo_mesh.proofs.RankMesh.{mesh-walkable, view-bare}
-use Rattle.geo_mesh.proofs.RankSwitch.{free-cell, free-at, provider-offered, user-cell, user-stands, on-mesh, on-refused, on-free, mesh-kept}
+use Rattle.geo_mesh.proofs.RankSwitch.{free-cell, free-at, provider-offered, user-cell, user-stands, on-refused, admitted-mesh, admitted-free, mesh-kept}
 use Rattle.geo_mesh.proofs.IndexLemmas.{attached_free, attached_parent}
 use Rattle.geo_mesh.proofs.MeshLemmas.{mesh-attached}
 use Rattle.geo_mesh.proofs.WholeLemmas.{kin-of, tables-bare}
@@ -16,12 +16,12 @@ use Rattle.geo_mesh.specs.Graph.{IsOrderly}
 use Rattle.geo_mesh.proofs.Orderly.{orderly-attach}
 use Rattle.geo_mesh.proofs.topo.Topo.attach.Goals as goal
 
-pub join-requires-clause-walkable : goal.join-requires-clause-walkable
-join-requires-clause-walkable g c =
+pub admit-requires-clause-walkable : goal.admit-requires-clause-walkable
+admit-requires-clause-walkable g c =
     mesh-walkable c.self.inside.geoms c.self.inside.providers c.self.inside.consumers c.self.inside.live c.self.invariant.ranks c.owner-under.ensures.rising c.owner-under.ensures.bound c.user-upper.ensures.rising c.user-upper.ensures.bound
 
-pub join-requires-clause-lives : goal.join-requires-clause-lives
-join-requires-clause-lives g c =
+pub admit-requires-clause-lives : goal.admit-requires-clause-lives
+admit-requires-clause-lives g c =
     let s = free-cell c.self.inside.geoms c.self.inside.providers c.self.inside.consumers c.number.result (rw (← c.self.view_is, ← c.number.ensures) at c.requires.consumer) in
     let upper : c.user-upper.result ≡ s.0.consumer.geom = c.user-upper.ensures.user ∙ user-cell c.self.inside.geoms c.self.inside.providers c.self.inside.consumers c.number.result s.0 s.1 in
     rw upper (user-stands c.self.inside.geoms c.self.inside.providers c.self.inside.consumers c.self.inside.live c.self.invariant.ranks c.number.result 0 s.0 c.user-upper.ensures.rising s.1)
@@ -32,14 +32,15 @@ invariant_of-self-in-Ok g c =
     let free : c.in-Some.cell.now.consumer.prov ≡ None = free-at c.self.inside.geoms c.self.inside.providers c.self.inside.consumers c.number-in-Ok.result c.in-Some.cell.now (rw (← c.self.view_is, ← c.number-in-Ok.ensures) at c.requires.consumer) c.in-Some.ensures.value in
     let same_number : c.number.result ≡ c.number-in-Ok.result = c.number.ensures ∙ sym c.number-in-Ok.ensures in
     let upper : c.user-upper.result ≡ c.in-Some.cell.now.consumer.geom = c.user-upper.ensures.user ∙ (rw same_number (user-cell c.self.inside.geoms c.self.inside.providers c.self.inside.consumers c.number-in-Ok.result c.in-Some.cell.now c.in-Some.ensures.value)) in
-    let joinable : IsJoinable (below c.self.inside.providers c.self.inside.consumers) c.in-Some.cell.now.consumer.geom (owner c.self.inside.providers c.number-2.result) (stored c.join.new.geoms) = rw (← upper, ← c.owner-under.ensures.owner) c.in-Ok.ensures.joined in
+    let admitted : IsAdmitted (is_first c.in-Some.cell.now.consumer.geom) (below c.self.inside.providers c.self.inside.consumers) c.in-Some.cell.now.consumer.geom (owner c.self.inside.providers c.number-2.result) (stored c.self.inside.geoms) (stored c.admit.new.geoms) = rw (← upper, ← c.owner-under.ensures.owner) c.in-Ok.ensures.admitted in
+    let first : AreFirst c.self.inside.geoms c.self.inside.providers = first-two c.self.inside.geoms c.self.inside.providers c.self.inside.consumers c.self.invariant.graph in
     record {
       tables =
           rw (c.attach.ensures, c.number-in-Ok-2.ensures, ← c.number-in-Ok.ensures, c.number-in-Ok-3.ensures)
           (tables-bare c.self.inside.geoms c.self.inside.providers (record c.self.inside.consumers { rows = with_value c.self.inside.consumers.rows c.number-in-Ok.result (record c.in-Some.cell.now { consumer = record c.in-Some.cell.now.consumer { prov = Some c.args.prov } }) }) c.self.inside.live (attached_index c.self.inside.index c.number-in-Ok.result c.args.prov) c.self.inside.names
-          (mesh-attached c.self.inside.geoms c.self.inside.providers c.self.inside.consumers c.self.inside.live c.self.inside.index c.self.inside.names c.self.invariant.tables c.number-in-Ok.result c.args.prov c.in-Some.cell.now c.in-Some.ensures.rising c.in-Some.ensures.value) c.join.new.geoms c.join.ensures.same);
-      ranks = rw (← c.number-2.ensures) (on-mesh c.self.inside.geoms c.self.inside.providers c.self.inside.consumers c.self.inside.live c.self.invariant.ranks c.number-in-Ok.result c.number-2.result c.in-Some.cell.now c.in-Some.ensures.rising c.in-Some.ensures.value free offered c.join.new.geoms c.join.ensures.same joinable c.in-Ok.ensures.low);
-      graph = subst (λ t. IsOrderly t) (sym (ap (λ v. v.topology) (view-bare c.self.inside.geoms c.join.new.geoms c.self.inside.providers (record c.self.inside.consumers { rows = with_value c.self.inside.consumers.rows c.number-in-Ok.result (record c.in-Some.cell.now { consumer = record c.in-Some.cell.now.consumer { prov = Some c.args.prov } }) }) c.self.inside.live c.join.ensures.same) ∙ ap (λ v. v.topology) (attach-view c.self.inside.geoms c.self.inside.providers c.self.inside.consumers c.number-in-Ok.result c.args.prov c.in-Some.cell.now c.in-Some.ensures.rising c.in-Some.ensures.value))) (orderly-attach (graph_of c.self.inside.geoms c.self.inside.providers c.self.inside.consumers) c.self.invariant.graph c.number-in-Ok.result c.args.prov (rw (← c.self.view_is) at c.requires.provider));
+          (mesh-attached c.self.inside.geoms c.self.inside.providers c.self.inside.consumers c.self.inside.live c.self.inside.index c.self.inside.names c.self.invariant.tables c.number-in-Ok.result c.args.prov c.in-Some.cell.now c.in-Some.ensures.rising c.in-Some.ensures.value) c.admit.new.geoms c.admit.ensures.same);
+      ranks = rw (← c.number-2.ensures) (admitted-mesh c.self.inside.geoms c.self.inside.providers c.self.inside.consumers c.self.inside.live c.self.invariant.ranks c.number-in-Ok.result c.number-2.result c.in-Some.cell.now c.in-Some.ensures.rising c.in-Some.ensures.value free offered first c.admit.new.geoms c.admit.ensures.same admitted c.in-Ok.ensures.low);
+      graph = subst (λ t. IsOrderly t) (sym (ap (λ v. v.topology) (view-bare c.self.inside.geoms c.admit.new.geoms c.self.inside.providers (record c.self.inside.consumers { rows = with_value c.self.inside.consumers.rows c.number-in-Ok.result (record c.in-Some.cell.now { consumer = record c.in-Some.cell.now.consumer { prov = Some c.args.prov } }) }) c.self.inside.live c.admit.ensures.same) ∙ ap (λ v. v.topology) (attach-view c.self.inside.geoms c.self.inside.providers c.self.inside.consumers c.number-in-Ok.result c.args.prov c.in-Some.cell.now c.in-Some.ensures.rising c.in-Some.ensures.value))) (orderly-attach (graph_of c.self.inside.geoms c.self.inside.providers c.self.inside.consumers) c.self.invariant.graph c.number-in-Ok.result c.args.prov (rw (← c.self.view_is) at c.requires.provider));
     }
 
 pub returns-in-Some-clause-answer : goal.returns-in-Some-clause-answer
@@ -49,13 +50,14 @@ returns-in-Some-clause-answer g c =
     let free : c.in-Some.cell.now.consumer.prov ≡ None = free-at c.self.inside.geoms c.self.inside.providers c.self.inside.consumers c.number-in-Ok.result c.in-Some.cell.now (rw (← c.self.view_is, ← c.number-in-Ok.ensures) at c.requires.consumer) c.in-Some.ensures.value in
     let same_number : c.number.result ≡ c.number-in-Ok.result = c.number.ensures ∙ sym c.number-in-Ok.ensures in
     let upper : c.user-upper.result ≡ c.in-Some.cell.now.consumer.geom = c.user-upper.ensures.user ∙ (rw same_number (user-cell c.self.inside.geoms c.self.inside.providers c.self.inside.consumers c.number-in-Ok.result c.in-Some.cell.now c.in-Some.ensures.value)) in
-    let joinable : IsJoinable (below c.self.inside.providers c.self.inside.consumers) c.in-Some.cell.now.consumer.geom (owner c.self.inside.providers c.number-2.result) (stored c.join.new.geoms) = rw (← upper, ← c.owner-under.ensures.owner) c.in-Ok.ensures.joined in
+    let admitted : IsAdmitted (is_first c.in-Some.cell.now.consumer.geom) (below c.self.inside.providers c.self.inside.consumers) c.in-Some.cell.now.consumer.geom (owner c.self.inside.providers c.number-2.result) (stored c.self.inside.geoms) (stored c.admit.new.geoms) = rw (← upper, ← c.owner-under.ensures.owner) c.in-Ok.ensures.admitted in
+    let first : AreFirst c.self.inside.geoms c.self.inside.providers = first-two c.self.inside.geoms c.self.inside.providers c.self.inside.consumers c.self.invariant.graph in
     rw (← c.self.view_is, ← c.number-2.ensures, ← c.number-in-Ok.ensures)
-    (on-free c.self.inside.geoms c.self.inside.providers c.self.inside.consumers c.self.inside.live c.self.invariant.ranks c.number-in-Ok.result c.number-2.result c.in-Some.cell.now c.in-Some.ensures.rising c.in-Some.ensures.value free offered c.join.new.geoms sound c.join.ensures.same joinable c.in-Ok.ensures.low)
+    (admitted-free c.self.inside.geoms c.self.inside.providers c.self.inside.consumers c.self.inside.live c.self.invariant.ranks c.number-in-Ok.result c.number-2.result c.in-Some.cell.now c.in-Some.ensures.rising c.in-Some.ensures.value free offered first c.admit.new.geoms c.admit.ensures.same admitted c.in-Ok.ensures.low sound)
 
 pub returns-in-Some-clause-attached : goal.returns-in-Some-clause-attached
 returns-in-Some-clause-attached g c =
-    view-bare c.self.inside.geoms c.join.new.geoms c.self.inside.providers (record c.self.inside.consumers { rows = with_value c.self.inside.consumers.rows c.number-in-Ok.result (record c.in-Some.cell.now { consumer = record c.in-Some.cell.now.consumer { prov = Some c.args.prov } }) }) c.self.inside.live c.join.ensures.same
+    view-bare c.self.inside.geoms c.admit.new.geoms c.self.inside.providers (record c.self.inside.consumers { rows = with_value c.self.inside.consumers.rows c.number-in-Ok.result (record c.in-Some.cell.now { consumer = record c.in-Some.cell.now.consumer { prov = Some c.args.prov } }) }) c.self.inside.live c.admit.ensures.same
     ∙ (rw (← c.self.view_is, ← c.number-in-Ok.ensures)
     (attach-view (within_limit c.self.inside.geoms c.self.inside.live) c.self.inside.providers c.self.inside.consumers c.number-in-Ok.result c.args.prov c.in-Some.cell.now c.in-Some.ensures.rising c.in-Some.ensures.value))
 
@@ -80,14 +82,14 @@ returns-in_default-clause-attached g c =
 pub invariant_of-self-in-Err : goal.invariant_of-self-in-Err
 invariant_of-self-in-Err g c =
     record {
-      tables = tables-bare c.self.inside.geoms c.self.inside.providers c.self.inside.consumers c.self.inside.live c.self.inside.index c.self.inside.names c.self.invariant.tables c.join.new.geoms c.in-Err.ensures.same;
-      ranks = mesh-kept c.self.inside.geoms c.join.new.geoms c.self.inside.providers c.self.inside.consumers c.self.inside.live c.self.invariant.ranks c.in-Err.ensures.same c.in-Err.ensures.kept;
-      graph = subst (λ t. IsOrderly t) (sym (ap (λ v. v.topology) (view-bare c.self.inside.geoms c.join.new.geoms c.self.inside.providers c.self.inside.consumers c.self.inside.live c.in-Err.ensures.same))) c.self.invariant.graph;
+      tables = tables-bare c.self.inside.geoms c.self.inside.providers c.self.inside.consumers c.self.inside.live c.self.inside.index c.self.inside.names c.self.invariant.tables c.admit.new.geoms c.in-Err.ensures.same;
+      ranks = mesh-kept c.self.inside.geoms c.admit.new.geoms c.self.inside.providers c.self.inside.consumers c.self.inside.live c.self.invariant.ranks c.in-Err.ensures.same c.in-Err.ensures.kept;
+      graph = subst (λ t. IsOrderly t) (sym (ap (λ v. v.topology) (view-bare c.self.inside.geoms c.admit.new.geoms c.self.inside.providers c.self.inside.consumers c.self.inside.live c.in-Err.ensures.same))) c.self.invariant.graph;
     }
 
 pub returns-in-Err-clause-same : goal.returns-in-Err-clause-same
 returns-in-Err-clause-same g c =
-    view-bare c.self.inside.geoms c.join.new.geoms c.self.inside.providers c.self.inside.consumers c.self.inside.live c.in-Err.ensures.same ∙ c.self.view_is
+    view-bare c.self.inside.geoms c.admit.new.geoms c.self.inside.providers c.self.inside.consumers c.self.inside.live c.in-Err.ensures.same ∙ c.self.view_is
 
 pub returns-in-Err-clause-answer : goal.returns-in-Err-clause-answer
 returns-in-Err-clause-answer g c =
@@ -96,11 +98,13 @@ returns-in-Err-clause-answer g c =
     let offered : IsSome (value_at (offers c.self.inside.providers).rows c.number-2.result) = provider-offered c.self.inside.geoms c.self.inside.providers c.self.inside.consumers c.number-2.result (rw (← c.self.view_is, ← c.number-2.ensures) at c.requires.provider) in
     let sound : is_errored (graph_of c.self.inside.geoms c.self.inside.providers c.self.inside.consumers) c.number-2.result ≡ false = rw (← c.self.view_is, ← c.number-2.ensures) at (sym c.is_errored.ensures ∙ c.if-is_errored.false) in
     let why : IsRefusedFor c.in-Err.refusal c.self.inside.geoms (below c.self.inside.providers c.self.inside.consumers) s.0.consumer.geom (owner c.self.inside.providers c.number-2.result) = rw (← upper, ← c.owner-under.ensures.owner) c.in-Err.ensures.refused in
+    let first : AreFirst c.self.inside.geoms c.self.inside.providers = first-two c.self.inside.geoms c.self.inside.providers c.self.inside.consumers c.self.invariant.graph in
+    let later : is_first s.0.consumer.geom ≡ false = rw (← upper) c.in-Err.ensures.later in
     rw (← c.self.view_is, ← c.number.ensures, ← c.number-2.ensures)
-    (on-refused c.self.inside.geoms c.self.inside.providers c.self.inside.consumers c.self.inside.live c.self.invariant.ranks c.number.result c.number-2.result s.0 c.user-upper.ensures.rising s.1 s.2 offered c.in-Err.refusal sound why)
+    (on-refused c.self.inside.geoms c.self.inside.providers c.self.inside.consumers c.self.inside.live c.self.invariant.ranks c.number.result c.number-2.result s.0 c.user-upper.ensures.rising s.1 s.2 offered first later c.in-Err.refusal sound why)
 
-pub join-requires-clause-kin : goal.join-requires-clause-kin
-join-requires-clause-kin g c = kin-of c.self.inside.geoms c.self.inside.providers c.self.inside.consumers c.self.inside.live c.self.inside.index c.self.inside.names c.self.invariant.tables
+pub admit-requires-clause-kin : goal.admit-requires-clause-kin
+admit-requires-clause-kin g c = kin-of c.self.inside.geoms c.self.inside.providers c.self.inside.consumers c.self.inside.live c.self.inside.index c.self.inside.names c.self.invariant.tables
 
 pub attach-requires-clause-free : goal.attach-requires-clause-free
 attach-requires-clause-free g c =

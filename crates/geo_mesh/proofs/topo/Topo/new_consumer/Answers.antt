@@ -1,10 +1,11 @@
-use Rattle.std.proofs.Common.{refl, arith, sym, ap, subst}
+use Rattle.std.proofs.Common.{ℕ, Option, refl, arith, sym, ap, subst}
 use Rattle.geo_mesh.specs.Cells.{within_limit, graph_of}
 use Rattle.geo_mesh.proofs.ViewLemmas.{with_consumer-view}
 use Rattle.geo_mesh.proofs.IndexLemmas.{indexed-rooms, owned_parent}
 use Rattle.geo_mesh.proofs.MeshLemmas.{mesh-reserved, mesh-consumer, room_for, untouched}
 use Rattle.geo_mesh.proofs.topo.Topo.new_consumer.Goals as goal
 use Rattle.geo_mesh.specs.Graph.{IsOrderly}
+use Rattle.geo_mesh.proofs.RankFirst.{footing-none}
 use Rattle.geo_mesh.proofs.Orderly.{orderly-add_consumer}
 use Rattle.geo_mesh.proofs.RankMesh.{mesh-new_consumer, lives-kinds}
 
@@ -37,7 +38,7 @@ invariant_of-self-2 g c = record {
       _ refl refl);
   ranks =
       rw (c.insert-number.ensures.inserted, c.reserve-2.ensures.values_stay)
-      (mesh-new_consumer c.self.inside.geoms c.self.inside.providers c.self.inside.consumers c.self.inside.live c.self.invariant.ranks c.self.inside.consumers.next c.args.geom _ _ _ refl (lives-kinds c.self.inside.geoms c.self.inside.providers c.self.inside.consumers c.self.inside.live c.args.geom (rw (← c.self.view_is) at c.requires)));
+      (mesh-new_consumer c.self.inside.geoms c.self.inside.providers c.self.inside.consumers c.self.inside.live c.self.invariant.ranks c.self.inside.consumers.next c.args.geom _ _ _ (ap (λ (o : Option ℕ). (c.args.geom, o)) (footing-none c.args.geom)) (lives-kinds c.self.inside.geoms c.self.inside.providers c.self.inside.consumers c.self.inside.live c.args.geom (rw (← c.self.view_is) at c.requires)));
   graph = rw (c.insert-number.ensures.inserted, c.reserve-2.ensures.values_stay) (subst (λ t. IsOrderly t) (sym (ap (λ v. v.topology) (with_consumer-view c.self.inside.geoms c.self.inside.providers c.self.inside.consumers c.args.geom c.reserve-2.new.self.spare))) (orderly-add_consumer (graph_of c.self.inside.geoms c.self.inside.providers c.self.inside.consumers) c.self.invariant.graph c.args.geom (rw (← c.self.view_is) at c.requires) (rw (c.insert-number.ensures.inserted, c.reserve-2.ensures.values_stay) at c.insert-number.ensures.bound)));
 }
 

@@ -1,0 +1,298 @@
+-- The first two geoms, on whose ranks no geom stands: the ranks of all geoms from those that stand in the cells.
+use Rattle.std.specs.Prelude.{◌≡◌, ◌≢◌, ◌⊎◌, ℕ, ◌+◌, ◌≤◌, ◌==◌, nat_lt, Bool, true, false, not, ◌&&◌, ◌||◌, List, [], ◌∷◌, Option, Some, None, IsSome, IsSomeAnd, map, filter, filter_map, length, if◌then◌else◌}
+use Rattle.std.specs.List.{list_any, AllByRecursion}
+use Rattle.std.specs.Option.{option_map}
+use Rattle.std.proofs.Common.{refl, sym, ap, ◌∙◌, subst, inl, inr, arith}
+use Rattle.std.proofs.lemmas.Bool.{eqb-true, eq-eqb, ne_eqb}
+use Rattle.std.proofs.lemmas.List.Elements.{recursion_from_All}
+use Rattle.geo_base.specs.declared.kind.Kind.{Kind}
+use Rattle.geo_base.specs.declared.kind.Kind.TheVariants as kinds
+use Rattle.geo_model.specs.Words.{largest, is_granted_kind, names_number}
+use Rattle.geo_model.specs.Topology.{Geom, Consumer, geom_at}
+use Rattle.geo_model.specs.Rank.{rank_limit}
+use Rattle.geo_laws_graph.specs.LookupLaws.{EachIsFound}
+use Rattle.geo_laws_graph.proofs.Lists.{Rise, rise-from}
+use Rattle.geo_laws_graph.proofs.Found.{each-found}
+use Rattle.geo_slots.specs.Slots.{SlotsView, IsRising, value_at}
+use Rattle.geo_mesh.specs.declared.records.GeomCell.{GeomCell}
+use Rattle.geo_mesh.specs.declared.records.ProvCell.{ProvCell}
+use Rattle.geo_mesh.specs.declared.records.ConsCell.{ConsCell}
+use Rattle.geo_mesh.specs.Rows.{rows_with, passes}
+use Rattle.geo_mesh.specs.Cells.{graph_of, geom_row, provider_row, consumer_row}
+use Rattle.geo_mesh.specs.Graph.{IsOffer, IsOrderly}
+use Rattle.geo_mesh.specs.Mending.{IsAmong, StandsAbove, above}
+use Rattle.geo_mesh.specs.Ranks.{is_first, footing, ends_of, links_of, ends, links, offers, below, beneath, under, found, is_high, is_attached, owner, user, kinds, bare, kind_of, owner_of, AreFirst}
+use Rattle.geo_mesh.proofs.RowLemmas.{value_at-rows_with}
+use Rattle.geo_mesh.proofs.RankMend.{largest-same}
+use Rattle.geo_mesh.proofs.RankHeights.{local-few}
+use Rattle.geo_mesh.proofs.ViewLemmas.{geom_at-view}
+use Rattle.geo_mesh.proofs.RankRows.{all-at, kinds-bare}
+use Rattle.geo_mesh.proofs.RankWalk.{names-some}
+
+-- by whether a geom is one of the first two
+first_or_not : (b : Bool) → (b ≡ true) ⊎ (b ≡ false)
+first_or_not true = inl refl
+first_or_not false = inr refl
+
+-- the rank of a later geom stands on what its consumers are attached to
+pub footing-later : (g : ℕ) (o : Option ℕ) → is_first g ≡ false → footing g o ≡ o
+footing-later g o later = rw later refl
+
+-- that of one of the first two stands on nothing
+pub footing-first : (g : ℕ) (o : Option ℕ) → is_first g ≡ true → footing g o ≡ None
+footing-first g o first = rw first refl
+
+-- and so does that of a geom by a consumer that is attached to nothing
+pub footing-none : (g : ℕ) → footing g None ≡ None
+footing-none g = at (is_first g) refl where
+  at : (b : Bool) → is_first g ≡ b → footing g None ≡ None
+  at true e = rw e refl
+  at false e = rw e refl
+
+-- by a consumer that isn't attached to a provider it doesn't stand on that
+pub footing-unnamed : (g n : ℕ) (o : Option ℕ) → names_number o n ≡ false → names_number (footing g o) n ≡ false
+footing-unnamed g n o e = at (is_first g) refl where
+  at : (b : Bool) → is_first g ≡ b → names_number (footing g o) n ≡ false
+  at true first = rw first refl
+  at false later = rw later e
+
+-- where it stands on a provider, the geom is a later one
+pub footing-some : (g p : ℕ) (o : Option ℕ) → footing g o ≡ Some p → (is_first g ≡ false) × (o ≡ Some p)
+footing-some g p o there = at (is_first g) refl there where
+  at : (b : Bool) → is_first g ≡ b → (if b then None else o) ≡ Some p → (is_first g ≡ false) × (o ≡ Some p)
+  at true e there = absurd (cc)
+  at false e there = (e, there)
+
+module _ (g : ℕ) where
+  -- the providers below a later geom, by either table
+  links_step : is_first g ≡ false → (row : ℕ × ConsCell) (rows : List (ℕ × ConsCell)) (b : Bool) → (row.1.consumer.geom == g) ≡ b
+      → filter_map (λ (r : ℕ × (ℕ × Option ℕ)). r.1.1) (filter (λ (r : ℕ × (ℕ × Option ℕ)). r.1.0 == g) (rows_with ends_of rows)) ≡ filter_map (λ (r : ℕ × (ℕ × Option ℕ)). r.1.1) (filter (λ (r : ℕ × (ℕ × Option ℕ)). r.1.0 == g) (rows_with links_of rows))
+      → filter_map (λ (r : ℕ × (ℕ × Option ℕ)). r.1.1) (filter (λ (r : ℕ × (ℕ × Option ℕ)). r.1.0 == g) (rows_with ends_of (row ∷ rows))) ≡ filter_map (λ (r : ℕ × (ℕ × Option ℕ)). r.1.1) (filter (λ (r : ℕ × (ℕ × Option ℕ)). r.1.0 == g) (rows_with links_of (row ∷ rows)))
+  links_step later row rows false e rest = rw e rest
+  links_step later row rows true e rest = at row.1.consumer.prov (footing-later row.1.consumer.geom row.1.consumer.prov (rw (eqb-true row.1.consumer.geom g e) later)) refl
+    where
+      at : (o : Option ℕ) → footing row.1.consumer.geom row.1.consumer.prov ≡ o → row.1.consumer.prov ≡ o
+          → filter_map (λ (r : ℕ × (ℕ × Option ℕ)). r.1.1) (filter (λ (r : ℕ × (ℕ × Option ℕ)). r.1.0 == g) (rows_with ends_of (row ∷ rows))) ≡ filter_map (λ (r : ℕ × (ℕ × Option ℕ)). r.1.1) (filter (λ (r : ℕ × (ℕ × Option ℕ)). r.1.0 == g) (rows_with links_of (row ∷ rows)))
+      at None foot is = rw (e, foot, is) rest
+      at (Some p) foot is = rw (e, foot, is) (ap (λ qs. p ∷ qs) rest)
+
+  -- over all rows
+  links_same : is_first g ≡ false → (rows : List (ℕ × ConsCell))
+      → filter_map (λ (r : ℕ × (ℕ × Option ℕ)). r.1.1) (filter (λ (r : ℕ × (ℕ × Option ℕ)). r.1.0 == g) (rows_with ends_of rows)) ≡ filter_map (λ (r : ℕ × (ℕ × Option ℕ)). r.1.1) (filter (λ (r : ℕ × (ℕ × Option ℕ)). r.1.0 == g) (rows_with links_of rows))
+  links_same later [] = refl
+  links_same later (row ∷ rows) = links_step later row rows (row.1.consumer.geom == g) refl (links_same later rows)
+
+  -- the first two stand on no provider
+  no_footing : is_first g ≡ true → (rows : List (ℕ × ConsCell)) → filter_map (λ (r : ℕ × (ℕ × Option ℕ)). r.1.1) (filter (λ (r : ℕ × (ℕ × Option ℕ)). r.1.0 == g) (rows_with ends_of rows)) ≡ []
+  no_footing first [] = refl
+  no_footing first (row ∷ rows) = at (row.1.consumer.geom == g) refl (no_footing first rows) where
+    at : (b : Bool) → (row.1.consumer.geom == g) ≡ b → filter_map (λ (r : ℕ × (ℕ × Option ℕ)). r.1.1) (filter (λ (r : ℕ × (ℕ × Option ℕ)). r.1.0 == g) (rows_with ends_of rows)) ≡ []
+        → filter_map (λ (r : ℕ × (ℕ × Option ℕ)). r.1.1) (filter (λ (r : ℕ × (ℕ × Option ℕ)). r.1.0 == g) (rows_with ends_of (row ∷ rows))) ≡ []
+    at true e rest = rw (e, footing-first row.1.consumer.geom row.1.consumer.prov (rw (eqb-true row.1.consumer.geom g e) first)) rest
+    at false e rest = rw e rest
+
+module _ (cs : SlotsView ConsCell) where
+  -- a consumer by which a rank stands on a provider is of a later geom
+  pub attached-later : (p c : ℕ) → passes (is_attached p) (value_at (ends cs).rows c) ≡ true → is_first (user cs c) ≡ false
+  attached-later p c there = at (value_at cs.rows c) refl (rw (value_at-rows_with ends_of c cs.rows) at there) where
+    at : (o : Option ConsCell) → value_at cs.rows c ≡ o → passes (is_attached p) (option_map ends_of o) ≡ true → is_first (user cs c) ≡ false
+    at None e there = absurd (cc)
+    at (Some v) e there = rw (value_at-rows_with ends_of c cs.rows, e) (footing-some v.consumer.geom p v.consumer.prov (names-some (footing v.consumer.geom v.consumer.prov) p there)).0
+
+  -- and it is attached to that provider
+  pub attached-linked : (p c : ℕ) → passes (is_attached p) (value_at (ends cs).rows c) ≡ true → passes (is_attached p) (value_at (links cs).rows c) ≡ true
+  attached-linked p c there = rw (value_at-rows_with links_of c cs.rows) (at (value_at cs.rows c) (rw (value_at-rows_with ends_of c cs.rows) at there)) where
+    at : (o : Option ConsCell) → passes (is_attached p) (option_map ends_of o) ≡ true → passes (is_attached p) (option_map links_of o) ≡ true
+    at None there = absurd (cc)
+    at (Some v) there = rw (footing-some v.consumer.geom p v.consumer.prov (names-some (footing v.consumer.geom v.consumer.prov) p there)).1 (eq-eqb p p refl)
+
+  -- the rank of a later geom stands on a provider to which its consumer is attached
+  pub linked-attached : (p c : ℕ) → is_first (user cs c) ≡ false → passes (is_attached p) (value_at (links cs).rows c) ≡ true → passes (is_attached p) (value_at (ends cs).rows c) ≡ true
+  linked-attached p c later there = rw (value_at-rows_with ends_of c cs.rows) (at (value_at cs.rows c) refl (rw (value_at-rows_with links_of c cs.rows) at there)) where
+    at : (o : Option ConsCell) → value_at cs.rows c ≡ o → passes (is_attached p) (option_map links_of o) ≡ true → passes (is_attached p) (option_map ends_of o) ≡ true
+    at None e there = absurd (cc)
+    at (Some v) e there =
+        let own : user cs c ≡ v.consumer.geom = rw (value_at-rows_with ends_of c cs.rows, e) refl in
+        let stands : footing v.consumer.geom v.consumer.prov ≡ v.consumer.prov = footing-later v.consumer.geom v.consumer.prov (rw own at later) in
+        rw stands there
+
+-- a provider's geom is a later one
+pub owner-later : (ps : SlotsView ProvCell) → AllByRecursion (λ row. is_first row.1 ≡ false) (offers ps).rows → (p : ℕ) → IsSome (value_at (offers ps).rows p) → is_first (owner ps p) ≡ false
+owner-later ps bare p there = at (value_at (offers ps).rows p) refl there where
+  at : (o : Option ℕ) → value_at (offers ps).rows p ≡ o → IsSome o → is_first (owner ps p) ≡ false
+  at None e never = absurd (cc)
+  at (Some h) e there = rw e (all-at (λ (row : ℕ × ℕ). is_first row.1 ≡ false) (offers ps).rows p h bare e)
+
+module _ (ps : SlotsView ProvCell) (cs : SlotsView ConsCell) where
+  -- a later geom stands on all geoms directly below it
+  pub below-beneath : (g : ℕ) → is_first g ≡ false → below ps cs g ≡ beneath ps cs g
+  below-beneath g later = ap (filter_map (value_at (offers ps).rows)) (links_same g later cs.rows)
+
+  -- and one of the first two on none
+  pub below-first : (g : ℕ) → is_first g ≡ true → below ps cs g ≡ []
+  below-first g first = ap (filter_map (value_at (offers ps).rows)) (no_footing g first cs.rows)
+
+  module _ (bare : AllByRecursion (λ row. is_first row.1 ≡ false) (offers ps).rows) where
+    -- what offers a provider is a later geom
+    offered_later : (qs : List ℕ) (h : ℕ) → IsAmong (filter_map (value_at (offers ps).rows) qs) h → is_first h ≡ false
+    offered_later [] h there = absurd there
+    offered_later (q ∷ qs) h there = at (value_at (offers ps).rows q) refl there (λ e. offered_later qs h e) where
+      at : (o : Option ℕ) → value_at (offers ps).rows q ≡ o → IsAmong (filter_map (value_at (offers ps).rows) (q ∷ qs)) h → (IsAmong (filter_map (value_at (offers ps).rows) qs) h → is_first h ≡ false) → is_first h ≡ false
+      at None e there so = so (rw e at there)
+      at (Some k) e there so = pick (rw e at there) where
+        pick : (k ≡ h) ⊎ IsAmong (filter_map (value_at (offers ps).rows) qs) h → is_first h ≡ false
+        pick (inl same) = subst (λ n. is_first n ≡ false) same (all-at (λ (row : ℕ × ℕ). is_first row.1 ≡ false) (offers ps).rows q k bare e)
+        pick (inr rest) = so rest
+
+    -- so what is directly below a geom is one
+    pub beneath-later : (x h : ℕ) → IsAmong (beneath ps cs x) h → is_first h ≡ false
+    beneath-later x h there = offered_later (filter_map (λ (r : ℕ × (ℕ × Option ℕ)). r.1.1) (filter (λ (r : ℕ × (ℕ × Option ℕ)). r.1.0 == x) (links cs).rows)) h there
+
+    module _ (f : ℕ → ℕ) (local : (x : ℕ) → f x ≡ above (below ps cs) f x) where
+      -- what is directly below a geom has the rank that stands in its cell
+      same_beneath : (x : ℕ) → largest (map (found f ps cs) (beneath ps cs x)) ≡ largest (map f (beneath ps cs x))
+      same_beneath x = largest-same (found f ps cs) f (beneath ps cs x) (λ h there. (let later : is_first h ≡ false = beneath-later x h there in rw later refl))
+
+      -- the ranks are one more than the highest directly below
+      pub found-local : (x : ℕ) → found f ps cs x ≡ above (beneath ps cs) (found f ps cs) x
+      found-local x = at (first_or_not (is_first x)) where
+        at : (is_first x ≡ true) ⊎ (is_first x ≡ false) → found f ps cs x ≡ above (beneath ps cs) (found f ps cs) x
+        at (inl first) = (let here : found f ps cs x ≡ 1 + largest (map f (beneath ps cs x)) = rw first refl in omega (arith, same_beneath x))
+        at (inr later) =
+            let here : found f ps cs x ≡ f x = rw later refl in
+            let stands : f x ≡ 1 + largest (map f (beneath ps cs x)) = subst (λ ms. f x ≡ 1 + largest (map f ms)) (below-beneath x later) (local x) in
+            omega (arith, same_beneath x)
+
+      -- and no more than one above the number of geoms
+      pub found-few : (numbers : List ℕ) → ((g : ℕ) → is_first g ≡ true → IsAmong numbers g) → ((g : ℕ) → 2 ≤ f g → IsAmong numbers g) → (x : ℕ) → found f ps cs x ≤ length numbers + 1
+      found-few numbers listed stood x = local-few (found f ps cs) (beneath ps cs) numbers found-local (λ g high. at g high (first_or_not (is_first g))) x where
+        at : (g : ℕ) → 2 ≤ found f ps cs g → (is_first g ≡ true) ⊎ (is_first g ≡ false) → IsAmong numbers g
+        at g high (inl first) = listed g first
+        at g high (inr later) = (let here : found f ps cs g ≡ f g = rw later refl in stood g (omega arith))
+
+    -- what stands above a later geom does so by the ranks
+    pub stands-down : (x g : ℕ) → is_first x ≡ false → StandsAbove (beneath ps cs) x g → StandsAbove (below ps cs) x g
+    stands-down x g later stands = λ has here so. only (has x) (stands (λ y. has y || is_first y) (rw here refl) (λ y h there is. up has so y h there is (first_or_not (is_first y)))) where
+      -- of one of two facts, of which the second is false
+      only : (b : Bool) → (b || is_first x) ≡ true → b ≡ true
+      only b fact = at b (rw later at fact) where
+        at : (b : Bool) → (b || false) ≡ true → b ≡ true
+        at true fact = refl
+        at false fact = fact
+
+      -- the fact goes up along each edge
+      up : (has : ℕ → Bool) → ((y h : ℕ) → IsAmong (below ps cs y) h → has h ≡ true → has y ≡ true) → (y h : ℕ) → IsAmong (beneath ps cs y) h → (has h || is_first h) ≡ true
+          → (is_first y ≡ true) ⊎ (is_first y ≡ false) → (has y || is_first y) ≡ true
+      up has so y h there is (inl first) = at (has y) where
+        at : (b : Bool) → (b || is_first y) ≡ true
+        at true = refl
+        at false = first
+      up has so y h there is (inr above_later) =
+          let near : IsAmong (below ps cs y) h = subst (λ ms. IsAmong ms h) (sym (below-beneath y above_later)) there in
+          let below_later : is_first h ≡ false = beneath-later y h there in
+          let here : has h ≡ true = at (has h) (rw below_later at is) in
+          rw (so y h near here) refl
+        where
+          at : (b : Bool) → (b || false) ≡ true → b ≡ true
+          at true fact = refl
+          at false fact = fact
+
+  -- what stands above a geom by the ranks does so by the graph
+  pub stands-up : (x g : ℕ) → StandsAbove (below ps cs) x g → StandsAbove (beneath ps cs) x g
+  stands-up x g stands = λ has here so. stands has here (λ y h there is. at has so y h there is (first_or_not (is_first y))) where
+    at : (has : ℕ → Bool) → ((y h : ℕ) → IsAmong (beneath ps cs y) h → has h ≡ true → has y ≡ true) → (y h : ℕ) → IsAmong (below ps cs y) h → has h ≡ true
+        → (is_first y ≡ true) ⊎ (is_first y ≡ false) → has y ≡ true
+    at has so y h there is (inl first) = absurd (subst (λ ms. IsAmong ms h) (below-first y first) there)
+    at has so y h there is (inr later) = so y h (subst (λ ms. IsAmong ms h) (below-beneath y later) there) is
+
+  -- the classes of the first two have no limit, so only the ranks in the cells can be too great
+  pub found-high : (f : ℕ → ℕ) (classes : List (ℕ × Kind)) → AllByRecursion (λ row. is_first row.0 ≡ true → is_granted_kind row.1 ≡ true) classes → is_high classes (found f ps cs) ≡ is_high classes f
+  found-high f [] granted = refl
+  found-high f (row ∷ rows) granted = at (first_or_not (is_first row.0)) (found-high f rows granted.1) where
+    at : (is_first row.0 ≡ true) ⊎ (is_first row.0 ≡ false) → is_high rows (found f ps cs) ≡ is_high rows f → is_high (row ∷ rows) (found f ps cs) ≡ is_high (row ∷ rows) f
+    at (inl first) rest = rw (granted.0 first, rest) refl
+    at (inr later) rest = rw (later, rest) refl
+
+-- the numbers of rows that are seen otherwise
+numbers-with : {T U : Type 0} (h : T → U) (rows : List (ℕ × T)) → map (λ (row : ℕ × U). row.0) (rows_with h rows) ≡ map (λ (row : ℕ × T). row.0) rows
+numbers-with h [] = refl
+numbers-with h (row ∷ rows) = ap (λ ns. row.0 ∷ ns) (numbers-with h rows)
+
+-- other ranks in the cells leave the numbers
+pub numbers-bare : {C : Type 0} (gs ns : SlotsView (GeomCell C)) → bare ns ≡ bare gs → map (λ (row : ℕ × GeomCell C). row.0) ns.rows ≡ map (λ (row : ℕ × GeomCell C). row.0) gs.rows
+numbers-bare {C} gs ns same =
+    sym (numbers-with (kind_of {C = C}) ns.rows) ∙ ap (map (λ (row : ℕ × Kind). row.0)) (kinds-bare gs ns same) ∙ numbers-with (kind_of {C = C}) gs.rows
+
+-- a number with a value is among the numbers
+value-listed : {T : Type 0} (rows : List (ℕ × T)) (n : ℕ) → IsSome (value_at rows n) → IsAmong (map (λ (row : ℕ × T). row.0) rows) n
+value-listed [] n there = absurd (cc)
+value-listed (row ∷ rows) n there = at (row.0 == n) refl there (value-listed rows n) where
+  at : (b : Bool) → (row.0 == n) ≡ b → IsSome (value_at (row ∷ rows) n) → (IsSome (value_at rows n) → IsAmong (map (λ r. r.0) rows) n) → IsAmong (map (λ r. r.0) (row ∷ rows)) n
+  at true e there so = inl (eqb-true row.0 n e)
+  at false e there so = inr (so (rw e at there))
+
+-- which are the first two
+first_is : (g : ℕ) → is_first g ≡ true → (g ≡ 1) ⊎ (g ≡ 2)
+first_is g first = at (g == 1) refl (g == 2) refl where
+  at : (a : Bool) → (g == 1) ≡ a → (b : Bool) → (g == 2) ≡ b → (g ≡ 1) ⊎ (g ≡ 2)
+  at true e b f = inl (eqb-true g 1 e)
+  at false e true f = inr (eqb-true g 2 f)
+  at false e false f = let never = rw (e, f) at first in absurd (cc)
+
+-- what is none of them is a later one
+later_is : (g : ℕ) → g ≢ 1 → g ≢ 2 → is_first g ≡ false
+later_is g not_dev not_taste = rw (ne_eqb g 1 not_dev, ne_eqb g 2 not_taste) refl
+
+module _ {C : Type 0} (gs : SlotsView (GeomCell C)) (ps : SlotsView ProvCell) (cs : SlotsView ConsCell) (orderly : IsOrderly (graph_of gs ps cs)) where
+  -- a geom of which something is known is there
+  stands_there : (n : ℕ) (P : Geom C → Type 0) → IsSomeAnd (geom_at (graph_of gs ps cs) n) P → IsSome (value_at gs.rows n)
+  stands_there n P fact = at (value_at gs.rows n) (rw (geom_at-view gs ps cs n) at fact) where
+    at : (o : Option (GeomCell C)) → IsSomeAnd (option_map (λ v. geom_row (n, v)) o) P → IsSome o
+    at None never = absurd never
+    at (Some v) fact = refl
+
+  -- the first two are there
+  first_listed : (g : ℕ) → is_first g ≡ true → IsAmong (map (λ (row : ℕ × GeomCell C). row.0) gs.rows) g
+  first_listed g first = at (first_is g first) where
+    at : (g ≡ 1) ⊎ (g ≡ 2) → IsAmong (map (λ (row : ℕ × GeomCell C). row.0) gs.rows) g
+    at (inl dev) = subst (λ n. IsAmong (map (λ (row : ℕ × GeomCell C). row.0) gs.rows) n) (sym dev) (value-listed gs.rows 1 (stands_there 1 (λ x. x.kind ≡ kinds.Dev) orderly.first.dev))
+    at (inr taste) = subst (λ n. IsAmong (map (λ (row : ℕ × GeomCell C). row.0) gs.rows) n) (sym taste) (value-listed gs.rows 2 (stands_there 2 (λ x. x.kind ≡ kinds.Taste) orderly.first.taste))
+
+  -- their classes have no limit
+  granted_of : (x : Geom C) → geom_at (graph_of gs ps cs) x.number ≡ Some x → is_first x.number ≡ true → is_granted_kind x.kind ≡ true
+  granted_of x found first = at (first_is x.number first) where
+    at : (x.number ≡ 1) ⊎ (x.number ≡ 2) → is_granted_kind x.kind ≡ true
+    at (inl dev) = (let is : x.kind ≡ kinds.Dev = rw (subst (λ n. geom_at (graph_of gs ps cs) n ≡ Some x) dev found) at orderly.first.dev in rw is refl)
+    at (inr taste) = (let is : x.kind ≡ kinds.Taste = rw (subst (λ n. geom_at (graph_of gs ps cs) n ≡ Some x) taste found) at orderly.first.taste in rw is refl)
+
+  -- so for each row
+  first_granted : (rows : List (ℕ × GeomCell C)) → AllByRecursion (λ (x : Geom C). geom_at (graph_of gs ps cs) x.number ≡ Some x) (map geom_row rows)
+      → AllByRecursion (λ (row : ℕ × Kind). is_first row.0 ≡ true → is_granted_kind row.1 ≡ true) (rows_with (kind_of {C = C}) rows)
+  first_granted [] facts = tt
+  first_granted (row ∷ rows) facts = (granted_of (geom_row row) facts.0, first_granted rows facts.1)
+
+  -- and they offer no provider
+  first_bare : (rows : List (ℕ × ProvCell)) → AllByRecursion IsOffer (map provider_row rows) → AllByRecursion (λ (row : ℕ × ℕ). is_first row.1 ≡ false) (rows_with owner_of rows)
+  first_bare [] facts = tt
+  first_bare (row ∷ rows) facts = (later_is row.1.provider.geom facts.0.not_dev facts.0.not_taste, first_bare rows facts.1)
+
+  -- in an orderly graph the ranks find the first two geoms as they need them
+  pub first-two : AreFirst gs ps
+  first-two =
+      let found : EachIsFound C = each-found in
+      record {
+        listed = first_listed;
+        granted = first_granted gs.rows (found.geoms (graph_of gs ps cs) orderly.order);
+        bare = first_bare ps.rows (recursion_from_All IsOffer (map provider_row ps.rows) orderly.offers);
+      }
+
+  -- the rows of the consumers rise
+  pub consumers-rising : IsRising 1 cs.rows cs.next
+  consumers-rising = from_one cs.rows (recursion_from_All (λ (x : Consumer). 1 ≤ x.number) (map consumer_row cs.rows) orderly.numbers.consumers) (rise-from cs.next (map (λ (x : Consumer). x.number) (map consumer_row cs.rows)) orderly.order.consumers) where
+    rising : (low : ℕ) (rows : List (ℕ × ConsCell)) → low ≤ cs.next → Rise low (map (λ (x : Consumer). x.number) (map consumer_row rows)) cs.next → IsRising low rows cs.next
+    rising low [] below rise = below
+    rising low (row ∷ rows) below rise = (rise.0, rising (row.0 + 1) rows (omega (arith, rise.1)) rise.2)
+
+    from_one : (rows : List (ℕ × ConsCell)) → AllByRecursion (λ (x : Consumer). 1 ≤ x.number) (map consumer_row rows) → Rise 0 (map (λ (x : Consumer). x.number) (map consumer_row rows)) cs.next → IsRising 1 rows cs.next
+    from_one [] some rise = orderly.numbers.next_consumer.some
+    from_one (row ∷ rows) some rise = (some.0, rising (row.0 + 1) rows (omega (arith, rise.1)) rise.2)
