@@ -104,7 +104,6 @@ module _ (old new : Names) (are : AreIds old) where
       apart = λ a b i is_a is_b. are.apart a b i (close_cases a i (same_name name a) refl is_a).1 (close_cases b i (same_name name b) refl is_b).1;
     }
 
--- where a parent has no last child, it has none
 -- behind an item there is a last one
 last_is_some : {X : Type 0} (x : X) (xs : List X) → is_some (last_or (Some x) xs) ≡ true
 last_is_some x [] = refl

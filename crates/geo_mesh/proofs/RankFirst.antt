@@ -1,6 +1,6 @@
 -- The first two geoms, on whose ranks no geom stands: the ranks of all geoms from those that stand in the cells.
-use Rattle.std.specs.Prelude.{◌≡◌, ◌≢◌, ◌⊎◌, ℕ, ◌+◌, ◌≤◌, ◌==◌, nat_lt, Bool, true, false, not, ◌&&◌, ◌||◌, List, [], ◌∷◌, Option, Some, None, IsSome, IsSomeAnd, map, filter, filter_map, length, if◌then◌else◌}
-use Rattle.std.specs.List.{list_any, AllByRecursion}
+use Rattle.std.specs.Prelude.{◌≡◌, ◌≢◌, ◌⊎◌, ℕ, ◌+◌, ◌≤◌, ◌==◌, Bool, true, false, ◌||◌, List, [], ◌∷◌, Option, Some, None, IsSome, IsSomeAnd, map, filter, filter_map, length, if◌then◌else◌}
+use Rattle.std.specs.List.{AllByRecursion}
 use Rattle.std.specs.Option.{option_map}
 use Rattle.std.proofs.Common.{refl, sym, ap, ◌∙◌, subst, inl, inr, arith}
 use Rattle.std.proofs.lemmas.Bool.{eqb-true, eq-eqb, ne_eqb}
@@ -9,7 +9,6 @@ use Rattle.geo_base.specs.declared.kind.Kind.{Kind}
 use Rattle.geo_base.specs.declared.kind.Kind.TheVariants as kinds
 use Rattle.geo_model.specs.Words.{largest, is_granted_kind, names_number}
 use Rattle.geo_model.specs.Topology.{Geom, Consumer, geom_at}
-use Rattle.geo_model.specs.Rank.{rank_limit}
 use Rattle.geo_laws_graph.specs.LookupLaws.{EachIsFound}
 use Rattle.geo_laws_graph.proofs.Lists.{Rise, rise-from}
 use Rattle.geo_laws_graph.proofs.Found.{each-found}
@@ -21,7 +20,7 @@ use Rattle.geo_mesh.specs.Rows.{rows_with, passes}
 use Rattle.geo_mesh.specs.Cells.{graph_of, geom_row, provider_row, consumer_row}
 use Rattle.geo_mesh.specs.Graph.{IsOffer, IsOrderly}
 use Rattle.geo_mesh.specs.Mending.{IsAmong, StandsAbove, above}
-use Rattle.geo_mesh.specs.Ranks.{is_first, footing, ends_of, links_of, ends, links, offers, below, beneath, under, found, is_high, is_attached, owner, user, kinds, bare, kind_of, owner_of, AreFirst}
+use Rattle.geo_mesh.specs.Ranks.{is_first, footing, ends_of, links_of, ends, links, offers, below, beneath, found, is_high, is_attached, owner, user, bare, kind_of, owner_of, AreFirst}
 use Rattle.geo_mesh.proofs.RowLemmas.{value_at-rows_with}
 use Rattle.geo_mesh.proofs.RankMend.{largest-same}
 use Rattle.geo_mesh.proofs.RankHeights.{local-few}

@@ -17,7 +17,7 @@ use Rattle.geo_mesh.specs.declared.records.ConsCell.{ConsCell}
 use Rattle.geo_mesh.specs.Rows.{row_with, rows_with, passes}
 use Rattle.geo_mesh.specs.Cells.{graph_of, view_of, within_limit, geom_seen, geom_scratch_of, geom_row, provider_row, consumer_row}
 use Rattle.geo_mesh.specs.Mending.{IsAmong, StandsAbove, Climbs, Joined, above, height}
-use Rattle.geo_mesh.specs.Ranks.{kind_of, rank_of, rest_of, owner, owner_of, ends_of, links_of, kinds, ranks, stored, offers, ends, rank_at, under, below, beneath, found, footing, is_first, number_or, is_high, IsWalkable, HaveRanks, AreFirst, bare}
+use Rattle.geo_mesh.specs.Ranks.{kind_of, rank_of, rest_of, owner, owner_of, ends_of, links_of, kinds, ranks, stored, offers, ends, rank_at, under, below, beneath, found, footing, number_or, is_high, IsWalkable, HaveRanks, AreFirst, bare}
 use Rattle.geo_mesh.proofs.RowLemmas.{OnlyValue, only, map-with_value_same, map-without, rows_with-with_value, value_at-rows_with}
 use Rattle.geo_mesh.proofs.ViewLemmas.{geom_at-view, provider_at-view, consumer_at-view, count_falls, count_stays}
 use Rattle.geo_mesh.proofs.RankHeights.{local-climbs, local-height, local-few, height-climbs, rank-height, reached-stands, stands-reached}

@@ -284,7 +284,6 @@ module _ {C : Type 0} (gs : SlotsView (GeomCell C)) (ps : SlotsView ProvCell) (c
   -- the first consumer from a number on
   pub next_consumer-view : (low : ℕ) → first_consumer (graph_of gs ps cs).consumers low ≡ first_from cs.rows low
   next_consumer-view low = first-map consumer_row (λ (x : Consumer). x.number) (λ (x : Consumer). nat_le low x.number) (λ row. nat_le low row.0) (λ row. refl) (λ row. refl) cs.rows
-  -- the providers and the consumers of a geom, and the consumers attached to a provider, from a number on
 
 -- a value of the first, else of the second
 option_map-or : {X Y : Type 0} (f : X → Y) (o p : Option X) → option_map f (option_or o p) ≡ option_or (option_map f o) (option_map f p)

@@ -11,6 +11,18 @@ IsAmong (m ∷ ms) n = (m ≡ n) ⊎ IsAmong ms n
 abbrev pub above : (ℕ → List ℕ) → (ℕ → ℕ) → ℕ → ℕ
 above below f g = 1 + largest (map f (below g))
 
+-- each value is one more than the largest below
+abbrev pub AreLocal : (ℕ → List ℕ) → (ℕ → ℕ) → Type 0
+AreLocal below f = (g : ℕ) → f g ≡ above below f g
+
+-- no value is smaller than one more than the largest below
+abbrev pub AreEnough : (ℕ → List ℕ) → (ℕ → ℕ) → Type 0
+AreEnough below f = (g : ℕ) → above below f g ≤ f g
+
+-- the value of a geom is no greater than one more than the largest below
+abbrev pub IsLow : (ℕ → List ℕ) → (ℕ → ℕ) → ℕ → Type 0
+IsLow below f g = f g ≤ above below f g
+
 -- the height over so many levels
 abbrev pub height : (ℕ → List ℕ) → ℕ → ℕ → ℕ
 height below zero g = 1
@@ -36,8 +48,8 @@ pub record Lifted (below : ℕ → List ℕ) (geom least : ℕ) (f r : ℕ → �
 -- from `f` to `r` values only fell, not below what they have to be; where one was no greater than it has to be it still is
 pub record Lowered (below : ℕ → List ℕ) (f r : ℕ → ℕ) : Type 0 where
   pub falls : (x : ℕ) → r x ≤ f x
-  pub enough : (x : ℕ) → above below r x ≤ r x
-  pub stays : (x : ℕ) → f x ≤ above below f x → r x ≤ above below r x
+  pub enough : AreEnough below r
+  pub stays : (x : ℕ) → IsLow below f x → IsLow below r x
 
 -- the second graph is the first with one more geom below a geom
 pub record Joined (apart joined : ℕ → List ℕ) (geom under : ℕ) : Type 0 where
@@ -47,4 +59,4 @@ pub record Joined (apart joined : ℕ → List ℕ) (geom under : ℕ) : Type 0 
 -- the values with one more geom below a geom, which doesn't stand below it already
 pub record IsJoinable (below : ℕ → List ℕ) (upper lower : ℕ) (f : ℕ → ℕ) : Type 0 where
   pub apart : StandsAbove below lower upper → ⊥
-  pub local : (joined : ℕ → List ℕ) → Joined below joined upper lower → (x : ℕ) → f x ≡ above joined f x
+  pub local : (joined : ℕ → List ℕ) → Joined below joined upper lower → AreLocal joined f

@@ -1,5 +1,5 @@
 -- The ranks that stand in the cells of the geoms, and the graph below them, by the rows.
-use Rattle.std.specs.Prelude.{◌≡◌, ℕ, ◌<◌, ◌≤◌, ◌^◌, ◌==◌, nat_lt, Bool, true, false, not, ◌&&◌, ◌||◌, List, Option, Some, None, IsSome, IfSome, filter, filter_map, length, map, option_map, if◌then◌else◌}
+use Rattle.std.specs.Prelude.{◌≡◌, ℕ, ◌+◌, ◌<◌, ◌≤◌, ◌^◌, ◌==◌, nat_lt, Bool, true, false, not, ◌&&◌, ◌||◌, List, Option, Some, None, IsSome, IfSome, filter, filter_map, length, map, option_map, if◌then◌else◌}
 use Rattle.std.specs.List.{list_any, AllByRecursion}
 use Rattle.geo_base.specs.declared.kind.Kind.{Kind}
 use Rattle.geo_model.specs.Words.{is_granted_kind, names_number}
@@ -14,7 +14,7 @@ use Rattle.geo_mesh.specs.Rows.{rows_with, passes}
 use Rattle.geo_mesh.specs.Cells.{IsCount}
 use Rattle.geo_mesh.specs.declared.records.AttachRefusal.{AttachRefusal}
 use Rattle.geo_mesh.specs.declared.records.AttachRefusal.TheVariants.{Enxio, Eloop, Edeep}
-use Rattle.geo_mesh.specs.Mending.{IsAmong, Climbs, StandsAbove, IsJoinable, above, height}
+use Rattle.geo_mesh.specs.Mending.{IsAmong, Climbs, StandsAbove, IsJoinable, AreLocal, above, height}
 
 -- the number, and another where there is none
 abbrev pub number_or : ℕ → Option ℕ → ℕ
@@ -136,6 +136,14 @@ abbrev pub rank_under : (ℕ → ℕ) → List (ℕ × ℕ) → Option (ℕ × O
 rank_under f owners None = 0
 rank_under f owners (Some e) = rank_through f owners e.1
 
+-- a fact of the geom of each consumer by which a rank stands on the provider
+abbrev pub EachUser : SlotsView ConsCell → ℕ → (ℕ → Type 0) → Type 0
+EachUser cs prov P = (c : ℕ) → passes (is_attached prov) (value_at (ends cs).rows c) ≡ true → P (user cs c)
+
+-- how far a geom may be raised at most: more than any rank that it can need
+abbrev pub highest_raise : {C : Type 0} → SlotsView (GeomCell C) → SlotsView ProvCell → SlotsView ConsCell → ℕ → ℕ
+highest_raise gs ps cs g = height (below ps cs) (length (kinds gs)) g + 2 ^ 33
+
 -- whether a geom other than DEV and TASTE is above the limit
 abbrev pub is_high : List (ℕ × Kind) → (ℕ → ℕ) → Bool
 is_high classes f = list_any (λ row. not (is_granted_kind row.1) && nat_lt rank_limit (f row.0)) classes
@@ -166,7 +174,7 @@ pub record IsWalkable (classes : List (ℕ × Kind)) (ps : SlotsView ProvCell) (
 -- each rank that stands in a cell is one more than the highest below, no geom other than DEV and TASTE is above the limit,
 -- and each consumer's geom and each attached provider are there
 pub record AreRanks (classes : List (ℕ × Kind)) (standing owners : List (ℕ × ℕ)) (users : List (ℕ × (ℕ × Option ℕ))) : Type 0 where
-  pub local : (g : ℕ) → rank_at standing g ≡ above (under owners users) (rank_at standing) g
+  pub local : AreLocal (under owners users) (rank_at standing)
   pub low : is_high classes (rank_at standing) ≡ false
   pub owned : AllByRecursion (λ row. IsSome (value_at classes row.1.0)) users
   pub attached : AllByRecursion (λ row. IfSome row.1.1 (λ p. IsSome (value_at owners p))) users

@@ -1,4 +1,5 @@
 -- Why an attach is refused, as the model names it.
+use Rattle.std.specs.Prelude.{◌≡◌, Option, Some, None, Result, Ok, Err}
 use Rattle.geo_base.specs.declared.errno.Errno.{Errno}
 use Rattle.geo_base.specs.declared.errno.Errno.TheVariants.{ENXIO, ELOOP, EDEEP}
 use Rattle.geo_mesh.specs.declared.records.AttachRefusal.{AttachRefusal}
@@ -9,3 +10,8 @@ abbrev pub errno_of : AttachRefusal → Errno
 errno_of Enxio = ENXIO
 errno_of Eloop = ELOOP
 errno_of Edeep = EDEEP
+
+-- the answer to a call that this refuses, if anything does
+abbrev pub IsAnswer : Result (Unit {0}) AttachRefusal → Option Errno → Type 0
+IsAnswer (Ok _) refusal = refusal ≡ None
+IsAnswer (Err e) refusal = refusal ≡ Some (errno_of e)

@@ -1,5 +1,5 @@
 -- The mesh as contracts see it: the graph of the model, and beside it what is kept for its geoms, providers and consumers.
-use Rattle.std.specs.Prelude.{ℕ, ◌^◌, ◌%◌, ◌==◌, ◌&&◌, ◌||◌, nat_le, Bool, false, List, [], ◌∷◌, ◌++◌, Option, None, find, option_map, codes}
+use Rattle.std.specs.Prelude.{◌≡◌, ℕ, ◌^◌, ◌%◌, ◌==◌, ◌&&◌, ◌||◌, nat_le, Bool, false, List, [], ◌∷◌, ◌++◌, Option, None, find, option_map, codes}
 use Rattle.geo_base.specs.declared.request.Counts.{Counts}
 use Rattle.geo_base.specs.declared.kind.Kind.{Kind}
 use Rattle.geo_base.specs.declared.kind.Kind.TheVariants as kinds
@@ -130,6 +130,10 @@ module _ {C : Type 0} where
   -- with another graph alone
   abbrev pub with_topology : TopoView C → Topology C → TopoView C
   with_topology t topology = record t { topology = topology }
+
+  -- the mesh is this one, but for the room that is kept
+  abbrev pub IsButForRoom : TopoView C → TopoView C → Type 0
+  IsButForRoom new t = new ≡ record t { room = new.room }
 
   -- with other counts of a consumer, of a provider (g_access(9))
   abbrev pub with_want : TopoView C → ℕ → Counts → TopoView C

@@ -6,8 +6,8 @@ ghost use Rattle.geo_mesh.specs.Rows.{passes};
 ghost use Rattle.geo_mesh.specs.Cells.{provider_row, consumer_row};
 ghost use Rattle.geo_mesh.specs.Index.{provider_geoms, consumer_geoms, consumer_providers};
 ghost use Rattle.geo_mesh.specs.Whole.{IsKin};
-ghost use Rattle.geo_mesh.specs.Mending.{above, height, Lifted, Lowered, IsJoinable};
-ghost use Rattle.geo_mesh.specs.Ranks.{kinds, bare, offers, ends, links, stored, below, beneath, owner, user, is_first, is_offered, is_attached, belongs, is_high, rank_under, found, FirstIs, IsRefusedFor, IsWalkable, IsAdmitted};
+ghost use Rattle.geo_mesh.specs.Mending.{AreEnough, AreLocal, IsLow, Lifted, Lowered, IsJoinable};
+ghost use Rattle.geo_mesh.specs.Ranks.{kinds, bare, offers, ends, links, stored, below, beneath, owner, user, is_first, is_offered, is_attached, belongs, is_high, rank_under, found, FirstIs, EachUser, highest_raise, IsRefusedFor, IsWalkable, IsAdmitted};
 
 use crate::index::Index;
 use crate::records::{AttachRefusal, ConsCell, GeomCell, ProvCell};
@@ -169,7 +169,7 @@ pub fn raise<C>(
     requires kin { IsKin index.now providers.now consumers.now }
     requires walkable { IsWalkable (kinds geoms.old) providers.now consumers.now }
     requires lives { IsSome (value_at (kinds geoms.old) geom) }
-    requires fits { least ≤ height (below providers.now consumers.now) (length (kinds geoms.old)) geom + 2 ^ 33 }
+    requires fits { least ≤ highest_raise geoms.old providers.now consumers.now geom }
     requires high { high ≡ is_high (kinds geoms.old) (stored geoms.old) }
     ensures same { bare geoms.new ≡ bare geoms.old }
     ensures lifted { Lifted (below providers.now consumers.now) geom least (stored geoms.old) (stored geoms.new) }
@@ -203,11 +203,11 @@ fn raise_attached<C>(
     requires walkable { IsWalkable (kinds geoms.old) providers.now consumers.now }
     requires lives { IsSome (value_at (offers providers.now).rows prov) }
     requires low { least ≤ stored geoms.old (owner providers.now prov) + 1 }
-    requires fits { least ≤ height (below providers.now consumers.now) (length (kinds geoms.old)) (owner providers.now prov) + 1 + 2 ^ 33 }
+    requires fits { least ≤ 1 + highest_raise geoms.old providers.now consumers.now (owner providers.now prov) }
     requires high { high ≡ is_high (kinds geoms.old) (stored geoms.old) }
     ensures same { bare geoms.new ≡ bare geoms.old }
     ensures lifted { Lifted (below providers.now consumers.now) (owner providers.now prov) 0 (stored geoms.old) (stored geoms.new) }
-    ensures raised { (c : ℕ) → passes (is_attached prov) (value_at (ends consumers.now).rows c) ≡ true → least ≤ stored geoms.new (user consumers.now c) }
+    ensures raised { EachUser consumers.now prov (λ x. least ≤ stored geoms.new x) }
     ensures high { result ≡ is_high (kinds geoms.old) (stored geoms.new) }
 {
     let mut high = high;
@@ -309,10 +309,10 @@ pub fn lower<C>(
     requires walkable { IsWalkable (kinds geoms.old) providers.now consumers.now }
     requires lives { IsSome (value_at (kinds geoms.old) geom) }
     requires later { is_first geom ≡ false }
-    requires enough { (x : ℕ) → above (below providers.now consumers.now) (stored geoms.old) x ≤ stored geoms.old x }
+    requires enough { AreEnough (below providers.now consumers.now) (stored geoms.old) }
     ensures same { bare geoms.new ≡ bare geoms.old }
     ensures lowered { Lowered (below providers.now consumers.now) (stored geoms.old) (stored geoms.new) }
-    ensures low { stored geoms.new geom ≤ above (below providers.now consumers.now) (stored geoms.new) geom }
+    ensures low { IsLow (below providers.now consumers.now) (stored geoms.new) geom }
 {
     let rank = stored(geoms, geom);
     let new = 1 + highest_below(geoms, providers, consumers, index, geom, rank - 1);
@@ -339,10 +339,10 @@ fn lower_attached<C>(
     requires kin { IsKin index.now providers.now consumers.now }
     requires walkable { IsWalkable (kinds geoms.old) providers.now consumers.now }
     requires lives { IsSome (value_at (offers providers.now).rows prov) }
-    requires enough { (x : ℕ) → above (below providers.now consumers.now) (stored geoms.old) x ≤ stored geoms.old x }
+    requires enough { AreEnough (below providers.now consumers.now) (stored geoms.old) }
     ensures same { bare geoms.new ≡ bare geoms.old }
     ensures lowered { Lowered (below providers.now consumers.now) (stored geoms.old) (stored geoms.new) }
-    ensures low { (c : ℕ) → passes (is_attached prov) (value_at (ends consumers.now).rows c) ≡ true → stored geoms.new (user consumers.now c) ≤ above (below providers.now consumers.now) (stored geoms.new) (user consumers.now c) }
+    ensures low { EachUser consumers.now prov (IsLow (below providers.now consumers.now) (stored geoms.new)) }
 {
     let mut at = 0;
     while let Some(cons) = attached(index, consumers, prov, at) {
@@ -364,7 +364,7 @@ pub fn admit<C>(
     requires kin { IsKin index.now providers.now consumers.now }
     requires walkable { IsWalkable (kinds geoms.old) providers.now consumers.now }
     requires lives { IsSome (value_at (kinds geoms.old) upper) }
-    requires local { (x : ℕ) → stored geoms.old x ≡ above (below providers.now consumers.now) (stored geoms.old) x }
+    requires local { AreLocal (below providers.now consumers.now) (stored geoms.old) }
     requires low { is_high (kinds geoms.old) (stored geoms.old) ≡ false }
     ensures same { bare geoms.new ≡ bare geoms.old }
     ensures admitted { OnOk result (IsAdmitted (is_first upper) (below providers.now consumers.now) upper under (stored geoms.old) (stored geoms.new)) }
@@ -394,7 +394,7 @@ fn join<C>(
     requires walkable { IsWalkable (kinds geoms.old) providers.now consumers.now }
     requires lives { IsSome (value_at (kinds geoms.old) upper) }
     requires later { is_first upper ≡ false }
-    requires local { (x : ℕ) → stored geoms.old x ≡ above (below providers.now consumers.now) (stored geoms.old) x }
+    requires local { AreLocal (below providers.now consumers.now) (stored geoms.old) }
     requires low { is_high (kinds geoms.old) (stored geoms.old) ≡ false }
     ensures same { bare geoms.new ≡ bare geoms.old }
     ensures joined { OnOk result (IsJoinable (below providers.now consumers.now) upper under (stored geoms.new)) }

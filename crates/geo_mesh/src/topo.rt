@@ -1,12 +1,12 @@
 //! The mesh: geoms, providers and consumers under their numbers.
-ghost use Rattle.std.specs.Prelude.{◌≡◌, ◌≢◌, ◌≤◌, ◌<◌, ◌^◌, ◌+◌, ◌-◌, ◌==◌, [], true, false, Some, IsSome, IsOk, IfSome, IfOk, OnErr, OnOk, option_map, option_copied, length, not, ◌&&◌, nat_lt, IsSomeAnd, MatchResult, None};
+ghost use Rattle.std.specs.Prelude.{◌≡◌, ◌≢◌, ◌≤◌, ◌<◌, ◌^◌, ◌+◌, ◌-◌, ◌==◌, [], true, false, Some, IsSome, IsOk, IfSome, IfOk, OnErr, OnOk, option_map, option_copied, length, not, ◌&&◌, nat_lt, IsSomeAnd, None};
 ghost use Rattle.geo_base.specs.Name.{is_name};
 ghost use Rattle.geo_model.specs.Topology.{geom_at, provider_at, consumer_at, providers_of, consumers_of, attached_to, find_provider, is_name_taken, is_withering, set_error, set_withering, set_marks, set_config, note_started, attach, is_errored, detach};
 ghost use Rattle.geo_model.specs.Rank.{rank, attach_refusal};
 ghost use Rattle.geo_slots.specs.Slots.{value_at};
-ghost use Rattle.geo_mesh.specs.Topo.{first_mesh, with_geom, with_provider, with_consumer, without_geom, without_provider, without_consumer, with_topology, with_want, with_have, with_notes, with_active, with_geom_scratch, with_provider_scratch, with_consumer_scratch, first_geom, first_consumer, first_provider, is_provider_size, no_counts};
+ghost use Rattle.geo_mesh.specs.Topo.{first_mesh, with_geom, with_provider, with_consumer, without_geom, without_provider, without_consumer, with_topology, with_want, with_have, with_notes, with_active, with_geom_scratch, with_provider_scratch, with_consumer_scratch, first_geom, first_consumer, first_provider, is_provider_size, no_counts, IsButForRoom};
 ghost use Rattle.geo_mesh.specs.Graph.{IsSoundGraph};
-ghost use Rattle.geo_mesh.specs.Refusals.{errno_of};
+ghost use Rattle.geo_mesh.specs.Refusals.{IsAnswer};
 ghost use Rattle.geo_mesh.specs.Cells.{geom_seen, provider_seen, consumer_seen, made_cell};
 
 use crate::index::Index;
@@ -455,7 +455,7 @@ impl<C> Topo<C> {
     pub fn attach(&mut self, cons: ConsId, prov: ProvId) -> Result<(), AttachRefusal>
         requires consumer { IsSomeAnd (consumer_at self.old.topology cons) (λ x. x.provider ≡ None) }
         requires provider { IsSome (provider_at self.old.topology prov) }
-        ensures answer { MatchResult result (λ _. attach_refusal self.old.topology cons prov ≡ None) (λ e. attach_refusal self.old.topology cons prov ≡ Some (errno_of e)) }
+        ensures answer { IsAnswer result (attach_refusal self.old.topology cons prov) }
         ensures attached { OnOk result (self.new ≡ with_topology self.old (attach self.old.topology cons prov)) }
         ensures same { OnErr result (self.new ≡ self.old) }
     {
@@ -486,7 +486,7 @@ impl<C> Topo<C> {
 
     /// Keeps room, so that so many geoms, providers and consumers can be made without want of memory.
     pub fn reserve(&mut self, geoms: u64, providers: u64, consumers: u64) -> Result<(), NoMemory>
-        ensures same { self.new ≡ record self.old { room = self.new.room } }
+        ensures same { IsButForRoom self.new self.old }
         ensures geoms { OnOk result (geoms ≤ self.new.room.geoms) }
         ensures providers { OnOk result (providers ≤ self.new.room.providers) }
         ensures consumers { OnOk result (consumers ≤ self.new.room.consumers) }
@@ -520,8 +520,8 @@ impl<C> Topo<C> {
         requires size { is_provider_size size sector ≡ true }
         requires free { is_name_taken self.old.topology name ≡ false }
         ensures number { IfOk result (λ id. id ≡ self.old.topology.next_provider) }
-        ensures added { OnOk result (self.new ≡ record (with_provider self.old geom name size sector) { room = self.new.room }) }
-        ensures same { OnErr result (self.new ≡ record self.old { room = self.new.room }) }
+        ensures added { OnOk result (IsButForRoom self.new (with_provider self.old geom name size sector)) }
+        ensures same { OnErr result (IsButForRoom self.new self.old) }
         ensures room { self.old.room.providers ≤ self.new.room.providers + 1 }
         ensures other_room { self.new.room ≡ record self.old.room { providers = self.new.room.providers } }
         ensures had_room { 1 ≤ self.old.room.providers → IsOk result }
@@ -552,8 +552,8 @@ impl<C> Topo<C> {
     pub fn new_consumer(&mut self, geom: GeomId) -> Result<ConsId, NoMemory>
         requires { IsSome (geom_at self.old.topology geom) }
         ensures number { IfOk result (λ id. id ≡ self.old.topology.next_consumer) }
-        ensures added { OnOk result (self.new ≡ record (with_consumer self.old geom) { room = self.new.room }) }
-        ensures same { OnErr result (self.new ≡ record self.old { room = self.new.room }) }
+        ensures added { OnOk result (IsButForRoom self.new (with_consumer self.old geom)) }
+        ensures same { OnErr result (IsButForRoom self.new self.old) }
         ensures room { self.old.room.consumers ≤ self.new.room.consumers + 1 }
         ensures other_room { self.new.room ≡ record self.old.room { consumers = self.new.room.consumers } }
         ensures had_room { 1 ≤ self.old.room.consumers → IsOk result }
@@ -607,8 +607,8 @@ impl<C: Drop> Topo<C> {
         automatic: bool,
     ) -> Result<GeomId, NoMemory>
         ensures number { IfOk result (λ id. id ≡ self.old.topology.next_geom) }
-        ensures added { OnOk result (self.new ≡ record (with_geom self.old kind name config automatic) { room = self.new.room }) }
-        ensures same { OnErr result (self.new ≡ record self.old { room = self.new.room }) }
+        ensures added { OnOk result (IsButForRoom self.new (with_geom self.old kind name config automatic)) }
+        ensures same { OnErr result (IsButForRoom self.new self.old) }
         ensures room { self.old.room.geoms ≤ self.new.room.geoms + 1 }
         ensures other_room { self.new.room ≡ record self.old.room { geoms = self.new.room.geoms } }
         ensures had_room { 1 ≤ self.old.room.geoms → IsOk result }
@@ -630,7 +630,7 @@ impl<C: Drop> Topo<C> {
         requires not_taste { geom ≢ 2 }
         requires no_provider { providers_of self.old.topology geom ≡ [] }
         requires no_consumer { consumers_of self.old.topology geom ≡ [] }
-        ensures removed { self.new ≡ record (without_geom self.old geom) { room = self.new.room } }
+        ensures removed { IsButForRoom self.new (without_geom self.old geom) }
         ensures room { self.old.room.geoms ≤ self.new.room.geoms }
         ensures other_room { self.new.room ≡ record self.old.room { geoms = self.new.room.geoms } }
     {

@@ -3,7 +3,7 @@ use Rattle.geo_model.specs.Words.{largest}
 use Rattle.geo_slots.specs.Slots.{value_at}
 use Rattle.geo_mesh.specs.Rows.{passes}
 use Rattle.geo_mesh.specs.Mending.{IsAmong, above, height}
-use Rattle.geo_mesh.specs.Ranks.{kinds, bare, offers, ends, stored, below, beneath, owner, user, is_offered, is_attached, IsFirst}
+use Rattle.geo_mesh.specs.Ranks.{kinds, bare, offers, ends, stored, below, owner, user, is_offered, is_attached, IsFirst}
 use Rattle.geo_mesh.proofs.RankMend.{lowered-none, lowered-store, lowered-whole, climbs-apart}
 use Rattle.geo_mesh.proofs.RankHeights.{height-most}
 use Rattle.geo_mesh.proofs.RankRows.{kinds-bare}
