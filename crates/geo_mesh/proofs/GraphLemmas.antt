@@ -19,11 +19,11 @@ use Rattle.geo_mesh.specs.declared.names.Names.{Names}
 use Rattle.geo_mesh.specs.Cells.{graph_of, provider_row}
 use Rattle.geo_mesh.specs.Graph.{IsSoundGraph}
 use Rattle.geo_mesh.specs.Names.{OneEach, is_sound_named}
-use Rattle.geo_mesh.specs.Ranks.{HaveRanks, AreFirst, beneath, found, stored}
+use Rattle.geo_mesh.specs.Ranks.{HaveRanks, HaveDevAndTaste, beneath, rank_from, stored}
 use Rattle.geo_mesh.specs.Whole.{IsWhole}
 use Rattle.geo_mesh.proofs.NameLemmas.{same_is, is_same}
-use Rattle.geo_mesh.proofs.RankFirst.{first-two, found-local}
-use Rattle.geo_mesh.proofs.RankMesh.{under-graph, found-rank, mesh-low}
+use Rattle.geo_mesh.proofs.RankFirst.{first-two, rank_from-local}
+use Rattle.geo_mesh.proofs.RankMesh.{under-graph, rank_from-rank, mesh-low}
 
 -- two functions with the same values give the same list
 map_same : {X Y : Type 0} (f h : X → Y) → ((x : X) → f x ≡ h x) → (xs : List X) → map f xs ≡ map h xs
@@ -32,13 +32,13 @@ map_same f h same (x ∷ xs) = rw (same x, map_same f h same xs) refl
 
 -- Ranks
 
-module _ {C : Type 0} (gs : SlotsView (GeomCell C)) (ps : SlotsView ProvCell) (cs : SlotsView ConsCell) (live : ℕ) (mesh : HaveRanks gs ps cs live) (first : AreFirst gs ps) where
+module _ {C : Type 0} (gs : SlotsView (GeomCell C)) (ps : SlotsView ProvCell) (cs : SlotsView ConsCell) (live : ℕ) (mesh : HaveRanks gs ps cs live) (first : HaveDevAndTaste gs ps) where
   -- a rank is one more than the highest below
   rank-above : (g : ℕ) → rank (graph_of gs ps cs) g ≡ 1 + largest (map (rank (graph_of gs ps cs)) (geoms_under (graph_of gs ps cs) g))
   rank-above g =
-      found-rank gs ps cs live mesh first g
-      ∙ found-local ps cs first.bare (stored gs) mesh.standing.local g
-      ∙ ap (λ n. 1 + largest n) (sym (map_same (rank (graph_of gs ps cs)) (found (stored gs) ps cs) (found-rank gs ps cs live mesh first) (beneath ps cs g)))
+      rank_from-rank gs ps cs live mesh first g
+      ∙ rank_from-local ps cs first.bare (stored gs) mesh.standing.local g
+      ∙ ap (λ n. 1 + largest n) (sym (map_same (rank (graph_of gs ps cs)) (rank_from (stored gs) ps cs) (rank_from-rank gs ps cs live mesh first) (beneath ps cs g)))
       ∙ ap (λ hs. 1 + largest (map (rank (graph_of gs ps cs)) hs)) (sym (under-graph gs ps cs g))
 
   -- the geom of a provider to which a consumer is attached is below the consumer's geom

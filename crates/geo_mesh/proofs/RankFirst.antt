@@ -20,7 +20,7 @@ use Rattle.geo_mesh.specs.Rows.{rows_with, passes}
 use Rattle.geo_mesh.specs.Cells.{graph_of, geom_row, provider_row, consumer_row}
 use Rattle.geo_mesh.specs.Graph.{IsOffer, IsOrderly}
 use Rattle.geo_mesh.specs.Mending.{IsAmong, StandsAbove, above}
-use Rattle.geo_mesh.specs.Ranks.{is_first, footing, ends_of, links_of, ends, links, offers, below, beneath, found, is_high, is_attached, owner, user, bare, kind_of, owner_of, AreFirst}
+use Rattle.geo_mesh.specs.Ranks.{is_dev_or_taste, footing, ends_of, links_of, ends, links, offers, below, beneath, rank_from, is_high, is_attached, owner, user, bare, kind_of, owner_of, HaveDevAndTaste}
 use Rattle.geo_mesh.proofs.RowLemmas.{value_at-rows_with}
 use Rattle.geo_mesh.proofs.RankMend.{largest-same}
 use Rattle.geo_mesh.proofs.RankHeights.{local-few}
@@ -34,37 +34,37 @@ first_or_not true = inl refl
 first_or_not false = inr refl
 
 -- the rank of a later geom stands on what its consumers are attached to
-pub footing-later : (g : ℕ) (o : Option ℕ) → is_first g ≡ false → footing g o ≡ o
+pub footing-later : (g : ℕ) (o : Option ℕ) → is_dev_or_taste g ≡ false → footing g o ≡ o
 footing-later g o later = rw later refl
 
 -- that of one of the first two stands on nothing
-pub footing-first : (g : ℕ) (o : Option ℕ) → is_first g ≡ true → footing g o ≡ None
+pub footing-first : (g : ℕ) (o : Option ℕ) → is_dev_or_taste g ≡ true → footing g o ≡ None
 footing-first g o first = rw first refl
 
 -- and so does that of a geom by a consumer that is attached to nothing
 pub footing-none : (g : ℕ) → footing g None ≡ None
-footing-none g = at (is_first g) refl where
-  at : (b : Bool) → is_first g ≡ b → footing g None ≡ None
+footing-none g = at (is_dev_or_taste g) refl where
+  at : (b : Bool) → is_dev_or_taste g ≡ b → footing g None ≡ None
   at true e = rw e refl
   at false e = rw e refl
 
 -- by a consumer that isn't attached to a provider it doesn't stand on that
 pub footing-unnamed : (g n : ℕ) (o : Option ℕ) → names_number o n ≡ false → names_number (footing g o) n ≡ false
-footing-unnamed g n o e = at (is_first g) refl where
-  at : (b : Bool) → is_first g ≡ b → names_number (footing g o) n ≡ false
+footing-unnamed g n o e = at (is_dev_or_taste g) refl where
+  at : (b : Bool) → is_dev_or_taste g ≡ b → names_number (footing g o) n ≡ false
   at true first = rw first refl
   at false later = rw later e
 
 -- where it stands on a provider, the geom is a later one
-pub footing-some : (g p : ℕ) (o : Option ℕ) → footing g o ≡ Some p → (is_first g ≡ false) × (o ≡ Some p)
-footing-some g p o there = at (is_first g) refl there where
-  at : (b : Bool) → is_first g ≡ b → (if b then None else o) ≡ Some p → (is_first g ≡ false) × (o ≡ Some p)
+pub footing-some : (g p : ℕ) (o : Option ℕ) → footing g o ≡ Some p → (is_dev_or_taste g ≡ false) × (o ≡ Some p)
+footing-some g p o there = at (is_dev_or_taste g) refl there where
+  at : (b : Bool) → is_dev_or_taste g ≡ b → (if b then None else o) ≡ Some p → (is_dev_or_taste g ≡ false) × (o ≡ Some p)
   at true e there = absurd (cc)
   at false e there = (e, there)
 
 module _ (g : ℕ) where
   -- the providers below a later geom, by either table
-  links_step : is_first g ≡ false → (row : ℕ × ConsCell) (rows : List (ℕ × ConsCell)) (b : Bool) → (row.1.consumer.geom == g) ≡ b
+  links_step : is_dev_or_taste g ≡ false → (row : ℕ × ConsCell) (rows : List (ℕ × ConsCell)) (b : Bool) → (row.1.consumer.geom == g) ≡ b
       → filter_map (λ (r : ℕ × (ℕ × Option ℕ)). r.1.1) (filter (λ (r : ℕ × (ℕ × Option ℕ)). r.1.0 == g) (rows_with ends_of rows)) ≡ filter_map (λ (r : ℕ × (ℕ × Option ℕ)). r.1.1) (filter (λ (r : ℕ × (ℕ × Option ℕ)). r.1.0 == g) (rows_with links_of rows))
       → filter_map (λ (r : ℕ × (ℕ × Option ℕ)). r.1.1) (filter (λ (r : ℕ × (ℕ × Option ℕ)). r.1.0 == g) (rows_with ends_of (row ∷ rows))) ≡ filter_map (λ (r : ℕ × (ℕ × Option ℕ)). r.1.1) (filter (λ (r : ℕ × (ℕ × Option ℕ)). r.1.0 == g) (rows_with links_of (row ∷ rows)))
   links_step later row rows false e rest = rw e rest
@@ -76,13 +76,13 @@ module _ (g : ℕ) where
       at (Some p) foot is = rw (e, foot, is) (ap (λ qs. p ∷ qs) rest)
 
   -- over all rows
-  links_same : is_first g ≡ false → (rows : List (ℕ × ConsCell))
+  links_same : is_dev_or_taste g ≡ false → (rows : List (ℕ × ConsCell))
       → filter_map (λ (r : ℕ × (ℕ × Option ℕ)). r.1.1) (filter (λ (r : ℕ × (ℕ × Option ℕ)). r.1.0 == g) (rows_with ends_of rows)) ≡ filter_map (λ (r : ℕ × (ℕ × Option ℕ)). r.1.1) (filter (λ (r : ℕ × (ℕ × Option ℕ)). r.1.0 == g) (rows_with links_of rows))
   links_same later [] = refl
   links_same later (row ∷ rows) = links_step later row rows (row.1.consumer.geom == g) refl (links_same later rows)
 
   -- the first two stand on no provider
-  no_footing : is_first g ≡ true → (rows : List (ℕ × ConsCell)) → filter_map (λ (r : ℕ × (ℕ × Option ℕ)). r.1.1) (filter (λ (r : ℕ × (ℕ × Option ℕ)). r.1.0 == g) (rows_with ends_of rows)) ≡ []
+  no_footing : is_dev_or_taste g ≡ true → (rows : List (ℕ × ConsCell)) → filter_map (λ (r : ℕ × (ℕ × Option ℕ)). r.1.1) (filter (λ (r : ℕ × (ℕ × Option ℕ)). r.1.0 == g) (rows_with ends_of rows)) ≡ []
   no_footing first [] = refl
   no_footing first (row ∷ rows) = at (row.1.consumer.geom == g) refl (no_footing first rows) where
     at : (b : Bool) → (row.1.consumer.geom == g) ≡ b → filter_map (λ (r : ℕ × (ℕ × Option ℕ)). r.1.1) (filter (λ (r : ℕ × (ℕ × Option ℕ)). r.1.0 == g) (rows_with ends_of rows)) ≡ []
@@ -92,9 +92,9 @@ module _ (g : ℕ) where
 
 module _ (cs : SlotsView ConsCell) where
   -- a consumer by which a rank stands on a provider is of a later geom
-  pub attached-later : (p c : ℕ) → passes (is_attached p) (value_at (ends cs).rows c) ≡ true → is_first (user cs c) ≡ false
+  pub attached-later : (p c : ℕ) → passes (is_attached p) (value_at (ends cs).rows c) ≡ true → is_dev_or_taste (user cs c) ≡ false
   attached-later p c there = at (value_at cs.rows c) refl (rw (value_at-rows_with ends_of c cs.rows) at there) where
-    at : (o : Option ConsCell) → value_at cs.rows c ≡ o → passes (is_attached p) (option_map ends_of o) ≡ true → is_first (user cs c) ≡ false
+    at : (o : Option ConsCell) → value_at cs.rows c ≡ o → passes (is_attached p) (option_map ends_of o) ≡ true → is_dev_or_taste (user cs c) ≡ false
     at None e there = absurd (cc)
     at (Some v) e there = rw (value_at-rows_with ends_of c cs.rows, e) (footing-some v.consumer.geom p v.consumer.prov (names-some (footing v.consumer.geom v.consumer.prov) p there)).0
 
@@ -106,7 +106,7 @@ module _ (cs : SlotsView ConsCell) where
     at (Some v) there = rw (footing-some v.consumer.geom p v.consumer.prov (names-some (footing v.consumer.geom v.consumer.prov) p there)).1 (eq-eqb p p refl)
 
   -- the rank of a later geom stands on a provider to which its consumer is attached
-  pub linked-attached : (p c : ℕ) → is_first (user cs c) ≡ false → passes (is_attached p) (value_at (links cs).rows c) ≡ true → passes (is_attached p) (value_at (ends cs).rows c) ≡ true
+  pub linked-attached : (p c : ℕ) → is_dev_or_taste (user cs c) ≡ false → passes (is_attached p) (value_at (links cs).rows c) ≡ true → passes (is_attached p) (value_at (ends cs).rows c) ≡ true
   linked-attached p c later there = rw (value_at-rows_with ends_of c cs.rows) (at (value_at cs.rows c) refl (rw (value_at-rows_with links_of c cs.rows) at there)) where
     at : (o : Option ConsCell) → value_at cs.rows c ≡ o → passes (is_attached p) (option_map links_of o) ≡ true → passes (is_attached p) (option_map ends_of o) ≡ true
     at None e there = absurd (cc)
@@ -116,79 +116,79 @@ module _ (cs : SlotsView ConsCell) where
         rw stands there
 
 -- a provider's geom is a later one
-pub owner-later : (ps : SlotsView ProvCell) → AllByRecursion (λ row. is_first row.1 ≡ false) (offers ps).rows → (p : ℕ) → IsSome (value_at (offers ps).rows p) → is_first (owner ps p) ≡ false
+pub owner-later : (ps : SlotsView ProvCell) → AllByRecursion (λ row. is_dev_or_taste row.1 ≡ false) (offers ps).rows → (p : ℕ) → IsSome (value_at (offers ps).rows p) → is_dev_or_taste (owner ps p) ≡ false
 owner-later ps bare p there = at (value_at (offers ps).rows p) refl there where
-  at : (o : Option ℕ) → value_at (offers ps).rows p ≡ o → IsSome o → is_first (owner ps p) ≡ false
+  at : (o : Option ℕ) → value_at (offers ps).rows p ≡ o → IsSome o → is_dev_or_taste (owner ps p) ≡ false
   at None e never = absurd (cc)
-  at (Some h) e there = rw e (all-at (λ (row : ℕ × ℕ). is_first row.1 ≡ false) (offers ps).rows p h bare e)
+  at (Some h) e there = rw e (all-at (λ (row : ℕ × ℕ). is_dev_or_taste row.1 ≡ false) (offers ps).rows p h bare e)
 
 module _ (ps : SlotsView ProvCell) (cs : SlotsView ConsCell) where
   -- a later geom stands on all geoms directly below it
-  pub below-beneath : (g : ℕ) → is_first g ≡ false → below ps cs g ≡ beneath ps cs g
+  pub below-beneath : (g : ℕ) → is_dev_or_taste g ≡ false → below ps cs g ≡ beneath ps cs g
   below-beneath g later = ap (filter_map (value_at (offers ps).rows)) (links_same g later cs.rows)
 
   -- and one of the first two on none
-  pub below-first : (g : ℕ) → is_first g ≡ true → below ps cs g ≡ []
+  pub below-first : (g : ℕ) → is_dev_or_taste g ≡ true → below ps cs g ≡ []
   below-first g first = ap (filter_map (value_at (offers ps).rows)) (no_footing g first cs.rows)
 
-  module _ (bare : AllByRecursion (λ row. is_first row.1 ≡ false) (offers ps).rows) where
+  module _ (bare : AllByRecursion (λ row. is_dev_or_taste row.1 ≡ false) (offers ps).rows) where
     -- what offers a provider is a later geom
-    offered_later : (qs : List ℕ) (h : ℕ) → IsAmong (filter_map (value_at (offers ps).rows) qs) h → is_first h ≡ false
+    offered_later : (qs : List ℕ) (h : ℕ) → IsAmong (filter_map (value_at (offers ps).rows) qs) h → is_dev_or_taste h ≡ false
     offered_later [] h there = absurd there
     offered_later (q ∷ qs) h there = at (value_at (offers ps).rows q) refl there (λ e. offered_later qs h e) where
-      at : (o : Option ℕ) → value_at (offers ps).rows q ≡ o → IsAmong (filter_map (value_at (offers ps).rows) (q ∷ qs)) h → (IsAmong (filter_map (value_at (offers ps).rows) qs) h → is_first h ≡ false) → is_first h ≡ false
+      at : (o : Option ℕ) → value_at (offers ps).rows q ≡ o → IsAmong (filter_map (value_at (offers ps).rows) (q ∷ qs)) h → (IsAmong (filter_map (value_at (offers ps).rows) qs) h → is_dev_or_taste h ≡ false) → is_dev_or_taste h ≡ false
       at None e there so = so (rw e at there)
       at (Some k) e there so = pick (rw e at there) where
-        pick : (k ≡ h) ⊎ IsAmong (filter_map (value_at (offers ps).rows) qs) h → is_first h ≡ false
-        pick (inl same) = subst (λ n. is_first n ≡ false) same (all-at (λ (row : ℕ × ℕ). is_first row.1 ≡ false) (offers ps).rows q k bare e)
+        pick : (k ≡ h) ⊎ IsAmong (filter_map (value_at (offers ps).rows) qs) h → is_dev_or_taste h ≡ false
+        pick (inl same) = subst (λ n. is_dev_or_taste n ≡ false) same (all-at (λ (row : ℕ × ℕ). is_dev_or_taste row.1 ≡ false) (offers ps).rows q k bare e)
         pick (inr rest) = so rest
 
     -- so what is directly below a geom is one
-    pub beneath-later : (x h : ℕ) → IsAmong (beneath ps cs x) h → is_first h ≡ false
+    pub beneath-later : (x h : ℕ) → IsAmong (beneath ps cs x) h → is_dev_or_taste h ≡ false
     beneath-later x h there = offered_later (filter_map (λ (r : ℕ × (ℕ × Option ℕ)). r.1.1) (filter (λ (r : ℕ × (ℕ × Option ℕ)). r.1.0 == x) (links cs).rows)) h there
 
     module _ (f : ℕ → ℕ) (local : (x : ℕ) → f x ≡ above (below ps cs) f x) where
       -- what is directly below a geom has the rank that stands in its cell
-      same_beneath : (x : ℕ) → largest (map (found f ps cs) (beneath ps cs x)) ≡ largest (map f (beneath ps cs x))
-      same_beneath x = largest-same (found f ps cs) f (beneath ps cs x) (λ h there. (let later : is_first h ≡ false = beneath-later x h there in rw later refl))
+      same_beneath : (x : ℕ) → largest (map (rank_from f ps cs) (beneath ps cs x)) ≡ largest (map f (beneath ps cs x))
+      same_beneath x = largest-same (rank_from f ps cs) f (beneath ps cs x) (λ h there. (let later : is_dev_or_taste h ≡ false = beneath-later x h there in rw later refl))
 
       -- the ranks are one more than the highest directly below
-      pub found-local : (x : ℕ) → found f ps cs x ≡ above (beneath ps cs) (found f ps cs) x
-      found-local x = at (first_or_not (is_first x)) where
-        at : (is_first x ≡ true) ⊎ (is_first x ≡ false) → found f ps cs x ≡ above (beneath ps cs) (found f ps cs) x
-        at (inl first) = (let here : found f ps cs x ≡ 1 + largest (map f (beneath ps cs x)) = rw first refl in omega (arith, same_beneath x))
+      pub rank_from-local : (x : ℕ) → rank_from f ps cs x ≡ above (beneath ps cs) (rank_from f ps cs) x
+      rank_from-local x = at (first_or_not (is_dev_or_taste x)) where
+        at : (is_dev_or_taste x ≡ true) ⊎ (is_dev_or_taste x ≡ false) → rank_from f ps cs x ≡ above (beneath ps cs) (rank_from f ps cs) x
+        at (inl first) = (let here : rank_from f ps cs x ≡ 1 + largest (map f (beneath ps cs x)) = rw first refl in omega (arith, same_beneath x))
         at (inr later) =
-            let here : found f ps cs x ≡ f x = rw later refl in
+            let here : rank_from f ps cs x ≡ f x = rw later refl in
             let stands : f x ≡ 1 + largest (map f (beneath ps cs x)) = subst (λ ms. f x ≡ 1 + largest (map f ms)) (below-beneath x later) (local x) in
             omega (arith, same_beneath x)
 
       -- and no more than one above the number of geoms
-      pub found-few : (numbers : List ℕ) → ((g : ℕ) → is_first g ≡ true → IsAmong numbers g) → ((g : ℕ) → 2 ≤ f g → IsAmong numbers g) → (x : ℕ) → found f ps cs x ≤ length numbers + 1
-      found-few numbers listed stood x = local-few (found f ps cs) (beneath ps cs) numbers found-local (λ g high. at g high (first_or_not (is_first g))) x where
-        at : (g : ℕ) → 2 ≤ found f ps cs g → (is_first g ≡ true) ⊎ (is_first g ≡ false) → IsAmong numbers g
+      pub rank_from-few : (numbers : List ℕ) → ((g : ℕ) → is_dev_or_taste g ≡ true → IsAmong numbers g) → ((g : ℕ) → 2 ≤ f g → IsAmong numbers g) → (x : ℕ) → rank_from f ps cs x ≤ length numbers + 1
+      rank_from-few numbers listed stood x = local-few (rank_from f ps cs) (beneath ps cs) numbers rank_from-local (λ g high. at g high (first_or_not (is_dev_or_taste g))) x where
+        at : (g : ℕ) → 2 ≤ rank_from f ps cs g → (is_dev_or_taste g ≡ true) ⊎ (is_dev_or_taste g ≡ false) → IsAmong numbers g
         at g high (inl first) = listed g first
-        at g high (inr later) = (let here : found f ps cs g ≡ f g = rw later refl in stood g (omega arith))
+        at g high (inr later) = (let here : rank_from f ps cs g ≡ f g = rw later refl in stood g (omega arith))
 
     -- what stands above a later geom does so by the ranks
-    pub stands-down : (x g : ℕ) → is_first x ≡ false → StandsAbove (beneath ps cs) x g → StandsAbove (below ps cs) x g
-    stands-down x g later stands = λ has here so. only (has x) (stands (λ y. has y || is_first y) (rw here refl) (λ y h there is. up has so y h there is (first_or_not (is_first y)))) where
+    pub stands-down : (x g : ℕ) → is_dev_or_taste x ≡ false → StandsAbove (beneath ps cs) x g → StandsAbove (below ps cs) x g
+    stands-down x g later stands = λ has here so. only (has x) (stands (λ y. has y || is_dev_or_taste y) (rw here refl) (λ y h there is. up has so y h there is (first_or_not (is_dev_or_taste y)))) where
       -- of one of two facts, of which the second is false
-      only : (b : Bool) → (b || is_first x) ≡ true → b ≡ true
+      only : (b : Bool) → (b || is_dev_or_taste x) ≡ true → b ≡ true
       only b fact = at b (rw later at fact) where
         at : (b : Bool) → (b || false) ≡ true → b ≡ true
         at true fact = refl
         at false fact = fact
 
       -- the fact goes up along each edge
-      up : (has : ℕ → Bool) → ((y h : ℕ) → IsAmong (below ps cs y) h → has h ≡ true → has y ≡ true) → (y h : ℕ) → IsAmong (beneath ps cs y) h → (has h || is_first h) ≡ true
-          → (is_first y ≡ true) ⊎ (is_first y ≡ false) → (has y || is_first y) ≡ true
+      up : (has : ℕ → Bool) → ((y h : ℕ) → IsAmong (below ps cs y) h → has h ≡ true → has y ≡ true) → (y h : ℕ) → IsAmong (beneath ps cs y) h → (has h || is_dev_or_taste h) ≡ true
+          → (is_dev_or_taste y ≡ true) ⊎ (is_dev_or_taste y ≡ false) → (has y || is_dev_or_taste y) ≡ true
       up has so y h there is (inl first) = at (has y) where
-        at : (b : Bool) → (b || is_first y) ≡ true
+        at : (b : Bool) → (b || is_dev_or_taste y) ≡ true
         at true = refl
         at false = first
       up has so y h there is (inr above_later) =
           let near : IsAmong (below ps cs y) h = subst (λ ms. IsAmong ms h) (sym (below-beneath y above_later)) there in
-          let below_later : is_first h ≡ false = beneath-later y h there in
+          let below_later : is_dev_or_taste h ≡ false = beneath-later y h there in
           let here : has h ≡ true = at (has h) (rw below_later at is) in
           rw (so y h near here) refl
         where
@@ -198,17 +198,17 @@ module _ (ps : SlotsView ProvCell) (cs : SlotsView ConsCell) where
 
   -- what stands above a geom by the ranks does so by the graph
   pub stands-up : (x g : ℕ) → StandsAbove (below ps cs) x g → StandsAbove (beneath ps cs) x g
-  stands-up x g stands = λ has here so. stands has here (λ y h there is. at has so y h there is (first_or_not (is_first y))) where
+  stands-up x g stands = λ has here so. stands has here (λ y h there is. at has so y h there is (first_or_not (is_dev_or_taste y))) where
     at : (has : ℕ → Bool) → ((y h : ℕ) → IsAmong (beneath ps cs y) h → has h ≡ true → has y ≡ true) → (y h : ℕ) → IsAmong (below ps cs y) h → has h ≡ true
-        → (is_first y ≡ true) ⊎ (is_first y ≡ false) → has y ≡ true
+        → (is_dev_or_taste y ≡ true) ⊎ (is_dev_or_taste y ≡ false) → has y ≡ true
     at has so y h there is (inl first) = absurd (subst (λ ms. IsAmong ms h) (below-first y first) there)
     at has so y h there is (inr later) = so y h (subst (λ ms. IsAmong ms h) (below-beneath y later) there) is
 
   -- the classes of the first two have no limit, so only the ranks in the cells can be too great
-  pub found-high : (f : ℕ → ℕ) (classes : List (ℕ × Kind)) → AllByRecursion (λ row. is_first row.0 ≡ true → is_granted_kind row.1 ≡ true) classes → is_high classes (found f ps cs) ≡ is_high classes f
-  found-high f [] granted = refl
-  found-high f (row ∷ rows) granted = at (first_or_not (is_first row.0)) (found-high f rows granted.1) where
-    at : (is_first row.0 ≡ true) ⊎ (is_first row.0 ≡ false) → is_high rows (found f ps cs) ≡ is_high rows f → is_high (row ∷ rows) (found f ps cs) ≡ is_high (row ∷ rows) f
+  pub rank_from-high : (f : ℕ → ℕ) (classes : List (ℕ × Kind)) → AllByRecursion (λ row. is_dev_or_taste row.0 ≡ true → is_granted_kind row.1 ≡ true) classes → is_high classes (rank_from f ps cs) ≡ is_high classes f
+  rank_from-high f [] granted = refl
+  rank_from-high f (row ∷ rows) granted = at (first_or_not (is_dev_or_taste row.0)) (rank_from-high f rows granted.1) where
+    at : (is_dev_or_taste row.0 ≡ true) ⊎ (is_dev_or_taste row.0 ≡ false) → is_high rows (rank_from f ps cs) ≡ is_high rows f → is_high (row ∷ rows) (rank_from f ps cs) ≡ is_high (row ∷ rows) f
     at (inl first) rest = rw (granted.0 first, rest) refl
     at (inr later) rest = rw (later, rest) refl
 
@@ -231,7 +231,7 @@ value-listed (row ∷ rows) n there = at (row.0 == n) refl there (value-listed r
   at false e there so = inr (so (rw e at there))
 
 -- which are the first two
-first_is : (g : ℕ) → is_first g ≡ true → (g ≡ 1) ⊎ (g ≡ 2)
+first_is : (g : ℕ) → is_dev_or_taste g ≡ true → (g ≡ 1) ⊎ (g ≡ 2)
 first_is g first = at (g == 1) refl (g == 2) refl where
   at : (a : Bool) → (g == 1) ≡ a → (b : Bool) → (g == 2) ≡ b → (g ≡ 1) ⊎ (g ≡ 2)
   at true e b f = inl (eqb-true g 1 e)
@@ -239,7 +239,7 @@ first_is g first = at (g == 1) refl (g == 2) refl where
   at false e false f = let never = rw (e, f) at first in absurd (cc)
 
 -- what is none of them is a later one
-later_is : (g : ℕ) → g ≢ 1 → g ≢ 2 → is_first g ≡ false
+later_is : (g : ℕ) → g ≢ 1 → g ≢ 2 → is_dev_or_taste g ≡ false
 later_is g not_dev not_taste = rw (ne_eqb g 1 not_dev, ne_eqb g 2 not_taste) refl
 
 module _ {C : Type 0} (gs : SlotsView (GeomCell C)) (ps : SlotsView ProvCell) (cs : SlotsView ConsCell) (orderly : IsOrderly (graph_of gs ps cs)) where
@@ -251,14 +251,14 @@ module _ {C : Type 0} (gs : SlotsView (GeomCell C)) (ps : SlotsView ProvCell) (c
     at (Some v) fact = refl
 
   -- the first two are there
-  first_listed : (g : ℕ) → is_first g ≡ true → IsAmong (map (λ (row : ℕ × GeomCell C). row.0) gs.rows) g
+  first_listed : (g : ℕ) → is_dev_or_taste g ≡ true → IsAmong (map (λ (row : ℕ × GeomCell C). row.0) gs.rows) g
   first_listed g first = at (first_is g first) where
     at : (g ≡ 1) ⊎ (g ≡ 2) → IsAmong (map (λ (row : ℕ × GeomCell C). row.0) gs.rows) g
     at (inl dev) = subst (λ n. IsAmong (map (λ (row : ℕ × GeomCell C). row.0) gs.rows) n) (sym dev) (value-listed gs.rows 1 (stands_there 1 (λ x. x.kind ≡ kinds.Dev) orderly.first.dev))
     at (inr taste) = subst (λ n. IsAmong (map (λ (row : ℕ × GeomCell C). row.0) gs.rows) n) (sym taste) (value-listed gs.rows 2 (stands_there 2 (λ x. x.kind ≡ kinds.Taste) orderly.first.taste))
 
   -- their classes have no limit
-  granted_of : (x : Geom C) → geom_at (graph_of gs ps cs) x.number ≡ Some x → is_first x.number ≡ true → is_granted_kind x.kind ≡ true
+  granted_of : (x : Geom C) → geom_at (graph_of gs ps cs) x.number ≡ Some x → is_dev_or_taste x.number ≡ true → is_granted_kind x.kind ≡ true
   granted_of x found first = at (first_is x.number first) where
     at : (x.number ≡ 1) ⊎ (x.number ≡ 2) → is_granted_kind x.kind ≡ true
     at (inl dev) = (let is : x.kind ≡ kinds.Dev = rw (subst (λ n. geom_at (graph_of gs ps cs) n ≡ Some x) dev found) at orderly.first.dev in rw is refl)
@@ -266,17 +266,17 @@ module _ {C : Type 0} (gs : SlotsView (GeomCell C)) (ps : SlotsView ProvCell) (c
 
   -- so for each row
   first_granted : (rows : List (ℕ × GeomCell C)) → AllByRecursion (λ (x : Geom C). geom_at (graph_of gs ps cs) x.number ≡ Some x) (map geom_row rows)
-      → AllByRecursion (λ (row : ℕ × Kind). is_first row.0 ≡ true → is_granted_kind row.1 ≡ true) (rows_with (kind_of {C = C}) rows)
+      → AllByRecursion (λ (row : ℕ × Kind). is_dev_or_taste row.0 ≡ true → is_granted_kind row.1 ≡ true) (rows_with (kind_of {C = C}) rows)
   first_granted [] facts = tt
   first_granted (row ∷ rows) facts = (granted_of (geom_row row) facts.0, first_granted rows facts.1)
 
   -- and they offer no provider
-  first_bare : (rows : List (ℕ × ProvCell)) → AllByRecursion IsOffer (map provider_row rows) → AllByRecursion (λ (row : ℕ × ℕ). is_first row.1 ≡ false) (rows_with owner_of rows)
+  first_bare : (rows : List (ℕ × ProvCell)) → AllByRecursion IsOffer (map provider_row rows) → AllByRecursion (λ (row : ℕ × ℕ). is_dev_or_taste row.1 ≡ false) (rows_with owner_of rows)
   first_bare [] facts = tt
   first_bare (row ∷ rows) facts = (later_is row.1.provider.geom facts.0.not_dev facts.0.not_taste, first_bare rows facts.1)
 
   -- in an orderly graph the ranks find the first two geoms as they need them
-  pub first-two : AreFirst gs ps
+  pub first-two : HaveDevAndTaste gs ps
   first-two =
       let found : EachIsFound C = each-found in
       record {

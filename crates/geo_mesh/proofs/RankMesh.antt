@@ -17,12 +17,12 @@ use Rattle.geo_mesh.specs.declared.records.ConsCell.{ConsCell}
 use Rattle.geo_mesh.specs.Rows.{row_with, rows_with, passes}
 use Rattle.geo_mesh.specs.Cells.{graph_of, view_of, within_limit, geom_seen, geom_scratch_of, geom_row, provider_row, consumer_row}
 use Rattle.geo_mesh.specs.Mending.{IsAmong, StandsAbove, Climbs, Joined, above, height}
-use Rattle.geo_mesh.specs.Ranks.{kind_of, rank_of, rest_of, owner, owner_of, ends_of, links_of, kinds, ranks, stored, offers, ends, rank_at, under, below, beneath, found, footing, number_or, is_high, IsWalkable, HaveRanks, AreFirst, bare}
+use Rattle.geo_mesh.specs.Ranks.{kind_of, rank_of, rest_of, owner, owner_of, ends_of, links_of, kinds, ranks, stored, offers, ends, rank_at, under, below, beneath, rank_from, footing, number_or, is_high, IsWalkable, HaveRanks, HaveDevAndTaste, bare}
 use Rattle.geo_mesh.proofs.RowLemmas.{OnlyValue, only, map-with_value_same, map-without, rows_with-with_value, value_at-rows_with}
 use Rattle.geo_mesh.proofs.ViewLemmas.{geom_at-view, provider_at-view, consumer_at-view, count_falls, count_stays}
 use Rattle.geo_mesh.proofs.RankHeights.{local-climbs, local-height, local-few, height-climbs, rank-height, reached-stands, stands-reached}
 use Rattle.geo_mesh.proofs.RankRows.{peak, peak-is, peak-with, adds, all-at, passing-between, rising-with, with_value-same, kinds-bare}
-use Rattle.geo_mesh.proofs.RankFirst.{footing-none, footing-unnamed, found-local, found-few, found-high}
+use Rattle.geo_mesh.proofs.RankFirst.{footing-none, footing-unnamed, rank_from-local, rank_from-few, rank_from-high}
 use Rattle.geo_mesh.proofs.RankKept.{ranks-new_consumer, ranks-destroy_consumer, ranks-new_provider, ranks-destroy_provider, ranks-new_geom, ranks-destroy_geom}
 
 -- two functions with the same values take the same from a list
@@ -108,21 +108,21 @@ module _ {C : Type 0} (gs : SlotsView (GeomCell C)) (ps : SlotsView ProvCell) (c
       λ has at so. stands has at (λ y h near is. so y h (subst (λ ms. IsAmong ms h) (under-graph y) near) is)
 
   module _ (live : ℕ) (mesh : HaveRanks gs ps cs live) where
-    module _ (first : AreFirst gs ps) where
+    module _ (first : HaveDevAndTaste gs ps) where
       -- the ranks are at most one more than there are geoms
-      pub found-most : (x : ℕ) → found (stored gs) ps cs x ≤ length gs.rows + 1
-      found-most x =
-          let few : found (stored gs) ps cs x ≤ length (map (λ (row : ℕ × GeomCell C). row.0) gs.rows) + 1 =
-          found-few ps cs first.bare (stored gs) mesh.standing.local (map (λ (row : ℕ × GeomCell C). row.0) gs.rows) first.listed (stored-listed gs.rows) x in
+      pub rank_from-most : (x : ℕ) → rank_from (stored gs) ps cs x ≤ length gs.rows + 1
+      rank_from-most x =
+          let few : rank_from (stored gs) ps cs x ≤ length (map (λ (row : ℕ × GeomCell C). row.0) gs.rows) + 1 =
+          rank_from-few ps cs first.bare (stored gs) mesh.standing.local (map (λ (row : ℕ × GeomCell C). row.0) gs.rows) first.listed (stored-listed gs.rows) x in
           rw (length-map gs.rows (λ (row : ℕ × GeomCell C). row.0)) at few
 
       -- the ranks that stand in the cells, and those found from them, are the model's
-      pub found-rank : (x : ℕ) → rank (graph_of gs ps cs) x ≡ found (stored gs) ps cs x
-      found-rank x = rank-is (found (stored gs) ps cs) (found-local ps cs first.bare (stored gs) mesh.standing.local) found-most x
+      pub rank_from-rank : (x : ℕ) → rank (graph_of gs ps cs) x ≡ rank_from (stored gs) ps cs x
+      rank_from-rank x = rank-is (rank_from (stored gs) ps cs) (rank_from-local ps cs first.bare (stored gs) mesh.standing.local) rank_from-most x
 
       -- no geom is too deep
       pub mesh-low : is_too_deep (graph_of gs ps cs) ≡ false
-      mesh-low = deep-is (found (stored gs) ps cs) found-rank ∙ found-high ps cs (stored gs) (kinds gs) first.granted ∙ mesh.standing.low
+      mesh-low = deep-is (rank_from (stored gs) ps cs) rank_from-rank ∙ rank_from-high ps cs (stored gs) (kinds gs) first.granted ∙ mesh.standing.low
 
     -- each rank that stands in a cell fits in 32 bits
     pub mesh-few : (x : ℕ) → stored gs x ≤ 4294967295

@@ -18,15 +18,15 @@ use Rattle.geo_mesh.specs.Rows.{row_with, rows_with}
 use Rattle.geo_mesh.specs.Cells.{graph_of, consumer_row, provider_row}
 use Rattle.geo_mesh.specs.Topo.{TopoView}
 use Rattle.geo_mesh.specs.Mending.{IsAmong, StandsAbove, Joined, IsJoinable, Lowered, above}
-use Rattle.geo_mesh.specs.Ranks.{kind_of, ends_of, owner_of, kinds, bare, offers, ends, stored, below, owner, user, ranks, is_first, beneath, found, is_high, IsRefusedFor, IsWalkable, IsAdmitted, AreFirst, HaveRanks}
+use Rattle.geo_mesh.specs.Ranks.{kind_of, ends_of, owner_of, kinds, bare, offers, ends, stored, below, owner, user, ranks, is_dev_or_taste, beneath, rank_from, is_high, IsRefusedFor, IsWalkable, IsAdmitted, HaveDevAndTaste, HaveRanks}
 use Rattle.geo_mesh.proofs.RowLemmas.{rows_with-with_value, value_at-rows_with}
 use Rattle.geo_mesh.proofs.ViewLemmas.{consumer_at-view, provider_at-view, attach-view}
 use Rattle.geo_mesh.proofs.RankMend.{enough-climbs, apart-enough, apart-lowered, apart-kept}
 use Rattle.geo_mesh.proofs.RankHeights.{height-climbs}
 use Rattle.geo_mesh.proofs.RankRows.{all-at, high-less, kinds-bare}
 use Rattle.geo_mesh.proofs.RankKept.{ranks-geoms}
-use Rattle.geo_mesh.proofs.RankFirst.{footing-none, footing-later, footing-first, below-first, found-local, found-few, found-high, stands-down, stands-up, beneath-later, owner-later, numbers-bare}
-use Rattle.geo_mesh.proofs.RankMesh.{all-with_value, same-cells, mesh-consumer, mesh-switch, mesh-low, switch-joined, stored-bound, stored-listed, found-most, rank-is, deep-is, stands-reaches, reaches-stands}
+use Rattle.geo_mesh.proofs.RankFirst.{footing-none, footing-later, footing-first, below-first, rank_from-local, rank_from-few, rank_from-high, stands-down, stands-up, beneath-later, owner-later, numbers-bare}
+use Rattle.geo_mesh.proofs.RankMesh.{all-with_value, same-cells, mesh-consumer, mesh-switch, mesh-low, switch-joined, stored-bound, stored-listed, rank_from-most, rank-is, deep-is, stands-reaches, reaches-stands}
 
 -- the mesh stands where the ranks are as they were
 pub mesh-kept : {C : Type 0} (gs ns : SlotsView (GeomCell C)) (ps : SlotsView ProvCell) (cs : SlotsView ConsCell) (live : ℕ) → HaveRanks gs ps cs live → bare ns ≡ bare gs → ((x : ℕ) → stored ns x ≡ stored gs x) → HaveRanks ns ps cs live
@@ -70,26 +70,26 @@ module _ {C : Type 0} (gs : SlotsView (GeomCell C)) (ps : SlotsView ProvCell) (c
   ends-free = ap (λ (o : Option ℕ). (v.consumer.geom, o)) (footing-none v.consumer.geom)
 
   -- attached to the provider, the rank of a later geom stands on it
-  ends-bound : is_first v.consumer.geom ≡ false → ends_of (put (Some p)) ≡ (v.consumer.geom, Some p)
+  ends-bound : is_dev_or_taste v.consumer.geom ≡ false → ends_of (put (Some p)) ≡ (v.consumer.geom, Some p)
   ends-bound later = ap (λ (o : Option ℕ). (v.consumer.geom, o)) (footing-later v.consumer.geom (Some p) later)
 
   -- the ranks don't see to what a consumer of one of the first two geoms is attached
-  pub first-switched : (o : Option ℕ) → is_first v.consumer.geom ≡ true → HaveRanks gs ps (switched o) live
+  pub first-switched : (o : Option ℕ) → is_dev_or_taste v.consumer.geom ≡ true → HaveRanks gs ps (switched o) live
   first-switched o first =
       mesh-consumer gs ps cs live n mesh v (put o) rising at
       (ap (λ (o : Option ℕ). (v.consumer.geom, o)) (footing-first v.consumer.geom o first ∙ sym (footing-first v.consumer.geom v.consumer.prov first)))
 
   -- a geom that stands just above another in rank is a later one
-  pub off-later : stored gs (owner ps p) + 1 ≡ stored gs v.consumer.geom → is_first v.consumer.geom ≡ false
-  off-later above_it = pick (is_first v.consumer.geom) refl where
-    pick : (b : Bool) → is_first v.consumer.geom ≡ b → is_first v.consumer.geom ≡ false
+  pub off-later : stored gs (owner ps p) + 1 ≡ stored gs v.consumer.geom → is_dev_or_taste v.consumer.geom ≡ false
+  off-later above_it = pick (is_dev_or_taste v.consumer.geom) refl where
+    pick : (b : Bool) → is_dev_or_taste v.consumer.geom ≡ b → is_dev_or_taste v.consumer.geom ≡ false
     pick false e = e
     pick true e =
         let alone : stored gs v.consumer.geom ≡ 1 + largest (map (stored gs) []) = subst (λ ms. stored gs v.consumer.geom ≡ 1 + largest (map (stored gs) ms)) (below-first ps cs v.consumer.geom e) (mesh.standing.local v.consumer.geom) in
         let low : stored gs v.consumer.geom ≡ 1 = alone in
         absurd (omega (arith, mesh.standing.local (owner ps p)))
 
-  module _ (is : v.consumer.prov ≡ Some p) (later : is_first v.consumer.geom ≡ false) where
+  module _ (is : v.consumer.prov ≡ Some p) (later : is_dev_or_taste v.consumer.geom ≡ false) where
     -- the provider to which it is attached is there
     offered : IsSome (value_at (offers ps).rows p)
     offered = rw (later, is) at (all-at (λ (row : ℕ × (ℕ × Option ℕ)). IfSome row.1.1 (λ p. IsSome (value_at (offers ps).rows p))) (rows_with ends_of cs.rows) n (ends_of v) mesh.standing.attached seen_row)
@@ -135,8 +135,8 @@ module _ {C : Type 0} (gs : SlotsView (GeomCell C)) (ps : SlotsView ProvCell) (c
 
   -- the mesh stands after a detach where the geom below wasn't the highest, or the rank doesn't stand on it
   pub off-stays : v.consumer.prov ≡ Some p → (stored gs (owner ps p) + 1 ≡ stored gs v.consumer.geom → ⊥) → HaveRanks gs ps (switched None) live
-  off-stays is differs = pick (is_first v.consumer.geom) refl where
-    pick : (b : Bool) → is_first v.consumer.geom ≡ b → HaveRanks gs ps (switched None) live
+  off-stays is differs = pick (is_dev_or_taste v.consumer.geom) refl where
+    pick : (b : Bool) → is_dev_or_taste v.consumer.geom ≡ b → HaveRanks gs ps (switched None) live
     pick true e = first-switched None e
     pick false e = off-kept is e differs
 
@@ -162,7 +162,7 @@ module _ {C : Type 0} (gs : SlotsView (GeomCell C)) (ps : SlotsView ProvCell) (c
   bool_false true = λ no. absurd (no refl)
   bool_false false = λ no. refl
 
-  module _ (is : v.consumer.prov ≡ None) (offered : IsSome (value_at (offers ps).rows p)) (first : AreFirst gs ps) (later : is_first v.consumer.geom ≡ false) where
+  module _ (is : v.consumer.prov ≡ None) (offered : IsSome (value_at (offers ps).rows p)) (first : HaveDevAndTaste gs ps) (later : is_dev_or_taste v.consumer.geom ≡ false) where
     -- the graph after the attach is that before it, with the provider's geom below the consumer's
     on-joined : Joined (below ps cs) (below ps (switched (Some p))) v.consumer.geom (owner ps p)
     on-joined =
@@ -175,21 +175,21 @@ module _ {C : Type 0} (gs : SlotsView (GeomCell C)) (ps : SlotsView ProvCell) (c
         mesh-switch gs ps cs live mesh ns n p (Some p) v (put (Some p)) same at (ends-bound later) offered (joinable.local (below ps (switched (Some p))) on-joined) low
 
     -- after the attach no rank is more than one above the number of geoms
-    on-few : (ns : SlotsView (GeomCell C)) → bare ns ≡ bare gs → IsJoinable (below ps cs) v.consumer.geom (owner ps p) (stored ns) → (x : ℕ) → found (stored ns) ps (switched (Some p)) x ≤ length gs.rows + 1
+    on-few : (ns : SlotsView (GeomCell C)) → bare ns ≡ bare gs → IsJoinable (below ps cs) v.consumer.geom (owner ps p) (stored ns) → (x : ℕ) → rank_from (stored ns) ps (switched (Some p)) x ≤ length gs.rows + 1
     on-few ns same joinable x =
-        let few : found (stored ns) ps (switched (Some p)) x ≤ length (map (λ (row : ℕ × GeomCell C). row.0) gs.rows) + 1 =
-        found-few ps (switched (Some p)) first.bare (stored ns) (joinable.local (below ps (switched (Some p))) on-joined) (map (λ (row : ℕ × GeomCell C). row.0) gs.rows) first.listed
+        let few : rank_from (stored ns) ps (switched (Some p)) x ≤ length (map (λ (row : ℕ × GeomCell C). row.0) gs.rows) + 1 =
+        rank_from-few ps (switched (Some p)) first.bare (stored ns) (joinable.local (below ps (switched (Some p))) on-joined) (map (λ (row : ℕ × GeomCell C). row.0) gs.rows) first.listed
         (λ g high. subst (λ ms. IsAmong ms g) (numbers-bare gs ns same) (stored-listed gs ps cs ns.rows g high)) x in
         rw (length-map gs.rows (λ (row : ℕ × GeomCell C). row.0)) at few
 
     -- whether a geom would be too deep
     on-deep : (ns : SlotsView (GeomCell C)) → bare ns ≡ bare gs → IsJoinable (below ps cs) v.consumer.geom (owner ps p) (stored ns) → is_too_deep (attach (graph_of gs ps cs) n p) ≡ is_high (kinds gs) (stored ns)
     on-deep ns same joinable =
-        let local : (x : ℕ) → found (stored ns) ps (switched (Some p)) x ≡ above (beneath ps (switched (Some p))) (found (stored ns) ps (switched (Some p))) x =
-        found-local ps (switched (Some p)) first.bare (stored ns) (joinable.local (below ps (switched (Some p))) on-joined) in
+        let local : (x : ℕ) → rank_from (stored ns) ps (switched (Some p)) x ≡ above (beneath ps (switched (Some p))) (rank_from (stored ns) ps (switched (Some p))) x =
+        rank_from-local ps (switched (Some p)) first.bare (stored ns) (joinable.local (below ps (switched (Some p))) on-joined) in
         let deep : is_too_deep (graph_of gs ps (switched (Some p))) ≡ is_high (kinds gs) (stored ns) =
-        deep-is gs ps (switched (Some p)) (found (stored ns) ps (switched (Some p))) (rank-is gs ps (switched (Some p)) (found (stored ns) ps (switched (Some p))) local (on-few ns same joinable))
-        ∙ found-high ps (switched (Some p)) (stored ns) (kinds gs) first.granted in
+        deep-is gs ps (switched (Some p)) (rank_from (stored ns) ps (switched (Some p))) (rank-is gs ps (switched (Some p)) (rank_from (stored ns) ps (switched (Some p))) local (on-few ns same joinable))
+        ∙ rank_from-high ps (switched (Some p)) (stored ns) (kinds gs) first.granted in
         rw on-graph at deep
 
     -- where the consumer's geom may have the other below it, the other doesn't reach it
@@ -202,7 +202,7 @@ module _ {C : Type 0} (gs : SlotsView (GeomCell C)) (ps : SlotsView ProvCell) (c
     pub on-loops : is_errored (graph_of gs ps cs) p ≡ false → StandsAbove (below ps cs) (owner ps p) v.consumer.geom → attach_refusal (graph_of gs ps cs) n p ≡ Some ELOOP
     on-loops sound stands =
         let loops : reaches (graph_of gs ps cs) (owner ps p) v.consumer.geom ≡ true =
-        stands-reaches gs ps cs (found (stored gs) ps cs) (found-local ps cs first.bare (stored gs) mesh.standing.local) (found-most gs ps cs live mesh first) (owner ps p) v.consumer.geom
+        stands-reaches gs ps cs (rank_from (stored gs) ps cs) (rank_from-local ps cs first.bare (stored gs) mesh.standing.local) (rank_from-most gs ps cs live mesh first) (owner ps p) v.consumer.geom
         (stands-up ps cs (owner ps p) v.consumer.geom stands)
         in rw (sound, loop_is offered, loops) refl
 
@@ -220,27 +220,27 @@ module _ {C : Type 0} (gs : SlotsView (GeomCell C)) (ps : SlotsView ProvCell) (c
     on-refused Eloop sound stands = on-loops sound stands
     on-refused Edeep sound high = on-high high.0 sound high.1 high.2 high.3
 
-  module _ (is : v.consumer.prov ≡ None) (offered : IsSome (value_at (offers ps).rows p)) (first : AreFirst gs ps) (ns : SlotsView (GeomCell C)) (same : bare ns ≡ bare gs)
-      (admitted : IsAdmitted (is_first v.consumer.geom) (below ps cs) v.consumer.geom (owner ps p) (stored gs) (stored ns)) (low : is_high (kinds gs) (stored ns) ≡ false) where
+  module _ (is : v.consumer.prov ≡ None) (offered : IsSome (value_at (offers ps).rows p)) (first : HaveDevAndTaste gs ps) (ns : SlotsView (GeomCell C)) (same : bare ns ≡ bare gs)
+      (admitted : IsAdmitted (is_dev_or_taste v.consumer.geom) (below ps cs) v.consumer.geom (owner ps p) (stored gs) (stored ns)) (low : is_high (kinds gs) (stored ns) ≡ false) where
     -- nothing reaches one of the first two geoms
-    first_unreached : is_first v.consumer.geom ≡ true → reaches (graph_of gs ps cs) (owner ps p) v.consumer.geom ≡ false
+    first_unreached : is_dev_or_taste v.consumer.geom ≡ true → reaches (graph_of gs ps cs) (owner ps p) v.consumer.geom ≡ false
     first_unreached here =
         bool_false (reaches (graph_of gs ps cs) (owner ps p) v.consumer.geom)
         (λ e.
-        let stands : is_first (owner ps p) ≡ true = reaches-stands gs ps cs (owner ps p) v.consumer.geom e is_first here (λ y h near is. (let never : true ≡ false = sym is ∙ beneath-later ps cs first.bare y h near in absurd (cc))) in
+        let stands : is_dev_or_taste (owner ps p) ≡ true = reaches-stands gs ps cs (owner ps p) v.consumer.geom e is_dev_or_taste here (λ y h near is. (let never : true ≡ false = sym is ∙ beneath-later ps cs first.bare y h near in absurd (cc))) in
         let never : true ≡ false = sym stands ∙ owner-later ps first.bare p offered in cc)
 
     -- the mesh stands with the consumer attached
     pub admitted-mesh : HaveRanks ns ps (switched (Some p)) live
-    admitted-mesh = pick (is_first v.consumer.geom) refl admitted where
-      pick : (b : Bool) → is_first v.consumer.geom ≡ b → IsAdmitted b (below ps cs) v.consumer.geom (owner ps p) (stored gs) (stored ns) → HaveRanks ns ps (switched (Some p)) live
+    admitted-mesh = pick (is_dev_or_taste v.consumer.geom) refl admitted where
+      pick : (b : Bool) → is_dev_or_taste v.consumer.geom ≡ b → IsAdmitted b (below ps cs) v.consumer.geom (owner ps p) (stored gs) (stored ns) → HaveRanks ns ps (switched (Some p)) live
       pick true e kept = mesh-kept gs ns ps (switched (Some p)) live (first-switched (Some p) e) same kept
       pick false e joinable = on-mesh is offered first e ns same joinable low
 
     -- and the attach isn't refused, where the provider carries no error
     pub admitted-free : is_errored (graph_of gs ps cs) p ≡ false → attach_refusal (graph_of gs ps cs) n p ≡ None
-    admitted-free sound = pick (is_first v.consumer.geom) refl admitted where
-      pick : (b : Bool) → is_first v.consumer.geom ≡ b → IsAdmitted b (below ps cs) v.consumer.geom (owner ps p) (stored gs) (stored ns) → attach_refusal (graph_of gs ps cs) n p ≡ None
+    admitted-free sound = pick (is_dev_or_taste v.consumer.geom) refl admitted where
+      pick : (b : Bool) → is_dev_or_taste v.consumer.geom ≡ b → IsAdmitted b (below ps cs) v.consumer.geom (owner ps p) (stored gs) (stored ns) → attach_refusal (graph_of gs ps cs) n p ≡ None
       pick true e kept =
           let deep : is_too_deep (attach (graph_of gs ps cs) n p) ≡ false = rw on-graph at (mesh-low gs ps (switched (Some p)) live (first-switched (Some p) e) first) in
           rw (sound, loop_is offered, first_unreached e, deep) refl

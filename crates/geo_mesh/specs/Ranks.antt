@@ -38,12 +38,12 @@ abbrev pub owner_of : ProvCell → ℕ
 owner_of x = x.provider.geom
 
 -- whether the geom is one of the first two, DEV and TASTE: they have no provider, so no geom stands on their ranks
-abbrev pub is_first : ℕ → Bool
-is_first g = (g == 1) || (g == 2)
+abbrev pub is_dev_or_taste : ℕ → Bool
+is_dev_or_taste g = (g == 1) || (g == 2)
 
 -- on which provider the rank of a consumer's geom stands: that to which it is attached, but none for the first two geoms
 abbrev pub footing : ℕ → Option ℕ → Option ℕ
-footing g o = if is_first g then None else o
+footing g o = if is_dev_or_taste g then None else o
 
 -- the consumer's geom, and the provider on which the geom's rank stands by it
 abbrev pub ends_of : ConsCell → ℕ × Option ℕ
@@ -98,8 +98,8 @@ abbrev pub beneath : SlotsView ProvCell → SlotsView ConsCell → ℕ → List 
 beneath ps cs = under (offers ps).rows (links cs).rows
 
 -- the rank of a geom: it stands in the cell, but for the first two geoms it is found from the ranks of the geoms beneath
-abbrev pub found : (ℕ → ℕ) → SlotsView ProvCell → SlotsView ConsCell → ℕ → ℕ
-found f ps cs g = if is_first g then above (beneath ps cs) f g else f g
+abbrev pub rank_from : (ℕ → ℕ) → SlotsView ProvCell → SlotsView ConsCell → ℕ → ℕ
+rank_from f ps cs g = if is_dev_or_taste g then above (beneath ps cs) f g else f g
 
 -- the geom that offers the provider, and the geom of the consumer: 0 where there is none
 abbrev pub owner : SlotsView ProvCell → ℕ → ℕ
@@ -196,7 +196,7 @@ IsAdmitted true below upper lower old new = (x : ℕ) → new x ≡ old x
 IsAdmitted false below upper lower old new = IsJoinable below upper lower new
 
 -- what the ranks need of the first two geoms: they are there, of classes without a limit, and offer no provider
-pub record AreFirst {C : Type 0} (gs : SlotsView (GeomCell C)) (ps : SlotsView ProvCell) : Type 0 where
-  pub listed : (g : ℕ) → is_first g ≡ true → IsAmong (map (λ row. row.0) gs.rows) g
-  pub granted : AllByRecursion (λ row. is_first row.0 ≡ true → is_granted_kind row.1 ≡ true) (kinds gs)
-  pub bare : AllByRecursion (λ row. is_first row.1 ≡ false) (offers ps).rows
+pub record HaveDevAndTaste {C : Type 0} (gs : SlotsView (GeomCell C)) (ps : SlotsView ProvCell) : Type 0 where
+  pub listed : (g : ℕ) → is_dev_or_taste g ≡ true → IsAmong (map (λ row. row.0) gs.rows) g
+  pub granted : AllByRecursion (λ row. is_dev_or_taste row.0 ≡ true → is_granted_kind row.1 ≡ true) (kinds gs)
+  pub bare : AllByRecursion (λ row. is_dev_or_taste row.1 ≡ false) (offers ps).rows

@@ -7,7 +7,7 @@ ghost use Rattle.geo_mesh.specs.Cells.{provider_row, consumer_row};
 ghost use Rattle.geo_mesh.specs.Index.{provider_geoms, consumer_geoms, consumer_providers};
 ghost use Rattle.geo_mesh.specs.Whole.{IsKin};
 ghost use Rattle.geo_mesh.specs.Mending.{AreEnough, AreLocal, IsLow, Lifted, Lowered, IsJoinable};
-ghost use Rattle.geo_mesh.specs.Ranks.{kinds, bare, offers, ends, links, stored, below, beneath, owner, user, is_first, is_offered, is_attached, belongs, is_high, rank_under, found, FirstIs, EachUser, highest_raise, IsRefusedFor, IsWalkable, IsAdmitted};
+ghost use Rattle.geo_mesh.specs.Ranks.{kinds, bare, offers, ends, links, stored, below, beneath, owner, user, is_dev_or_taste, is_offered, is_attached, belongs, is_high, rank_under, rank_from, FirstIs, EachUser, highest_raise, IsRefusedFor, IsWalkable, IsAdmitted};
 
 use crate::index::Index;
 use crate::records::{AttachRefusal, ConsCell, GeomCell, ProvCell};
@@ -39,8 +39,8 @@ fn offered(index: &Index, providers: &Slots<ProvCell>, geom: u64, from: u64) -> 
 
 /// Whether the geom is DEV or TASTE, the first two: they have no provider, so no geom stands on their ranks, which are found
 /// where they are asked for and don't stand in their cells.
-pub fn is_first(geom: u64) -> bool
-    ensures { result ≡ is_first geom }
+pub fn is_dev_or_taste(geom: u64) -> bool
+    ensures { result ≡ is_dev_or_taste geom }
 {
     geom == 1 || geom == 2
 }
@@ -54,7 +54,7 @@ fn attached(index: &Index, consumers: &Slots<ConsCell>, prov: u64, from: u64) ->
 {
     let mut at = from;
     while let Some(cons) = linked(index, consumers, prov, at) {
-        if !is_first(user(consumers, cons)) {
+        if !is_dev_or_taste(user(consumers, cons)) {
             return Some(cons);
         }
         at = cons + 1;
@@ -276,7 +276,7 @@ fn rank_below<C>(
 }
 
 /// The rank of a geom (geom(4)). That of DEV and of TASTE is found from the ranks of the geoms below.
-pub fn found<C>(
+pub fn rank_from<C>(
     geoms: &Slots<GeomCell<C>>,
     providers: &Slots<ProvCell>,
     consumers: &Slots<ConsCell>,
@@ -287,9 +287,9 @@ pub fn found<C>(
     requires rising { IsRising 1 consumers.now.rows consumers.now.next }
     requires bound { consumers.now.next < 2 ^ 64 }
     requires few { (x : ℕ) → stored geoms.now x ≤ 4294967295 }
-    ensures { result ≡ found (stored geoms.now) providers.now consumers.now geom }
+    ensures { result ≡ rank_from (stored geoms.now) providers.now consumers.now geom }
 {
-    if is_first(geom) {
+    if is_dev_or_taste(geom) {
         1 + highest_below(geoms, providers, consumers, index, geom, RANK_MOST)
     } else {
         stored(geoms, geom)
@@ -308,7 +308,7 @@ pub fn lower<C>(
     requires kin { IsKin index.now providers.now consumers.now }
     requires walkable { IsWalkable (kinds geoms.old) providers.now consumers.now }
     requires lives { IsSome (value_at (kinds geoms.old) geom) }
-    requires later { is_first geom ≡ false }
+    requires later { is_dev_or_taste geom ≡ false }
     requires enough { AreEnough (below providers.now consumers.now) (stored geoms.old) }
     ensures same { bare geoms.new ≡ bare geoms.old }
     ensures lowered { Lowered (below providers.now consumers.now) (stored geoms.old) (stored geoms.new) }
@@ -367,13 +367,13 @@ pub fn admit<C>(
     requires local { AreLocal (below providers.now consumers.now) (stored geoms.old) }
     requires low { is_high (kinds geoms.old) (stored geoms.old) ≡ false }
     ensures same { bare geoms.new ≡ bare geoms.old }
-    ensures admitted { OnOk result (IsAdmitted (is_first upper) (below providers.now consumers.now) upper under (stored geoms.old) (stored geoms.new)) }
+    ensures admitted { OnOk result (IsAdmitted (is_dev_or_taste upper) (below providers.now consumers.now) upper under (stored geoms.old) (stored geoms.new)) }
     ensures low { OnOk result (is_high (kinds geoms.old) (stored geoms.new) ≡ false) }
-    ensures later { OnErr result (is_first upper ≡ false) }
+    ensures later { OnErr result (is_dev_or_taste upper ≡ false) }
     ensures refused { IfErr result (λ e. IsRefusedFor e geoms.old (below providers.now consumers.now) upper under) }
     ensures kept { OnErr result ((x : ℕ) → stored geoms.new x ≡ stored geoms.old x) }
 {
-    if is_first(upper) {
+    if is_dev_or_taste(upper) {
         return Ok(());
     }
     join(geoms, providers, consumers, index, upper, under)
@@ -393,7 +393,7 @@ fn join<C>(
     requires kin { IsKin index.now providers.now consumers.now }
     requires walkable { IsWalkable (kinds geoms.old) providers.now consumers.now }
     requires lives { IsSome (value_at (kinds geoms.old) upper) }
-    requires later { is_first upper ≡ false }
+    requires later { is_dev_or_taste upper ≡ false }
     requires local { AreLocal (below providers.now consumers.now) (stored geoms.old) }
     requires low { is_high (kinds geoms.old) (stored geoms.old) ≡ false }
     ensures same { bare geoms.new ≡ bare geoms.old }

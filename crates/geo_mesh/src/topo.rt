@@ -429,15 +429,19 @@ impl<C> Topo<C> {
         ensures rank { result ≡ option_map (λ x. rank self.now.topology geom) (geom_at self.now.topology geom) }
         ensures sound { IsSoundGraph self.now.topology }
     {
-        let _ = self.geoms.get(geom.number())?;
-        let rank = ranks::found(
-            &self.geoms,
-            &self.providers,
-            &self.consumers,
-            &self.index,
-            geom.number(),
-        );
-        Some(rank as u32)
+        match self.geoms.get(geom.number()) {
+            Some(_) => {
+                let rank = ranks::rank_from(
+                    &self.geoms,
+                    &self.providers,
+                    &self.consumers,
+                    &self.index,
+                    geom.number(),
+                );
+                Some(rank as u32)
+            }
+            None => None,
+        }
     }
 
     // Whether the provider is there and carries an error.

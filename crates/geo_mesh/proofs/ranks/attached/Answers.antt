@@ -2,15 +2,15 @@ use Rattle.std.proofs.Common.{◌≡◌, ◌⊎◌, ℕ, ◌+◌, ◌<◌, ◌�
 use Rattle.std.proofs.lemmas.Bool.{leb-true, leb-false}
 use Rattle.geo_slots.specs.Slots.{value_at}
 use Rattle.geo_mesh.specs.Rows.{passes}
-use Rattle.geo_mesh.specs.Ranks.{ends, links, user, is_first, is_attached, IsFirst}
+use Rattle.geo_mesh.specs.Ranks.{ends, links, user, is_dev_or_taste, is_attached, IsFirst}
 use Rattle.geo_mesh.proofs.RankMend.{is_or_not}
 use Rattle.geo_mesh.proofs.RankFirst.{attached-later, attached-linked, linked-attached}
 use Rattle.geo_mesh.proofs.ranks.attached.Goals as goal
 
-pub returns-then-not-is_first : goal.returns-then-not-is_first
-returns-then-not-is_first c =
+pub returns-then-not-is_dev_or_taste : goal.returns-then-not-is_dev_or_taste
+returns-then-not-is_dev_or_taste c =
     let first : IsFirst (is_attached c.args.prov) (links c.args.consumers.now).rows c.args.consumers.now.next c.loop-cons.at c.in-Some.cons = c.in-Some.ensures in
-    let later : is_first (user c.args.consumers.now c.in-Some.cons) ≡ false = subst (λ x. is_first x ≡ false) c.user.ensures.user (sym c.is_first.ensures ∙ c.if-not-is_first.true) in
+    let later : is_dev_or_taste (user c.args.consumers.now c.in-Some.cons) ≡ false = subst (λ x. is_dev_or_taste x ≡ false) c.user.ensures.user (sym c.is_dev_or_taste.ensures ∙ c.if-not-is_dev_or_taste.true) in
     record {
       past = omega (arith, first.past, c.loop-cons.invariant.past);
       passing = linked-attached c.args.consumers.now c.args.prov c.in-Some.cons later first.passing;
@@ -34,8 +34,8 @@ loop-cons-preserved c =
     pick : (m : ℕ) → c.args.from ≤ m → m < c.in-Some.cons + 1 → passes (is_attached c.args.prov) (value_at (ends c.args.consumers.now).rows m) ≡ true → (m ≡ c.in-Some.cons) ⊎ (m ≡ c.in-Some.cons → ⊥)
         → (b : Bool) → nat_le c.loop-cons.at m ≡ b → ⊥
     pick m from_here low there (inl same) b e =
-        let later : is_first (user c.args.consumers.now m) ≡ false = attached-later c.args.consumers.now c.args.prov m there in
-        let here : is_first (user c.args.consumers.now m) ≡ true = subst (λ n. is_first (user c.args.consumers.now n) ≡ true) (sym same) (subst (λ x. is_first x ≡ true) c.user.ensures.user (sym c.is_first.ensures ∙ c.if-not-is_first.false)) in
+        let later : is_dev_or_taste (user c.args.consumers.now m) ≡ false = attached-later c.args.consumers.now c.args.prov m there in
+        let here : is_dev_or_taste (user c.args.consumers.now m) ≡ true = subst (λ n. is_dev_or_taste (user c.args.consumers.now n) ≡ true) (sym same) (subst (λ x. is_dev_or_taste x ≡ true) c.user.ensures.user (sym c.is_dev_or_taste.ensures ∙ c.if-not-is_dev_or_taste.false)) in
         let never : true ≡ false = sym here ∙ later in cc
     pick m from_here low there (inr differs) true e = absurd (omega (arith, c.in-Some.ensures.least m (leb-true c.loop-cons.at m e) (attached-linked c.args.consumers.now c.args.prov m there), differs))
     pick m from_here low there (inr differs) false e = c.loop-cons.invariant.none m from_here (leb-false c.loop-cons.at m e) there

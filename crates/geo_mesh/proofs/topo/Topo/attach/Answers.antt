@@ -4,7 +4,7 @@ use Rattle.geo_model.specs.Topology.{is_errored}
 use Rattle.geo_slots.specs.Slots.{value_at, with_value}
 use Rattle.geo_mesh.specs.Cells.{graph_of, within_limit}
 use Rattle.geo_mesh.specs.Index.{attached_index}
-use Rattle.geo_mesh.specs.Ranks.{IsRefusedFor, IsAdmitted, AreFirst, is_first, offers, stored, below, owner}
+use Rattle.geo_mesh.specs.Ranks.{IsRefusedFor, IsAdmitted, HaveDevAndTaste, is_dev_or_taste, offers, stored, below, owner}
 use Rattle.geo_mesh.proofs.ViewLemmas.{attach-view}
 use Rattle.geo_mesh.proofs.RankFirst.{first-two}
 use Rattle.geo_mesh.proofs.RankMesh.{mesh-walkable, view-bare}
@@ -32,8 +32,8 @@ invariant_of-self-in-Ok g c =
     let free : c.in-Some.cell.now.consumer.prov ≡ None = free-at c.self.inside.geoms c.self.inside.providers c.self.inside.consumers c.number-in-Ok.result c.in-Some.cell.now (rw (← c.self.view_is, ← c.number-in-Ok.ensures) at c.requires.consumer) c.in-Some.ensures.value in
     let same_number : c.number.result ≡ c.number-in-Ok.result = c.number.ensures ∙ sym c.number-in-Ok.ensures in
     let upper : c.user-upper.result ≡ c.in-Some.cell.now.consumer.geom = c.user-upper.ensures.user ∙ (rw same_number (user-cell c.self.inside.geoms c.self.inside.providers c.self.inside.consumers c.number-in-Ok.result c.in-Some.cell.now c.in-Some.ensures.value)) in
-    let admitted : IsAdmitted (is_first c.in-Some.cell.now.consumer.geom) (below c.self.inside.providers c.self.inside.consumers) c.in-Some.cell.now.consumer.geom (owner c.self.inside.providers c.number-2.result) (stored c.self.inside.geoms) (stored c.admit.new.geoms) = rw (← upper, ← c.owner-under.ensures.owner) c.in-Ok.ensures.admitted in
-    let first : AreFirst c.self.inside.geoms c.self.inside.providers = first-two c.self.inside.geoms c.self.inside.providers c.self.inside.consumers c.self.invariant.graph in
+    let admitted : IsAdmitted (is_dev_or_taste c.in-Some.cell.now.consumer.geom) (below c.self.inside.providers c.self.inside.consumers) c.in-Some.cell.now.consumer.geom (owner c.self.inside.providers c.number-2.result) (stored c.self.inside.geoms) (stored c.admit.new.geoms) = rw (← upper, ← c.owner-under.ensures.owner) c.in-Ok.ensures.admitted in
+    let first : HaveDevAndTaste c.self.inside.geoms c.self.inside.providers = first-two c.self.inside.geoms c.self.inside.providers c.self.inside.consumers c.self.invariant.graph in
     record {
       tables =
           rw (c.attach.ensures, c.number-in-Ok-2.ensures, ← c.number-in-Ok.ensures, c.number-in-Ok-3.ensures)
@@ -50,8 +50,8 @@ returns-in-Some-clause-answer g c =
     let free : c.in-Some.cell.now.consumer.prov ≡ None = free-at c.self.inside.geoms c.self.inside.providers c.self.inside.consumers c.number-in-Ok.result c.in-Some.cell.now (rw (← c.self.view_is, ← c.number-in-Ok.ensures) at c.requires.consumer) c.in-Some.ensures.value in
     let same_number : c.number.result ≡ c.number-in-Ok.result = c.number.ensures ∙ sym c.number-in-Ok.ensures in
     let upper : c.user-upper.result ≡ c.in-Some.cell.now.consumer.geom = c.user-upper.ensures.user ∙ (rw same_number (user-cell c.self.inside.geoms c.self.inside.providers c.self.inside.consumers c.number-in-Ok.result c.in-Some.cell.now c.in-Some.ensures.value)) in
-    let admitted : IsAdmitted (is_first c.in-Some.cell.now.consumer.geom) (below c.self.inside.providers c.self.inside.consumers) c.in-Some.cell.now.consumer.geom (owner c.self.inside.providers c.number-2.result) (stored c.self.inside.geoms) (stored c.admit.new.geoms) = rw (← upper, ← c.owner-under.ensures.owner) c.in-Ok.ensures.admitted in
-    let first : AreFirst c.self.inside.geoms c.self.inside.providers = first-two c.self.inside.geoms c.self.inside.providers c.self.inside.consumers c.self.invariant.graph in
+    let admitted : IsAdmitted (is_dev_or_taste c.in-Some.cell.now.consumer.geom) (below c.self.inside.providers c.self.inside.consumers) c.in-Some.cell.now.consumer.geom (owner c.self.inside.providers c.number-2.result) (stored c.self.inside.geoms) (stored c.admit.new.geoms) = rw (← upper, ← c.owner-under.ensures.owner) c.in-Ok.ensures.admitted in
+    let first : HaveDevAndTaste c.self.inside.geoms c.self.inside.providers = first-two c.self.inside.geoms c.self.inside.providers c.self.inside.consumers c.self.invariant.graph in
     rw (← c.self.view_is, ← c.number-2.ensures, ← c.number-in-Ok.ensures)
     (admitted-free c.self.inside.geoms c.self.inside.providers c.self.inside.consumers c.self.inside.live c.self.invariant.ranks c.number-in-Ok.result c.number-2.result c.in-Some.cell.now c.in-Some.ensures.rising c.in-Some.ensures.value free offered first c.admit.new.geoms c.admit.ensures.same admitted c.in-Ok.ensures.low sound)
 
@@ -98,8 +98,8 @@ returns-in-Err-clause-answer g c =
     let offered : IsSome (value_at (offers c.self.inside.providers).rows c.number-2.result) = provider-offered c.self.inside.geoms c.self.inside.providers c.self.inside.consumers c.number-2.result (rw (← c.self.view_is, ← c.number-2.ensures) at c.requires.provider) in
     let sound : is_errored (graph_of c.self.inside.geoms c.self.inside.providers c.self.inside.consumers) c.number-2.result ≡ false = rw (← c.self.view_is, ← c.number-2.ensures) at (sym c.is_errored.ensures ∙ c.if-is_errored.false) in
     let why : IsRefusedFor c.in-Err.refusal c.self.inside.geoms (below c.self.inside.providers c.self.inside.consumers) s.0.consumer.geom (owner c.self.inside.providers c.number-2.result) = rw (← upper, ← c.owner-under.ensures.owner) c.in-Err.ensures.refused in
-    let first : AreFirst c.self.inside.geoms c.self.inside.providers = first-two c.self.inside.geoms c.self.inside.providers c.self.inside.consumers c.self.invariant.graph in
-    let later : is_first s.0.consumer.geom ≡ false = rw (← upper) c.in-Err.ensures.later in
+    let first : HaveDevAndTaste c.self.inside.geoms c.self.inside.providers = first-two c.self.inside.geoms c.self.inside.providers c.self.inside.consumers c.self.invariant.graph in
+    let later : is_dev_or_taste s.0.consumer.geom ≡ false = rw (← upper) c.in-Err.ensures.later in
     rw (← c.self.view_is, ← c.number.ensures, ← c.number-2.ensures)
     (on-refused c.self.inside.geoms c.self.inside.providers c.self.inside.consumers c.self.inside.live c.self.invariant.ranks c.number.result c.number-2.result s.0 c.user-upper.ensures.rising s.1 s.2 offered first later c.in-Err.refusal sound why)
 

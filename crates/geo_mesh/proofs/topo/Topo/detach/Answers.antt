@@ -2,7 +2,7 @@ use Rattle.std.proofs.Common.{false, ◌≡◌, ◌≤◌, None, subst, ◌∙�
 use Rattle.geo_mesh.specs.Cells.{within_limit, graph_of}
 use Rattle.geo_slots.specs.Slots.{with_value}
 use Rattle.geo_mesh.specs.Mending.{Lowered, above}
-use Rattle.geo_mesh.specs.Ranks.{stored, below, owner, is_first}
+use Rattle.geo_mesh.specs.Ranks.{stored, below, owner, is_dev_or_taste}
 use Rattle.geo_mesh.proofs.ViewLemmas.{consumer_stands, detach-view}
 use Rattle.geo_mesh.proofs.RankMesh.{view-bare, mesh-few}
 use Rattle.geo_mesh.proofs.RankSwitch.{bound-at, user-stands, off-later, off-enough, off-walkable, off-lowered, off-stays}
@@ -20,7 +20,7 @@ returns-in_default g c =
 pub lower-requires-clause-walkable : goal.lower-requires-clause-walkable
 lower-requires-clause-walkable g c =
     let under : c.owner-under.result ≡ owner c.self.inside.providers c.in-Some-prov.prov = rw (← c.number-3.ensures) c.owner-under.ensures.owner in
-    let later : is_first c.in-Some.cell.now.consumer.geom ≡ false = off-later c.self.inside.geoms c.self.inside.providers c.self.inside.consumers c.self.inside.live c.self.invariant.ranks c.number.result c.in-Some-prov.prov c.in-Some.cell.now c.in-Some.ensures.rising c.in-Some.ensures.value (rw (c.stored.ensures, c.stored-2.ensures, under, c.number-upper.ensures) at c.if-stored.true) in
+    let later : is_dev_or_taste c.in-Some.cell.now.consumer.geom ≡ false = off-later c.self.inside.geoms c.self.inside.providers c.self.inside.consumers c.self.inside.live c.self.invariant.ranks c.number.result c.in-Some-prov.prov c.in-Some.cell.now c.in-Some.ensures.rising c.in-Some.ensures.value (rw (c.stored.ensures, c.stored-2.ensures, under, c.number-upper.ensures) at c.if-stored.true) in
     off-walkable c.self.inside.geoms c.self.inside.providers c.self.inside.consumers c.self.inside.live c.self.invariant.ranks c.number.result c.in-Some-prov.prov c.in-Some.cell.now c.in-Some.ensures.rising c.in-Some.ensures.value c.in-Some-prov.is later c.owner-under.ensures.rising c.owner-under.ensures.bound c.in-Some.ensures.bound
 
 pub lower-requires-clause-lives : goal.lower-requires-clause-lives
@@ -30,7 +30,7 @@ lower-requires-clause-lives g c =
 pub lower-requires-clause-enough : goal.lower-requires-clause-enough
 lower-requires-clause-enough g c =
     let under : c.owner-under.result ≡ owner c.self.inside.providers c.in-Some-prov.prov = rw (← c.number-3.ensures) c.owner-under.ensures.owner in
-    let later : is_first c.in-Some.cell.now.consumer.geom ≡ false = off-later c.self.inside.geoms c.self.inside.providers c.self.inside.consumers c.self.inside.live c.self.invariant.ranks c.number.result c.in-Some-prov.prov c.in-Some.cell.now c.in-Some.ensures.rising c.in-Some.ensures.value (rw (c.stored.ensures, c.stored-2.ensures, under, c.number-upper.ensures) at c.if-stored.true) in
+    let later : is_dev_or_taste c.in-Some.cell.now.consumer.geom ≡ false = off-later c.self.inside.geoms c.self.inside.providers c.self.inside.consumers c.self.inside.live c.self.invariant.ranks c.number.result c.in-Some-prov.prov c.in-Some.cell.now c.in-Some.ensures.rising c.in-Some.ensures.value (rw (c.stored.ensures, c.stored-2.ensures, under, c.number-upper.ensures) at c.if-stored.true) in
     off-enough c.self.inside.geoms c.self.inside.providers c.self.inside.consumers c.self.inside.live c.self.invariant.ranks c.number.result c.in-Some-prov.prov c.in-Some.cell.now c.in-Some.ensures.rising c.in-Some.ensures.value c.in-Some-prov.is later
 
 pub invariant_of-self-in_default-prov : goal.invariant_of-self-in_default-prov
@@ -50,7 +50,7 @@ overflow_add-stored g c =
 pub invariant_of-self-then-stored : goal.invariant_of-self-then-stored
 invariant_of-self-then-stored g c =
     let under : c.owner-under.result ≡ owner c.self.inside.providers c.in-Some-prov.prov = rw (← c.number-3.ensures) c.owner-under.ensures.owner in
-    let later : is_first c.in-Some.cell.now.consumer.geom ≡ false = off-later c.self.inside.geoms c.self.inside.providers c.self.inside.consumers c.self.inside.live c.self.invariant.ranks c.number.result c.in-Some-prov.prov c.in-Some.cell.now c.in-Some.ensures.rising c.in-Some.ensures.value (rw (c.stored.ensures, c.stored-2.ensures, under, c.number-upper.ensures) at c.if-stored.true) in
+    let later : is_dev_or_taste c.in-Some.cell.now.consumer.geom ≡ false = off-later c.self.inside.geoms c.self.inside.providers c.self.inside.consumers c.self.inside.live c.self.invariant.ranks c.number.result c.in-Some-prov.prov c.in-Some.cell.now c.in-Some.ensures.rising c.in-Some.ensures.value (rw (c.stored.ensures, c.stored-2.ensures, under, c.number-upper.ensures) at c.if-stored.true) in
     let lowered : Lowered (below c.self.inside.providers (record c.self.inside.consumers { rows = with_value c.self.inside.consumers.rows c.number.result (record c.in-Some.cell.now { consumer = record c.in-Some.cell.now.consumer { prov = None } }) })) (stored c.self.inside.geoms) (stored c.lower.new.geoms) = c.lower.ensures.lowered in
     let low : stored c.lower.new.geoms c.in-Some.cell.now.consumer.geom ≤ above (below c.self.inside.providers (record c.self.inside.consumers { rows = with_value c.self.inside.consumers.rows c.number.result (record c.in-Some.cell.now { consumer = record c.in-Some.cell.now.consumer { prov = None } }) })) (stored c.lower.new.geoms) c.in-Some.cell.now.consumer.geom = subst (λ x. stored c.lower.new.geoms x ≤ above (below c.self.inside.providers (record c.self.inside.consumers { rows = with_value c.self.inside.consumers.rows c.number.result (record c.in-Some.cell.now { consumer = record c.in-Some.cell.now.consumer { prov = None } }) })) (stored c.lower.new.geoms) x) c.number-upper.ensures c.lower.ensures.low in
     record {
@@ -94,5 +94,5 @@ lower-requires-clause-kin g c =
 pub lower-requires-clause-later : goal.lower-requires-clause-later
 lower-requires-clause-later g c =
     let under : c.owner-under.result ≡ owner c.self.inside.providers c.in-Some-prov.prov = rw (← c.number-3.ensures) c.owner-under.ensures.owner in
-    let later : is_first c.in-Some.cell.now.consumer.geom ≡ false = off-later c.self.inside.geoms c.self.inside.providers c.self.inside.consumers c.self.inside.live c.self.invariant.ranks c.number.result c.in-Some-prov.prov c.in-Some.cell.now c.in-Some.ensures.rising c.in-Some.ensures.value (rw (c.stored.ensures, c.stored-2.ensures, under, c.number-upper.ensures) at c.if-stored.true) in
+    let later : is_dev_or_taste c.in-Some.cell.now.consumer.geom ≡ false = off-later c.self.inside.geoms c.self.inside.providers c.self.inside.consumers c.self.inside.live c.self.invariant.ranks c.number.result c.in-Some-prov.prov c.in-Some.cell.now c.in-Some.ensures.rising c.in-Some.ensures.value (rw (c.stored.ensures, c.stored-2.ensures, under, c.number-upper.ensures) at c.if-stored.true) in
     rw c.number-upper.ensures later

@@ -2,7 +2,7 @@ use Rattle.std.proofs.Common.{◌≤◌, map, arith, rules}
 use Rattle.geo_model.specs.Words.{largest}
 use Rattle.geo_mesh.specs.Ranks.{stored, beneath}
 use Rattle.geo_mesh.proofs.RankMend.{largest-most}
-use Rattle.geo_mesh.proofs.ranks.found.Goals as goal
+use Rattle.geo_mesh.proofs.ranks.rank_from.Goals as goal
 
 pub highest_below-requires-clause-most : goal.highest_below-requires-clause-most
 highest_below-requires-clause-most g c = largest-most (stored c.args.geoms.now) 4294967295 (beneath c.args.providers.now c.args.consumers.now c.args.geom) (λ n there. c.requires.few n)
