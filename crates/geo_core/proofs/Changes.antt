@@ -6,12 +6,12 @@ use Rattle.geo_core.specs.declared.command.LineCommand.{LineCommand}
 use Rattle.geo_core.specs.declared.command.Command.{Command}
 use Rattle.geo_core.specs.declared.command.Command.TheVariants as commands
 use Rattle.geo_core.specs.declared.rows.Bio.{Bio}
-use Rattle.geo_core.specs.declared.rows.BioResult.{BioResult}
+use Rattle.geo_model.specs.declared.step.BioResult.{BioResult}
 use Rattle.geo_core.specs.declared.rows.Consumer.{Consumer}
 use Rattle.geo_core.specs.declared.rows.Handle.{Handle}
 use Rattle.geo_core.specs.declared.rows.Provider.{Provider}
 use Rattle.geo_core.specs.declared.rows.Phase.TheVariants.{Sent, Busy}
-use Rattle.geo_core.specs.declared.step.DeviceResult.{DeviceResult}
+use Rattle.geo_model.specs.declared.step.DeviceResult.{DeviceResult}
 use Rattle.geo_core.specs.declared.step.Found.{Found}
 use Rattle.geo_core.specs.declared.step.Outcome.{Outcome}
 use Rattle.geo_core.specs.declared.step.Step.{Step}

@@ -3,13 +3,13 @@ use Rattle.std.proofs.Common.{◌≡◌, ℕ, ◌+◌, Bool, true, false, not, c
 use Rattle.std.specs.List.{count_by}
 use Rattle.std.proofs.lemmas.List.Sums.{sum_by-cons, sum_by_push}
 use Rattle.geo_base.specs.declared.errno.Errno.TheVariants.{ENXIO}
-use Rattle.geo_core.specs.declared.rows.BioResult.TheVariants as results
+use Rattle.geo_model.specs.declared.step.BioResult.TheVariants as results
 use Rattle.std.proofs.lemmas.Bool.{eqb-true}
 use Rattle.geo_core.specs.declared.rows.Bio.{Bio}
 use Rattle.geo_core.specs.declared.rows.Handle.{Handle}
 use Rattle.geo_core.specs.declared.rows.Phase.{Phase}
 use Rattle.geo_core.specs.declared.rows.Phase.TheVariants.{Down, Sent, Busy, Up}
-use Rattle.geo_core.specs.declared.step.DeviceResult.{DeviceResult}
+use Rattle.geo_model.specs.declared.step.DeviceResult.{DeviceResult}
 use Rattle.geo_core.specs.declared.step.Found.{Found}
 use Rattle.geo_core.specs.declared.step.Outcome.{Outcome}
 use Rattle.geo_core.specs.Rows.{find_by, update_by, without}

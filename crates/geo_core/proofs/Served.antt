@@ -9,12 +9,12 @@ use Rattle.geo_core.specs.declared.rows.Bio.{Bio}
 use Rattle.geo_core.specs.declared.rows.HeaderDisk.{HeaderDisk}
 use Rattle.geo_core.specs.declared.rows.Phase.TheVariants.{Busy}
 use Rattle.geo_core.specs.declared.rows.Provider.{Provider}
-use Rattle.geo_core.specs.declared.step.DeviceResult.{DeviceResult}
-use Rattle.geo_core.specs.declared.step.DeviceResult.TheVariants as devices
+use Rattle.geo_model.specs.declared.step.DeviceResult.{DeviceResult}
+use Rattle.geo_model.specs.declared.step.DeviceResult.TheVariants as devices
 use Rattle.geo_core.specs.declared.step.Entry.{Entry}
 use Rattle.geo_core.specs.declared.step.Outcome.{Outcome}
 use Rattle.geo_core.specs.declared.step.Outcome.TheVariants as outcomes
-use Rattle.geo_core.specs.declared.step.Request.{Request}
+use Rattle.geo_model.specs.declared.step.Request.{Request}
 use Rattle.geo_core.specs.declared.step.Step.TheVariants as steps
 use Rattle.geo_core.specs.Rows.{find_by, update_by}
 use Rattle.geo_core.specs.World.{World, is_bio, is_provider, is_sent, bio_at, provider_at, disk_of, disk_of_bio, change_bio}

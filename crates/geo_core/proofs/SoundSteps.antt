@@ -7,7 +7,7 @@ use Rattle.geo_base.specs.declared.errno.Errno.{Errno}
 use Rattle.geo_base.specs.declared.errno.Errno.TheVariants.{EINVAL, EIO}
 use Rattle.geo_core.specs.declared.command.LineCommand.{LineCommand}
 use Rattle.geo_core.specs.declared.rows.Bio.{Bio}
-use Rattle.geo_core.specs.declared.rows.BioResult.{BioResult}
+use Rattle.geo_model.specs.declared.step.BioResult.{BioResult}
 use Rattle.geo_core.specs.declared.rows.Handle.{Handle}
 use Rattle.geo_core.specs.declared.rows.Provider.{Provider}
 use Rattle.geo_core.specs.declared.rows.Phase.{Phase}

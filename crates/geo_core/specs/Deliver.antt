@@ -2,12 +2,12 @@
 use Rattle.std.specs.Prelude.{ℕ, ◌==◌, length, Bool, false, Option, Some, None, Err, if◌then◌else◌}
 use Rattle.geo_base.specs.declared.errno.Errno.TheVariants.{EIO}
 use Rattle.geo_core.specs.declared.rows.Bio.{Bio}
-use Rattle.geo_core.specs.declared.rows.BioResult.{BioResult}
-use Rattle.geo_core.specs.declared.rows.BioResult.TheVariants as results
+use Rattle.geo_model.specs.declared.step.BioResult.{BioResult}
+use Rattle.geo_model.specs.declared.step.BioResult.TheVariants as results
 use Rattle.geo_core.specs.declared.rows.Phase.{Phase}
 use Rattle.geo_core.specs.declared.rows.Phase.TheVariants as phases
-use Rattle.geo_core.specs.declared.step.DeviceResult.{DeviceResult}
-use Rattle.geo_core.specs.declared.step.DeviceResult.TheVariants as devices
+use Rattle.geo_model.specs.declared.step.DeviceResult.{DeviceResult}
+use Rattle.geo_model.specs.declared.step.DeviceResult.TheVariants as devices
 use Rattle.geo_core.specs.declared.step.Found.{Found}
 use Rattle.geo_core.specs.declared.step.Found.TheVariants.{NoSuchBio, InPhase, OtherSeat, Unfit}
 use Rattle.geo_core.specs.declared.step.Outcome.{Outcome}

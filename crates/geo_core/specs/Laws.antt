@@ -2,12 +2,12 @@
 use Rattle.std.specs.Prelude.{◌≡◌, ℕ, ◌+◌, ◌*◌, ◌≤◌, List, length, None, Some, Ok, IsOk, IsSomeAnd, false, slice_get, ⊤}
 use Rattle.geo_base.specs.declared.request.BioCmd.TheVariants as cmds
 use Rattle.geo_core.specs.declared.rows.HeaderDisk.{HeaderDisk}
-use Rattle.geo_core.specs.declared.step.DeviceResult.{DeviceResult}
-use Rattle.geo_core.specs.declared.step.DeviceResult.TheVariants as devices
+use Rattle.geo_model.specs.declared.step.DeviceResult.{DeviceResult}
+use Rattle.geo_model.specs.declared.step.DeviceResult.TheVariants as devices
 use Rattle.geo_core.specs.declared.step.Entry.{Entry}
 use Rattle.geo_core.specs.declared.step.Outcome.{Outcome}
 use Rattle.geo_core.specs.declared.step.Outcome.TheVariants as outcomes
-use Rattle.geo_core.specs.declared.step.Request.{Request}
+use Rattle.geo_model.specs.declared.step.Request.{Request}
 use Rattle.geo_core.specs.declared.step.Step.{Step}
 use Rattle.geo_core.specs.declared.step.Step.TheVariants as steps
 use Rattle.geo_core.specs.World.{World}

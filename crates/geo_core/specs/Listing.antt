@@ -5,8 +5,8 @@ use Rattle.geo_base.specs.declared.kind.Kind.{Kind}
 use Rattle.geo_base.specs.declared.kind.Kind.TheVariants as kinds
 use Rattle.geo_core.specs.declared.rows.Geom.{Geom}
 use Rattle.geo_core.specs.declared.rows.Provider.{Provider}
-use Rattle.geo_core.specs.declared.mesh_list.GeomLine.{GeomLine}
-use Rattle.geo_core.specs.declared.mesh_list.ProvLine.{ProvLine}
+use Rattle.geo_model.specs.declared.listing.GeomLine.{GeomLine}
+use Rattle.geo_model.specs.declared.listing.ProvLine.{ProvLine}
 use Rattle.geo_core.specs.World.{World, is_attached}
 
 -- the counts of a provider: one read count for each handle that has it open (g_access(9))

@@ -1,7 +1,7 @@
 -- The world with which a plan begins.
 use Rattle.std.specs.Prelude.{ℕ, ◌+◌, ◌*◌, List, [], ◌∷◌, ◌++◌, length, codes, if◌then◌else◌}
 use Rattle.geo_base.specs.declared.kind.Kind.TheVariants as kinds
-use Rattle.geo_core.specs.declared.command.DiskDecl.{DiskDecl}
+use Rattle.geo_model.specs.declared.command.DiskDecl.{DiskDecl}
 use Rattle.geo_core.specs.declared.rows.Config.TheVariants as configs
 use Rattle.geo_core.specs.declared.rows.Geom.{Geom}
 use Rattle.geo_core.specs.declared.rows.HeaderDisk.{HeaderDisk}

@@ -6,9 +6,9 @@ use Rattle.geo_base.specs.Name.{is_short_name, is_name}
 use Rattle.geo_base.specs.declared.request.Counts.{Counts}
 use Rattle.geo_core.specs.declared.command.Command.{Command}
 use Rattle.geo_core.specs.declared.command.Command.TheVariants as commands
-use Rattle.geo_core.specs.declared.command.DiskDecl.{DiskDecl}
-use Rattle.geo_core.specs.declared.command.DiskKind.{DiskKind}
-use Rattle.geo_core.specs.declared.command.DiskKind.TheVariants as disk_kinds
+use Rattle.geo_model.specs.declared.command.DiskDecl.{DiskDecl}
+use Rattle.geo_model.specs.declared.command.DiskKind.{DiskKind}
+use Rattle.geo_model.specs.declared.command.DiskKind.TheVariants as disk_kinds
 use Rattle.geo_core.specs.declared.command.LineCommand.{LineCommand}
 
 -- what a script says: its disks, the names of its actors, and its commands

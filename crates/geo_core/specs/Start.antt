@@ -2,8 +2,8 @@
 use Rattle.std.specs.Prelude.{ℕ, Option, Some, None, Ok, Err, if◌then◌else◌}
 use Rattle.geo_base.specs.declared.errno.Errno.TheVariants.{ENXIO}
 use Rattle.geo_core.specs.declared.rows.Bio.{Bio}
-use Rattle.geo_core.specs.declared.rows.BioResult.{BioResult}
-use Rattle.geo_core.specs.declared.rows.BioResult.TheVariants as results
+use Rattle.geo_model.specs.declared.step.BioResult.{BioResult}
+use Rattle.geo_model.specs.declared.step.BioResult.TheVariants as results
 use Rattle.geo_core.specs.declared.rows.Phase.{Phase}
 use Rattle.geo_core.specs.declared.rows.Phase.TheVariants as phases
 use Rattle.geo_core.specs.declared.step.Found.TheVariants.{NoSuchBio, InPhase}

@@ -7,7 +7,7 @@ use Rattle.geo_core.specs.declared.step.Found.{Found}
 use Rattle.geo_core.specs.declared.step.Found.TheVariants.{NoSuchBio, InPhase, OtherDisk, DiskBusy}
 use Rattle.geo_core.specs.declared.step.Outcome.{Outcome}
 use Rattle.geo_core.specs.declared.step.Outcome.TheVariants.{Asked}
-use Rattle.geo_core.specs.declared.step.Request.{Request}
+use Rattle.geo_model.specs.declared.step.Request.{Request}
 use Rattle.geo_core.specs.World.{World, is_sent, provider_at, disk_of_bio, busy_bio, change_bio}
 use Rattle.geo_core.specs.Answer.{Answer, unless_found}
 use Rattle.geo_core.specs.Start.{with_phase}

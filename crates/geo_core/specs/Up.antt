@@ -1,8 +1,8 @@
 -- A bio goes up to the line that made it (g_io_deliver).
 use Rattle.std.specs.Prelude.{ℕ, Option, Some, None, Ok, Err, if◌then◌else◌}
 use Rattle.geo_core.specs.declared.rows.Bio.{Bio}
-use Rattle.geo_core.specs.declared.rows.BioResult.{BioResult}
-use Rattle.geo_core.specs.declared.rows.BioResult.TheVariants as results
+use Rattle.geo_model.specs.declared.step.BioResult.{BioResult}
+use Rattle.geo_model.specs.declared.step.BioResult.TheVariants as results
 use Rattle.geo_core.specs.declared.rows.Owner.{Owner}
 use Rattle.geo_core.specs.declared.rows.Owner.TheVariants as owners
 use Rattle.geo_core.specs.declared.step.Found.TheVariants.{NoSuchBio, InPhase}

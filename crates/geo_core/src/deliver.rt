@@ -7,10 +7,11 @@ ghost use Rattle.geo_core.specs.Answer.{Takes};
 ghost use Rattle.geo_core.specs.Deliver.{deliver_of, deliver_found, is_fitting, result_of_device};
 
 use super::look::ByNumber;
-use super::rows::{Bio, BioResult, Phase, State};
+use super::rows::{Bio, Phase, State};
 use super::start::SetResult;
-use super::step::{DeviceResult, Found, Made, Outcome};
+use super::step::{Found, Made, Outcome};
 use geo_base::{BioId, Errno, NoMemory};
+use geo_model::{BioResult, DeviceResult};
 use std::alloc::Global;
 
 /// Whether a disk's answer fits a bio.

@@ -6,9 +6,9 @@ ghost use Rattle.geo_core.specs.Listing.{listing, prov_line, geom_line, prov_lin
 ghost use Rattle.geo_core.specs.declared.rows.Provider.{Provider as ProviderRow};
 ghost use Rattle.geo_core.specs.declared.rows.Geom.{Geom as GeomRow};
 
-use super::mesh_list::{ConsLines, GeomLine, MeshList, ProvLine, ProvLines};
 use super::rows::{Consumer, Geom, Provider, State};
 use geo_base::{Counts, GeomId, Kind, NoMemory, ProvId};
+use geo_model::{ConsLines, GeomLine, MeshList, ProvLine, ProvLines};
 use std::alloc::Global;
 
 /// How many consumers are attached to a provider.

@@ -16,7 +16,6 @@ use super::facts::DiskFacts;
 use super::go::{go, go_found};
 use super::list_mesh::listing;
 use super::log::Log;
-use super::mesh_list::MeshList;
 use super::order::{is_at_rest, pick};
 use super::places::owed_after;
 use super::plan::Plan;
@@ -27,6 +26,7 @@ use super::step::{ApplyRefusal, Entry, Found, Made, Outcome, Step};
 use super::take::{take, take_found};
 use super::up::{up, up_found};
 use geo_base::NoMemory;
+use geo_model::MeshList;
 use std::alloc::Global;
 use std::marker::Model;
 

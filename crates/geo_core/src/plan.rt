@@ -1,8 +1,9 @@
 //! The plan of a script.
 
-use super::command::{DiskDecl, LineCommand};
+use super::command::LineCommand;
 use super::seq::Seq;
 use geo_base::Name;
+use geo_model::DiskDecl;
 use std::marker::Model;
 
 /// The disks of a script, its actors, and their commands in the order of the lines. Contracts see the three lists.

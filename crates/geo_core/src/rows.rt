@@ -2,7 +2,8 @@
 
 use super::command::LineCommand;
 use super::seq::Seq;
-use geo_base::{BioCmd, BioId, Block, ConsId, Errno, GeomId, HandleId, Kind, Name, ProvId};
+use geo_base::{BioCmd, BioId, Block, ConsId, GeomId, HandleId, Kind, Name, ProvId};
+use geo_model::BioResult;
 
 /// What a geom needs to do its work.
 #[derive(Clone, Copy, Debug, PartialEq, Eq)]
@@ -62,14 +63,6 @@ pub enum Phase {
     Sent,
     Busy(u32),
     Up,
-}
-
-/// How a bio ended.
-#[derive(Debug, Drop)]
-pub enum BioResult {
-    Done,
-    Bytes(Block),
-    Failed(Errno),
 }
 
 /// A request on its way (g_bio(9)); `offset` and `len` are in bytes, and `bytes` are those of a WRITE.

@@ -5,12 +5,12 @@ ghost use Rattle.geo_core.specs.World.{seen};
 ghost use Rattle.geo_core.specs.Plans.{IsPlan, FactsFit, IsFact};
 ghost use Rattle.geo_core.specs.Opening.{opening, bare_world, dev_geom, taste_geom, add_disk, add_disks, stand, disk_in_size};
 
-use super::command::DiskDecl;
 use super::facts::DiskFacts;
 use super::plan::Plan;
 use super::rows::{Config, Geom, HeaderDisk, NextNumbers, Provider, State};
 use super::seq::Seq;
 use geo_base::{BadName, GeomId, Kind, Name, NoMemory, ProvId};
+use geo_model::DiskDecl;
 use std::alloc::Global;
 
 /// Geom 1, the class DEV.

@@ -7,10 +7,11 @@ ghost use Rattle.geo_core.specs.Answer.{Takes};
 ghost use Rattle.geo_core.specs.Start.{start_of, up_with, with_phase};
 
 use super::look::{ByNumber, disk_of_bio};
-use super::rows::{Bio, BioResult, Phase, State};
+use super::rows::{Bio, Phase, State};
 use super::seq::Edit;
 use super::step::{Found, Made, Outcome};
 use geo_base::{BioId, Errno};
+use geo_model::BioResult;
 
 /// Another phase.
 #[derive(Drop)]

@@ -4,17 +4,10 @@ ghost use Rattle.std.specs.Prelude.{◌≡◌, IfOk};
 ghost use Rattle.geo_core.specs.declared.step.ApplyRefusal.TheVariants as refusals;
 
 use super::rows::Phase;
-use geo_base::{BioCmd, BioId, Block, Errno, NoMemory};
+use geo_base::{BioId, Block, Errno, NoMemory};
+use geo_model::{DeviceResult, Request};
 use std::alloc::Global;
 use thiserror::Error;
-
-/// What a disk answered; `done` is how many sectors of the request were done before it failed.
-#[derive(Debug, Drop)]
-pub enum DeviceResult {
-    Bytes(Block),
-    Done,
-    Failed { done: u32 },
-}
 
 /// A step of the mesh.
 #[derive(Debug, Drop)]
@@ -29,16 +22,6 @@ pub enum Step {
     Deliver { bio: BioId, got: DeviceResult },
     /// A bio goes up to the line that made it.
     Up { bio: BioId },
-}
-
-/// A request to a disk, in sectors.
-#[derive(Debug, Drop)]
-pub struct Request {
-    pub disk: u32,
-    pub cmd: BioCmd,
-    pub first: u64,
-    pub count: u32,
-    pub bytes: Block,
 }
 
 /// The reply to a command.
@@ -76,21 +59,6 @@ impl Reply {
             Reply::Bytes(bytes) => Ok(Reply::Bytes(bytes.copy(alloc)?)),
             Reply::Refused(errno) => Ok(Reply::Refused(*errno)),
         }
-    }
-}
-
-impl Request {
-    /// The same request.
-    pub fn copy(&self, alloc: Global) -> Result<Request, NoMemory>
-        ensures { IfOk result (λ request. request ≡ self.now) }
-    {
-        Ok(Request {
-            disk: self.disk,
-            cmd: self.cmd,
-            first: self.first,
-            count: self.count,
-            bytes: self.bytes.copy(alloc)?,
-        })
     }
 }
 

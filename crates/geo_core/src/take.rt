@@ -10,8 +10,9 @@ ghost use Rattle.geo_core.specs.Take.{take_of, take_found, request_of_bio, secto
 use super::look::{BusyAt, ByNumber, disk_of_bio, provider_at};
 use super::rows::{Bio, Phase, State};
 use super::start::SetPhase;
-use super::step::{Found, Made, Outcome, Request};
+use super::step::{Found, Made, Outcome};
 use geo_base::{BioId, NoMemory};
+use geo_model::Request;
 use std::alloc::Global;
 
 /// What is against a Take of a bio, if anything.

@@ -1,8 +1,6 @@
-use crate::{
-    ConsLine, ConsLines, DiskFacts, Entry, GeomLine, Log, MeshList, Outcome, ProvLine, ProvLines,
-    Reply, Request, Seq, Step,
-};
+use crate::{DiskFacts, Entry, Log, Outcome, Reply, Seq, Step};
 use geo_base::{BioCmd, Block, Counts, Kind, Name};
+use geo_model::{ConsLine, ConsLines, GeomLine, MeshList, ProvLine, ProvLines, Request};
 use std::test::Fail;
 
 #[test]

@@ -7,9 +7,10 @@ ghost use Rattle.geo_core.specs.Answer.{Takes};
 ghost use Rattle.geo_core.specs.Up.{up_of, reply_of, line_of};
 
 use super::look::ByNumber;
-use super::rows::{Bio, BioResult, Owner, State};
+use super::rows::{Bio, Owner, State};
 use super::step::{Found, Made, Outcome, Reply};
 use geo_base::{BioId, NoMemory};
+use geo_model::BioResult;
 use std::alloc::Global;
 
 /// What is against an Up, if anything.

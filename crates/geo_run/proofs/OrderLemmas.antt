@@ -3,13 +3,13 @@ use Rattle.std.proofs.Common.{◌≡◌, ℕ, ◌+◌, ◌*◌, ◌≤◌, List,
 use Rattle.std.proofs.lemmas.List.Elements.{All-take, All-drop}
 use Rattle.geo_core.specs.declared.rows.Bio.{Bio}
 use Rattle.geo_core.specs.declared.rows.HeaderDisk.{HeaderDisk}
-use Rattle.geo_core.specs.declared.step.DeviceResult.{DeviceResult}
-use Rattle.geo_core.specs.declared.step.DeviceResult.TheVariants as devices
+use Rattle.geo_model.specs.declared.step.DeviceResult.{DeviceResult}
+use Rattle.geo_model.specs.declared.step.DeviceResult.TheVariants as devices
 use Rattle.geo_core.specs.declared.step.Entry.{Entry}
 use Rattle.geo_core.specs.declared.step.Found.{Found}
 use Rattle.geo_core.specs.declared.step.Outcome.{Outcome}
 use Rattle.geo_core.specs.declared.step.Outcome.TheVariants as outcomes
-use Rattle.geo_core.specs.declared.step.Request.{Request}
+use Rattle.geo_model.specs.declared.step.Request.{Request}
 use Rattle.geo_core.specs.declared.step.Step.{Step}
 use Rattle.geo_core.specs.declared.step.Step.TheVariants as steps
 use Rattle.geo_core.specs.World.{World, bio_at}

@@ -7,8 +7,8 @@ use Rattle.std.proofs.lemmas.List.Elements.{All-from_recursion}
 use Rattle.geo_base.specs.Name.{is_short_name, is_name, name_of}
 use Rattle.geo_core.specs.declared.command.Command.{Command}
 use Rattle.geo_core.specs.declared.command.Command.TheVariants.{Open, Close, Read, Sync}
-use Rattle.geo_core.specs.declared.command.DiskDecl.{DiskDecl}
-use Rattle.geo_core.specs.declared.command.DiskKind.TheVariants as disk_kinds
+use Rattle.geo_model.specs.declared.command.DiskDecl.{DiskDecl}
+use Rattle.geo_model.specs.declared.command.DiskKind.TheVariants as disk_kinds
 use Rattle.geo_core.specs.declared.command.LineCommand.{LineCommand}
 use Rattle.geo_core.specs.Plans.{PlanView, IsPlan, IsDiskDecl, IsActor, IsShortName, IsCommand, IsCommandLine, is_header_word, one_read}
 use Rattle.geo_run.specs.Words.{lines_of, words_of, is_plain, short_name_of, number_of}

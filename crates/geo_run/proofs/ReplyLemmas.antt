@@ -7,14 +7,14 @@ use Rattle.geo_core.specs.declared.command.Command.{Command}
 use Rattle.geo_core.specs.declared.command.Command.TheVariants as commands
 use Rattle.geo_core.specs.declared.command.LineCommand.{LineCommand}
 use Rattle.geo_core.specs.declared.rows.Bio.{Bio}
-use Rattle.geo_core.specs.declared.rows.BioResult.{BioResult}
-use Rattle.geo_core.specs.declared.rows.BioResult.TheVariants as results
+use Rattle.geo_model.specs.declared.step.BioResult.{BioResult}
+use Rattle.geo_model.specs.declared.step.BioResult.TheVariants as results
 use Rattle.geo_core.specs.declared.rows.Handle.{Handle}
 use Rattle.geo_core.specs.declared.rows.Provider.{Provider}
 use Rattle.geo_core.specs.declared.rows.Phase.{Phase}
 use Rattle.geo_core.specs.declared.rows.Phase.TheVariants as phases
-use Rattle.geo_core.specs.declared.step.DeviceResult.{DeviceResult}
-use Rattle.geo_core.specs.declared.step.DeviceResult.TheVariants as devices
+use Rattle.geo_model.specs.declared.step.DeviceResult.{DeviceResult}
+use Rattle.geo_model.specs.declared.step.DeviceResult.TheVariants as devices
 use Rattle.geo_core.specs.declared.step.Entry.{Entry}
 use Rattle.geo_core.specs.declared.step.Found.{Found}
 use Rattle.geo_core.specs.declared.step.Outcome.{Outcome}

@@ -1,7 +1,7 @@
 -- The one disk of a script.
 use Rattle.std.specs.Prelude.{◌≡◌, ℕ, ◌*◌, List, [], ◌∷◌, replicate}
-use Rattle.geo_core.specs.declared.command.DiskDecl.{DiskDecl}
-use Rattle.geo_core.specs.declared.command.DiskKind.TheVariants as disk_kinds
+use Rattle.geo_model.specs.declared.command.DiskDecl.{DiskDecl}
+use Rattle.geo_model.specs.declared.command.DiskKind.TheVariants as disk_kinds
 use Rattle.geo_core.specs.Plans.{PlanView, IsDiskDecl}
 use Rattle.geo_run.specs.RamDisk.{RamDiskView}
 

@@ -1,8 +1,8 @@
 -- Results and replies whose bytes have a text of runs: 1 to 65,536 of them.
 use Rattle.std.specs.Prelude.{ℕ, ◌≤◌, List, length, Option, Some, None, ⊤}
 use Rattle.std.specs.List.{AllByRecursion}
-use Rattle.geo_core.specs.declared.rows.BioResult.{BioResult}
-use Rattle.geo_core.specs.declared.rows.BioResult.TheVariants as results
+use Rattle.geo_model.specs.declared.step.BioResult.{BioResult}
+use Rattle.geo_model.specs.declared.step.BioResult.TheVariants as results
 use Rattle.geo_core.specs.declared.step.Entry.{Entry}
 use Rattle.geo_core.specs.declared.step.Outcome.{Outcome}
 use Rattle.geo_core.specs.declared.step.Outcome.TheVariants as outcomes

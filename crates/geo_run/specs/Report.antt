@@ -5,9 +5,9 @@ use Rattle.geo_base.specs.Errno.{errno_text}
 use Rattle.geo_base.specs.Kind.{kind_text}
 use Rattle.geo_base.specs.Runs.{runs_text}
 use Rattle.geo_core.specs.declared.command.LineCommand.{LineCommand}
-use Rattle.geo_core.specs.declared.mesh_list.ConsLine.{ConsLine}
-use Rattle.geo_core.specs.declared.mesh_list.GeomLine.{GeomLine}
-use Rattle.geo_core.specs.declared.mesh_list.ProvLine.{ProvLine}
+use Rattle.geo_model.specs.declared.listing.ConsLine.{ConsLine}
+use Rattle.geo_model.specs.declared.listing.GeomLine.{GeomLine}
+use Rattle.geo_model.specs.declared.listing.ProvLine.{ProvLine}
 use Rattle.geo_core.specs.declared.step.Entry.{Entry}
 use Rattle.geo_core.specs.declared.step.Outcome.{Outcome}
 use Rattle.geo_core.specs.declared.step.Outcome.TheVariants as outcomes

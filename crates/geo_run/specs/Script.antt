@@ -3,8 +3,8 @@ use Rattle.std.specs.Prelude.{ℕ, ◌+◌, ◌*◌, ◌==◌, ◌&&◌, ◌||�
 use Rattle.geo_base.specs.Name.{name_of}
 use Rattle.geo_core.specs.declared.command.Command.{Command}
 use Rattle.geo_core.specs.declared.command.Command.TheVariants.{Open, Close, Read, Sync}
-use Rattle.geo_core.specs.declared.command.DiskDecl.{DiskDecl}
-use Rattle.geo_core.specs.declared.command.DiskKind.TheVariants as disk_kinds
+use Rattle.geo_model.specs.declared.command.DiskDecl.{DiskDecl}
+use Rattle.geo_model.specs.declared.command.DiskKind.TheVariants as disk_kinds
 use Rattle.geo_core.specs.declared.command.LineCommand.{LineCommand}
 use Rattle.geo_core.specs.Plans.{PlanView, is_header_word}
 use Rattle.geo_run.specs.Words.{lines_of, words_of, is_plain, number_of, short_name_of}

@@ -10,7 +10,8 @@ ghost use Rattle.geo_run.specs.FixedOrder.{IsOrderly, IsBetween, IsDueFull, Bega
 
 use crate::ram_disk::RamDisk;
 use geo_base::BioId;
-use geo_core::{ApplyRefusal, DeviceResult, Mesh, Outcome, Step};
+use geo_core::{ApplyRefusal, Mesh, Outcome, Step};
+use geo_model::DeviceResult;
 use std::alloc::Global;
 use thiserror::Error;
 

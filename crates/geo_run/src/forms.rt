@@ -6,7 +6,8 @@ ghost use Rattle.geo_run.specs.Script.{open_words, close_words, read_words, sync
 
 use crate::words::{long_name, number, short_name};
 use geo_base::{Counts, Name};
-use geo_core::{Command, DiskDecl, DiskKind};
+use geo_core::Command;
+use geo_model::{DiskDecl, DiskKind};
 
 #[tactic(auto, unfolding(crate::specs::Script::open_words, crate::specs::Script::open_of))]
 fn open_form(words: &[&[u8]]) -> Option<Command>

@@ -7,7 +7,8 @@ ghost use Rattle.geo_run.specs.Report.{reply_text, reply_in, reply_from, told, l
 
 use crate::text::Text;
 use geo_base::{Block, Counts, NoMemory, runs_text};
-use geo_core::{ConsLine, Entry, GeomLine, LineCommand, Mesh, Outcome, ProvLine, Reply};
+use geo_core::{Entry, LineCommand, Mesh, Outcome, Reply};
+use geo_model::{ConsLine, GeomLine, ProvLine};
 use std::alloc::Global;
 
 /// The reply to a line, if the entry gives it.

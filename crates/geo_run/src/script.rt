@@ -8,7 +8,8 @@ ghost use Rattle.geo_run.specs.Reads.{Reads, ReadsCommands, ReadsLine};
 use crate::forms::{actor_form, line_form, ram_form};
 use crate::words::{is_plain, lines_of, words_of};
 use geo_base::{Name, NoMemory};
-use geo_core::{Command, DiskDecl, LineCommand, Plan, Seq};
+use geo_core::{Command, LineCommand, Plan, Seq};
+use geo_model::DiskDecl;
 use std::alloc::{AllocError, Global};
 use thiserror::Error;
 

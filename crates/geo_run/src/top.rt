@@ -10,8 +10,9 @@ use crate::report::report;
 use crate::script::{ScriptRefusal, plan_of_text};
 use crate::text::Text;
 use geo_base::{Block, NoMemory};
-use geo_core::{DiskDecl, DiskFacts, Log, Mesh, Plan};
+use geo_core::{DiskFacts, Log, Mesh, Plan};
 use geo_io::{ReadRefusal, Sink, Source, read_all, write_out};
+use geo_model::DiskDecl;
 use std::alloc::Global;
 
 /// How a run ended: the exit status, the log where the mesh opened, and the sizes of the disks with which it began.
