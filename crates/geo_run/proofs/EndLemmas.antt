@@ -1,6 +1,6 @@
 -- What is written at an end.
 use Rattle.std.proofs.Common.{true≢false, ◌≡◌, ◌≢◌, ℕ, ◌<◌, List, length, take, Option, Some, None, Ok, Err, IsSomeAnd, refl, sym, subst, codes}
-use Rattle.std.specs.Prelude.{IsNone, IfSome, IsErrOf}
+use Rattle.std.specs.Prelude.{IsNone, IfSome}
 use Rattle.geo_core.specs.Room.{Room}
 use Rattle.geo_core.specs.declared.step.Entry.{Entry}
 use Rattle.geo_core.specs.Plans.{PlanView}
@@ -15,7 +15,7 @@ use Rattle.geo_run.specs.Script.{script}
 use Rattle.geo_base.specs.Faults.{Rose}
 use Rattle.geo_io.specs.Sink.{Grows}
 use Rattle.geo_io.specs.Source.{Takes}
-use Rattle.geo_run.specs.Run.{Writes, Ending, Reported, BadWords, NoScript, ReadFault, OutOfMemory, LogFull, TooLong, IsToRest, HasPlanCause, HasTextCause, EndsPlan, EndsText, EndsRun, HasRunCause, IsReadWhole, HasRead, StopsFull, HasPlanLog, HasTextLog, HasReadLog, status_of, due_text, ending_of, IsTextLog, IsReadLog, fault_text}
+use Rattle.geo_run.specs.Run.{Writes, Ending, Reported, BadWords, NoScript, ReadFault, OutOfMemory, LogFull, TooLong, IsToRest, HasPlanCause, HasTextCause, EndsPlan, EndsText, EndsRun, HasRunCause, IsReadWhole, HasPlanLog, HasTextLog, HasReadLog, status_of, due_text, ending_of, IsTextLog, IsReadLog, fault_text}
 
 pub Writes-whole : (status before now : ℕ) (text : List ℕ) (old new : Option (List ℕ)) → status ≢ 4 → Grows old text new → Writes status status before now text old new
 Writes-whole status before now text old new other g = record {

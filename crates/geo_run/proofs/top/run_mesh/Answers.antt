@@ -1,4 +1,4 @@
-use Rattle.std.proofs.Common.{refl, ◌∙◌}
+use Rattle.std.proofs.Common.{◌∙◌}
 use Rattle.geo_run.proofs.EndLemmas.{EndsPlan-reported, EndsPlan-stopped}
 use Rattle.geo_run.proofs.top.run_mesh.Goals as goal
 
