@@ -10,7 +10,8 @@ use Rattle.geo_core.specs.declared.rows.HeaderDisk.{HeaderDisk}
 use Rattle.geo_core.specs.declared.rows.Provider.{Provider}
 use Rattle.geo_core.specs.Rows.{find_by}
 use Rattle.geo_core.specs.World.{World, is_geom, disk_of, disk_of_geom, disk_in}
-use Rattle.geo_core.specs.Plans.{PlanView, IsPlan, IsDiskDecl, IsCommandLine, IsFact, FactsFit}
+use Rattle.geo_model.specs.Plans.{IsDiskDecl, IsFact}
+use Rattle.geo_core.specs.Plans.{PlanView, IsPlan, IsCommandLine, FactsFit}
 use Rattle.geo_core.specs.Opening.{opening, bare_world, stand, with_disk, add_disk, add_disks, disk_in_size, disk_geom, disk_provider}
 use Rattle.geo_core.specs.Sound.{Sound, IsOfDisk}
 use Rattle.geo_core.proofs.RowsLemmas.{bool_cases}

@@ -2,7 +2,8 @@
 
 ghost use Rattle.std.specs.Prelude.{◌≡◌, ◌+◌, ◌*◌, ◌<◌, ◌≤◌, ◌^◌, [], ◌∷◌, IfOk, OnOk, length, slice_index_or};
 ghost use Rattle.geo_core.specs.World.{seen};
-ghost use Rattle.geo_core.specs.Plans.{IsPlan, FactsFit, IsFact};
+ghost use Rattle.geo_model.specs.Plans.{IsFact};
+ghost use Rattle.geo_core.specs.Plans.{IsPlan, FactsFit};
 ghost use Rattle.geo_core.specs.Opening.{opening, bare_world, dev_geom, taste_geom, add_disk, add_disks, stand, disk_in_size};
 
 use super::facts::DiskFacts;

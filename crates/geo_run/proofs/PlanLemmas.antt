@@ -10,9 +10,10 @@ use Rattle.geo_core.specs.declared.command.Command.TheVariants.{Open, Close, Rea
 use Rattle.geo_model.specs.declared.command.DiskDecl.{DiskDecl}
 use Rattle.geo_model.specs.declared.command.DiskKind.TheVariants as disk_kinds
 use Rattle.geo_core.specs.declared.command.LineCommand.{LineCommand}
-use Rattle.geo_core.specs.Plans.{PlanView, IsPlan, IsDiskDecl, IsActor, IsShortName, IsCommand, IsCommandLine, is_header_word, one_read}
+use Rattle.geo_model.specs.Plans.{IsDiskDecl, IsActor, IsShortName}
+use Rattle.geo_core.specs.Plans.{PlanView, IsPlan, IsCommand, IsCommandLine, one_read}
 use Rattle.geo_run.specs.Words.{lines_of, words_of, is_plain, short_name_of, number_of}
-use Rattle.geo_run.specs.Script.{open_of, open_words, close_of, close_words, read_of, read_words, sync_words, verb_words, line_words, is_ram_size, ram_of, ram_words, actor_words, command_at, with_command, commands_of, disk_at, actor_at, planned, plan_with_actor, plan_with_disk, plan_of, script}
+use Rattle.geo_run.specs.Script.{is_header_word, open_of, open_words, close_of, close_words, read_of, read_words, sync_words, verb_words, line_words, is_ram_size, ram_of, ram_words, actor_words, command_at, with_command, commands_of, disk_at, actor_at, planned, plan_with_actor, plan_with_disk, plan_of, script}
 use Rattle.geo_run.specs.OneDisk.{HasOneRam, IsRamDecl}
 
 -- Tests

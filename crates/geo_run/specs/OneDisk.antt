@@ -2,7 +2,8 @@
 use Rattle.std.specs.Prelude.{◌≡◌, ℕ, ◌*◌, List, [], ◌∷◌, replicate}
 use Rattle.geo_model.specs.declared.command.DiskDecl.{DiskDecl}
 use Rattle.geo_model.specs.declared.command.DiskKind.TheVariants as disk_kinds
-use Rattle.geo_core.specs.Plans.{PlanView, IsDiskDecl}
+use Rattle.geo_model.specs.Plans.{IsDiskDecl}
+use Rattle.geo_core.specs.Plans.{PlanView}
 use Rattle.geo_run.specs.RamDisk.{RamDiskView}
 
 -- a memory disk of the header

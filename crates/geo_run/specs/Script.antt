@@ -1,12 +1,15 @@
 -- Scripts of one disk and one actor.
 use Rattle.std.specs.Prelude.{ℕ, ◌+◌, ◌*◌, ◌==◌, ◌&&◌, ◌||◌, not, nat_le, List, [], ◌∷◌, Bool, false, Result, Ok, Err, Option, Some, None, if◌then◌else◌, codes, bytes_eq}
+use Rattle.std.specs.List.{list_any}
 use Rattle.geo_base.specs.Name.{name_of}
+use Rattle.geo_model.specs.Words.{same_name}
+use Rattle.geo_model.specs.Script.{header_words}
 use Rattle.geo_core.specs.declared.command.Command.{Command}
 use Rattle.geo_core.specs.declared.command.Command.TheVariants.{Open, Close, Read, Sync}
 use Rattle.geo_model.specs.declared.command.DiskDecl.{DiskDecl}
 use Rattle.geo_model.specs.declared.command.DiskKind.TheVariants as disk_kinds
 use Rattle.geo_core.specs.declared.command.LineCommand.{LineCommand}
-use Rattle.geo_core.specs.Plans.{PlanView, is_header_word}
+use Rattle.geo_core.specs.Plans.{PlanView}
 use Rattle.geo_run.specs.Words.{lines_of, words_of, is_plain, number_of, short_name_of}
 
 -- Commands
@@ -91,6 +94,10 @@ ram_words (word ∷ name ∷ []) = None
 ram_words (word ∷ name ∷ sector ∷ []) = None
 ram_words (word ∷ name ∷ sector ∷ sectors ∷ []) = if bytes_eq word (codes "ram") then ram_of (short_name_of name) (number_of sector) (number_of sectors) else None
 ram_words (word ∷ name ∷ sector ∷ sectors ∷ more ∷ words) = None
+
+-- whether a word begins a line of the header
+abbrev pub is_header_word : List ℕ → Bool
+is_header_word word = list_any (same_name word) header_words
 
 -- `actor NAME`, where the name isn't a word of the header
 unfoldable pub actor_words : List (List ℕ) → Option (List ℕ)

@@ -1,8 +1,7 @@
 //! The forms of lines.
 ghost use Rattle.std.specs.Prelude.{◌≡◌};
-ghost use Rattle.geo_core.specs.Plans.{is_header_word};
 ghost use Rattle.geo_run.specs.Words.{texts};
-ghost use Rattle.geo_run.specs.Script.{open_words, close_words, read_words, sync_words, verb_words, line_words, ram_words, actor_words};
+ghost use Rattle.geo_run.specs.Script.{open_words, close_words, read_words, sync_words, verb_words, line_words, ram_words, actor_words, is_header_word};
 
 use crate::words::{long_name, number, short_name};
 use geo_base::{Counts, Name};

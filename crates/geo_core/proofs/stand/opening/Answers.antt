@@ -1,6 +1,7 @@
+use Rattle.std.proofs.Math.Nat.{mul_comm}
 use Rattle.std.proofs.Common.{length, ap, arith, refl, ◌∙◌}
 use Rattle.geo_core.specs.World.{World, seen}
-use Rattle.geo_core.specs.Plans.{IsFact}
+use Rattle.geo_model.specs.Plans.{IsFact}
 use Rattle.geo_core.specs.Opening.{opening, bare_world}
 use Rattle.geo_core.proofs.ListLemmas.{zip_inside, zip_step, disks_step, disks_end, disk_grows}
 use Rattle.geo_core.proofs.stand.opening.Goals as goal
@@ -26,7 +27,7 @@ pub add_disk-requires-clause-limited : goal.add_disk-requires-clause-limited
 add_disk-requires-clause-limited c =
     let inside = zip_inside IsFact c.disks-decls.result.now c.items-pairs.result.now c.loop-i.i c.index-decls-i.result c.loop-i-test.true c.index-decls-i.is c.loop-i.invariant.fits in
     let fits = zip_step IsFact c.disks-decls.result.now c.items-pairs.result.now c.loop-i.i c.index-decls-i.result c.fact_at-fact.result c.loop-i-test.true c.index-decls-i.is inside c.fact_at-fact.ensures c.loop-i.invariant.fits in
-    fits.0.limited
+    rw (mul_comm c.fact_at-fact.result.0 c.fact_at-fact.result.1) fits.0.limited
 
 pub loop-i-preserved : goal.loop-i-preserved
 loop-i-preserved c =

@@ -1,7 +1,7 @@
 use Rattle.std.proofs.Common.{◌≡◌, ◌+◌, ◌≤◌, drop, length}
 use Rattle.std.specs.List.{AllZip}
 use Rattle.geo_core.specs.World.{seen}
-use Rattle.geo_core.specs.Plans.{IsFact}
+use Rattle.geo_model.specs.Plans.{IsFact}
 use Rattle.geo_core.specs.Opening.{opening, add_disks}
 use Rattle.geo_core.proofs.stand.opening.Given as goal
 
