@@ -74,6 +74,15 @@ fn a_failing_call_does_a_part(rt: HostRuntime) -> Result<(), Fail> {
     Ok(())
 }
 
+#[test]
+fn the_flush_of_a_drive_is_that_of_its_disk(rt: HostRuntime) -> Result<(), Fail> {
+    let mut ram: Drive<MemDisk> = Drive::Ram(numbered(rt.alloc(), &[1])?);
+    assert_eq!(rt; ram.flush(), Err(DiskFailed { done: 0 }));
+    let mut shelved = Drive::Shelved(numbered(rt.alloc(), &[1])?);
+    assert_eq!(rt; shelved.flush(), Err(DiskFailed { done: 0 }));
+    Ok(())
+}
+
 /// A block of so many bytes of one value.
 fn full(alloc: Global, size: u32, byte: u8) -> Result<Block, Fail> {
     let mut block = Block::zeros(alloc, size)?;
