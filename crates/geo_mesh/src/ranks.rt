@@ -88,10 +88,9 @@ pub fn user(consumers: &Slots<ConsCell>, cons: u64) -> u64
     ensures rising { IsRising 1 consumers.now.rows consumers.now.next }
     ensures bound { consumers.now.next < 2 ^ 64 }
 {
-    match consumers.get(cons) {
-        Some(cell) => cell.consumer.geom.number(),
-        None => 0,
-    }
+    consumers
+        .get(cons)
+        .map_or(0, |cell| cell.consumer.geom.number())
 }
 
 /// The geom that offers a provider, and 0 where there is none.
@@ -100,20 +99,16 @@ pub fn owner(providers: &Slots<ProvCell>, prov: u64) -> u64
     ensures rising { IsRising 1 providers.now.rows providers.now.next }
     ensures bound { providers.now.next < 2 ^ 64 }
 {
-    match providers.get(prov) {
-        Some(cell) => cell.provider.geom.number(),
-        None => 0,
-    }
+    providers
+        .get(prov)
+        .map_or(0, |cell| cell.provider.geom.number())
 }
 
 /// The rank that stands in the cell of a geom, and 1 where there is no geom.
 pub fn stored<C>(geoms: &Slots<GeomCell<C>>, geom: u64) -> u64
     ensures { result ≡ stored geoms.now geom }
 {
-    match geoms.get(geom) {
-        Some(cell) => cell.rank,
-        None => 1,
-    }
+    geoms.get(geom).map_or(1, |cell| cell.rank)
 }
 
 // Gives the geom this rank.
@@ -148,10 +143,9 @@ fn lift<C>(geoms: &mut Slots<GeomCell<C>>, geom: u64, rank: u64, high: bool) -> 
 fn is_granted_at<C>(geoms: &Slots<GeomCell<C>>, geom: u64) -> bool
     ensures { result ≡ passes is_granted_kind (value_at (kinds geoms.now) geom) }
 {
-    match geoms.get(geom) {
-        Some(cell) => is_granted(cell.geom.kind),
-        None => false,
-    }
+    geoms
+        .get(geom)
+        .is_some_and(|cell| is_granted(cell.geom.kind))
 }
 
 /// Gives the geom at least this rank, and those above it as great ranks as they then have to have. Whether a geom other

@@ -262,10 +262,7 @@ impl<C> Topo<C> {
         ensures geom { geom_at self.now.topology id ≡ option_map (geom_seen id) (option_copied result) }
         ensures sound { IsSoundGraph self.now.topology }
     {
-        match self.geoms.get(id.number()) {
-            Some(cell) => Some(&cell.geom),
-            None => None,
-        }
+        self.geoms.get(id.number()).map(|cell| &cell.geom)
     }
 
     /// The provider of a number.
@@ -276,10 +273,7 @@ impl<C> Topo<C> {
         ensures fallen { value_at self.now.fallen id ≡ option_map (λ x. x.fallen) (option_copied result) }
         ensures sound { IsSoundGraph self.now.topology }
     {
-        match self.providers.get(id.number()) {
-            Some(cell) => Some(&cell.provider),
-            None => None,
-        }
+        self.providers.get(id.number()).map(|cell| &cell.provider)
     }
 
     /// The consumer of a number.
@@ -289,10 +283,7 @@ impl<C> Topo<C> {
         ensures active { value_at self.now.active id ≡ option_map (λ x. x.active) (option_copied result) }
         ensures sound { IsSoundGraph self.now.topology }
     {
-        match self.consumers.get(id.number()) {
-            Some(cell) => Some(&cell.consumer),
-            None => None,
-        }
+        self.consumers.get(id.number()).map(|cell| &cell.consumer)
     }
 
     /// The scratch of a geom.
@@ -333,10 +324,7 @@ impl<C> Topo<C> {
         ensures first { result ≡ first_geom self.now.topology.geoms from }
         ensures sound { IsSoundGraph self.now.topology }
     {
-        match self.geoms.first_from(from) {
-            Some(number) => Some(GeomId::new(number)),
-            None => None,
-        }
+        self.geoms.first_from(from).map(GeomId::new)
     }
 
     /// The least number of a provider that isn't below a number.
@@ -344,10 +332,7 @@ impl<C> Topo<C> {
         ensures first { result ≡ first_provider self.now.topology.providers from }
         ensures sound { IsSoundGraph self.now.topology }
     {
-        match self.providers.first_from(from) {
-            Some(number) => Some(ProvId::new(number)),
-            None => None,
-        }
+        self.providers.first_from(from).map(ProvId::new)
     }
 
     /// The least number of a consumer that isn't below a number.
@@ -355,10 +340,7 @@ impl<C> Topo<C> {
         ensures first { result ≡ first_consumer self.now.topology.consumers from }
         ensures sound { IsSoundGraph self.now.topology }
     {
-        match self.consumers.first_from(from) {
-            Some(number) => Some(ConsId::new(number)),
-            None => None,
-        }
+        self.consumers.first_from(from).map(ConsId::new)
     }
 
     /// The least number of a provider of the geom that isn't below a number.
@@ -366,10 +348,10 @@ impl<C> Topo<C> {
         ensures first { result ≡ first_provider (providers_of self.now.topology geom) from }
         ensures sound { IsSoundGraph self.now.topology }
     {
-        match self.index.offered.first_from(geom.number(), from) {
-            Some(number) => Some(ProvId::new(number)),
-            None => None,
-        }
+        self.index
+            .offered
+            .first_from(geom.number(), from)
+            .map(ProvId::new)
     }
 
     /// The least number of a consumer of the geom that isn't below a number.
@@ -377,10 +359,10 @@ impl<C> Topo<C> {
         ensures first { result ≡ first_consumer (consumers_of self.now.topology geom) from }
         ensures sound { IsSoundGraph self.now.topology }
     {
-        match self.index.owned.first_from(geom.number(), from) {
-            Some(number) => Some(ConsId::new(number)),
-            None => None,
-        }
+        self.index
+            .owned
+            .first_from(geom.number(), from)
+            .map(ConsId::new)
     }
 
     /// The least number of a consumer attached to the provider that isn't below a number.
@@ -388,10 +370,10 @@ impl<C> Topo<C> {
         ensures first { result ≡ first_consumer (attached_to self.now.topology prov) from }
         ensures sound { IsSoundGraph self.now.topology }
     {
-        match self.index.attached.first_from(prov.number(), from) {
-            Some(number) => Some(ConsId::new(number)),
-            None => None,
-        }
+        self.index
+            .attached
+            .first_from(prov.number(), from)
+            .map(ConsId::new)
     }
 
     /// The provider of the name that carries no error, else the one of the name with the greatest number.
@@ -400,10 +382,7 @@ impl<C> Topo<C> {
     {
         match self.names.sound(name) {
             Some(number) => Some(ProvId::new(number)),
-            None => match self.names.newest(name) {
-                Some(number) => Some(ProvId::new(number)),
-                None => None,
-            },
+            None => self.names.newest(name).map(ProvId::new),
         }
     }
 
@@ -411,10 +390,9 @@ impl<C> Topo<C> {
     pub fn is_withering(&self, geom: GeomId) -> bool
         ensures { result ≡ is_withering self.now.topology geom }
     {
-        match self.geoms.get(geom.number()) {
-            Some(cell) => cell.geom.withering,
-            None => false,
-        }
+        self.geoms
+            .get(geom.number())
+            .is_some_and(|cell| cell.geom.withering)
     }
 
     /// Whether a provider without an error has the name.
@@ -448,10 +426,9 @@ impl<C> Topo<C> {
     fn is_errored(&self, prov: ProvId) -> bool
         ensures { result ≡ is_errored self.now.topology prov }
     {
-        match self.providers.get(prov.number()) {
-            Some(cell) => cell.provider.errored,
-            None => false,
-        }
+        self.providers
+            .get(prov.number())
+            .is_some_and(|cell| cell.provider.errored)
     }
 
     /// Attaches the consumer to the provider (g_attach(9)). It is refused where the provider carries an error, else where

@@ -1,11 +1,7 @@
-use Rattle.std.proofs.Common.{refl}
+use Rattle.std.proofs.Common.{rules}
 use Rattle.geo_mesh.proofs.ViewLemmas.{is_withering-rows}
 use Rattle.geo_mesh.proofs.topo.Topo.is_withering.Goals as goal
 
-pub returns-in-Some : goal.returns-in-Some
-returns-in-Some g c =
-    rw (← c.self.view_is, ← c.number.ensures, is_withering-rows c.number.result 1 c.self.inside.geoms.next c.self.inside.geoms.rows c.in-Some.ensures.rising, ← c.in-Some.ensures.value) refl
-
-pub returns-in-None : goal.returns-in-None
-returns-in-None g c =
-    rw (← c.self.view_is, ← c.number.ensures, is_withering-rows c.number.result 1 c.self.inside.geoms.next c.self.inside.geoms.rows c.in-None.ensures.rising, ← c.in-None.ensures.value) refl
+pub returns : goal.returns
+returns g c =
+    rw (← c.self.view_is, ← c.number.ensures, is_withering-rows c.number.result 1 c.self.inside.geoms.next c.self.inside.geoms.rows c.get.ensures.rising, ← c.get.ensures.value) (search rules)
