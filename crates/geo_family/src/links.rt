@@ -13,50 +13,35 @@ pub fn parent_at(links: &Slots<Link>, child: u64) -> Option<u64>
     ensures parent { result ≡ part_at parent_of links.now.rows child }
     ensures rising { IsRising 1 links.now.rows links.now.next }
 {
-    match links.get(child) {
-        Some(link) => link.parent,
-        None => None,
-    }
+    links.get(child)?.parent
 }
 
 /// The child before a child.
 pub fn before_at(links: &Slots<Link>, child: u64) -> Option<u64>
     ensures { result ≡ part_at before_of links.now.rows child }
 {
-    match links.get(child) {
-        Some(link) => link.before,
-        None => None,
-    }
+    links.get(child)?.before
 }
 
 /// The child after a child.
 pub fn after_at(links: &Slots<Link>, child: u64) -> Option<u64>
     ensures { result ≡ part_at after_of links.now.rows child }
 {
-    match links.get(child) {
-        Some(link) => link.after,
-        None => None,
-    }
+    links.get(child)?.after
 }
 
 /// The first child of a parent.
 pub fn first_at(ends: &Slots<Ends>, parent: u64) -> Option<u64>
     ensures { result ≡ part_at first_of ends.now.rows parent }
 {
-    match ends.get(parent) {
-        Some(end) => end.first,
-        None => None,
-    }
+    ends.get(parent)?.first
 }
 
 /// The last child of a parent.
 pub fn last_at(ends: &Slots<Ends>, parent: u64) -> Option<u64>
     ensures { result ≡ part_at last_of ends.now.rows parent }
 {
-    match ends.get(parent) {
-        Some(end) => end.last,
-        None => None,
-    }
+    ends.get(parent)?.last
 }
 
 /// Another number after a child that may be there.
