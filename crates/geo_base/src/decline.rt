@@ -4,11 +4,11 @@ use thiserror::Error;
 /// The first cause by which a sector isn't what a class looks for.
 #[derive(Clone, Copy, Debug, PartialEq, Eq)]
 pub enum DeclineCause {
-    /// A partition table without 0x55, 0xAA at its end.
+    /// A partition table, or a link of a chain, without 0x55, 0xAA at its end.
     Signature,
     /// A partition table with an entry of type 0xEE, which protects a table of another kind.
     Protective,
-    /// A partition table of which no entry is kept.
+    /// A partition table of which no entry is kept, or a chain of which no partition is.
     Nothing,
     /// A record of another magic.
     Magic,
@@ -20,6 +20,16 @@ pub enum DeclineCause {
     Place,
     /// A record of a stripe whose stripe size doesn't fit.
     Size,
+    /// A record of a label that names another media size.
+    Media,
+    /// A link whose second entry is of a type that doesn't lead to a link.
+    Second,
+    /// A link that leads back to one that was read.
+    Loop,
+    /// A link that leads past the media.
+    Far,
+    /// A chain of more than 32 links.
+    Long,
 }
 
 /// A sector that a class declined.

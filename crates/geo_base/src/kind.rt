@@ -13,6 +13,8 @@ pub enum Kind {
     Taste,
     /// Slices of a partition table.
     Mbr,
+    /// Logical partitions of a chain of links.
+    Ebr,
     /// A provider under another name.
     Label,
     /// Providers one behind the other.
@@ -33,6 +35,7 @@ impl Kind {
             Kind::Dev => b"DEV",
             Kind::Taste => b"TASTE",
             Kind::Mbr => b"MBR",
+            Kind::Ebr => b"EBR",
             Kind::Label => b"LABEL",
             Kind::Concat => b"CONCAT",
             Kind::Stripe => b"STRIPE",
@@ -46,7 +49,7 @@ impl Kind {
         ensures { result ≡ adds_exclusive self.now }
     {
         match *self {
-            Kind::Mbr | Kind::Label | Kind::Concat | Kind::Stripe => true,
+            Kind::Mbr | Kind::Ebr | Kind::Label | Kind::Concat | Kind::Stripe => true,
             Kind::Disk | Kind::Dev | Kind::Taste | Kind::Nop => false,
         }
     }

@@ -10,8 +10,6 @@ mod kind;
 mod name;
 mod request;
 mod runs;
-#[cfg(test)]
-mod tests;
 
 pub use block::{Block, NoMemory};
 pub use calls::Calls;

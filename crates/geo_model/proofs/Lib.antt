@@ -8,3 +8,4 @@ pub mod DemandLemmas
 pub mod RankLemmas
 pub mod PlaceLemmas
 pub mod PartitionLemmas
+pub mod WayLemmas

@@ -6,11 +6,12 @@ use Rattle.std.proofs.lemmas.Bool.{ltb-true, ltb-false}
 use Rattle.std.proofs.lemmas.List.Sums.{sum_by-cons}
 use Rattle.std.proofs.Math.Nat.{lt-div-mul-add, div-mul-le_self}
 use Rattle.std.proofs.lemmas.Nat.{le-div}
+use Rattle.geo_model.specs.declared.class.EbrPart.{EbrPart}
 use Rattle.geo_model.specs.declared.class.Slice.{Slice}
-use Rattle.geo_model.specs.World.{Config, Nothing, Disk, Mbr, Label, Concat, Stripe, Nop}
+use Rattle.geo_model.specs.World.{Config, Nothing, Disk, Mbr, Ebr, Label, Concat, Stripe, Nop}
 use Rattle.geo_model.specs.Topology.{Provider}
 use Rattle.geo_model.specs.declared.span.Stretch.{Stretch}
-use Rattle.geo_model.specs.Place.{concat_stretches, strip, strips, pieces, piece_in, slice_at, Follow}
+use Rattle.geo_model.specs.Place.{concat_stretches, strip, strips, pieces, piece_in, slice_at, part_at, Follow}
 use Rattle.geo_model.specs.Laws.{HasRange}
 
 -- the stretches follow each other from a to b
@@ -93,10 +94,19 @@ mbr-follow slices x below o len None e some inside some_byte = let h : IsSome {T
 mbr-follow slices x below o len (Some s) e some inside some_byte =
     rw e (whole-follow o len x.size (record { start = 0; len = x.size; component = 0; offset = s.first * 512 }) refl refl inside some_byte)
 
+ebr-follow : (parts : List (Option EbrPart)) (x : Provider) (below : Option ℕ) (o len : ℕ) (found : Option EbrPart)
+    → part_at parts x.name ≡ found
+    → IsSome (part_at parts x.name) → o + len ≤ x.size → 0 < len → Follow 0 len (pieces (Ebr below parts) x o len)
+ebr-follow parts x below o len None e some inside some_byte =
+    let h : IsSome {T = EbrPart} None = rw e at some in let no : ⊥ = cc in absurd no
+ebr-follow parts x below o len (Some s) e some inside some_byte =
+    rw e (whole-follow o len x.size (record { start = 0; len = x.size; component = 0; offset = s.first * 512 }) refl refl inside some_byte)
+
 pub pieces-follow : (config : Config) (x : Provider) (o len : ℕ) → 0 < len → HasRange config x o len → Follow 0 len (pieces config x o len)
 pieces-follow Nothing x o len some inside = absurd inside
 pieces-follow (Disk disk) x o len some inside = absurd inside
 pieces-follow (Mbr below slices) x o len some inside = mbr-follow slices x below o len (slice_at slices x.name) refl inside.0 inside.1 some
+pieces-follow (Ebr below parts) x o len some inside = ebr-follow parts x below o len (part_at parts x.name) refl inside.0 inside.1 some
 pieces-follow (Label below) x o len some inside =
     whole-follow o len x.size (record { start = 0; len = x.size; component = 0; offset = 0 }) refl refl inside some
 pieces-follow (Concat id places sizes) x o len some inside = concat-follow id places sizes x o len inside

@@ -4,12 +4,13 @@ use Rattle.std.specs.List.{AllByRecursion, range_with_len}
 use Rattle.std.proofs.Common.{refl, subst, arith}
 use Rattle.std.proofs.lemmas.Bool.{lt-ltb, le-ltb}
 use Rattle.std.proofs.lemmas.Nat.{div-mul-add, mod-mul-add}
+use Rattle.geo_model.specs.declared.class.EbrPart.{EbrPart}
 use Rattle.geo_model.specs.declared.class.Slice.{Slice}
 use Rattle.geo_model.specs.Topology.{Provider}
-use Rattle.geo_model.specs.World.{Config, Nothing, Disk, Mbr, Label, Concat, Stripe, Nop}
+use Rattle.geo_model.specs.World.{Config, Nothing, Disk, Mbr, Ebr, Label, Concat, Stripe, Nop}
 use Rattle.geo_model.specs.declared.span.Piece.{Piece}
 use Rattle.geo_model.specs.declared.span.Stretch.{Stretch}
-use Rattle.geo_model.specs.Place.{Spot, place, concat_spot, stripe_spot, concat_stretches, strip, strips, stretches, pieces, slice_at, piece_in, StretchIsPlaced, PieceIsPlaced}
+use Rattle.geo_model.specs.Place.{Spot, place, concat_spot, stripe_spot, concat_stretches, strip, strips, stretches, pieces, slice_at, part_at, piece_in, StretchIsPlaced, PieceIsPlaced}
 use Rattle.geo_model.proofs.DemandLemmas.{all_weaker, map_all}
 use Rattle.geo_model.proofs.RankLemmas.{mapped_by}
 
@@ -111,10 +112,18 @@ mbr_placed slices x below o len None e = rw e tt
 mbr_placed slices x below o len (Some s) e =
     rw e ((λ j inside. let a : s.first * 512 + (0 + j) ≡ s.first * 512 + j = omega arith in rw (e, a) refl), tt)
 
+ebr_placed : (parts : List (Option EbrPart)) (x : Provider) (below : Option ℕ) (o len : ℕ) (found : Option EbrPart)
+    → part_at parts x.name ≡ found
+    → AllByRecursion (StretchIsPlaced (place (Ebr below parts) x.name)) (stretches (Ebr below parts) x o len)
+ebr_placed parts x below o len None e = rw e tt
+ebr_placed parts x below o len (Some s) e =
+    rw e ((λ j inside. let a : s.first * 512 + (0 + j) ≡ s.first * 512 + j = omega arith in rw (e, a) refl), tt)
+
 pub stretches_placed : (config : Config) (x : Provider) (o len : ℕ) → AllByRecursion (StretchIsPlaced (place config x.name)) (stretches config x o len)
 stretches_placed Nothing x o len = tt
 stretches_placed (Disk disk) x o len = tt
 stretches_placed (Mbr below slices) x o len = mbr_placed slices x below o len (slice_at slices x.name) refl
+stretches_placed (Ebr below parts) x o len = ebr_placed parts x below o len (part_at parts x.name) refl
 stretches_placed (Label below) x o len = ((λ j inside. refl), tt)
 stretches_placed (Concat id places sizes) x o len = concat_placed sizes
 stretches_placed (Stripe id stripe places sizes) x o len = strips_placed (length sizes) stripe o len

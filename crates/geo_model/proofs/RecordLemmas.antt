@@ -1,18 +1,18 @@
 -- Each record that is written is read again.
-use Rattle.std.specs.Prelude.{◌≡◌, ℕ, zero, suc, ◌+◌, ◌-◌, ◌%◌, ◌<◌, ◌≤◌, ◌==◌, nat_le, Bool, true, false, not, ◌&&◌, List, [], ◌∷◌, ◌++◌, length, take, drop, replicate, take_while, bytes_eq, Some, None, Ok}
+use Rattle.std.specs.Prelude.{◌≡◌, ℕ, zero, suc, ◌+◌, ◌-◌, ◌%◌, ◌^◌, ◌<◌, ◌≤◌, ◌==◌, nat_le, Bool, true, false, not, ◌&&◌, List, [], ◌∷◌, ◌++◌, length, take, drop, replicate, take_while, bytes_eq, Option, Some, None, Ok, IfSome}
 use Rattle.std.specs.List.{list_all, prefix_len}
-use Rattle.std.specs.Int.{w16, w32, to_le_bytes, from_le_bytes}
+use Rattle.std.specs.Int.{w16, w32, w64, to_le_bytes, from_le_bytes}
 use Rattle.std.proofs.Common.{refl, ◌∙◌, ap, subst, arith, length-append, inl, inr}
 use Rattle.std.proofs.lemmas.Bool.{and_parts, ne_eqb, leb-true, le-leb, lt-ltb, eq-eqb}
 use Rattle.std.proofs.lemmas.List.{length-replicate, append_assoc}
-use Rattle.std.proofs.lemmas.Nat.{from_le_bytes-to_le_bytes_2, from_le_bytes-to_le_bytes_4}
+use Rattle.std.proofs.lemmas.Nat.{from_le_bytes-to_le_bytes_2, from_le_bytes-to_le_bytes_4, from_le_bytes-to_le_bytes_8}
 use Rattle.std.proofs.Math.Seq.{take-append_seam, drop-append-add}
 use Rattle.geo_base.specs.Name.{is_short_name, is_word_byte}
 use Rattle.geo_model.specs.declared.class.ConcatRecord.{ConcatRecord}
 use Rattle.geo_model.specs.declared.class.LabelRecord.{LabelRecord}
 use Rattle.geo_model.specs.declared.class.StripeRecord.{StripeRecord}
 use Rattle.geo_model.specs.Words.{first_error}
-use Rattle.geo_model.specs.Records.{padded, record_head, label_magic, label_record, label_sector, record_name, head_tests, place_test, concat_magic, concat_tests, concat_record, concat_sector, stripe_magic, stripe_tests, stripe_record, stripe_sector, size_test, is_stripe_size, u16_at, u32_at}
+use Rattle.geo_model.specs.Records.{padded, record_head, label_magic, label_record, label_sector, record_name, head_tests, place_test, concat_magic, concat_tests, concat_record, concat_sector, stripe_magic, stripe_tests, stripe_record, stripe_sector, size_test, is_stripe_size, u16_at, u32_at, u64_at}
 use Rattle.geo_base.specs.Sectors.{IsSectorSize}
 use Rattle.geo_model.specs.FormatLaws.{IsPlaceOf}
 
@@ -66,23 +66,14 @@ bytes_eq-same [] = refl
 bytes_eq-same (b ∷ bytes) = rw (eq-eqb b b refl, bytes_eq-same bytes) refl
 
 -- a head in order has no cause
-head-none : (magic bytes name : List ℕ) → bytes_eq (take 16 bytes) magic ≡ true → (u32_at bytes 16 == 1) ≡ true
+head-none : (magic : List ℕ) (newest : ℕ) (bytes name : List ℕ) → bytes_eq (take 16 bytes) magic ≡ true
+    → (nat_le 1 (u32_at bytes 16) && nat_le (u32_at bytes 16) newest) ≡ true
     → record_name bytes ≡ name → take 16 (drop 20 bytes) ≡ padded 16 name → is_short_name name ≡ true
-    → first_error (head_tests magic bytes) ≡ None
-head-none magic bytes name m v n field short =
+    → first_error (head_tests magic newest bytes) ≡ None
+head-none magic newest bytes name m v n field short =
     let same : bytes_eq (take 16 (drop 20 bytes)) (padded 16 (record_name bytes)) ≡ true = rw (n, field) (bytes_eq-same (padded 16 name)) in
     let named : is_short_name (record_name bytes) ≡ true = rw n short in
     rw (m, v, named, same) refl
-
-pub label-read : (size : ℕ) (x : LabelRecord) → is_short_name x.name ≡ true → label_record (label_sector size x) ≡ Ok x
-label-read size x short =
-    let rest : List ℕ = replicate (size - length (record_head label_magic x.name)) 0 in
-    let low : length x.name ≤ 16 = short-length x.name short in
-    let name : record_name (label_sector size x) ≡ x.name = name-read x.name rest low (short-bytes x.name short) in
-    let field : take 16 (drop 20 (label_sector size x)) ≡ padded 16 x.name = field-take x.name rest low in
-    let head : first_error (head_tests label_magic (label_sector size x)) ≡ None =
-    head-none label_magic (label_sector size x) x.name refl refl name field short in
-    rw (head, name) refl
 
 -- tests behind others that hold none
 row-errors : {E : Type 0} (row : Bool × E) (xs ys : List (Bool × E)) (b : Bool) → row.0 ≡ b → first_error (row ∷ xs) ≡ None
@@ -113,16 +104,52 @@ module _ (name fields rest : List ℕ) (short : length name ≤ 16) where
   fields-take : take 16 ((padded 16 name ++ fields) ++ rest) ≡ padded 16 name
   fields-take = ap (λ l. take 16 l) tail-is ∙ field-take name (fields ++ rest) short
 
+-- a label of version 1
+label-read_1 : (size : ℕ) (name : List ℕ) → is_short_name name ≡ true
+    → label_record (label_sector size (record { name = name; size = None })) ≡ Ok (record { name = name; size = None })
+label-read_1 size name short =
+    let bytes : List ℕ = label_sector size (record { name = name; size = None }) in
+    let rest : List ℕ = replicate (size - length (record_head label_magic 1 name)) 0 in
+    let low : length name ≤ 16 = short-length name short in
+    let read : record_name bytes ≡ name = name-read name rest low (short-bytes name short) in
+    let field : take 16 (drop 20 bytes) ≡ padded 16 name = field-take name rest low in
+    let head : first_error (head_tests label_magic 2 bytes) ≡ None = head-none label_magic 2 bytes name refl refl read field short in
+    rw (head, read) refl
+
+-- a label of version 2
+label-read_2 : (size : ℕ) (name : List ℕ) (said : ℕ) → is_short_name name ≡ true → said < 2 ^ 64
+    → label_record (label_sector size (record { name = name; size = Some said })) ≡ Ok (record { name = name; size = Some said })
+label-read_2 size name said short fits =
+    let bytes : List ℕ = label_sector size (record { name = name; size = Some said }) in
+    let fields : List ℕ = to_le_bytes w64 said in
+    let rest : List ℕ = replicate (size - length (record_head label_magic 2 name ++ fields)) 0 in
+    let low : length name ≤ 16 = short-length name short in
+    let read : record_name bytes ≡ name = fields-name name fields rest low (short-bytes name short) in
+    let field : take 16 (drop 20 bytes) ≡ padded 16 name = fields-take name fields rest low in
+    let head : first_error (head_tests label_magic 2 bytes) ≡ None = head-none label_magic 2 bytes name refl refl read field short in
+    let says : u64_at bytes 36 ≡ said =
+    ap (λ l. from_le_bytes w64 (take 8 l)) (fields-drop name fields rest low 0) ∙ from_le_bytes-to_le_bytes_8 said fits in
+    rw (head, read, says) refl
+
+label-read_by : (size : ℕ) (name : List ℕ) (said : Option ℕ) → is_short_name name ≡ true → IfSome said (λ n. n < 2 ^ 64)
+    → label_record (label_sector size (record { name = name; size = said })) ≡ Ok (record { name = name; size = said })
+label-read_by size name None short fits = label-read_1 size name short
+label-read_by size name (Some said) short fits = label-read_2 size name said short fits
+
+pub label-read : (size : ℕ) (x : LabelRecord) → is_short_name x.name ≡ true → IfSome x.size (λ n. n < 2 ^ 64)
+    → label_record (label_sector size x) ≡ Ok x
+label-read size x short fits = label-read_by size x.name x.size short fits
+
 pub concat-read : (size : ℕ) (x : ConcatRecord) → is_short_name x.name ≡ true → IsPlaceOf x.id x.place x.count
     → concat_record (concat_sector size x) ≡ Ok x
 concat-read size x short fits =
     let fields : List ℕ = to_le_bytes w32 x.id ++ (to_le_bytes w16 x.place ++ to_le_bytes w16 x.count) in
-    let rest : List ℕ = replicate (size - length (record_head concat_magic x.name ++ fields)) 0 in
+    let rest : List ℕ = replicate (size - length (record_head concat_magic 1 x.name ++ fields)) 0 in
     let bytes : List ℕ = concat_sector size x in
     let low : length x.name ≤ 16 = short-length x.name short in
     let name : record_name bytes ≡ x.name = fields-name x.name fields rest low (short-bytes x.name short) in
     let field : take 16 (drop 20 bytes) ≡ padded 16 x.name = fields-take x.name fields rest low in
-    let head : first_error (head_tests concat_magic bytes) ≡ None = head-none concat_magic bytes x.name refl refl name field short in
+    let head : first_error (head_tests concat_magic 1 bytes) ≡ None = head-none concat_magic 1 bytes x.name refl refl name field short in
     let id : u32_at bytes 36 ≡ x.id =
     ap (λ l. from_le_bytes w32 (take 4 l)) (fields-drop x.name fields rest low 0) ∙ from_le_bytes-to_le_bytes_4 x.id fits.id_fits in
     let place : u16_at bytes 40 ≡ x.place =
@@ -132,12 +159,12 @@ concat-read size x short fits =
     ap (λ l. from_le_bytes w16 (take 2 l)) (fields-drop x.name fields rest low 6)
     ∙ from_le_bytes-to_le_bytes_2 x.count (omega (arith, fits.few_places)) in
     let tests : first_error (concat_tests bytes) ≡ None =
-    append-errors (head_tests concat_magic bytes) (place_test (u16_at bytes 40) (u16_at bytes 42) ∷ []) head
+    append-errors (head_tests concat_magic 1 bytes) (place_test (u16_at bytes 40) (u16_at bytes 42) ∷ []) head
     ∙ place-none bytes x.place x.count place count fits.some_place fits.few_places fits.inside in
     rw (tests, name, id, place, count) refl
 
 -- how long the head of a record is, and a record in a sector
-head-length : (magic name : List ℕ) → length magic ≡ 16 → length name ≤ 16 → length (record_head magic name) ≡ 36
+head-length : (magic name : List ℕ) → length magic ≡ 16 → length name ≤ 16 → length (record_head magic 1 name) ≡ 36
 head-length magic name m short =
     omega (arith, length-append magic (to_le_bytes w32 1 ++ padded 16 name), length-append (to_le_bytes w32 1) (padded 16 name), m, padded-length name short)
 
@@ -158,17 +185,17 @@ pub stripe-read : (size : ℕ) (x : StripeRecord) → IsSectorSize size → is_s
     → is_stripe_size x.stripe size ≡ true → stripe_record (stripe_sector size x) ≡ Ok x
 stripe-read size x sector short fits good =
     let fields : List ℕ = to_le_bytes w32 x.id ++ (to_le_bytes w16 x.place ++ (to_le_bytes w16 x.count ++ to_le_bytes w32 x.stripe)) in
-    let rest : List ℕ = replicate (size - length (record_head stripe_magic x.name ++ fields)) 0 in
+    let rest : List ℕ = replicate (size - length (record_head stripe_magic 1 x.name ++ fields)) 0 in
     let bytes : List ℕ = stripe_sector size x in
     let low : length x.name ≤ 16 = short-length x.name short in
     let long : length bytes ≡ size =
-    sector-length size (record_head stripe_magic x.name ++ fields)
-    (omega (arith, length-append (record_head stripe_magic x.name) fields, head-length stripe_magic x.name refl low, sector-large size sector)) in
+    sector-length size (record_head stripe_magic 1 x.name ++ fields)
+    (omega (arith, length-append (record_head stripe_magic 1 x.name) fields, head-length stripe_magic x.name refl low, sector-large size sector)) in
     let sizes = and_parts (nat_le 1 x.stripe) (nat_le x.stripe 32768 && (x.stripe % size == 0)) good in
     let limited : x.stripe ≤ 32768 = leb-true x.stripe 32768 (and_parts (nat_le x.stripe 32768) (x.stripe % size == 0) sizes.1).0 in
     let name : record_name bytes ≡ x.name = fields-name x.name fields rest low (short-bytes x.name short) in
     let field : take 16 (drop 20 bytes) ≡ padded 16 x.name = fields-take x.name fields rest low in
-    let head : first_error (head_tests stripe_magic bytes) ≡ None = head-none stripe_magic bytes x.name refl refl name field short in
+    let head : first_error (head_tests stripe_magic 1 bytes) ≡ None = head-none stripe_magic 1 bytes x.name refl refl name field short in
     let id : u32_at bytes 36 ≡ x.id =
     ap (λ l. from_le_bytes w32 (take 4 l)) (fields-drop x.name fields rest low 0) ∙ from_le_bytes-to_le_bytes_4 x.id fits.id_fits in
     let place : u16_at bytes 40 ≡ x.place =
@@ -185,6 +212,6 @@ stripe-read size x sector short fits good =
     (place-none bytes x.place x.count place count fits.some_place fits.few_places fits.inside)
     ∙ size-none bytes x.stripe size stripe long good in
     let tests : first_error (stripe_tests bytes) ≡ None =
-    append-errors (head_tests stripe_magic bytes) (place_test (u16_at bytes 40) (u16_at bytes 42) ∷ size_test (u32_at bytes 44) (length bytes) ∷ []) head
+    append-errors (head_tests stripe_magic 1 bytes) (place_test (u16_at bytes 40) (u16_at bytes 42) ∷ size_test (u32_at bytes 44) (length bytes) ∷ []) head
     ∙ tail in
     rw (tests, name, id, place, count, stripe) refl

@@ -1,12 +1,12 @@
 -- At rest the fixed order gives no step.
 use Rattle.std.specs.Prelude.{◌≡◌, ℕ, ◌+◌, ◌==◌, Bool, true, false, List, [], ◌∷◌, length, flat_map, Option, Some, None, is_none, option_map}
 use Rattle.std.specs.List.{list_all, enumerate_from}
-use Rattle.std.specs.Option.{option_or}
 use Rattle.std.proofs.Common.{refl, arith}
 use Rattle.std.proofs.lemmas.Bool.{eqb-true, and_parts}
 use Rattle.geo_model.specs.declared.command.LineCommand.{LineCommand}
 use Rattle.geo_model.specs.declared.step.Step.{Step}
 use Rattle.geo_model.specs.declared.step.Step.TheVariants as steps
+use Rattle.geo_model.specs.Words.{first_some}
 use Rattle.geo_model.specs.World.{World, Bio, is_up, is_down}
 use Rattle.geo_model.specs.Freeing.{reap_work, wash_work}
 use Rattle.geo_model.specs.Step.{step, event, judge_next, reap_next, wash_next}
@@ -35,7 +35,7 @@ none-ready w k [] all = refl
 none-ready w k (rest ∷ others) all = ready-cons w k rest others (length rest == 0) refl all (none-ready w (k + 1) others)
 
 all-none : (a b c d e f g h : Option Step) → a ≡ None → b ≡ None → c ≡ None → d ≡ None → e ≡ None → f ≡ None → g ≡ None → h ≡ None
-    → option_or a (option_or b (option_or c (option_or d (option_or e (option_or f (option_or g h)))))) ≡ None
+    → first_some (a ∷ b ∷ c ∷ d ∷ e ∷ f ∷ g ∷ h ∷ []) ≡ None
 all-none a b c d e f g h ea eb ec ed ee ef eg eh = rw (ea, eb, ec, ed, ee, ef, eg, eh) refl
 
 no-bio : (w : World) (test : Bio → Bool) (to_step : Bio → Step) → w.bios ≡ [] → first_bio w test to_step ≡ None

@@ -1,5 +1,5 @@
 -- What a class says to a sector, and what it makes of a provider that it accepts (geom(4)).
-use Rattle.std.specs.Prelude.{ℕ, ◌-◌, ◌*◌, ◌/◌, ◌^◌, ◌==◌, nat_le, min, Bool, true, false, not, ◌&&◌, List, [], ◌∷◌, length, map, filter_map, find, fold, sum, replicate, slice_get, slice_set, Option, Some, None, Result, Ok, Err, is_some, is_none, if◌then◌else◌}
+use Rattle.std.specs.Prelude.{ℕ, ◌-◌, ◌*◌, ◌/◌, ◌^◌, ◌==◌, nat_le, min, Bool, true, false, not, ◌&&◌, List, [], ◌∷◌, ◌++◌, length, map, filter_map, find, fold, sum, replicate, slice_get, slice_set, Option, Some, None, Result, Ok, Err, is_some, is_none, if◌then◌else◌}
 use Rattle.std.specs.List.{list_all, enumerate_from}
 use Rattle.std.specs.Option.{option_map, option_and_then, option_flatten}
 use Rattle.geo_base.specs.Name.{is_name}
@@ -8,17 +8,19 @@ use Rattle.geo_base.specs.declared.decline.DeclineCause.TheVariants as causes
 use Rattle.geo_base.specs.declared.kind.Kind.{Kind}
 use Rattle.geo_base.specs.declared.kind.Kind.TheVariants as kinds
 use Rattle.geo_model.specs.declared.class.ConcatRecord.{ConcatRecord}
+use Rattle.geo_model.specs.declared.class.EbrPart.{EbrPart}
 use Rattle.geo_model.specs.declared.class.Facts.{Facts}
 use Rattle.geo_model.specs.declared.class.Shape.{Shape}
-use Rattle.geo_model.specs.declared.class.Shape.TheVariants.{Slices, Named, Joined, Striped}
+use Rattle.geo_model.specs.declared.class.LabelRecord.{LabelRecord}
+use Rattle.geo_model.specs.declared.class.Shape.TheVariants.{Slices, Logical, Named, Joined, Striped}
 use Rattle.geo_model.specs.declared.class.Slice.{Slice}
 use Rattle.geo_model.specs.declared.class.StripeRecord.{StripeRecord}
 use Rattle.geo_model.specs.declared.class.Verdict.{Verdict}
 use Rattle.geo_model.specs.declared.class.Verdict.TheVariants.{Decline, Accept}
 use Rattle.geo_model.specs.Words.{is_kind, same_name}
-use Rattle.geo_model.specs.Names.{slice_name, label_name, concat_name, stripe_name}
+use Rattle.geo_model.specs.Names.{slice_name, logical_name, label_name, concat_name, stripe_name}
 use Rattle.geo_model.specs.Topology.{Topology, Geom, Provider, provider_at, provider_of_consumer, is_name_taken, add_geom, add_consumer, set_config}
-use Rattle.geo_model.specs.World.{Config, Mbr, Label, Concat, Stripe}
+use Rattle.geo_model.specs.World.{Config, Mbr, Ebr, Label, Concat, Stripe}
 use Rattle.geo_model.specs.Records.{mbr_table, label_record, concat_record, stripe_record}
 use Rattle.geo_model.specs.Events.{QueuedTopology, offer}
 
@@ -27,6 +29,7 @@ use Rattle.geo_model.specs.Events.{QueuedTopology, offer}
 -- the first sector for which a class asks, if it looks at the provider at all
 abbrev pub taste_where : Kind → Facts → Option ℕ
 taste_where kinds.Mbr f = if (f.sector == 512) && not (is_kind f.kind kinds.Mbr) then Some 0 else None
+taste_where kinds.Ebr f = if (f.sector == 512) && is_kind f.kind kinds.Mbr then Some 0 else None
 taste_where kinds.Label f = if nat_le 2 f.sectors then Some (f.sectors - 1) else None
 taste_where kinds.Concat f = if nat_le 2 f.sectors then Some (f.sectors - 1) else None
 taste_where kinds.Stripe f = if nat_le 2 f.sectors then Some (f.sectors - 1) else None
@@ -37,10 +40,20 @@ abbrev pub verdict_of : {A : Type 0} → (A → Shape) → Result A DeclineCause
 verdict_of shape (Ok found) = Accept (shape found)
 verdict_of shape (Err cause) = Decline cause
 
--- what a class says to a sector
+-- whether a label says a media size, and it is another one
+abbrev pub is_other_size : Option ℕ → ℕ → Bool
+is_other_size None size = false
+is_other_size (Some said) size = not (said == size)
+
+-- a label that says another media size than that of the tasted provider is declined
+abbrev pub label_verdict : Facts → Result LabelRecord DeclineCause → Verdict
+label_verdict f (Ok found) = if is_other_size found.size (f.sectors * f.sector) then Decline causes.Media else Accept (Named found)
+label_verdict f (Err cause) = Decline cause
+
+-- what a class says to a sector; EBR isn't asked so, since it judges a chain of sectors
 abbrev pub judge : Kind → List ℕ → Facts → Verdict
 judge kinds.Mbr bytes f = verdict_of Slices (mbr_table bytes f.sectors)
-judge kinds.Label bytes f = verdict_of Named (label_record bytes)
+judge kinds.Label bytes f = label_verdict f (label_record bytes)
 judge kinds.Concat bytes f = verdict_of Joined (concat_record bytes)
 judge kinds.Stripe bytes f = verdict_of Striped (stripe_record bytes)
 judge _ bytes f = Decline causes.Magic
@@ -63,6 +76,13 @@ new_slices below slices =
     (λ item. option_map (λ s. record { name = slice_name below item.0; size = s.count * 512 }) item.1)
     (enumerate_from 0 slices)
 
+-- the logical partitions that are kept, in the order of their links
+abbrev pub new_parts : List ℕ → List (Option EbrPart) → List NewSlice
+new_parts below parts =
+    filter_map
+    (λ item. option_map (λ s. record { name = logical_name below item.0; size = s.count * 512 }) item.1)
+    (enumerate_from 0 parts)
+
 -- an automatic geom with the name of the provider and one consumer at it
 abbrev pub with_geom_over : QueuedTopology Config → Provider → Kind → Config → QueuedTopology Config
 with_geom_over q p kind config = record q {
@@ -74,15 +94,14 @@ with_geom_over q p kind config = record q {
 abbrev pub if_free : Topology Config → List (List ℕ) → QueuedTopology Config → Option (QueuedTopology Config)
 if_free t names made = if are_names_free t names then Some made else None
 
--- the MBR geom, with a provider for each kept entry
-abbrev pub with_slices : QueuedTopology Config → Provider → List (Option Slice) → QueuedTopology Config
-with_slices q p slices =
-    fold (λ v x. offer v q.topology.next_geom x.name x.size 512)
-    (with_geom_over q p kinds.Mbr (Mbr (Some q.topology.next_consumer) slices))
-    (new_slices p.name slices)
+-- such a geom with a provider for each of the slices, of sectors of 512 bytes
+abbrev pub with_slices : QueuedTopology Config → Provider → Kind → Config → List NewSlice → QueuedTopology Config
+with_slices q p kind config slices =
+    fold (λ v x. offer v q.topology.next_geom x.name x.size 512) (with_geom_over q p kind config) slices
 
-abbrev pub accept_slices : QueuedTopology Config → Provider → List (Option Slice) → Option (QueuedTopology Config)
-accept_slices q p slices = if_free q.topology (map (λ x. x.name) (new_slices p.name slices)) (with_slices q p slices)
+-- the MBR geom with its slices, or the EBR geom with its partitions
+abbrev pub accept_slices : QueuedTopology Config → Provider → Kind → Config → List NewSlice → Option (QueuedTopology Config)
+accept_slices q p kind config slices = if_free q.topology (map (λ x. x.name) slices) (with_slices q p kind config slices)
 
 -- the LABEL geom, with a provider one sector smaller than the media
 abbrev pub with_label : QueuedTopology Config → Provider → List ℕ → QueuedTopology Config
@@ -104,8 +123,8 @@ empty_stripe found = Stripe (Some found.id) found.stripe (replicate found.count 
 
 -- whether a standing configuration is of the same assembly: the same class, id, count and stripe size
 abbrev pub is_same_assembly : Config → Config → Bool
-is_same_assembly (Concat (Some a) places sizes) (Concat (Some b) others none) = (a == b) && (length places == length others)
-is_same_assembly (Stripe (Some a) s places sizes) (Stripe (Some b) u others none) =
+is_same_assembly (Concat (Some a) places sizes) (Concat (Some b) others other_sizes) = (a == b) && (length places == length others)
+is_same_assembly (Stripe (Some a) s places sizes) (Stripe (Some b) u others other_sizes) =
     (a == b) && ((s == u) && (length places == length others))
 is_same_assembly _ _ = false
 
@@ -119,6 +138,11 @@ abbrev pub places_of : Config → List (Option ℕ)
 places_of (Concat id places sizes) = places
 places_of (Stripe id stripe places sizes) = places
 places_of _ = []
+
+-- one more place, filled by a consumer, and the size of its component; only a concat grows
+abbrev pub add_place : Config → ℕ → ℕ → Config
+add_place (Concat id places sizes) c size = Concat id (places ++ Some c ∷ []) (sizes ++ size ∷ [])
+add_place config c size = config
 
 -- a place filled by a consumer, and the size of its component kept
 abbrev pub fill_place : Config → ℕ → ℕ → ℕ → Config
@@ -215,7 +239,10 @@ accept_member q p m = join_at q p m (standing_geom q.topology m.geom_name m.empt
 
 -- what an accepted shape makes
 abbrev pub accept : QueuedTopology Config → Provider → Shape → Option (QueuedTopology Config)
-accept q p (Slices table) = accept_slices q p table.slices
+accept q p (Slices table) =
+    accept_slices q p kinds.Mbr (Mbr (Some q.topology.next_consumer) table.slices) (new_slices p.name table.slices)
+accept q p (Logical table) =
+    accept_slices q p kinds.Ebr (Ebr (Some q.topology.next_consumer) table.parts) (new_parts p.name table.parts)
 accept q p (Named found) = accept_named q p (label_name found.name)
 accept q p (Joined found) = accept_member q p (concat_member found)
 accept q p (Striped found) = accept_member q p (stripe_member found)

@@ -18,7 +18,7 @@ use Rattle.geo_model.specs.declared.step.Reply.{Reply}
 use Rattle.geo_model.specs.declared.step.Reply.TheVariants as replies
 use Rattle.geo_model.specs.declared.step.Request.{Request}
 use Rattle.geo_model.specs.Words.{is_read, is_flush}
-use Rattle.geo_model.specs.Topology.{Geom, Provider, provider_at, geom_of_provider, provider_of_consumer, is_errored, note_started, provider_with_geom}
+use Rattle.geo_model.specs.Topology.{Topology, Geom, Provider, provider_at, geom_of_provider, provider_of_consumer, is_errored, note_started, provider_with_geom}
 use Rattle.geo_model.specs.World.{World, Config, Nop, Bio, BioOf, Taste, Asked, ReadOut, ReadBack, bio_at, change_bio, children_of, is_busy, is_done, is_child_of, Disk}
 use Rattle.geo_model.specs.declared.span.Piece.{Piece}
 use Rattle.geo_model.specs.Place.{pieces, component, components, disk_of}
@@ -51,32 +51,49 @@ up_with result x = record x { phase = phases.Up; result = Some result }
 
 -- Start
 
--- the pieces of a bio, each with the consumer through which it goes down; a FLUSH goes once through each consumer
-abbrev pub piece_targets : Config → Provider → Bio → List (ℕ × Piece)
+-- a piece, and the consumer through which it goes down
+pub record PieceTarget : Type 0 where
+  pub consumer : ℕ
+  pub piece : Piece
+
+-- the piece of a FLUSH, which has no bytes
+abbrev pub empty_piece : Piece
+empty_piece = record { child = 0; span = record { offset = 0; len = 0 }; at = 0 }
+
+-- the pieces of a bio, each with its consumer; a FLUSH goes once through each consumer
+abbrev pub piece_targets : {R : Type 0} → Config → Provider → BioOf R → List PieceTarget
 piece_targets config p x =
     if is_flush x.cmd
-    then map (λ c. (c, record { child = 0; span = record { offset = 0; len = 0 }; at = 0 })) (components config)
-    else filter_map (λ s. option_map (λ c. (c, s)) (component config s.child)) (pieces config p x.offset x.len)
+    then map (λ c. record { consumer = c; piece = empty_piece }) (components config)
+    else filter_map
+    (λ s. option_map (λ c. record { consumer = c; piece = s }) (component config s.child))
+    (pieces config p x.offset x.len)
 
--- the child for piece k of a bio; the zero stands for a consumer that isn't attached, which no component is
-abbrev pub child_bio : World → Bio → ℕ × (ℕ × Piece) → Bio
-child_bio w x item =
-    let k = item.0 in
-    let c = item.1.0 in
-    let s = item.1.1 in
-    new_bio (w.next_bio + k) x.cmd s.span.offset s.span.len (take s.span.len (drop s.at x.bytes)) c
-    (unwrap_or (provider_of_consumer w.topology c) 0)
+-- the bytes of a bio that belong to a piece
+abbrev pub bytes_of_piece : List ℕ → Piece → List ℕ
+bytes_of_piece bytes s = take s.span.len (drop s.at bytes)
+
+-- the child for piece k of a bio, where next is the number of the first child; the zero stands for a consumer that isn't
+-- attached, which no component is
+abbrev pub piece_child : {R : Type 0} → Topology Config → ℕ → BioOf R → ℕ → PieceTarget → BioOf R
+piece_child t next x k target =
+    new_bio (next + k) x.cmd target.piece.span.offset target.piece.span.len (bytes_of_piece x.bytes target.piece) target.consumer
+    (unwrap_or (provider_of_consumer t target.consumer) 0)
     (owners.Child x.number k)
+
+-- the children of a bio, one for each piece, in piece order
+abbrev pub piece_children : {R : Type 0} → Topology Config → ℕ → BioOf R → List PieceTarget → List (BioOf R)
+piece_children t next x targets = map (λ item. piece_child t next x item.0 item.1) (enumerate_from 0 targets)
 
 -- the world with new bios at the end
 abbrev pub with_children : World → List Bio → World
 with_children w children = record w { bios = w.bios ++ children; next_bio = w.next_bio + length children }
 
--- the world with the children of a bio, one for each piece, in piece order, and the bio Waiting
-abbrev pub split_bio : World → Bio → List (ℕ × Piece) → World × Outcome
+-- the world with the children of a bio, and the bio Waiting
+abbrev pub split_bio : World → Bio → List PieceTarget → World × Outcome
 split_bio w x targets =
     let waiting : World = change_bio w x.number (λ y. record y { phase = phases.Waiting }) in
-    (with_children waiting (map (child_bio w x) (enumerate_from 0 targets)), outcomes.Split w.next_bio (length targets))
+    (with_children waiting (piece_children w.topology w.next_bio x targets), outcomes.Split w.next_bio (length targets))
 
 -- the bio bounced with an error
 abbrev pub bounce : World → Bio → Errno → World × Outcome
@@ -104,7 +121,7 @@ start_at w x p g config = split_bio w x (piece_targets config p x)
 
 -- a bio to a provider that isn't there bounces; each bio of a sound world has its provider
 abbrev pub start_found : World → Bio → Option (Provider × Geom Config) → World × Outcome
-start_found w x None = bounce w x ENXIO
+start_found w x None = bounce w x EIO
 start_found w x (Some found) = start_at w x found.0 found.1 found.1.config
 
 -- a bio goes down: it is bounced, sent to its disk, or split (g_io_request)
@@ -114,41 +131,86 @@ start w x =
     then bounce w x ENXIO
     else start_found w x (provider_with_geom w.topology x.target)
 
+-- the same in two parts: the graph tells which way a bio goes, and the bios change by the way alone
+pub data Way : Type 0 where
+  -- back with an error; at a NOP geom, counted there
+  Bounces : (e : Errno) → Way
+  Fails : (geom : ℕ) → Way
+  Sends : (disk : ℕ) → Way
+  Splits : (targets : List PieceTarget) → Way
+  Passes : (geom : ℕ) (targets : List PieceTarget) → Way
+
+abbrev pub way_at : {R : Type 0} → BioOf R → Provider → Geom Config → Config → Way
+way_at x p g (Nop below offset fail) =
+    if is_hit (g.started + 1) fail then Fails g.number else Passes g.number (piece_targets g.config p x)
+way_at x p g (Disk disk) = Sends disk
+way_at x p g config = Splits (piece_targets config p x)
+
+abbrev pub way_of : {R : Type 0} → Topology Config → BioOf R → Way
+way_of t x =
+    if is_errored t x.target
+    then Bounces ENXIO
+    else option_map_or (λ found. way_at x found.0 found.1 found.1.config) (provider_with_geom t x.target) (Bounces EIO)
+
+abbrev pub start_by : World → Bio → Way → World × Outcome
+start_by w x (Bounces e) = bounce w x e
+start_by w x (Fails g) = bounce (record w { topology = note_started w.topology g }) x EIO
+start_by w x (Sends disk) = send w x disk
+start_by w x (Splits targets) = split_bio w x targets
+start_by w x (Passes g targets) = split_bio (record w { topology = note_started w.topology g }) x targets
+
 -- Take and Deliver
 
--- the disk to which a bio goes, if it is to the provider of a DISK geom
+-- the disk of a provider, if it is one of a DISK geom
+abbrev pub disk_at : Topology Config → ℕ → Option ℕ
+disk_at t p = option_and_then (λ g. disk_of g.config) (geom_of_provider t p)
+
+-- the disk to which a bio goes
 abbrev pub disk_of_bio : World → Bio → Option ℕ
-disk_of_bio w x = option_and_then (λ g. disk_of g.config) (geom_of_provider w.topology x.target)
+disk_of_bio w x = disk_at w.topology x.target
 
 -- the Busy bio of a disk
+abbrev pub busy_among : {R : Type 0} → Topology Config → List (BioOf R) → ℕ → Option (BioOf R)
+busy_among t bios disk = find (λ x. is_busy x.phase && option_map_or (λ d. d == disk) (disk_at t x.target) false) bios
+
 abbrev pub busy_bio : World → ℕ → Option Bio
-busy_bio w disk = find (λ x. is_busy x.phase && option_map_or (λ d. d == disk) (disk_of_bio w x) false) w.bios
+busy_bio w disk = busy_among w.topology w.bios disk
 
--- the sector size of the provider to which a bio goes; 512 where it isn't there, which a sound world rules out
+-- the sector size of a provider; 512 where it isn't there, which a sound world rules out
+abbrev pub sector_at : Topology Config → ℕ → ℕ
+sector_at t p = option_map_or (λ x. x.sector) (provider_at t p) 512
+
+-- the sector size of the provider to which a bio goes
 abbrev pub sector_of_bio : World → Bio → ℕ
-sector_of_bio w x = option_map_or (λ p. p.sector) (provider_at w.topology x.target) 512
+sector_of_bio w x = sector_at w.topology x.target
 
--- a bio as a request to its disk, in sectors
-abbrev pub request_of_bio : World → ℕ → Bio → Request
-request_of_bio w disk x = record {
+-- a bio as a request to its disk, in sectors of so many bytes
+abbrev pub device_request : {R : Type 0} → ℕ → ℕ → BioOf R → Request
+device_request disk sector x = record {
   disk = disk;
   cmd = x.cmd;
-  first = x.offset / sector_of_bio w x;
-  count = x.len / sector_of_bio w x;
+  first = x.offset / sector;
+  count = x.len / sector;
   bytes = x.bytes;
 }
+
+abbrev pub request_of_bio : World → ℕ → Bio → Request
+request_of_bio w disk x = device_request disk (sector_of_bio w x) x
 
 -- a seat takes a bio for its disk
 unfoldable pub take_bio : World → ℕ → ℕ → Bio → World × Outcome
 take_bio w seat disk x =
     (change_bio w x.number (λ y. record y { phase = phases.Busy seat }), outcomes.Asked (request_of_bio w disk x))
 
--- whether a device's answer fits a bio
+-- whether a device's answer fits a bio to a provider with sectors of so many bytes
+abbrev pub fits_bio : {R : Type 0} → ℕ → BioOf R → DeviceResult → Bool
+fits_bio sector x (devices.Bytes bytes) = is_read x.cmd && (length bytes == x.len)
+fits_bio sector x devices.Done = not (is_read x.cmd)
+fits_bio sector x (devices.Failed done) =
+    if is_read x.cmd || is_flush x.cmd then done == 0 else nat_le done (x.len / sector)
+
 abbrev pub is_fitting : World → Bio → DeviceResult → Bool
-is_fitting w x (devices.Bytes bytes) = is_read x.cmd && (length bytes == x.len)
-is_fitting w x devices.Done = not (is_read x.cmd)
-is_fitting w x (devices.Failed done) =
-    if is_read x.cmd || is_flush x.cmd then done == 0 else nat_le done (x.len / sector_of_bio w x)
+is_fitting w x got = fits_bio (sector_of_bio w x) x got
 
 -- a device's answer as the result of a bio
 abbrev pub result_of_device : DeviceResult → BioResult

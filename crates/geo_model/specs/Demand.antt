@@ -3,6 +3,7 @@ use Rattle.std.specs.Prelude.{ℕ, zero, suc, ◌+◌, ◌==◌, nat_le, Bool, n
 use Rattle.std.specs.List.{list_all}
 use Rattle.std.specs.Option.{option_map_or}
 use Rattle.geo_base.specs.declared.request.Counts.{Counts}
+use Rattle.geo_base.specs.Kind.{adds_exclusive}
 use Rattle.geo_base.specs.declared.kind.Kind.{Kind}
 use Rattle.geo_base.specs.declared.kind.Kind.TheVariants as kinds
 use Rattle.geo_model.specs.Topology.{Topology, Consumer, geom_at, attached_to, providers_of}
@@ -24,15 +25,25 @@ sum_counts (a ∷ rest) = add_counts a (sum_counts rest)
 abbrev pub is_zero : Counts → Bool
 is_zero a = (a.r == 0) && ((a.w == 0) && (a.e == 0))
 
+-- the greatest count that a provider may have
+abbrev pub count_limit : ℕ
+count_limit = 2147483647
+
+-- whether none of the counts is above the limit
+abbrev pub is_within_limit : Counts → Bool
+is_within_limit a = nat_le a.r count_limit && (nat_le a.w count_limit && nat_le a.e count_limit)
+
+-- one exclusive count, where the class adds one and one of its geom's providers has a count
+abbrev pub extra_exclusive : Kind → List Counts → Counts
+extra_exclusive kind haves =
+    record { r = 0; w = 0; e = if adds_exclusive kind && not (list_all is_zero haves) then 1 else 0 }
+
 -- what a consumer of a class holds, from what its geom's providers have and what was granted to it
 abbrev pub want_of_kind : Kind → List Counts → Counts → Counts
 want_of_kind kinds.Dev haves granted = granted
 want_of_kind kinds.Taste haves granted = granted
 want_of_kind kinds.Disk haves granted = no_counts
-want_of_kind kinds.Nop haves granted = sum_counts haves
-want_of_kind _ haves granted =
-    let exclusive : ℕ = if list_all is_zero haves then 0 else 1
-    in add_counts (sum_counts haves) (record { r = 0; w = 0; e = exclusive })
+want_of_kind kind haves granted = add_counts (sum_counts haves) (extra_exclusive kind haves)
 
 -- granted tells for each consumer of DEV and TASTE what it was granted
 module _ {C : Type 0} (granted : ℕ → Counts) where
@@ -70,10 +81,7 @@ module _ {C : Type 0} (granted : ℕ → Counts) where
 
   -- whether no provider has a count above the limit
   abbrev pub fits_limit : Topology C → Bool
-  fits_limit t =
-      list_all
-      (λ x. let a = have t x.number in nat_le a.r 2147483647 && (nat_le a.w 2147483647 && nat_le a.e 2147483647))
-      t.providers
+  fits_limit t = list_all (λ x. is_within_limit (have t x.number)) t.providers
 
 -- the providers whose write count leaves zero from the one state to the other, in order of numbers
 abbrev pub risen : {C : Type 0} → (ℕ → Counts) → Topology C → (ℕ → Counts) → Topology C → List ℕ

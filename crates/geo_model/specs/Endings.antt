@@ -1,5 +1,5 @@
 -- How a call of the program ends: its status, its text, and the cause of each ending.
-use Rattle.std.specs.Prelude.{◌≡◌, ◌≢◌, ◌⊎◌, ℕ, ◌+◌, ◌-◌, ◌^◌, ◌<◌, ◌≤◌, ◌&&◌, List, [], ◌∷◌, ◌++◌, length, find, Option, Some, None, IsSome, IsNone, IsSomeAnd, IfSome, All, codes, decimal, ⊤, zip}
+use Rattle.std.specs.Prelude.{◌≡◌, ◌≢◌, ◌⊎◌, ℕ, ◌+◌, ◌-◌, ◌^◌, ◌<◌, ◌≤◌, ◌&&◌, List, [], ◌∷◌, ◌++◌, length, find, Option, Some, None, IsSome, IsNone, IsSomeAnd, IfSome, IsTrue, All, Contains, codes, decimal, ⊤, zip}
 use Rattle.std.specs.List.{list_any}
 use Rattle.geo_base.specs.Faults.{Rose}
 use Rattle.geo_model.specs.declared.command.Cause.{Cause}
@@ -8,14 +8,13 @@ use Rattle.geo_model.specs.declared.step.Entry.{Entry}
 use Rattle.geo_model.specs.declared.step.Step.{Step}
 use Rattle.geo_model.specs.Words.{same_name}
 use Rattle.geo_model.specs.World.{World, Plan}
-use Rattle.geo_model.specs.Order.{pick}
 use Rattle.geo_model.specs.Log.{replay, owed, IsPrefixOf}
 use Rattle.geo_model.specs.Report.{report, summary, end_line}
 use Rattle.geo_model.specs.Script.{IsScript, IsFault, cause_text}
 use Rattle.geo_model.specs.Plans.{FactsFit}
 use Rattle.geo_model.specs.Opening.{opening}
-use Rattle.geo_model.specs.Generator.{Mode, RunMode, GenMode, Accepts, generated}
-use Rattle.geo_model.specs.FixedOrder.{IsOfItsJob, FoundFull}
+use Rattle.geo_model.specs.Generator.{Mode, StepMode, RunMode, GenMode, Accepts, generated}
+use Rattle.geo_model.specs.FixedOrder.{StepOrder, fixed_order, IsOfItsJob, FoundFull}
 use Rattle.geo_base.specs.Images.{Images}
 use Rattle.geo_model.specs.Outside.{Outside, ShelfView, IsThere, IsMissing, IsBadSize, HasToldSize, IsShelf, is_shelf, kept_back}
 
@@ -80,16 +79,28 @@ HasLog _ log = IsNone log
 
 -- A call
 
--- what a call was given and what came of it; text is what its source had left, written what its sink got, where told
+-- what a call was given and what came of it: text is what its source gave in it, written what its sink took
 pub record Call : Type 0 where
   pub words : List (List ℕ)
   pub text : List ℕ
   pub facts : List (ℕ × ℕ)
   pub status : ℕ
-  pub written : Option (List ℕ)
+  pub written : List ℕ
   pub log : Option (List Entry)
   pub before : Outside
   pub after : Outside
+
+-- what passed: the source gave the text, which it had left where it tells that, and the sink took what was written
+pub record BytesPass (call : Call) : Type 0 where
+  pub gave : call.after.source.given ≡ call.before.source.given ++ call.text
+  pub had_left : IfSome call.before.source.left (λ had. IsSomeAnd call.after.source.left (λ has. had ≡ call.text ++ has))
+  pub took : call.after.sink.taken ≡ call.before.sink.taken ++ call.written
+
+-- the order in which one thread makes the steps, or those that are left after the threads
+abbrev pub order_of : Mode → StepOrder
+order_of StepMode = fixed_order
+order_of RunMode = fixed_order
+order_of (GenMode start count) = fixed_order
 
 -- the text from which the plan comes
 abbrev pub script_of : Mode → List ℕ → List ℕ
@@ -101,6 +112,7 @@ abbrev pub reported_by : Mode → Plan → World → List Entry → List ℕ
 reported_by (GenMode start count) plan opened log = summary plan opened log
 reported_by _ plan opened log = report plan opened log
 
+-- the same where there is a log; the endings that report have one
 abbrev pub reported : Mode → Plan → World → Option (List Entry) → List ℕ
 reported mode plan opened None = []
 reported mode plan opened (Some log) = reported_by mode plan opened log
@@ -117,9 +129,14 @@ ReadsScript call (GenMode start count) = ⊥
 ReadsScript call mode = Accepts call.words mode
 
 -- the source was read to its end, and that wasn't too much
+pub record IsReadWhole (call : Call) : Type 0 where
+  pub few : length call.text ≤ script_limit
+  pub ended : IsTrue call.after.source.ended
+  pub none_left : IfSome call.after.source.left (λ left. left ≡ [])
+
 abbrev pub WasReadWhole : Call → Mode → Type 0
 WasReadWhole call (GenMode start count) = ⊤
-WasReadWhole call _ = (length call.text ≤ script_limit) × IfSome call.after.source (λ left. left ≡ [])
+WasReadWhole call _ = IsReadWhole call
 
 -- the words were accepted, and the text is a script with this plan
 pub record IsParsed (call : Call) (mode : Mode) (plan : Plan) : Type 0 where
@@ -145,9 +162,9 @@ pub record StopsAt (shelf : ShelfView) (plan : Plan) (name : List ℕ) (Fact : D
   pub earlier : All (IsThere shelf) front
   pub cause : IfSome shelf.told (Fact disk)
 
--- the step of the fixed order has no place in the log
-abbrev pub PickIsFull : World → List Entry → Type 0
-PickIsFull opened log = IsSomeAnd (pick (replay opened log)) (FoundFull opened log 0)
+-- the step that is due in the order has no place in the log
+abbrev pub NextIsFull : StepOrder → World → List Entry → Type 0
+NextIsFull order opened log = IsSomeAnd (order (replay opened log) log) (FoundFull opened log 0)
 
 -- a job found the log full that it had seen
 pub record JobWasFull (plan : Plan) (opened : World) (log : List Entry) : Type 0 where
@@ -161,8 +178,8 @@ pub record JobWasFull (plan : Plan) (opened : World) (log : List Entry) : Type 0
 
 -- a step that was due had no place
 abbrev pub DueIsFull : Mode → Plan → World → List Entry → Type 0
-DueIsFull RunMode plan opened log = PickIsFull opened log ⊎ JobWasFull plan opened log
-DueIsFull _ plan opened log = PickIsFull opened log
+DueIsFull RunMode plan opened log = NextIsFull (order_of RunMode) opened log ⊎ JobWasFull plan opened log
+DueIsFull mode plan opened log = NextIsFull (order_of mode) opened log
 
 pub record LogRanFull (mode : Mode) (plan : Plan) (opened : World) (log : List Entry) : Type 0 where
   pub due : DueIsFull mode plan opened log
@@ -181,13 +198,15 @@ CauseOf call mode plan Reported = IsSome call.log × (kept_back call.before.shel
 CauseOf call mode plan (ReportedButFault name) =
     IsSome call.log
     × IsSomeAnd (first_kept_back plan call.before.shelf call.after.shelf) (λ d. d.name ≡ name)
-    × Rose call.before.shelf.faults call.after.shelf.faults
+    × Rose (call.before.shelf.give_faults name) (call.after.shelf.give_faults name)
 CauseOf call mode plan BadWords = (other : Mode) → Accepts call.words other → ⊥
-CauseOf call mode plan (NoScript line cause) = ReadsScript call mode × WasReadWhole call mode × IsFault call.text line cause
-CauseOf call mode plan ReadFault = ReadsScript call mode × Rose call.before.source_faults call.after.source_faults
+CauseOf call mode plan (NoScript line cause) =
+    ReadsScript call mode × WasReadWhole call mode × IsFault call.text line cause
+CauseOf call mode plan ReadFault =
+    ReadsScript call mode × (length call.text ≤ script_limit) × Rose call.before.source.faults call.after.source.faults
 CauseOf call mode plan (ShelfFault name) =
     IsParsed call mode plan × StopsAt call.before.shelf plan name (λ d images. ⊤)
-    × Rose call.before.shelf.faults call.after.shelf.faults
+    × Rose (call.before.shelf.take_faults name) (call.after.shelf.take_faults name)
 CauseOf call mode plan (NoDisk name) = IsParsed call mode plan × StopsAt call.before.shelf plan name IsMissing
 CauseOf call mode plan (BadSize name) = IsParsed call mode plan × StopsAt call.before.shelf plan name IsBadSize
 CauseOf call mode plan OutOfMemory = ⊤
@@ -198,6 +217,18 @@ CauseOf call mode plan TooLong = ReadsScript call mode × (script_limit < length
 abbrev pub failed_takes : Ending → ℕ
 failed_takes (ShelfFault name) = 1
 failed_takes _ = 0
+
+-- what a job answered at last
+pub data JobAnswer : Type 0 where
+  StaysIdle : JobAnswer
+  Finished : JobAnswer
+  FoundLogFull : JobAnswer
+  LacksMemory : JobAnswer
+
+-- a job that found the log full makes the call say so, unless memory ran out; a call alone doesn't show what its jobs
+-- answered, so this is a clause of the function that knows it
+abbrev pub FullIsTold : List JobAnswer → Ending → Type 0
+FullIsTold answers ending = Contains answers FoundLogFull → (ending ≡ LogFull) ⊎ (ending ≡ OutOfMemory)
 
 -- the call ends before a disk is taken
 abbrev pub IsBeforeDisks : Ending → Type 0

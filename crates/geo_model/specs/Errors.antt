@@ -1,5 +1,6 @@
 -- The errors that a bio met, read from the log alone: the cause of an error in a reply (g_bio(9)).
 use Rattle.std.specs.Prelude.{ℕ, zero, suc, List, [], ◌∷◌, length, flat_map, Option, Some, None}
+use Rattle.std.specs.List.{range_with_len}
 use Rattle.std.specs.Option.{option_map_or}
 use Rattle.geo_base.specs.declared.errno.Errno.{Errno}
 use Rattle.geo_base.specs.declared.errno.Errno.TheVariants.{EIO}
@@ -9,7 +10,7 @@ use Rattle.geo_model.specs.declared.step.Outcome.{Outcome}
 use Rattle.geo_model.specs.declared.step.Outcome.TheVariants as outcomes
 use Rattle.geo_model.specs.World.{World, bio_at}
 use Rattle.geo_model.specs.Log.{Moment}
-use Rattle.geo_model.specs.Results.{bounce_errno, children_in, device_answer_of, entries_of, start_moment}
+use Rattle.geo_model.specs.Results.{bounce_errno, device_answer_of, entries_of, start_moment}
 
 -- a device that failed gives EIO
 abbrev pub device_errors : Option DeviceResult → List Errno
@@ -20,7 +21,8 @@ device_errors _ = []
 abbrev pub errors_by : (ℕ → List Errno) → List Moment → ℕ → World → Outcome → List Errno
 errors_by below history b before outcomes.Bounced = bounce_errno before (bio_at before b) ∷ []
 errors_by below history b before (outcomes.Queued disk) = device_errors (device_answer_of (entries_of history) b)
-errors_by below history b before outcome = flat_map below (children_in outcome)
+errors_by below history b before (outcomes.Split first count) = flat_map below (range_with_len first count)
+errors_by below history b before _ = []
 
 -- the errors over so many levels
 abbrev pub errors_within : ℕ → List Moment → ℕ → List Errno

@@ -9,7 +9,7 @@ use Rattle.geo_model.specs.declared.step.Event.TheVariants as events
 use Rattle.geo_model.specs.Words.{is_kind, names_number}
 use Rattle.geo_model.specs.Topology.{Topology, Consumer, geom_at, geom_of_provider, attached_to, providers_of, is_errored, is_withering, set_error, set_withering, set_marks, add_provider}
 use Rattle.geo_model.specs.Rank.{rank}
-use Rattle.geo_model.specs.Demand.{have, want}
+use Rattle.geo_model.specs.Demand.{have, want, is_zero}
 
 -- the graph and the event queue, whose head is done first
 pub record QueuedTopology (C : Type 0) : Type 0 where
@@ -25,6 +25,7 @@ abbrev pub provider_of_event : Event → ℕ
 provider_of_event (events.NewProvider p) = p
 provider_of_event (events.Spoil p) = p
 provider_of_event (events.Orphan p) = p
+provider_of_event (events.Resize p) = p
 
 -- the queue without the events that name a provider (g_cancel_event)
 abbrev pub without_events_of : List Event → ℕ → List Event
@@ -75,11 +76,19 @@ offer_again q p =
     then q
     else post q (events.NewProvider p)
 
+-- what follows a rise of write counts: a spoil at each of the providers
+abbrev pub announce_risen : {C : Type 0} → (ℕ → Counts) → List ℕ → QueuedTopology C → QueuedTopology C
+announce_risen granted ps q = fold (spoil_at granted) q ps
+
+-- what follows a fall of write counts: each of the providers is offered for taste again
+abbrev pub announce_fallen : {C : Type 0} → List ℕ → QueuedTopology C → QueuedTopology C
+announce_fallen ps q = fold offer_again q ps
+
 -- What an event does
 
 -- the classes that a taste asks, in this order
 abbrev pub tasting_classes : List Kind
-tasting_classes = kinds.Mbr ∷ kinds.Label ∷ kinds.Concat ∷ kinds.Stripe ∷ []
+tasting_classes = kinds.Mbr ∷ kinds.Ebr ∷ kinds.Label ∷ kinds.Concat ∷ kinds.Stripe ∷ []
 
 -- the least rank from which on a geom's providers aren't offered for taste
 abbrev pub taste_limit : ℕ
@@ -116,3 +125,16 @@ orphan_consumer q c = if is_of_dev q.topology c then q else wither_unless_wither
 -- each consumer at the provider, in order of numbers (g_orphan_register)
 abbrev pub orphan : {C : Type 0} → QueuedTopology C → ℕ → QueuedTopology C
 orphan q p = fold orphan_consumer q (attached_to q.topology p)
+
+-- whether a consumer's provider has outgrown it: it holds no count, and its geom was made by a taste and isn't withering
+abbrev pub is_outgrown : {C : Type 0} → (ℕ → Counts) → Topology C → Consumer → Bool
+is_outgrown granted t c =
+    is_zero (want granted t c) && option_map_or (λ g. g.automatic && not g.withering) (geom_at t c.geom) false
+
+abbrev pub outgrow_consumer : {C : Type 0} → (ℕ → Counts) → QueuedTopology C → Consumer → QueuedTopology C
+outgrow_consumer granted q c = if is_outgrown granted q.topology c then wither q c.geom else q
+
+-- a provider has grown: each geom over it that a taste made and that isn't in use goes, in order of the consumers' numbers,
+-- and the provider is offered for taste again (g_resize_provider)
+abbrev pub resize : {C : Type 0} → (ℕ → Counts) → QueuedTopology C → ℕ → QueuedTopology C
+resize granted q p = offer_again (fold (outgrow_consumer granted) q (attached_to q.topology p)) p

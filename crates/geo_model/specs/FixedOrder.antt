@@ -1,4 +1,4 @@
--- Whose step stands where in a log: the fixed order of one thread, and the jobs of many.
+-- Whose step stands where in a log: the order of one thread, and the jobs of many.
 use Rattle.std.specs.Prelude.{◌≡◌, ◌≢◌, ◌⊎◌, ℕ, ◌+◌, ◌%◌, false, List, [], ◌∷◌, ◌++◌, length, Option, Some, None, IsSome, IsSomeAnd, IsTrue, All, ⊤}
 use Rattle.geo_model.specs.declared.command.Command.{Command}
 use Rattle.geo_model.specs.declared.command.Command.TheVariants as commands
@@ -14,6 +14,14 @@ use Rattle.geo_model.specs.History.{next_command}
 
 -- One thread
 
+-- an order in which one thread makes the steps: the step that is due in a world after its log, if there is one
+abbrev pub StepOrder : Type 0
+StepOrder = World → List Entry → Option Step
+
+-- the fixed order, which looks at the world alone
+abbrev pub fixed_order : StepOrder
+fixed_order w log = pick w
+
 -- the bio that a step takes, and the one that it delivers
 abbrev pub taken_in : Step → Option ℕ
 taken_in (steps.Take disk b) = Some b
@@ -26,17 +34,18 @@ delivered_in _ = None
 -- the step is the Deliver of the bio that the last entry took
 abbrev pub FollowsTake : List Entry → Step → Type 0
 FollowsTake earlier s =
-    (start : List Entry) × (e : Entry) × (earlier ≡ start ++ e ∷ []) × IsSome (taken_in e.step) × (taken_in e.step ≡ delivered_in s)
+    (start : List Entry) × (e : Entry) × (earlier ≡ start ++ e ∷ [])
+    × IsSome (taken_in e.step) × (taken_in e.step ≡ delivered_in s)
 
--- the entry is of seat 0, and its step is the one of the fixed order or the Deliver after its Take
-pub record IsOfFixedOrder (opened : World) (earlier : List Entry) (e : Entry) : Type 0 where
+-- the entry is of seat 0, and its step is the one that was due or the Deliver after its Take
+pub record IsOfOrder (order : StepOrder) (opened : World) (earlier : List Entry) (e : Entry) : Type 0 where
   pub seat : e.seat ≡ 0
-  pub picked : (pick (replay opened earlier) ≡ Some e.step) ⊎ FollowsTake earlier e.step
+  pub was_due : (order (replay opened earlier) earlier ≡ Some e.step) ⊎ FollowsTake earlier e.step
 
 -- after the first part come only such entries
-abbrev pub FollowsOrder : World → List Entry → List Entry → Type 0
-FollowsOrder opened first_part log =
-    (earlier : List Entry) (e : Entry) → IsSplitBy log earlier e → IsOfFixedOrder opened (first_part ++ earlier) e
+abbrev pub FollowsOrder : StepOrder → World → List Entry → List Entry → Type 0
+FollowsOrder order opened first_part log =
+    (earlier : List Entry) (e : Entry) → IsSplitBy log earlier e → IsOfOrder order opened (first_part ++ earlier) e
 
 -- Jobs
 
@@ -64,7 +73,7 @@ IsOfItsJob plan seat (steps.Deliver b got) = (seat ≡ disk_seat plan 0) ⊎ (se
 abbrev pub WasIdle : World → List Entry → ℕ → Step → Type 0
 WasIdle opened seen seat s = is_enabled (replay opened seen) seat s ≡ false
 
--- a client has finished: its actor has no command left in the world that it had seen
+-- a client has finished: its actor has no command left in the world that it had seen; one that isn't there has none
 abbrev pub HasFinished : World → List Entry → ℕ → Type 0
 HasFinished opened seen actor = next_command (replay opened seen) actor ≡ None
 
@@ -72,12 +81,19 @@ HasFinished opened seen actor = next_command (replay opened seen) actor ≡ None
 abbrev pub FoundFull : World → List Entry → ℕ → Step → Type 0
 FoundFull opened seen seat s = IsTrue (is_full seen (replay opened seen) seat s)
 
--- the event worker was idle: none of its four steps was enabled, each at its own try
-pub record EventWorkerIdle (opened : World) (plan : Plan) (last : List Entry) : Type 0 where
-  pub at_judge : (seen : List Entry) × IsPrefixOf seen last × WasIdle opened seen (event_seat plan) steps.Judge
-  pub at_event : (seen : List Entry) × IsPrefixOf seen last × WasIdle opened seen (event_seat plan) steps.Event
-  pub at_reap : (seen : List Entry) × IsPrefixOf seen last × WasIdle opened seen (event_seat plan) steps.Reap
-  pub at_wash : (seen : List Entry) × IsPrefixOf seen last × WasIdle opened seen (event_seat plan) steps.Wash
+-- the event worker tried the step in the turn that it began with `first` seen and ended with `last`, and was idle at it
+pub record TriedInVain (opened : World) (plan : Plan) (first last : List Entry) (s : Step) : Type 0 where
+  pub seen : List Entry
+  pub behind_first : IsPrefixOf first seen
+  pub before_last : IsPrefixOf seen last
+  pub was_idle : WasIdle opened seen (event_seat plan) s
+
+-- the event worker was idle in a turn: none of its four steps was enabled, each at its own try
+pub record EventWorkerIdle (opened : World) (plan : Plan) (first last : List Entry) : Type 0 where
+  pub at_judge : TriedInVain opened plan first last steps.Judge
+  pub at_event : TriedInVain opened plan first last steps.Event
+  pub at_reap : TriedInVain opened plan first last steps.Reap
+  pub at_wash : TriedInVain opened plan first last steps.Wash
 
 -- a seat was idle at the step after all of its own entries
 abbrev pub EndedIdle : World → List Entry → ℕ → Step → Type 0
@@ -90,19 +106,26 @@ IsWait commands.Sync = ⊤
 IsWait commands.Settle = ⊤
 IsWait _ = ⊥
 
--- the first Go of an actor in the last part is for a sync or a settle at which its client was idle
-abbrev pub ClientStopped : World → List Entry → List Entry → ℕ → Type 0
-ClientStopped opened threads rest actor =
-    (earlier : List Entry) (e : Entry) → IsSplitBy rest earlier e → e.step ≡ steps.Go actor
-    → All (λ x. x.step ≢ steps.Go actor) earlier
-    → IsSomeAnd (next_command (replay opened (threads ++ earlier)) actor) (λ c. IsWait c.command)
-    × EndedIdle opened threads (actor + 1) (steps.Go actor)
+-- e is the first Go of the actor in a log, and this is what comes before it
+pub record IsFirstGo (log : List Entry) (actor : ℕ) (earlier : List Entry) (e : Entry) : Type 0 where
+  pub split : IsSplitBy log earlier e
+  pub go : e.step ≡ steps.Go actor
+  pub first : All (λ x. x.step ≢ steps.Go actor) earlier
 
--- the log of threads: what the jobs did, and then what was left in the fixed order
-pub record FollowsJobs (plan : Plan) (opened : World) (threads rest : List Entry) : Type 0 where
+-- a client left its next command to the last part: it is a sync or a settle, at which the client was idle
+pub record ClientStopped (opened : World) (threads earlier : List Entry) (actor : ℕ) : Type 0 where
+  pub waits : IsSomeAnd (next_command (replay opened (threads ++ earlier)) actor) (λ c. IsWait c.command)
+  pub was_idle : EndedIdle opened threads (actor + 1) (steps.Go actor)
+
+-- the log of threads: what the jobs did, and then what was left in an order
+pub record FollowsJobs (order : StepOrder) (plan : Plan) (opened : World) (threads rest : List Entry) : Type 0 where
   pub own_kind : All (λ e. (e.seat ≢ 0) × IsOfItsJob plan e.seat e.step) threads
-  pub order : FollowsOrder opened threads rest
-  pub clients : (actor : ℕ) → ClientStopped opened threads rest actor
+  pub in_order : FollowsOrder order opened threads rest
+
+-- why the jobs ended: clients with commands left were waiting, and the event worker was idle at each of its steps
+pub record JobsEndedIdle (plan : Plan) (opened : World) (threads rest : List Entry) : Type 0 where
+  pub clients : (actor : ℕ) (earlier : List Entry) (e : Entry) → IsFirstGo rest actor earlier e
+      → ClientStopped opened threads earlier actor
   pub judge : EndedIdle opened threads (event_seat plan) steps.Judge
   pub event : EndedIdle opened threads (event_seat plan) steps.Event
   pub reap : EndedIdle opened threads (event_seat plan) steps.Reap

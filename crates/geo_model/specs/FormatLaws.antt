@@ -1,5 +1,5 @@
 -- The laws of the formats: what is written is read again, and what is read keeps its rules.
-use Rattle.std.specs.Prelude.{◌≡◌, ◌↔◌, ℕ, ◌^◌, ◌<◌, ◌≤◌, List, Option, Some, Ok, IsTrue, option_and_then}
+use Rattle.std.specs.Prelude.{◌≡◌, ◌↔◌, ℕ, ◌^◌, ◌<◌, ◌≤◌, List, Option, Some, Ok, IsTrue, IfSome, option_and_then}
 use Rattle.geo_base.specs.Name.{is_short_name}
 use Rattle.geo_base.specs.Runs.{IsRuns}
 use Rattle.geo_base.specs.Sectors.{IsSectorSize}
@@ -9,7 +9,7 @@ use Rattle.geo_model.specs.declared.class.StripeRecord.{StripeRecord}
 use Rattle.geo_model.specs.World.{Plan}
 use Rattle.geo_model.specs.Records.{label_record, label_sector, concat_record, concat_sector, stripe_record, stripe_sector, is_stripe_size}
 use Rattle.geo_model.specs.Script.{IsScript, runs_in, fitting_bytes, words_of}
-use Rattle.geo_model.specs.Plans.{IsPlan}
+use Rattle.geo_model.specs.Plans.{IsPlan, IsWord64}
 use Rattle.geo_model.specs.Generator.{GenMode, IsMode, generated}
 
 -- the plan of a script keeps the rules of plans
@@ -38,7 +38,7 @@ pub record IsPlaceOf (id place count : ℕ) : Type 0 where
 -- each record that a class writes is found again
 abbrev pub LabelsAreRead : Type 0
 LabelsAreRead =
-    (size : ℕ) (x : LabelRecord) → IsSectorSize size → IsTrue (is_short_name x.name)
+    (size : ℕ) (x : LabelRecord) → IsSectorSize size → IsTrue (is_short_name x.name) → IfSome x.size IsWord64
     → label_record (label_sector size x) ≡ Ok x
 
 abbrev pub ConcatsAreRead : Type 0

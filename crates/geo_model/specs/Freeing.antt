@@ -4,7 +4,7 @@ use Rattle.std.specs.Option.{option_map, option_map_or, option_or}
 use Rattle.geo_base.specs.declared.request.Counts.{Counts}
 use Rattle.geo_model.specs.declared.step.WashWork.{WashWork}
 use Rattle.geo_model.specs.declared.step.WashWork.TheVariants as washes
-use Rattle.geo_model.specs.Words.{names_number, change_where}
+use Rattle.geo_model.specs.Words.{names_number, change_where, first_some}
 use Rattle.geo_model.specs.Topology.{Topology, Geom, geom_of_provider, geom_of_consumer, attached_to, providers_of, consumers_of, is_withering, remove_geom, remove_provider, remove_consumer, Consumer}
 use Rattle.geo_model.specs.Demand.{want, is_zero}
 use Rattle.geo_model.specs.World.{World, Config, Handle, granted_in, is_active}
@@ -59,7 +59,7 @@ module _ {C : Type 0} (granted : ℕ → Counts) (active : ℕ → Bool) where
 
   -- what of a geom can go first
   abbrev pub wash_work_of : Topology C → Geom C → Option WashWork
-  wash_work_of t g = option_or (free_provider t g) (option_or (free_consumer t g) (free_geom t g))
+  wash_work_of t g = first_some (free_provider t g ∷ free_consumer t g ∷ free_geom t g ∷ [])
 
   -- the first that is found in a list of geoms
   abbrev pub first_wash : Topology C → List (Geom C) → Option WashWork

@@ -9,7 +9,7 @@ use Rattle.geo_model.specs.declared.step.Outcome.{Outcome}
 use Rattle.geo_model.specs.declared.step.Outcome.TheVariants as outcomes
 use Rattle.geo_model.specs.declared.step.Owner.TheVariants as owners
 use Rattle.geo_model.specs.declared.step.Reply.TheVariants as replies
-use Rattle.geo_model.specs.Topology.{find_provider, add_consumer, remove_consumer}
+use Rattle.geo_model.specs.Topology.{Provider, find_provider, add_consumer, remove_consumer}
 use Rattle.geo_model.specs.Opens.{open_refusal}
 use Rattle.geo_model.specs.World.{World, Handle, granted_in, handle_of, is_active}
 use Rattle.geo_model.specs.Bios.{submit}
@@ -101,9 +101,9 @@ abbrev pub do_request : World → ℕ → Option Handle → Asking → World × 
 do_request w line h a = request_answered w line h a (request_refusal w h a)
 
 -- a WRITE of a record at the last sector of the handle's provider
-abbrev pub record_request : World → Option Handle → (ℕ → List ℕ) → Asking
-record_request w h sector_with =
+abbrev pub record_request : World → Option Handle → (Provider → List ℕ) → Asking
+record_request w h sector_of =
     option_map_or
-    (λ p. record { cmd = cmds.Write; offset = p.size - p.sector; len = p.sector; bytes = sector_with p.sector })
+    (λ p. record { cmd = cmds.Write; offset = p.size - p.sector; len = p.sector; bytes = sector_of p })
     (option_and_then (provider_of_handle w) h)
     (record { cmd = cmds.Write; offset = 0; len = 0; bytes = [] })

@@ -19,6 +19,7 @@ use Rattle.geo_model.specs.Demand.{want, is_zero}
 use Rattle.geo_model.specs.Opens.{open_refusal}
 use Rattle.geo_model.specs.World.{World, Handle, granted_in, handle_of, bio_at}
 use Rattle.geo_model.specs.Bios.{reply_of_result}
+use Rattle.geo_model.specs.Append.{append_refusal}
 use Rattle.geo_model.specs.Freeing.{Free}
 use Rattle.geo_model.specs.Order.{Rest}
 use Rattle.geo_model.specs.Log.{Legal, replay, after_entry, moments, Moment, IsSplitBy, IsPrefixOf}
@@ -66,6 +67,18 @@ AnswersOpen w e =
 abbrev pub OpensAreAnswered : World → List Entry → Type 0
 OpensAreAnswered opened log = AtEachEntry opened log AnswersOpen
 
+-- Appends
+
+-- an append is answered by what the mesh forbids
+abbrev pub AnswersAppend : World → Entry → Type 0
+AnswersAppend w e =
+    (actor : ℕ) (c : LineCommand) (name prov : List ℕ)
+    → e.step ≡ steps.Go actor → next_command w actor ≡ Some c → c.command ≡ commands.Append name prov
+    → e.outcome ≡ outcomes.Replied c.line (reply_of_refusal (append_refusal w name prov))
+
+abbrev pub AppendsAreAnswered : World → List Entry → Type 0
+AppendsAreAnswered opened log = AtEachEntry opened log AnswersAppend
+
 -- Requests (g_bio(9))
 
 abbrev pub is_reply : Outcome → Bool
@@ -80,29 +93,38 @@ abbrev pub IsSuccess : BioResult → Type 0
 IsSuccess (results.Failed e) = ⊥
 IsSuccess _ = ⊤
 
+-- the acceptance of a request: the world after it, the line of the script, and the bio that was made
+pub record Acceptance : Type 0 where
+  pub world : World
+  pub line : ℕ
+  pub bio : ℕ
+
 -- in the world of its acceptance, a bio went exactly to the sectors of its flat map
-abbrev pub CoversFrom : World → List Moment → ℕ → Type 0
-CoversFrom w history b =
-    IsSomeAnd (bio_at w b) (λ x. IsSomeAnd (provider_at w.topology x.target) (λ p. Covers w history x p))
+abbrev pub CoversFrom : Acceptance → List Moment → Type 0
+CoversFrom accepted history =
+    IsSomeAnd (bio_at accepted.world accepted.bio) (λ x.
+    IsSomeAnd (provider_at accepted.world.topology x.target) (λ p. Covers accepted.world history x p))
 
--- a reply to a bio is to the line that was accepted, and is the bio's result
-abbrev pub RepliesWithResult : List Moment → ℕ → ℕ → ℕ → Reply → Type 0
-RepliesWithResult history accepted_line b line given =
-    (line ≡ accepted_line) × IsSomeAnd (result_of history b) (λ r. given ≡ reply_of_result r)
+-- a reply is to the line that was accepted, and is the bio's result
+pub record RepliesWithResult (accepted : Acceptance) (history : List Moment) (line : ℕ) (given : Reply) : Type 0 where
+  pub same_line : line ≡ accepted.line
+  pub is_result : IsSomeAnd (result_of history accepted.bio) (λ r. given ≡ reply_of_result r)
 
--- an accepted bio has at most one reply, and that is its result, which if successful covers its range
-pub record CompletesOnce (opened : World) (log : List Entry) (accepted : World) (accepted_line b : ℕ) : Type 0 where
-  pub at_most_once : count_by (is_reply_to b) log ≤ 1
-  pub reply : (e : Entry) (line : ℕ) (given : Reply) → Contains log e → e.step ≡ steps.Up b → e.outcome ≡ outcomes.Replied line given
-      → RepliesWithResult (moments opened log) accepted_line b line given
-  pub covers : IsTrue (list_any (is_reply_to b) log)
-      → IsSomeAnd (result_of (moments opened log) b) (λ r. IsSuccess r → CoversFrom accepted (moments opened log) b)
+-- an accepted bio has at most one reply in the log, and that is its result, which if successful covers its range
+pub record CompletesOnce (log : List Entry) (history : List Moment) (accepted : Acceptance) : Type 0 where
+  pub at_most_once : count_by (is_reply_to accepted.bio) log ≤ 1
+  pub reply : (e : Entry) (line : ℕ) (given : Reply)
+      → Contains log e → e.step ≡ steps.Up accepted.bio → e.outcome ≡ outcomes.Replied line given
+      → RepliesWithResult accepted history line given
+  pub covers : IsTrue (list_any (is_reply_to accepted.bio) log)
+      → IsSomeAnd (result_of history accepted.bio) (λ r. IsSuccess r → CoversFrom accepted history)
 
 -- each accepted bio completes at most once
 abbrev pub RequestsCompleteOnce : World → List Entry → Type 0
 RequestsCompleteOnce opened log =
     AtEachEntry opened log (λ w e.
-    (line b : ℕ) → e.outcome ≡ outcomes.Accepted line b → CompletesOnce opened log (after_entry w e) line b)
+    (line b : ℕ) → e.outcome ≡ outcomes.Accepted line b
+    → CompletesOnce log (moments opened log) (record { world = after_entry w e; line = line; bio = b }))
 
 -- each accepted bio is completed
 abbrev pub RequestsAreComplete : World → List Entry → Type 0
@@ -149,6 +171,7 @@ AlwaysFreesOnlyIdle opened log = AtEachEntry opened log FreesOnlyIdle
 pub record KeepsHistory (opened : World) (log : List Entry) : Type 0 where
   pub history : LegalAndSound opened log
   pub opens : OpensAreAnswered opened log
+  pub appends : AppendsAreAnswered opened log
   pub requests : RequestsCompleteOnce opened log
   pub freed : AlwaysFreesOnlyIdle opened log
 

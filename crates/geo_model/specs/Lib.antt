@@ -6,9 +6,11 @@ pub mod Rank
 pub mod Demand
 pub mod Opens
 pub mod Refusals
+pub mod ScriptWords
 pub mod World
 pub mod Place
 pub mod Records
+pub mod Chain
 pub mod Bios
 pub mod Events
 pub mod WorldEvents
@@ -19,6 +21,7 @@ pub mod Requests
 pub mod Listing
 pub mod HandleCommands
 pub mod GeomCommands
+pub mod Append
 pub mod Commands
 pub mod Step
 pub mod Opening
@@ -28,7 +31,6 @@ pub mod Results
 pub mod Errors
 pub mod Contents
 pub mod Report
-pub mod ScriptWords
 pub mod ScriptCommands
 pub mod Script
 pub mod Plans
@@ -36,6 +38,7 @@ pub mod Generator
 pub mod SoundBios
 pub mod Sound
 pub mod Steady
+pub mod Fitting
 pub mod Passes
 pub mod History
 pub mod FixedOrder

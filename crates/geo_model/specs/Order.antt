@@ -1,7 +1,8 @@
 -- Rest, the fixed order of steps, and the measure that falls along it.
 use Rattle.std.specs.Prelude.{ℕ, zero, suc, ◌+◌, ◌-◌, ◌*◌, ◌==◌, nat_lt, nat_le, Bool, true, false, not, ◌&&◌, ◌||◌, List, [], ◌∷◌, length, find, flat_map, sum_by, count_by, Option, Some, None, is_some, is_none, option_map, IsTrue, if◌then◌else◌}
 use Rattle.std.specs.List.{list_all, enumerate_from}
-use Rattle.std.specs.Option.{option_map_or, option_or}
+use Rattle.std.specs.Option.{option_map_or}
+use Rattle.geo_model.specs.Words.{first_some}
 use Rattle.geo_base.specs.declared.kind.Kind.{Kind}
 use Rattle.geo_base.specs.declared.kind.Kind.TheVariants as kinds
 use Rattle.geo_model.specs.declared.command.LineCommand.{LineCommand}
@@ -14,7 +15,8 @@ use Rattle.geo_model.specs.declared.step.Step.TheVariants as steps
 use Rattle.geo_model.specs.Topology.{geom_of_provider, provider_with_geom, Provider}
 use Rattle.geo_model.specs.Rank.{rank}
 use Rattle.geo_model.specs.World.{World, Bio, Taste, Asked, NoClass, NextSector, ReadOut, ReadBack, is_up, is_sent, is_down, Config, Disk}
-use Rattle.geo_model.specs.Bios.{piece_targets, child_bio, busy_bio, disk_of_bio}
+use Rattle.geo_model.specs.Bios.{piece_targets, piece_child, busy_bio, disk_of_bio}
+use Rattle.geo_model.specs.Events.{taste_limit, tasting_classes}
 use Rattle.geo_model.specs.Freeing.{reap_work, wash_work}
 use Rattle.geo_model.specs.Step.{is_enabled}
 
@@ -70,43 +72,69 @@ ready_actors w = flat_map (ready_actor w) (enumerate_from 0 w.actors)
 -- the first enabled of: Up, Take and Start of the smallest bio, Judge, Event, Reap, Wash, Go of the smallest line
 unfoldable pub pick : World → Option Step
 pick w =
-    let at_up = first_bio w (λ x. is_up x.phase) (λ x. steps.Up x.number) in
-    let at_take = first_bio w (is_to_take w) (take_step w) in
-    let at_start = first_bio w (λ x. is_down x.phase) (λ x. steps.Start x.number) in
-    let at_judge = if_enabled w steps.Judge in
-    let at_event = if_enabled w steps.Event in
-    let at_reap = if_enabled w steps.Reap in
-    let at_wash = if_enabled w steps.Wash in
-    let at_go = option_map (λ actor. steps.Go actor) (earliest (ready_actors w)) in
-    option_or at_up (option_or at_take (option_or at_start
-    (option_or at_judge (option_or at_event (option_or at_reap (option_or at_wash at_go))))))
+    first_some
+    (first_bio w (λ x. is_up x.phase) (λ x. steps.Up x.number)
+    ∷ first_bio w (is_to_take w) (take_step w)
+    ∷ first_bio w (λ x. is_down x.phase) (λ x. steps.Start x.number)
+    ∷ if_enabled w steps.Judge
+    ∷ if_enabled w steps.Event
+    ∷ if_enabled w steps.Reap
+    ∷ if_enabled w steps.Wash
+    ∷ option_map (λ actor. steps.Go actor) (earliest (ready_actors w))
+    ∷ [])
 
 -- Measure
 
--- what a tasted provider can cost, by so many levels below the limit of tasting: 300 + 7 times that of the rank above
-abbrev pub taste_weight_below : ℕ → ℕ
-taste_weight_below zero = 1
-taste_weight_below (suc levels) = 300 + 7 * taste_weight_below levels
+-- the reads that a class may make in a taste, and the Judge steps for them: one submits a read, one judges what is back
+abbrev pub reads_limit : ℕ
+reads_limit = 33
 
--- the same by the rank of the provider's geom; 1 from rank 8 on
-abbrev pub taste_weight : ℕ → ℕ
-taste_weight r = taste_weight_below (8 - r)
-
-abbrev pub rank_of_provider : World → ℕ → ℕ
-rank_of_provider w p = option_map_or (λ g. rank w.topology g.number) (geom_of_provider w.topology p) 8
+abbrev pub judges_of_class : ℕ
+judges_of_class = 2 * reads_limit
 
 -- the providers that a class can make
 abbrev pub can_make : Kind → ℕ
 can_make kinds.Mbr = 4
+can_make kinds.Ebr = 32
 can_make _ = 1
 
--- the Judge steps that a class asked still needs, at 33 reads, and the providers that it can make
+-- the Judge steps that a taste can make, the last of which ends it: 1 + 5 * 66 = 331
+abbrev pub judges_of_taste : ℕ
+judges_of_taste = 1 + judges_of_class * length tasting_classes
+
+-- the providers that a taste can make: 4 + 32 + 1 + 1 + 1 = 39
+abbrev pub makes_of_taste : ℕ
+makes_of_taste = sum_by can_make tasting_classes
+
+-- what the taste itself counts for in the cost of an offer: more than its Judge steps
+abbrev pub taste_cost : ℕ
+taste_cost = 400
+
+-- what an offered provider can cost, by so many levels below the limit of tasting: its taste, and the offers of all that
+-- the taste can make
+abbrev pub taste_weight_below : ℕ → ℕ
+taste_weight_below zero = 1
+taste_weight_below (suc levels) = taste_cost + makes_of_taste * taste_weight_below levels
+
+-- the same by the rank of the provider's geom; 1 from the limit on
+abbrev pub taste_weight : ℕ → ℕ
+taste_weight r = taste_weight_below (taste_limit - r)
+
+abbrev pub rank_of_provider : World → ℕ → ℕ
+rank_of_provider w p = option_map_or (λ g. rank w.topology g.number) (geom_of_provider w.topology p) taste_limit
+
+-- two Judge steps for each read that a class may still make
+abbrev pub judges_for : ℕ → ℕ
+judges_for reads = 2 * (reads_limit - reads)
+
+-- the Judge steps that a class asked still needs: one more for a read that is out or back
 abbrev pub judges_left : Asked → ℕ → ℕ
 judges_left NoClass reads = 0
-judges_left (NextSector kind sector) reads = 2 * (33 - reads)
-judges_left (ReadOut kind) reads = 1 + 2 * (33 - reads)
-judges_left (ReadBack kind got) reads = 1 + 2 * (33 - reads)
+judges_left (NextSector kind sector) reads = judges_for reads
+judges_left (ReadOut kind) reads = 1 + judges_for reads
+judges_left (ReadBack kind got) reads = 1 + judges_for reads
 
+-- the providers that it can make
 abbrev pub makes_left : Asked → ℕ
 makes_left NoClass = 0
 makes_left (NextSector kind sector) = can_make kind
@@ -117,22 +145,25 @@ makes_left (ReadBack kind got) = can_make kind
 abbrev pub taste_left : World → Option Taste → ℕ
 taste_left w None = 0
 taste_left w (Some t) =
-    1 + judges_left t.asked t.reads + 66 * length t.classes
+    1 + judges_left t.asked t.reads + judges_of_class * length t.classes
     + (makes_left t.asked + sum_by can_make t.classes) * taste_weight (rank_of_provider w t.provider + 1)
 
--- what a pending event costs in tasting, and whether it is a Spoil or an Orphan
+-- what a pending event costs in tasting: an offer, or one that will follow
 abbrev pub event_weight : World → Event → ℕ
 event_weight w (events.NewProvider p) = taste_weight (rank_of_provider w p)
+event_weight w (events.Resize p) = 1 + taste_weight (rank_of_provider w p)
 event_weight w _ = 0
 
+-- whether it is a Spoil or an Orphan
 abbrev pub is_loss : Event → Bool
-is_loss (events.NewProvider p) = false
-is_loss _ = true
+is_loss (events.Spoil p) = true
+is_loss (events.Orphan p) = true
+is_loss _ = false
 
 -- one level of the way down: at a disk Start, Take, Deliver and Up, else Start, Up and the steps of each child
 abbrev pub down_step : (Bio → ℕ) → World → Bio → Config → Provider → ℕ
 down_step below w x (Disk disk) p = 4
-down_step below w x config p = 2 + sum_by (λ target. below (child_bio w x (0, target))) (piece_targets config p x)
+down_step below w x config p = 2 + sum_by (λ target. below (piece_child w.topology w.next_bio x 0 target)) (piece_targets config p x)
 
 -- the steps that a bio that goes down needs over so many levels, with all of its children
 abbrev pub down_steps_within : ℕ → World → Bio → ℕ

@@ -1,5 +1,5 @@
 -- What a call finds outside, and what it leaves there: source, sink, and the shelf with its disks.
-use Rattle.std.specs.Prelude.{◌≡◌, ◌≢◌, ℕ, ◌*◌, ◌==◌, Bool, true, false, not, ◌&&◌, List, length, count_by, filter, Option, Some, None, IsSomeAnd, IfSome, IsTrue, All, Contains, option_and_then}
+use Rattle.std.specs.Prelude.{◌≡◌, ◌≢◌, ℕ, ◌*◌, ◌==◌, Bool, true, false, not, ◌&&◌, List, length, map, count_by, filter, Option, Some, None, IsSomeAnd, IfSome, IsTrue, All, Contains, option_and_then}
 use Rattle.std.specs.List.{list_any, enumerate_from}
 use Rattle.geo_base.specs.Faults.{RoseBy}
 use Rattle.geo_base.specs.Images.{Images, IsDiskSize}
@@ -18,18 +18,33 @@ use Rattle.geo_model.specs.Results.{request_of}
 use Rattle.geo_model.specs.Contents.{contents, AreTrue}
 use Rattle.geo_model.specs.FixedOrder.{delivered_in}
 
--- a shelf: what it tells, the names that are lent, and its counts of faults, which never fall
+-- a source at one moment: what its reads gave so far, whether the last one that didn't fail found the end, the bytes
+-- left where it tells them, how often it was read as far as it counts that, and how often it failed
+pub record SourceView : Type 0 where
+  pub given : List ℕ
+  pub ended : Bool
+  pub left : Option (List ℕ)
+  pub reads : ℕ
+  pub faults : ℕ
+
+-- a sink at one moment: what its writes took so far, and how often it failed
+pub record SinkView : Type 0 where
+  pub taken : List ℕ
+  pub faults : ℕ
+
+-- a shelf at one moment: what it tells, the names that are lent, and counts that never fall: its faults, and for each
+-- name the faults of its disks, its takes that failed, and its gives that failed
 pub record ShelfView : Type 0 where
   pub told : Option Images
   pub lent : List (List ℕ)
   pub faults : ℕ
   pub faults_of : List ℕ → ℕ
+  pub take_faults : List ℕ → ℕ
+  pub give_faults : List ℕ → ℕ
 
--- the outside at one moment: the bytes left in the source where it tells them, the counts of faults, and the shelf
 pub record Outside : Type 0 where
-  pub source : Option (List ℕ)
-  pub source_faults : ℕ
-  pub sink_faults : ℕ
+  pub source : SourceView
+  pub sink : SinkView
   pub shelf : ShelfView
 
 -- Names
@@ -45,6 +60,9 @@ IsShelf kind = IsTrue (is_shelf kind)
 abbrev pub kept_back : ShelfView → ShelfView → List (List ℕ)
 kept_back before after = filter (λ name. not (list_any (same_name name) before.lent)) after.lent
 
+abbrev pub IsKeptBack : ShelfView → ShelfView → List ℕ → Type 0
+IsKeptBack before after name = Contains (kept_back before after) name
+
 -- a name that no shelf disk of the plan has
 abbrev pub IsForeign : Plan → List ℕ → Type 0
 IsForeign plan name = All (λ d. IsShelf d.kind → d.name ≢ name) plan.disks
@@ -52,6 +70,11 @@ IsForeign plan name = All (λ d. IsShelf d.kind → d.name ≢ name) plan.disks
 -- whether a shelf disk of the plan has the name
 abbrev pub is_of_plan : Plan → List ℕ → Bool
 is_of_plan plan name = list_any (λ d. is_shelf d.kind && same_name d.name name) plan.disks
+
+-- where the shelf told its images before, it tells them after too, and the fact holds of what the name had and has
+abbrev pub WhereTold : ShelfView → ShelfView → List ℕ → (Option (List ℕ) → Option (List ℕ) → Type 0) → Type 0
+WhereTold before after name Fact =
+    IfSome before.told (λ had. IsSomeAnd after.told (λ has. Fact (had name) (has name)))
 
 -- Disks of the shelf before the call
 
@@ -66,9 +89,13 @@ IsMissing d images = images d.name ≡ None
 abbrev pub IsBadSize : DiskDecl → Images → Type 0
 IsBadSize d images = IsSomeAnd (images d.name) (λ bytes. IsDiskSize d.sector (length bytes) → ⊥)
 
--- a disk can be taken, as far as the shelf tells it
+-- a disk can be taken: its name isn't lent, and it has an image, as far as the shelf tells it
+pub record CanBeTaken (shelf : ShelfView) (d : DiskDecl) : Type 0 where
+  pub not_lent : Contains shelf.lent d.name → ⊥
+  pub image : IfSome shelf.told (HasImage d)
+
 abbrev pub IsThere : ShelfView → DiskDecl → Type 0
-IsThere shelf d = IsShelf d.kind → IfSome shelf.told (HasImage d)
+IsThere shelf d = IsShelf d.kind → CanBeTaken shelf d
 
 -- a disk has the sectors of its image, as far as the shelf tells it
 abbrev pub HasToldSize : ShelfView → DiskDecl × (ℕ × ℕ) → Type 0
@@ -77,6 +104,18 @@ HasToldSize shelf item =
     → IfSome shelf.told (λ images. IsSomeAnd (images item.0.name) (λ bytes. item.1.1 * item.1.0 ≡ length bytes))
 
 -- Disks after the call
+
+-- a disk of the plan, with its number
+pub record PlannedDisk : Type 0 where
+  pub number : ℕ
+  pub decl : DiskDecl
+
+abbrev pub planned_disk : ℕ × DiskDecl → PlannedDisk
+planned_disk item = record { number = item.0; decl = item.1 }
+
+-- the disks of a plan, which are numbered from 0 in the order of the header
+abbrev pub planned_disks : Plan → List PlannedDisk
+planned_disks plan = map planned_disk (enumerate_from 0 plan.disks)
 
 -- whether a step delivers a failure
 abbrev pub is_failed_answer : Step → Bool
@@ -90,45 +129,59 @@ is_of_disk disk (Some q) = q.disk == disk
 -- how many failures of a disk the log delivers
 abbrev pub failures_of : List Entry → ℕ → ℕ
 failures_of log disk =
-    count_by (λ e. is_failed_answer e.step && is_of_disk disk (option_and_then (request_of log) (delivered_in e.step))) log
+    count_by (λ e.
+    is_failed_answer e.step && is_of_disk disk (option_and_then (request_of log) (delivered_in e.step))) log
 
 -- the bytes that an image of these bytes has after the log
-abbrev pub image_after : List Entry → ℕ × DiskDecl → List ℕ → List ℕ
-image_after log item bytes = joined_sectors (contents item.1.sector (sectors_of item.1.sector bytes) log item.0)
+abbrev pub image_after : List Entry → PlannedDisk → List ℕ → List ℕ
+image_after log d bytes = joined_sectors (contents d.decl.sector (sectors_of d.decl.sector bytes) log d.number)
 
--- a disk that was given back: its failures are faults, and where the shelf tells it, it holds and gave what the log says
-pub record HoldsWhatIsLogged (before after : ShelfView) (log : List Entry) (item : ℕ × DiskDecl) : Type 0 where
-  pub failures : RoseBy (failures_of log item.0) (before.faults_of item.1.name) (after.faults_of item.1.name)
-  pub bytes : IfSome before.told (λ had. IsSomeAnd after.told (λ has. IsSomeAnd (had item.1.name) (λ bytes.
-      has item.1.name ≡ Some (image_after log item bytes))))
-  pub reads : IfSome before.told (λ had. IsSomeAnd (had item.1.name) (λ bytes.
-      AreTrue item.1.sector (sectors_of item.1.sector bytes) log item.0))
+-- a disk that was given back: its failures are faults; where the shelf tells it, it holds and gave what the log says
+pub record HoldsWhatIsLogged (before after : ShelfView) (log : List Entry) (d : PlannedDisk) : Type 0 where
+  pub failures : RoseBy (failures_of log d.number) (before.faults_of d.decl.name) (after.faults_of d.decl.name)
+  pub bytes : WhereTold before after d.decl.name (λ had has.
+      IsSomeAnd had (λ bytes. has ≡ Some (image_after log d bytes)))
+  pub reads : WhereTold before after d.decl.name (λ had has.
+      IsSomeAnd had (λ bytes. AreTrue d.decl.sector (sectors_of d.decl.sector bytes) log d.number))
 
 -- a memory disk never fails, and begins with zeros
-pub record IsMemory (log : List Entry) (item : ℕ × DiskDecl) : Type 0 where
-  pub no_failure : failures_of log item.0 ≡ 0
-  pub reads : AreTrue item.1.sector (zero_sectors item.1.sectors item.1.sector) log item.0
+pub record IsMemory (log : List Entry) (d : PlannedDisk) : Type 0 where
+  pub no_failure : failures_of log d.number ≡ 0
+  pub reads : AreTrue d.decl.sector (zero_sectors d.decl.sectors d.decl.sector) log d.number
 
-abbrev pub IsDiskKept : ShelfView → ShelfView → List Entry → ℕ × DiskDecl → DiskKind → Type 0
-IsDiskKept before after log item disk_kinds.Ram = IsMemory log item
-IsDiskKept before after log item disk_kinds.Shelf =
-    (Contains (kept_back before after) item.1.name → ⊥) → HoldsWhatIsLogged before after log item
+abbrev pub IsDiskKept : ShelfView → ShelfView → List Entry → PlannedDisk → DiskKind → Type 0
+IsDiskKept before after log d disk_kinds.Ram = IsMemory log d
+IsDiskKept before after log d disk_kinds.Shelf =
+    (IsKeptBack before after d.decl.name → ⊥) → HoldsWhatIsLogged before after log d
 
 -- each disk of the plan that wasn't kept back
 abbrev pub DisksAreKept : Plan → ShelfView → ShelfView → List Entry → Type 0
-DisksAreKept plan before after log = All (λ item. IsDiskKept before after log item item.1.kind) (enumerate_from 0 plan.disks)
+DisksAreKept plan before after log = All (λ d. IsDiskKept before after log d d.decl.kind) (planned_disks plan)
+
+-- no count of a name changed
+pub record CountsStay (before after : ShelfView) (name : List ℕ) : Type 0 where
+  pub disk : after.faults_of name ≡ before.faults_of name
+  pub takes : after.take_faults name ≡ before.take_faults name
+  pub gives : after.give_faults name ≡ before.give_faults name
 
 -- everything else of the shelf stays: foreign names, names lent before, and no foreign name is kept back
 pub record OthersStay (plan : Plan) (before after : ShelfView) : Type 0 where
-  pub bytes : (name : List ℕ) → IsForeign plan name
-      → IfSome before.told (λ had. IsSomeAnd after.told (λ has. has name ≡ had name))
-  pub counts : (name : List ℕ) → IsForeign plan name → after.faults_of name ≡ before.faults_of name
+  pub bytes : (name : List ℕ) → IsForeign plan name → WhereTold before after name (λ had has. has ≡ had)
+  pub counts : (name : List ℕ) → IsForeign plan name → CountsStay before after name
   pub still_lent : (name : List ℕ) → Contains before.lent name → Contains after.lent name
   pub of_plan : All (λ name. IsTrue (is_of_plan plan name)) (kept_back before after)
 
 -- the images are as before, but that those which were kept back are missing
 abbrev pub ImagesStay : ShelfView → ShelfView → Type 0
 ImagesStay before after =
-    IfSome before.told (λ had. IsSomeAnd after.told (λ has.
-    (name : List ℕ) → ((Contains (kept_back before after) name → ⊥) → has name ≡ had name)
-    × (Contains (kept_back before after) name → has name ≡ None)))
+    (name : List ℕ) → WhereTold before after name (λ had has.
+    ((IsKeptBack before after name → ⊥) → has ≡ had) × (IsKeptBack before after name → has ≡ None))
+
+-- an image that is there stays there in its length
+abbrev pub KeepsLength : Option (List ℕ) → Option (List ℕ) → Type 0
+KeepsLength had has = IfSome had (λ bytes. IsSomeAnd has (λ now. length now ≡ length bytes))
+
+-- each image that wasn't kept back is there in its length
+abbrev pub ImagesStand : ShelfView → ShelfView → Type 0
+ImagesStand before after =
+    (name : List ℕ) → (IsKeptBack before after name → ⊥) → WhereTold before after name KeepsLength

@@ -1,13 +1,15 @@
 -- Address maps: where an offset of a provider lies (geom(4)).
 use Rattle.geo_model.specs.Words.{◌>>=◌}
-use Rattle.std.specs.Prelude.{◌≡◌, ◌<◌, ℕ, zero, suc, ◌+◌, ◌-◌, ◌*◌, ◌/◌, ◌%◌, ◌==◌, nat_lt, min, max, List, [], ◌∷◌, length, map, flat_map, filter_map, Option, Some, None, slice_get, if◌then◌else◌}
+use Rattle.std.specs.Prelude.{◌≡◌, ◌<◌, ℕ, zero, suc, ◌+◌, ◌-◌, ◌*◌, ◌/◌, ◌%◌, ◌==◌, nat_lt, min, max, List, [], ◌∷◌, length, map, flat_map, filter_map, fold, Option, Some, None, slice_get, if◌then◌else◌}
 use Rattle.std.specs.List.{range_with_len, last_or}
-use Rattle.std.specs.Option.{option_map, option_map_or, option_to_list, option_flatten}
+use Rattle.std.specs.Option.{option_map, option_map_or, option_and_then, option_to_list, option_flatten}
+use Rattle.geo_model.specs.declared.class.EbrPart.{EbrPart}
 use Rattle.geo_model.specs.declared.class.Slice.{Slice}
 use Rattle.geo_model.specs.declared.span.Piece.{Piece}
 use Rattle.geo_model.specs.declared.span.Stretch.{Stretch}
 use Rattle.geo_model.specs.Topology.{Topology, Provider, provider_of_consumer, provider_with_geom}
-use Rattle.geo_model.specs.World.{Config, Nothing, Disk, Mbr, Label, Concat, Stripe, Nop}
+use Rattle.geo_model.specs.ScriptWords.{is_digit}
+use Rattle.geo_model.specs.World.{Config, Nothing, Disk, Mbr, Ebr, Label, Concat, Stripe, Nop}
 
 -- a component of a geom, from 0, and an offset in the provider below it
 pub record Spot : Type 0 where
@@ -20,6 +22,14 @@ slice_place name = option_map_or (λ b. b - 49) (last_or None name) 0
 
 abbrev pub slice_at : List (Option Slice) → List ℕ → Option Slice
 slice_at slices name = option_flatten (slice_get slices (slice_place name))
+
+-- the decimal number at the end of a name
+abbrev pub end_number : List ℕ → ℕ
+end_number name = fold (λ n b. if is_digit b then 10 * n + (b - 48) else 0) 0 name
+
+-- the partition of a provider of an EBR geom: the number at the end of its name tells its link, from 1 on
+abbrev pub part_at : List (Option EbrPart) → List ℕ → Option EbrPart
+part_at parts name = option_flatten (slice_get parts (end_number name - 1))
 
 -- the component whose range holds the offset, counted from k, at the offset less the sizes before it
 abbrev pub concat_spot : ℕ → List ℕ → ℕ → Option Spot
@@ -35,6 +45,7 @@ abbrev pub place : Config → List ℕ → ℕ → Option Spot
 place Nothing name o = None
 place (Disk disk) name o = None
 place (Mbr below slices) name o = option_map (λ s. record { component = 0; offset = s.first * 512 + o }) (slice_at slices name)
+place (Ebr below parts) name o = option_map (λ s. record { component = 0; offset = s.first * 512 + o }) (part_at parts name)
 place (Label below) name o = Some (record { component = 0; offset = o })
 place (Concat id places sizes) name o = concat_spot 0 sizes o
 place (Stripe id stripe places sizes) name o = Some (stripe_spot (length sizes) stripe o)
@@ -45,6 +56,7 @@ abbrev pub components : Config → List ℕ
 components Nothing = []
 components (Disk disk) = []
 components (Mbr below slices) = option_to_list below
+components (Ebr below parts) = option_to_list below
 components (Label below) = option_to_list below
 components (Concat id places sizes) = flat_map option_to_list places
 components (Stripe id stripe places sizes) = flat_map option_to_list places
@@ -55,6 +67,7 @@ abbrev pub component : Config → ℕ → Option ℕ
 component Nothing k = None
 component (Disk disk) k = None
 component (Mbr below slices) k = if k == 0 then below else None
+component (Ebr below parts) k = if k == 0 then below else None
 component (Label below) k = if k == 0 then below else None
 component (Concat id places sizes) k = option_flatten (slice_get places k)
 component (Stripe id stripe places sizes) k = option_flatten (slice_get places k)
@@ -70,12 +83,9 @@ pub record DiskSector : Type 0 where
   pub disk : ℕ
   pub sector : ℕ
 
--- the provider below a place, and the offset there
-abbrev pub provider_below : Topology Config → Config → Spot → Option (ℕ × ℕ)
-provider_below t config spot = do
-  c ← component config spot.component
-  p ← provider_of_consumer t c
-  Some (p, spot.offset)
+-- the provider below a place
+abbrev pub provider_below : Topology Config → Config → Spot → Option ℕ
+provider_below t config spot = option_and_then (provider_of_consumer t) (component config spot.component)
 
 -- one level of the way down, where below tells of the providers further down
 abbrev pub flat_step : (ℕ → ℕ → Option DiskSector) → Topology Config → Config → Provider → ℕ → Option DiskSector
@@ -83,7 +93,7 @@ flat_step below t (Disk disk) x o = Some (record { disk = disk; sector = o / x.s
 flat_step below t config x o = do
   spot ← place config x.name o
   under ← provider_below t config spot
-  below under.0 under.1
+  below under spot.offset
 
 -- where an offset of a provider lies in the end, over so many levels
 abbrev pub flat_within : ℕ → Topology Config → ℕ → ℕ → Option DiskSector
@@ -137,6 +147,8 @@ stretches Nothing x o len = []
 stretches (Disk disk) x o len = []
 stretches (Mbr below slices) x o len =
     option_map_or (λ s. window (s.first * 512) x.size ∷ []) (slice_at slices x.name) []
+stretches (Ebr below parts) x o len =
+    option_map_or (λ s. window (s.first * 512) x.size ∷ []) (part_at parts x.name) []
 stretches (Label below) x o len = window 0 x.size ∷ []
 stretches (Concat id places sizes) x o len = concat_stretches 0 0 sizes
 stretches (Stripe id stripe places sizes) x o len = strips (length sizes) stripe o len

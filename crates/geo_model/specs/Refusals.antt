@@ -2,7 +2,7 @@
 use Rattle.std.specs.Prelude.{◌≡◌, ◌≢◌, ◌⊎◌, ℕ, ◌<◌, ◌≤◌, Some, IsSomeAnd, IsTrue, All, Contains}
 use Rattle.geo_base.specs.declared.request.Counts.{Counts}
 use Rattle.geo_model.specs.Topology.{Topology, provider_at, consumer_at, is_errored}
-use Rattle.geo_model.specs.Demand.{have, want}
+use Rattle.geo_model.specs.Demand.{have, want, count_limit}
 use Rattle.geo_model.specs.Opens.{below}
 
 -- of the providers below p that carry an error it has the smallest number
@@ -26,4 +26,4 @@ module _ {C : Type 0} (granted : ℕ → Counts) (t : Topology C) where
   abbrev pub IsOverLimit : ℕ → Type 0
   IsOverLimit p =
       IsSomeAnd (provider_at t p) (λ x.
-      (2147483647 < (have granted t p).r) ⊎ (2147483647 < (have granted t p).w) ⊎ (2147483647 < (have granted t p).e))
+      (count_limit < (have granted t p).r) ⊎ (count_limit < (have granted t p).w) ⊎ (count_limit < (have granted t p).e))

@@ -81,10 +81,13 @@ queued_leaf log b = do
   got ← device_answer_of log b
   Some (record { bio = b; request = request; got = got })
 
--- the leaves by the outcome of a Start: the bio itself where it was queued, those of its children where it was split
+-- the leaves by the outcome of a Start: none where it bounced, the bio itself where it was queued, those of its children
+-- where it was split
 abbrev pub leaves_by : (ℕ → List Leaf) → List Entry → ℕ → Outcome → List Leaf
+leaves_by below log b outcomes.Bounced = []
 leaves_by below log b (outcomes.Queued disk) = option_to_list (queued_leaf log b)
-leaves_by below log b outcome = flat_map below (children_in outcome)
+leaves_by below log b (outcomes.Split first count) = flat_map below (range_with_len first count)
+leaves_by below log b _ = []
 
 -- the leaves of a bio over so many levels
 abbrev pub leaves_within : ℕ → List Moment → ℕ → List Leaf
@@ -155,11 +158,12 @@ pub record CoversRange (w : World) (x : Bio) (p : Provider) (found : List Leaf) 
   pub commands : All (λ leaf. IsTrue (same_cmd leaf.request.cmd x.cmd)) found
   pub bytes : IsTrue (is_write x.cmd) → flat_map (λ leaf. leaf.request.bytes) found ≡ x.bytes
 
--- a FLUSH went once to each disk reached downwards, in component order
-abbrev pub CoversEnds : World → Provider → List Leaf → Type 0
-CoversEnds w p found = map (λ leaf. leaf.request.disk) found ≡ ends w.topology p.number
+-- a FLUSH went once to each disk reached downwards, in component order, with its command
+pub record CoversEnds (w : World) (x : Bio) (p : Provider) (found : List Leaf) : Type 0 where
+  pub disks : map (λ leaf. leaf.request.disk) found ≡ ends w.topology p.number
+  pub commands : All (λ leaf. IsTrue (same_cmd leaf.request.cmd x.cmd)) found
 
 -- w is the world of the acceptance of the bio
 pub record Covers (w : World) (history : List Moment) (x : Bio) (p : Provider) : Type 0 where
   pub range : IsTrue (not (is_flush x.cmd)) → CoversRange w x p (leaves history x.number)
-  pub flush : IsTrue (is_flush x.cmd) → CoversEnds w p (leaves history x.number)
+  pub flush : IsTrue (is_flush x.cmd) → CoversEnds w x p (leaves history x.number)

@@ -9,7 +9,7 @@ use Rattle.geo_model.specs.declared.command.DiskDecl.{DiskDecl}
 use Rattle.geo_model.specs.declared.command.DiskKind.TheVariants as disk_kinds
 use Rattle.geo_model.specs.Words.{same_name, unless, first_error}
 pub use Rattle.geo_model.specs.ScriptWords.{◌>>=◌, is_digit, value_of, is_decimal, number_of, hex_value, run_of, add_run, runs_in, bytes_of_runs, fitting_bytes, Words, next_word, found_or, tested, short_name, long_name, in_range, ranged, any_number, sector_size, sector_count, record_id, record_count, record_place, stripe_size, counts_of, counts_word, runs_words, class_names, beside, class_word, names_within, long_names, at_end, by_word}
-pub use Rattle.geo_model.specs.ScriptCommands.{open_words, close_words, read_words, write_words, delete_words, flush_words, insert_words, pull_words, nop_words, concat_words, stripe_words, destroy_words, label_words, mark_concat_words, mark_stripe_words, mark_words, command_table}
+pub use Rattle.geo_model.specs.ScriptCommands.{open_words, close_words, read_words, write_words, delete_words, flush_words, insert_words, pull_words, nop_words, concat_words, stripe_words, append_words, destroy_words, label_words, relabel_words, mark_concat_words, mark_stripe_words, mark_words, command_table}
 use Rattle.geo_model.specs.World.{Plan}
 
 -- Header lines

@@ -76,6 +76,12 @@ stripe_words ws = do
   ps ← long_names stripe.1
   at_end (commands.Stripe name.0 stripe.0 ps.0) ps.1
 
+abbrev pub append_words : Words → Result Command Cause
+append_words ws = do
+  name ← short_name ws
+  p ← long_name name.1
+  at_end (commands.Append name.0 p.0) p.1
+
 abbrev pub destroy_words : Words → Result Command Cause
 destroy_words ws = do
   class ← class_word ws
@@ -87,6 +93,12 @@ label_words ws = do
   h ← short_name ws
   name ← short_name h.1
   at_end (commands.Label h.0 name.0) name.1
+
+abbrev pub relabel_words : Words → Result Command Cause
+relabel_words ws = do
+  h ← short_name ws
+  name ← short_name h.1
+  at_end (commands.Relabel h.0 name.0) name.1
 
 abbrev pub mark_concat_words : List ℕ → Words → Result Command Cause
 mark_concat_words h ws = do
@@ -117,5 +129,6 @@ command_table =
     ∷ (codes "write", write_words) ∷ (codes "delete", delete_words) ∷ (codes "flush", flush_words)
     ∷ (codes "sync", at_end commands.Sync) ∷ (codes "settle", at_end commands.Settle)
     ∷ (codes "insert", insert_words) ∷ (codes "pull", pull_words) ∷ (codes "nop", nop_words)
-    ∷ (codes "concat", concat_words) ∷ (codes "stripe", stripe_words) ∷ (codes "destroy", destroy_words)
-    ∷ (codes "label", label_words) ∷ (codes "mark", mark_words) ∷ (codes "mesh", at_end commands.Mesh) ∷ []
+    ∷ (codes "concat", concat_words) ∷ (codes "stripe", stripe_words) ∷ (codes "append", append_words)
+    ∷ (codes "destroy", destroy_words) ∷ (codes "label", label_words) ∷ (codes "relabel", relabel_words)
+    ∷ (codes "mark", mark_words) ∷ (codes "mesh", at_end commands.Mesh) ∷ []

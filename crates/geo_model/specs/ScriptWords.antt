@@ -140,8 +140,8 @@ runs_words (word ∷ words) = found_or causes.Runs [] (option_and_then fitting_b
 -- the classes that a command can name
 abbrev pub class_names : List (List ℕ × Kind)
 class_names =
-    (codes "mbr", kinds.Mbr) ∷ (codes "label", kinds.Label) ∷ (codes "concat", kinds.Concat)
-    ∷ (codes "stripe", kinds.Stripe) ∷ (codes "nop", kinds.Nop) ∷ []
+    (codes "mbr", kinds.Mbr) ∷ (codes "ebr", kinds.Ebr) ∷ (codes "label", kinds.Label)
+    ∷ (codes "concat", kinds.Concat) ∷ (codes "stripe", kinds.Stripe) ∷ (codes "nop", kinds.Nop) ∷ []
 
 -- what stands beside a word in a table
 abbrev pub beside : {A : Type 0} → List (List ℕ × A) → List ℕ → Option A

@@ -1,5 +1,5 @@
 -- What holds of the mesh at every moment.
-use Rattle.std.specs.Prelude.{◌≡◌, ◌≢◌, ◌↔◌, ◌⊎◌, ℕ, ◌%◌, ◌^◌, ◌<◌, ◌≤◌, ◌==◌, Bool, true, false, not, ◌&&◌, [], ◌∷◌, map, count_by, Some, IsSome, IsSomeAnd, IfSome, MatchOption, IsTrue, All, AllPairs, option_and_then, slice_get}
+use Rattle.std.specs.Prelude.{◌≡◌, ◌≢◌, ◌↔◌, ◌⊎◌, ℕ, ◌+◌, ◌/◌, ◌%◌, ◌^◌, ◌<◌, ◌≤◌, ◌==◌, Bool, true, false, not, ◌&&◌, [], ◌∷◌, length, map, count_by, Option, Some, None, ⊤, IsSome, IsSomeAnd, IfSome, MatchOption, IsTrue, All, AllPairs, option_and_then, slice_get}
 use Rattle.std.specs.List.{list_any}
 use Rattle.std.specs.Option.{option_map_or}
 use Rattle.geo_base.specs.declared.kind.Kind.{Kind}
@@ -9,9 +9,12 @@ use Rattle.geo_model.specs.Topology.{Topology, Geom, Provider, Consumer, geom_at
 use Rattle.geo_model.specs.Graph.{AreNumbers}
 use Rattle.geo_model.specs.Rank.{rank, rank_limit, Ranked}
 use Rattle.geo_model.specs.Demand.{have, is_zero, is_exclusive, fits_limit}
-use Rattle.geo_model.specs.World.{World, Config, Nothing, Disk, Mbr, Label, Concat, Stripe, Nop, Handle, Taste, Asked, NoClass, NextSector, ReadOut, ReadBack, granted_in, is_read_out, is_taste_root}
+use Rattle.geo_model.specs.World.{World, Config, Nothing, Disk, Mbr, Ebr, Label, Concat, Stripe, Nop, Handle, Taste, Asked, NoClass, NextSector, ReadOut, ReadBack, granted_in, is_read_out, is_taste_root}
 use Rattle.geo_model.specs.Place.{Spot, place, component, disk_of}
+use Rattle.geo_model.specs.declared.class.EbrPart.{EbrPart}
+use Rattle.geo_model.specs.Chain.{Chain, link_limit, BeginsAtZero}
 use Rattle.geo_model.specs.Events.{provider_of_event, taste_limit}
+use Rattle.geo_model.specs.Order.{reads_limit}
 use Rattle.geo_model.specs.SoundBios.{IsBioInOrder, IsFamilyInOrder, DisksHold}
 
 -- Ranks
@@ -60,6 +63,7 @@ fits_kind kinds.Disk (Disk disk) = true
 fits_kind kinds.Dev Nothing = true
 fits_kind kinds.Taste Nothing = true
 fits_kind kinds.Mbr (Mbr below slices) = true
+fits_kind kinds.Ebr (Ebr below parts) = true
 fits_kind kinds.Label (Label below) = true
 fits_kind kinds.Concat (Concat id places sizes) = true
 fits_kind kinds.Stripe (Stripe id stripe places sizes) = true
@@ -105,13 +109,16 @@ pub record IsHandleConsumer (w : World) (c : Consumer) : Type 0 where
 abbrev pub HasItsConsumer : World → Handle → Type 0
 HasItsConsumer w h = MatchOption h.consumer (h.dead ≡ true) (λ c. IsSomeAnd (consumer_at w.topology c) (λ x. x.geom ≡ 1))
 
--- TASTE has one consumer, at the tasted provider, while a taste is under way, and none else
+-- the one consumer of TASTE is the taste's, attached to the tasted provider
+pub record IsTasting (t : Topology Config) (s : Taste) : Type 0 where
+  pub consumer : Consumer
+  pub alone : consumers_of t 2 ≡ consumer ∷ []
+  pub number : consumer.number ≡ s.consumer
+  pub attached : consumer.provider ≡ Some s.provider
+
+-- TASTE has one consumer while a taste is under way, and none else
 abbrev pub HasTasteConsumer : World → Type 0
-HasTasteConsumer w =
-    MatchOption w.taste
-    (consumers_of w.topology 2 ≡ [])
-    (λ s. (marked : Bool) × (consumers_of w.topology 2
-    ≡ record { number = s.consumer; geom = 2; provider = Some s.provider; spoiled = marked } ∷ []))
+HasTasteConsumer w = MatchOption w.taste (consumers_of w.topology 2 ≡ []) (IsTasting w.topology)
 
 pub record HandlesHold (w : World) : Type 0 where
   pub consumers : All (IsHandleConsumer w) (consumers_of w.topology 1)
@@ -143,13 +150,56 @@ LeadsDown w p =
 -- the reads made for the class asked are at most 33, at most 32 where one more is to come, and none where no class is asked
 abbrev pub AreReadsInOrder : Asked → ℕ → Type 0
 AreReadsInOrder NoClass reads = reads ≡ 0
-AreReadsInOrder (NextSector kind sector) reads = reads ≤ 32
-AreReadsInOrder (ReadOut kind) reads = reads ≤ 33
-AreReadsInOrder (ReadBack kind got) reads = reads ≤ 33
+AreReadsInOrder (NextSector kind sector) reads = reads < reads_limit
+AreReadsInOrder (ReadOut kind) reads = reads ≤ reads_limit
+AreReadsInOrder (ReadBack kind got) reads = reads ≤ reads_limit
+
+-- the class that is asked
+abbrev pub class_asked : Asked → Option Kind
+class_asked NoClass = None
+class_asked (NextSector kind sector) = Some kind
+class_asked (ReadOut kind) = Some kind
+class_asked (ReadBack kind got) = Some kind
+
+-- the reads made beside those of the links that were read
+abbrev pub reads_out : Asked → ℕ
+reads_out NoClass = 0
+reads_out (NextSector kind sector) = 0
+reads_out (ReadOut kind) = 1
+reads_out (ReadBack kind got) = 1
+
+-- the sector that is known as next is the chain's
+abbrev pub IsNext : Asked → ℕ → Type 0
+IsNext (NextSector kind sector) next = sector ≡ next
+IsNext _ next = ⊤
+
+-- a partition is some sectors of the n that the provider has
+pub record IsPartOf (n : ℕ) (s : EbrPart) : Type 0 where
+  pub some : 1 ≤ s.count
+  pub inside : s.first + s.count ≤ n
+
+-- the chain of a taste of a provider of n sectors, for which EBR is asked after so many reads: its links are the first of
+-- a chain, and the next one isn't among them
+pub record ChainHolds (n : ℕ) (asked : Asked) (made : ℕ) (c : Chain) : Type 0 where
+  pub reads : made ≡ length c.links + reads_out asked
+  pub few : length c.links < link_limit
+  pub parts : All (λ l. IfSome l.part (IsPartOf n)) c.links
+  pub sector : IsNext asked c.next
+  pub zero : BeginsAtZero (map (λ l. l.sector) c.links)
+  pub inside : All (λ l. l.sector < n) c.links
+  pub apart : AllPairs (λ a b. a ≢ b) (map (λ l. l.sector) c.links)
+  pub new : All (λ l. l.sector ≢ c.next) c.links
+
+-- so it is where EBR is asked
+abbrev pub HasItsChain : World → Taste → Type 0
+HasItsChain w s =
+    class_asked s.asked ≡ Some kinds.Ebr
+    → IfSome (provider_at w.topology s.provider) (λ p. ChainHolds (p.size / p.sector) s.asked s.reads s.chain)
 
 pub record IsTasteInOrder (w : World) (s : Taste) : Type 0 where
   pub rank : IsSomeAnd (geom_of_provider w.topology s.provider) (λ g. rank w.topology g.number < taste_limit)
   pub reads : AreReadsInOrder s.asked s.reads
+  pub chain : HasItsChain w s
 
 pub record EventsHold (w : World) : Type 0 where
   pub living : All (λ e. IsSome (provider_at w.topology (provider_of_event e))) w.events

@@ -1,15 +1,14 @@
 -- What holds of the bios of the mesh at every moment (g_bio(9)).
-use Rattle.std.specs.Prelude.{◌≡◌, ◌≢◌, ℕ, ◌+◌, ◌%◌, ◌<◌, ◌≤◌, false, ◌||◌, List, length, map, Some, IsSome, IsSomeAnd, IsTrue, All, AllPairs, take, drop, ⊤}
+use Rattle.std.specs.Prelude.{◌≡◌, ◌≢◌, ℕ, ◌+◌, ◌%◌, ◌<◌, ◌≤◌, false, ◌||◌, List, length, map, Some, IsSome, IsSomeAnd, IsTrue, All, AllPairs, ⊤}
 use Rattle.std.specs.List.{enumerate_from}
 use Rattle.geo_base.specs.declared.request.BioCmd.{BioCmd}
-use Rattle.geo_model.specs.declared.span.Piece.{Piece}
 use Rattle.geo_model.specs.declared.step.Owner.{Owner}
 use Rattle.geo_model.specs.declared.step.Owner.TheVariants as owners
 use Rattle.geo_model.specs.Words.{is_read, is_write, is_flush}
 use Rattle.geo_model.specs.Topology.{Provider, Consumer, geom_at, provider_at, consumer_at}
 use Rattle.geo_model.specs.Demand.{want}
 use Rattle.geo_model.specs.World.{World, Bio, granted_in, bio_at, children_of, is_root, is_done, is_busy, is_sent, is_waiting}
-use Rattle.geo_model.specs.Bios.{piece_targets, disk_of_bio, is_complete}
+use Rattle.geo_model.specs.Bios.{PieceTarget, piece_targets, bytes_of_piece, disk_of_bio, is_complete}
 use Rattle.geo_model.specs.Requests.{request_limit}
 
 -- the range is one or more whole sectors, inside the provider and no longer than the longest request
@@ -56,21 +55,22 @@ shape_of_child x = record {
 }
 
 -- what the child for a piece of a bio is; its bytes are those of the parent at the piece's place
-abbrev pub shape_of_piece : Bio → ℕ × (ℕ × Piece) → ChildShape
-shape_of_piece x item = record {
+abbrev pub shape_of_piece : Bio → ℕ → PieceTarget → ChildShape
+shape_of_piece x k target = record {
   cmd = x.cmd;
-  index = item.0;
-  source = item.1.0;
-  offset = item.1.1.span.offset;
-  len = item.1.1.span.len;
-  bytes = take item.1.1.span.len (drop item.1.1.at x.bytes);
+  index = k;
+  source = target.consumer;
+  offset = target.piece.span.offset;
+  len = target.piece.span.len;
+  bytes = bytes_of_piece x.bytes target.piece;
 }
 
 -- the children of a Waiting bio are its pieces in order, each index once
 abbrev pub HasItsPieces : World → Bio → Type 0
 HasItsPieces w x =
     IsSomeAnd (provider_at w.topology x.target) (λ p. IsSomeAnd (geom_at w.topology p.geom) (λ g.
-    map shape_of_child (children_of w x.number) ≡ map (shape_of_piece x) (enumerate_from 0 (piece_targets g.config p x))))
+    map shape_of_child (children_of w x.number)
+    ≡ map (λ item. shape_of_piece x item.0 item.1) (enumerate_from 0 (piece_targets g.config p x))))
 
 -- a bio owned by a child's place names a Waiting parent
 abbrev pub HasItsParent : World → Owner → Type 0

@@ -25,6 +25,7 @@ use Rattle.geo_model.specs.Bios.{submit}
 use Rattle.geo_model.specs.Events.{QueuedTopology}
 use Rattle.geo_model.specs.WorldEvents.{queued_of, with_queued}
 use Rattle.geo_model.specs.Acceptance.{taste_where, judge, accept}
+use Rattle.geo_model.specs.Chain.{no_links, with_link, feed}
 
 -- One step of a taste
 
@@ -58,7 +59,7 @@ is_ended t s = is_errored t s.provider || option_map_or (λ c. c.spoiled) (consu
 module _ (granted : ℕ → Counts) where
   -- the class that is asked is done with
   abbrev pub end_class : QueuedTopology Config → Taste → Judged → Judging
-  end_class q s judged = record { queued = q; taste = record s { asked = NoClass; reads = 0 }; judged = judged }
+  end_class q s judged = record { queued = q; taste = record s { asked = NoClass; reads = 0; chain = no_links }; judged = judged }
 
   -- the taste ends
   abbrev pub end_taste : QueuedTopology Config → Taste → Judging
@@ -77,15 +78,27 @@ module _ (granted : ℕ → Counts) where
   follow q s p kind (More sector) = record { queued = q; taste = record s { asked = NextSector kind sector }; judged = Next }
   follow q s p kind (Accept shape) = option_map_or (λ made. end_class made s Made) (accept q p shape) (end_class q s Next)
 
+  -- the taste, where EBR keeps the link that was read
+  abbrev pub with_read : Taste → Kind → List ℕ → Facts → Taste
+  with_read s kinds.Ebr bytes f = record s { chain = with_link f.sectors s.chain bytes }
+  with_read s _ bytes f = s
+
+  -- what the class says to the sector; EBR judges it together with the links that were read
+  abbrev pub verdict_on : Taste → Kind → List ℕ → Facts → Verdict
+  verdict_on s kinds.Ebr bytes f = feed f.sectors s.chain bytes
+  verdict_on s kind bytes f = judge kind bytes f
+
   -- a read is back; a failed one is a decline
   abbrev pub take_result : QueuedTopology Config → Taste → Provider → Kind → BioResult → Judging
-  take_result q s p kind (results.Bytes bytes) = follow q s p kind (judge kind bytes (facts_of q.topology p))
+  take_result q s p kind (results.Bytes bytes) =
+      let f : Facts = facts_of q.topology p in
+      follow q (with_read s kind bytes f) p kind (verdict_on s kind bytes f)
   take_result q s p kind _ = end_class q s Next
 
   -- the next class is asked, or passed over
   abbrev pub ask_class : QueuedTopology Config → Taste → Provider → Kind → List Kind → Judging
   ask_class q s p kind rest =
-      let left : Taste = record s { classes = rest; asked = NoClass; reads = 0 } in
+      let left : Taste = record s { classes = rest; asked = NoClass; reads = 0; chain = no_links } in
       if is_attached_class q.topology kind s.provider
       then end_class q left Next
       else option_map_or (λ sector. read_sector q left kind sector) (taste_where kind (facts_of q.topology p)) (end_class q left Next)

@@ -148,13 +148,15 @@ add_consumer t geom provider = record t {
   next_consumer = t.next_consumer + 1;
 }
 
--- without the geom, the provider, the consumer
+-- without the geom
 abbrev pub remove_geom : {C : Type 0} → Topology C → ℕ → Topology C
 remove_geom t g = record t { geoms = filter (λ x. not (x.number == g)) t.geoms }
 
+-- without the provider
 abbrev pub remove_provider : {C : Type 0} → Topology C → ℕ → Topology C
 remove_provider t p = record t { providers = filter (λ x. not (x.number == p)) t.providers }
 
+-- without the consumer
 abbrev pub remove_consumer : {C : Type 0} → Topology C → ℕ → Topology C
 remove_consumer t c = record t { consumers = filter (λ x. not (x.number == c)) t.consumers }
 
@@ -169,6 +171,10 @@ detach t c = record t { consumers = change_where (λ x. x.number == c) (λ x. re
 -- with an error at the provider
 abbrev pub set_error : {C : Type 0} → Topology C → ℕ → Topology C
 set_error t p = record t { providers = change_where (λ x. x.number == p) (λ x. record x { errored = true }) t.providers }
+
+-- with another media size of the provider
+abbrev pub set_size : {C : Type 0} → Topology C → ℕ → ℕ → Topology C
+set_size t p size = record t { providers = change_where (λ x. x.number == p) (λ x. record x { size = size }) t.providers }
 
 -- with the geom withering (g_wither_geom(9))
 abbrev pub set_withering : {C : Type 0} → Topology C → ℕ → Topology C

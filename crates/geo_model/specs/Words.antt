@@ -1,5 +1,6 @@
 -- Small words that the other files share.
 use Rattle.std.specs.Prelude.{ℕ, ◌==◌, max, Bool, true, false, List, [], ◌∷◌, Option, Some, None, map, bytes_eq, if◌then◌else◌, Result, Ok, Err}
+use Rattle.std.specs.Option.{option_or}
 use Rattle.geo_base.specs.declared.kind.Kind.{Kind}
 use Rattle.geo_base.specs.declared.kind.Kind.TheVariants as kinds
 use Rattle.geo_base.specs.declared.request.BioCmd.{BioCmd}
@@ -34,6 +35,11 @@ abbrev pub first_error : {E : Type 0} → List (Bool × E) → Option E
 first_error [] = None
 first_error (row ∷ rows) = if row.0 then Some row.1 else first_error rows
 
+-- the first of the values that is there
+abbrev pub first_some : {A : Type 0} → List (Option A) → Option A
+first_some [] = None
+first_some (x ∷ xs) = option_or x (first_some xs)
+
 -- the value, unless there is an error
 abbrev pub unless : {A E : Type 0} → Option E → A → Result A E
 unless None value = Ok value
@@ -45,10 +51,11 @@ kind_number kinds.Disk = 0
 kind_number kinds.Dev = 1
 kind_number kinds.Taste = 2
 kind_number kinds.Mbr = 3
-kind_number kinds.Label = 4
-kind_number kinds.Concat = 5
-kind_number kinds.Stripe = 6
-kind_number kinds.Nop = 7
+kind_number kinds.Ebr = 4
+kind_number kinds.Label = 5
+kind_number kinds.Concat = 6
+kind_number kinds.Stripe = 7
+kind_number kinds.Nop = 8
 
 abbrev pub is_kind : Kind → Kind → Bool
 is_kind a b = kind_number a == kind_number b

@@ -5,6 +5,7 @@ use Rattle.std.specs.Option.{option_map_or}
 use Rattle.geo_base.specs.declared.request.BioCmd.{BioCmd}
 use Rattle.geo_base.specs.declared.request.Counts.{Counts}
 use Rattle.geo_base.specs.declared.kind.Kind.{Kind}
+use Rattle.geo_model.specs.declared.class.EbrPart.{EbrPart}
 use Rattle.geo_model.specs.declared.class.Slice.{Slice}
 use Rattle.geo_model.specs.declared.command.DiskDecl.{DiskDecl}
 use Rattle.geo_model.specs.declared.command.LineCommand.{LineCommand}
@@ -17,6 +18,7 @@ use Rattle.geo_model.specs.declared.step.Phase.TheVariants as phases
 use Rattle.geo_model.specs.Words.{same_name, names_number, change_where}
 use Rattle.geo_model.specs.Topology.{Topology}
 use Rattle.geo_model.specs.Demand.{no_counts, one_read}
+use Rattle.geo_model.specs.Chain.{Chain}
 
 -- what a geom needs to place an offset, by its class
 pub data Config : Type 0 where
@@ -26,6 +28,8 @@ pub data Config : Type 0 where
   Disk : (disk : ℕ) → Config
   -- below is the consumer at place 0; the slices are in the order of the table
   Mbr : (below : Option ℕ) (slices : List (Option Slice)) → Config
+  -- the parts are those of the links, in their order
+  Ebr : (below : Option ℕ) (parts : List (Option EbrPart)) → Config
   Label : (below : Option ℕ) → Config
   -- the consumer that fills each place, and the bytes of its component, 0 before; id is None for a geom of a command
   Concat : (id : Option ℕ) (places : List (Option ℕ)) (sizes : List ℕ) → Config
@@ -65,13 +69,14 @@ pub data Asked : Type 0 where
   ReadOut : (kind : Kind) → Asked
   ReadBack : (kind : Kind) (got : BioResult) → Asked
 
--- a taste under way: the classes that are left, the one that is asked, and the reads made for it
+-- a taste under way: the classes that are left, the one that is asked, the reads made for it, and the chain read by EBR
 pub record Taste : Type 0 where
   pub provider : ℕ
   pub consumer : ℕ
   pub classes : List Kind
   pub asked : Asked
   pub reads : ℕ
+  pub chain : Chain
 
 -- a disk of the header; size is in bytes
 pub record HeaderDisk : Type 0 where

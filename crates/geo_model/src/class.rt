@@ -14,10 +14,24 @@ pub struct MbrTable {
     pub slices: [Option<Slice>; 4],
 }
 
-/// The record of a label.
+/// A logical partition, in sectors of 512 bytes of the provider on which its chain stands.
+#[derive(Clone, Copy, Debug)]
+pub struct EbrPart {
+    pub first: u64,
+    pub count: u32,
+}
+
+/// The partitions of a chain, by its links.
+#[derive(Clone, Copy, Debug)]
+pub struct EbrTable {
+    pub parts: [Option<EbrPart>; 32],
+}
+
+/// The record of a label; a record of version 2 has the media size in bytes of the provider on which it stands.
 #[derive(Clone, Copy, Debug)]
 pub struct LabelRecord {
     pub name: Name,
+    pub size: Option<u64>,
 }
 
 /// The record of a place in a concat.
@@ -51,6 +65,7 @@ pub struct Facts {
 #[derive(Clone, Copy, Debug)]
 pub enum Shape {
     Slices(MbrTable),
+    Logical(EbrTable),
     Named(LabelRecord),
     Joined(ConcatRecord),
     Striped(StripeRecord),

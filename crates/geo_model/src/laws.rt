@@ -1,6 +1,6 @@
 //! The laws of the definitions.
 ghost use Rattle.geo_model.specs.FormatLaws.{ConcatsAreRead, LabelsAreRead, StripesAreRead};
-ghost use Rattle.geo_model.specs.Laws.{ClosesAreNeverFull, CountsAreSums, DeliversAreNeverFull, ErrorsAreFirst, LegalJoins, LegalParts, PickEnds, PiecesArePlaced, PiecesFollow, RanksAreHighest, WorldsJoin};
+ghost use Rattle.geo_model.specs.Laws.{ClosesAreNeverFull, CountsAreSums, DeliversAreNeverFull, ErrorsAreFirst, LegalJoins, LegalParts, PickEnds, PiecesArePlaced, PiecesFollow, RanksAreHighest, StartsAreInParts, WorldsJoin};
 
 /// In a ranked graph the counts of a provider are the sum over the consumers attached to it.
 pub fn counts_are_sums()
@@ -47,4 +47,10 @@ pub fn records_are_read()
     ensures labels { LabelsAreRead }
     ensures concats { ConcatsAreRead }
     ensures stripes { StripesAreRead }
+{}
+
+/// A bio goes down by what the graph tells and what becomes of the bios, taken apart.
+#[tactic(auto, using(crate::proofs::WayLemmas::starts_in_parts))]
+pub fn starts_are_in_parts()
+    ensures { StartsAreInParts }
 {}

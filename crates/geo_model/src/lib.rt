@@ -7,11 +7,10 @@ pub mod laws;
 mod listing;
 mod span;
 mod step;
-#[cfg(test)]
-mod tests;
 
 pub use class::{
-    ConcatRecord, Facts, Judged, LabelRecord, MbrTable, Shape, Slice, StripeRecord, Verdict,
+    ConcatRecord, EbrPart, EbrTable, Facts, Judged, LabelRecord, MbrTable, Shape, Slice,
+    StripeRecord, Verdict,
 };
 pub use command::{Cause, Command, DiskDecl, DiskKind, LineCommand, NameList};
 pub use listing::{ConsLine, ConsLines, GeomLine, MeshList, ProvLine, ProvLines};

@@ -11,6 +11,7 @@ pub enum Event {
     NewProvider(ProvId),
     Spoil(ProvId),
     Orphan(ProvId),
+    Resize(ProvId),
 }
 
 /// The phase of a bio; `Busy` has the seat that took it.

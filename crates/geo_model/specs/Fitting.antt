@@ -1,0 +1,105 @@
+-- What else holds at every moment of sizes and sectors, of concats and their places, of the taste's read, and of the commands
+-- that are left. Soundness and steadiness alone aren't kept by each step.
+use Rattle.std.specs.Prelude.{◌≡◌, ◌≢◌, ℕ, ◌/◌, ◌%◌, ◌<◌, ◌≤◌, List, [], length, count_by, Option, Some, IsSome, IsSomeAnd, IfSome, IsTrue, All, AllPairs, ⊤, option_and_then}
+use Rattle.std.specs.List.{AllZip}
+use Rattle.geo_base.specs.Sectors.{IsSectorSize}
+use Rattle.geo_base.specs.declared.kind.Kind.{Kind}
+use Rattle.geo_base.specs.declared.kind.Kind.TheVariants as kinds
+use Rattle.geo_model.specs.declared.step.BioResult.{BioResult}
+use Rattle.geo_model.specs.declared.step.BioResult.TheVariants as results
+use Rattle.geo_model.specs.Topology.{Topology, Geom, Provider, Consumer, geom_at, provider_at, consumer_at, providers_of}
+use Rattle.geo_model.specs.World.{World, Config, Mbr, Ebr, Concat, Stripe, Nop, HeaderDisk, Taste, Asked, NoClass, NextSector, ReadOut, ReadBack, is_taste_root}
+use Rattle.geo_model.specs.Place.{components}
+use Rattle.geo_model.specs.Acceptance.{taste_where, places_of, joined_size}
+use Rattle.geo_model.specs.Append.{component_limit}
+use Rattle.geo_model.specs.Tasting.{facts_of}
+use Rattle.geo_model.specs.Plans.{IsCommand}
+use Rattle.geo_model.specs.Sound.{Sound, IsMediaSize}
+use Rattle.geo_model.specs.Steady.{Steady}
+
+-- a disk of the header has a sector size and a size that a provider may have
+pub record IsHeaderDisk (d : HeaderDisk) : Type 0 where
+  pub sector : IsSectorSize d.sector
+  pub size : IsMediaSize d.size d.sector
+
+-- what a configuration asks of the sector size below: windows and strips are whole sectors of it
+abbrev pub IsWholeIn : Config → ℕ → Type 0
+IsWholeIn (Mbr below slices) sector = sector ≡ 512
+IsWholeIn (Ebr below parts) sector = sector ≡ 512
+IsWholeIn (Nop below offset fail) sector = offset % sector ≡ 0
+IsWholeIn (Stripe id stripe places sizes) sector = (1 ≤ stripe) × (stripe % sector ≡ 0)
+IsWholeIn _ sector = ⊤
+
+-- the configuration of a consumer's geom fits the sector size of the consumer's provider
+abbrev pub FitsBelow : Topology Config → Consumer → Type 0
+FitsBelow t c =
+    IfSome (geom_at t c.geom) (λ g. IfSome (option_and_then (provider_at t) c.provider) (λ q. IsWholeIn g.config q.sector))
+
+-- the sizes of a configuration
+abbrev pub sizes_of : Config → List ℕ
+sizes_of (Concat id places sizes) = sizes
+sizes_of (Stripe id stripe places sizes) = sizes
+sizes_of _ = []
+
+-- a place that a consumer of the geom fills has a size in whole sectors of the provider below, and not above its size
+abbrev pub FitsPlace : Topology Config → ℕ → Option ℕ → ℕ → Type 0
+FitsPlace t g place size =
+    IfSome (option_and_then (consumer_at t) place) (λ c. c.geom ≡ g → IfSome (option_and_then (provider_at t) c.provider) (λ q.
+    (size ≤ q.size) × (size % q.sector ≡ 0)))
+
+-- each place of a geom has a size, which fits
+abbrev pub FitsPlaces : Topology Config → Geom Config → Type 0
+FitsPlaces t g = AllZip (FitsPlace t g.number) (places_of g.config) (sizes_of g.config)
+
+-- the class looks at the provider at all
+abbrev pub AsksThere : Topology Config → Provider → Kind → Type 0
+AsksThere t p kind = IsSome (taste_where kind (facts_of t p))
+
+-- bytes that came back are those of one sector
+abbrev pub IsOneSector : Provider → BioResult → Type 0
+IsOneSector p (results.Bytes bytes) = length bytes ≡ p.sector
+IsOneSector p _ = ⊤
+
+-- the class that is asked looks at the provider; the sector that is next is one of it, and the one that is back is one sector
+abbrev pub IsAskedInOrder : Topology Config → Provider → Asked → Type 0
+IsAskedInOrder t p NoClass = ⊤
+IsAskedInOrder t p (NextSector kind sector) = AsksThere t p kind × (sector < p.size / p.sector)
+IsAskedInOrder t p (ReadOut kind) = AsksThere t p kind
+IsAskedInOrder t p (ReadBack kind got) = AsksThere t p kind × IsOneSector p got
+
+-- the read of a taste is one, and of one sector
+pub record TasteReadHolds (w : World) : Type 0 where
+  pub one : count_by (λ x. is_taste_root x.owner) w.bios ≤ 1
+  pub sector : All (λ x. IsTrue (is_taste_root x.owner) → IsSomeAnd (provider_at w.topology x.target) (λ p. x.len ≡ p.sector)) w.bios
+
+-- a CONCAT has at most one provider
+abbrev pub HasOneProvider : Topology Config → Geom Config → Type 0
+HasOneProvider t g = g.kind ≡ kinds.Concat → length (providers_of t g.number) ≤ 1
+
+-- the places of a geom name different consumers, and are at most sixteen
+pub record PlacesHold (g : Geom Config) : Type 0 where
+  pub apart : AllPairs (λ a b. a ≢ b) (components g.config)
+  pub few : length (places_of g.config) ≤ component_limit
+
+-- the provider of a CONCAT is as long as its components were together when they joined
+abbrev pub HasItsSum : Topology Config → Geom Config → Type 0
+HasItsSum t g = g.kind ≡ kinds.Concat → All (λ p. p.size ≡ joined_size g.config) (providers_of t g.number)
+
+-- all of it
+pub record Fitting (w : World) : Type 0 where
+  pub disks : All IsHeaderDisk w.disks
+  pub sectors : All (λ p. IsSectorSize p.sector) w.topology.providers
+  pub wholes : All (FitsBelow w.topology) w.topology.consumers
+  pub places : All (FitsPlaces w.topology) w.topology.geoms
+  pub one : All (HasOneProvider w.topology) w.topology.geoms
+  pub apart : All PlacesHold w.topology.geoms
+  pub sums : All (HasItsSum w.topology) w.topology.geoms
+  pub asked : IfSome w.taste (λ s. IfSome (provider_at w.topology s.provider) (λ p. IsAskedInOrder w.topology p s.asked))
+  pub read : TasteReadHolds w
+  pub commands : All (All (λ c. IsCommand c.command)) w.actors
+
+-- sound, steady and fitting: what each step is to keep
+pub record Firm (w : World) : Type 0 where
+  pub sound : Sound w
+  pub steady : Steady w
+  pub fitting : Fitting w
