@@ -36,7 +36,7 @@ pub three_way-place : place three_way (codes "stripe/s") 2600 ≡ Some (spot 2 5
 three_way-place = refl
 
 -- what is written is read again
-pub label-again : label_record (label_sector 512 (record { name = codes "vol" })) ≡ Ok (record { name = codes "vol" })
+pub label-again : label_record (label_sector 512 (record { name = codes "vol"; size = None })) ≡ Ok (record { name = codes "vol"; size = None })
 label-again = refl
 
 pub concat-again :
@@ -57,7 +57,7 @@ pub size-declined :
     stripe_record (stripe_sector 512 (record { name = codes "v"; id = 7; place = 0; count = 1; stripe = 513 })) ≡ Err declines.Size
 size-declined = refl
 
-pub name-declined : label_record (label_sector 512 (record { name = codes "a" ++ 0 ∷ codes "b" })) ≡ Err declines.BadName
+pub name-declined : label_record (label_sector 512 (record { name = codes "a" ++ 0 ∷ codes "b"; size = None })) ≡ Err declines.BadName
 name-declined = refl
 
 pub magic-declined : label_record (replicate 512 0) ≡ Err declines.Magic

@@ -1,27 +1,36 @@
 -- The wrong programs are refused.
-use Rattle.std.specs.Prelude.{◌≡◌, ◌≢◌, ℕ, ◌≤◌, List, ◌∷◌, length, Some, None, Ok, Err, IsSome, All}
-use Rattle.std.proofs.Common.{sym, ◌∙◌, subst, arith}
+use Rattle.std.specs.Prelude.{◌≡◌, ◌≢◌, ℕ, ◌+◌, ◌-◌, ◌^◌, ◌≤◌, ◌<◌, List, ◌∷◌, ◌++◌, length, Option, Some, None, Ok, Err, IsSome, IsSomeAnd, IfSome, All}
+use Rattle.std.proofs.Common.{sym, ◌∙◌, ap, subst, arith}
+use Rattle.std.proofs.Math.Seq.{get_or-append_seam}
+use Rattle.std.proofs.lemmas.List.{length-append}
 use Rattle.geo_base.specs.Faults.{Rose}
+use Rattle.geo_base.specs.Images.{Images, IsDiskSize}
+use Rattle.geo_model.specs.declared.command.DiskDecl.{DiskDecl}
 use Rattle.geo_model.specs.declared.step.Entry.{Entry}
-use Rattle.geo_model.specs.World.{Plan}
+use Rattle.geo_model.specs.World.{World, Plan}
+use Rattle.geo_model.specs.Opening.{opening}
+use Rattle.geo_model.specs.Log.{owed, replay}
 use Rattle.geo_model.specs.Script.{IsScript}
-use Rattle.geo_model.specs.Generator.{Mode, StepMode, RunMode, Accepts, words_for}
-use Rattle.geo_model.specs.Outside.{IsThere, ImagesStay}
-use Rattle.geo_model.specs.Endings.{Call, Ending, Reported, ReportedButFault, BadWords, NoScript, ReadFault, ShelfFault, NoDisk, BadSize, OutOfMemory, LogFull, TooLong, status_of, HasLog, CauseOf, script_limit, IsOpened, script_of}
-use Rattle.geo_model.specs.Headline.{KeepsAll, ImagesStayAt}
-use Rattle.geo_rows.specs.WrongPrograms.{IsRefused, AnswersUsage, AnswersFaultOfScript, AnswersReadFault, AnswersWriteFault, AnswersLogFull, AnswersTooLong, KeepsDisk, LosesImage, InventsDisk}
+use Rattle.geo_model.specs.Generator.{Mode, Accepts}
+use Rattle.geo_model.specs.Outside.{ShelfView, IsShelf, HasImage, IsMissing, IsBadSize}
+use Rattle.geo_model.specs.Endings.{Call, Ending, Reported, ReportedButFault, BadWords, NoScript, ReadFault, ShelfFault, NoDisk, BadSize, OutOfMemory, LogFull, TooLong, status_of, HasLog, CauseOf, LogRanFull, script_limit}
+use Rattle.geo_model.specs.Headline.{KeepsAll}
+use Rattle.geo_laws_opening.proofs.Standing.{opening-stood}
+use Rattle.geo_rows.specs.WrongPrograms.{IsRefused, AnswersUsage, AnswersFaultOfScript, AnswersReadFault, AnswersWriteFault, AnswersDiskFault, AnswersFullWithoutLog, AnswersFullAtOnce, AnswersFullTooEarly, AnswersTooLong}
 
 -- at a status other than 4 the ending has that status
-ends : (n : ℕ) (call : Call) (mode : Mode) (plan : Plan) (ending : Ending) → KeepsAll call mode plan ending → n ≢ 4 → call.status ≡ n
+pub ends : (n : ℕ) (call : Call) (mode : Mode) (plan : Plan) (ending : Ending) → KeepsAll call mode plan ending
+    → n ≢ 4 → call.status ≡ n
     → status_of ending ≡ n
 ends n call mode plan ending kept other status =
     sym ((kept.prints.whole (λ four. other (sym status ∙ four))).status) ∙ status
 
-by_usage : (call : Call) (mode : Mode) (plan : Plan) (ending : Ending) → status_of ending ≡ 1 → Accepts call.words StepMode
+by_usage : (call : Call) (mode : Mode) (plan : Plan) (ending : Ending) → status_of ending ≡ 1
+    → ((m : Mode) × Accepts call.words m)
     → CauseOf call mode plan ending → ⊥
 by_usage call mode plan Reported s words cause = omega (arith, s)
 by_usage call mode plan (ReportedButFault name) s words cause = omega (arith, s)
-by_usage call mode plan BadWords s words cause = cause StepMode words
+by_usage call mode plan BadWords s words cause = cause words.0 words.1
 by_usage call mode plan (NoScript line c) s words cause = omega (arith, s)
 by_usage call mode plan ReadFault s words cause = omega (arith, s)
 by_usage call mode plan (ShelfFault name) s words cause = omega (arith, s)
@@ -35,7 +44,8 @@ pub usage-refused : IsRefused AnswersUsage
 usage-refused call mode plan ending wrong kept =
     by_usage call mode plan ending (ends 1 call mode plan ending kept (λ e. omega (arith, e)) wrong.0) wrong.1 kept.cause
 
-by_fault : (call : Call) (mode : Mode) (plan : Plan) (ending : Ending) (p : Plan) → status_of ending ≡ 2 → IsScript call.text p
+by_fault : (call : Call) (mode : Mode) (plan : Plan) (ending : Ending) (p : Plan) → status_of ending ≡ 2
+    → IsScript call.text p
     → CauseOf call mode plan ending → ⊥
 by_fault call mode plan Reported p s good cause = omega (arith, s)
 by_fault call mode plan (ReportedButFault name) p s good cause = omega (arith, s)
@@ -56,12 +66,12 @@ fault_of_script-refused call mode plan ending wrong kept =
     by_fault call mode plan ending wrong.1.0 (ends 2 call mode plan ending kept (λ e. omega (arith, e)) wrong.0) wrong.1.1 kept.cause
 
 by_read : (call : Call) (mode : Mode) (plan : Plan) (ending : Ending) → status_of ending ≡ 3
-    → (Rose call.before.source_faults call.after.source_faults → ⊥) → CauseOf call mode plan ending → ⊥
+    → (Rose call.before.source.faults call.after.source.faults → ⊥) → CauseOf call mode plan ending → ⊥
 by_read call mode plan Reported s none cause = omega (arith, s)
 by_read call mode plan (ReportedButFault name) s none cause = omega (arith, s)
 by_read call mode plan BadWords s none cause = omega (arith, s)
 by_read call mode plan (NoScript line c) s none cause = omega (arith, s)
-by_read call mode plan ReadFault s none cause = none cause.1
+by_read call mode plan ReadFault s none cause = none cause.2
 by_read call mode plan (ShelfFault name) s none cause = omega (arith, s)
 by_read call mode plan (NoDisk name) s none cause = omega (arith, s)
 by_read call mode plan (BadSize name) s none cause = omega (arith, s)
@@ -89,11 +99,53 @@ by_log call OutOfMemory s e has = omega (arith, s)
 by_log call LogFull s e has = let no : IsSome {T = List Entry} None = rw e at has in (let bad : ⊥ = cc in bad)
 by_log call TooLong s e has = omega (arith, s)
 
-pub log_full-refused : IsRefused AnswersLogFull
-log_full-refused call mode plan ending wrong kept =
+pub full_without_log-refused : IsRefused AnswersFullWithoutLog
+full_without_log-refused call mode plan ending wrong kept =
     by_log call ending (ends 7 call mode plan ending kept (λ e. omega (arith, e)) wrong.0) wrong.1 kept.has_log
 
-by_length : (call : Call) (mode : Mode) (plan : Plan) (ending : Ending) → status_of ending ≡ 8 → length call.text ≤ script_limit
+-- a full log comes from an ending that has its cause
+by_full : (call : Call) (mode : Mode) (plan : Plan) (ending : Ending) → status_of ending ≡ 7
+    → CauseOf call mode plan ending
+    → IsSomeAnd call.log (LogRanFull mode plan (opening plan call.facts))
+by_full call mode plan Reported s cause = absurd (omega (arith, s))
+by_full call mode plan (ReportedButFault name) s cause = absurd (omega (arith, s))
+by_full call mode plan BadWords s cause = absurd (omega (arith, s))
+by_full call mode plan (NoScript line c) s cause = absurd (omega (arith, s))
+by_full call mode plan ReadFault s cause = absurd (omega (arith, s))
+by_full call mode plan (ShelfFault name) s cause = absurd (omega (arith, s))
+by_full call mode plan (NoDisk name) s cause = absurd (omega (arith, s))
+by_full call mode plan (BadSize name) s cause = absurd (omega (arith, s))
+by_full call mode plan OutOfMemory s cause = absurd (omega (arith, s))
+by_full call mode plan LogFull s cause = cause
+by_full call mode plan TooLong s cause = absurd (omega (arith, s))
+
+ran_full : (call : Call) (mode : Mode) (plan : Plan) (ending : Ending) → call.status ≡ 7
+    → KeepsAll call mode plan ending
+    → IsSomeAnd call.log (LogRanFull mode plan (opening plan call.facts))
+ran_full call mode plan ending status kept =
+    by_full call mode plan ending (ends 7 call mode plan ending kept (λ e. omega (arith, e)) status) kept.cause
+
+-- at the opening no place is owed
+nothing_owed : (plan : Plan) (facts : List (ℕ × ℕ)) → owed (opening plan facts) ≡ 0
+nothing_owed plan facts = ap owed (opening-stood plan facts)
+
+pub full_at_once-refused : IsRefused AnswersFullAtOnce
+full_at_once-refused call mode plan ending wrong kept =
+    let full = rw wrong.1 at (ran_full call mode plan ending wrong.0 kept) in
+    omega (arith, full.nearly, nothing_owed plan call.facts)
+
+too_early : (mode : Mode) (plan : Plan) (opened : World) (log : Option (List Entry))
+    → IsSomeAnd log (LogRanFull mode plan opened)
+    → IfSome log (λ l. length l + owed (replay opened l) < 2 ^ 32 - 1) → ⊥
+too_early mode plan opened None full room = full
+too_early mode plan opened (Some log) full room = omega (arith, full.nearly, room)
+
+pub full_too_early-refused : IsRefused AnswersFullTooEarly
+full_too_early-refused call mode plan ending wrong kept =
+    too_early mode plan (opening plan call.facts) call.log (ran_full call mode plan ending wrong.0 kept) (wrong.1 plan)
+
+by_length : (call : Call) (mode : Mode) (plan : Plan) (ending : Ending) → status_of ending ≡ 8
+    → length call.text ≤ script_limit
     → CauseOf call mode plan ending → ⊥
 by_length call mode plan Reported s short cause = omega (arith, s)
 by_length call mode plan (ReportedButFault name) s short cause = omega (arith, s)
@@ -111,58 +163,53 @@ pub too_long-refused : IsRefused AnswersTooLong
 too_long-refused call mode plan ending wrong kept =
     by_length call mode plan ending (ends 8 call mode plan ending kept (λ e. omega (arith, e)) wrong.0) wrong.1 kept.cause
 
-pub keeps_disk-refused : IsRefused KeepsDisk
-keeps_disk-refused call mode plan ending wrong kept = omega (arith, kept.lent, wrong.kept.1, wrong.no_fault, wrong.counted)
+-- taking the disks stopped at a disk of the plan
+stopped_at : (P : DiskDecl → Type 0) (plan : Plan) (front back : List DiskDecl) (disk : DiskDecl)
+    → plan.disks ≡ front ++ disk ∷ back → All P plan.disks → P disk
+stopped_at P plan front back disk is all =
+    let here : All P (front ++ disk ∷ back) = subst (All P) is all in
+    subst P (get_or-append_seam front disk back disk) (here (length front) disk (omega (arith, length-append front (disk ∷ back))))
 
-not_run : (words : List (List ℕ)) → Accepts words StepMode → Accepts words RunMode → ⊥
-not_run words step run =
-    let both : words_for StepMode ≡ words_for RunMode = sym step.spelled ∙ run.spelled in
-    let no : ⊥ = cc in no
+there_or_missing : (image : Option (List ℕ)) (P : List ℕ → Type 0) → IsSomeAnd image P → image ≡ None → ⊥
+there_or_missing None P has none = has
+there_or_missing (Some bytes) P has none = let no : ⊥ = cc in no
 
-by_images : (call : Call) (ending : Ending) → status_of ending ≡ 6 → Accepts call.words StepMode → ImagesStayAt call ending
-    → ImagesStay call.before.shelf call.after.shelf
-by_images call Reported s words stay = absurd (omega (arith, s))
-by_images call (ReportedButFault name) s words stay = absurd (omega (arith, s))
-by_images call BadWords s words stay = absurd (omega (arith, s))
-by_images call (NoScript line c) s words stay = absurd (omega (arith, s))
-by_images call ReadFault s words stay = absurd (omega (arith, s))
-by_images call (ShelfFault name) s words stay = absurd (omega (arith, s))
-by_images call (NoDisk name) s words stay = absurd (omega (arith, s))
-by_images call (BadSize name) s words stay = absurd (omega (arith, s))
-by_images call OutOfMemory s words stay = stay (not_run call.words words)
-by_images call LogFull s words stay = absurd (omega (arith, s))
-by_images call TooLong s words stay = absurd (omega (arith, s))
+there_or_bad : (image : Option (List ℕ)) (P : List ℕ → Type 0) → IsSomeAnd image P
+    → IsSomeAnd image (λ bytes. P bytes → ⊥) → ⊥
+there_or_bad None P has bad = has
+there_or_bad (Some bytes) P has bad = bad has
 
-pub loses_image-refused : IsRefused LosesImage
-loses_image-refused call mode plan ending wrong kept =
-    let stays : ImagesStayAt call ending = rw wrong.log at kept.images in
-    let stay = by_images call ending (ends 6 call mode plan ending kept (λ e. omega (arith, e)) wrong.status) wrong.words stays in
-    let told = rw (wrong.told_before, wrong.told_after) at stay in
-    let same : wrong.has wrong.name ≡ wrong.had wrong.name = (told wrong.name).0 (λ c. omega (arith, rw wrong.nothing_kept at c.1)) in
-    let both : None ≡ Some wrong.bytes = sym wrong.gone ∙ (same ∙ wrong.there) in
-    let no : ⊥ = cc in no
+-- what the shelf tells of the disk at which taking stopped
+told_cause : (shelf : ShelfView) (had : Images) (Fact : Images → Type 0) → shelf.told ≡ Some had
+    → IfSome shelf.told Fact → Fact had
+told_cause shelf had Fact told cause = rw told at cause
 
-by_report : (call : Call) (ending : Ending) → status_of ending ≡ 0 → HasLog ending call.log → IsSome call.log
-by_report call Reported s has = has
-by_report call (ReportedButFault name) s has = absurd (omega (arith, s))
-by_report call BadWords s has = absurd (omega (arith, s))
-by_report call (NoScript line c) s has = absurd (omega (arith, s))
-by_report call ReadFault s has = absurd (omega (arith, s))
-by_report call (ShelfFault name) s has = absurd (omega (arith, s))
-by_report call (NoDisk name) s has = absurd (omega (arith, s))
-by_report call (BadSize name) s has = absurd (omega (arith, s))
-by_report call OutOfMemory s has = absurd (omega (arith, s))
-by_report call LogFull s has = absurd (omega (arith, s))
-by_report call TooLong s has = absurd (omega (arith, s))
+by_disk : (call : Call) (mode : Mode) (plan : Plan) (ending : Ending) → status_of ending ≡ 5 → AnswersDiskFault call
+    → CauseOf call mode plan ending → ⊥
+by_disk call mode plan Reported s wrong cause = omega (arith, s)
+by_disk call mode plan (ReportedButFault name) s wrong cause = wrong.gives name cause.2
+by_disk call mode plan BadWords s wrong cause = omega (arith, s)
+by_disk call mode plan (NoScript line c) s wrong cause = omega (arith, s)
+by_disk call mode plan ReadFault s wrong cause = omega (arith, s)
+by_disk call mode plan (ShelfFault name) s wrong cause = wrong.takes name cause.2
+by_disk call mode plan (NoDisk name) s wrong cause =
+    let stop = cause.1 in
+    let has : HasImage stop.disk wrong.had =
+    stopped_at (λ d. IsShelf d.kind → HasImage d wrong.had) plan stop.front stop.back stop.disk stop.in_plan
+    (wrong.there mode plan cause.0.script) stop.of_shelf in
+    there_or_missing (wrong.had stop.disk.name) (λ bytes. IsDiskSize stop.disk.sector (length bytes)) has
+    (told_cause call.before.shelf wrong.had (IsMissing stop.disk) wrong.told stop.cause)
+by_disk call mode plan (BadSize name) s wrong cause =
+    let stop = cause.1 in
+    let has : HasImage stop.disk wrong.had =
+    stopped_at (λ d. IsShelf d.kind → HasImage d wrong.had) plan stop.front stop.back stop.disk stop.in_plan
+    (wrong.there mode plan cause.0.script) stop.of_shelf in
+    there_or_bad (wrong.had stop.disk.name) (λ bytes. IsDiskSize stop.disk.sector (length bytes)) has
+    (told_cause call.before.shelf wrong.had (IsBadSize stop.disk) wrong.told stop.cause)
+by_disk call mode plan OutOfMemory s wrong cause = omega (arith, s)
+by_disk call mode plan LogFull s wrong cause = omega (arith, s)
+by_disk call mode plan TooLong s wrong cause = omega (arith, s)
 
-pub invents_disk-refused : IsRefused InventsDisk
-invents_disk-refused call mode plan ending wrong kept =
-    let has_log = by_report call ending (ends 0 call mode plan ending kept (λ e. omega (arith, e)) wrong.status) kept.has_log in
-    let opened : IsOpened call mode plan = kept.is_opened has_log in
-    let as_step : StepMode ≡ mode = kept.read_as.mode_is StepMode wrong.words in
-    let read : IsScript (script_of mode call.text) plan = opened.parsed.script in
-    let good : IsScript (script_of StepMode call.text) plan = subst (λ m. IsScript (script_of m call.text) plan) (sym as_step) read in
-    let disks : plan.disks ≡ wrong.disk ∷ wrong.rest = wrong.text plan good in
-    let there : All (IsThere call.before.shelf) (wrong.disk ∷ wrong.rest) = rw disks at opened.there in
-    let here : IsThere call.before.shelf wrong.disk = there 0 wrong.disk (omega arith) in
-    rw (wrong.told, wrong.missing) at (here wrong.of_shelf)
+pub disk_fault-refused : IsRefused AnswersDiskFault
+disk_fault-refused call mode plan ending wrong kept =
+    by_disk call mode plan ending (ends 5 call mode plan ending kept (λ e. omega (arith, e)) wrong.status) wrong kept.cause

@@ -1,4 +1,6 @@
 pub mod FixedRuns
+pub mod GrownRows
+pub mod GrownScripts
 pub mod Rows
 pub mod Scripts
 pub mod StepLists
@@ -9,4 +11,10 @@ pub mod WorkedSound
 pub mod WorkedSteady
 pub mod WorkedIdle
 pub mod WrongPrograms
+pub mod RightCalls
 pub mod WorkedWords
+pub mod GrownSteps
+pub mod WorkedFitting
+pub mod LooseWorlds
+pub mod WorkedChains
+pub mod ChainWorlds

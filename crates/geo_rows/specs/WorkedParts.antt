@@ -9,7 +9,8 @@ use Rattle.geo_model.specs.Rank.{attach_refusal}
 use Rattle.geo_model.specs.World.{World, Config, Nothing, Stripe}
 use Rattle.geo_model.specs.declared.span.Piece.{Piece}
 use Rattle.geo_model.specs.Place.{Spot}
-use Rattle.geo_model.specs.Acceptance.{accept_slices}
+use Rattle.geo_model.specs.declared.class.Shape.TheVariants.{Slices}
+use Rattle.geo_model.specs.Acceptance.{accept}
 use Rattle.geo_model.specs.GeomCommands.{joined_tests, concat_config}
 use Rattle.geo_model.specs.Opening.{first_topology, opening}
 use Rattle.geo_rows.specs.Rows.{idle_plan}
@@ -62,7 +63,7 @@ one_entry kind numbers = replicate 450 0 ++ (kind ∷ replicate 3 0 ++ numbers +
 abbrev pub concat_refusal_over : World → List ℕ → Option Provider → Option Errno
 concat_refusal_over w name None = None
 concat_refusal_over w name (Some p) =
-    first_error (joined_tests w (concat_name name) (concat_config w (p ∷ [])) 1 (p ∷ []) false)
+    first_error (joined_tests w.topology (concat_name name) (concat_config w.topology (p ∷ [])) 1 (p ∷ []) false)
 
 abbrev pub concat_refusal : Topology Config → List ℕ → ℕ → Option Errno
 concat_refusal t name p =
@@ -74,4 +75,5 @@ long_named n = record { number = 1; geom = 3; name = replicate n 97; size = 4096
 
 abbrev pub makes_slice : ℕ → Bool
 makes_slice n =
-    is_some (accept_slices (record { topology = first_topology; events = [] }) (long_named n) (Some (record { first = 1; count = 7 }) ∷ []))
+    is_some (accept (record { topology = first_topology; events = [] }) (long_named n)
+    (Slices (record { slices = Some (record { first = 1; count = 7 }) ∷ None ∷ None ∷ None ∷ [] })))

@@ -1,9 +1,10 @@
 -- The facts of Sound as tests, so that they can be computed at each moment of the worked runs. Offsets of a provider are
 -- tried at the beginning of each sector.
-use Rattle.std.specs.Prelude.{ℕ, ◌+◌, ◌*◌, ◌/◌, ◌%◌, ◌^◌, ◌==◌, nat_lt, nat_le, Bool, true, false, not, ◌&&◌, ◌||◌, List, [], ◌∷◌, length, map, count_by, Option, Some, None, is_some, slice_get, option_and_then, bytes_eq, if◌then◌else◌}
+use Rattle.std.specs.Prelude.{◌≡◌, All, ℕ, ◌+◌, ◌*◌, ◌/◌, ◌%◌, ◌^◌, ◌==◌, nat_lt, nat_le, Bool, true, false, not, ◌&&◌, ◌||◌, List, [], ◌∷◌, length, map, count_by, Option, Some, None, is_some, slice_get, option_and_then, bytes_eq}
 use Rattle.std.specs.List.{list_all, list_any, enumerate_from, range_with_len}
 use Rattle.std.specs.Option.{option_map_or}
 use Rattle.geo_base.specs.declared.kind.Kind.TheVariants as kinds
+use Rattle.geo_model.specs.declared.class.EbrPart.{EbrPart}
 use Rattle.geo_model.specs.declared.step.Entry.{Entry}
 use Rattle.geo_model.specs.Words.{is_read, is_write, is_flush, is_kind, same_cmd, names_number, same_name}
 use Rattle.geo_model.specs.Topology.{Topology, Geom, Provider, Consumer, geom_at, provider_at, consumer_at, geom_of_provider, provider_with_geom, providers_of, consumers_of, is_withering}
@@ -14,12 +15,14 @@ use Rattle.geo_model.specs.declared.step.Owner.{Owner}
 use Rattle.geo_model.specs.declared.step.Owner.TheVariants as owners
 use Rattle.geo_model.specs.Place.{Spot, place, component, disk_of}
 use Rattle.geo_model.specs.Bios.{piece_targets, disk_of_bio, is_complete}
+use Rattle.geo_model.specs.Chain.{Chain, link_limit}
 use Rattle.geo_model.specs.Events.{provider_of_event, taste_limit}
+use Rattle.geo_model.specs.Order.{reads_limit}
 use Rattle.geo_model.specs.Requests.{request_limit}
 use Rattle.geo_model.specs.Log.{moments, replay}
 use Rattle.geo_model.specs.Opening.{opening}
 use Rattle.geo_rows.specs.FixedRuns.{run_fixed, zero_devices}
-use Rattle.geo_model.specs.Sound.{fits_kind}
+use Rattle.geo_model.specs.Sound.{Sound, LeadsDown, fits_kind, class_asked, reads_out}
 use Rattle.geo_model.specs.SoundBios.{ChildShape, shape_of_child, shape_of_piece}
 
 -- whether there is a value, and it passes the test
@@ -129,9 +132,8 @@ leads_down w p =
 
 abbrev pub has_count_for : World → Bio → Consumer → Bool
 has_count_for w x c =
-    if is_read x.cmd
-    then nat_lt 0 (want (granted_in w) w.topology c).r
-    else nat_lt 0 (want (granted_in w) w.topology c).w
+    (not (is_read x.cmd) || nat_lt 0 (want (granted_in w) w.topology c).r)
+    && (is_read x.cmd || nat_lt 0 (want (granted_in w) w.topology c).w)
 
 abbrev pub is_range_inside : Bio → Provider → Bool
 is_range_inside x p = all_hold
@@ -149,11 +151,19 @@ is_bio_in_order w x = all_hold
     ∷ (not (is_write x.cmd) || (length x.bytes == x.len))
     ∷ [])
 
+abbrev pub same_shape : ChildShape → ChildShape → Bool
+same_shape a b = all_hold
+    (same_cmd a.cmd b.cmd
+    ∷ (a.index == b.index)
+    ∷ (a.source == b.source)
+    ∷ (a.offset == b.offset)
+    ∷ (a.len == b.len)
+    ∷ bytes_eq a.bytes b.bytes
+    ∷ [])
+
 abbrev pub same_shapes : List ChildShape → List ChildShape → Bool
 same_shapes [] [] = true
-same_shapes (a ∷ as') (b ∷ bs) =
-    same_cmd a.cmd b.cmd && ((a.index == b.index) && ((a.source == b.source) && ((a.offset == b.offset)
-    && ((a.len == b.len) && (bytes_eq a.bytes b.bytes && same_shapes as' bs)))))
+same_shapes (a ∷ as') (b ∷ bs) = same_shape a b && same_shapes as' bs
 same_shapes _ _ = false
 
 abbrev pub has_its_pieces : World → Bio → Bool
@@ -161,7 +171,7 @@ has_its_pieces w x =
     some_and (provider_with_geom w.topology x.target) (λ here.
     same_shapes
     (map shape_of_child (children_of w x.number))
-    (map (shape_of_piece x) (enumerate_from 0 (piece_targets here.1.config here.0 x))))
+    (map (λ item. shape_of_piece x item.0 item.1) (enumerate_from 0 (piece_targets here.1.config here.0 x))))
 
 abbrev pub has_its_parent : World → Owner → Bool
 has_its_parent w (owners.Child parent index) = some_and (bio_at w parent) (λ y. is_waiting y.phase)
@@ -170,13 +180,15 @@ has_its_parent w _ = true
 abbrev pub is_family_in_order : World → Bio → Bool
 is_family_in_order w x = all_hold
     (has_its_parent w x.owner
-    ∷ (not (is_waiting x.phase) || (has_its_pieces w x && not (is_complete w x.number)))
+    ∷ (not (is_waiting x.phase) || has_its_pieces w x)
+    ∷ (not (is_waiting x.phase) || not (is_complete w x.number))
     ∷ (not (is_root x.owner) || not (is_done x.phase))
     ∷ [])
 
 abbrev pub not_both_busy : World → Bio → Bio → Bool
 not_both_busy w x y =
-    not (is_busy x.phase && is_busy y.phase) || none_or (disk_of_bio w x) (λ d. not (names_number (disk_of_bio w y) d))
+    not (is_busy x.phase)
+    || (not (is_busy y.phase) || none_or (disk_of_bio w x) (λ d. not (names_number (disk_of_bio w y) d)))
 
 abbrev pub disks_hold : World → Bool
 disks_hold w =
@@ -185,16 +197,54 @@ disks_hold w =
 
 abbrev pub are_reads_in_order : Asked → ℕ → Bool
 are_reads_in_order NoClass reads = reads == 0
-are_reads_in_order (NextSector kind sector) reads = nat_le reads 32
-are_reads_in_order _ reads = nat_le reads 33
+are_reads_in_order (NextSector kind sector) reads = nat_lt reads reads_limit
+are_reads_in_order _ reads = nat_le reads reads_limit
+
+-- whether the sector that is known as next is the chain's
+abbrev pub is_next : Asked → ℕ → Bool
+is_next (NextSector kind sector) next = sector == next
+is_next _ next = true
+
+-- whether a walk over sectors begins at sector 0
+abbrev pub begins_at_zero : List ℕ → Bool
+begins_at_zero [] = true
+begins_at_zero (sector ∷ rest) = sector == 0
+
+-- whether a partition is some sectors of the n that the provider has
+abbrev pub is_part_of : ℕ → EbrPart → Bool
+is_part_of n s = nat_le 1 s.count && nat_le (s.first + s.count) n
+
+-- whether the chain is as it should be after so many reads at a provider of n sectors
+abbrev pub chain_holds : ℕ → Asked → ℕ → Chain → Bool
+chain_holds n asked made c = all_hold
+    ((made == length c.links + reads_out asked)
+    ∷ nat_lt (length c.links) link_limit
+    ∷ list_all (λ l. none_or l.part (is_part_of n)) c.links
+    ∷ is_next asked c.next
+    ∷ begins_at_zero (map (λ l. l.sector) c.links)
+    ∷ list_all (λ l. nat_lt l.sector n) c.links
+    ∷ all_pairs (λ a b. not (a == b)) (map (λ l. l.sector) c.links)
+    ∷ list_all (λ l. not (l.sector == c.next)) c.links
+    ∷ [])
+
+-- whether it is where EBR is asked
+abbrev pub has_its_chain : World → Taste → Bool
+has_its_chain w s =
+    not (some_and (class_asked s.asked) (λ kind. is_kind kind kinds.Ebr))
+    || none_or (provider_at w.topology s.provider) (λ p. chain_holds (p.size / p.sector) s.asked s.reads s.chain)
+
+abbrev pub is_taste_in_order : World → Taste → Bool
+is_taste_in_order w s = all_hold
+    (some_and (geom_of_provider w.topology s.provider) (λ g. nat_lt (rank w.topology g.number) taste_limit)
+    ∷ are_reads_in_order s.asked s.reads
+    ∷ has_its_chain w s
+    ∷ [])
 
 abbrev pub events_hold : World → Bool
 events_hold w = all_hold
     (list_all (λ e. is_some (provider_at w.topology (provider_of_event e))) w.events
     ∷ same_test (list_any (λ x. is_taste_root x.owner) w.bios) (some_and w.taste (λ s. is_read_out s.asked))
-    ∷ none_or w.taste (λ s.
-    are_reads_in_order s.asked s.reads
-    && some_and (geom_of_provider w.topology s.provider) (λ g. nat_lt (rank w.topology g.number) taste_limit))
+    ∷ none_or w.taste (is_taste_in_order w)
     ∷ [])
 
 -- whether the world is sound
@@ -211,6 +261,11 @@ is_sound w = all_hold
     ∷ disks_hold w
     ∷ events_hold w
     ∷ [])
+
+-- a sound world passes the test, and a world that does is sound where the way down from each offset leads on, also from
+-- those inside a sector
+abbrev pub TestsSound : Type 0
+TestsSound = (w : World) → (is_sound w ≡ true → All (LeadsDown w) w.topology.providers → Sound w) × (Sound w → is_sound w ≡ true)
 
 -- whether each world of a log is sound
 abbrev pub sound_along : World → List Entry → Bool

@@ -1,5 +1,6 @@
 -- The facts of Steady as tests, so that they can be computed at each moment of the worked runs.
 use Rattle.std.specs.Prelude.{ℕ, ◌==◌, nat_lt, Bool, true, not, ◌&&◌, ◌||◌, List, [], ◌∷◌, length, count_by, is_some, option_and_then, find}
+use Rattle.std.specs.Bool.{Decides}
 use Rattle.std.specs.List.{list_all}
 use Rattle.geo_model.specs.declared.step.BioResult.{BioResult}
 use Rattle.geo_model.specs.declared.step.BioResult.TheVariants as results
@@ -10,7 +11,7 @@ use Rattle.geo_model.specs.Words.{is_read, names_number}
 use Rattle.geo_model.specs.Topology.{Topology, Geom, geom_at, provider_at, consumer_at, providers_of, consumers_of}
 use Rattle.geo_model.specs.World.{World, Config, Plan, Bio, is_up, is_done}
 use Rattle.geo_model.specs.Place.{components}
-use Rattle.geo_model.specs.Steady.{has_free_place, has_open_provider, is_offer_of}
+use Rattle.geo_model.specs.Steady.{Steady, has_free_place, has_open_provider, is_offer_of}
 use Rattle.geo_model.specs.Log.{moments, replay, after_entry}
 use Rattle.geo_model.specs.Opening.{opening}
 use Rattle.geo_rows.specs.FixedRuns.{run_fixed, zero_devices}
@@ -62,6 +63,10 @@ is_steady w = all_hold
     ∷ list_all has_its_result w.bios
     ∷ list_all (λ c. not c.spoiled) (consumers_of w.topology 1)
     ∷ [])
+
+-- the test is true of a world exactly where it is steady
+abbrev pub TestsSteady : Type 0
+TestsSteady = (w : World) → Decides (is_steady w) (Steady w)
 
 -- whether a step offers only what lives for taste
 abbrev pub offers_only_living : World → World → Bool

@@ -1,22 +1,32 @@
 -- Programs that don't do what they should, and that what a run keeps refuses.
-use Rattle.std.specs.Prelude.{◌≡◌, ℕ, ◌-◌, ◌^◌, ◌<◌, ◌≤◌, List, [], ◌∷◌, length, Some, None, Contains}
+use Rattle.std.specs.Prelude.{◌≡◌, ℕ, ◌+◌, ◌-◌, ◌^◌, ◌<◌, ◌≤◌, true, List, [], ◌∷◌, ◌++◌, length, Some, None, IfSome, All, Contains, codes}
 use Rattle.geo_base.specs.Faults.{Rose}
-use Rattle.geo_model.specs.declared.command.DiskDecl.{DiskDecl}
-use Rattle.geo_model.specs.World.{Plan}
-use Rattle.geo_model.specs.Script.{IsScript}
-use Rattle.geo_model.specs.Generator.{Mode, StepMode, Accepts}
 use Rattle.geo_base.specs.Images.{Images}
-use Rattle.geo_model.specs.Outside.{IsShelf, kept_back}
-use Rattle.geo_model.specs.Endings.{Call, Ending, script_limit}
+use Rattle.geo_model.specs.declared.command.DiskDecl.{DiskDecl}
+use Rattle.geo_model.specs.declared.step.Entry.{Entry}
+use Rattle.geo_model.specs.declared.step.Step.TheVariants as steps
+use Rattle.geo_model.specs.World.{World, Plan}
+use Rattle.geo_model.specs.Opening.{opening}
+use Rattle.geo_model.specs.Step.{is_enabled}
+use Rattle.geo_model.specs.Log.{replay, owed}
+use Rattle.geo_model.specs.Report.{end_line}
+use Rattle.geo_model.specs.Script.{IsScript}
+use Rattle.geo_model.specs.Generator.{Mode, StepMode, RunMode, Accepts}
+use Rattle.geo_model.specs.FixedOrder.{EventWorkerIdle, event_seat}
+use Rattle.geo_model.specs.Outside.{IsShelf, HasImage, IsKeptBack, kept_back}
+use Rattle.geo_model.specs.Endings.{Call, Ending, script_of, script_limit}
 use Rattle.geo_model.specs.Headline.{KeepsAll}
 
 -- no call of the kind keeps what a run keeps, whatever mode, plan and ending are said of it
 abbrev pub IsRefused : (Call → Type 0) → Type 0
-IsRefused IsKind = (call : Call) (mode : Mode) (plan : Plan) (ending : Ending) → IsKind call → KeepsAll call mode plan ending → ⊥
+IsRefused IsKind =
+    (call : Call) (mode : Mode) (plan : Plan) (ending : Ending) → IsKind call → KeepsAll call mode plan ending → ⊥
 
--- the word is `step`, and yet the usage line is printed
+-- One status whatever comes
+
+-- the words are accepted, and yet the usage line is printed
 abbrev pub AnswersUsage : Call → Type 0
-AnswersUsage call = (call.status ≡ 1) × Accepts call.words StepMode
+AnswersUsage call = (call.status ≡ 1) × ((mode : Mode) × Accepts call.words mode)
 
 -- the text is a script, and yet a fault of it is printed
 abbrev pub AnswersFaultOfScript : Call → Type 0
@@ -24,50 +34,108 @@ AnswersFaultOfScript call = (call.status ≡ 2) × ((p : Plan) × IsScript call.
 
 -- no read failed, and yet it says so
 abbrev pub AnswersReadFault : Call → Type 0
-AnswersReadFault call = (call.status ≡ 3) × (Rose call.before.source_faults call.after.source_faults → ⊥)
+AnswersReadFault call = (call.status ≡ 3) × (Rose call.before.source.faults call.after.source.faults → ⊥)
 
 -- no write failed, and yet it says so
 abbrev pub AnswersWriteFault : Call → Type 0
-AnswersWriteFault call = (call.status ≡ 4) × (Rose call.before.sink_faults call.after.sink_faults → ⊥)
+AnswersWriteFault call = (call.status ≡ 4) × (Rose call.before.sink.faults call.after.sink.faults → ⊥)
+
+-- the shelf tells that each disk is there, none of its takes and gives failed, and yet it blames a disk
+pub record AnswersDiskFault (call : Call) : Type 0 where
+  pub status : call.status ≡ 5
+  pub takes : (name : List ℕ) → Rose (call.before.shelf.take_faults name) (call.after.shelf.take_faults name) → ⊥
+  pub gives : (name : List ℕ) → Rose (call.before.shelf.give_faults name) (call.after.shelf.give_faults name) → ⊥
+  pub had : Images
+  pub told : call.before.shelf.told ≡ Some had
+  pub there : (mode : Mode) (p : Plan) → IsScript (script_of mode call.text) p
+      → All (λ d. IsShelf d.kind → HasImage d had) p.disks
 
 -- it says that the log is full, and gives none
-abbrev pub AnswersLogFull : Call → Type 0
-AnswersLogFull call = (call.status ≡ 7) × (call.log ≡ None)
+abbrev pub AnswersFullWithoutLog : Call → Type 0
+AnswersFullWithoutLog call = (call.status ≡ 7) × (call.log ≡ None)
+
+-- it says that the log is full, and gives an empty one
+abbrev pub AnswersFullAtOnce : Call → Type 0
+AnswersFullAtOnce call = (call.status ≡ 7) × (call.log ≡ Some [])
+
+-- it says that the log is full, and gives one that has places left, whatever plan it is of
+abbrev pub AnswersFullTooEarly : Call → Type 0
+AnswersFullTooEarly call =
+    (call.status ≡ 7)
+    × ((plan : Plan) → IfSome call.log (λ log. length log + owed (replay (opening plan call.facts) log) < 2 ^ 32 - 1))
 
 -- the script isn't too long, and yet it says so
 abbrev pub AnswersTooLong : Call → Type 0
 AnswersTooLong call = (call.status ≡ 8) × (length call.text ≤ script_limit)
 
+-- Disks
+
 -- a disk that it took stays with it, and no fault of the shelf is to blame
 pub record KeepsDisk (call : Call) : Type 0 where
   pub name : List ℕ
-  pub kept : Contains (kept_back call.before.shelf call.after.shelf) name
+  pub kept : IsKeptBack call.before.shelf call.after.shelf name
   pub no_fault : call.after.shelf.faults ≡ call.before.shelf.faults
   pub counted : call.before.shelf.faults < 2 ^ 64 - 1
 
--- on the word `step` an image is gone, memory ran out, and there is no log
+-- a disk that it took stays with it, though no give of it failed
+pub record DropsDisk (call : Call) : Type 0 where
+  pub name : List ℕ
+  pub kept : IsKeptBack call.before.shelf call.after.shelf name
+  pub not_given : Rose (call.before.shelf.give_faults name) (call.after.shelf.give_faults name) → ⊥
+
+-- all disks were given back, no take of this one failed, and yet it is blamed
+pub record BlamesAnotherDisk (call : Call) : Type 0 where
+  pub status : call.status ≡ 5
+  pub name : List ℕ
+  pub blamed : call.written ≡ codes "shelf fault " ++ name ++ end_line
+  pub all_back : kept_back call.before.shelf call.after.shelf ≡ []
+  pub not_taken : Rose (call.before.shelf.take_faults name) (call.after.shelf.take_faults name) → ⊥
+
+-- an image that wasn't kept back is gone
 pub record LosesImage (call : Call) : Type 0 where
-  pub words : Accepts call.words StepMode
-  pub status : call.status ≡ 6
-  pub log : call.log ≡ None
   pub had : Images
   pub has : Images
   pub told_before : call.before.shelf.told ≡ Some had
   pub told_after : call.after.shelf.told ≡ Some has
-  pub nothing_kept : kept_back call.before.shelf call.after.shelf ≡ []
   pub name : List ℕ
+  pub not_kept : IsKeptBack call.before.shelf call.after.shelf name → ⊥
   pub bytes : List ℕ
   pub there : had name ≡ Some bytes
   pub gone : has name ≡ None
 
--- the shelf hasn't the first disk of the script, and yet all is well
-pub record InventsDisk (call : Call) : Type 0 where
+-- on the word `step` all is well, and the script's first disk is this one, of the shelf
+pub record ReportsDisk (call : Call) (disk : DiskDecl) : Type 0 where
   pub words : Accepts call.words StepMode
   pub status : call.status ≡ 0
-  pub disk : DiskDecl
   pub rest : List DiskDecl
   pub text : (p : Plan) → IsScript call.text p → p.disks ≡ disk ∷ rest
   pub of_shelf : IsShelf disk.kind
+
+-- the shelf hasn't the disk
+pub record InventsDisk (call : Call) : Type 0 where
+  pub disk : DiskDecl
+  pub reports : ReportsDisk call disk
   pub had : Images
   pub told : call.before.shelf.told ≡ Some had
   pub missing : had disk.name ≡ None
+
+-- the disk is lent to another, also where the shelf tells nothing
+pub record InventsLentDisk (call : Call) : Type 0 where
+  pub disk : DiskDecl
+  pub reports : ReportsDisk call disk
+  pub lent : Contains call.before.shelf.lent disk.name
+
+-- Threads
+
+-- on the word `run` no job made a step, though a disk stands whose event is due
+pub record LeavesAllToTheDrain (call : Call) : Type 0 where
+  pub words : Accepts call.words RunMode
+  pub status : call.status ≡ 0
+  pub text : call.text ≡ codes "ram md0 512 4"
+  pub facts : call.facts ≡ (512, 4) ∷ []
+  pub seats : IfSome call.log (λ log. All (λ e. e.seat ≡ 0) log)
+
+-- the event worker ends a turn idle in which nobody made a step, though an event is due
+pub record IdlesAtEvent (opened : World) (plan : Plan) (log : List Entry) : Type 0 where
+  pub is_due : is_enabled (replay opened log) (event_seat plan) steps.Event ≡ true
+  pub idle : EventWorkerIdle opened plan log log

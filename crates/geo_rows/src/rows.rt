@@ -175,12 +175,12 @@ pub fn worked_parts()
     ensures attach_fits { loose_refusal (chain 31) 31 ≡ None }
     ensures three_way_pieces { pieces three_way three_way_provider 0 3584 ≡ piece 0 0 512 0 ∷ piece 1 0 512 512 ∷ piece 2 0 512 1024 ∷ piece 0 512 512 1536 ∷ piece 1 512 512 2048 ∷ piece 2 512 512 2560 ∷ piece 0 1024 512 3072 ∷ [] }
     ensures three_way_place { place three_way (codes "stripe/s") 2600 ≡ Some (spot 2 552) }
-    ensures label_again { label_record (label_sector 512 (record { name = codes "vol" })) ≡ Ok (record { name = codes "vol" }) }
+    ensures label_again { label_record (label_sector 512 (record { name = codes "vol"; size = None })) ≡ Ok (record { name = codes "vol"; size = None }) }
     ensures concat_again { concat_record (concat_sector 512 (record { name = codes "v"; id = 7; place = 1; count = 2 })) ≡ Ok (record { name = codes "v"; id = 7; place = 1; count = 2 }) }
     ensures stripe_again { stripe_record (stripe_sector 4096 (record { name = codes "fast"; id = 4294967295; place = 15; count = 16; stripe = 4096 })) ≡ Ok (record { name = codes "fast"; id = 4294967295; place = 15; count = 16; stripe = 4096 }) }
     ensures place_declined { concat_record (concat_sector 512 (record { name = codes "v"; id = 7; place = 2; count = 2 })) ≡ Err declines.Place }
     ensures size_declined { stripe_record (stripe_sector 512 (record { name = codes "v"; id = 7; place = 0; count = 1; stripe = 513 })) ≡ Err declines.Size }
-    ensures name_declined { label_record (label_sector 512 (record { name = codes "a" ++ 0 ∷ codes "b" })) ≡ Err declines.BadName }
+    ensures name_declined { label_record (label_sector 512 (record { name = codes "a" ++ 0 ∷ codes "b"; size = None })) ≡ Err declines.BadName }
     ensures magic_declined { label_record (replicate 512 0) ≡ Err declines.Magic }
     ensures far_declined { mbr_table (one_entry 165 (replicate 8 255)) 64 ≡ Err declines.Nothing }
     ensures protective_declined { mbr_table (one_entry 238 (1 ∷ 0 ∷ 0 ∷ 0 ∷ 1 ∷ 0 ∷ 0 ∷ 0 ∷ [])) 64 ≡ Err declines.Protective }

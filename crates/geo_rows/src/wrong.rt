@@ -1,19 +1,44 @@
-//! Programs that don't do what they should, and that what a run keeps refuses.
-ghost use Rattle.geo_rows.specs.WrongPrograms.{AnswersFaultOfScript, AnswersLogFull, AnswersReadFault, AnswersTooLong, AnswersUsage, AnswersWriteFault, InventsDisk, IsRefused, KeepsDisk, LosesImage};
+//! Programs that don't do what they should, and that what a run keeps refuses; and calls that keep it.
+ghost use Rattle.geo_model.specs.Endings.{Reported};
+ghost use Rattle.geo_model.specs.Generator.{StepMode};
+ghost use Rattle.geo_model.specs.Headline.{KeepsAll};
+ghost use Rattle.geo_model.specs.World.{Plan, World};
+ghost use Rattle.geo_model.specs.declared.step.Entry.{Entry};
+ghost use Rattle.geo_rows.specs.RightCalls.{later_plan, quiet_call};
+ghost use Rattle.geo_rows.specs.WrongPrograms.{AnswersDiskFault, AnswersFaultOfScript, AnswersFullAtOnce, AnswersFullTooEarly, AnswersFullWithoutLog, AnswersReadFault, AnswersTooLong, AnswersUsage, AnswersWriteFault, BlamesAnotherDisk, DropsDisk, IdlesAtEvent, InventsDisk, InventsLentDisk, IsRefused, KeepsDisk, LeavesAllToTheDrain, LosesImage};
+ghost use Rattle.std.specs.Prelude.{List};
 
-/// A program that always answers with one status doesn't keep what a run keeps, whatever it prints.
+/// A program that always answers with one of the statuses 1 to 5, 7 and 8 doesn't keep what a run keeps, whatever it
+/// prints, since each of them has its cause. Want of memory (6) needs none.
 pub fn constant_answers_are_refused()
     ensures usage { IsRefused AnswersUsage }
     ensures fault_of_script { IsRefused AnswersFaultOfScript }
     ensures read_fault { IsRefused AnswersReadFault }
     ensures write_fault { IsRefused AnswersWriteFault }
-    ensures log_full { IsRefused AnswersLogFull }
+    ensures disk_fault { IsRefused AnswersDiskFault }
+    ensures full_without_log { IsRefused AnswersFullWithoutLog }
+    ensures full_at_once { IsRefused AnswersFullAtOnce }
+    ensures full_too_early { IsRefused AnswersFullTooEarly }
     ensures too_long { IsRefused AnswersTooLong }
 {}
 
-/// Neither does one that keeps a disk without a fault of the shelf, that loses an image, or that invents one.
+/// Neither does one that keeps a disk which it could give back, blames another, loses an image, or invents a disk.
 pub fn lost_disks_are_refused()
     ensures keeps_disk { IsRefused KeepsDisk }
+    ensures drops_disk { IsRefused DropsDisk }
+    ensures blames_another { IsRefused BlamesAnotherDisk }
     ensures loses_image { IsRefused LosesImage }
     ensures invents_disk { IsRefused InventsDisk }
+    ensures invents_lent_disk { IsRefused InventsLentDisk }
+{}
+
+/// Neither does one that starts no job on the word `run`; and an event worker that doesn't look isn't idle.
+pub fn idle_jobs_are_refused()
+    ensures drain { IsRefused LeavesAllToTheDrain }
+    ensures event_worker { (opened : World) (plan : Plan) (log : List Entry) → IdlesAtEvent opened plan log → ⊥ }
+{}
+
+/// What a run keeps can be kept: by a call of status 0, with a log, over a disk that isn't to stand yet.
+pub fn a_right_call_keeps_all()
+    ensures { KeepsAll quiet_call StepMode later_plan Reported }
 {}

@@ -1,0 +1,280 @@
+-- The tests of Fitting say what Fitting says.
+use Rattle.std.specs.Prelude.{◌≡◌, ◌≢◌, ℕ, ◌<◌, ◌%◌, ◌/◌, ◌^◌, ◌==◌, nat_lt, nat_le, true, false, not, ◌&&◌, List, length, count_by, Option, IsTrue, option_and_then}
+use Rattle.std.specs.Bool.{Decides}
+use Rattle.std.proofs.Common.{refl, sym, subst}
+use Rattle.std.proofs.lemmas.Bool.{true≢false}
+use Rattle.std.proofs.lemmas.Bool.Decides.{Decides-and, Decides-or, Decides-not, Decides-like, Decides-eqb, Decides-ltb}
+use Rattle.geo_rows.proofs.TestFacts.{always, itself, at_most, under, each, if_there, there_and, beside, pairs, three, four}
+use Rattle.geo_base.specs.Sectors.{IsSectorSize}
+use Rattle.geo_base.specs.Name.{is_name, is_short_name}
+use Rattle.geo_base.specs.Kind.{adds_exclusive}
+use Rattle.geo_base.specs.declared.kind.Kind.{Kind}
+use Rattle.geo_base.specs.declared.kind.Kind.TheVariants as kinds
+use Rattle.geo_base.specs.declared.request.Counts.{Counts}
+use Rattle.geo_model.specs.declared.command.Command.{Command}
+use Rattle.geo_model.specs.declared.command.Command.TheVariants as commands
+use Rattle.geo_model.specs.declared.step.BioResult.{BioResult}
+use Rattle.geo_model.specs.declared.step.BioResult.TheVariants as results
+use Rattle.geo_model.specs.Words.{is_kind}
+use Rattle.geo_model.specs.Topology.{Topology, Geom, Provider, Consumer, geom_at, provider_at, consumer_at, providers_of}
+use Rattle.geo_model.specs.World.{World, Config, Nothing, Disk, Mbr, Ebr, Label, Concat, Stripe, Nop, HeaderDisk, Asked, NoClass, NextSector, ReadOut, ReadBack, is_taste_root}
+use Rattle.geo_model.specs.Place.{components}
+use Rattle.geo_model.specs.Acceptance.{places_of, joined_size}
+use Rattle.geo_model.specs.Append.{component_limit}
+use Rattle.geo_model.specs.Plans.{IsGrant, IsRunsBytes, AreComponents, IsMark, IsStripe, IsNamedClass, IsCommand}
+use Rattle.geo_model.specs.Sound.{IsMediaSize}
+use Rattle.geo_model.specs.Fitting.{IsHeaderDisk, IsWholeIn, FitsBelow, sizes_of, FitsPlace, FitsPlaces, AsksThere, IsOneSector, IsAskedInOrder, TasteReadHolds, HasOneProvider, PlacesHold, HasItsSum, Fitting}
+use Rattle.geo_rows.specs.WorkedFitting.{is_sector_size, is_header_disk, is_whole_in, fits_below, fits_place, fits_places, asks_there, is_one_sector, is_asked_in_order, taste_read_holds, has_one_provider, has_its_sum, places_hold, is_grant, is_runs_bytes, are_components, is_mark, is_stripe, is_named_class, is_command, is_fitting_world}
+
+-- Classes
+
+-- a test of a class that passes for that class alone
+pub kind_is : (k : Kind) (c : Kind) → IsTrue (is_kind c c) → (is_kind k c ≡ true → k ≡ c) → Decides (is_kind k c) (k ≡ c)
+kind_is k c same told = (told, λ e. subst (λ x. is_kind x c ≡ true) (sym e) same)
+
+-- what isn't true isn't so
+pub no_kind : {P : Type 0} → false ≡ true → P
+no_kind e = absurd (true≢false (sym e))
+
+-- the test tells the class
+concat_told : (k : Kind) → is_kind k kinds.Concat ≡ true → k ≡ kinds.Concat
+concat_told kinds.Disk e = no_kind e
+concat_told kinds.Dev e = no_kind e
+concat_told kinds.Taste e = no_kind e
+concat_told kinds.Mbr e = no_kind e
+concat_told kinds.Ebr e = no_kind e
+concat_told kinds.Label e = no_kind e
+concat_told kinds.Concat e = refl
+concat_told kinds.Stripe e = no_kind e
+concat_told kinds.Nop e = no_kind e
+
+-- the test tells the class
+nop_told : (k : Kind) → is_kind k kinds.Nop ≡ true → k ≡ kinds.Nop
+nop_told kinds.Disk e = no_kind e
+nop_told kinds.Dev e = no_kind e
+nop_told kinds.Taste e = no_kind e
+nop_told kinds.Mbr e = no_kind e
+nop_told kinds.Ebr e = no_kind e
+nop_told kinds.Label e = no_kind e
+nop_told kinds.Concat e = no_kind e
+nop_told kinds.Stripe e = no_kind e
+nop_told kinds.Nop e = refl
+
+-- the class is CONCAT
+is_concat : (k : Kind) → Decides (is_kind k kinds.Concat) (k ≡ kinds.Concat)
+is_concat k = kind_is k kinds.Concat refl (concat_told k)
+
+-- Sizes and sectors
+
+-- what each test says: sector sizes, media sizes, disks of the header
+sector_size : (n : ℕ) → Decides (is_sector_size n) (IsSectorSize n)
+sector_size n = Decides-or (n == 512) (n == 4096) (Decides-eqb n 512) (Decides-eqb n 4096)
+
+pub media_size : (size sector : ℕ) → Decides (nat_le 1 size && ((size % sector == 0) && nat_le size (2 ^ 60))) (IsMediaSize size sector)
+media_size size sector =
+    Decides-like _
+    (λ h. record { positive = h.0; whole = h.1.0; limited = h.1.1 })
+    (λ h. (h.positive, (h.whole, h.limited)))
+    (Decides-and _ _ (at_most 1 size) (Decides-and _ _ (Decides-eqb (size % sector) 0) (at_most size (2 ^ 60))))
+
+header_disk : (d : HeaderDisk) → Decides (is_header_disk d) (IsHeaderDisk d)
+header_disk d =
+    Decides-like _
+    (λ h. record { sector = h.0; size = h.1 })
+    (λ h. (h.sector, h.size))
+    (Decides-and _ _ (sector_size d.sector) (media_size d.size d.sector))
+
+-- windows and strips in whole sectors, and this at the provider below
+whole_in : (config : Config) (sector : ℕ) → Decides (is_whole_in config sector) (IsWholeIn config sector)
+whole_in Nothing sector = always
+whole_in (Disk disk) sector = always
+whole_in (Mbr below slices) sector = Decides-eqb sector 512
+whole_in (Ebr below parts) sector = Decides-eqb sector 512
+whole_in (Label below) sector = always
+whole_in (Concat id places sizes) sector = always
+whole_in (Stripe id stripe places sizes) sector =
+    Decides-and (nat_le 1 stripe) (stripe % sector == 0) (at_most 1 stripe) (Decides-eqb (stripe % sector) 0)
+whole_in (Nop below offset fail) sector = Decides-eqb (offset % sector) 0
+
+below : (t : Topology Config) (c : Consumer) → Decides (fits_below t c) (FitsBelow t c)
+below t c =
+    if_there (geom_at t c.geom) _ _ (λ g.
+    if_there (option_and_then (provider_at t) c.provider) _ _ (λ q. whole_in g.config q.sector))
+
+-- Places
+
+-- a place and its size, and all places of a geom
+one_place : (t : Topology Config) (g : ℕ) (place : Option ℕ) (size : ℕ) → Decides (fits_place t g place size) (FitsPlace t g place size)
+one_place t g place size =
+    if_there (option_and_then (consumer_at t) place) _ _ (λ c.
+    under (c.geom == g) _ (Decides-eqb c.geom g)
+    (if_there (option_and_then (provider_at t) c.provider) _ _ (λ q.
+    Decides-and (nat_le size q.size) (size % q.sector == 0) (at_most size q.size) (Decides-eqb (size % q.sector) 0))))
+
+places : (t : Topology Config) (g : Geom Config) → Decides (fits_places t g) (FitsPlaces t g)
+places t g = beside (fits_place t g.number) (FitsPlace t g.number) (one_place t g.number) (places_of g.config) (sizes_of g.config)
+
+-- one provider, its size, and places that differ
+one_provider : (t : Topology Config) (g : Geom Config) → Decides (has_one_provider t g) (HasOneProvider t g)
+one_provider t g = under (is_kind g.kind kinds.Concat) _ (is_concat g.kind) (at_most (length (providers_of t g.number)) 1)
+
+its_sum : (t : Topology Config) (g : Geom Config) → Decides (has_its_sum t g) (HasItsSum t g)
+its_sum t g =
+    under (is_kind g.kind kinds.Concat) _ (is_concat g.kind)
+    (each _ _ (λ p. Decides-eqb p.size (joined_size g.config)) (providers_of t g.number))
+
+held_places : (g : Geom Config) → Decides (places_hold g) (PlacesHold g)
+held_places g =
+    Decides-like _
+    (λ h. record { apart = h.0; few = h.1 })
+    (λ h. (h.apart, h.few))
+    (Decides-and _ _
+    (pairs (λ a b. not (a == b)) (λ a b. a ≢ b) (λ a b. Decides-not (a == b) (Decides-eqb a b)) (components g.config))
+    (at_most (length (places_of g.config)) component_limit))
+
+-- The taste
+
+-- the class asked, the sector next and the one that is back
+one_sector : (p : Provider) (got : BioResult) → Decides (is_one_sector p got) (IsOneSector p got)
+one_sector p (results.Bytes bytes) = Decides-eqb (length bytes) p.sector
+one_sector p results.Done = always
+one_sector p (results.Failed e) = always
+
+asks : (t : Topology Config) (p : Provider) (kind : Kind) → Decides (asks_there t p kind) (AsksThere t p kind)
+asks t p kind = (λ e. e, λ e. e)
+
+asked_in_order : (t : Topology Config) (p : Provider) (asked : Asked) → Decides (is_asked_in_order t p asked) (IsAskedInOrder t p asked)
+asked_in_order t p NoClass = always
+asked_in_order t p (NextSector kind sector) =
+    Decides-and (asks_there t p kind) (nat_lt sector (p.size / p.sector)) (asks t p kind) (Decides-ltb sector (p.size / p.sector))
+asked_in_order t p (ReadOut kind) = asks t p kind
+asked_in_order t p (ReadBack kind got) =
+    Decides-and (asks_there t p kind) (is_one_sector p got) (asks t p kind) (one_sector p got)
+
+-- the read of a taste
+taste_read : (w : World) → Decides (taste_read_holds w) (TasteReadHolds w)
+taste_read w =
+    Decides-like _
+    (λ h. record { one = h.0; sector = h.1 })
+    (λ h. (h.one, h.sector))
+    (Decides-and _ _
+    (at_most (count_by (λ x. is_taste_root x.owner) w.bios) 1)
+    (each _ _ (λ x.
+    under (is_taste_root x.owner) _ (itself (is_taste_root x.owner))
+    (there_and (provider_at w.topology x.target) _ _ (λ p. Decides-eqb x.len p.sector)))
+    w.bios))
+
+-- Commands
+
+-- the words of a command, part by part
+grant : (a : Counts) → Decides (is_grant a) (IsGrant a)
+grant a =
+    Decides-like _
+    (λ h. record { r = h.0; w = h.1.0; e = h.1.1.0; some = h.1.1.1.0 })
+    (λ h. (h.r, (h.w, (h.e, (h.some, tt)))))
+    (Decides-and _ _ (at_most a.r 9)
+    (Decides-and _ _ (at_most a.w 9)
+    (Decides-and _ _ (at_most a.e 9)
+    (Decides-and _ _
+    (Decides-or _ _ (Decides-not _ (Decides-eqb a.r 0))
+    (Decides-or _ _ (Decides-not _ (Decides-eqb a.w 0)) (Decides-not _ (Decides-eqb a.e 0))))
+    always))))
+
+runs_bytes : (bytes : List ℕ) → Decides (is_runs_bytes bytes) (IsRunsBytes bytes)
+runs_bytes bytes =
+    Decides-like _
+    (λ h. record { some = h.0; not_long = h.1.0; each = h.1.1 })
+    (λ h. (h.some, (h.not_long, h.each)))
+    (Decides-and _ _ (at_most 1 (length bytes))
+    (Decides-and _ _ (at_most (length bytes) 65536) (each _ _ (λ b. Decides-ltb b 256) bytes)))
+
+names : (ns : List (List ℕ)) → Decides (are_components ns) (AreComponents ns)
+names ns =
+    Decides-like _
+    (λ h. record { some = h.0; not_many = h.1.0; each = h.1.1 })
+    (λ h. (h.some, (h.not_many, h.each)))
+    (Decides-and _ _ (at_most 1 (length ns))
+    (Decides-and _ _ (at_most (length ns) 16) (each _ _ (λ n. itself (is_name n)) ns)))
+
+mark : (id place count : ℕ) → Decides (is_mark id place count) (IsMark id place count)
+mark id place count =
+    Decides-like _
+    (λ h. record { id_fits = h.0; place_fits = h.1.0; some_place = h.1.1.0; few_places = h.1.1.1 })
+    (λ h. (h.id_fits, (h.place_fits, (h.some_place, h.few_places))))
+    (Decides-and _ _ (Decides-ltb id (2 ^ 32))
+    (Decides-and _ _ (Decides-ltb place 65536) (Decides-and _ _ (at_most 1 count) (at_most count 16))))
+
+stripe_size : (n : ℕ) → Decides (is_stripe n) (IsStripe n)
+stripe_size n =
+    Decides-like _
+    (λ h. record { some = h.0; limited = h.1 })
+    (λ h. (h.some, h.limited))
+    (Decides-and _ _ (at_most 1 n) (Decides-ltb n (2 ^ 32)))
+
+named_class : (k : Kind) → Decides (is_named_class k) (IsNamedClass k)
+named_class k =
+    Decides-or (adds_exclusive k) (is_kind k kinds.Nop) (itself (adds_exclusive k)) (kind_is k kinds.Nop refl (nop_told k))
+
+short : (n : List ℕ) → Decides (is_short_name n) (IsTrue (is_short_name n))
+short n = itself (is_short_name n)
+
+long : (n : List ℕ) → Decides (is_name n) (IsTrue (is_name n))
+long n = itself (is_name n)
+
+word64 : (n : ℕ) → Decides (nat_lt n (2 ^ 64)) (n < 2 ^ 64)
+word64 n = Decides-ltb n (2 ^ 64)
+
+-- a whole command
+formed : (c : Command) → Decides (is_command c) (IsCommand c)
+formed (commands.Open h p a) = three _ _ _ (short h) (long p) (grant a)
+formed (commands.Close h) = short h
+formed (commands.Read h offset len) = three _ _ _ (short h) (word64 offset) (word64 len)
+formed (commands.Write h offset bytes) = three _ _ _ (short h) (word64 offset) (runs_bytes bytes)
+formed (commands.Delete h offset len) = three _ _ _ (short h) (word64 offset) (word64 len)
+formed (commands.Flush h) = short h
+formed commands.Sync = always
+formed commands.Settle = always
+formed (commands.Insert disk) = short disk
+formed (commands.Pull disk) = short disk
+formed (commands.Nop p offset size fail) = four _ _ _ _ (long p) (word64 offset) (word64 size) (word64 fail)
+formed (commands.Concat name ps) = Decides-and _ _ (short name) (names ps)
+formed (commands.Stripe name stripe ps) = three _ _ _ (short name) (stripe_size stripe) (names ps)
+formed (commands.Append name p) = Decides-and _ _ (short name) (long p)
+formed (commands.Destroy kind geom) = Decides-and _ _ (named_class kind) (long geom)
+formed (commands.Label h name) = Decides-and _ _ (short h) (short name)
+formed (commands.Relabel h name) = Decides-and _ _ (short h) (short name)
+formed (commands.MarkConcat h name id place count) = three _ _ _ (short h) (short name) (mark id place count)
+formed (commands.MarkStripe h name id place count stripe) = four _ _ _ _ (short h) (short name) (mark id place count) (stripe_size stripe)
+formed commands.Mesh = always
+
+-- All of it
+
+pub fitting_tested : (w : World) → Decides (is_fitting_world w) (Fitting w)
+unfolding is_fitting_world
+fitting_tested w =
+    Decides-like _
+    (λ h. record {
+      disks = h.0;
+      sectors = h.1.0;
+      wholes = h.1.1.0;
+      places = h.1.1.1.0;
+      one = h.1.1.1.1.0;
+      apart = h.1.1.1.1.1.0;
+      sums = h.1.1.1.1.1.1.0;
+      asked = h.1.1.1.1.1.1.1.0;
+      read = h.1.1.1.1.1.1.1.1.0;
+      commands = h.1.1.1.1.1.1.1.1.1.0;
+    })
+    (λ h. (h.disks, (h.sectors, (h.wholes, (h.places, (h.one, (h.apart, (h.sums, (h.asked, (h.read, (h.commands, tt)))))))))))
+    (Decides-and _ _ (each _ _ header_disk w.disks)
+    (Decides-and _ _ (each _ _ (λ p. sector_size p.sector) w.topology.providers)
+    (Decides-and _ _ (each _ _ (below w.topology) w.topology.consumers)
+    (Decides-and _ _ (each _ _ (places w.topology) w.topology.geoms)
+    (Decides-and _ _ (each _ _ (one_provider w.topology) w.topology.geoms)
+    (Decides-and _ _ (each _ _ held_places w.topology.geoms)
+    (Decides-and _ _ (each _ _ (its_sum w.topology) w.topology.geoms)
+    (Decides-and _ _
+    (if_there w.taste _ _ (λ s.
+    if_there (provider_at w.topology s.provider) _ _ (λ p. asked_in_order w.topology p s.asked)))
+    (Decides-and _ _ (taste_read w)
+    (Decides-and _ _ (each _ _ (each _ _ (λ c. formed c.command)) w.actors) always))))))))))

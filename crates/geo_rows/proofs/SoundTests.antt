@@ -1,0 +1,580 @@
+-- The tests of Sound say what Sound says, but for offsets inside a sector.
+use Rattle.std.specs.Prelude.{◌≡◌, ◌⊎◌, ◌↔◌, ◌≤◌, ◌<◌, ℕ, zero, suc, ◌+◌, ◌*◌, ◌/◌, ◌%◌, ◌==◌, nat_lt, Bool, true, false, not, ◌&&◌, ◌||◌, List, [], ◌∷◌, length, map, count_by, Option, Some, None, IsSome, IsSomeAnd, MatchOption, IsTrue, All, is_some, slice_get, option_and_then}
+use Rattle.std.specs.Bool.{Decides}
+use Rattle.std.specs.List.{list_all, list_any, range_with_len}
+use Rattle.std.specs.List.Sorted.{IsStrictlyIncreasing}
+use Rattle.std.specs.Option.{option_map_or}
+use Rattle.std.proofs.Common.{refl, arith, sym, ap, subst, ◌∙◌}
+use Rattle.std.proofs.Common.{get_or, inl, inr}
+use Rattle.std.proofs.lemmas.Bool.{true≢false, and_parts}
+use Rattle.std.proofs.lemmas.List.Sums.{list_all-from_AllPass}
+use Rattle.std.proofs.lemmas.List.FromFn.{length-range_with_len, get_or-range_with_len}
+use Rattle.std.proofs.Math.Nat.{div-zero, le-div_iff_mul-le, suc-mul}
+use Rattle.std.proofs.lemmas.Bool.Decides.{Decides-and, Decides-not, Decides-like, Decides-eqb, Decides-ltb}
+use Rattle.std.proofs.lemmas.List.Kept.{AllPairs-from_increasing}
+use Rattle.std.proofs.lemmas.Slice.Eq.{bytes_eq-Decides}
+use Rattle.geo_rows.proofs.TestFacts.{always, itself, at_most, under, each, if_there, there_and, pairs}
+use Rattle.geo_rows.proofs.SteadyTests.{untrue, bare, named, some_inner}
+use Rattle.geo_rows.proofs.FittingTests.{kind_is, no_kind, media_size}
+use Rattle.geo_base.specs.declared.kind.Kind.{Kind}
+use Rattle.geo_base.specs.declared.kind.Kind.TheVariants as kinds
+use Rattle.geo_base.specs.declared.request.BioCmd.{BioCmd}
+use Rattle.geo_base.specs.declared.request.BioCmd.TheVariants as cmds
+use Rattle.geo_model.specs.declared.class.EbrPart.{EbrPart}
+use Rattle.geo_model.specs.declared.step.Owner.{Owner}
+use Rattle.geo_model.specs.declared.step.Owner.TheVariants as owners
+use Rattle.geo_model.specs.Words.{◌>>=◌, is_read, is_write, is_flush, is_kind, same_cmd, names_number, same_name}
+use Rattle.geo_model.specs.Topology.{Topology, Geom, Provider, Consumer, geom_at, provider_at, consumer_at, geom_of_provider, providers_of, consumers_of, is_withering}
+use Rattle.geo_model.specs.Graph.{AreNumbers}
+use Rattle.geo_model.specs.Rank.{rank, rank_limit}
+use Rattle.geo_model.specs.Demand.{have, want, is_zero, is_exclusive, fits_limit}
+use Rattle.geo_model.specs.World.{World, Config, Bio, Taste, Asked, NoClass, NextSector, ReadOut, ReadBack, granted_in, bio_at, is_read_out, is_root, is_taste_root, is_done, is_busy, is_sent, is_waiting}
+use Rattle.geo_model.specs.Place.{Spot, place, component, disk_of}
+use Rattle.geo_model.specs.Bios.{disk_of_bio, is_complete}
+use Rattle.geo_model.specs.Chain.{Chain, link_limit, BeginsAtZero}
+use Rattle.geo_model.specs.Events.{provider_of_event, taste_limit}
+use Rattle.geo_model.specs.Order.{reads_limit}
+use Rattle.geo_model.specs.Requests.{request_limit}
+use Rattle.geo_model.specs.Sound.{StandsBare, RanksHold, CountsHold, ProvidersHold, fits_kind, IsOfItsClass, DifferInDisk, HasDiskSizes, NumbersHold, IsHandleConsumer, IsTasting, HandlesHold, AreReadsInOrder, class_asked, reads_out, IsNext, IsPartOf, ChainHolds, HasItsChain, IsTasteInOrder, EventsHold, IsPlaceInside, IsPlaced, LeadsDown}
+use Rattle.geo_model.specs.SoundBios.{IsRangeInside, HasCountFor, IsBioInOrder, ChildShape, HasItsPieces, HasItsParent, IsFamilyInOrder, NotBothBusy, DisksHold}
+use Rattle.geo_rows.specs.WorkedSound.{some_and, none_or, all_pairs, same_test, stands_bare, ranks_hold, counts_hold, providers_hold, are_numbers, has_disk_sizes, differ_in_disk, is_of_its_class, numbers_hold, has_taste_consumer, handles_hold, has_count_for, is_range_inside, is_bio_in_order, same_shape, same_shapes, has_its_pieces, has_its_parent, is_family_in_order, not_both_busy, disks_hold, are_reads_in_order, is_next, begins_at_zero, is_part_of, chain_holds, has_its_chain, is_taste_in_order, events_hold, is_place_inside, is_placed, leads_down, is_sound, TestsSound}
+
+-- More tests in general
+
+-- a fact where another isn't
+unless_it : {P Q : Type 0} → (a b : Bool) → Decides a P → Decides b Q → Decides (a || b) ((P → ⊥) → Q)
+unless_it true b d k = (λ e no. absurd (no (d.0 refl)), λ h. refl)
+unless_it false b d k = (λ e no. k.0 e, λ h. k.1 (h (λ p. true≢false (sym (d.1 p)))))
+
+-- a fact where a test is false
+unless_true : {Q : Type 0} → (a b : Bool) → Decides b Q → Decides (a || b) (a ≡ false → Q)
+unless_true true b k = (λ e no. absurd (true≢false no), λ h. refl)
+unless_true false b k = (λ e no. k.0 e, λ h. k.1 (h refl))
+
+-- two tests have the same answer
+same : (a b : Bool) → Decides (same_test a b) (a ≡ b)
+same true true = (λ e. refl, λ e. refl)
+same true false = (λ e. absurd (true≢false (sym e)), λ e. absurd (true≢false e))
+same false true = (λ e. absurd (true≢false (sym e)), λ e. absurd (true≢false (sym e)))
+same false false = (λ e. refl, λ e. refl)
+
+-- of two tests one tells the other
+both_ways : (a b : Bool) → Decides (same_test a b) (IsTrue a ↔ IsTrue b)
+both_ways true true = (λ e. (λ h. refl, λ h. refl), λ h. refl)
+both_ways true false = (λ e. absurd (true≢false (sym e)), λ h. h.0 refl)
+both_ways false true = (λ e. absurd (true≢false (sym e)), λ h. h.1 refl)
+both_ways false false = (λ e. (λ h. h, λ h. h), λ h. refl)
+
+-- a fact of a number that is named
+of_named : (o : Option ℕ) (test : ℕ → Bool) (P : ℕ → Type 0) → ((d : ℕ) → Decides (test d) (P d)) → Decides (none_or o test) ((d : ℕ) → o ≡ Some d → P d)
+of_named None test P one = (λ e d no. absurd (true≢false (ap (λ o. is_some o) (sym no))), λ h. refl)
+of_named (Some x) test P one = (λ e d told. subst P (some_inner x d told) ((one x).0 e), λ h. (one x).1 (h x refl))
+
+-- Ranks and counts
+
+-- a geom that stands bare, and the ranks of all
+stands : (t : Topology Config) (g : ℕ) → Decides (stands_bare t g) (StandsBare t g)
+stands t g =
+    Decides-like _
+    (λ h. record { stands = h.0; no_provider = h.1 })
+    (λ h. (h.stands, h.no_provider))
+    (Decides-and _ _ (there_and (geom_at t g) _ _ (λ x. untrue x.withering)) (bare (providers_of t g)))
+
+ranks : (t : Topology Config) → Decides (ranks_hold t) (RanksHold t)
+ranks t =
+    Decides-like _
+    (λ h. record { ranked = h.0; not_deep = h.1.0; dev = h.1.1.0; taste = h.1.1.1.0 })
+    (λ h. (h.ranked, (h.not_deep, (h.dev, (h.taste, tt)))))
+    (Decides-and _ _
+    (each _ _ (λ c. if_there c.provider _ _ (λ p.
+    there_and (provider_at t p) _ _ (λ x. Decides-ltb (rank t x.geom) (rank t c.geom)))) t.consumers)
+    (Decides-and _ _
+    (each _ _ (λ x.
+    unless_it (x.number == 1) _ (Decides-eqb x.number 1)
+    (unless_it (x.number == 2) _ (Decides-eqb x.number 2) (at_most (rank t x.number) rank_limit))) t.geoms)
+    (Decides-and _ _ (stands t 1) (Decides-and _ _ (stands t 2) always))))
+
+-- access counts
+counts : (w : World) → Decides (counts_hold w) (CountsHold w)
+counts w =
+    Decides-like _
+    (λ h. record { exclusive = h.0; limited = h.1 })
+    (λ h. (h.exclusive, h.limited))
+    (Decides-and _ _ (itself (is_exclusive (granted_in w) w.topology)) (itself (fits_limit (granted_in w) w.topology)))
+
+-- names, errors and sizes of providers
+providers : (t : Topology Config) → Decides (providers_hold t) (ProvidersHold t)
+providers t =
+    Decides-like _
+    (λ h. record { names = h.0; withering = h.1.0; sizes = h.1.1.0 })
+    (λ h. (h.names, (h.withering, (h.sizes, tt))))
+    (Decides-and _ _
+    (pairs _ _ (λ x y. itself (not (not x.errored && (not y.errored && same_name x.name y.name)))) t.providers)
+    (Decides-and _ _
+    (each _ _ (λ x. under (is_withering t x.geom) _ (itself (is_withering t x.geom)) (itself x.errored)) t.providers)
+    (Decides-and _ _ (each _ _ (λ x. media_size x.size x.sector) t.providers) always)))
+
+-- Numbers and disks
+
+-- numbers that rise, and are below the next one
+rising : (xs : List ℕ) → Decides (all_pairs nat_lt xs) (IsStrictlyIncreasing xs)
+rising xs =
+    Decides-like (all_pairs nat_lt xs)
+    (λ h. λ k lt. h k (k + 1) 0 (omega arith) lt)
+    (AllPairs-from_increasing xs)
+    (pairs nat_lt (λ x y. x < y) Decides-ltb xs)
+
+numbers : (xs : List ℕ) (next : ℕ) → Decides (are_numbers xs next) (AreNumbers xs next)
+numbers xs next = Decides-and _ _ (rising xs) (each _ _ (λ n. Decides-ltb n next) xs)
+
+-- a geom is of its class
+of_class : (x : Geom Config) → Decides (is_of_its_class x) (IsOfItsClass x)
+of_class x =
+    Decides-like _
+    (λ h. record { config = h.0; dev = h.1.0; taste = h.1.1.0 })
+    (λ h. (h.config, (h.dev, (h.taste, tt))))
+    (Decides-and _ _ (itself (fits_kind x.kind x.config))
+    (Decides-and _ _ (same (is_kind x.kind kinds.Dev) (x.number == 1))
+    (Decides-and _ _ (same (is_kind x.kind kinds.Taste) (x.number == 2)) always)))
+
+-- two geoms are of different disks, with the sizes of these
+other_disk : (x y : Geom Config) → Decides (differ_in_disk x y) (DifferInDisk x y)
+other_disk x y = of_named (disk_of x.config) _ _ (λ d. Decides-not _ (named (disk_of y.config) d))
+
+disk_sizes : (w : World) (x : Geom Config) → Decides (has_disk_sizes w x) (HasDiskSizes w x)
+disk_sizes w x =
+    if_there (disk_of x.config) _ _ (λ d. there_and (slice_get w.disks d) _ _ (λ disk.
+    each _ _ (λ p. Decides-and _ _ (Decides-eqb p.sector disk.sector) (Decides-eqb p.size disk.size))
+    (providers_of w.topology x.number)))
+
+-- all of NumbersHold
+all_numbers : (w : World) → Decides (numbers_hold w) (NumbersHold w)
+all_numbers w =
+    Decides-like _
+    (λ h. record {
+      geoms = h.0;
+      providers = h.1.0;
+      consumers = h.1.1.0;
+      handles = h.1.1.1.0;
+      bios = h.1.1.1.1.0;
+      classes = h.1.1.1.1.1.0;
+      one_geom_of_disk = h.1.1.1.1.1.1.0;
+      disk_sizes = h.1.1.1.1.1.1.1.0;
+    })
+    (λ h. (h.geoms, (h.providers, (h.consumers, (h.handles, (h.bios, (h.classes, (h.one_geom_of_disk, (h.disk_sizes, tt)))))))))
+    (Decides-and _ _ (numbers _ _)
+    (Decides-and _ _ (numbers _ _)
+    (Decides-and _ _ (numbers _ _)
+    (Decides-and _ _ (numbers _ _)
+    (Decides-and _ _ (numbers _ _)
+    (Decides-and _ _ (each _ _ of_class w.topology.geoms)
+    (Decides-and _ _ (pairs _ _ other_disk w.topology.geoms)
+    (Decides-and _ _ (each _ _ (disk_sizes w) w.topology.geoms) always))))))))
+
+-- Handles and the taste's consumer
+
+-- a consumer of DEV, and the consumer of a handle
+handle_consumer : (w : World) (c : Consumer) → Decides (is_some c.provider && (count_by (λ h. names_number h.consumer c.number) w.handles == 1)) (IsHandleConsumer w c)
+handle_consumer w c =
+    Decides-like _
+    (λ h. record { attached = h.0; one_handle = h.1 })
+    (λ h. (h.attached, h.one_handle))
+    (Decides-and _ _ (itself (is_some c.provider)) (Decides-eqb (count_by (λ h. names_number h.consumer c.number) w.handles) 1))
+
+consumer_of : (w : World) (dead : Bool) (o : Option ℕ) → Decides (option_map_or (λ c. some_and (consumer_at w.topology c) (λ x. x.geom == 1)) o dead) (MatchOption o (dead ≡ true) (λ c. IsSomeAnd (consumer_at w.topology c) (λ x. x.geom ≡ 1)))
+consumer_of w dead None = itself dead
+consumer_of w dead (Some c) = there_and (consumer_at w.topology c) _ _ (λ x. Decides-eqb x.geom 1)
+
+-- a list with an item isn't empty
+not_longer : {A : Type 0} → (x : A) (xs : List A) → (x ∷ xs) ≡ [] → ⊥
+not_longer x xs e = let no : length (x ∷ xs) ≡ 0 = ap (λ ys. length ys) e in omega (arith, no)
+
+-- the first item of a list, and the others
+abbrev head_of : {A : Type 0} → A → List A → A
+head_of other [] = other
+head_of other (x ∷ xs) = x
+
+abbrev rest_of : {A : Type 0} → List A → List A
+rest_of [] = []
+rest_of (x ∷ xs) = xs
+
+-- the consumers of TASTE, one list of them after another
+taste_consumer : (t : Topology Config) (xs : List Consumer) (s : Option Taste) → consumers_of t 2 ≡ xs → Decides (has_taste_consumer xs s) (MatchOption s (consumers_of t 2 ≡ []) (IsTasting t))
+taste_consumer t [] None it = (λ e. it, λ h. refl)
+taste_consumer t (c ∷ []) None same = (λ e. absurd (true≢false (sym e)), λ h. absurd (not_longer c [] (sym same ∙ h)))
+taste_consumer t (c ∷ d ∷ cs) None same = (λ e. absurd (true≢false (sym e)), λ h. absurd (not_longer c (d ∷ cs) (sym same ∙ h)))
+taste_consumer t [] (Some s) same = (λ e. absurd (true≢false (sym e)), λ h. absurd (not_longer h.consumer [] (sym h.alone ∙ same)))
+taste_consumer t (c ∷ []) (Some s) same =
+    Decides-like _
+    (λ h. record { consumer = c; alone = same; number = h.0; attached = h.1 })
+    (λ h. let it : c ≡ h.consumer = ap (head_of c) (sym same ∙ h.alone) in (ap (λ x. x.number) it ∙ h.number, ap (λ x. x.provider) it ∙ h.attached))
+    (Decides-and _ _ (Decides-eqb c.number s.consumer) (named c.provider s.provider))
+taste_consumer t (c ∷ d ∷ cs) (Some s) same =
+    (λ e. absurd (true≢false (sym e)), λ h. absurd (not_longer d cs (ap (λ ys. rest_of ys) (sym same ∙ h.alone))))
+
+-- all of HandlesHold
+handles : (w : World) → Decides (handles_hold w) (HandlesHold w)
+handles w =
+    Decides-like _
+    (λ h. record { consumers = h.0; handles = h.1.0; taste = h.1.1.0 })
+    (λ h. (h.consumers, (h.handles, (h.taste, tt))))
+    (Decides-and _ _ (each _ _ (handle_consumer w) (consumers_of w.topology 1))
+    (Decides-and _ _ (each _ _ (λ h. consumer_of w h.dead h.consumer) w.handles)
+    (Decides-and _ _ (taste_consumer w.topology (consumers_of w.topology 2) w.taste refl) always)))
+
+-- Bios
+
+-- the range, the counts and the bytes of a bio
+range_inside : (x : Bio) (p : Provider) → Decides (is_range_inside x p) (IsRangeInside x p)
+range_inside x p =
+    Decides-like _
+    (λ h. record { some_byte = h.0; not_long = h.1.0; offset_whole = h.1.1.0; len_whole = h.1.1.1.0; inside = h.1.1.1.1.0 })
+    (λ h. (h.some_byte, (h.not_long, (h.offset_whole, (h.len_whole, (h.inside, tt))))))
+    (Decides-and _ _ (at_most 1 x.len)
+    (Decides-and _ _ (at_most x.len request_limit)
+    (Decides-and _ _ (Decides-eqb (x.offset % p.sector) 0)
+    (Decides-and _ _ (Decides-eqb (x.len % p.sector) 0)
+    (Decides-and _ _ (at_most (x.offset + x.len) p.size) always)))))
+
+count_for : (w : World) (x : Bio) (c : Consumer) → Decides (has_count_for w x c) (HasCountFor w x c)
+count_for w x c =
+    Decides-and _ _
+    (under (is_read x.cmd) _ (itself (is_read x.cmd)) (Decides-ltb 0 (want (granted_in w) w.topology c).r))
+    (unless_true (is_read x.cmd) _ (Decides-ltb 0 (want (granted_in w) w.topology c).w))
+
+bio_in_order : (w : World) (x : Bio) → Decides (is_bio_in_order w x) (IsBioInOrder w x)
+bio_in_order w x =
+    Decides-like _
+    (λ h. record { source = h.0; target = h.1.0; bytes = h.1.1.0 })
+    (λ h. (h.source, (h.target, (h.bytes, tt))))
+    (Decides-and _ _
+    (there_and (consumer_at w.topology x.source) _ _ (λ c. Decides-and _ _ (named c.provider x.target) (count_for w x c)))
+    (Decides-and _ _
+    (there_and (provider_at w.topology x.target) _ _ (λ p. unless_true (is_flush x.cmd) _ (range_inside x p)))
+    (Decides-and _ _
+    (under (is_write x.cmd) _ (itself (is_write x.cmd)) (Decides-eqb (length x.bytes) x.len))
+    always)))
+
+-- Families
+
+-- the test tells the command
+cmd_told : (a b : BioCmd) → same_cmd a b ≡ true → a ≡ b
+cmd_told cmds.Read cmds.Read e = refl
+cmd_told cmds.Write cmds.Write e = refl
+cmd_told cmds.Delete cmds.Delete e = refl
+cmd_told cmds.Flush cmds.Flush e = refl
+cmd_told cmds.Read cmds.Write e = no_kind e
+cmd_told cmds.Read cmds.Delete e = no_kind e
+cmd_told cmds.Read cmds.Flush e = no_kind e
+cmd_told cmds.Write cmds.Read e = no_kind e
+cmd_told cmds.Write cmds.Delete e = no_kind e
+cmd_told cmds.Write cmds.Flush e = no_kind e
+cmd_told cmds.Delete cmds.Read e = no_kind e
+cmd_told cmds.Delete cmds.Write e = no_kind e
+cmd_told cmds.Delete cmds.Flush e = no_kind e
+cmd_told cmds.Flush cmds.Read e = no_kind e
+cmd_told cmds.Flush cmds.Write e = no_kind e
+cmd_told cmds.Flush cmds.Delete e = no_kind e
+
+cmd_same : (a : BioCmd) → same_cmd a a ≡ true
+cmd_same cmds.Read = refl
+cmd_same cmds.Write = refl
+cmd_same cmds.Delete = refl
+cmd_same cmds.Flush = refl
+
+one_cmd : (a b : BioCmd) → Decides (same_cmd a b) (a ≡ b)
+one_cmd a b = (cmd_told a b, λ e. subst (λ c. same_cmd a c ≡ true) e (cmd_same a))
+
+-- a child's shape by its parts
+abbrev shape_of : BioCmd → ℕ → ℕ → ℕ → ℕ → List ℕ → ChildShape
+shape_of c i s o l b = record { cmd = c; index = i; source = s; offset = o; len = l; bytes = b }
+
+-- equal parts make equal shapes, and back
+one_shape : (c d : BioCmd) (i j s u o p l m : ℕ) (b a : List ℕ) → c ≡ d → i ≡ j → s ≡ u → o ≡ p → l ≡ m → b ≡ a → shape_of c i s o l b ≡ shape_of d j u p m a
+one_shape c d i j s u o p l m b a e1 e2 e3 e4 e5 e6 = cc
+
+shape : (a b : ChildShape) → Decides (same_shape a b) (a ≡ b)
+shape a b =
+    Decides-like _
+    (λ h. one_shape a.cmd b.cmd a.index b.index a.source b.source a.offset b.offset a.len b.len a.bytes b.bytes h.0 h.1.0 h.1.1.0 h.1.1.1.0 h.1.1.1.1.0 h.1.1.1.1.1.0)
+    (λ e. (ap (λ x. x.cmd) e, (ap (λ x. x.index) e, (ap (λ x. x.source) e, (ap (λ x. x.offset) e, (ap (λ x. x.len) e, (ap (λ x. x.bytes) e, tt)))))))
+    (Decides-and _ _ (one_cmd a.cmd b.cmd)
+    (Decides-and _ _ (Decides-eqb a.index b.index)
+    (Decides-and _ _ (Decides-eqb a.source b.source)
+    (Decides-and _ _ (Decides-eqb a.offset b.offset)
+    (Decides-and _ _ (Decides-eqb a.len b.len)
+    (Decides-and _ _ (bytes_eq-Decides a.bytes b.bytes) always))))))
+
+-- equal heads and tails make equal lists
+joined : {A : Type 0} → (x y : A) (xs ys : List A) → x ≡ y → xs ≡ ys → (x ∷ xs) ≡ (y ∷ ys)
+joined x y xs ys e f = cc
+
+shapes : (xs ys : List ChildShape) → Decides (same_shapes xs ys) (xs ≡ ys)
+shapes [] [] = (λ e. refl, λ e. refl)
+shapes [] (y ∷ ys) = (λ e. no_kind e, λ e. absurd (not_longer y ys (sym e)))
+shapes (x ∷ xs) [] = (λ e. no_kind e, λ e. absurd (not_longer x xs e))
+shapes (x ∷ xs) (y ∷ ys) =
+    Decides-like _
+    (λ h. joined x y xs ys h.0 h.1)
+    (λ e. (ap (head_of x) e, ap (λ zs. rest_of zs) e))
+    (Decides-and _ _ (shape x y) (shapes xs ys))
+
+-- a value and what hangs on it, as nested look-ups
+there_with : (p : Provider) (o : Option (Geom Config)) (test : Provider × Geom Config → Bool) (P : Provider → Geom Config → Type 0) → ((q : Provider) (g : Geom Config) → Decides (test (q, g)) (P q g)) → Decides (some_and (o >>= λ g. Some (p, g)) test) (IsSomeAnd o (λ g. P p g))
+there_with p None test P one = (λ e. no_kind e, λ h. absurd h)
+there_with p (Some g) test P one = one p g
+
+there_both : (o : Option Provider) (geom : Provider → Option (Geom Config)) (test : Provider × Geom Config → Bool) (P : Provider → Geom Config → Type 0) → ((q : Provider) (g : Geom Config) → Decides (test (q, g)) (P q g)) → Decides (some_and (o >>= λ x. (geom x >>= λ g. Some (x, g))) test) (IsSomeAnd o (λ p. IsSomeAnd (geom p) (λ g. P p g)))
+there_both None geom test P one = (λ e. no_kind e, λ h. absurd h)
+there_both (Some p) geom test P one = there_with p (geom p) test P one
+
+-- a bio's pieces, its parent, its family
+pieces_there : (w : World) (x : Bio) → Decides (has_its_pieces w x) (HasItsPieces w x)
+pieces_there w x = there_both (provider_at w.topology x.target) (λ p. geom_at w.topology p.geom) _ _ (λ p g. shapes _ _)
+
+parent_there : (w : World) (o : Owner) → Decides (has_its_parent w o) (HasItsParent w o)
+parent_there w (owners.Child parent index) = there_and (bio_at w parent) _ _ (λ y. itself (is_waiting y.phase))
+parent_there w (owners.Line handle line) = always
+parent_there w owners.Taste = always
+
+family : (w : World) (x : Bio) → Decides (is_family_in_order w x) (IsFamilyInOrder w x)
+family w x =
+    Decides-like _
+    (λ h. record { parent = h.0; pieces = h.1.0; not_complete = h.1.1.0; root = h.1.1.1.0 })
+    (λ h. (h.parent, (h.pieces, (h.not_complete, (h.root, tt)))))
+    (Decides-and _ _ (parent_there w x.owner)
+    (Decides-and _ _ (under (is_waiting x.phase) _ (itself (is_waiting x.phase)) (pieces_there w x))
+    (Decides-and _ _ (under (is_waiting x.phase) _ (itself (is_waiting x.phase)) (untrue (is_complete w x.number)))
+    (Decides-and _ _ (under (is_root x.owner) _ (itself (is_root x.owner)) (untrue (is_done x.phase))) always))))
+
+-- one Busy bio at a disk
+one_busy : (w : World) (x y : Bio) → Decides (not_both_busy w x y) (NotBothBusy w x y)
+one_busy w x y =
+    under (is_busy x.phase) _ (itself (is_busy x.phase))
+    (under (is_busy y.phase) _ (itself (is_busy y.phase))
+    (of_named (disk_of_bio w x) _ _ (λ d. Decides-not _ (named (disk_of_bio w y) d))))
+
+disks : (w : World) → Decides (disks_hold w) (DisksHold w)
+disks w =
+    Decides-like _
+    (λ h. record { at_disk = h.0; one_busy = h.1 })
+    (λ h. (h.at_disk, h.one_busy))
+    (Decides-and _ _
+    (each _ _ (λ x.
+    under (is_sent x.phase || is_busy x.phase) _ (itself (is_sent x.phase || is_busy x.phase)) (itself (is_some (disk_of_bio w x))))
+    w.bios)
+    (pairs _ _ (one_busy w) w.bios))
+
+-- Events and the taste
+
+-- reads of a taste, by how far a class was asked
+reads : (asked : Asked) (n : ℕ) → Decides (are_reads_in_order asked n) (AreReadsInOrder asked n)
+reads NoClass n = Decides-eqb n 0
+reads (NextSector kind sector) n = Decides-ltb n reads_limit
+reads (ReadOut kind) n = at_most n reads_limit
+reads (ReadBack kind got) n = at_most n reads_limit
+
+next : (asked : Asked) (n : ℕ) → Decides (is_next asked n) (IsNext asked n)
+next NoClass n = always
+next (NextSector kind sector) n = Decides-eqb sector n
+next (ReadOut kind) n = always
+next (ReadBack kind got) n = always
+
+from_zero : (xs : List ℕ) → Decides (begins_at_zero xs) (BeginsAtZero xs)
+from_zero [] = always
+from_zero (sector ∷ rest) = Decides-eqb sector 0
+
+-- a partition, and the whole chain
+part_of : (n : ℕ) (s : EbrPart) → Decides (is_part_of n s) (IsPartOf n s)
+part_of n s =
+    Decides-like _
+    (λ h. record { some = h.0; inside = h.1 })
+    (λ h. (h.some, h.inside))
+    (Decides-and _ _ (at_most 1 s.count) (at_most (s.first + s.count) n))
+
+one_chain : (n : ℕ) (asked : Asked) (made : ℕ) (c : Chain) → Decides (chain_holds n asked made c) (ChainHolds n asked made c)
+one_chain n asked made c =
+    Decides-like _
+    (λ h. record {
+      reads = h.0;
+      few = h.1.0;
+      parts = h.1.1.0;
+      sector = h.1.1.1.0;
+      zero = h.1.1.1.1.0;
+      inside = h.1.1.1.1.1.0;
+      apart = h.1.1.1.1.1.1.0;
+      new = h.1.1.1.1.1.1.1.0;
+    })
+    (λ h. (h.reads, (h.few, (h.parts, (h.sector, (h.zero, (h.inside, (h.apart, (h.new, tt)))))))))
+    (Decides-and _ _ (Decides-eqb made (length c.links + reads_out asked))
+    (Decides-and _ _ (Decides-ltb (length c.links) link_limit)
+    (Decides-and _ _ (each _ _ (λ l. if_there l.part _ _ (part_of n)) c.links)
+    (Decides-and _ _ (next asked c.next)
+    (Decides-and _ _ (from_zero (map (λ l. l.sector) c.links))
+    (Decides-and _ _ (each _ _ (λ l. Decides-ltb l.sector n) c.links)
+    (Decides-and _ _ (pairs _ _ (λ a b. Decides-not _ (Decides-eqb a b)) (map (λ l. l.sector) c.links))
+    (Decides-and _ _ (each _ _ (λ l. Decides-not _ (Decides-eqb l.sector c.next)) c.links) always))))))))
+
+-- the test tells the class
+ebr_told : (k : Kind) → is_kind k kinds.Ebr ≡ true → k ≡ kinds.Ebr
+ebr_told kinds.Disk e = no_kind e
+ebr_told kinds.Dev e = no_kind e
+ebr_told kinds.Taste e = no_kind e
+ebr_told kinds.Mbr e = no_kind e
+ebr_told kinds.Ebr e = refl
+ebr_told kinds.Label e = no_kind e
+ebr_told kinds.Concat e = no_kind e
+ebr_told kinds.Stripe e = no_kind e
+ebr_told kinds.Nop e = no_kind e
+
+-- the class in an option
+abbrev kind_in : Option Kind → Kind
+kind_in None = kinds.Disk
+kind_in (Some k) = k
+
+-- EBR is asked
+ebr_asked : (o : Option Kind) → Decides (some_and o (λ k. is_kind k kinds.Ebr)) (o ≡ Some kinds.Ebr)
+ebr_asked None = (λ e. no_kind e, λ e. no_kind (ap (λ o. is_some o) e))
+ebr_asked (Some k) = (
+  λ e. ap (λ j. Some j) (ebr_told k e),
+  λ e. (kind_is k kinds.Ebr refl (ebr_told k)).1 (ap (λ o. kind_in o) e),
+)
+
+-- the chain, and all of the taste
+its_chain : (w : World) (s : Taste) → Decides (has_its_chain w s) (HasItsChain w s)
+its_chain w s =
+    under (some_and (class_asked s.asked) (λ k. is_kind k kinds.Ebr)) _ (ebr_asked (class_asked s.asked))
+    (if_there (provider_at w.topology s.provider) _ _ (λ p. one_chain (p.size / p.sector) s.asked s.reads s.chain))
+
+taste : (w : World) (s : Taste) → Decides (is_taste_in_order w s) (IsTasteInOrder w s)
+taste w s =
+    Decides-like _
+    (λ h. record { rank = h.0; reads = h.1.0; chain = h.1.1.0 })
+    (λ h. (h.rank, (h.reads, (h.chain, tt))))
+    (Decides-and _ _
+    (there_and (geom_of_provider w.topology s.provider) _ _ (λ g. Decides-ltb (rank w.topology g.number) taste_limit))
+    (Decides-and _ _ (reads s.asked s.reads) (Decides-and _ _ (its_chain w s) always)))
+
+-- all of EventsHold
+events : (w : World) → Decides (events_hold w) (EventsHold w)
+events w =
+    Decides-like _
+    (λ h. record { living = h.0; read_out = h.1.0; taste = h.1.1.0 })
+    (λ h. (h.living, (h.read_out, (h.taste, tt))))
+    (Decides-and _ _ (each _ _ (λ e. itself (is_some (provider_at w.topology (provider_of_event e)))) w.events)
+    (Decides-and _ _ (both_ways (list_any (λ x. is_taste_root x.owner) w.bios) (some_and w.taste (λ s. is_read_out s.asked)))
+    (Decides-and _ _ (if_there w.taste _ _ (taste w)) always)))
+
+-- Places: each beginning of a sector is an offset
+
+-- a place is inside the provider below
+placed_there : (t : Topology Config) (g : Geom Config) (p : Provider) (spot : Spot) → Decides (is_place_inside t g p spot) (IsPlaceInside t g p spot)
+placed_there t g p spot =
+    there_and (option_and_then (consumer_at t) (component g.config spot.component)) _ _ (λ c.
+    Decides-and _ _ (Decides-eqb c.geom g.number)
+    (there_and (option_and_then (provider_at t) c.provider) _ _ (λ q.
+    Decides-and _ _ (Decides-ltb spot.offset q.size) (Decides-eqb q.sector p.sector))))
+
+-- a sector of a provider begins inside it
+begins_inside : (size sector k : ℕ) → 0 < sector → k < size / sector → k * sector < size
+begins_inside size sector k some lt =
+    let all : suc k * sector ≤ size = (le-div_iff_mul-le {k = sector} {x = suc k} {y = size} some).0 lt in
+    let more : suc k * sector ≡ k * sector + sector = suc-mul k sector in
+    omega arith
+
+-- where there are sectors, their size isn't zero
+some_sector : (size sector k : ℕ) → k < size / sector → 0 < sector
+some_sector size zero k lt = absurd (let no : k < 0 = subst (λ n. k < n) (div-zero size) lt in omega (arith, no))
+some_sector size (suc s) k lt = omega arith
+
+-- what is placed is placed at the beginning of each sector
+all_begin : (t : Topology Config) (g : Geom Config) (p : Provider) → IsPlaced t g p → is_placed t g p ≡ true
+all_begin t g p h =
+    (each _ _ (λ k. there_and (place g.config p.name (k * p.sector)) _ _ (placed_there t g p)) (range_with_len 0 (p.size / p.sector))).1
+    (λ i d lt.
+    let below : i < p.size / p.sector = subst (λ n. i < n) (length-range_with_len 0 (p.size / p.sector)) lt in
+    let it : get_or (range_with_len 0 (p.size / p.sector)) i d ≡ i =
+    get_or-range_with_len 0 (p.size / p.sector) i d below ∙ omega arith in
+    subst (λ k. IsSomeAnd (place g.config p.name (k * p.sector)) (IsPlaceInside t g p)) (sym it)
+    (h (i * p.sector) (begins_inside p.size p.sector i (some_sector p.size p.sector i below) below)))
+
+-- one of two tests
+either : (a b : Bool) → (a ≡ true) ⊎ (b ≡ true) → (a || b) ≡ true
+either true b h = refl
+either false b (inl e) = no_kind e
+either false b (inr e) = e
+
+-- a way down, as a test
+down : (t : Topology Config) (p : Provider) (g : Geom Config) → IsSome (disk_of g.config) ⊎ IsPlaced t g p → (is_some (disk_of g.config) || is_placed t g p) ≡ true
+down t p g (inl e) = either (is_some (disk_of g.config)) (is_placed t g p) (inl e)
+down t p g (inr h) = either (is_some (disk_of g.config)) (is_placed t g p) (inr (all_begin t g p h))
+
+-- one of the ways down, where the provider is open or its geom stands
+leads : (t : Topology Config) (p : Provider) (g : Geom Config) (closed withers : Bool) → ((closed ≡ false) ⊎ (withers ≡ false) → IsSome (disk_of g.config) ⊎ IsPlaced t g p) → ((closed && withers) || (is_some (disk_of g.config) || is_placed t g p)) ≡ true
+leads t p g true true h = refl
+leads t p g false withers h = down t p g (h (inl refl))
+leads t p g true false h = down t p g (h (inr refl))
+
+-- the same where the geom is looked up
+leads_there : (w : World) (p : Provider) (o : Option (Geom Config)) → IsSomeAnd o (λ g. (is_zero (have (granted_in w) w.topology p.number) ≡ false) ⊎ (g.withering ≡ false) → IsSome (disk_of g.config) ⊎ IsPlaced w.topology g p) → some_and o (λ g. (is_zero (have (granted_in w) w.topology p.number) && g.withering) || (is_some (disk_of g.config) || is_placed w.topology g p)) ≡ true
+leads_there w p None h = absurd h
+leads_there w p (Some g) h = leads w.topology p g (is_zero (have (granted_in w) w.topology p.number)) g.withering h
+
+-- each provider's way down
+all_lead : (w : World) (ps : List Provider) → All (LeadsDown w) ps → list_all (leads_down w) ps ≡ true
+all_lead w ps h =
+    list_all-from_AllPass (leads_down w) ps (λ i d lt. let one = h i d lt in leads_there w (get_or ps i d) (geom_at w.topology (get_or ps i d).geom) one)
+
+-- both tests
+and_both : {a b : Bool} → a ≡ true → b ≡ true → (a && b) ≡ true
+and_both {a} {b} e f = (Decides-and a b (itself a) (itself b)).1 (e, f)
+
+-- All of it
+
+pub sound_tested : TestsSound
+unfolding is_sound
+sound_tested w =
+    let d1 = ranks w.topology in
+    let d2 = counts w in
+    let d3 = providers w.topology in
+    let d4 = all_numbers w in
+    let d5 = handles w in
+    let d7 = each (is_bio_in_order w) (IsBioInOrder w) (bio_in_order w) w.bios in
+    let d8 = each (is_family_in_order w) (IsFamilyInOrder w) (family w) w.bios in
+    let d9 = disks w in
+    let d10 = events w in (
+      λ e places.
+          let h1 = and_parts _ _ e in
+          let h2 = and_parts _ _ h1.1 in
+          let h3 = and_parts _ _ h2.1 in
+          let h4 = and_parts _ _ h3.1 in
+          let h5 = and_parts _ _ h4.1 in
+          let h6 = and_parts _ _ h5.1 in
+          let h7 = and_parts _ _ h6.1 in
+          let h8 = and_parts _ _ h7.1 in
+          let h9 = and_parts _ _ h8.1 in
+          let h10 = and_parts _ _ h9.1 in
+          record {
+            ranks = d1.0 h1.0;
+            counts = d2.0 h2.0;
+            providers = d3.0 h3.0;
+            numbers = d4.0 h4.0;
+            handles = d5.0 h5.0;
+            places = places;
+            bios = d7.0 h7.0;
+            families = d8.0 h8.0;
+            disks = d9.0 h9.0;
+            events = d10.0 h10.0;
+          },
+      λ h.
+          and_both (d1.1 h.ranks)
+          (and_both (d2.1 h.counts)
+          (and_both (d3.1 h.providers)
+          (and_both (d4.1 h.numbers)
+          (and_both (d5.1 h.handles)
+          (and_both (all_lead w w.topology.providers h.places)
+          (and_both (d7.1 h.bios)
+          (and_both (d8.1 h.families)
+          (and_both (d9.1 h.disks)
+          (and_both (d10.1 h.events) refl))))))))),
+    )

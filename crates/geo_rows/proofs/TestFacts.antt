@@ -1,0 +1,80 @@
+-- Tests that decide a fact, put together.
+use Rattle.std.specs.Prelude.{ℕ, suc, ◌≤◌, nat_le, Bool, true, false, not, ◌&&◌, ◌||◌, List, [], ◌∷◌, Option, Some, None, IsSomeAnd, IfSome, IsTrue, All, AllPairs, ⊤}
+use Rattle.std.specs.Bool.{Decides}
+use Rattle.std.specs.List.{list_all, AllZip}
+use Rattle.std.proofs.Common.{refl, arith, sym}
+use Rattle.std.proofs.lemmas.Bool.{true≢false, leb-true, le-leb}
+use Rattle.std.proofs.lemmas.Bool.Decides.{Decides-and, Decides-like, Decides-by_and}
+use Rattle.std.proofs.lemmas.List.Kept.{AllPairs-cons}
+use Rattle.geo_rows.specs.WorkedSound.{some_and, none_or, all_pairs}
+use Rattle.geo_rows.specs.WorkedFitting.{all_beside}
+
+-- what always holds
+pub always : Decides true ⊤
+always = (λ e. tt, λ h. refl)
+
+-- a fact that is a test
+pub itself : (b : Bool) → Decides b (IsTrue b)
+itself b = (λ e. e, λ e. e)
+
+-- a number is at most another
+pub at_most : (a b : ℕ) → Decides (nat_le a b) (a ≤ b)
+at_most a b = (leb-true a b, le-leb a b)
+
+-- a fact under a condition
+pub under : {P Q : Type 0} → (a b : Bool) → Decides a P → Decides b Q → Decides (not a || b) (P → Q)
+under true b d k = (λ e p. k.0 e, λ h. k.1 (h (d.0 refl)))
+under false b d k = (λ e p. absurd (true≢false (sym (d.1 p))), λ h. refl)
+
+-- a fact of each item
+pub each : {A : Type 0} → (test : A → Bool) → (P : A → Type 0) → ((x : A) → Decides (test x) (P x)) → (xs : List A) → Decides (list_all test xs) (All P xs)
+each test P one xs = Decides-by_and test P (list_all test) one refl (λ x xs. refl) xs
+
+-- a fact of a value, if there is one
+pub if_there : {A : Type 0} → (o : Option A) → (test : A → Bool) → (P : A → Type 0) → ((x : A) → Decides (test x) (P x)) → Decides (none_or o test) (IfSome o P)
+if_there None test P one = always
+if_there (Some x) test P one = one x
+
+-- there is a value, and a fact of it
+pub there_and : {A : Type 0} → (o : Option A) → (test : A → Bool) → (P : A → Type 0) → ((x : A) → Decides (test x) (P x)) → Decides (some_and o test) (IsSomeAnd o P)
+there_and None test P one = (λ e. absurd (true≢false (sym e)), λ h. absurd h)
+there_and (Some x) test P one = one x
+
+-- a fact of each two items, place by place
+pub beside : {A B : Type 0} → (test : A → B → Bool) → (P : A → B → Type 0) → ((x : A) (y : B) → Decides (test x y) (P x y)) → (xs : List A) (ys : List B) → Decides (all_beside test xs ys) (AllZip P xs ys)
+beside test P one [] [] = always
+beside test P one [] (y ∷ ys) = (λ e. absurd (true≢false (sym e)), λ h. absurd h)
+beside test P one (x ∷ xs) [] = (λ e. absurd (true≢false (sym e)), λ h. absurd h)
+beside test P one (x ∷ xs) (y ∷ ys) = Decides-and (test x y) (all_beside test xs ys) (one x y) (beside test P one xs ys)
+
+-- the first with each later one, and the later ones among themselves
+first_of : {A : Type 0} → (P : A → A → Type 0) (x : A) (xs : List A) → AllPairs P (x ∷ xs) → All (P x) xs
+first_of P x xs h = λ k d lt. h 0 (suc k) d (omega arith) (omega arith)
+
+-- the later ones among themselves
+later_of : {A : Type 0} → (P : A → A → Type 0) (x : A) (xs : List A) → AllPairs P (x ∷ xs) → AllPairs P xs
+later_of P x xs h = λ i j d lt below. h (suc i) (suc j) d (omega arith) (omega arith)
+
+-- a fact of each two items, in order
+pub pairs : {A : Type 0} → (test : A → A → Bool) → (P : A → A → Type 0) → ((x y : A) → Decides (test x y) (P x y)) → (xs : List A) → Decides (all_pairs test xs) (AllPairs P xs)
+pairs test P one [] = (λ e i j d lt below. absurd (omega arith), λ h. refl)
+pairs test P one (x ∷ xs) =
+    Decides-like (list_all (test x) xs && all_pairs test xs)
+    (λ h. AllPairs-cons P x xs h.0 h.1)
+    (λ h. (first_of P x xs h, later_of P x xs h))
+    (Decides-and (list_all (test x) xs) (all_pairs test xs) (each (test x) (P x) (one x) xs) (pairs test P one xs))
+
+-- three facts, and four
+pub three : {A B C : Type 0} → (a b c : Bool) → Decides a A → Decides b B → Decides c C → Decides (a && b && c) (A × B × C)
+three a b c da db dc =
+    Decides-like (a && b && c)
+    (λ h. (h.0.0, h.0.1, h.1))
+    (λ h. ((h.0, h.1), h.2))
+    (Decides-and (a && b) c (Decides-and a b da db) dc)
+
+pub four : {A B C D : Type 0} → (a b c d : Bool) → Decides a A → Decides b B → Decides c C → Decides d D → Decides (a && b && c && d) (A × B × C × D)
+four a b c d da db dc dd =
+    Decides-like (a && b && c && d)
+    (λ h. (h.0.0, h.0.1, h.0.2, h.1))
+    (λ h. ((h.0, h.1, h.2), h.3))
+    (Decides-and (a && b && c) d (three a b c da db dc) dd)

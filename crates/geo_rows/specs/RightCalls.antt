@@ -1,0 +1,48 @@
+-- Calls of a right program.
+use Rattle.std.specs.Prelude.{ℕ, false, true, List, [], ◌∷◌, Some, None, codes}
+use Rattle.geo_model.specs.declared.command.DiskKind.TheVariants.{Shelf}
+use Rattle.geo_model.specs.World.{Plan}
+use Rattle.geo_model.specs.Outside.{ShelfView, SourceView}
+use Rattle.geo_model.specs.Endings.{Call}
+
+-- a disk of the shelf that isn't to stand yet
+abbrev pub later_text : List ℕ
+later_text = codes "disk d 512 later"
+
+abbrev pub later_plan : Plan
+later_plan = record {
+  disks = record { kind = Shelf; name = codes "d"; sector = 512; sectors = 0; later = true } ∷ [];
+  actors = [];
+  commands = [];
+}
+
+-- a shelf that tells nothing, of which nothing is lent and nothing failed
+abbrev pub silent_shelf : ShelfView
+silent_shelf = record {
+  told = None;
+  lent = [];
+  faults = 0;
+  faults_of = λ name. 0;
+  take_faults = λ name. 0;
+  give_faults = λ name. 0;
+}
+
+-- a stream that gave these bytes so far
+abbrev pub stream_before : SourceView
+stream_before = record { given = []; ended = false; left = None; reads = 0; faults = 0 }
+
+abbrev pub stream_after : SourceView
+stream_after = record { given = later_text; ended = true; left = None; reads = 2; faults = 0 }
+
+-- its disk has 1,000 sectors, no step is made, and the report is empty
+abbrev pub quiet_call : Call
+quiet_call = record {
+  words = codes "step" ∷ [];
+  text = later_text;
+  facts = (512, 1000) ∷ [];
+  status = 0;
+  written = [];
+  log = Some [];
+  before = record { source = stream_before; sink = record { taken = []; faults = 0 }; shelf = silent_shelf };
+  after = record { source = stream_after; sink = record { taken = []; faults = 0 }; shelf = silent_shelf };
+}
