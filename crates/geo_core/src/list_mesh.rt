@@ -78,7 +78,13 @@ fn is_printed(kind: Kind) -> bool
 {
     match kind {
         Kind::Dev | Kind::Taste => false,
-        Kind::Disk | Kind::Mbr | Kind::Label | Kind::Concat | Kind::Stripe | Kind::Nop => true,
+        Kind::Disk
+        | Kind::Mbr
+        | Kind::Ebr
+        | Kind::Label
+        | Kind::Concat
+        | Kind::Stripe
+        | Kind::Nop => true,
     }
 }
 

@@ -15,11 +15,13 @@ use Rattle.geo_disk.specs.declared.mem_shelf.Slot.{Slot}
 use Rattle.geo_disk.proofs.NameLemmas.{IsPlace, among-push, among-without, bytes_eq-same, bytes_eq-other, Contains-from_among, named-set_same, named-set_other, named-push_same, named-push_other, same_or_other, set_keeps}
 
 -- under a name that is lent there is nothing
-pub image_lent : (slots : List Slot) (lent : List (List ℕ)) (name : List ℕ) → is_among name lent ≡ true → image_in slots lent name ≡ None
+pub image_lent : (slots : List Slot) (lent : List (List ℕ)) (name : List ℕ) → is_among name lent ≡ true
+    → image_in slots lent name ≡ None
 image_lent slots lent name is = rw is refl
 
 -- under a name that isn't lent there are the bytes of its place
-pub image_there : (slots : List Slot) (lent : List (List ℕ)) (name : List ℕ) (slot : Slot) → is_among name lent ≡ false → slot_of slots name ≡ Some slot → image_in slots lent name ≡ Some slot.bytes
+pub image_there : (slots : List Slot) (lent : List (List ℕ)) (name : List ℕ) (slot : Slot)
+    → is_among name lent ≡ false → slot_of slots name ≡ Some slot → image_in slots lent name ≡ Some slot.bytes
 image_there slots lent name slot here is = rw (here, is) refl
 
 -- a chosen nothing
@@ -28,11 +30,14 @@ neither true = refl
 neither false = refl
 
 -- a name without a place has nothing
-pub image_none : (slots : List Slot) (lent : List (List ℕ)) (name : List ℕ) → slot_of slots name ≡ None → image_in slots lent name ≡ None
+pub image_none : (slots : List Slot) (lent : List (List ℕ)) (name : List ℕ) → slot_of slots name ≡ None
+    → image_in slots lent name ≡ None
 image_none slots lent name none = rw none (neither (is_among name lent))
 
 -- a name whose place and whose lending are as before has what it had
-pub image_same : (slots news : List Slot) (lent after : List (List ℕ)) (name : List ℕ) → is_among name after ≡ is_among name lent → slot_of news name ≡ slot_of slots name → image_in news after name ≡ image_in slots lent name
+pub image_same : (slots news : List Slot) (lent after : List (List ℕ)) (name : List ℕ)
+    → is_among name after ≡ is_among name lent → slot_of news name ≡ slot_of slots name
+    → image_in news after name ≡ image_in slots lent name
 image_same slots news lent after name lent_is slot_is = rw (lent_is, slot_is) refl
 
 -- bytes that a place has aren't none
@@ -41,17 +46,20 @@ has_bytes None is = refl
 has_bytes (Some slot) is = cc
 
 -- a name that is neither lent nor on the shelf has no place
-pub no_slot : (slots : List Slot) (lent : List (List ℕ)) (name : List ℕ) → (Contains lent name → ⊥) → image_in slots lent name ≡ None → slot_of slots name ≡ None
+pub no_slot : (slots : List Slot) (lent : List (List ℕ)) (name : List ℕ) → (Contains lent name → ⊥)
+    → image_in slots lent name ≡ None → slot_of slots name ≡ None
 no_slot slots lent name not_lent none =
     let here : is_among name lent ≡ false = false_from_ne_true (is_among name lent) (λ is. not_lent (Contains-from_among name lent is)) in
     has_bytes (slot_of slots name) (rw here at none)
 
 -- other names aren't lent by a push
-other_lent : (lent : List (List ℕ)) (name other : List ℕ) → other ≢ name → is_among other (lent ++ name ∷ []) ≡ is_among other lent
+other_lent : (lent : List (List ℕ)) (name other : List ℕ) → other ≢ name
+    → is_among other (lent ++ name ∷ []) ≡ is_among other lent
 other_lent lent name other apart = among-push other name lent ∙ rw (bytes_eq-other other name apart) (or-false (is_among other lent))
 
 -- other names stay lent when one is given back
-other_stays : (lent : List (List ℕ)) (name other : List ℕ) → other ≢ name → is_among other (without name lent) ≡ is_among other lent
+other_stays : (lent : List (List ℕ)) (name other : List ℕ) → other ≢ name
+    → is_among other (without name lent) ≡ is_among other lent
 other_stays lent name other apart = among-without other name lent ∙ rw (bytes_eq-other name other (λ e. apart (sym e))) refl
 
 -- a name that was given back isn't lent
@@ -67,7 +75,8 @@ pushed_lent : (lent : List (List ℕ)) (name : List ℕ) → is_among name (lent
 pushed_lent lent name = among-push name name lent ∙ rw (bytes_eq-same name) (or_true (is_among name lent))
 
 -- what a shelf has after a disk was taken out of its place
-pub after_take : (slots : List Slot) (lent : List (List ℕ)) (name : List ℕ) (sector at : ℕ) (slot : Slot) → IsPlace (λ (x : Slot). x.name) name slots at → is_among name lent ≡ false
+pub after_take : (slots : List Slot) (lent : List (List ℕ)) (name : List ℕ) (sector at : ℕ) (slot : Slot)
+    → IsPlace (λ (x : Slot). x.name) name slots at → is_among name lent ≡ false
     → slot_of slots name ≡ Some slot → IsDiskSize sector (length slot.bytes)
     → IsTakenFrom name sector (Some (sectors_of sector slot.bytes)) (image_in slots lent) (image_in (set slots at (emptied_slot name)) (lent ++ name ∷ []))
 after_take slots lent name sector at slot place here is fits = record {
@@ -79,7 +88,9 @@ after_take slots lent name sector at slot place here is fits = record {
 }
 
 -- each lent name has its place after a disk was taken
-pub slots_after_take : (slots : List Slot) (lent : List (List ℕ)) (name : List ℕ) (at : ℕ) → IsPlace (λ (x : Slot). x.name) name slots at → HasSlots lent slots → HasSlots (lent ++ name ∷ []) (set slots at (emptied_slot name))
+pub slots_after_take : (slots : List Slot) (lent : List (List ℕ)) (name : List ℕ) (at : ℕ)
+    → IsPlace (λ (x : Slot). x.name) name slots at → HasSlots lent slots
+    → HasSlots (lent ++ name ∷ []) (set slots at (emptied_slot name))
 slots_after_take slots lent name at place had other among =
     let one : (is_among other lent || bytes_eq other name) ≡ true = sym (among-push other name lent) ∙ among in
     elim (same_or_other other name) [
@@ -89,7 +100,9 @@ slots_after_take slots lent name at place had other among =
     ]
 
 -- what a shelf has after a disk came back
-pub after_give : (slots news : List Slot) (lent : List (List ℕ)) (name : List ℕ) (disk : Memory) → slot_of news name ≡ Some (kept_slot name disk) → ((other : List ℕ) → other ≢ name → slot_of news other ≡ slot_of slots other)
+pub after_give : (slots news : List Slot) (lent : List (List ℕ)) (name : List ℕ) (disk : Memory)
+    → slot_of news name ≡ Some (kept_slot name disk)
+    → ((other : List ℕ) → other ≢ name → slot_of news other ≡ slot_of slots other)
     → IsGivenTo name (Some disk.sectors) (image_in slots lent) (image_in news (without name lent))
 after_give slots news lent name disk here others = record {
   bytes = image_there news (without name lent) name (kept_slot name disk) (given_back lent name) here;
@@ -97,7 +110,8 @@ after_give slots news lent name disk here others = record {
 }
 
 -- each lent name has its place after a disk came back
-pub slots_after_give : (slots news : List Slot) (lent : List (List ℕ)) (name : List ℕ) (slot : Slot) → slot_of news name ≡ Some slot → ((other : List ℕ) → other ≢ name → slot_of news other ≡ slot_of slots other)
+pub slots_after_give : (slots news : List Slot) (lent : List (List ℕ)) (name : List ℕ) (slot : Slot)
+    → slot_of news name ≡ Some slot → ((other : List ℕ) → other ≢ name → slot_of news other ≡ slot_of slots other)
     → HasSlots lent slots → HasSlots (without name lent) news
 slots_after_give slots news lent name slot here others had other among =
     elim (same_or_other other name) [
@@ -106,14 +120,16 @@ slots_after_give slots news lent name slot here others had other among =
     ]
 
 -- what a shelf has after bytes were put under a new name
-pub after_put : (slots : List Slot) (lent : List (List ℕ)) (slot : Slot) → (Contains lent slot.name → ⊥) → image_in slots lent slot.name ≡ None → image_in (slots ++ slot ∷ []) lent slot.name ≡ Some slot.bytes
+pub after_put : (slots : List Slot) (lent : List (List ℕ)) (slot : Slot) → (Contains lent slot.name → ⊥)
+    → image_in slots lent slot.name ≡ None → image_in (slots ++ slot ∷ []) lent slot.name ≡ Some slot.bytes
 after_put slots lent slot not_lent none =
     let here : is_among slot.name lent ≡ false = false_from_ne_true (is_among slot.name lent) (λ is. not_lent (Contains-from_among slot.name lent is)) in
     image_there (slots ++ slot ∷ []) lent slot.name slot here
     (named-push_same (λ (x : Slot). x.name) slot.name slots slot (no_slot slots lent slot.name not_lent none) refl)
 
 -- and the other names have what they had
-pub others_after_put : (slots : List Slot) (lent : List (List ℕ)) (slot : Slot) (other : List ℕ) → other ≢ slot.name → image_in (slots ++ slot ∷ []) lent other ≡ image_in slots lent other
+pub others_after_put : (slots : List Slot) (lent : List (List ℕ)) (slot : Slot) (other : List ℕ) → other ≢ slot.name
+    → image_in (slots ++ slot ∷ []) lent other ≡ image_in slots lent other
 others_after_put slots lent slot other apart =
     image_same slots (slots ++ slot ∷ []) lent lent other refl (named-push_other (λ (x : Slot). x.name) other slots slot apart)
 
@@ -123,7 +139,8 @@ some_sector size zero bytes is some = absurd (omega (arith, zero-mul size))
 some_sector size (suc count) bytes is some = omega arith
 
 -- bytes of a disk's size are a disk of a right size
-pub size_of_disk : (sector : ℕ) (bytes : List ℕ) → 0 < sector → IsDiskSize sector (length bytes) → IsOfSize sector sector (length (sectors_of sector bytes))
+pub size_of_disk : (sector : ℕ) (bytes : List ℕ) → 0 < sector → IsDiskSize sector (length bytes)
+    → IsOfSize sector sector (length (sectors_of sector bytes))
 size_of_disk sector bytes some fits =
     let count : ℕ = length bytes / sector in
     let all : length bytes ≡ count * sector = omega (arith, fits.whole, mul_comm sector (length bytes / sector)) in

@@ -24,7 +24,8 @@ take-cut_into (suc k) zero size bytes inside = absurd (omega arith)
 take-cut_into (suc k) (suc n) size bytes inside = ap (λ rest. take size bytes ∷ rest) (take-cut_into k n size (drop size bytes) (omega arith))
 
 -- the sectors from one on are those of the bytes from its place on
-pub drop-cut_into : (k r n size : ℕ) (bytes : List ℕ) → n ≡ k + r → drop k (cut_into n size bytes) ≡ cut_into r size (drop (k * size) bytes)
+pub drop-cut_into : (k r n size : ℕ) (bytes : List ℕ) → n ≡ k + r
+    → drop k (cut_into n size bytes) ≡ cut_into r size (drop (k * size) bytes)
 drop-cut_into zero r n size bytes split =
     let same : n ≡ r = omega arith in
     rw (zero-mul size, same) refl
@@ -74,7 +75,8 @@ pub sectors_length : (size : ℕ) (bytes : List ℕ) → length (sectors_of size
 sectors_length size bytes = length-cut_into (length bytes / size) size bytes
 
 -- whole sectors inside a disk are bytes inside it
-pub inside_bytes : (size bytes first part : ℕ) → part % size ≡ 0 → 0 < size → first + part / size ≤ bytes / size → first * size + part ≤ bytes
+pub inside_bytes : (size bytes first part : ℕ) → part % size ≡ 0 → 0 < size → first + part / size ≤ bytes / size
+    → first * size + part ≤ bytes
 inside_bytes size bytes first part whole some inside =
     let upper : (first + part / size) * size ≤ bytes / size * size = mul-le-mul_right size inside in
     omega (arith, upper, div-mul-le_self bytes size, add-mul first (part / size) size, mul_comm size (part / size))
@@ -90,7 +92,8 @@ pub written_over-all : (bytes new : List ℕ) → length new ≡ length bytes �
 written_over-all bytes new many = take_at new (drop (length new) bytes) (length bytes) many
 
 -- sectors whose bytes were replaced at a sector's place by those of m sectors
-pub replaced_sectors : (size first m : ℕ) (bytes part : List ℕ) → 0 < size → length bytes % size ≡ 0 → length part ≡ m * size → first + m ≤ length bytes / size
+pub replaced_sectors : (size first m : ℕ) (bytes part : List ℕ) → 0 < size → length bytes % size ≡ 0
+    → length part ≡ m * size → first + m ≤ length bytes / size
     → cut_into (length bytes / size) size (replace_range bytes (first * size) (first * size + m * size) part)
     ≡ with_sectors (sectors_of size bytes) first (cut_into m size part)
 replaced_sectors size first m bytes part some whole many inside =
@@ -110,7 +113,8 @@ replaced_sectors size first m bytes part some whole many inside =
     ∙ ap (λ k. drop (first + k) (sectors_of size bytes)) (sym (length-cut_into m size part)))
 
 -- the sectors after a write
-pub written_sectors : (size first m : ℕ) (bytes part new : List ℕ) → 0 < size → length bytes % size ≡ 0 → length part ≡ m * size → first + m ≤ length bytes / size
+pub written_sectors : (size first m : ℕ) (bytes part new : List ℕ) → 0 < size → length bytes % size ≡ 0
+    → length part ≡ m * size → first + m ≤ length bytes / size
     → new ≡ replace_range bytes (first * size) (first * size + m * size) part
     → sectors_of size (written_over bytes new) ≡ with_sectors (sectors_of size bytes) first (cut_into m size part)
 written_sectors size first m bytes part new some whole many inside is =
@@ -121,7 +125,8 @@ written_sectors size first m bytes part new some whole many inside is =
     ∙ ap (cut_into (length bytes / size) size) is ∙ replaced_sectors size first m bytes part some whole many inside
 
 -- with others in place of as many there are as many sectors
-pub with_sectors_length : (held : List (List ℕ)) (first : ℕ) (news : List (List ℕ)) → first + length news ≤ length held → length (with_sectors held first news) ≡ length held
+pub with_sectors_length : (held : List (List ℕ)) (first : ℕ) (news : List (List ℕ))
+    → first + length news ≤ length held → length (with_sectors held first news) ≡ length held
 with_sectors_length held first news inside = simp (length-append, length-take, length-drop) (omega (arith, inside))
 
 -- the bytes of whole sectors are those that stand at their place
@@ -134,13 +139,15 @@ bytes_between-sectors_of size first count bytes inside =
     ∙ joined-cut_into count size (drop (first * size) bytes)
 
 -- the bytes of so many of the whole sectors are as many as those sectors have
-pub some_sectors : (size count : ℕ) (bytes : List ℕ) → count ≤ length bytes / size → length (take (count * size) bytes) ≡ count * size
+pub some_sectors : (size count : ℕ) (bytes : List ℕ) → count ≤ length bytes / size
+    → length (take (count * size) bytes) ≡ count * size
 some_sectors size count bytes some =
     let upper : count * size ≤ length bytes / size * size = mul-le-mul_right size some in
     length-take-le (count * size) bytes (omega (arith, div-mul-le_self (length bytes) size))
 
 -- the bytes of the sectors of whole sectors are the bytes
-pub joined-sectors_of : (size : ℕ) (bytes : List ℕ) → 0 < size → length bytes % size ≡ 0 → joined_sectors (sectors_of size bytes) ≡ bytes
+pub joined-sectors_of : (size : ℕ) (bytes : List ℕ) → 0 < size → length bytes % size ≡ 0
+    → joined_sectors (sectors_of size bytes) ≡ bytes
 joined-sectors_of size bytes some whole =
     joined-cut_into (length bytes / size) size bytes
     ∙ take_all (length bytes / size * size) bytes (omega (arith, whole, some, mul_comm size (length bytes / size)))

@@ -1,5 +1,6 @@
 -- The meanings of the disk that a drive holds.
 use Rattle.std.specs.Prelude.{◌≡◌, ℕ, List, length, Option, Some, IfSome, refl}
+use Rattle.geo_disk.specs.Memory.{Memory}
 use Rattle.geo_disk.specs.declared.drive.Drive.{Drive}
 use Rattle.geo_disk.specs.declared.drive.Drive.TheVariants.{Ram, Shelved}
 
@@ -28,3 +29,15 @@ pub counted_by : {D : Type 0} (held : D → Option (List (List ℕ))) (sector_co
     → (drive : Drive D) → IfSome (held_by held drive) (λ sectors. length sectors ≡ count_by sector_count drive)
 counted_by held sector_count counted (Ram disk) = refl
 counted_by held sector_count counted (Shelved disk) = counted disk
+
+-- the count of calls
+abbrev pub calls_by : {D : Type 0} → (D → ℕ) → Drive D → ℕ
+calls_by calls (Ram disk) = disk.calls
+calls_by calls (Shelved disk) = calls disk
+
+-- a drive keeps its kind, and where it is in memory, the fact holds of the disk before and after
+abbrev pub IfRam : {D : Type 0} → Drive D → Drive D → (Memory → Memory → Type 0) → Type 0
+IfRam (Ram old) (Ram new) P = P old new
+IfRam (Ram old) (Shelved new) P = ⊥
+IfRam (Shelved old) (Ram new) P = ⊥
+IfRam (Shelved old) (Shelved new) P = Unit {0}

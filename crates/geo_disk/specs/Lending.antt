@@ -1,10 +1,12 @@
--- What is lent, and how often the disks of each name failed.
+-- What is lent, and how often the disks of each name failed, and the takes and gives of it.
 use Rattle.std.specs.Prelude.{◌≡◌, ℕ, List, Option, true, is_some}
 use Rattle.std.specs.Option.{option_map_or}
+use Rattle.geo_disk.specs.Memory.{counted_on}
 use Rattle.geo_disk.specs.Names.{is_among, named}
 use Rattle.geo_disk.specs.declared.lending.Count.{Count}
+use Rattle.geo_disk.specs.declared.lending.Tally.{Tally}
 
--- the names that are lent, in the order in which they were taken, and the counts of faults
+-- the names that are lent, in the order in which they were taken, and the counts of names
 pub record Loans : Type 0 where
   pub lent : List (List ℕ)
   pub counts : List Count
@@ -13,14 +15,41 @@ pub record Loans : Type 0 where
 abbrev pub count_of : List Count → List ℕ → Option Count
 count_of counts name = named (λ c. c.name) name counts
 
--- how often the disks of a name failed: 0 where none was taken
-abbrev pub faults_in : List Count → List ℕ → ℕ
-faults_in counts name = option_map_or (λ c. c.faults) (count_of counts name) 0
+-- nothing failed
+abbrev pub no_faults : Tally
+no_faults = record { faults = 0; take_faults = 0; give_faults = 0 }
+
+-- how often the disks of a name, its takes and its gives failed: 0 where none was taken
+abbrev pub tally_in : List Count → List ℕ → Tally
+tally_in counts name = option_map_or (λ c. c.tally) (count_of counts name) no_faults
 
 -- each name that is lent has a count
 abbrev pub HasCounts : List (List ℕ) → List Count → Type 0
 HasCounts lent counts = (name : List ℕ) → is_among name lent ≡ true → is_some (count_of counts name) ≡ true
 
+-- there is room for the counts of a name
+abbrev pub HasCount : Loans → List ℕ → Type 0
+HasCount loans name = is_some (count_of loans.counts name) ≡ true
+
 -- the counts that the calls know
+abbrev pub tally_of : Loans → List ℕ → Tally
+tally_of loans name = tally_in loans.counts name
+
 abbrev pub faults_of : Loans → List ℕ → ℕ
-faults_of loans name = faults_in loans.counts name
+faults_of loans name = (tally_of loans name).faults
+
+abbrev pub take_faults_of : Loans → List ℕ → ℕ
+take_faults_of loans name = (tally_of loans name).take_faults
+
+abbrev pub give_faults_of : Loans → List ℕ → ℕ
+give_faults_of loans name = (tally_of loans name).give_faults
+
+-- the counts of a name after its disk came back with a count, and after a take or a give of it failed
+abbrev pub with_faults : ℕ → Tally → Tally
+with_faults faults tally = record tally { faults = faults }
+
+abbrev pub take_failed : Tally → Tally
+take_failed tally = record tally { take_faults = counted_on tally.take_faults }
+
+abbrev pub give_failed : Tally → Tally
+give_failed tally = record tally { give_faults = counted_on tally.give_faults }

@@ -1,11 +1,13 @@
 -- What a shelf tells, and what its calls do to it.
-use Rattle.std.specs.Prelude.{◌≡◌, ◌≢◌, ℕ, ◌*◌, ◌^◌, ◌≤◌, List, ◌∷◌, [], ◌++◌, length, Option, Some, None, Result, Ok, Err, IfSome, IsSomeAnd}
+use Rattle.std.specs.Prelude.{◌≡◌, ◌≢◌, ℕ, ◌*◌, ◌^◌, ◌≤◌, List, ◌∷◌, [], ◌++◌, length, Option, Some, None, Result, Ok, Err, IfSome, IsSomeAnd, Bool, true, false, if◌then◌else◌}
 use Rattle.geo_base.specs.Images.{Images, IsDiskSize}
 use Rattle.geo_base.specs.Sectors.{joined_sectors, sectors_of}
 use Rattle.geo_disk.specs.Names.{without}
 use Rattle.geo_disk.specs.declared.shelf.Taken.{Taken}
 use Rattle.geo_disk.specs.declared.shelf.Taken.TheVariants.{Disk, Missing, BadSize}
+use Rattle.geo_disk.specs.Memory.{counted_on}
 use Rattle.geo_disk.specs.declared.shelf.ShelfFault.{ShelfFault}
+use Rattle.geo_disk.specs.declared.shelf.ShelfFault.TheVariants.{Failed, NoMemory}
 
 -- a disk has sectors of the size that was asked for, one or more, and at most 2 ^ 40 bytes
 pub record IsOfSize (sector bytes count : ℕ) : Type 0 where
@@ -87,3 +89,24 @@ lent_without (Err _) name lent = lent
 abbrev pub Counts : {E : Type 0} → Result (Unit {0}) E → List ℕ → ℕ → (List ℕ → ℕ) → (List ℕ → ℕ) → Type 0
 Counts (Ok _) name faults old new = (new name ≡ faults) × ((other : List ℕ) → other ≢ name → new other ≡ old other)
 Counts (Err _) name faults old new = (other : List ℕ) → new other ≡ old other
+
+-- whether the answer of `take` is a failure of the shelf
+abbrev pub is_failure : ShelfFault → Bool
+is_failure Failed = true
+is_failure NoMemory = false
+
+abbrev pub is_failed : {D : Type 0} → Result (Taken D) ShelfFault → Bool
+is_failed (Ok taken) = false
+is_failed (Err fault) = is_failure fault
+
+-- a call of a name counts for it where it failed, and for no other name
+pub record CountsCall (failed : Bool) (name : List ℕ) (old new : List ℕ → ℕ) : Type 0 where
+  pub own : new name ≡ (if failed then counted_on (old name) else old name)
+  pub others : (other : List ℕ) → other ≢ name → new other ≡ old other
+
+-- a fact wherever no disk was taken
+abbrev pub UnlessTaken : {D : Type 0} → Result (Taken D) ShelfFault → Type 0 → Type 0
+UnlessTaken (Ok (Disk d)) P = Unit {0}
+UnlessTaken (Ok Missing) P = P
+UnlessTaken (Ok BadSize) P = P
+UnlessTaken (Err _) P = P

@@ -2,20 +2,28 @@
 ghost use Rattle.std.specs.Prelude.{◌≡◌, ◌≢◌, ℕ, ◌↔◌, [], ◌∷◌, ◌++◌, List, true, Contains, IsTrue, OnErr, OnOk, bytes_eq, is_some};
 ghost use Rattle.std.specs.List.{position};
 ghost use Rattle.geo_disk.specs.Names.{is_among, is_named, without};
-ghost use Rattle.geo_disk.specs.Lending.{count_of, faults_in, faults_of};
+ghost use Rattle.geo_disk.specs.Lending.{HasCount, count_of, faults_of, give_failed, take_failed, tally_in, tally_of, with_faults};
 
 use geo_base::{Name, NoMemory};
 use std::alloc::Global;
 use std::marker::Model;
 
-/// The count of faults of a name.
+/// How often the disks of a name failed, and how often a take and a give of it did.
+#[derive(Clone, Copy)]
+struct Tally {
+    faults: u64,
+    take_faults: u64,
+    give_faults: u64,
+}
+
+/// The counts of a name.
 #[derive(Drop)]
 struct Count {
     name: Name,
-    faults: u64,
+    tally: Tally,
 }
 
-/// The names of a shelf that are lent, and the count of faults of each name. A shelf keeps it beside its disks.
+/// The names of a shelf that are lent, and the counts of each name. A shelf keeps it beside its disks.
 #[derive(Drop)]
 pub struct Lending {
     lent: Vec<Name>,
@@ -46,10 +54,11 @@ fn place_of(counts: &[Count], name: &Name) -> Option<usize>
     counts.iter().position(|count| is_same(name, &count.name))
 }
 
-/// Sees that a name has a count, which is 0 where it had none.
+/// Sees that a name has counts, which are 0 where it had none.
 fn ensure_count(counts: &mut Vec<Count>, name: &Name) -> Result<(), NoMemory>
-    ensures same { (other : List ℕ) → faults_in counts.new.items other ≡ faults_in counts.old.items other }
-    ensures kept { (other : List ℕ) → is_some (count_of counts.old.items other) ≡ true → is_some (count_of counts.new.items other) ≡ true }
+    ensures same { (other : List ℕ) → tally_in counts.new.items other ≡ tally_in counts.old.items other }
+    ensures kept { (other : List ℕ) → is_some (count_of counts.old.items other) ≡ true
+        → is_some (count_of counts.new.items other) ≡ true }
     ensures has { OnOk result (is_some (count_of counts.new.items name.now) ≡ true) }
 {
     match place_of(counts.as_slice(), name) {
@@ -57,25 +66,28 @@ fn ensure_count(counts: &mut Vec<Count>, name: &Name) -> Result<(), NoMemory>
         None => {
             counts.push(Count {
                 name: *name,
-                faults: 0,
+                tally: Tally {
+                    faults: 0,
+                    take_faults: 0,
+                    give_faults: 0,
+                },
             })?;
             Ok(())
         }
     }
 }
 
-/// Sets the count of a name.
-fn set_count(counts: &mut Vec<Count>, name: &Name, faults: u64)
+/// Sets the counts of a name.
+fn set_count(counts: &mut Vec<Count>, name: &Name, tally: Tally)
     requires { is_some (count_of counts.old.items name.now) ≡ true }
-    ensures now { faults_in counts.new.items name.now ≡ faults }
-    ensures others { (other : List ℕ) → other ≢ name.now → faults_in counts.new.items other ≡ faults_in counts.old.items other }
-    ensures kept { (other : List ℕ) → is_some (count_of counts.old.items other) ≡ true → is_some (count_of counts.new.items other) ≡ true }
+    ensures now { tally_in counts.new.items name.now ≡ tally }
+    ensures others { (other : List ℕ) → other ≢ name.now → tally_in counts.new.items other
+        ≡ tally_in counts.old.items other }
+    ensures kept { (other : List ℕ) → is_some (count_of counts.old.items other) ≡ true
+        → is_some (count_of counts.new.items other) ≡ true }
 {
     let at = place_of(counts.as_slice(), name).unwrap();
-    counts[at] = Count {
-        name: *name,
-        faults,
-    };
+    counts[at] = Count { name: *name, tally };
 }
 
 impl Lending {
@@ -97,21 +109,65 @@ impl Lending {
         self.lent.iter().any(|lent| is_same(name, lent))
     }
 
-    /// The count of faults of a name.
+    /// The counts of a name.
+    fn tally_of(&self, name: &Name) -> Tally
+        ensures { result ≡ tally_of self.now name.now }
+    {
+        match place_of(self.counts.as_slice(), name) {
+            Some(at) => self.counts[at].tally,
+            None => Tally {
+                faults: 0,
+                take_faults: 0,
+                give_faults: 0,
+            },
+        }
+    }
+
+    /// The count of faults of the disks of a name.
     pub fn faults_of(&self, name: &Name) -> u64
         ensures { result ≡ faults_of self.now name.now }
     {
-        match place_of(self.counts.as_slice(), name) {
-            Some(at) => self.counts[at].faults,
-            None => 0,
-        }
+        self.tally_of(name).faults
+    }
+
+    /// Makes room for the counts of a name. No count changes.
+    pub fn make_room(&mut self, name: &Name) -> Result<(), NoMemory>
+        ensures lent { self.new.lent ≡ self.old.lent }
+        ensures tallies { (other : List ℕ) → tally_of self.new other ≡ tally_of self.old other }
+        ensures room { OnOk result (HasCount self.new name.now) }
+    {
+        ensure_count(&mut self.counts, name)
+    }
+
+    /// Counts a take of a name that failed. It takes no memory.
+    pub fn count_failed_take(&mut self, name: &Name)
+        requires { HasCount self.old name.now }
+        ensures lent { self.new.lent ≡ self.old.lent }
+        ensures own { tally_of self.new name.now ≡ take_failed (tally_of self.old name.now) }
+        ensures others { (other : List ℕ) → other ≢ name.now → tally_of self.new other ≡ tally_of self.old other }
+    {
+        let mut tally = self.tally_of(name);
+        tally.take_faults = tally.take_faults.saturating_add(1);
+        set_count(&mut self.counts, name, tally);
+    }
+
+    /// Counts a give of a name that failed. It takes no memory.
+    pub fn count_failed_give(&mut self, name: &Name)
+        requires { Contains self.old.lent name.now }
+        ensures lent { self.new.lent ≡ self.old.lent }
+        ensures own { tally_of self.new name.now ≡ give_failed (tally_of self.old name.now) }
+        ensures others { (other : List ℕ) → other ≢ name.now → tally_of self.new other ≡ tally_of self.old other }
+    {
+        let mut tally = self.tally_of(name);
+        tally.give_faults = tally.give_faults.saturating_add(1);
+        set_count(&mut self.counts, name, tally);
     }
 
     /// Lends a name. No count changes.
     pub fn lend(&mut self, name: &Name) -> Result<(), NoMemory>
         ensures ok { OnOk result (self.new.lent ≡ self.old.lent ++ name.now ∷ []) }
         ensures err { OnErr result (self.new.lent ≡ self.old.lent) }
-        ensures counts { (other : List ℕ) → faults_of self.new other ≡ faults_of self.old other }
+        ensures tallies { (other : List ℕ) → tally_of self.new other ≡ tally_of self.old other }
     {
         ensure_count(&mut self.counts, name)?;
         self.lent.push(*name)?;
@@ -122,10 +178,12 @@ impl Lending {
     pub fn give_back(&mut self, name: &Name, faults: u64)
         requires { Contains self.old.lent name.now }
         ensures lent { self.new.lent ≡ without name.now self.old.lent }
-        ensures count { faults_of self.new name.now ≡ faults }
-        ensures others { (other : List ℕ) → other ≢ name.now → faults_of self.new other ≡ faults_of self.old other }
+        ensures own { tally_of self.new name.now ≡ with_faults faults (tally_of self.old name.now) }
+        ensures others { (other : List ℕ) → other ≢ name.now → tally_of self.new other ≡ tally_of self.old other }
     {
-        set_count(&mut self.counts, name, faults);
+        let mut tally = self.tally_of(name);
+        tally.faults = faults;
+        set_count(&mut self.counts, name, tally);
         self.lent.retain(|lent| !is_same(name, lent));
     }
 }

@@ -7,8 +7,6 @@ mod lending;
 mod mem_disk;
 mod mem_shelf;
 mod shelf;
-#[cfg(test)]
-mod tests;
 
 pub use disk::{Disk, DiskFailed};
 pub use drive::Drive;

@@ -188,6 +188,8 @@ impl Disk for MemDisk {
 
     ghost faults = { λ d. d.faults };
 
+    ghost calls = { λ d. d.calls };
+
     fn sector_size(&self) -> u32 {
         self.sector
     }
@@ -215,7 +217,8 @@ impl Disk for MemDisk {
 
     fn write(&mut self, first: u64, bytes: &[u8]) -> Result<(), DiskFailed>
         requires { AreSectors self.old.sector (length self.old.sectors) first (length bytes.now) }
-        ensures memory { let n = done_of result (length bytes.now / self.old.sector) in self.new ≡ called (is_err result) (after_write self.old first n bytes.now) }
+        ensures memory { let n = done_of result (length bytes.now / self.old.sector) in self.new
+            ≡ called (is_err result) (after_write self.old first n bytes.now) }
         ensures count { length self.new.sectors ≡ length self.old.sectors }
         ensures fails { IsErr result ↔ Contains self.old.fails (counted_on self.old.calls) }
         ensures done { IfErr result (λ e. e.done ≡ part_of self.old.part (length bytes.now / self.old.sector)) }

@@ -1,5 +1,5 @@
 //! A shelf in memory.
-ghost use Rattle.std.specs.Prelude.{◌≡◌, ◌≢◌, ℕ, ◌+◌, ◌*◌, ◌≤◌, ◌↔◌, [], ◌∷◌, ◌++◌, List, Some, None, true, Contains, IfErr, IfSome, IsErr, IsErrOf, IsTrue, MatchOption, OnErr, OnOk, ◌<◌, is_some, length, slice_set};
+ghost use Rattle.std.specs.Prelude.{◌≡◌, ◌≢◌, ℕ, ◌+◌, ◌*◌, ◌≤◌, ◌↔◌, [], ◌∷◌, ◌++◌, List, Some, None, true, Contains, IfErr, IfSome, IsErr, IsErrOf, IsTrue, MatchOption, OnErr, OnOk, ◌<◌, is_err, is_some, length, slice_set};
 ghost use Rattle.std.specs.Bool.{OnTrue};
 ghost use Rattle.std.specs.Option.{option_copied};
 ghost use Rattle.std.specs.List.{position};
@@ -7,8 +7,8 @@ ghost use Rattle.geo_base.specs.Faults.{HasCause, Rose};
 ghost use Rattle.geo_base.specs.Sectors.{joined_sectors, IsSectorSize};
 ghost use Rattle.geo_disk.specs.Memory.{AreWhole, counted_on};
 ghost use Rattle.geo_disk.specs.Names.{is_named, without};
-ghost use Rattle.geo_disk.specs.Lending.{faults_of};
-ghost use Rattle.geo_disk.specs.Shelf.{Counts, Gives, IfTaken, IsGivenTo, IsOfSize, Takes, lent_by, lent_without};
+ghost use Rattle.geo_disk.specs.Lending.{faults_of, give_faults_of, take_faults_of, tally_of, with_faults};
+ghost use Rattle.geo_disk.specs.Shelf.{Counts, CountsCall, Gives, IfTaken, IsGivenTo, IsOfSize, Takes, UnlessTaken, is_failed, is_failure, lent_by, lent_without};
 ghost use Rattle.geo_disk.specs.MemShelf.{AreSameCalls, disk_of, emptied_slot, images_of, kept_slot, lent_has_nothing, shelf_called, slot_at, slot_of, with_slot};
 
 use crate::lending::{Lending, is_same};
@@ -88,7 +88,8 @@ fn lend_out(alloc: Global, slots: &mut Vec<Slot>, at: usize, sector: u32, faults
 fn keep(slots: &mut Vec<Slot>, name: &Name, disk: MemDisk)
     requires { is_some (slot_of slots.old.items name.now) ≡ true }
     ensures here { slot_of slots.new.items name.now ≡ Some (kept_slot name.now disk) }
-    ensures others { (other : List ℕ) → other ≢ name.now → slot_of slots.new.items other ≡ slot_of slots.old.items other }
+    ensures others { (other : List ℕ) → other ≢ name.now → slot_of slots.new.items other
+        ≡ slot_of slots.old.items other }
 {
     let at = place_of(slots.as_slice(), name).unwrap();
     let (bytes, fails, calls, part) = disk.into_parts();
@@ -120,9 +121,11 @@ impl MemShelf {
     pub fn put(&mut self, name: &Name, bytes: Block, fails: Calls) -> Result<(), NoMemory>
         requires new { images_of self.old name.now ≡ None }
         requires not_lent { Contains self.old.loans.lent name.now → ⊥ }
-        ensures ok { OnOk result (self.new ≡ with_slot self.old (record { name = name.now; bytes = bytes; fails = fails; calls = 0; part = 0 })) }
+        ensures ok { OnOk result (self.new ≡ with_slot self.old
+            (record { name = name.now; bytes = bytes; fails = fails; calls = 0; part = 0 })) }
         ensures put { OnOk result (images_of self.new name.now ≡ Some bytes) }
-        ensures others { OnOk result ((other : List ℕ) → other ≢ name.now → images_of self.new other ≡ images_of self.old other) }
+        ensures others { OnOk result ((other : List ℕ) → other ≢ name.now → images_of self.new other
+            ≡ images_of self.old other) }
         ensures err { OnErr result (self.new ≡ self.old) }
     {
         self.slots.push(Slot {
@@ -171,17 +174,53 @@ impl MemShelf {
         fails
     }
 
+    /// Counts a take that fails. Where there is no memory for the count of its name, that is the answer.
+    fn fail_take(&mut self, name: &Name) -> ShelfFault
+        ensures rest { self.new ≡ record self.old { loans = self.new.loans } }
+        ensures lent { self.new.loans.lent ≡ self.old.loans.lent }
+        ensures disks { (other : List ℕ) → faults_of self.new.loans other ≡ faults_of self.old.loans other }
+        ensures takes { CountsCall (is_failure result) name.now (take_faults_of self.old.loans)
+            (take_faults_of self.new.loans) }
+        ensures gives { (other : List ℕ) → give_faults_of self.new.loans other ≡ give_faults_of self.old.loans other }
+    {
+        match self.lending.make_room(name) {
+            Ok(()) => {
+                self.lending.count_failed_take(name);
+                ShelfFault::Failed
+            }
+            Err(_) => ShelfFault::NoMemory,
+        }
+    }
+
+    /// Counts a give that fails.
+    fn fail_give(&mut self, name: &Name)
+        requires { Contains self.old.loans.lent name.now }
+        ensures rest { self.new ≡ record self.old { loans = self.new.loans } }
+        ensures lent { self.new.loans.lent ≡ self.old.loans.lent }
+        ensures disks { (other : List ℕ) → faults_of self.new.loans other ≡ faults_of self.old.loans other }
+        ensures takes { (other : List ℕ) → take_faults_of self.new.loans other ≡ take_faults_of self.old.loans other }
+        ensures gives { CountsCall true name.now (give_faults_of self.old.loans) (give_faults_of self.new.loans) }
+    {
+        self.lending.count_failed_give(name);
+    }
+
     /// Takes a disk, where the call doesn't fail.
     fn take_now(&mut self, name: &Name, sector: u32) -> Result<Taken<MemDisk>, ShelfFault>
         requires { IsSectorSize sector }
-        ensures found { Takes (λ d. Some d.sectors) name.now sector result (Some (images_of self.old)) (Some (images_of self.new)) }
+        ensures found { Takes (λ d. Some d.sectors) name.now sector result (Some (images_of self.old)) (Some
+            (images_of self.new)) }
         ensures not_lent { IfTaken result (λ d. Contains self.old.loans.lent name.now → ⊥) }
         ensures size { IfTaken result (λ d. IsOfSize sector d.sector (length d.sectors)) }
         ensures brought { IfTaken result (λ d. d.faults ≡ faults_of self.old.loans name.now) }
         ensures lent { self.new.loans.lent ≡ lent_by result name.now self.old.loans.lent }
-        ensures counts { (other : List ℕ) → faults_of self.new.loans other ≡ faults_of self.old.loans other }
+        ensures counts { (other : List ℕ) → tally_of self.new.loans other ≡ tally_of self.old.loans other }
         ensures not_failed { IsErrOf result ShelfFault.Failed → ⊥ }
-        ensures disk { IfTaken result (λ d. IfSome (slot_of self.old.slots name.now) (λ slot. d ≡ disk_of sector (faults_of self.old.loans name.now) slot)) }
+        ensures disk { IfTaken result (λ d. IfSome (slot_of self.old.slots name.now) (λ slot. d
+            ≡ disk_of sector (faults_of self.old.loans name.now) slot)) }
+        ensures emptied { IfTaken result (λ d. slot_of self.new.slots name.now ≡ Some (emptied_slot name.now)) }
+        ensures others { (other : List ℕ) → other ≢ name.now → slot_of self.new.slots other
+            ≡ slot_of self.old.slots other }
+        ensures slots { UnlessTaken result (self.new.slots ≡ self.old.slots) }
         ensures same { AreSameCalls self.old self.new }
     {
         if self.lending.has(name) {
@@ -205,9 +244,12 @@ impl MemShelf {
         requires { Contains self.old.loans.lent name.now }
         ensures given { IsGivenTo name.now (Some disk.sectors) (images_of self.old) (images_of self.new) }
         ensures lent { self.new.loans.lent ≡ without name.now self.old.loans.lent }
-        ensures count { faults_of self.new.loans name.now ≡ disk.faults }
-        ensures counts { (other : List ℕ) → other ≢ name.now → faults_of self.new.loans other ≡ faults_of self.old.loans other }
+        ensures count { tally_of self.new.loans name.now ≡ with_faults disk.faults (tally_of self.old.loans name.now) }
+        ensures counts { (other : List ℕ) → other ≢ name.now → tally_of self.new.loans other
+            ≡ tally_of self.old.loans other }
         ensures kept { slot_of self.new.slots name.now ≡ Some (kept_slot name.now disk) }
+        ensures others { (other : List ℕ) → other ≢ name.now → slot_of self.new.slots other
+            ≡ slot_of self.old.slots other }
         ensures same { AreSameCalls self.old self.new }
     {
         self.lending.give_back(name, disk.faults());
@@ -226,9 +268,14 @@ impl Shelf for MemShelf {
 
     ghost faults = { λ s. s.faults };
 
+    ghost take_faults = { λ s. take_faults_of s.loans };
+
+    ghost give_faults = { λ s. give_faults_of s.loans };
+
     fn take(&mut self, name: &Name, sector: u32) -> Result<Taken<MemDisk>, ShelfFault>
         requires { IsSectorSize sector }
-        ensures found { Takes (λ d. Some d.sectors) name.now sector result (Some (images_of self.old)) (Some (images_of self.new)) }
+        ensures found { Takes (λ d. Some d.sectors) name.now sector result (Some (images_of self.old)) (Some
+            (images_of self.new)) }
         ensures not_lent { IfTaken result (λ d. Contains self.old.loans.lent name.now → ⊥) }
         ensures size { IfTaken result (λ d. IsOfSize sector d.sector (length d.sectors)) }
         ensures brought { IfTaken result (λ d. d.faults ≡ faults_of self.old.loans name.now) }
@@ -236,33 +283,52 @@ impl Shelf for MemShelf {
         ensures counts { (other : List ℕ) → faults_of self.new.loans other ≡ faults_of self.old.loans other }
         ensures later { self.old.faults ≤ self.new.faults }
         ensures failed { IsErrOf result ShelfFault.Failed → Rose self.old.faults self.new.faults }
+        ensures takes { CountsCall (is_failed result) name.now (take_faults_of self.old.loans)
+            (take_faults_of self.new.loans) }
+        ensures gives { (other : List ℕ) → give_faults_of self.new.loans other ≡ give_faults_of self.old.loans other }
 
-        // It fails exactly where the call's number is in the list; the disk goes on as it came back.
-        ensures fails { IsErrOf result ShelfFault.Failed ↔ Contains self.old.fails (counted_on self.old.calls) }
-        ensures disk { IfTaken result (λ d. IfSome (slot_of self.old.slots name.now) (λ slot. d ≡ disk_of sector (faults_of self.old.loans name.now) slot)) }
+        // It fails exactly where the call's number is in the list, unless there is no memory for the count of the name; the
+        // disk goes on as it came back, and the other places stay.
+        ensures fails { IsErrOf result ShelfFault.Failed → Contains self.old.fails (counted_on self.old.calls) }
+        ensures must_fail { Contains self.old.fails (counted_on self.old.calls) → IsErr result }
+        ensures emptied { IfTaken result (λ d. slot_of self.new.slots name.now ≡ Some (emptied_slot name.now)) }
+        ensures others { (other : List ℕ) → other ≢ name.now → slot_of self.new.slots other
+            ≡ slot_of self.old.slots other }
+        ensures slots { UnlessTaken result (self.new.slots ≡ self.old.slots) }
+        ensures disk { IfTaken result (λ d. IfSome (slot_of self.old.slots name.now) (λ slot. d
+            ≡ disk_of sector (faults_of self.old.loans name.now) slot)) }
         ensures calls { (self.new.fails ≡ self.old.fails) × (self.new.calls ≡ counted_on self.old.calls) }
     {
         if self.next_fails() {
-            return Err(ShelfFault::Failed);
+            return Err(self.fail_take(name));
         }
         self.take_now(name, sector)
     }
 
     fn give(&mut self, name: &Name, disk: MemDisk) -> Result<(), GiveFault<MemDisk>>
         requires { Contains self.old.loans.lent name.now }
-        ensures given { Gives (Some disk.sectors) name.now result (Some (images_of self.old)) (Some (images_of self.new)) }
+        ensures given { Gives (Some disk.sectors) name.now result (Some (images_of self.old)) (Some
+            (images_of self.new)) }
         ensures lent { self.new.loans.lent ≡ lent_without result name.now self.old.loans.lent }
         ensures counts { Counts result name.now disk.faults (faults_of self.old.loans) (faults_of self.new.loans) }
         ensures name { IfErr result (λ e. e.name ≡ name.now) }
         ensures disk { IfErr result (λ e. e.disk ≡ disk) }
         ensures cause { HasCause self.old.faults self.new.faults result }
+        ensures takes { (other : List ℕ) → take_faults_of self.new.loans other ≡ take_faults_of self.old.loans other }
+        ensures gives { CountsCall (is_err result) name.now (give_faults_of self.old.loans)
+            (give_faults_of self.new.loans) }
 
-        // It fails exactly where the call's number is in the list; the name has the disk as it came back.
+        // It fails exactly where the call's number is in the list; the name has the disk as it came back, and the other
+        // places stay.
+        ensures others { (other : List ℕ) → other ≢ name.now → slot_of self.new.slots other
+            ≡ slot_of self.old.slots other }
+        ensures slots { OnErr result (self.new.slots ≡ self.old.slots) }
         ensures fails { IsErr result ↔ Contains self.old.fails (counted_on self.old.calls) }
         ensures kept { OnOk result (slot_of self.new.slots name.now ≡ Some (kept_slot name.now disk)) }
         ensures calls { (self.new.fails ≡ self.old.fails) × (self.new.calls ≡ counted_on self.old.calls) }
     {
         if self.next_fails() {
+            self.fail_give(name);
             return Err(GiveFault { name: *name, disk });
         }
         self.give_now(name, disk);

@@ -1,9 +1,9 @@
 //! Where disks are taken from and given back.
-ghost use Rattle.std.specs.Prelude.{◌≡◌, ℕ, ◌≤◌, ◌<◌, ◌↔◌, List, Option, Contains, IfErr, IfSome, IsErrOf, IsTrue, None};
+ghost use Rattle.std.specs.Prelude.{◌≡◌, ℕ, ◌≤◌, ◌<◌, ◌↔◌, List, Option, Contains, IfErr, IfSome, IsErrOf, IsTrue, None, is_err};
 ghost use Rattle.geo_base.specs.Faults.{HasCause, Rose};
 ghost use Rattle.geo_base.specs.Images.{Images, IsDiskSize};
 ghost use Rattle.geo_base.specs.Sectors.{IsSectorSize};
-ghost use Rattle.geo_disk.specs.Shelf.{Counts, Gives, IfTaken, IsOfSize, Takes, lent_by, lent_without};
+ghost use Rattle.geo_disk.specs.Shelf.{Counts, CountsCall, Gives, IfTaken, IsOfSize, Takes, is_failed, lent_by, lent_without};
 
 use crate::disk::Disk;
 use geo_base::Name;
@@ -64,6 +64,11 @@ pub trait Shelf {
     /// How many calls of the shelf failed.
     ghost faults: { Self → ℕ };
 
+    /// How many takes of each name failed, and how many gives.
+    ghost take_faults: { Self → List ℕ → ℕ };
+
+    ghost give_faults: { Self → List ℕ → ℕ };
+
     /// Takes the disk of a name, to be used in sectors of this size.
     fn take(&mut self, name: &Name, sector: u32) -> Result<Taken<Self::D>, ShelfFault>
         requires { IsSectorSize sector }
@@ -74,7 +79,9 @@ pub trait Shelf {
         ensures lent { lent self.new ≡ lent_by result name.now (lent self.old) }
         ensures counts { (other : List ℕ) → faults_of self.new other ≡ faults_of self.old other }
         ensures later { faults self.old ≤ faults self.new }
-        ensures failed { IsErrOf result ShelfFault.Failed → Rose (faults self.old) (faults self.new) };
+        ensures failed { IsErrOf result ShelfFault.Failed → Rose (faults self.old) (faults self.new) }
+        ensures takes { CountsCall (is_failed result) name.now (take_faults self.old) (take_faults self.new) }
+        ensures gives { (other : List ℕ) → give_faults self.new other ≡ give_faults self.old other };
 
     /// Gives back the disk that was taken under a name. After a fault it is still lent.
     fn give(&mut self, name: &Name, disk: Self::D) -> Result<(), GiveFault<Self::D>>
@@ -85,7 +92,9 @@ pub trait Shelf {
         ensures counts { Counts result name.now (Self.D.faults disk) (faults_of self.old) (faults_of self.new) }
         ensures name { IfErr result (λ e. e.name ≡ name.now) }
         ensures disk { IfErr result (λ e. e.disk ≡ disk) }
-        ensures cause { HasCause (faults self.old) (faults self.new) result };
+        ensures cause { HasCause (faults self.old) (faults self.new) result }
+        ensures takes { (other : List ℕ) → take_faults self.new other ≡ take_faults self.old other }
+        ensures gives { CountsCall (is_err result) name.now (give_faults self.old) (give_faults self.new) };
 
     /// Under a name that is lent the shelf has nothing.
     ghost lent_is_missing: { (shelf : Self) (name : List ℕ) → Contains (lent shelf) name → IfSome (told shelf) (λ images. images name ≡ None) };

@@ -2,10 +2,11 @@
 use Rattle.std.specs.Prelude.{ℕ, ◌*◌, ◌^◌, ◌<◌, ◌≤◌, List, Contains}
 use Rattle.geo_disk.specs.Lending.{Loans}
 
--- an image file that is open: its sector size, how many sectors it has, and how many calls failed
+-- an image file that is open: its sector size, how many sectors it has, how many calls it had, and how many failed
 pub record Image : Type 0 where
   pub sector : ℕ
   pub sectors : ℕ
+  pub calls : ℕ
   pub faults : ℕ
 
 -- a sector has bytes, and the places of all of them are far below the end of an offset

@@ -19,6 +19,7 @@ pub struct FileDisk {
     file: File,
     sector: u32,
     sectors: u64,
+    calls: u64,
     faults: u64,
 }
 
@@ -27,7 +28,7 @@ impl Model for FileDisk {
 
     ghost Value = { Image };
 
-    ghost view = { λ d. record { sector = d.sector; sectors = d.sectors; faults = d.faults } };
+    ghost view = { λ d. record { sector = d.sector; sectors = d.sectors; calls = d.calls; faults = d.faults } };
 
     ghost invariant = { λ d. IsReachable d.sector d.sectors };
 }
@@ -36,12 +37,13 @@ impl FileDisk {
     /// The disk of an open file, of this many sectors, that failed so often before.
     pub fn new(file: File, sector: u32, sectors: u64, faults: u64) -> FileDisk
         requires { IsReachable sector sectors }
-        ensures { result ≡ record { sector = sector; sectors = sectors; faults = faults } }
+        ensures { result ≡ record { sector = sector; sectors = sectors; calls = 0; faults = faults } }
     {
         FileDisk {
             file,
             sector,
             sectors,
+            calls: 0,
             faults,
         }
     }
@@ -53,8 +55,8 @@ impl FileDisk {
         self.faults
     }
 
-    /// Has the system keep what was written.
-    pub fn sync(&self) -> io::Result<()> {
+    /// Has the system keep what was written. A failure is one of the shelf that asks for it, which counts it.
+    pub(crate) fn sync(&self) -> io::Result<()> {
         self.file.sync_all()
     }
 
@@ -112,6 +114,8 @@ impl Disk for FileDisk {
 
     ghost faults = { λ d. d.faults };
 
+    ghost calls = { λ d. d.calls };
+
     fn sector_size(&self) -> u32 {
         self.sector
     }
@@ -121,6 +125,7 @@ impl Disk for FileDisk {
     }
 
     fn read(&mut self, first: u64, out: &mut [u8]) -> Result<(), DiskFailed> {
+        self.calls = self.calls.saturating_add(1);
         let at = first * u64::from(self.sector);
         match self.file.read_exact_at(out, at) {
             Ok(()) => Ok(()),
@@ -130,6 +135,7 @@ impl Disk for FileDisk {
 
     /// A write of nothing is a failure.
     fn write(&mut self, first: u64, bytes: &[u8]) -> Result<(), DiskFailed> {
+        self.calls = self.calls.saturating_add(1);
         let sector = u64::from(self.sector);
         let done = write_bytes(&self.file, first * sector, bytes);
         if done < bytes.len() {
@@ -139,6 +145,7 @@ impl Disk for FileDisk {
     }
 
     fn zero(&mut self, first: u64, count: u64) -> Result<(), DiskFailed> {
+        self.calls = self.calls.saturating_add(1);
         let sector = u64::from(self.sector);
         let size = count * sector;
         let done = write_zeros(&self.file, first * sector, size);
@@ -149,6 +156,7 @@ impl Disk for FileDisk {
     }
 
     fn flush(&mut self) -> Result<(), DiskFailed> {
+        self.calls = self.calls.saturating_add(1);
         match self.file.sync_data() {
             Ok(()) => Ok(()),
             Err(_) => self.failed_after(0),

@@ -1,7 +1,8 @@
 //! A folder of image files as a shelf.
-ghost use Rattle.std.specs.Prelude.{◌≡◌, ℕ, ◌<◌, ◌≤◌, ◌↔◌, [], None, List, Contains, IfOk, IsTrue};
-ghost use Rattle.geo_base.specs.Faults.{Rose};
-ghost use Rattle.geo_disk.specs.Lending.{faults_of};
+ghost use Rattle.std.specs.Prelude.{◌≡◌, ℕ, ◌<◌, ◌≤◌, ◌↔◌, [], None, List, Contains, IfOk, IsTrue, is_err};
+ghost use Rattle.geo_base.specs.Faults.{HasCause, Rose};
+ghost use Rattle.geo_disk.specs.Lending.{faults_of, give_faults_of, take_faults_of};
+ghost use Rattle.geo_disk.specs.Shelf.{CountsCall, is_failure};
 ghost use Rattle.geo_file.specs.Files.{tells_nothing};
 
 use crate::file_disk::FileDisk;
@@ -47,13 +48,42 @@ impl<R: Files<File = File> + Drop> FileShelf<R> {
         })
     }
 
-    /// Counts a failure.
-    fn failed(&mut self)
-        ensures loans { self.new.loans ≡ self.old.loans }
+    /// Counts a take that failed. Where there is no memory for the count of its name, that is the answer.
+    fn fail_take(&mut self, name: &Name) -> ShelfFault
+        ensures lent { self.new.loans.lent ≡ self.old.loans.lent }
+        ensures disks { (other : List ℕ) → faults_of self.new.loans other ≡ faults_of self.old.loans other }
+        ensures takes { CountsCall (is_failure result) name.now (take_faults_of self.old.loans)
+            (take_faults_of self.new.loans) }
+        ensures gives { (other : List ℕ) → give_faults_of self.new.loans other ≡ give_faults_of self.old.loans other }
         ensures later { self.old.faults ≤ self.new.faults }
-        ensures rose { Rose self.old.faults self.new.faults }
+        ensures rose { result ≡ ShelfFault.Failed → Rose self.old.faults self.new.faults }
     {
-        self.faults = self.faults.saturating_add(1);
+        match self.lending.make_room(name) {
+            Ok(()) => {
+                self.lending.count_failed_take(name);
+                self.faults = self.faults.saturating_add(1);
+                ShelfFault::Failed
+            }
+            Err(_) => ShelfFault::NoMemory,
+        }
+    }
+
+    /// Has the system keep what was written to the disk of a name. Where it doesn't, a give of the name failed.
+    fn sync(&mut self, name: &Name, disk: &FileDisk) -> Result<(), ShelfFault>
+        requires { Contains self.old.loans.lent name.now }
+        ensures lent { self.new.loans.lent ≡ self.old.loans.lent }
+        ensures disks { (other : List ℕ) → faults_of self.new.loans other ≡ faults_of self.old.loans other }
+        ensures takes { (other : List ℕ) → take_faults_of self.new.loans other ≡ take_faults_of self.old.loans other }
+        ensures gives { CountsCall (is_err result) name.now (give_faults_of self.old.loans)
+            (give_faults_of self.new.loans) }
+        ensures cause { HasCause self.old.faults self.new.faults result }
+    {
+        if disk.sync().is_err() {
+            self.lending.count_failed_give(name);
+            self.faults = self.faults.saturating_add(1);
+            return Err(ShelfFault::Failed);
+        }
+        Ok(())
     }
 
     /// Opens the file of a name, and says how long it is. None where there is no such file.
@@ -97,6 +127,10 @@ impl<R: Files<File = File> + Drop> Shelf for FileShelf<R> {
 
     ghost faults = { λ s. s.faults };
 
+    ghost take_faults = { λ s. take_faults_of s.loans };
+
+    ghost give_faults = { λ s. give_faults_of s.loans };
+
     fn take(&mut self, name: &Name, sector: u32) -> Result<Taken<FileDisk>, ShelfFault> {
         if self.lending.has(name) || has_slash(name) {
             return Ok(Taken::Missing);
@@ -107,10 +141,7 @@ impl<R: Files<File = File> + Drop> Shelf for FileShelf<R> {
         let (file, size) = match self.open(path.as_str()) {
             Ok(Some(found)) => found,
             Ok(None) => return Ok(Taken::Missing),
-            Err(_) => {
-                self.failed();
-                return Err(ShelfFault::Failed);
-            }
+            Err(_) => return Err(self.fail_take(name)),
         };
         if !is_disk_size(size, sector) {
             return Ok(Taken::BadSize);
@@ -124,8 +155,7 @@ impl<R: Files<File = File> + Drop> Shelf for FileShelf<R> {
     }
 
     fn give(&mut self, name: &Name, disk: FileDisk) -> Result<(), GiveFault<FileDisk>> {
-        if disk.sync().is_err() {
-            self.failed();
+        if self.sync(name, &disk).is_err() {
             return Err(GiveFault { name: *name, disk });
         }
         self.lending.give_back(name, disk.faults());

@@ -3,8 +3,6 @@
 
 mod file_disk;
 mod file_shelf;
-#[cfg(test)]
-mod tests;
 
 pub use file_disk::FileDisk;
 pub use file_shelf::FileShelf;

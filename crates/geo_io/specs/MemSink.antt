@@ -1,8 +1,10 @@
 -- A sink in memory.
-use Rattle.std.specs.Prelude.{ℕ, ◌-◌, min, List, ◌++◌, length}
+use Rattle.std.specs.Prelude.{ℕ, ◌-◌, min, List, ◌++◌, length, Some}
 use Rattle.geo_io.specs.Counts.{raised}
+use Rattle.geo_io.specs.Sink.{Basin}
 
--- the bytes written, how many it can hold, how many a call takes at most, the numbers of the calls that fail, and the calls and faults so far
+-- the bytes written, how many it can hold, how many a call takes at most, the numbers of the calls that fail, and the calls
+-- and faults so far
 pub record Store : Type 0 where
   pub written : List ℕ
   pub room : ℕ
@@ -10,6 +12,10 @@ pub record Store : Type 0 where
   pub fails : List ℕ
   pub calls : ℕ
   pub faults : ℕ
+
+-- a sink in memory holds what it took
+abbrev pub basin_of : Store → Basin
+basin_of s = record { taken = s.written; held = Some s.written }
 
 -- how many of so many bytes a call takes
 abbrev pub stored_count : Store → ℕ → ℕ

@@ -1,14 +1,22 @@
 -- A source in memory.
-use Rattle.std.specs.Prelude.{ℕ, min, List, length, drop}
+use Rattle.std.specs.Prelude.{ℕ, ◌==◌, min, Bool, List, ◌++◌, length, take, drop, Some}
 use Rattle.geo_io.specs.Counts.{raised}
+use Rattle.geo_io.specs.Source.{Stream}
 
--- the bytes left, how many a call gives at most, the numbers of the calls that fail, and the calls and faults so far
+-- the bytes given and those left, whether a read found the end, how many a call gives at most, the numbers of the calls
+-- that fail, and the calls and faults so far
 pub record Feed : Type 0 where
+  pub given : List ℕ
+  pub ended : Bool
   pub left : List ℕ
   pub piece : ℕ
   pub fails : List ℕ
   pub calls : ℕ
   pub faults : ℕ
+
+-- a source in memory tells what is left
+abbrev pub stream_of : Feed → Stream
+stream_of f = record { given = f.given; ended = f.ended; left = Some f.left }
 
 -- how many bytes a call with so much room gives
 abbrev pub fed_count : Feed → ℕ → ℕ
@@ -16,7 +24,8 @@ fed_count f room = min (min (length f.left) room) f.piece
 
 -- after a call that gave so many bytes
 abbrev pub after_read : Feed → ℕ → Feed
-after_read f n = record f { left = drop n f.left; calls = raised f.calls }
+after_read f n =
+    record f { given = f.given ++ take n f.left; ended = n == 0; left = drop n f.left; calls = raised f.calls }
 
 -- after a call that failed
 abbrev pub after_failed_read : Feed → Feed

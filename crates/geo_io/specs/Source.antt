@@ -1,5 +1,12 @@
--- What is left in a source, where it tells it.
-use Rattle.std.specs.Prelude.{◌≡◌, ℕ, ◌<◌, ◌≤◌, List, [], ◌++◌, length, Option, Some, None}
+-- A source as its calls show it: what it gave, and what is left in it where it tells that.
+use Rattle.std.specs.Prelude.{◌≡◌, ℕ, ◌<◌, ◌≤◌, Bool, IsTrue, List, [], ◌++◌, length, Option, Some, None}
+
+-- what its reads gave so far in order, whether the last one that didn't fail found the end, and the bytes left where it
+-- tells them
+pub record Stream : Type 0 where
+  pub given : List ℕ
+  pub ended : Bool
+  pub left : Option (List ℕ)
 
 -- these bytes were taken from the front; a source that doesn't tell what is left goes on not telling
 abbrev pub Goes : Option (List ℕ) → List ℕ → Option (List ℕ) → Type 0
@@ -7,6 +14,11 @@ Goes None bytes None = Unit {0}
 Goes None bytes (Some new) = ⊥
 Goes (Some old) bytes None = ⊥
 Goes (Some old) bytes (Some new) = old ≡ bytes ++ new
+
+-- these bytes were given, and taken from the front of what was left
+pub record Gives (old : Stream) (bytes : List ℕ) (new : Stream) : Type 0 where
+  pub given : new.given ≡ old.given ++ bytes
+  pub goes : Goes old.left bytes new.left
 
 -- nothing is left
 abbrev pub IsEnd : Option (List ℕ) → Type 0
@@ -18,14 +30,19 @@ abbrev pub IsMore : Option (List ℕ) → Type 0
 IsMore None = Unit {0}
 IsMore (Some left) = 0 < length left
 
--- so many bytes were taken from the front
-pub record Takes (old : Option (List ℕ)) (count : ℕ) (new : Option (List ℕ)) : Type 0 where
+-- its end was found, and nothing is left
+pub record IsAtEnd (stream : Stream) : Type 0 where
+  pub ended : IsTrue stream.ended
+  pub none_left : IsEnd stream.left
+
+-- so many bytes were given
+pub record GivesMany (old : Stream) (count : ℕ) (new : Stream) : Type 0 where
   pub bytes : List ℕ
   pub many : length bytes ≡ count
-  pub goes : Goes old bytes new
+  pub gives : Gives old bytes new
 
--- at most so many bytes were taken from the front
-pub record TakesAtMost (old : Option (List ℕ)) (limit : ℕ) (new : Option (List ℕ)) : Type 0 where
+-- at most so many bytes were given
+pub record GivesAtMost (old : Stream) (limit : ℕ) (new : Stream) : Type 0 where
   pub bytes : List ℕ
   pub few : length bytes ≤ limit
-  pub goes : Goes old bytes new
+  pub gives : Gives old bytes new

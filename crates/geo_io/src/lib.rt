@@ -3,13 +3,12 @@
 
 mod mem_sink;
 mod mem_source;
+mod passed;
 mod reading;
 mod sink;
 mod source;
 mod std_sink;
 mod std_source;
-#[cfg(test)]
-mod tests;
 mod writing;
 
 pub use mem_sink::MemSink;

@@ -1,8 +1,9 @@
 //! A sink in memory.
-ghost use Rattle.std.specs.Prelude.{◌≡◌, ◌≤◌, ◌<◌, ◌↔◌, ◌⊎◌, ◌++◌, [], Some, Contains, IsErr, IfOk, OnErr, length, take};
+ghost use Rattle.std.specs.Prelude.{◌≡◌, ◌≤◌, ◌<◌, ◌↔◌, ◌⊎◌, ◌++◌, [], Contains, IsErr, IfOk, OnErr, length, take};
 ghost use Rattle.geo_base.specs.Faults.{HasCause};
 ghost use Rattle.geo_io.specs.Counts.{raised};
-ghost use Rattle.geo_io.specs.MemSink.{stored_count, after_write, after_failed_write};
+ghost use Rattle.geo_io.specs.MemSink.{basin_of, stored_count, after_write, after_failed_write};
+ghost use Rattle.geo_io.specs.Sink.{Takes};
 
 use crate::sink::Sink;
 use crate::source::Failed;
@@ -37,7 +38,8 @@ impl MemSink {
     /// `fails` fail, and so does each when the room is used up.
     pub fn new(alloc: Global, room: u32, piece: u32, fails: Calls) -> Result<MemSink, NoMemory>
         requires { 0 < piece }
-        ensures { IfOk result (λ sink. sink ≡ record { written = []; room = room; piece = piece; fails = fails; calls = 0; faults = 0 }) }
+        ensures { IfOk result (λ sink. sink
+            ≡ record { written = []; room = room; piece = piece; fails = fails; calls = 0; faults = 0 }) }
     {
         Ok(MemSink {
             bytes: Vec::with_capacity(alloc, room as usize)?,
@@ -58,7 +60,7 @@ impl MemSink {
 }
 
 impl Sink for MemSink {
-    ghost written = { λ s. Some s.written };
+    ghost basin = { basin_of };
 
     ghost faults = { λ s. s.faults };
 
@@ -66,13 +68,15 @@ impl Sink for MemSink {
         requires { 0 < length bytes.now }
         ensures some { IfOk result (λ n. 1 ≤ n) }
         ensures bound { IfOk result (λ n. n ≤ length bytes.now) }
-        ensures bytes { IfOk result (λ n. self.new.written ≡ self.old.written ++ take n bytes.now) }
-        ensures err { OnErr result (Some self.new.written ≡ Some self.old.written) }
+        ensures bytes { IfOk result (λ n. Takes (basin_of self.old) (take n bytes.now) (basin_of self.new)) }
+        ensures err { OnErr result (basin_of self.new ≡ basin_of self.old) }
         ensures cause { HasCause self.old.faults self.new.faults result }
 
         // It fails exactly where the call's number is in the list or the room is used up, and else takes as much as fits.
-        ensures fails { IsErr result ↔ (Contains self.old.fails (raised self.old.calls) ⊎ (length self.old.written ≡ self.old.room)) }
-        ensures stored { IfOk result (λ n. (n ≡ stored_count self.old (length bytes.now)) × (self.new ≡ after_write self.old (take n bytes.now))) }
+        ensures fails { IsErr result ↔ (Contains self.old.fails (raised self.old.calls) ⊎ (length self.old.written
+            ≡ self.old.room)) }
+        ensures stored { IfOk result (λ n. (n ≡ stored_count self.old (length bytes.now)) × (self.new
+            ≡ after_write self.old (take n bytes.now))) }
         ensures failed { OnErr result (self.new ≡ after_failed_write self.old) }
     {
         self.calls = self.calls.saturating_add(1);

@@ -1,9 +1,9 @@
 //! A source in memory.
-ghost use Rattle.std.specs.Prelude.{◌≡◌, ◌+◌, ◌≤◌, ◌<◌, ◌↔◌, ◌++◌, [], Some, Contains, IsErr, IfOk, OnErr, length, take, drop};
+ghost use Rattle.std.specs.Prelude.{◌≡◌, ◌+◌, ◌≤◌, ◌<◌, ◌==◌, ◌↔◌, ◌++◌, [], false, Contains, IsErr, IfOk, OnErr, length, take, drop};
 ghost use Rattle.geo_base.specs.Faults.{HasCause};
 ghost use Rattle.geo_io.specs.Counts.{CountsOnce, raised};
-ghost use Rattle.geo_io.specs.Source.{Goes, IsEnd, IsMore};
-ghost use Rattle.geo_io.specs.MemSource.{fed_count, after_read, after_failed_read};
+ghost use Rattle.geo_io.specs.Source.{Gives};
+ghost use Rattle.geo_io.specs.MemSource.{stream_of, fed_count, after_read, after_failed_read};
 
 use crate::source::{Failed, Source};
 use geo_base::{Block, Calls};
@@ -14,6 +14,7 @@ use std::marker::Model;
 pub struct MemSource {
     bytes: Block,
     at: usize,
+    ended: bool,
     piece: u32,
     fails: Calls,
     calls: u64,
@@ -21,12 +22,20 @@ pub struct MemSource {
 }
 
 impl Model for MemSource {
-    ghost use Rattle.std.specs.Prelude.{◌≤◌, ◌<◌, length, drop};
+    ghost use Rattle.std.specs.Prelude.{◌≤◌, ◌<◌, length, take, drop};
     ghost use Rattle.geo_io.specs.MemSource.{Feed};
 
     ghost Value = { Feed };
 
-    ghost view = { λ s. record { left = drop s.at s.bytes; piece = s.piece; fails = s.fails; calls = s.calls; faults = s.faults } };
+    ghost view = { λ s. record {
+      given = take s.at s.bytes;
+      ended = s.ended;
+      left = drop s.at s.bytes;
+      piece = s.piece;
+      fails = s.fails;
+      calls = s.calls;
+      faults = s.faults;
+    } };
 
     ghost invariant = { λ s. (s.at ≤ length s.bytes) × (0 < s.piece) };
 }
@@ -35,11 +44,20 @@ impl MemSource {
     /// A source of these bytes, which gives at most `piece` at a call. Its calls are counted from 1; those in `fails` fail.
     pub fn new(bytes: Block, piece: u32, fails: Calls) -> MemSource
         requires { 0 < piece }
-        ensures { result ≡ record { left = bytes; piece = piece; fails = fails; calls = 0; faults = 0 } }
+        ensures { result ≡ record {
+          given = [];
+          ended = false;
+          left = bytes;
+          piece = piece;
+          fails = fails;
+          calls = 0;
+          faults = 0;
+        } }
     {
         MemSource {
             bytes,
             at: 0,
+            ended: false,
             piece,
             fails,
             calls: 0,
@@ -49,7 +67,7 @@ impl MemSource {
 }
 
 impl Source for MemSource {
-    ghost left = { λ s. Some s.left };
+    ghost stream = { stream_of };
 
     ghost faults = { λ s. s.faults };
 
@@ -58,16 +76,18 @@ impl Source for MemSource {
     fn read(&mut self, out: &mut [u8]) -> Result<usize, Failed>
         requires { 0 < length out.old }
         ensures bound { IfOk result (λ n. n ≤ length out.new) }
-        ensures bytes { IfOk result (λ n. self.old.left ≡ take n out.new ++ self.new.left) }
+        ensures bytes { IfOk result (λ n. Gives (stream_of self.old) (take n out.new) (stream_of self.new)) }
         ensures end { IfOk result (λ n. n ≡ 0 → self.old.left ≡ []) }
         ensures more { IfOk result (λ n. 0 < n → 0 < length self.old.left) }
-        ensures err { OnErr result (Some self.new.left ≡ Some self.old.left) }
+        ensures ended { IfOk result (λ n. self.new.ended ≡ (n == 0)) }
+        ensures err { OnErr result (stream_of self.new ≡ stream_of self.old) }
         ensures cause { HasCause self.old.faults self.new.faults result }
         ensures once { CountsOnce self.old.calls self.new.calls }
 
         // It fails exactly where the call's number is in the list, and else gives as much as there is room for.
         ensures fails { IsErr result ↔ Contains self.old.fails (raised self.old.calls) }
-        ensures fed { IfOk result (λ n. (n ≡ fed_count self.old (length out.old)) × (self.new ≡ after_read self.old n)) }
+        ensures count { IfOk result (λ n. n ≡ fed_count self.old (length out.old)) }
+        ensures fed { IfOk result (λ n. self.new ≡ after_read self.old n) }
         ensures rest { IfOk result (λ n. drop n out.new ≡ drop n out.old) }
         ensures failed { OnErr result (self.new ≡ after_failed_read self.old) }
         ensures kept { OnErr result (out.new ≡ out.old) }
@@ -81,6 +101,7 @@ impl Source for MemSource {
         let count = left.len().min(out.len()).min(self.piece as usize);
         out[..count].copy_from_slice(&left[..count]);
         self.at += count;
+        self.ended = count == 0;
         Ok(count)
     }
 }

@@ -1,14 +1,14 @@
 //! What bytes go to.
-ghost use Rattle.std.specs.Prelude.{◌≡◌, ℕ, ◌≤◌, ◌<◌, List, Option, length, take, IfOk, OnErr};
+ghost use Rattle.std.specs.Prelude.{◌≡◌, ℕ, ◌≤◌, ◌<◌, length, take, IfOk, OnErr};
 ghost use Rattle.geo_base.specs.Faults.{HasCause};
-ghost use Rattle.geo_io.specs.Sink.{Grows};
+ghost use Rattle.geo_io.specs.Sink.{Basin, Takes};
 
 use crate::source::Failed;
 
 /// What bytes go to, as a file or a stream.
 pub trait Sink {
-    /// The bytes written, where the sink tells them.
-    ghost written: { Self → Option (List ℕ) };
+    /// What its writes took so far, and the bytes that it holds, where the sink tells them.
+    ghost basin: { Self → Basin };
 
     /// How often it failed.
     ghost faults: { Self → ℕ };
@@ -19,7 +19,7 @@ pub trait Sink {
         requires { 0 < length bytes.now }
         ensures some { IfOk result (λ n. 1 ≤ n) }
         ensures bound { IfOk result (λ n. n ≤ length bytes.now) }
-        ensures bytes { IfOk result (λ n. Grows (written self.old) (take n bytes.now) (written self.new)) }
-        ensures err { OnErr result (written self.new ≡ written self.old) }
+        ensures bytes { IfOk result (λ n. Takes (basin self.old) (take n bytes.now) (basin self.new)) }
+        ensures err { OnErr result (basin self.new ≡ basin self.old) }
         ensures cause { HasCause (faults self.old) (faults self.new) result };
 }

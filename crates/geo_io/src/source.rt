@@ -1,8 +1,8 @@
 //! What bytes come from.
-ghost use Rattle.std.specs.Prelude.{◌≡◌, ℕ, ◌+◌, ◌≤◌, ◌<◌, List, Option, length, take, IfOk, OnErr};
+ghost use Rattle.std.specs.Prelude.{◌≡◌, ℕ, ◌+◌, ◌≤◌, ◌<◌, ◌==◌, length, take, IfOk, OnErr};
 ghost use Rattle.geo_base.specs.Faults.{HasCause};
 ghost use Rattle.geo_io.specs.Counts.{CountsOnce};
-ghost use Rattle.geo_io.specs.Source.{Goes, IsEnd, IsMore};
+ghost use Rattle.geo_io.specs.Source.{Gives, IsEnd, IsMore, Stream};
 
 use thiserror::Error;
 
@@ -13,8 +13,8 @@ pub struct Failed;
 
 /// What bytes come from, as a file or a stream.
 pub trait Source {
-    /// The bytes left, where the source tells them.
-    ghost left: { Self → Option (List ℕ) };
+    /// What its reads gave so far, whether the last one found the end, and the bytes left, where the source tells them.
+    ghost stream: { Self → Stream };
 
     /// How often it failed.
     ghost faults: { Self → ℕ };
@@ -27,10 +27,11 @@ pub trait Source {
     fn read(&mut self, out: &mut [u8]) -> Result<usize, Failed>
         requires { 0 < length out.old }
         ensures bound { IfOk result (λ n. n ≤ length out.new) }
-        ensures bytes { IfOk result (λ n. Goes (left self.old) (take n out.new) (left self.new)) }
-        ensures end { IfOk result (λ n. n ≡ 0 → IsEnd (left self.old)) }
-        ensures more { IfOk result (λ n. 0 < n → IsMore (left self.old)) }
-        ensures err { OnErr result (left self.new ≡ left self.old) }
+        ensures bytes { IfOk result (λ n. Gives (stream self.old) (take n out.new) (stream self.new)) }
+        ensures end { IfOk result (λ n. n ≡ 0 → IsEnd (stream self.old).left) }
+        ensures more { IfOk result (λ n. 0 < n → IsMore (stream self.old).left) }
+        ensures ended { IfOk result (λ n. (stream self.new).ended ≡ (n == 0)) }
+        ensures err { OnErr result (stream self.new ≡ stream self.old) }
         ensures cause { HasCause (faults self.old) (faults self.new) result }
         ensures once { CountsOnce (reads self.old) (reads self.new) };
 }

@@ -1,6 +1,7 @@
 //! A sink over a writer of std.
-ghost use Rattle.std.specs.Prelude.{◌≡◌, None};
+ghost use Rattle.std.specs.Prelude.{◌≡◌, [], None};
 
+use crate::passed::Passed;
 use crate::sink::Sink;
 use crate::source::Failed;
 use std::io::Write;
@@ -9,27 +10,36 @@ use std::io::Write;
 #[derive(Drop)]
 pub struct StdSink<W: Drop> {
     writer: W,
+    taken: Passed,
     faults: u64,
 }
 
 impl<W: Write + Drop> StdSink<W> {
-    /// A sink over this writer, with no fault so far.
+    /// A sink over this writer, which took nothing and had no fault so far.
     pub fn new(writer: W) -> StdSink<W>
-        ensures { result.faults ≡ 0 }
+        ensures taken { result.taken.bytes ≡ [] }
+        ensures faults { result.faults ≡ 0 }
     {
-        StdSink { writer, faults: 0 }
+        StdSink {
+            writer,
+            taken: Passed::none(),
+            faults: 0,
+        }
     }
 }
 
 impl<W: Write + Drop> Sink for StdSink<W> {
-    ghost written = { λ _. None };
+    ghost basin = { λ s. record { taken = s.taken.bytes; held = None } };
 
     ghost faults = { λ s. s.faults };
 
     /// A write of nothing is a failure.
     fn write(&mut self, bytes: &[u8]) -> Result<usize, Failed> {
         match self.writer.write(bytes) {
-            Ok(count) if 0 < count => Ok(count),
+            Ok(count) if 0 < count => {
+                self.taken.add(&bytes[..count]);
+                Ok(count)
+            }
             _ => {
                 self.faults = self.faults.saturating_add(1);
                 Err(Failed)

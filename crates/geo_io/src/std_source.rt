@@ -1,6 +1,7 @@
 //! A source over a reader of std.
-ghost use Rattle.std.specs.Prelude.{◌≡◌, None};
+ghost use Rattle.std.specs.Prelude.{◌≡◌, [], false, None};
 
+use crate::passed::Passed;
 use crate::source::{Failed, Source};
 use std::io::Read;
 
@@ -8,28 +9,45 @@ use std::io::Read;
 #[derive(Drop)]
 pub struct StdSource<R: Drop> {
     reader: R,
+    given: Passed,
+    ended: bool,
+    reads: u64,
     faults: u64,
 }
 
 impl<R: Read + Drop> StdSource<R> {
-    /// A source over this reader, with no fault so far.
+    /// A source over this reader, which gave nothing, wasn't read and had no fault so far.
     pub fn new(reader: R) -> StdSource<R>
-        ensures { result.faults ≡ 0 }
+        ensures given { result.given.bytes ≡ [] }
+        ensures ended { result.ended ≡ false }
+        ensures reads { result.reads ≡ 0 }
+        ensures faults { result.faults ≡ 0 }
     {
-        StdSource { reader, faults: 0 }
+        StdSource {
+            reader,
+            given: Passed::none(),
+            ended: false,
+            reads: 0,
+            faults: 0,
+        }
     }
 }
 
 impl<R: Read + Drop> Source for StdSource<R> {
-    ghost left = { λ _. None };
+    ghost stream = { λ s. record { given = s.given.bytes; ended = s.ended; left = None } };
 
     ghost faults = { λ s. s.faults };
 
-    ghost reads = { λ _. 0 };
+    ghost reads = { λ s. s.reads };
 
     fn read(&mut self, out: &mut [u8]) -> Result<usize, Failed> {
+        self.reads = self.reads.saturating_add(1);
         match self.reader.read(out) {
-            Ok(count) => Ok(count),
+            Ok(count) => {
+                self.given.add(&out[..count]);
+                self.ended = count == 0;
+                Ok(count)
+            }
             Err(_) => {
                 self.faults = self.faults.saturating_add(1);
                 Err(Failed)

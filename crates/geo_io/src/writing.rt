@@ -1,7 +1,7 @@
 //! Writing all bytes to a sink.
 ghost use Rattle.std.specs.Prelude.{◌≡◌, ◌≤◌, ◌<◌, IfErr, OnOk, length, take};
 ghost use Rattle.geo_base.specs.Faults.{HasCause};
-ghost use Rattle.geo_io.specs.Sink.{Grows};
+ghost use Rattle.geo_io.specs.Sink.{Takes};
 
 use crate::sink::Sink;
 use thiserror::Error;
@@ -15,9 +15,9 @@ pub struct WriteFault {
 
 /// Appends all the bytes. Where a write fails, exactly the first `written` bytes were appended.
 pub fn write_out<K: Sink>(sink: &mut K, bytes: &[u8]) -> Result<(), WriteFault>
-    ensures ok { OnOk result (Grows (K.written sink.old) bytes.now (K.written sink.new)) }
+    ensures ok { OnOk result (Takes (K.basin sink.old) bytes.now (K.basin sink.new)) }
     ensures some_left { IfErr result (λ fault. fault.written < length bytes.now) }
-    ensures err { IfErr result (λ fault. Grows (K.written sink.old) (take fault.written bytes.now) (K.written sink.new)) }
+    ensures err { IfErr result (λ fault. Takes (K.basin sink.old) (take fault.written bytes.now) (K.basin sink.new)) }
     ensures cause { HasCause (K.faults sink.old) (K.faults sink.new) result }
 {
     let mut done = 0;

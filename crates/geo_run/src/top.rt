@@ -2,7 +2,7 @@
 ghost use Rattle.std.specs.Prelude.{◌≡◌, ◌≢◌, ◌↔◌, ◌≤◌, ◌∷◌, [], None, Some, IfOk, IfSome, IsTrue, IsSomeAnd, IsNone, codes, length};
 ghost use Rattle.geo_run.specs.FixedOrder.{IsBetween};
 ghost use Rattle.geo_run.specs.OneDisk.{HasOneRam, IsDiskOf, IsRamDecl};
-ghost use Rattle.geo_run.specs.Run.{EndsPlan, EndsRun, EndsText, HasReadLog, IsStep, Writes, due_text, ending_of, fault_text, status_of};
+ghost use Rattle.geo_run.specs.Run.{EndsPlan, EndsRun, EndsText, HasReadLog, IsStep, Writes, due_text, ending_of, fault_text, sink_seen, source_seen, status_of};
 
 use crate::drain::{DrainRefusal, run_to_rest};
 use crate::ram_disk::RamDisk;
@@ -46,8 +46,8 @@ fn fault_text(alloc: Global, line: u32) -> Result<Block, NoMemory>
 /// Writes the due text. A fault of the sink turns the status into 4.
 fn written<K: Sink>(sink: &mut K, status: u8, text: &[u8]) -> u8
     requires { status ≢ 4 }
-    ensures { Writes result status (K.faults sink.old) (K.faults sink.new)
-        text.now (K.written sink.old) (K.written sink.new) }
+    ensures { Writes result status text.now
+        (sink_seen (K.basin sink.old) (K.faults sink.old)) (sink_seen (K.basin sink.new) (K.faults sink.new)) }
 {
     match write_out(sink, text) {
         Ok(()) => status,
@@ -59,8 +59,8 @@ fn written<K: Sink>(sink: &mut K, status: u8, text: &[u8]) -> u8
 fn unopened<K: Sink>(alloc: Global, sink: &mut K, status: u8, text: &[u8]) -> Ended
     requires { status ≢ 4 }
     ensures no_log { result.log ≡ None }
-    ensures writes { Writes result.status status (K.faults sink.old) (K.faults sink.new)
-        text.now (K.written sink.old) (K.written sink.new) }
+    ensures writes { Writes result.status status text.now
+        (sink_seen (K.basin sink.old) (K.faults sink.old)) (sink_seen (K.basin sink.new) (K.faults sink.new)) }
 {
     Ended {
         status: written(sink, status, text),
@@ -84,8 +84,8 @@ fn opened<K: Sink>(sink: &mut K, status: u8, text: &[u8], mesh: Mesh, facts: Dis
     requires { status ≢ 4 }
     ensures log { IsSomeAnd result.log (λ log. log.items ≡ mesh.log) }
     ensures facts { result.facts.items ≡ facts.items }
-    ensures writes { Writes result.status status (K.faults sink.old) (K.faults sink.new)
-        text.now (K.written sink.old) (K.written sink.new) }
+    ensures writes { Writes result.status status text.now
+        (sink_seen (K.basin sink.old) (K.faults sink.old)) (sink_seen (K.basin sink.new) (K.faults sink.new)) }
 {
     Ended {
         status: written(sink, status, text),
@@ -115,8 +115,8 @@ fn run_mesh<K: Sink>(
 ) -> Ended
     requires between { IsBetween disk.now mesh }
     requires facts { facts.items ≡ mesh.facts }
-    ensures { EndsPlan mesh.plan result.log result.facts.items result.status
-        (K.faults sink.old) (K.faults sink.new) (K.written sink.old) (K.written sink.new) }
+    ensures { EndsPlan mesh.plan result
+        (sink_seen (K.basin sink.old) (K.faults sink.old)) (sink_seen (K.basin sink.new) (K.faults sink.new)) }
 {
     match run_to_rest(alloc, &mut mesh, disk) {
         Ok(()) => match report(alloc, &mesh) {
@@ -155,8 +155,8 @@ fn only_disk(plan: &Plan) -> DiskDecl
 /// Runs a plan.
 fn run_plan<K: Sink>(alloc: Global, plan: Plan, sink: &mut K) -> Ended
     requires { HasOneRam plan }
-    ensures { EndsPlan plan result.log result.facts.items result.status
-        (K.faults sink.old) (K.faults sink.new) (K.written sink.old) (K.written sink.new) }
+    ensures { EndsPlan plan result
+        (sink_seen (K.basin sink.old) (K.faults sink.old)) (sink_seen (K.basin sink.new) (K.faults sink.new)) }
 {
     let decl = only_disk(&plan);
     match disk_of(alloc, &decl) {
@@ -170,8 +170,8 @@ fn run_plan<K: Sink>(alloc: Global, plan: Plan, sink: &mut K) -> Ended
 
 /// Runs a text.
 fn run_text<K: Sink>(alloc: Global, text: &[u8], sink: &mut K) -> Ended
-    ensures { EndsText text.now result.log result.facts.items result.status
-        (K.faults sink.old) (K.faults sink.new) (K.written sink.old) (K.written sink.new) }
+    ensures { EndsText text.now result
+        (sink_seen (K.basin sink.old) (K.faults sink.old)) (sink_seen (K.basin sink.new) (K.faults sink.new)) }
 {
     match plan_of_text(alloc, text) {
         Ok(plan) => run_plan(alloc, plan, sink),
@@ -185,9 +185,13 @@ fn run_text<K: Sink>(alloc: Global, text: &[u8], sink: &mut K) -> Ended
 
 /// Reads the source to its end, and runs its text.
 fn run_step<S: Source, K: Sink>(alloc: Global, source: &mut S, sink: &mut K) -> Ended
-    ensures { EndsRun (S.left source.old) (S.left source.new) (S.faults source.old) (S.faults source.new)
-        result.log result.facts.items result.status
-        (K.faults sink.old) (K.faults sink.new) (K.written sink.old) (K.written sink.new) }
+    ensures { EndsRun (record {
+      ended = result;
+      source_before = source_seen (S.stream source.old) (S.faults source.old);
+      source_after = source_seen (S.stream source.new) (S.faults source.new);
+      sink_before = sink_seen (K.basin sink.old) (K.faults sink.old);
+      sink_after = sink_seen (K.basin sink.new) (K.faults sink.new);
+    }) }
 {
     match read_all(alloc, source, LONGEST) {
         Ok(text) => run_text(alloc, text.bytes(), sink),
@@ -210,8 +214,8 @@ fn is_step(words: &[String]) -> bool
 /// The end of a program that has no memory even for its words: it writes `out of memory`, and gives the exit status, which is
 /// 6, or 4 where the sink fails.
 pub fn without_memory<K: Sink>(sink: &mut K) -> u8
-    ensures { Writes result 6 (K.faults sink.old) (K.faults sink.new)
-        (codes "out of memory\n") (K.written sink.old) (K.written sink.new) }
+    ensures { Writes result 6 (codes "out of memory\n")
+        (sink_seen (K.basin sink.old) (K.faults sink.old)) (sink_seen (K.basin sink.new) (K.faults sink.new)) }
 {
     written(sink, 6, OUT_OF_MEMORY)
 }
@@ -224,20 +228,24 @@ pub fn run<S: Source, K: Sink>(
     sink: &mut K,
 ) -> Ended
     // On the word `step` the run of the source ends by its cause, and writes what is due.
-    ensures step { IsStep words.now → EndsRun
-        (S.left source.old) (S.left source.new) (S.faults source.old) (S.faults source.new)
-        result.log result.facts.items result.status
-        (K.faults sink.old) (K.faults sink.new) (K.written sink.old) (K.written sink.new) }
+    ensures step { IsStep words.now → EndsRun (record {
+      ended = result;
+      source_before = source_seen (S.stream source.old) (S.faults source.old);
+      source_after = source_seen (S.stream source.new) (S.faults source.new);
+      sink_before = sink_seen (K.basin sink.old) (K.faults sink.old);
+      sink_after = sink_seen (K.basin sink.new) (K.faults sink.new);
+    }) }
 
     // Wherever a log is there, the source was read whole, its text is a script, and the log is legal from the opening of
     // the plan of that script, in the fixed order.
-    ensures log { HasReadLog (S.left source.old) (S.left source.new) result.facts.items result.log }
+    ensures log { HasReadLog (S.stream source.old) (S.stream source.new) result }
 
     // On other words the usage line is written, and nothing is read.
-    ensures usage { (IsStep words.now → ⊥) → Writes result.status 1 (K.faults sink.old) (K.faults sink.new)
-        (codes "usage: geomrun step | run | gen START COUNT\n") (K.written sink.old) (K.written sink.new) }
+    ensures usage { (IsStep words.now → ⊥) → Writes result.status 1
+        (codes "usage: geomrun step | run | gen START COUNT\n")
+        (sink_seen (K.basin sink.old) (K.faults sink.old)) (sink_seen (K.basin sink.new) (K.faults sink.new)) }
     ensures no_log { (IsStep words.now → ⊥) → result.log ≡ None }
-    ensures unread { (IsStep words.now → ⊥) → S.left source.new ≡ S.left source.old }
+    ensures unread { (IsStep words.now → ⊥) → source.new ≡ source.old }
 {
     if is_step(words) {
         run_step(alloc, source, sink)

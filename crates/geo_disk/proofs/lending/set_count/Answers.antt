@@ -1,6 +1,7 @@
 use Rattle.std.proofs.Common.{refl, ap, ◌∙◌, sym}
 use Rattle.std.specs.Option.{option_map_or}
 use Rattle.geo_disk.specs.declared.lending.Count.{Count}
+use Rattle.geo_disk.specs.Lending.{no_faults}
 use Rattle.geo_disk.proofs.NameLemmas.{IsPlace, found_place, named-set_same, named-set_other, place_found, set_keeps}
 use Rattle.geo_disk.proofs.lending.set_count.Goals as goal
 
@@ -15,13 +16,13 @@ unwrap-at-requires c =
 
 pub returns-clause-now : goal.returns-clause-now
 returns-clause-now c =
-    rw (named-set_same (λ (x : Count). x.name) c.args.name.now c.args.counts.now.items c.unwrap-at.result (record { name = c.args.name.now; faults = c.args.faults }) (place c) refl) refl
+    rw (named-set_same (λ (x : Count). x.name) c.args.name.now c.args.counts.now.items c.unwrap-at.result (record { name = c.args.name.now; tally = c.args.tally }) (place c) refl) refl
 
 pub returns-clause-others : goal.returns-clause-others
 returns-clause-others c other apart =
-    ap (λ o. option_map_or (λ (x : Count). x.faults) o 0)
-    (named-set_other (λ (x : Count). x.name) c.args.name.now other c.args.counts.now.items c.unwrap-at.result (record { name = c.args.name.now; faults = c.args.faults }) (place c) refl apart)
+    ap (λ o. option_map_or (λ (x : Count). x.tally) o no_faults)
+    (named-set_other (λ (x : Count). x.name) c.args.name.now other c.args.counts.now.items c.unwrap-at.result (record { name = c.args.name.now; tally = c.args.tally }) (place c) refl apart)
 
 pub returns-clause-kept : goal.returns-clause-kept
 returns-clause-kept c other is =
-    set_keeps (λ (x : Count). x.name) c.args.name.now other c.args.counts.now.items c.unwrap-at.result (record { name = c.args.name.now; faults = c.args.faults }) (place c) refl is
+    set_keeps (λ (x : Count). x.name) c.args.name.now other c.args.counts.now.items c.unwrap-at.result (record { name = c.args.name.now; tally = c.args.tally }) (place c) refl is

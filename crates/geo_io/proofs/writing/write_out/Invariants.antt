@@ -1,10 +1,10 @@
 use Rattle.std.proofs.Common.{◌≤◌, ◌-◌, length, take}
-use Rattle.geo_io.specs.Sink.{Grows}
+use Rattle.geo_io.specs.Sink.{Takes}
 use Rattle.geo_io.proofs.writing.write_out.Given as goal
 
 abbrev pub invariant-loop-done : goal.invariant-loop-done
 invariant-loop-done g l = record {
-  grown : Grows (g.K.Sink.written l.fn.sink) (take l.done l.bytes) (g.K.Sink.written l.sink);
+  grown : Takes (g.K.Sink.basin l.fn.sink) (take l.done l.bytes) (g.K.Sink.basin l.sink);
   inside : l.done ≤ length l.bytes;
   later : g.K.Sink.faults l.fn.sink ≤ g.K.Sink.faults l.sink;
 }

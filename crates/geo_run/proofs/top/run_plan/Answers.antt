@@ -6,10 +6,10 @@ use Rattle.geo_run.proofs.OpeningLemmas.{between_first}
 use Rattle.geo_run.proofs.top.run_plan.Goals as goal
 
 pub returns-in-Ok : goal.returns-in-Ok
-returns-in-Ok g c = EndsPlan-memory c.args.plan _ _ _ _ _ _ _ c.unopened.ensures.no_log c.unopened.ensures.writes
+returns-in-Ok g c = EndsPlan-memory c.args.plan _ _ _ c.unopened.ensures.no_log c.unopened.ensures.writes
 
 pub returns : goal.returns
-returns g c = EndsPlan-memory c.args.plan _ _ _ _ _ _ _ c.unopened-in-Err.ensures.no_log c.unopened-in-Err.ensures.writes
+returns g c = EndsPlan-memory c.args.plan _ _ _ c.unopened-in-Err.ensures.no_log c.unopened-in-Err.ensures.writes
 
 pub run_mesh-requires-clause-between : goal.run_mesh-requires-clause-between
 run_mesh-requires-clause-between g c =

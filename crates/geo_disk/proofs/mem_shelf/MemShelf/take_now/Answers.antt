@@ -3,7 +3,7 @@ use Rattle.geo_disk.specs.MemShelf.{disk_of, emptied_slot, slot_at, slot_of}
 use Rattle.geo_base.specs.Images.{IsDiskSize}
 use Rattle.geo_disk.specs.declared.mem_shelf.Slot.{Slot}
 use Rattle.geo_disk.proofs.ImageLemmas.{after_take, image_none, image_there, size_of_disk, slots_after_take, some_bytes}
-use Rattle.geo_disk.proofs.NameLemmas.{IsPlace, has_name, named_at, no_place_found, place_found}
+use Rattle.geo_disk.proofs.NameLemmas.{IsPlace, has_name, named-set_same, named-set_other, named_at, no_place_found, place_found}
 use Rattle.geo_disk.proofs.mem_shelf.MemShelf.take_now.Goals as goal
 
 pub returns-in_default-clause-found : goal.returns-in_default-clause-found
@@ -68,3 +68,13 @@ pub returns-clause-disk : goal.returns-clause-disk
 returns-clause-disk c =
     rw (← c.self.view_is, named_at (λ (x : Slot). x.name) c.args.name.now c.self.inside.slots.items c.in-Some.at (emptied_slot []) (place c))
     (c.lend_out.ensures.disk ∙ ap (λ faults. disk_of c.args.sector faults (slot_at c.self.inside.slots.items c.in-Some.at)) c.faults_of-faults.ensures)
+
+pub returns-clause-emptied : goal.returns-clause-emptied
+returns-clause-emptied c =
+    rw (slots_are c)
+    (named-set_same (λ (x : Slot). x.name) c.args.name.now c.self.inside.slots.items c.in-Some.at (emptied_slot c.args.name.now) (place c) refl)
+
+pub returns-clause-others : goal.returns-clause-others
+returns-clause-others c other apart =
+    rw (← c.self.view_is, slots_are c)
+    (named-set_other (λ (x : Slot). x.name) c.args.name.now other c.self.inside.slots.items c.in-Some.at (emptied_slot c.args.name.now) (place c) refl apart)

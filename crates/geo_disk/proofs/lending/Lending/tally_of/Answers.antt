@@ -1,7 +1,7 @@
 use Rattle.std.proofs.Common.{refl, ap, ◌∙◌, sym}
 use Rattle.geo_disk.specs.declared.lending.Count.{Count}
 use Rattle.geo_disk.proofs.NameLemmas.{IsPlace, named_at, no_place_found, place_found}
-use Rattle.geo_disk.proofs.lending.Lending.faults_of.Goals as goal
+use Rattle.geo_disk.proofs.lending.Lending.tally_of.Goals as goal
 
 pub returns-in-Some : goal.returns-in-Some
 returns-in-Some c =
@@ -9,7 +9,7 @@ returns-in-Some c =
     place_found (λ (x : Count). x.name) c.args.name.now c.self.inside.counts.items c.in-Some.at
     (rw (← c.as_slice.ensures.value) (sym c.place_of.ensures ∙ c.in-Some.is)) in
     rw (← c.self.view_is, named_at (λ (x : Count). x.name) c.args.name.now c.self.inside.counts.items c.in-Some.at c.index.result.now place)
-    (ap (λ (x : Count). x.faults) c.index.ensures)
+    (ap (λ (x : Count). x.tally) c.index.ensures)
 
 pub returns-in-None : goal.returns-in-None
 returns-in-None c =
