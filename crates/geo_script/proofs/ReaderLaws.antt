@@ -13,7 +13,8 @@ use Rattle.geo_model.specs.declared.command.Command.TheVariants as commands
 use Rattle.geo_model.specs.declared.command.DiskKind.TheVariants as disk_kinds
 use Rattle.geo_model.specs.Words.{same_name}
 use Rattle.geo_model.specs.Plans.{IsShortName, IsProviderName, IsWord64, IsGrant, IsRunsBytes, AreComponents, IsMark, IsStripe, IsNamedClass, IsCommand, IsDiskDecl}
-use Rattle.geo_model.specs.Script.{◌>>=◌, Words, is_digit, is_decimal, value_of, number_of, runs_in, fitting_bytes, found_or, tested, short_name, long_name, in_range, ranged, any_number, sector_size, sector_count, record_id, record_count, record_place, stripe_size, counts_of, counts_word, runs_words, class_names, beside, class_word, names_within, long_names, at_end, by_word, open_words, close_words, read_words, write_words, delete_words, flush_words, insert_words, pull_words, nop_words, concat_words, stripe_words, destroy_words, label_words, mark_concat_words, mark_stripe_words, mark_words, command_table, later_word, ram_words, disk_words, actor_words}
+use Rattle.geo_model.specs.Script.{◌>>=◌, Words, is_digit, is_decimal, value_of, number_of, runs_in, fitting_bytes, found_or, tested, short_name, long_name, in_range, ranged, any_number, sector_size, sector_count, record_id, record_count, record_place, stripe_size, counts_of, counts_word, runs_words, class_names, beside, class_word, names_within, long_names, at_end, by_word, open_words, close_words, read_words, write_words, delete_words, flush_words, insert_words, pull_words, nop_words, concat_words, stripe_words, append_words, destroy_words, label_words, relabel_words, mark_concat_words, mark_stripe_words, mark_words, command_table, later_word, ram_words, disk_words, actor_words}
+use Rattle.geo_script.specs.Tables.{geom_commands}
 use Rattle.geo_script.proofs.RunsAgree.{read-bytes}
 
 -- what a reader gives has this property
@@ -257,7 +258,7 @@ counts_word-gives (word ∷ words) = found-gives IsGrant causes.Counts words (co
 
 -- each class of the table can be named
 class-rows : EachRow IsNamedClass class_names
-class-rows = (inl refl, (inl refl, (inl refl, (inl refl, (inr refl, tt)))))
+class-rows = (inl refl, (inl refl, (inl refl, (inl refl, (inl refl, (inr refl, tt))))))
 
 -- a class that is read can be named
 pub class_word-gives : (ws : Words) → Gives (OfValue IsNamedClass) (class_word ws)
@@ -366,6 +367,12 @@ stripe-gives ws =
     after (OfValue AreComponents) IsCommand (long_names stripe.1) _ (long_names-gives stripe.1) (λ ps cs.
     at_end-gives IsCommand (commands.Stripe name.0 stripe.0 ps.0) ps.1 (ns, ss, cs))))
 
+append-gives : Reader IsCommand append_words
+append-gives ws =
+    after (OfValue IsShortName) IsCommand (short_name ws) _ (short_name-gives ws) (λ name ns.
+    after (OfValue IsProviderName) IsCommand (long_name name.1) _ (long_name-gives name.1) (λ p ps.
+    at_end-gives IsCommand (commands.Append name.0 p.0) p.1 (ns, ps)))
+
 destroy-gives : Reader IsCommand destroy_words
 destroy-gives ws =
     after (OfValue IsNamedClass) IsCommand (class_word ws) _ (class_word-gives ws) (λ class cs.
@@ -377,6 +384,12 @@ label-gives ws =
     after (OfValue IsShortName) IsCommand (short_name ws) _ (short_name-gives ws) (λ h hs.
     after (OfValue IsShortName) IsCommand (short_name h.1) _ (short_name-gives h.1) (λ name ns.
     at_end-gives IsCommand (commands.Label h.0 name.0) name.1 (hs, ns)))
+
+relabel-gives : Reader IsCommand relabel_words
+relabel-gives ws =
+    after (OfValue IsShortName) IsCommand (short_name ws) _ (short_name-gives ws) (λ h hs.
+    after (OfValue IsShortName) IsCommand (short_name h.1) _ (short_name-gives h.1) (λ name ns.
+    at_end-gives IsCommand (commands.Relabel h.0 name.0) name.1 (hs, ns)))
 
 -- the numbers of a record
 abbrev marked : {id place count : ℕ} → id < 2 ^ 32 → place < 65536 → IsCount count → IsMark id place count
@@ -415,10 +428,13 @@ settle-gives ws = at_end-gives IsCommand commands.Settle ws tt
 mesh-gives : Reader IsCommand (at_end commands.Mesh)
 mesh-gives ws = at_end-gives IsCommand commands.Mesh ws tt
 
+-- the commands on disks, geoms and records, and of the listing
+geom-rows : EachRow (Reader IsCommand) geom_commands
+geom-rows = (insert-gives, (pull-gives, (nop-gives, (concat-gives, (stripe-gives, (append-gives, (destroy-gives, (label-gives, (relabel-gives, (mark-gives, (mesh-gives, tt)))))))))))
+
 -- all commands of the table
 command-rows : EachRow (Reader IsCommand) command_table
-command-rows =
-    (open-gives, (close-gives, (read-gives, (write-gives, (delete-gives, (flush-gives, (sync-gives, (settle-gives, (insert-gives, (pull-gives, (nop-gives, (concat-gives, (stripe-gives, (destroy-gives, (label-gives, (mark-gives, (mesh-gives, tt)))))))))))))))))
+command-rows = (open-gives, (close-gives, (read-gives, (write-gives, (delete-gives, (flush-gives, (sync-gives, (settle-gives, geom-rows))))))))
 
 -- a command that is read has its form
 pub commands-give : Reader IsCommand (by_word command_table)

@@ -49,10 +49,14 @@ fn geom_command_by(alloc: Global, name: &[u8], words: Words<'_>) -> Result<Comma
         forms::concat(alloc, words)
     } else if b"stripe".as_slice() == name {
         forms::stripe(alloc, words)
+    } else if b"append".as_slice() == name {
+        Ok(forms::append(words)?)
     } else if b"destroy".as_slice() == name {
         Ok(forms::destroy(words)?)
     } else if b"label".as_slice() == name {
         Ok(forms::label(words)?)
+    } else if b"relabel".as_slice() == name {
+        Ok(forms::relabel(words)?)
     } else if b"mark".as_slice() == name {
         Ok(forms::mark(words)?)
     } else if b"mesh".as_slice() == name {

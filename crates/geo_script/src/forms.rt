@@ -1,7 +1,7 @@
 //! The forms of command lines: one function for each command, from the words behind its name.
 ghost use Rattle.std.specs.Prelude.{◌≡◌, ◌∷◌, [], codes};
 ghost use Rattle.geo_script.specs.Reads.{Reads};
-ghost use Rattle.geo_model.specs.Script.{by_word, write_words, concat_words, stripe_words, open_words, close_words, read_words, delete_words, flush_words, insert_words, pull_words, nop_words, destroy_words, label_words, mark_concat_words, mark_stripe_words, mark_words, counts_of, counts_word, class_names, class_word, beside};
+ghost use Rattle.geo_model.specs.Script.{by_word, write_words, concat_words, stripe_words, open_words, close_words, read_words, delete_words, flush_words, insert_words, pull_words, nop_words, append_words, destroy_words, label_words, relabel_words, mark_concat_words, mark_stripe_words, mark_words, counts_of, counts_word, class_names, class_word, beside};
 
 use crate::number::{any_number, is_digit, record_count, record_id, record_place, stripe_size};
 use crate::refusal::LineRefusal;
@@ -47,6 +47,8 @@ fn class_of(word: &[u8]) -> Option<Kind>
 {
     if b"mbr".as_slice() == word {
         Some(Kind::Mbr)
+    } else if b"ebr".as_slice() == word {
+        Some(Kind::Ebr)
     } else if b"label".as_slice() == word {
         Some(Kind::Label)
     } else if b"concat".as_slice() == word {
@@ -143,6 +145,15 @@ pub fn nop(words: Words<'_>) -> Result<Command, Cause>
     at_end(Command::Nop(provider, offset, size, fail), words)
 }
 
+/// `append NAME PROV`.
+pub fn append(words: Words<'_>) -> Result<Command, Cause>
+    ensures { result ≡ append_words words.entry }
+{
+    let (name, words) = short_name(words)?;
+    let (provider, words) = long_name(words)?;
+    at_end(Command::Append(name, provider), words)
+}
+
 /// `destroy CLASS GEOM`.
 pub fn destroy(words: Words<'_>) -> Result<Command, Cause>
     ensures { result ≡ destroy_words words.entry }
@@ -159,6 +170,15 @@ pub fn label(words: Words<'_>) -> Result<Command, Cause>
     let (handle, words) = short_name(words)?;
     let (name, words) = short_name(words)?;
     at_end(Command::Label(handle, name), words)
+}
+
+/// `relabel H NAME`.
+pub fn relabel(words: Words<'_>) -> Result<Command, Cause>
+    ensures { result ≡ relabel_words words.entry }
+{
+    let (handle, words) = short_name(words)?;
+    let (name, words) = short_name(words)?;
+    at_end(Command::Relabel(handle, name), words)
 }
 
 /// `mark H concat NAME ID PLACE COUNT`, behind `concat`.

@@ -10,8 +10,6 @@ mod line;
 mod number;
 mod plan;
 mod refusal;
-#[cfg(test)]
-mod tests;
 mod text;
 mod words;
 
