@@ -19,23 +19,28 @@ pub concat_spot-next : (sizes : List ℕ) (k left : ℕ) → k < length sizes �
 concat_spot-next sizes k left inside above = rw (drop_more sizes k 0 inside, le-ltb left (get_or sizes k 0) above) refl
 
 -- the sizes from the next component on
-pub sum-drop : (sizes : List ℕ) (k : ℕ) → k < length sizes → sum (drop k sizes) ≡ get_or sizes k 0 + sum (drop (k + 1) sizes)
-sum-drop sizes k inside = ap sum (drop_more sizes k 0 inside) ∙ sum_by-cons (λ x. x) (get_or sizes k 0) (drop (k + 1) sizes)
+pub sum-drop : (sizes : List ℕ) (k : ℕ) → k < length sizes
+    → sum (drop k sizes) ≡ get_or sizes k 0 + sum (drop (k + 1) sizes)
+sum-drop sizes k inside = ap sum (drop_more sizes k 0 inside)
+    ∙ sum_by-cons (λ x. x) (get_or sizes k 0) (drop (k + 1) sizes)
 
 -- the ranges from the next component on
 pub concat_stretches-drop : (sizes : List ℕ) (k start : ℕ) → k < length sizes
     → concat_stretches k start (drop k sizes)
-    ≡ record { start = start; len = get_or sizes k 0; component = k; offset = 0 } ∷ concat_stretches (k + 1) (start + get_or sizes k 0) (drop (k + 1) sizes)
+    ≡ record { start = start; len = get_or sizes k 0; component = k; offset = 0 } ∷ concat_stretches (k + 1)
+    (start + get_or sizes k 0) (drop (k + 1) sizes)
 concat_stretches-drop sizes k start inside = rw (drop_more sizes k 0 inside) refl
 
 -- the walk has come to component k, which starts here
 pub record PartsSoFar (o len : ℕ) (sizes : List ℕ) (k start : ℕ) (before now : List Piece) (spare : ℕ) : Type 0 where
-  pub pieces : now ++ cut o len (concat_stretches k start (drop k sizes)) ≡ before ++ cut o len (concat_stretches 0 0 sizes)
+  pub pieces : now ++ cut o len (concat_stretches k start (drop k sizes))
+      ≡ before ++ cut o len (concat_stretches 0 0 sizes)
   pub fits : start + sum (drop k sizes) ≤ 2 ^ 60
   pub room : length sizes ≤ spare + k
 
 -- sizes written into cells of zeros
-pub kept_from : (sizes front zeros : List ℕ) → front ≡ sizes → length sizes ≤ 16 → sum sizes ≤ 2 ^ 60 → zeros ≡ replicate 16 0
+pub kept_from : (sizes front zeros : List ℕ) → front ≡ sizes → length sizes ≤ 16 → sum sizes ≤ 2 ^ 60
+    → zeros ≡ replicate 16 0
     → IsKept (front ++ drop (length sizes) zeros) (length sizes)
 kept_from sizes front zeros same few fits blank =
     let long : length (drop (length sizes) (replicate {A = ℕ} 16 0)) ≡ 16 - length sizes =

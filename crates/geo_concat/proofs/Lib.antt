@@ -1,1 +1,2 @@
 pub mod ConcatLemmas
+pub mod GrowthLemmas

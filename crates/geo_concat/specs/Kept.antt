@@ -15,5 +15,6 @@ pub kept_again : {X : Type 0} (f : List ℕ → ℕ → X) (cells : List ℕ) (c
 kept_again f cells count kept =
     let short : count ≤ length cells = omega (arith, kept.whole, kept.few) in
     let taken : length (take count cells) ≡ count = length-take-le count cells short in
-    let again : take count cells ++ replicate (16 - count) 0 ≡ cells = rw (← kept.rest) (take-append-drop count cells) in
+    let again : take count cells ++ replicate (16 - count) 0
+    ≡ cells = rw (← kept.rest) (take-append-drop count cells) in
     rw (taken, again) refl

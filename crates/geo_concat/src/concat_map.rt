@@ -1,6 +1,7 @@
 //! Where a provider lies whose components stand one behind the other.
-ghost use Rattle.std.specs.Prelude.{◌≡◌, ◌+◌, ◌^◌, ◌<◌, ◌≤◌, ◌++◌, length, sum, Some};
+ghost use Rattle.std.specs.Prelude.{◌≡◌, ◌+◌, ◌^◌, ◌<◌, ◌≤◌, [], ◌∷◌, ◌++◌, length, sum, Some};
 ghost use Rattle.geo_model.specs.Place.{concat_spot, concat_stretches, cut};
+ghost use Rattle.geo_concat.specs.Growth.{KeepsPlaces};
 
 use geo_base::NoMemory;
 use geo_range::{AddressMap, PieceList, Span, Stretch};
@@ -89,6 +90,17 @@ impl ConcatMap {
             count: sizes.len(),
             sector,
         }
+    }
+
+    /// A component of `size` bytes behind the others. Each offset before it keeps its place.
+    pub fn add(&mut self, size: u64)
+        requires few { length self.old.sizes < 16 }
+        requires fits { sum self.old.sizes + size ≤ 2 ^ 60 }
+        ensures grown { self.new ≡ record self.old { sizes = self.old.sizes ++ size ∷ [] } }
+        ensures places_stay { KeepsPlaces self.old self.new }
+    {
+        self.cells[self.count] = size;
+        self.count += 1;
     }
 
     /// The components' sizes, at most 16, in order.

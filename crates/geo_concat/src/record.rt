@@ -12,13 +12,16 @@ use geo_record::{decode_head, encode_head, is_place, put_component, u16_at, u32_
 /// What the record begins with.
 const MAGIC: [u8; 16] = *b"RGEOM::CONCAT\0\0\0";
 
+/// The only version.
+const VERSION: u32 = 1;
+
 /// The record in a sector. It is declined with the first cause: `Magic`, `Version`, `BadName`, or `Place` where the
 /// count isn't 1 to 16 or the place isn't below it.
 pub fn decode(sector: &[u8]) -> Result<ConcatRecord, Declined>
     requires { 44 ≤ length sector.now }
     ensures { answer_of result ≡ concat_record sector.now }
 {
-    let name = decode_head(sector, &MAGIC)?;
+    let name = decode_head(sector, &MAGIC, VERSION)?;
     let place = u16_at(sector, 40);
     let count = u16_at(sector, 42);
     if !is_place(place, count) {
@@ -40,7 +43,7 @@ pub fn encode(part: &ConcatRecord, out: &mut [u8])
     requires short { IsTrue (is_short_name part.now.name) }
     ensures { out.new ≡ concat_sector (length out.old) part.now }
 {
-    encode_head(out, &MAGIC, &part.name);
+    encode_head(out, &MAGIC, VERSION, &part.name);
     put_component(out, part.id, part.place, part.count);
 }
 

@@ -3,8 +3,6 @@
 
 mod label_map;
 mod record;
-#[cfg(test)]
-mod tests;
 
 pub use geo_model::LabelRecord;
 pub use label_map::LabelMap;

@@ -3,8 +3,6 @@
 
 mod mbr_map;
 mod table;
-#[cfg(test)]
-mod tests;
 
 pub use geo_model::{MbrTable, Slice};
 pub use mbr_map::MbrMap;

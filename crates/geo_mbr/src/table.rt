@@ -1,30 +1,15 @@
 //! The partition table in the first sector of a provider.
-ghost use Rattle.std.specs.Prelude.{◌≡◌, ◌≤◌, ◌<◌, ◌==◌, ◌&&◌, length, map, is_some, slice_index};
+ghost use Rattle.std.specs.Prelude.{◌≡◌, ◌≤◌, ◌<◌, ◌==◌, length, map, is_some};
 ghost use Rattle.std.specs.List.{list_any, range_with_len};
 ghost use Rattle.geo_model.specs.Records.{entry_type, kept_entries, kept_entry, mbr_table};
 ghost use Rattle.geo_record.specs.Head.{answer_of};
 
 use geo_base::{DeclineCause, Declined};
 use geo_model::{MbrTable, Slice};
-use geo_record::u32_at;
-
-/// Where the first entry begins.
-const ENTRIES: usize = 446;
-
-/// How many bytes an entry has.
-const ENTRY: usize = 16;
+use geo_record::{entry_count, entry_first, entry_type, has_signature};
 
 /// The type of an entry that protects a table of another kind.
 const PROTECTIVE: u8 = 0xEE;
-
-/// The type of an entry, counted from 0.
-fn entry_type(sector: &[u8], entry: usize) -> u8
-    requires few { entry < 4 }
-    requires room { 512 ≤ length sector.now }
-    ensures { result ≡ entry_type sector.now entry }
-{
-    sector[ENTRIES + ENTRY * entry + 4]
-}
 
 /// An entry as a slice. It is kept unless its type, its first sector or its size is 0, or its end is past the media.
 fn kept_entry(sector: &[u8], sectors: u64, entry: usize) -> Option<Slice>
@@ -32,9 +17,8 @@ fn kept_entry(sector: &[u8], sectors: u64, entry: usize) -> Option<Slice>
     requires room { 512 ≤ length sector.now }
     ensures { result ≡ kept_entry sector.now sectors entry }
 {
-    let start = ENTRIES + ENTRY * entry;
-    let first = u32_at(sector, start + 8);
-    let count = u32_at(sector, start + 12);
+    let first = entry_first(sector, entry);
+    let count = entry_count(sector, entry);
     let end = u64::from(first) + u64::from(count);
     if entry_type(sector, entry) == 0 || first == 0 || count == 0 || sectors < end {
         return None;
@@ -76,14 +60,6 @@ fn is_protective(sector: &[u8]) -> bool
     entry_types(sector).contains(&PROTECTIVE)
 }
 
-/// Whether the table ends with 0x55, 0xAA.
-fn is_signed(sector: &[u8]) -> bool
-    requires { 512 ≤ length sector.now }
-    ensures { result ≡ ((slice_index sector.now 510 == 0x55) && (slice_index sector.now 511 == 0xAA)) }
-{
-    sector[510] == 0x55 && sector[511] == 0xAA
-}
-
 /// Whether an entry is kept.
 fn is_any_kept(slices: &[Option<Slice>]) -> bool
     ensures { result ≡ list_any is_some slices.now }
@@ -97,7 +73,7 @@ pub fn decode(sector: &[u8], sectors: u64) -> Result<MbrTable, Declined>
     requires { 512 ≤ length sector.now }
     ensures { answer_of result ≡ mbr_table sector.now sectors }
 {
-    if !is_signed(sector) {
+    if !has_signature(sector) {
         return Err(Declined {
             cause: DeclineCause::Signature,
         });

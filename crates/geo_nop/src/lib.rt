@@ -3,8 +3,6 @@
 
 mod failing;
 mod nop_map;
-#[cfg(test)]
-mod tests;
 
 pub use failing::hits;
 pub use nop_map::NopMap;

@@ -7,7 +7,8 @@ use Rattle.geo_model.specs.declared.span.Piece.{Piece}
 use Rattle.geo_model.specs.declared.span.Stretch.{Stretch}
 use Rattle.geo_model.specs.Place.{piece_in, cut}
 
-append-cons_option : {A : Type 0} (x : Option A) (before after : List A) → (before ++ option_to_list x) ++ after ≡ before ++ cons_option x after
+append-cons_option : {A : Type 0} (x : Option A) (before after : List A)
+    → (before ++ option_to_list x) ++ after ≡ before ++ cons_option x after
 append-cons_option None before after = ap (λ xs. xs ++ after) (append-nil before)
 append-cons_option (Some x) before after = append_assoc before (x ∷ []) after
 

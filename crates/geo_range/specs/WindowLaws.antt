@@ -8,11 +8,13 @@ use Rattle.geo_model.proofs.PartitionLemmas.{whole-follow}
 use Rattle.geo_range.specs.Window.{WindowView, window_spot, window_stretches}
 
 -- the pieces follow each other from the beginning of the range to its end
-pub window-follow : (w : WindowView) (o len : ℕ) → 0 < len → o + len ≤ w.size → Follow 0 len (cut o len (window_stretches w o len))
+pub window-follow : (w : WindowView) (o len : ℕ) → 0 < len → o + len ≤ w.size
+    → Follow 0 len (cut o len (window_stretches w o len))
 window-follow w o len some inside = whole-follow o len w.size (window w.start w.size) refl refl inside some
 
 -- each byte of each piece lies where the map says
-pub window-placed : (w : WindowView) (o len : ℕ) → AllByRecursion (PieceIsPlaced (window_spot w) o) (cut o len (window_stretches w o len))
+pub window-placed : (w : WindowView) (o len : ℕ)
+    → AllByRecursion (PieceIsPlaced (window_spot w) o) (cut o len (window_stretches w o len))
 window-placed w o len =
     pieces_placed (window_spot w) o len (window_stretches w o len)
     ((λ j below. let a : w.start + (0 + j) ≡ w.start + j = omega arith in rw a refl), tt)

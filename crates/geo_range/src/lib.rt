@@ -3,8 +3,6 @@
 
 mod address_map;
 mod piece_list;
-#[cfg(test)]
-mod tests;
 mod window;
 
 pub use address_map::AddressMap;

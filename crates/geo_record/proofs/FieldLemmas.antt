@@ -1,7 +1,7 @@
 -- Fields of a sector, and what stands behind them.
 use Rattle.std.proofs.Common.{◌≡◌, ℕ, ◌+◌, ◌-◌, ◌≤◌, List, [], ◌∷◌, ◌++◌, length, take, drop, replicate, refl, sym, ap, ◌∙◌, arith, append_assoc, length-append, length-drop, length-take-le}
 use Rattle.std.proofs.lemmas.List.{append-nil, take_at, drop_at, drop_all, drop-replicate, length-replicate, replicate-append-replicate}
-use Rattle.std.specs.Int.{w16, w32, from_le_bytes}
+use Rattle.std.specs.Int.{w16, w32, w64, from_le_bytes}
 use Rattle.byteorder.specs.Endian.{little_number}
 use Rattle.geo_model.specs.Records.{padded}
 
@@ -18,6 +18,17 @@ little-u32 (a ∷ b ∷ []) = omega arith
 little-u32 (a ∷ b ∷ c ∷ []) = omega arith
 little-u32 (a ∷ b ∷ c ∷ d ∷ xs) = omega arith
 
+pub little-u64 : (xs : List ℕ) → little_number 8 xs ≡ from_le_bytes w64 (take 8 xs)
+little-u64 [] = refl
+little-u64 (a ∷ []) = omega arith
+little-u64 (a ∷ b ∷ []) = omega arith
+little-u64 (a ∷ b ∷ c ∷ []) = omega arith
+little-u64 (a ∷ b ∷ c ∷ d ∷ []) = omega arith
+little-u64 (a ∷ b ∷ c ∷ d ∷ e ∷ []) = omega arith
+little-u64 (a ∷ b ∷ c ∷ d ∷ e ∷ f ∷ []) = omega arith
+little-u64 (a ∷ b ∷ c ∷ d ∷ e ∷ f ∷ g ∷ []) = omega arith
+little-u64 (a ∷ b ∷ c ∷ d ∷ e ∷ f ∷ g ∷ h ∷ xs) = omega arith
+
 -- what stands in front of the zeros, how many zeros there are, and how long it is in all
 pub take-padded : (n k : ℕ) (front : List ℕ) → length front ≡ k → take k (padded n front) ≡ front
 take-padded n k front size = take_at front (replicate (n - length front) 0) k size
@@ -30,7 +41,8 @@ length-padded n front fits =
     omega (arith, length-append front (replicate (n - length front) 0), length-replicate {A = ℕ} (n - length front) 0)
 
 -- bytes written over the zeros behind the first k
-pub put-zeros : (xs bytes : List ℕ) (k m : ℕ) → length bytes ≡ m → k + m ≤ length xs → drop k xs ≡ replicate (length xs - k) 0
+pub put-zeros : (xs bytes : List ℕ) (k m : ℕ) → length bytes ≡ m → k + m ≤ length xs
+    → drop k xs ≡ replicate (length xs - k) 0
     → take k xs ++ (bytes ++ drop m (drop k xs)) ≡ padded (length xs) (take k xs ++ bytes)
 put-zeros xs bytes k m size room free =
     let behind : drop m (drop k xs) ≡ replicate (length xs - k - m) 0 =
@@ -49,7 +61,8 @@ put-to_end xs bytes k m n size room end free =
     rw (none, append-nil (bytes ++ drop m (drop k xs))) (put-zeros xs bytes k m size room free)
 
 -- a sector that holds some bytes is zero behind them
-pub free-behind : (n k : ℕ) (front xs : List ℕ) → xs ≡ padded n front → length front ≡ k → k ≤ n → drop k xs ≡ replicate (length xs - k) 0
+pub free-behind : (n k : ℕ) (front xs : List ℕ) → xs ≡ padded n front → length front ≡ k → k ≤ n
+    → drop k xs ≡ replicate (length xs - k) 0
 free-behind n k front xs holds size fits =
     let long : length xs ≡ n = ap length holds ∙ length-padded n front (omega (arith, size, fits)) in
     ap (drop k) holds ∙ drop-padded n k front size ∙ ap (λ m. replicate (m - k) 0) (sym long)
@@ -69,18 +82,23 @@ padded-padded n m front last few fits =
     let inner : length (front ++ padded m last) ≡ length front + m =
     length-append front (padded m last) ∙ ap (λ k. length front + k) (length-padded m last few) in
     let outer : length (front ++ last) ≡ length front + length last = length-append front last in
-    let zeros : (m - length last) + (n - (length front + m)) ≡ n - (length front + length last) = omega (arith, few, fits) in
+    let zeros : (m - length last) + (n - (length front + m))
+    ≡ n - (length front + length last) = omega (arith, few, fits) in
     rw (inner, outer)
     (append_assoc front last (replicate (n - (length front + length last)) 0)
     ∙ ap (λ k. front ++ (last ++ replicate k 0)) (sym zeros)
     ∙ ap (λ ys. front ++ (last ++ ys)) (sym (replicate-append-replicate (m - length last) (n - (length front + m)) 0))
-    ∙ sym (ap (λ ys. front ++ ys) (append_assoc last (replicate (m - length last) 0) (replicate (n - (length front + m)) 0)))
+    ∙ sym (ap (λ ys. front ++ ys) (append_assoc last (replicate (m - length last) 0)
+    (replicate (n - (length front + m)) 0)))
     ∙ sym (append_assoc front (last ++ replicate (m - length last) 0) (replicate (n - (length front + m)) 0)))
 
 -- a first field written into zeros
-pub holds_first : (n : ℕ) (field xs ys : List ℕ) → xs ≡ replicate n 0 → ys ≡ padded (length xs) (take 0 xs ++ field) → ys ≡ padded n field
-holds_first n field xs ys blank written = written ∙ ap (λ m. padded m field) (ap length blank ∙ length-replicate {A = ℕ} n 0)
+pub holds_first : (n : ℕ) (field xs ys : List ℕ) → xs ≡ replicate n 0 → ys ≡ padded (length xs) (take 0 xs ++ field)
+    → ys ≡ padded n field
+holds_first n field xs ys blank written = written
+    ∙ ap (λ m. padded m field) (ap length blank ∙ length-replicate {A = ℕ} n 0)
 
 -- a field of m bytes behind k bytes
-pub length-behind : (front field : List ℕ) (k m : ℕ) → length front ≡ k → length field ≡ m → length (front ++ field) ≡ k + m
+pub length-behind : (front field : List ℕ) (k m : ℕ) → length front ≡ k → length field ≡ m
+    → length (front ++ field) ≡ k + m
 length-behind front field k m size more = length-append front field ∙ omega (arith, size, more)

@@ -42,12 +42,14 @@ bytes_eq-padded field len size short =
     same_test (bytes_eq field (padded 16 (take len field))) (list_all (λ b. b == 0) (drop len field))
     (λ same.
     let whole : field ≡ padded 16 (take len field) = (bytes_eq-Decides field (padded 16 (take len field))).0 same in
-    let rest : drop len field ≡ replicate (16 - len) 0 = ap (drop len) whole ∙ drop-padded 16 len (take len field) taken in
+    let rest : drop len field ≡ replicate (16 - len) 0 = ap (drop len) whole
+    ∙ drop-padded 16 len (take len field) taken in
     rw rest (list_all-zeros (16 - len)))
     (λ zeros.
     let rest : drop len field ≡ replicate (16 - length (take len field)) 0 =
     replicate-from_zeros (drop len field) zeros ∙ ap (λ n. replicate n 0) (left ∙ ap (λ n. 16 - n) (sym taken)) in
-    let whole : field ≡ padded 16 (take len field) = sym (take-append-drop len field) ∙ ap (λ ys. take len field ++ ys) rest in
+    let whole : field ≡ padded 16 (take len field) = sym (take-append-drop len field)
+    ∙ ap (λ ys. take len field ++ ys) rest in
     (bytes_eq-Decides field (padded 16 (take len field))).1 whole)
 
 list_all-word_bytes : (bytes : List ℕ) → list_all is_word_byte bytes ≡ true → list_all is_name_byte bytes ≡ true
@@ -87,40 +89,44 @@ name_of-bytes : (bytes name : List ℕ) → name_of bytes ≡ Some name → byte
 name_of-bytes bytes name found = name_of-when bytes name (is_name bytes) refl found
 
 -- the tests of a name in a field
-module _ (field : List ℕ) (len : ℕ) (size : length field ≡ 16) (before : len ≡ prefix_len (λ b. not (b == 0)) field) where
-  short_len : len ≤ 16
-  short_len = omega (arith, before, size, prefix_len-le-length (λ b. not (b == 0)) field)
+module _ (field : List ℕ) (len : ℕ) (size : length field ≡ 16) (before : len ≡ prefix_len (λ b. not (b == 0)) field)
+  where
+    short_len : len ≤ 16
+    short_len = omega (arith, before, size, prefix_len-le-length (λ b. not (b == 0)) field)
 
-  -- the field by its first bytes
-  padded_name-is : padded_name field ≡ (if is_short_name (take len field) && list_all (λ b. b == 0) (drop len field) then Some (take len field) else None)
-  padded_name-is = rw (← before, bytes_eq-padded field len size short_len) refl
+    -- the field by its first bytes
+    padded_name-is : padded_name field
+        ≡ (if is_short_name (take len field) && list_all (λ b. b == 0) (drop len field) then Some
+        (take len field) else None)
+    padded_name-is = rw (← before, bytes_eq-padded field len size short_len) refl
 
-  -- another byte than zero stands behind it
-  pub padded_name-rest : list_all (λ b. b == 0) (drop len field) ≡ false → padded_name field ≡ None
-  padded_name-rest rest = padded_name-is ∙ (rw (rest, and_false (is_short_name (take len field))) refl)
+    -- another byte than zero stands behind it
+    pub padded_name-rest : list_all (λ b. b == 0) (drop len field) ≡ false → padded_name field ≡ None
+    padded_name-rest rest = padded_name-is ∙ (rw (rest, and_false (is_short_name (take len field))) refl)
 
-  -- it isn't a short name
-  pub padded_name-not_short : is_short_name (take len field) ≡ false → padded_name field ≡ None
-  padded_name-not_short long = padded_name-is ∙ (rw long refl)
+    -- it isn't a short name
+    pub padded_name-not_short : is_short_name (take len field) ≡ false → padded_name field ≡ None
+    padded_name-not_short long = padded_name-is ∙ (rw long refl)
 
-  -- it isn't a name
-  pub padded_name-no_name : name_of (take len field) ≡ None → padded_name field ≡ None
-  padded_name-no_name none = elim (cases_Bool (is_short_name (take len field))) [
-    | inl short ↦
-        let named : is_name (take len field) ≡ true = (short_name (take len field) short).named in
-        let some : name_of (take len field) ≡ Some (take len field) = rw named refl in
-        let no : ⊥ = cc in absurd no
-    | inr long ↦ padded_name-not_short long
-  ]
+    -- it isn't a name
+    pub padded_name-no_name : name_of (take len field) ≡ None → padded_name field ≡ None
+    padded_name-no_name none = elim (cases_Bool (is_short_name (take len field))) [
+      | inl short ↦
+          let named : is_name (take len field) ≡ true = (short_name (take len field) short).named in
+          let some : name_of (take len field) ≡ Some (take len field) = rw named refl in
+          let no : ⊥ = cc in absurd no
+      | inr long ↦ padded_name-not_short long
+    ]
 
-  -- it is one, and zeros alone stand behind it
-  pub padded_name-some : (name : List ℕ) → name_of (take len field) ≡ Some name → is_short_name name ≡ true
-      → list_all (λ b. b == 0) (drop len field) ≡ true → padded_name field ≡ Some name
-  padded_name-some name found short rest =
-      let same : take len field ≡ name = name_of-bytes (take len field) name found in
-      padded_name-is ∙ (rw (same, short, rest) refl)
+    -- it is one, and zeros alone stand behind it
+    pub padded_name-some : (name : List ℕ) → name_of (take len field) ≡ Some name → is_short_name name ≡ true
+        → list_all (λ b. b == 0) (drop len field) ≡ true → padded_name field ≡ Some name
+    padded_name-some name found short rest =
+        let same : take len field ≡ name = name_of-bytes (take len field) name found in
+        padded_name-is ∙ (rw (same, short, rest) refl)
 
-  pub padded_name-long : (name : List ℕ) → name_of (take len field) ≡ Some name → is_short_name name ≡ false → padded_name field ≡ None
-  padded_name-long name found long =
-      let same : take len field ≡ name = name_of-bytes (take len field) name found in
-      padded_name-not_short (rw same long)
+    pub padded_name-long : (name : List ℕ) → name_of (take len field) ≡ Some name → is_short_name name ≡ false
+        → padded_name field ≡ None
+    padded_name-long name found long =
+        let same : take len field ≡ name = name_of-bytes (take len field) name found in
+        padded_name-not_short (rw same long)

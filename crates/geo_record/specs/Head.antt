@@ -11,9 +11,9 @@ abbrev pub answer_of : {A : Type 0} → Result A Declined → Result A DeclineCa
 answer_of (Ok value) = Ok value
 answer_of (Err declined) = Err declined.cause
 
--- the name in a sector whose head has this magic, or the first cause to decline it
-abbrev pub head_name : List ℕ → List ℕ → Result (List ℕ) DeclineCause
-head_name magic bytes = unless (first_error (head_tests magic bytes)) (record_name bytes)
+-- the name in a sector whose head has this magic and a version up to the newest, or the first cause to decline it
+abbrev pub head_name : List ℕ → ℕ → List ℕ → Result (List ℕ) DeclineCause
+head_name magic newest bytes = unless (first_error (head_tests magic newest bytes)) (record_name bytes)
 
 -- the short name in a field, with zeros alone behind it
 abbrev pub padded_name : List ℕ → Option (List ℕ)

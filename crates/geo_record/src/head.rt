@@ -1,4 +1,4 @@
-//! The head of a record: its magic, version 1, and its name with zeros behind it.
+//! The head of a record: its magic, its version from 1 on, and its name with zeros behind it.
 ghost use Rattle.std.specs.Prelude.{◌≡◌, ◌≤◌, ◌==◌, not, length, IsTrue};
 ghost use Rattle.std.specs.List.{list_all, prefix_len};
 ghost use Rattle.geo_base.specs.Name.{is_short_name};
@@ -38,18 +38,19 @@ fn padded_name(field: &[u8]) -> Option<Name>
     }
 }
 
-/// The name in a record of this magic. It is declined with the first cause: `Magic`, `Version`, or `BadName` where the
-/// name isn't 1 to 16 letters, digits, `_` and `-` with zeros alone behind them.
-pub fn decode_head(sector: &[u8], magic: &[u8; 16]) -> Result<Name, Declined>
+/// The name in a record of this magic and a version from 1 to `newest`. It is declined with the first cause: `Magic`,
+/// `Version`, or `BadName` where the name isn't 1 to 16 letters, digits, `_` and `-` with zeros alone behind them.
+pub fn decode_head(sector: &[u8], magic: &[u8; 16], newest: u32) -> Result<Name, Declined>
     requires { 36 ≤ length sector.now }
-    ensures { answer_of result ≡ head_name magic.now sector.now }
+    ensures { answer_of result ≡ head_name magic.now newest sector.now }
 {
     if sector[..16] != magic[..] {
         return Err(Declined {
             cause: DeclineCause::Magic,
         });
     }
-    if u32_at(sector, 16) != 1 {
+    let version = u32_at(sector, 16);
+    if version < 1 || newest < version {
         return Err(Declined {
             cause: DeclineCause::Version,
         });
@@ -62,14 +63,14 @@ pub fn decode_head(sector: &[u8], magic: &[u8; 16]) -> Result<Name, Declined>
     }
 }
 
-/// Fills a sector with the head of a record of this magic, and zeros behind it.
-pub fn encode_head(sector: &mut [u8], magic: &[u8; 16], name: &Name)
+/// Fills a sector with the head of a record of this magic and version, and zeros behind it.
+pub fn encode_head(sector: &mut [u8], magic: &[u8; 16], version: u32, name: &Name)
     requires room { 36 ≤ length sector.old }
     requires short { IsTrue (is_short_name name.now) }
-    ensures { sector.new ≡ padded (length sector.old) (record_head magic.now name.now) }
+    ensures { sector.new ≡ padded (length sector.old) (record_head magic.now version name.now) }
 {
     sector.fill(0);
     put_bytes(sector, 0, magic);
-    put_u32(sector, 16, 1);
+    put_u32(sector, 16, version);
     put_bytes(sector, 20, name.bytes());
 }

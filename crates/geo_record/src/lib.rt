@@ -1,13 +1,14 @@
-//! What the records of LABEL, CONCAT and STRIPE have in common: a magic, a version and a name, and fields behind them in
-//! the last sector of a provider. All numbers are little-endian.
+//! What the records of LABEL, CONCAT and STRIPE have in common: a magic, a version and a name, and fields behind them
+//! in the last sector of a provider. Beside them the entries of partition tables, for MBR and EBR. All numbers are
+//! little-endian.
 #![tactic(auto)]
 
 mod component;
+mod entry;
 mod field;
 mod head;
-#[cfg(test)]
-mod tests;
 
 pub use component::{is_place, put_component};
-pub use field::{put_bytes, put_u16, put_u32, u16_at, u32_at};
+pub use entry::{entry_count, entry_first, entry_type, has_signature};
+pub use field::{put_bytes, put_u16, put_u32, put_u64, u16_at, u32_at, u64_at};
 pub use head::{decode_head, encode_head};

@@ -23,15 +23,18 @@ pub record StripsSoFar (o len count stripe first end number : ℕ) (before now :
   pub room : end ≤ spare + number
 
 -- one strip more
-pub strips_more : (o len count stripe first end number : ℕ) (before now next : List Piece) (spare left : ℕ) → number < end
+pub strips_more : (o len count stripe first end number : ℕ) (before now next : List Piece) (spare left : ℕ)
+    → number < end
     → StripsSoFar o len count stripe first end number before now spare
     → next ≡ now ++ option_to_list (piece_in o len (strip count stripe number))
     → spare ≤ left + 1
     → StripsSoFar o len count stripe first end (number + 1) before next left
 strips_more o len count stripe first end number before now next spare left below so_far added kept = record {
   pieces =
-      cut_more o len (strip count stripe number) (map (strip count stripe) (range_with_len (number + 1) (end - (number + 1)))) now next _ added
-      (ap (λ numbers. now ++ cut o len (map (strip count stripe) numbers)) (sym (range-next number end below)) ∙ so_far.pieces);
+      cut_more o len (strip count stripe number)
+      (map (strip count stripe) (range_with_len (number + 1) (end - (number + 1)))) now next _ added
+      (ap (λ numbers. now ++ cut o len (map (strip count stripe) numbers)) (sym (range-next number end below))
+      ∙ so_far.pieces);
   room = omega (arith, so_far.room, kept);
 }
 
@@ -39,7 +42,8 @@ strips_more o len count stripe first end number before now next spare left below
 pub strips_rise : (o len stripe : ℕ) → 0 < stripe → 0 < len → o / stripe ≤ (o + len - 1) / stripe + 1
 strips_rise o len stripe some some_byte =
     let low : (o / stripe) * stripe ≤ o = div-mul-le_self o stripe in
-    let rising : o / stripe ≤ (o + len - 1) / stripe = le-div (o / stripe) (o + len - 1) stripe some (omega (arith, low, some_byte)) in
+    let rising : o / stripe ≤ (o + len - 1) / stripe =
+    le-div (o / stripe) (o + len - 1) stripe some (omega (arith, low, some_byte)) in
     omega (arith, rising)
 
 -- the last strip of a range ends less than a strip behind it
@@ -50,6 +54,7 @@ strips_end last stripe fits small =
     omega (arith, low, next, fits, small)
 
 -- some component holds a byte
-pub some_component : (count stripe smallest o len : ℕ) → 0 < len → o + len ≤ striped_size count stripe smallest → 0 < count
+pub some_component : (count stripe smallest o len : ℕ) → 0 < len → o + len ≤ striped_size count stripe smallest
+    → 0 < count
 some_component zero stripe smallest o len some inside = omega (arith, some, inside)
 some_component (suc n) stripe smallest o len some inside = omega arith

@@ -17,4 +17,5 @@ pub record Fits (x : StripeRecord) : Type 0 where
 abbrev pub EncodedIsDecoded : Type 0
 EncodedIsDecoded =
     (size : ℕ) (x : StripeRecord) → 48 ≤ size → Fits x
-    → stripe_record (stripe_sector size x) ≡ unless (first_error (place_test x.place x.count ∷ (size_test x.stripe size ∷ []))) x
+    → stripe_record (stripe_sector size x)
+    ≡ unless (first_error (place_test x.place x.count ∷ (size_test x.stripe size ∷ []))) x

@@ -27,7 +27,8 @@ stripe-follow map o len some inside =
 
 -- each byte of each piece lies where the map says
 pub stripe-placed : (map : StripeView) (o len : ℕ)
-    → AllByRecursion (PieceIsPlaced (λ at_o. Some (stripe_spot map.count map.stripe at_o)) o) (cut o len (strips map.count map.stripe o len))
+    → AllByRecursion (PieceIsPlaced (λ at_o. Some (stripe_spot map.count map.stripe at_o)) o)
+    (cut o len (strips map.count map.stripe o len))
 stripe-placed map o len =
     pieces_placed (λ at_o. Some (stripe_spot map.count map.stripe at_o)) o len (strips map.count map.stripe o len)
     (strips_placed map.count map.stripe o len)

@@ -3,8 +3,6 @@
 
 mod record;
 mod stripe_map;
-#[cfg(test)]
-mod tests;
 
 pub use geo_model::StripeRecord;
 pub use record::{decode, encode, what_is_encoded_is_decoded};

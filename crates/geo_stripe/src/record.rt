@@ -12,6 +12,9 @@ use geo_record::{decode_head, encode_head, is_place, put_component, put_u32, u16
 /// What the record begins with.
 const MAGIC: [u8; 16] = *b"RGEOM::STRIPE\0\0\0";
 
+/// The only version.
+const VERSION: u32 = 1;
+
 /// Whether strips may have so many bytes over sectors of so many: not 0, at most 32,768, and whole sectors.
 fn is_stripe_size(stripe: u32, sector: u64) -> bool
     requires { 0 < sector }
@@ -27,7 +30,7 @@ pub fn decode(sector: &[u8]) -> Result<StripeRecord, Declined>
     requires { 48 ≤ length sector.now }
     ensures { answer_of result ≡ stripe_record sector.now }
 {
-    let name = decode_head(sector, &MAGIC)?;
+    let name = decode_head(sector, &MAGIC, VERSION)?;
     let place = u16_at(sector, 40);
     let count = u16_at(sector, 42);
     if !is_place(place, count) {
@@ -56,7 +59,7 @@ pub fn encode(part: &StripeRecord, out: &mut [u8])
     requires short { IsTrue (is_short_name part.now.name) }
     ensures { out.new ≡ stripe_sector (length out.old) part.now }
 {
-    encode_head(out, &MAGIC, &part.name);
+    encode_head(out, &MAGIC, VERSION, &part.name);
     put_component(out, part.id, part.place, part.count);
     put_u32(out, 44, part.stripe);
 }

@@ -15,29 +15,41 @@ read_record bytes = record_of (record_name bytes) (u32_at bytes 36) (u16_at byte
 
 same_record : (name n : List ℕ) (id i place p count k : ℕ) → name ≡ n → i ≡ id → p ≡ place → k ≡ count
     → ◌≡◌ {A = Result ConcatRecord DeclineCause} (Ok (record_of name id place count)) (Ok (record_of n i p k))
-same_record name n id i place p count k same_name same_id same_place same_count = rw (same_name, ← same_id, ← same_place, ← same_count) refl
+same_record name n id i place p count k same_name same_id same_place same_count =
+    rw (same_name, ← same_id, ← same_place, ← same_count) refl
 
 pub returns-in_err-name : goal.returns-in_err-name
 returns-in_err-name c =
     let same = err_from_is_err_and c.from_residual.result c.from_residual.ensures.1 in
     rw (same.1, same.2)
-    (unless-declined concat_magic c.args.sector.now (place_test (u16_at c.args.sector.now 40) (u16_at c.args.sector.now 42) ∷ [])
+    (unless-declined concat_magic 1 c.args.sector.now
+    (place_test (u16_at c.args.sector.now 40) (u16_at c.args.sector.now 42) ∷ [])
     (read_record c.args.sector.now) c.in_err-name.field-0.0.cause c.in_err-name.ensures)
 
 pub returns-then-not-is_place : goal.returns-then-not-is_place
 returns-then-not-is_place c =
-    let head = head_name-ok concat_magic c.args.sector.now c.in_ok-name.name c.in_ok-name.ensures in
-    let none = is_place-tested c.u16_at-place.result c.u16_at-count.result (u16_at c.args.sector.now 40) (u16_at c.args.sector.now 42) c.is_place.result false
+    let head = head_name-ok concat_magic 1 c.args.sector.now c.in_ok-name.name c.in_ok-name.ensures in
+    let none = is_place-tested c.u16_at-place.result c.u16_at-count.result (u16_at c.args.sector.now 40)
+    (u16_at c.args.sector.now 42) c.is_place.result false
     c.u16_at-place.ensures c.u16_at-count.ensures c.is_place.ensures c.if-not-is_place.true in
-    sym (unless-behind concat_magic c.args.sector.now (place_test (u16_at c.args.sector.now 40) (u16_at c.args.sector.now 42) ∷ []) (read_record c.args.sector.now) head.0
-    ∙ unless-place_declined (u16_at c.args.sector.now 40) (u16_at c.args.sector.now 42) [] (read_record c.args.sector.now) none)
+    sym (unless-behind concat_magic 1 c.args.sector.now
+    (place_test (u16_at c.args.sector.now 40) (u16_at c.args.sector.now 42) ∷ [])
+    (read_record c.args.sector.now) head.0
+    ∙ unless-place_declined (u16_at c.args.sector.now 40) (u16_at c.args.sector.now 42) []
+    (read_record c.args.sector.now) none)
 
 pub returns : goal.returns
 returns c =
-    let head = head_name-ok concat_magic c.args.sector.now c.in_ok-name.name c.in_ok-name.ensures in
-    let one = is_place-tested c.u16_at-place.result c.u16_at-count.result (u16_at c.args.sector.now 40) (u16_at c.args.sector.now 42) c.is_place.result true
+    let head = head_name-ok concat_magic 1 c.args.sector.now c.in_ok-name.name c.in_ok-name.ensures in
+    let one = is_place-tested c.u16_at-place.result c.u16_at-count.result (u16_at c.args.sector.now 40)
+    (u16_at c.args.sector.now 42) c.is_place.result true
     c.u16_at-place.ensures c.u16_at-count.ensures c.is_place.ensures c.if-not-is_place.false in
-    sym (unless-behind concat_magic c.args.sector.now (place_test (u16_at c.args.sector.now 40) (u16_at c.args.sector.now 42) ∷ []) (read_record c.args.sector.now) head.0
-    ∙ unless-place_passed (u16_at c.args.sector.now 40) (u16_at c.args.sector.now 42) [] (read_record c.args.sector.now) one
-    ∙ same_record (record_name c.args.sector.now) c.in_ok-name.name (u32_at c.args.sector.now 36) c.u32_at.result (u16_at c.args.sector.now 40) c.u16_at-place.result
-    (u16_at c.args.sector.now 42) c.u16_at-count.result head.1 c.u32_at.ensures c.u16_at-place.ensures c.u16_at-count.ensures)
+    sym (unless-behind concat_magic 1 c.args.sector.now
+    (place_test (u16_at c.args.sector.now 40) (u16_at c.args.sector.now 42) ∷ [])
+    (read_record c.args.sector.now) head.0
+    ∙ unless-place_passed (u16_at c.args.sector.now 40) (u16_at c.args.sector.now 42) []
+    (read_record c.args.sector.now) one
+    ∙ same_record (record_name c.args.sector.now) c.in_ok-name.name (u32_at c.args.sector.now 36) c.u32_at.result
+    (u16_at c.args.sector.now 40) c.u16_at-place.result
+    (u16_at c.args.sector.now 42) c.u16_at-count.result head.1 c.u32_at.ensures c.u16_at-place.ensures
+    c.u16_at-count.ensures)

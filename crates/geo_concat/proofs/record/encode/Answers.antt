@@ -7,12 +7,15 @@ use Rattle.geo_concat.proofs.record.encode.Goals as goal
 
 pub put_component-requires-clause-free : goal.put_component-requires-clause-free
 put_component-requires-clause-free c =
-    free-behind (length c.args.out.now) 36 (record_head concat_magic c.args.part.now.name) c.encode_head.new.sector c.encode_head.ensures
-    (length-head concat_magic c.args.part.now.name refl c.requires.short) (omega (arith, c.requires.room))
+    free-behind (length c.args.out.now) 36 (record_head concat_magic 1 c.args.part.now.name) c.encode_head.new.sector
+    c.encode_head.ensures
+    (length-head concat_magic 1 c.args.part.now.name refl c.requires.short) (omega (arith, c.requires.room))
 
 pub returns : goal.returns
 returns c =
-    holds-behind (length c.args.out.now) 36 (record_head concat_magic c.args.part.now.name)
-    (to_le_bytes w32 c.args.part.now.id ++ (to_le_bytes w16 c.args.part.now.place ++ to_le_bytes w16 c.args.part.now.count))
+    holds-behind (length c.args.out.now) 36 (record_head concat_magic 1 c.args.part.now.name)
+    (to_le_bytes w32 c.args.part.now.id ++
+    (to_le_bytes w16 c.args.part.now.place ++ to_le_bytes w16 c.args.part.now.count))
     c.encode_head.new.sector c.put_component.new.sector c.encode_head.ensures
-    (length-head concat_magic c.args.part.now.name refl c.requires.short) (omega (arith, c.requires.room)) c.put_component.ensures
+    (length-head concat_magic 1 c.args.part.now.name refl c.requires.short)
+    (omega (arith, c.requires.room)) c.put_component.ensures

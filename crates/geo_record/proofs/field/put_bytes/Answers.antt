@@ -7,4 +7,5 @@ returns c =
     let same : c.copy_from_slice.new.self ≡ c.args.bytes.now = c.copy_from_slice.ensures.after in
     let size : c.args.offset + length c.args.bytes.now - c.args.offset ≡ length c.args.bytes.now = omega arith in
     rw (same, size)
-    (put-zeros c.args.sector.now c.args.bytes.now c.args.offset (length c.args.bytes.now) refl c.requires.room c.requires.free)
+    (put-zeros c.args.sector.now c.args.bytes.now c.args.offset (length c.args.bytes.now) refl c.requires.room
+    c.requires.free)

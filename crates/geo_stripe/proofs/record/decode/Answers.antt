@@ -13,19 +13,22 @@ abbrev record_of : List ℕ → ℕ → ℕ → ℕ → ℕ → StripeRecord
 record_of name id place count stripe = record { name = name; id = id; place = place; count = count; stripe = stripe }
 
 abbrev read_record : List ℕ → StripeRecord
-read_record bytes = record_of (record_name bytes) (u32_at bytes 36) (u16_at bytes 40) (u16_at bytes 42) (u32_at bytes 44)
+read_record bytes = record_of (record_name bytes) (u32_at bytes 36) (u16_at bytes 40) (u16_at bytes 42)
+    (u32_at bytes 44)
 
 -- what is tested behind a place
 abbrev size_tests : List ℕ → List (Bool × DeclineCause)
 size_tests bytes = size_test (u32_at bytes 44) (length bytes) ∷ []
 
-same_record : (name n : List ℕ) (id i place p count k stripe s : ℕ) → name ≡ n → i ≡ id → p ≡ place → k ≡ count → s ≡ stripe
+same_record : (name n : List ℕ) (id i place p count k stripe s : ℕ) → name ≡ n → i ≡ id → p ≡ place → k ≡ count
+    → s ≡ stripe
     → ◌≡◌ {A = Result StripeRecord DeclineCause} (Ok (record_of name id place count stripe)) (Ok (record_of n i p k s))
 same_record name n id i place p count k stripe s same_name same_id same_place same_count same_stripe =
     rw (same_name, ← same_id, ← same_place, ← same_count, ← same_stripe) refl
 
 -- a stripe size that was tested
-is_stripe_size-tested : (stripe s sector : ℕ) (tested answer : Bool) → s ≡ stripe → tested ≡ is_stripe_size s sector → tested ≡ answer → is_stripe_size stripe sector ≡ answer
+is_stripe_size-tested : (stripe s sector : ℕ) (tested answer : Bool) → s ≡ stripe → tested ≡ is_stripe_size s sector
+    → tested ≡ answer → is_stripe_size stripe sector ≡ answer
 is_stripe_size-tested stripe s sector tested answer same by_value is = rw (← same, ← by_value) is
 
 unless-size_declined : (stripe sector : ℕ) (value : StripeRecord) → is_stripe_size stripe sector ≡ false
@@ -40,41 +43,55 @@ pub returns-in_err-name : goal.returns-in_err-name
 returns-in_err-name c =
     let same = err_from_is_err_and c.from_residual.result c.from_residual.ensures.1 in
     rw (same.1, same.2)
-    (unless-declined stripe_magic c.args.sector.now (place_test (u16_at c.args.sector.now 40) (u16_at c.args.sector.now 42) ∷ size_tests c.args.sector.now)
+    (unless-declined stripe_magic 1 c.args.sector.now
+    (place_test (u16_at c.args.sector.now 40) (u16_at c.args.sector.now 42) ∷ size_tests c.args.sector.now)
     (read_record c.args.sector.now) c.in_err-name.field-0.0.cause c.in_err-name.ensures)
 
 pub returns-then-not-is_place : goal.returns-then-not-is_place
 returns-then-not-is_place c =
-    let head = head_name-ok stripe_magic c.args.sector.now c.in_ok-name.name c.in_ok-name.ensures in
-    let none = is_place-tested c.u16_at-place.result c.u16_at-count.result (u16_at c.args.sector.now 40) (u16_at c.args.sector.now 42) c.is_place.result false
+    let head = head_name-ok stripe_magic 1 c.args.sector.now c.in_ok-name.name c.in_ok-name.ensures in
+    let none = is_place-tested c.u16_at-place.result c.u16_at-count.result (u16_at c.args.sector.now 40)
+    (u16_at c.args.sector.now 42) c.is_place.result false
     c.u16_at-place.ensures c.u16_at-count.ensures c.is_place.ensures c.if-not-is_place.true in
-    sym (unless-behind stripe_magic c.args.sector.now (place_test (u16_at c.args.sector.now 40) (u16_at c.args.sector.now 42) ∷ size_tests c.args.sector.now)
+    sym (unless-behind stripe_magic 1 c.args.sector.now
+    (place_test (u16_at c.args.sector.now 40) (u16_at c.args.sector.now 42) ∷ size_tests c.args.sector.now)
     (read_record c.args.sector.now) head.0
-    ∙ unless-place_declined (u16_at c.args.sector.now 40) (u16_at c.args.sector.now 42) (size_tests c.args.sector.now) (read_record c.args.sector.now) none)
+    ∙ unless-place_declined (u16_at c.args.sector.now 40) (u16_at c.args.sector.now 42) (size_tests c.args.sector.now)
+    (read_record c.args.sector.now) none)
 
 pub returns-then-not-is_stripe_size : goal.returns-then-not-is_stripe_size
 returns-then-not-is_stripe_size c =
-    let head = head_name-ok stripe_magic c.args.sector.now c.in_ok-name.name c.in_ok-name.ensures in
-    let one = is_place-tested c.u16_at-place.result c.u16_at-count.result (u16_at c.args.sector.now 40) (u16_at c.args.sector.now 42) c.is_place.result true
+    let head = head_name-ok stripe_magic 1 c.args.sector.now c.in_ok-name.name c.in_ok-name.ensures in
+    let one = is_place-tested c.u16_at-place.result c.u16_at-count.result (u16_at c.args.sector.now 40)
+    (u16_at c.args.sector.now 42) c.is_place.result true
     c.u16_at-place.ensures c.u16_at-count.ensures c.is_place.ensures c.if-not-is_place.false in
-    let none = is_stripe_size-tested (u32_at c.args.sector.now 44) c.u32_at-stripe.result (length c.args.sector.now) c.is_stripe_size.result false
+    let none = is_stripe_size-tested (u32_at c.args.sector.now 44) c.u32_at-stripe.result
+    (length c.args.sector.now) c.is_stripe_size.result false
     c.u32_at-stripe.ensures c.is_stripe_size.ensures c.if-not-is_stripe_size.true in
-    sym (unless-behind stripe_magic c.args.sector.now (place_test (u16_at c.args.sector.now 40) (u16_at c.args.sector.now 42) ∷ size_tests c.args.sector.now)
+    sym (unless-behind stripe_magic 1 c.args.sector.now
+    (place_test (u16_at c.args.sector.now 40) (u16_at c.args.sector.now 42) ∷ size_tests c.args.sector.now)
     (read_record c.args.sector.now) head.0
-    ∙ unless-place_passed (u16_at c.args.sector.now 40) (u16_at c.args.sector.now 42) (size_tests c.args.sector.now) (read_record c.args.sector.now) one
-    ∙ unless-size_declined (u32_at c.args.sector.now 44) (length c.args.sector.now) (read_record c.args.sector.now) none)
+    ∙ unless-place_passed (u16_at c.args.sector.now 40) (u16_at c.args.sector.now 42) (size_tests c.args.sector.now)
+    (read_record c.args.sector.now) one
+    ∙ unless-size_declined (u32_at c.args.sector.now 44) (length c.args.sector.now)
+    (read_record c.args.sector.now) none)
 
 pub returns : goal.returns
 returns c =
-    let head = head_name-ok stripe_magic c.args.sector.now c.in_ok-name.name c.in_ok-name.ensures in
-    let one = is_place-tested c.u16_at-place.result c.u16_at-count.result (u16_at c.args.sector.now 40) (u16_at c.args.sector.now 42) c.is_place.result true
+    let head = head_name-ok stripe_magic 1 c.args.sector.now c.in_ok-name.name c.in_ok-name.ensures in
+    let one = is_place-tested c.u16_at-place.result c.u16_at-count.result (u16_at c.args.sector.now 40)
+    (u16_at c.args.sector.now 42) c.is_place.result true
     c.u16_at-place.ensures c.u16_at-count.ensures c.is_place.ensures c.if-not-is_place.false in
-    let fits = is_stripe_size-tested (u32_at c.args.sector.now 44) c.u32_at-stripe.result (length c.args.sector.now) c.is_stripe_size.result true
+    let fits = is_stripe_size-tested (u32_at c.args.sector.now 44) c.u32_at-stripe.result
+    (length c.args.sector.now) c.is_stripe_size.result true
     c.u32_at-stripe.ensures c.is_stripe_size.ensures c.if-not-is_stripe_size.false in
-    sym (unless-behind stripe_magic c.args.sector.now (place_test (u16_at c.args.sector.now 40) (u16_at c.args.sector.now 42) ∷ size_tests c.args.sector.now)
+    sym (unless-behind stripe_magic 1 c.args.sector.now
+    (place_test (u16_at c.args.sector.now 40) (u16_at c.args.sector.now 42) ∷ size_tests c.args.sector.now)
     (read_record c.args.sector.now) head.0
-    ∙ unless-place_passed (u16_at c.args.sector.now 40) (u16_at c.args.sector.now 42) (size_tests c.args.sector.now) (read_record c.args.sector.now) one
+    ∙ unless-place_passed (u16_at c.args.sector.now 40) (u16_at c.args.sector.now 42) (size_tests c.args.sector.now)
+    (read_record c.args.sector.now) one
     ∙ unless-size_passed (u32_at c.args.sector.now 44) (length c.args.sector.now) (read_record c.args.sector.now) fits
-    ∙ same_record (record_name c.args.sector.now) c.in_ok-name.name (u32_at c.args.sector.now 36) c.u32_at.result (u16_at c.args.sector.now 40) c.u16_at-place.result
+    ∙ same_record (record_name c.args.sector.now) c.in_ok-name.name (u32_at c.args.sector.now 36) c.u32_at.result
+    (u16_at c.args.sector.now 40) c.u16_at-place.result
     (u16_at c.args.sector.now 42) c.u16_at-count.result (u32_at c.args.sector.now 44) c.u32_at-stripe.result
     head.1 c.u32_at.ensures c.u16_at-place.ensures c.u16_at-count.ensures c.u32_at-stripe.ensures)

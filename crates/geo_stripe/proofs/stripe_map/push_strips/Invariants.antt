@@ -3,4 +3,5 @@ use Rattle.geo_stripe.proofs.stripe_map.push_strips.Given as goal
 
 abbrev pub invariant-loop-number : goal.invariant-loop-number
 invariant-loop-number l =
-    StripsSoFar l.span.offset l.span.len l.count l.stripe l.first l.end l.number l.fn.list.items l.list.items l.list.spare
+    StripsSoFar l.span.offset l.span.len l.count l.stripe l.first l.end l.number l.fn.list.items l.list.items
+    l.list.spare

@@ -1,0 +1,14 @@
+use Rattle.std.proofs.Common.{sym, ap}
+use Rattle.geo_concat.specs.ConcatMap.{ConcatView}
+use Rattle.geo_concat.proofs.GrowthLemmas.{kept_grown, places_kept}
+use Rattle.geo_concat.proofs.concat_map.ConcatMap.add.Goals as goal
+
+pub invariant_of-self : goal.invariant_of-self
+invariant_of-self c =
+    kept_grown c.args.self.now.sizes c.self.inside.cells c.self.inside.count c.args.size c.self.invariant
+    (sym (ap (λ (map : ConcatView). map.sizes) c.self.view_is)) c.requires.few c.requires.fits
+
+pub returns-clause-places_stay : goal.returns-clause-places_stay
+returns-clause-places_stay c =
+    places_kept c.args.self.now.sizes c.self.inside.cells c.self.inside.count c.args.size c.self.invariant
+    (sym (ap (λ (map : ConcatView). map.sizes) c.self.view_is)) c.requires.few

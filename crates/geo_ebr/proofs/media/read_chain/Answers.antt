@@ -1,0 +1,28 @@
+use Rattle.geo_ebr.proofs.WalkLemmas.{walk-begins, walk-declined, walk-long, walk-on, walk-whole}
+use Rattle.geo_ebr.proofs.media.read_chain.Goals as goal
+
+pub loop-init : goal.loop-init
+loop-init g c = walk-begins (g.M.Media.bytes c.args.media.now) c.args.sectors c.new-chain.result c.new-chain.ensures
+
+pub returns-in-Declined : goal.returns-in-Declined
+returns-in-Declined g c =
+    walk-declined (g.M.Media.bytes c.args.media.now) c.args.sectors c.loop.counter c.loop.next c.loop.chain
+    c.loop.invariant
+    c.loop-test.true c.sector.result.now c.sector.ensures.bytes c.in-Declined.cause c.in-Declined.ensures.answer
+
+pub returns-in-Whole : goal.returns-in-Whole
+returns-in-Whole g c =
+    walk-whole (g.M.Media.bytes c.args.media.now) c.args.sectors c.loop.counter c.loop.next c.loop.chain
+    c.loop.invariant
+    c.loop-test.true c.sector.result.now c.sector.ensures.bytes c.in-Whole.table c.in-Whole.ensures.answer
+
+pub loop-preserved : goal.loop-preserved
+loop-preserved g c =
+    walk-on (g.M.Media.bytes c.args.media.now) c.args.sectors c.loop.counter c.loop.next c.loop.chain c.loop.invariant
+    c.loop-test.true c.sector.result.now c.sector.ensures.bytes c.in-More.sector c.feed.new.self
+    c.in-More.ensures.answer c.in-More.ensures.chain
+
+pub returns : goal.returns
+returns g c =
+    walk-long (g.M.Media.bytes c.args.media.now) c.args.sectors c.loop.counter c.loop.next c.loop.chain
+    c.loop.invariant c.loop-test.false

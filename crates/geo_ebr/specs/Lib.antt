@@ -1,0 +1,3 @@
+pub mod ChainView
+pub mod Links
+pub mod MapLaws
