@@ -11,11 +11,11 @@ use Rattle.geo_laws_counts.proofs.Members.{in_head, in_tail, in_cases, in_nothin
 use Rattle.geo_laws_counts.proofs.LimitFacts.{all_of}
 
 -- the first of rising numbers is below the others, and these rise
-first_below : (n : ℕ) (ns : List ℕ) → AllPairs (λ x y. x < y) (n ∷ ns) → (m : ℕ) → Contains ns m → n < m
+pub first_below : (n : ℕ) (ns : List ℕ) → AllPairs (λ x y. x < y) (n ∷ ns) → (m : ℕ) → Contains ns m → n < m
 first_below n ns pairs m there = subst (λ x. n < x) there.2 (pairs 0 (suc there.0) m (omega arith) (omega (arith, there.1)))
 
 -- the rest of rising numbers rise
-rest_rise : (n : ℕ) (ns : List ℕ) → AllPairs (λ x y. x < y) (n ∷ ns) → AllPairs (λ x y. x < y) ns
+pub rest_rise : (n : ℕ) (ns : List ℕ) → AllPairs (λ x y. x < y) (n ∷ ns) → AllPairs (λ x y. x < y) ns
 rest_rise n ns pairs i j d h k = pairs (suc i) (suc j) d (omega arith) (omega arith)
 
 module _ {X : Type 0} (key : X → ℕ) where
@@ -29,7 +29,7 @@ module _ {X : Type 0} (key : X → ℕ) where
       ]
 
   -- each item is found by its number
-  found_of : (xs : List X) → AllPairs (λ m n. m < n) (map key xs) → (x : X) → Contains xs x → find (λ y. key y == key x) xs ≡ Some x
+  pub found_of : (xs : List X) → AllPairs (λ m n. m < n) (map key xs) → (x : X) → Contains xs x → find (λ y. key y == key x) xs ≡ Some x
   found_of [] rise x there = absurd (in_nothing x there)
   found_of (y ∷ ys) rise x there =
       elim (in_cases y ys x there) [
@@ -42,7 +42,7 @@ module _ {X : Type 0} (key : X → ℕ) where
       ]
 
   -- a number below all others is none of theirs
-  none_left : (n : ℕ) (xs : List X) → ((m : ℕ) → Contains (map key xs) m → n < m) → filter (λ y. key y == n) xs ≡ []
+  pub none_left : (n : ℕ) (xs : List X) → ((m : ℕ) → Contains (map key xs) m → n < m) → filter (λ y. key y == n) xs ≡ []
   none_left n [] above = refl
   none_left n (x ∷ xs) above =
       ap (λ b. cond b (x ∷ filter (λ y. key y == n) xs) (filter (λ y. key y == n) xs))
@@ -50,7 +50,7 @@ module _ {X : Type 0} (key : X → ℕ) where
       ∙ none_left n xs (λ m there. above m (in_tail (key x) (map key xs) m there))
 
   -- no other item has its number
-  only_of : (xs : List X) → AllPairs (λ m n. m < n) (map key xs) → (x : X) → Contains xs x → filter (λ y. key y == key x) xs ≡ x ∷ []
+  pub only_of : (xs : List X) → AllPairs (λ m n. m < n) (map key xs) → (x : X) → Contains xs x → filter (λ y. key y == key x) xs ≡ x ∷ []
   only_of [] rise x there = absurd (in_nothing x there)
   only_of (y ∷ ys) rise x there =
       elim (in_cases y ys x there) [

@@ -118,6 +118,7 @@ granted_nothing H x t none (Some g) kind = of_kind g.kind (map (λ p. H p.number
     of_kind kinds.Disk haves kind none = refl
     of_kind kinds.Nop haves kind none = cc
     of_kind kinds.Mbr haves kind none = cc
+    of_kind kinds.Ebr haves kind none = cc
     of_kind kinds.Label haves kind none = cc
     of_kind kinds.Concat haves kind none = cc
     of_kind kinds.Stripe haves kind none = cc

@@ -3,7 +3,7 @@ use Rattle.std.specs.Prelude.{◌≡◌, ℕ, ◌+◌, ◌==◌, Bool, true, fal
 use Rattle.std.proofs.Common.{refl, sym, ◌∙◌, ap}
 use Rattle.geo_base.specs.declared.request.Counts.{Counts}
 use Rattle.geo_model.specs.Words.{change_where}
-use Rattle.geo_model.specs.Topology.{Topology, Geom, Provider, Consumer, set_error, set_withering, set_marks, set_config, note_started, with_configs}
+use Rattle.geo_model.specs.Topology.{Topology, Geom, Provider, Consumer, set_error, set_size, set_withering, set_marks, set_config, note_started, with_configs}
 use Rattle.geo_laws_counts.specs.CountWords.{seen_by_counts, DemandStays, AnyConsumer}
 use Rattle.geo_laws_counts.proofs.SeenCounts.{seen_stays}
 
@@ -30,6 +30,13 @@ module _ {C : Type 0} (granted : ℕ → Counts) (t : Topology C) where
       seen_stays granted t (set_error t p)
       (ap (λ ps. record (seen_by_counts t) { providers = ps })
       (sym (map-changed (λ (x : Provider). (x.number, x.geom)) (λ x. x.number == p) (λ x. record x { errored = true }) (λ x. refl) t.providers)))
+
+  -- another media size
+  pub unseen_size : (p size : ℕ) → DemandStays granted t granted (set_size t p size) AnyConsumer
+  unseen_size p size =
+      seen_stays granted t (set_size t p size)
+      (ap (λ ps. record (seen_by_counts t) { providers = ps })
+      (sym (map-changed (λ (x : Provider). (x.number, x.geom)) (λ x. x.number == p) (λ x. record x { size = size }) (λ x. refl) t.providers)))
 
   -- withering
   pub unseen_withering : (g : ℕ) → DemandStays granted t granted (set_withering t g) AnyConsumer

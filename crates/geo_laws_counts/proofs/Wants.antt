@@ -8,11 +8,11 @@ use Rattle.geo_base.specs.declared.request.Counts.{Counts}
 use Rattle.geo_model.specs.Words.{is_granted_kind, is_kind}
 use Rattle.geo_model.specs.Demand.{no_counts, add_counts, sum_counts, is_zero, want_of_kind}
 use Rattle.geo_laws_counts.specs.CountWords.{IsAtMost, gain_of_kind}
-use Rattle.geo_laws_counts.proofs.Sums.{counts-same, at_most-same, at_most-under, zeros-sum, zero-test, zero-add_test}
+use Rattle.geo_laws_counts.proofs.Sums.{counts-same, add-zero, at_most-same, at_most-under, zeros-sum, zero-test, zero-add_test}
 
 -- one exclusive count, unless there are no counts
 exclusive_over : Bool → Counts → Counts
-exclusive_over none a = add_counts a (record { r = 0; w = 0; e = (if none then 0 else 1) })
+exclusive_over none a = add_counts a (record { r = 0; w = 0; e = (if not none then 1 else 0) })
 
 -- what a consumer of a class holds, from the sum of what its geom's providers have and what was granted to it
 pub want_of_sum : Kind → Counts → Counts → Counts
@@ -28,8 +28,9 @@ unfolding want_of_sum exclusive_over
 want-sum kinds.Dev haves granted = refl
 want-sum kinds.Taste haves granted = refl
 want-sum kinds.Disk haves granted = refl
-want-sum kinds.Nop haves granted = refl
+want-sum kinds.Nop haves granted = add-zero (sum_counts haves)
 want-sum kinds.Mbr haves granted = ap (λ b. exclusive_over b (sum_counts haves)) (zeros-sum haves)
+want-sum kinds.Ebr haves granted = ap (λ b. exclusive_over b (sum_counts haves)) (zeros-sum haves)
 want-sum kinds.Label haves granted = ap (λ b. exclusive_over b (sum_counts haves)) (zeros-sum haves)
 want-sum kinds.Concat haves granted = ap (λ b. exclusive_over b (sum_counts haves)) (zeros-sum haves)
 want-sum kinds.Stripe haves granted = ap (λ b. exclusive_over b (sum_counts haves)) (zeros-sum haves)
@@ -55,6 +56,7 @@ want_of_sum-at_most kinds.Taste a b x y h k = k
 want_of_sum-at_most kinds.Disk a b x y h k = at_most-same no_counts
 want_of_sum-at_most kinds.Nop a b x y h k = h
 want_of_sum-at_most kinds.Mbr a b x y h k = exclusive-at_most a b h (is_zero a) (is_zero b) refl refl
+want_of_sum-at_most kinds.Ebr a b x y h k = exclusive-at_most a b h (is_zero a) (is_zero b) refl refl
 want_of_sum-at_most kinds.Label a b x y h k = exclusive-at_most a b h (is_zero a) (is_zero b) refl refl
 want_of_sum-at_most kinds.Concat a b x y h k = exclusive-at_most a b h (is_zero a) (is_zero b) refl refl
 want_of_sum-at_most kinds.Stripe a b x y h k = exclusive-at_most a b h (is_zero a) (is_zero b) refl refl
@@ -102,6 +104,7 @@ want_of_sum-gain kinds.Taste had gains x y = refl
 want_of_sum-gain kinds.Disk had gains x y = refl
 want_of_sum-gain kinds.Nop had gains x y = refl
 want_of_sum-gain kinds.Mbr had gains x y = exclusive_gain_of had gains
+want_of_sum-gain kinds.Ebr had gains x y = exclusive_gain_of had gains
 want_of_sum-gain kinds.Label had gains x y = exclusive_gain_of had gains
 want_of_sum-gain kinds.Concat had gains x y = exclusive_gain_of had gains
 want_of_sum-gain kinds.Stripe had gains x y = exclusive_gain_of had gains
@@ -114,6 +117,7 @@ nothing_over kinds.Taste x e = cc
 nothing_over kinds.Disk x e = refl
 nothing_over kinds.Nop x e = refl
 nothing_over kinds.Mbr x e = refl
+nothing_over kinds.Ebr x e = refl
 nothing_over kinds.Label x e = refl
 nothing_over kinds.Concat x e = refl
 nothing_over kinds.Stripe x e = refl
@@ -124,7 +128,7 @@ unfolding exclusive_over
 exclusive_nothing b s none =
     let r : s.r + 0 ≡ 0 = ap (λ (a : Counts). a.r) none in
     let w : s.w + 0 ≡ 0 = ap (λ (a : Counts). a.w) none in
-    let e : s.e + (if b then 0 else 1) ≡ 0 = ap (λ (a : Counts). a.e) none in
+    let e : s.e + (if not b then 1 else 0) ≡ 0 = ap (λ (a : Counts). a.e) none in
     counts-same s no_counts (omega arith) (omega arith) (omega arith)
 
 -- where nothing is wanted there is nothing above
@@ -136,6 +140,7 @@ over_nothing kinds.Taste s x e disk none = cc
 over_nothing kinds.Disk s x e disk none = cc
 over_nothing kinds.Nop s x e disk none = none
 over_nothing kinds.Mbr s x e disk none = exclusive_nothing (is_zero s) s none
+over_nothing kinds.Ebr s x e disk none = exclusive_nothing (is_zero s) s none
 over_nothing kinds.Label s x e disk none = exclusive_nothing (is_zero s) s none
 over_nothing kinds.Concat s x e disk none = exclusive_nothing (is_zero s) s none
 over_nothing kinds.Stripe s x e disk none = exclusive_nothing (is_zero s) s none

@@ -2,7 +2,7 @@
 use Rattle.std.specs.Prelude.{◌≡◌, ◌≢◌, ℕ, Bool, false, List, [], Option, Some, None, All, Contains}
 use Rattle.geo_base.specs.declared.kind.Kind.{Kind}
 use Rattle.geo_base.specs.declared.request.Counts.{Counts}
-use Rattle.geo_model.specs.Topology.{Topology, Consumer, attached_to, add_geom, add_provider, add_consumer, remove_geom, remove_provider, set_error, set_withering, set_marks, set_config, note_started, with_configs}
+use Rattle.geo_model.specs.Topology.{Topology, Consumer, attached_to, add_geom, add_provider, add_consumer, remove_geom, remove_provider, set_error, set_size, set_withering, set_marks, set_config, note_started, with_configs}
 use Rattle.geo_model.specs.Rank.{Ranked}
 use Rattle.geo_model.specs.Demand.{want, no_counts}
 use Rattle.geo_laws_counts.specs.CountWords.{NumbersLead, seen_by_counts, DemandStays, AnyConsumer, keep_consumers, move_consumer}
@@ -16,6 +16,10 @@ SeenIsAll C D =
 -- so not on errors
 abbrev pub ErrorsAreNotSeen : Type 0 → Type 0
 ErrorsAreNotSeen C = (granted : ℕ → Counts) (t : Topology C) (p : ℕ) → DemandStays granted t granted (set_error t p) AnyConsumer
+
+-- nor on media sizes
+abbrev pub SizesAreNotSeen : Type 0 → Type 0
+SizesAreNotSeen C = (granted : ℕ → Counts) (t : Topology C) (p size : ℕ) → DemandStays granted t granted (set_size t p size) AnyConsumer
 
 -- nor on withering
 abbrev pub WitheringIsNotSeen : Type 0 → Type 0

@@ -1,5 +1,5 @@
 //! Laws of the changes of one thing that leave all counts as they are.
-ghost use Rattle.geo_laws_counts.specs.ChangeLaws.{ConfigsAreNotSeen, ErrorsAreNotSeen, GoneGeomsChangeNothing, GoneProvidersChangeNothing, GrantsOfConsumers, MarksAreNotSeen, NewConsumersChangeNothing, NewGeomsChangeNothing, NewProvidersChangeNothing, NextNumbersAreNotSeen, OtherConfigsAreNotSeen, QuietConsumersCome, QuietConsumersGo, QuietConsumersMove, SeenIsAll, StartsAreNotSeen, WitheringIsNotSeen};
+ghost use Rattle.geo_laws_counts.specs.ChangeLaws.{ConfigsAreNotSeen, ErrorsAreNotSeen, GoneGeomsChangeNothing, GoneProvidersChangeNothing, GrantsOfConsumers, MarksAreNotSeen, NewConsumersChangeNothing, NewGeomsChangeNothing, NewProvidersChangeNothing, NextNumbersAreNotSeen, OtherConfigsAreNotSeen, QuietConsumersCome, QuietConsumersGo, QuietConsumersMove, SeenIsAll, SizesAreNotSeen, StartsAreNotSeen, WitheringIsNotSeen};
 
 /// Demand depends on numbers, classes and who is attached where, and on nothing else of a graph.
 pub fn seen_is_all<C, D>()
@@ -7,9 +7,10 @@ pub fn seen_is_all<C, D>()
     ensures configs { OtherConfigsAreNotSeen C D }
 {}
 
-/// So errors, withering, marks, configurations, started requests and the next numbers leave it.
+/// So errors, media sizes, withering, marks, configurations, started requests and the next numbers leave it.
 pub fn little_is_seen<C>()
     ensures errors { ErrorsAreNotSeen C }
+    ensures sizes { SizesAreNotSeen C }
     ensures withering { WitheringIsNotSeen C }
     ensures marks { MarksAreNotSeen C }
     ensures configs { ConfigsAreNotSeen C }

@@ -13,7 +13,7 @@ use Rattle.geo_laws_counts.proofs.Levels.{of_each, have-at_most, want-at_most}
 use Rattle.geo_laws_counts.proofs.Upward.{have_is_sum}
 
 -- each item's larger count is its smaller one and what it has more
-sum_of_more : {X : Type 0} (f g : X → Counts) → ((x : X) → IsAtMost (f x) (g x)) → (xs : List X)
+pub sum_of_more : {X : Type 0} (f g : X → Counts) → ((x : X) → IsAtMost (f x) (g x)) → (xs : List X)
     → sum_counts (map g xs) ≡ add_counts (sum_counts (map f xs)) (sum_counts (map (λ x. more_counts (f x) (g x)) xs))
 sum_of_more f g less xs =
     sym (sum-same (λ x. add_counts (f x) (more_counts (f x) (g x))) g xs

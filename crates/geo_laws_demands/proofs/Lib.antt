@@ -4,3 +4,6 @@ pub mod Openers
 pub mod Singles
 pub mod Rising
 pub mod Refusing
+pub mod Orders
+pub mod Flows
+pub mod Raising

@@ -162,6 +162,7 @@ grant_over H x t (Some g) kind = of_kind g.kind (map (λ p. H p.number) (provide
     of_kind kinds.Disk haves kind = cc
     of_kind kinds.Nop haves kind = cc
     of_kind kinds.Mbr haves kind = cc
+    of_kind kinds.Ebr haves kind = cc
     of_kind kinds.Label haves kind = cc
     of_kind kinds.Concat haves kind = cc
     of_kind kinds.Stripe haves kind = cc

@@ -51,7 +51,7 @@ module _ {C : Type 0} (t : Topology C) (ranked : Ranked t) where
       (recursion_from_All _ t.consumers ranked))
 
   -- a provider directly under a geom is found, and its geom has a smaller rank
-  under_of : (n p : ℕ) → Contains (providers_under t n) p → IsSomeAnd (provider_at t p) (λ x. rank t x.geom < rank t n)
+  pub under_of : (n p : ℕ) → Contains (providers_under t n) p → IsSomeAnd (provider_at t p) (λ x. rank t x.geom < rank t n)
   under_of n p there =
       All-contains (λ q. IsSomeAnd (provider_at t q) (λ x. rank t x.geom < rank t n)) (providers_under t n) p
       (All-from_recursion _ (providers_under t n) (under-rank n)) there

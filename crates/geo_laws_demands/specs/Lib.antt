@@ -1,2 +1,3 @@
 pub mod DemandLaws
 pub mod AllowedLaws
+pub mod WalkWords

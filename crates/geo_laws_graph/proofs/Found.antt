@@ -6,11 +6,11 @@ use Rattle.std.proofs.Common.{refl, sym, ◌∙◌, ap, subst}
 use Rattle.std.proofs.lemmas.Bool.{eq-eqb, ne_eqb, and_right}
 use Rattle.std.proofs.lemmas.List.Elements.{filter_map-append}
 use Rattle.geo_model.specs.Words.{same_name, names_number, change_where}
-use Rattle.geo_model.specs.Topology.{Topology, Geom, Provider, Consumer, provider_at, consumer_at, consumers_of, providers_under, is_errored, is_withering, add_provider, remove_provider, set_error, set_marks}
+use Rattle.geo_model.specs.Topology.{Topology, Geom, Provider, Consumer, provider_at, consumer_at, consumers_of, providers_under, is_errored, is_withering, add_provider, remove_provider, set_error, set_size, set_marks, find_provider}
 use Rattle.geo_model.proofs.DemandLemmas.{all_weaker}
 use Rattle.geo_model.specs.Graph.{AreNumbers, IsInOrder}
-use Rattle.geo_laws_graph.specs.LookupLaws.{seen_geom, SeenGeomIsFound, new_geom, new_provider, new_consumer, EachIsFound, AddedGeomIsFound, AddedProviderIsFound, AddedConsumerIsFound, RemovedGeomIsGone, RemovedProviderIsGone, RemovedConsumerIsGone, AttachedIsFound, DetachedIsFound, ErrorIsFound, WitheringIsFound, MarksAreFound, ConfigIsFound, StartIsFound}
-use Rattle.geo_laws_graph.proofs.Lists.{changed, find-changed, filter-changed, any-changed, filter_map-changed, filter-filter, numbers-push, numbers-kept, numbers-changed}
+use Rattle.geo_laws_graph.specs.LookupLaws.{seen_geom, SeenGeomIsFound, new_geom, new_provider, new_consumer, EachIsFound, AddedGeomIsFound, AddedProviderIsFound, AddedConsumerIsFound, RemovedGeomIsGone, RemovedProviderIsGone, RemovedConsumerIsGone, AttachedIsFound, DetachedIsFound, ErrorIsFound, SizeIsFound, WitheringIsFound, MarksAreFound, ConfigIsFound, StartIsFound}
+use Rattle.geo_laws_graph.proofs.Lists.{changed, find-changed, filter-changed, any-changed, filter_map-changed, last-changed, changed-keeps, filter-filter, numbers-push, numbers-kept, numbers-changed}
 use Rattle.std.proofs.lemmas.Slice.Eq.{bytes_eq-Decides}
 use Rattle.geo_laws_graph.proofs.Spared.{IsUntouched, find-untouched, filter-untouched, any-untouched, filter-away, any-fewer, IsSpared, find-spared, filter-spared, any-spared}
 use Rattle.geo_laws_graph.proofs.Numbered.{find-pushed, filter-pushed, filter-pushed_hit, find-pushed_hit, any-pushed, find-none, each_found, unique, at-new, at-others, at-gone, at-kept, any-kept_at, at-here, at-unchanged, any-unchanged, any-here}
@@ -47,6 +47,13 @@ marked_one test mark x e = rw e refl
 -- one that doesn't pass is as before
 unmarked_one : (test : Consumer → Bool) (mark : Bool) (x : Consumer) → test x ≡ false → changed test (λ y. record y { spoiled = mark }) x ≡ x
 unmarked_one test mark x e = rw e refl
+
+-- the number of the first of two that is there, where both may be changed but keep their numbers
+number_through : {X : Type 0} (f : X → X) (number : X → ℕ) (same : (x : X) → number (f x) ≡ number x) (a b : Option X)
+    → option_map number (option_or (option_map f a) (option_map f b)) ≡ option_map number (option_or a b)
+number_through f number same (Some x) b = ap (λ n. Some n) (same x)
+number_through f number same None (Some y) = ap (λ n. Some n) (same y)
+number_through f number same None None = refl
 
 module _ {C : Type 0} where
   -- in lists in order each is what is found at its number
@@ -269,6 +276,39 @@ module _ {C : Type 0} where
       consumers = order.consumers;
     };
   }
+
+  -- a provider of another media size is found so; errors, names and all else stay
+  pub size_found : SizeIsFound C
+  size_found = record {
+    here = λ t p size x found. at-here (λ (y : Provider). y.number) (λ y. record y { size = size }) (λ y. refl) p t.providers x found;
+    others = λ t p size q apart. at-unchanged (λ (y : Provider). y.number) (λ y. record y { size = size }) (λ y. refl) p q apart t.providers;
+    of = λ t p size g.
+        filter-changed (λ (y : Provider). y.number == p) (λ y. record y { size = size }) (λ (y : Provider). y.geom == g) (λ y e. refl) t.providers;
+    errors = λ t p size q.
+        any-changed (λ (y : Provider). y.number == p) (λ y. record y { size = size }) (λ (y : Provider). (y.number == q) && y.errored) (λ y e. refl)
+        t.providers;
+    taken = λ t p size name.
+        any-changed (λ (y : Provider). y.number == p) (λ y. record y { size = size }) (λ (y : Provider). not y.errored && same_name y.name name)
+        (λ y e. refl) t.providers;
+    named = λ t p size name. size_named t p size name;
+    order = λ t p size order. record {
+      geoms = order.geoms;
+      providers = numbers-changed (λ (x : Provider). x.number) (λ (y : Provider). y.number == p) (λ y. record y { size = size }) (λ y e. refl)
+          t.next_provider t.providers order.providers;
+      consumers = order.consumers;
+    };
+  }
+    where
+      -- what is found by a name, without an error or else as the newest, is what was found, changed
+      size_named : (t : Topology C) (p size : ℕ) (name : List ℕ) → find_provider (set_size t p size) name ≡ find_provider t name
+      size_named t p size name =
+          let hit : Provider → Bool = λ (y : Provider). y.number == p in
+          let change : Provider → Provider = λ (y : Provider). record y { size = size } in
+          let sound : Provider → Bool = λ (y : Provider). not y.errored && same_name y.name name in
+          let named : Provider → Bool = λ (y : Provider). same_name y.name name in
+          rw (find-changed hit change sound (λ y e. refl) t.providers, filter-changed hit change named (λ y e. refl) t.providers, last-changed hit change None (filter named t.providers))
+          (number_through (changed hit change) (λ (y : Provider). y.number) (changed-keeps hit change (λ (y : Provider). y.number) (λ y e. refl))
+          (find sound t.providers) (last_or None (filter named t.providers)))
 
   -- a geom that withers is found so, the others as before
   pub withering-found : WitheringIsFound C

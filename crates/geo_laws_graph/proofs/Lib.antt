@@ -5,4 +5,5 @@ pub mod Spared
 pub mod Found
 pub mod TwoChanges
 pub mod Walks
+pub mod Finding
 pub mod Living

@@ -1,6 +1,6 @@
 -- Lists after a change of some items, after some are gone, and after one more: what is found, kept and counted there.
 use Rattle.std.specs.Prelude.{◌≡◌, ◌⊎◌, ℕ, zero, suc, ◌+◌, ◌<◌, ◌≤◌, ◌==◌, Bool, true, false, List, [], ◌∷◌, ◌++◌, length, map, filter, filter_map, find, Option, Some, None, All, Contains, option_map, if◌then◌else◌}
-use Rattle.std.specs.List.{AllByRecursion, list_any}
+use Rattle.std.specs.List.{AllByRecursion, list_any, last_or}
 use Rattle.std.specs.List.Sorted.{IsStrictlyIncreasing}
 use Rattle.std.proofs.Common.{inl, inr, refl, ◌∙◌, ap, arith}
 use Rattle.std.proofs.lemmas.Bool.{eqb-true, eq-eqb, ne_eqb}
@@ -50,6 +50,11 @@ module _ {X : Type 0} (hit : X → Bool) (change : X → X) where
     pub any-changed : (xs : List X) → list_any test (change_where hit change xs) ≡ list_any test xs
     any-changed [] = refl
     any-changed (x ∷ xs) = rw (changed-keeps test same x, any-changed xs) refl
+
+  -- the last item is the last one, changed
+  pub last-changed : (o : Option X) (xs : List X) → last_or (option_map changed o) (change_where hit change xs) ≡ option_map changed (last_or o xs)
+  last-changed o [] = refl
+  last-changed o (x ∷ xs) = last-changed (Some x) xs
 
   module _ {Y : Type 0} where
     -- what doesn't change is seen as before

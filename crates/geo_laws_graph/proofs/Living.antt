@@ -6,7 +6,7 @@ use Rattle.std.proofs.lemmas.List.Elements.{recursion_from_All, All-from_recursi
 use Rattle.std.proofs.lemmas.List.Folds.{find-append}
 use Rattle.geo_base.specs.declared.kind.Kind.{Kind}
 use Rattle.geo_model.specs.Words.{change_where, names_number}
-use Rattle.geo_model.specs.Topology.{Topology, Geom, Provider, Consumer, geom_at, provider_at, providers_of, consumers_of, attached_to, add_geom, add_provider, add_consumer, remove_geom, remove_provider, remove_consumer, attach, set_error, set_marks}
+use Rattle.geo_model.specs.Topology.{Topology, Geom, Provider, Consumer, geom_at, provider_at, providers_of, consumers_of, attached_to, add_geom, add_provider, add_consumer, remove_geom, remove_provider, remove_consumer, attach, set_error, set_size, set_marks}
 use Rattle.geo_model.specs.Graph.{OfferersLive, GeomsLive, ProvidersLive, PartsLive}
 use Rattle.geo_laws_graph.specs.LookupLaws.{PartsStayAlive, SoundIsInOrder, SteadyPartsLive}
 use Rattle.geo_laws_graph.proofs.Members.{has, Contains-filter, All-from_contained, at_contained, nothing_in}
@@ -157,23 +157,46 @@ module _ {C : Type 0} (t : Topology C) where
         (recursion_from_All (λ (x : Consumer). IsSome (geom_at t x.geom)) t.consumers live))
 
 module _ {C : Type 0} where
-  -- an error, marks
-  pub set_error-providers : (t : Topology C) (p : ℕ) → ProvidersLive t → ProvidersLive (set_error t p)
-  set_error-providers t p live =
-      All-weaker (λ (c : Consumer). IfSome c.provider (λ q. IsSome (provider_at t q))) (λ (c : Consumer). IfSome c.provider (λ q. IsSome (provider_at (set_error t p) q)))
-      (λ c. if_some_weaker (λ q. IsSome (provider_at t q)) (λ q. IsSome (provider_at (set_error t p) q))
-      (λ q there.
-      let x = has (provider_at t q) there in
-      let found : provider_at t q ≡ Some x.item = x.is in
-      let same = find-changed (λ (y : Provider). y.number == p) (λ y. record y { errored = true }) (λ (y : Provider). y.number == q) (λ y e. refl) t.providers in
-      rw (same, found) refl)
-      c.provider)
+  -- a provider that is changed but keeps its number lives on
+  changed_provider : (t : Topology C) (p : ℕ) (change : Provider → Provider) → ((x : Provider) → (change x).number ≡ x.number)
+      → (q : ℕ) → IsSome (provider_at t q) → IsSome (find (λ (x : Provider). x.number == q) (change_where (λ x. x.number == p) change t.providers))
+  changed_provider t p change same q there =
+      subst (λ (o : Option Provider). IsSome o)
+      (sym (find-changed (λ (x : Provider). x.number == p) change (λ (x : Provider). x.number == q) (λ x e. ap (λ n. n == q) (same x)) t.providers))
+      (map_there (changed (λ (x : Provider). x.number == p) change) (provider_at t q) there)
+
+  -- so each attached consumer's provider lives where one is changed but keeps its number
+  changed_provider-providers : (t : Topology C) (p : ℕ) (change : Provider → Provider) → ((x : Provider) → (change x).number ≡ x.number)
+      → ProvidersLive t → ProvidersLive (record t { providers = change_where (λ x. x.number == p) change t.providers })
+  changed_provider-providers t p change same live =
+      let after : Topology C = record t { providers = change_where (λ x. x.number == p) change t.providers } in
+      All-weaker (λ (c : Consumer). IfSome c.provider (λ q. IsSome (provider_at t q)))
+      (λ (c : Consumer). IfSome c.provider (λ q. IsSome (provider_at after q)))
+      (λ c. if_some_weaker (λ q. IsSome (provider_at t q)) (λ q. IsSome (provider_at after q)) (changed_provider t p change same) c.provider)
       t.consumers live
+
+  -- where one gets an error
+  pub set_error-providers : (t : Topology C) (p : ℕ) → ProvidersLive t → ProvidersLive (set_error t p)
+  set_error-providers t p = changed_provider-providers t p (λ x. record x { errored = true }) (λ x. refl)
+
+  -- and where one gets another media size
+  pub set_size-providers : (t : Topology C) (p size : ℕ) → ProvidersLive t → ProvidersLive (set_size t p size)
+  set_size-providers t p size = changed_provider-providers t p (λ x. record x { size = size }) (λ x. refl)
 
   -- each attached consumer's provider lives where consumers are marked
   pub set_marks-providers : (t : Topology C) (test : Consumer → Bool) (mark : Bool) → ProvidersLive t → ProvidersLive (set_marks t test mark)
   set_marks-providers t test mark live =
       changed-consumers t (λ c. IfSome c.provider (λ q. IsSome (provider_at t q))) test (λ x. record x { spoiled = mark }) (λ x e fact. fact) live
+
+  -- so what the parts name lives where a provider is changed but keeps its number and its geom
+  pub changed_provider-parts : (t : Topology C) (p : ℕ) (change : Provider → Provider) → ((x : Provider) → (change x).number ≡ x.number)
+      → ((x : Provider) → (change x).geom ≡ x.geom) → PartsLive t → PartsLive (record t { providers = change_where (λ x. x.number == p) change t.providers })
+  changed_provider-parts t p change number geom live = record {
+    offerers = changed-providers t (λ x. IsSome (geom_at t x.geom)) (λ x. x.number == p) change
+        (λ x e there. subst (λ g. IsSome (geom_at t g)) (sym (geom x)) there) live.offerers;
+    geoms = live.geoms;
+    providers = changed_provider-providers t p change number live.providers;
+  }
 
   -- geoms that are changed but keep their numbers live on
   changed_geom : (t : Topology C) (hit : Geom C → Bool) (change : Geom C → Geom C) → ((x : Geom C) → (change x).number ≡ x.number)
@@ -183,7 +206,7 @@ module _ {C : Type 0} where
       (map_there (changed hit change) (geom_at t g) there)
 
   -- so what the parts name lives where geoms are changed but keep their numbers
-  changed_parts : (t : Topology C) (hit : Geom C → Bool) (change : Geom C → Geom C) → ((x : Geom C) → (change x).number ≡ x.number)
+  pub changed_parts : (t : Topology C) (hit : Geom C → Bool) (change : Geom C → Geom C) → ((x : Geom C) → (change x).number ≡ x.number)
       → PartsLive t → PartsLive (record t { geoms = change_where hit change t.geoms })
   changed_parts t hit change same live = record {
     offerers = All-weaker (λ (p : Provider). IsSome (geom_at t p.geom)) (λ (p : Provider). IsSome (find (λ (x : Geom C). x.number == p.geom) (change_where hit change t.geoms)))
@@ -262,11 +285,8 @@ module _ {C : Type 0} where
       geoms = changed-consumers t (λ x. IsSome (geom_at t x.geom)) (λ x. x.number == c) (λ x. record x { provider = None }) (λ x e fact. fact) live.geoms;
       providers = changed-consumers t (λ x. IfSome x.provider (λ q. IsSome (provider_at t q))) (λ x. x.number == c) (λ x. record x { provider = None }) (λ x e fact. tt) live.providers;
     };
-    errored = λ t p live. record {
-      offerers = changed-providers t (λ x. IsSome (geom_at t x.geom)) (λ x. x.number == p) (λ x. record x { errored = true }) (λ x e fact. fact) live.offerers;
-      geoms = live.geoms;
-      providers = set_error-providers t p live.providers;
-    };
+    errored = λ t p live. changed_provider-parts t p (λ x. record x { errored = true }) (λ x. refl) (λ x. refl) live;
+    sized = λ t p size live. changed_provider-parts t p (λ x. record x { size = size }) (λ x. refl) (λ x. refl) live;
     marked = λ t test mark live. record {
       offerers = live.offerers;
       geoms = changed-consumers t (λ x. IsSome (geom_at t x.geom)) test (λ x. record x { spoiled = mark }) (λ x e fact. fact) live.geoms;

@@ -81,5 +81,6 @@ walks-meet = record {
   begin = λ number xs. walk-begin number xs;
   step = λ number xs next from_number n are first. steps number xs next from_number n 0 (rise-from next (map number xs) are) first;
   rest = λ number xs from_number none. walk-rest number xs from_number none;
+  empty = λ number xs none. sym (walk-begin number xs) ∙ walk-rest number xs 0 none;
   part = λ number keep xs next are. numbers-kept number keep next xs are;
 }

@@ -1,10 +1,10 @@
 -- Laws of look-ups after a change of one thing, for any configuration C of a class.
-use Rattle.std.specs.Prelude.{◌≡◌, ◌≢◌, ℕ, ◌+◌, ◌<◌, ◌≤◌, ◌==◌, nat_le, Bool, true, false, not, ◌&&◌, ◌||◌, List, [], ◌∷◌, ◌++◌, Option, Some, None, IfSome, IsSome, filter, find, map, option_map}
+use Rattle.std.specs.Prelude.{◌≡◌, ◌≢◌, ℕ, ◌+◌, ◌<◌, ◌≤◌, ◌==◌, nat_le, Bool, true, false, not, ◌&&◌, ◌||◌, List, [], ◌∷◌, ◌++◌, Option, Some, None, IfSome, IsSome, IsSomeAnd, filter, find, map, option_map}
 use Rattle.std.specs.List.{AllByRecursion}
 use Rattle.std.specs.Option.{option_to_list}
 use Rattle.geo_base.specs.declared.kind.Kind.{Kind}
 use Rattle.geo_model.specs.Words.{same_name, names_number, change_where}
-use Rattle.geo_model.specs.Topology.{with_configs, Topology, Geom, Provider, Consumer, geom_at, provider_at, consumer_at, providers_of, consumers_of, attached_to, providers_under, is_name_taken, find_provider, is_errored, is_withering, add_geom, add_provider, add_consumer, remove_geom, remove_provider, remove_consumer, attach, set_error, set_withering, set_marks, set_config, note_started, detach}
+use Rattle.geo_model.specs.Topology.{with_configs, Topology, Geom, Provider, Consumer, geom_at, provider_at, consumer_at, providers_of, consumers_of, attached_to, providers_under, is_name_taken, find_provider, is_errored, is_withering, add_geom, add_provider, add_consumer, remove_geom, remove_provider, remove_consumer, attach, set_error, set_size, set_withering, set_marks, set_config, note_started, detach}
 use Rattle.geo_model.specs.World.{World, Config}
 use Rattle.geo_model.specs.Sound.{NumbersHold}
 use Rattle.geo_model.specs.Steady.{PartsHaveGeoms, AreAttached}
@@ -162,6 +162,18 @@ pub record ErrorIsFound (C : Type 0) : Type 0 where
       → same_name x.name name ≡ false → find_provider (set_error t p) name ≡ find_provider t name
   pub order : (t : Topology C) (p : ℕ) → IsInOrder t → IsInOrder (set_error t p)
 
+-- a provider of another media size is found so; errors, names and all else stay
+pub record SizeIsFound (C : Type 0) : Type 0 where
+  pub here : (t : Topology C) (p size : ℕ) (x : Provider) → provider_at t p ≡ Some x
+      → provider_at (set_size t p size) p ≡ Some (record x { size = size })
+  pub others : (t : Topology C) (p size q : ℕ) → q ≢ p → provider_at (set_size t p size) q ≡ provider_at t q
+  pub of : (t : Topology C) (p size g : ℕ)
+      → providers_of (set_size t p size) g ≡ change_where (λ x. x.number == p) (λ x. record x { size = size }) (providers_of t g)
+  pub errors : (t : Topology C) (p size q : ℕ) → is_errored (set_size t p size) q ≡ is_errored t q
+  pub taken : (t : Topology C) (p size : ℕ) (name : List ℕ) → is_name_taken (set_size t p size) name ≡ is_name_taken t name
+  pub named : (t : Topology C) (p size : ℕ) (name : List ℕ) → find_provider (set_size t p size) name ≡ find_provider t name
+  pub order : (t : Topology C) (p size : ℕ) → IsInOrder t → IsInOrder (set_size t p size)
+
 -- a geom that withers is found so
 pub record WitheringIsFound (C : Type 0) : Type 0 where
   pub here : (t : Topology C) (g : ℕ) (x : Geom C) → geom_at t g ≡ Some x
@@ -240,10 +252,22 @@ pub record WalksMeetAll (X : Type 0) : Type 0 where
       → option_map number (find (λ x. nat_le from_number (number x)) xs) ≡ Some n → IsStep number xs next from_number n
   pub rest : (number : X → ℕ) (xs : List X) (from_number : ℕ)
       → option_map number (find (λ x. nat_le from_number (number x)) xs) ≡ None → left_from number from_number xs ≡ []
+  pub empty : (number : X → ℕ) (xs : List X) → option_map number (find (λ x. nat_le 0 (number x)) xs) ≡ None → xs ≡ []
   pub part : (number : X → ℕ) (keep : X → Bool) (xs : List X) (next : ℕ) → AreNumbers (map number xs) next
       → AreNumbers (map number (filter keep xs)) next
 
 -- What lives
+
+-- what a look-up finds lives, and what is found by a name has it
+pub record WhatIsFoundLives (C : Type 0) : Type 0 where
+  pub geom : (t : Topology C) (from_number g : ℕ) → IsInOrder t → option_map (λ x. x.number) (find (λ x. nat_le from_number x.number) t.geoms) ≡ Some g
+      → IsSome (geom_at t g)
+  pub provider : (t : Topology C) (from_number p : ℕ) → IsInOrder t
+      → option_map (λ x. x.number) (find (λ x. nat_le from_number x.number) t.providers) ≡ Some p → IsSome (provider_at t p)
+  pub consumer : (t : Topology C) (from_number c : ℕ) → IsInOrder t
+      → option_map (λ x. x.number) (find (λ x. nat_le from_number x.number) t.consumers) ≡ Some c → IsSome (consumer_at t c)
+  pub named : (t : Topology C) (name : List ℕ) (p : ℕ) → IsInOrder t → find_provider t name ≡ Some p
+      → IsSomeAnd (provider_at t p) (λ x. same_name x.name name ≡ true)
 
 -- what the parts of the graph name goes on living
 pub record PartsStayAlive (C : Type 0) : Type 0 where
@@ -259,6 +283,7 @@ pub record PartsStayAlive (C : Type 0) : Type 0 where
   pub attached : (t : Topology C) (c p : ℕ) → IsSome (provider_at t p) → PartsLive t → PartsLive (attach t c p)
   pub detached : (t : Topology C) (c : ℕ) → PartsLive t → PartsLive (detach t c)
   pub errored : (t : Topology C) (p : ℕ) → PartsLive t → PartsLive (set_error t p)
+  pub sized : (t : Topology C) (p size : ℕ) → PartsLive t → PartsLive (set_size t p size)
   pub marked : (t : Topology C) (test : Consumer → Bool) (mark : Bool) → PartsLive t → PartsLive (set_marks t test mark)
   pub withering : (t : Topology C) (g : ℕ) → PartsLive t → PartsLive (set_withering t g)
   pub config : (t : Topology C) (g : ℕ) (config : C) → PartsLive t → PartsLive (set_config t g config)

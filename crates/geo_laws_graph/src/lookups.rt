@@ -1,5 +1,5 @@
 //! Laws of look-ups, for any configuration of a class.
-ghost use Rattle.geo_laws_graph.specs.LookupLaws.{AddedConsumerIsFound, AddedGeomIsFound, AddedProviderIsFound, AttachedIsFound, ConfigIsFound, DetachedIsFound, EachIsFound, ErrorIsFound, MarksAreFound, PartsStayAlive, RemovedConsumerIsGone, RemovedGeomIsGone, RemovedProviderIsGone, SeenGeomIsFound, SoundIsInOrder, StartIsFound, SteadyPartsLive, TwoChangesAreOne, WalksMeetAll, WitheringIsFound};
+ghost use Rattle.geo_laws_graph.specs.LookupLaws.{AddedConsumerIsFound, AddedGeomIsFound, AddedProviderIsFound, AttachedIsFound, ConfigIsFound, DetachedIsFound, EachIsFound, ErrorIsFound, MarksAreFound, PartsStayAlive, RemovedConsumerIsGone, RemovedGeomIsGone, RemovedProviderIsGone, SeenGeomIsFound, SizeIsFound, SoundIsInOrder, StartIsFound, SteadyPartsLive, TwoChangesAreOne, WalksMeetAll, WhatIsFoundLives, WitheringIsFound};
 
 /// In lists in order of numbers each thing is what is found at its number.
 pub fn each_is_found<C>()
@@ -37,6 +37,12 @@ pub fn error_is_found<C>()
     ensures { ErrorIsFound C }
 {}
 
+/// A provider of another media size is found so; errors, names and all others are as before.
+#[tactic(auto, using(crate::proofs::Found::size_found))]
+pub fn size_is_found<C>()
+    ensures { SizeIsFound C }
+{}
+
 /// A geom that withers, is configured anew or starts a request is found so, and all others as before.
 pub fn changed_geom_is_found<C>()
     ensures withering { WitheringIsFound C }
@@ -53,6 +59,12 @@ pub fn seen_geom_is_found<C, D>()
 /// item once.
 pub fn walks_meet_all<X>()
     ensures { WalksMeetAll X }
+{}
+
+/// What a look-up finds lives, and what is found by a name has it.
+#[tactic(auto, using(crate::proofs::Finding::found_lives))]
+pub fn found_lives<C>()
+    ensures { WhatIsFoundLives C }
 {}
 
 /// What the parts of the graph name goes on living.

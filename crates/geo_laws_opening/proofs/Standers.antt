@@ -59,7 +59,7 @@ pub record AreApart (x y : Stander) : Type 0 where
   pub names : Differ x.1.0.name y.1.0.name
 
 -- the sizes that a plan and its facts give
-sizes_of : (d : DiskDecl) (fact : ℕ × ℕ) → IsDiskDecl d → IsFact d fact → IsMediaSize (fact.0 * fact.1) fact.0
+pub sizes_of : (d : DiskDecl) (fact : ℕ × ℕ) → IsDiskDecl d → IsFact d fact → IsMediaSize (fact.0 * fact.1) fact.0
 sizes_of d fact decl is = media fact.0 fact.1 (rw is.sector decl.sector) is.some is.limited where
   -- some sectors have some bytes
   some_sector : (sector sectors : ℕ) → (sector ≡ 512) ⊎ (sector ≡ 4096) → 1 ≤ sectors → 1 ≤ sector * sectors

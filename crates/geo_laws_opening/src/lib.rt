@@ -1,10 +1,11 @@
-//! Laws of the opening: it is sound, and steady (geom(4)).
+//! Laws of the opening: it is sound, steady and fitting (geom(4)).
 #![tactic(auto)]
 
-ghost use Rattle.geo_laws_opening.specs.OpeningLaws.{OpeningsAreSound, OpeningsAreSteady};
+ghost use Rattle.geo_laws_opening.specs.OpeningLaws.{OpeningsAreFitting, OpeningsAreSound, OpeningsAreSteady};
 
-/// The world with which each plan begins is sound, and steady.
+/// The world with which each plan begins is sound, steady and fitting.
 pub fn openings_are_sound()
     ensures sound { OpeningsAreSound }
     ensures steady { OpeningsAreSteady }
+    ensures fitting { OpeningsAreFitting }
 {}

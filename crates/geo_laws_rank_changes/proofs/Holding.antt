@@ -8,14 +8,14 @@ use Rattle.geo_model.specs.GeomCommands.{with_geom_at, rank_over}
 use Rattle.geo_laws_graph.proofs.Members.{has}
 use Rattle.geo_laws_ranks.proofs.Depth.{depth}
 use Rattle.geo_model.specs.Words.{change_where}
-use Rattle.geo_model.specs.Topology.{attach, add_geom, Topology, Geom, Provider, geom_at, provider_at, add_provider, add_consumer, remove_geom, remove_provider, remove_consumer, set_error, set_withering, set_marks}
+use Rattle.geo_model.specs.Topology.{attach, add_geom, Topology, Geom, Provider, geom_at, provider_at, add_provider, add_consumer, remove_geom, remove_provider, remove_consumer, set_error, set_size, set_withering, set_marks}
 use Rattle.geo_model.specs.Rank.{rank, rank_limit}
 use Rattle.geo_model.specs.World.{Config}
 use Rattle.geo_model.specs.Sound.{RanksHold, StandsBare}
 use Rattle.geo_model.specs.Graph.{GeomsLive, OfferersLive, IsInOrder}
 use Rattle.geo_laws_graph.proofs.Lists.{changed, changed-keeps, find-changed, all-changed}
 use Rattle.geo_laws_graph.proofs.Living.{found-before, remove_consumer-geoms, remove_consumer-providers}
-use Rattle.geo_laws_graph.proofs.Found.{added-provider, removed-provider, removed-geom, error-found, withering-found}
+use Rattle.geo_laws_graph.proofs.Found.{added-provider, removed-provider, removed-geom, error-found, size_found, withering-found}
 use Rattle.geo_laws_ranks.specs.RankLaws.{RanksStay, AllRanksStay}
 use Rattle.geo_laws_rank_changes.specs.RankChangeLaws.{OneRankRises, SoundRanksStay}
 use Rattle.geo_laws_rank_changes.proofs.Attaching.{removed-edges}
@@ -87,6 +87,14 @@ bare_with_error t p g bare =
     record {
       stands = bare.stands;
       no_provider = error-found.of t p g ∙ ap (change_where (λ (x : Provider). x.number == p) (λ x. record x { errored = true })) bare.no_provider;
+    }
+
+-- where a provider has another media size
+bare_with_size : (t : Topology Config) (p size g : ℕ) → StandsBare t g → StandsBare (set_size t p size) g
+bare_with_size t p size g bare =
+    record {
+      stands = bare.stands;
+      no_provider = size_found.of t p size g ∙ ap (change_where (λ (x : Provider). x.number == p) (λ x. record x { size = size })) bare.no_provider;
     }
 
 -- and where another geom withers
@@ -239,6 +247,14 @@ sound-ranks = record {
         not_deep = shallower t (set_error t p) (λ g a b. same_le _ _ (stay.same g)) t.geoms hold.not_deep;
         dev = bare_with_error t p 1 hold.dev;
         taste = bare_with_error t p 2 hold.taste;
+      };
+  sized = λ t p size hold.
+      let stay : AllRanksStay t (set_size t p size) = plain-stay.size t p size in
+      record {
+        ranked = stay.ranked hold.ranked;
+        not_deep = shallower t (set_size t p size) (λ g a b. same_le _ _ (stay.same g)) t.geoms hold.not_deep;
+        dev = bare_with_size t p size 1 hold.dev;
+        taste = bare_with_size t p size 2 hold.taste;
       };
   withering = λ t g other hold.
       let stay : AllRanksStay t (set_withering t g) = plain-stay.withering t g in

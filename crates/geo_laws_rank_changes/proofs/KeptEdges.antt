@@ -3,8 +3,9 @@ use Rattle.std.specs.Prelude.{◌≡◌, ℕ, ◌==◌, Bool, true, List, [], �
 use Rattle.std.proofs.Common.{inl, inr, refl, sym, ◌∙◌, ap, subst}
 use Rattle.std.proofs.lemmas.Bool.{cases_eq}
 use Rattle.std.proofs.lemmas.List.Elements.{recursion_from_All}
-use Rattle.geo_model.specs.Topology.{Topology, Provider, Consumer, provider_at, consumers_of, attached_to, providers_under, add_provider, remove_provider, set_error, set_marks}
+use Rattle.geo_model.specs.Topology.{Topology, Provider, Consumer, provider_at, consumers_of, attached_to, providers_under, add_provider, remove_provider, set_error, set_size, set_marks}
 use Rattle.geo_model.specs.Rank.{geoms_under}
+use Rattle.geo_model.specs.Words.{change_where}
 use Rattle.geo_laws_ranks.specs.Edges.{HasEdgesOf}
 use Rattle.geo_laws_graph.proofs.Members.{has, at_contained}
 use Rattle.geo_laws_ranks.proofs.Climbing.{under-from_below, below-from_under}
@@ -50,17 +51,28 @@ module _ {C : Type 0} (t : Topology C) where
   geoms_under-set_marks test mark g =
       ap (filter_map (λ p. option_map (λ (x : Provider). x.geom) (provider_at t p))) (providers_under-set_marks test mark g)
 
-  -- nor do errors
-  pub geoms_under-set_error : (p g : ℕ) → geoms_under (set_error t p) g ≡ geoms_under t g
-  geoms_under-set_error p g =
+  -- nor does a change of a provider that keeps its number and its geom
+  geoms_under-changed : (p : ℕ) (change : Provider → Provider) → ((x : Provider) → (change x).number ≡ x.number)
+      → ((x : Provider) → (change x).geom ≡ x.geom) → (g : ℕ)
+      → geoms_under (record t { providers = change_where (λ x. x.number == p) change t.providers }) g ≡ geoms_under t g
+  geoms_under-changed p change number geom g =
       filter_map_same
-      (λ q. option_map (λ (x : Provider). x.geom) (provider_at (set_error t p) q))
+      (λ q. option_map (λ (x : Provider). x.geom) (provider_at (record t { providers = change_where (λ x. x.number == p) change t.providers }) q))
       (λ q. option_map (λ (x : Provider). x.geom) (provider_at t q))
       (λ q.
-      ap (option_map (λ (x : Provider). x.geom)) (find-changed (λ (x : Provider). x.number == p) (λ x. record x { errored = true }) (λ (x : Provider). x.number == q) (λ x e. refl) t.providers)
-      ∙ option_map_twice (changed (λ (x : Provider). x.number == p) (λ x. record x { errored = true })) (λ (x : Provider). x.geom)
-      (changed-keeps (λ (x : Provider). x.number == p) (λ x. record x { errored = true }) (λ (x : Provider). x.geom) (λ x e. refl)) (provider_at t q))
+      ap (option_map (λ (x : Provider). x.geom))
+      (find-changed (λ (x : Provider). x.number == p) change (λ (x : Provider). x.number == q) (λ x e. ap (λ n. n == q) (number x)) t.providers)
+      ∙ option_map_twice (changed (λ (x : Provider). x.number == p) change) (λ (x : Provider). x.geom)
+      (changed-keeps (λ (x : Provider). x.number == p) change (λ (x : Provider). x.geom) (λ x e. geom x)) (provider_at t q))
       (providers_under t g)
+
+  -- so errors don't
+  pub geoms_under-set_error : (p g : ℕ) → geoms_under (set_error t p) g ≡ geoms_under t g
+  geoms_under-set_error p g = geoms_under-changed p (λ x. record x { errored = true }) (λ x. refl) (λ x. refl) g
+
+  -- nor do media sizes
+  pub geoms_under-set_size : (p size g : ℕ) → geoms_under (set_size t p size) g ≡ geoms_under t g
+  geoms_under-set_size p size g = geoms_under-changed p (λ x. record x { size = size }) (λ x. refl) (λ x. refl) g
 
   module _ (geom : ℕ) (name : List ℕ) (size sector : ℕ) where
     -- what a consumer is attached to is as before where a provider is added

@@ -5,7 +5,7 @@ use Rattle.geo_base.specs.declared.errno.Errno.TheVariants.{ENXIO, ELOOP, EDEEP}
 use Rattle.std.proofs.lemmas.List.{length-map}
 use Rattle.geo_laws_graph.specs.LookupLaws.{seen_geom}
 use Rattle.geo_model.specs.Words.{first_error}
-use Rattle.geo_model.specs.Topology.{with_configs, Topology, Geom, Provider, geom_at, provider_at, consumer_at, add_geom, add_provider, add_consumer, remove_geom, remove_provider, remove_consumer, attach, set_error, set_withering, set_marks, set_config, note_started, is_errored, detach}
+use Rattle.geo_model.specs.Topology.{with_configs, Topology, Geom, Provider, geom_at, provider_at, consumer_at, add_geom, add_provider, add_consumer, remove_geom, remove_provider, remove_consumer, attach, set_error, set_size, set_withering, set_marks, set_config, note_started, is_errored, detach}
 use Rattle.geo_model.specs.Rank.{reaches, Ranked, would_loop, attach_refusal, is_too_deep}
 use Rattle.geo_laws_ranks.specs.Edges.{Loop}
 use Rattle.geo_laws_rank_changes.specs.Attach.{CanAttach, IsAttached}
@@ -13,10 +13,10 @@ use Rattle.geo_laws_ranks.specs.RankLaws.{AllRanksStay, RanksRise}
 use Rattle.geo_laws_rank_changes.specs.RankChangeLaws.{PlainChangesKeepRanks, AddingKeepsRanks, RemovingKeepsRanks}
 use Rattle.geo_laws_ranks.proofs.AddedEdges.{ranked-fewer, ranked-added, added-ranked, loop-from_reaches, reaches-from_loop}
 use Rattle.geo_laws_rank_changes.proofs.Attaching.{attach-edge, removed-edge, removed-edges, loose-edges, detach-edge, added-edges, unattached-edges, opened-edge}
-use Rattle.geo_laws_rank_changes.proofs.KeptEdges.{parts-edges, under-edges, geoms_under-set_marks, geoms_under-set_error, add_provider-edges, before_provider-edges, remove_provider-edges, before_removal-edges}
+use Rattle.geo_laws_rank_changes.proofs.KeptEdges.{parts-edges, under-edges, geoms_under-set_marks, geoms_under-set_error, geoms_under-set_size, add_provider-edges, before_provider-edges, remove_provider-edges, before_removal-edges}
 use Rattle.geo_laws_graph.proofs.Lists.{length-changed}
 use Rattle.geo_model.specs.Graph.{GeomsLive, IsInOrder}
-use Rattle.geo_laws_graph.proofs.Living.{add_provider-providers, remove_provider-providers, add_geom-geoms, remove_geom-geoms, add_consumer-geoms, add_consumer-providers, remove_consumer-geoms, remove_consumer-providers, changed-consumers, attach-providers, attach-geoms, set_error-providers, set_marks-providers}
+use Rattle.geo_laws_graph.proofs.Living.{add_provider-providers, remove_provider-providers, add_geom-geoms, remove_geom-geoms, add_consumer-geoms, add_consumer-providers, remove_consumer-geoms, remove_consumer-providers, changed-consumers, attach-providers, attach-geoms, set_error-providers, set_size-providers, set_marks-providers}
 use Rattle.geo_laws_ranks.proofs.EdgeRanks.{ranked-live, stays_all, stays-same_edges, rises-edge}
 
 module _ {C : Type 0} where
@@ -28,6 +28,11 @@ module _ {C : Type 0} where
         (under-edges t (set_error t p) (geoms_under-set_error t p))
         (under-edges (set_error t p) t (λ g. sym (geoms_under-set_error t p g)))
         (set_error-providers t p);
+    size = λ t p size.
+        stays_all t (set_size t p size) refl
+        (under-edges t (set_size t p size) (geoms_under-set_size t p size))
+        (under-edges (set_size t p size) t (λ g. sym (geoms_under-set_size t p size g)))
+        (set_size-providers t p size);
     withering = λ t g.
         stays_all t (set_withering t g) (length-changed (λ (x : Geom C). x.number == g) (λ x. record x { withering = true }) t.geoms)
         (parts-edges t (set_withering t g) refl refl) (parts-edges (set_withering t g) t refl refl) (λ live. live);

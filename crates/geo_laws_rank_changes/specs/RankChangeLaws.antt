@@ -1,7 +1,7 @@
 -- What each change of one thing does to ranks, for any configuration C of a class.
 use Rattle.std.specs.Prelude.{◌⊎◌, ◌≡◌, ◌≢◌, ◌↔◌, ℕ, ◌+◌, ◌≤◌, max, Bool, true, false, List, [], Some, None, IsSome, All}
 use Rattle.geo_base.specs.declared.kind.Kind.{Kind}
-use Rattle.geo_model.specs.Topology.{with_configs, Topology, Provider, Consumer, geom_at, provider_at, consumer_at, providers_of, consumers_of, attached_to, add_geom, add_provider, add_consumer, remove_geom, remove_provider, remove_consumer, attach, set_error, set_withering, set_marks, set_config, note_started, detach}
+use Rattle.geo_model.specs.Topology.{with_configs, Topology, Provider, Consumer, geom_at, provider_at, consumer_at, providers_of, consumers_of, attached_to, add_geom, add_provider, add_consumer, remove_geom, remove_provider, remove_consumer, attach, set_error, set_size, set_withering, set_marks, set_config, note_started, detach}
 use Rattle.geo_model.specs.Rank.{rank, rank_limit, reaches, Ranked, would_loop, attach_refusal, is_too_deep}
 use Rattle.geo_model.specs.World.{Config}
 use Rattle.geo_model.specs.GeomCommands.{with_geom_at, rank_over}
@@ -14,6 +14,7 @@ use Rattle.geo_laws_ranks.specs.RankLaws.{RanksStay, AllRanksStay, RanksRise}
 -- what has no part in the edges keeps all ranks
 pub record PlainChangesKeepRanks (C : Type 0) : Type 0 where
   pub error : (t : Topology C) (p : ℕ) → AllRanksStay t (set_error t p)
+  pub size : (t : Topology C) (p size : ℕ) → AllRanksStay t (set_size t p size)
   pub withering : (t : Topology C) (g : ℕ) → AllRanksStay t (set_withering t g)
   pub marks : (t : Topology C) (test : Consumer → Bool) (mark : Bool) → AllRanksStay t (set_marks t test mark)
   pub config : (t : Topology C) (g : ℕ) (config : C) → AllRanksStay t (set_config t g config)
@@ -117,6 +118,7 @@ pub record SoundRanksStay : Type 0 where
   pub provider_removed : (t : Topology Config) (p : ℕ) → RanksHold t → GeomsLive t → attached_to t p ≡ [] → RanksHold (remove_provider t p)
   pub geom_removed : (t : Topology Config) (g : ℕ) → IsOther g → RanksHold t → GeomsLive t → consumers_of t g ≡ [] → RanksHold (remove_geom t g)
   pub errored : (t : Topology Config) (p : ℕ) → RanksHold t → RanksHold (set_error t p)
+  pub sized : (t : Topology Config) (p size : ℕ) → RanksHold t → RanksHold (set_size t p size)
   pub withering : (t : Topology Config) (g : ℕ) → IsOther g → RanksHold t → RanksHold (set_withering t g)
   pub marked : (t : Topology Config) (test : Consumer → Bool) (mark : Bool) → RanksHold t → RanksHold (set_marks t test mark)
   pub geom_added : (t : Topology Config) (kind : Kind) (name : List ℕ) (config : Config) (automatic : Bool) → RanksHold t → GeomsLive t

@@ -18,6 +18,7 @@ granted_is kinds.Disk = refl
 granted_is kinds.Dev = refl
 granted_is kinds.Taste = refl
 granted_is kinds.Mbr = refl
+granted_is kinds.Ebr = refl
 granted_is kinds.Label = refl
 granted_is kinds.Concat = refl
 granted_is kinds.Stripe = refl

@@ -1,10 +1,13 @@
 use Rattle.std.proofs.Common.{refl}
 use Rattle.geo_laws_counts.proofs.SeenCounts.{seen_stays}
-use Rattle.geo_laws_counts.proofs.Unseen.{unseen_error, unseen_withering, unseen_marks, unseen_config, unseen_started}
+use Rattle.geo_laws_counts.proofs.Unseen.{unseen_error, unseen_size, unseen_withering, unseen_marks, unseen_config, unseen_started}
 use Rattle.geo_laws_counts.proofs.changes.little_is_seen.Goals as goal
 
 pub returns-clause-errors : goal.returns-clause-errors
 returns-clause-errors g c = unseen_error
+
+pub returns-clause-sizes : goal.returns-clause-sizes
+returns-clause-sizes g c = unseen_size
 
 pub returns-clause-withering : goal.returns-clause-withering
 returns-clause-withering g c = unseen_withering

@@ -1,0 +1,9 @@
+pub mod Joining
+pub mod JoiningBelow
+pub mod JoiningGains
+pub mod JoiningAllowed
+pub mod GrownPlaces
+pub mod FlatKept
+pub mod Grown
+pub mod FlatGrown
+pub mod Appended
