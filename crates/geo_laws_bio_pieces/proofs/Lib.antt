@@ -1,0 +1,4 @@
+pub mod Pieces
+pub mod Counted
+pub mod Wholes
+pub mod Joined

@@ -1,0 +1,6 @@
+pub mod Leaving
+pub mod Completing
+pub mod Ascending
+pub mod Serving
+pub mod Tasted
+pub mod Rising

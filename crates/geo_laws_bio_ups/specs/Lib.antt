@@ -1,0 +1,2 @@
+pub mod UpLaws
+pub mod ServingLaws

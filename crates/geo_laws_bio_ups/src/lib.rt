@@ -1,0 +1,30 @@
+//! Laws of an Up: it leaves a mesh sound, steady and fitting (g_bio(9)).
+#![tactic(auto)]
+
+ghost use Rattle.geo_laws_bio_ups.specs.ServingLaws.{SourcesServeAll};
+ghost use Rattle.geo_laws_bio_ups.specs.UpLaws.{ChildUpsStayFirm, LineUpsStayFirm, TasteUpsStayFirm, UpsStayFirm};
+
+/// Where the sources of the roots have the counts by other grants, the sources of all bios have them.
+pub fn sources_serve_all()
+    ensures { SourcesServeAll }
+{}
+
+/// A root of a line that is Up goes with its reply.
+pub fn line_ups_stay_firm()
+    ensures { LineUpsStayFirm }
+{}
+
+/// The root of a taste that is Up goes, and the taste has its result.
+pub fn taste_ups_stay_firm()
+    ensures { TasteUpsStayFirm }
+{}
+
+/// A child that is Up is Done; with the last of them their parent goes up with their joined results.
+pub fn child_ups_stay_firm()
+    ensures { ChildUpsStayFirm }
+{}
+
+/// A bio that is Up goes to its owner, or it isn't Up.
+pub fn ups_stay_firm()
+    ensures { UpsStayFirm }
+{}

@@ -1,0 +1,6 @@
+pub mod Apart
+pub mod Items
+pub mod Phases
+pub mod Turned
+pub mod Restarted
+pub mod Turning

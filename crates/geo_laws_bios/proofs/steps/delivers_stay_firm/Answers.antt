@@ -1,0 +1,5 @@
+use Rattle.geo_laws_bios.proofs.Turning.{delivers_stay_firm}
+use Rattle.geo_laws_bios.proofs.steps.delivers_stay_firm.Goals as goal
+
+pub returns : goal.returns
+returns c = delivers_stay_firm

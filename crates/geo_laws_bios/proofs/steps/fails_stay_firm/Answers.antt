@@ -1,0 +1,5 @@
+use Rattle.geo_laws_bios.proofs.Turning.{fails_stay_firm}
+use Rattle.geo_laws_bios.proofs.steps.fails_stay_firm.Goals as goal
+
+pub returns : goal.returns
+returns c = fails_stay_firm

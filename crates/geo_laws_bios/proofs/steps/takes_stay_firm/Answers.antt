@@ -1,0 +1,5 @@
+use Rattle.geo_laws_bios.proofs.Turning.{takes_stay_firm}
+use Rattle.geo_laws_bios.proofs.steps.takes_stay_firm.Goals as goal
+
+pub returns : goal.returns
+returns c = takes_stay_firm

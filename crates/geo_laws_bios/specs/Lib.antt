@@ -1,0 +1,2 @@
+pub mod BioFrames
+pub mod BioSteps

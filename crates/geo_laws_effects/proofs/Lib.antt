@@ -1,0 +1,5 @@
+pub mod Changes
+pub mod Killed
+pub mod MarksKept
+pub mod Withering
+pub mod Announced
