@@ -7,3 +7,5 @@ pub mod FamilyLemmas
 pub mod CompleteLemmas
 pub mod UpLemmas
 pub mod GetLemmas
+pub mod PieceLemmas
+pub mod OrderLemmas

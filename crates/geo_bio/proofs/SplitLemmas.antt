@@ -1,5 +1,5 @@
 -- A bio is split: its children stand at the end of the table, and it waits for them.
-use Rattle.std.proofs.Common.{◌≡◌, ◌≢◌, ◌⊎◌, ℕ, suc, ◌+◌, ◌-◌, ◌^◌, ◌<◌, List, [], ◌∷◌, ◌++◌, map, length, drop, get_or, ◌==◌, cond, Bool, true, false, Option, Some, None, sym, refl, ap, ◌∙◌, subst, inl, inr, arith, append_assoc, append-nil}
+use Rattle.std.proofs.Common.{◌≡◌, ◌≢◌, ◌⊎◌, ℕ, suc, ◌+◌, ◌-◌, ◌^◌, ◌<◌, ◌≤◌, max, List, [], ◌∷◌, ◌++◌, map, length, drop, get_or, ◌==◌, cond, Bool, true, false, Option, Some, None, sym, refl, ap, ◌∙◌, subst, inl, inr, arith, append_assoc, append-nil}
 use Rattle.std.proofs.lemmas.Bool.{cases_eq, cases_lt, eq-eqb, ne_eqb}
 use Rattle.std.proofs.lemmas.List.{drop_more, map-append}
 use Rattle.std.proofs.lemmas.Option.{same_Some, MatchOption-at_some}
@@ -216,6 +216,17 @@ split_next mid new rows high room n change all step = by_case (value_at mid.rows
     by_case : (o : Option Bio) → MatchOption o (new ≡ mid) (λ x. new ≡ record mid { rows = with_value mid.rows n (change x) }) → new.next ≡ mid.next
     by_case (Some x) e = ap (λ s. s.next) e
     by_case None e = ap (λ s. s.next) e
+
+pub split_spare : (mid new : SlotsView Bio) (rows : List (ℕ × Bio)) (high room n : ℕ) (change : Bio → Bio) → mid ≡ record { rows = rows; next = high; spare = room } → MatchOption (value_at mid.rows n) (new ≡ mid) (λ x. new ≡ record mid { rows = with_value mid.rows n (change x) }) → new.spare ≡ room
+split_spare mid new rows high room n change all step = by_case (value_at mid.rows n) step ∙ ap (λ s. s.spare) all
+  where
+    by_case : (o : Option Bio) → MatchOption o (new ≡ mid) (λ x. new ≡ record mid { rows = with_value mid.rows n (change x) }) → new.spare ≡ mid.spare
+    by_case (Some x) e = ap (λ s. s.spare) e
+    by_case None e = ap (λ s. s.spare) e
+
+-- room that was made where it was wanting, and then taken, leaves what there was beyond it
+pub room_left : (old made count : ℕ) → old ≤ made → count ≤ made → made ≤ max old count → made - count ≡ old - count
+room_left old made count kept enough no_more = omega (arith, kept, enough, no_more)
 
 -- What the public call makes of the rows
 

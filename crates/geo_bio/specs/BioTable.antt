@@ -1,10 +1,11 @@
 -- The table of bios, as contracts see it.
-use Rattle.std.specs.Prelude.{ℕ, ◌==◌, nat_le, Bool, false, List, Option, Some, None, find, if◌then◌else◌}
+use Rattle.std.specs.Prelude.{ℕ, ◌≤◌, ◌==◌, nat_le, Bool, false, List, All, map, Option, Some, None, find, if◌then◌else◌}
 use Rattle.std.specs.Option.{option_map, option_map_or}
 use Rattle.geo_base.specs.declared.request.BioCmd.{BioCmd}
 use Rattle.geo_base.specs.declared.errno.Errno.{Errno}
 use Rattle.geo_model.specs.declared.step.Phase.{Phase}
 use Rattle.geo_model.specs.declared.step.Phase.TheVariants as phases
+use Rattle.geo_model.specs.Graph.{AreNumbers}
 use Rattle.geo_model.specs.World.{BioOf}
 use Rattle.geo_model.specs.Words.{is_read}
 use Rattle.geo_bio.specs.declared.bio.Held.{Held}
@@ -15,6 +16,12 @@ pub record BioTableView : Type 0 where
   pub bios : List (BioOf Held)
   pub next : ℕ
   pub spare : ℕ
+
+-- the bios stand in order of their numbers, which count from 1 and are below the next one
+pub record AreInOrder (t : BioTableView) : Type 0 where
+  pub numbers : AreNumbers (map (λ x. x.number) t.bios) t.next
+  pub from_one : All (λ x. 1 ≤ x.number) t.bios
+  pub next : 1 ≤ t.next
 
 -- the bio of a number
 abbrev pub bio_among : {R : Type 0} → List (BioOf R) → ℕ → Option (BioOf R)

@@ -4,3 +4,4 @@ pub mod Targets
 pub mod Split
 pub mod Up
 pub mod Gather
+pub mod PieceLaws

@@ -77,7 +77,14 @@ pub record IsTable (rows : List (ℕ × Bio)) (next : ℕ) : Type 0 where
   pub families : (number : ℕ) (x : Bio) → value_at rows number ≡ Some x → HasFamily (family rows number) x
   pub parents : (number : ℕ) (x : Bio) (parent index : ℕ) → value_at rows number ≡ Some x → x.owner ≡ owners.Child parent index → WaitsIn rows parent
 
--- a bio counts its children, and those of them that are Done
-pub record CountsChildren (children : List (BioOf Held)) (x : Bio) : Type 0 where
+-- the children of a bio, seen by contracts: their numbers follow each other from the first on, and so do their places
+abbrev pub StandFrom : ℕ → ℕ → ℕ → List (BioOf Held) → Type 0
+StandFrom parent first place [] = Unit {0}
+StandFrom parent first place (x ∷ xs) =
+    (x.number ≡ first) × ((x.owner ≡ owners.Child parent place) × StandFrom parent (first + 1) (place + 1) xs)
+
+-- a bio knows where its children stand, how many they are, and how many of them are Done
+pub record KnowsChildren (number : ℕ) (children : List (BioOf Held)) (x : Bio) : Type 0 where
+  pub stand : StandFrom number x.first_child 0 children
   pub all : x.children ≡ length children
   pub done : x.finished ≡ count_by (λ c. is_done c.phase) children

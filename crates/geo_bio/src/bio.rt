@@ -12,7 +12,7 @@ pub enum Held {
 }
 
 /// A request from a consumer to a provider. The offset and the length of its span are in bytes, and `bytes` are those
-/// of a WRITE.
+/// of a WRITE. `children`, `finished` and `first_child` have a meaning only while the bio waits for its children.
 #[derive(Debug, Drop)]
 pub struct Bio {
     pub cmd: BioCmd,
@@ -24,10 +24,11 @@ pub struct Bio {
     pub phase: Phase,
     /// How many bios it was split into.
     pub children: u32,
-    /// How many of them came in.
+    /// How many of them came in, and are Done.
     pub finished: u32,
-    /// The number of the first of them; the others have the numbers that follow.
+    /// The number of the first of them, in piece order; the others have the numbers that follow.
     pub first_child: u64,
+    /// How it ended, once it did.
     pub held: Option<Held>,
 }
 

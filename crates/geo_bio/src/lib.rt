@@ -3,13 +3,12 @@
 
 mod bio;
 mod gather;
+pub mod laws;
 mod log_bytes;
 mod rows;
 mod split;
 mod table;
 mod targets;
-#[cfg(test)]
-mod tests;
 
 pub use bio::{Bio, Held, Risen};
 pub use geo_model::{BioResult, Owner, Phase, Span};

@@ -1,5 +1,5 @@
 //! A bio is split into its children.
-ghost use Rattle.std.specs.Prelude.{◌≡◌, ◌+◌, ◌<◌, ◌≤◌, ◌^◌, ◌++◌, length, IfOk, IfSome, MatchOption, Some, vec_len};
+ghost use Rattle.std.specs.Prelude.{◌≡◌, ◌+◌, ◌-◌, ◌<◌, ◌≤◌, ◌^◌, ◌++◌, length, IfOk, IfSome, MatchOption, Some, vec_len};
 ghost use Rattle.geo_slots.specs.Slots.{value_at, with_value};
 ghost use Rattle.geo_bio.specs.Split.{child_for, children_for, waiting, with_all, numbered};
 
@@ -101,6 +101,7 @@ pub fn split_bio(bios: &mut Slots<Bio>, number: u64, children: Vec<Bio>) -> u64
     ensures rows { let rows = bios.old.rows ++ numbered bios.old.next children.items in
         IfSome (value_at rows number) (λ x. bios.new.rows ≡ with_value rows number (waiting (length children.items) bios.old.next x)) }
     ensures next { bios.new.next ≡ bios.old.next + length children.items }
+    ensures room { bios.new.spare ≡ bios.old.spare - length children.items }
 {
     let count = children.len();
     let last = insert_all(bios, children);

@@ -1,12 +1,12 @@
 //! The table of bios.
-ghost use Rattle.std.specs.Prelude.{◌≡◌, ◌+◌, ◌<◌, ◌≤◌, ◌^◌, [], ◌∷◌, ◌++◌, length, IsOk, OnOk, IfOk, IfSome, OnErr, IsTrue, option_copied};
+ghost use Rattle.std.specs.Prelude.{◌≡◌, ◌+◌, ◌-◌, ◌<◌, ◌≤◌, ◌^◌, max, [], ◌∷◌, ◌++◌, length, IsOk, OnOk, IfOk, IfSome, OnErr, IsTrue, option_copied};
 ghost use Rattle.std.specs.Option.{option_map};
 ghost use Rattle.geo_model.specs.Bios.{new_bio, up_with};
 ghost use Rattle.geo_model.specs.World.{change_number, children_among, is_down, is_sent, is_busy, is_up, is_waiting, is_root};
 ghost use Rattle.geo_model.specs.Words.{is_write};
-ghost use Rattle.geo_bio.specs.BioTable.{bio_among, has_phase, first_bio, with_phase, delivered, delivered_result};
+ghost use Rattle.geo_bio.specs.BioTable.{AreInOrder, bio_among, has_phase, first_bio, with_phase, delivered, delivered_result};
 ghost use Rattle.geo_slots.specs.Slots.{value_at};
-ghost use Rattle.geo_bio.specs.Rows.{seen, CountsChildren};
+ghost use Rattle.geo_bio.specs.Rows.{seen, KnowsChildren};
 ghost use Rattle.geo_bio.specs.Split.{split_into};
 ghost use Rattle.geo_bio.specs.Up.{told_of_up, after_up};
 
@@ -60,22 +60,27 @@ impl BioTable {
         ensures room_stays { self.old.spare ≤ self.new.spare }
         ensures room { OnOk result (count ≤ self.new.spare) }
         ensures had_room { count ≤ self.old.spare → IsOk result }
+        ensures no_more { self.new.spare ≤ max self.old.spare count }
     {
         self.bios.reserve(count)?;
         Ok(())
     }
 
-    /// The bio of a number. One that waits tells how many children it has, and how many of them are done.
+    /// The bio of a number. One that waits tells the number of its first child, how many children it has, and how many
+    /// of them are done. The numbers of the bios count from 1, rise, and are below the next one.
     pub fn get(&self, bio: BioId) -> Option<&Bio>
         ensures found { option_map (seen bio) (option_copied result) ≡ bio_among self.now.bios bio }
-        ensures family { IfSome (option_copied result) (λ x. IsTrue (is_waiting x.phase) → CountsChildren (children_among self.now.bios bio) x) }
+        ensures family { IfSome (option_copied result) (λ x.
+            IsTrue (is_waiting x.phase) → KnowsChildren bio (children_among self.now.bios bio) x) }
+        ensures in_order { AreInOrder self.now }
     {
         self.bios.get(bio.number())
     }
 
-    /// The bio with the least number that isn't below a number.
+    /// The bio with the least number that isn't below a number: the first one, since they stand in order of numbers.
     pub fn next_from(&self, number: u64) -> Option<BioId>
-        ensures { result ≡ first_bio self.now.bios number }
+        ensures first { result ≡ first_bio self.now.bios number }
+        ensures in_order { AreInOrder self.now }
     {
         match self.bios.first_from(number) {
             Some(first) => Some(BioId::new(first)),
@@ -84,7 +89,7 @@ impl BioTable {
     }
 
     /// A new bio of a script's line or of the taste, which is still to be started. It takes memory only where no room
-    /// is spare.
+    /// is spare. Where no number is left the answer is want of memory.
     pub fn submit(
         &mut self,
         cmd: BioCmd,
@@ -96,13 +101,14 @@ impl BioTable {
     ) -> Result<BioId, NoMemory>
         requires root { IsTrue (is_root owner) }
         requires bytes_fit { IsTrue (is_write cmd) → length bytes ≡ span.len }
-        requires numbers { self.old.next < 2 ^ 63 }
         ensures number { IfOk result (λ bio. bio ≡ self.old.next) }
-        ensures submitted { OnOk result (self.new.bios ≡ self.old.bios ++ new_bio self.old.next cmd span.offset span.len bytes from to owner ∷ []) }
+        ensures submitted { OnOk result (self.new.bios
+            ≡ self.old.bios ++ new_bio self.old.next cmd span.offset span.len bytes from to owner ∷ []) }
         ensures next { OnOk result (self.new.next ≡ self.old.next + 1) }
         ensures bios_stay { OnErr result (self.new.bios ≡ self.old.bios) }
         ensures next_stays { OnErr result (self.new.next ≡ self.old.next) }
-        ensures room { self.old.spare ≤ self.new.spare + 1 }
+        ensures room { OnOk result (self.new.spare ≡ self.old.spare - 1) }
+        ensures room_stays { OnErr result (self.old.spare ≤ self.new.spare) }
         ensures had_room { 1 ≤ self.old.spare → IsOk result }
     {
         self.bios.reserve(1)?;
@@ -124,7 +130,8 @@ impl BioTable {
     }
 
     /// A bio is split into children, one for each piece, in piece order, and waits for them. The first child's number
-    /// is answered; the others have the numbers that follow.
+    /// is answered; the others have the numbers that follow. The children take of the room what there is, and where
+    /// memory is wanting the room is no less than it was.
     pub fn start(
         &mut self,
         alloc: Global,
@@ -141,8 +148,10 @@ impl BioTable {
             (self.new.bios ≡ change_number bio (with_phase Phase.Waiting) self.old.bios
             ++ split_into self.old.next x 0 pieces.now.items targets.now.items)) }
         ensures next { OnOk result (self.new.next ≡ self.old.next + length pieces.now.items) }
+        ensures room { OnOk result (self.new.spare ≡ self.old.spare - length pieces.now.items) }
         ensures bios_stay { OnErr result (self.new.bios ≡ self.old.bios) }
         ensures next_stays { OnErr result (self.new.next ≡ self.old.next) }
+        ensures room_stays { OnErr result (self.old.spare ≤ self.new.spare) }
     {
         let number = bio.number();
         let children = match self.bios.get(number) {
@@ -198,7 +207,7 @@ impl BioTable {
             (self.new.bios ≡ after_up (B.place_bytes log.now) self.old.bios x x.owner)) }
         ensures bios_stay { OnErr result (self.new.bios ≡ self.old.bios) }
         ensures next_stays { self.new.next ≡ self.old.next }
-        ensures room_stays { self.old.spare ≤ self.new.spare }
+        ensures room_stays { self.new.spare ≡ self.old.spare }
     {
         let number = bio.number();
         let owner = match self.bios.get(number) {

@@ -5,6 +5,3 @@ mod queue;
 
 pub use geo_model::Event;
 pub use queue::EventQueue;
-
-#[cfg(test)]
-mod tests;

@@ -33,6 +33,7 @@ fn provider_of(event: Event) -> ProvId
         Event::NewProvider(prov) => prov,
         Event::Spoil(prov) => prov,
         Event::Orphan(prov) => prov,
+        Event::Resize(prov) => prov,
     }
 }
 

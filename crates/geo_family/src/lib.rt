@@ -3,7 +3,5 @@
 
 mod family;
 mod links;
-#[cfg(test)]
-mod tests;
 
 pub use family::{Family, NoMemory};

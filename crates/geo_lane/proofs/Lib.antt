@@ -1,3 +1,4 @@
 mod Keeps
 mod Orders
+mod Moments
 mod Sounds

@@ -49,6 +49,11 @@ pub record IsInOrder (v : View) : Type 0 where
   pub put : AreNumbered v.number 0 v.put
   pub taken : v.number ≡ 0 → AreTakenInOrder v
 
+-- the pass 0 has taken all that it put itself, and all that the passes which it took in had put
+pub record HasTakenAll (v : View) : Type 0 where
+  pub own : sent_by v.number v.taken ≡ v.put
+  pub ended : All (λ s. sent_by s.sender v.taken ≡ s.put) v.ended
+
 -- the pass has put the ticket, and this is what it can tell of the lane after it
 abbrev pub Puts : View → Ticket → View → Type 0
 Puts v t w = (w ≡ has_put v t) × ((items : List Ticket) × Tells w items)

@@ -3,7 +3,7 @@ ghost use Rattle.std.specs.Prelude.{◌≡◌, ◌≢◌, ◌+◌, ◌-◌, ◌<
 ghost use mathlib.Core.List.{IsPrefix};
 ghost use Rattle.crossbeam_queue.specs.Fifo.{Held};
 ghost use Rattle.geo_lane.specs.Ticket.{sent_by};
-ghost use Rattle.geo_lane.specs.Delivery.{Tells, IsInOrder};
+ghost use Rattle.geo_lane.specs.Delivery.{Tells, HasTakenAll, IsInOrder};
 ghost use Rattle.geo_lane.specs.LanePass.{first_pass, next_pass, view_of, sent_of};
 
 use crate::delivery::{Another, Delivery, Ended, PutOne, TakeOne};
@@ -81,7 +81,9 @@ impl Lane {
         })
     }
 
-    /// Puts the pass's next ticket at the back.
+    /// Puts the pass's next ticket at the back. The pass 0 of a lane of which no other pass was made is refused only
+    /// where 1,024 of its tickets aren't taken yet. Of another pass `Full` tells no more than that tickets of others
+    /// may have filled the lane.
     pub fn put<R: Wait>(&self, rt: &R, pass: &mut LanePass, ticket: Ticket) -> Result<(), Full>
         requires own { pass.old.lane ≡ self.now }
         requires sender { ticket.sender ≡ pass.old.sender }
@@ -91,6 +93,8 @@ impl Lane {
         ensures order { IsInOrder (view_of pass.new) }
         ensures back { IfErr result (λ full. (full.ticket ≡ ticket) × (pass.new ≡ pass.old)) }
         ensures full { OnErr result (Held 1024 (Tells (view_of pass.old))) }
+        ensures alone { OnErr result (pass.old.sender ≡ 0 → pass.old.split ≡ 0
+            → length pass.old.put ≡ length pass.old.taken + 1024) }
     {
         match self
             .tickets
@@ -104,7 +108,8 @@ impl Lane {
         }
     }
 
-    /// Takes the ticket at the front, by the pass 0.
+    /// Takes the ticket at the front, by the pass 0. At None it has taken all that it put itself, and all that the
+    /// passes which it took in had put; of a pass that it hasn't taken in None tells nothing.
     pub fn take<R: Wait>(&self, rt: &R, pass: &mut LanePass) -> Option<Ticket>
         requires own { pass.old.lane ≡ self.now }
         requires first { pass.old.sender ≡ 0 }
@@ -113,6 +118,7 @@ impl Lane {
         ensures order { IsInOrder (view_of pass.new) }
         ensures same { IfNone result (pass.new ≡ pass.old) }
         ensures empty { IfNone result (Held 0 (Tells (view_of pass.old))) }
+        ensures none_left { IfNone result (HasTakenAll (view_of pass.old)) }
     {
         self.tickets.pop_as::<TakeOne, R>(rt, &mut pass.pass)
     }

@@ -11,8 +11,6 @@ mod delivery;
 mod lane;
 mod lane_pass;
 mod sent;
-#[cfg(test)]
-mod tests;
 mod ticket;
 mod view;
 

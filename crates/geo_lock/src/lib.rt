@@ -12,8 +12,6 @@ mod logged;
 mod pass;
 mod pass_list;
 mod tally;
-#[cfg(test)]
-mod tests;
 mod turns;
 mod view;
 mod yard;

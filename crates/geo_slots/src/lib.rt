@@ -4,6 +4,3 @@
 mod slots;
 
 pub use slots::{NoMemory, Slots};
-
-#[cfg(test)]
-mod tests;

@@ -1,6 +1,6 @@
 use Rattle.std.proofs.Common.{◌≡◌, ◌-◌, length, ◌∙◌, arith}
 use Rattle.geo_bio.specs.Split.{waiting}
-use Rattle.geo_bio.proofs.SplitLemmas.{with_all-numbered, split_after, split_next}
+use Rattle.geo_bio.proofs.SplitLemmas.{with_all-numbered, split_after, split_next, split_spare}
 use Rattle.geo_bio.proofs.split.split_bio.Goals as goal
 
 pub returns-clause-first : goal.returns-clause-first
@@ -18,3 +18,8 @@ pub returns-clause-next : goal.returns-clause-next
 returns-clause-next c =
     let all = c.insert_all-last.ensures.inserted ∙ with_all-numbered c.args.bios.now c.args.children.items in
     split_next _ c.wait_for.new.bios _ _ _ c.args.number _ all c.wait_for.ensures
+
+pub returns-clause-room : goal.returns-clause-room
+returns-clause-room c =
+    let all = c.insert_all-last.ensures.inserted ∙ with_all-numbered c.args.bios.now c.args.children.items in
+    split_spare _ c.wait_for.new.bios _ _ _ c.args.number _ all c.wait_for.ensures

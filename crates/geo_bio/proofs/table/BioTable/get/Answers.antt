@@ -2,9 +2,10 @@ use Rattle.std.proofs.Common.{◌≡◌, true, sym, ap, subst, ◌∙◌, IfSome
 use Rattle.std.specs.Option.{option_map, option_copied}
 use Rattle.geo_model.specs.World.{is_waiting, children_among}
 use Rattle.geo_slots.specs.Slots.{value_at}
-use Rattle.geo_bio.specs.BioTable.{BioTableView, bio_among}
-use Rattle.geo_bio.specs.Rows.{seen, CountsChildren}
+use Rattle.geo_bio.specs.BioTable.{BioTableView, AreInOrder, bio_among}
+use Rattle.geo_bio.specs.Rows.{seen, KnowsChildren}
 use Rattle.geo_bio.proofs.GetLemmas.{family_told}
+use Rattle.geo_bio.proofs.OrderLemmas.{in_order}
 use Rattle.geo_bio.proofs.TableLemmas.{bio_among-rows}
 use Rattle.geo_bio.proofs.table.BioTable.get.Goals as goal
 
@@ -17,4 +18,9 @@ pub returns-clause-family : goal.returns-clause-family
 returns-clause-family c =
     let found = c.get.ensures.value ∙ ap (value_at c.self.inside.bios.rows) c.number.ensures in
     let told = family_told c.self.inside.bios.rows c.self.inside.bios.next c.args.bio c.self.invariant (option_copied c.get.result) found in
-    subst (λ (v : BioTableView). IfSome (option_copied c.get.result) (λ x. is_waiting x.phase ≡ true → CountsChildren (children_among v.bios c.args.bio) x)) c.self.view_is told
+    subst (λ (v : BioTableView). IfSome (option_copied c.get.result) (λ x. is_waiting x.phase ≡ true → KnowsChildren c.args.bio (children_among v.bios c.args.bio) x)) c.self.view_is told
+
+pub returns-clause-in_order : goal.returns-clause-in_order
+returns-clause-in_order c =
+    let s = c.self.inside.bios in
+    subst AreInOrder c.self.view_is (in_order s.rows s.next s.spare c.self.invariant.rising)

@@ -1,4 +1,4 @@
-use Rattle.std.proofs.Common.{◌≡◌, ◌+◌, true, length, sym, ap, ◌∙◌, subst, arith}
+use Rattle.std.proofs.Common.{◌≡◌, ◌+◌, ◌-◌, true, length, sym, ap, ◌∙◌, subst, arith}
 use Rattle.std.proofs.lemmas.Option.{same_Some}
 use Rattle.std.specs.Option.{option_copied}
 use Rattle.geo_model.specs.World.{is_down}
@@ -6,7 +6,7 @@ use Rattle.geo_slots.specs.Slots.{value_at}
 use Rattle.geo_bio.specs.BioTable.{has_phase}
 use Rattle.geo_bio.specs.Split.{children_for}
 use Rattle.geo_bio.proofs.TableLemmas.{bio_of_phase, bio_among-rows, down_facts}
-use Rattle.geo_bio.proofs.SplitLemmas.{is_split, length-children_for}
+use Rattle.geo_bio.proofs.SplitLemmas.{is_split, room_left, length-children_for}
 use Rattle.geo_bio.proofs.table.BioTable.start.Goals as goal
 
 pub unreachable-requires : goal.unreachable-requires
@@ -56,3 +56,11 @@ returns-clause-next c =
     let children_are = c.in_ok-children-in-Some.ensures ∙ (λ i. children_for c.args.bio c.in-Some.parent.now 0 (c.items.ensures i) (c.items-in-Some.ensures i)) in
     let split = is_split _ _ c.args.bio x.0 c.args.pieces.now.items c.args.targets.now.items c.self.invariant x.1 facts.0 facts.1 c.requires.same_number c.requires.few c.reserve.new.self c.split_bio.new.bios _ c.in-Some.parent.now c.in_ok-children-in-Some.children.items c.reserve.ensures.values_stay parent_is children_are (rw c.number-number.ensures at c.split_bio.ensures.rows) c.split_bio.ensures.next in
     split.grows ∙ ap (λ v. v.next + length c.args.pieces.now.items) c.self.view_is
+
+pub returns-clause-room : goal.returns-clause-room
+returns-clause-room c =
+    let children = c.in_ok-children-in-Some.ensures in
+    let count = ap length children ∙ ap length (λ i. children_for c.args.bio c.in-Some.parent.now 0 (c.items.ensures i) (c.items-in-Some.ensures i)) ∙ length-children_for c.args.bio c.in-Some.parent.now 0 c.args.pieces.now.items c.args.targets.now.items c.requires.same_number in
+    let asked = c.len.ensures ∙ c.in_ok-children-in-Some.children.ok.0 ∙ count in
+    let made = c.in_ok-reserve.ensures in
+    c.split_bio.ensures.room ∙ ap (λ n. c.reserve.new.self.spare - n) count ∙ room_left c.self.inside.bios.spare c.reserve.new.self.spare (length c.args.pieces.now.items) made.room_stays (rw asked at made.room) (rw asked at made.no_more) ∙ ap (λ v. v.spare - length c.args.pieces.now.items) c.self.view_is

@@ -1,4 +1,4 @@
-use Rattle.std.proofs.Common.{◌≡◌, map, true, Some, ◌∙◌, ap, sym, subst, arith, IfSome, IfOk, OnOk, OnErr}
+use Rattle.std.proofs.Common.{◌≡◌, map, true, Some, ◌∙◌, ap, sym, subst, IfSome, IfOk, OnOk, OnErr}
 use Rattle.std.specs.Option.{option_copied}
 use Rattle.geo_model.specs.World.{is_up}
 use Rattle.geo_slots.specs.Slots.{value_at}
@@ -91,8 +91,7 @@ returns-in-Child-clause-room_stays g c =
     let found : value_at c.self.inside.bios.rows c.args.bio ≡ Some c.in-Some.found.now = sym (ap (value_at c.self.inside.bios.rows) c.number-number.ensures) ∙ sym c.get.ensures.value ∙ ap option_copied c.in-Some.is in
     let up = phase_there is_up c.self.inside.bios.rows c.args.bio x found (subst (λ v. has_phase is_up v.bios c.args.bio ≡ true) (sym c.self.view_is) c.requires) in
     let rises = rw c.number-number.ensures at c.rise_in.ensures.rises in
-    let spare = spare_after_child log old c.rise_in.new.bios c.args.bio c.in-Child.parent c.in-Child.index x c.self.invariant found up c.in-Child.is c.rise_in.result c.rise_in.ensures.told rises c.rise_in.ensures.stays ∙ ap (λ (v : BioTableView). v.spare) c.self.view_is in
-    omega (arith, spare)
+    spare_after_child log old c.rise_in.new.bios c.args.bio c.in-Child.parent c.in-Child.index x c.self.invariant found up c.in-Child.is c.rise_in.result c.rise_in.ensures.told rises c.rise_in.ensures.stays ∙ ap (λ (v : BioTableView). v.spare) c.self.view_is
 
 pub invariant_of-self-in_default : goal.invariant_of-self-in_default
 invariant_of-self-in_default g c =
@@ -122,5 +121,5 @@ returns-in_default g c =
       rises = subst (λ (v : BioTableView). IfSome (bio_among v.bios c.args.bio) (λ z. OnOk c.take_root.result (map seen_row c.take_root.new.bios.rows ≡ after_up log v.bios z z.owner))) c.self.view_is (rises_after_root log old c.take_root.new.bios c.args.bio x c.self.invariant found up root c.take_root.result told gone c.take_root.ensures.stays);
       bios_stay = subst (λ (v : BioTableView). OnErr c.take_root.result (map seen_row c.take_root.new.bios.rows ≡ v.bios)) c.self.view_is (err_after_root log old c.take_root.new.bios c.args.bio x c.self.invariant found up root c.take_root.result told gone c.take_root.ensures.stays);
       next_stays = next_after_root log old c.take_root.new.bios c.args.bio x c.self.invariant found up root c.take_root.result told gone c.take_root.ensures.stays ∙ ap (λ (v : BioTableView). v.next) c.self.view_is;
-      room_stays = omega (arith, spare);
+      room_stays = spare;
     }

@@ -1,5 +1,6 @@
-use Rattle.std.proofs.Common.{◌∙◌, ap, sym, length}
+use Rattle.std.proofs.Common.{◌∙◌, ap, sym, arith, length}
 use Rattle.geo_lane.proofs.Keeps.{puts, learns}
+use Rattle.geo_lane.proofs.Moments.{alone_holds}
 use Rattle.geo_lane.proofs.Sounds.{put_sound, order}
 use Rattle.geo_lane.proofs.lane.Lane.put.Goals as goal
 
@@ -14,3 +15,9 @@ invariant_of-pass g c = (c.push_as.ensures.queue.2 ∙ c.pass.invariant.0, put_s
 
 pub returns-in-Ok-clause-order : goal.returns-in-Ok-clause-order
 returns-in-Ok-clause-order g c = order _ _ _ _ (put_sound _ _ _ _ c.pass.invariant.1 _ _ c.in-Ok.ensures.rule)
+
+pub returns-in-Err-clause-alone : goal.returns-in-Err-clause-alone
+returns-in-Err-clause-alone g c = λ zeroth alone.
+    let s = c.pass.invariant.1 in
+    let held = alone_holds _ _ c.in-Err.ensures.rule.2 (s.number ∙ ap (λ p. p.sender) c.pass.view_is ∙ zeroth) (s.split_is ∙ ap (λ p. p.split) c.pass.view_is ∙ alone) in
+    omega (arith, held, c.self.invariant, ap (λ p. length p.put) c.pass.view_is, ap (λ p. length p.taken) c.pass.view_is)

@@ -1,5 +1,0 @@
-use Rattle.geo_lane.specs.LanePass.{IsSamePass}
-use Rattle.geo_lane.proofs.tests.take_all.Given as goal
-
-abbrev pub invariant-loop : goal.invariant-loop
-invariant-loop g l = (goal.iterator-loop g).can_next l.iterator' × (goal.iterator-loop g).is_finite l.iterator' × IsSamePass l.initial.pass l.pass
