@@ -7,6 +7,7 @@ use Rattle.std.specs.List.{last_or}
 use Rattle.std.specs.Option.{option_map, option_and_then}
 use Rattle.geo_model.specs.Words.{change_where, same_name}
 use Rattle.geo_model.specs.Topology.{Provider}
+use Rattle.geo_laws_graph.proofs.Lists.{changed, changed-keeps, find-changed}
 use Rattle.geo_slots.specs.Slots.{without}
 use Rattle.geo_family.specs.Family.{names, has_child, last_child}
 use Rattle.geo_mesh.specs.declared.names.Names.{Names}
@@ -118,6 +119,56 @@ module _ (ps : List Provider) (next : ℕ) (old new : Names) (are : AreNames ps 
         known = agree-known (id_of old) (id_of new) ps agree are.known;
         next_child = ap (λ v. v.next_child) same.alike ∙ are.next_child;
       }
+
+  module _ (n : ℕ) (change : Provider → Provider) (number : (x : Provider) → (change x).number ≡ x.number) (named : (x : Provider) → (change x).name ≡ x.name)
+      (errored : (x : Provider) → (change x).errored ≡ x.errored) where
+    -- whether a provider is without an error and of a name is as before
+    still_named : (name : List ℕ) (x : Provider) → is_sound_named name (change x) ≡ is_sound_named name x
+    still_named name x = rw (errored x, named x) refl
+
+    -- one provider more, which is changed or not, leaves at most one of each name
+    one_step : (y : Provider) (ys : List Provider) (b : Bool) → (y.number == n) ≡ b → (y.errored ≡ false → find (is_sound_named y.name) ys ≡ None)
+        → OneEach (change_where (λ z. z.number == n) change ys) → OneEach (change_where (λ z. z.number == n) change (y ∷ ys))
+    one_step y ys b e one rest =
+        let hit : Provider → Bool = λ (z : Provider). z.number == n in
+        let name_stays : (changed hit change y).name ≡ y.name = changed-keeps hit change (λ (z : Provider). z.name) (λ z _. named z) y in
+        let error_stays : (changed hit change y).errored ≡ y.errored = changed-keeps hit change (λ (z : Provider). z.errored) (λ z _. errored z) y in (
+          λ clean. rw (name_stays, find-changed hit change (is_sound_named y.name) (λ z _. still_named y.name z) ys, one (sym error_stays ∙ clean)) refl,
+          rest,
+        )
+
+    -- so among all
+    one_kept : (ys : List Provider) → OneEach ys → OneEach (change_where (λ z. z.number == n) change ys)
+    one_kept [] one = tt
+    one_kept (y ∷ ys) one = one_step y ys (y.number == n) refl one.0 (one_kept ys one.1)
+
+    -- and each name keeps its number
+    known_kept : (ys : List Provider) → AreKnown (id_of old) ys → AreKnown (id_of old) (change_where (λ z. z.number == n) change ys)
+    known_kept [] known = tt
+    known_kept (y ∷ ys) known = (
+      subst (λ m. IsSome (id_of old m)) (sym (changed-keeps (λ (z : Provider). z.number == n) change (λ (z : Provider). z.name) (λ z _. named z) y)) known.0,
+      known_kept ys known.1,
+    )
+
+    -- what is found is changed, and keeps its number
+    number_kept : (o : Option Provider)
+        → option_map (λ (x : Provider). x.number) (option_map (changed (λ (z : Provider). z.number == n) change) o) ≡ option_map (λ (x : Provider). x.number) o
+    number_kept None = refl
+    number_kept (Some x) = ap (λ k. Some k) (changed-keeps (λ (z : Provider). z.number == n) change (λ (z : Provider). z.number) (λ z _. number z) x)
+
+    -- a provider that is changed but keeps its number, its name and whether it carries an error leaves the names
+    pub names-changed : AreNames (change_where (λ y. y.number == n) change ps) next old
+    names-changed = record {
+      sound = λ name.
+          are.sound name
+          ∙ sym (ap (option_map (λ (x : Provider). x.number)) (find-changed (λ (z : Provider). z.number == n) change (is_sound_named name) (λ z _. still_named name z) ps)
+          ∙ number_kept (find (is_sound_named name) ps));
+      one = one_kept ps are.one;
+      alike = are.alike
+          ∙ sym (map-change_where (λ (y : Provider). (y.number, id_of old y.name)) (λ y. y.number == n) change (λ y. λ k. (number y k, id_of old (named y k))) ps);
+      known = known_kept ps are.known;
+      next_child = are.next_child;
+    }
 
   -- the provider without an error of a name, with one more provider: of its own name, and of the others
   added_step : (x : Provider) → x.errored ≡ false → find (is_sound_named x.name) ps ≡ None → AddsName old new x.name x.number → (name : List ℕ) (b : Bool) → same_name x.name name ≡ b

@@ -14,12 +14,14 @@ use Rattle.geo_slots.specs.Slots.{SlotsView}
 use Rattle.geo_mesh.specs.declared.records.GeomCell.{GeomCell}
 use Rattle.geo_mesh.specs.declared.records.ProvCell.{ProvCell}
 use Rattle.geo_mesh.specs.declared.records.ConsCell.{ConsCell}
+use Rattle.geo_mesh.specs.declared.tables.Edges.{Edges}
+use Rattle.geo_mesh.specs.declared.tables.Tables.{Tables}
 use Rattle.geo_mesh.specs.declared.index.Index.{Index}
 use Rattle.geo_mesh.specs.declared.names.Names.{Names}
-use Rattle.geo_mesh.specs.Cells.{graph_of, provider_row}
+use Rattle.geo_mesh.specs.Cells.{graph_of, graph, provider_row}
 use Rattle.geo_mesh.specs.Graph.{IsSoundGraph}
 use Rattle.geo_mesh.specs.Names.{OneEach, is_sound_named}
-use Rattle.geo_mesh.specs.Ranks.{HaveRanks, HaveDevAndTaste, beneath, rank_from, stored}
+use Rattle.geo_mesh.specs.Ranks.{HaveRanks, HaveDevAndTaste, below, rank_from, stored}
 use Rattle.geo_mesh.specs.Whole.{IsWhole}
 use Rattle.geo_mesh.proofs.NameLemmas.{same_is, is_same}
 use Rattle.geo_mesh.proofs.RankFirst.{first-two, rank_from-local}
@@ -32,46 +34,46 @@ map_same f h same (x ∷ xs) = rw (same x, map_same f h same xs) refl
 
 -- Ranks
 
-module _ {C : Type 0} (gs : SlotsView (GeomCell C)) (ps : SlotsView ProvCell) (cs : SlotsView ConsCell) (live : ℕ) (mesh : HaveRanks gs ps cs live) (first : HaveDevAndTaste gs ps) where
+module _ {C : Type 0} (gs : SlotsView (GeomCell C)) (edges : Edges) (live : ℕ) (mesh : HaveRanks gs edges live) (first : HaveDevAndTaste gs edges) where
   -- a rank is one more than the highest below
-  rank-above : (g : ℕ) → rank (graph_of gs ps cs) g ≡ 1 + largest (map (rank (graph_of gs ps cs)) (geoms_under (graph_of gs ps cs) g))
+  rank-above : (g : ℕ) → rank (graph_of gs edges) g ≡ 1 + largest (map (rank (graph_of gs edges)) (geoms_under (graph_of gs edges) g))
   rank-above g =
-      rank_from-rank gs ps cs live mesh first g
-      ∙ rank_from-local ps cs first.bare (stored gs) mesh.standing.local g
-      ∙ ap (λ n. 1 + largest n) (sym (map_same (rank (graph_of gs ps cs)) (rank_from (stored gs) ps cs) (rank_from-rank gs ps cs live mesh first) (beneath ps cs g)))
-      ∙ ap (λ hs. 1 + largest (map (rank (graph_of gs ps cs)) hs)) (sym (under-graph gs ps cs g))
+      rank_from-rank gs edges live mesh first g
+      ∙ rank_from-local edges first.bare (stored gs) mesh.standing.local g
+      ∙ ap (λ n. 1 + largest n) (sym (map_same (rank (graph_of gs edges)) (rank_from (stored gs) edges) (rank_from-rank gs edges live mesh first) (below edges g)))
+      ∙ ap (λ hs. 1 + largest (map (rank (graph_of gs edges)) hs)) (sym (under-graph gs edges g))
 
   -- the geom of a provider to which a consumer is attached is below the consumer's geom
-  under_consumer : (c : Consumer) (p : ℕ) (x : Provider) → Contains (graph_of gs ps cs).consumers c → c.provider ≡ Some p → provider_at (graph_of gs ps cs) p ≡ Some x
-      → Contains (geoms_under (graph_of gs ps cs) c.geom) x.geom
+  under_consumer : (c : Consumer) (p : ℕ) (x : Provider) → Contains (graph_of gs edges).consumers c → c.provider ≡ Some p → provider_at (graph_of gs edges) p ≡ Some x
+      → Contains (geoms_under (graph_of gs edges) c.geom) x.geom
   under_consumer c p x here attached found =
-      Contains-filter_map (λ q. option_map (λ (y : Provider). y.geom) (provider_at (graph_of gs ps cs) q)) (providers_under (graph_of gs ps cs) c.geom) p x.geom
-      (Contains-filter_map (λ (d : Consumer). d.provider) (consumers_of (graph_of gs ps cs) c.geom) c p
-      (Contains-filter (λ (d : Consumer). d.geom == c.geom) (graph_of gs ps cs).consumers c here (eq-eqb c.geom c.geom refl))
+      Contains-filter_map (λ q. option_map (λ (y : Provider). y.geom) (provider_at (graph_of gs edges) q)) (providers_under (graph_of gs edges) c.geom) p x.geom
+      (Contains-filter_map (λ (d : Consumer). d.provider) (consumers_of (graph_of gs edges) c.geom) c p
+      (Contains-filter (λ (d : Consumer). d.geom == c.geom) (graph_of gs edges).consumers c here (eq-eqb c.geom c.geom refl))
       attached)
       (rw found refl)
 
   -- so its rank is less
-  less_below : (c : Consumer) (p : ℕ) (x : Provider) → Contains (graph_of gs ps cs).consumers c → c.provider ≡ Some p → provider_at (graph_of gs ps cs) p ≡ Some x
-      → rank (graph_of gs ps cs) x.geom < rank (graph_of gs ps cs) c.geom
+  less_below : (c : Consumer) (p : ℕ) (x : Provider) → Contains (graph_of gs edges).consumers c → c.provider ≡ Some p → provider_at (graph_of gs edges) p ≡ Some x
+      → rank (graph_of gs edges) x.geom < rank (graph_of gs edges) c.geom
   less_below c p x here attached found =
-      let among = Contains-map (rank (graph_of gs ps cs)) (geoms_under (graph_of gs ps cs) c.geom) x.geom (under_consumer c p x here attached found) in
-      omega (arith, rank-above c.geom, largest-above (map (rank (graph_of gs ps cs)) (geoms_under (graph_of gs ps cs) c.geom)) (rank (graph_of gs ps cs) x.geom) among)
+      let among = Contains-map (rank (graph_of gs edges)) (geoms_under (graph_of gs edges) c.geom) x.geom (under_consumer c p x here attached found) in
+      omega (arith, rank-above c.geom, largest-above (map (rank (graph_of gs edges)) (geoms_under (graph_of gs edges) c.geom)) (rank (graph_of gs edges) x.geom) among)
 
   -- there is no loop, where the providers live
-  graph_ranked : All (λ c. IfSome c.provider (λ p. IsSome (provider_at (graph_of gs ps cs) p))) (graph_of gs ps cs).consumers → Ranked (graph_of gs ps cs)
+  graph_ranked : All (λ c. IfSome c.provider (λ p. IsSome (provider_at (graph_of gs edges) p))) (graph_of gs edges).consumers → Ranked (graph_of gs edges)
   graph_ranked live_providers =
-      All-from_recursion (λ c. IfSome c.provider (λ p. IsSomeAnd (provider_at (graph_of gs ps cs) p) (λ x. rank (graph_of gs ps cs) x.geom < rank (graph_of gs ps cs) c.geom))) (graph_of gs ps cs).consumers
-      (All-from_contained (λ c. IfSome c.provider (λ p. IsSomeAnd (provider_at (graph_of gs ps cs) p) (λ x. rank (graph_of gs ps cs) x.geom < rank (graph_of gs ps cs) c.geom))) (graph_of gs ps cs).consumers
+      All-from_recursion (λ c. IfSome c.provider (λ p. IsSomeAnd (provider_at (graph_of gs edges) p) (λ x. rank (graph_of gs edges) x.geom < rank (graph_of gs edges) c.geom))) (graph_of gs edges).consumers
+      (All-from_contained (λ c. IfSome c.provider (λ p. IsSomeAnd (provider_at (graph_of gs edges) p) (λ x. rank (graph_of gs edges) x.geom < rank (graph_of gs edges) c.geom))) (graph_of gs edges).consumers
       (λ c here. each c here c.provider refl
-      (at_contained (λ (d : Consumer). IfSome d.provider (λ p. IsSome (provider_at (graph_of gs ps cs) p))) (graph_of gs ps cs).consumers c
-      (recursion_from_All (λ (d : Consumer). IfSome d.provider (λ p. IsSome (provider_at (graph_of gs ps cs) p))) (graph_of gs ps cs).consumers live_providers) here)))
+      (at_contained (λ (d : Consumer). IfSome d.provider (λ p. IsSome (provider_at (graph_of gs edges) p))) (graph_of gs edges).consumers c
+      (recursion_from_All (λ (d : Consumer). IfSome d.provider (λ p. IsSome (provider_at (graph_of gs edges) p))) (graph_of gs edges).consumers live_providers) here)))
     where
-      each : (c : Consumer) → Contains (graph_of gs ps cs).consumers c → (o : Option ℕ) → c.provider ≡ o → IfSome o (λ p. IsSome (provider_at (graph_of gs ps cs) p))
-          → IfSome o (λ p. IsSomeAnd (provider_at (graph_of gs ps cs) p) (λ x. rank (graph_of gs ps cs) x.geom < rank (graph_of gs ps cs) c.geom))
+      each : (c : Consumer) → Contains (graph_of gs edges).consumers c → (o : Option ℕ) → c.provider ≡ o → IfSome o (λ p. IsSome (provider_at (graph_of gs edges) p))
+          → IfSome o (λ p. IsSomeAnd (provider_at (graph_of gs edges) p) (λ x. rank (graph_of gs edges) x.geom < rank (graph_of gs edges) c.geom))
       each c here None attached there = there
       each c here (Some p) attached there =
-          let x : Has (provider_at (graph_of gs ps cs) p) = has (provider_at (graph_of gs ps cs) p) there in
+          let x : Has (provider_at (graph_of gs edges) p) = has (provider_at (graph_of gs edges) p) there in
           rw x.is (less_below c p x.item here attached x.is)
 
 -- Names
@@ -109,10 +111,10 @@ names_differ (x ∷ xs) one =
         alike_found x y xs here passes (one.0 e)
 
 -- what a mesh keeps makes its graph a sound one
-pub sound-graph : {C : Type 0} (gs : SlotsView (GeomCell C)) (ps : SlotsView ProvCell) (cs : SlotsView ConsCell) (live : ℕ) (i : Index) (n : Names) → IsWhole gs ps cs live i n → IsSoundGraph (graph_of gs ps cs)
-sound-graph gs ps cs live i n whole = record {
+pub sound-graph : {C : Type 0} (t : Tables C) → IsWhole t → IsSoundGraph (graph t)
+sound-graph t whole = record {
   orderly = whole.graph;
-  ranked = graph_ranked gs ps cs live whole.ranks (first-two gs ps cs whole.graph) whole.graph.parts.providers;
-  not_deep = mesh-low gs ps cs live whole.ranks (first-two gs ps cs whole.graph);
-  names = names_differ (map provider_row ps.rows) whole.tables.names_are.one;
+  ranked = graph_ranked t.geoms t.edges t.live whole.ranks (first-two t.geoms t.edges whole.graph) whole.graph.parts.providers;
+  not_deep = mesh-low t.geoms t.edges t.live whole.ranks (first-two t.geoms t.edges whole.graph);
+  names = names_differ (map provider_row t.edges.providers.rows) whole.tables.names_are.one;
 }

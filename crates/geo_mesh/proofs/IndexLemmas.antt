@@ -6,10 +6,12 @@ use Rattle.std.specs.Prelude.{nat_le, IsSomeAnd}
 use Rattle.std.specs.Option.{option_map}
 use Rattle.geo_base.specs.declared.kind.Kind.{Kind}
 use Rattle.geo_model.specs.Words.{change_where, names_number}
-use Rattle.geo_model.specs.Topology.{Topology, Geom, Provider, Consumer, add_geom, add_provider, add_consumer, remove_geom, remove_provider, remove_consumer, set_error, set_marks, set_withering, set_config, note_started, attach, geom_at, provider_at, consumer_at, providers_of, consumers_of, attached_to, detach}
+use Rattle.geo_model.specs.Topology.{Topology, Geom, Provider, Consumer, add_geom, add_provider, add_consumer, remove_geom, remove_provider, remove_consumer, set_error, set_size, set_marks, set_withering, set_config, note_started, attach, geom_at, provider_at, consumer_at, providers_of, consumers_of, attached_to, detach}
 use Rattle.geo_slots.specs.Slots.{with_value, without, value_at}
 use Rattle.geo_family.specs.Family.{names, is_parent, has_child, first_child}
 use Rattle.geo_mesh.specs.declared.index.Index.{Index}
+use Rattle.std.specs.Prelude.{◌&&◌}
+use Rattle.geo_mesh.specs.Rows.{first_row}
 use Rattle.geo_mesh.specs.Topo.{first_provider, first_consumer}
 use Rattle.geo_mesh.specs.Index.{IsIndexed, with_rooms, with_geom_index, with_provider_index, with_consumer_index, without_geom_index, without_provider_index, without_consumer_index, attached_index, detached_index, geom_numbers}
 
@@ -238,12 +240,24 @@ module _ {C : Type 0} (t : Topology C) (i : Index) (h : IsIndexed t i) where
     attached = record { parents = h.attached.parents; children = rw h.attached.children (map-change_number (λ (x : Consumer). x.number) (λ x. x.provider) (λ x. record x { provider = None }) cons None (λ x. refl) (λ x. refl) t.consumers); next_parent = h.attached.next_parent; next_child = h.attached.next_child };
   }
 
-  -- an error at a provider leaves the index
-  pub indexed-set_error : (prov : ℕ) → IsIndexed (set_error t prov) i
-  indexed-set_error prov = record {
-    offered = record { parents = h.offered.parents; children = h.offered.children ∙ sym (map-change_where (λ (x : Provider). (x.number, Some x.geom)) (λ x. x.number == prov) (λ x. record x { errored = true }) (λ x. refl) t.providers); next_parent = h.offered.next_parent; next_child = h.offered.next_child };
+  -- a change of a provider that keeps its number and its geom leaves the index
+  pub indexed-provider : (prov : ℕ) (change : Provider → Provider) → ((x : Provider) → (change x).number ≡ x.number) → ((x : Provider) → (change x).geom ≡ x.geom)
+      → IsIndexed (record t { providers = change_where (λ x. x.number == prov) change t.providers }) i
+  indexed-provider prov change number geom = record {
+    offered = record {
+      parents = h.offered.parents;
+      children = h.offered.children
+          ∙ sym (map-change_where (λ (x : Provider). (x.number, Some x.geom)) (λ x. x.number == prov) change (λ x. λ k. (number x k, Some (geom x k))) t.providers);
+      next_parent = h.offered.next_parent;
+      next_child = h.offered.next_child;
+    };
     owned = h.owned;
-    attached = record { parents = h.attached.parents ∙ sym (map-change_where (λ (x : Provider). x.number) (λ x. x.number == prov) (λ x. record x { errored = true }) (λ x. refl) t.providers); children = h.attached.children; next_parent = h.attached.next_parent; next_child = h.attached.next_child };
+    attached = record {
+      parents = h.attached.parents ∙ sym (map-change_where (λ (x : Provider). x.number) (λ x. x.number == prov) change number t.providers);
+      children = h.attached.children;
+      next_parent = h.attached.next_parent;
+      next_child = h.attached.next_child;
+    };
   }
 
   -- other marks of consumers leave the index
@@ -254,28 +268,37 @@ module _ {C : Type 0} (t : Topology C) (i : Index) (h : IsIndexed t i) where
     attached = record { parents = h.attached.parents; children = h.attached.children ∙ sym (map-change_where (λ (x : Consumer). (x.number, x.provider)) test (λ x. record x { spoiled = marked }) (λ x. refl) t.consumers); next_parent = h.attached.next_parent; next_child = h.attached.next_child };
   }
 
-  -- a change of the geoms that keeps their numbers
-  indexed-geoms : (geoms : List (Geom C)) → geom_numbers geoms ≡ geom_numbers t.geoms → IsIndexed (record t { geoms = geoms }) i
-  indexed-geoms geoms same = record {
-    offered = record { parents = h.offered.parents ∙ sym same; children = h.offered.children; next_parent = h.offered.next_parent; next_child = h.offered.next_child };
-    owned = record { parents = h.owned.parents ∙ sym same; children = h.owned.children; next_parent = h.owned.next_parent; next_child = h.owned.next_child };
-    attached = h.attached;
-  }
+  -- a change of a geom that keeps its number leaves the index
+  pub indexed-geom : (geom : ℕ) (change : Geom C → Geom C) → ((x : Geom C) → (change x).number ≡ x.number)
+      → IsIndexed (record t { geoms = change_where (λ x. x.number == geom) change t.geoms }) i
+  indexed-geom geom change number =
+      let same : geom_numbers (change_where (λ (x : Geom C). x.number == geom) change t.geoms) ≡ geom_numbers t.geoms =
+      map-change_where (λ (x : Geom C). x.number) (λ (x : Geom C). x.number == geom) change number t.geoms in
+      record {
+        offered = record {
+          parents = h.offered.parents ∙ sym same;
+          children = h.offered.children;
+          next_parent = h.offered.next_parent;
+          next_child = h.offered.next_child;
+        };
+        owned = record {
+          parents = h.owned.parents ∙ sym same;
+          children = h.owned.children;
+          next_parent = h.owned.next_parent;
+          next_child = h.owned.next_child;
+        };
+        attached = h.attached;
+      }
 
-  -- a geom that withers leaves the index
-  pub indexed-set_withering : (geom : ℕ) → IsIndexed (set_withering t geom) i
-  indexed-set_withering geom =
-      let xs : List (Geom C) = change_where (λ x. x.number == geom) (λ x. record x { withering = true }) t.geoms in
-      indexed-geoms xs (map-change_where (λ (x : Geom C). x.number) (λ x. x.number == geom) (λ x. record x { withering = true }) (λ x. refl) t.geoms)
+-- the first child of a parent is the first row whose value passes
+module _ {T X : Type 0} (seen : ℕ × T → X) (pair : X → ℕ × Option ℕ) (child : T → Option ℕ) (is : (row : ℕ × T) → pair (seen row) ≡ (row.0, child row.1)) (test : T → Bool) (parent at : ℕ) (same : (x : T) → names (child x) parent ≡ test x) where
+  -- one row more in front: it is the first child, or a later one is
+  kin_step : (row : ℕ × T) (rows : List (ℕ × T)) (b : Bool) → (nat_le at row.0 && test row.1) ≡ b → first_child (map pair (map seen rows)) parent at ≡ option_map (λ r. r.0) (first_row test rows at)
+      → first_child (map pair (map seen (row ∷ rows))) parent at ≡ option_map (λ r. r.0) (first_row test (row ∷ rows) at)
+  kin_step row rows true e rest = rw (is row, same row.1, e) refl
+  kin_step row rows false e rest = rw (is row, same row.1, e) rest
 
-  -- another configuration of a geom leaves the index
-  pub indexed-set_config : (geom : ℕ) (config : C) → IsIndexed (set_config t geom config) i
-  indexed-set_config geom config =
-      let xs : List (Geom C) = change_where (λ x. x.number == geom) (λ x. record x { config = config }) t.geoms in
-      indexed-geoms xs (map-change_where (λ (x : Geom C). x.number) (λ x. x.number == geom) (λ x. record x { config = config }) (λ x. refl) t.geoms)
-
-  -- one more started request at a geom leaves the index
-  pub indexed-note_started : (geom : ℕ) → IsIndexed (note_started t geom) i
-  indexed-note_started geom =
-      let xs : List (Geom C) = change_where (λ x. x.number == geom) (λ x. record x { started = x.started + 1 }) t.geoms in
-      indexed-geoms xs (map-change_where (λ (x : Geom C). x.number) (λ x. x.number == geom) (λ x. record x { started = x.started + 1 }) (λ x. refl) t.geoms)
+  -- over all rows, the first child is the number of the first row that passes
+  pub first-kin : (rows : List (ℕ × T)) → first_child (map pair (map seen rows)) parent at ≡ option_map (λ r. r.0) (first_row test rows at)
+  first-kin [] = refl
+  first-kin (row ∷ rows) = kin_step row rows (nat_le at row.0 && test row.1) refl (first-kin rows)

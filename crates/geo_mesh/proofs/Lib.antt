@@ -1,9 +1,11 @@
 pub mod RowLemmas
+pub mod MarkLemmas
 pub mod ViewLemmas
 pub mod WalkLemmas
 pub mod Orderly
 pub mod FirstGraph
 pub mod IndexLemmas
+pub mod NoteLemmas
 pub mod MeshLemmas
 pub mod NameLemmas
 pub mod IdLemmas
@@ -17,4 +19,5 @@ pub mod RankKept
 pub mod RankMesh
 pub mod RankSwitch
 pub mod WholeLemmas
+pub mod WholeParts
 pub mod GraphLemmas

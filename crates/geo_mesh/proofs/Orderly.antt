@@ -1,5 +1,5 @@
 -- An orderly graph stays orderly through each change of one thing.
-use Rattle.std.specs.Prelude.{◌≡◌, ◌≢◌, ℕ, ◌+◌, ◌<◌, ◌≤◌, ◌^◌, ◌==◌, Bool, true, not, List, [], ◌++◌, find, Option, Some, None, All, IsSome, IsSomeAnd}
+use Rattle.std.specs.Prelude.{◌≡◌, ◌≢◌, ℕ, ◌+◌, ◌<◌, ◌≤◌, ◌^◌, ◌==◌, Bool, true, not, List, [], ◌∷◌, ◌++◌, find, Option, Some, None, All, IsSome, IfSome, IsSomeAnd, false}
 use Rattle.std.specs.Option.{option_map, option_or}
 use Rattle.std.proofs.Common.{refl, sym, ◌∙◌, ap, subst, arith}
 use Rattle.std.proofs.lemmas.List.Elements.{recursion_from_All, All-from_recursion, All-push, All-filter}
@@ -7,12 +7,14 @@ use Rattle.std.proofs.lemmas.List.Folds.{find-append}
 use Rattle.geo_base.specs.declared.kind.Kind.{Kind}
 use Rattle.geo_base.specs.declared.kind.Kind.TheVariants as kinds
 use Rattle.geo_model.specs.Words.{change_where}
-use Rattle.geo_model.specs.Topology.{Topology, Geom, Provider, Consumer, geom_at, provider_at, providers_of, consumers_of, attached_to, add_geom, add_provider, add_consumer, remove_geom, remove_provider, remove_consumer, attach, detach, set_error, set_withering, set_marks, set_config, note_started}
+use Rattle.geo_model.specs.Topology.{Topology, Geom, Provider, Consumer, geom_at, provider_at, providers_of, consumers_of, attached_to, add_geom, add_provider, add_consumer, remove_geom, remove_provider, remove_consumer, attach, detach, set_error, set_size, set_withering, set_marks, set_config, note_started}
 use Rattle.geo_model.specs.Graph.{IsInOrder, PartsLive}
-use Rattle.geo_laws_graph.specs.LookupLaws.{AddedGeomIsFound, AddedProviderIsFound, AddedConsumerIsFound, RemovedGeomIsGone, RemovedProviderIsGone, RemovedConsumerIsGone, AttachedIsFound, DetachedIsFound, MarksAreFound, ErrorIsFound, WitheringIsFound, ConfigIsFound, StartIsFound, PartsStayAlive}
-use Rattle.geo_laws_graph.proofs.Lists.{changed, changed-keeps, find-changed, all-changed}
-use Rattle.geo_laws_graph.proofs.Found.{added-geom, added-provider, added-consumer, removed-geom, removed-provider, removed-consumer, attached-found, detached-found, marks-found, error-found, withering-found, config-found, start-found}
-use Rattle.geo_laws_graph.proofs.Living.{parts-alive}
+use Rattle.geo_laws_graph.specs.LookupLaws.{AddedGeomIsFound, AddedProviderIsFound, AddedConsumerIsFound, RemovedGeomIsGone, RemovedProviderIsGone, RemovedConsumerIsGone, AttachedIsFound, DetachedIsFound, MarksAreFound, ErrorIsFound, SizeIsFound, WitheringIsFound, ConfigIsFound, StartIsFound, PartsStayAlive}
+use Rattle.geo_laws_graph.proofs.Lists.{changed, changed-keeps, find-changed, all-changed, numbers-changed}
+use Rattle.geo_laws_graph.proofs.Found.{added-geom, added-provider, added-consumer, removed-geom, removed-provider, removed-consumer, attached-found, detached-found, marks-found, error-found, size_found, withering-found, config-found, start-found}
+use Rattle.geo_laws_graph.proofs.Living.{parts-alive, changed_parts, changed_provider-parts}
+use Rattle.geo_laws_graph.proofs.Numbered.{unique}
+use Rattle.std.specs.List.{AllByRecursion}
 use Rattle.geo_mesh.specs.Topo.{is_provider_size}
 use Rattle.geo_mesh.specs.Graph.{IsNumber, IsOffer, IsOrderly}
 
@@ -44,71 +46,79 @@ module _ {C : Type 0} (t : Topology C) (is : IsOrderly t) where
 
   module _ (g : ℕ) (change : Geom C → Geom C) (number : (x : Geom C) → (change x).number ≡ x.number) (kind : (x : Geom C) → (change x).kind ≡ x.kind) where
     -- the graph with a geom changed
-    abbrev with_change : Topology C
-    with_change = record t { geoms = change_where (λ (x : Geom C). x.number == g) change t.geoms }
+    abbrev with_geom_changed : Topology C
+    with_geom_changed = record t { geoms = change_where (λ (x : Geom C). x.number == g) change t.geoms }
 
     -- a geom keeps its class
-    class_stays : (n : ℕ) (k : Kind) → IsSomeAnd (geom_at t n) (λ x. x.kind ≡ k) → IsSomeAnd (geom_at with_change n) (λ x. x.kind ≡ k)
+    class_stays : (n : ℕ) (k : Kind) → IsSomeAnd (geom_at t n) (λ x. x.kind ≡ k) → IsSomeAnd (geom_at with_geom_changed n) (λ x. x.kind ≡ k)
     class_stays n k stands =
         rw (find-changed (λ (x : Geom C). x.number == g) change (λ (x : Geom C). x.number == n) (λ x e. ap (λ m. m == n) (number x)) t.geoms)
         (some_through (λ (x : Geom C). x.kind ≡ k) (changed (λ (x : Geom C). x.number == g) change)
         (λ x was. changed-keeps (λ (x : Geom C). x.number == g) change (λ (x : Geom C). x.kind) (λ y e. kind y) x ∙ was)
         (geom_at t n) stands)
 
-    -- a geom that is changed keeps its number and its class
-    geom_changed : IsInOrder with_change → PartsLive with_change → IsOrderly with_change
-    geom_changed order parts = record {
-      order = order;
+    -- a geom that is changed but keeps its number and its class
+    pub orderly-geom : IsOrderly with_geom_changed
+    orderly-geom = record {
+      order = record {
+        geoms = numbers-changed (λ (x : Geom C). x.number) (λ (x : Geom C). x.number == g) change (λ x e. number x) t.next_geom t.geoms is.order.geoms;
+        providers = is.order.providers;
+        consumers = is.order.consumers;
+      };
       numbers = record {
-        geoms = all_through (λ (x : Geom C). 1 ≤ x.number) (λ (x : Geom C). x.number == g) change (λ x some. subst (λ n. 1 ≤ n) (sym (number x)) some) t.geoms is.numbers.geoms;
+        geoms = all_through (λ (x : Geom C). 1 ≤ x.number) (λ (x : Geom C). x.number == g) change
+            (λ x some. subst (λ n. 1 ≤ n) (sym (number x)) some) t.geoms is.numbers.geoms;
         providers = is.numbers.providers;
         consumers = is.numbers.consumers;
         next_geom = is.numbers.next_geom;
         next_provider = is.numbers.next_provider;
         next_consumer = is.numbers.next_consumer;
       };
-      parts = parts;
+      parts = changed_parts t (λ (x : Geom C). x.number == g) change number is.parts;
       first = record { dev = class_stays 1 kinds.Dev is.first.dev; taste = class_stays 2 kinds.Taste is.first.taste };
       offers = is.offers;
     }
 
-  -- a geom that withers
-  pub orderly-set_withering : (g : ℕ) → IsOrderly (set_withering t g)
-  orderly-set_withering g =
-      let law : WitheringIsFound C = withering-found in
-      geom_changed g (λ x. record x { withering = true }) (λ x. refl) (λ x. refl) (law.order t g is.order) (alive.withering t g is.parts)
+  module _ (p : ℕ) (change : Provider → Provider) (number : (x : Provider) → (change x).number ≡ x.number) (geom : (x : Provider) → (change x).geom ≡ x.geom) where
+    -- what is offered still is, if it is the provider of the number
+    offer_at : (x y : Provider) (b : Bool) → (y.number == p) ≡ b → ((y.number == p) ≡ true → y ≡ x) → (IsOffer x → IsOffer (change x)) → IsOffer y
+        → IsOffer (changed (λ (z : Provider). z.number == p) change y)
+    offer_at x y true e only so offer = rw e (subst (λ z. IsOffer z → IsOffer (change z)) (sym (only e)) so offer)
+    offer_at x y false e only so offer = rw e offer
 
-  -- a geom of another configuration
-  pub orderly-set_config : (g : ℕ) (config : C) → IsOrderly (set_config t g config)
-  orderly-set_config g config =
-      let law : ConfigIsFound C = config-found in
-      geom_changed g (λ x. record x { config = config }) (λ x. refl) (λ x. refl) (law.order t g config is.order) (alive.config t g config is.parts)
+    -- so for all providers
+    offers_stay : (x : Provider) → (IsOffer x → IsOffer (change x)) → (ys : List Provider)
+        → AllByRecursion (λ (y : Provider). (y.number == p) ≡ true → y ≡ x) ys → AllByRecursion IsOffer ys
+        → AllByRecursion IsOffer (change_where (λ (z : Provider). z.number == p) change ys)
+    offers_stay x so [] only offers = tt
+    offers_stay x so (y ∷ ys) only offers = (offer_at x y (y.number == p) refl only.0 so offers.0, offers_stay x so ys only.1 offers.1)
 
-  -- a geom that started one more request
-  pub orderly-note_started : (g : ℕ) → IsOrderly (note_started t g)
-  orderly-note_started g =
-      let law : StartIsFound C = start-found in
-      geom_changed g (λ x. record x { started = x.started + 1 }) (λ x. refl) (λ x. refl) (law.order t g is.order) (alive.started t g is.parts)
-
-  -- a provider with an error
-  pub orderly-set_error : (p : ℕ) → IsOrderly (set_error t p)
-  orderly-set_error p =
-      let law : ErrorIsFound C = error-found in
-      record {
-        order = law.order t p is.order;
-        numbers = record {
-          geoms = is.numbers.geoms;
-          providers = all_through (λ (x : Provider). 1 ≤ x.number) (λ (x : Provider). x.number == p) (λ x. record x { errored = true }) (λ x some. some) t.providers is.numbers.providers;
-          consumers = is.numbers.consumers;
-          next_geom = is.numbers.next_geom;
-          next_provider = is.numbers.next_provider;
-          next_consumer = is.numbers.next_consumer;
-        };
-        parts = alive.errored t p is.parts;
-        first = record { dev = is.first.dev; taste = is.first.taste };
-        offers = all_through IsOffer (λ (x : Provider). x.number == p) (λ x. record x { errored = true })
-            (λ x offer. record { not_dev = offer.not_dev; not_taste = offer.not_taste; sizes = offer.sizes }) t.providers is.offers;
-      }
+    -- a provider that is changed but keeps its number and its geom
+    pub orderly-provider : (x : Provider) → provider_at t p ≡ Some x → (IsOffer x → IsOffer (change x))
+        → IsOrderly (record t { providers = change_where (λ (y : Provider). y.number == p) change t.providers })
+    orderly-provider x found so = record {
+      order = record {
+        geoms = is.order.geoms;
+        providers = numbers-changed (λ (y : Provider). y.number) (λ (y : Provider). y.number == p) change (λ y e. number y)
+            t.next_provider t.providers is.order.providers;
+        consumers = is.order.consumers;
+      };
+      numbers = record {
+        geoms = is.numbers.geoms;
+        providers = all_through (λ (y : Provider). 1 ≤ y.number) (λ (y : Provider). y.number == p) change
+            (λ y some. subst (λ n. 1 ≤ n) (sym (number y)) some) t.providers is.numbers.providers;
+        consumers = is.numbers.consumers;
+        next_geom = is.numbers.next_geom;
+        next_provider = is.numbers.next_provider;
+        next_consumer = is.numbers.next_consumer;
+      };
+      parts = changed_provider-parts t p change number geom is.parts;
+      first = record { dev = is.first.dev; taste = is.first.taste };
+      offers =
+          All-from_recursion IsOffer (change_where (λ (y : Provider). y.number == p) change t.providers)
+          (offers_stay x so t.providers (unique (λ (y : Provider). y.number) t.next_provider p t.providers x is.order.providers found)
+          (recursion_from_All IsOffer t.providers is.offers));
+    }
 
   module _ (hit : Consumer → Bool) (change : Consumer → Consumer) (number : (x : Consumer) → (change x).number ≡ x.number) where
     -- the graph with some consumers changed

@@ -8,15 +8,16 @@ use Rattle.geo_slots.specs.Slots.{SlotsView, IsRising, value_at}
 use Rattle.geo_mesh.specs.declared.records.GeomCell.{GeomCell}
 use Rattle.geo_mesh.specs.declared.records.ProvCell.{ProvCell}
 use Rattle.geo_mesh.specs.declared.records.ConsCell.{ConsCell}
+use Rattle.geo_mesh.specs.declared.tables.Edges.{Edges}
 use Rattle.geo_mesh.specs.Rows.{passes}
 use Rattle.geo_mesh.specs.Mending.{IsAmong}
-use Rattle.geo_mesh.specs.Ranks.{kinds, bare, offers, ends, below, ends_of, owner, user, user_of, number_or, is_offered, is_attached, IsFirst, IsWalkable}
+use Rattle.geo_mesh.specs.Ranks.{kinds, bare, offers, ranked_links, ranked_below, ranked_link_of, owner, user, user_of, number_or, is_offered, is_attached, IsFirst, IsWalkable}
 use Rattle.geo_mesh.proofs.RankMend.{is_or_not}
 use Rattle.geo_mesh.proofs.RankRows.{IsWay, under-way, way-under, kinds-bare, rising-with, all-at}
 
 -- the graph may be walked over whatever the ranks
-pub walkable-bare : {C : Type 0} (gs ns : SlotsView (GeomCell C)) (ps : SlotsView ProvCell) (cs : SlotsView ConsCell) → bare ns ≡ bare gs → IsWalkable (kinds gs) ps cs → IsWalkable (kinds ns) ps cs
-walkable-bare gs ns ps cs same walkable = subst (λ classes. IsWalkable classes ps cs) (sym (kinds-bare gs ns same)) walkable
+pub walkable-bare : {C : Type 0} (gs ns : SlotsView (GeomCell C)) (edges : Edges) → bare ns ≡ bare gs → IsWalkable (kinds gs) edges → IsWalkable (kinds ns) edges
+walkable-bare gs ns edges same walkable = subst (λ classes. IsWalkable classes edges) (sym (kinds-bare gs ns same)) walkable
 
 -- a provider that is offered by a geom has it as its owner
 pub offered-is : (g : ℕ) (o : Option ℕ) → passes (is_offered g) o ≡ true → o ≡ Some g
@@ -33,36 +34,36 @@ pub attached-is : (p : ℕ) (o : Option (ℕ × Option ℕ)) → passes (is_atta
 attached-is p None there = absurd cc
 attached-is p (Some e) there = ap (λ (q : Option ℕ). Some (e.0, q)) (names-some e.1 p there)
 
-module _ (ps : SlotsView ProvCell) (cs : SlotsView ConsCell) where
+module _ (edges : Edges) where
   -- the owner of a provider that a geom offers is that geom
-  pub owner-is : (g p : ℕ) → passes (is_offered g) (value_at (offers ps).rows p) ≡ true → owner ps p ≡ g
-  owner-is g p there = rw (offered-is g (value_at (offers ps).rows p) there) refl
+  pub owner-is : (g p : ℕ) → passes (is_offered g) (value_at (offers edges).rows p) ≡ true → owner edges p ≡ g
+  owner-is g p there = rw (offered-is g (value_at (offers edges).rows p) there) refl
 
   -- the owner of a provider is below the user of a consumer that is attached to it
-  pub user-above : (p c : ℕ) → IsSome (value_at (offers ps).rows p) → passes (is_attached p) (value_at (ends cs).rows c) ≡ true → IsAmong (below ps cs (user cs c)) (owner ps p)
+  pub user-above : (p c : ℕ) → IsSome (value_at (offers edges).rows p) → passes (is_attached p) (value_at (ranked_links edges).rows c) ≡ true → IsAmong (ranked_below edges (user edges c)) (owner edges p)
   user-above p c lives there =
-      way-under (offers ps).rows (ends cs).rows c p (user cs c) (owner ps p) (attached-is p (value_at (ends cs).rows c) there) (at (value_at (offers ps).rows p) lives) where
+      way-under (offers edges).rows (ranked_links edges).rows c p (user edges c) (owner edges p) (attached-is p (value_at (ranked_links edges).rows c) there) (at (value_at (offers edges).rows p) lives) where
         at : (o : Option ℕ) → IsSome o → o ≡ Some (number_or 0 o)
         at None lives = absurd cc
         at (Some h) lives = refl
 
   -- what stands directly above a geom does so by a consumer that is attached to a provider of the geom
-  pub above-user : IsRising 1 cs.rows cs.next → (P : ℕ → Type 0) (g : ℕ)
-      → ((p c : ℕ) → passes (is_offered g) (value_at (offers ps).rows p) ≡ true → passes (is_attached p) (value_at (ends cs).rows c) ≡ true → P (user cs c))
-      → (x : ℕ) → IsAmong (below ps cs x) g → P x
+  pub above-user : IsRising 1 edges.consumers.rows edges.consumers.next → (P : ℕ → Type 0) (g : ℕ)
+      → ((p c : ℕ) → passes (is_offered g) (value_at (offers edges).rows p) ≡ true → passes (is_attached p) (value_at (ranked_links edges).rows c) ≡ true → P (user edges c))
+      → (x : ℕ) → IsAmong (ranked_below edges x) g → P x
   above-user rising P g so x there =
-      let way : IsWay (offers ps).rows (ends cs).rows x g = under-way (offers ps).rows 1 cs.next (ends cs).rows (rising-with ends_of 1 cs.next cs.rows rising) x g there in
+      let way : IsWay (offers edges).rows (ranked_links edges).rows x g = under-way (offers edges).rows 1 edges.consumers.next (ranked_links edges).rows (rising-with ranked_link_of 1 edges.consumers.next edges.consumers.rows rising) x g there in
       at way (so way.prov way.cons (rw way.owner (self g)) (rw way.user (self way.prov))) where
         self : (n : ℕ) → (n == n) ≡ true
         self n = eq-eqb n n refl
 
-        at : (way : IsWay (offers ps).rows (ends cs).rows x g) → P (user cs way.cons) → P x
-        at way fact = let same : user cs way.cons ≡ x = rw way.user refl in subst P same fact
+        at : (way : IsWay (offers edges).rows (ranked_links edges).rows x g) → P (user edges way.cons) → P x
+        at way fact = let same : user edges way.cons ≡ x = rw way.user refl in subst P same fact
 
   -- the geom of a consumer is there
-  pub user-lives : (classes : List (ℕ × Kind)) (p c : ℕ) → IsWalkable classes ps cs → passes (is_attached p) (value_at (ends cs).rows c) ≡ true → IsSome (value_at classes (user cs c))
+  pub user-lives : (classes : List (ℕ × Kind)) (p c : ℕ) → IsWalkable classes edges → passes (is_attached p) (value_at (ranked_links edges).rows c) ≡ true → IsSome (value_at classes (user edges c))
   user-lives classes p c walkable there =
-      all-at (λ (row : ℕ × (ℕ × Option ℕ)). IsSome (value_at classes row.1.0)) (ends cs).rows c (user cs c, Some p) walkable.owned (attached-is p (value_at (ends cs).rows c) there)
+      all-at (λ (row : ℕ × (ℕ × Option ℕ)). IsSome (value_at classes row.1.0)) (ranked_links edges).rows c (user edges c, Some p) walkable.owned (attached-is p (value_at (ranked_links edges).rows c) there)
 
 -- one more of a walk: a fact of all that pass below the next number
 pub walk-more : {T : Type 0} (test : T → Bool) (rows : List (ℕ × T)) (next at n : ℕ) (P : ℕ → Type 0) → IsFirst test rows next at n

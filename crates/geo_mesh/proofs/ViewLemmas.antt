@@ -4,319 +4,345 @@ use Rattle.std.specs.List.{last_or, list_any}
 use Rattle.std.specs.Option.{option_or}
 use Rattle.std.proofs.Common.{arith, ap, ◌∙◌, subst, refl, sym}
 use Rattle.std.proofs.lemmas.Bool.{eqb-true, ne_eqb}
-use Rattle.geo_mesh.specs.Cells.{IsCount, geom_row, provider_row, consumer_row, have_of, risen_of, fallen_of, want_of, active_of, geom_scratch_of, provider_scratch_of, consumer_scratch_of, graph_of, view_of}
+use Rattle.geo_mesh.specs.Cells.{IsCount, geom_row, provider_row, consumer_row, have_of, risen_of, fallen_of, want_of, active_of, geom_scratch_of, provider_scratch_of, consumer_scratch_of, graph_of, graph, view_of, put_consumer, with_geom_cell, with_provider_cell, with_consumer_cell}
 use Rattle.geo_mesh.specs.declared.names.Names.{Names}
 use Rattle.geo_mesh.specs.Names.{AreNames, AreIds, sound_of, newest_of, is_sound_named}
 use Rattle.geo_mesh.proofs.AlikeLemmas.{newest-names}
 use Rattle.std.proofs.lemmas.List.{map-append, length-map}
 use Rattle.geo_model.specs.Words.{same_name}
 use Rattle.geo_base.specs.declared.request.Counts.{Counts}
-use Rattle.geo_model.specs.Topology.{Geom, Provider, Consumer, geom_at, provider_at, consumer_at, set_error, set_withering, set_marks, set_config, note_started, find_provider, attach, detach}
+use Rattle.geo_model.specs.Topology.{Geom, Provider, Consumer, geom_at, provider_at, consumer_at, set_error, set_size, set_withering, set_marks, set_config, note_started, find_provider, attach, detach}
 use Rattle.geo_slots.specs.Slots.{SlotsView, IsRising, value_at, with_value, without, first_from, with_insert}
 use Rattle.geo_mesh.specs.declared.records.Scratch.{Scratch}
 use Rattle.geo_mesh.specs.declared.records.GeomCell.{GeomCell}
 use Rattle.geo_mesh.specs.declared.records.ProvCell.{ProvCell}
 use Rattle.geo_mesh.specs.declared.records.ConsCell.{ConsCell}
+use Rattle.geo_mesh.specs.declared.tables.Edges.{Edges}
+use Rattle.geo_mesh.specs.declared.tables.Tables.{Tables}
+use Rattle.geo_mesh.specs.Whole.{IsRoomier}
 use Rattle.geo_mesh.specs.Rows.{row_with, passes}
-use Rattle.geo_mesh.specs.Topo.{no_counts, no_scratch, first_geom, first_provider, first_consumer, with_provider, with_consumer, with_topology, with_want, with_have, with_notes, with_active, with_geom_scratch, with_provider_scratch, with_consumer_scratch, without_geom, without_provider, without_consumer}
+use Rattle.geo_mesh.specs.Topo.{no_counts, no_scratch, first_geom, first_provider, first_consumer, with_provider, with_consumer, with_topology, with_want, with_have, with_notes, with_active, with_geom_scratch, with_provider_scratch, with_consumer_scratch, without_geom, without_provider, without_consumer, IsButForRoom}
 use Rattle.geo_mesh.proofs.RowLemmas.{OnlyValue, only, map-with_value, map-with_value_same, rows_with-with_value, rows_with-change_at, map-without, find-map}
 use Rattle.geo_mesh.proofs.WalkLemmas.{first-map}
 
-module _ {C : Type 0} (gs : SlotsView (GeomCell C)) (ps : SlotsView ProvCell) (cs : SlotsView ConsCell) (n : ℕ) where
+-- what is seen is there
+pub row_there : {X Y : Type 0} (f : X → Y) (o : Option X) → IsSome (option_map f o) → IsSome o
+row_there f None there = there
+row_there f (Some v) there = refl
+
+module _ {C : Type 0} (gs : SlotsView (GeomCell C)) (edges : Edges) (n : ℕ) where
   -- the geom of a number
-  pub geom_at-view : geom_at (graph_of gs ps cs) n ≡ option_map (λ v. geom_row (n, v)) (value_at gs.rows n)
+  pub geom_at-view : geom_at (graph_of gs edges) n ≡ option_map (λ v. geom_row (n, v)) (value_at gs.rows n)
   geom_at-view = find-map geom_row n (λ (x : Geom C). x.number == n) (λ row. refl) gs.rows
 
   -- a geom that is there has its row
-  pub geom_stands : IsSome (geom_at (graph_of gs ps cs) n) → None ≡ value_at gs.rows n → ⊥
-  geom_stands lives none =
-      let here : IsSome (option_map (λ v. geom_row (n, v)) (value_at gs.rows n)) = rw geom_at-view at lives in
-      let no : false ≡ true = rw (← none) at here in cc
+  pub geom_there : IsSome (geom_at (graph_of gs edges) n) → IsSome (value_at gs.rows n)
+  geom_there lives = row_there (λ v. geom_row (n, v)) (value_at gs.rows n) (rw geom_at-view at lives)
 
   -- the provider of a number
-  pub provider_at-view : provider_at (graph_of gs ps cs) n ≡ option_map (λ v. provider_row (n, v)) (value_at ps.rows n)
-  provider_at-view = find-map provider_row n (λ (x : Provider). x.number == n) (λ row. refl) ps.rows
+  pub provider_at-view : provider_at (graph_of gs edges) n ≡ option_map (λ v. provider_row (n, v)) (value_at edges.providers.rows n)
+  provider_at-view = find-map provider_row n (λ (x : Provider). x.number == n) (λ row. refl) edges.providers.rows
 
   -- a provider that is there has its row
-  pub provider_stands : IsSome (provider_at (graph_of gs ps cs) n) → None ≡ value_at ps.rows n → ⊥
-  provider_stands lives none =
-      let here : IsSome (option_map (λ v. provider_row (n, v)) (value_at ps.rows n)) = rw provider_at-view at lives in
-      let no : false ≡ true = rw (← none) at here in cc
+  pub provider_there : IsSome (provider_at (graph_of gs edges) n) → IsSome (value_at edges.providers.rows n)
+  provider_there lives = row_there (λ v. provider_row (n, v)) (value_at edges.providers.rows n) (rw provider_at-view at lives)
 
   -- the consumer of a number
-  pub consumer_at-view : consumer_at (graph_of gs ps cs) n ≡ option_map (λ v. consumer_row (n, v)) (value_at cs.rows n)
-  consumer_at-view = find-map consumer_row n (λ (x : Consumer). x.number == n) (λ row. refl) cs.rows
+  pub consumer_at-view : consumer_at (graph_of gs edges) n ≡ option_map (λ v. consumer_row (n, v)) (value_at edges.consumers.rows n)
+  consumer_at-view = find-map consumer_row n (λ (x : Consumer). x.number == n) (λ row. refl) edges.consumers.rows
 
   -- a consumer that is there has its row
-  pub consumer_stands : IsSome (consumer_at (graph_of gs ps cs) n) → None ≡ value_at cs.rows n → ⊥
-  consumer_stands lives none =
-      let here : IsSome (option_map (λ v. consumer_row (n, v)) (value_at cs.rows n)) = rw consumer_at-view at lives in
-      let no : false ≡ true = rw (← none) at here in cc
+  pub consumer_there : IsSome (consumer_at (graph_of gs edges) n) → IsSome (value_at edges.consumers.rows n)
+  consumer_there lives = row_there (λ v. consumer_row (n, v)) (value_at edges.consumers.rows n) (rw consumer_at-view at lives)
 
+  -- the graph after a consumer is attached
+  pub attach-graph : (p : ℕ) (v : ConsCell) → IsRising 1 edges.consumers.rows edges.consumers.next → value_at edges.consumers.rows n ≡ Some v
+      → graph_of gs (put_consumer edges n (record v { consumer = record v.consumer { prov = Some p } })) ≡ attach (graph_of gs edges) n p
+  attach-graph p v rising at =
+      let w : ConsCell = record v { consumer = record v.consumer { prov = Some p } } in
+      let is : OnlyValue n v edges.consumers.rows = only n 1 edges.consumers.next v edges.consumers.rows rising at in
+      rw (map-with_value consumer_row n (λ (x : Consumer). x.number == n) (λ x. record x { provider = Some p }) v w (λ row. refl) refl edges.consumers.rows is) refl
+
+module _ {C : Type 0} (t : Tables C) (n : ℕ) where
   -- the mesh after a provider gets an error
-  pub set_error-view : (v : ProvCell) → IsRising 1 ps.rows ps.next → Some v ≡ value_at ps.rows n
-      → view_of gs (record ps { rows = with_value ps.rows n (record v { provider = record v.provider { errored = true } }) }) cs ≡ with_topology (view_of gs ps cs) (set_error (graph_of gs ps cs) n)
+  pub set_error-view : (v : ProvCell) → IsRising 1 t.edges.providers.rows t.edges.providers.next → value_at t.edges.providers.rows n ≡ Some v
+      → view_of (with_provider_cell t n (record v { provider = record v.provider { errored = true } })) ≡ with_topology (view_of t) (set_error (graph t) n)
   set_error-view v rising at =
       let w : ProvCell = record v { provider = record v.provider { errored = true } } in
-      let is : OnlyValue n v ps.rows = only n 1 ps.next v ps.rows rising (sym at) in
+      let is : OnlyValue n v t.edges.providers.rows = only n 1 t.edges.providers.next v t.edges.providers.rows rising at in
       rw (
-        map-with_value provider_row n (λ (x : Provider). x.number == n) (λ x. record x { errored = true }) v w (λ row. refl) refl ps.rows is,
-        map-with_value_same (row_with have_of) n v w refl ps.rows is,
-        map-with_value_same (row_with risen_of) n v w refl ps.rows is,
-        map-with_value_same (row_with fallen_of) n v w refl ps.rows is,
-        map-with_value_same (row_with provider_scratch_of) n v w refl ps.rows is,
+        map-with_value provider_row n (λ (x : Provider). x.number == n) (λ x. record x { errored = true }) v w (λ row. refl) refl t.edges.providers.rows is,
+        map-with_value_same (row_with have_of) n v w refl t.edges.providers.rows is,
+        map-with_value_same (row_with risen_of) n v w refl t.edges.providers.rows is,
+        map-with_value_same (row_with fallen_of) n v w refl t.edges.providers.rows is,
+        map-with_value_same (row_with provider_scratch_of) n v w refl t.edges.providers.rows is,
+      ) refl
+
+  -- the mesh after a provider gets another media size
+  pub set_size-view : (size : ℕ) (v : ProvCell) → IsRising 1 t.edges.providers.rows t.edges.providers.next → value_at t.edges.providers.rows n ≡ Some v
+      → view_of (with_provider_cell t n (record v { provider = record v.provider { size = size } }))
+      ≡ with_topology (view_of t) (set_size (graph t) n size)
+  set_size-view size v rising at =
+      let w : ProvCell = record v { provider = record v.provider { size = size } } in
+      let is : OnlyValue n v t.edges.providers.rows = only n 1 t.edges.providers.next v t.edges.providers.rows rising at in
+      rw (
+        map-with_value provider_row n (λ (x : Provider). x.number == n) (λ x. record x { size = size }) v w (λ row. refl) refl t.edges.providers.rows is,
+        map-with_value_same (row_with have_of) n v w refl t.edges.providers.rows is,
+        map-with_value_same (row_with risen_of) n v w refl t.edges.providers.rows is,
+        map-with_value_same (row_with fallen_of) n v w refl t.edges.providers.rows is,
+        map-with_value_same (row_with provider_scratch_of) n v w refl t.edges.providers.rows is,
       ) refl
 
   -- the mesh after a geom begins to wither
-  pub set_withering-view : (v : GeomCell C) → IsRising 1 gs.rows gs.next → Some v ≡ value_at gs.rows n
-      → view_of (record gs { rows = with_value gs.rows n (record v { geom = record v.geom { withering = true } }) }) ps cs ≡ with_topology (view_of gs ps cs) (set_withering (graph_of gs ps cs) n)
+  pub set_withering-view : (v : GeomCell C) → IsRising 1 t.geoms.rows t.geoms.next → value_at t.geoms.rows n ≡ Some v
+      → view_of (with_geom_cell t n (record v { geom = record v.geom { withering = true } })) ≡ with_topology (view_of t) (set_withering (graph t) n)
   set_withering-view v rising at =
       let w : GeomCell C = record v { geom = record v.geom { withering = true } } in
-      let is : OnlyValue n v gs.rows = only n 1 gs.next v gs.rows rising (sym at) in
+      let is : OnlyValue n v t.geoms.rows = only n 1 t.geoms.next v t.geoms.rows rising at in
       rw (
-        map-with_value geom_row n (λ (x : Geom C). x.number == n) (λ x. record x { withering = true }) v w (λ row. refl) refl gs.rows is,
-        map-with_value_same (row_with (geom_scratch_of {C = C})) n v w refl gs.rows is,
+        map-with_value geom_row n (λ (x : Geom C). x.number == n) (λ x. record x { withering = true }) v w (λ row. refl) refl t.geoms.rows is,
+        map-with_value_same (row_with (geom_scratch_of {C = C})) n v w refl t.geoms.rows is,
       ) refl
 
   -- the mesh after a consumer is marked as spoiled, or unmarked
-  pub set_spoiled-view : (marked : Bool) (v : ConsCell) → IsRising 1 cs.rows cs.next → Some v ≡ value_at cs.rows n
-      → view_of gs ps (record cs { rows = with_value cs.rows n (record v { consumer = record v.consumer { spoiled = marked } }) }) ≡ with_topology (view_of gs ps cs) (set_marks (graph_of gs ps cs) (λ x. x.number == n) marked)
+  pub set_spoiled-view : (marked : Bool) (v : ConsCell) → IsRising 1 t.edges.consumers.rows t.edges.consumers.next → value_at t.edges.consumers.rows n ≡ Some v
+      → view_of (with_consumer_cell t n (record v { consumer = record v.consumer { spoiled = marked } })) ≡ with_topology (view_of t) (set_marks (graph t) (λ x. x.number == n) marked)
   set_spoiled-view marked v rising at =
       let w : ConsCell = record v { consumer = record v.consumer { spoiled = marked } } in
-      let is : OnlyValue n v cs.rows = only n 1 cs.next v cs.rows rising (sym at) in
+      let is : OnlyValue n v t.edges.consumers.rows = only n 1 t.edges.consumers.next v t.edges.consumers.rows rising at in
       rw (
-        map-with_value consumer_row n (λ (x : Consumer). x.number == n) (λ x. record x { spoiled = marked }) v w (λ row. refl) refl cs.rows is,
-        map-with_value_same (row_with want_of) n v w refl cs.rows is,
-        map-with_value_same (row_with active_of) n v w refl cs.rows is,
-        map-with_value_same (row_with consumer_scratch_of) n v w refl cs.rows is,
+        map-with_value consumer_row n (λ (x : Consumer). x.number == n) (λ x. record x { spoiled = marked }) v w (λ row. refl) refl t.edges.consumers.rows is,
+        map-with_value_same (row_with want_of) n v w refl t.edges.consumers.rows is,
+        map-with_value_same (row_with active_of) n v w refl t.edges.consumers.rows is,
+        map-with_value_same (row_with consumer_scratch_of) n v w refl t.edges.consumers.rows is,
       ) refl
 
   -- the mesh after one more request is out through a consumer
-  pub note_active-view : (v : ConsCell) → IsRising 1 cs.rows cs.next → Some v ≡ value_at cs.rows n
-      → view_of gs ps (record cs { rows = with_value cs.rows n (record v { consumer = record v.consumer { active = v.consumer.active + 1 } }) }) ≡ with_active (view_of gs ps cs) n (λ m. m + 1)
+  pub note_active-view : (v : ConsCell) → IsRising 1 t.edges.consumers.rows t.edges.consumers.next → value_at t.edges.consumers.rows n ≡ Some v
+      → view_of (with_consumer_cell t n (record v { consumer = record v.consumer { active = v.consumer.active + 1 } })) ≡ with_active (view_of t) n (λ m. m + 1)
   note_active-view v rising at =
       let w : ConsCell = record v { consumer = record v.consumer { active = v.consumer.active + 1 } } in
-      let is : OnlyValue n v cs.rows = only n 1 cs.next v cs.rows rising (sym at) in
+      let is : OnlyValue n v t.edges.consumers.rows = only n 1 t.edges.consumers.next v t.edges.consumers.rows rising at in
       rw (
-        map-with_value_same consumer_row n v w refl cs.rows is,
-        map-with_value_same (row_with want_of) n v w refl cs.rows is,
-        rows_with-change_at active_of n (λ m. m + 1) v w refl cs.rows is,
-        map-with_value_same (row_with consumer_scratch_of) n v w refl cs.rows is,
+        map-with_value_same consumer_row n v w refl t.edges.consumers.rows is,
+        map-with_value_same (row_with want_of) n v w refl t.edges.consumers.rows is,
+        rows_with-change_at active_of n (λ m. m + 1) v w refl t.edges.consumers.rows is,
+        map-with_value_same (row_with consumer_scratch_of) n v w refl t.edges.consumers.rows is,
       ) refl
 
   -- the mesh after one request less is out through a consumer
-  pub note_back-view : (v : ConsCell) → IsRising 1 cs.rows cs.next → Some v ≡ value_at cs.rows n
-      → view_of gs ps (record cs { rows = with_value cs.rows n (record v { consumer = record v.consumer { active = v.consumer.active - 1 } }) }) ≡ with_active (view_of gs ps cs) n (λ m. m - 1)
+  pub note_back-view : (v : ConsCell) → IsRising 1 t.edges.consumers.rows t.edges.consumers.next → value_at t.edges.consumers.rows n ≡ Some v
+      → view_of (with_consumer_cell t n (record v { consumer = record v.consumer { active = v.consumer.active - 1 } })) ≡ with_active (view_of t) n (λ m. m - 1)
   note_back-view v rising at =
       let w : ConsCell = record v { consumer = record v.consumer { active = v.consumer.active - 1 } } in
-      let is : OnlyValue n v cs.rows = only n 1 cs.next v cs.rows rising (sym at) in
+      let is : OnlyValue n v t.edges.consumers.rows = only n 1 t.edges.consumers.next v t.edges.consumers.rows rising at in
       rw (
-        map-with_value_same consumer_row n v w refl cs.rows is,
-        map-with_value_same (row_with want_of) n v w refl cs.rows is,
-        rows_with-change_at active_of n (λ m. m - 1) v w refl cs.rows is,
-        map-with_value_same (row_with consumer_scratch_of) n v w refl cs.rows is,
+        map-with_value_same consumer_row n v w refl t.edges.consumers.rows is,
+        map-with_value_same (row_with want_of) n v w refl t.edges.consumers.rows is,
+        rows_with-change_at active_of n (λ m. m - 1) v w refl t.edges.consumers.rows is,
+        map-with_value_same (row_with consumer_scratch_of) n v w refl t.edges.consumers.rows is,
       ) refl
 
   -- the mesh after a consumer gets other counts
-  pub set_want-view : (want : Counts) (v : ConsCell) → IsRising 1 cs.rows cs.next → Some v ≡ value_at cs.rows n
-      → view_of gs ps (record cs { rows = with_value cs.rows n (record v { consumer = record v.consumer { want = want } }) }) ≡ with_want (view_of gs ps cs) n want
+  pub set_want-view : (want : Counts) (v : ConsCell) → IsRising 1 t.edges.consumers.rows t.edges.consumers.next → value_at t.edges.consumers.rows n ≡ Some v
+      → view_of (with_consumer_cell t n (record v { consumer = record v.consumer { want = want } })) ≡ with_want (view_of t) n want
   set_want-view want v rising at =
       let w : ConsCell = record v { consumer = record v.consumer { want = want } } in
-      let is : OnlyValue n v cs.rows = only n 1 cs.next v cs.rows rising (sym at) in
+      let is : OnlyValue n v t.edges.consumers.rows = only n 1 t.edges.consumers.next v t.edges.consumers.rows rising at in
       rw (
-        map-with_value_same consumer_row n v w refl cs.rows is,
-        rows_with-with_value want_of n w cs.rows,
-        map-with_value_same (row_with active_of) n v w refl cs.rows is,
-        map-with_value_same (row_with consumer_scratch_of) n v w refl cs.rows is,
+        map-with_value_same consumer_row n v w refl t.edges.consumers.rows is,
+        rows_with-with_value want_of n w t.edges.consumers.rows,
+        map-with_value_same (row_with active_of) n v w refl t.edges.consumers.rows is,
+        map-with_value_same (row_with consumer_scratch_of) n v w refl t.edges.consumers.rows is,
       ) refl
 
   -- the mesh after a provider gets other counts
-  pub set_have-view : (have : Counts) (v : ProvCell) → IsRising 1 ps.rows ps.next → Some v ≡ value_at ps.rows n
-      → view_of gs (record ps { rows = with_value ps.rows n (record v { provider = record v.provider { have = have } }) }) cs ≡ with_have (view_of gs ps cs) n have
+  pub set_have-view : (have : Counts) (v : ProvCell) → IsRising 1 t.edges.providers.rows t.edges.providers.next → value_at t.edges.providers.rows n ≡ Some v
+      → view_of (with_provider_cell t n (record v { provider = record v.provider { have = have } })) ≡ with_have (view_of t) n have
   set_have-view have v rising at =
       let w : ProvCell = record v { provider = record v.provider { have = have } } in
-      let is : OnlyValue n v ps.rows = only n 1 ps.next v ps.rows rising (sym at) in
+      let is : OnlyValue n v t.edges.providers.rows = only n 1 t.edges.providers.next v t.edges.providers.rows rising at in
       rw (
-        map-with_value_same provider_row n v w refl ps.rows is,
-        rows_with-with_value have_of n w ps.rows,
-        map-with_value_same (row_with risen_of) n v w refl ps.rows is,
-        map-with_value_same (row_with fallen_of) n v w refl ps.rows is,
-        map-with_value_same (row_with provider_scratch_of) n v w refl ps.rows is,
+        map-with_value_same provider_row n v w refl t.edges.providers.rows is,
+        rows_with-with_value have_of n w t.edges.providers.rows,
+        map-with_value_same (row_with risen_of) n v w refl t.edges.providers.rows is,
+        map-with_value_same (row_with fallen_of) n v w refl t.edges.providers.rows is,
+        map-with_value_same (row_with provider_scratch_of) n v w refl t.edges.providers.rows is,
       ) refl
 
   -- the mesh after a provider gets other notes
-  pub set_noted-view : (risen : Bool) (fallen : Bool) (v : ProvCell) → IsRising 1 ps.rows ps.next → Some v ≡ value_at ps.rows n
-      → view_of gs (record ps { rows = with_value ps.rows n (record v { provider = record v.provider { risen = risen; fallen = fallen } }) }) cs ≡ with_notes (view_of gs ps cs) n risen fallen
+  pub set_noted-view : (risen : Bool) (fallen : Bool) (v : ProvCell) → IsRising 1 t.edges.providers.rows t.edges.providers.next → value_at t.edges.providers.rows n ≡ Some v
+      → view_of (with_provider_cell t n (record v { provider = record v.provider { risen = risen; fallen = fallen } })) ≡ with_notes (view_of t) n risen fallen
   set_noted-view risen fallen v rising at =
       let w : ProvCell = record v { provider = record v.provider { risen = risen; fallen = fallen } } in
-      let is : OnlyValue n v ps.rows = only n 1 ps.next v ps.rows rising (sym at) in
+      let is : OnlyValue n v t.edges.providers.rows = only n 1 t.edges.providers.next v t.edges.providers.rows rising at in
       rw (
-        map-with_value_same provider_row n v w refl ps.rows is,
-        map-with_value_same (row_with have_of) n v w refl ps.rows is,
-        rows_with-with_value risen_of n w ps.rows,
-        rows_with-with_value fallen_of n w ps.rows,
-        map-with_value_same (row_with provider_scratch_of) n v w refl ps.rows is,
+        map-with_value_same provider_row n v w refl t.edges.providers.rows is,
+        map-with_value_same (row_with have_of) n v w refl t.edges.providers.rows is,
+        rows_with-with_value risen_of n w t.edges.providers.rows,
+        rows_with-with_value fallen_of n w t.edges.providers.rows,
+        map-with_value_same (row_with provider_scratch_of) n v w refl t.edges.providers.rows is,
       ) refl
 
   -- the mesh after a geom gets other scratch
-  pub set_geom_scratch-view : (scratch : Scratch) (v : GeomCell C) → IsRising 1 gs.rows gs.next → Some v ≡ value_at gs.rows n
-      → view_of (record gs { rows = with_value gs.rows n (record v { scratch = scratch }) }) ps cs ≡ with_geom_scratch (view_of gs ps cs) n scratch
+  pub set_geom_scratch-view : (scratch : Scratch) (v : GeomCell C) → IsRising 1 t.geoms.rows t.geoms.next → value_at t.geoms.rows n ≡ Some v
+      → view_of (with_geom_cell t n (record v { scratch = scratch })) ≡ with_geom_scratch (view_of t) n scratch
   set_geom_scratch-view scratch v rising at =
       let w : GeomCell C = record v { scratch = scratch } in
-      let is : OnlyValue n v gs.rows = only n 1 gs.next v gs.rows rising (sym at) in
+      let is : OnlyValue n v t.geoms.rows = only n 1 t.geoms.next v t.geoms.rows rising at in
       rw (
-        map-with_value_same geom_row n v w refl gs.rows is,
-        rows_with-with_value (geom_scratch_of {C = C}) n w gs.rows,
+        map-with_value_same geom_row n v w refl t.geoms.rows is,
+        rows_with-with_value (geom_scratch_of {C = C}) n w t.geoms.rows,
       ) refl
 
   -- the mesh after a provider gets other scratch
-  pub set_provider_scratch-view : (scratch : Scratch) (v : ProvCell) → IsRising 1 ps.rows ps.next → Some v ≡ value_at ps.rows n
-      → view_of gs (record ps { rows = with_value ps.rows n (record v { scratch = scratch }) }) cs ≡ with_provider_scratch (view_of gs ps cs) n scratch
+  pub set_provider_scratch-view : (scratch : Scratch) (v : ProvCell) → IsRising 1 t.edges.providers.rows t.edges.providers.next → value_at t.edges.providers.rows n ≡ Some v
+      → view_of (with_provider_cell t n (record v { scratch = scratch })) ≡ with_provider_scratch (view_of t) n scratch
   set_provider_scratch-view scratch v rising at =
       let w : ProvCell = record v { scratch = scratch } in
-      let is : OnlyValue n v ps.rows = only n 1 ps.next v ps.rows rising (sym at) in
+      let is : OnlyValue n v t.edges.providers.rows = only n 1 t.edges.providers.next v t.edges.providers.rows rising at in
       rw (
-        map-with_value_same provider_row n v w refl ps.rows is,
-        map-with_value_same (row_with have_of) n v w refl ps.rows is,
-        map-with_value_same (row_with risen_of) n v w refl ps.rows is,
-        map-with_value_same (row_with fallen_of) n v w refl ps.rows is,
-        rows_with-with_value provider_scratch_of n w ps.rows,
+        map-with_value_same provider_row n v w refl t.edges.providers.rows is,
+        map-with_value_same (row_with have_of) n v w refl t.edges.providers.rows is,
+        map-with_value_same (row_with risen_of) n v w refl t.edges.providers.rows is,
+        map-with_value_same (row_with fallen_of) n v w refl t.edges.providers.rows is,
+        rows_with-with_value provider_scratch_of n w t.edges.providers.rows,
       ) refl
 
   -- the mesh after a consumer gets other scratch
-  pub set_consumer_scratch-view : (scratch : Scratch) (v : ConsCell) → IsRising 1 cs.rows cs.next → Some v ≡ value_at cs.rows n
-      → view_of gs ps (record cs { rows = with_value cs.rows n (record v { scratch = scratch }) }) ≡ with_consumer_scratch (view_of gs ps cs) n scratch
+  pub set_consumer_scratch-view : (scratch : Scratch) (v : ConsCell) → IsRising 1 t.edges.consumers.rows t.edges.consumers.next → value_at t.edges.consumers.rows n ≡ Some v
+      → view_of (with_consumer_cell t n (record v { scratch = scratch })) ≡ with_consumer_scratch (view_of t) n scratch
   set_consumer_scratch-view scratch v rising at =
       let w : ConsCell = record v { scratch = scratch } in
-      let is : OnlyValue n v cs.rows = only n 1 cs.next v cs.rows rising (sym at) in
+      let is : OnlyValue n v t.edges.consumers.rows = only n 1 t.edges.consumers.next v t.edges.consumers.rows rising at in
       rw (
-        map-with_value_same consumer_row n v w refl cs.rows is,
-        map-with_value_same (row_with want_of) n v w refl cs.rows is,
-        map-with_value_same (row_with active_of) n v w refl cs.rows is,
-        rows_with-with_value consumer_scratch_of n w cs.rows,
+        map-with_value_same consumer_row n v w refl t.edges.consumers.rows is,
+        map-with_value_same (row_with want_of) n v w refl t.edges.consumers.rows is,
+        map-with_value_same (row_with active_of) n v w refl t.edges.consumers.rows is,
+        rows_with-with_value consumer_scratch_of n w t.edges.consumers.rows,
       ) refl
 
   -- the mesh with one more started request at a geom
-  pub note_started-view : (v : GeomCell C) → IsRising 1 gs.rows gs.next → Some v ≡ value_at gs.rows n
-      → view_of (record gs { rows = with_value gs.rows n (record v { geom = record v.geom { started = v.geom.started + 1 } }) }) ps cs ≡ with_topology (view_of gs ps cs) (note_started (graph_of gs ps cs) n)
+  pub note_started-view : (v : GeomCell C) → IsRising 1 t.geoms.rows t.geoms.next → value_at t.geoms.rows n ≡ Some v
+      → view_of (with_geom_cell t n (record v { geom = record v.geom { started = v.geom.started + 1 } })) ≡ with_topology (view_of t) (note_started (graph t) n)
   note_started-view v rising at =
       let w : GeomCell C = record v { geom = record v.geom { started = v.geom.started + 1 } } in
-      let is : OnlyValue n v gs.rows = only n 1 gs.next v gs.rows rising (sym at) in
+      let is : OnlyValue n v t.geoms.rows = only n 1 t.geoms.next v t.geoms.rows rising at in
       rw (
-        map-with_value geom_row n (λ (x : Geom C). x.number == n) (λ x. record x { started = x.started + 1 }) v w (λ row. refl) refl gs.rows is,
-        map-with_value_same (row_with (geom_scratch_of {C = C})) n v w refl gs.rows is,
+        map-with_value geom_row n (λ (x : Geom C). x.number == n) (λ x. record x { started = x.started + 1 }) v w (λ row. refl) refl t.geoms.rows is,
+        map-with_value_same (row_with (geom_scratch_of {C = C})) n v w refl t.geoms.rows is,
       ) refl
 
   -- the mesh after a consumer is detached
-  pub detach-view : (v : ConsCell) → IsRising 1 cs.rows cs.next → Some v ≡ value_at cs.rows n
-      → view_of gs ps (record cs { rows = with_value cs.rows n (record v { consumer = record v.consumer { prov = None } }) }) ≡ with_topology (view_of gs ps cs) (detach (graph_of gs ps cs) n)
+  pub detach-view : (v : ConsCell) → IsRising 1 t.edges.consumers.rows t.edges.consumers.next → value_at t.edges.consumers.rows n ≡ Some v
+      → view_of (with_consumer_cell t n (record v { consumer = record v.consumer { prov = None } })) ≡ with_topology (view_of t) (detach (graph t) n)
   detach-view v rising at =
       let w : ConsCell = record v { consumer = record v.consumer { prov = None } } in
-      let is : OnlyValue n v cs.rows = only n 1 cs.next v cs.rows rising (sym at) in
+      let is : OnlyValue n v t.edges.consumers.rows = only n 1 t.edges.consumers.next v t.edges.consumers.rows rising at in
       rw (
-        map-with_value consumer_row n (λ (x : Consumer). x.number == n) (λ x. record x { provider = None }) v w (λ row. refl) refl cs.rows is,
-        map-with_value_same (row_with want_of) n v w refl cs.rows is,
-        map-with_value_same (row_with active_of) n v w refl cs.rows is,
-        map-with_value_same (row_with consumer_scratch_of) n v w refl cs.rows is,
+        map-with_value consumer_row n (λ (x : Consumer). x.number == n) (λ x. record x { provider = None }) v w (λ row. refl) refl t.edges.consumers.rows is,
+        map-with_value_same (row_with want_of) n v w refl t.edges.consumers.rows is,
+        map-with_value_same (row_with active_of) n v w refl t.edges.consumers.rows is,
+        map-with_value_same (row_with consumer_scratch_of) n v w refl t.edges.consumers.rows is,
       ) refl
 
   -- the mesh after a consumer is attached
-  pub attach-view : (p : ℕ) (v : ConsCell) → IsRising 1 cs.rows cs.next → Some v ≡ value_at cs.rows n
-      → view_of gs ps (record cs { rows = with_value cs.rows n (record v { consumer = record v.consumer { prov = Some p } }) }) ≡ with_topology (view_of gs ps cs) (attach (graph_of gs ps cs) n p)
+  pub attach-view : (p : ℕ) (v : ConsCell) → IsRising 1 t.edges.consumers.rows t.edges.consumers.next → value_at t.edges.consumers.rows n ≡ Some v
+      → view_of (with_consumer_cell t n (record v { consumer = record v.consumer { prov = Some p } })) ≡ with_topology (view_of t) (attach (graph t) n p)
   attach-view p v rising at =
       let w : ConsCell = record v { consumer = record v.consumer { prov = Some p } } in
-      let is : OnlyValue n v cs.rows = only n 1 cs.next v cs.rows rising (sym at) in
+      let is : OnlyValue n v t.edges.consumers.rows = only n 1 t.edges.consumers.next v t.edges.consumers.rows rising at in
       rw (
-        map-with_value consumer_row n (λ (x : Consumer). x.number == n) (λ x. record x { provider = Some p }) v w (λ row. refl) refl cs.rows is,
-        map-with_value_same (row_with want_of) n v w refl cs.rows is,
-        map-with_value_same (row_with active_of) n v w refl cs.rows is,
-        map-with_value_same (row_with consumer_scratch_of) n v w refl cs.rows is,
+        map-with_value consumer_row n (λ (x : Consumer). x.number == n) (λ x. record x { provider = Some p }) v w (λ row. refl) refl t.edges.consumers.rows is,
+        map-with_value_same (row_with want_of) n v w refl t.edges.consumers.rows is,
+        map-with_value_same (row_with active_of) n v w refl t.edges.consumers.rows is,
+        map-with_value_same (row_with consumer_scratch_of) n v w refl t.edges.consumers.rows is,
       ) refl
 
   -- the mesh after a geom gets another configuration
-  pub swap_config-view : (config : C) (v : GeomCell C) → IsRising 1 gs.rows gs.next → Some v ≡ value_at gs.rows n
-      → view_of (record gs { rows = with_value gs.rows n (record v { geom = record v.geom { config = config } }) }) ps cs ≡ with_topology (view_of gs ps cs) (set_config (graph_of gs ps cs) n config)
+  pub swap_config-view : (config : C) (v : GeomCell C) → IsRising 1 t.geoms.rows t.geoms.next → value_at t.geoms.rows n ≡ Some v
+      → view_of (with_geom_cell t n (record v { geom = record v.geom { config = config } })) ≡ with_topology (view_of t) (set_config (graph t) n config)
   swap_config-view config v rising at =
       let w : GeomCell C = record v { geom = record v.geom { config = config } } in
-      let is : OnlyValue n v gs.rows = only n 1 gs.next v gs.rows rising (sym at) in
+      let is : OnlyValue n v t.geoms.rows = only n 1 t.geoms.next v t.geoms.rows rising at in
       rw (
-        map-with_value geom_row n (λ (x : Geom C). x.number == n) (λ x. record x { config = config }) v w (λ row. refl) refl gs.rows is,
-        map-with_value_same (row_with (geom_scratch_of {C = C})) n v w refl gs.rows is,
+        map-with_value geom_row n (λ (x : Geom C). x.number == n) (λ x. record x { config = config }) v w (λ row. refl) refl t.geoms.rows is,
+        map-with_value_same (row_with (geom_scratch_of {C = C})) n v w refl t.geoms.rows is,
       ) refl
 
   -- the mesh without a geom
-  pub without_geom-view : view_of (record gs { rows = without gs.rows n }) ps cs ≡ without_geom (view_of gs ps cs) n
-  without_geom-view =
+  pub without_geom-view : (less : ℕ) → IsButForRoom (view_of (record t { geoms = record t.geoms { rows = without t.geoms.rows n }; live = less })) (without_geom (view_of t) n)
+  without_geom-view less =
       rw (
-        map-without geom_row n (λ (x : Geom C). x.number == n) (λ row. refl) gs.rows,
-        map-without (row_with (geom_scratch_of {C = C})) n (λ x. x.0 == n) (λ row. refl) gs.rows,
+        map-without geom_row n (λ (x : Geom C). x.number == n) (λ row. refl) t.geoms.rows,
+        map-without (row_with (geom_scratch_of {C = C})) n (λ x. x.0 == n) (λ row. refl) t.geoms.rows,
       ) refl
 
   -- the mesh without a provider
-  pub without_provider-view : view_of gs (record ps { rows = without ps.rows n }) cs ≡ without_provider (view_of gs ps cs) n
+  pub without_provider-view : view_of (record t { edges = record t.edges { providers = record t.edges.providers { rows = without t.edges.providers.rows n } } }) ≡ without_provider (view_of t) n
   without_provider-view =
       rw (
-        map-without provider_row n (λ (x : Provider). x.number == n) (λ row. refl) ps.rows,
-        map-without (row_with have_of) n (λ x. x.0 == n) (λ row. refl) ps.rows,
-        map-without (row_with risen_of) n (λ x. x.0 == n) (λ row. refl) ps.rows,
-        map-without (row_with fallen_of) n (λ x. x.0 == n) (λ row. refl) ps.rows,
-        map-without (row_with provider_scratch_of) n (λ x. x.0 == n) (λ row. refl) ps.rows,
+        map-without provider_row n (λ (x : Provider). x.number == n) (λ row. refl) t.edges.providers.rows,
+        map-without (row_with have_of) n (λ x. x.0 == n) (λ row. refl) t.edges.providers.rows,
+        map-without (row_with risen_of) n (λ x. x.0 == n) (λ row. refl) t.edges.providers.rows,
+        map-without (row_with fallen_of) n (λ x. x.0 == n) (λ row. refl) t.edges.providers.rows,
+        map-without (row_with provider_scratch_of) n (λ x. x.0 == n) (λ row. refl) t.edges.providers.rows,
       ) refl
 
   -- the mesh without a consumer
-  pub without_consumer-view : view_of gs ps (record cs { rows = without cs.rows n }) ≡ without_consumer (view_of gs ps cs) n
+  pub without_consumer-view : view_of (record t { edges = record t.edges { consumers = record t.edges.consumers { rows = without t.edges.consumers.rows n } } }) ≡ without_consumer (view_of t) n
   without_consumer-view =
       rw (
-        map-without consumer_row n (λ (x : Consumer). x.number == n) (λ row. refl) cs.rows,
-        map-without (row_with want_of) n (λ x. x.0 == n) (λ row. refl) cs.rows,
-        map-without (row_with active_of) n (λ x. x.0 == n) (λ row. refl) cs.rows,
-        map-without (row_with consumer_scratch_of) n (λ x. x.0 == n) (λ row. refl) cs.rows,
+        map-without consumer_row n (λ (x : Consumer). x.number == n) (λ row. refl) t.edges.consumers.rows,
+        map-without (row_with want_of) n (λ x. x.0 == n) (λ row. refl) t.edges.consumers.rows,
+        map-without (row_with active_of) n (λ x. x.0 == n) (λ row. refl) t.edges.consumers.rows,
+        map-without (row_with consumer_scratch_of) n (λ x. x.0 == n) (λ row. refl) t.edges.consumers.rows,
       ) refl
 
   -- the first number from a number on
-  pub next_geom-view : (low : ℕ) → first_geom (graph_of gs ps cs).geoms low ≡ first_from gs.rows low
-  next_geom-view low = first-map geom_row (λ (x : Geom C). x.number) (λ (x : Geom C). nat_le low x.number) (λ row. nat_le low row.0) (λ row. refl) (λ row. refl) gs.rows
+  pub next_geom-view : (low : ℕ) → first_geom (graph t).geoms low ≡ first_from t.geoms.rows low
+  next_geom-view low = first-map geom_row (λ (x : Geom C). x.number) (λ (x : Geom C). nat_le low x.number) (λ row. nat_le low row.0) (λ row. refl) (λ row. refl) t.geoms.rows
 
   -- the first provider from a number on
-  pub next_provider-view : (low : ℕ) → first_provider (graph_of gs ps cs).providers low ≡ first_from ps.rows low
-  next_provider-view low = first-map provider_row (λ (x : Provider). x.number) (λ (x : Provider). nat_le low x.number) (λ row. nat_le low row.0) (λ row. refl) (λ row. refl) ps.rows
+  pub next_provider-view : (low : ℕ) → first_provider (graph t).providers low ≡ first_from t.edges.providers.rows low
+  next_provider-view low = first-map provider_row (λ (x : Provider). x.number) (λ (x : Provider). nat_le low x.number) (λ row. nat_le low row.0) (λ row. refl) (λ row. refl) t.edges.providers.rows
 
   -- the first consumer from a number on
-  pub next_consumer-view : (low : ℕ) → first_consumer (graph_of gs ps cs).consumers low ≡ first_from cs.rows low
-  next_consumer-view low = first-map consumer_row (λ (x : Consumer). x.number) (λ (x : Consumer). nat_le low x.number) (λ row. nat_le low row.0) (λ row. refl) (λ row. refl) cs.rows
+  pub next_consumer-view : (low : ℕ) → first_consumer (graph t).consumers low ≡ first_from t.edges.consumers.rows low
+  next_consumer-view low = first-map consumer_row (λ (x : Consumer). x.number) (λ (x : Consumer). nat_le low x.number) (λ row. nat_le low row.0) (λ row. refl) (λ row. refl) t.edges.consumers.rows
 
 -- a value of the first, else of the second
 option_map-or : {X Y : Type 0} (f : X → Y) (o p : Option X) → option_map f (option_or o p) ≡ option_or (option_map f o) (option_map f p)
 option_map-or f None p = refl
 option_map-or f (Some x) p = refl
 
-module _ {C : Type 0} (gs : SlotsView (GeomCell C)) (ps : SlotsView ProvCell) (cs : SlotsView ConsCell) where
+module _ {C : Type 0} (t : Tables C) where
   -- the provider of a name, by the rows
-  pub find-names : (n : Names) → AreNames (map provider_row ps.rows) ps.next n → AreIds n → (name : List ℕ) → find_provider (graph_of gs ps cs) name ≡ option_or (sound_of n name) (newest_of n name)
+  pub find-names : (n : Names) → AreNames (map provider_row t.edges.providers.rows) t.edges.providers.next n → AreIds n → (name : List ℕ) → find_provider (graph t) name ≡ option_or (sound_of n name) (newest_of n name)
   find-names n are ids name =
       rw (
-        option_map-or (λ (x : Provider). x.number) (find (is_sound_named name) (map provider_row ps.rows)) (last_or None (filter (λ (x : Provider). same_name x.name name) (map provider_row ps.rows))),
+        option_map-or (λ (x : Provider). x.number) (find (is_sound_named name) (map provider_row t.edges.providers.rows)) (last_or None (filter (λ (x : Provider). same_name x.name name) (map provider_row t.edges.providers.rows))),
         are.sound name,
-        newest-names (map provider_row ps.rows) ps.next n are ids name,
+        newest-names (map provider_row t.edges.providers.rows) t.edges.providers.next n are ids name,
       ) refl
 
   -- a new consumer, in room that was kept
   pub with_consumer-view : (geom room : ℕ) →
-      view_of gs ps (with_insert (record cs { spare = room }) (record { consumer = record { geom = geom; prov = None; want = no_counts; active = 0; spoiled = false }; scratch = no_scratch }))
-      ≡ record (with_consumer (view_of gs ps cs) geom) { room = record { geoms = gs.spare; providers = ps.spare; consumers = room - 1 } }
+      view_of (record t { edges = record t.edges { consumers = with_insert (record t.edges.consumers { spare = room }) (record { consumer = record { geom = geom; prov = None; want = no_counts; active = 0; spoiled = false }; scratch = no_scratch }) } })
+      ≡ record (with_consumer (view_of t) geom) { room = record (view_of t).room { consumers = room - 1 } }
   with_consumer-view geom room =
       let cell : ConsCell = record { consumer = record { geom = geom; prov = None; want = no_counts; active = 0; spoiled = false }; scratch = no_scratch } in
-      let row : List (ℕ × ConsCell) = (cs.next, cell) ∷ [] in
-      rw (map-append consumer_row cs.rows row, map-append (row_with want_of) cs.rows row, map-append (row_with active_of) cs.rows row, map-append (row_with consumer_scratch_of) cs.rows row) refl
+      let row : List (ℕ × ConsCell) = (t.edges.consumers.next, cell) ∷ [] in
+      rw (map-append consumer_row t.edges.consumers.rows row, map-append (row_with want_of) t.edges.consumers.rows row, map-append (row_with active_of) t.edges.consumers.rows row, map-append (row_with consumer_scratch_of) t.edges.consumers.rows row) refl
 
   -- a new provider, in room that was kept
   pub with_provider-view : (geom : ℕ) (name : List ℕ) (size sector room : ℕ) →
-      view_of gs (with_insert (record ps { spare = room }) (record { provider = record { geom = geom; name = name; size = size; sector = sector; errored = false; have = no_counts; risen = false; fallen = false }; scratch = no_scratch })) cs
-      ≡ record (with_provider (view_of gs ps cs) geom name size sector) { room = record { geoms = gs.spare; providers = room - 1; consumers = cs.spare } }
+      view_of (record t { edges = record t.edges { providers = with_insert (record t.edges.providers { spare = room }) (record { provider = record { geom = geom; name = name; size = size; sector = sector; errored = false; have = no_counts; risen = false; fallen = false }; scratch = no_scratch }) } })
+      ≡ record (with_provider (view_of t) geom name size sector) { room = record (view_of t).room { providers = room - 1 } }
   with_provider-view geom name size sector room =
       let cell : ProvCell = record { provider = record { geom = geom; name = name; size = size; sector = sector; errored = false; have = no_counts; risen = false; fallen = false }; scratch = no_scratch } in
-      let row : List (ℕ × ProvCell) = (ps.next, cell) ∷ [] in
-      rw (map-append provider_row ps.rows row, map-append (row_with have_of) ps.rows row, map-append (row_with risen_of) ps.rows row, map-append (row_with fallen_of) ps.rows row, map-append (row_with provider_scratch_of) ps.rows row) refl
+      let row : List (ℕ × ProvCell) = (t.edges.providers.next, cell) ∷ [] in
+      rw (map-append provider_row t.edges.providers.rows row, map-append (row_with have_of) t.edges.providers.rows row, map-append (row_with risen_of) t.edges.providers.rows row, map-append (row_with fallen_of) t.edges.providers.rows row, map-append (row_with provider_scratch_of) t.edges.providers.rows row) refl
 
 module _ {C : Type 0} (gs : SlotsView (GeomCell C)) (n : ℕ) where
   -- another value under a number leaves as many rows
@@ -447,3 +473,7 @@ taken ps next n are name =
 pub count-with_value : {C : Type 0} (n : ℕ) (v : GeomCell C) (rows : List (ℕ × GeomCell C)) (live : ℕ) → IsCount (length rows) live → IsCount (length (with_value rows n v)) live
 count-with_value {C} n v rows live counted =
     subst (λ m. IsCount m live) (sym (length-map rows (λ (row : ℕ × GeomCell C). if row.0 == n then (n, v) else row))) counted
+
+-- more room shows in the room alone
+pub roomier-view : {C : Type 0} (t u : Tables C) → IsRoomier t u → IsButForRoom (view_of u) (view_of t)
+roomier-view t u is = rw (is.geoms, is.providers, is.consumers) refl

@@ -3,7 +3,7 @@ use Rattle.std.specs.Prelude.{◌≡◌, ℕ, ◌-◌, ◌≤◌, min, Bool, fal
 use Rattle.geo_base.specs.declared.kind.Kind.{Kind}
 use Rattle.geo_base.specs.declared.request.Counts.{Counts}
 use Rattle.geo_model.specs.Topology.{Topology, Geom, Provider, Consumer}
-use Rattle.geo_slots.specs.Slots.{SlotsView}
+use Rattle.geo_slots.specs.Slots.{SlotsView, with_value}
 use Rattle.geo_mesh.specs.declared.records.Scratch.{Scratch}
 use Rattle.geo_mesh.specs.declared.records.GeomRec.{GeomRec}
 use Rattle.geo_mesh.specs.declared.records.ProvRec.{ProvRec}
@@ -11,6 +11,8 @@ use Rattle.geo_mesh.specs.declared.records.ConsRec.{ConsRec}
 use Rattle.geo_mesh.specs.declared.records.GeomCell.{GeomCell}
 use Rattle.geo_mesh.specs.declared.records.ProvCell.{ProvCell}
 use Rattle.geo_mesh.specs.declared.records.ConsCell.{ConsCell}
+use Rattle.geo_mesh.specs.declared.tables.Edges.{Edges}
+use Rattle.geo_mesh.specs.declared.tables.Tables.{Tables}
 use Rattle.geo_mesh.specs.Rows.{rows_with}
 use Rattle.geo_mesh.specs.Topo.{TopoView, no_scratch}
 
@@ -78,37 +80,61 @@ made_cell kind name config automatic = record {
   scratch = no_scratch;
 }
 
--- the graph
-abbrev pub graph_of : {C : Type 0} → SlotsView (GeomCell C) → SlotsView ProvCell → SlotsView ConsCell → Topology C
-graph_of geoms providers consumers = record {
+-- the graph of these geoms, with these providers and consumers
+abbrev pub graph_of : {C : Type 0} → SlotsView (GeomCell C) → Edges → Topology C
+graph_of geoms edges = record {
   geoms = map geom_row geoms.rows;
-  providers = map provider_row providers.rows;
-  consumers = map consumer_row consumers.rows;
+  providers = map provider_row edges.providers.rows;
+  consumers = map consumer_row edges.consumers.rows;
   next_geom = geoms.next;
-  next_provider = providers.next;
-  next_consumer = consumers.next;
+  next_provider = edges.providers.next;
+  next_consumer = edges.consumers.next;
 }
 
--- the mesh
-abbrev pub view_of : {C : Type 0} → SlotsView (GeomCell C) → SlotsView ProvCell → SlotsView ConsCell → TopoView C
-view_of geoms providers consumers = record {
-  topology = graph_of geoms providers consumers;
-  haves = rows_with have_of providers.rows;
-  risen = rows_with risen_of providers.rows;
-  fallen = rows_with fallen_of providers.rows;
-  wants = rows_with want_of consumers.rows;
-  active = rows_with active_of consumers.rows;
+-- the graph of a mesh
+abbrev pub graph : {C : Type 0} → Tables C → Topology C
+graph t = graph_of t.geoms t.edges
+
+-- the mesh; there is room for no more geoms than may be
+abbrev pub view_of : {C : Type 0} → Tables C → TopoView C
+view_of t = record {
+  topology = graph t;
+  haves = rows_with have_of t.edges.providers.rows;
+  risen = rows_with risen_of t.edges.providers.rows;
+  fallen = rows_with fallen_of t.edges.providers.rows;
+  wants = rows_with want_of t.edges.consumers.rows;
+  active = rows_with active_of t.edges.consumers.rows;
   scratches = record {
-    geoms = rows_with geom_scratch_of geoms.rows;
-    providers = rows_with provider_scratch_of providers.rows;
-    consumers = rows_with consumer_scratch_of consumers.rows;
+    geoms = rows_with geom_scratch_of t.geoms.rows;
+    providers = rows_with provider_scratch_of t.edges.providers.rows;
+    consumers = rows_with consumer_scratch_of t.edges.consumers.rows;
   };
-  room = record { geoms = geoms.spare; providers = providers.spare; consumers = consumers.spare };
+  room = record {
+    geoms = min t.geoms.spare (4294967294 - t.live);
+    providers = t.edges.providers.spare;
+    consumers = t.edges.consumers.spare;
+  };
 }
 
--- the geoms, with room for no more than may be
-abbrev pub within_limit : {C : Type 0} → SlotsView (GeomCell C) → ℕ → SlotsView (GeomCell C)
-within_limit geoms live = record geoms { spare = min geoms.spare (4294967294 - live) }
+-- the tables with another cell under the number of a geom
+abbrev pub with_geom_cell : {C : Type 0} → Tables C → ℕ → GeomCell C → Tables C
+with_geom_cell t n w = record t { geoms = record t.geoms { rows = with_value t.geoms.rows n w } }
+
+-- providers and consumers with another cell under the number of a provider
+abbrev pub put_provider : Edges → ℕ → ProvCell → Edges
+put_provider edges n w = record edges { providers = record edges.providers { rows = with_value edges.providers.rows n w } }
+
+-- the same under the number of a consumer
+abbrev pub put_consumer : Edges → ℕ → ConsCell → Edges
+put_consumer edges n w = record edges { consumers = record edges.consumers { rows = with_value edges.consumers.rows n w } }
+
+-- the tables with another cell under the number of a provider
+abbrev pub with_provider_cell : {C : Type 0} → Tables C → ℕ → ProvCell → Tables C
+with_provider_cell t n w = record t { edges = put_provider t.edges n w }
+
+-- the tables with another cell under the number of a consumer
+abbrev pub with_consumer_cell : {C : Type 0} → Tables C → ℕ → ConsCell → Tables C
+with_consumer_cell t n w = record t { edges = put_consumer t.edges n w }
 
 -- the number of the geoms is kept, and isn't too great
 pub record IsCount (count live : ℕ) : Type 0 where

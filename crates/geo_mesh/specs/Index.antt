@@ -13,14 +13,38 @@ no_family = record { parents = []; children = []; next_parent = 1; next_child = 
 abbrev pub no_index : Index
 no_index = record { offered = no_family; owned = no_family; attached = no_family }
 
--- room for so many geoms, providers and consumers
-pub record HaveRoom (geoms providers consumers : ℕ) (i : Index) : Type 0 where
-  pub offered_parents : geoms ≤ i.offered.parent_room
-  pub offered_children : providers ≤ i.offered.child_room
-  pub owned_parents : geoms ≤ i.owned.parent_room
-  pub owned_children : consumers ≤ i.owned.child_room
-  pub attached_parents : providers ≤ i.attached.parent_room
-  pub attached_children : consumers ≤ i.attached.child_room
+-- for how many more parents and children each family keeps memory
+pub record Rooms : Type 0 where
+  pub offered_parents : ℕ
+  pub offered_children : ℕ
+  pub owned_parents : ℕ
+  pub owned_children : ℕ
+  pub attached_parents : ℕ
+  pub attached_children : ℕ
+
+-- the rooms of an index
+abbrev pub rooms_of : Index → Rooms
+rooms_of i = record {
+  offered_parents = i.offered.parent_room;
+  offered_children = i.offered.child_room;
+  owned_parents = i.owned.parent_room;
+  owned_children = i.owned.child_room;
+  attached_parents = i.attached.parent_room;
+  attached_children = i.attached.child_room;
+}
+
+-- rooms for so many geoms, providers and consumers
+pub record AreRooms (geoms providers consumers : ℕ) (r : Rooms) : Type 0 where
+  pub offered_parents : geoms ≤ r.offered_parents
+  pub offered_children : providers ≤ r.offered_children
+  pub owned_parents : geoms ≤ r.owned_parents
+  pub owned_children : consumers ≤ r.owned_children
+  pub attached_parents : providers ≤ r.attached_parents
+  pub attached_children : consumers ≤ r.attached_children
+
+-- an index with room for so many geoms, providers and consumers
+abbrev pub HaveRoom : ℕ → ℕ → ℕ → Index → Type 0
+HaveRoom geoms providers consumers i = AreRooms geoms providers consumers (rooms_of i)
 
 -- the same rows with the room of another one
 abbrev pub family_with_rooms : FamilyView → FamilyView → FamilyView

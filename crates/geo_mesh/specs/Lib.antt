@@ -1,7 +1,10 @@
+pub mod Lending
 pub mod Rows
+pub mod Marks
 pub mod Topo
 pub mod Graph
 pub mod Cells
+pub mod Notes
 pub mod Refusals
 pub mod Index
 pub mod Mesh

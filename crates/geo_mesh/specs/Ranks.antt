@@ -10,8 +10,10 @@ use Rattle.geo_mesh.specs.declared.records.GeomRec.{GeomRec}
 use Rattle.geo_mesh.specs.declared.records.GeomCell.{GeomCell}
 use Rattle.geo_mesh.specs.declared.records.ProvCell.{ProvCell}
 use Rattle.geo_mesh.specs.declared.records.ConsCell.{ConsCell}
+use Rattle.geo_mesh.specs.declared.tables.Edges.{Edges}
 use Rattle.geo_mesh.specs.Rows.{rows_with, passes}
-use Rattle.geo_mesh.specs.Cells.{IsCount}
+use Rattle.geo_mesh.specs.Cells.{IsCount, provider_row, consumer_row}
+use Rattle.geo_mesh.specs.Index.{provider_geoms, consumer_geoms, consumer_providers}
 use Rattle.geo_mesh.specs.declared.records.AttachRefusal.{AttachRefusal}
 use Rattle.geo_mesh.specs.declared.records.AttachRefusal.TheVariants.{Enxio, Eloop, Edeep}
 use Rattle.geo_mesh.specs.Mending.{IsAmong, Climbs, StandsAbove, IsJoinable, AreLocal, above, height}
@@ -46,8 +48,8 @@ abbrev pub footing : ℕ → Option ℕ → Option ℕ
 footing g o = if is_dev_or_taste g then None else o
 
 -- the consumer's geom, and the provider on which the geom's rank stands by it
-abbrev pub ends_of : ConsCell → ℕ × Option ℕ
-ends_of x = (x.consumer.geom, footing x.consumer.geom x.consumer.prov)
+abbrev pub ranked_link_of : ConsCell → ℕ × Option ℕ
+ranked_link_of x = (x.consumer.geom, footing x.consumer.geom x.consumer.prov)
 
 -- the consumer's geom, and the provider to which it may be attached
 abbrev pub links_of : ConsCell → ℕ × Option ℕ
@@ -66,16 +68,16 @@ abbrev pub bare : {C : Type 0} → SlotsView (GeomCell C) → SlotsView (GeomRec
 bare {C} gs = record { rows = rows_with (rest_of {C = C}) gs.rows; next = gs.next; spare = gs.spare }
 
 -- the geom that offers each provider
-abbrev pub offers : SlotsView ProvCell → SlotsView ℕ
-offers ps = record { rows = rows_with owner_of ps.rows; next = ps.next; spare = ps.spare }
+abbrev pub offers : Edges → SlotsView ℕ
+offers edges = record { rows = rows_with owner_of edges.providers.rows; next = edges.providers.next; spare = edges.providers.spare }
 
 -- the geom of each consumer, and the provider on which the geom's rank stands by it
-abbrev pub ends : SlotsView ConsCell → SlotsView (ℕ × Option ℕ)
-ends cs = record { rows = rows_with ends_of cs.rows; next = cs.next; spare = cs.spare }
+abbrev pub ranked_links : Edges → SlotsView (ℕ × Option ℕ)
+ranked_links edges = record { rows = rows_with ranked_link_of edges.consumers.rows; next = edges.consumers.next; spare = edges.consumers.spare }
 
 -- the geom of each consumer, and the provider to which it is attached
-abbrev pub links : SlotsView ConsCell → SlotsView (ℕ × Option ℕ)
-links cs = record { rows = rows_with links_of cs.rows; next = cs.next; spare = cs.spare }
+abbrev pub links : Edges → SlotsView (ℕ × Option ℕ)
+links edges = record { rows = rows_with links_of edges.consumers.rows; next = edges.consumers.next; spare = edges.consumers.spare }
 
 -- the rank under a number, and 1 where there is none
 abbrev pub rank_at : List (ℕ × ℕ) → ℕ → ℕ
@@ -90,20 +92,20 @@ abbrev pub under : List (ℕ × ℕ) → List (ℕ × (ℕ × Option ℕ)) → �
 under owners users g = filter_map (value_at owners) (filter_map (λ row. row.1.1) (filter (λ row. row.1.0 == g) users))
 
 -- the geoms on which the stored rank of a geom stands: those directly below it, but none for the first two geoms
-abbrev pub below : SlotsView ProvCell → SlotsView ConsCell → ℕ → List ℕ
-below ps cs = under (offers ps).rows (ends cs).rows
+abbrev pub ranked_below : Edges → ℕ → List ℕ
+ranked_below edges = under (offers edges).rows (ranked_links edges).rows
 
 -- the geoms directly below a geom
-abbrev pub beneath : SlotsView ProvCell → SlotsView ConsCell → ℕ → List ℕ
-beneath ps cs = under (offers ps).rows (links cs).rows
+abbrev pub below : Edges → ℕ → List ℕ
+below edges = under (offers edges).rows (links edges).rows
 
 -- the rank of a geom: it stands in the cell, but for the first two geoms it is found from the ranks of the geoms beneath
-abbrev pub rank_from : (ℕ → ℕ) → SlotsView ProvCell → SlotsView ConsCell → ℕ → ℕ
-rank_from f ps cs g = if is_dev_or_taste g then above (beneath ps cs) f g else f g
+abbrev pub rank_from : (ℕ → ℕ) → Edges → ℕ → ℕ
+rank_from f edges g = if is_dev_or_taste g then above (below edges) f g else f g
 
 -- the geom that offers the provider, and the geom of the consumer: 0 where there is none
-abbrev pub owner : SlotsView ProvCell → ℕ → ℕ
-owner ps p = number_or 0 (value_at (offers ps).rows p)
+abbrev pub owner : Edges → ℕ → ℕ
+owner edges p = number_or 0 (value_at (offers edges).rows p)
 
 -- the geom of a consumer that may be there, and 0 where there is none
 abbrev pub user_of : Option (ℕ × Option ℕ) → ℕ
@@ -111,8 +113,8 @@ user_of None = 0
 user_of (Some e) = e.0
 
 -- the geom of the consumer of a number, and 0 where there is none
-abbrev pub user : SlotsView ConsCell → ℕ → ℕ
-user cs c = user_of (value_at (ends cs).rows c)
+abbrev pub user : Edges → ℕ → ℕ
+user edges c = user_of (value_at (ranked_links edges).rows c)
 
 -- whether the provider is offered by the geom, and the consumer attached to the provider, and the consumer the geom's
 abbrev pub is_offered : ℕ → ℕ → Bool
@@ -137,12 +139,12 @@ rank_under f owners None = 0
 rank_under f owners (Some e) = rank_through f owners e.1
 
 -- a fact of the geom of each consumer by which a rank stands on the provider
-abbrev pub EachUser : SlotsView ConsCell → ℕ → (ℕ → Type 0) → Type 0
-EachUser cs prov P = (c : ℕ) → passes (is_attached prov) (value_at (ends cs).rows c) ≡ true → P (user cs c)
+abbrev pub EachUser : Edges → ℕ → (ℕ → Type 0) → Type 0
+EachUser edges prov P = (c : ℕ) → passes (is_attached prov) (value_at (ranked_links edges).rows c) ≡ true → P (user edges c)
 
 -- how far a geom may be raised at most: more than any rank that it can need
-abbrev pub highest_raise : {C : Type 0} → SlotsView (GeomCell C) → SlotsView ProvCell → SlotsView ConsCell → ℕ → ℕ
-highest_raise gs ps cs g = height (below ps cs) (length (kinds gs)) g + 2 ^ 33
+abbrev pub highest_raise : {C : Type 0} → SlotsView (GeomCell C) → Edges → ℕ → ℕ
+highest_raise gs edges g = height (ranked_below edges) (length (kinds gs)) g + 2 ^ 33
 
 -- whether a geom other than DEV and TASTE is above the limit
 abbrev pub is_high : List (ℕ × Kind) → (ℕ → ℕ) → Bool
@@ -161,14 +163,22 @@ abbrev pub FirstIs : {T : Type 0} → (T → Bool) → SlotsView T → ℕ → O
 FirstIs test s at None = (m : ℕ) → passes test (value_at s.rows m) ≡ true → m < at
 FirstIs test s at (Some n) = IsFirst test s.rows s.next at n
 
--- the graph has no loop, each consumer's geom is there, the numbers rise, and there aren't too many of them
-pub record IsWalkable (classes : List (ℕ × Kind)) (ps : SlotsView ProvCell) (cs : SlotsView ConsCell) : Type 0 where
-  pub climbs : Climbs (below ps cs) (height (below ps cs) (length classes))
-  pub owned : AllByRecursion (λ row. IsSome (value_at classes row.1.0)) (ends cs).rows
-  pub providers_rise : IsRising 1 ps.rows ps.next
-  pub providers_few : ps.next < 2 ^ 64
-  pub consumers_rise : IsRising 1 cs.rows cs.next
-  pub consumers_few : cs.next < 2 ^ 64
+-- the index tells whose each provider and each consumer is, and where each consumer is attached; the numbers rise, and the
+-- next ones fit
+pub record IsKin (edges : Edges) : Type 0 where
+  pub offered : edges.index.offered.children ≡ provider_geoms (map provider_row edges.providers.rows)
+  pub owned : edges.index.owned.children ≡ consumer_geoms (map consumer_row edges.consumers.rows)
+  pub attached : edges.index.attached.children ≡ consumer_providers (map consumer_row edges.consumers.rows)
+  pub providers_rise : IsRising 1 edges.providers.rows edges.providers.next
+  pub providers_few : edges.providers.next < 2 ^ 64
+  pub consumers_rise : IsRising 1 edges.consumers.rows edges.consumers.next
+  pub consumers_few : edges.consumers.next < 2 ^ 64
+
+-- the graph has no loop, each consumer's geom is there, the index tells what is in it, and there aren't too many geoms
+pub record IsWalkable (classes : List (ℕ × Kind)) (edges : Edges) : Type 0 where
+  pub kin : IsKin edges
+  pub climbs : Climbs (ranked_below edges) (height (ranked_below edges) (length classes))
+  pub owned : AllByRecursion (λ row. IsSome (value_at classes row.1.0)) (ranked_links edges).rows
   pub few : length classes ≤ 4294967294
 
 -- each rank that stands in a cell is one more than the highest below, no geom other than DEV and TASTE is above the limit,
@@ -180,9 +190,9 @@ pub record AreRanks (classes : List (ℕ × Kind)) (standing owners : List (ℕ 
   pub attached : AllByRecursion (λ row. IfSome row.1.1 (λ p. IsSome (value_at owners p))) users
 
 -- the mesh that stands: its geoms are counted, and their ranks stand in their cells
-pub record HaveRanks {C : Type 0} (gs : SlotsView (GeomCell C)) (ps : SlotsView ProvCell) (cs : SlotsView ConsCell) (live : ℕ) : Type 0 where
+pub record HaveRanks {C : Type 0} (gs : SlotsView (GeomCell C)) (edges : Edges) (live : ℕ) : Type 0 where
   pub count : IsCount (length gs.rows) live
-  pub standing : AreRanks (kinds gs) (ranks gs) (offers ps).rows (ends cs).rows
+  pub standing : AreRanks (kinds gs) (ranks gs) (offers edges).rows (ranked_links edges).rows
 
 -- why one geom isn't put below another: the other stands below it already, or a geom other than DEV and TASTE would be above the limit
 abbrev pub IsRefusedFor : {C : Type 0} → AttachRefusal → SlotsView (GeomCell C) → (ℕ → List ℕ) → ℕ → ℕ → Type 0
@@ -196,7 +206,7 @@ IsAdmitted true below upper lower old new = (x : ℕ) → new x ≡ old x
 IsAdmitted false below upper lower old new = IsJoinable below upper lower new
 
 -- what the ranks need of the first two geoms: they are there, of classes without a limit, and offer no provider
-pub record HaveDevAndTaste {C : Type 0} (gs : SlotsView (GeomCell C)) (ps : SlotsView ProvCell) : Type 0 where
+pub record HaveDevAndTaste {C : Type 0} (gs : SlotsView (GeomCell C)) (edges : Edges) : Type 0 where
   pub listed : (g : ℕ) → is_dev_or_taste g ≡ true → IsAmong (map (λ row. row.0) gs.rows) g
   pub granted : AllByRecursion (λ row. is_dev_or_taste row.0 ≡ true → is_granted_kind row.1 ≡ true) (kinds gs)
-  pub bare : AllByRecursion (λ row. is_dev_or_taste row.1 ≡ false) (offers ps).rows
+  pub bare : AllByRecursion (λ row. is_dev_or_taste row.1 ≡ false) (offers edges).rows

@@ -1,25 +1,29 @@
 -- What a mesh keeps: its tables with their index and names, and the ranks in its cells.
-use Rattle.std.specs.Prelude.{◌≡◌, ℕ, map}
-use Rattle.geo_slots.specs.Slots.{SlotsView}
-use Rattle.geo_mesh.specs.declared.records.GeomCell.{GeomCell}
-use Rattle.geo_mesh.specs.declared.records.ProvCell.{ProvCell}
-use Rattle.geo_mesh.specs.declared.records.ConsCell.{ConsCell}
-use Rattle.geo_mesh.specs.declared.index.Index.{Index}
-use Rattle.geo_mesh.specs.declared.names.Names.{Names}
-use Rattle.geo_mesh.specs.Cells.{graph_of, provider_row, consumer_row}
-use Rattle.geo_mesh.specs.Index.{provider_geoms, consumer_geoms, consumer_providers}
+use Rattle.std.specs.Prelude.{◌≡◌, ◌≤◌}
+use Rattle.geo_mesh.specs.declared.tables.Tables.{Tables}
+use Rattle.geo_mesh.specs.Cells.{graph}
+use Rattle.geo_mesh.specs.Index.{with_rooms}
+use Rattle.geo_mesh.specs.Names.{SameNames}
+use Rattle.geo_mesh.specs.Notes.{IsSameNotes}
 use Rattle.geo_mesh.specs.Mesh.{IsMesh}
 use Rattle.geo_mesh.specs.Ranks.{HaveRanks}
 use Rattle.geo_mesh.specs.Graph.{IsOrderly}
 
--- the index tells whose each provider and each consumer is, and where each consumer is attached
-pub record IsKin (i : Index) (ps : SlotsView ProvCell) (cs : SlotsView ConsCell) : Type 0 where
-  pub offered : i.offered.children ≡ provider_geoms (map provider_row ps.rows)
-  pub owned : i.owned.children ≡ consumer_geoms (map consumer_row cs.rows)
-  pub attached : i.attached.children ≡ consumer_providers (map consumer_row cs.rows)
-
 -- the tables, their index and their names fit, the ranks stand in the cells, and the graph is orderly
-pub record IsWhole {C : Type 0} (geoms : SlotsView (GeomCell C)) (providers : SlotsView ProvCell) (consumers : SlotsView ConsCell) (live : ℕ) (index : Index) (names : Names) : Type 0 where
-  pub tables : IsMesh geoms providers consumers live index names
-  pub ranks : HaveRanks geoms providers consumers live
-  pub graph : IsOrderly (graph_of geoms providers consumers)
+pub record IsWhole {C : Type 0} (t : Tables C) : Type 0 where
+  pub tables : IsMesh t
+  pub ranks : HaveRanks t.geoms t.edges t.live
+  pub graph : IsOrderly (graph t)
+
+-- the tables are these, but for the room that is kept, of which there is no less
+pub record IsRoomier {C : Type 0} (t u : Tables C) : Type 0 where
+  pub geoms : u.geoms ≡ record t.geoms { spare = u.geoms.spare }
+  pub providers : u.edges.providers ≡ record t.edges.providers { spare = u.edges.providers.spare }
+  pub consumers : u.edges.consumers ≡ record t.edges.consumers { spare = u.edges.consumers.spare }
+  pub live : u.live ≡ t.live
+  pub index : u.edges.index ≡ with_rooms t.edges.index u.edges.index
+  pub names : SameNames t.names u.names
+  pub notes : IsSameNotes t.notes u.notes
+  pub geoms_stay : t.geoms.spare ≤ u.geoms.spare
+  pub providers_stay : t.edges.providers.spare ≤ u.edges.providers.spare
+  pub consumers_stay : t.edges.consumers.spare ≤ u.edges.consumers.spare

@@ -2,11 +2,11 @@
 #![tactic(auto)]
 
 mod index;
+mod marks;
 mod names;
 mod ranks;
 mod records;
-#[cfg(test)]
-mod tests;
+mod tables;
 mod topo;
 
 pub use records::{AttachRefusal, ConsRec, GeomRec, ProvRec, Scratch};

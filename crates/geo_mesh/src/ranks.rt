@@ -3,14 +3,11 @@ ghost use Rattle.std.specs.Prelude.{◌≡◌, ℕ, ◌≤◌, ◌<◌, ◌+◌,
 ghost use Rattle.geo_model.specs.Words.{largest, is_granted_kind};
 ghost use Rattle.geo_slots.specs.Slots.{IsRising, value_at};
 ghost use Rattle.geo_mesh.specs.Rows.{passes};
-ghost use Rattle.geo_mesh.specs.Cells.{provider_row, consumer_row};
-ghost use Rattle.geo_mesh.specs.Index.{provider_geoms, consumer_geoms, consumer_providers};
-ghost use Rattle.geo_mesh.specs.Whole.{IsKin};
 ghost use Rattle.geo_mesh.specs.Mending.{AreEnough, AreLocal, IsLow, Lifted, Lowered, IsJoinable};
-ghost use Rattle.geo_mesh.specs.Ranks.{kinds, bare, offers, ends, links, stored, below, beneath, owner, user, is_dev_or_taste, is_offered, is_attached, belongs, is_high, rank_under, rank_from, FirstIs, EachUser, highest_raise, IsRefusedFor, IsWalkable, IsAdmitted};
+ghost use Rattle.geo_mesh.specs.Ranks.{IsKin, kinds, bare, offers, ranked_links, links, stored, ranked_below, below, owner, user, is_dev_or_taste, is_offered, is_attached, belongs, is_high, rank_under, rank_from, FirstIs, EachUser, highest_raise, IsRefusedFor, IsWalkable, IsAdmitted};
 
-use crate::index::Index;
-use crate::records::{AttachRefusal, ConsCell, GeomCell, ProvCell};
+use crate::records::{AttachRefusal, GeomCell};
+use crate::tables::{Edges, cell_mut};
 use geo_base::Kind;
 use geo_slots::Slots;
 
@@ -28,13 +25,11 @@ fn is_granted(kind: Kind) -> bool
 }
 
 // The first provider of a geom from a number on.
-fn offered(index: &Index, providers: &Slots<ProvCell>, geom: u64, from: u64) -> Option<u64>
-    requires kin { index.now.offered.children ≡ provider_geoms (map provider_row providers.now.rows) }
-    requires rising { IsRising 1 providers.now.rows providers.now.next }
-    requires bound { providers.now.next < 2 ^ 64 }
-    ensures { FirstIs (is_offered geom) (offers providers.now) from result }
+fn offered(edges: &Edges, geom: u64, from: u64) -> Option<u64>
+    requires { IsKin edges.now }
+    ensures { FirstIs (is_offered geom) (offers edges.now) from result }
 {
-    index.offered.first_from(geom, from)
+    edges.index.offered.first_from(geom, from)
 }
 
 /// Whether the geom is DEV or TASTE, the first two: they have no provider, so no geom stands on their ranks, which are found
@@ -46,15 +41,13 @@ pub fn is_dev_or_taste(geom: u64) -> bool
 }
 
 // The first consumer of a geom other than the first two that is attached to a provider, from a number on.
-fn attached(index: &Index, consumers: &Slots<ConsCell>, prov: u64, from: u64) -> Option<u64>
-    requires kin { index.now.attached.children ≡ consumer_providers (map consumer_row consumers.now.rows) }
-    requires rising { IsRising 1 consumers.now.rows consumers.now.next }
-    requires bound { consumers.now.next < 2 ^ 64 }
-    ensures { FirstIs (is_attached prov) (ends consumers.now) from result }
+fn ranked_consumer(edges: &Edges, prov: u64, from: u64) -> Option<u64>
+    requires { IsKin edges.now }
+    ensures { FirstIs (is_attached prov) (ranked_links edges.now) from result }
 {
     let mut at = from;
-    while let Some(cons) = linked(index, consumers, prov, at) {
-        if !is_dev_or_taste(user(consumers, cons)) {
+    while let Some(cons) = attached_consumer(edges, prov, at) {
+        if !is_dev_or_taste(user(edges, cons)) {
             return Some(cons);
         }
         at = cons + 1;
@@ -63,43 +56,37 @@ fn attached(index: &Index, consumers: &Slots<ConsCell>, prov: u64, from: u64) ->
 }
 
 // The first consumer that is attached to a provider, from a number on.
-fn linked(index: &Index, consumers: &Slots<ConsCell>, prov: u64, from: u64) -> Option<u64>
-    requires kin { index.now.attached.children ≡ consumer_providers (map consumer_row consumers.now.rows) }
-    requires rising { IsRising 1 consumers.now.rows consumers.now.next }
-    requires bound { consumers.now.next < 2 ^ 64 }
-    ensures { FirstIs (is_attached prov) (links consumers.now) from result }
+fn attached_consumer(edges: &Edges, prov: u64, from: u64) -> Option<u64>
+    requires { IsKin edges.now }
+    ensures { FirstIs (is_attached prov) (links edges.now) from result }
 {
-    index.attached.first_from(prov, from)
+    edges.index.attached.first_from(prov, from)
 }
 
 // The first consumer of a geom from a number on.
-fn belonging(index: &Index, consumers: &Slots<ConsCell>, geom: u64, from: u64) -> Option<u64>
-    requires kin { index.now.owned.children ≡ consumer_geoms (map consumer_row consumers.now.rows) }
-    requires rising { IsRising 1 consumers.now.rows consumers.now.next }
-    requires bound { consumers.now.next < 2 ^ 64 }
-    ensures { FirstIs (belongs geom) (links consumers.now) from result }
+fn belonging(edges: &Edges, geom: u64, from: u64) -> Option<u64>
+    requires { IsKin edges.now }
+    ensures { FirstIs (belongs geom) (links edges.now) from result }
 {
-    index.owned.first_from(geom, from)
+    edges.index.owned.first_from(geom, from)
 }
 
 /// The geom of a consumer, and 0 where there is none.
-pub fn user(consumers: &Slots<ConsCell>, cons: u64) -> u64
-    ensures user { result ≡ user consumers.now cons }
-    ensures rising { IsRising 1 consumers.now.rows consumers.now.next }
-    ensures bound { consumers.now.next < 2 ^ 64 }
+pub fn user(edges: &Edges, cons: u64) -> u64
+    ensures { result ≡ user edges.now cons }
 {
-    consumers
+    edges
+        .consumers
         .get(cons)
         .map_or(0, |cell| cell.consumer.geom.number())
 }
 
 /// The geom that offers a provider, and 0 where there is none.
-pub fn owner(providers: &Slots<ProvCell>, prov: u64) -> u64
-    ensures owner { result ≡ owner providers.now prov }
-    ensures rising { IsRising 1 providers.now.rows providers.now.next }
-    ensures bound { providers.now.next < 2 ^ 64 }
+pub fn owner(edges: &Edges, prov: u64) -> u64
+    ensures { result ≡ owner edges.now prov }
 {
-    providers
+    edges
+        .providers
         .get(prov)
         .map_or(0, |cell| cell.provider.geom.number())
 }
@@ -119,10 +106,7 @@ fn store<C>(geoms: &mut Slots<GeomCell<C>>, geom: u64, rank: u64)
     ensures others { (x : ℕ) → (x ≡ geom → ⊥) → stored geoms.new x ≡ stored geoms.old x }
     ensures rising { IsRising 1 geoms.old.rows geoms.old.next }
 {
-    let Some(cell) = geoms.get_mut(geom) else {
-        return;
-    };
-    cell.rank = rank;
+    cell_mut(geoms, geom).rank = rank;
 }
 
 // Gives the geom a greater rank. Whether a geom other than DEV and TASTE is above the limit; before it was so or not.
@@ -153,20 +137,17 @@ fn is_granted_at<C>(geoms: &Slots<GeomCell<C>>, geom: u64) -> bool
 #[cycle(raise)]
 pub fn raise<C>(
     geoms: &mut Slots<GeomCell<C>>,
-    providers: &Slots<ProvCell>,
-    consumers: &Slots<ConsCell>,
-    index: &Index,
+    edges: &Edges,
     geom: u64,
     least: u64,
     high: bool,
 ) -> bool
-    requires kin { IsKin index.now providers.now consumers.now }
-    requires walkable { IsWalkable (kinds geoms.old) providers.now consumers.now }
+    requires walkable { IsWalkable (kinds geoms.old) edges.now }
     requires lives { IsSome (value_at (kinds geoms.old) geom) }
-    requires fits { least ≤ highest_raise geoms.old providers.now consumers.now geom }
+    requires fits { least ≤ highest_raise geoms.old edges.now geom }
     requires high { high ≡ is_high (kinds geoms.old) (stored geoms.old) }
     ensures same { bare geoms.new ≡ bare geoms.old }
-    ensures lifted { Lifted (below providers.now consumers.now) geom least (stored geoms.old) (stored geoms.new) }
+    ensures lifted { Lifted (ranked_below edges.now) geom least (stored geoms.old) (stored geoms.new) }
     ensures raised { least ≤ stored geoms.new geom }
     ensures high { result ≡ is_high (kinds geoms.old) (stored geoms.new) }
 {
@@ -175,8 +156,8 @@ pub fn raise<C>(
     }
     let mut high = lift(geoms, geom, least, high);
     let mut at = 0;
-    while let Some(prov) = offered(index, providers, geom, at) {
-        high = raise_attached(geoms, providers, consumers, index, prov, least + 1, high);
+    while let Some(prov) = offered(edges, geom, at) {
+        high = raise_attached(geoms, edges, prov, least + 1, high);
         at = prov + 1;
     }
     high
@@ -186,60 +167,40 @@ pub fn raise<C>(
 #[cycle(raise)]
 fn raise_attached<C>(
     geoms: &mut Slots<GeomCell<C>>,
-    providers: &Slots<ProvCell>,
-    consumers: &Slots<ConsCell>,
-    index: &Index,
+    edges: &Edges,
     prov: u64,
     least: u64,
     high: bool,
 ) -> bool
-    requires kin { IsKin index.now providers.now consumers.now }
-    requires walkable { IsWalkable (kinds geoms.old) providers.now consumers.now }
-    requires lives { IsSome (value_at (offers providers.now).rows prov) }
-    requires low { least ≤ stored geoms.old (owner providers.now prov) + 1 }
-    requires fits { least ≤ 1 + highest_raise geoms.old providers.now consumers.now (owner providers.now prov) }
+    requires walkable { IsWalkable (kinds geoms.old) edges.now }
+    requires lives { IsSome (value_at (offers edges.now).rows prov) }
+    requires low { least ≤ stored geoms.old (owner edges.now prov) + 1 }
+    requires fits { least ≤ 1 + highest_raise geoms.old edges.now (owner edges.now prov) }
     requires high { high ≡ is_high (kinds geoms.old) (stored geoms.old) }
     ensures same { bare geoms.new ≡ bare geoms.old }
-    ensures lifted { Lifted (below providers.now consumers.now) (owner providers.now prov) 0 (stored geoms.old) (stored geoms.new) }
-    ensures raised { EachUser consumers.now prov (λ x. least ≤ stored geoms.new x) }
+    ensures lifted { Lifted (ranked_below edges.now) (owner edges.now prov) 0 (stored geoms.old) (stored geoms.new) }
+    ensures raised { EachUser edges.now prov (λ x. least ≤ stored geoms.new x) }
     ensures high { result ≡ is_high (kinds geoms.old) (stored geoms.new) }
 {
     let mut high = high;
     let mut at = 0;
-    while let Some(cons) = attached(index, consumers, prov, at) {
-        high = raise(
-            geoms,
-            providers,
-            consumers,
-            index,
-            user(consumers, cons),
-            least,
-            high,
-        );
+    while let Some(cons) = ranked_consumer(edges, prov, at) {
+        high = raise(geoms, edges, user(edges, cons), least, high);
         at = cons + 1;
     }
     high
 }
 
 // The highest rank directly below a geom, which is at most `most`: where it is met, the walk ends.
-fn highest_below<C>(
-    geoms: &Slots<GeomCell<C>>,
-    providers: &Slots<ProvCell>,
-    consumers: &Slots<ConsCell>,
-    index: &Index,
-    geom: u64,
-    most: u64,
-) -> u64
-    requires kin { IsKin index.now providers.now consumers.now }
-    requires rising { IsRising 1 consumers.now.rows consumers.now.next }
-    requires bound { consumers.now.next < 2 ^ 64 }
-    requires most { largest (map (stored geoms.now) (beneath providers.now consumers.now geom)) ≤ most }
-    ensures { result ≡ largest (map (stored geoms.now) (beneath providers.now consumers.now geom)) }
+fn highest_below<C>(geoms: &Slots<GeomCell<C>>, edges: &Edges, geom: u64, most: u64) -> u64
+    requires kin { IsKin edges.now }
+    requires most { largest (map (stored geoms.now) (below edges.now geom)) ≤ most }
+    ensures { result ≡ largest (map (stored geoms.now) (below edges.now geom)) }
 {
     let mut highest: u64 = 0;
     let mut at = 0;
-    while let Some(cons) = belonging(index, consumers, geom, at) {
-        highest = highest.max(rank_below(geoms, providers, consumers, cons));
+    while let Some(cons) = belonging(edges, geom, at) {
+        highest = highest.max(rank_below(geoms, edges, cons));
         if highest == most {
             return most;
         }
@@ -249,42 +210,29 @@ fn highest_below<C>(
 }
 
 // The rank of the geom to whose provider a consumer is attached, and 0 where it is attached to nothing.
-fn rank_below<C>(
-    geoms: &Slots<GeomCell<C>>,
-    providers: &Slots<ProvCell>,
-    consumers: &Slots<ConsCell>,
-    cons: u64,
-) -> u64
-    ensures { result ≡ rank_under (stored geoms.now) (offers providers.now).rows (value_at (links consumers.now).rows cons) }
+fn rank_below<C>(geoms: &Slots<GeomCell<C>>, edges: &Edges, cons: u64) -> u64
+    ensures { result ≡ rank_under (stored geoms.now) (offers edges.now).rows (value_at (links edges.now).rows cons) }
 {
-    let Some(consumer) = consumers.get(cons) else {
+    let Some(consumer) = edges.consumers.get(cons) else {
         return 0;
     };
     let Some(prov) = consumer.consumer.prov else {
         return 0;
     };
-    match providers.get(prov.number()) {
+    match edges.providers.get(prov.number()) {
         Some(provider) => stored(geoms, provider.provider.geom.number()),
         None => 0,
     }
 }
 
 /// The rank of a geom (geom(4)). That of DEV and of TASTE is found from the ranks of the geoms below.
-pub fn rank_from<C>(
-    geoms: &Slots<GeomCell<C>>,
-    providers: &Slots<ProvCell>,
-    consumers: &Slots<ConsCell>,
-    index: &Index,
-    geom: u64,
-) -> u64
-    requires kin { IsKin index.now providers.now consumers.now }
-    requires rising { IsRising 1 consumers.now.rows consumers.now.next }
-    requires bound { consumers.now.next < 2 ^ 64 }
+pub fn rank_from<C>(geoms: &Slots<GeomCell<C>>, edges: &Edges, geom: u64) -> u64
+    requires kin { IsKin edges.now }
     requires few { (x : ℕ) → stored geoms.now x ≤ 4294967295 }
-    ensures { result ≡ rank_from (stored geoms.now) providers.now consumers.now geom }
+    ensures { result ≡ rank_from (stored geoms.now) edges.now geom }
 {
     if is_dev_or_taste(geom) {
-        1 + highest_below(geoms, providers, consumers, index, geom, RANK_MOST)
+        1 + highest_below(geoms, edges, geom, RANK_MOST)
     } else {
         stored(geoms, geom)
     }
@@ -292,55 +240,41 @@ pub fn rank_from<C>(
 
 /// Gives the geom the rank that it has to have, where that is lower, and then those above it too.
 #[cycle(lower)]
-pub fn lower<C>(
-    geoms: &mut Slots<GeomCell<C>>,
-    providers: &Slots<ProvCell>,
-    consumers: &Slots<ConsCell>,
-    index: &Index,
-    geom: u64,
-)
-    requires kin { IsKin index.now providers.now consumers.now }
-    requires walkable { IsWalkable (kinds geoms.old) providers.now consumers.now }
+pub fn lower<C>(geoms: &mut Slots<GeomCell<C>>, edges: &Edges, geom: u64)
+    requires walkable { IsWalkable (kinds geoms.old) edges.now }
     requires lives { IsSome (value_at (kinds geoms.old) geom) }
     requires later { is_dev_or_taste geom ≡ false }
-    requires enough { AreEnough (below providers.now consumers.now) (stored geoms.old) }
+    requires enough { AreEnough (ranked_below edges.now) (stored geoms.old) }
     ensures same { bare geoms.new ≡ bare geoms.old }
-    ensures lowered { Lowered (below providers.now consumers.now) (stored geoms.old) (stored geoms.new) }
-    ensures low { IsLow (below providers.now consumers.now) (stored geoms.new) geom }
+    ensures lowered { Lowered (ranked_below edges.now) (stored geoms.old) (stored geoms.new) }
+    ensures low { IsLow (ranked_below edges.now) (stored geoms.new) geom }
 {
     let rank = stored(geoms, geom);
-    let new = 1 + highest_below(geoms, providers, consumers, index, geom, rank - 1);
+    let new = 1 + highest_below(geoms, edges, geom, rank - 1);
     if rank <= new {
         return;
     }
     store(geoms, geom, new);
     let mut at = 0;
-    while let Some(prov) = offered(index, providers, geom, at) {
-        lower_attached(geoms, providers, consumers, index, prov);
+    while let Some(prov) = offered(edges, geom, at) {
+        lower_attached(geoms, edges, prov);
         at = prov + 1;
     }
 }
 
 // Lowers the geoms of the consumers that are attached to a provider.
 #[cycle(lower)]
-fn lower_attached<C>(
-    geoms: &mut Slots<GeomCell<C>>,
-    providers: &Slots<ProvCell>,
-    consumers: &Slots<ConsCell>,
-    index: &Index,
-    prov: u64,
-)
-    requires kin { IsKin index.now providers.now consumers.now }
-    requires walkable { IsWalkable (kinds geoms.old) providers.now consumers.now }
-    requires lives { IsSome (value_at (offers providers.now).rows prov) }
-    requires enough { AreEnough (below providers.now consumers.now) (stored geoms.old) }
+fn lower_attached<C>(geoms: &mut Slots<GeomCell<C>>, edges: &Edges, prov: u64)
+    requires walkable { IsWalkable (kinds geoms.old) edges.now }
+    requires lives { IsSome (value_at (offers edges.now).rows prov) }
+    requires enough { AreEnough (ranked_below edges.now) (stored geoms.old) }
     ensures same { bare geoms.new ≡ bare geoms.old }
-    ensures lowered { Lowered (below providers.now consumers.now) (stored geoms.old) (stored geoms.new) }
-    ensures low { EachUser consumers.now prov (IsLow (below providers.now consumers.now) (stored geoms.new)) }
+    ensures lowered { Lowered (ranked_below edges.now) (stored geoms.old) (stored geoms.new) }
+    ensures low { EachUser edges.now prov (IsLow (ranked_below edges.now) (stored geoms.new)) }
 {
     let mut at = 0;
-    while let Some(cons) = attached(index, consumers, prov, at) {
-        lower(geoms, providers, consumers, index, user(consumers, cons));
+    while let Some(cons) = ranked_consumer(edges, prov, at) {
+        lower(geoms, edges, user(edges, cons));
         at = cons + 1;
     }
 }
@@ -349,28 +283,25 @@ fn lower_attached<C>(
 /// the first two geoms, so there nothing changes and nothing is refused.
 pub fn admit<C>(
     geoms: &mut Slots<GeomCell<C>>,
-    providers: &Slots<ProvCell>,
-    consumers: &Slots<ConsCell>,
-    index: &Index,
+    edges: &Edges,
     upper: u64,
     under: u64,
 ) -> Result<(), AttachRefusal>
-    requires kin { IsKin index.now providers.now consumers.now }
-    requires walkable { IsWalkable (kinds geoms.old) providers.now consumers.now }
+    requires walkable { IsWalkable (kinds geoms.old) edges.now }
     requires lives { IsSome (value_at (kinds geoms.old) upper) }
-    requires local { AreLocal (below providers.now consumers.now) (stored geoms.old) }
+    requires local { AreLocal (ranked_below edges.now) (stored geoms.old) }
     requires low { is_high (kinds geoms.old) (stored geoms.old) ≡ false }
     ensures same { bare geoms.new ≡ bare geoms.old }
-    ensures admitted { OnOk result (IsAdmitted (is_dev_or_taste upper) (below providers.now consumers.now) upper under (stored geoms.old) (stored geoms.new)) }
+    ensures admitted { OnOk result (IsAdmitted (is_dev_or_taste upper) (ranked_below edges.now) upper under (stored geoms.old) (stored geoms.new)) }
     ensures low { OnOk result (is_high (kinds geoms.old) (stored geoms.new) ≡ false) }
     ensures later { OnErr result (is_dev_or_taste upper ≡ false) }
-    ensures refused { IfErr result (λ e. IsRefusedFor e geoms.old (below providers.now consumers.now) upper under) }
+    ensures refused { IfErr result (λ e. IsRefusedFor e geoms.old (ranked_below edges.now) upper under) }
     ensures kept { OnErr result ((x : ℕ) → stored geoms.new x ≡ stored geoms.old x) }
 {
     if is_dev_or_taste(upper) {
         return Ok(());
     }
-    join(geoms, providers, consumers, index, upper, under)
+    join(geoms, edges, upper, under)
 }
 
 // Gives the upper geom, and those above it, the ranks that they have once the lower geom is below it. It's refused where
@@ -378,32 +309,29 @@ pub fn admit<C>(
 // the ranks are as before.
 fn join<C>(
     geoms: &mut Slots<GeomCell<C>>,
-    providers: &Slots<ProvCell>,
-    consumers: &Slots<ConsCell>,
-    index: &Index,
+    edges: &Edges,
     upper: u64,
     under: u64,
 ) -> Result<(), AttachRefusal>
-    requires kin { IsKin index.now providers.now consumers.now }
-    requires walkable { IsWalkable (kinds geoms.old) providers.now consumers.now }
+    requires walkable { IsWalkable (kinds geoms.old) edges.now }
     requires lives { IsSome (value_at (kinds geoms.old) upper) }
     requires later { is_dev_or_taste upper ≡ false }
-    requires local { AreLocal (below providers.now consumers.now) (stored geoms.old) }
+    requires local { AreLocal (ranked_below edges.now) (stored geoms.old) }
     requires low { is_high (kinds geoms.old) (stored geoms.old) ≡ false }
     ensures same { bare geoms.new ≡ bare geoms.old }
-    ensures joined { OnOk result (IsJoinable (below providers.now consumers.now) upper under (stored geoms.new)) }
+    ensures joined { OnOk result (IsJoinable (ranked_below edges.now) upper under (stored geoms.new)) }
     ensures low { OnOk result (is_high (kinds geoms.old) (stored geoms.new) ≡ false) }
-    ensures refused { IfErr result (λ e. IsRefusedFor e geoms.old (below providers.now consumers.now) upper under) }
+    ensures refused { IfErr result (λ e. IsRefusedFor e geoms.old (ranked_below edges.now) upper under) }
     ensures kept { OnErr result ((x : ℕ) → stored geoms.new x ≡ stored geoms.old x) }
 {
     let rank = stored(geoms, under);
-    let high = raise(geoms, providers, consumers, index, upper, rank + 1, false);
+    let high = raise(geoms, edges, upper, rank + 1, false);
     if stored(geoms, under) != rank {
-        lower(geoms, providers, consumers, index, upper);
+        lower(geoms, edges, upper);
         return Err(AttachRefusal::Eloop);
     }
     if high {
-        lower(geoms, providers, consumers, index, upper);
+        lower(geoms, edges, upper);
         return Err(AttachRefusal::Edeep);
     }
     Ok(())

@@ -1,16 +1,16 @@
 use Rattle.geo_mesh.specs.Ranks.{kind_of}
+use Rattle.std.proofs.Common.{sym}
 use Rattle.geo_mesh.proofs.RankRows.{seen-some, store-same, store-here, store-others}
 use Rattle.geo_mesh.proofs.ranks.store.Goals as goal
 
-pub returns-in_default-clause-here : goal.returns-in_default-clause-here
-returns-in_default-clause-here g c =
-    let lives = rw (← c.in_default.ensures.value) at (seen-some kind_of c.args.geom c.args.geoms.now.rows c.requires.lives) in absurd cc
+pub cell_mut-requires : goal.cell_mut-requires
+cell_mut-requires g c = seen-some kind_of c.args.geom c.args.geoms.now.rows c.requires.lives
 
 pub returns-clause-same : goal.returns-clause-same
-returns-clause-same g c = store-same c.args.geoms.now c.args.geom c.args.rank c.in-Some.cell.now c.in-Some.ensures.rising c.in-Some.ensures.value
+returns-clause-same g c = store-same c.args.geoms.now c.args.geom c.args.rank c.cell_mut.result.now c.cell_mut.ensures.rising (sym c.cell_mut.ensures.cell)
 
 pub returns-clause-here : goal.returns-clause-here
-returns-clause-here g c = store-here c.args.geoms.now c.args.geom c.args.rank c.in-Some.cell.now c.in-Some.ensures.rising c.in-Some.ensures.value
+returns-clause-here g c = store-here c.args.geoms.now c.args.geom c.args.rank c.cell_mut.result.now c.cell_mut.ensures.rising (sym c.cell_mut.ensures.cell)
 
 pub returns-clause-others : goal.returns-clause-others
-returns-clause-others g c = store-others c.args.geoms.now c.args.geom c.args.rank c.in-Some.cell.now c.in-Some.ensures.rising c.in-Some.ensures.value
+returns-clause-others g c = store-others c.args.geoms.now c.args.geom c.args.rank c.cell_mut.result.now c.cell_mut.ensures.rising (sym c.cell_mut.ensures.cell)

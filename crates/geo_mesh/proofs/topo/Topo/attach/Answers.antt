@@ -1,115 +1,92 @@
-use Rattle.std.proofs.Common.{◌≡◌, Some, None, false, sym, ◌∙◌, ap, subst}
-use Rattle.std.specs.Prelude.{IsSome}
-use Rattle.geo_model.specs.Topology.{is_errored}
-use Rattle.geo_slots.specs.Slots.{value_at, with_value}
-use Rattle.geo_mesh.specs.Cells.{graph_of, within_limit}
-use Rattle.geo_mesh.specs.Index.{attached_index}
-use Rattle.geo_mesh.specs.Ranks.{IsRefusedFor, IsAdmitted, HaveDevAndTaste, is_dev_or_taste, offers, stored, below, owner}
-use Rattle.geo_mesh.proofs.ViewLemmas.{attach-view}
-use Rattle.geo_mesh.proofs.RankFirst.{first-two}
-use Rattle.geo_mesh.proofs.RankMesh.{mesh-walkable, view-bare}
-use Rattle.geo_mesh.proofs.RankSwitch.{free-cell, free-at, provider-offered, user-cell, user-stands, on-refused, admitted-mesh, admitted-free, mesh-kept}
+use Rattle.std.proofs.Common.{◌≡◌, Some, None, false, refl, sym, ◌∙◌, ap, subst, arith, IsSome}
+use Rattle.geo_slots.specs.Slots.{value_at, IsRising}
+use Rattle.geo_model.specs.Topology.{is_errored, attach}
+use Rattle.geo_mesh.specs.Cells.{graph, put_consumer}
+use Rattle.geo_mesh.specs.Ranks.{HaveDevAndTaste, IsAdmitted, IsRefusedFor, offers, ranked_below, stored, owner, is_dev_or_taste}
 use Rattle.geo_mesh.proofs.IndexLemmas.{attached_free, attached_parent}
-use Rattle.geo_mesh.proofs.MeshLemmas.{mesh-attached}
-use Rattle.geo_mesh.proofs.WholeLemmas.{kin-of, tables-bare}
-use Rattle.geo_mesh.specs.Graph.{IsOrderly}
-use Rattle.geo_mesh.proofs.Orderly.{orderly-attach}
+use Rattle.geo_mesh.proofs.RankFirst.{first-two, kin-of}
+use Rattle.geo_mesh.proofs.RankMesh.{view-bare, mesh-walkable}
+use Rattle.geo_mesh.proofs.RankSwitch.{free-cell, free-at, user-cell, user-stands, provider-offered, admitted-mesh, admitted-free, on-refused}
+use Rattle.geo_mesh.proofs.ViewLemmas.{attach-view, consumer_at-view}
+use Rattle.geo_mesh.proofs.WholeParts.{whole-attached, whole-kept}
 use Rattle.geo_mesh.proofs.topo.Topo.attach.Goals as goal
 
 pub admit-requires-clause-walkable : goal.admit-requires-clause-walkable
 admit-requires-clause-walkable g c =
-    mesh-walkable c.self.inside.geoms c.self.inside.providers c.self.inside.consumers c.self.inside.live c.self.invariant.ranks c.owner-under.ensures.rising c.owner-under.ensures.bound c.user-upper.ensures.rising c.user-upper.ensures.bound
+    mesh-walkable c.self.inside.tables.geoms c.self.inside.tables.edges c.self.inside.tables.live c.self.invariant.ranks (kin-of c.self.inside.tables.geoms c.self.inside.tables.edges c.self.invariant.graph c.self.invariant.tables.indexed)
 
 pub admit-requires-clause-lives : goal.admit-requires-clause-lives
 admit-requires-clause-lives g c =
-    let s = free-cell c.self.inside.geoms c.self.inside.providers c.self.inside.consumers c.number.result (rw (← c.self.view_is, ← c.number.ensures) at c.requires.consumer) in
-    let upper : c.user-upper.result ≡ s.0.consumer.geom = c.user-upper.ensures.user ∙ user-cell c.self.inside.geoms c.self.inside.providers c.self.inside.consumers c.number.result s.0 s.1 in
-    rw upper (user-stands c.self.inside.geoms c.self.inside.providers c.self.inside.consumers c.self.inside.live c.self.invariant.ranks c.number.result 0 s.0 c.user-upper.ensures.rising s.1)
+    let free = free-cell c.self.inside.tables.geoms c.self.inside.tables.edges c.args.cons (rw (← c.self.view_is) at c.requires.consumer) in
+    let kin = kin-of c.self.inside.tables.geoms c.self.inside.tables.edges c.self.invariant.graph c.self.invariant.tables.indexed in
+    let upper : c.user-upper.result ≡ free.0.consumer.geom = c.user-upper.ensures ∙ rw c.number.ensures (user-cell c.self.inside.tables.geoms c.self.inside.tables.edges c.args.cons free.0 free.1) in
+    rw upper (user-stands c.self.inside.tables.geoms c.self.inside.tables.edges c.self.inside.tables.live c.self.invariant.ranks c.args.cons 0 free.0 kin.consumers_rise free.1)
 
-pub invariant_of-self-in-Ok : goal.invariant_of-self-in-Ok
-invariant_of-self-in-Ok g c =
-    let offered : IsSome (value_at (offers c.self.inside.providers).rows c.number-2.result) = provider-offered c.self.inside.geoms c.self.inside.providers c.self.inside.consumers c.number-2.result (rw (← c.self.view_is, ← c.number-2.ensures) at c.requires.provider) in
-    let free : c.in-Some.cell.now.consumer.prov ≡ None = free-at c.self.inside.geoms c.self.inside.providers c.self.inside.consumers c.number-in-Ok.result c.in-Some.cell.now (rw (← c.self.view_is, ← c.number-in-Ok.ensures) at c.requires.consumer) c.in-Some.ensures.value in
-    let same_number : c.number.result ≡ c.number-in-Ok.result = c.number.ensures ∙ sym c.number-in-Ok.ensures in
-    let upper : c.user-upper.result ≡ c.in-Some.cell.now.consumer.geom = c.user-upper.ensures.user ∙ (rw same_number (user-cell c.self.inside.geoms c.self.inside.providers c.self.inside.consumers c.number-in-Ok.result c.in-Some.cell.now c.in-Some.ensures.value)) in
-    let admitted : IsAdmitted (is_dev_or_taste c.in-Some.cell.now.consumer.geom) (below c.self.inside.providers c.self.inside.consumers) c.in-Some.cell.now.consumer.geom (owner c.self.inside.providers c.number-2.result) (stored c.self.inside.geoms) (stored c.admit.new.geoms) = rw (← upper, ← c.owner-under.ensures.owner) c.in-Ok.ensures.admitted in
-    let first : HaveDevAndTaste c.self.inside.geoms c.self.inside.providers = first-two c.self.inside.geoms c.self.inside.providers c.self.inside.consumers c.self.invariant.graph in
-    record {
-      tables =
-          rw (c.attach.ensures, c.number-in-Ok-2.ensures, ← c.number-in-Ok.ensures, c.number-in-Ok-3.ensures)
-          (tables-bare c.self.inside.geoms c.self.inside.providers (record c.self.inside.consumers { rows = with_value c.self.inside.consumers.rows c.number-in-Ok.result (record c.in-Some.cell.now { consumer = record c.in-Some.cell.now.consumer { prov = Some c.args.prov } }) }) c.self.inside.live (attached_index c.self.inside.index c.number-in-Ok.result c.args.prov) c.self.inside.names
-          (mesh-attached c.self.inside.geoms c.self.inside.providers c.self.inside.consumers c.self.inside.live c.self.inside.index c.self.inside.names c.self.invariant.tables c.number-in-Ok.result c.args.prov c.in-Some.cell.now c.in-Some.ensures.rising c.in-Some.ensures.value) c.admit.new.geoms c.admit.ensures.same);
-      ranks = rw (← c.number-2.ensures) (admitted-mesh c.self.inside.geoms c.self.inside.providers c.self.inside.consumers c.self.inside.live c.self.invariant.ranks c.number-in-Ok.result c.number-2.result c.in-Some.cell.now c.in-Some.ensures.rising c.in-Some.ensures.value free offered first c.admit.new.geoms c.admit.ensures.same admitted c.in-Ok.ensures.low);
-      graph = subst (λ t. IsOrderly t) (sym (ap (λ v. v.topology) (view-bare c.self.inside.geoms c.admit.new.geoms c.self.inside.providers (record c.self.inside.consumers { rows = with_value c.self.inside.consumers.rows c.number-in-Ok.result (record c.in-Some.cell.now { consumer = record c.in-Some.cell.now.consumer { prov = Some c.args.prov } }) }) c.self.inside.live c.admit.ensures.same) ∙ ap (λ v. v.topology) (attach-view c.self.inside.geoms c.self.inside.providers c.self.inside.consumers c.number-in-Ok.result c.args.prov c.in-Some.cell.now c.in-Some.ensures.rising c.in-Some.ensures.value))) (orderly-attach (graph_of c.self.inside.geoms c.self.inside.providers c.self.inside.consumers) c.self.invariant.graph c.number-in-Ok.result c.args.prov (rw (← c.self.view_is) at c.requires.provider));
-    }
-
-pub returns-in-Some-clause-answer : goal.returns-in-Some-clause-answer
-returns-in-Some-clause-answer g c =
-    let offered : IsSome (value_at (offers c.self.inside.providers).rows c.number-2.result) = provider-offered c.self.inside.geoms c.self.inside.providers c.self.inside.consumers c.number-2.result (rw (← c.self.view_is, ← c.number-2.ensures) at c.requires.provider) in
-    let sound : is_errored (graph_of c.self.inside.geoms c.self.inside.providers c.self.inside.consumers) c.number-2.result ≡ false = rw (← c.self.view_is, ← c.number-2.ensures) at (sym c.is_errored.ensures ∙ c.if-is_errored.false) in
-    let free : c.in-Some.cell.now.consumer.prov ≡ None = free-at c.self.inside.geoms c.self.inside.providers c.self.inside.consumers c.number-in-Ok.result c.in-Some.cell.now (rw (← c.self.view_is, ← c.number-in-Ok.ensures) at c.requires.consumer) c.in-Some.ensures.value in
-    let same_number : c.number.result ≡ c.number-in-Ok.result = c.number.ensures ∙ sym c.number-in-Ok.ensures in
-    let upper : c.user-upper.result ≡ c.in-Some.cell.now.consumer.geom = c.user-upper.ensures.user ∙ (rw same_number (user-cell c.self.inside.geoms c.self.inside.providers c.self.inside.consumers c.number-in-Ok.result c.in-Some.cell.now c.in-Some.ensures.value)) in
-    let admitted : IsAdmitted (is_dev_or_taste c.in-Some.cell.now.consumer.geom) (below c.self.inside.providers c.self.inside.consumers) c.in-Some.cell.now.consumer.geom (owner c.self.inside.providers c.number-2.result) (stored c.self.inside.geoms) (stored c.admit.new.geoms) = rw (← upper, ← c.owner-under.ensures.owner) c.in-Ok.ensures.admitted in
-    let first : HaveDevAndTaste c.self.inside.geoms c.self.inside.providers = first-two c.self.inside.geoms c.self.inside.providers c.self.inside.consumers c.self.invariant.graph in
-    rw (← c.self.view_is, ← c.number-2.ensures, ← c.number-in-Ok.ensures)
-    (admitted-free c.self.inside.geoms c.self.inside.providers c.self.inside.consumers c.self.inside.live c.self.invariant.ranks c.number-in-Ok.result c.number-2.result c.in-Some.cell.now c.in-Some.ensures.rising c.in-Some.ensures.value free offered first c.admit.new.geoms c.admit.ensures.same admitted c.in-Ok.ensures.low sound)
-
-pub returns-in-Some-clause-attached : goal.returns-in-Some-clause-attached
-returns-in-Some-clause-attached g c =
-    view-bare c.self.inside.geoms c.admit.new.geoms c.self.inside.providers (record c.self.inside.consumers { rows = with_value c.self.inside.consumers.rows c.number-in-Ok.result (record c.in-Some.cell.now { consumer = record c.in-Some.cell.now.consumer { prov = Some c.args.prov } }) }) c.self.inside.live c.admit.ensures.same
-    ∙ (rw (← c.self.view_is, ← c.number-in-Ok.ensures)
-    (attach-view (within_limit c.self.inside.geoms c.self.inside.live) c.self.inside.providers c.self.inside.consumers c.number-in-Ok.result c.args.prov c.in-Some.cell.now c.in-Some.ensures.rising c.in-Some.ensures.value))
-
-pub invariant_of-self : goal.invariant_of-self
-invariant_of-self g c =
-    let s = free-cell c.self.inside.geoms c.self.inside.providers c.self.inside.consumers c.number-in-Ok.result (rw (← c.self.view_is, ← c.number-in-Ok.ensures) at c.requires.consumer) in
-    let nothing : Some s.0 ≡ None = s.1 ∙ sym c.in_default.ensures.value in
-    absurd cc
-
-pub returns-in_default-clause-answer : goal.returns-in_default-clause-answer
-returns-in_default-clause-answer g c =
-    let s = free-cell c.self.inside.geoms c.self.inside.providers c.self.inside.consumers c.number-in-Ok.result (rw (← c.self.view_is, ← c.number-in-Ok.ensures) at c.requires.consumer) in
-    let nothing : Some s.0 ≡ None = s.1 ∙ sym c.in_default.ensures.value in
-    absurd cc
-
-pub returns-in_default-clause-attached : goal.returns-in_default-clause-attached
-returns-in_default-clause-attached g c =
-    let s = free-cell c.self.inside.geoms c.self.inside.providers c.self.inside.consumers c.number-in-Ok.result (rw (← c.self.view_is, ← c.number-in-Ok.ensures) at c.requires.consumer) in
-    let nothing : Some s.0 ≡ None = s.1 ∙ sym c.in_default.ensures.value in
-    absurd cc
-
-pub invariant_of-self-in-Err : goal.invariant_of-self-in-Err
-invariant_of-self-in-Err g c =
-    record {
-      tables = tables-bare c.self.inside.geoms c.self.inside.providers c.self.inside.consumers c.self.inside.live c.self.inside.index c.self.inside.names c.self.invariant.tables c.admit.new.geoms c.in-Err.ensures.same;
-      ranks = mesh-kept c.self.inside.geoms c.admit.new.geoms c.self.inside.providers c.self.inside.consumers c.self.inside.live c.self.invariant.ranks c.in-Err.ensures.same c.in-Err.ensures.kept;
-      graph = subst (λ t. IsOrderly t) (sym (ap (λ v. v.topology) (view-bare c.self.inside.geoms c.admit.new.geoms c.self.inside.providers c.self.inside.consumers c.self.inside.live c.in-Err.ensures.same))) c.self.invariant.graph;
-    }
-
-pub returns-in-Err-clause-same : goal.returns-in-Err-clause-same
-returns-in-Err-clause-same g c =
-    view-bare c.self.inside.geoms c.admit.new.geoms c.self.inside.providers c.self.inside.consumers c.self.inside.live c.in-Err.ensures.same ∙ c.self.view_is
-
-pub returns-in-Err-clause-answer : goal.returns-in-Err-clause-answer
-returns-in-Err-clause-answer g c =
-    let s = free-cell c.self.inside.geoms c.self.inside.providers c.self.inside.consumers c.number.result (rw (← c.self.view_is, ← c.number.ensures) at c.requires.consumer) in
-    let upper : c.user-upper.result ≡ s.0.consumer.geom = c.user-upper.ensures.user ∙ user-cell c.self.inside.geoms c.self.inside.providers c.self.inside.consumers c.number.result s.0 s.1 in
-    let offered : IsSome (value_at (offers c.self.inside.providers).rows c.number-2.result) = provider-offered c.self.inside.geoms c.self.inside.providers c.self.inside.consumers c.number-2.result (rw (← c.self.view_is, ← c.number-2.ensures) at c.requires.provider) in
-    let sound : is_errored (graph_of c.self.inside.geoms c.self.inside.providers c.self.inside.consumers) c.number-2.result ≡ false = rw (← c.self.view_is, ← c.number-2.ensures) at (sym c.is_errored.ensures ∙ c.if-is_errored.false) in
-    let why : IsRefusedFor c.in-Err.refusal c.self.inside.geoms (below c.self.inside.providers c.self.inside.consumers) s.0.consumer.geom (owner c.self.inside.providers c.number-2.result) = rw (← upper, ← c.owner-under.ensures.owner) c.in-Err.ensures.refused in
-    let first : HaveDevAndTaste c.self.inside.geoms c.self.inside.providers = first-two c.self.inside.geoms c.self.inside.providers c.self.inside.consumers c.self.invariant.graph in
-    let later : is_dev_or_taste s.0.consumer.geom ≡ false = rw (← upper) c.in-Err.ensures.later in
-    rw (← c.self.view_is, ← c.number.ensures, ← c.number-2.ensures)
-    (on-refused c.self.inside.geoms c.self.inside.providers c.self.inside.consumers c.self.inside.live c.self.invariant.ranks c.number.result c.number-2.result s.0 c.user-upper.ensures.rising s.1 s.2 offered first later c.in-Err.refusal sound why)
-
-pub admit-requires-clause-kin : goal.admit-requires-clause-kin
-admit-requires-clause-kin g c = kin-of c.self.inside.geoms c.self.inside.providers c.self.inside.consumers c.self.inside.live c.self.inside.index c.self.inside.names c.self.invariant.tables
+pub consumer_mut-requires : goal.consumer_mut-requires
+consumer_mut-requires g c =
+    let free = free-cell c.self.inside.tables.geoms c.self.inside.tables.edges c.args.cons (rw (← c.self.view_is) at c.requires.consumer) in
+    rw (consumer_at-view c.self.inside.tables.geoms c.self.inside.tables.edges c.args.cons, ← free.1) refl
 
 pub attach-requires-clause-free : goal.attach-requires-clause-free
 attach-requires-clause-free g c =
-    attached_free (graph_of c.self.inside.geoms c.self.inside.providers c.self.inside.consumers) c.self.inside.index c.self.invariant.tables.indexed c.number-in-Ok-2.result (rw (← c.self.view_is, ← c.number-in-Ok-2.ensures) at c.requires.consumer)
+    rw c.number-3.ensures
+    (attached_free (graph c.self.inside.tables) c.self.inside.tables.edges.index c.self.invariant.tables.indexed c.args.cons (rw (← c.self.view_is) at c.requires.consumer))
 
 pub attach-requires-clause-provider : goal.attach-requires-clause-provider
 attach-requires-clause-provider g c =
-    attached_parent (graph_of c.self.inside.geoms c.self.inside.providers c.self.inside.consumers) c.self.inside.index c.self.invariant.tables.indexed c.number-in-Ok-3.result (rw (← c.self.view_is, ← c.number-in-Ok-3.ensures) at c.requires.provider)
+    rw c.number-4.ensures
+    (attached_parent (graph c.self.inside.tables) c.self.inside.tables.edges.index c.self.invariant.tables.indexed c.args.prov (rw (← c.self.view_is) at c.requires.provider))
+
+pub invariant_of-self : goal.invariant_of-self
+invariant_of-self g c = whole-kept c.self.inside.tables c.self.invariant c.admit.new.geoms c.admit.ensures.same c.in-Err.ensures.kept
+
+pub invariant_of-self-2 : goal.invariant_of-self-2
+invariant_of-self-2 g c =
+    let offered : IsSome (value_at (offers c.self.inside.tables.edges).rows c.args.prov) = provider-offered c.self.inside.tables.geoms c.self.inside.tables.edges c.args.prov (rw (← c.self.view_is) at c.requires.provider) in
+    let first : HaveDevAndTaste c.self.inside.tables.geoms c.self.inside.tables.edges = first-two c.self.inside.tables.geoms c.self.inside.tables.edges c.self.invariant.graph in
+    let free : c.consumer_mut.result.now.consumer.prov ≡ None = free-at c.self.inside.tables.geoms c.self.inside.tables.edges c.args.cons c.consumer_mut.result.now (rw (← c.self.view_is) at c.requires.consumer) (sym c.consumer_mut.ensures.cell) in
+    let upper : c.user-upper.result ≡ c.consumer_mut.result.now.consumer.geom = c.user-upper.ensures ∙ rw c.number.ensures (user-cell c.self.inside.tables.geoms c.self.inside.tables.edges c.args.cons c.consumer_mut.result.now (sym c.consumer_mut.ensures.cell)) in
+    let under : c.owner-under.result ≡ owner c.self.inside.tables.edges c.args.prov = rw c.number-2.ensures at c.owner-under.ensures in
+    let admitted : IsAdmitted (is_dev_or_taste c.consumer_mut.result.now.consumer.geom) (ranked_below c.self.inside.tables.edges) c.consumer_mut.result.now.consumer.geom (owner c.self.inside.tables.edges c.args.prov) (stored c.self.inside.tables.geoms) (stored c.admit.new.geoms) =
+    rw (← upper, ← under) c.in_default.ensures.admitted in
+    rw (c.attach.ensures, c.number-3.ensures, c.number-4.ensures)
+    (whole-attached c.self.inside.tables c.self.invariant c.args.cons c.consumer_mut.result.now c.consumer_mut.ensures.rising c.consumer_mut.ensures.cell c.admit.new.geoms c.admit.ensures.same c.args.prov
+    (admitted-mesh c.self.inside.tables.geoms c.self.inside.tables.edges c.self.inside.tables.live c.self.invariant.ranks c.args.cons c.args.prov c.consumer_mut.result.now c.consumer_mut.ensures.rising (sym c.consumer_mut.ensures.cell) free offered first c.admit.new.geoms c.admit.ensures.same admitted c.in_default.ensures.low)
+    (rw (← c.self.view_is) at c.requires.provider))
+
+pub returns-clause-answer : goal.returns-clause-answer
+returns-clause-answer g c =
+    let offered : IsSome (value_at (offers c.self.inside.tables.edges).rows c.args.prov) = provider-offered c.self.inside.tables.geoms c.self.inside.tables.edges c.args.prov (rw (← c.self.view_is) at c.requires.provider) in
+    let first : HaveDevAndTaste c.self.inside.tables.geoms c.self.inside.tables.edges = first-two c.self.inside.tables.geoms c.self.inside.tables.edges c.self.invariant.graph in
+    let free : c.consumer_mut.result.now.consumer.prov ≡ None = free-at c.self.inside.tables.geoms c.self.inside.tables.edges c.args.cons c.consumer_mut.result.now (rw (← c.self.view_is) at c.requires.consumer) (sym c.consumer_mut.ensures.cell) in
+    let upper : c.user-upper.result ≡ c.consumer_mut.result.now.consumer.geom = c.user-upper.ensures ∙ rw c.number.ensures (user-cell c.self.inside.tables.geoms c.self.inside.tables.edges c.args.cons c.consumer_mut.result.now (sym c.consumer_mut.ensures.cell)) in
+    let under : c.owner-under.result ≡ owner c.self.inside.tables.edges c.args.prov = rw c.number-2.ensures at c.owner-under.ensures in
+    let admitted : IsAdmitted (is_dev_or_taste c.consumer_mut.result.now.consumer.geom) (ranked_below c.self.inside.tables.edges) c.consumer_mut.result.now.consumer.geom (owner c.self.inside.tables.edges c.args.prov) (stored c.self.inside.tables.geoms) (stored c.admit.new.geoms) =
+    rw (← upper, ← under) c.in_default.ensures.admitted in
+    let sound : is_errored (graph c.self.inside.tables) c.args.prov ≡ false = rw (← c.self.view_is) at (sym c.is_errored.ensures ∙ c.if-is_errored.false) in
+    rw (← c.self.view_is)
+    (admitted-free c.self.inside.tables.geoms c.self.inside.tables.edges c.self.inside.tables.live c.self.invariant.ranks c.args.cons c.args.prov c.consumer_mut.result.now c.consumer_mut.ensures.rising (sym c.consumer_mut.ensures.cell) free offered first c.admit.new.geoms c.admit.ensures.same admitted c.in_default.ensures.low sound)
+
+pub returns-clause-attached : goal.returns-clause-attached
+returns-clause-attached g c =
+    view-bare (record c.self.inside.tables { edges = record (put_consumer c.self.inside.tables.edges c.args.cons (record c.consumer_mut.result.now { consumer = record c.consumer_mut.result.now.consumer { prov = Some c.args.prov } })) { index = c.attach.new.self } })
+    c.admit.new.geoms c.admit.ensures.same
+    ∙ (rw (← c.self.view_is) (attach-view c.self.inside.tables c.args.cons c.args.prov c.consumer_mut.result.now c.consumer_mut.ensures.rising c.consumer_mut.ensures.cell))
+
+pub returns-in-Err-clause-same : goal.returns-in-Err-clause-same
+returns-in-Err-clause-same g c = view-bare c.self.inside.tables c.admit.new.geoms c.admit.ensures.same ∙ c.self.view_is
+
+pub returns-in-Err-clause-answer : goal.returns-in-Err-clause-answer
+returns-in-Err-clause-answer g c =
+    let free = free-cell c.self.inside.tables.geoms c.self.inside.tables.edges c.args.cons (rw (← c.self.view_is) at c.requires.consumer) in
+    let offered : IsSome (value_at (offers c.self.inside.tables.edges).rows c.args.prov) = provider-offered c.self.inside.tables.geoms c.self.inside.tables.edges c.args.prov (rw (← c.self.view_is) at c.requires.provider) in
+    let kin = kin-of c.self.inside.tables.geoms c.self.inside.tables.edges c.self.invariant.graph c.self.invariant.tables.indexed in
+    let upper : c.user-upper.result ≡ free.0.consumer.geom = c.user-upper.ensures ∙ rw c.number.ensures (user-cell c.self.inside.tables.geoms c.self.inside.tables.edges c.args.cons free.0 free.1) in
+    let under : c.owner-under.result ≡ owner c.self.inside.tables.edges c.args.prov = rw c.number-2.ensures at c.owner-under.ensures in
+    let sound : is_errored (graph c.self.inside.tables) c.args.prov ≡ false = rw (← c.self.view_is) at (sym c.is_errored.ensures ∙ c.if-is_errored.false) in
+    let why : IsRefusedFor c.in-Err.refusal c.self.inside.tables.geoms (ranked_below c.self.inside.tables.edges) free.0.consumer.geom (owner c.self.inside.tables.edges c.args.prov) =
+    rw (← upper, ← under) c.in-Err.ensures.refused in
+    let later : is_dev_or_taste free.0.consumer.geom ≡ false = rw (← upper) c.in-Err.ensures.later in
+    rw (← c.self.view_is)
+    (on-refused c.self.inside.tables.geoms c.self.inside.tables.edges c.self.inside.tables.live c.self.invariant.ranks c.args.cons c.args.prov free.0 kin.consumers_rise free.1 free.2 offered
+    (first-two c.self.inside.tables.geoms c.self.inside.tables.edges c.self.invariant.graph) later c.in-Err.refusal sound why)

@@ -1,12 +1,12 @@
 use Rattle.std.proofs.Common.{rules}
-use Rattle.geo_mesh.specs.Cells.{within_limit}
+use Rattle.geo_mesh.specs.Cells.{graph}
 use Rattle.geo_mesh.proofs.ViewLemmas.{geom_at-view}
 use Rattle.geo_mesh.proofs.GraphLemmas.{sound-graph}
 use Rattle.geo_mesh.proofs.topo.Topo.geom.Goals as goal
 
 pub returns-clause-geom : goal.returns-clause-geom
 returns-clause-geom g c =
-    rw (← c.self.view_is, ← c.number.ensures, geom_at-view (within_limit c.self.inside.geoms c.self.inside.live) c.self.inside.providers c.self.inside.consumers c.number.result, ← c.get.ensures.value) (search rules)
+    rw (← c.self.view_is, ← c.number.ensures, geom_at-view c.self.inside.tables.geoms c.self.inside.tables.edges c.number.result, ← c.get.ensures.value) (search rules)
 
 pub returns-clause-sound : goal.returns-clause-sound
-returns-clause-sound g c = rw (← c.self.view_is) (sound-graph c.self.inside.geoms c.self.inside.providers c.self.inside.consumers c.self.inside.live c.self.inside.index c.self.inside.names c.self.invariant)
+returns-clause-sound g c = rw (← c.self.view_is) (sound-graph c.self.inside.tables c.self.invariant)

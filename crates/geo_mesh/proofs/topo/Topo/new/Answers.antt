@@ -1,4 +1,4 @@
-use Rattle.std.proofs.Common.{◌≤◌, refl, arith, rules}
+use Rattle.std.proofs.Common.{◌≤◌, ap, refl, arith, rules}
 use Rattle.geo_mesh.proofs.FirstGraph.{orderly-first, first_ranks}
 use Rattle.geo_mesh.proofs.topo.Topo.new.Goals as goal
 
@@ -26,6 +26,15 @@ invariant_of-result g c =
             names_are = c.new-3.ensures.names;
             names_ids = c.new-3.ensures.ids;
             names_room = search rules;
+            notes = record {
+              risen = ap (λ m. m.rows) c.in_ok-notes.ensures.risen;
+              fallen = ap (λ m. m.rows) c.in_ok-notes.ensures.fallen;
+              withering = ap (λ m. m.rows) c.in_ok-notes.ensures.withering;
+              risen_next = ap (λ m. m.next) c.in_ok-notes.ensures.risen;
+              fallen_next = ap (λ m. m.next) c.in_ok-notes.ensures.fallen;
+              withering_next = ap (λ m. m.next) c.in_ok-notes.ensures.withering;
+              room = record { risen = omega arith; fallen = omega arith; withering = omega (arith, few) };
+            };
           };
       ranks =
           record {

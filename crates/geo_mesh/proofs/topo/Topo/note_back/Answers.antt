@@ -1,38 +1,23 @@
-use Rattle.std.proofs.Common.{sym, ap, subst, refl}
-use Rattle.geo_mesh.specs.Index.{IsIndexed}
-use Rattle.geo_mesh.specs.Cells.{within_limit, active_of}
+use Rattle.std.proofs.Common.{refl}
+use Rattle.geo_mesh.specs.Cells.{active_of}
 use Rattle.geo_mesh.proofs.RowLemmas.{value_at-rows_with}
-use Rattle.geo_mesh.proofs.ViewLemmas.{note_back-view, consumer_stands}
+use Rattle.geo_mesh.proofs.ViewLemmas.{note_back-view}
+use Rattle.geo_mesh.proofs.WholeLemmas.{whole-consumer_cell}
 use Rattle.geo_mesh.proofs.topo.Topo.note_back.Goals as goal
-use Rattle.geo_mesh.specs.Graph.{IsOrderly}
-use Rattle.geo_mesh.proofs.RankMesh.{mesh-consumer}
 
-pub returns-in_default : goal.returns-in_default
-returns-in_default g c =
-    absurd (consumer_stands (within_limit c.self.inside.geoms c.self.inside.live) c.self.inside.providers c.self.inside.consumers c.number.result (rw (← c.self.view_is, ← c.number.ensures) at c.requires.lives) c.in_default.ensures.value)
+pub consumer_mut-requires : goal.consumer_mut-requires
+consumer_mut-requires g c = rw (← c.self.view_is) at c.requires.lives
 
 pub returns : goal.returns
 returns g c =
-    rw (← c.self.view_is, ← c.number.ensures)
-    (note_back-view (within_limit c.self.inside.geoms c.self.inside.live) c.self.inside.providers c.self.inside.consumers c.number.result c.in-Some.cell.now c.in-Some.ensures.rising c.in-Some.ensures.value)
+    rw (← c.self.view_is)
+    (note_back-view c.self.inside.tables c.args.cons c.consumer_mut.result.now c.consumer_mut.ensures.rising c.consumer_mut.ensures.cell)
 
-pub overflow_sub-cell : goal.overflow_sub-cell
-overflow_sub-cell g c =
-    rw (← c.self.view_is, ← c.number.ensures, value_at-rows_with active_of c.number.result c.self.inside.consumers.rows, ← c.in-Some.ensures.value) at c.requires.some_out
+pub invariant_of-self : goal.invariant_of-self
+invariant_of-self g c =
+    whole-consumer_cell c.self.inside.tables c.self.invariant c.args.cons c.consumer_mut.result.now _ c.consumer_mut.ensures.rising c.consumer_mut.ensures.cell
+    (record { geom = refl; provider = refl })
 
-pub invariant_of-self-2 : goal.invariant_of-self-2
-invariant_of-self-2 g c = record {
-  tables =
-      record {
-        count = c.self.invariant.tables.count;
-        indexed = subst (λ t. IsIndexed t c.self.inside.index) (sym (ap (λ v. v.topology) (note_back-view c.self.inside.geoms c.self.inside.providers c.self.inside.consumers c.number.result c.in-Some.cell.now c.in-Some.ensures.rising c.in-Some.ensures.value))) c.self.invariant.tables.indexed;
-        room = c.self.invariant.tables.room;
-        names_are = c.self.invariant.tables.names_are;
-        names_ids = c.self.invariant.tables.names_ids;
-        names_room = c.self.invariant.tables.names_room;
-      };
-  ranks =
-      mesh-consumer c.self.inside.geoms c.self.inside.providers c.self.inside.consumers c.self.inside.live c.number.result c.self.invariant.ranks c.in-Some.cell.now _ c.in-Some.ensures.rising c.in-Some.ensures.value refl;
-  graph =
-      subst (λ t. IsOrderly t) (sym (ap (λ v. v.topology) (note_back-view c.self.inside.geoms c.self.inside.providers c.self.inside.consumers c.number.result c.in-Some.cell.now c.in-Some.ensures.rising c.in-Some.ensures.value))) c.self.invariant.graph;
-}
+pub overflow_sub-consumer_mut : goal.overflow_sub-consumer_mut
+overflow_sub-consumer_mut g c =
+    rw (← c.self.view_is, value_at-rows_with active_of c.args.cons c.self.inside.tables.edges.consumers.rows, c.consumer_mut.ensures.cell) at c.requires.some_out

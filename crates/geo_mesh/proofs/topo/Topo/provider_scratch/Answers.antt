@@ -1,14 +1,11 @@
-use Rattle.geo_mesh.specs.Cells.{within_limit}
 use Rattle.std.proofs.Common.{refl}
-use Rattle.geo_mesh.proofs.ViewLemmas.{provider_stands}
-use Rattle.geo_mesh.proofs.RowLemmas.{value_at-rows_with}
 use Rattle.geo_mesh.specs.Cells.{provider_scratch_of}
+use Rattle.geo_mesh.proofs.RowLemmas.{value_at-rows_with}
 use Rattle.geo_mesh.proofs.topo.Topo.provider_scratch.Goals as goal
 
-pub returns-in-Some : goal.returns-in-Some
-returns-in-Some g c =
-    rw (← c.self.view_is, ← c.number.ensures, value_at-rows_with provider_scratch_of c.number.result c.self.inside.providers.rows, ← c.in-Some.ensures.value) refl
+pub provider-requires : goal.provider-requires
+provider-requires g c = rw (← c.self.view_is) at c.requires
 
-pub returns-in-None : goal.returns-in-None
-returns-in-None g c =
-    absurd (provider_stands (within_limit c.self.inside.geoms c.self.inside.live) c.self.inside.providers c.self.inside.consumers c.number.result (rw (← c.self.view_is, ← c.number.ensures) at c.requires) c.in-None.ensures.value)
+pub returns : goal.returns
+returns g c =
+    rw (← c.self.view_is, value_at-rows_with provider_scratch_of c.args.prov c.self.inside.tables.edges.providers.rows, c.provider.ensures) refl

@@ -1,37 +1,26 @@
-use Rattle.geo_mesh.specs.Names.{AreNames}
-use Rattle.geo_mesh.proofs.MeshLemmas.{names-errored, ids-errored}
-use Rattle.std.proofs.Common.{sym, ap, subst, refl}
-use Rattle.geo_mesh.specs.Index.{IsIndexed}
-use Rattle.geo_mesh.specs.Cells.{graph_of, within_limit}
-use Rattle.geo_mesh.proofs.IndexLemmas.{indexed-set_error}
-use Rattle.geo_mesh.proofs.ViewLemmas.{set_error-view, provider_stands}
+use Rattle.std.proofs.Common.{◌≡◌, Some, sym, ◌∙◌, subst}
+use Rattle.geo_slots.specs.Slots.{value_at}
+use Rattle.geo_mesh.specs.Names.{RetiresName}
+use Rattle.geo_mesh.proofs.ViewLemmas.{set_error-view}
+use Rattle.geo_mesh.proofs.WholeLemmas.{whole-errored}
 use Rattle.geo_mesh.proofs.topo.Topo.set_error.Goals as goal
-use Rattle.geo_mesh.specs.Graph.{IsOrderly}
-use Rattle.geo_mesh.proofs.Orderly.{orderly-set_error}
-use Rattle.geo_mesh.proofs.RankMesh.{mesh-provider}
 
-pub returns-in_default : goal.returns-in_default
-returns-in_default g c =
-    absurd (provider_stands (within_limit c.self.inside.geoms c.self.inside.live) c.self.inside.providers c.self.inside.consumers c.number.result (rw (← c.self.view_is, ← c.number.ensures) at c.requires) c.in_default.ensures.value)
+pub provider-requires : goal.provider-requires
+provider-requires g c = rw (← c.self.view_is) at c.requires
+
+pub provider_mut-requires : goal.provider_mut-requires
+provider_mut-requires g c = rw (← c.self.view_is) at c.requires
 
 pub returns : goal.returns
 returns g c =
-    rw (← c.self.view_is, ← c.number.ensures)
-    (set_error-view (within_limit c.self.inside.geoms c.self.inside.live) c.self.inside.providers c.self.inside.consumers c.number.result c.in-Some.cell.now c.in-Some.ensures.rising c.in-Some.ensures.value)
+    rw (← c.self.view_is)
+    (set_error-view c.self.inside.tables c.args.prov c.provider_mut.result.now c.provider_mut.ensures.rising c.provider_mut.ensures.cell)
 
-pub invariant_of-self-2 : goal.invariant_of-self-2
-invariant_of-self-2 g c = record {
-  tables =
-      record {
-        count = c.self.invariant.tables.count;
-        indexed = subst (λ t. IsIndexed t c.self.inside.index) (sym (ap (λ v. v.topology) (set_error-view c.self.inside.geoms c.self.inside.providers c.self.inside.consumers c.number.result c.in-Some.cell.now c.in-Some.ensures.rising c.in-Some.ensures.value))) (indexed-set_error (graph_of c.self.inside.geoms c.self.inside.providers c.self.inside.consumers) c.self.inside.index c.self.invariant.tables.indexed c.number.result);
-        room = c.self.invariant.tables.room;
-        names_are = subst (λ xs. AreNames xs c.self.inside.providers.next c.retire.new.self) (sym (ap (λ v. v.topology.providers) (set_error-view c.self.inside.geoms c.self.inside.providers c.self.inside.consumers c.number.result c.in-Some.cell.now c.in-Some.ensures.rising c.in-Some.ensures.value))) (names-errored c.self.inside.geoms c.self.inside.providers c.self.inside.consumers c.self.inside.live c.self.inside.index c.self.inside.names c.self.invariant.tables c.number.result c.in-Some.cell.now c.in-Some.ensures.rising c.in-Some.ensures.value c.retire.new.self c.retire.ensures.retired);
-        names_ids = ids-errored c.self.inside.geoms c.self.inside.providers c.self.inside.consumers c.self.inside.live c.self.inside.index c.self.inside.names c.self.invariant.tables c.in-Some.cell.now.provider.name c.in-Some.cell.now.provider.errored c.retire.new.self c.retire.ensures.retired;
-        names_room = c.retire.ensures.room _ c.self.invariant.tables.names_room;
-      };
-  ranks =
-      mesh-provider c.self.inside.geoms c.self.inside.providers c.self.inside.consumers c.self.inside.live c.number.result c.self.invariant.ranks c.in-Some.cell.now _ c.in-Some.ensures.rising c.in-Some.ensures.value refl;
-  graph =
-      subst (λ t. IsOrderly t) (sym (ap (λ v. v.topology) (set_error-view c.self.inside.geoms c.self.inside.providers c.self.inside.consumers c.number.result c.in-Some.cell.now c.in-Some.ensures.rising c.in-Some.ensures.value))) (orderly-set_error (graph_of c.self.inside.geoms c.self.inside.providers c.self.inside.consumers) c.self.invariant.graph c.number.result);
-}
+pub invariant_of-self : goal.invariant_of-self
+invariant_of-self g c =
+    let cell : c.provider.result.now ≡ c.provider_mut.result.now =
+    (let same : Some c.provider.result.now ≡ Some c.provider_mut.result.now = sym c.provider.ensures ∙ c.provider_mut.ensures.cell in cc) in
+    whole-errored c.self.inside.tables c.self.invariant c.args.prov c.provider_mut.result.now c.retire.new.self c.provider_mut.ensures.rising
+    c.provider_mut.ensures.cell
+    (subst (λ v. RetiresName c.self.inside.tables.names c.retire.new.self v.provider.name v.provider.errored) cell c.retire.ensures.retired)
+    (c.retire.ensures.room _ c.self.invariant.tables.names_room)

@@ -1,34 +1,17 @@
-use Rattle.geo_mesh.specs.Names.{AreNames}
-use Rattle.std.proofs.Common.{sym, ap, subst, refl}
-use Rattle.geo_mesh.specs.Index.{IsIndexed}
-use Rattle.geo_mesh.specs.Cells.{within_limit}
-use Rattle.geo_mesh.proofs.ViewLemmas.{set_have-view, provider_stands}
+use Rattle.std.proofs.Common.{refl}
+use Rattle.geo_mesh.proofs.ViewLemmas.{set_have-view}
+use Rattle.geo_mesh.proofs.WholeLemmas.{whole-provider_cell}
 use Rattle.geo_mesh.proofs.topo.Topo.set_have.Goals as goal
-use Rattle.geo_mesh.specs.Graph.{IsOrderly}
-use Rattle.geo_mesh.proofs.RankMesh.{mesh-provider}
 
-pub returns-in_default : goal.returns-in_default
-returns-in_default g c =
-    absurd (provider_stands (within_limit c.self.inside.geoms c.self.inside.live) c.self.inside.providers c.self.inside.consumers c.number.result (rw (← c.self.view_is, ← c.number.ensures) at c.requires) c.in_default.ensures.value)
+pub provider_mut-requires : goal.provider_mut-requires
+provider_mut-requires g c = rw (← c.self.view_is) at c.requires
 
 pub returns : goal.returns
 returns g c =
-    rw (← c.self.view_is, ← c.number.ensures)
-    (set_have-view (within_limit c.self.inside.geoms c.self.inside.live) c.self.inside.providers c.self.inside.consumers c.number.result c.args.have c.in-Some.cell.now c.in-Some.ensures.rising c.in-Some.ensures.value)
+    rw (← c.self.view_is)
+    (set_have-view c.self.inside.tables c.args.prov c.args.have c.provider_mut.result.now c.provider_mut.ensures.rising c.provider_mut.ensures.cell)
 
-pub invariant_of-self-2 : goal.invariant_of-self-2
-invariant_of-self-2 g c = record {
-  tables =
-      record {
-        count = c.self.invariant.tables.count;
-        indexed = subst (λ t. IsIndexed t c.self.inside.index) (sym (ap (λ v. v.topology) (set_have-view c.self.inside.geoms c.self.inside.providers c.self.inside.consumers c.number.result c.args.have c.in-Some.cell.now c.in-Some.ensures.rising c.in-Some.ensures.value))) c.self.invariant.tables.indexed;
-        room = c.self.invariant.tables.room;
-        names_are = subst (λ xs. AreNames xs c.self.inside.providers.next c.self.inside.names) (sym (ap (λ v. v.topology.providers) (set_have-view c.self.inside.geoms c.self.inside.providers c.self.inside.consumers c.number.result c.args.have c.in-Some.cell.now c.in-Some.ensures.rising c.in-Some.ensures.value))) c.self.invariant.tables.names_are;
-        names_ids = c.self.invariant.tables.names_ids;
-        names_room = c.self.invariant.tables.names_room;
-      };
-  ranks =
-      mesh-provider c.self.inside.geoms c.self.inside.providers c.self.inside.consumers c.self.inside.live c.number.result c.self.invariant.ranks c.in-Some.cell.now _ c.in-Some.ensures.rising c.in-Some.ensures.value refl;
-  graph =
-      subst (λ t. IsOrderly t) (sym (ap (λ v. v.topology) (set_have-view c.self.inside.geoms c.self.inside.providers c.self.inside.consumers c.number.result c.args.have c.in-Some.cell.now c.in-Some.ensures.rising c.in-Some.ensures.value))) c.self.invariant.graph;
-}
+pub invariant_of-self : goal.invariant_of-self
+invariant_of-self g c =
+    whole-provider_cell c.self.inside.tables c.self.invariant c.args.prov c.provider_mut.result.now _ c.provider_mut.ensures.rising c.provider_mut.ensures.cell
+    (record { geom = refl; name = refl; errored = refl; sizes = λ fits. fits }) refl refl

@@ -1,35 +1,17 @@
-use Rattle.std.proofs.Common.{sym, ap, subst, ◌==◌, refl}
-use Rattle.geo_mesh.specs.Index.{IsIndexed}
-use Rattle.geo_mesh.specs.Cells.{graph_of, within_limit}
-use Rattle.geo_mesh.proofs.IndexLemmas.{indexed-set_marks}
-use Rattle.geo_mesh.proofs.ViewLemmas.{set_spoiled-view, consumer_stands}
+use Rattle.std.proofs.Common.{refl}
+use Rattle.geo_mesh.proofs.ViewLemmas.{set_spoiled-view}
+use Rattle.geo_mesh.proofs.WholeLemmas.{whole-consumer_cell}
 use Rattle.geo_mesh.proofs.topo.Topo.set_spoiled.Goals as goal
-use Rattle.geo_mesh.specs.Graph.{IsOrderly}
-use Rattle.geo_mesh.proofs.Orderly.{orderly-set_marks}
-use Rattle.geo_mesh.proofs.RankMesh.{mesh-consumer}
 
-pub returns-in_default : goal.returns-in_default
-returns-in_default g c =
-    absurd (consumer_stands (within_limit c.self.inside.geoms c.self.inside.live) c.self.inside.providers c.self.inside.consumers c.number.result (rw (← c.self.view_is, ← c.number.ensures) at c.requires) c.in_default.ensures.value)
+pub consumer_mut-requires : goal.consumer_mut-requires
+consumer_mut-requires g c = rw (← c.self.view_is) at c.requires
 
 pub returns : goal.returns
 returns g c =
-    rw (← c.self.view_is, ← c.number.ensures)
-    (set_spoiled-view (within_limit c.self.inside.geoms c.self.inside.live) c.self.inside.providers c.self.inside.consumers c.number.result c.args.marked c.in-Some.cell.now c.in-Some.ensures.rising c.in-Some.ensures.value)
+    rw (← c.self.view_is)
+    (set_spoiled-view c.self.inside.tables c.args.cons c.args.marked c.consumer_mut.result.now c.consumer_mut.ensures.rising c.consumer_mut.ensures.cell)
 
-pub invariant_of-self-2 : goal.invariant_of-self-2
-invariant_of-self-2 g c = record {
-  tables =
-      record {
-        count = c.self.invariant.tables.count;
-        indexed = subst (λ t. IsIndexed t c.self.inside.index) (sym (ap (λ v. v.topology) (set_spoiled-view c.self.inside.geoms c.self.inside.providers c.self.inside.consumers c.number.result c.args.marked c.in-Some.cell.now c.in-Some.ensures.rising c.in-Some.ensures.value))) (indexed-set_marks (graph_of c.self.inside.geoms c.self.inside.providers c.self.inside.consumers) c.self.inside.index c.self.invariant.tables.indexed (λ x. x.number == c.number.result) c.args.marked);
-        room = c.self.invariant.tables.room;
-        names_are = c.self.invariant.tables.names_are;
-        names_ids = c.self.invariant.tables.names_ids;
-        names_room = c.self.invariant.tables.names_room;
-      };
-  ranks =
-      mesh-consumer c.self.inside.geoms c.self.inside.providers c.self.inside.consumers c.self.inside.live c.number.result c.self.invariant.ranks c.in-Some.cell.now _ c.in-Some.ensures.rising c.in-Some.ensures.value refl;
-  graph =
-      subst (λ t. IsOrderly t) (sym (ap (λ v. v.topology) (set_spoiled-view c.self.inside.geoms c.self.inside.providers c.self.inside.consumers c.number.result c.args.marked c.in-Some.cell.now c.in-Some.ensures.rising c.in-Some.ensures.value))) (orderly-set_marks (graph_of c.self.inside.geoms c.self.inside.providers c.self.inside.consumers) c.self.invariant.graph (λ x. x.number == c.number.result) c.args.marked);
-}
+pub invariant_of-self : goal.invariant_of-self
+invariant_of-self g c =
+    whole-consumer_cell c.self.inside.tables c.self.invariant c.args.cons c.consumer_mut.result.now _ c.consumer_mut.ensures.rising c.consumer_mut.ensures.cell
+    (record { geom = refl; provider = refl })

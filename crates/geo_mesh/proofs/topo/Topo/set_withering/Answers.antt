@@ -1,35 +1,24 @@
-use Rattle.std.proofs.Common.{sym, ap, subst, refl}
-use Rattle.geo_mesh.specs.Index.{IsIndexed}
-use Rattle.geo_mesh.specs.Cells.{graph_of, within_limit}
-use Rattle.geo_mesh.proofs.IndexLemmas.{indexed-set_withering}
-use Rattle.geo_mesh.proofs.ViewLemmas.{count-with_value, set_withering-view, geom_stands}
+use Rattle.std.proofs.Common.{true, refl}
+use Rattle.geo_mesh.specs.Notes.{withering_of}
+use Rattle.geo_mesh.proofs.NoteLemmas.{notes-withering}
+use Rattle.geo_mesh.proofs.RowLemmas.{value_at-rows_with}
+use Rattle.geo_mesh.proofs.ViewLemmas.{set_withering-view}
+use Rattle.geo_mesh.proofs.WholeLemmas.{whole-geom_noted}
 use Rattle.geo_mesh.proofs.topo.Topo.set_withering.Goals as goal
-use Rattle.geo_mesh.specs.Graph.{IsOrderly}
-use Rattle.geo_mesh.proofs.Orderly.{orderly-set_withering}
-use Rattle.geo_mesh.proofs.RankMesh.{mesh-geom}
 
-pub returns-in_default : goal.returns-in_default
-returns-in_default g c =
-    absurd (geom_stands (within_limit c.self.inside.geoms c.self.inside.live) c.self.inside.providers c.self.inside.consumers c.number.result (rw (← c.self.view_is, ← c.number.ensures) at c.requires) c.in_default.ensures.value)
+pub geom_mut-requires : goal.geom_mut-requires
+geom_mut-requires g c = rw (← c.self.view_is) at c.requires
+
+pub set-requires : goal.set-requires
+set-requires g c =
+    rw (c.number.ensures, c.self.invariant.tables.notes.withering, value_at-rows_with withering_of c.args.geom c.self.inside.tables.geoms.rows, c.geom_mut.ensures.cell) refl
 
 pub returns : goal.returns
-returns g c =
-    rw (← c.self.view_is, ← c.number.ensures)
-    (set_withering-view (within_limit c.self.inside.geoms c.self.inside.live) c.self.inside.providers c.self.inside.consumers c.number.result c.in-Some.cell.now c.in-Some.ensures.rising c.in-Some.ensures.value)
+returns g c = rw (← c.self.view_is) (set_withering-view c.self.inside.tables c.args.geom c.geom_mut.result.now c.geom_mut.ensures.rising c.geom_mut.ensures.cell)
 
-pub invariant_of-self-2 : goal.invariant_of-self-2
-invariant_of-self-2 g c = record {
-  tables =
-      record {
-        count = count-with_value c.number.result _ c.self.inside.geoms.rows c.self.inside.live c.self.invariant.tables.count;
-        indexed = subst (λ t. IsIndexed t c.self.inside.index) (sym (ap (λ v. v.topology) (set_withering-view c.self.inside.geoms c.self.inside.providers c.self.inside.consumers c.number.result c.in-Some.cell.now c.in-Some.ensures.rising c.in-Some.ensures.value))) (indexed-set_withering (graph_of c.self.inside.geoms c.self.inside.providers c.self.inside.consumers) c.self.inside.index c.self.invariant.tables.indexed c.number.result);
-        room = c.self.invariant.tables.room;
-        names_are = c.self.invariant.tables.names_are;
-        names_ids = c.self.invariant.tables.names_ids;
-        names_room = c.self.invariant.tables.names_room;
-      };
-  ranks =
-      mesh-geom c.self.inside.geoms c.self.inside.providers c.self.inside.consumers c.self.inside.live c.number.result c.self.invariant.ranks c.in-Some.cell.now _ c.in-Some.ensures.rising c.in-Some.ensures.value refl refl;
-  graph =
-      subst (λ t. IsOrderly t) (sym (ap (λ v. v.topology) (set_withering-view c.self.inside.geoms c.self.inside.providers c.self.inside.consumers c.number.result c.in-Some.cell.now c.in-Some.ensures.rising c.in-Some.ensures.value))) (orderly-set_withering (graph_of c.self.inside.geoms c.self.inside.providers c.self.inside.consumers) c.self.invariant.graph c.number.result);
-}
+pub invariant_of-self : goal.invariant_of-self
+invariant_of-self g c =
+    rw (c.set.ensures, c.number.ensures)
+    (whole-geom_noted c.self.inside.tables c.self.invariant c.args.geom c.geom_mut.result.now (record c.geom_mut.result.now { geom = record c.geom_mut.result.now.geom { withering = true } }) _ c.geom_mut.ensures.rising c.geom_mut.ensures.cell
+    (record { kind = refl; rank = refl })
+    (notes-withering c.self.inside.tables.notes c.self.inside.tables.geoms c.self.inside.tables.edges.providers c.args.geom (record c.geom_mut.result.now { geom = record c.geom_mut.result.now.geom { withering = true } }) c.self.invariant.tables.notes))

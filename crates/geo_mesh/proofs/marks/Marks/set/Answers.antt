@@ -1,0 +1,40 @@
+use Rattle.std.specs.Prelude.{Some, None}
+use Rattle.std.specs.Option.{is_some}
+use Rattle.std.proofs.Common.{refl}
+use Rattle.geo_mesh.proofs.RowLemmas.{rows_with-with_value}
+use Rattle.geo_mesh.proofs.MarkLemmas.{number_there, under-set, value_at-set, with_value-twice}
+use Rattle.geo_mesh.proofs.marks.Marks.set.Goals as goal
+
+pub link-requires-clause-free : goal.link-requires-clause-free
+link-requires-clause-free c =
+    rw c.unlink.ensures
+    (value_at-set c.args.number None c.self.inside.family.children
+    (number_there c.args.number c.self.inside.family.children (rw (← c.self.view_is) at c.requires)))
+
+pub invariant_of-self : goal.invariant_of-self
+invariant_of-self c =
+    rw (c.link.ensures, c.unlink.ensures, with_value-twice c.args.number None (Some 1) c.self.inside.family.children)
+    (record {
+      stands = c.self.invariant.stands;
+      under = under-set c.args.number (Some 1) c.self.inside.family.children refl c.self.invariant.under;
+    })
+
+pub invariant_of-self-else-marked : goal.invariant_of-self-else-marked
+invariant_of-self-else-marked c =
+    rw c.unlink.ensures
+    (record { stands = c.self.invariant.stands; under = under-set c.args.number None c.self.inside.family.children tt c.self.invariant.under })
+
+pub returns-then-marked : goal.returns-then-marked
+returns-then-marked c =
+    rw (
+      ← c.self.view_is,
+      c.link.ensures,
+      c.unlink.ensures,
+      with_value-twice c.args.number None (Some 1) c.self.inside.family.children,
+      rows_with-with_value is_some c.args.number (Some 1) c.self.inside.family.children,
+      c.if-marked.true,
+    ) refl
+
+pub returns-else-marked : goal.returns-else-marked
+returns-else-marked c =
+    rw (← c.self.view_is, c.unlink.ensures, rows_with-with_value is_some c.args.number None c.self.inside.family.children, c.if-marked.false) refl
