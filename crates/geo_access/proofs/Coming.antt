@@ -1,0 +1,252 @@
+-- A consumer of DEV that would come to a provider.
+use Rattle.std.specs.Prelude.{◌≡◌, ◌≢◌, ◌⊎◌, ℕ, suc, max, ◌==◌, ◌≤◌, ◌<◌, Bool, true, false, cond, List, [], ◌∷◌, ◌++◌, filter, find, fold, Option, Some, None, IsSome, IfSome, IsSomeAnd, Contains, All, option_map, if◌then◌else◌}
+use Rattle.std.proofs.Common.{refl, sym, ◌∙◌, ap, subst, arith, inl, inr, eq-eqb}
+use Rattle.std.proofs.lemmas.Bool.{eqb-true, ne_eqb}
+use Rattle.std.proofs.lemmas.List.Elements.{All-contains, All-push, Contains-push, Contains-push_cases, Contains-append_left}
+use Rattle.geo_base.specs.declared.request.Counts.{Counts}
+use Rattle.geo_base.specs.declared.kind.Kind.TheVariants as kinds
+use Rattle.geo_model.specs.Words.{names_number, is_granted_kind}
+use Rattle.geo_model.specs.Topology.{Topology, Geom, Provider, Consumer, geom_at, provider_at, consumer_at, providers_of, attached_to}
+use Rattle.geo_model.specs.Rank.{rank, Ranked}
+use Rattle.geo_model.specs.Opens.{grant_refusal, with_grant, with_opener}
+use Rattle.geo_model.specs.Demand.{add_counts, have, want}
+use Rattle.geo_mesh.specs.Topo.{TopoView}
+use Rattle.geo_mesh.specs.Graph.{IsSoundGraph, IsOffer}
+use Rattle.geo_laws_counts.specs.CountWords.{more_counts, NumbersLead, HoldsGrants}
+use Rattle.geo_laws_counts.proofs.Sums.{add-more, more-add}
+use Rattle.geo_laws_counts.proofs.Members.{in_filter, in_head, in_tail}
+use Rattle.geo_laws_counts.proofs.LimitFacts.{of_filter, all_of}
+use Rattle.geo_laws_counts.proofs.Numbers.{numbers_lead, free_of}
+use Rattle.geo_laws_counts.proofs.Upward.{names_some, have_is_sum}
+use Rattle.geo_laws_ranks.proofs.EdgeRanks.{climbing-ranked}
+use Rattle.geo_laws_demands.specs.DemandLaws.{Comes}
+use Rattle.geo_laws_demands.proofs.Openers.{wants_grant, came_more, came_stays, came_wants}
+use Rattle.geo_laws_demands.proofs.Refusing.{errors_came}
+use Rattle.geo_laws_demands.proofs.Raising.{Demands, Covers, coming_demands}
+use Rattle.geo_access.specs.declared.counts.Way.TheVariants.{Rises}
+use Rattle.geo_access.specs.declared.order.Order.{Order}
+use Rattle.geo_access.specs.Tries.{Apart}
+use Rattle.geo_access.specs.Access.{granted_by, IsCounted}
+use Rattle.geo_access.specs.Views.{order_of, finish_geom, IsTried, judged, errno_of_refused}
+use Rattle.geo_access.proofs.Walking.{found_in}
+use Rattle.geo_access.proofs.Trying.{trying, some_of}
+use Rattle.geo_access.proofs.Walked.{geoms_below, below_ordered, below_lives, below_covers, tried_order, order_apart}
+use Rattle.geo_access.proofs.Verdict.{After, refused}
+use Rattle.geo_access.proofs.Decided.{consumer_known, new_is, cleared, decided, end}
+
+-- what is found in a list is found in a longer one
+find_left : {X : Type 0} (test : X → Bool) (xs ys : List X) (x : X) → find test xs ≡ Some x → find test (xs ++ ys) ≡ Some x
+find_left test [] ys x never = absurd (cc)
+find_left {X} test (z ∷ zs) ys x found = by (test z) found (find_left test zs ys x)
+  where
+    by : (b : Bool) → cond b (Some z) (find test zs) ≡ Some x → (find test zs ≡ Some x → find test (zs ++ ys) ≡ Some x)
+        → cond b (Some z) (find test (zs ++ ys)) ≡ Some x
+    by true f so = f
+    by false f so = so f
+
+-- where none passes before it, the last is found
+find_last : {X : Type 0} (test : X → Bool) (xs : List X) (y : X) → ((x : X) → Contains xs x → test x ≡ false) → test y ≡ true → find test (xs ++ y ∷ []) ≡ Some y
+find_last test [] y none passes = ap (λ b. cond b (Some y) None) passes
+find_last test (x ∷ xs) y none passes =
+    ap (λ b. cond b (Some x) (find test (xs ++ y ∷ []))) (none x (in_head x xs))
+    ∙ find_last test xs y (λ z there. none z (in_tail x xs z there)) passes
+
+-- of a geom without providers none stands
+bare_of : (ps : List Provider) (g : ℕ) → ((y : Provider) → Contains ps y → y.geom ≢ g) → filter (λ (y : Provider). y.geom == g) ps ≡ []
+bare_of [] g none = refl
+bare_of (y ∷ ys) g none =
+    ap (λ b. cond b (y ∷ filter (λ (z : Provider). z.geom == g) ys) (filter (λ (z : Provider). z.geom == g) ys)) (ne_eqb y.geom g (none y (in_head y ys)))
+    ∙ bare_of ys g (λ z there. none z (in_tail y ys z there))
+
+module _ {C : Type 0} (t : TopoView C) (sound : IsSoundGraph t.topology) (counted : IsCounted t) (p : ℕ) (y : Provider) (offered : provider_at t.topology p ≡ Some y) (add : Counts) where
+  -- the graph with the new consumer
+  abbrev pub opened : Topology C
+  opened = with_opener t.topology p
+
+  -- the grants with its own
+  abbrev pub opened_grants : ℕ → Counts
+  opened_grants = with_grant (granted_by t) t.topology.next_consumer add
+
+  -- the new consumer
+  abbrev pub newcomer : Consumer
+  newcomer = record { number = t.topology.next_consumer; geom = 1; provider = Some p; spoiled = false }
+
+  -- no consumer has its number
+  pub newcomer_free : All (λ (c : Consumer). c.number ≢ t.topology.next_consumer) t.topology.consumers
+  newcomer_free = free_of (λ (c : Consumer). c.number) t.topology.consumers t.topology.next_consumer sound.orderly.order.consumers.1
+
+  -- DEV holds grants
+  pub dev_holds : HoldsGrants t.topology 1
+  dev_holds = by (geom_at t.topology 1) sound.orderly.first.dev
+    where
+      by : (o : Option (Geom C)) → IsSomeAnd o (λ (x : Geom C). x.kind ≡ kinds.Dev) → IsSomeAnd o (λ (x : Geom C). is_granted_kind x.kind ≡ true)
+      by None never = absurd never
+      by (Some g) dev = ap is_granted_kind dev
+
+  -- it has no provider
+  pub dev_bare : providers_of t.topology 1 ≡ []
+  dev_bare = bare_of t.topology.providers 1 (λ z there. (All-contains (λ (w : Provider). IsOffer w) t.topology.providers z sound.orderly.offers there).not_dev)
+
+  -- so a consumer of DEV comes
+  pub comes : Comes (granted_by t) t.topology opened_grants 1
+  comes = record {
+    free = newcomer_free;
+    kind = dev_holds;
+    agree = λ n other. ap (λ b. if b then add else granted_by t n) (ne_eqb n t.topology.next_consumer other);
+  }
+
+  pub own_grant : opened_grants t.topology.next_consumer ≡ add
+  own_grant = ap (λ b. if b then add else granted_by t t.topology.next_consumer) (eq-eqb t.topology.next_consumer t.topology.next_consumer refl)
+
+  -- numbers lead to providers
+  pub opened_known : NumbersLead t.topology
+  opened_known = numbers_lead t.topology sound.orderly.order.providers.0
+
+  -- with the newcomer DEV is above the provider's geom, and nothing is above DEV
+  abbrev tall : ℕ → ℕ
+  tall g = if g == 1 then suc (max (rank t.topology 1) (rank t.topology y.geom)) else rank t.topology g
+
+  -- a geom is no less tall than its rank
+  tall_most : (g : ℕ) → rank t.topology g ≤ tall g
+  tall_most g = by (g == 1) refl
+    where
+      by : (b : Bool) → (g == 1) ≡ b → rank t.topology g ≤ (if b then suc (max (rank t.topology 1) (rank t.topology y.geom)) else rank t.topology g)
+      by true e = let same : rank t.topology g ≡ rank t.topology 1 = ap (rank t.topology) (eqb-true g 1 e) in omega arith
+      by false e = omega arith
+
+  -- the geom of a provider is as tall as its rank
+  tall_offer : (q : ℕ) (z : Provider) → provider_at t.topology q ≡ Some z → tall z.geom ≡ rank t.topology z.geom
+  tall_offer q z found =
+      ap (λ b. if b then suc (max (rank t.topology 1) (rank t.topology y.geom)) else rank t.topology z.geom)
+      (ne_eqb z.geom 1 (All-contains (λ (w : Provider). IsOffer w) t.topology.providers z sound.orderly.offers (found_in (λ (w : Provider). w.number == q) t.topology.providers z found)).not_dev)
+
+  -- one edge climbs
+  climbs_old : (c : Consumer) → Contains t.topology.consumers c → IfSome c.provider (λ q. IsSomeAnd (provider_at t.topology q) (λ z. tall z.geom < tall c.geom))
+  climbs_old c there = by c.provider (All-contains (λ (d : Consumer). IfSome d.provider (λ q. IsSomeAnd (provider_at t.topology q) (λ z. rank t.topology z.geom < rank t.topology d.geom))) t.topology.consumers c sound.ranked there)
+    where
+      over : (q : ℕ) (o : Option Provider) → provider_at t.topology q ≡ o → IsSomeAnd o (λ (z : Provider). rank t.topology z.geom < rank t.topology c.geom)
+          → IsSomeAnd o (λ (z : Provider). tall z.geom < tall c.geom)
+      over q None found less = less
+      over q (Some z) found less = let same : tall z.geom ≡ rank t.topology z.geom = tall_offer q z found in let most : rank t.topology c.geom ≤ tall c.geom = tall_most c.geom in omega arith
+
+      by : (o : Option ℕ) → IfSome o (λ q. IsSomeAnd (provider_at t.topology q) (λ (z : Provider). rank t.topology z.geom < rank t.topology c.geom))
+          → IfSome o (λ q. IsSomeAnd (provider_at t.topology q) (λ (z : Provider). tall z.geom < tall c.geom))
+      by None less = less
+      by (Some q) less = over q (provider_at t.topology q) refl less
+
+  -- so the graph with it is ranked
+  pub opened_ranked : Ranked opened
+  opened_ranked =
+      climbing-ranked opened tall
+      (All-push (λ (c : Consumer). IfSome c.provider (λ q. IsSomeAnd (provider_at t.topology q) (λ z. tall z.geom < tall c.geom))) t.topology.consumers newcomer
+      (all_of (λ (c : Consumer). IfSome c.provider (λ q. IsSomeAnd (provider_at t.topology q) (λ z. tall z.geom < tall c.geom))) t.topology.consumers climbs_old)
+      (subst (λ o. IsSomeAnd o (λ (z : Provider). tall z.geom < tall 1)) (sym offered)
+      (let same : tall y.geom ≡ rank t.topology y.geom = tall_offer p y offered in
+      let high : tall 1 ≡ suc (max (rank t.topology 1) (rank t.topology y.geom)) = refl in
+      omega arith)))
+      (All-push (λ (c : Consumer). IsSome (geom_at t.topology c.geom)) t.topology.consumers newcomer sound.orderly.parts.geoms dev_there)
+    where
+      by : (o : Option (Geom C)) → IsSomeAnd o (λ (x : Geom C). is_granted_kind x.kind ≡ true) → IsSome o
+      by None never = absurd never
+      by (Some g) fact = refl
+
+      dev_there : IsSome (geom_at t.topology 1)
+      dev_there = by (geom_at t.topology 1) dev_holds
+
+  -- what providers and consumers gain by it
+  abbrev pub opened_gains : ℕ → Counts
+  opened_gains q = more_counts (have (granted_by t) t.topology q) (have opened_grants opened q)
+
+  abbrev pub opened_mores : Consumer → Counts
+  opened_mores c = more_counts (want (granted_by t) t.topology c) (want opened_grants opened c)
+
+  pub opening : (order : List ℕ) → Covers t.topology p order → Demands t.topology p add (have (granted_by t) t.topology) opened_gains opened_mores order
+  opening order covers =
+      subst (λ a. Demands t.topology p a (have (granted_by t) t.topology) opened_gains opened_mores order) own_grant
+      (coming_demands t.topology opened_known (granted_by t) opened_grants 1 p comes opened_ranked dev_bare order covers)
+
+  -- a consumer that stood wants what it wanted and gains
+  old_wants : (c : Consumer) → Contains t.topology.consumers c → want opened_grants opened c ≡ add_counts (want (granted_by t) t.topology c) (opened_mores c)
+  old_wants c there =
+      let g = some_of (geom_at t.topology c.geom) (All-contains (λ (d : Consumer). IsSome (geom_at t.topology d.geom)) t.topology.consumers c sound.orderly.parts.geoms there) in
+      let e = came_wants (granted_by t) opened_grants t.topology 1 p comes.free comes.kind comes.agree c g.0 there g.1 in
+      e ∙ ap (add_counts (want (granted_by t) t.topology c)) (sym (ap (more_counts (want (granted_by t) t.topology c)) e ∙ more-add (want (granted_by t) t.topology c) _))
+
+  -- its number isn't the newcomer's
+  old_number : (c : Consumer) → Contains t.topology.consumers c → c.number ≢ t.topology.next_consumer
+  old_number c there = All-contains (λ (d : Consumer). d.number ≢ t.topology.next_consumer) t.topology.consumers c newcomer_free there
+
+  -- how the state with it stands to the one without
+  pub opening_after : After t.topology p t.topology.next_consumer add (granted_by t) opened_grants opened opened_gains opened_mores
+  opening_after = record {
+    providers = refl;
+    stays = came_stays (granted_by t) opened_grants t.topology 1 p comes.free comes.kind comes.agree opened_ranked opened_known dev_bare;
+    haves = λ q. sym (add-more (have (granted_by t) t.topology q) (have opened_grants opened q) (came_more (granted_by t) opened_grants t.topology 1 p comes.free comes.kind comes.agree q));
+    sums = λ q. have_is_sum opened opened_ranked opened_known opened_grants q;
+    each = each_of_them;
+    old = λ q c at.
+        let inside = of_filter (λ (x : Consumer). names_number x.provider q) t.topology.consumers c at in
+        inr (in_filter (λ (x : Consumer). names_number x.provider q) opened.consumers c (Contains-append_left t.topology.consumers (newcomer ∷ []) c inside.0) inside.1, old_number c inside.0, old_wants c inside.0);
+    opener = newcomer;
+    opener_at = in_filter (λ (x : Consumer). names_number x.provider p) opened.consumers newcomer (Contains-push t.topology.consumers newcomer) (eq-eqb p p refl);
+    opener_is = refl;
+    opener_wants = wants_grant opened_grants opened newcomer dev_holds ∙ own_grant;
+    found = λ c there.
+        elim (Contains-push_cases t.topology.consumers newcomer c there) [
+          | inl old ↦ find_left (λ (x : Consumer). x.number == c.number) t.topology.consumers (newcomer ∷ []) c (consumer_known t sound counted c old)
+          | inr same ↦
+              subst (λ d. consumer_at opened d.number ≡ Some d) same
+              (find_last (λ (x : Consumer). x.number == t.topology.next_consumer) t.topology.consumers newcomer
+              (λ x inside. ne_eqb x.number t.topology.next_consumer (old_number x inside)) (eq-eqb t.topology.next_consumer t.topology.next_consumer refl))
+        ];
+    errors = errors_came t.topology 1 p dev_bare p;
+  }
+    where
+      each_of_them : (q : ℕ) (c : Consumer) → Contains (attached_to opened q) c
+          → ((c.number ≡ t.topology.next_consumer) × (p ≡ q) × (want opened_grants opened c ≡ add))
+          ⊎ (Contains (attached_to t.topology q) c × (c.number ≢ t.topology.next_consumer) × (want opened_grants opened c ≡ add_counts (want (granted_by t) t.topology c) (opened_mores c)))
+      each_of_them q c at =
+          let inside = of_filter (λ (x : Consumer). names_number x.provider q) opened.consumers c at in
+          elim (Contains-push_cases t.topology.consumers newcomer c inside.0) [
+            | inl old ↦ inr (in_filter (λ (x : Consumer). names_number x.provider q) t.topology.consumers c old inside.1, old_number c old, old_wants c old)
+            | inr same ↦
+                inl (
+                  ap (λ (x : Consumer). x.number) (sym same),
+                  (let e : Some p ≡ Some q = ap (λ (x : Consumer). x.provider) same ∙ names_some c.provider q inside.1 in cc),
+                  ap (want opened_grants opened) (sym same) ∙ wants_grant opened_grants opened newcomer dev_holds ∙ own_grant,
+                )
+          ]
+
+  module _ (new : TopoView C) (o : Order) (tried : IsTried t p add Rises new o) where
+    -- the geoms below
+    abbrev pub open_order : List ℕ
+    open_order = geoms_below t sound counted.clear p tried.offer tried.found
+
+    pub open_demand : Demands t.topology p add (have (granted_by t) t.topology) opened_gains opened_mores open_order
+    open_demand = opening open_order (below_covers t sound counted.clear p tried.offer tried.found)
+
+    pub open_order_is : order_of new o ≡ open_order
+    open_order_is = tried_order t sound counted.clear p add Rises new o tried
+
+    -- the geoms of the order live
+    pub open_lives : All (λ x. IsSome (geom_at new.topology x)) (order_of new o)
+    open_lives =
+        subst (λ u. All (λ x. IsSome (geom_at u x)) (order_of new o))
+        (sym (ap (λ v. v.topology) (new_is t sound counted p add new o tried t.topology.next_consumer opened_grants opened opened_gains opened_mores opening_after open_demand)))
+        (subst (All (λ x. IsSome (geom_at t.topology x))) (sym open_order_is)
+        (all_of (λ x. IsSome (geom_at t.topology x)) open_order (below_lives t sound counted.clear p tried.offer tried.found)))
+
+    -- and differ
+    pub open_apart : Apart (order_of new o)
+    open_apart = subst Apart (sym open_order_is) (order_apart t.topology open_order (below_ordered t sound counted.clear p tried.offer tried.found))
+
+    -- the end of the walk leaves the mesh as it was
+    pub open_end : fold (finish_geom None) new (order_of new o) ≡ t
+    open_end = cleared t sound counted p add new o tried t.topology.next_consumer opened_grants opened opened_gains opened_mores opening_after open_demand
+
+    -- the judgement is the model's
+    pub open_refused : option_map errno_of_refused (judged new p add (order_of new o)) ≡ grant_refusal opened_grants opened p
+    open_refused =
+        refused (trying t (end t sound counted p add new o tried t.topology.next_consumer opened_grants opened opened_gains opened_mores opening_after open_demand).tries)
+        p t.topology.next_consumer add (granted_by t) opened_grants opened opened_gains opened_mores opening_after (judged new p add (order_of new o))
+        (decided t sound counted p add new o tried t.topology.next_consumer opened_grants opened opened_gains opened_mores opening_after open_demand)

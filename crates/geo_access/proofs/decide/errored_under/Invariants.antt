@@ -1,0 +1,14 @@
+use Rattle.std.proofs.Common.{◌≡◌, ◌-◌, fold}
+use Rattle.std.specs.Prelude.{filter_map}
+use Rattle.geo_laws_graph.specs.LookupLaws.{left_from}
+use Rattle.geo_model.specs.Topology.{consumers_of, providers_under}
+use Rattle.geo_access.specs.Views.{lesser}
+use Rattle.geo_access.proofs.decide.errored_under.Given as goal
+
+abbrev pub invariant-loop-id : goal.invariant-loop-id
+invariant-loop-id g l =
+    fold (lesser l.topo) l.best (filter_map (λ x. x.provider) (left_from (λ y. y.number) l.from (consumers_of l.topo.topology l.geom)))
+    ≡ fold (lesser l.topo) l.fn.start (providers_under l.topo.topology l.geom)
+
+abbrev pub decreases-loop-id : goal.decreases-loop-id
+decreases-loop-id g l = l.topo.topology.next_consumer - l.from

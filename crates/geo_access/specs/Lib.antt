@@ -1,0 +1,3 @@
+pub mod Tries
+pub mod Views
+pub mod Access

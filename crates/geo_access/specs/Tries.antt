@@ -1,0 +1,42 @@
+-- Counts while they are tried: they stop at the greatest number of their type.
+use Rattle.std.specs.Prelude.{ℕ, nat_lt, Bool, not, ◌&&◌, ◌||◌, if◌then◌else◌, List, [], ◌∷◌, Contains}
+use Rattle.geo_base.specs.declared.request.Counts.{Counts}
+use Rattle.geo_base.specs.declared.kind.Kind.{Kind}
+use Rattle.geo_base.specs.declared.kind.Kind.TheVariants as kinds
+use Rattle.geo_base.specs.Kind.{adds_exclusive}
+use Rattle.geo_model.specs.Demand.{no_counts, add_counts, is_zero}
+use Rattle.geo_laws_counts.specs.CountWords.{more_counts}
+use Rattle.geo_laws_demands.specs.WalkWords.{cap}
+use Rattle.geo_access.specs.declared.counts.Way.{Way}
+use Rattle.geo_access.specs.declared.counts.Way.TheVariants.{Rises, Falls}
+use Rattle.geo_access.specs.declared.counts.Weight.{Weight}
+
+-- whether a count is above what a provider may have
+abbrev pub is_over : Counts → Bool
+is_over a = nat_lt 2147483647 a.r || (nat_lt 2147483647 a.w || nat_lt 2147483647 a.e)
+
+-- the counts once they are moved by what is gained or lost
+abbrev pub shifted : Way → Counts → Counts → Counts
+shifted Rises have gain = cap (add_counts have gain)
+shifted Falls have gain = more_counts gain have
+
+-- the counts without the demand that comes or goes
+abbrev pub had : Way → Counts → Counts → Counts
+had Rises have gain = have
+had Falls have gain = more_counts gain have
+
+-- one exclusive count where the test holds
+abbrev pub exclusive_where : Bool → Counts
+exclusive_where more = record { r = 0; w = 0; e = (if more then 1 else 0) }
+
+-- what a consumer of a class gains, where its geom's providers gain so much
+abbrev pub made_of : Kind → Weight → Counts
+made_of kinds.Disk weight = no_counts
+made_of kinds.Dev weight = no_counts
+made_of kinds.Taste weight = no_counts
+made_of kind weight = cap (add_counts weight.sum (exclusive_where (adds_exclusive kind && (weight.quiet && not (is_zero weight.sum)))))
+
+-- no number comes twice
+abbrev pub Apart : List ℕ → Type 0
+Apart [] = Unit {0}
+Apart (x ∷ xs) = (Contains xs x → ⊥) × Apart xs

@@ -1,0 +1,19 @@
+//! The running access counts of g_access(9): what a demand at a provider does to the counts of all that stands below it, and
+//! what refuses it.
+#![tactic(auto)]
+
+mod access;
+mod counts;
+mod decide;
+mod finish;
+mod notes;
+mod order;
+mod refusal;
+mod spread;
+mod steps;
+mod walk;
+
+pub use access::{allowed, could_grant, grant, release};
+pub use notes::{next_fallen, next_risen};
+pub use refusal::GrantRefusal;
+pub use steps::Steps;
