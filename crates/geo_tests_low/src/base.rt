@@ -1,0 +1,83 @@
+ghost use Rattle.std.specs.Prelude.{◌<◌, ◌^◌, length};
+
+use geo_base::{Block, Calls, Name, RunsRefusal, read_runs, runs_text};
+use std::alloc::Global;
+use std::test::Fail;
+
+#[test]
+fn blocks_are_made(rt: HostRuntime) -> Result<(), Fail> {
+    let alloc = rt.alloc();
+    let block = Block::from_slice(alloc, b"ab")?;
+    assert_eq!(rt; block.bytes(), b"ab".as_slice());
+    let mut again = block.copy(alloc)?;
+    again.cut(1);
+    assert_eq!(rt; again.bytes(), b"a".as_slice());
+    let zeros = Block::zeros(alloc, 3)?;
+    assert_eq!(rt; zeros.bytes(), b"\0\0\0".as_slice());
+    let calls = Calls::of(alloc, &[2, 5])?;
+    assert!(rt; calls.has(5) && !calls.has(3));
+    Ok(())
+}
+
+#[test]
+fn names_end_at_63_bytes(rt: HostRuntime) -> Result<(), Fail> {
+    let long = [b'a'; 63];
+    let Ok(name) = Name::new(&long) else {
+        panic!(rt; "63 bytes are a name")
+    };
+    assert!(rt;
+        name.with_tail(b"b").is_err() && Name::new(b"").is_err() && Name::new(b"a b").is_err()
+    );
+    let Ok(name) = Name::new(b"label/vol.1") else {
+        panic!(rt; "a name")
+    };
+    assert!(rt; !name.is_short() && name.with_tail(b"s1").is_ok());
+    Ok(())
+}
+
+/// Where the text has its fault, and none where it is one of runs.
+fn fault(alloc: Global, text: &[u8]) -> Option<u32>
+    requires { length text.now < 2 ^ 32 }
+{
+    match read_runs(alloc, text) {
+        Err(RunsRefusal::At { at }) => Some(at),
+        _ => None,
+    }
+}
+
+#[test]
+fn texts_of_runs_both_ways(rt: HostRuntime) -> Result<(), Fail> {
+    let alloc = rt.alloc();
+    let zeros = Block::zeros(alloc, 65_536)?;
+    let Ok(again) = read_runs(alloc, b"00*65536") else {
+        panic!(rt; "the longest run")
+    };
+    assert!(rt; again.bytes() == zeros.bytes());
+    let Ok(sector) = read_runs(alloc, b"00*450 a5*1 00*3 01*1 00*3 07*1 00*51 55*1 aa*1") else {
+        panic!(rt; "a sector")
+    };
+    assert_eq!(rt; sector.len(), 512);
+    let text = runs_text(alloc, sector.bytes())?;
+    assert_eq!(rt;
+        text.bytes(),
+        b"00*450 a5*1 00*3 01*1 00*3 07*1 00*51 55*1 aa*1".as_slice()
+    );
+    let text = runs_text(alloc, b"\x00\x0f\xff\xff")?;
+    assert_eq!(rt; text.bytes(), b"00*1 0f*1 ff*2".as_slice());
+    Ok(())
+}
+
+#[test]
+fn faults_of_runs_have_their_places(rt: HostRuntime) {
+    let alloc = rt.alloc();
+    assert_eq!(rt; fault(alloc, b""), Some(0));
+    assert_eq!(rt; fault(alloc, b"00*65537"), Some(7));
+    assert_eq!(rt; fault(alloc, b"00*65536 01*1"), Some(8));
+    assert_eq!(rt; fault(alloc, b"00*01"), Some(3));
+    assert_eq!(rt; fault(alloc, b"0A*1"), Some(1));
+    assert_eq!(rt; fault(alloc, b"00*1 "), Some(5));
+    assert_eq!(rt; fault(alloc, b"00*1 00*1"), Some(6));
+    assert_eq!(rt; fault(alloc, b"00*1  01*1"), Some(5));
+    assert_eq!(rt; fault(alloc, b"00*1\n"), Some(4));
+    assert_eq!(rt; fault(alloc, b"00*1 01*2"), None);
+}

@@ -1,0 +1,204 @@
+ghost use Rattle.std.specs.Prelude.{◌≤◌};
+
+use geo_base::{Block, Calls, Name};
+use geo_disk::{Disk, DiskFailed, Drive, MemDisk, MemShelf, Shelf, ShelfFault, Taken};
+use std::alloc::Global;
+use std::process::Abort;
+use std::test::Fail;
+
+/// A disk of three sectors of 512 bytes, each full of the number of its place from 1 on.
+fn numbered(alloc: Global, fails: &[u64]) -> Result<MemDisk, Fail> {
+    let mut bytes = [1u8; 1536];
+    bytes[512..1024].fill(2);
+    bytes[1024..].fill(3);
+    let block = Block::from_slice(alloc, bytes.as_slice())?;
+    Ok(MemDisk::new(block, 512, Calls::of(alloc, fails)?))
+}
+
+/// The first byte of each sector of a disk of three, and whether each sector has one byte throughout.
+fn first_bytes<D: Disk>(rt: &impl Abort, disk: &mut D) -> Result<[u8; 3], Fail> {
+    let mut out = [0u8; 1536];
+    assert!(rt; disk.sector_size() == 512 && disk.sectors() == 3);
+    disk.read(0, out.as_mut_slice())?;
+    for place in 0..3 {
+        let sector = &out[place * 512..place * 512 + 512];
+        let first = sector[0];
+        assert!(rt; sector.iter().all(|b| *b == first));
+    }
+    Ok([out[0], out[512], out[1024]])
+}
+
+#[test]
+fn each_failing_call_of_a_disk_says_so(rt: HostRuntime) -> Result<(), Fail> {
+    for failing in 1..5u64 {
+        let mut out = [0u8; 512];
+        let mut disk = numbered(rt.alloc(), &[failing])?;
+        assert!(rt; disk.sector_size() == 512 && disk.sectors() == 3);
+        let read = disk.read(1, out.as_mut_slice());
+        let write = disk.write(0, [7u8; 512].as_slice());
+        let zero = disk.zero(2, 1);
+        let flush = disk.flush();
+        let failed = Err(DiskFailed { done: 0 });
+        assert!(rt; (read == failed) == (failing == 1));
+        assert!(rt; (write == failed) == (failing == 2));
+        assert!(rt; (zero == failed) == (failing == 3));
+        assert!(rt; (flush == failed) == (failing == 4));
+        let bytes = first_bytes(&rt, &mut disk)?;
+        let written = if failing == 2 { 1 } else { 7 };
+        let zeroed = if failing == 3 { 3 } else { 0 };
+        assert_eq!(rt; bytes, [written, 2, zeroed]);
+    }
+    Ok(())
+}
+
+#[test]
+fn a_failing_call_does_a_part(rt: HostRuntime) -> Result<(), Fail> {
+    let mut disk = numbered(rt.alloc(), &[1, 2, 4])?;
+    disk.failing_after(2);
+    assert!(rt; disk.sector_size() == 512 && disk.sectors() == 3);
+    // It never does all of a call, however much it was told to do.
+    assert_eq!(rt;
+        disk.write(0, [7u8; 1024].as_slice()),
+        Err(DiskFailed { done: 1 })
+    );
+    assert_eq!(rt; disk.zero(0, 3), Err(DiskFailed { done: 2 }));
+    assert_eq!(rt; first_bytes(&rt, &mut disk)?, [0, 0, 3]);
+    disk.failing_after(1);
+    assert!(rt; disk.sector_size() == 512 && disk.sectors() == 3);
+    assert_eq!(rt;
+        disk.write(0, [9u8; 1536].as_slice()),
+        Err(DiskFailed { done: 1 })
+    );
+    let mut drive: Drive<MemDisk> = Drive::Ram(disk);
+    assert_eq!(rt; first_bytes(&rt, &mut drive)?, [9, 0, 3]);
+    Ok(())
+}
+
+#[test]
+fn the_flush_of_a_drive_is_that_of_its_disk(rt: HostRuntime) -> Result<(), Fail> {
+    let mut ram: Drive<MemDisk> = Drive::Ram(numbered(rt.alloc(), &[1])?);
+    assert_eq!(rt; ram.flush(), Err(DiskFailed { done: 0 }));
+    let mut shelved = Drive::Shelved(numbered(rt.alloc(), &[1])?);
+    assert_eq!(rt; shelved.flush(), Err(DiskFailed { done: 0 }));
+    Ok(())
+}
+
+/// A block of so many bytes of one value.
+fn full(alloc: Global, size: u32, byte: u8) -> Result<Block, Fail> {
+    let mut block = Block::zeros(alloc, size)?;
+    block.bytes_mut().fill(byte);
+    Ok(block)
+}
+
+#[test]
+fn a_shelf_lends_a_disk_and_takes_it_back(rt: HostRuntime) -> Result<(), Fail> {
+    let alloc = rt.alloc();
+    let name = Name::new(b"da0")?;
+    let mut shelf = MemShelf::new(alloc);
+    shelf.put(&name, full(alloc, 1536, 5)?, Calls::none(alloc))?;
+    assert!(rt; matches!(shelf.take(&Name::new(b"da1")?, 512), Ok(Taken::Missing)));
+    assert!(rt; matches!(shelf.take(&name, 4096), Ok(Taken::BadSize)));
+    let Ok(Taken::Disk(disk)) = shelf.take(&name, 512) else {
+        return Err(Fail::from("no disk"));
+    };
+    assert!(rt; shelf.bytes_of(&name).is_none());
+    assert!(rt; shelf.give(&name, disk).is_ok());
+    let bytes = shelf.bytes_of(&name).ok_or("no bytes")?;
+    assert!(rt; bytes.len() == 1536 && bytes.iter().all(|b| *b == 5));
+    Ok(())
+}
+
+#[test]
+fn a_lent_name_is_missing(rt: HostRuntime) -> Result<(), Fail> {
+    let alloc = rt.alloc();
+    let name = Name::new(b"da0")?;
+    let mut shelf = MemShelf::new(alloc);
+    shelf.put(&name, full(alloc, 512, 5)?, Calls::none(alloc))?;
+    let Ok(Taken::Disk(_)) = shelf.take(&name, 512) else {
+        return Err(Fail::from("no disk"));
+    };
+    assert!(rt; matches!(shelf.take(&name, 512), Ok(Taken::Missing)));
+    Ok(())
+}
+
+#[test]
+fn a_disk_that_is_not_taken_back_stays_lent(rt: HostRuntime) -> Result<(), Fail> {
+    let alloc = rt.alloc();
+    let name = Name::new(b"da0")?;
+    let mut shelf = MemShelf::new(alloc);
+    shelf.put(&name, full(alloc, 512, 5)?, Calls::none(alloc))?;
+    shelf.fail_calls(Calls::of(alloc, &[2])?);
+    let Ok(Taken::Disk(disk)) = shelf.take(&name, 512) else {
+        return Err(Fail::from("no disk"));
+    };
+    let Err(fault) = shelf.give(&name, disk) else {
+        return Err(Fail::from("given"));
+    };
+    assert!(rt; fault.name.bytes() == name.bytes() && shelf.bytes_of(&name).is_none());
+    assert!(rt; shelf.give(&name, fault.disk).is_ok());
+    assert!(rt; shelf.bytes_of(&name).is_some());
+    Ok(())
+}
+
+/// Writes a sector, and fails to zero one.
+fn write_one(rt: &impl Abort, disk: &mut MemDisk)
+    ensures { disk.old.faults ≤ disk.new.faults }
+{
+    assert!(rt; disk.sector_size() == 512 && disk.sectors() == 3);
+    let write = disk.write(1, [6u8; 512].as_slice());
+    assert!(rt; write.is_ok() && disk.sectors() == 3);
+    let zero = disk.zero(0, 1);
+    assert!(rt; zero == Err(DiskFailed { done: 0 }));
+}
+
+#[test]
+fn a_disk_goes_on_as_it_came_back(rt: HostRuntime) -> Result<(), Fail> {
+    let alloc = rt.alloc();
+    let name = Name::new(b"da0")?;
+    let mut shelf = MemShelf::new(alloc);
+    shelf.put(&name, full(alloc, 1536, 5)?, Calls::of(alloc, &[2])?)?;
+    let Ok(Taken::Disk(mut disk)) = shelf.take(&name, 512) else {
+        return Err(Fail::from("no disk"));
+    };
+    write_one(&rt, &mut disk);
+    assert!(rt; shelf.give(&name, disk).is_ok());
+    let Ok(Taken::Disk(mut again)) = shelf.take(&name, 512) else {
+        return Err(Fail::from("no disk"));
+    };
+    // Its calls are counted on: the next is the third.
+    assert_eq!(rt; first_bytes(&rt, &mut again)?, [5, 6, 5]);
+    Ok(())
+}
+
+#[test]
+fn each_failing_call_of_a_shelf_says_so(rt: HostRuntime) -> Result<(), Fail> {
+    let alloc = rt.alloc();
+    let name = Name::new(b"da0")?;
+    for failing in 1..4u64 {
+        let mut shelf = MemShelf::new(alloc);
+        shelf.put(&name, full(alloc, 513, 1)?, Calls::none(alloc))?;
+        shelf.fail_calls(Calls::of(alloc, &[failing])?);
+        for turn in 1..4u64 {
+            match shelf.take(&name, 512) {
+                Err(ShelfFault::Failed) => assert!(rt; turn == failing),
+                Ok(Taken::BadSize) => assert!(rt; turn != failing),
+                _ => return Err(Fail::from("another answer")),
+            }
+        }
+        assert!(rt;
+            shelf
+                .bytes_of(&name)
+                .is_some_and(|bytes| bytes.len() == 513)
+        );
+    }
+    Ok(())
+}
+
+#[test]
+fn sizes_of_disks_have_limits(rt: HostRuntime) -> Result<(), Fail> {
+    assert!(rt; geo_disk::is_disk_size(1 << 40, 512) && geo_disk::is_disk_size(1 << 40, 4096));
+    assert!(rt; !geo_disk::is_disk_size((1 << 40) + 512, 512));
+    assert!(rt; !geo_disk::is_disk_size(0, 512) && !geo_disk::is_disk_size(511, 512));
+    assert!(rt; geo_disk::is_disk_size(512, 512) && !geo_disk::is_disk_size(512, 4096));
+    Ok(())
+}

@@ -1,0 +1,83 @@
+ghost use Rattle.std.specs.Prelude.{◌<◌, ◌≤◌, length};
+
+use geo_base::DeclineCause;
+use geo_mbr::{MbrMap, Slice, decode};
+use geo_range::{AddressMap, Span};
+use std::process::Abort;
+use std::test::Fail;
+
+/// A sector with a signature, and one entry of this type, first sector and number of sectors.
+fn with_entry(place: usize, kind: u8, first: [u8; 4], count: [u8; 4]) -> [u8; 512]
+    requires { place < 4 }
+{
+    let mut sector = [0u8; 512];
+    let start = 446 + 16 * place;
+    sector[start + 4] = kind;
+    for i in 0..4 {
+        sector[start + 8 + i] = first[i];
+        sector[start + 12 + i] = count[i];
+    }
+    sector[510] = 0x55;
+    sector[511] = 0xAA;
+    sector
+}
+
+/// The cause by which a sector is declined.
+fn cause_of(rt: &impl Abort, sector: &[u8], sectors: u64) -> DeclineCause
+    requires { 512 ≤ length sector.now }
+{
+    let Err(declined) = decode(sector, sectors) else {
+        panic!(rt; "a table")
+    };
+    declined.cause
+}
+
+#[test]
+fn one_slice_behind_the_table(rt: HostRuntime) -> Result<(), Fail> {
+    let table = decode(&with_entry(0, 0xA5, [1, 0, 0, 0], [7, 0, 0, 0]), 8)?;
+    let Some(slice) = table.slices[0] else {
+        panic!(rt; "a slice")
+    };
+    assert_eq!(rt; (slice.first, slice.count), (1, 7));
+    assert!(rt; table.slices[1].is_none());
+    Ok(())
+}
+
+#[test]
+fn a_slice_lies_behind_its_first_sector(rt: HostRuntime) -> Result<(), Fail> {
+    let map = MbrMap::new(&Slice { first: 1, count: 7 });
+    assert_eq!(rt; (map.size(), map.sector()), (3584, 512));
+    assert_eq!(rt; map.place(3583), (0, 4095));
+    let list = map.split(
+        rt.alloc(),
+        Span {
+            offset: 0,
+            len: 3584,
+        },
+    )?;
+    assert_eq!(rt; list.items().len(), 1);
+    Ok(())
+}
+
+#[test]
+fn hostile_entries(rt: HostRuntime) {
+    for place in 0..4 {
+        let far = with_entry(place, 0xA5, [255; 4], [255; 4]);
+        assert_eq!(rt; cause_of(&rt, &far, 8_589_934_589), DeclineCause::Nothing);
+        let past = with_entry(place, 0xA5, [8, 0, 0, 0], [57, 0, 0, 0]);
+        assert_eq!(rt; cause_of(&rt, &past, 64), DeclineCause::Nothing);
+        let at_zero = with_entry(place, 0xA5, [0; 4], [4, 0, 0, 0]);
+        assert_eq!(rt; cause_of(&rt, &at_zero, 64), DeclineCause::Nothing);
+    }
+    let mut protected = with_entry(3, 0xEE, [1, 0, 0, 0], [7, 0, 0, 0]);
+    assert_eq!(rt; cause_of(&rt, &protected, 64), DeclineCause::Protective);
+    protected[510] = 0x54;
+    assert_eq!(rt; cause_of(&rt, &protected, 64), DeclineCause::Signature);
+}
+
+#[test]
+fn a_slice_ends_at_the_media_end(rt: HostRuntime) -> Result<(), Fail> {
+    let table = decode(&with_entry(2, 0xA5, [8, 0, 0, 0], [56, 0, 0, 0]), 64)?;
+    assert!(rt; table.slices[2].is_some());
+    Ok(())
+}

@@ -1,0 +1,222 @@
+//! What no clause says: that there is memory, and the table with a log of its own.
+ghost use Rattle.std.specs.Prelude.{◌≡◌, ◌^◌, ◌<◌, length, IfOk};
+ghost use Rattle.geo_model.specs.World.{is_down, is_sent, is_busy, is_up};
+ghost use Rattle.geo_bio.specs.BioTable.{has_phase};
+
+use geo_base::{BioCmd, BioId, Block, ConsId, Errno, HandleId, NoMemory, ProvId};
+use geo_bio::{BioResult, BioTable, LogBytes, Owner, Phase, Risen, Span, Targets};
+use geo_model::Piece;
+use geo_range::PieceList;
+use std::alloc::Global;
+use std::test::Fail;
+
+// A log whose place p has the p-th page.
+#[derive(Drop)]
+struct Pages {
+    pages: Vec<Block>,
+}
+
+impl LogBytes for Pages {
+    ghost use Rattle.std.specs.Prelude.{slice_get};
+
+    ghost place_bytes = { λ log place. slice_get log.pages.items place };
+
+    fn bytes_at(&self, place: u64) -> Option<&[u8]> {
+        match self.pages.get(place as usize) {
+            Some(page) => Some(page.bytes()),
+            None => None,
+        }
+    }
+}
+
+// A log of this many pages of 512 bytes, each filled with its number.
+fn numbered_pages(alloc: Global, count: u8) -> Result<Pages, NoMemory> {
+    let mut pages = Vec::new(alloc);
+    for number in 0..count {
+        let page = [number; 512];
+        pages.push(Block::from_slice(alloc, &page)?)?;
+    }
+    Ok(Pages { pages })
+}
+
+// A READ of a line, of this many bytes.
+fn submit_read(alloc: Global, table: &mut BioTable, len: u64) -> Result<BioId, NoMemory> {
+    let span = Span { offset: 0, len };
+    let owner = Owner::Line {
+        handle: HandleId::new(1),
+        line: 1,
+    };
+    let bytes = Block::zeros(alloc, 0)?;
+    table.submit(
+        BioCmd::Read,
+        span,
+        bytes,
+        ConsId::new(1),
+        ProvId::new(1),
+        owner,
+    )
+}
+
+// A READ of a line that was split into this many pieces of 512 bytes.
+fn split_read(alloc: Global, table: &mut BioTable, count: u32) -> Result<BioId, Fail> {
+    let pieces = pages_as_pieces(alloc, count)?;
+    let targets = same_target(alloc, count)?;
+    let root = submit_read(alloc, table, count as u64 * 512)?;
+    if count == 0 || !is_down(table, root) {
+        return Err("nothing to split".into());
+    }
+    table.start(alloc, root, &pieces, &targets)?;
+    Ok(root)
+}
+
+// So many pieces of 512 bytes, one after the other.
+fn pages_as_pieces(alloc: Global, count: u32) -> Result<PieceList, NoMemory>
+    ensures { IfOk result (λ pieces. length pieces.items ≡ count) }
+{
+    let mut pieces = PieceList::new(alloc);
+    for child in 0..count {
+        let at = child as u64 * 512;
+        pieces.reserve(1)?;
+        pieces.push(Piece {
+            child: 0,
+            span: Span {
+                offset: at,
+                len: 512,
+            },
+            at,
+        });
+    }
+    Ok(pieces)
+}
+
+// The same target so many times.
+fn same_target(alloc: Global, count: u32) -> Result<Targets, NoMemory>
+    ensures { IfOk result (λ targets. length targets.items ≡ count) }
+{
+    let mut targets = Targets::new(alloc);
+    for _child in 0..count {
+        targets.reserve(1)?;
+        targets.push((ConsId::new(1), ProvId::new(1)));
+    }
+    Ok(targets)
+}
+
+fn is_down(table: &BioTable, bio: BioId) -> bool
+    ensures { result ≡ has_phase is_down table.now.bios bio }
+{
+    match table.get(bio) {
+        Some(found) => matches!(found.phase, Phase::Down),
+        None => false,
+    }
+}
+
+fn is_sent(table: &BioTable, bio: BioId) -> bool
+    ensures { result ≡ has_phase is_sent table.now.bios bio }
+{
+    match table.get(bio) {
+        Some(found) => matches!(found.phase, Phase::Sent),
+        None => false,
+    }
+}
+
+fn is_busy(table: &BioTable, bio: BioId) -> bool
+    ensures { result ≡ has_phase is_busy table.now.bios bio }
+{
+    match table.get(bio) {
+        Some(found) => matches!(found.phase, Phase::Busy(_)),
+        None => false,
+    }
+}
+
+fn is_up(table: &BioTable, bio: BioId) -> bool
+    ensures { result ≡ has_phase is_up table.now.bios bio }
+{
+    match table.get(bio) {
+        Some(found) => matches!(found.phase, Phase::Up),
+        None => false,
+    }
+}
+
+// The bio's disk answers with the page of this place.
+fn answer(table: &mut BioTable, bio: BioId, place: u64) -> Result<(), Fail> {
+    if !is_down(table, bio) {
+        return Err("not down".into());
+    }
+    table.send(bio);
+    if !is_sent(table, bio) {
+        return Err("not sent".into());
+    }
+    table.take(bio, 0);
+    if !is_busy(table, bio) {
+        return Err("not busy".into());
+    }
+    table.deliver(bio, place, None);
+    Ok(())
+}
+
+// The bio isn't let down.
+fn bounce(table: &mut BioTable, bio: BioId, errno: Errno) -> Result<(), Fail> {
+    if !is_down(table, bio) {
+        return Err("not down".into());
+    }
+    table.bounce(bio, errno);
+    Ok(())
+}
+
+fn up(alloc: Global, table: &mut BioTable, bio: BioId, log: &Pages) -> Result<Risen, Fail> {
+    if !is_up(table, bio) {
+        return Err("not up".into());
+    }
+    Ok(table.up(alloc, bio, log)?)
+}
+
+#[test]
+fn pieces_delivered_in_reverse_are_joined_in_order(rt: HostRuntime) -> Result<(), Fail> {
+    let log = numbered_pages(rt.alloc(), 64)?;
+    let mut table = BioTable::new(rt.alloc());
+    let root = split_read(rt.alloc(), &mut table, 64)?;
+    let mut child = root.number().saturating_add(64);
+    for place in (0..64u64).rev() {
+        answer(&mut table, BioId::new(child), place)?;
+        let risen = up(rt.alloc(), &mut table, BioId::new(child), &log)?;
+        assert!(rt; matches!(risen, Risen::InParent { complete, .. } if complete == (place == 0)));
+        child = child.saturating_sub(1);
+    }
+    assert!(rt; matches!(table.next_from(root.number().saturating_add(1)), None));
+    let Risen::Root(BioResult::Bytes(bytes)) = up(rt.alloc(), &mut table, root, &log)? else {
+        return Err("no bytes".into());
+    };
+    assert_eq!(rt; bytes.bytes().len(), 64 * 512);
+    for place in 0..64usize {
+        assert_eq!(rt; bytes.bytes().get(place * 512).copied(), Some(place as u8));
+    }
+    Ok(())
+}
+
+#[test]
+fn the_first_failed_piece_gives_the_error(rt: HostRuntime) -> Result<(), Fail> {
+    let log = numbered_pages(rt.alloc(), 2)?;
+    let mut table = BioTable::new(rt.alloc());
+    let root = split_read(rt.alloc(), &mut table, 2)?;
+    for (after, errno) in [(2u64, Errno::ENXIO), (1, Errno::EIO)] {
+        let child = BioId::new(root.number().saturating_add(after));
+        bounce(&mut table, child, errno)?;
+        let _ = up(rt.alloc(), &mut table, child, &log)?;
+    }
+    let risen = up(rt.alloc(), &mut table, root, &log)?;
+    assert!(rt; matches!(risen, Risen::Root(BioResult::Failed(Errno::EIO))));
+    Ok(())
+}
+
+#[test]
+fn room_is_made_for_bios(rt: HostRuntime) -> Result<(), Fail> {
+    let mut table = BioTable::new(rt.alloc());
+    table.reserve(2)?;
+    for number in 1..3u64 {
+        let root = submit_read(rt.alloc(), &mut table, 512)?;
+        assert_eq!(rt; root.number(), number);
+    }
+    assert!(rt; matches!(table.next_from(2), Some(last) if last.number() == 2));
+    assert!(rt; matches!(table.next_from(3), None));
+    Ok(())
+}

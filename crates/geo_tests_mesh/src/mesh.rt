@@ -1,0 +1,171 @@
+//! What no clause says: that there is memory, the mesh at a concrete type, and a tower of geoms.
+use geo_base::{ConsId, Counts, GeomId, Kind, Name, ProvId};
+use geo_mesh::{AttachRefusal, Topo};
+use std::test::Fail;
+
+const NO_COUNTS: Counts = Counts { r: 0, w: 0, e: 0 };
+
+// The name of these bytes.
+fn name(bytes: &[u8]) -> Result<Name, Fail> {
+    Ok(Name::new(bytes).ok().ok_or("not a name")?)
+}
+
+// A NOP geom with a provider, both of this name.
+fn geom_of(topo: &mut Topo<u8>, text: &[u8]) -> Result<(GeomId, ProvId), Fail> {
+    let name = name(text)?;
+    let geom = topo.new_geom(Kind::Nop, name, 7, false)?;
+    let prov = provider_of(topo, geom, name)?;
+    Ok((geom, prov))
+}
+
+// A provider of the geom, of a megabyte.
+fn provider_of(topo: &mut Topo<u8>, geom: GeomId, name: Name) -> Result<ProvId, Fail> {
+    let good = topo.geom(geom).is_some() && geom.number() > 2;
+    if !good || topo.is_withering(geom) || topo.is_name_taken(&name) {
+        return Err(Fail::from("no provider may be made"));
+    }
+    Ok(topo.new_provider(geom, name, 1_048_576, 512)?)
+}
+
+// A consumer of the geom, attached to nothing.
+fn consumer_of(topo: &mut Topo<u8>, geom: GeomId) -> Result<ConsId, Fail> {
+    if topo.geom(geom).is_none() {
+        return Err(Fail::from("no geom"));
+    }
+    Ok(topo.new_consumer(geom)?)
+}
+
+// Attaches the consumer to the provider. None where it is attached, else why it is refused.
+fn attach(topo: &mut Topo<u8>, cons: ConsId, prov: ProvId) -> Result<Option<AttachRefusal>, Fail> {
+    let free = match topo.consumer(cons) {
+        Some(consumer) => consumer.prov.is_none(),
+        None => false,
+    };
+    if !free || topo.provider(prov).is_none() {
+        return Err(Fail::from("not to be attached"));
+    }
+    Ok(topo.attach(cons, prov).err())
+}
+
+// A tower of NOP geoms of ranks 1 to `height`, each attached to the one below: its lowest consumer and its top provider.
+fn tower(topo: &mut Topo<u8>, height: u8) -> Result<(ConsId, GeomId, ProvId), Fail> {
+    let (_, mut below) = geom_of(topo, &[b'a'])?;
+    let (mut top, upper) = geom_of(topo, &[b'b'])?;
+    let foot = consumer_of(topo, top)?;
+    if attach(topo, foot, below)?.is_some() {
+        return Err(Fail::from("refused"));
+    }
+    below = upper;
+    for storey in 2..height {
+        let (geom, prov) = geom_of(topo, &[b'c', 65 + storey % 26, 65 + storey / 26])?;
+        let cons = consumer_of(topo, geom)?;
+        if attach(topo, cons, below)?.is_some() {
+            return Err(Fail::from("refused"));
+        }
+        below = prov;
+        top = geom;
+    }
+    Ok((foot, top, below))
+}
+
+// The provider gets an error.
+fn fail(topo: &mut Topo<u8>, prov: ProvId) -> Result<(), Fail> {
+    if topo.provider(prov).is_none() {
+        return Err(Fail::from("no provider"));
+    }
+    topo.set_error(prov);
+    Ok(())
+}
+
+// Takes the consumer off its provider.
+fn detach(topo: &mut Topo<u8>, cons: ConsId) -> Result<(), Fail> {
+    let quiet = match topo.consumer(cons) {
+        Some(consumer) => {
+            consumer.prov.is_some() && consumer.want == NO_COUNTS && consumer.active == 0
+        }
+        None => false,
+    };
+    if !quiet {
+        return Err(Fail::from("not to be detached"));
+    }
+    topo.detach(cons);
+    Ok(())
+}
+
+// What attaching a geom to its own provider is answered, and then with an error at it.
+fn own_provider(topo: &mut Topo<u8>) -> Result<[Option<AttachRefusal>; 2], Fail> {
+    let (geom, prov) = geom_of(topo, b"ada0")?;
+    let cons = consumer_of(topo, geom)?;
+    let own = attach(topo, cons, prov)?;
+    fail(topo, prov)?;
+    Ok([own, attach(topo, cons, prov)?])
+}
+
+#[test]
+fn a_geom_would_reach_itself(rt: HostRuntime) -> Result<(), Fail> {
+    let mut topo: Topo<u8> = Topo::new(rt.alloc(), 1, 2)?;
+    let answers = own_provider(&mut topo)?;
+    assert_eq!(rt;
+        answers,
+        [Some(AttachRefusal::Eloop), Some(AttachRefusal::Enxio)]
+    );
+    Ok(())
+}
+
+// The rank of the top of a tower of 31 geoms, before and after a detach at its foot; and that of no geom.
+fn falling_tower(topo: &mut Topo<u8>) -> Result<[Option<u32>; 3], Fail> {
+    let (foot, top, _) = tower(topo, 31)?;
+    let whole = topo.rank(top);
+    detach(topo, foot)?;
+    Ok([whole, topo.rank(top), topo.rank(GeomId::new(99))])
+}
+
+#[test]
+fn a_tower_falls_by_a_storey(rt: HostRuntime) -> Result<(), Fail> {
+    let mut topo: Topo<u8> = Topo::new(rt.alloc(), 1, 2)?;
+    let ranks = falling_tower(&mut topo)?;
+    assert_eq!(rt; ranks, [Some(31), Some(30), None]);
+    Ok(())
+}
+
+// What attaching a geom, and then a handle, above a tower of 32 geoms is answered.
+fn above_the_limit(topo: &mut Topo<u8>) -> Result<[Option<AttachRefusal>; 2], Fail> {
+    let (_, _, upper) = tower(topo, 32)?;
+    let (geom, _) = geom_of(topo, b"over")?;
+    let cons = consumer_of(topo, geom)?;
+    let refused = attach(topo, cons, upper)?;
+    let handle = consumer_of(topo, GeomId::new(1))?;
+    Ok([refused, attach(topo, handle, upper)?])
+}
+
+#[test]
+fn rank_33_is_too_deep(rt: HostRuntime) -> Result<(), Fail> {
+    let mut topo: Topo<u8> = Topo::new(rt.alloc(), 1, 2)?;
+    let answers = above_the_limit(&mut topo)?;
+    assert_eq!(rt; answers, [Some(AttachRefusal::Edeep), None]);
+    assert_eq!(rt; topo.rank(GeomId::new(1)), Some(33));
+    Ok(())
+}
+
+// Two providers of one name, of which the first gets an error, and then the second.
+fn two_of_a_name(topo: &mut Topo<u8>) -> Result<(ProvId, [Option<ProvId>; 3]), Fail> {
+    topo.reserve(2, 2, 2)?;
+    let (_, first) = geom_of(topo, b"ada0")?;
+    fail(topo, first)?;
+    let (_, second) = geom_of(topo, b"ada0")?;
+    let ada0 = name(b"ada0")?;
+    let sound = topo.find(&ada0);
+    fail(topo, second)?;
+    Ok((
+        second,
+        [sound, topo.find(&ada0), topo.find(&name(b"ada1")?)],
+    ))
+}
+
+#[test]
+fn a_sound_provider_is_found_first(rt: HostRuntime) -> Result<(), Fail> {
+    let mut topo: Topo<u8> = Topo::new(rt.alloc(), 1, 2)?;
+    let (second, found) = two_of_a_name(&mut topo)?;
+    assert_eq!(rt; found, [Some(second), Some(second), None]);
+    Ok(())
+}

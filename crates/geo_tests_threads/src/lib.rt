@@ -1,0 +1,7 @@
+//! Tests of the topology lock and of lanes, with threads.
+#![tactic(auto)]
+
+#[cfg(test)]
+mod lane;
+#[cfg(test)]
+mod lock;
