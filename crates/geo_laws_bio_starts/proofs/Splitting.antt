@@ -1,25 +1,23 @@
 -- A bio that is Down is split: it is Waiting, and its children come behind the other bios. These stay in order.
-use Rattle.std.specs.Prelude.{◌≡◌, ◌≢◌, ◌↔◌, ℕ, ◌+◌, ◌%◌, ◌<◌, ◌≤◌, ◌==◌, Bool, true, false, not, ◌&&◌, ◌||◌, List, [], ◌∷◌, ◌++◌, length, map, filter, find, count_by, Option, Some, None, All, AllPairs, Contains, IsSome, IsSomeAnd, IsTrue, unwrap_or, option_and_then, if◌then◌else◌}
+use Rattle.std.specs.Prelude.{◌≡◌, ◌≢◌, ◌↔◌, ℕ, ◌+◌, ◌%◌, ◌<◌, ◌≤◌, ◌==◌, Bool, true, false, ◌||◌, List, [], ◌∷◌, ◌++◌, length, map, filter, find, count_by, Option, Some, None, All, AllPairs, Contains, IsSome, IsSomeAnd, IsTrue, unwrap_or, if◌then◌else◌}
 use Rattle.std.specs.List.{AllByRecursion, list_any, list_all, enumerate_from}
 use Rattle.std.specs.Option.{option_map_or}
-use Rattle.std.proofs.Common.{refl, sym, ◌∙◌, ap, subst, arith, append_assoc, get_or, length-append}
+use Rattle.std.proofs.Common.{refl, sym, ◌∙◌, ap, subst, arith, append_assoc, get_or}
 use Rattle.std.proofs.lemmas.Bool.{eqb-true, eqb-false, eq-eqb, ne_eqb, or_from}
 use Rattle.std.proofs.lemmas.List.{append-nil}
-use Rattle.std.proofs.lemmas.List.Elements.{All-append, All-weaker, All-from_recursion, All-contains, filter-append, recursion_from_All, Contains-get_or}
+use Rattle.std.proofs.lemmas.List.Elements.{All-append, All-from_recursion, All-contains, filter-append}
 use Rattle.std.proofs.lemmas.List.Folds.{list_any-append}
 use Rattle.std.proofs.lemmas.List.Quantifiers.{all_pairs_push}
 use Rattle.std.proofs.lemmas.List.Sums.{length-filter}
-use Rattle.geo_model.specs.declared.step.BioResult.{BioResult}
 use Rattle.geo_model.specs.declared.step.Owner.{Owner}
 use Rattle.geo_model.specs.declared.step.Owner.TheVariants as owners
-use Rattle.geo_model.specs.declared.step.Phase.{Phase}
 use Rattle.geo_model.specs.declared.step.Phase.TheVariants as phases
 use Rattle.geo_model.specs.Words.{change_where, is_flush, is_write}
-use Rattle.geo_model.specs.Topology.{Topology, Geom, Provider, Consumer, geom_at, provider_at, consumer_at, provider_of_consumer}
+use Rattle.geo_model.specs.Topology.{Geom, Provider, Consumer, geom_at, provider_at, consumer_at, provider_of_consumer}
 use Rattle.geo_model.specs.Graph.{AreNumbers}
-use Rattle.geo_model.specs.World.{World, Bio, Config, bio_at, children_of, is_root, is_done, is_busy, is_sent, is_up, is_down, is_waiting, is_child_of, is_taste_root, is_read_out}
+use Rattle.geo_model.specs.World.{World, Bio, Config, bio_at, children_of, is_done, is_busy, is_sent, is_down, is_waiting, is_child_of, is_taste_root, is_read_out}
 use Rattle.geo_model.specs.Requests.{request_limit}
-use Rattle.geo_model.specs.Bios.{PieceTarget, piece_targets, piece_child, piece_children, bytes_of_piece, disk_of_bio, is_complete}
+use Rattle.geo_model.specs.Bios.{PieceTarget, piece_targets, piece_child, bytes_of_piece, disk_of_bio}
 use Rattle.geo_model.specs.SoundBios.{IsRangeInside, IsBioInOrder, IsFamilyInOrder, HasItsParent, HasItsPieces, HasCountFor, shape_of_child, shape_of_piece, NotBothBusy}
 use Rattle.geo_model.specs.Steady.{ComesFromItsOwner, HasItsResult}
 use Rattle.geo_laws_graph.proofs.Lists.{Rise, rise-from, rise-wider, numbers-from, filter-changed, map-changed, any-changed, length-changed, numbers-changed}
@@ -27,15 +25,16 @@ use Rattle.geo_laws_graph.proofs.Living.{found-before}
 use Rattle.geo_laws_graph.proofs.Members.{find-Contains, filter-Contains, Contains-here, Contains-map}
 use Rattle.geo_laws_graph.proofs.Numbered.{at-here, at-unchanged}
 use Rattle.geo_laws_bios.specs.BioFrames.{BiosHold}
-use Rattle.geo_laws_bios.specs.BioSteps.{turned, turn}
-use Rattle.geo_laws_bios.proofs.Items.{some_weaker, pairs_map, all_changed, all-fewer, each_of, seen_map}
+use Rattle.geo_laws_bios.specs.BioSteps.{turned}
+use Rattle.geo_laws_bios.proofs.Items.{some_weaker, pairs_map, all_changed, all-fewer, seen_map}
 use Rattle.geo_laws_bios.proofs.Phases.{not_waiting}
 use Rattle.geo_laws_bios.proofs.Turned.{AreItsPieces, range_turned}
 
 -- Lists
 
 -- numbers that rise, and more that rise from where they end
-rise_append : (low mid high : ℕ) (ns ms : List ℕ) → low ≤ mid → mid ≤ high → Rise low ns mid → Rise mid ms high → Rise low (ns ++ ms) high
+rise_append : (low mid high : ℕ) (ns ms : List ℕ) → low ≤ mid → mid ≤ high → Rise low ns mid → Rise mid ms high
+    → Rise low (ns ++ ms) high
 rise_append low mid high [] ms up more rise rest = rise-wider mid low high high ms up (omega arith) rest
 rise_append low mid high (n ∷ ns) ms up more rise rest =
     (rise.0, omega (arith, rise.1), rise_append (n + 1) mid high ns ms (omega (arith, rise.1)) more rise.2 rest)
@@ -46,34 +45,39 @@ seen_append see [] ys = refl
 seen_append see (x ∷ xs) ys = ap (λ zs. see x ∷ zs) (seen_append see xs ys)
 
 -- pairs of a list, and of items that are quiet behind it
-pairs_quiet : {X : Type 0} (R : X → X → Type 0) (Quiet : X → Type 0) → ((a y : X) → Quiet y → R a y) → (ys xs : List X) → AllPairs R xs
+pairs_quiet : {X : Type 0} (R : X → X → Type 0) (Quiet : X → Type 0) → ((a y : X) → Quiet y → R a y)
+    → (ys xs : List X) → AllPairs R xs
     → AllByRecursion Quiet ys → AllPairs R (xs ++ ys)
 pairs_quiet R Quiet so [] xs pairs quiet = rw append-nil pairs
 pairs_quiet R Quiet so (y ∷ ys) xs pairs quiet =
     subst (AllPairs R) (append_assoc xs (y ∷ []) ys)
-    (pairs_quiet R Quiet so ys (xs ++ y ∷ []) (all_pairs_push R xs y pairs (λ k d short. so (get_or xs k d) y quiet.0)) quiet.1)
+    (pairs_quiet R Quiet so ys (xs ++ y ∷ [])
+    (all_pairs_push R xs y pairs (λ k d short. so (get_or xs k d) y quiet.0)) quiet.1)
 
--- nothing passes, and all pass
-none_kept : {X : Type 0} (test : X → Bool) (xs : List X) → AllByRecursion (λ (x : X). test x ≡ false) xs → filter test xs ≡ []
+-- where none passes, none is kept
+none_kept : {X : Type 0} (test : X → Bool) (xs : List X) → AllByRecursion (λ (x : X). test x ≡ false) xs
+    → filter test xs ≡ []
 none_kept test [] none = refl
 none_kept test (x ∷ xs) none = let out : test x ≡ false = none.0 in rw out (none_kept test xs none.1)
 
--- all are kept
-all_kept : {X : Type 0} (test : X → Bool) (xs : List X) → AllByRecursion (λ (x : X). test x ≡ true) xs → filter test xs ≡ xs
+-- where all pass, all are kept
+all_kept : {X : Type 0} (test : X → Bool) (xs : List X) → AllByRecursion (λ (x : X). test x ≡ true) xs
+    → filter test xs ≡ xs
 all_kept test [] all = refl
 all_kept test (x ∷ xs) all = let is : test x ≡ true = all.0 in rw is (ap (λ zs. x ∷ zs) (all_kept test xs all.1))
 
--- none passes
-none_any : {X : Type 0} (test : X → Bool) (xs : List X) → AllByRecursion (λ (x : X). test x ≡ false) xs → list_any test xs ≡ false
+-- so it isn't so that one passes
+none_any : {X : Type 0} (test : X → Bool) (xs : List X) → AllByRecursion (λ (x : X). test x ≡ false) xs
+    → list_any test xs ≡ false
 none_any test [] none = refl
 none_any test (x ∷ xs) none = or_from (test x) (list_any test xs) none.0 (none_any test xs none.1)
 
--- a list with an item isn't empty
+-- a list that contains nothing is empty
 nothing_kept : {X : Type 0} (xs : List X) → ((x : X) → Contains xs x → ⊥) → xs ≡ []
 nothing_kept [] none = refl
 nothing_kept (x ∷ xs) none = absurd (none x (Contains-here x xs))
 
--- or is what it was
+-- a test or one that fails
 or_nothing : (a b : Bool) → b ≡ false → (a || b) ≡ a
 or_nothing true b e = refl
 or_nothing false b e = e
@@ -101,10 +105,6 @@ pub record GoesDown (w : World) (x : Bio) (z : PieceTarget) : Type 0 where
   pub range : is_flush x.cmd ≡ false → IsSpanInside z.piece.span.offset z.piece.span.len provider
   pub bytes : IsTrue (is_write x.cmd) → length (bytes_of_piece x.bytes z.piece) ≡ z.piece.span.len
 
--- what a bio's family is, whatever else stands
-abbrev IsDownChild : Bio → Bio → Type 0
-IsDownChild x c = (c.phase ≡ phases.Down) × (is_child_of c.owner x.number ≡ true)
-
 module _ (w : World) (x : Bio) (targets : List PieceTarget) where
   -- the children from a number on
   abbrev pub kids : ℕ → List PieceTarget → List Bio
@@ -127,28 +127,32 @@ module _ (w : World) (x : Bio) (targets : List PieceTarget) where
   parted = record w { bios = old ++ kids 0 targets; next_bio = w.next_bio + length (kids 0 targets) }
 
   -- a fact of each child
-  kids_all : (P : Bio → Type 0) (F : PieceTarget → Type 0) → ((k : ℕ) (z : PieceTarget) → F z → P (piece_child w.topology w.next_bio x k z))
+  kids_all : (P : Bio → Type 0) (F : PieceTarget → Type 0)
+      → ((k : ℕ) (z : PieceTarget) → F z → P (piece_child w.topology w.next_bio x k z))
       → (k : ℕ) (zs : List PieceTarget) → AllByRecursion F zs → AllByRecursion P (kids k zs)
   kids_all P F so k [] facts = tt
   kids_all P F so k (z ∷ zs) facts = (so k z facts.0, kids_all P F so (k + 1) zs facts.1)
 
   -- a fact of any child
-  kids_any : (P : Bio → Type 0) → ((k : ℕ) (z : PieceTarget) → P (piece_child w.topology w.next_bio x k z)) → (k : ℕ) (zs : List PieceTarget)
+  kids_any : (P : Bio → Type 0) → ((k : ℕ) (z : PieceTarget) → P (piece_child w.topology w.next_bio x k z))
+      → (k : ℕ) (zs : List PieceTarget)
       → AllByRecursion P (kids k zs)
   kids_any P so k [] = tt
   kids_any P so k (z ∷ zs) = (so k z, kids_any P so (k + 1) zs)
 
   -- their numbers rise
-  kids_rise : (k : ℕ) (zs : List PieceTarget) → Rise (w.next_bio + k) (map (λ (c : Bio). c.number) (kids k zs)) (w.next_bio + k + length (kids k zs))
+  kids_rise : (k : ℕ) (zs : List PieceTarget)
+      → Rise (w.next_bio + k) (map (λ (c : Bio). c.number) (kids k zs)) (w.next_bio + k + length (kids k zs))
   kids_rise k [] = tt
   kids_rise k (z ∷ zs) = (
     omega arith,
     omega arith,
-    rise-wider (w.next_bio + (k + 1)) (w.next_bio + k + 1) (w.next_bio + (k + 1) + length (kids (k + 1) zs)) (w.next_bio + k + length (kids k (z ∷ zs)))
+    rise-wider (w.next_bio + (k + 1)) (w.next_bio + k + 1) (w.next_bio + (k + 1) + length (kids (k + 1) zs))
+        (w.next_bio + k + length (kids k (z ∷ zs)))
         (map (λ (c : Bio). c.number) (kids (k + 1) zs)) (omega arith) (omega arith) (kids_rise (k + 1) zs),
   )
 
-  -- the bios of a number are as before, if they were there
+  -- none of the new children is one of another bio
   child_test : (n : ℕ) → x.number ≢ n → AllByRecursion (λ (c : Bio). is_child_of c.owner n ≡ false) (kids 0 targets)
   child_test n other = kids_any (λ (c : Bio). is_child_of c.owner n ≡ false) (λ k z. ne_eqb x.number n other) 0 targets
 
@@ -156,7 +160,8 @@ module _ (w : World) (x : Bio) (targets : List PieceTarget) where
   children_there : (n : ℕ) → x.number ≢ n → children_of parted n ≡ change_where is_it wait (children_of w n)
   children_there n other =
       filter-append (λ (c : Bio). is_child_of c.owner n) old (kids 0 targets)
-      ∙ ap (λ cs. filter (λ (c : Bio). is_child_of c.owner n) old ++ cs) (none_kept (λ (c : Bio). is_child_of c.owner n) (kids 0 targets) (child_test n other))
+      ∙ ap (λ cs. filter (λ (c : Bio). is_child_of c.owner n) old ++ cs)
+      (none_kept (λ (c : Bio). is_child_of c.owner n) (kids 0 targets) (child_test n other))
       ∙ append-nil (filter (λ (c : Bio). is_child_of c.owner n) old)
       ∙ filter-changed is_it wait (λ (c : Bio). is_child_of c.owner n) (λ c e. refl) w.bios
 
@@ -169,7 +174,8 @@ module _ (w : World) (x : Bio) (targets : List PieceTarget) where
     each_after : (P Q : Bio → Type 0) → (Q x → P (wait x)) → ((z : Bio) → is_it z ≡ false → Q z → P z)
         → AllByRecursion P (kids 0 targets) → All Q w.bios → All P parted.bios
     each_after P Q here there new facts =
-        All-append P old (kids 0 targets) (all_changed (λ (z : Bio). z.number) wait w.next_bio w.bios x hold.numbers found P Q here there facts)
+        All-append P old (kids 0 targets)
+        (all_changed (λ (z : Bio). z.number) wait w.next_bio w.bios x hold.numbers found P Q here there facts)
         (All-from_recursion P (kids 0 targets) new)
 
     -- numbers
@@ -178,11 +184,15 @@ module _ (w : World) (x : Bio) (targets : List PieceTarget) where
         let olds : AreNumbers (map (λ (z : Bio). z.number) old) w.next_bio =
         numbers-changed (λ (z : Bio). z.number) is_it wait (λ z e. refl) w.next_bio w.bios hold.numbers in
         let news = kids_rise 0 targets in
-        subst (λ (ns : List ℕ). AreNumbers ns parted.next_bio) (sym (seen_append (λ (z : Bio). z.number) old (kids 0 targets)))
-        (numbers-from 0 parted.next_bio (map (λ (z : Bio). z.number) old ++ map (λ (z : Bio). z.number) (kids 0 targets))
-        (rise_append 0 w.next_bio parted.next_bio (map (λ (z : Bio). z.number) old) (map (λ (z : Bio). z.number) (kids 0 targets))
+        subst (λ (ns : List ℕ). AreNumbers ns parted.next_bio)
+        (sym (seen_append (λ (z : Bio). z.number) old (kids 0 targets)))
+        (numbers-from 0 parted.next_bio
+        (map (λ (z : Bio). z.number) old ++ map (λ (z : Bio). z.number) (kids 0 targets))
+        (rise_append 0 w.next_bio parted.next_bio (map (λ (z : Bio). z.number) old)
+        (map (λ (z : Bio). z.number) (kids 0 targets))
         (omega arith) (omega arith) (rise-from w.next_bio (map (λ (z : Bio). z.number) old) olds)
-        (rise-wider (w.next_bio + 0) w.next_bio (w.next_bio + 0 + length (kids 0 targets)) parted.next_bio (map (λ (z : Bio). z.number) (kids 0 targets))
+        (rise-wider (w.next_bio + 0) w.next_bio (w.next_bio + 0 + length (kids 0 targets)) parted.next_bio
+        (map (λ (z : Bio). z.number) (kids 0 targets))
         (omega arith) (omega arith) news)))
 
     -- the bio is found Waiting
@@ -192,15 +202,18 @@ module _ (w : World) (x : Bio) (targets : List PieceTarget) where
         (at-here (λ (z : Bio). z.number) wait (λ z. refl) x.number w.bios x found)
 
     -- what is Waiting stays so
-    waiting_at : (n : ℕ) (o : Option Bio) → bio_at w n ≡ o → IsSomeAnd o (λ q. IsTrue (is_waiting q.phase)) → (b : Bool) → (n == x.number) ≡ b
+    waiting_at : (n : ℕ) (o : Option Bio) → bio_at w n ≡ o → IsSomeAnd o (λ q. IsTrue (is_waiting q.phase))
+        → (b : Bool) → (n == x.number) ≡ b
         → IsSomeAnd (bio_at parted n) (λ q. IsTrue (is_waiting q.phase))
     waiting_at n None at has b e = absurd has
     waiting_at n (Some q) at has true e =
-        subst (λ (m : ℕ). IsSomeAnd (bio_at parted m) (λ q. IsTrue (is_waiting q.phase))) (sym (eqb-true n x.number e)) (rw found_waiting refl)
+        subst (λ (m : ℕ). IsSomeAnd (bio_at parted m) (λ q. IsTrue (is_waiting q.phase)))
+        (sym (eqb-true n x.number e)) (rw found_waiting refl)
     waiting_at n (Some q) at has false e =
         let same : find (λ (z : Bio). z.number == n) old ≡ bio_at w n =
         at-unchanged (λ (z : Bio). z.number) wait (λ z. refl) x.number n (eqb-false n x.number e) w.bios in
-        let there : bio_at parted n ≡ Some q = found-before (λ (z : Bio). z.number == n) old (kids 0 targets) q (same ∙ at) in
+        let there : bio_at parted n ≡ Some q =
+        found-before (λ (z : Bio). z.number == n) old (kids 0 targets) q (same ∙ at) in
         rw there has
 
     -- a parent stays
@@ -249,15 +262,20 @@ module _ (w : World) (x : Bio) (targets : List PieceTarget) where
         ∙ all_kept (λ (c : Bio). is_child_of c.owner x.number) (kids 0 targets)
         (kids_any (λ (c : Bio). is_child_of c.owner x.number ≡ true) (λ k z. eq-eqb x.number x.number refl) 0 targets)
 
-    module _ (p : Provider) (g : Geom Config) (to_it : provider_at w.topology x.target ≡ Some p) (of_it : geom_at w.topology p.geom ≡ Some g)
-        (are : targets ≡ piece_targets g.config p x) (some : targets ≢ []) (lead : AllByRecursion (GoesDown w x) targets) where
+    module _ (p : Provider) (g : Geom Config) (to_it : provider_at w.topology x.target ≡ Some p)
+        (of_it : geom_at w.topology p.geom ≡ Some g)
+        (are : targets ≡ piece_targets g.config p x) (some : targets ≢ [])
+        (lead : AllByRecursion (GoesDown w x) targets) where
       -- its pieces are these
       pieces_here : HasItsPieces parted (wait x)
       pieces_here =
-          let shapes : map shape_of_child (children_of parted x.number) ≡ map (λ item. shape_of_piece (wait x) item.0 item.1) (enumerate_from 0 (piece_targets g.config p (wait x))) =
+          let shapes : map shape_of_child (children_of parted x.number) ≡ map
+          (λ item. shape_of_piece (wait x) item.0 item.1) (enumerate_from 0 (piece_targets g.config p (wait x))) =
           ap (λ (cs : List Bio). map shape_of_child cs) children_here
-          ∙ seen_map shape_of_child (λ (item : ℕ × PieceTarget). piece_child w.topology w.next_bio x item.0 item.1) (enumerate_from 0 targets)
-          ∙ ap (λ (zs : List PieceTarget). map (λ (item : ℕ × PieceTarget). shape_of_piece (wait x) item.0 item.1) (enumerate_from 0 zs)) are in
+          ∙ seen_map shape_of_child (λ (item : ℕ × PieceTarget). piece_child w.topology w.next_bio x item.0 item.1)
+          (enumerate_from 0 targets)
+          ∙ ap (λ (zs : List PieceTarget). map (λ (item : ℕ × PieceTarget). shape_of_piece (wait x) item.0 item.1)
+          (enumerate_from 0 zs)) are in
           rw (to_it, of_it) shapes
 
       -- not all of them are Done
@@ -270,7 +288,8 @@ module _ (w : World) (x : Bio) (targets : List PieceTarget) where
       family_here is = record {
         parent = parent_kept x.owner is.parent;
         pieces = λ waiting. pieces_here;
-        not_complete = λ waiting. subst (λ (cs : List Bio). list_all (λ (c : Bio). is_done c.phase) cs ≡ false) (sym children_here) (not_done targets some);
+        not_complete = λ waiting. subst (λ (cs : List Bio). list_all (λ (c : Bio). is_done c.phase) cs ≡ false)
+            (sym children_here) (not_done targets some);
         root = λ root. refl;
       }
 
@@ -282,10 +301,13 @@ module _ (w : World) (x : Bio) (targets : List PieceTarget) where
           record {
             parent = parent_kept z.owner is.parent;
             pieces = λ waiting. subst (AreItsPieces w z)
-                (sym (ap (λ (cs : List Bio). map shape_of_child cs) same ∙ map-changed is_it wait shape_of_child (λ c d. refl) (children_of w z.number)))
+                (sym (ap (λ (cs : List Bio). map shape_of_child cs) same
+                ∙ map-changed is_it wait shape_of_child (λ c d. refl) (children_of w z.number)))
                 (is.pieces waiting);
-            not_complete = λ waiting. subst (λ (cs : List Bio). list_all (λ (c : Bio). is_done c.phase) cs ≡ false) (sym same)
-                (all-fewer is_it (λ (c : Bio). is_done c.phase) wait (λ c d. refl) (children_of w z.number) (is.not_complete waiting));
+            not_complete = λ waiting. subst (λ (cs : List Bio). list_all (λ (c : Bio). is_done c.phase) cs ≡ false)
+                (sym same)
+                (all-fewer is_it (λ (c : Bio). is_done c.phase) wait (λ c d. refl) (children_of w z.number)
+                (is.not_complete waiting));
             root = is.root;
           }
 
@@ -302,7 +324,8 @@ module _ (w : World) (x : Bio) (targets : List PieceTarget) where
       order_here : IsBioInOrder w x → IsBioInOrder parted (wait x)
       order_here is = record {
         source = is.source;
-        target = some_weaker (λ (q : Provider). is_flush x.cmd ≡ false → IsRangeInside x q) (λ (q : Provider). is_flush x.cmd ≡ false → IsRangeInside (wait x) q)
+        target = some_weaker (λ (q : Provider). is_flush x.cmd ≡ false → IsRangeInside x q)
+            (λ (q : Provider). is_flush x.cmd ≡ false → IsRangeInside (wait x) q)
             (range_turned x phases.Waiting (λ r. r)) (provider_at w.topology x.target) is.target;
         bytes = is.bytes;
       }
@@ -319,17 +342,23 @@ module _ (w : World) (x : Bio) (targets : List PieceTarget) where
       }
 
       -- a child is in order
-      order_new : (k : ℕ) (z : PieceTarget) → GoesDown w x z → IsBioInOrder parted (piece_child w.topology w.next_bio x k z)
+      order_new : (k : ℕ) (z : PieceTarget) → GoesDown w x z
+          → IsBioInOrder parted (piece_child w.topology w.next_bio x k z)
       order_new k z goes =
           let found_it : consumer_at w.topology z.consumer ≡ Some goes.consumer = goes.found in
           let attached : goes.consumer.provider ≡ Some goes.under = goes.to_it in
           let stands : provider_at w.topology goes.under ≡ Some goes.provider = goes.stands in
-          let to_there : unwrap_or (provider_of_consumer w.topology z.consumer) 0 ≡ goes.under = rw (found_it, attached) refl in
+          let to_there : unwrap_or (provider_of_consumer w.topology z.consumer) 0 ≡ goes.under =
+          rw (found_it, attached) refl in
           record {
-            source = subst (λ (o : Option Consumer). IsSomeAnd o (λ c. (c.provider ≡ Some (unwrap_or (provider_of_consumer w.topology z.consumer) 0)) × HasCountFor w x c))
+            source = subst
+                (λ (o : Option Consumer). IsSomeAnd o
+                (λ c. (c.provider ≡ Some (unwrap_or (provider_of_consumer w.topology z.consumer) 0))
+                × HasCountFor w x c))
                 (sym found_it) (attached ∙ ap (λ (n : ℕ). Some n) (sym to_there), goes.count);
             target = subst (λ (n : ℕ). IsSomeAnd (provider_at w.topology n)
-                (λ q. is_flush x.cmd ≡ false → IsRangeInside (piece_child w.topology w.next_bio x k z) q)) (sym to_there)
+                (λ q. is_flush x.cmd ≡ false → IsRangeInside (piece_child w.topology w.next_bio x k z) q))
+                (sym to_there)
                 (rw stands (λ moves. range_new k z goes.provider (goes.range moves)));
             bytes = goes.bytes;
           }
@@ -355,23 +384,28 @@ module _ (w : World) (x : Bio) (targets : List PieceTarget) where
       no_reads = kids_any (λ (c : Bio). is_taste_root c.owner ≡ false) (λ k z. refl) 0 targets
 
       -- whether the read of a taste is out stays
-      any_same : list_any (λ (z : Bio). is_taste_root z.owner) parted.bios ≡ list_any (λ (z : Bio). is_taste_root z.owner) w.bios
+      any_same : list_any (λ (z : Bio). is_taste_root z.owner) parted.bios ≡ list_any
+          (λ (z : Bio). is_taste_root z.owner) w.bios
       any_same =
           list_any-append (λ (z : Bio). is_taste_root z.owner) old (kids 0 targets)
-          ∙ or_nothing (list_any (λ (z : Bio). is_taste_root z.owner) old) (list_any (λ (z : Bio). is_taste_root z.owner) (kids 0 targets))
+          ∙ or_nothing (list_any (λ (z : Bio). is_taste_root z.owner) old)
+          (list_any (λ (z : Bio). is_taste_root z.owner) (kids 0 targets))
           (none_any (λ (z : Bio). is_taste_root z.owner) (kids 0 targets) no_reads)
           ∙ any-changed is_it wait (λ (z : Bio). is_taste_root z.owner) (λ z e. refl) w.bios
 
       -- the reads are as before
-      reads_same : filter (λ (z : Bio). is_taste_root z.owner) parted.bios ≡ change_where is_it wait (filter (λ (z : Bio). is_taste_root z.owner) w.bios)
+      reads_same : filter (λ (z : Bio). is_taste_root z.owner) parted.bios ≡ change_where is_it wait
+          (filter (λ (z : Bio). is_taste_root z.owner) w.bios)
       reads_same =
           filter-append (λ (z : Bio). is_taste_root z.owner) old (kids 0 targets)
-          ∙ ap (λ cs. filter (λ (z : Bio). is_taste_root z.owner) old ++ cs) (none_kept (λ (z : Bio). is_taste_root z.owner) (kids 0 targets) no_reads)
+          ∙ ap (λ cs. filter (λ (z : Bio). is_taste_root z.owner) old ++ cs)
+          (none_kept (λ (z : Bio). is_taste_root z.owner) (kids 0 targets) no_reads)
           ∙ append-nil (filter (λ (z : Bio). is_taste_root z.owner) old)
           ∙ filter-changed is_it wait (λ (z : Bio). is_taste_root z.owner) (λ z e. refl) w.bios
 
       -- and there are as many
-      as_many : count_by (λ (z : Bio). is_taste_root z.owner) parted.bios ≡ count_by (λ (z : Bio). is_taste_root z.owner) w.bios
+      as_many : count_by (λ (z : Bio). is_taste_root z.owner) parted.bios ≡ count_by
+          (λ (z : Bio). is_taste_root z.owner) w.bios
       as_many =
           sym (length-filter (λ (z : Bio). is_taste_root z.owner) parted.bios)
           ∙ ap (λ (zs : List Bio). length zs) reads_same
@@ -380,7 +414,8 @@ module _ (w : World) (x : Bio) (targets : List PieceTarget) where
 
       -- the sector that is read
       abbrev ReadsSector : Bio → Type 0
-      ReadsSector z = IsTrue (is_taste_root z.owner) → IsSomeAnd (provider_at w.topology z.target) (λ q. z.len ≡ q.sector)
+      ReadsSector z = IsTrue (is_taste_root z.owner)
+          → IsSomeAnd (provider_at w.topology z.target) (λ q. z.len ≡ q.sector)
 
       -- the number of the bio is given out
       below_next : x.number < w.next_bio
@@ -401,17 +436,22 @@ module _ (w : World) (x : Bio) (targets : List PieceTarget) where
           at_disk = each_after (λ (z : Bio). IsTrue (is_sent z.phase || is_busy z.phase) → IsSome (disk_of_bio w z))
               (λ (z : Bio). IsTrue (is_sent z.phase || is_busy z.phase) → IsSome (disk_of_bio w z))
               (λ at sent. absurd cc) (λ z e at. at)
-              (kids_any (λ (z : Bio). IsTrue (is_sent z.phase || is_busy z.phase) → IsSome (disk_of_bio w z)) (λ k z sent. absurd cc) 0 targets) hold.disks.at_disk;
+              (kids_any (λ (z : Bio). IsTrue (is_sent z.phase || is_busy z.phase) → IsSome (disk_of_bio w z))
+              (λ k z sent. absurd cc) 0 targets) hold.disks.at_disk;
           one_busy = one_busy;
         };
-        read_out = subst (λ (b : Bool). IsTrue b ↔ IsTrue (option_map_or (λ s. is_read_out s.asked) w.taste false)) (sym any_same) hold.read_out;
-        owners = each_after (λ (z : Bio). ComesFromItsOwner parted z z.owner) (λ (z : Bio). ComesFromItsOwner w z z.owner)
+        read_out = subst (λ (b : Bool). IsTrue b ↔ IsTrue (option_map_or (λ s. is_read_out s.asked) w.taste false))
+            (sym any_same) hold.read_out;
+        owners = each_after (λ (z : Bio). ComesFromItsOwner parted z z.owner)
+            (λ (z : Bio). ComesFromItsOwner w z z.owner)
             (owner_waiting x.owner) (λ z e comes. owner_kept z z.owner comes)
-            (kids_any (λ (z : Bio). ComesFromItsOwner parted z z.owner) (λ k z. omega (arith, below_next)) 0 targets) hold.owners;
+            (kids_any (λ (z : Bio). ComesFromItsOwner parted z z.owner)
+            (λ k z. omega (arith, below_next)) 0 targets) hold.owners;
         results = each_after HasItsResult HasItsResult (λ has up. absurd cc) (λ z e has. has)
             (kids_any HasItsResult (λ k z up. absurd cc) 0 targets) hold.results;
         read = record {
           one = rw as_many hold.read.one;
-          sector = each_after ReadsSector ReadsSector (λ reads. reads) (λ z e reads. reads) (kids_any ReadsSector (λ k z reads. absurd cc) 0 targets) hold.read.sector;
+          sector = each_after ReadsSector ReadsSector (λ reads. reads) (λ z e reads. reads)
+              (kids_any ReadsSector (λ k z reads. absurd cc) 0 targets) hold.read.sector;
         };
       }

@@ -1,16 +1,16 @@
 -- An Up of a child keeps a mesh firm, whether it is the last or not.
-use Rattle.std.specs.Prelude.{◌≡◌, ◌≢◌, ℕ, ◌==◌, Bool, true, false, not, ◌||◌, List, map, filter, Option, Some, None, Contains, IsSome, IsSomeAnd, IsTrue, if◌then◌else◌}
+use Rattle.std.specs.Prelude.{◌≡◌, ◌≢◌, ℕ, ◌==◌, Bool, true, false, not, ◌||◌, List, map, Option, Some, None, Contains, IsSomeAnd, IsTrue, if◌then◌else◌}
 use Rattle.std.specs.List.{AllByRecursion, list_all}
-use Rattle.std.proofs.Common.{refl, sym, ◌∙◌, ap, subst, arith}
-use Rattle.std.proofs.lemmas.Bool.{eq-eqb, eqb-true, or_left, or_right}
+use Rattle.std.proofs.Common.{refl, sym, ◌∙◌, ap, subst}
+use Rattle.std.proofs.lemmas.Bool.{eq-eqb, or_left, or_right}
 use Rattle.std.proofs.lemmas.List.Elements.{All-contains}
 use Rattle.geo_model.specs.declared.step.BioResult.{BioResult}
 use Rattle.geo_model.specs.declared.step.Owner.TheVariants as owners
 use Rattle.geo_model.specs.declared.step.Phase.TheVariants as phases
 use Rattle.geo_model.specs.Words.{change_where}
-use Rattle.geo_model.specs.World.{World, Bio, bio_at, change_bio, children_of, is_done, is_up, is_waiting, is_child_of}
-use Rattle.geo_model.specs.Bios.{up_with, joined_result, child_results, complete_parent, is_complete, up_child}
-use Rattle.geo_model.specs.SoundBios.{IsFamilyInOrder, HasItsParent, HasItsPieces, shape_of_child}
+use Rattle.geo_model.specs.World.{World, Bio, bio_at, children_of, is_done, is_up, is_waiting, is_child_of}
+use Rattle.geo_model.specs.Bios.{joined_result, child_results, complete_parent, is_complete, up_child}
+use Rattle.geo_model.specs.SoundBios.{IsFamilyInOrder}
 use Rattle.geo_model.specs.Steady.{ComesFromItsOwner, HasItsResult, FitsBio}
 use Rattle.geo_model.specs.Fitting.{Firm}
 use Rattle.geo_laws_graph.proofs.Lists.{filter-changed, map-changed}
@@ -23,14 +23,16 @@ use Rattle.geo_laws_bios.specs.BioSteps.{turned, turn}
 use Rattle.geo_laws_bio_ups.specs.UpLaws.{ChildUpsStayFirm}
 use Rattle.geo_laws_bios.proofs.Apart.{bios_of, firm_with}
 use Rattle.geo_laws_bios.proofs.Phases.{not_waiting}
-use Rattle.geo_laws_bios.proofs.Turned.{AreItsPieces, children_kept, turns_stay_firm}
+use Rattle.geo_laws_bios.proofs.Turned.{children_kept, turns_stay_firm}
 use Rattle.geo_laws_bios.proofs.Turning.{found_there}
 use Rattle.geo_laws_bio_ups.proofs.Leaving.{untouched, may_end}
-use Rattle.geo_laws_bio_ups.proofs.Completing.{is_gone, completed, completed_hold, not_own_child}
+use Rattle.geo_laws_bio_ups.proofs.Completing.{completed, completed_hold, not_own_child}
 use Rattle.geo_laws_bio_pieces.proofs.Joined.{got, result_fits}
 
-module _ (w : World) (firm : Firm w) (x y : Bio) (index : ℕ) (found : bio_at w x.number ≡ Some x) (up : is_up x.phase ≡ true)
-    (owner : x.owner ≡ owners.Child y.number index) (there : bio_at w y.number ≡ Some y) (waits : is_waiting y.phase ≡ true)
+module _ (w : World) (firm : Firm w) (x y : Bio) (index : ℕ) (found : bio_at w x.number ≡ Some x)
+    (up : is_up x.phase ≡ true)
+    (owner : x.owner ≡ owners.Child y.number index) (there : bio_at w y.number ≡ Some y)
+    (waits : is_waiting y.phase ≡ true)
     (complete : is_complete (turn w x phases.Done (λ r. r)) y.number ≡ true) where
   -- the bios of the world
   hold : BiosHold w
@@ -72,26 +74,32 @@ module _ (w : World) (firm : Firm w) (x y : Bio) (index : ℕ) (found : bio_at w
   done_after : (c : Bio) → Contains cs c → is_done (if is_it c then ended_one c else c).phase ≡ true
   done_after c here =
       let all_done : list_all (λ (v : Bio). is_done v.phase) (change_where is_it ended_one cs) ≡ true =
-      subst (λ (vs : List Bio). list_all (λ (v : Bio). is_done v.phase) vs ≡ true) (children_kept w x phases.Done (λ r. r) y.number) complete in
-      all_true (λ (v : Bio). is_done v.phase) (change_where is_it ended_one cs) all_done (if is_it c then ended_one c else c)
+      subst (λ (vs : List Bio). list_all (λ (v : Bio). is_done v.phase) vs ≡ true)
+      (children_kept w x phases.Done (λ r. r) y.number) complete in
+      all_true (λ (v : Bio). is_done v.phase) (change_where is_it ended_one cs) all_done
+      (if is_it c then ended_one c else c)
       (Contains-map (λ (v : Bio). if is_it v then ended_one v else v) cs c here)
 
   -- so it is Up or Done before
-  over_by : (c : Bio) (b : Bool) → is_it c ≡ b → (is_it c ≡ true → c ≡ x) → is_done (if is_it c then ended_one c else c).phase ≡ true
+  over_by : (c : Bio) (b : Bool) → is_it c ≡ b → (is_it c ≡ true → c ≡ x)
+      → is_done (if is_it c then ended_one c else c).phase ≡ true
       → (is_up c.phase || is_done c.phase) ≡ true
-  over_by c true e same done = subst (λ (v : Bio). (is_up v.phase || is_done v.phase) ≡ true) (sym (same e)) (or_left (is_up x.phase) (is_done x.phase) up)
+  over_by c true e same done = subst (λ (v : Bio). (is_up v.phase || is_done v.phase) ≡ true) (sym (same e))
+      (or_left (is_up x.phase) (is_done x.phase) up)
   over_by c false e same done = or_right (is_up c.phase) (is_done c.phase) (rw e at done)
 
   -- each child of the parent
   over : (c : Bio) → Contains cs c → (is_up c.phase || is_done c.phase) ≡ true
   over c here =
       let stands = filter-Contains (λ (v : Bio). is_child_of v.owner y.number) w.bios c here in
-      over_by c (is_it c) refl (at_contained (λ (v : Bio). is_it v ≡ true → v ≡ x) w.bios c only stands.0) (done_after c here)
+      over_by c (is_it c) refl (at_contained (λ (v : Bio). is_it v ≡ true → v ≡ x) w.bios c only stands.0)
+      (done_after c here)
 
   -- so none of them is Waiting
   none_waits : (c : Bio) → Contains w.bios c → is_child_of c.owner y.number ≡ true → is_waiting c.phase ≡ false
   none_waits c here gone =
-      not_waiting (λ p. is_up p || is_done p) refl c.phase (over c (Contains-filter (λ (v : Bio). is_child_of v.owner y.number) w.bios c here gone))
+      not_waiting (λ p. is_up p || is_done p) refl c.phase
+      (over c (Contains-filter (λ (v : Bio). is_child_of v.owner y.number) w.bios c here gone))
 
   -- and each has its result
   results_there : AllByRecursion (λ (c : Bio). IsSomeAnd c.result (FitsBio c)) cs
@@ -106,7 +114,8 @@ module _ (w : World) (firm : Firm w) (x y : Bio) (index : ℕ) (found : bio_at w
   -- what the children came to is what they come to then
   same_results : child_results gathered y.number ≡ map got cs
   same_results =
-      ap (λ (vs : List Bio). map got vs) (children_kept w x phases.Done (λ r. r) y.number) ∙ map-changed is_it ended_one got (λ c e. refl) cs
+      ap (λ (vs : List Bio). map got vs) (children_kept w x phases.Done (λ r. r) y.number)
+      ∙ map-changed is_it ended_one got (λ c e. refl) cs
 
   -- the result of the parent
   abbrev result : BioResult
@@ -116,14 +125,16 @@ module _ (w : World) (firm : Firm w) (x y : Bio) (index : ℕ) (found : bio_at w
   fits : FitsBio y result
   fits =
       subst (λ rs. FitsBio y (joined_result y.cmd rs)) (sym same_results)
-      (result_fits w firm y y_stands cs x (Contains-filter (λ (v : Bio). is_child_of v.owner y.number) w.bios x x_stands is_child)
+      (result_fits w firm y y_stands cs x
+      (Contains-filter (λ (v : Bio). is_child_of v.owner y.number) w.bios x x_stands is_child)
       results_there (family.pieces waits))
 
   -- the bios then are those without the children, the parent Up
   same_bios : (complete_parent gathered y).bios ≡ (completed w y result).bios
   same_bios =
       let goes : not (is_child_of x.owner y.number) ≡ false = rw is_child refl in
-      filter-changed (λ (v : Bio). v.number == y.number) (turned phases.Up (λ r. Some result)) (λ (v : Bio). not (is_child_of v.owner y.number))
+      filter-changed (λ (v : Bio). v.number == y.number) (turned phases.Up (λ r. Some result))
+      (λ (v : Bio). not (is_child_of v.owner y.number))
       (λ v e. refl) gathered.bios
       ∙ ap (λ (vs : List Bio). change_where (λ v. v.number == y.number) (turned phases.Up (λ r. Some result)) vs)
       (filter-untouched is_it (λ (v : Bio). not (is_child_of v.owner y.number)) ended_one w.bios
@@ -133,9 +144,11 @@ module _ (w : World) (firm : Firm w) (x y : Bio) (index : ℕ) (found : bio_at w
   parent_firm : Firm (complete_parent gathered y)
   parent_firm =
       let own : is_child_of y.owner y.number ≡ false =
-      not_own_child w y y.owner (All-contains (λ (v : Bio). ComesFromItsOwner w v v.owner) w.bios y hold.owners y_stands) in
+      not_own_child w y y.owner
+      (All-contains (λ (v : Bio). ComesFromItsOwner w v v.owner) w.bios y hold.owners y_stands) in
       subst (λ (vs : List Bio). Firm (record w { bios = vs })) (sym same_bios)
-      (firm_with w (completed w y result).bios w.next_bio firm (completed_hold w y result hold there own none_waits fits))
+      (firm_with w (completed w y result).bios w.next_bio firm
+      (completed_hold w y result hold there own none_waits fits))
 
   -- the parent isn't the child
   apart : y.number ≢ x.number
@@ -154,7 +167,8 @@ module _ (w : World) (firm : Firm w) (x y : Bio) (index : ℕ) (found : bio_at w
   last_up : Firm (up_child w x y.number).0
   last_up = rw (complete, found_then) parent_firm
 
-module _ (w : World) (firm : Firm w) (x : Bio) (parent index : ℕ) (found : bio_at w x.number ≡ Some x) (up : is_up x.phase ≡ true)
+module _ (w : World) (firm : Firm w) (x : Bio) (parent index : ℕ) (found : bio_at w x.number ≡ Some x)
+    (up : is_up x.phase ≡ true)
     (owner : x.owner ≡ owners.Child parent index) where
   -- by the parent
   by_parent : (o : Option Bio) → bio_at w parent ≡ o → IsSomeAnd o (λ v. IsTrue (is_waiting v.phase))
@@ -162,7 +176,8 @@ module _ (w : World) (firm : Firm w) (x : Bio) (parent index : ℕ) (found : bio
   by_parent None at has complete = absurd has
   by_parent (Some y) at has complete =
       let same : y.number ≡ parent = number_found (λ (v : Bio). v.number) w.bios parent y at in
-      let of_it : x.owner ≡ owners.Child y.number index = subst (λ (n : ℕ). x.owner ≡ owners.Child n index) (sym same) owner in
+      let of_it : x.owner ≡ owners.Child y.number index =
+      subst (λ (n : ℕ). x.owner ≡ owners.Child n index) (sym same) owner in
       let there : bio_at w y.number ≡ Some y = subst (λ (n : ℕ). bio_at w n ≡ Some y) (sym same) at in
       let all_done : is_complete (turn w x phases.Done (λ r. r)) y.number ≡ true =
       subst (λ (n : ℕ). is_complete (turn w x phases.Done (λ r. r)) n ≡ true) (sym same) complete in
@@ -172,11 +187,14 @@ module _ (w : World) (firm : Firm w) (x : Bio) (parent index : ℕ) (found : bio
   by_last : (b : Bool) → is_complete (turn w x phases.Done (λ r. r)) parent ≡ b → Firm (up_child w x parent).0
   by_last true e =
       let family : IsFamilyInOrder w x =
-      All-contains (IsFamilyInOrder w) w.bios x firm.sound.families (find-Contains (λ (v : Bio). v.number == x.number) w.bios x found) in
+      All-contains (IsFamilyInOrder w) w.bios x firm.sound.families
+      (find-Contains (λ (v : Bio). v.number == x.number) w.bios x found) in
       by_parent (bio_at w parent) refl (rw owner at family.parent) e
-  by_last false e = rw e (turns_stay_firm w x phases.Done (λ r. r) (may_end w x parent index (bios_of w firm) found owner up e) firm)
+  by_last false e = rw e
+      (turns_stay_firm w x phases.Done (λ r. r) (may_end w x parent index (bios_of w firm) found owner up e) firm)
 
 -- an Up of a child keeps a mesh firm
 pub child_ups_stay_firm : ChildUpsStayFirm
 child_ups_stay_firm w b x parent index found up owner firm =
-    by_last w firm x parent index (found_there w b x found) up owner (is_complete (turn w x phases.Done (λ r. r)) parent) refl
+    by_last w firm x parent index (found_there w b x found) up owner
+    (is_complete (turn w x phases.Done (λ r. r)) parent) refl

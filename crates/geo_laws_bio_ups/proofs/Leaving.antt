@@ -1,23 +1,20 @@
 -- A root of a line that is Up goes, and a child that is Up is Done: the bios stay in order.
-use Rattle.std.specs.Prelude.{◌≡◌, ◌≢◌, ◌↔◌, ℕ, ◌≤◌, ◌==◌, Bool, true, false, not, ◌&&◌, ◌||◌, List, length, map, filter, count_by, Option, Some, None, All, AllPairs, IsSome, IsSomeAnd, IsTrue}
-use Rattle.std.specs.List.{AllByRecursion, list_any, list_all, enumerate_from}
+use Rattle.std.specs.Prelude.{◌≡◌, ◌≢◌, ◌↔◌, ℕ, ◌==◌, Bool, true, false, not, ◌||◌, List, length, map, count_by, Some, All, IsSome, IsSomeAnd, IsTrue}
+use Rattle.std.specs.List.{AllByRecursion, list_all}
 use Rattle.std.specs.Option.{option_map_or}
-use Rattle.std.proofs.Common.{refl, sym, ◌∙◌, ap, subst, arith}
+use Rattle.std.proofs.Common.{refl, sym, ◌∙◌, ap, subst}
 use Rattle.std.proofs.lemmas.Bool.{eqb-true, eqb-false, ne_eqb}
 use Rattle.std.proofs.lemmas.List.Elements.{All-filter, All-weaker, All-contains}
 use Rattle.std.proofs.lemmas.List.Kept.{AllPairs-filter}
 use Rattle.std.proofs.lemmas.List.Sums.{length-filter}
-use Rattle.geo_model.specs.declared.step.BioResult.{BioResult}
 use Rattle.geo_model.specs.declared.step.Owner.{Owner}
 use Rattle.geo_model.specs.declared.step.Owner.TheVariants as owners
-use Rattle.geo_model.specs.declared.step.Phase.{Phase}
 use Rattle.geo_model.specs.declared.step.Phase.TheVariants as phases
-use Rattle.geo_model.specs.Topology.{geom_at, provider_at}
+use Rattle.geo_model.specs.Topology.{provider_at}
 use Rattle.geo_model.specs.World.{World, Bio, bio_at, children_of, is_root, is_done, is_busy, is_sent, is_up, is_waiting, is_child_of, is_taste_root, is_read_out}
-use Rattle.geo_model.specs.Bios.{piece_targets, disk_of_bio, is_complete, without_bio}
-use Rattle.geo_model.specs.SoundBios.{IsBioInOrder, IsFamilyInOrder, HasItsParent, HasItsPieces, ChildShape, shape_of_child, shape_of_piece, NotBothBusy}
+use Rattle.geo_model.specs.Bios.{disk_of_bio, is_complete, without_bio}
+use Rattle.geo_model.specs.SoundBios.{IsBioInOrder, IsFamilyInOrder, HasItsParent, shape_of_child, NotBothBusy}
 use Rattle.geo_model.specs.Steady.{ComesFromItsOwner, HasItsResult}
-use Rattle.geo_model.specs.Fitting.{Firm}
 use Rattle.geo_model.proofs.DemandLemmas.{all_weaker}
 use Rattle.geo_laws_graph.proofs.Lists.{numbers-kept}
 use Rattle.geo_laws_graph.proofs.Members.{find-Contains}
@@ -100,18 +97,22 @@ module _ (w : World) (x : Bio) (hold : BiosHold w) (found : bio_at w x.number �
     pub family_kept : (y : Bio) → IsFamilyInOrder w y → IsFamilyInOrder after y
     family_kept y is = record {
       parent = parent_kept y.owner is.parent;
-      pieces = λ waiting. subst (λ (ys : List Bio). AreItsPieces w y (map shape_of_child ys)) (sym (children_kept y.number)) (is.pieces waiting);
-      not_complete = λ waiting. subst (λ (ys : List Bio). list_all (λ (z : Bio). is_done z.phase) ys ≡ false) (sym (children_kept y.number)) (is.not_complete waiting);
+      pieces = λ waiting. subst (λ (ys : List Bio). AreItsPieces w y (map shape_of_child ys))
+          (sym (children_kept y.number)) (is.pieces waiting);
+      not_complete = λ waiting. subst (λ (ys : List Bio). list_all (λ (z : Bio). is_done z.phase) ys ≡ false)
+          (sym (children_kept y.number)) (is.not_complete waiting);
       root = is.root;
     }
 
     module _ (reads : is_taste_root x.owner ≡ false) where
       -- there are as many reads of a taste
-      as_many : count_by (λ (y : Bio). is_taste_root y.owner) after.bios ≡ count_by (λ (y : Bio). is_taste_root y.owner) w.bios
+      as_many : count_by (λ (y : Bio). is_taste_root y.owner) after.bios ≡ count_by
+          (λ (y : Bio). is_taste_root y.owner) w.bios
       as_many =
           sym (length-filter (λ (y : Bio). is_taste_root y.owner) after.bios)
           ∙ ap (λ (ys : List Bio). length ys)
-          (filter-spared is_it (λ (y : Bio). is_taste_root y.owner) w.bios (spared (λ (y : Bio). is_taste_root y.owner) reads))
+          (filter-spared is_it (λ (y : Bio). is_taste_root y.owner) w.bios
+          (spared (λ (y : Bio). is_taste_root y.owner) reads))
           ∙ length-filter (λ (y : Bio). is_taste_root y.owner) w.bios
 
       -- without a root that isn't Waiting and reads for no taste the bios are in order
@@ -122,25 +123,30 @@ module _ (w : World) (x : Bio) (hold : BiosHold w) (found : bio_at w x.number �
             (λ y is. record { source = is.source; target = is.target; bytes = is.bytes }) hold.order;
         families = each_after (IsFamilyInOrder after) (IsFamilyInOrder w) family_kept hold.families;
         disks = record {
-          at_disk = All-filter (λ (y : Bio). not (is_it y)) (λ (y : Bio). IsTrue (is_sent y.phase || is_busy y.phase) → IsSome (disk_of_bio w y))
+          at_disk = All-filter (λ (y : Bio). not (is_it y))
+              (λ (y : Bio). IsTrue (is_sent y.phase || is_busy y.phase) → IsSome (disk_of_bio w y))
               w.bios hold.disks.at_disk;
           one_busy = AllPairs-filter (NotBothBusy w) (λ (y : Bio). not (is_it y)) w.bios hold.disks.one_busy;
         };
         read_out = subst (λ (b : Bool). IsTrue b ↔ IsTrue (option_map_or (λ s. is_read_out s.asked) w.taste false))
-            (sym (any-spared is_it (λ (y : Bio). is_taste_root y.owner) w.bios (spared (λ (y : Bio). is_taste_root y.owner) reads))) hold.read_out;
-        owners = each_after (λ (y : Bio). ComesFromItsOwner after y y.owner) (λ (y : Bio). ComesFromItsOwner w y y.owner)
+            (sym (any-spared is_it (λ (y : Bio). is_taste_root y.owner) w.bios
+            (spared (λ (y : Bio). is_taste_root y.owner) reads))) hold.read_out;
+        owners = each_after (λ (y : Bio). ComesFromItsOwner after y y.owner)
+            (λ (y : Bio). ComesFromItsOwner w y y.owner)
             (λ y comes. owner_kept y y.owner comes) hold.owners;
         results = All-filter (λ (y : Bio). not (is_it y)) HasItsResult w.bios hold.results;
         read = record {
           one = rw as_many hold.read.one;
           sector = All-filter (λ (y : Bio). not (is_it y))
-              (λ (y : Bio). IsTrue (is_taste_root y.owner) → IsSomeAnd (provider_at w.topology y.target) (λ p. y.len ≡ p.sector)) w.bios hold.read.sector;
+              (λ (y : Bio). IsTrue (is_taste_root y.owner)
+              → IsSomeAnd (provider_at w.topology y.target) (λ p. y.len ≡ p.sector)) w.bios hold.read.sector;
         };
       }
 
   -- what has a result keeps it
   pub has_result : HasItsResult x
-  has_result = All-contains HasItsResult w.bios x hold.results (find-Contains (λ (y : Bio). y.number == x.number) w.bios x found)
+  has_result = All-contains HasItsResult w.bios x hold.results
+      (find-Contains (λ (y : Bio). y.number == x.number) w.bios x found)
 
 -- an Up of a root of a line keeps a mesh firm
 pub line_ups_stay_firm : LineUpsStayFirm
@@ -161,7 +167,8 @@ module _ (w : World) (x : Bio) (parent index : ℕ) (hold : BiosHold w) (found :
   other_kept n other =
       let no_child : is_child_of x.owner n ≡ false = rw owner (ne_eqb parent n (λ same. other (sym same))) in
       ap (λ (ys : List Bio). list_all (λ (z : Bio). is_done z.phase) ys)
-      (filter-untouched (λ (y : Bio). y.number == x.number) (λ (y : Bio). is_child_of y.owner n) (turned phases.Done (λ r. r)) w.bios
+      (filter-untouched (λ (y : Bio). y.number == x.number) (λ (y : Bio). is_child_of y.owner n)
+      (turned phases.Done (λ r. r)) w.bios
       (untouched w x hold found (λ (y : Bio). is_child_of y.owner n) (turned phases.Done (λ r. r)) no_child no_child))
 
   -- so no bio becomes complete, where the parent doesn't
@@ -172,7 +179,8 @@ module _ (w : World) (x : Bio) (parent index : ℕ) (hold : BiosHold w) (found :
   incomplete_by last n false e none = other_kept n (eqb-false n parent e) ∙ none
 
   -- a child that is Up may be Done, where its parent isn't complete then
-  pub may_end : is_up x.phase ≡ true → is_complete (turn w x phases.Done (λ r. r)) parent ≡ false → MayTurn w x phases.Done (λ r. r)
+  pub may_end : is_up x.phase ≡ true → is_complete (turn w x phases.Done (λ r. r)) parent ≡ false
+      → MayTurn w x phases.Done (λ r. r)
   may_end up last = record {
     found = found;
     waited = not_waiting is_up refl x.phase up;

@@ -4,3 +4,4 @@ pub mod Ascending
 pub mod Serving
 pub mod Tasted
 pub mod Rising
+pub mod BioSteps

@@ -1,2 +1,3 @@
 pub mod UpLaws
 pub mod ServingLaws
+pub mod BioStepLaws

@@ -5,8 +5,8 @@ use Rattle.geo_model.specs.World.{World, Bio, is_root, is_waiting}
 use Rattle.geo_model.specs.Fitting.{Firm}
 use Rattle.geo_laws_bio_pieces.specs.PieceLaws.{SourceServes}
 
--- of some bios of a firm mesh, each Waiting one among them: where by other grants the sources of the roots have the counts
--- for them, so have the sources of all
+-- of some bios of a firm mesh, each Waiting one among them: where by other grants the sources of the roots have the
+-- counts for them, so have the sources of all
 abbrev pub SourcesServeAll : Type 0
 SourcesServeAll =
     (w : World) (granted : ℕ → Counts) (keep : Bio → Bool) → Firm w

@@ -10,18 +10,21 @@ use Rattle.geo_model.specs.Fitting.{Firm}
 -- an Up of a root of a line leaves a firm mesh firm
 abbrev pub LineUpsStayFirm : Type 0
 LineUpsStayFirm =
-    (w : World) (b : ℕ) (x : Bio) (handle line : ℕ) → bio_at w b ≡ Some x → is_up x.phase ≡ true → x.owner ≡ owners.Line handle line
+    (w : World) (b : ℕ) (x : Bio) (handle line : ℕ) → bio_at w b ≡ Some x → is_up x.phase ≡ true
+    → x.owner ≡ owners.Line handle line
     → Firm w → Firm (up_line w x line).0
 
 -- so does an Up of the root of a taste
 abbrev pub TasteUpsStayFirm : Type 0
 TasteUpsStayFirm =
-    (w : World) (b : ℕ) (x : Bio) → bio_at w b ≡ Some x → is_up x.phase ≡ true → x.owner ≡ owners.Taste → Firm w → Firm (up_taste w x).0
+    (w : World) (b : ℕ) (x : Bio) → bio_at w b ≡ Some x → is_up x.phase ≡ true → x.owner ≡ owners.Taste → Firm w
+    → Firm (up_taste w x).0
 
 -- so does an Up of a child, whether it is the last of its parent's or not
 abbrev pub ChildUpsStayFirm : Type 0
 ChildUpsStayFirm =
-    (w : World) (b : ℕ) (x : Bio) (parent index : ℕ) → bio_at w b ≡ Some x → is_up x.phase ≡ true → x.owner ≡ owners.Child parent index
+    (w : World) (b : ℕ) (x : Bio) (parent index : ℕ) → bio_at w b ≡ Some x → is_up x.phase ≡ true
+    → x.owner ≡ owners.Child parent index
     → Firm w → Firm (up_child w x parent).0
 
 -- so does any Up, whether it is enabled or not

@@ -1,6 +1,7 @@
 //! Laws of an Up: it leaves a mesh sound, steady and fitting (g_bio(9)).
 #![tactic(auto)]
 
+ghost use Rattle.geo_laws_bio_ups.specs.BioStepLaws.{BioStepsStayFirm};
 ghost use Rattle.geo_laws_bio_ups.specs.ServingLaws.{SourcesServeAll};
 ghost use Rattle.geo_laws_bio_ups.specs.UpLaws.{ChildUpsStayFirm, LineUpsStayFirm, TasteUpsStayFirm, UpsStayFirm};
 
@@ -27,4 +28,9 @@ pub fn child_ups_stay_firm()
 /// A bio that is Up goes to its owner, or it isn't Up.
 pub fn ups_stay_firm()
     ensures { UpsStayFirm }
+{}
+
+/// Start, Take, Deliver and Up leave a firm mesh firm, made by any seat, whether they are enabled or not.
+pub fn bio_steps_stay_firm()
+    ensures { BioStepsStayFirm }
 {}

@@ -135,7 +135,8 @@ fitting_of w bios rest = record {
 
 -- what makes it firm
 pub firm_of : (w : World) → BiosHold w → RestHolds w → Firm w
-firm_of w bios rest = record { sound = sound_of w bios rest; steady = steady_of w bios rest; fitting = fitting_of w bios rest }
+firm_of w bios rest =
+    record { sound = sound_of w bios rest; steady = steady_of w bios rest; fitting = fitting_of w bios rest }
 
 -- both together
 pub firm_is_both : FirmIsBoth
@@ -145,7 +146,8 @@ firm_is_both w = ((λ firm. (bios_of w firm, rest_of w firm)), (λ both. firm_of
 handles_with : (w : World) (bios : List Bio) (next : ℕ) → HandlesHold w → HandlesHold (with_bios w bios next)
 handles_with w bios next handles = record {
   consumers = All-weaker (IsHandleConsumer w) (IsHandleConsumer (with_bios w bios next))
-      (λ c is. record { attached = is.attached; one_handle = is.one_handle }) (consumers_of w.topology 1) handles.consumers;
+      (λ c is. record { attached = is.attached; one_handle = is.one_handle })
+      (consumers_of w.topology 1) handles.consumers;
   handles = handles.handles;
   taste = handles.taste;
 }
@@ -192,14 +194,16 @@ sizes_with w bios next sizes = record {
 }
 
 -- a taste, with whatever bios
-taste_with : (w : World) (bios : List Bio) (next : ℕ) (s : Taste) → IsTasteInOrder w s → IsTasteInOrder (with_bios w bios next) s
+taste_with : (w : World) (bios : List Bio) (next : ℕ) (s : Taste) → IsTasteInOrder w s
+    → IsTasteInOrder (with_bios w bios next) s
 taste_with w bios next s is = record { rank = is.rank; reads = is.reads; chain = is.chain }
 
 -- the queue and the taste, with whatever bios
 tasting_with : (w : World) (bios : List Bio) (next : ℕ) → TasteHolds w → TasteHolds (with_bios w bios next)
 tasting_with w bios next tasting = record {
   living = tasting.living;
-  taste = if_some_weaker (IsTasteInOrder w) (IsTasteInOrder (with_bios w bios next)) (taste_with w bios next) w.taste tasting.taste;
+  taste = if_some_weaker (IsTasteInOrder w) (IsTasteInOrder (with_bios w bios next))
+      (taste_with w bios next) w.taste tasting.taste;
   asked = tasting.asked;
 }
 
@@ -213,7 +217,8 @@ rest_ignores_bios w bios next rest = record {
 }
 
 -- a mesh of which only the bios change is firm just where these are in order
-pub firm_with : (w : World) (bios : List Bio) (next : ℕ) → Firm w → BiosHold (with_bios w bios next) → Firm (with_bios w bios next)
+pub firm_with : (w : World) (bios : List Bio) (next : ℕ) → Firm w → BiosHold (with_bios w bios next)
+    → Firm (with_bios w bios next)
 firm_with w bios next firm hold = firm_of (with_bios w bios next) hold (rest_ignores_bios w bios next (rest_of w firm))
 
 -- Other commands left
@@ -235,7 +240,8 @@ graph_left w actors graph = record {
   };
   handles = record {
     consumers = All-weaker (IsHandleConsumer w) (IsHandleConsumer (with_left w actors))
-        (λ c is. record { attached = is.attached; one_handle = is.one_handle }) (consumers_of w.topology 1) graph.handles.consumers;
+        (λ c is. record { attached = is.attached; one_handle = is.one_handle })
+        (consumers_of w.topology 1) graph.handles.consumers;
     handles = graph.handles.handles;
     taste = graph.handles.taste;
   };
@@ -249,7 +255,8 @@ graph_left w actors graph = record {
 }
 
 -- the sizes and the taste, with other commands left
-rest_left : (w : World) (actors : List (List LineCommand)) → All (All (λ c. IsCommand c.command)) actors → RestHolds w → RestHolds (with_left w actors)
+rest_left : (w : World) (actors : List (List LineCommand)) → All (All (λ c. IsCommand c.command)) actors
+    → RestHolds w → RestHolds (with_left w actors)
 rest_left w actors are rest = record {
   graph = graph_left w actors rest.graph;
   sizes = record {
@@ -271,13 +278,15 @@ rest_left w actors are rest = record {
 }
 
 -- a parent, with other commands left
-parent_left : (w : World) (actors : List (List LineCommand)) (o : Owner) → HasItsParent w o → HasItsParent (with_left w actors) o
+parent_left : (w : World) (actors : List (List LineCommand)) (o : Owner) → HasItsParent w o
+    → HasItsParent (with_left w actors) o
 parent_left w actors (owners.Line handle line) has = has
 parent_left w actors owners.Taste has = has
 parent_left w actors (owners.Child parent index) has = has
 
 -- an owner, with other commands left
-owner_left : (w : World) (actors : List (List LineCommand)) (x : Bio) (o : Owner) → ComesFromItsOwner w x o → ComesFromItsOwner (with_left w actors) x o
+owner_left : (w : World) (actors : List (List LineCommand)) (x : Bio) (o : Owner) → ComesFromItsOwner w x o
+    → ComesFromItsOwner (with_left w actors) x o
 owner_left w actors x (owners.Line handle line) comes = comes
 owner_left w actors x owners.Taste comes = comes
 owner_left w actors x (owners.Child parent index) comes = comes
@@ -289,10 +298,17 @@ bios_left w actors bios = record {
   order = All-weaker (IsBioInOrder w) (IsBioInOrder (with_left w actors))
       (λ x is. record { source = is.source; target = is.target; bytes = is.bytes }) w.bios bios.order;
   families = All-weaker (IsFamilyInOrder w) (IsFamilyInOrder (with_left w actors))
-      (λ x is. record { parent = parent_left w actors x.owner is.parent; pieces = is.pieces; not_complete = is.not_complete; root = is.root }) w.bios bios.families;
+      (λ x is. record {
+        parent = parent_left w actors x.owner is.parent;
+        pieces = is.pieces;
+        not_complete = is.not_complete;
+        root = is.root;
+      })
+      w.bios bios.families;
   disks = record { at_disk = bios.disks.at_disk; one_busy = bios.disks.one_busy };
   read_out = bios.read_out;
-  owners = All-weaker (λ (x : Bio). ComesFromItsOwner w x x.owner) (λ (x : Bio). ComesFromItsOwner (with_left w actors) x x.owner)
+  owners = All-weaker (λ (x : Bio). ComesFromItsOwner w x x.owner)
+      (λ (x : Bio). ComesFromItsOwner (with_left w actors) x x.owner)
       (λ x is. owner_left w actors x x.owner is) w.bios bios.owners;
   results = bios.results;
   read = record { one = bios.read.one; sector = bios.read.sector };
@@ -300,4 +316,5 @@ bios_left w actors bios = record {
 
 -- with other commands left a mesh stays firm
 pub commands_are_apart : CommandsAreApart
-commands_are_apart w actors are firm = firm_of (with_left w actors) (bios_left w actors (bios_of w firm)) (rest_left w actors are (rest_of w firm))
+commands_are_apart w actors are firm =
+    firm_of (with_left w actors) (bios_left w actors (bios_of w firm)) (rest_left w actors are (rest_of w firm))

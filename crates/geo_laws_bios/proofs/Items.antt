@@ -1,7 +1,7 @@
 -- Lists of numbered items of which one is changed: what then holds of all, of pairs, and of tests over all.
-use Rattle.std.specs.Prelude.{◌≡◌, ◌≢◌, ℕ, ◌<◌, ◌==◌, Bool, true, false, ◌&&◌, List, [], ◌∷◌, length, map, find, Some, None, Option, All, AllPairs, IsSomeAnd, if◌then◌else◌}
+use Rattle.std.specs.Prelude.{◌≡◌, ℕ, ◌<◌, ◌==◌, Bool, true, false, List, [], ◌∷◌, length, map, find, Some, None, Option, All, AllPairs, IsSomeAnd, if◌then◌else◌}
 use Rattle.std.specs.List.{AllByRecursion, list_all}
-use Rattle.std.proofs.Common.{refl, sym, ◌∙◌, ap, subst, arith, get_or}
+use Rattle.std.proofs.Common.{refl, sym, ap, subst, arith, get_or}
 use Rattle.std.proofs.lemmas.List.{get_or-map, length-map}
 use Rattle.std.proofs.lemmas.List.Elements.{All-map, All-weaker, All-from_recursion}
 use Rattle.geo_model.specs.Words.{change_where}
@@ -9,7 +9,8 @@ use Rattle.geo_model.specs.Graph.{AreNumbers}
 use Rattle.geo_laws_graph.proofs.Numbered.{unique}
 
 -- a fact of what is there that follows from another
-pub some_weaker : {X : Type 0} (P Q : X → Type 0) → ((x : X) → P x → Q x) → (o : Option X) → IsSomeAnd o P → IsSomeAnd o Q
+pub some_weaker : {X : Type 0} (P Q : X → Type 0) → ((x : X) → P x → Q x) → (o : Option X) → IsSomeAnd o P
+    → IsSomeAnd o Q
 some_weaker P Q so None has = has
 some_weaker P Q so (Some x) has = so x has
 
@@ -24,7 +25,8 @@ each_of P so [] = tt
 each_of P so (x ∷ xs) = (so x, each_of P so xs)
 
 -- two facts of each item, item by item
-pub both_by_recursion : {X : Type 0} (P Q : X → Type 0) (xs : List X) → AllByRecursion P xs → AllByRecursion Q xs → AllByRecursion (λ x. P x × Q x) xs
+pub both_by_recursion : {X : Type 0} (P Q : X → Type 0) (xs : List X) → AllByRecursion P xs → AllByRecursion Q xs
+    → AllByRecursion (λ x. P x × Q x) xs
 both_by_recursion P Q [] ps qs = tt
 both_by_recursion P Q (x ∷ xs) ps qs = ((ps.0, qs.0), both_by_recursion P Q xs ps.1 qs.1)
 
@@ -33,7 +35,8 @@ pub all_both : {X : Type 0} (P Q : X → Type 0) (xs : List X) → All P xs → 
 all_both P Q xs ps qs = λ k d short. (ps k d short, qs k d short)
 
 -- pairs of a list are those of the list from which it is mapped
-pub pairs_map : {X : Type 0} (R : X → X → Type 0) (f : X → X) (xs : List X) → AllPairs (λ a b. R (f a) (f b)) xs → AllPairs R (map f xs)
+pub pairs_map : {X : Type 0} (R : X → X → Type 0) (f : X → X) (xs : List X) → AllPairs (λ a b. R (f a) (f b)) xs
+    → AllPairs R (map f xs)
 pairs_map {X} R f xs pairs = λ i j d less short.
     let inside : j < length xs = omega (arith, length-map xs f) in
     let first : i < length xs = omega arith in
@@ -44,19 +47,23 @@ pairs_map {X} R f xs pairs = λ i j d less short.
 
 -- what isn't found passes nowhere
 none_step : {X : Type 0} (test : X → Bool) (x : X) (xs : List X) (b : Bool) → test x ≡ b → find test (x ∷ xs) ≡ None
-    → (find test xs ≡ None → AllByRecursion (λ (y : X). test y ≡ false) xs) → AllByRecursion (λ (y : X). test y ≡ false) (x ∷ xs)
+    → (find test xs ≡ None → AllByRecursion (λ (y : X). test y ≡ false) xs)
+    → AllByRecursion (λ (y : X). test y ≡ false) (x ∷ xs)
 none_step test x xs true e none rest = let bad : Some x ≡ None = rw e at none in absurd cc
 none_step test x xs false e none rest = (e, rest (rw e at none))
 
 -- so for the whole list
-pub none_passes : {X : Type 0} (test : X → Bool) (xs : List X) → find test xs ≡ None → AllByRecursion (λ (y : X). test y ≡ false) xs
+pub none_passes : {X : Type 0} (test : X → Bool) (xs : List X) → find test xs ≡ None
+    → AllByRecursion (λ (y : X). test y ≡ false) xs
 none_passes test [] none = tt
 none_passes test (x ∷ xs) none = none_step test x xs (test x) refl none (λ h. none_passes test xs h)
 
-module _ {X : Type 0} (hit test : X → Bool) (change : X → X) (out : (x : X) → hit x ≡ true → test (change x) ≡ false) where
+module _ {X : Type 0} (hit test : X → Bool) (change : X → X)
+    (out : (x : X) → hit x ≡ true → test (change x) ≡ false) where
   -- one item more of the test over all
   fewer_step : (x : X) (xs : List X) (a b : Bool) → hit x ≡ a → test x ≡ b → list_all test (x ∷ xs) ≡ false
-      → (list_all test xs ≡ false → list_all test (change_where hit change xs) ≡ false) → list_all test (change_where hit change (x ∷ xs)) ≡ false
+      → (list_all test xs ≡ false → list_all test (change_where hit change xs) ≡ false)
+      → list_all test (change_where hit change (x ∷ xs)) ≡ false
   fewer_step x xs true b e f none rest = let gone : test (change x) ≡ false = out x e in rw (e, gone) refl
   fewer_step x xs false true e f none rest = rw (e, f) (rest (rw f at none))
   fewer_step x xs false false e f none rest = rw (e, f) refl
@@ -78,16 +85,20 @@ module _ {X : Type 0} (number : X → ℕ) (change : X → X) (next : ℕ) (xs :
 
   -- only that one has its number
   pub only_one : All (λ (y : X). (number y == number x) ≡ true → y ≡ x) xs
-  only_one = All-from_recursion (λ (y : X). (number y == number x) ≡ true → y ≡ x) xs (unique number next (number x) xs x are found)
+  only_one = All-from_recursion (λ (y : X). (number y == number x) ≡ true → y ≡ x) xs
+      (unique number next (number x) xs x are found)
 
   -- a fact of an item, whether it is the one or not
   one_changed : (P Q : X → Type 0) → (Q x → P (change x)) → ((y : X) → (number y == number x) ≡ false → Q y → P y)
-      → (y : X) (b : Bool) → (number y == number x) ≡ b → ((number y == number x) ≡ true → y ≡ x) → Q y → P (with_change y)
-  one_changed P Q here there y true e only fact = rw e (subst (λ (z : X). P (change z)) (sym (only e)) (here (subst Q (only e) fact)))
+      → (y : X) (b : Bool) → (number y == number x) ≡ b → ((number y == number x) ≡ true → y ≡ x) → Q y
+      → P (with_change y)
+  one_changed P Q here there y true e only fact =
+      rw e (subst (λ (z : X). P (change z)) (sym (only e)) (here (subst Q (only e) fact)))
   one_changed P Q here there y false e only fact = rw e (there y e fact)
 
   -- a fact of each item after the change
-  pub all_changed : (P Q : X → Type 0) → (Q x → P (change x)) → ((y : X) → (number y == number x) ≡ false → Q y → P y) → All Q xs → All P changed_items
+  pub all_changed : (P Q : X → Type 0) → (Q x → P (change x))
+      → ((y : X) → (number y == number x) ≡ false → Q y → P y) → All Q xs → All P changed_items
   all_changed P Q here there facts =
       All-map P with_change xs
       (All-weaker (λ (y : X). ((number y == number x) ≡ true → y ≡ x) × Q y) (λ (y : X). P (with_change y))

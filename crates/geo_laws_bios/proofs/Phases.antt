@@ -1,21 +1,21 @@
 -- Facts of phases, of what isn't against a step, and of the disk of a bio.
-use Rattle.std.specs.Prelude.{◌≡◌, ℕ, ◌==◌, Bool, true, false, Option, Some, None, IsSome, IsSomeAnd, length, option_map}
-use Rattle.std.proofs.Common.{refl, sym, ◌∙◌}
+use Rattle.std.specs.Prelude.{◌≡◌, ℕ, ◌==◌, Bool, true, false, Option, Some, None, length, option_map}
+use Rattle.std.proofs.Common.{refl}
 use Rattle.std.proofs.lemmas.Bool.{eqb-true, and_parts, not-true}
 use Rattle.geo_model.specs.declared.step.DeviceResult.{DeviceResult}
 use Rattle.geo_model.specs.declared.step.DeviceResult.TheVariants as devices
-use Rattle.geo_model.specs.declared.step.Found.{Found}
 use Rattle.geo_model.specs.declared.step.Found.TheVariants as found
 use Rattle.geo_model.specs.declared.step.Phase.{Phase}
 use Rattle.geo_model.specs.declared.step.Phase.TheVariants as phases
 use Rattle.geo_model.specs.Words.{is_read}
 use Rattle.geo_model.specs.World.{World, Bio, is_sent, is_busy, is_waiting}
-use Rattle.geo_model.specs.Bios.{disk_of_bio, busy_bio, is_fitting, sector_of_bio, fits_bio, result_of_device}
+use Rattle.geo_model.specs.Bios.{disk_of_bio, busy_bio, is_fitting, fits_bio, result_of_device}
 use Rattle.geo_model.specs.Step.{take_found, disk_found, deliver_found}
 use Rattle.geo_model.specs.Steady.{FitsBio}
 
 -- a bio in a phase that passes a test which Waiting doesn't, isn't Waiting
-pub not_waiting : (test : Phase → Bool) → test phases.Waiting ≡ false → (p : Phase) → test p ≡ true → is_waiting p ≡ false
+pub not_waiting : (test : Phase → Bool) → test phases.Waiting ≡ false → (p : Phase) → test p ≡ true
+    → is_waiting p ≡ false
 not_waiting test out phases.Waiting e = absurd cc
 not_waiting test out phases.Down e = refl
 not_waiting test out phases.Sent e = refl
@@ -36,16 +36,19 @@ pub record CanTake (w : World) (disk : ℕ) (x : Bio) : Type 0 where
 
 module _ (w : World) (disk : ℕ) (x : Bio) where
   -- by whether it is this disk
-  same_disk : (d : ℕ) (b : Bool) → (d == disk) ≡ b → is_sent x.phase ≡ true → disk_of_bio w x ≡ Some d → disk_found w disk x (Some d) ≡ None → CanTake w disk x
+  same_disk : (d : ℕ) (b : Bool) → (d == disk) ≡ b → is_sent x.phase ≡ true → disk_of_bio w x ≡ Some d
+      → disk_found w disk x (Some d) ≡ None → CanTake w disk x
   same_disk d true e sent is none =
       let same : d ≡ disk = eqb-true d disk e in
-      let free : busy_bio w disk ≡ None = nothing_of (λ (y : Bio). found.DiskBusy y.number) (busy_bio w disk) (rw e at none) in
+      let free : busy_bio w disk ≡ None =
+      nothing_of (λ (y : Bio). found.DiskBusy y.number) (busy_bio w disk) (rw e at none) in
       let disk_is : disk_of_bio w x ≡ Some disk = cc in
       record { sent = sent; disk_is = disk_is; free = free }
   same_disk d false e sent is none = let bad : Some (found.OtherDisk d) ≡ None = rw e at none in absurd cc
 
   -- by the disk to which it goes
-  has_disk : (o : Option ℕ) → disk_of_bio w x ≡ o → is_sent x.phase ≡ true → disk_found w disk x o ≡ None → CanTake w disk x
+  has_disk : (o : Option ℕ) → disk_of_bio w x ≡ o → is_sent x.phase ≡ true → disk_found w disk x o ≡ None
+      → CanTake w disk x
   has_disk None is sent none = absurd cc
   has_disk (Some d) is sent none = same_disk d (d == disk) refl sent is none
 
@@ -64,7 +67,8 @@ module _ (w : World) (seat : ℕ) (x : Bio) (got : DeviceResult) where
   CanDeliver p = (is_busy p ≡ true) × (is_fitting w x got ≡ true)
 
   -- by whether the answer fits
-  fit_by : (holder : ℕ) (a b : Bool) → (holder == seat) ≡ a → is_fitting w x got ≡ b → deliver_found w seat x got (phases.Busy holder) ≡ None
+  fit_by : (holder : ℕ) (a b : Bool) → (holder == seat) ≡ a → is_fitting w x got ≡ b
+      → deliver_found w seat x got (phases.Busy holder) ≡ None
       → is_fitting w x got ≡ true
   fit_by holder true true e f none = f
   fit_by holder true false e f none = let bad : Some found.Unfit ≡ None = rw (e, f) at none in absurd cc
@@ -80,7 +84,8 @@ module _ (w : World) (seat : ℕ) (x : Bio) (got : DeviceResult) where
   can_deliver phases.Done none = absurd cc
 
 -- an answer that fits is a result that the bio can have
-pub fitting_result : (sector : ℕ) (x : Bio) (got : DeviceResult) → fits_bio sector x got ≡ true → FitsBio x (result_of_device got)
+pub fitting_result : (sector : ℕ) (x : Bio) (got : DeviceResult) → fits_bio sector x got ≡ true
+    → FitsBio x (result_of_device got)
 fitting_result sector x (devices.Bytes bytes) fits =
     let parts = and_parts (is_read x.cmd) (length bytes == x.len) fits in
     (parts.0, eqb-true (length bytes) x.len parts.1)

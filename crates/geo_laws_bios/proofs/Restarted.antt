@@ -1,8 +1,9 @@
--- How many requests a geom has started is read only where one starts at a NOP geom: other such numbers leave a mesh firm.
-use Rattle.std.specs.Prelude.{◌≡◌, ◌≢◌, ◌⊎◌, ℕ, ◌+◌, ◌/◌, ◌<◌, ◌≤◌, ◌==◌, Bool, true, false, not, ◌&&◌, ◌||◌, List, [], ◌∷◌, length, map, find, Option, Some, None, All, AllPairs, IsSome, IsSomeAnd, IfSome, IsTrue, MatchOption, option_and_then, option_map, if◌then◌else◌}
+-- How many requests a geom has started is read only where one starts at a NOP geom: other such numbers leave a mesh
+-- firm.
+use Rattle.std.specs.Prelude.{◌≡◌, ◌≢◌, ◌⊎◌, ℕ, ◌+◌, ◌/◌, ◌<◌, ◌≤◌, ◌==◌, Bool, true, false, not, ◌&&◌, ◌||◌, List, [], ◌∷◌, map, find, Option, Some, None, All, IsSome, IsSomeAnd, IfSome, IsTrue, MatchOption, option_and_then, option_map, if◌then◌else◌}
 use Rattle.std.specs.List.{list_any, enumerate_from}
 use Rattle.std.specs.Option.{option_map_or}
-use Rattle.std.proofs.Common.{inl, inr, refl, sym, ◌∙◌, ap, subst, arith}
+use Rattle.std.proofs.Common.{refl, sym, ◌∙◌, ap, subst}
 use Rattle.std.proofs.lemmas.List.{length-map}
 use Rattle.std.proofs.lemmas.List.Elements.{All-map, All-weaker}
 use Rattle.geo_base.specs.declared.request.Counts.{Counts}
@@ -11,29 +12,28 @@ use Rattle.geo_base.specs.declared.kind.Kind.TheVariants as kinds
 use Rattle.geo_model.specs.declared.step.Owner.{Owner}
 use Rattle.geo_model.specs.declared.step.Owner.TheVariants as owners
 use Rattle.geo_model.specs.Words.{is_read}
-use Rattle.geo_model.specs.Topology.{Topology, Geom, Provider, Consumer, geom_at, provider_at, consumer_at, geom_of_provider, providers_of, consumers_of, is_withering, note_started}
+use Rattle.geo_model.specs.Topology.{Topology, Geom, Provider, Consumer, geom_at, provider_at, consumer_at, providers_of, consumers_of, is_withering, note_started}
 use Rattle.geo_model.specs.Graph.{AreNumbers}
 use Rattle.geo_model.specs.Rank.{rank, rank_limit}
-use Rattle.geo_model.specs.Demand.{have, want, is_zero}
+use Rattle.geo_model.specs.Demand.{have, is_zero}
 use Rattle.geo_model.specs.World.{World, Bio, Config, Taste, Asked, NoClass, NextSector, ReadOut, ReadBack, granted_in, children_of, is_sent, is_busy}
 use Rattle.geo_model.specs.Place.{disk_of}
-use Rattle.geo_model.specs.Bios.{piece_targets, disk_at, disk_of_bio}
+use Rattle.geo_model.specs.Bios.{piece_targets, disk_at}
 use Rattle.geo_model.specs.Events.{taste_limit}
 use Rattle.geo_model.specs.Tasting.{facts_of}
 use Rattle.geo_model.specs.declared.class.Facts.{Facts}
 use Rattle.geo_model.specs.Acceptance.{taste_where}
-use Rattle.geo_model.specs.Sound.{RanksHold, StandsBare, CountsHold, ProvidersHold, HandlesHold, IsHandleConsumer, IsTasting, IsOfItsClass, DifferInDisk, HasDiskSizes, IsPlaced, LeadsDown, IsTasteInOrder}
-use Rattle.geo_model.specs.SoundBios.{IsBioInOrder, IsFamilyInOrder, HasItsParent, HasItsPieces, HasCountFor, shape_of_child, shape_of_piece, NotBothBusy, DisksHold}
+use Rattle.geo_model.specs.Sound.{RanksHold, StandsBare, ProvidersHold, HandlesHold, IsHandleConsumer, IsTasting, IsOfItsClass, DifferInDisk, HasDiskSizes, IsPlaced, LeadsDown, IsTasteInOrder}
+use Rattle.geo_model.specs.SoundBios.{IsBioInOrder, IsFamilyInOrder, HasItsParent, HasItsPieces, HasCountFor, shape_of_child, shape_of_piece, DisksHold}
 use Rattle.geo_model.specs.Steady.{HasItsComponents, WaitsForPlaces, has_open_provider, ComesFromItsOwner}
 use Rattle.geo_model.specs.Fitting.{Firm, FitsBelow, FitsPlaces, HasOneProvider, PlacesHold, HasItsSum, AsksThere, IsWholeIn, IsAskedInOrder}
-use Rattle.geo_model.proofs.DemandLemmas.{map_same}
 use Rattle.geo_laws_counts.specs.CountWords.{DemandStays, AnyConsumer, seen_by_counts}
 use Rattle.geo_laws_counts.proofs.SeenCounts.{seen_stays}
 use Rattle.geo_laws_graph.proofs.Living.{if_some_weaker}
 use Rattle.geo_laws_ranks.specs.RankLaws.{AllRanksStay}
 use Rattle.geo_laws_ranks.proofs.EdgeRanks.{stays_all}
 use Rattle.geo_laws_rank_changes.proofs.KeptEdges.{parts-edges}
-use Rattle.geo_laws_bios.specs.BioFrames.{BiosHold, RestNumbersHold, GraphHolds, SizesHold, TasteHolds, RestHolds, restart, restarted, RestartsStayFirm}
+use Rattle.geo_laws_bios.specs.BioFrames.{BiosHold, RestNumbersHold, GraphHolds, SizesHold, TasteHolds, restart, restarted, RestartsStayFirm}
 use Rattle.geo_laws_bios.proofs.Items.{some_weaker, pairs_map, seen_map}
 use Rattle.geo_laws_bios.proofs.Apart.{bios_of, rest_of, firm_of}
 
@@ -45,17 +45,20 @@ find_step test f x xs true e rest = rw e refl
 find_step test f x xs false e rest = rw e rest
 
 -- what is found after a map
-find_map : {X Y : Type 0} (test : Y → Bool) (f : X → Y) (xs : List X) → find test (map f xs) ≡ option_map f (find (λ (y : X). test (f y)) xs)
+find_map : {X Y : Type 0} (test : Y → Bool) (f : X → Y) (xs : List X)
+    → find test (map f xs) ≡ option_map f (find (λ (y : X). test (f y)) xs)
 find_map test f [] = refl
 find_map test f (x ∷ xs) = find_step test f x xs (test (f x)) refl (find_map test f xs)
 
 -- whether one passes after a map
-any_map : {X Y : Type 0} (test : Y → Bool) (f : X → Y) (xs : List X) → list_any test (map f xs) ≡ list_any (λ (y : X). test (f y)) xs
+any_map : {X Y : Type 0} (test : Y → Bool) (f : X → Y) (xs : List X)
+    → list_any test (map f xs) ≡ list_any (λ (y : X). test (f y)) xs
 any_map test f [] = refl
 any_map test f (x ∷ xs) = ap (λ b. test (f x) || b) (any_map test f xs)
 
 -- tests that agree
-any_agree : {X : Type 0} (test other : X → Bool) → ((x : X) → test x ≡ other x) → (xs : List X) → list_any test xs ≡ list_any other xs
+any_agree : {X : Type 0} (test other : X → Bool) → ((x : X) → test x ≡ other x) → (xs : List X)
+    → list_any test xs ≡ list_any other xs
 any_agree test other same [] = refl
 any_agree test other same (x ∷ xs) = rw (same x, any_agree test other same xs) refl
 
@@ -78,12 +81,16 @@ module _ (s : Geom Config → ℕ) where
   lives_restart (Some g) lives = refl
 
   -- its class
-  kind_restart : (o : Option (Geom Config)) → option_map_or (λ (g : Geom Config). g.kind) (option_map (restart s) o) kinds.Disk ≡ option_map_or (λ (g : Geom Config). g.kind) o kinds.Disk
+  kind_restart : (o : Option (Geom Config))
+      → option_map_or (λ (g : Geom Config). g.kind) (option_map (restart s) o) kinds.Disk ≡ option_map_or
+      (λ (g : Geom Config). g.kind) o kinds.Disk
   kind_restart None = refl
   kind_restart (Some g) = refl
 
   -- its disk
-  disk_restart : (o : Option (Geom Config)) → option_and_then (λ (g : Geom Config). disk_of g.config) (option_map (restart s) o) ≡ option_and_then (λ (g : Geom Config). disk_of g.config) o
+  disk_restart : (o : Option (Geom Config))
+      → option_and_then (λ (g : Geom Config). disk_of g.config) (option_map (restart s) o) ≡ option_and_then
+      (λ (g : Geom Config). disk_of g.config) o
   disk_restart None = refl
   disk_restart (Some g) = refl
 
@@ -101,32 +108,44 @@ module _ (s : Geom Config → ℕ) where
     geom_found n = find_map (λ (x : Geom Config). x.number == n) (restart s) t.geoms
 
     -- what holds of a geom that is there
-    geom_and : (P Q : Geom Config → Type 0) → ((g : Geom Config) → P g → Q (restart s g)) → (n : ℕ) → IsSomeAnd (geom_at t n) P → IsSomeAnd (geom_at u n) Q
-    geom_and P Q so n has = subst (λ (o : Option (Geom Config)). IsSomeAnd o Q) (sym (geom_found n)) (some_restart P Q so (geom_at t n) has)
+    geom_and : (P Q : Geom Config → Type 0) → ((g : Geom Config) → P g → Q (restart s g)) → (n : ℕ)
+        → IsSomeAnd (geom_at t n) P → IsSomeAnd (geom_at u n) Q
+    geom_and P Q so n has = subst (λ (o : Option (Geom Config)). IsSomeAnd o Q) (sym (geom_found n))
+        (some_restart P Q so (geom_at t n) has)
 
     -- what holds of a geom, if it is there
-    geom_if : (P Q : Geom Config → Type 0) → ((g : Geom Config) → P g → Q (restart s g)) → (n : ℕ) → IfSome (geom_at t n) P → IfSome (geom_at u n) Q
-    geom_if P Q so n has = subst (λ (o : Option (Geom Config)). IfSome o Q) (sym (geom_found n)) (if_restart P Q so (geom_at t n) has)
+    geom_if : (P Q : Geom Config → Type 0) → ((g : Geom Config) → P g → Q (restart s g)) → (n : ℕ)
+        → IfSome (geom_at t n) P → IfSome (geom_at u n) Q
+    geom_if P Q so n has =
+        subst (λ (o : Option (Geom Config)). IfSome o Q) (sym (geom_found n)) (if_restart P Q so (geom_at t n) has)
 
     -- it lives
     geom_lives : (n : ℕ) → IsSome (geom_at t n) → IsSome (geom_at u n)
-    geom_lives n lives = subst (λ (o : Option (Geom Config)). IsSome o) (sym (geom_found n)) (lives_restart (geom_at t n) lives)
+    geom_lives n lives = subst (λ (o : Option (Geom Config)). IsSome o) (sym (geom_found n))
+        (lives_restart (geom_at t n) lives)
 
     -- what holds of all geoms
-    all_geoms : (P Q : Geom Config → Type 0) → ((g : Geom Config) → P g → Q (restart s g)) → All P t.geoms → All Q u.geoms
-    all_geoms P Q so facts = All-map Q (restart s) t.geoms (All-weaker P (λ (g : Geom Config). Q (restart s g)) so t.geoms facts)
+    all_geoms : (P Q : Geom Config → Type 0) → ((g : Geom Config) → P g → Q (restart s g)) → All P t.geoms
+        → All Q u.geoms
+    all_geoms P Q so facts =
+        All-map Q (restart s) t.geoms (All-weaker P (λ (g : Geom Config). Q (restart s g)) so t.geoms facts)
 
     -- the geom of a provider, by the provider
     offerer_at : (P Q : Geom Config → Type 0) → ((g : Geom Config) → P g → Q (restart s g)) → (o : Option Provider)
-        → IsSomeAnd (option_and_then (λ (x : Provider). geom_at t x.geom) o) P → IsSomeAnd (option_and_then (λ (x : Provider). geom_at u x.geom) o) Q
+        → IsSomeAnd (option_and_then (λ (x : Provider). geom_at t x.geom) o) P
+        → IsSomeAnd (option_and_then (λ (x : Provider). geom_at u x.geom) o) Q
     offerer_at P Q so None has = has
     offerer_at P Q so (Some x) has = geom_and P Q so x.geom has
 
     -- its disk, by the provider
-    disk_by : (o : Option Provider) → option_and_then (λ (g : Geom Config). disk_of g.config) (option_and_then (λ (x : Provider). geom_at u x.geom) o)
-        ≡ option_and_then (λ (g : Geom Config). disk_of g.config) (option_and_then (λ (x : Provider). geom_at t x.geom) o)
+    disk_by : (o : Option Provider)
+        → option_and_then (λ (g : Geom Config). disk_of g.config)
+        (option_and_then (λ (x : Provider). geom_at u x.geom) o)
+        ≡ option_and_then (λ (g : Geom Config). disk_of g.config)
+        (option_and_then (λ (x : Provider). geom_at t x.geom) o)
     disk_by None = refl
-    disk_by (Some x) = ap (λ (o : Option (Geom Config)). option_and_then (λ (g : Geom Config). disk_of g.config) o) (geom_found x.geom) ∙ disk_restart (geom_at t x.geom)
+    disk_by (Some x) = ap (λ (o : Option (Geom Config)). option_and_then (λ (g : Geom Config). disk_of g.config) o)
+        (geom_found x.geom) ∙ disk_restart (geom_at t x.geom)
 
     -- the disk of a provider
     disk_same : (p : ℕ) → disk_at u p ≡ disk_at t p
@@ -136,21 +155,25 @@ module _ (s : Geom Config → ℕ) where
     facts_same : (p : Provider) → facts_of u p ≡ facts_of t p
     facts_same p =
         let facts : Kind → Facts = λ k. record { kind = k; sector = p.sector; sectors = p.size / p.sector } in
-        ap facts (ap (λ (o : Option (Geom Config)). option_map_or (λ (g : Geom Config). g.kind) o kinds.Disk) (geom_found p.geom) ∙ kind_restart (geom_at t p.geom))
+        ap facts (ap (λ (o : Option (Geom Config)). option_map_or (λ (g : Geom Config). g.kind) o kinds.Disk)
+        (geom_found p.geom) ∙ kind_restart (geom_at t p.geom))
 
     -- ranks
     ranks_stay : AllRanksStay t u
-    ranks_stay = stays_all t u (length-map t.geoms (restart s)) (parts-edges t u refl refl) (parts-edges u t refl refl) (λ live. live)
+    ranks_stay = stays_all t u (length-map t.geoms (restart s)) (parts-edges t u refl refl)
+        (parts-edges u t refl refl) (λ live. live)
 
     -- counts
     demand_stays : DemandStays (granted_in w) t (granted_in w) u AnyConsumer
     demand_stays = seen_stays (granted_in w) t u
-        (ap (λ gs. record (seen_by_counts t) { geoms = gs }) (sym (seen_map (λ (x : Geom Config). (x.number, x.kind)) (restart s) t.geoms)))
+        (ap (λ gs. record (seen_by_counts t) { geoms = gs })
+        (sym (seen_map (λ (x : Geom Config). (x.number, x.kind)) (restart s) t.geoms)))
 
     -- a geom stands bare
     bare : (n : ℕ) → StandsBare t n → StandsBare u n
     bare n is = record {
-      stands = geom_and (λ (g : Geom Config). g.withering ≡ false) (λ (g : Geom Config). g.withering ≡ false) (λ g e. e) n is.stands;
+      stands = geom_and (λ (g : Geom Config). g.withering ≡ false) (λ (g : Geom Config). g.withering ≡ false)
+          (λ g e. e) n is.stands;
       no_provider = is.no_provider;
     }
 
@@ -169,8 +192,11 @@ module _ (s : Geom Config → ℕ) where
     providers_hold : ProvidersHold t → ProvidersHold u
     providers_hold hold = record {
       names = hold.names;
-      withering = All-weaker (λ (x : Provider). IsTrue (is_withering t x.geom) → x.errored ≡ true) (λ (x : Provider). IsTrue (is_withering u x.geom) → x.errored ≡ true)
-          (λ x so withers. so (subst (λ (b : Bool). IsTrue b) (any_map (λ (g : Geom Config). (g.number == x.geom) && g.withering) (restart s) t.geoms) withers))
+      withering = All-weaker (λ (x : Provider). IsTrue (is_withering t x.geom) → x.errored ≡ true)
+          (λ (x : Provider). IsTrue (is_withering u x.geom) → x.errored ≡ true)
+          (λ x so withers. so
+          (subst (λ (b : Bool). IsTrue b)
+          (any_map (λ (g : Geom Config). (g.number == x.geom) && g.withering) (restart s) t.geoms) withers))
           t.providers hold.withering;
       sizes = hold.sizes;
     }
@@ -178,19 +204,23 @@ module _ (s : Geom Config → ℕ) where
     -- numbers
     numbers_hold : RestNumbersHold w → RestNumbersHold (restarted s w)
     numbers_hold hold = record {
-      geoms = subst (λ (ns : List ℕ). AreNumbers ns t.next_geom) (sym (seen_map (λ (x : Geom Config). x.number) (restart s) t.geoms)) hold.geoms;
+      geoms = subst (λ (ns : List ℕ). AreNumbers ns t.next_geom)
+          (sym (seen_map (λ (x : Geom Config). x.number) (restart s) t.geoms)) hold.geoms;
       providers = hold.providers;
       consumers = hold.consumers;
       handles = hold.handles;
-      classes = all_geoms IsOfItsClass IsOfItsClass (λ g is. record { config = is.config; dev = is.dev; taste = is.taste }) hold.classes;
+      classes = all_geoms IsOfItsClass IsOfItsClass
+          (λ g is. record { config = is.config; dev = is.dev; taste = is.taste }) hold.classes;
       one_geom_of_disk = pairs_map DifferInDisk (restart s) t.geoms hold.one_geom_of_disk;
       disk_sizes = all_geoms (HasDiskSizes w) (HasDiskSizes (restarted s w)) (λ g has. has) hold.disk_sizes;
     }
 
     -- the taste's consumer
-    tasting_at : (o : Option Taste) → MatchOption o (consumers_of t 2 ≡ []) (IsTasting t) → MatchOption o (consumers_of t 2 ≡ []) (IsTasting u)
+    tasting_at : (o : Option Taste) → MatchOption o (consumers_of t 2 ≡ []) (IsTasting t)
+        → MatchOption o (consumers_of t 2 ≡ []) (IsTasting u)
     tasting_at None none = none
-    tasting_at (Some x) is = record { consumer = is.consumer; alone = is.alone; number = is.number; attached = is.attached }
+    tasting_at (Some x) is =
+        record { consumer = is.consumer; alone = is.alone; number = is.number; attached = is.attached }
 
     -- handles
     handles_hold : HandlesHold w → HandlesHold (restarted s w)
@@ -205,20 +235,28 @@ module _ (s : Geom Config → ℕ) where
     leads_down : (p : Provider) → LeadsDown w p → LeadsDown (restarted s w) p
     leads_down p leads =
         geom_and
-        (λ (g : Geom Config). (is_zero (have (granted_in w) t p.number) ≡ false) ⊎ (g.withering ≡ false) → IsSome (disk_of g.config) ⊎ IsPlaced t g p)
-        (λ (g : Geom Config). (is_zero (have (granted_in w) u p.number) ≡ false) ⊎ (g.withering ≡ false) → IsSome (disk_of g.config) ⊎ IsPlaced u g p)
-        (λ g so used. so (subst (λ (n : Counts). (is_zero n ≡ false) ⊎ (g.withering ≡ false)) (demand_stays.haves p.number) used)) p.geom leads
+        (λ (g : Geom Config). (is_zero (have (granted_in w) t p.number) ≡ false) ⊎ (g.withering ≡ false)
+        → IsSome (disk_of g.config) ⊎ IsPlaced t g p)
+        (λ (g : Geom Config). (is_zero (have (granted_in w) u p.number) ≡ false) ⊎ (g.withering ≡ false)
+        → IsSome (disk_of g.config) ⊎ IsPlaced u g p)
+        (λ g so used. so
+        (subst (λ (n : Counts). (is_zero n ≡ false) ⊎ (g.withering ≡ false))
+        (demand_stays.haves p.number) used)) p.geom leads
 
     -- whether a geom is open
     open_same : (g : Geom Config) → has_open_provider (restarted s w) (restart s g) ≡ has_open_provider w g
-    open_same g = any_agree (λ (p : Provider). not (is_zero (have (granted_in w) u p.number))) (λ (p : Provider). not (is_zero (have (granted_in w) t p.number)))
+    open_same g = any_agree (λ (p : Provider). not (is_zero (have (granted_in w) u p.number)))
+        (λ (p : Provider). not (is_zero (have (granted_in w) t p.number)))
         (λ p. ap (λ (n : Counts). not (is_zero n)) (demand_stays.haves p.number)) (providers_of t g.number)
 
     -- the graph
     graph_holds : GraphHolds w → GraphHolds (restarted s w)
     graph_holds graph = record {
       ranks = ranks_hold graph.ranks;
-      counts = record { exclusive = demand_stays.exclusive graph.counts.exclusive; limited = demand_stays.limit graph.counts.limited };
+      counts = record {
+        exclusive = demand_stays.exclusive graph.counts.exclusive;
+        limited = demand_stays.limit graph.counts.limited;
+      };
       providers = providers_hold graph.providers;
       numbers = numbers_hold graph.numbers;
       handles = handles_hold graph.handles;
@@ -226,14 +264,17 @@ module _ (s : Geom Config → ℕ) where
       made = all_geoms (λ (g : Geom Config). (g.number ≡ 1) ⊎ (g.number ≡ 2) → g.automatic ≡ false)
           (λ (g : Geom Config). (g.number ≡ 1) ⊎ (g.number ≡ 2) → g.automatic ≡ false) (λ g made. made) graph.made;
       parts = record {
-        providers = All-weaker (λ (p : Provider). IsSome (geom_at t p.geom)) (λ (p : Provider). IsSome (geom_at u p.geom))
+        providers = All-weaker (λ (p : Provider). IsSome (geom_at t p.geom))
+            (λ (p : Provider). IsSome (geom_at u p.geom))
             (λ p lives. geom_lives p.geom lives) t.providers graph.parts.providers;
-        consumers = All-weaker (λ (c : Consumer). IsSome (geom_at t c.geom)) (λ (c : Consumer). IsSome (geom_at u c.geom))
+        consumers = All-weaker (λ (c : Consumer). IsSome (geom_at t c.geom))
+            (λ (c : Consumer). IsSome (geom_at u c.geom))
             (λ c lives. geom_lives c.geom lives) t.consumers graph.parts.consumers;
       };
       attached = graph.attached;
       components = all_geoms (HasItsComponents w) (HasItsComponents (restarted s w))
-          (λ g has used. has (subst (λ (b : Bool). (g.withering ≡ false) ⊎ IsTrue b) (open_same g) used)) graph.components;
+          (λ g has used. has (subst (λ (b : Bool). (g.withering ≡ false) ⊎ IsTrue b)
+          (open_same g) used)) graph.components;
       partial = all_geoms (WaitsForPlaces w) (WaitsForPlaces (restarted s w)) (λ g waits. waits) graph.partial;
       unmarked = graph.unmarked;
     }
@@ -244,8 +285,10 @@ module _ (s : Geom Config → ℕ) where
       disks = sizes.disks;
       sectors = sizes.sectors;
       wholes = All-weaker (FitsBelow t) (FitsBelow u)
-          (λ c fits. geom_if (λ (g : Geom Config). IfSome (option_and_then (provider_at t) c.provider) (λ q. IsWholeIn g.config q.sector))
-          (λ (g : Geom Config). IfSome (option_and_then (provider_at t) c.provider) (λ q. IsWholeIn g.config q.sector)) (λ g whole. whole) c.geom fits)
+          (λ c fits. geom_if
+          (λ (g : Geom Config). IfSome (option_and_then (provider_at t) c.provider) (λ q. IsWholeIn g.config q.sector))
+          (λ (g : Geom Config). IfSome (option_and_then (provider_at t) c.provider)
+          (λ q. IsWholeIn g.config q.sector)) (λ g whole. whole) c.geom fits)
           t.consumers sizes.wholes;
       places = all_geoms (FitsPlaces t) (FitsPlaces u) (λ g fits. fits) sizes.places;
       one = all_geoms (HasOneProvider t) (HasOneProvider u) (λ g has. has) sizes.one;
@@ -267,8 +310,10 @@ module _ (s : Geom Config → ℕ) where
     -- a taste
     taste_same : (x : Taste) → IsTasteInOrder w x → IsTasteInOrder (restarted s w) x
     taste_same x is = record {
-      rank = offerer_at (λ (g : Geom Config). rank t g.number < taste_limit) (λ (g : Geom Config). rank u g.number < taste_limit)
-          (λ g low. subst (λ (r : ℕ). r < taste_limit) (sym (ranks_stay.same g.number)) low) (provider_at t x.provider) is.rank;
+      rank = offerer_at (λ (g : Geom Config). rank t g.number < taste_limit)
+          (λ (g : Geom Config). rank u g.number < taste_limit)
+          (λ g low. subst (λ (r : ℕ). r < taste_limit) (sym (ranks_stay.same g.number)) low)
+          (provider_at t x.provider) is.rank;
       reads = is.reads;
       chain = is.chain;
     }
@@ -280,7 +325,8 @@ module _ (s : Geom Config → ℕ) where
       taste = if_some_weaker (IsTasteInOrder w) (IsTasteInOrder (restarted s w)) taste_same w.taste tasting.taste;
       asked = if_some_weaker (λ (x : Taste). IfSome (provider_at t x.provider) (λ p. IsAskedInOrder t p x.asked))
           (λ (x : Taste). IfSome (provider_at t x.provider) (λ p. IsAskedInOrder u p x.asked))
-          (λ x asked. if_some_weaker (λ (p : Provider). IsAskedInOrder t p x.asked) (λ (p : Provider). IsAskedInOrder u p x.asked)
+          (λ x asked. if_some_weaker (λ (p : Provider). IsAskedInOrder t p x.asked)
+          (λ (p : Provider). IsAskedInOrder u p x.asked)
           (λ p is. asked_same p x.asked is) (provider_at t x.provider) asked) w.taste tasting.asked;
     }
 
@@ -303,12 +349,16 @@ module _ (s : Geom Config → ℕ) where
     pieces_same x has =
         some_weaker
         (λ (p : Provider). IsSomeAnd (geom_at t p.geom) (λ g.
-        map shape_of_child (children_of w x.number) ≡ map (λ item. shape_of_piece x item.0 item.1) (enumerate_from 0 (piece_targets g.config p x))))
+        map shape_of_child (children_of w x.number) ≡ map (λ item. shape_of_piece x item.0 item.1)
+        (enumerate_from 0 (piece_targets g.config p x))))
         (λ (p : Provider). IsSomeAnd (geom_at u p.geom) (λ g.
-        map shape_of_child (children_of w x.number) ≡ map (λ item. shape_of_piece x item.0 item.1) (enumerate_from 0 (piece_targets g.config p x))))
+        map shape_of_child (children_of w x.number) ≡ map (λ item. shape_of_piece x item.0 item.1)
+        (enumerate_from 0 (piece_targets g.config p x))))
         (λ p is. geom_and
-        (λ (g : Geom Config). map shape_of_child (children_of w x.number) ≡ map (λ item. shape_of_piece x item.0 item.1) (enumerate_from 0 (piece_targets g.config p x)))
-        (λ (g : Geom Config). map shape_of_child (children_of w x.number) ≡ map (λ item. shape_of_piece x item.0 item.1) (enumerate_from 0 (piece_targets g.config p x)))
+        (λ (g : Geom Config). map shape_of_child (children_of w x.number) ≡ map
+        (λ item. shape_of_piece x item.0 item.1) (enumerate_from 0 (piece_targets g.config p x)))
+        (λ (g : Geom Config). map shape_of_child (children_of w x.number) ≡ map
+        (λ item. shape_of_piece x item.0 item.1) (enumerate_from 0 (piece_targets g.config p x)))
         (λ g e. e) p.geom is) (provider_at t x.target) has
 
     -- its parent
@@ -347,7 +397,8 @@ module _ (s : Geom Config → ℕ) where
           }) w.bios hold.families;
       disks = disks_hold hold.disks;
       read_out = hold.read_out;
-      owners = All-weaker (λ (x : Bio). ComesFromItsOwner w x x.owner) (λ (x : Bio). ComesFromItsOwner (restarted s w) x x.owner)
+      owners = All-weaker (λ (x : Bio). ComesFromItsOwner w x x.owner)
+          (λ (x : Bio). ComesFromItsOwner (restarted s w) x x.owner)
           (λ x comes. owner_same x x.owner comes) w.bios hold.owners;
       results = hold.results;
       read = record { one = hold.read.one; sector = hold.read.sector };
@@ -377,11 +428,14 @@ noted_at n x true e = rw e refl
 noted_at n x false e = rw e refl
 
 -- the geoms then
-noted : (n : ℕ) (xs : List (Geom Config)) → map (λ (x : Geom Config). if x.number == n then record x { started = x.started + 1 } else x) xs ≡ map (restart (one_more n)) xs
+noted : (n : ℕ) (xs : List (Geom Config))
+    → map (λ (x : Geom Config). if x.number == n then record x { started = x.started + 1 } else x) xs ≡ map
+    (restart (one_more n)) xs
 noted n [] = refl
 noted n (x ∷ xs) =
     let change : Geom Config → Geom Config = λ y. if y.number == n then record y { started = y.started + 1 } else y in
-    ap (λ y. y ∷ map change xs) (noted_at n x (x.number == n) refl) ∙ ap (λ ys. restart (one_more n) x ∷ ys) (noted n xs)
+    ap (λ y. y ∷ map change xs) (noted_at n x (x.number == n) refl)
+    ∙ ap (λ ys. restart (one_more n) x ∷ ys) (noted n xs)
 
 -- one more started request leaves a mesh firm
 pub noted_stays_firm : (w : World) (g : ℕ) → Firm w → Firm (record w { topology = note_started w.topology g })

@@ -1,5 +1,5 @@
 -- One bio changes its phase and its result: the bios stay in order, where it may.
-use Rattle.std.specs.Prelude.{◌≡◌, ◌≢◌, ◌↔◌, ℕ, ◌<◌, ◌≤◌, ◌==◌, Bool, true, false, ◌&&◌, ◌||◌, List, length, map, filter, count_by, Option, Some, None, All, AllPairs, IsSome, IsSomeAnd, IsTrue, if◌then◌else◌}
+use Rattle.std.specs.Prelude.{◌≡◌, ◌≢◌, ◌↔◌, ℕ, ◌<◌, ◌==◌, Bool, true, false, ◌&&◌, ◌||◌, List, length, map, filter, count_by, Option, Some, None, All, AllPairs, IsSome, IsSomeAnd, IsTrue, if◌then◌else◌}
 use Rattle.std.specs.List.{list_any, enumerate_from}
 use Rattle.std.specs.Option.{option_map_or}
 use Rattle.std.proofs.Common.{refl, sym, ◌∙◌, ap, subst, arith, get_or}
@@ -15,12 +15,11 @@ use Rattle.geo_model.specs.declared.step.Owner.TheVariants as owners
 use Rattle.geo_model.specs.declared.step.Phase.{Phase}
 use Rattle.geo_model.specs.Words.{change_where, is_flush}
 use Rattle.geo_model.specs.Topology.{Provider, geom_at, provider_at}
-use Rattle.geo_model.specs.Graph.{AreNumbers}
 use Rattle.geo_model.specs.World.{World, Bio, bio_at, children_of, is_root, is_done, is_busy, is_sent, is_up, is_waiting, is_child_of, is_taste_root, is_read_out}
 use Rattle.geo_model.specs.Bios.{piece_targets, disk_of_bio, busy_bio, is_complete}
-use Rattle.geo_model.specs.SoundBios.{IsRangeInside, IsBioInOrder, IsFamilyInOrder, HasItsParent, HasItsPieces, ChildShape, shape_of_child, shape_of_piece, NotBothBusy, DisksHold}
+use Rattle.geo_model.specs.SoundBios.{IsRangeInside, IsBioInOrder, IsFamilyInOrder, HasItsParent, HasItsPieces, ChildShape, shape_of_child, shape_of_piece, NotBothBusy}
 use Rattle.geo_model.specs.Steady.{ComesFromItsOwner, FitsBio, HasItsResult}
-use Rattle.geo_model.specs.Fitting.{TasteReadHolds, Firm}
+use Rattle.geo_model.specs.Fitting.{Firm}
 use Rattle.geo_laws_graph.proofs.Lists.{filter-changed, map-changed, any-changed, length-changed, numbers-changed}
 use Rattle.geo_laws_graph.proofs.Numbered.{at-unchanged}
 use Rattle.geo_laws_bios.specs.BioFrames.{BiosHold}
@@ -48,7 +47,8 @@ AreItsPieces w x shapes =
 -- a bio isn't Busy at the disk of another one, where that is to be Busy
 abbrev IsElsewhere : World → Bio → Phase → Bio → Type 0
 IsElsewhere w x phase y =
-    IsTrue (is_busy phase) → (d : ℕ) → disk_of_bio w x ≡ Some d → (is_busy y.phase && option_map_or (λ e. e == d) (disk_of_bio w y) false) ≡ false
+    IsTrue (is_busy phase) → (d : ℕ) → disk_of_bio w x ≡ Some d
+    → (is_busy y.phase && option_map_or (λ e. e == d) (disk_of_bio w y) false) ≡ false
 
 -- of two bios neither is Busy where the other is to be, they differ in number, and not both are Busy at one disk
 record AreApart (w : World) (x : Bio) (phase : Phase) (y z : Bio) : Type 0 where
@@ -70,10 +70,18 @@ pub range_turned : (x : Bio) (phase : Phase) (result : Option BioResult → Opti
     → (is_flush x.cmd ≡ false → IsRangeInside x p) → is_flush x.cmd ≡ false → IsRangeInside (turned phase result x) p
 range_turned x phase result p inside moves =
     let range = inside moves in
-    record { some_byte = range.some_byte; not_long = range.not_long; offset_whole = range.offset_whole; len_whole = range.len_whole; inside = range.inside }
+    record {
+      some_byte = range.some_byte;
+      not_long = range.not_long;
+      offset_whole = range.offset_whole;
+      len_whole =
+          range.len_whole;
+      inside = range.inside;
+    }
 
 -- no bio is Busy at a disk at which it isn't
-no_two_at : (busy : Bool) (o : Option ℕ) (d : ℕ) → (busy && option_map_or (λ e. e == d) o false) ≡ false → busy ≡ true → o ≡ Some d → ⊥
+no_two_at : (busy : Bool) (o : Option ℕ) (d : ℕ) → (busy && option_map_or (λ e. e == d) o false) ≡ false
+    → busy ≡ true → o ≡ Some d → ⊥
 no_two_at busy o d free is at =
     let out : (d == d) ≡ false = rw (is, at) at free in
     let same : (d == d) ≡ true = eq-eqb d d refl in
@@ -102,7 +110,8 @@ module _ (w : World) (x : Bio) (phase : Phase) (result : Option BioResult → Op
 
   -- as pieces they are as before
   shapes_kept : (n : ℕ) → map shape_of_child (children_of after n) ≡ map shape_of_child (children_of w n)
-  shapes_kept n = ap (λ (ys : List Bio). map shape_of_child ys) (children_kept n) ∙ map-changed is_it change shape_of_child (λ y e. refl) (children_of w n)
+  shapes_kept n = ap (λ (ys : List Bio). map shape_of_child ys) (children_kept n)
+      ∙ map-changed is_it change shape_of_child (λ y e. refl) (children_of w n)
 
   -- so the pieces of each bio stay
   pieces_kept : (y : Bio) → HasItsPieces w y → HasItsPieces after y
@@ -123,12 +132,15 @@ module _ (w : World) (x : Bio) (phase : Phase) (result : Option BioResult → Op
   -- where the new phase isn't Done, no bio becomes complete
   pub stays_incomplete : is_done phase ≡ false → (n : ℕ) → is_complete w n ≡ false → is_complete after n ≡ false
   stays_incomplete not_done n none =
-      rw (children_kept n) (all-fewer is_it (λ (y : Bio). is_done y.phase) change (λ y e. not_done) (children_of w n) none)
+      rw (children_kept n)
+      (all-fewer is_it (λ (y : Bio). is_done y.phase) change (λ y e. not_done) (children_of w n) none)
 
   module _ (hold : BiosHold w) (may : MayTurn w x phase result) where
     -- a fact of each bio afterwards
-    each_after : (P Q : Bio → Type 0) → (Q x → P (change x)) → ((y : Bio) → is_it y ≡ false → Q y → P y) → All Q w.bios → All P after.bios
-    each_after P Q here there facts = all_changed (λ (y : Bio). y.number) change w.next_bio w.bios x hold.numbers may.found P Q here there facts
+    each_after : (P Q : Bio → Type 0) → (Q x → P (change x)) → ((y : Bio) → is_it y ≡ false → Q y → P y)
+        → All Q w.bios → All P after.bios
+    each_after P Q here there facts =
+        all_changed (λ (y : Bio). y.number) change w.next_bio w.bios x hold.numbers may.found P Q here there facts
 
     -- what is Waiting stays so
     waiting_at : (n : ℕ) (b : Bool) → (n == x.number) ≡ b → IsSomeAnd (bio_at w n) (λ y. IsTrue (is_waiting y.phase))
@@ -141,7 +153,8 @@ module _ (w : World) (x : Bio) (phase : Phase) (result : Option BioResult → Op
         absurd cc
     waiting_at n false e has =
         let other : n ≢ x.number = eqb-false n x.number e in
-        let same : bio_at after n ≡ bio_at w n = at-unchanged (λ (y : Bio). y.number) change (λ y. refl) x.number n other w.bios in
+        let same : bio_at after n ≡ bio_at w n =
+        at-unchanged (λ (y : Bio). y.number) change (λ y. refl) x.number n other w.bios in
         rw same has
 
     -- a parent is as it was
@@ -171,8 +184,10 @@ module _ (w : World) (x : Bio) (phase : Phase) (result : Option BioResult → Op
     -- no bio is Busy where this one is to be
     elsewhere : All (IsElsewhere w x phase) w.bios
     elsewhere = λ k e short busy d at.
-        All-from_recursion (λ (y : Bio). (is_busy y.phase && option_map_or (λ e. e == d) (disk_of_bio w y) false) ≡ false) w.bios
-        (none_passes (λ (y : Bio). is_busy y.phase && option_map_or (λ e. e == d) (disk_of_bio w y) false) w.bios (may.alone busy d at))
+        All-from_recursion
+        (λ (y : Bio). (is_busy y.phase && option_map_or (λ e. e == d) (disk_of_bio w y) false) ≡ false) w.bios
+        (none_passes (λ (y : Bio). is_busy y.phase && option_map_or (λ e. e == d) (disk_of_bio w y) false) w.bios
+        (may.alone busy d at))
         k e short
 
     -- only the one has its number
@@ -180,14 +195,18 @@ module _ (w : World) (x : Bio) (phase : Phase) (result : Option BioResult → Op
     only = only_one (λ (y : Bio). y.number) change w.next_bio w.bios x hold.numbers may.found
 
     -- numbers rise
-    number_below : (i j : ℕ) (d : Bio) → i < j → j < length w.bios → (get_or w.bios i d).number < (get_or w.bios j d).number
+    number_below : (i j : ℕ) (d : Bio) → i < j → j < length w.bios
+        → (get_or w.bios i d).number < (get_or w.bios j d).number
     number_below i j d less short =
         let near : i < length w.bios = omega arith in
-        let inside : j < length (map (λ (y : Bio). y.number) w.bios) = omega (arith, length-map w.bios (λ (y : Bio). y.number)) in
+        let inside : j < length (map (λ (y : Bio). y.number) w.bios) =
+        omega (arith, length-map w.bios (λ (y : Bio). y.number)) in
         let rise : get_or (map (λ (y : Bio). y.number) w.bios) i 0 < get_or (map (λ (y : Bio). y.number) w.bios) j 0 =
         AllPairs-from_increasing (map (λ (y : Bio). y.number) w.bios) hold.numbers.0 i j 0 less inside in
-        let at_i : get_or (map (λ (y : Bio). y.number) w.bios) i 0 ≡ (get_or w.bios i d).number = get_or-map (λ (y : Bio). y.number) w.bios i d 0 near in
-        let at_j : get_or (map (λ (y : Bio). y.number) w.bios) j 0 ≡ (get_or w.bios j d).number = get_or-map (λ (y : Bio). y.number) w.bios j d 0 short in
+        let at_i : get_or (map (λ (y : Bio). y.number) w.bios) i 0 ≡ (get_or w.bios i d).number =
+        get_or-map (λ (y : Bio). y.number) w.bios i d 0 near in
+        let at_j : get_or (map (λ (y : Bio). y.number) w.bios) j 0 ≡ (get_or w.bios j d).number =
+        get_or-map (λ (y : Bio). y.number) w.bios j d 0 short in
         omega arith
 
     -- bios differ in number, and so on
@@ -202,7 +221,8 @@ module _ (w : World) (x : Bio) (phase : Phase) (result : Option BioResult → Op
         }
 
     -- of two bios after the change not both are Busy at one disk
-    not_both_by : (y z : Bio) (a b : Bool) → is_it y ≡ a → is_it z ≡ b → (is_it y ≡ true → y ≡ x) → (is_it z ≡ true → z ≡ x)
+    not_both_by : (y z : Bio) (a b : Bool) → is_it y ≡ a → is_it z ≡ b → (is_it y ≡ true → y ≡ x)
+        → (is_it z ≡ true → z ≡ x)
         → AreApart w x phase y z → NotBothBusy after (with_change w x phase result y) (with_change w x phase result z)
     not_both_by y z true true e f only_y only_z apart =
         let same : y.number ≡ z.number = ap (λ (v : Bio). v.number) (only_y e ∙ sym (only_z f)) in
@@ -220,7 +240,8 @@ module _ (w : World) (x : Bio) (phase : Phase) (result : Option BioResult → Op
     one_busy =
         pairs_map (NotBothBusy after) (with_change w x phase result) w.bios (λ i j d less short.
         let near : i < length w.bios = omega arith in
-        not_both_by (get_or w.bios i d) (get_or w.bios j d) (is_it (get_or w.bios i d)) (is_it (get_or w.bios j d)) refl refl
+        not_both_by (get_or w.bios i d) (get_or w.bios j d) (is_it (get_or w.bios i d))
+        (is_it (get_or w.bios j d)) refl refl
         (only i d near) (only j d short) (all_apart i j d less short))
 
     -- the one that changes is still in order
@@ -234,24 +255,32 @@ module _ (w : World) (x : Bio) (phase : Phase) (result : Option BioResult → Op
     }
 
     -- whether the read of a taste is out stays
-    read_out : IsTrue (list_any (λ y. is_taste_root y.owner) after.bios) ↔ IsTrue (option_map_or (λ s. is_read_out s.asked) w.taste false)
+    read_out : IsTrue (list_any (λ y. is_taste_root y.owner) after.bios) ↔ IsTrue
+        (option_map_or (λ s. is_read_out s.asked) w.taste false)
     read_out =
         subst (λ (b : Bool). IsTrue b ↔ IsTrue (option_map_or (λ s. is_read_out s.asked) w.taste false))
         (sym (any-changed is_it change (λ (y : Bio). is_taste_root y.owner) (λ y e. refl) w.bios)) hold.read_out
 
     -- and there are as many such reads
-    as_many : count_by (λ (y : Bio). is_taste_root y.owner) after.bios ≡ count_by (λ (y : Bio). is_taste_root y.owner) w.bios
+    as_many : count_by (λ (y : Bio). is_taste_root y.owner) after.bios ≡ count_by
+        (λ (y : Bio). is_taste_root y.owner) w.bios
     as_many =
         sym (length-filter (λ (y : Bio). is_taste_root y.owner) after.bios)
-        ∙ ap (λ (ys : List Bio). length ys) (filter-changed is_it change (λ (y : Bio). is_taste_root y.owner) (λ y e. refl) w.bios)
+        ∙ ap (λ (ys : List Bio). length ys)
+        (filter-changed is_it change (λ (y : Bio). is_taste_root y.owner) (λ y e. refl) w.bios)
         ∙ length-changed is_it change (filter (λ (y : Bio). is_taste_root y.owner) w.bios)
         ∙ length-filter (λ (y : Bio). is_taste_root y.owner) w.bios
 
     -- the sector that is read stays
-    sectors : All (λ (y : Bio). IsTrue (is_taste_root y.owner) → IsSomeAnd (provider_at w.topology y.target) (λ p. y.len ≡ p.sector)) after.bios
+    sectors : All
+        (λ (y : Bio). IsTrue (is_taste_root y.owner)
+        → IsSomeAnd (provider_at w.topology y.target) (λ p. y.len ≡ p.sector)) after.bios
     sectors =
-        each_after (λ (y : Bio). IsTrue (is_taste_root y.owner) → IsSomeAnd (provider_at w.topology y.target) (λ p. y.len ≡ p.sector))
-        (λ (y : Bio). IsTrue (is_taste_root y.owner) → IsSomeAnd (provider_at w.topology y.target) (λ p. y.len ≡ p.sector))
+        each_after
+        (λ (y : Bio). IsTrue (is_taste_root y.owner)
+        → IsSomeAnd (provider_at w.topology y.target) (λ p. y.len ≡ p.sector))
+        (λ (y : Bio). IsTrue (is_taste_root y.owner)
+        → IsSomeAnd (provider_at w.topology y.target) (λ p. y.len ≡ p.sector))
         (λ reads. reads) (λ y e reads. reads) hold.read.sector
 
     -- the bios are in order afterwards
@@ -260,7 +289,8 @@ module _ (w : World) (x : Bio) (phase : Phase) (result : Option BioResult → Op
       numbers = numbers-changed (λ (y : Bio). y.number) is_it change (λ y e. refl) w.next_bio w.bios hold.numbers;
       order = each_after (IsBioInOrder after) (IsBioInOrder w) order_here
           (λ y e is. record { source = is.source; target = is.target; bytes = is.bytes }) hold.order;
-      families = each_after (IsFamilyInOrder after) (IsFamilyInOrder w) family_here (λ y e is. family_there y is) hold.families;
+      families = each_after (IsFamilyInOrder after) (IsFamilyInOrder w) family_here
+          (λ y e is. family_there y is) hold.families;
       disks = record {
         at_disk = each_after (λ (y : Bio). IsTrue (is_sent y.phase || is_busy y.phase) → IsSome (disk_of_bio w y))
             (λ (y : Bio). IsTrue (is_sent y.phase || is_busy y.phase) → IsSome (disk_of_bio w y))
@@ -270,7 +300,8 @@ module _ (w : World) (x : Bio) (phase : Phase) (result : Option BioResult → Op
       read_out = read_out;
       owners = each_after (λ (y : Bio). ComesFromItsOwner after y y.owner) (λ (y : Bio). ComesFromItsOwner w y y.owner)
           (owner_turned x.owner) (λ y e comes. owner_kept y y.owner comes) hold.owners;
-      results = each_after HasItsResult HasItsResult (λ has up. fits_turned x phase result (result x.result) (may.gives up)) (λ y e has. has) hold.results;
+      results = each_after HasItsResult HasItsResult
+          (λ has up. fits_turned x phase result (result x.result) (may.gives up)) (λ y e has. has) hold.results;
       read = record { one = rw as_many hold.read.one; sector = sectors };
     }
 

@@ -1,7 +1,7 @@
 -- What holds of a mesh, taken apart: what reads its bios, and what doesn't.
 use Rattle.std.specs.Prelude.{◌≡◌, ◌↔◌, ℕ, false, List, map, All, AllPairs, IfSome, IsSome, IsTrue}
 use Rattle.std.specs.List.{list_any}
-use Rattle.std.specs.Option.{option_map_or, option_and_then}
+use Rattle.std.specs.Option.{option_map_or}
 use Rattle.geo_base.specs.Sectors.{IsSectorSize}
 use Rattle.geo_model.specs.declared.command.LineCommand.{LineCommand}
 use Rattle.geo_model.specs.Topology.{Geom, provider_at, consumers_of}
@@ -20,7 +20,8 @@ pub record BiosHold (w : World) : Type 0 where
   pub order : All (IsBioInOrder w) w.bios
   pub families : All (IsFamilyInOrder w) w.bios
   pub disks : DisksHold w
-  pub read_out : IsTrue (list_any (λ x. is_taste_root x.owner) w.bios) ↔ IsTrue (option_map_or (λ s. is_read_out s.asked) w.taste false)
+  pub read_out : IsTrue (list_any (λ x. is_taste_root x.owner) w.bios) ↔ IsTrue
+      (option_map_or (λ s. is_read_out s.asked) w.taste false)
   pub owners : All (λ x. ComesFromItsOwner w x x.owner) w.bios
   pub results : All HasItsResult w.bios
   pub read : TasteReadHolds w
@@ -64,7 +65,8 @@ pub record SizesHold (w : World) : Type 0 where
 pub record TasteHolds (w : World) : Type 0 where
   pub living : All (λ e. IsSome (provider_at w.topology (provider_of_event e))) w.events
   pub taste : IfSome w.taste (IsTasteInOrder w)
-  pub asked : IfSome w.taste (λ s. IfSome (provider_at w.topology s.provider) (λ p. IsAskedInOrder w.topology p s.asked))
+  pub asked : IfSome w.taste
+      (λ s. IfSome (provider_at w.topology s.provider) (λ p. IsAskedInOrder w.topology p s.asked))
 
 -- all that doesn't read the bios
 pub record RestHolds (w : World) : Type 0 where
@@ -92,7 +94,8 @@ RestIgnoresBios = (w : World) (bios : List Bio) (next : ℕ) → RestHolds w →
 -- with other commands left a mesh stays firm
 abbrev pub CommandsAreApart : Type 0
 CommandsAreApart =
-    (w : World) (actors : List (List LineCommand)) → All (All (λ c. IsCommand c.command)) actors → Firm w → Firm (with_left w actors)
+    (w : World) (actors : List (List LineCommand)) → All (All (λ c. IsCommand c.command)) actors → Firm w
+    → Firm (with_left w actors)
 
 -- a geom that has started another number of requests
 abbrev pub restart : (Geom Config → ℕ) → Geom Config → Geom Config

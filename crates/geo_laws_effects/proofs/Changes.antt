@@ -1,19 +1,19 @@
 -- The changes of one thing by which a graph comes to less.
-use Rattle.std.specs.Prelude.{◌≡◌, ◌⊎◌, ℕ, ◌==◌, Bool, true, false, List, [], ◌∷◌, length, find, Option, Some, None, Contains, IsSome, MatchOption, option_map, if◌then◌else◌}
+use Rattle.std.specs.Prelude.{◌+◌, ◌≡◌, ◌⊎◌, ℕ, ◌==◌, Bool, true, false, List, [], ◌∷◌, length, find, Option, Some, None, Contains, IsSome, MatchOption, option_map, if◌then◌else◌}
 use Rattle.std.proofs.Common.{inl, inr, refl, sym, ◌∙◌, ap, subst}
 use Rattle.geo_model.specs.Words.{change_where}
-use Rattle.geo_model.specs.Topology.{Topology, Geom, Provider, Consumer, consumer_at, providers_of, consumers_of, set_error, set_withering, set_marks}
+use Rattle.geo_model.specs.Topology.{Topology, Geom, Provider, Consumer, consumer_at, providers_of, consumers_of, set_error, set_withering, set_marks, note_started}
 use Rattle.geo_model.specs.Rank.{rank}
 use Rattle.geo_model.specs.World.{World, Config, Taste, granted_in}
 use Rattle.geo_model.specs.Sound.{IsTasting}
 use Rattle.geo_laws_graph.proofs.Members.{Contains-cases, Contains-here, Contains-there, nothing_in}
 use Rattle.geo_laws_graph.proofs.Lists.{changed, find-changed, length-changed}
-use Rattle.geo_laws_graph.proofs.Found.{error-found, withering-found, marks-found}
+use Rattle.geo_laws_graph.proofs.Found.{error-found, withering-found, marks-found, start-found}
 use Rattle.geo_laws_graph.proofs.Living.{parts-alive}
 use Rattle.geo_laws_rank_changes.specs.RankChangeLaws.{IsOther}
 use Rattle.geo_laws_rank_changes.proofs.RankChanges.{plain-stay}
 use Rattle.geo_laws_rank_changes.proofs.Holding.{sound-ranks}
-use Rattle.geo_laws_counts.proofs.Unseen.{unseen_error, unseen_withering, unseen_marks}
+use Rattle.geo_laws_counts.proofs.Unseen.{unseen_error, unseen_withering, unseen_marks, unseen_started}
 use Rattle.geo_laws_less.specs.LessLaws.{ComesFrom, IsGeomOf, IsProviderOf, IsConsumerOf, IsSpent, IsLess}
 use Rattle.geo_laws_less.proofs.Less.{same_le, same_tasting, demand-trans, geom-trans, provider-trans, consumer-trans}
 use Rattle.geo_laws_effects.specs.EffectLaws.{ChangesMakeLess}
@@ -97,6 +97,29 @@ module _ (w : World) (u : Topology Config) (less : IsLess w u) where
     tasting = same_tasting u (set_withering u g) refl w.taste less.tasting;
   }
 
+  -- one more started request at a geom
+  pub less-started : (g : ℕ) → IsLess w (note_started u g)
+  less-started g = record {
+    order = start-found.order u g less.order;
+    ranks = sound-ranks.started u g less.ranks;
+    lower = λ h. same_le (rank (note_started u g) h) (rank u h) (rank w.topology h) ((plain-stay.started u g).same h)
+        (less.lower h);
+    demand = demand-trans (granted_in w) w.topology u (note_started u g) less.demand
+        (unseen_started (granted_in w) u g);
+    live = parts-alive.started u g less.live;
+    geoms = λ y here.
+        let o = changed-origin (λ (x : Geom Config). x.number == g) (λ x. record x { started = x.started + 1 }) IsGeomOf
+        (λ x. record { same = refl; withering = λ so. so }) (λ x. record { same = refl; withering = λ so. so })
+        u.geoms y here in
+        let b = less.geoms o.item o.stands in
+        record { item = b.item; stands = b.stands; fact = geom-trans b.item o.item y b.fact o.fact };
+    providers = less.providers;
+    consumers = less.consumers;
+    fewer = less.fewer;
+    stay = less.stay;
+    tasting = same_tasting u (note_started u g) refl w.taste less.tasting;
+  }
+
   -- a consumer that stays, with a mark or without
   marked_there : (test : Consumer → Bool) (mark : Bool) (x : Consumer) → IsSome (consumer_at u x.number) ⊎ IsSpent w x
       → IsSome (consumer_at (set_marks u test mark) x.number) ⊎ IsSpent w x
@@ -164,4 +187,5 @@ changes_make_less = record {
   error = λ w u p less. less-error w u less p;
   withering = λ w u g not_dev not_taste less. less-withering w u less g (not_dev, not_taste);
   marks = λ w u test mark less. less-marks w u less test mark;
+  started = λ w u g less. less-started w u less g;
 }

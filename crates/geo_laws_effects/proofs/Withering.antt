@@ -8,7 +8,7 @@ use Rattle.std.proofs.lemmas.Bool.{eq-eqb, cases_eq}
 use Rattle.std.proofs.lemmas.List.Elements.{All-contains, All-weaker, All-push}
 use Rattle.geo_model.specs.declared.step.Event.TheVariants as events
 use Rattle.geo_model.specs.Words.{change_where}
-use Rattle.geo_model.specs.Topology.{Topology, Geom, Provider, Consumer, provider_at, providers_of, is_withering, set_error, set_withering}
+use Rattle.geo_model.specs.Topology.{Topology, Geom, Provider, Consumer, provider_at, providers_of, is_withering, set_error, set_withering, note_started}
 use Rattle.geo_model.specs.Events.{QueuedTopology, provider_of_event, orphan_provider, wither, wither_unless_withering}
 use Rattle.geo_model.specs.World.{World, Config}
 use Rattle.geo_model.specs.WorldEvents.{queued_of, with_queued}
@@ -16,7 +16,7 @@ use Rattle.geo_model.specs.Fitting.{Firm}
 use Rattle.geo_model.proofs.DemandLemmas.{all_weaker}
 use Rattle.geo_laws_graph.proofs.Members.{Contains-cases, Contains-filter, filter-Contains, Contains-map, All-from_contained, nothing_in}
 use Rattle.geo_laws_graph.proofs.Lists.{changed, found_itself}
-use Rattle.geo_laws_graph.proofs.Found.{withering-found}
+use Rattle.geo_laws_graph.proofs.Found.{withering-found, start-found}
 use Rattle.geo_laws_graph.proofs.Living.{sound-order}
 use Rattle.geo_laws_counts.proofs.LimitFacts.{all_of}
 use Rattle.geo_laws_effects.specs.EffectLaws.{Lives, ErrorsKeepFirm}
@@ -24,7 +24,7 @@ use Rattle.geo_laws_less.proofs.Found.{some-there}
 use Rattle.geo_laws_less.specs.LessLaws.{ComesFrom, IsProviderOf, IsLess}
 use Rattle.geo_laws_less.proofs.Less.{less-self, provider-self, provider-trans, provider-number}
 use Rattle.geo_laws_less.proofs.LessFitting.{less-firm}
-use Rattle.geo_laws_effects.proofs.Changes.{changed-origin, changed-there, less-error, less-withering}
+use Rattle.geo_laws_effects.proofs.Changes.{changed-origin, changed-there, less-error, less-withering, less-started}
 
 -- a provider lives with an error too
 pub lives-with_error : (t : Topology Config) (p n : ℕ) → IsSome (provider_at t n)
@@ -224,10 +224,21 @@ unless-firm w g not_dev not_taste firm =
     whichever-firm w (queued_of w) (wither (queued_of w) g) (is_withering w.topology g) (λ e. firm)
     (λ e. withered-firm w g firm not_dev not_taste)
 
+-- a geom that starts a request
+pub started-firm : (w : World) (g : ℕ) → Firm w → Firm (record w { topology = note_started w.topology g })
+started-firm w g firm =
+    less-firm w (note_started w.topology g) firm (less-started w w.topology (less-self w firm) g) w.events
+    (All-weaker (λ (x : Provider). IsTrue (is_withering w.topology x.geom) → x.errored ≡ true)
+    (λ (x : Provider). IsTrue (is_withering (note_started w.topology g) x.geom) → x.errored ≡ true)
+    (λ x so withers. so (sym (start-found.withering w.topology g x.geom) ∙ withers))
+    w.topology.providers firm.sound.providers.withering)
+    firm.steady.unmarked firm.sound.events.living
+
 -- errors and withering keep a firm world firm
 pub errors_keep : ErrorsKeepFirm
 errors_keep = record {
   orphaned = orphaned-firm;
   withered = λ w g not_dev not_taste firm. withered-firm w g firm not_dev not_taste;
+  started = started-firm;
   unless = unless-firm;
 }

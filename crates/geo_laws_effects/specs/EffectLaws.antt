@@ -1,7 +1,7 @@
 -- What effects keep of a firm world: of one that is sound, steady and fitting (g_event(9), g_wither_geom(9)).
 use Rattle.std.specs.Prelude.{◌≡◌, ◌≢◌, ℕ, Bool, true, false, List, ◌∷◌, fold, None, All, IsSome}
 use Rattle.geo_model.specs.declared.step.Event.{Event}
-use Rattle.geo_model.specs.Topology.{Topology, Consumer, provider_at, set_error, set_withering, set_marks}
+use Rattle.geo_model.specs.Topology.{Topology, Consumer, provider_at, set_error, set_withering, set_marks, note_started}
 use Rattle.geo_model.specs.Events.{provider_of_event, post, mark_spoiled, spoil_at, orphan_provider, wither, wither_unless_withering, offer_again, announce_risen, announce_fallen, spoil, orphan, resize}
 use Rattle.geo_model.specs.World.{World, Config, granted_in}
 use Rattle.geo_model.specs.WorldEvents.{queued_of, with_queued, after_open, after_close, kill_handle}
@@ -12,12 +12,14 @@ use Rattle.geo_laws_less.specs.LessLaws.{IsLess}
 abbrev pub Lives : World → ℕ → Type 0
 Lives w p = IsSome (provider_at w.topology p)
 
--- changes by which a graph comes to less: an error, a geom other than DEV and TASTE that withers, and marks
+-- changes by which a graph comes to less: an error, a geom other than DEV and TASTE that withers, marks, and a
+-- started request
 pub record ChangesMakeLess : Type 0 where
   pub error : (w : World) (u : Topology Config) (p : ℕ) → IsLess w u → IsLess w (set_error u p)
   pub withering : (w : World) (u : Topology Config) (g : ℕ) → g ≢ 1 → g ≢ 2 → IsLess w u → IsLess w (set_withering u g)
   pub marks : (w : World) (u : Topology Config) (test : Consumer → Bool) (mark : Bool) → IsLess w u
       → IsLess w (set_marks u test mark)
+  pub started : (w : World) (u : Topology Config) (g : ℕ) → IsLess w u → IsLess w (note_started u g)
 
 -- another queue of events of providers that live: with one event more at the end, and without the first one
 pub record QueuesKeepFirm : Type 0 where
@@ -43,10 +45,11 @@ pub record MarksKeepFirm : Type 0 where
   pub announced : (w : World) (p : ℕ) → Lives w p → Firm w
       → Firm (with_queued w (spoil_at (granted_in w) (queued_of w) p))
 
--- an error at a provider with its event, and a geom other than DEV and TASTE that withers
+-- an error at a provider with its event, a geom other than DEV and TASTE that withers, and a geom that starts a request
 pub record ErrorsKeepFirm : Type 0 where
   pub orphaned : (w : World) (p : ℕ) → Lives w p → Firm w → Firm (with_queued w (orphan_provider (queued_of w) p))
   pub withered : (w : World) (g : ℕ) → g ≢ 1 → g ≢ 2 → Firm w → Firm (with_queued w (wither (queued_of w) g))
+  pub started : (w : World) (g : ℕ) → Firm w → Firm (record w { topology = note_started w.topology g })
   pub unless : (w : World) (g : ℕ) → g ≢ 1 → g ≢ 2 → Firm w
       → Firm (with_queued w (wither_unless_withering (queued_of w) g))
 

@@ -1,7 +1,7 @@
 //! Effects of steps on a firm world.
 ghost use Rattle.geo_laws_effects.specs.EffectLaws.{AnnouncesKeepFirm, ChangesMakeLess, ErrorsKeepFirm, EventsKeepFirm, KillsKeepFirm, MarksKeepFirm, QueuesKeepFirm};
 
-/// A graph comes to less by an error, by a geom that withers, and by marks.
+/// A graph comes to less by an error, by a geom that withers or starts a request, and by marks.
 #[tactic(auto, using(crate::proofs::Changes::changes_make_less))]
 pub fn changes_make_less()
     ensures { ChangesMakeLess }
@@ -25,13 +25,15 @@ pub fn marks_keep_firm()
     ensures { MarksKeepFirm }
 {}
 
-/// A firm world stays firm where a provider that lives is orphaned, and where a geom withers that isn't DEV or TASTE.
+/// A firm world stays firm where a provider that lives is orphaned, where a geom withers that isn't DEV or TASTE, and
+/// where a geom starts a request.
 #[tactic(auto, using(crate::proofs::Withering::errors_keep))]
 pub fn errors_keep_firm()
     ensures { ErrorsKeepFirm }
 {}
 
-/// A firm world stays firm with what follows a change of write counts: offers for taste, spoils, and so after an open and a close.
+/// A firm world stays firm with what follows a change of write counts: offers for taste, spoils, and so after an open
+/// and a close.
 #[tactic(auto, using(crate::proofs::Announced::announces_keep))]
 pub fn announces_keep_firm()
     ensures { AnnouncesKeepFirm }

@@ -1,5 +1,5 @@
-//! Laws of events: a taste that begins, each event and the step of an event keep a firm world firm, one that is sound, steady and
-//! fitting (g_event(9)).
+//! Laws of events: a taste that begins, each event and the step of an event keep a firm world firm, one that is
+//! sound, steady and fitting (g_event(9)).
 #![tactic(auto)]
 
 ghost use Rattle.geo_laws_events.specs.EventLaws.{EventStepKeepsFirm};

@@ -45,7 +45,7 @@ consumer-self x = record { same = refl }
 -- a change on top of a change
 pub geom-trans : (x y z : Geom Config) → IsGeomOf x y → IsGeomOf y z → IsGeomOf x z
 geom-trans x y z first second = record {
-  same = second.same ∙ ap (λ (v : Geom Config). record v { withering = z.withering }) first.same;
+  same = second.same ∙ ap (λ (v : Geom Config). record v { withering = z.withering; started = z.started }) first.same;
   withering = λ so. second.withering (first.withering so);
 }
 

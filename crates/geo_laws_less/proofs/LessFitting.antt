@@ -38,7 +38,8 @@ with_kind k z = record { kind = k; sector = z.sector; sectors = z.size / z.secto
 -- what is found there stands for the same class and sizes
 same_facts : (t u : Topology Config) (p q : Provider) → q ≡ record p { errored = q.errored } → (g h : Geom Config)
     → geom_at t p.geom ≡ Some g
-    → geom_at u q.geom ≡ Some h → h ≡ record g { withering = h.withering } → facts_of u q ≡ facts_of t p
+    → geom_at u q.geom ≡ Some h → h ≡ record g { withering = h.withering; started = h.started }
+    → facts_of u q ≡ facts_of t p
 same_facts t u p q same g h found now of =
     let kind : option_map_or (λ (x : Geom Config). x.kind) (geom_at u q.geom) kinds.Disk ≡ option_map_or
     (λ (x : Geom Config). x.kind) (geom_at t p.geom) kinds.Disk =

@@ -116,7 +116,8 @@ module _ (w : World) (u : Topology Config) (firm : Firm w) (less : IsLess w u) w
     one_geom_of_disk = pairs-from (λ (x : Geom Config). x.number) DifferInDisk IsGeomOf geom-number
         (λ x y a b first second apart.
         subst (λ z. DifferInDisk z b) (sym first.same)
-        (subst (λ z. DifferInDisk (record x { withering = a.withering }) z) (sym second.same) apart))
+        (subst (λ z. DifferInDisk (record x { withering = a.withering; started = a.started }) z) (sym second.same)
+        apart))
         w.topology.next_geom u.next_geom w.topology.geoms u.geoms (before_order w u firm less).geoms less.order.geoms
         less.geoms
         firm.sound.numbers.one_geom_of_disk;

@@ -19,9 +19,9 @@ pub record ComesFrom {X : Type 0} (R : X → X → Type 0) (xs : List X) (y : X)
   pub stands : Contains xs item
   pub fact : R item y
 
--- the geom stays what it is but that it may wither
+-- the geom stays what it is but that it may wither, and for its started requests
 pub record IsGeomOf (x y : Geom Config) : Type 0 where
-  pub same : y ≡ record x { withering = y.withering }
+  pub same : y ≡ record x { withering = y.withering; started = y.started }
   pub withering : x.withering ≡ true → y.withering ≡ true
 
 -- the provider stays what it is but that it may have an error

@@ -1,5 +1,5 @@
-//! Laws of washes: what goes was closed, detached and idle, and a firm world, one that is sound, steady and fitting, stays firm
-//! (g_wither_geom(9)).
+//! Laws of washes: what goes was closed, detached and idle, and a firm world, one that is sound, steady and fitting,
+//! stays firm (g_wither_geom(9)).
 #![tactic(auto)]
 
 ghost use Rattle.geo_laws_washes.specs.WashLaws.{WashStepKeepsFirm, WashesKeepFirm};
