@@ -1,0 +1,3 @@
+pub mod Pulled
+pub mod More
+pub mod MoreFirm

@@ -1,0 +1,2 @@
+pub mod WitherLaws
+pub mod MoreLaws

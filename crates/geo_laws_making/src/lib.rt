@@ -1,0 +1,23 @@
+//! Laws of the commands of geoms: each keeps a firm mesh firm, one that is sound, steady and fitting (geom(4)).
+#![tactic(auto)]
+
+ghost use Rattle.geo_laws_making.specs.MoreLaws.{MoreIsFirm};
+ghost use Rattle.geo_laws_making.specs.WitherLaws.{DestroysStayFirm, PullsStayFirm};
+
+/// A firm mesh stays firm where a disk is pulled.
+#[tactic(auto, using(crate::proofs::Pulled::pulls_stay))]
+pub fn pulls_stay_firm()
+    ensures { PullsStayFirm }
+{}
+
+/// A firm mesh stays firm where a geom is destroyed.
+#[tactic(auto, using(crate::proofs::Pulled::destroys_stay))]
+pub fn destroys_stay_firm()
+    ensures { DestroysStayFirm }
+{}
+
+/// A firm mesh stays firm with a geom that is new or has changed.
+#[tactic(auto, using(crate::proofs::MoreFirm::more_is_firm))]
+pub fn more_is_firm()
+    ensures { MoreIsFirm }
+{}
