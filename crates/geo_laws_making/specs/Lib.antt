@@ -1,2 +1,3 @@
 pub mod WitherLaws
 pub mod MoreLaws
+pub mod MakingLaws

@@ -1,6 +1,7 @@
 //! Laws of the commands of geoms: each keeps a firm mesh firm, one that is sound, steady and fitting (geom(4)).
 #![tactic(auto)]
 
+ghost use Rattle.geo_laws_making.specs.MakingLaws.{MakesKeepFirm};
 ghost use Rattle.geo_laws_making.specs.MoreLaws.{MoreIsFirm};
 ghost use Rattle.geo_laws_making.specs.WitherLaws.{DestroysStayFirm, PullsStayFirm};
 
@@ -20,4 +21,10 @@ pub fn destroys_stay_firm()
 #[tactic(auto, using(crate::proofs::MoreFirm::more_is_firm))]
 pub fn more_is_firm()
     ensures { MoreIsFirm }
+{}
+
+/// A firm mesh stays firm with a new geom that can be made, over some providers and with providers that are offered.
+#[tactic(auto, using(crate::proofs::Made::makes_keep))]
+pub fn makes_keep_firm()
+    ensures { MakesKeepFirm }
 {}
