@@ -39,10 +39,10 @@ use Rattle.geo_laws_opening.proofs.Standers.{recursion-from_pairs}
 use Rattle.geo_laws_less.proofs.Found.{found-with, some-with, some-there, none-there, if-found, at-found, one-found, all_zip-weaker}
 use Rattle.geo_laws_effects.proofs.MarksKept.{stands-at}
 use Rattle.geo_laws_making.specs.MakingLaws.{below_new, HasPlace, CanOffer, IsNewDisk, CanMake, MakesKeepFirm}
-use Rattle.geo_laws_making.specs.MoreLaws.{IsUntouched, GeomFits, ProviderFits, IsMore}
+use Rattle.geo_laws_more.specs.MoreLaws.{IsUntouched, GeomFits, ProviderFits, IsMore}
 use Rattle.geo_laws_making.proofs.Over.{IsNewOne, attached_one, below-among, over-geoms, over-providers, over-found, over-new, over-cases, over-others, over-order, over-live, over-demand}
 use Rattle.geo_laws_making.proofs.Offered.{offered, IsOffered, KeepsGraph, offered-geoms, offered-consumers, offered-found, offered-cases, offered-others, offered-number, offered-living, offered-keeps, offered-names}
-use Rattle.geo_laws_making.proofs.MoreFirm.{more-firm}
+use Rattle.geo_laws_more.proofs.MoreFirm.{more-firm}
 
 -- consumers change neither geoms nor providers
 bare_over : (n m : ℕ) (ps : List Provider) (t : Topology Config) → StandsBare t m → StandsBare (over n t ps) m

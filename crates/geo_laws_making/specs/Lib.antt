@@ -1,3 +1,2 @@
 pub mod WitherLaws
-pub mod MoreLaws
 pub mod MakingLaws

@@ -2,7 +2,6 @@
 #![tactic(auto)]
 
 ghost use Rattle.geo_laws_making.specs.MakingLaws.{MakesKeepFirm};
-ghost use Rattle.geo_laws_making.specs.MoreLaws.{MoreIsFirm};
 ghost use Rattle.geo_laws_making.specs.WitherLaws.{DestroysStayFirm, PullsStayFirm};
 
 /// A firm mesh stays firm where a disk is pulled.
@@ -15,12 +14,6 @@ pub fn pulls_stay_firm()
 #[tactic(auto, using(crate::proofs::Pulled::destroys_stay))]
 pub fn destroys_stay_firm()
     ensures { DestroysStayFirm }
-{}
-
-/// A firm mesh stays firm with a geom that is new or has changed.
-#[tactic(auto, using(crate::proofs::MoreFirm::more_is_firm))]
-pub fn more_is_firm()
-    ensures { MoreIsFirm }
 {}
 
 /// A firm mesh stays firm with a new geom that can be made, over some providers and with providers that are offered.

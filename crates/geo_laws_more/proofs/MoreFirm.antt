@@ -26,8 +26,8 @@ use Rattle.geo_laws_counts.proofs.LimitFacts.{all_of}
 use Rattle.geo_laws_less.proofs.Found.{found-with, some-with, some-there, if-found, at-found, at-some, one-found, all_zip-weaker}
 use Rattle.geo_laws_less.proofs.Less.{remade}
 use Rattle.geo_laws_less.proofs.LessSteady.{some-passes}
-use Rattle.geo_laws_making.specs.MoreLaws.{IsGrownFrom, IsMore, MoreIsFirm}
-use Rattle.geo_laws_making.proofs.More.{WasBelow, before_order, target_stands, taste_stands, more-providers, more-counts, more-numbers, more-handles, more-places, more-bios, more-families, more-disks, more-events}
+use Rattle.geo_laws_more.specs.MoreLaws.{IsGrownFrom, IsMore, MoreIsFirm}
+use Rattle.geo_laws_more.proofs.More.{WasBelow, before_order, target_stands, taste_stands, more-providers, more-counts, more-numbers, more-handles, more-places, more-bios, more-families, more-disks, more-events}
 
 -- what is asked stays in order where the facts are the same
 asked_still : (t u : Topology Config) (p : Provider) → facts_of u p ≡ facts_of t p → (a : Asked) → IsAskedInOrder t p a

@@ -25,7 +25,7 @@ use Rattle.geo_laws_less.proofs.Found.{found-with, some-with, at-some}
 use Rattle.geo_laws_less.proofs.Less.{remade}
 use Rattle.geo_laws_less.proofs.LessLooks.{disk_there}
 use Rattle.geo_laws_less.proofs.LessSteady.{some-passes}
-use Rattle.geo_laws_making.specs.MoreLaws.{IsGrownFrom, IsMore}
+use Rattle.geo_laws_more.specs.MoreLaws.{IsGrownFrom, IsMore}
 
 -- a provider that stands with its geom as it stood
 pub record StandsBoth (t u : Topology Config) (p : ℕ) : Type 0 where

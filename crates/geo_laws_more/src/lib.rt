@@ -1,0 +1,11 @@
+//! Laws of a graph that has come to more: one geom is new or has changed, and it has more consumers and providers. A firm
+//! world, one that is sound, steady and fitting, stays firm with it (geom(4)).
+#![tactic(auto)]
+
+ghost use Rattle.geo_laws_more.specs.MoreLaws.{MoreIsFirm};
+
+/// A firm world stays firm with a graph that has come to more.
+#[tactic(auto, using(crate::proofs::MoreFirm::more_is_firm))]
+pub fn more_is_firm()
+    ensures { MoreIsFirm }
+{}
