@@ -2,3 +2,4 @@ pub mod Pulled
 pub mod Over
 pub mod Offered
 pub mod Made
+pub mod Inserted

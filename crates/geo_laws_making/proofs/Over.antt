@@ -42,16 +42,16 @@ low_by n p ps c q e low false other =
     omega arith
 
 -- so none is lower
-below-from : (n : ℕ) (ps : List Provider) (c : ℕ) (q : Provider) → below_new n ps c ≡ Some q → n ≤ c
+pub below-from : (n : ℕ) (ps : List Provider) (c : ℕ) (q : Provider) → below_new n ps c ≡ Some q → n ≤ c
 below-from n [] c q e = absurd (let no : ⊥ = cc in no)
 below-from n (p ∷ ps) c q e = low_by n p ps c q e (below-from (n + 1) ps c q) (c == n) refl
 
 -- the first of them, and the others
-below-here : (n : ℕ) (p : Provider) (ps : List Provider) (c : ℕ) → c ≡ n → below_new n (p ∷ ps) c ≡ Some p
+pub below-here : (n : ℕ) (p : Provider) (ps : List Provider) (c : ℕ) → c ≡ n → below_new n (p ∷ ps) c ≡ Some p
 below-here n p ps c same = rw (eq-eqb c n same) refl
 
 -- those behind it
-below-there : (n : ℕ) (p : Provider) (ps : List Provider) (c : ℕ) (q : Provider) → below_new (n + 1) ps c ≡ Some q
+pub below-there : (n : ℕ) (p : Provider) (ps : List Provider) (c : ℕ) (q : Provider) → below_new (n + 1) ps c ≡ Some q
     → below_new n (p ∷ ps) c ≡ Some q
 below-there n p ps c q e =
     let low = below-from (n + 1) ps c q e in

@@ -22,7 +22,7 @@ use Rattle.geo_model.specs.Fitting.{Firm}
 use Rattle.geo_model.proofs.DemandLemmas.{find_passes}
 use Rattle.geo_laws_graph.proofs.Members.{Has, find-Contains}
 use Rattle.geo_laws_effects.proofs.Withering.{withered-firm}
-use Rattle.geo_laws_making.specs.WitherLaws.{PullsStayFirm, DestroysStayFirm}
+use Rattle.geo_laws_making.specs.GeomLaws.{PullsStayFirm, DestroysStayFirm}
 
 -- false isn't true
 pub false_true : {A : Type 0} → false ≡ true → A

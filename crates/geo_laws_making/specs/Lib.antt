@@ -1,2 +1,2 @@
-pub mod WitherLaws
+pub mod GeomLaws
 pub mod MakingLaws

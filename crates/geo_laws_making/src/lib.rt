@@ -2,7 +2,7 @@
 #![tactic(auto)]
 
 ghost use Rattle.geo_laws_making.specs.MakingLaws.{MakesKeepFirm};
-ghost use Rattle.geo_laws_making.specs.WitherLaws.{DestroysStayFirm, PullsStayFirm};
+ghost use Rattle.geo_laws_making.specs.GeomLaws.{DestroysStayFirm, InsertsStayFirm, PullsStayFirm};
 
 /// A firm mesh stays firm where a disk is pulled.
 #[tactic(auto, using(crate::proofs::Pulled::pulls_stay))]
@@ -20,4 +20,10 @@ pub fn destroys_stay_firm()
 #[tactic(auto, using(crate::proofs::Made::makes_keep))]
 pub fn makes_keep_firm()
     ensures { MakesKeepFirm }
+{}
+
+/// A firm mesh stays firm where a disk of the header is inserted.
+#[tactic(auto, using(crate::proofs::Inserted::inserts_stay))]
+pub fn inserts_stay_firm()
+    ensures { InsertsStayFirm }
 {}
