@@ -1,15 +1,13 @@
 -- An insert: the disk stands, with one provider, which is offered for taste; or the command is refused.
-use Rattle.std.specs.Prelude.{◌≡◌, ◌≢◌, ℕ, ◌+◌, ◌≤◌, suc, Bool, true, false, List, [], ◌∷◌, find, Option, Some, None, is_none, IsSomeAnd, All, AllPairs, Contains, slice_get}
-use Rattle.std.specs.List.{AllByRecursion, list_any, enumerate_from}
-use Rattle.std.proofs.Common.{inl, inr, refl, sym, ◌∙◌, ap, subst, arith}
+use Rattle.std.specs.Prelude.{◌≡◌, ℕ, ◌+◌, suc, Bool, true, false, List, [], ◌∷◌, Option, Some, None, All, Contains, slice_get}
+use Rattle.std.specs.List.{list_any, enumerate_from}
+use Rattle.std.proofs.Common.{inl, inr, refl, ap, subst, arith}
 use Rattle.std.proofs.lemmas.List.Elements.{All-contains, All-from_recursion}
-use Rattle.geo_base.specs.declared.errno.Errno.{Errno}
 use Rattle.geo_base.specs.declared.errno.Errno.TheVariants.{EBUSY, EEXIST}
 use Rattle.geo_base.specs.declared.kind.Kind.TheVariants as kinds
 use Rattle.geo_model.specs.Words.{first_error, same_name}
 use Rattle.geo_model.specs.Topology.{is_name_taken}
-use Rattle.geo_model.specs.World.{World, Config, Disk, HeaderDisk}
-use Rattle.geo_model.specs.WorldEvents.{queued_of, with_queued}
+use Rattle.geo_model.specs.World.{World, Disk, HeaderDisk}
 use Rattle.geo_model.specs.Acceptance.{NewSlice}
 use Rattle.geo_model.specs.GeomCommands.{header_disk, is_geom_of_disk, stand, insert_tests, do_insert}
 use Rattle.geo_model.specs.Fitting.{IsHeaderDisk, Firm}

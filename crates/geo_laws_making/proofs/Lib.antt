@@ -3,3 +3,4 @@ pub mod Over
 pub mod Offered
 pub mod Made
 pub mod Inserted
+pub mod Nopped

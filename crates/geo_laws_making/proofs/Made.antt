@@ -57,7 +57,7 @@ pub record Through {X Y : Type 0} (f : X → Option Y) (o : Option X) (y : Y) : 
   pub then : f first ≡ Some y
 
 -- what is found so
-through : {X Y : Type 0} (f : X → Option Y) (o : Option X) (y : Y) → option_and_then f o ≡ Some y → Through f o y
+pub through : {X Y : Type 0} (f : X → Option Y) (o : Option X) (y : Y) → option_and_then f o ≡ Some y → Through f o y
 through f None y e = absurd (let no : ⊥ = cc in no)
 through f (Some x) y e = record { first = x; is = refl; then = e }
 

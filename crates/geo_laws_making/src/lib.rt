@@ -2,7 +2,7 @@
 #![tactic(auto)]
 
 ghost use Rattle.geo_laws_making.specs.MakingLaws.{MakesKeepFirm};
-ghost use Rattle.geo_laws_making.specs.GeomLaws.{DestroysStayFirm, InsertsStayFirm, PullsStayFirm};
+ghost use Rattle.geo_laws_making.specs.GeomLaws.{DestroysStayFirm, InsertsStayFirm, NopsStayFirm, PullsStayFirm};
 
 /// A firm mesh stays firm where a disk is pulled.
 #[tactic(auto, using(crate::proofs::Pulled::pulls_stay))]
@@ -26,4 +26,10 @@ pub fn makes_keep_firm()
 #[tactic(auto, using(crate::proofs::Inserted::inserts_stay))]
 pub fn inserts_stay_firm()
     ensures { InsertsStayFirm }
+{}
+
+/// A firm mesh stays firm where a nop is made.
+#[tactic(auto, using(crate::proofs::Nopped::nops_stay))]
+pub fn nops_stay_firm()
+    ensures { NopsStayFirm }
 {}

@@ -1,9 +1,9 @@
 -- A graph that has come to more is steady and fitting, and a firm world with it is firm.
-use Rattle.std.specs.Prelude.{◌≡◌, ◌≢◌, ◌⊎◌, ℕ, ◌≤◌, ◌/◌, ◌%◌, ◌==◌, Bool, true, false, not, List, [], length, Option, Some, None, All, Contains, IsSome, IsSomeAnd, IfSome, IsTrue, option_and_then}
+use Rattle.std.specs.Prelude.{◌≡◌, ◌≢◌, ◌⊎◌, ℕ, ◌≤◌, ◌/◌, ◌%◌, ◌==◌, true, false, not, List, [], length, Option, Some, None, All, Contains, IsSome, IsSomeAnd, IfSome, IsTrue, option_and_then}
 use Rattle.std.specs.List.{list_any}
 use Rattle.std.specs.Option.{option_map_or}
-use Rattle.std.proofs.Common.{inl, inr, refl, sym, ◌∙◌, ap, subst, arith}
-use Rattle.std.proofs.lemmas.Bool.{eqb-true, cases_eq}
+use Rattle.std.proofs.Common.{inl, inr, sym, ◌∙◌, ap, subst, arith}
+use Rattle.std.proofs.lemmas.Bool.{eqb-true, cases_eq, not-true}
 use Rattle.std.proofs.lemmas.List.Elements.{All-contains, All-weaker}
 use Rattle.geo_base.specs.Sectors.{IsSectorSize}
 use Rattle.geo_base.specs.declared.kind.Kind.TheVariants as kinds
@@ -92,7 +92,7 @@ module _ (w : World) (u : Topology Config) (g : Geom Config) (firm : Firm w) (mo
       (more.others x.number apart) some in
       let p = some-passes (λ (z : Provider). not (is_zero (have (granted_in w) u z.number))) (providers_of t x.number) was in
       let kept = filter-Contains (λ (z : Provider). z.geom == x.number) t.providers p.item p.here in
-      elim (more.opened p.item kept.0 (not_true (is_zero (have (granted_in w) u p.item.number)) p.passes)) [
+      elim (more.opened p.item kept.0 (not-true (is_zero (have (granted_in w) u p.item.number)) p.passes)) [
         | inl opened ↦
             inr (any-contained (λ (z : Provider). not (is_zero (have (granted_in w) t z.number))) (providers_of t x.number)
             p.item p.here (ap not opened))
@@ -102,11 +102,6 @@ module _ (w : World) (u : Topology Config) (g : Geom Config) (firm : Firm w) (mo
             (found_itself (λ (z : Geom Config). z.number) t.next_geom t.geoms x (before_order w u g firm more).geoms here))
             upright)
       ]
-    where
-      -- what isn't true is false
-      not_true : (b : Bool) → not b ≡ true → b ≡ false
-      not_true true e = absurd (let no : ⊥ = cc in no)
-      not_true false e = refl
 
   -- each component still stands
   components_stand : (queue : List Event) (y : Geom Config) → Contains u.geoms y → HasItsComponents (remade w u queue) y
