@@ -22,7 +22,10 @@ use Rattle.geo_laws_counts.proofs.Stays.{consumer_came}
 use Rattle.geo_laws_less.proofs.Found.{some-there}
 use Rattle.geo_laws_less.proofs.Less.{demand-trans}
 use Rattle.geo_laws_making.specs.MakingLaws.{below_new}
-use Rattle.geo_laws_making.proofs.Pulled.{false_true}
+
+-- false isn't true
+pub false_true : {A : Type 0} → false ≡ true → A
+false_true e = absurd (let no : ⊥ = cc in no)
 
 -- a new consumer: the provider to which it is attached, and its geom
 pub record IsNewOne (n next : ℕ) (ps : List Provider) (c : Consumer) : Type 0 where

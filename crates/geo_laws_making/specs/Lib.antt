@@ -1,2 +1,1 @@
-pub mod GeomLaws
 pub mod MakingLaws

@@ -22,11 +22,8 @@ use Rattle.geo_model.specs.Fitting.{Firm}
 use Rattle.geo_model.proofs.DemandLemmas.{find_passes}
 use Rattle.geo_laws_graph.proofs.Members.{Has, find-Contains}
 use Rattle.geo_laws_effects.proofs.Withering.{withered-firm}
-use Rattle.geo_laws_making.specs.GeomLaws.{PullsStayFirm, DestroysStayFirm}
-
--- false isn't true
-pub false_true : {A : Type 0} → false ≡ true → A
-false_true e = absurd (let no : ⊥ = cc in no)
+use Rattle.geo_laws_making.proofs.Over.{false_true}
+use Rattle.geo_laws_geoms.specs.GeomLaws.{PullsStayFirm, DestroysStayFirm}
 
 -- a geom that isn't of DEV or TASTE has neither's number
 pub neither_fixed : (g : Geom Config) → IsOfItsClass g → is_kind g.kind kinds.Dev ≡ false → is_kind g.kind kinds.Taste ≡ false

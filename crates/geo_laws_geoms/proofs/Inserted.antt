@@ -14,9 +14,10 @@ use Rattle.geo_model.specs.Fitting.{IsHeaderDisk, Firm}
 use Rattle.geo_laws_graph.proofs.Members.{find-Contains, Contains-cases, Contains-here, Contains-there, nothing_in}
 use Rattle.geo_laws_opening.proofs.Standers.{pairs-from_recursion}
 use Rattle.geo_laws_less.proofs.Found.{some-with}
-use Rattle.geo_laws_making.specs.GeomLaws.{InsertsStayFirm}
+use Rattle.geo_laws_making.proofs.Over.{false_true}
+use Rattle.geo_laws_geoms.specs.GeomLaws.{InsertsStayFirm}
 use Rattle.geo_laws_making.specs.MakingLaws.{CanOffer, CanMake}
-use Rattle.geo_laws_making.proofs.Pulled.{false_true, answered-firm}
+use Rattle.geo_laws_geoms.proofs.Pulled.{answered-firm}
 use Rattle.geo_laws_making.proofs.Made.{made-firm}
 
 -- where nothing is refused, the first test fails, and nothing of the rest refuses

@@ -19,12 +19,12 @@ use Rattle.geo_laws_graph.proofs.Members.{find-Contains}
 use Rattle.geo_laws_graph.proofs.Numbered.{number_found}
 use Rattle.geo_laws_opening.proofs.Standers.{pairs-from_recursion}
 use Rattle.geo_laws_less.proofs.Found.{some-with, some-there}
-use Rattle.geo_laws_making.specs.GeomLaws.{NopsStayFirm}
+use Rattle.geo_laws_geoms.specs.GeomLaws.{NopsStayFirm}
 use Rattle.geo_laws_making.specs.MakingLaws.{below_new, HasPlace, CanOffer, CanMake}
-use Rattle.geo_laws_making.proofs.Pulled.{false_true, answered-firm}
-use Rattle.geo_laws_making.proofs.Over.{below-here}
+use Rattle.geo_laws_geoms.proofs.Pulled.{answered-firm}
+use Rattle.geo_laws_making.proofs.Over.{false_true, below-here}
 use Rattle.geo_laws_making.proofs.Made.{through, made-firm}
-use Rattle.geo_laws_making.proofs.Inserted.{none_refused}
+use Rattle.geo_laws_geoms.proofs.Inserted.{none_refused}
 
 -- a provider that is found by its number
 pub found_by_number : (w : World) (n : ℕ) (p : Provider) → provider_at w.topology n ≡ Some p

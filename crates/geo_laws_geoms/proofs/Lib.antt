@@ -1,0 +1,3 @@
+pub mod Pulled
+pub mod Inserted
+pub mod Nopped
