@@ -1,3 +1,5 @@
 pub mod Pulled
 pub mod Inserted
 pub mod Nopped
+pub mod NewPlaces
+pub mod Joined

@@ -1,7 +1,7 @@
 //! Laws of the commands of geoms: each keeps a firm mesh firm, one that is sound, steady and fitting (geom(4)).
 #![tactic(auto)]
 
-ghost use Rattle.geo_laws_geoms.specs.GeomLaws.{DestroysStayFirm, InsertsStayFirm, NopsStayFirm, PullsStayFirm};
+ghost use Rattle.geo_laws_geoms.specs.GeomLaws.{ConcatsStayFirm, DestroysStayFirm, InsertsStayFirm, NopsStayFirm, PullsStayFirm, StripesStayFirm};
 
 /// A firm mesh stays firm where a disk is pulled.
 #[tactic(auto, using(crate::proofs::Pulled::pulls_stay))]
@@ -25,4 +25,16 @@ pub fn inserts_stay_firm()
 #[tactic(auto, using(crate::proofs::Nopped::nops_stay))]
 pub fn nops_stay_firm()
     ensures { NopsStayFirm }
+{}
+
+/// A firm mesh stays firm where a concat is made.
+#[tactic(auto, using(crate::proofs::Joined::concats_stay))]
+pub fn concats_stay_firm()
+    ensures { ConcatsStayFirm }
+{}
+
+/// A firm mesh stays firm where a stripe is made.
+#[tactic(auto, using(crate::proofs::Joined::stripes_stay))]
+pub fn stripes_stay_firm()
+    ensures { StripesStayFirm }
 {}
