@@ -1,0 +1,5 @@
+pub mod Numbers
+pub mod Concats
+pub mod Rises
+pub mod Larger
+pub mod Appended
