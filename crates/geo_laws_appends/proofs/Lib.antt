@@ -3,3 +3,4 @@ pub mod Concats
 pub mod Rises
 pub mod Larger
 pub mod Appended
+pub mod Commanded
