@@ -1,13 +1,12 @@
 -- Where a text isn't one of runs.
 use Rattle.std.proofs.Common.{◌≡◌, ℕ, ◌+◌, ◌<◌, ◌≤◌, List, [], ◌∷◌, ◌++◌, length, replicate, take, drop, refl, sym, ◌∙◌, ap, arith, add-one, get_or, append_assoc, Option, Some, None, subst}
-use Rattle.std.proofs.lemmas.List.{take-append-drop, take-take, take_all, length-take-le, get_or-take}
+use Rattle.std.proofs.lemmas.List.{take-append-drop, take-take, take_all, length-take-le, get_or-take, drop_more}
 use Rattle.std.proofs.Math.Seq.{take-length, take-suc}
 use Rattle.std.proofs.lemmas.Grind.{get_or_default_zero}
 use Rattle.geo_base.specs.Runs.{IsRuns, BeginsRuns, IsRunsFault, runs_text}
 use Rattle.geo_base.specs.RunsReader.{Reading, read_on}
 use Rattle.geo_base.specs.declared.runs.Place.{Place}
 use Rattle.geo_base.specs.declared.runs.Place.TheVariants.{Start, High, Byte, Times}
-use Rattle.geo_base.proofs.RunsLemmas.{front}
 use Rattle.geo_base.proofs.RunsReach.{Reached, reached-begins, reached-next}
 use Rattle.geo_base.proofs.RunsEnds.{at_place, read_more, read_more-append, read_more-none, runs-end}
 
@@ -45,7 +44,7 @@ split_at n i text lt le =
     let inside : i < length (take n text) = omega arith in
     let here : get_or (take n text) i 0 ≡ get_or text i 0 = get_or-take n text i 0 lt in (
       drop (i + 1) (take n text),
-      sym (take-append-drop i (take n text)) ∙ ap (λ l. take i (take n text) ++ l) (front (take n text) i inside) ∙ rw (shorter, here) refl,
+      sym (take-append-drop i (take n text)) ∙ ap (λ l. take i (take n text) ++ l) (drop_more (take n text) i 0 inside) ∙ rw (shorter, here) refl,
     )
 
 -- a byte that isn't taken is a fault

@@ -1,9 +1,9 @@
 -- Texts of runs, from the first byte on.
-use Rattle.std.proofs.Common.{◌≡◌, ℕ, ◌+◌, ◌<◌, ◌≤◌, ◌==◌, Bool, true, false, List, [], ◌∷◌, ◌++◌, length, map, refl, sym, ◌∙◌, ap, arith, add-one, get_or, drop, if◌then◌else◌, eq-eqb, append_assoc, append-nil, replicate, add-zero, zero, suc}
+use Rattle.std.proofs.Common.{◌≡◌, ℕ, ◌+◌, ◌<◌, ◌≤◌, ◌==◌, Bool, true, false, List, [], ◌∷◌, ◌++◌, length, map, refl, sym, ◌∙◌, ap, arith, get_or, drop, if◌then◌else◌, eq-eqb, append_assoc, append-nil, replicate, add-zero, zero, suc}
 use Rattle.std.proofs.lemmas.Bool.Decides.{nat_tests}
 use Rattle.std.specs.List.{join_with_byte}
-use Rattle.std.proofs.Math.Seq.{drop-cons}
 use Rattle.std.proofs.Math.ListN.{drop_of_length-le}
+use Rattle.std.proofs.lemmas.List.{drop_more}
 use Rattle.geo_base.specs.Runs.{ByteRun, add_byte, runs_of, run_text, runs_text}
 
 abbrev pub run : ℕ → ℕ → ByteRun
@@ -80,9 +80,6 @@ pub text_after-all : (b : ℕ) (bs : List ℕ) → text_after b 0 (b ∷ bs) ≡
 unfolding runs_text
 text_after-all b bs = text_after-same b 0 b bs refl ∙ ap (λ l. join_with_byte 32 (map run_text l)) (runs_after-of b 1 bs ∙ add_times-one b (runs_of bs))
 
-pub front : (xs : List ℕ) (i : ℕ) → i < length xs → drop i xs ≡ get_or xs i 0 ∷ drop (i + 1) xs
-front xs i h = rw (add-one, drop-cons xs i 0) refl
-
 -- nothing is read yet
 pub text_first : (bytes : List ℕ) → 1 ≤ length bytes → text_after (get_or bytes 0 0) 0 bytes ≡ runs_text bytes
 text_first [] h = absurd (omega arith)
@@ -92,7 +89,7 @@ text_first (b ∷ bs) h = text_after-all b bs
 pub text_on : (bytes : List ℕ) (i b n : ℕ) (text all : List ℕ) → i < length bytes → get_or bytes i 0 ≡ b →
     text ++ text_after b n (drop i bytes) ≡ all → text ++ text_after b (n + 1) (drop (i + 1) bytes) ≡ all
 text_on bytes i b n text all h same whole =
-    ap (λ l. text ++ l) (sym (ap (text_after b n) (front bytes i h) ∙ text_after-same b n (get_or bytes i 0) (drop (i + 1) bytes) same)) ∙ whole
+    ap (λ l. text ++ l) (sym (ap (text_after b n) (drop_more bytes i 0 h) ∙ text_after-same b n (get_or bytes i 0) (drop (i + 1) bytes) same)) ∙ whole
 
 -- the next byte begins a run
 pub text_next : (bytes : List ℕ) (i b n : ℕ) (text more all : List ℕ) → i < length bytes → (get_or bytes i 0 == b) ≡ false → more ≡ text ++ run_text (run b n) ++ 32 ∷ [] →
@@ -100,7 +97,7 @@ pub text_next : (bytes : List ℕ) (i b n : ℕ) (text more all : List ℕ) → 
 text_next bytes i b n text more all h other written whole =
     let next = text_after (get_or bytes i 0) 1 (drop (i + 1) bytes) in
     rw written (append_assoc (text ++ run_text (run b n)) (32 ∷ []) next ∙ append_assoc text (run_text (run b n)) (32 ∷ next)
-    ∙ ap (λ l. text ++ l) (sym (ap (text_after b n) (front bytes i h) ∙ text_after-other b n (get_or bytes i 0) (drop (i + 1) bytes) other)) ∙ whole)
+    ∙ ap (λ l. text ++ l) (sym (ap (text_after b n) (drop_more bytes i 0 h) ∙ text_after-other b n (get_or bytes i 0) (drop (i + 1) bytes) other)) ∙ whole)
 
 -- no byte is left
 pub text_end : (bytes : List ℕ) (i b n : ℕ) (text all : List ℕ) → length bytes ≤ i → text ++ text_after b n (drop i bytes) ≡ all → text ++ run_text (run b n) ≡ all

@@ -28,7 +28,8 @@ word_byte-not_zero zero word = cc
 word_byte-not_zero (suc b) word = rw (ne_eqb (suc b) 0 (omega arith)) refl
 
 -- bytes of a short name are bytes of a name
-pub word_bytes-name_bytes : (bytes : List ℕ) → list_all is_word_byte bytes ≡ true → list_all is_name_byte bytes ≡ true
+pub word_bytes-name_bytes : (bytes : List ℕ) → list_all is_word_byte bytes ≡ true
+    → list_all is_name_byte bytes ≡ true
 word_bytes-name_bytes [] words = refl
 word_bytes-name_bytes (b ∷ bytes) words =
     let parts = and_parts (is_word_byte b) (list_all is_word_byte bytes) words in
@@ -38,10 +39,11 @@ word_bytes-name_bytes (b ∷ bytes) words =
 -- a short name is a name
 pub short_name-named : (bytes : List ℕ) → is_short_name bytes ≡ true → is_name bytes ≡ true
 short_name-named bytes short =
-    let outer = and_parts (nat_le 1 (length bytes) && nat_le (length bytes) 16) (list_all is_word_byte bytes) short in
-    let inner = and_parts (nat_le 1 (length bytes)) (nat_le (length bytes) 16) outer.0 in
+    let all = and_parts (nat_le 1 (length bytes) && nat_le (length bytes) 16) (list_all is_word_byte bytes) short in
+    let inner = and_parts (nat_le 1 (length bytes)) (nat_le (length bytes) 16) all.0 in
     let few : length bytes ≤ 16 = leb-true (length bytes) 16 inner.1 in
-    rw (inner.0, le-leb (length bytes) 63 (omega (arith, few)), word_bytes-name_bytes bytes outer.1) refl
+    let fits : nat_le (length bytes) 63 ≡ true = le-leb (length bytes) 63 (omega (arith, few)) in
+    rw (inner.0, fits, word_bytes-name_bytes bytes all.1) refl
 
 -- Options and results
 
@@ -73,7 +75,8 @@ on_ok (Err e) never p = absurd cc
 -- Lists
 
 -- what a search finds is in the list and passes the test
-pub found_in : {X : Type 0} (test : X → Bool) (xs : List X) (x : X) → find test xs ≡ Some x → Contains xs x × (test x ≡ true)
+pub found_in : {X : Type 0} (test : X → Bool) (xs : List X) (x : X) → find test xs ≡ Some x
+    → Contains xs x × (test x ≡ true)
 found_in test [] x found = cc
 found_in {X = X} test (y ∷ ys) x found = at (test y) refl (found_in test ys x) found
   where
