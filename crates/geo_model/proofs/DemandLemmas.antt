@@ -1,10 +1,12 @@
 -- The counts of a provider are the sum over the consumers attached to it, where the graph is ranked.
-use Rattle.std.specs.Prelude.{◌≡◌, ℕ, zero, suc, ◌+◌, ◌<◌, ◌≤◌, ◌==◌, Bool, true, false, List, [], ◌∷◌, Option, Some, None, filter, map, find, IfSome, IsSomeAnd, length}
+use Rattle.std.specs.Prelude.{◌≡◌, ℕ, zero, suc, ◌+◌, ◌<◌, ◌≤◌, ◌==◌, Bool, true, false, List, [], ◌∷◌, Option, Some, None, filter, map, IfSome, IsSomeAnd, length}
 use Rattle.std.specs.List.{AllByRecursion}
-use Rattle.std.proofs.Common.{refl, sym, ◌∙◌, ap, arith}
+use Rattle.std.proofs.Common.{refl, ◌∙◌, ap, arith}
 use Rattle.std.proofs.lemmas.Bool.{eqb-true}
 use Rattle.std.proofs.lemmas.List.Elements.{recursion_from_All}
 use Rattle.geo_base.specs.declared.request.Counts.{Counts}
+-- what a search finds passes the test
+pub use Rattle.geo_base.proofs.Tests.{found_passes as find_passes}
 use Rattle.geo_model.specs.Words.{names_number, largest}
 use Rattle.geo_model.specs.Topology.{Topology, Geom, Provider, Consumer, provider_at, geom_at, attached_to, providers_of}
 use Rattle.geo_model.specs.Rank.{rank, rank_within, geoms_under, Ranked}
@@ -26,16 +28,6 @@ pub kept_by : {X : Type 0} (P Q : X → Type 0) (test : X → Bool) → ((x : X)
 kept_by P Q test so [] facts = facts
 kept_by P Q test so (x ∷ xs) facts =
     kept_cons Q test x xs (test x) refl (λ e. so x e facts.0) (kept_by P Q test so xs facts.1)
-
--- what find gives passes the test
-find_cons : {X : Type 0} (test : X → Bool) (y x : X) (ys : List X) (b : Bool) → test y ≡ b
-    → (find test ys ≡ Some x → test x ≡ true) → find test (y ∷ ys) ≡ Some x → test x ≡ true
-find_cons test y x ys true e rest found = let same : y ≡ x = cc in rw (sym same) e
-find_cons test y x ys false e rest found = rest (rw e at found)
-
-pub find_passes : {X : Type 0} (test : X → Bool) (xs : List X) (x : X) → find test xs ≡ Some x → test x ≡ true
-find_passes test [] x e = cc
-find_passes test (y ∷ ys) x e = find_cons test y x ys (test y) refl (find_passes test ys x) e
 
 -- the largest of numbers that have a bound
 pub largest-le : (n : ℕ) (ns : List ℕ) → AllByRecursion (λ k. k ≤ n) ns → largest ns ≤ n
@@ -62,7 +54,8 @@ pub no_items : {X : Type 0} (xs : List X) → AllByRecursion (λ x. ⊥) xs → 
 no_items [] facts = refl
 no_items (x ∷ xs) facts = absurd facts.0
 
-names_some : (o : Option ℕ) (p : ℕ) → names_number o p ≡ true → o ≡ Some p
+-- what names a number is that number
+pub names_some : (o : Option ℕ) (p : ℕ) → names_number o p ≡ true → o ≡ Some p
 names_some None p e = cc
 names_some (Some m) p e = ap (λ n. Some n) (eqb-true m p e)
 

@@ -15,7 +15,7 @@ use Rattle.geo_model.proofs.DemandLemmas.{all_weaker, map_all}
 use Rattle.geo_model.proofs.RankLemmas.{mapped_by}
 
 -- the part of a range that lies in a stretch, where there is some
-abbrev cut_piece : ℕ → ℕ → Stretch → Piece
+abbrev pub cut_piece : ℕ → ℕ → Stretch → Piece
 cut_piece o len s = record {
   child = s.component;
   span = record { offset = s.offset + (max o s.start - s.start); len = min (o + len) (s.start + s.len) - max o s.start };

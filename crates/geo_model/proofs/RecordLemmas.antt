@@ -3,10 +3,11 @@ use Rattle.std.specs.Prelude.{◌≡◌, ℕ, zero, suc, ◌+◌, ◌-◌, ◌%�
 use Rattle.std.specs.List.{list_all, prefix_len}
 use Rattle.std.specs.Int.{w16, w32, w64, to_le_bytes, from_le_bytes}
 use Rattle.std.proofs.Common.{refl, ◌∙◌, ap, subst, arith, length-append, inl, inr}
-use Rattle.std.proofs.lemmas.Bool.{and_parts, ne_eqb, leb-true, le-leb, lt-ltb, eq-eqb}
+use Rattle.std.proofs.lemmas.Bool.{and_parts, leb-true, le-leb, lt-ltb}
 use Rattle.std.proofs.lemmas.List.{length-replicate, append_assoc}
 use Rattle.std.proofs.lemmas.Nat.{from_le_bytes-to_le_bytes_2, from_le_bytes-to_le_bytes_4, from_le_bytes-to_le_bytes_8}
 use Rattle.std.proofs.Math.Seq.{take-append_seam, drop-append-add}
+use Rattle.geo_base.proofs.Tests.{word_byte-not_zero, bytes_eq-same}
 use Rattle.geo_base.specs.Name.{is_short_name, is_word_byte}
 use Rattle.geo_model.specs.declared.class.ConcatRecord.{ConcatRecord}
 use Rattle.geo_model.specs.declared.class.LabelRecord.{LabelRecord}
@@ -16,22 +17,18 @@ use Rattle.geo_model.specs.Records.{padded, record_head, label_magic, label_reco
 use Rattle.geo_base.specs.Sectors.{IsSectorSize}
 use Rattle.geo_model.specs.FormatLaws.{IsPlaceOf}
 
--- a name as its field of 16 bytes
-padded-length : (name : List ℕ) → length name ≤ 16 → length (padded 16 name) ≡ 16
-padded-length name short =
-    length-append name (replicate {A = ℕ} (16 - length name) 0) ∙ rw (length-replicate {A = ℕ} (16 - length name) 0) (omega (arith, short))
+-- bytes with zeros behind them are as long as their field
+pub length-padded : (size : ℕ) (bytes : List ℕ) → length bytes ≤ size → length (padded size bytes) ≡ size
+length-padded size bytes fits =
+    length-append bytes (replicate {A = ℕ} (size - length bytes) 0) ∙ rw (length-replicate {A = ℕ} (size - length bytes) 0) (omega (arith, fits))
 
+-- a name as its field of 16 bytes
 field-take : (name rest : List ℕ) → length name ≤ 16 → take 16 (padded 16 name ++ rest) ≡ padded 16 name
-field-take name rest short = subst (λ n. take n (padded 16 name ++ rest) ≡ padded 16 name) (padded-length name short) (take-append_seam (padded 16 name) rest)
+field-take name rest short = subst (λ n. take n (padded 16 name ++ rest) ≡ padded 16 name) (length-padded 16 name short) (take-append_seam (padded 16 name) rest)
 
 field-drop : (name rest : List ℕ) (n : ℕ) → length name ≤ 16 → drop (16 + n) (padded 16 name ++ rest) ≡ drop n rest
 field-drop name rest n short =
-    subst (λ k. drop (k + n) (padded 16 name ++ rest) ≡ drop n rest) (padded-length name short) (drop-append-add (padded 16 name) rest n)
-
--- a byte of a name isn't zero
-word_byte-not_zero : (b : ℕ) → is_word_byte b ≡ true → not (b == 0) ≡ true
-word_byte-not_zero zero e = cc
-word_byte-not_zero (suc b) e = rw (ne_eqb (suc b) 0 (omega arith)) refl
+    subst (λ k. drop (k + n) (padded 16 name ++ rest) ≡ drop n rest) (length-padded 16 name short) (drop-append-add (padded 16 name) rest n)
 
 zeros-prefix : (k : ℕ) → prefix_len (λ (b : ℕ). not (b == 0)) (replicate k 0) ≡ 0
 zeros-prefix zero = refl
@@ -60,11 +57,6 @@ short-length name e =
 short-bytes : (name : List ℕ) → is_short_name name ≡ true → list_all is_word_byte name ≡ true
 short-bytes name e = (and_parts (nat_le 1 (length name) && nat_le (length name) 16) (list_all is_word_byte name) e).1
 
--- bytes are the same as themselves
-bytes_eq-same : (bytes : List ℕ) → bytes_eq bytes bytes ≡ true
-bytes_eq-same [] = refl
-bytes_eq-same (b ∷ bytes) = rw (eq-eqb b b refl, bytes_eq-same bytes) refl
-
 -- a head in order has no cause
 head-none : (magic : List ℕ) (newest : ℕ) (bytes name : List ℕ) → bytes_eq (take 16 bytes) magic ≡ true
     → (nat_le 1 (u32_at bytes 16) && nat_le (u32_at bytes 16) newest) ≡ true
@@ -81,7 +73,8 @@ row-errors : {E : Type 0} (row : Bool × E) (xs ys : List (Bool × E)) (b : Bool
 row-errors row xs ys true t e rest = let no : Some row.1 ≡ None = rw t at e in cc
 row-errors row xs ys false t e rest = rw t (rest (rw t at e))
 
-append-errors : {E : Type 0} (xs ys : List (Bool × E)) → first_error xs ≡ None → first_error (xs ++ ys) ≡ first_error ys
+-- so for all that stand before them
+pub append-errors : {E : Type 0} (xs ys : List (Bool × E)) → first_error xs ≡ None → first_error (xs ++ ys) ≡ first_error ys
 append-errors [] ys e = refl
 append-errors (row ∷ xs) ys e = row-errors row xs ys row.0 refl e (append-errors xs ys)
 
@@ -166,11 +159,7 @@ concat-read size x short fits =
 -- how long the head of a record is, and a record in a sector
 head-length : (magic name : List ℕ) → length magic ≡ 16 → length name ≤ 16 → length (record_head magic 1 name) ≡ 36
 head-length magic name m short =
-    omega (arith, length-append magic (to_le_bytes w32 1 ++ padded 16 name), length-append (to_le_bytes w32 1) (padded 16 name), m, padded-length name short)
-
-sector-length : (size : ℕ) (bytes : List ℕ) → length bytes ≤ size → length (padded size bytes) ≡ size
-sector-length size bytes fits =
-    length-append bytes (replicate {A = ℕ} (size - length bytes) 0) ∙ rw (length-replicate {A = ℕ} (size - length bytes) 0) (omega (arith, fits))
+    omega (arith, length-append magic (to_le_bytes w32 1 ++ padded 16 name), length-append (to_le_bytes w32 1) (padded 16 name), m, length-padded 16 name short)
 
 sector-large : (size : ℕ) → IsSectorSize size → 512 ≤ size
 sector-large size (inl e) = omega (arith, e)
@@ -189,7 +178,7 @@ stripe-read size x sector short fits good =
     let bytes : List ℕ = stripe_sector size x in
     let low : length x.name ≤ 16 = short-length x.name short in
     let long : length bytes ≡ size =
-    sector-length size (record_head stripe_magic 1 x.name ++ fields)
+    length-padded size (record_head stripe_magic 1 x.name ++ fields)
     (omega (arith, length-append (record_head stripe_magic 1 x.name) fields, head-length stripe_magic x.name refl low, sector-large size sector)) in
     let sizes = and_parts (nat_le 1 x.stripe) (nat_le x.stripe 32768 && (x.stripe % size == 0)) good in
     let limited : x.stripe ≤ 32768 = leb-true x.stripe 32768 (and_parts (nat_le x.stripe 32768) (x.stripe % size == 0) sizes.1).0 in

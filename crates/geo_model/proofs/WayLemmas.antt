@@ -3,7 +3,7 @@ use Rattle.std.specs.Prelude.{◌≡◌, ℕ, ◌+◌, Bool, true, false, Option
 use Rattle.std.proofs.Common.{refl, ◌∙◌}
 use Rattle.geo_model.specs.Topology.{Provider, Geom, is_errored, provider_with_geom}
 use Rattle.geo_model.specs.World.{World, Bio, Config, Nothing, Disk, Mbr, Ebr, Label, Concat, Stripe, Nop}
-use Rattle.geo_model.specs.Bios.{is_hit, start, start_at, start_at_nop, start_found, start_by, way_at, way_of}
+use Rattle.geo_model.specs.Bios.{is_hit, start, start_at, start_found, start_by, way_at, way_of}
 
 -- at a NOP geom
 hit : (w : World) (x : Bio) (p : Provider) (g : Geom Config) (below : Option ℕ) (offset fail : ℕ) (b : Bool)
