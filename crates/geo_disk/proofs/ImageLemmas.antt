@@ -1,8 +1,9 @@
 -- The bytes under the names of a shelf in memory, as disks are taken and given back.
 use Rattle.std.proofs.Common.{◌≡◌, ◌≢◌, ℕ, Bool, true, false, List, [], ◌∷◌, ◌++◌, length, Option, Some, None, bytes_eq, ◌||◌, cond, refl, ◌∙◌, sym, inl, inr, ◌<◌, ◌≤◌, ◌*◌, ◌/◌, set, Contains, zero, suc, arith}
-use Rattle.std.proofs.Math.Bool.{or-false}
+use Rattle.std.proofs.Math.Bool.{or-false, or-true}
 use Rattle.std.proofs.lemmas.Bool.{false_from_ne_true}
 use Rattle.std.specs.Option.{option_map}
+use Rattle.geo_base.proofs.Tests.{bytes_eq-same}
 use Rattle.geo_base.specs.Sectors.{sectors_of, IsSectorSize}
 use Rattle.geo_disk.specs.Names.{is_among, without}
 use Rattle.geo_disk.specs.Memory.{Memory}
@@ -12,7 +13,7 @@ use Rattle.geo_disk.specs.Shelf.{IsGivenTo, IsOfSize, IsTakenFrom}
 use Rattle.geo_disk.proofs.SectorLemmas.{sectors_length}
 use Rattle.std.proofs.Math.Nat.{mul_comm, zero-mul}
 use Rattle.geo_disk.specs.declared.mem_shelf.Slot.{Slot}
-use Rattle.geo_disk.proofs.NameLemmas.{IsPlace, among-push, among-without, bytes_eq-same, bytes_eq-other, Contains-from_among, named-set_same, named-set_other, named-push_same, named-push_other, same_or_other, set_keeps}
+use Rattle.geo_disk.proofs.NameLemmas.{IsPlace, among-push, among-without, bytes_eq-other, Contains-from_among, named-set_same, named-set_other, named-push_same, named-push_other, same_or_other, set_keeps}
 
 -- under a name that is lent there is nothing
 pub image_lent : (slots : List Slot) (lent : List (List ℕ)) (name : List ℕ) → is_among name lent ≡ true
@@ -67,12 +68,8 @@ given_back : (lent : List (List ℕ)) (name : List ℕ) → is_among name (witho
 given_back lent name = among-without name name lent ∙ rw (bytes_eq-same name) refl
 
 -- a name that was pushed is lent
-or_true : (b : Bool) → (b || true) ≡ true
-or_true true = refl
-or_true false = refl
-
 pushed_lent : (lent : List (List ℕ)) (name : List ℕ) → is_among name (lent ++ name ∷ []) ≡ true
-pushed_lent lent name = among-push name name lent ∙ rw (bytes_eq-same name) (or_true (is_among name lent))
+pushed_lent lent name = among-push name name lent ∙ rw (bytes_eq-same name) (or-true (is_among name lent))
 
 -- what a shelf has after a disk was taken out of its place
 pub after_take : (slots : List Slot) (lent : List (List ℕ)) (name : List ℕ) (sector at : ℕ) (slot : Slot)
