@@ -8,7 +8,7 @@ use Rattle.geo_model.specs.Script.{◌>>=◌, Words, words_of, next_word, short_
 use Rattle.geo_model.specs.Words.{unless, first_error}
 use Rattle.geo_model.specs.World.{Plan}
 use Rattle.geo_script.proofs.RunsAgree.{runs-agree}
-use Rattle.geo_script.proofs.WordsLemmas.{next_word-cons, parts-some}
+use Rattle.geo_script.proofs.WordsLemmas.{next_word-cons, parts-some, word_in, rest_in}
 
 -- the words behind `mark`'s handle, by the next of them
 pub mark_words-next : (ws : Words) (handle : List ℕ) (rest : Words) (word : List ℕ) (words : Words) → short_name ws ≡ Ok (handle, rest) → next_word rest ≡ Ok (word, words) →
@@ -42,16 +42,6 @@ abbrev pub after : List (List ℕ) → Result (List (List ℕ)) Cause → Result
 after xs (Ok ys) = Ok (xs ++ ys)
 after xs (Err cause) = Err cause
 
--- the word that was read
-abbrev first_of : Result (List ℕ × Words) Cause → List ℕ
-first_of (Ok x) = x.0
-first_of (Err cause) = []
-
--- the words behind it
-abbrev rest_of : Result (List ℕ × Words) Cause → Words
-rest_of (Ok x) = x.1
-rest_of (Err cause) = []
-
 -- the cause of a refusal
 abbrev cause_of : {A : Type 0} → Result A Cause → Cause
 cause_of (Ok x) = causes.Words
@@ -74,8 +64,8 @@ is_first (word ∷ words) name rest e = into (is_name word) refl e
     into : (t : Bool) → is_name word ≡ t → named_word t word words ≡ Ok (name, rest) → IsFirst (word ∷ words) name rest
     into false t e = absurd (cc)
     into true t e =
-        let same : word ≡ name = ap first_of e in
-        record { stands = ap (λ w. w ∷ words) same ∙ ap (λ ws. name ∷ ws) (ap rest_of e); named = ap is_name (sym same) ∙ t }
+        let same : word ≡ name = ap word_in e in
+        record { stands = ap (λ w. w ∷ words) same ∙ ap (λ ws. name ∷ ws) (ap rest_in e); named = ap is_name (sym same) ∙ t }
 
 -- names within a number, by the first of them
 within-next : (n : ℕ) (word : List ℕ) (words : Words) → is_name word ≡ true → names_within (suc n) (word ∷ words) ≡ (names_within n words >>= λ names. Ok (word ∷ names))

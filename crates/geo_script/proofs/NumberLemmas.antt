@@ -1,21 +1,17 @@
 -- The number of decimal digits, from the first on.
-use Rattle.std.proofs.Common.{◌≡◌, ℕ, ◌+◌, ◌-◌, ◌*◌, ◌^◌, ◌<◌, ◌≤◌, nat_lt, true, false, List, [], ◌∷◌, length, drop, Some, None, refl, sym, ◌∙◌, ap, arith, add-one, get_or, fold}
+use Rattle.std.proofs.Common.{◌≡◌, ℕ, ◌+◌, ◌-◌, ◌*◌, ◌^◌, ◌<◌, ◌≤◌, nat_lt, true, false, List, [], ◌∷◌, length, drop, Some, None, refl, sym, ◌∙◌, ap, arith, get_or, fold}
 use Rattle.std.proofs.lemmas.Bool.Decides.{nat_tests}
-use Rattle.std.proofs.Math.Seq.{drop-cons}
 use Rattle.std.proofs.Math.ListN.{drop_of_length-le}
+use Rattle.std.proofs.lemmas.List.{drop_more}
 use Rattle.geo_script.specs.Reads.{fitting}
 
 -- the value of digits behind a number
 abbrev pub value_behind : ℕ → List ℕ → ℕ
 value_behind value digits = fold (λ n b. 10 * n + (b - 48)) value digits
 
--- what is left, by its first digit
-front : (xs : List ℕ) (i : ℕ) → i < length xs → drop i xs ≡ get_or xs i 0 ∷ drop (i + 1) xs
-front xs i h = rw (add-one, drop-cons xs i 0) refl
-
 -- one digit more
 value_next : (xs : List ℕ) (i value : ℕ) → i < length xs → value_behind value (drop i xs) ≡ value_behind (10 * value + (get_or xs i 0 - 48)) (drop (i + 1) xs)
-value_next xs i value lt = ap (value_behind value) (front xs i lt)
+value_next xs i value lt = ap (value_behind value) (drop_more xs i 0 lt)
 
 -- digits make a number no smaller
 value_grows : (value : ℕ) (xs : List ℕ) → value ≤ value_behind value xs

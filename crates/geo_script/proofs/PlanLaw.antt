@@ -7,6 +7,7 @@ use Rattle.std.proofs.lemmas.List.{map_push, get_or_append_left, get_or_push, le
 use Rattle.std.proofs.lemmas.List.Elements.{All-nil, All-cons, All-push, All-weaker, All-map}
 use Rattle.std.proofs.lemmas.List.Quantifiers.{all_pairs_push, position-Some}
 use Rattle.std.proofs.lemmas.Slice.Eq.{bytes_eq-Decides}
+use Rattle.std.proofs.lemmas.Bool.{ltb-true}
 use Rattle.geo_model.specs.declared.command.Cause.{Cause}
 use Rattle.geo_model.specs.declared.command.Cause.TheVariants as causes
 use Rattle.geo_model.specs.declared.command.Command.{Command}
@@ -151,10 +152,7 @@ rising-push xs y rising below = λ k inside. into k (nat_lt (k + 1) (length xs))
         omega arith
 
     into : (k : ℕ) (t : Bool) → nat_lt (k + 1) (length xs) ≡ t → k + 1 < length (xs ++ y ∷ []) → get_or (xs ++ y ∷ []) k 0 < get_or (xs ++ y ∷ []) (k + 1) 0
-    into k true t inside = before k (below_test (k + 1) (length xs) t)
-      where
-        below_test : (a b : ℕ) → nat_lt a b ≡ true → a < b
-        below_test a b t = grind (arith, nat_tests)
+    into k true t inside = before k (ltb-true (k + 1) (length xs) t)
     into k false t inside = at k (last (length xs) (length (xs ++ y ∷ [])) (length_push xs y) t inside)
       where
         last : (a b : ℕ) → b ≡ a + 1 → nat_lt (k + 1) a ≡ false → k + 1 < b → a ≡ k + 1
@@ -181,21 +179,15 @@ add_command-keeps n plan actor c some few is inside command =
         lines = subst IsStrictlyIncreasing (sym (map_push (λ (x : LineCommand). x.line) plan.commands (line_command n actor c))) lines;
       };
       below = All-push (λ (x : LineCommand). x.line < n + 1) plan.commands (line_command n actor c)
-          (All-weaker (λ (x : LineCommand). x.line < n) (λ (x : LineCommand). x.line < n + 1) (λ x h. up x.line h) plan.commands is.below) (omega arith);
+          (All-weaker (λ (x : LineCommand). x.line < n) (λ (x : LineCommand). x.line < n + 1) (λ x h. omega arith) plan.commands is.below) (omega arith);
     }
-  where
-    up : (k : ℕ) → k < n → k < n + 1
-    up k h = omega arith
 
 -- lines below a number are below the next
 next_number : (n : ℕ) (plan : Plan) → Upto n plan → Upto (n + 1) plan
 next_number n plan is = record {
   plan = is.plan;
-  below = All-weaker (λ (x : LineCommand). x.line < n) (λ (x : LineCommand). x.line < n + 1) (λ x h. up x.line h) plan.commands is.below;
+  below = All-weaker (λ (x : LineCommand). x.line < n) (λ (x : LineCommand). x.line < n + 1) (λ x h. omega arith) plan.commands is.below;
 }
-  where
-    up : (k : ℕ) → k < n → k < n + 1
-    up k h = omega arith
 
 -- the same for what a reader gives
 next_gives : (n : ℕ) (r : Result Plan Cause) → Gives (Upto n) r → Gives (Upto (n + 1)) r

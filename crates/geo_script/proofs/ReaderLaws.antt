@@ -4,6 +4,7 @@ use Rattle.std.specs.List.{All}
 use Rattle.std.specs.Option.{option_map_or}
 use Rattle.std.proofs.lemmas.Bool.Decides.{nat_tests}
 use Rattle.std.proofs.lemmas.List.Elements.{All-nil, All-cons}
+use Rattle.std.proofs.lemmas.Bool.{ltb-true}
 use Rattle.geo_base.specs.Name.{is_name, is_short_name}
 use Rattle.geo_base.specs.Sectors.{IsSectorSize}
 use Rattle.geo_base.specs.declared.request.Counts.{Counts}
@@ -156,10 +157,6 @@ two_tests a b c d e = (grind (arith, nat_tests), grind (arith, nat_tests))
 le_and_lt : (a b c d : ℕ) → (nat_le a b && nat_lt c d) ≡ true → (a ≤ b) × (c < d)
 le_and_lt a b c d e = (grind (arith, nat_tests), grind (arith, nat_tests))
 
--- a test of an order
-lt_test : (a b : ℕ) → nat_lt a b ≡ true → a < b
-lt_test a b e = grind (arith, nat_tests)
-
 -- the sectors of a disk in memory are few
 pub sector_count-gives : (sector : ℕ) (ws : Words) → Gives (OfValue (IsSectorCount sector)) (sector_count sector ws)
 sector_count-gives sector ws =
@@ -168,11 +165,11 @@ sector_count-gives sector ws =
 
 -- an id fits 32 bits
 pub record_id-gives : (ws : Words) → Gives (OfValue (λ n. n < 2 ^ 32)) (record_id ws)
-record_id-gives ws = weaker (OfValue (InRange (λ n. nat_lt n (2 ^ 32)))) (OfValue (λ n. n < 2 ^ 32)) (record_id ws) (λ x h. lt_test x.0 (2 ^ 32) h.0) (ranged-gives (λ n. nat_lt n (2 ^ 32)) ws)
+record_id-gives ws = weaker (OfValue (InRange (λ n. nat_lt n (2 ^ 32)))) (OfValue (λ n. n < 2 ^ 32)) (record_id ws) (λ x h. ltb-true x.0 (2 ^ 32) h.0) (ranged-gives (λ n. nat_lt n (2 ^ 32)) ws)
 
 -- a place fits 16 bits
 pub record_place-gives : (ws : Words) → Gives (OfValue (λ n. n < 65536)) (record_place ws)
-record_place-gives ws = weaker (OfValue (InRange (λ n. nat_lt n 65536))) (OfValue (λ n. n < 65536)) (record_place ws) (λ x h. lt_test x.0 65536 h.0) (ranged-gives (λ n. nat_lt n 65536) ws)
+record_place-gives ws = weaker (OfValue (InRange (λ n. nat_lt n 65536))) (OfValue (λ n. n < 65536)) (record_place ws) (λ x h. ltb-true x.0 65536 h.0) (ranged-gives (λ n. nat_lt n 65536) ws)
 
 -- 1 to 16
 abbrev pub IsCount : ℕ → Type 0

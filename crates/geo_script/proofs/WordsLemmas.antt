@@ -1,10 +1,11 @@
 -- The words of a line, from the first on.
-use Rattle.std.proofs.Common.{◌≡◌, ℕ, ◌+◌, ◌<◌, ◌≤◌, ◌==◌, ◌-◌, ◌&&◌, ◌||◌, nat_lt, nat_le, Bool, true, false, not, List, [], ◌∷◌, length, take, drop, Option, Some, None, Result, Ok, Err, refl, sym, ◌∙◌, ap, arith, cond, length-drop, if◌then◌else◌}
-use Rattle.std.specs.List.{slice_split, position, position_or_len, onto_first, list_all}
+use Rattle.std.proofs.Common.{◌≡◌, ℕ, ◌+◌, ◌<◌, ◌≤◌, ◌==◌, ◌-◌, nat_lt, Bool, true, false, not, List, [], ◌∷◌, length, take, drop, Option, Some, None, Result, Ok, Err, refl, sym, ◌∙◌, ap, arith, cond, length-drop, if◌then◌else◌}
+use Rattle.std.specs.List.{slice_split, position, position_or_len, onto_first}
 use Rattle.std.proofs.lemmas.List.Splits.{slice_split_first}
 use Rattle.std.proofs.lemmas.List.{take_all}
 use Rattle.std.proofs.lemmas.Bool.Decides.{nat_tests}
-use Rattle.geo_base.specs.Name.{name_of, is_name, is_name_byte, is_word_byte, is_short_name}
+use Rattle.geo_base.proofs.Tests.{short_name-named}
+use Rattle.geo_base.specs.Name.{name_of, is_name, is_short_name}
 use Rattle.std.specs.Option.{is_some}
 use Rattle.std.specs.Borrow.{Bor}
 use Rattle.geo_script.specs.WordsLeft.{words_left}
@@ -50,34 +51,14 @@ at_end-words value (x ∷ xs) = into (x == 32) (slice_split (λ x. x == 32) xs)
     into false [] = refl
     into false (part ∷ parts) = refl
 
--- bytes of a short name are bytes of a name
-word_bytes-name_bytes : (bytes : List ℕ) → list_all is_word_byte bytes ≡ true → list_all is_name_byte bytes ≡ true
-word_bytes-name_bytes [] e = refl
-word_bytes-name_bytes (b ∷ bs) e = into (is_word_byte b) e (word_bytes-name_bytes bs)
-  where
-    into : (t : Bool) → (t && list_all is_word_byte bs) ≡ true → (list_all is_word_byte bs ≡ true → list_all is_name_byte bs ≡ true) → ((t || (b == 46) || (b == 47)) && list_all is_name_byte bs) ≡ true
-    into true e more = more e
-    into false e more = absurd (cc)
-
--- a short name is a name
-short-named : (word : List ℕ) → is_short_name word ≡ true → is_name word ≡ true
-short-named word e = into (list_all is_word_byte word) refl e
-  where
-    into : (t : Bool) → list_all is_word_byte word ≡ t → (nat_le 1 (length word) && nat_le (length word) 16 && t) ≡ true → is_name word ≡ true
-    into true each e =
-        let named : list_all is_name_byte word ≡ true = word_bytes-name_bytes word each in
-        let some : (nat_le 1 (length word) && nat_le (length word) 63) ≡ true = grind (arith, nat_tests) in
-        rw (some, named) refl
-    into false each e = grind (arith, nat_tests)
-
--- a short name is a name
+-- what is no name is no short name
 pub no_name-no_short_name : (word : List ℕ) → name_of word ≡ None → is_short_name word ≡ false
 no_name-no_short_name word e = into (is_short_name word) refl
   where
     into : (t : Bool) → is_short_name word ≡ t → t ≡ false
     into false short = refl
     into true short =
-        let named : is_name word ≡ true = short-named word short in
+        let named : is_name word ≡ true = short_name-named word short in
         let none : Some word ≡ None = sym (ap (λ t. if t then Some word else None) named) ∙ e in
         absurd (cc)
 
@@ -86,7 +67,7 @@ pub behind : (at : ℕ) (xs : List ℕ) → take (length xs - (at + 1)) (drop (a
 behind at xs = take_all (length xs - (at + 1)) (drop (at + 1) xs) (omega (arith, length-drop (at + 1) xs))
 
 -- the word that was read
-abbrev word_in : Result (List ℕ × Words) Cause → List ℕ
+abbrev pub word_in : Result (List ℕ × Words) Cause → List ℕ
 word_in (Ok x) = x.0
 word_in (Err cause) = []
 
@@ -99,7 +80,7 @@ short_name-refused (x ∷ xs) word rest e none =
     rw refused refl
 
 -- the words behind it
-abbrev rest_in : Result (List ℕ × Words) Cause → Words
+abbrev pub rest_in : Result (List ℕ × Words) Cause → Words
 rest_in (Ok x) = x.1
 rest_in (Err cause) = []
 
