@@ -1,7 +1,7 @@
 -- Which bios are Busy after a step.
 use Rattle.std.proofs.Common.{◌≡◌, ℕ, ◌==◌, true, false, List, [], ◌∷◌, Option, Some, None, Ok, IsOk, refl, sym, ◌∙◌, ap, subst, inl, inr}
 use Rattle.std.specs.List.{AllByRecursion}
-use Rattle.std.proofs.lemmas.Bool.{eqb-true}
+use Rattle.std.proofs.lemmas.Bool.{eqb-true, cases_Bool}
 use Rattle.geo_core.specs.declared.rows.Bio.{Bio}
 use Rattle.geo_model.specs.declared.step.BioResult.{BioResult}
 use Rattle.geo_core.specs.declared.rows.Phase.TheVariants.{Sent, Busy}
@@ -23,7 +23,6 @@ use Rattle.geo_core.specs.Step.{step}
 use Rattle.geo_core.specs.Log.{world_after}
 use Rattle.geo_core.specs.Laws.{IsNoTake}
 use Rattle.geo_core.specs.Sound.{NoneBusy}
-use Rattle.geo_core.proofs.RowsLemmas.{bool_cases}
 use Rattle.geo_core.proofs.Keeps.{All-snoc, All-update, All-without, find-passes}
 use Rattle.geo_core.proofs.Changes.{GoKeeps, go-keeps, start_of-keeps, deliver_of-keeps, up_of-keeps}
 use Rattle.geo_core.proofs.Owed.{unless-ok}
@@ -70,7 +69,7 @@ twice-quiet : (n : ℕ) (f g : Bio → Bio) → ((b : Bio) → (f b).number ≡ 
 unfolding update_by
 twice-quiet n f g same quiet [] q = tt
 twice-quiet n f g same quiet (x ∷ xs) q =
-    elim (bool_cases (is_bio n x)) [
+    elim (cases_Bool (is_bio n x)) [
       | inl hit ↦ let again : is_bio n (f x) ≡ true = ap (λ m. m == n) (same x) ∙ hit in rw (hit, again) (quiet (f x), q.1)
       | inr miss ↦ rw (miss, miss) (q.0, twice-quiet n f g same quiet xs q.1)
     ]
@@ -95,7 +94,8 @@ given-bio u v seat n got (Some b) given here e =
     let own : b.number ≡ n = eqb-true b.number n (find-passes (is_bio n) u.bios b here) in
     sym (ap (world_after u) made) ∙ ap (λ m. change_bio u m (up_with (result_of_device got))) own
 
-busy-number : (seat : ℕ) (b : Bio) → (with_phase (Busy seat) b).number ≡ b.number
+-- a bio keeps its number as it becomes Busy
+pub busy-number : (seat : ℕ) (b : Bio) → (with_phase (Busy seat) b).number ≡ b.number
 unfolding with_phase
 busy-number seat b = refl
 

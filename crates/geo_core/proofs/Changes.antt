@@ -1,6 +1,6 @@
 -- What holds of the world after a step, where it holds after each change that a step can make.
 use Rattle.std.proofs.Common.{◌≡◌, ℕ, List, Option, Some, None, refl, ◌∙◌, ap, inl, inr, nat_lt}
-use Rattle.std.proofs.lemmas.Bool.{eqb-true}
+use Rattle.std.proofs.lemmas.Bool.{eqb-true, cases_Bool}
 use Rattle.geo_base.specs.declared.errno.Errno.{Errno}
 use Rattle.geo_core.specs.declared.command.LineCommand.{LineCommand}
 use Rattle.geo_core.specs.declared.command.Command.{Command}
@@ -29,7 +29,6 @@ use Rattle.geo_core.specs.Read.{do_read, read_of, read_at, request_answered, req
 use Rattle.geo_core.specs.Go.{go, go_of, spent, do_command, waits_for}
 use Rattle.geo_core.specs.Step.{step}
 use Rattle.geo_core.specs.Log.{world_after}
-use Rattle.geo_core.proofs.RowsLemmas.{bool_cases}
 use Rattle.geo_core.proofs.Keeps.{find-passes}
 
 -- the world with the first command of an actor gone
@@ -59,7 +58,7 @@ close_of-keeps : (w : World) (P : World → Type 0) (a line actor : ℕ) (name :
 unfolding close_of spent
 close_of-keeps w P a line actor name None e k = k.spent a
 close_of-keeps w P a line actor name (Some h) e k =
-    elim (bool_cases (is_active w h.consumer)) [ inl hit ↦ rw hit (k.spent a) | inr miss ↦ rw miss (k.closed a actor name h e) ]
+    elim (cases_Bool (is_active w h.consumer)) [ inl hit ↦ rw hit (k.spent a) | inr miss ↦ rw miss (k.closed a actor name h e) ]
 
 answered-keeps : (w : World) (P : World → Type 0) (a line offset len : ℕ) (h : Handle) (p : Provider) (o : Option Errno) → provider_at w p.number ≡ Some p → request_refusal p offset len ≡ o → GoKeeps w P
     → P (spent a (request_answered w line offset len h p o)).0
@@ -109,7 +108,7 @@ go_of-keeps w P a (Some c) k = unless-keeps w P (waits_for w a c.command) (spent
 pub go-keeps : (w : World) (P : World → Type 0) (a : ℕ) → GoKeeps w P → P (world_after w (go w a))
 unfolding go
 go-keeps w P a k =
-    elim (bool_cases (nat_lt a w.actors)) [ inl hit ↦ rw hit (go_of-keeps w P a (find_by (is_of_actor a) w.left) k) | inr miss ↦ rw miss k.same ]
+    elim (cases_Bool (nat_lt a w.actors)) [ inl hit ↦ rw hit (go_of-keeps w P a (find_by (is_of_actor a) w.left) k) | inr miss ↦ rw miss k.same ]
 
 -- a fact that holds after each change that a Start can make
 pub record StartKeeps (w : World) (P : World → Type 0) : Type 0 where
@@ -126,7 +125,7 @@ pub start_of-keeps : (w : World) (P : World → Type 0) (o : Option Bio) → Sta
 unfolding start_of
 start_of-keeps w P None k = k.same
 start_of-keeps w P (Some b) k =
-    elim (bool_cases (is_down b.phase)) [ inl hit ↦ rw hit (start_at-keeps w P b (disk_of_bio w b) k) | inr miss ↦ rw miss k.same ]
+    elim (cases_Bool (is_down b.phase)) [ inl hit ↦ rw hit (start_at-keeps w P b (disk_of_bio w b) k) | inr miss ↦ rw miss k.same ]
 
 -- Take, Deliver and Up make one change each
 
@@ -144,7 +143,7 @@ pub up_of-keeps : (w : World) (P : World → Type 0) (o : Option Bio) → P w �
 unfolding up_of up
 up_of-keeps w P None same k = same
 up_of-keeps w P (Some b) same k =
-    elim (bool_cases (is_up b.phase)) [ inl hit ↦ rw hit (k b.number) | inr miss ↦ rw miss same ]
+    elim (cases_Bool (is_up b.phase)) [ inl hit ↦ rw hit (k b.number) | inr miss ↦ rw miss same ]
 
 -- a fact that holds after each change that a step but a Take can make
 pub record StepKeeps (w : World) (P : World → Type 0) : Type 0 where

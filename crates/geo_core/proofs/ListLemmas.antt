@@ -1,16 +1,13 @@
 -- Lists that loops go through.
-use Rattle.std.proofs.Common.{◌≡◌, ℕ, ◌+◌, ◌<◌, ◌≤◌, Bool, true, false, List, [], ◌∷◌, ◌++◌, length, map, filter, drop, get_or, refl, sym, ◌∙◌, ap, arith, add-one, append_assoc, append-nil, inl, inr, subst}
-use Rattle.std.proofs.Math.Seq.{drop-cons}
+use Rattle.std.proofs.Common.{◌≡◌, ℕ, ◌+◌, ◌<◌, ◌≤◌, Bool, true, false, List, [], ◌∷◌, ◌++◌, length, map, filter, drop, get_or, refl, sym, ◌∙◌, ap, arith, append_assoc, append-nil, inl, inr, subst}
 use Rattle.std.proofs.Math.ListN.{drop_of_length-le}
-use Rattle.std.proofs.lemmas.Bool.{cases_lt}
+use Rattle.std.proofs.lemmas.Bool.{cases_lt, cases_Bool}
 use Rattle.std.specs.List.{AllZip}
+use Rattle.std.proofs.lemmas.List.{length_push}
 use Rattle.geo_model.specs.declared.command.DiskDecl.{DiskDecl}
 use Rattle.geo_core.specs.World.{World}
 use Rattle.geo_core.specs.Opening.{add_disk, add_disks, stand, with_disk}
-use Rattle.geo_core.proofs.RowsLemmas.{bool_cases}
-
-pub front : {X : Type 0} (xs : List X) (i : ℕ) (x : X) → i < length xs → x ≡ get_or xs i x → drop i xs ≡ x ∷ drop (i + 1) xs
-front xs i x h e = rw (add-one, drop-cons xs i x, ← e) refl
+use Rattle.geo_core.proofs.RowsLemmas.{front}
 
 -- a list that is filtered and mapped, one item after another
 
@@ -54,10 +51,6 @@ pub disks_end : (w all : World) (ds : List DiskDecl) (facts : List (ℕ × ℕ))
 unfolding add_disks
 disks_end w all ds facts i h k = sym (ap (λ l. add_disks w l (drop i facts)) (drop_of_length-le ds h)) ∙ k
 
-length-push : {X : Type 0} (xs : List X) (y : X) → length (xs ++ y ∷ []) ≡ length xs + 1
-length-push [] y = omega arith
-length-push (x ∷ xs) y = let rest = length-push xs y in omega (arith, rest)
-
 -- how the lists and numbers grow
 pub record IsOneMore (w u : World) : Type 0 where
   pub disks : length u.disks ≡ length w.disks + 1
@@ -67,9 +60,9 @@ pub record IsOneMore (w u : World) : Type 0 where
 pub one_more_disk : (w : World) (d : DiskDecl) (fact : ℕ × ℕ) → IsOneMore w (add_disk w d fact)
 unfolding add_disk with_disk stand
 one_more_disk w d fact =
-    elim (bool_cases d.later) [
-      | inl hit ↦ rw hit (record { disks = length-push w.disks _; geom = omega arith; provider = omega arith })
-      | inr miss ↦ rw miss (record { disks = length-push w.disks _; geom = omega arith; provider = omega arith })
+    elim (cases_Bool d.later) [
+      | inl hit ↦ rw hit (record { disks = length_push w.disks _; geom = omega arith; provider = omega arith })
+      | inr miss ↦ rw miss (record { disks = length_push w.disks _; geom = omega arith; provider = omega arith })
     ]
 
 pub disk_grows : (w u : World) (d : DiskDecl) (fact : ℕ × ℕ) → u ≡ add_disk w d fact → IsOneMore w u

@@ -2,6 +2,8 @@
 use Rattle.std.proofs.Common.{◌≡◌, ℕ, ◌+◌, ◌<◌, ◌≤◌, true, false, List, [], ◌∷◌, ◌++◌, length, Some, None, Ok, Err, IsOk, refl, sym, ◌∙◌, ap, subst, arith, inl, inr}
 use Rattle.std.specs.Result.{result_err}
 use Rattle.std.proofs.lemmas.Bool.Decides.{nat_tests}
+use Rattle.std.proofs.lemmas.List.{length_push}
+use Rattle.std.proofs.lemmas.Bool.{cases_Bool}
 use Rattle.geo_model.specs.declared.command.DiskDecl.{DiskDecl}
 use Rattle.geo_core.specs.declared.rows.HeaderDisk.{HeaderDisk}
 use Rattle.geo_core.specs.declared.step.Entry.{Entry}
@@ -16,7 +18,6 @@ use Rattle.geo_core.specs.Step.{step}
 use Rattle.geo_core.specs.Log.{Legal, IsMade, replay, after_entry, world_after, owed, log_limit, is_full_after}
 use Rattle.geo_core.specs.Sound.{Sound}
 use Rattle.geo_core.specs.Mesh.{MeshView, world_of, IsHistory, IsShort, IsMesh, entry_of}
-use Rattle.geo_core.proofs.RowsLemmas.{bool_cases}
 use Rattle.geo_core.proofs.SoundSteps.{step-sound}
 use Rattle.geo_core.proofs.NearSteps.{IsNear, step-near}
 use Rattle.geo_core.proofs.OpeningSound.{opens_sound}
@@ -42,7 +43,7 @@ add_disk-fresh : (w : World) (d : DiskDecl) (fact : ℕ × ℕ) → IsFresh w �
 unfolding add_disk
 add_disk-fresh w d fact f =
     let there : IsFresh (with_disk w (disk_in_size d fact)) = with_disk-fresh w (disk_in_size d fact) f in
-    elim (bool_cases d.later) [ inl hit ↦ rw hit there | inr miss ↦ rw miss (stand-fresh (with_disk w (disk_in_size d fact)) (length w.disks) (disk_in_size d fact) there) ]
+    elim (cases_Bool d.later) [ inl hit ↦ rw hit there | inr miss ↦ rw miss (stand-fresh (with_disk w (disk_in_size d fact)) (length w.disks) (disk_in_size d fact) there) ]
 
 add_disks-fresh : (w : World) (ds : List DiskDecl) (facts : List (ℕ × ℕ)) → IsFresh w → IsFresh (add_disks w ds facts)
 unfolding add_disks
@@ -100,10 +101,6 @@ unfolding Legal replay
 Legal-more w [] e h made = (made, tt)
 Legal-more w (d ∷ log) e h made = (h.0, Legal-more (after_entry w d) log e h.1 made)
 
-length-push : {X : Type 0} (xs : List X) (y : X) → length (xs ++ y ∷ []) ≡ length xs + 1
-length-push [] y = omega arith
-length-push (x ∷ xs) y = let rest = length-push xs y in omega (arith, rest)
-
 made-entry : (w u : World) (seat : ℕ) (s : Step) (o : Outcome) → step w seat s ≡ Ok (u, o) → IsMade w (entry_of seat s o)
 made-entry w u seat s o e = rw e refl
 
@@ -123,7 +120,7 @@ mesh_more m w u seat s o log is made place e =
     let here : step (world_of m) seat s ≡ Ok (u, o) = rw is.world made in
     let ended : after_entry (world_of m) (entry_of seat s o) ≡ u = ap (world_after (world_of m)) here in
     let replayed : replay first log ≡ u = rw e (replay-more first m.log (entry_of seat s o) ∙ ended) in
-    let long : length log ≡ length m.log + 1 = rw e (length-push m.log (entry_of seat s o)) in
+    let long : length log ≡ length m.log + 1 = rw e (length_push m.log (entry_of seat s o)) in
     let sound : Sound u = subst Sound ended (step-sound (world_of m) seat s is.history.sound) in
     let near : IsNear w u = subst (IsNear w) (ap (world_after w) made) (step-near w seat s) in
     record {

@@ -1,5 +1,7 @@
 -- How next numbers, consumers and disks change in a step.
-use Rattle.std.proofs.Common.{◌≡◌, ℕ, ◌+◌, ◌*◌, ◌≤◌, Bool, List, [], ◌∷◌, ◌++◌, length, Some, refl, ◌∙◌, arith, inl, inr}
+use Rattle.std.proofs.Common.{◌≡◌, ℕ, ◌+◌, ◌*◌, ◌≤◌, Bool, List, [], ◌∷◌, length, Some, refl, ◌∙◌, arith, inl, inr}
+use Rattle.std.proofs.lemmas.List.{length_push}
+use Rattle.std.proofs.lemmas.Bool.{cases_Bool}
 use Rattle.geo_core.specs.declared.rows.Handle.{Handle}
 use Rattle.geo_core.specs.declared.rows.Provider.{Provider}
 use Rattle.geo_core.specs.declared.step.Entry.{Entry}
@@ -11,7 +13,6 @@ use Rattle.geo_core.specs.Close.{without_handle}
 use Rattle.geo_core.specs.Read.{with_request}
 use Rattle.geo_core.specs.Step.{step}
 use Rattle.geo_core.specs.Log.{world_after, after_entry, replay}
-use Rattle.geo_core.proofs.RowsLemmas.{bool_cases}
 use Rattle.geo_core.proofs.Changes.{GoKeeps, step-keeps}
 use Rattle.geo_core.proofs.Owed.{length-without}
 
@@ -30,11 +31,7 @@ without-short : {X : Type 0} (p : X → Bool) (xs : List X) → length (without 
 unfolding without
 without-short p [] = omega arith
 without-short p (x ∷ xs) =
-    elim (bool_cases (p x)) [ inl hit ↦ rw hit (omega arith) | inr miss ↦ let rest = without-short p xs in rw miss (omega arith) ]
-
-length-push : {X : Type 0} (xs : List X) (y : X) → length (xs ++ y ∷ []) ≡ length xs + 1
-length-push [] y = omega arith
-length-push (x ∷ xs) y = let rest = length-push xs y in omega (arith, rest)
+    elim (cases_Bool (p x)) [ inl hit ↦ rw hit (omega arith) | inr miss ↦ let rest = without-short p xs in rw miss (omega arith) ]
 
 near-opened : (w : World) (actor : ℕ) (name : List ℕ) (p : Provider) → IsNear w (with_handle w actor name p)
 unfolding with_handle
@@ -43,7 +40,7 @@ near-opened w actor name p = record {
   consumer = omega arith;
   handle = omega arith;
   bio = omega arith;
-  attached = one_more (length w.consumers) (length w.handles) _ _ (length-push w.consumers _) (length-push w.handles _);
+  attached = one_more (length w.consumers) (length w.handles) _ _ (length_push w.consumers _) (length_push w.handles _);
 }
   where
     one_more : (c h c' h' : ℕ) → c' ≡ c + 1 → h' ≡ h + 1 → 2 * c' + h ≤ 2 * c + h' + 1

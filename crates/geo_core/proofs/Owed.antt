@@ -4,7 +4,8 @@ use Rattle.std.specs.List.{count_by}
 use Rattle.std.proofs.lemmas.List.Sums.{sum_by-cons, sum_by_push}
 use Rattle.geo_base.specs.declared.errno.Errno.TheVariants.{ENXIO}
 use Rattle.geo_model.specs.declared.step.BioResult.TheVariants as results
-use Rattle.std.proofs.lemmas.Bool.{eqb-true}
+use Rattle.std.proofs.lemmas.Bool.{eqb-true, cases_Bool}
+use Rattle.std.proofs.lemmas.Option.{same_Some}
 use Rattle.geo_core.specs.declared.rows.Bio.{Bio}
 use Rattle.geo_core.specs.declared.rows.Handle.{Handle}
 use Rattle.geo_core.specs.declared.rows.Phase.{Phase}
@@ -24,8 +25,7 @@ use Rattle.geo_core.specs.declared.rows.Provider.{Provider}
 use Rattle.geo_core.specs.Close.{without_handle, do_close, close_of, is_active}
 use Rattle.geo_core.specs.Read.{do_read, read_of, read_at, request_answered, request_refusal, with_request, new_read}
 use Rattle.geo_core.specs.Log.{owed, world_after}
-use Rattle.geo_core.proofs.RowsLemmas.{bool_cases}
-use Rattle.geo_core.proofs.Keeps.{some_same, find-passes}
+use Rattle.geo_core.proofs.Keeps.{find-passes}
 
 -- a count, with the first row apart
 count-cons : {X : Type 0} (p : X → Bool) (x : X) (xs : List X) → count_by p (x ∷ xs) ≡ cond (p x) 1 0 + count_by p xs
@@ -49,8 +49,8 @@ pub count-update : {X : Type 0} (p q : X → Bool) (f : X → X) (xs : List X) (
 unfolding find_by update_by
 count-update p q f [] y e = absurd (cc)
 count-update p q f (x ∷ xs) y e =
-    elim (bool_cases (q x)) [
-      | inl hit ↦ let same : x ≡ y = some_same x y (rw hit at e) in rw (hit, same)
+    elim (cases_Bool (q x)) [
+      | inl hit ↦ let same : x ≡ y = same_Some x y (rw hit at e) in rw (hit, same)
           (ap (λ n. n + cond (p y) 1 0) (count-cons p (f y) xs) ∙ exchanged (cond (p (f y)) 1 0) (count_by p xs) (cond (p y) 1 0) ∙ ap (λ n. n + cond (p (f y)) 1 0) (sym (count-cons p y xs)))
       | inr miss ↦ let rest = count-update p q f xs y (rw miss at e) in rw miss
           (ap (λ n. n + cond (p y) 1 0) (count-cons p x (update_by q f xs)) ∙ added (cond (p x) 1 0) (count_by p (update_by q f xs)) (count_by p xs) (cond (p y) 1 0) (cond (p (f y)) 1 0) rest
@@ -63,8 +63,8 @@ pub count-without : {X : Type 0} (p q : X → Bool) (xs : List X) (y : X) → fi
 unfolding find_by without
 count-without p q [] y e = absurd (cc)
 count-without p q (x ∷ xs) y e =
-    elim (bool_cases (q x)) [
-      | inl hit ↦ let same : x ≡ y = some_same x y (rw hit at e) in rw (hit, same) (turned (cond (p y) 1 0) (count_by p xs) ∙ sym (count-cons p y xs))
+    elim (cases_Bool (q x)) [
+      | inl hit ↦ let same : x ≡ y = same_Some x y (rw hit at e) in rw (hit, same) (turned (cond (p y) 1 0) (count_by p xs) ∙ sym (count-cons p y xs))
       | inr miss ↦ let rest = count-without p q xs y (rw miss at e) in rw miss
           (ap (λ n. n + cond (p y) 1 0) (count-cons p x (without q xs)) ∙ added_here (cond (p x) 1 0) (count_by p (without q xs)) (count_by p xs) (cond (p y) 1 0) rest ∙ sym (count-cons p x xs))
     ]
@@ -74,7 +74,7 @@ pub length-without : {X : Type 0} (q : X → Bool) (xs : List X) (y : X) → fin
 unfolding find_by without
 length-without q [] y e = absurd (cc)
 length-without q (x ∷ xs) y e =
-    elim (bool_cases (q x)) [
+    elim (cases_Bool (q x)) [
       | inl hit ↦ rw hit (omega arith)
       | inr miss ↦ let rest = length-without q xs y (rw miss at e) in rw miss (omega arith)
     ]
@@ -127,7 +127,7 @@ owed-start_of : (w : World) (n : ℕ) (o : Option Bio) → bio_at w n ≡ o → 
 unfolding start_of
 owed-start_of w n None e = refl
 owed-start_of w n (Some b) e =
-    elim (bool_cases (is_down b.phase)) [
+    elim (cases_Bool (is_down b.phase)) [
       | inl hit ↦ rw hit (owed-start_at w n b (disk_of_bio w b) e (down-not-busy b.phase hit))
       | inr miss ↦ rw miss refl
     ]
@@ -137,7 +137,7 @@ owed-start_of w n (Some b) e =
 pub take-sent : (w : World) (disk : ℕ) (b : Bio) (made : World × Outcome) → IsOk (unless_found (take_found w disk b) made) → is_sent b.phase ≡ true
 unfolding take_found unless_found
 take-sent w disk b made ok =
-    elim (bool_cases (is_sent b.phase)) [ inl hit ↦ hit | inr miss ↦ absurd (cc (rw miss at ok)) ]
+    elim (cases_Bool (is_sent b.phase)) [ inl hit ↦ hit | inr miss ↦ absurd (cc (rw miss at ok)) ]
 
 owed-take_bio : (w : World) (n seat disk : ℕ) (b : Bio) → bio_at w n ≡ Some b → is_busy b.phase ≡ false → owed (take_bio w seat disk b).0 ≡ owed w + 1
 unfolding take_bio with_phase
@@ -182,7 +182,7 @@ owed-up_of : (w : World) (n : ℕ) (o : Option Bio) → bio_at w n ≡ o → owe
 unfolding up_of
 owed-up_of w n None e = refl
 owed-up_of w n (Some b) e =
-    elim (bool_cases (is_up b.phase)) [
+    elim (cases_Bool (is_up b.phase)) [
       | inl hit ↦ rw hit (owed-up w n b e (up-not-busy b.phase hit))
       | inr miss ↦ rw miss refl
     ]

@@ -1,8 +1,11 @@
 -- The fixed order gives enabled steps, and ends at rest.
-use Rattle.std.proofs.Common.{◌≡◌, ℕ, suc, ◌<◌, ◌==◌, ◌&&◌, IsOk, IsSome, is_none, Bool, true, false, List, [], ◌∷◌, length, Option, Some, None, refl, sym, ◌∙◌, ap, arith, inl, inr, subst, nat_lt}
+use Rattle.std.proofs.Common.{◌≡◌, ℕ, ◌<◌, ◌==◌, ◌&&◌, IsOk, IsSome, is_none, Bool, true, false, List, [], ◌∷◌, length, Option, Some, None, refl, sym, ◌∙◌, ap, arith, inl, inr, subst, nat_lt}
 use Rattle.std.specs.Option.{IsSomeAnd}
 use Rattle.std.specs.List.{AllByRecursion}
 use Rattle.std.proofs.lemmas.Bool.Decides.{nat_tests}
+use Rattle.std.proofs.lemmas.Bool.{cases_Bool, and_parts, eqb-true, eq-eqb, ne_eqb}
+use Rattle.std.proofs.lemmas.List.{nil_from_length}
+use Rattle.std.proofs.lemmas.Option.{same_Some}
 use Rattle.geo_core.specs.declared.command.Command.{Command}
 use Rattle.geo_core.specs.declared.command.Command.TheVariants as commands
 use Rattle.geo_core.specs.declared.command.LineCommand.{LineCommand}
@@ -24,8 +27,8 @@ use Rattle.geo_core.specs.Go.{go, go_of, waits_for, own_found, spent, do_command
 use Rattle.geo_core.specs.Step.{step}
 use Rattle.geo_core.specs.Order.{pick, pick_up, pick_take, take_on, pick_start, pick_go, is_to_take, is_free, is_ready, is_at_rest, Rest}
 use Rattle.geo_core.specs.Sound.{Sound, IsRising, IsBioInOrder, IsOfDisk, IsRangeInside, NoneBusy}
-use Rattle.geo_core.proofs.RowsLemmas.{bool_cases}
-use Rattle.geo_core.proofs.Keeps.{find-All, find-passes, eqb-self, eqb-apart, some_same, All-map}
+use Rattle.geo_core.proofs.Keeps.{find-All, find-passes}
+use Rattle.geo_model.proofs.DemandLemmas.{all_weaker}
 
 -- nothing is found where all fail
 pub find-none : {X : Type 0} (p : X → Bool) (xs : List X) → AllByRecursion (λ x. p x ≡ false) xs → find_by p xs ≡ None
@@ -41,18 +44,18 @@ none-find : {X : Type 0} (p : X → Bool) (xs : List X) → find_by p xs ≡ Non
 unfolding find_by
 none-find p [] h = tt
 none-find p (x ∷ xs) h =
-    elim (bool_cases (p x)) [ inl hit ↦ absurd (some_absent x (rw hit at h)) | inr miss ↦ (miss, none-find p xs (rw miss at h)) ]
+    elim (cases_Bool (p x)) [ inl hit ↦ absurd (some_absent x (rw hit at h)) | inr miss ↦ (miss, none-find p xs (rw miss at h)) ]
 
 -- what was found among bios has its number alone
 rising-find : (bs : List Bio) (b : Bio) (q : Bio → Bool) → IsRising bs → find_by q bs ≡ Some b → find_by (is_bio b.number) bs ≡ Some b
 unfolding find_by
 rising-find [] b q r e = absurd (cc)
 rising-find (x ∷ xs) b q r e =
-    elim (bool_cases (q x)) [
-      | inl hit ↦ let same : x ≡ b = some_same x b (rw hit at e) in rw (same, eqb-self b.number) refl
+    elim (cases_Bool (q x)) [
+      | inl hit ↦ let same : x ≡ b = same_Some x b (rw hit at e) in rw (same, eq-eqb b.number b.number refl) refl
       | inr miss ↦ let rest : find_by q xs ≡ Some b = rw miss at e in
           let above : x.number < b.number = find-All (λ (c : Bio). x.number < c.number) q xs b r.0 rest in
-          let apart : (x.number == b.number) ≡ false = eqb-apart x.number b.number (λ same. omega arith) in
+          let apart : (x.number == b.number) ≡ false = ne_eqb x.number b.number (λ same. omega arith) in
           rw apart (rising-find xs b q r.1 rest)
     ]
 
@@ -93,30 +96,22 @@ unfolding is_free take_on disk_found
 free-disk w b disk None free e = absurd (cc free)
 free-disk w b disk (Some own) free e =
     let same : own ≡ disk = own_disk own disk b.number e in
-    rw (same, eqb-self disk) (no-busy (busy_bio w disk) (rw same at free))
+    rw (same, eq-eqb disk disk refl) (no-busy (busy_bio w disk) (rw same at free))
   where
     own_disk : (own disk n : ℕ) → Some (steps.Take own n) ≡ Some (steps.Take disk n) → own ≡ disk
     own_disk own disk n e = cc
 
-both_first : (a b : Bool) → (a && b) ≡ true → a ≡ true
-both_first true b e = refl
-both_first false b e = absurd (cc e)
-
-both_then : (a b : Bool) → (a && b) ≡ true → b ≡ true
-both_then true b e = e
-both_then false b e = absurd (cc e)
-
 take-free : (w : World) (b : Bio) (disk : ℕ) → is_to_take w b ≡ true → take_on b (disk_of_bio w b) ≡ Some (steps.Take disk b.number) → IsOk (take_of w 0 disk (Some b))
 unfolding take_of take_found is_to_take
 take-free w b disk test e =
-    let sent : is_sent b.phase ≡ true = both_first (is_sent b.phase) _ test in
-    let free : is_free w (disk_of_bio w b) ≡ true = both_then (is_sent b.phase) _ test in
+    let sent : is_sent b.phase ≡ true = (and_parts (is_sent b.phase) _ test).0 in
+    let free : is_free w (disk_of_bio w b) ≡ true = (and_parts (is_sent b.phase) _ test).1 in
     unless-none _ (take_bio w 0 disk b) (rw sent (free-disk w b disk (disk_of_bio w b) free e))
 
 take_on-step : (b : Bio) (o : Option ℕ) (s : Step) → take_on b o ≡ Some s → (disk : ℕ) × (s ≡ steps.Take disk b.number) × (take_on b o ≡ Some (steps.Take disk b.number))
 unfolding take_on
 take_on-step b None s e = absurd (cc e)
-take_on-step b (Some disk) s e = (disk, sym (some_same (steps.Take disk b.number) s e), refl)
+take_on-step b (Some disk) s e = (disk, sym (same_Some (steps.Take disk b.number) s e), refl)
 
 pick-take-ok : (w : World) (b : Bio) (s : Step) → Sound w → find_by (is_to_take w) w.bios ≡ Some b → take_on b (disk_of_bio w b) ≡ Some s → IsOk (step w 0 s)
 unfolding step
@@ -132,7 +127,7 @@ pick-go-ok : (w : World) (o : Option LineCommand) (s : Step) → find_by (is_rea
 unfolding pick_go step
 pick-go-ok w None s found e = absurd (cc e)
 pick-go-ok w (Some c) s found e =
-    let same : steps.Go c.actor ≡ s = some_same (steps.Go c.actor) s e in
+    let same : steps.Go c.actor ≡ s = same_Some (steps.Go c.actor) s e in
     rw (← same) (find-passes (is_ready w) w.left c found)
 
 -- what the fixed order gives is enabled
@@ -140,7 +135,7 @@ pick-go-ok w (Some c) s found e =
 start-or-go : (w : World) (o : Option Bio) (s : Step) → Sound w → find_by (λ (x : Bio). is_down x.phase) w.bios ≡ o → pick_start w o ≡ Some s → IsOk (step w 0 s)
 unfolding pick_start
 start-or-go w (Some b) s sound found e =
-    let same : steps.Start b.number ≡ s = some_same (steps.Start b.number) s e in rw (← same) (pick-start-ok w b sound found)
+    let same : steps.Start b.number ≡ s = same_Some (steps.Start b.number) s e in rw (← same) (pick-start-ok w b sound found)
 start-or-go w None s sound found e = pick-go-ok w (find_by (is_ready w) w.left) s refl e
 
 take-or-less : (w : World) (o : Option Bio) (s : Step) → Sound w → find_by (is_to_take w) w.bios ≡ o → pick_take w o ≡ Some s → IsOk (step w 0 s)
@@ -151,7 +146,7 @@ take-or-less w None s sound found e = start-or-go w (find_by (λ (x : Bio). is_d
 up-or-less : (w : World) (o : Option Bio) (s : Step) → Sound w → find_by (λ (x : Bio). is_up x.phase) w.bios ≡ o → pick_up w o ≡ Some s → IsOk (step w 0 s)
 unfolding pick_up
 up-or-less w (Some b) s sound found e =
-    let same : steps.Up b.number ≡ s = some_same (steps.Up b.number) s e in rw (← same) (pick-up-ok w b sound found)
+    let same : steps.Up b.number ≡ s = same_Some (steps.Up b.number) s e in rw (← same) (pick-up-ok w b sound found)
 up-or-less w None s sound found e = take-or-less w (find_by (is_to_take w) w.bios) s sound refl e
 
 pub pick_is_enabled : (w : World) (s : Step) → Sound w → pick w ≡ Some s → IsOk (step w 0 s)
@@ -178,7 +173,7 @@ free-some w b (Some disk) free e = cc e
 pick_take-none : (w : World) (o : Option Bio) → find_by (is_to_take w) w.bios ≡ o → pick_take w o ≡ None → (o ≡ None) × (pick_start w (find_by (λ (x : Bio). is_down x.phase) w.bios) ≡ None)
 unfolding pick_take is_to_take
 pick_take-none w (Some b) found e =
-    absurd (free-some w b (disk_of_bio w b) (both_then (is_sent b.phase) _ (find-passes (is_to_take w) w.bios b found)) e)
+    absurd (free-some w b (disk_of_bio w b) (and_parts (is_sent b.phase) _ (find-passes (is_to_take w) w.bios b found)).1 e)
 pick_take-none w None found e = (refl, e)
 
 pick_up-none : (w : World) (o : Option Bio) → pick_up w o ≡ None → (o ≡ None) × (pick_take w (find_by (is_to_take w) w.bios) ≡ None)
@@ -207,13 +202,13 @@ all-free : (w : World) (o : Option ℕ) → NoneBusy w → IsSome o → is_free 
 unfolding is_free
 all-free w None q h = absurd (cc h)
 all-free w (Some disk) q h =
-    let none : busy_bio w disk ≡ None = find-none (is_busy_at w disk) w.bios (All-map (λ (b : Bio). is_busy b.phase ≡ false) (λ (b : Bio). is_busy_at w disk b ≡ false) (λ b k. quiet-not_at w disk b k) w.bios q) in
+    let none : busy_bio w disk ≡ None = find-none (is_busy_at w disk) w.bios (all_weaker (λ (b : Bio). is_busy b.phase ≡ false) (λ (b : Bio). is_busy_at w disk b ≡ false) (λ b k. quiet-not_at w disk b k) w.bios q) in
     rw none refl
 
 sent-to_take : (w : World) (b : Bio) → Sound w → NoneBusy w → IsBioInOrder w b → is_to_take w b ≡ false → is_sent b.phase ≡ false
 unfolding is_to_take
 sent-to_take w b s q order no_take =
-    elim (bool_cases (is_sent b.phase)) [
+    elim (cases_Bool (is_sent b.phase)) [
       | inr miss ↦ miss
       | inl hit ↦ let free = all-free w (disk_of_bio w b) q (bio-disk w b s order) in absurd (taken (is_sent b.phase) _ hit free no_take)
     ]
@@ -245,7 +240,7 @@ waits-none w actor commands.Sync e = rw e refl
 
 first-of : (c : LineCommand) (cs : List LineCommand) → find_by (is_of_actor c.actor) (c ∷ cs) ≡ Some c
 unfolding find_by
-first-of c cs = rw (eqb-self c.actor) refl
+first-of c cs = rw (eq-eqb c.actor c.actor refl) refl
 
 first-ready : (w : World) (c : LineCommand) (cs : List LineCommand) → Sound w → w.bios ≡ [] → w.left ≡ c ∷ cs → is_ready w c ≡ true
 unfolding go go_of
@@ -270,18 +265,11 @@ none-rest w s q e =
     let left : w.left ≡ [] = no-left w s bios w.left refl d.1 in
     rw (bios, left) refl
 
-empty-from_test : {X : Type 0} (xs : List X) → (length xs == 0) ≡ true → xs ≡ []
-empty-from_test [] e = refl
-empty-from_test (x ∷ xs) e = absurd (longer (length xs) e)
-  where
-    longer : (n : ℕ) → (suc n == 0) ≡ true → ⊥
-    longer n e = let zero-is : suc n ≡ 0 = grind (arith, nat_tests) in omega arith
-
 rest-none : (w : World) → is_at_rest w ≡ true → pick w ≡ None
 unfolding is_at_rest pick pick_up pick_take pick_start pick_go find_by
 rest-none w rest =
-    let left : w.left ≡ [] = empty-from_test w.left (both_first (length w.left == 0) _ rest) in
-    let bios : w.bios ≡ [] = empty-from_test w.bios (both_then (length w.left == 0) _ rest) in
+    let left : w.left ≡ [] = nil_from_length w.left (eqb-true (length w.left) 0 (and_parts (length w.left == 0) _ rest).0) in
+    let bios : w.bios ≡ [] = nil_from_length w.bios (eqb-true (length w.bios) 0 (and_parts (length w.left == 0) _ rest).1) in
     rw (bios, left) refl
 
 -- in a sound world with nothing Busy the fixed order gives nothing exactly at rest

@@ -1,9 +1,10 @@
 -- What a disk is asked for lies inside it, its bytes fit, and there is a place for its answer.
 use Rattle.std.proofs.Common.{◌≡◌, ℕ, zero, suc, ◌+◌, ◌*◌, ◌/◌, ◌%◌, ◌≤◌, ◌==◌, IsOk, true, false, List, [], ◌∷◌, length, Option, Some, None, Ok, Err, refl, sym, ◌∙◌, ap, arith, inl, inr, subst, nat_lt, slice_get}
 use Rattle.std.specs.Option.{IsSomeAnd}
-use Rattle.std.proofs.lemmas.Bool.{eqb-true}
+use Rattle.std.proofs.lemmas.Bool.{eqb-true, cases_Bool, eq-eqb}
 use Rattle.std.proofs.lemmas.Bool.Decides.{nat_tests}
 use Rattle.std.proofs.Math.Nat.{div-add-mod', zero-mul}
+use Rattle.std.proofs.lemmas.Option.{same_Some}
 use Rattle.geo_base.specs.declared.request.BioCmd.TheVariants as cmds
 use Rattle.geo_core.specs.declared.rows.Bio.{Bio}
 use Rattle.geo_core.specs.declared.rows.HeaderDisk.{HeaderDisk}
@@ -26,8 +27,8 @@ use Rattle.geo_core.specs.Step.{step}
 use Rattle.geo_core.specs.Log.{owed, log_limit, world_after, is_full, is_full_after}
 use Rattle.geo_core.specs.Laws.{IsInsideDisk, IsServed}
 use Rattle.geo_core.specs.Sound.{Sound, IsBioInOrder, IsOfDisk, IsRangeInside}
-use Rattle.geo_core.proofs.RowsLemmas.{bool_cases}
-use Rattle.geo_core.proofs.Keeps.{find-All, find-passes, eqb-self, some_same}
+use Rattle.geo_core.proofs.Keeps.{find-All, find-passes, some-map}
+use Rattle.geo_core.proofs.BusySteps.{busy-number}
 use Rattle.geo_core.proofs.Owed.{unless-ok, owed-delivered}
 
 -- A place for each Deliver
@@ -74,12 +75,12 @@ take-disk : (w : World) (disk : ℕ) (b : Bio) (o : Option ℕ) (made : World ×
 unfolding disk_found unless_found
 take-disk w disk b None made ok = absurd (cc ok)
 take-disk w disk b (Some own) made ok =
-    elim (bool_cases (own == disk)) [ inl hit ↦ ap Some (eqb-true own disk hit) | inr miss ↦ absurd (cc (rw miss at ok)) ]
+    elim (cases_Bool (own == disk)) [ inl hit ↦ ap Some (eqb-true own disk hit) | inr miss ↦ absurd (cc (rw miss at ok)) ]
 
 take-own : (w : World) (disk : ℕ) (b : Bio) (made : World × Outcome) → IsOk (unless_found (take_found w disk b) made) → disk_of_bio w b ≡ Some disk
 unfolding take_found unless_found
 take-own w disk b made ok =
-    elim (bool_cases (is_sent b.phase)) [ inl hit ↦ take-disk w disk b (disk_of_bio w b) made (rw hit at ok) | inr miss ↦ absurd (cc (rw miss at ok)) ]
+    elim (cases_Bool (is_sent b.phase)) [ inl hit ↦ take-disk w disk b (disk_of_bio w b) made (rw hit at ok) | inr miss ↦ absurd (cc (rw miss at ok)) ]
 
 -- the request that was asked
 asked-request : (w u : World) (seat disk : ℕ) (b : Bio) (request : Request) → take_bio w seat disk b ≡ (u, outcomes.Asked request) → (request ≡ request_of_bio w disk b) × (u ≡ change_bio w b.number (with_phase (Busy seat)))
@@ -97,10 +98,6 @@ header-disk w disk b (Some p) e s range own =
     let stands : IsOfDisk w p = find-All (IsOfDisk w) (is_provider b.target) w.providers p s.providers e in
     (p, refl, range, subst (λ (o : Option ℕ). IsSomeAnd o (λ i. IsSomeAnd (slice_get w.disks i) (λ d. (d.sector ≡ p.sector) × (d.size ≡ p.size) × (1 ≤ p.sector)))) own stands)
 
-some-map : {X : Type 0} (o : Option X) (P Q : X → Type 0) → ((x : X) → P x → Q x) → IsSomeAnd o P → IsSomeAnd o Q
-some-map None P Q f h = h
-some-map (Some x) P Q f h = f x h
-
 both-some : {X : Type 0} (o : Option X) (P Q R : X → Type 0) → ((x : X) → P x → Q x → R x) → IsSomeAnd o P → IsSomeAnd o Q → (r : X) × (o ≡ Some r) × R r
 both-some None P Q R f h k = absurd h
 both-some (Some x) P Q R f h k = (x, refl, f x h k)
@@ -110,21 +107,17 @@ found-changed : (f : Bio → Bio) → ((b : Bio) → (f b).number ≡ b.number) 
 unfolding find_by update_by
 found-changed f same n [] b e = absurd (cc)
 found-changed f same n (x ∷ xs) b e =
-    elim (bool_cases (is_bio n x)) [
+    elim (cases_Bool (is_bio n x)) [
       | inl hit ↦
           let again : is_bio n (f x) ≡ true = ap (λ m. m == n) (same x) ∙ hit in
-          let own : x ≡ b = some_same x b (rw hit at e) in
+          let own : x ≡ b = same_Some x b (rw hit at e) in
           rw (hit, again) (ap (λ y. Some (f y)) own)
       | inr miss ↦ rw (miss, miss) (found-changed f same n xs b (rw miss at e))
     ]
 
-busy-number : (seat : ℕ) (b : Bio) → (with_phase (Busy seat) b).number ≡ b.number
-unfolding with_phase
-busy-number seat b = refl
-
 fitting : (u : World) (seat : ℕ) (b : Bio) (bytes : List ℕ) → length bytes ≡ b.len → IsOk (deliver_of u seat (devices.Bytes bytes) (Some (with_phase (Busy seat) b)))
 unfolding deliver_of deliver_found with_phase is_fitting unless_found
-fitting u seat b bytes e = rw (eqb-self seat, e, eqb-self b.len) refl
+fitting u seat b bytes e = rw (eq-eqb seat seat refl, e, eq-eqb b.len b.len refl) refl
 
 bytes-fit : (w u : World) (seat n : ℕ) (b : Bio) (bytes : List ℕ) → bio_at w n ≡ Some b → u ≡ change_bio w b.number (with_phase (Busy seat)) → b.number ≡ n → length bytes ≡ b.len
     → IsOk (step u seat (steps.Deliver n (devices.Bytes bytes)))
