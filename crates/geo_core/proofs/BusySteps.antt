@@ -25,7 +25,7 @@ use Rattle.geo_core.specs.Laws.{IsNoTake}
 use Rattle.geo_core.specs.Sound.{NoneBusy}
 use Rattle.geo_core.proofs.Keeps.{All-snoc, All-update, All-without, find-passes}
 use Rattle.geo_core.proofs.Changes.{GoKeeps, go-keeps, start_of-keeps, deliver_of-keeps, up_of-keeps}
-use Rattle.geo_core.proofs.Owed.{unless-ok}
+use Rattle.geo_core.proofs.OwedPlaces.{unless-ok}
 
 abbrev IsQuiet : Bio → Type 0
 IsQuiet b = is_busy b.phase ≡ false

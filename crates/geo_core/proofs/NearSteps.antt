@@ -14,7 +14,7 @@ use Rattle.geo_core.specs.Read.{with_request}
 use Rattle.geo_core.specs.Step.{step}
 use Rattle.geo_core.specs.Log.{world_after, after_entry, replay}
 use Rattle.geo_core.proofs.Changes.{GoKeeps, step-keeps}
-use Rattle.geo_core.proofs.Owed.{length-without}
+use Rattle.geo_core.proofs.OwedPlaces.{length-without}
 
 -- each next number has risen by one at most, two more consumers come with two more handles or steps, and disks stay
 pub record IsNear (w u : World) : Type 0 where

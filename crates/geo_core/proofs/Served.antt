@@ -29,7 +29,7 @@ use Rattle.geo_core.specs.Laws.{IsInsideDisk, IsServed}
 use Rattle.geo_core.specs.Sound.{Sound, IsBioInOrder, IsOfDisk, IsRangeInside}
 use Rattle.geo_core.proofs.Keeps.{find-All, find-passes, some-map}
 use Rattle.geo_core.proofs.BusySteps.{busy-number}
-use Rattle.geo_core.proofs.Owed.{unless-ok, owed-delivered}
+use Rattle.geo_core.proofs.OwedPlaces.{unless-ok, owed-delivered}
 
 -- A place for each Deliver
 

@@ -1,6 +1,6 @@
 use Rattle.std.proofs.Common.{rules}
 use Rattle.geo_core.specs.World.{seen}
-use Rattle.geo_core.proofs.Owed.{closed-owed}
+use Rattle.geo_core.proofs.OwedPlaces.{closed-owed}
 use Rattle.geo_core.proofs.close.is_closed.Goals as goal
 
 pub returns-in-Some : goal.returns-in-Some

@@ -1,8 +1,8 @@
 use Rattle.std.proofs.Common.{sym, ◌∙◌, arith, ap, ◌+◌}
 use Rattle.geo_core.specs.World.{seen}
 use Rattle.geo_core.specs.Step.{step}
-use Rattle.geo_core.proofs.Owed.{owed-start, owed-take, owed-delivered, owed-gone}
-use Rattle.geo_core.proofs.places.owed_after.Goals as goal
+use Rattle.geo_core.proofs.OwedPlaces.{owed-start, owed-take, owed-delivered, owed-gone}
+use Rattle.geo_core.proofs.owed.owed_after.Goals as goal
 
 pub overflow_sub-result : goal.overflow_sub-result
 unfolding step

@@ -1,8 +1,8 @@
 use Rattle.std.proofs.Common.{sym, ◌∙◌, arith}
 use Rattle.geo_core.specs.World.{seen}
 use Rattle.geo_core.specs.Go.{do_command}
-use Rattle.geo_core.proofs.Owed.{owed-do_read}
-use Rattle.geo_core.proofs.places.owed_after_command.Goals as goal
+use Rattle.geo_core.proofs.OwedPlaces.{owed-do_read}
+use Rattle.geo_core.proofs.owed.owed_after_command.Goals as goal
 
 pub overflow_sub-result : goal.overflow_sub-result
 overflow_sub-result c = let closed = rw c.if-is_closed.true at (c.is_closed.ensures 0) in omega (arith, closed)

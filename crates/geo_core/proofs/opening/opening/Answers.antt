@@ -4,7 +4,7 @@ use Rattle.geo_core.specs.World.{World, seen}
 use Rattle.geo_model.specs.Plans.{IsFact}
 use Rattle.geo_core.specs.Opening.{opening, bare_world}
 use Rattle.geo_core.proofs.ListLemmas.{zip_inside, zip_step, disks_step, disks_end, disk_grows}
-use Rattle.geo_core.proofs.stand.opening.Goals as goal
+use Rattle.geo_core.proofs.opening.opening.Goals as goal
 
 pub loop-i-init : goal.loop-i-init
 unfolding opening bare_world
