@@ -40,6 +40,7 @@ find-passes p (x ∷ xs) y e =
     ]
 
 -- what follows from a fact of what is there
-pub some-map : {X : Type 0} (o : Option X) (P Q : X → Type 0) → ((x : X) → P x → Q x) → IsSomeAnd o P → IsSomeAnd o Q
+pub some-map : {X : Type 0} (o : Option X) (P Q : X → Type 0) → ((x : X) → P x → Q x)
+    → IsSomeAnd o P → IsSomeAnd o Q
 some-map None P Q f h = h
 some-map (Some x) P Q f h = f x h

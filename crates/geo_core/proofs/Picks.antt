@@ -268,8 +268,9 @@ none-rest w s q e =
 rest-none : (w : World) → is_at_rest w ≡ true → pick w ≡ None
 unfolding is_at_rest pick pick_up pick_take pick_start pick_go find_by
 rest-none w rest =
-    let left : w.left ≡ [] = nil_from_length w.left (eqb-true (length w.left) 0 (and_parts (length w.left == 0) _ rest).0) in
-    let bios : w.bios ≡ [] = nil_from_length w.bios (eqb-true (length w.bios) 0 (and_parts (length w.left == 0) _ rest).1) in
+    let both = and_parts (length w.left == 0) (length w.bios == 0) rest in
+    let left : w.left ≡ [] = nil_from_length w.left (eqb-true (length w.left) 0 both.0) in
+    let bios : w.bios ≡ [] = nil_from_length w.bios (eqb-true (length w.bios) 0 both.1) in
     rw (bios, left) refl
 
 -- in a sound world with nothing Busy the fixed order gives nothing exactly at rest

@@ -27,7 +27,8 @@ unfolding place_of
 place_of-same p x xs h = rw h refl
 
 -- what is left of a list begins with the item at its place
-pub front : {X : Type 0} (xs : List X) (i : ℕ) (x : X) → i < length xs → x ≡ get_or xs i x → drop i xs ≡ x ∷ drop (i + 1) xs
+pub front : {X : Type 0} (xs : List X) (i : ℕ) (x : X) → i < length xs → x ≡ get_or xs i x
+    → drop i xs ≡ x ∷ drop (i + 1) xs
 front xs i x h e = rw (add-one, drop-cons xs i x, ← e) refl
 
 -- one row further

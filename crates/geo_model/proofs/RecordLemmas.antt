@@ -20,7 +20,8 @@ use Rattle.geo_model.specs.FormatLaws.{IsPlaceOf}
 -- bytes with zeros behind them are as long as their field
 pub length-padded : (size : ℕ) (bytes : List ℕ) → length bytes ≤ size → length (padded size bytes) ≡ size
 length-padded size bytes fits =
-    length-append bytes (replicate {A = ℕ} (size - length bytes) 0) ∙ rw (length-replicate {A = ℕ} (size - length bytes) 0) (omega (arith, fits))
+    length-append bytes (replicate {A = ℕ} (size - length bytes) 0)
+    ∙ rw (length-replicate {A = ℕ} (size - length bytes) 0) (omega (arith, fits))
 
 -- a name as its field of 16 bytes
 field-take : (name rest : List ℕ) → length name ≤ 16 → take 16 (padded 16 name ++ rest) ≡ padded 16 name
@@ -28,7 +29,8 @@ field-take name rest short = subst (λ n. take n (padded 16 name ++ rest) ≡ pa
 
 field-drop : (name rest : List ℕ) (n : ℕ) → length name ≤ 16 → drop (16 + n) (padded 16 name ++ rest) ≡ drop n rest
 field-drop name rest n short =
-    subst (λ k. drop (k + n) (padded 16 name ++ rest) ≡ drop n rest) (length-padded 16 name short) (drop-append-add (padded 16 name) rest n)
+    subst (λ k. drop (k + n) (padded 16 name ++ rest) ≡ drop n rest) (length-padded 16 name short)
+    (drop-append-add (padded 16 name) rest n)
 
 zeros-prefix : (k : ℕ) → prefix_len (λ (b : ℕ). not (b == 0)) (replicate k 0) ≡ 0
 zeros-prefix zero = refl
@@ -74,7 +76,8 @@ row-errors row xs ys true t e rest = let no : Some row.1 ≡ None = rw t at e in
 row-errors row xs ys false t e rest = rw t (rest (rw t at e))
 
 -- so for all that stand before them
-pub append-errors : {E : Type 0} (xs ys : List (Bool × E)) → first_error xs ≡ None → first_error (xs ++ ys) ≡ first_error ys
+pub append-errors : {E : Type 0} (xs ys : List (Bool × E)) → first_error xs ≡ None
+    → first_error (xs ++ ys) ≡ first_error ys
 append-errors [] ys e = refl
 append-errors (row ∷ xs) ys e = row-errors row xs ys row.0 refl e (append-errors xs ys)
 

@@ -23,7 +23,8 @@ ready-cons : (w : World) (k : ℕ) (rest : List LineCommand) (others : List (Lis
     → (list_all (λ (xs : List LineCommand). length xs == 0) others ≡ true
     → flat_map (ready_actor w) (enumerate_from (k + 1) others) ≡ [])
     → flat_map (ready_actor w) (enumerate_from k (rest ∷ others)) ≡ []
-ready-cons w k rest others true e all so = let is : rest ≡ [] = nil_from_length rest (eqb-true (length rest) 0 e) in rw is (so (rw e at all))
+ready-cons w k rest others true e all so =
+    let is : rest ≡ [] = nil_from_length rest (eqb-true (length rest) 0 e) in rw is (so (rw e at all))
 ready-cons w k rest others false e all so = let no : false ≡ true = rw e at all in cc
 
 none-ready : (w : World) (k : ℕ) (actors : List (List LineCommand)) → list_all (λ (xs : List LineCommand). length xs == 0) actors ≡ true

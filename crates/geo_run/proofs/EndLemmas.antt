@@ -16,7 +16,7 @@ use Rattle.geo_base.specs.Faults.{Rose}
 use Rattle.geo_io.specs.Sink.{Takes}
 use Rattle.geo_io.specs.Source.{Stream, GivesAtMost, GivesMany}
 use Rattle.geo_run.specs.declared.top.Ended.{Ended}
-use Rattle.geo_run.specs.Run.{SourceSeen, SinkSeen, Call, IsDone, Writes, Ending, Reported, BadWords, NoScript, ReadFault, OutOfMemory, LogFull, TooLong, IsToRest, HasPlanCause, HasTextCause, EndsPlan, EndsText, EndsRun, HasRunCause, IsReadWhole, HasPlanLog, HasTextLog, HasReadLog, status_of, due_text, ending_of, IsTextLog, IsReadLog, fault_text}
+use Rattle.geo_run.specs.Run.{SinkSeen, Call, IsDone, Writes, Ending, Reported, BadWords, NoScript, ReadFault, OutOfMemory, LogFull, TooLong, IsToRest, HasPlanCause, HasTextCause, EndsPlan, EndsText, EndsRun, HasRunCause, IsReadWhole, HasPlanLog, HasTextLog, HasReadLog, status_of, due_text, ending_of, IsTextLog, IsReadLog, fault_text}
 
 pub Writes-whole : (status : ℕ) (text : List ℕ) (old new : SinkSeen) → status ≢ 4 → Takes old.basin text new.basin
     → Writes status status text old new

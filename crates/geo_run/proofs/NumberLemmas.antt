@@ -1,10 +1,10 @@
 -- Names and numbers.
-use Rattle.std.proofs.Common.{◌≡◌, ℕ, zero, suc, ◌+◌, ◌-◌, ◌*◌, ◌^◌, ◌<◌, ◌≤◌, Bool, true, false, List, [], ◌∷◌, length, Some, None, refl, sym, ◌∙◌, ap, arith, get_or, take, fold, ◌&&◌, ◌||◌, ◌==◌, nat_lt, nat_le, if◌then◌else◌}
-use Rattle.std.specs.List.{list_all}
+use Rattle.std.proofs.Common.{◌≡◌, ℕ, zero, suc, ◌+◌, ◌-◌, ◌*◌, ◌^◌, ◌<◌, ◌≤◌, Bool, true, false, List, [], ◌∷◌, length, Some, None, refl, sym, ◌∙◌, ap, arith, get_or, take, fold, ◌&&◌, nat_lt, if◌then◌else◌}
 use Rattle.std.proofs.lemmas.List.{take_all}
 use Rattle.std.proofs.lemmas.List.Sums.{fold_more}
 use Rattle.std.proofs.lemmas.Bool.Decides.{nat_tests}
-use Rattle.geo_base.specs.Name.{is_name, is_short_name, is_name_byte, is_word_byte, name_of}
+use Rattle.geo_base.proofs.Tests.{short_name-named}
+use Rattle.geo_base.specs.Name.{is_short_name, name_of}
 use Rattle.geo_run.specs.Words.{is_decimal, value_of, number_of, short_name_of}
 
 -- one digit more
@@ -55,29 +55,10 @@ unfolding value_of
 value_of_none = refl
 
 -- bytes that aren't a name aren't a short one
-word_bytes_are_name_bytes : (xs : List ℕ) → list_all is_word_byte xs ≡ true → list_all is_name_byte xs ≡ true
-word_bytes_are_name_bytes [] h = refl
-word_bytes_are_name_bytes (x ∷ xs) h = joined (is_word_byte x) (x == 46) (x == 47) (λ k. word_bytes_are_name_bytes xs k) h
-  where
-    joined : (t a b : Bool) → (list_all is_word_byte xs ≡ true → list_all is_name_byte xs ≡ true) → (t && list_all is_word_byte xs) ≡ true → ((t || a || b) && list_all is_name_byte xs) ≡ true
-    joined true a b rest k = rest k
-    joined false a b rest k = cc
-
--- a short name is a name
-is_name_short : (xs : List ℕ) → is_short_name xs ≡ true → is_name xs ≡ true
-is_name_short xs h = parts (nat_le 1 (length xs)) (nat_le (length xs) 16) refl h
-  where
-    parts : (s t : Bool) → nat_le (length xs) 16 ≡ t → (s && t && list_all is_word_byte xs) ≡ true → (s && nat_le (length xs) 63 && list_all is_name_byte xs) ≡ true
-    parts true true e k =
-        let fits : nat_le (length xs) 63 ≡ true = grind (arith, nat_tests) in
-        rw (fits, word_bytes_are_name_bytes xs k) refl
-    parts true false e k = cc
-    parts false t e k = cc
-
 pub short_name_of_none : (xs : List ℕ) → name_of xs ≡ None → short_name_of xs ≡ None
 unfolding short_name_of
 short_name_of_none xs h = tested (is_short_name xs) refl
   where
     tested : (t : Bool) → is_short_name xs ≡ t → (if t then Some xs else None) ≡ None
     tested false e = refl
-    tested true e = absurd (cc (rw (is_name_short xs e) at h))
+    tested true e = absurd (cc (rw (short_name-named xs e) at h))

@@ -2,6 +2,7 @@
 use Rattle.std.proofs.Common.{◌≡◌, ℕ, zero, suc, ◌*◌, List, [], ◌∷◌, length, None, IfSome, slice_get, refl, sym, ◌∙◌, ap, subst, inl, inr}
 use Rattle.std.proofs.lemmas.List.{length-replicate}
 use Rattle.std.proofs.lemmas.List.Elements.{All-replicate}
+use Rattle.std.proofs.lemmas.Bool.{cases_Bool}
 use Rattle.geo_model.specs.declared.command.DiskDecl.{DiskDecl}
 use Rattle.geo_core.specs.declared.rows.HeaderDisk.{HeaderDisk}
 use Rattle.geo_core.specs.declared.step.Entry.{Entry}
@@ -11,7 +12,6 @@ use Rattle.geo_core.specs.Opening.{opening, bare_world, add_disks, add_disk, sta
 use Rattle.geo_core.specs.Log.{replay}
 use Rattle.geo_core.specs.Sound.{NoneBusy}
 use Rattle.geo_core.specs.Mesh.{MeshView, IsHistory, world_of}
-use Rattle.geo_core.proofs.RowsLemmas.{bool_cases}
 use Rattle.geo_run.specs.RamDisk.{RamDiskView}
 use Rattle.geo_run.specs.Replies.{ResultsFit, RepliesFit}
 use Rattle.geo_run.specs.OneDisk.{IsDiskOf}
@@ -19,11 +19,11 @@ use Rattle.geo_run.specs.FixedOrder.{FollowsOrder, due_after, IsBetween}
 
 add_disk-disks : (w : World) (d : DiskDecl) (fact : ℕ × ℕ) → w.disks ≡ [] → (add_disk w d fact).disks ≡ disk_in_size d fact ∷ []
 unfolding add_disk stand with_disk
-add_disk-disks w d fact e = elim (bool_cases d.later) [ inl hit ↦ rw (hit, e) refl | inr miss ↦ rw (miss, e) refl ]
+add_disk-disks w d fact e = elim (cases_Bool d.later) [ inl hit ↦ rw (hit, e) refl | inr miss ↦ rw (miss, e) refl ]
 
 add_disk-bios : (w : World) (d : DiskDecl) (fact : ℕ × ℕ) → w.bios ≡ [] → (add_disk w d fact).bios ≡ []
 unfolding add_disk stand with_disk
-add_disk-bios w d fact e = elim (bool_cases d.later) [ inl hit ↦ rw hit e | inr miss ↦ rw miss e ]
+add_disk-bios w d fact e = elim (cases_Bool d.later) [ inl hit ↦ rw hit e | inr miss ↦ rw miss e ]
 
 opening-disks : (plan : PlanView) (d : DiskDecl) (fact : ℕ × ℕ) → plan.disks ≡ d ∷ [] → (opening plan (fact ∷ [])).disks ≡ disk_in_size d fact ∷ []
 unfolding opening add_disks bare_world

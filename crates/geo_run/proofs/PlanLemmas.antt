@@ -4,6 +4,7 @@ use Rattle.std.specs.List.{AllByRecursion}
 use Rattle.std.specs.Str.{bytes_eq}
 use Rattle.std.proofs.lemmas.Bool.Decides.{nat_tests, eqb_tells}
 use Rattle.std.proofs.lemmas.List.Elements.{All-from_recursion}
+use Rattle.std.proofs.lemmas.Bool.{and_parts}
 use Rattle.geo_base.specs.Name.{is_short_name, is_name, name_of}
 use Rattle.geo_core.specs.declared.command.Command.{Command}
 use Rattle.geo_core.specs.declared.command.Command.TheVariants.{Open, Close, Read, Sync}
@@ -25,14 +26,6 @@ if_some false o x h = cc
 if_true : {X : Type 0} (t : Bool) (o : Option X) (x : X) → (if t then o else None) ≡ Some x → t ≡ true
 if_true true o x h = refl
 if_true false o x h = cc
-
-and_left : (a b : Bool) → (a && b) ≡ true → a ≡ true
-and_left true b h = refl
-and_left false b h = cc
-
-and_right : (a b : Bool) → (a && b) ≡ true → b ≡ true
-and_right true b h = h
-and_right false b h = cc
 
 -- Names
 
@@ -60,9 +53,9 @@ sector_is s c h = either (eqb_tells s 512) (eqb_tells s 4096)
 
 sectors_are : (s c : ℕ) → is_ram_size s c ≡ true → (1 ≤ c) × (c * s ≤ 67108864)
 sectors_are s c h =
-    let front : ((s == 512 || s == 4096) && nat_le 1 c) ≡ true = and_left _ (nat_le (c * s) 67108864) h in
-    let some : nat_le 1 c ≡ true = and_right (s == 512 || s == 4096) (nat_le 1 c) front in
-    let small : nat_le (c * s) 67108864 ≡ true = and_right ((s == 512 || s == 4096) && nat_le 1 c) (nat_le (c * s) 67108864) h in
+    let front : ((s == 512 || s == 4096) && nat_le 1 c) ≡ true = (and_parts _ (nat_le (c * s) 67108864) h).0 in
+    let some : nat_le 1 c ≡ true = (and_parts (s == 512 || s == 4096) (nat_le 1 c) front).1 in
+    let small : nat_le (c * s) 67108864 ≡ true = (and_parts ((s == 512 || s == 4096) && nat_le 1 c) (nat_le (c * s) 67108864) h).1 in
     (grind (arith, nat_tests), grind (arith, nat_tests))
 
 ram_of_is : (name : Option (List ℕ)) (s c : Option ℕ) (d : DiskDecl) → ((n : List ℕ) → name ≡ Some n → IsShortName n) → ram_of name s c ≡ Some d → IsDiskDecl d
@@ -100,7 +93,7 @@ actor_words_is (word ∷ own ∷ []) name h =
     let tested : (bytes_eq word (codes "actor") && not (is_header_word own)) ≡ true = if_true _ (short_name_of own) name h in
     let named : short_name_of own ≡ Some name = if_some (bytes_eq word (codes "actor") && not (is_header_word own)) (short_name_of own) name h in
     let same : own ≡ name = cc (if_some (is_short_name own) (Some own) name named) in
-    subst IsActor same (record { short = if_true (is_short_name own) (Some own) name named; no_header_word = and_right (bytes_eq word (codes "actor")) (not (is_header_word own)) tested })
+    subst IsActor same (record { short = if_true (is_short_name own) (Some own) name named; no_header_word = (and_parts (bytes_eq word (codes "actor")) (not (is_header_word own)) tested).1 })
 actor_words_is (word ∷ own ∷ more ∷ ws) name h = cc
 
 actor_at_is : (line name : List ℕ) → actor_at line ≡ Some name → IsActor name
@@ -184,7 +177,7 @@ command_line_is : (actor line : List ℕ) (n : ℕ) (c : Command) → command_at
 unfolding command_at
 command_line_is actor line n c e =
     let tests : (nat_le n 4096 && is_plain line) ≡ true = if_true (nat_le n 4096 && is_plain line) _ c e in
-    let low : nat_le n 4096 ≡ true = and_left (nat_le n 4096) (is_plain line) tests in
+    let low : nat_le n 4096 ≡ true = (and_parts (nat_le n 4096) (is_plain line) tests).0 in
     record {
       line = grind (arith, nat_tests);
       actor = omega arith;

@@ -1,6 +1,6 @@
 -- Replies have texts of runs: a request has 1 to 32,768 bytes, and so has its reply.
 use Rattle.std.proofs.Common.{◌≡◌, ℕ, ◌≤◌, ◌==◌, true, List, [], ◌∷◌, length, Option, Some, None, Ok, Err, IfSome, IsSomeAnd, refl, ap, subst, arith, inl, inr, nat_lt}
-use Rattle.std.proofs.lemmas.Bool.{eqb-true}
+use Rattle.std.proofs.lemmas.Bool.{eqb-true, cases_Bool}
 use Rattle.geo_base.specs.declared.errno.Errno.{Errno}
 use Rattle.geo_base.specs.declared.errno.Errno.TheVariants.{ENXIO}
 use Rattle.geo_core.specs.declared.command.Command.{Command}
@@ -36,7 +36,6 @@ use Rattle.geo_core.specs.Go.{waits_for, do_command, spent, go_of, go}
 use Rattle.geo_core.specs.Step.{step}
 use Rattle.geo_core.specs.Log.{world_after}
 use Rattle.geo_core.specs.Sound.{Sound, IsBioInOrder, IsRangeInside}
-use Rattle.geo_core.proofs.RowsLemmas.{bool_cases}
 use Rattle.geo_core.proofs.Keeps.{All-snoc, All-update, All-without, find-All}
 use Rattle.geo_core.proofs.Changes.{go-keeps, take_of-keeps, up_of-keeps}
 use Rattle.geo_run.specs.Replies.{FitsReply, FitsResult, ResultsFit, FitsOutcome, RepliesFit}
@@ -65,7 +64,7 @@ start_of-fits : (w : World) (o : Option Bio) → ResultsFit w → ResultsFit (wo
 unfolding start_of
 start_of-fits w None r = r
 start_of-fits w (Some b) r =
-    elim (bool_cases (is_down b.phase)) [ inl hit ↦ rw hit (start_at-fits w b (disk_of_bio w b) r) | inr miss ↦ rw miss r ]
+    elim (cases_Bool (is_down b.phase)) [ inl hit ↦ rw hit (start_at-fits w b (disk_of_bio w b) r) | inr miss ↦ rw miss r ]
 
 take-fits : (w : World) (seat disk n : ℕ) → ResultsFit w → ResultsFit (world_after w (take_of w seat disk (bio_at w n)))
 unfolding with_phase
@@ -77,9 +76,9 @@ take-fits w seat disk n r =
 fitting_is : (seat : ℕ) (b : Bio) (got : DeviceResult) (phase : Phase) → deliver_found seat b got phase ≡ None → is_fitting b got ≡ true
 unfolding deliver_found
 fitting_is seat b got (phases.Busy holder) e =
-    elim (bool_cases (is_fitting b got)) [
+    elim (cases_Bool (is_fitting b got)) [
       | inl hit ↦ hit
-      | inr miss ↦ elim (bool_cases (holder == seat)) [ inl own ↦ absurd (cc (rw (own, miss) at e)) | inr other ↦ absurd (cc (rw other at e)) ]
+      | inr miss ↦ elim (cases_Bool (holder == seat)) [ inl own ↦ absurd (cc (rw (own, miss) at e)) | inr other ↦ absurd (cc (rw other at e)) ]
     ]
 fitting_is seat b got phases.Down e = cc
 fitting_is seat b got phases.Sent e = cc
@@ -144,7 +143,7 @@ open_of-answers w line actor name prov None = open_at-answers w line actor name 
 close_of-answers : (w : World) (line actor : ℕ) (name : List ℕ) (o : Option Handle) → FitsOutcome (close_of w line actor name o).1
 unfolding close_of
 close_of-answers w line actor name None = tt
-close_of-answers w line actor name (Some h) = elim (bool_cases (is_active w h.consumer)) [ inl hit ↦ rw hit tt | inr miss ↦ rw miss tt ]
+close_of-answers w line actor name (Some h) = elim (cases_Bool (is_active w h.consumer)) [ inl hit ↦ rw hit tt | inr miss ↦ rw miss tt ]
 
 answered-answers : (w : World) (line offset len : ℕ) (h : Handle) (p : Provider) (o : Option Errno) → FitsOutcome (request_answered w line offset len h p o).1
 unfolding request_answered
@@ -179,7 +178,7 @@ go_of-answers w a (Some c) = unless-answers (waits_for w a c.command) (spent a (
 
 go-answers : (w : World) (a : ℕ) → FitsAnswer (go w a)
 unfolding go FitsAnswer
-go-answers w a = elim (bool_cases (nat_lt a w.actors)) [ inl hit ↦ rw hit (go_of-answers w a (find_by (is_of_actor a) w.left)) | inr miss ↦ rw miss tt ]
+go-answers w a = elim (cases_Bool (nat_lt a w.actors)) [ inl hit ↦ rw hit (go_of-answers w a (find_by (is_of_actor a) w.left)) | inr miss ↦ rw miss tt ]
 
 start_at-answers : (w : World) (b : Bio) (o : Option ℕ) → FitsOutcome (start_at w b o).1
 unfolding start_at
@@ -189,7 +188,7 @@ start_at-answers w b (Some disk) = tt
 start-answers : (w : World) (o : Option Bio) → FitsAnswer (start_of w o)
 unfolding start_of FitsAnswer
 start-answers w None = tt
-start-answers w (Some b) = elim (bool_cases (is_down b.phase)) [ inl hit ↦ rw hit (start_at-answers w b (disk_of_bio w b)) | inr miss ↦ rw miss tt ]
+start-answers w (Some b) = elim (cases_Bool (is_down b.phase)) [ inl hit ↦ rw hit (start_at-answers w b (disk_of_bio w b)) | inr miss ↦ rw miss tt ]
 
 take-answers : (w : World) (seat disk : ℕ) (o : Option Bio) → FitsAnswer (take_of w seat disk o)
 unfolding take_of take_bio FitsAnswer
@@ -214,7 +213,7 @@ up-answers w n None here r = tt
 up-answers w n (Some b) here r =
     let P : Bio → Type 0 = λ b. FitsResult b.result in
     let fits : FitsResult b.result = find-All P (is_bio n) w.bios b r here in
-    elim (bool_cases (is_up b.phase)) [ inl hit ↦ rw hit (reply-answers (line_of b.owner) b.result fits) | inr miss ↦ rw miss tt ]
+    elim (cases_Bool (is_up b.phase)) [ inl hit ↦ rw hit (reply-answers (line_of b.owner) b.result fits) | inr miss ↦ rw miss tt ]
 
 step-answers : (w : World) (seat : ℕ) (s : Step) → ResultsFit w → FitsAnswer (step w seat s)
 unfolding step
@@ -237,7 +236,7 @@ outcome_fits w u seat s outcome r e = subst FitsAnswer e (step-answers w seat s 
 
 reply_in_fits : (line : ℕ) (o : Outcome) → FitsOutcome o → IfSome (reply_in line o) FitsReply
 unfolding reply_in
-reply_in_fits line (outcomes.Replied own reply) h = elim (bool_cases (own == line)) [ inl hit ↦ rw hit h | inr miss ↦ rw miss tt ]
+reply_in_fits line (outcomes.Replied own reply) h = elim (cases_Bool (own == line)) [ inl hit ↦ rw hit h | inr miss ↦ rw miss tt ]
 reply_in_fits line (outcomes.Accepted own bio) h = tt
 reply_in_fits line (outcomes.Queued disk) h = tt
 reply_in_fits line outcomes.Bounced h = tt
