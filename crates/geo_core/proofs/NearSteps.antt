@@ -25,13 +25,24 @@ pub record IsNear (w u : World) : Type 0 where
   pub attached : 2 * length u.consumers + length w.handles ≤ 2 * length w.consumers + length u.handles + 1
 
 near-same : (w : World) → IsNear w w
-near-same w = record { disks = refl; consumer = omega arith; handle = omega arith; bio = omega arith; attached = omega arith }
+near-same w = record {
+  disks = refl;
+  consumer = omega arith;
+  handle = omega arith;
+  bio = omega arith;
+  attached =
+      omega arith;
+}
 
 without-short : {X : Type 0} (p : X → Bool) (xs : List X) → length (without p xs) ≤ length xs
 unfolding without
 without-short p [] = omega arith
 without-short p (x ∷ xs) =
-    elim (cases_Bool (p x)) [ inl hit ↦ rw hit (omega arith) | inr miss ↦ let rest = without-short p xs in rw miss (omega arith) ]
+    elim (cases_Bool (p x)) [
+      | inl hit ↦
+          rw hit (omega arith)
+      | inr miss ↦ let rest = without-short p xs in rw miss (omega arith)
+    ]
 
 near-opened : (w : World) (actor : ℕ) (name : List ℕ) (p : Provider) → IsNear w (with_handle w actor name p)
 unfolding with_handle
@@ -46,24 +57,29 @@ near-opened w actor name p = record {
     one_more : (c h c' h' : ℕ) → c' ≡ c + 1 → h' ≡ h + 1 → 2 * c' + h ≤ 2 * c + h' + 1
     one_more c h c' h' e f = omega arith
 
-near-closed : (w : World) (actor : ℕ) (name : List ℕ) (h : Handle) → handle_of w actor name ≡ Some h → IsNear w (without_handle w actor name h)
+near-closed : (w : World) (actor : ℕ) (name : List ℕ) (h : Handle) → handle_of w actor name ≡ Some h
+    → IsNear w (without_handle w actor name h)
 unfolding without_handle
 near-closed w actor name h e = record {
   disks = refl;
   consumer = omega arith;
   handle = omega arith;
   bio = omega arith;
-  attached = one_less (length w.consumers) (length w.handles) _ _ (without-short (is_consumer h.consumer) w.consumers) (length-without (is_handle actor name) w.handles h e);
+  attached = one_less (length w.consumers) (length w.handles) _ _
+      (without-short (is_consumer h.consumer) w.consumers) (length-without (is_handle actor name) w.handles h e);
 }
   where
     one_less : (c h c' h' : ℕ) → c' ≤ c → h' + 1 ≡ h → 2 * c' + h ≤ 2 * c + h' + 1
     one_less c h c' h' e f = omega arith
 
-near-asked : (w : World) (line offset len : ℕ) (h : Handle) (p : Provider) → IsNear w (with_request w line offset len h p)
+near-asked : (w : World) (line offset len : ℕ) (h : Handle) (p : Provider)
+    → IsNear w (with_request w line offset len h p)
 unfolding with_request
-near-asked w line offset len h p = record { disks = refl; consumer = omega arith; handle = omega arith; bio = omega arith; attached = omega arith }
+near-asked w line offset len h p =
+    record { disks = refl; consumer = omega arith; handle = omega arith; bio = omega arith; attached = omega arith }
 
-near-less : (w u v : World) → v.disks ≡ u.disks → v.next ≡ u.next → v.consumers ≡ u.consumers → v.handles ≡ u.handles → IsNear w u → IsNear w v
+near-less : (w u v : World) → v.disks ≡ u.disks → v.next ≡ u.next → v.consumers ≡ u.consumers
+    → v.handles ≡ u.handles → IsNear w u → IsNear w v
 near-less w u v disks next consumers handles near = record {
   disks = disks ∙ near.disks;
   consumer = rw next near.consumer;
@@ -72,16 +88,20 @@ near-less w u v disks next consumers handles near = record {
   attached = rw (consumers, handles) near.attached;
 }
 
-alike : (w v : World) → v.disks ≡ w.disks → v.next ≡ w.next → v.consumers ≡ w.consumers → v.handles ≡ w.handles → IsNear w v
+alike : (w v : World) → v.disks ≡ w.disks → v.next ≡ w.next → v.consumers ≡ w.consumers → v.handles ≡ w.handles
+    → IsNear w v
 alike w v disks next consumers handles = near-less w w v disks next consumers handles (near-same w)
 
 go-near : (w : World) → GoKeeps w (IsNear w)
 go-near w = record {
   same = near-same w;
   spent = λ a. alike w _ refl refl refl refl;
-  opened = λ a actor name p. near-less w (with_handle w actor name p) _ refl refl refl refl (near-opened w actor name p);
-  closed = λ a actor name h e. near-less w (without_handle w actor name h) _ refl refl refl refl (near-closed w actor name h e);
-  asked = λ a line offset len h p there fine. near-less w (with_request w line offset len h p) _ refl refl refl refl (near-asked w line offset len h p);
+  opened = λ a actor name p. near-less w (with_handle w actor name p) _ refl refl refl refl
+      (near-opened w actor name p);
+  closed = λ a actor name h e. near-less w (without_handle w actor name h) _ refl refl refl refl
+      (near-closed w actor name h e);
+  asked = λ a line offset len h p there fine. near-less w (with_request w line offset len h p) _ refl refl refl
+      refl (near-asked w line offset len h p);
 }
 
 -- the world after a step is near
@@ -90,7 +110,12 @@ step-near w seat s =
     step-keeps w (IsNear w) seat s
     (record {
       going = go-near w;
-      starting = record { same = near-same w; sent = λ n. alike w _ refl refl refl refl; ended = λ n result. alike w _ refl refl refl refl };
+      starting = record {
+        same = near-same w;
+        sent = λ n. alike w _ refl refl refl refl;
+        ended =
+            λ n result. alike w _ refl refl refl refl;
+      };
       gone = λ n. alike w _ refl refl refl refl;
     })
     (λ n. alike w _ refl refl refl refl)

@@ -44,10 +44,15 @@ none-find : {X : Type 0} (p : X → Bool) (xs : List X) → find_by p xs ≡ Non
 unfolding find_by
 none-find p [] h = tt
 none-find p (x ∷ xs) h =
-    elim (cases_Bool (p x)) [ inl hit ↦ absurd (some_absent x (rw hit at h)) | inr miss ↦ (miss, none-find p xs (rw miss at h)) ]
+    elim (cases_Bool (p x)) [
+      | inl hit ↦
+          absurd (some_absent x (rw hit at h))
+      | inr miss ↦ (miss, none-find p xs (rw miss at h))
+    ]
 
 -- what was found among bios has its number alone
-rising-find : (bs : List Bio) (b : Bio) (q : Bio → Bool) → IsRising bs → find_by q bs ≡ Some b → find_by (is_bio b.number) bs ≡ Some b
+rising-find : (bs : List Bio) (b : Bio) (q : Bio → Bool) → IsRising bs → find_by q bs ≡ Some b
+    → find_by (is_bio b.number) bs ≡ Some b
 unfolding find_by
 rising-find [] b q r e = absurd (cc)
 rising-find (x ∷ xs) b q r e =
@@ -69,15 +74,19 @@ start-ok : (w : World) (b : Bio) → is_down b.phase ≡ true → IsOk (start_of
 unfolding start_of
 start-ok w b hit = rw hit refl
 
-pick-up-ok : (w : World) (b : Bio) → Sound w → find_by (λ (x : Bio). is_up x.phase) w.bios ≡ Some b → IsOk (step w 0 (steps.Up b.number))
+pick-up-ok : (w : World) (b : Bio) → Sound w → find_by (λ (x : Bio). is_up x.phase) w.bios ≡ Some b
+    → IsOk (step w 0 (steps.Up b.number))
 unfolding step
 pick-up-ok w b s e =
-    rw (rising-find w.bios b (λ (x : Bio). is_up x.phase) s.rising e) (up-ok w b (find-passes (λ (x : Bio). is_up x.phase) w.bios b e))
+    rw (rising-find w.bios b (λ (x : Bio). is_up x.phase) s.rising e)
+    (up-ok w b (find-passes (λ (x : Bio). is_up x.phase) w.bios b e))
 
-pick-start-ok : (w : World) (b : Bio) → Sound w → find_by (λ (x : Bio). is_down x.phase) w.bios ≡ Some b → IsOk (step w 0 (steps.Start b.number))
+pick-start-ok : (w : World) (b : Bio) → Sound w → find_by (λ (x : Bio). is_down x.phase) w.bios ≡ Some b
+    → IsOk (step w 0 (steps.Start b.number))
 unfolding step
 pick-start-ok w b s e =
-    rw (rising-find w.bios b (λ (x : Bio). is_down x.phase) s.rising e) (start-ok w b (find-passes (λ (x : Bio). is_down x.phase) w.bios b e))
+    rw (rising-find w.bios b (λ (x : Bio). is_down x.phase) s.rising e)
+    (start-ok w b (find-passes (λ (x : Bio). is_down x.phase) w.bios b e))
 
 -- Take
 
@@ -91,7 +100,8 @@ unfolding busy_found
 no-busy None e = refl
 no-busy (Some b) e = absurd (cc e)
 
-free-disk : (w : World) (b : Bio) (disk : ℕ) (o : Option ℕ) → is_free w o ≡ true → take_on b o ≡ Some (steps.Take disk b.number) → disk_found w disk b o ≡ None
+free-disk : (w : World) (b : Bio) (disk : ℕ) (o : Option ℕ) → is_free w o ≡ true
+    → take_on b o ≡ Some (steps.Take disk b.number) → disk_found w disk b o ≡ None
 unfolding is_free take_on disk_found
 free-disk w b disk None free e = absurd (cc free)
 free-disk w b disk (Some own) free e =
@@ -101,19 +111,22 @@ free-disk w b disk (Some own) free e =
     own_disk : (own disk n : ℕ) → Some (steps.Take own n) ≡ Some (steps.Take disk n) → own ≡ disk
     own_disk own disk n e = cc
 
-take-free : (w : World) (b : Bio) (disk : ℕ) → is_to_take w b ≡ true → take_on b (disk_of_bio w b) ≡ Some (steps.Take disk b.number) → IsOk (take_of w 0 disk (Some b))
+take-free : (w : World) (b : Bio) (disk : ℕ) → is_to_take w b ≡ true
+    → take_on b (disk_of_bio w b) ≡ Some (steps.Take disk b.number) → IsOk (take_of w 0 disk (Some b))
 unfolding take_of take_found is_to_take
 take-free w b disk test e =
     let sent : is_sent b.phase ≡ true = (and_parts (is_sent b.phase) _ test).0 in
     let free : is_free w (disk_of_bio w b) ≡ true = (and_parts (is_sent b.phase) _ test).1 in
     unless-none _ (take_bio w 0 disk b) (rw sent (free-disk w b disk (disk_of_bio w b) free e))
 
-take_on-step : (b : Bio) (o : Option ℕ) (s : Step) → take_on b o ≡ Some s → (disk : ℕ) × (s ≡ steps.Take disk b.number) × (take_on b o ≡ Some (steps.Take disk b.number))
+take_on-step : (b : Bio) (o : Option ℕ) (s : Step) → take_on b o ≡ Some s
+    → (disk : ℕ) × (s ≡ steps.Take disk b.number) × (take_on b o ≡ Some (steps.Take disk b.number))
 unfolding take_on
 take_on-step b None s e = absurd (cc e)
 take_on-step b (Some disk) s e = (disk, sym (same_Some (steps.Take disk b.number) s e), refl)
 
-pick-take-ok : (w : World) (b : Bio) (s : Step) → Sound w → find_by (is_to_take w) w.bios ≡ Some b → take_on b (disk_of_bio w b) ≡ Some s → IsOk (step w 0 s)
+pick-take-ok : (w : World) (b : Bio) (s : Step) → Sound w → find_by (is_to_take w) w.bios ≡ Some b
+    → take_on b (disk_of_bio w b) ≡ Some s → IsOk (step w 0 s)
 unfolding step
 pick-take-ok w b s sound found e =
     let t = take_on-step b (disk_of_bio w b) s e in
@@ -123,7 +136,8 @@ pick-take-ok w b s sound found e =
 
 -- Go
 
-pick-go-ok : (w : World) (o : Option LineCommand) (s : Step) → find_by (is_ready w) w.left ≡ o → pick_go o ≡ Some s → IsOk (step w 0 s)
+pick-go-ok : (w : World) (o : Option LineCommand) (s : Step) → find_by (is_ready w) w.left ≡ o → pick_go o ≡ Some s
+    → IsOk (step w 0 s)
 unfolding pick_go step
 pick-go-ok w None s found e = absurd (cc e)
 pick-go-ok w (Some c) s found e =
@@ -132,18 +146,22 @@ pick-go-ok w (Some c) s found e =
 
 -- what the fixed order gives is enabled
 
-start-or-go : (w : World) (o : Option Bio) (s : Step) → Sound w → find_by (λ (x : Bio). is_down x.phase) w.bios ≡ o → pick_start w o ≡ Some s → IsOk (step w 0 s)
+start-or-go : (w : World) (o : Option Bio) (s : Step) → Sound w → find_by (λ (x : Bio). is_down x.phase) w.bios ≡ o
+    → pick_start w o ≡ Some s → IsOk (step w 0 s)
 unfolding pick_start
 start-or-go w (Some b) s sound found e =
-    let same : steps.Start b.number ≡ s = same_Some (steps.Start b.number) s e in rw (← same) (pick-start-ok w b sound found)
+    let same : steps.Start b.number ≡ s = same_Some (steps.Start b.number) s e in
+    rw (← same) (pick-start-ok w b sound found)
 start-or-go w None s sound found e = pick-go-ok w (find_by (is_ready w) w.left) s refl e
 
-take-or-less : (w : World) (o : Option Bio) (s : Step) → Sound w → find_by (is_to_take w) w.bios ≡ o → pick_take w o ≡ Some s → IsOk (step w 0 s)
+take-or-less : (w : World) (o : Option Bio) (s : Step) → Sound w → find_by (is_to_take w) w.bios ≡ o
+    → pick_take w o ≡ Some s → IsOk (step w 0 s)
 unfolding pick_take
 take-or-less w (Some b) s sound found e = pick-take-ok w b s sound found e
 take-or-less w None s sound found e = start-or-go w (find_by (λ (x : Bio). is_down x.phase) w.bios) s sound refl e
 
-up-or-less : (w : World) (o : Option Bio) (s : Step) → Sound w → find_by (λ (x : Bio). is_up x.phase) w.bios ≡ o → pick_up w o ≡ Some s → IsOk (step w 0 s)
+up-or-less : (w : World) (o : Option Bio) (s : Step) → Sound w → find_by (λ (x : Bio). is_up x.phase) w.bios ≡ o
+    → pick_up w o ≡ Some s → IsOk (step w 0 s)
 unfolding pick_up
 up-or-less w (Some b) s sound found e =
     let same : steps.Up b.number ≡ s = same_Some (steps.Up b.number) s e in rw (← same) (pick-up-ok w b sound found)
@@ -160,7 +178,8 @@ unfolding pick_go
 pick_go-none None e = refl
 pick_go-none (Some c) e = absurd (cc e)
 
-pick_start-none : (w : World) (o : Option Bio) → pick_start w o ≡ None → (o ≡ None) × (find_by (is_ready w) w.left ≡ None)
+pick_start-none : (w : World) (o : Option Bio) → pick_start w o ≡ None
+    → (o ≡ None) × (find_by (is_ready w) w.left ≡ None)
 unfolding pick_start
 pick_start-none w (Some b) e = absurd (cc e)
 pick_start-none w None e = (refl, pick_go-none (find_by (is_ready w) w.left) e)
@@ -170,13 +189,16 @@ unfolding is_free take_on
 free-some w b None free e = cc free
 free-some w b (Some disk) free e = cc e
 
-pick_take-none : (w : World) (o : Option Bio) → find_by (is_to_take w) w.bios ≡ o → pick_take w o ≡ None → (o ≡ None) × (pick_start w (find_by (λ (x : Bio). is_down x.phase) w.bios) ≡ None)
+pick_take-none : (w : World) (o : Option Bio) → find_by (is_to_take w) w.bios ≡ o → pick_take w o ≡ None
+    → (o ≡ None) × (pick_start w (find_by (λ (x : Bio). is_down x.phase) w.bios) ≡ None)
 unfolding pick_take is_to_take
 pick_take-none w (Some b) found e =
-    absurd (free-some w b (disk_of_bio w b) (and_parts (is_sent b.phase) _ (find-passes (is_to_take w) w.bios b found)).1 e)
+    absurd (free-some w b (disk_of_bio w b)
+    (and_parts (is_sent b.phase) _ (find-passes (is_to_take w) w.bios b found)).1 e)
 pick_take-none w None found e = (refl, e)
 
-pick_up-none : (w : World) (o : Option Bio) → pick_up w o ≡ None → (o ≡ None) × (pick_take w (find_by (is_to_take w) w.bios) ≡ None)
+pick_up-none : (w : World) (o : Option Bio) → pick_up w o ≡ None
+    → (o ≡ None) × (pick_take w (find_by (is_to_take w) w.bios) ≡ None)
 unfolding pick_up
 pick_up-none w (Some b) e = absurd (cc e)
 pick_up-none w None e = (refl, e)
@@ -186,9 +208,11 @@ found-disk : (w : World) (o : Option ℕ) (P : ℕ → Type 0) → IsSomeAnd o P
 found-disk w None P h = absurd h
 found-disk w (Some disk) P h = refl
 
-provider-disk : (w : World) (n : ℕ) (o : Option Provider) (P : Provider → Type 0) → Sound w → provider_at w n ≡ o → IsSomeAnd o P → IsSome (disk_of w o)
+provider-disk : (w : World) (n : ℕ) (o : Option Provider) (P : Provider → Type 0) → Sound w → provider_at w n ≡ o
+    → IsSomeAnd o P → IsSome (disk_of w o)
 provider-disk w n None P s e h = absurd h
-provider-disk w n (Some p) P s e h = found-disk w (disk_of w (Some p)) _ (find-All (IsOfDisk w) (is_provider n) w.providers p s.providers e)
+provider-disk w n (Some p) P s e h =
+    found-disk w (disk_of w (Some p)) _ (find-All (IsOfDisk w) (is_provider n) w.providers p s.providers e)
 
 pub bio-disk : (w : World) (b : Bio) → Sound w → IsBioInOrder w b → IsSome (disk_of_bio w b)
 bio-disk w b s order = provider-disk w b.target (provider_at w b.target) (IsRangeInside b.offset b.len) s refl order.1
@@ -202,15 +226,20 @@ all-free : (w : World) (o : Option ℕ) → NoneBusy w → IsSome o → is_free 
 unfolding is_free
 all-free w None q h = absurd (cc h)
 all-free w (Some disk) q h =
-    let none : busy_bio w disk ≡ None = find-none (is_busy_at w disk) w.bios (all_weaker (λ (b : Bio). is_busy b.phase ≡ false) (λ (b : Bio). is_busy_at w disk b ≡ false) (λ b k. quiet-not_at w disk b k) w.bios q) in
+    let none : busy_bio w disk ≡ None =
+    find-none (is_busy_at w disk) w.bios
+    (all_weaker (λ (b : Bio). is_busy b.phase ≡ false) (λ (b : Bio). is_busy_at w disk b ≡ false)
+    (λ b k. quiet-not_at w disk b k) w.bios q) in
     rw none refl
 
-sent-to_take : (w : World) (b : Bio) → Sound w → NoneBusy w → IsBioInOrder w b → is_to_take w b ≡ false → is_sent b.phase ≡ false
+sent-to_take : (w : World) (b : Bio) → Sound w → NoneBusy w → IsBioInOrder w b → is_to_take w b ≡ false
+    → is_sent b.phase ≡ false
 unfolding is_to_take
 sent-to_take w b s q order no_take =
     elim (cases_Bool (is_sent b.phase)) [
       | inr miss ↦ miss
-      | inl hit ↦ let free = all-free w (disk_of_bio w b) q (bio-disk w b s order) in absurd (taken (is_sent b.phase) _ hit free no_take)
+      | inl hit ↦ let free = all-free w (disk_of_bio w b) q (bio-disk w b s order) in
+          absurd (taken (is_sent b.phase) _ hit free no_take)
     ]
   where
     taken : (a b : Bool) → a ≡ true → b ≡ true → (a && b) ≡ false → ⊥
@@ -224,8 +253,10 @@ in_no_phase Sent u s d q = cc s
 in_no_phase Down u s d q = cc d
 in_no_phase (Busy seat) u s d q = cc q
 
-no-bio : (w : World) → Sound w → NoneBusy w → (bs : List Bio) → AllByRecursion (IsBioInOrder w) bs → AllByRecursion (λ b. is_up b.phase ≡ false) bs
-    → AllByRecursion (λ b. is_to_take w b ≡ false) bs → AllByRecursion (λ b. is_down b.phase ≡ false) bs → AllByRecursion (λ b. is_busy b.phase ≡ false) bs → bs ≡ []
+no-bio : (w : World) → Sound w → NoneBusy w → (bs : List Bio) → AllByRecursion (IsBioInOrder w) bs
+    → AllByRecursion (λ b. is_up b.phase ≡ false) bs
+    → AllByRecursion (λ b. is_to_take w b ≡ false) bs → AllByRecursion (λ b. is_down b.phase ≡ false) bs
+    → AllByRecursion (λ b. is_busy b.phase ≡ false) bs → bs ≡ []
 no-bio w s q [] orders ups takes downs busies = refl
 no-bio w s q (b ∷ bs) orders ups takes downs busies =
     absurd (in_no_phase b.phase ups.0 (sent-to_take w b s q orders.0 takes.0) downs.0 busies.0)
@@ -242,15 +273,19 @@ first-of : (c : LineCommand) (cs : List LineCommand) → find_by (is_of_actor c.
 unfolding find_by
 first-of c cs = rw (eq-eqb c.actor c.actor refl) refl
 
-first-ready : (w : World) (c : LineCommand) (cs : List LineCommand) → Sound w → w.bios ≡ [] → w.left ≡ c ∷ cs → is_ready w c ≡ true
+first-ready : (w : World) (c : LineCommand) (cs : List LineCommand) → Sound w → w.bios ≡ [] → w.left ≡ c ∷ cs
+    → is_ready w c ≡ true
 unfolding go go_of
 first-ready w c cs s e l =
-    let all : AllByRecursion (λ (k : LineCommand). k.actor < w.actors) (c ∷ cs) = subst (AllByRecursion (λ (k : LineCommand). k.actor < w.actors)) l s.actors in
+    let all : AllByRecursion (λ (k : LineCommand). k.actor < w.actors) (c ∷ cs) =
+    subst (AllByRecursion (λ (k : LineCommand). k.actor < w.actors)) l s.actors in
     let there : nat_lt c.actor w.actors ≡ true = let h = all.0 in grind (arith, nat_tests) in
     let next : find_by (is_of_actor c.actor) w.left ≡ Some c = ap (find_by (is_of_actor c.actor)) l ∙ first-of c cs in
-    rw (there, next) (unless-none (waits_for w c.actor c.command) (spent c.actor (do_command w c c.command)) (waits-none w c.actor c.command e))
+    rw (there, next) (unless-none (waits_for w c.actor c.command) (spent c.actor (do_command w c c.command))
+    (waits-none w c.actor c.command e))
 
-no-left : (w : World) → Sound w → w.bios ≡ [] → (left : List LineCommand) → w.left ≡ left → find_by (is_ready w) left ≡ None → left ≡ []
+no-left : (w : World) → Sound w → w.bios ≡ [] → (left : List LineCommand) → w.left ≡ left
+    → find_by (is_ready w) left ≡ None → left ≡ []
 unfolding find_by
 no-left w s e [] l none = refl
 no-left w s e (c ∷ cs) l none = absurd (some_absent c (rw (first-ready w c cs s e l) at none))
@@ -261,7 +296,9 @@ none-rest w s q e =
     let u = pick_up-none w (find_by (λ (x : Bio). is_up x.phase) w.bios) e in
     let t = pick_take-none w (find_by (is_to_take w) w.bios) refl u.1 in
     let d = pick_start-none w (find_by (λ (x : Bio). is_down x.phase) w.bios) t.1 in
-    let bios : w.bios ≡ [] = no-bio w s q w.bios s.bios (none-find (λ (x : Bio). is_up x.phase) w.bios u.0) (none-find (is_to_take w) w.bios t.0) (none-find (λ (x : Bio). is_down x.phase) w.bios d.0) q in
+    let bios : w.bios ≡ [] =
+    no-bio w s q w.bios s.bios (none-find (λ (x : Bio). is_up x.phase) w.bios u.0)
+    (none-find (is_to_take w) w.bios t.0) (none-find (λ (x : Bio). is_down x.phase) w.bios d.0) q in
     let left : w.left ≡ [] = no-left w s bios w.left refl d.1 in
     rw (bios, left) refl
 

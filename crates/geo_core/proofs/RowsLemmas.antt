@@ -18,7 +18,8 @@ pub later-0 : (o : Option ℕ) → later 0 o ≡ o
 later-0 None = refl
 later-0 (Some i) = ap Some (omega arith)
 
-pub place_of-other : {X : Type 0} (p : X → Bool) (x : X) (xs : List X) → p x ≡ false → place_of p (x ∷ xs) ≡ next (place_of p xs)
+pub place_of-other : {X : Type 0} (p : X → Bool) (x : X) (xs : List X) → p x ≡ false
+    → place_of p (x ∷ xs) ≡ next (place_of p xs)
 unfolding place_of
 place_of-other p x xs h = rw h refl
 
@@ -32,18 +33,23 @@ pub front : {X : Type 0} (xs : List X) (i : ℕ) (x : X) → i < length xs → x
 front xs i x h e = rw (add-one, drop-cons xs i x, ← e) refl
 
 -- one row further
-pub place_step : {X : Type 0} (p : X → Bool) (xs : List X) (i : ℕ) (x : X) → i < length xs → x ≡ get_or xs i x → p x ≡ false →
+pub place_step : {X : Type 0} (p : X → Bool) (xs : List X) (i : ℕ) (x : X) → i < length xs → x ≡ get_or xs i x
+    → p x ≡ false →
     later i (place_of p (drop i xs)) ≡ later (i + 1) (place_of p (drop (i + 1) xs))
 place_step p xs i x h e miss =
-    ap (λ l. later i (place_of p l)) (front xs i x h e) ∙ ap (later i) (place_of-other p x (drop (i + 1) xs) miss) ∙ later-next i _
+    ap (λ l. later i (place_of p l)) (front xs i x h e) ∙ ap (later i) (place_of-other p x (drop (i + 1) xs) miss)
+    ∙ later-next i _
 
-pub place_found : {X : Type 0} (p : X → Bool) (xs : List X) (i : ℕ) (x : X) → i < length xs → x ≡ get_or xs i x → p x ≡ true →
+pub place_found : {X : Type 0} (p : X → Bool) (xs : List X) (i : ℕ) (x : X) → i < length xs → x ≡ get_or xs i x
+    → p x ≡ true →
     later i (place_of p (drop i xs)) ≡ Some i
 place_found p xs i x h e hit =
-    ap (λ l. later i (place_of p l)) (front xs i x h e) ∙ ap (later i) (place_of-same p x (drop (i + 1) xs) hit) ∙ ap Some (omega arith)
+    ap (λ l. later i (place_of p l)) (front xs i x h e) ∙ ap (later i) (place_of-same p x (drop (i + 1) xs) hit)
+    ∙ ap Some (omega arith)
 
 -- nothing is found past the end
-pub place_none : {X : Type 0} (p : X → Bool) (xs : List X) (i : ℕ) → length xs ≤ i → later i (place_of p (drop i xs)) ≡ None
+pub place_none : {X : Type 0} (p : X → Bool) (xs : List X) (i : ℕ) → length xs ≤ i
+    → later i (place_of p (drop i xs)) ≡ None
 unfolding place_of
 place_none p xs i h = rw (drop_of_length-le xs h) refl
 
@@ -56,7 +62,8 @@ here p x xs h = record {
   removed = rw h refl;
 }
 
-there : {X : Type 0} (p : X → Bool) (x : X) (xs : List X) (i : ℕ) → p x ≡ false → IsPlace p xs i → IsPlace p (x ∷ xs) (suc i)
+there : {X : Type 0} (p : X → Bool) (x : X) (xs : List X) (i : ℕ) → p x ≡ false → IsPlace p xs i
+    → IsPlace p (x ∷ xs) (suc i)
 unfolding find_by update_by without
 there p x xs i h k = record {
   inside = let q = k.inside in omega arith;
@@ -74,7 +81,8 @@ unfolding place_of
 place_at p [] i e = absurd (cc)
 place_at p (x ∷ xs) i e =
     elim (cases_Bool (p x)) [
-      | inl hit ↦ let z : 0 ≡ i = same_Some _ _ (sym (place_of-same p x xs hit) ∙ e) in subst (IsPlace p (x ∷ xs)) z (here p x xs hit)
+      | inl hit ↦ let z : 0 ≡ i = same_Some _ _ (sym (place_of-same p x xs hit) ∙ e) in
+          subst (IsPlace p (x ∷ xs)) z (here p x xs hit)
       | inr miss ↦ let s = next_some (place_of p xs) i (sym (place_of-other p x xs miss) ∙ e) in
           subst (IsPlace p (x ∷ xs)) s.2 (there p x xs s.0 miss (place_at p xs s.0 s.1))
     ]
@@ -93,5 +101,10 @@ place_nowhere p (x ∷ xs) e =
     elim (cases_Bool (p x)) [
       | inl hit ↦ absurd (some_none 0 (sym (place_of-same p x xs hit) ∙ e))
       | inr miss ↦ let k = place_nowhere p xs (next_none (place_of p xs) (sym (place_of-other p x xs miss) ∙ e)) in
-          record { found = rw miss k.found; changed = λ f. rw miss (ap (λ l. x ∷ l) (k.changed f)); removed = rw miss (ap (λ l. x ∷ l) k.removed) }
+          record {
+            found = rw miss k.found;
+            changed = λ f. rw miss (ap (λ l. x ∷ l) (k.changed f));
+            removed =
+                rw miss (ap (λ l. x ∷ l) k.removed);
+          }
     ]

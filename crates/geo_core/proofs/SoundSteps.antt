@@ -28,18 +28,24 @@ use Rattle.geo_core.proofs.Changes.{less_left, GoKeeps, step-keeps}
 use Rattle.geo_model.proofs.DemandLemmas.{all_weaker}
 
 -- a new number is above all
-rising-snoc : (bs : List Bio) (b : Bio) → IsRising bs → AllByRecursion (λ x. x.number < b.number) bs → IsRising (bs ++ b ∷ [])
+rising-snoc : (bs : List Bio) (b : Bio) → IsRising bs → AllByRecursion (λ x. x.number < b.number) bs
+    → IsRising (bs ++ b ∷ [])
 rising-snoc [] b r h = (tt, tt)
 rising-snoc (x ∷ xs) b r h = (All-snoc (λ c. x.number < c.number) xs b r.0 h.0, rising-snoc xs b r.1 h.1)
 
 -- a change that keeps the number keeps the order
-rising-update : (p : Bio → Bool) (f : Bio → Bio) → ((b : Bio) → (f b).number ≡ b.number) → (bs : List Bio) → IsRising bs → IsRising (update_by p f bs)
+rising-update : (p : Bio → Bool) (f : Bio → Bio) → ((b : Bio) → (f b).number ≡ b.number) → (bs : List Bio)
+    → IsRising bs → IsRising (update_by p f bs)
 unfolding update_by
 rising-update p f same [] r = tt
 rising-update p f same (x ∷ xs) r =
     elim (cases_Bool (p x)) [
       | inl hit ↦ rw hit (rw (same x) r)
-      | inr miss ↦ rw miss (All-update (λ (c : Bio). x.number < c.number) p f (λ b l. rw (same b) l) xs r.0, rising-update p f same xs r.1)
+      | inr miss ↦
+          rw miss (
+            All-update (λ (c : Bio). x.number < c.number) p f (λ b l. rw (same b) l) xs r.0,
+            rising-update p f same xs r.1,
+          )
     ]
 
 rising-without : (p : Bio → Bool) (bs : List Bio) → IsRising bs → IsRising (without p bs)
@@ -103,13 +109,16 @@ left-sound w a s = record {
 
 opened-sound : (w : World) (actor : ℕ) (name : List ℕ) (p : Provider) → Sound w → Sound (with_handle w actor name p)
 unfolding with_handle disk_of
-opened-sound w actor name p s = record { rising = s.rising; below = s.below; bios = s.bios; providers = s.providers; actors = s.actors }
+opened-sound w actor name p s =
+    record { rising = s.rising; below = s.below; bios = s.bios; providers = s.providers; actors = s.actors }
 
 closed-sound : (w : World) (actor : ℕ) (name : List ℕ) (h : Handle) → Sound w → Sound (without_handle w actor name h)
 unfolding without_handle disk_of
-closed-sound w actor name h s = record { rising = s.rising; below = s.below; bios = s.bios; providers = s.providers; actors = s.actors }
+closed-sound w actor name h s =
+    record { rising = s.rising; below = s.below; bios = s.bios; providers = s.providers; actors = s.actors }
 
-valid-inside : (p : Provider) (offset len : ℕ) → is_valid_range p.sector offset len ≡ true → ends_inside p.size offset len ≡ true → IsRangeInside offset len p
+valid-inside : (p : Provider) (offset len : ℕ) → is_valid_range p.sector offset len ≡ true
+    → ends_inside p.size offset len ≡ true → IsRangeInside offset len p
 unfolding is_valid_range ends_inside
 valid-inside p offset len valid inside =
     let rest = (and_parts (offset % p.sector == 0) _ valid).1 in
@@ -137,15 +146,22 @@ refusal-none p offset len e =
       ]
     ]
 
-found-range : (w : World) (offset len : ℕ) (p : Provider) → provider_at w p.number ≡ Some p → IsRangeInside offset len p → IsSomeAnd (provider_at w p.number) (IsRangeInside offset len)
+found-range : (w : World) (offset len : ℕ) (p : Provider) → provider_at w p.number ≡ Some p
+    → IsRangeInside offset len p → IsSomeAnd (provider_at w p.number) (IsRangeInside offset len)
 found-range w offset len p e inside = rw e inside
 
-asked-sound : (w : World) (line offset len : ℕ) (h : Handle) (p : Provider) → provider_at w p.number ≡ Some p → request_refusal p offset len ≡ None → Sound w → Sound (with_request w line offset len h p)
+asked-sound : (w : World) (line offset len : ℕ) (h : Handle) (p : Provider) → provider_at w p.number ≡ Some p
+    → request_refusal p offset len ≡ None → Sound w → Sound (with_request w line offset len h p)
 unfolding with_request new_read disk_of
 asked-sound w line offset len h p there fine s = record {
   rising = rising-snoc w.bios _ s.rising s.below;
-  below = All-snoc (λ (b : Bio). b.number < w.next.bio + 1) w.bios _ (all_weaker (λ (b : Bio). b.number < w.next.bio) (λ (b : Bio). b.number < w.next.bio + 1) (λ b l. omega arith) w.bios s.below) (omega arith);
-  bios = All-snoc (IsBioInOrder w) w.bios _ s.bios (refl, found-range w offset len p there (refusal-none p offset len fine));
+  below = All-snoc (λ (b : Bio). b.number < w.next.bio + 1) w.bios _
+      (all_weaker (λ (b : Bio). b.number < w.next.bio) (λ (b : Bio). b.number < w.next.bio + 1)
+      (λ b l. omega arith) w.bios s.below) (omega arith);
+  bios = All-snoc (IsBioInOrder w) w.bios _ s.bios (
+    refl,
+    found-range w offset len p there (refusal-none p offset len fine),
+  );
   providers = s.providers;
   actors = s.actors;
 }
@@ -156,7 +172,8 @@ go-sound w s = record {
   spent = λ a. left-sound w a s;
   opened = λ a actor name p. left-sound (with_handle w actor name p) a (opened-sound w actor name p s);
   closed = λ a actor name h e. left-sound (without_handle w actor name h) a (closed-sound w actor name h s);
-  asked = λ a line offset len h p there fine. left-sound (with_request w line offset len h p) a (asked-sound w line offset len h p there fine s);
+  asked = λ a line offset len h p there fine.
+      left-sound (with_request w line offset len h p) a (asked-sound w line offset len h p there fine s);
 }
 
 -- the world after a step is sound, if the world before is
@@ -165,7 +182,12 @@ step-sound w seat s sound =
     step-keeps w Sound seat s
     (record {
       going = go-sound w sound;
-      starting = record { same = sound; sent = λ n. phase-sound w n _ sound; ended = λ n result. result-sound w n result sound };
+      starting = record {
+        same = sound;
+        sent = λ n. phase-sound w n _ sound;
+        ended =
+            λ n result. result-sound w n result sound;
+      };
       gone = λ n. gone-sound w n sound;
     })
     (λ n. phase-sound w n _ sound)

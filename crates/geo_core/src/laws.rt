@@ -14,7 +14,8 @@ pub fn stays_sound()
     ensures { StaysSound }
 {}
 
-/// The fixed order never gets stuck: what it gives is enabled, and where no bio is Busy it gives nothing exactly at rest.
+/// The fixed order never gets stuck: what it gives is enabled, and where no bio is Busy it gives nothing exactly at
+/// rest.
 #[tactic(auto, using(crate::proofs::Picks::pick_is_enabled, crate::proofs::Picks::pick_ends_at_rest))]
 pub fn pick_goes_on()
     ensures enabled { PickIsEnabled }

@@ -36,7 +36,8 @@ same_or_other a b = decided (bytes_eq a b) (bytes_eq-Decides a b)
 pub names_agree : IsEquivalence bytes_eq
 names_agree = record {
   refl = bytes_eq-same;
-  symm = λ a b. same_from_decides (bytes_eq a b) (bytes_eq b a) (bytes_eq-Decides a b) ((λ e. sym (same_from_bytes_eq b a e)), (λ e. (bytes_eq-Decides b a).1 (sym e)));
+  symm = λ a b. same_from_decides (bytes_eq a b) (bytes_eq b a) (bytes_eq-Decides a b)
+      ((λ e. sym (same_from_bytes_eq b a e)), (λ e. (bytes_eq-Decides b a).1 (sym e)));
   congr = λ a b q e. ap (λ n. bytes_eq n q) (same_from_bytes_eq a b e);
 }
 
@@ -52,7 +53,8 @@ among-from_Contains name names one = list_any-from_Contains names_agree name nam
 pub among-push : (name last : List ℕ) (names : List (List ℕ))
     → is_among name (names ++ last ∷ []) ≡ (is_among name names || bytes_eq name last)
 among-push name last [] = or-false (bytes_eq name last)
-among-push name last (first ∷ names) = ap (λ b. bytes_eq name first || b) (among-push name last names) ∙ sym (or_assoc (bytes_eq name first) (is_among name names) (bytes_eq name last))
+among-push name last (first ∷ names) = ap (λ b. bytes_eq name first || b) (among-push name last names)
+    ∙ sym (or_assoc (bytes_eq name first) (is_among name names) (bytes_eq name last))
 
 -- a name is among names without one if it is among them, and isn't that one
 pub among-without : (name gone : List ℕ) (names : List (List ℕ))
@@ -89,7 +91,8 @@ pub no_place_found : {X : Type 0} (name_of : X → List ℕ) (name : List ℕ) (
     → position (is_named name_of name) xs ≡ None → named name_of name xs ≡ None
 no_place_found name_of name xs e =
     let first : ℕ = position_or_len (is_named name_of name) xs in
-    find_at (is_named name_of name) xs ∙ slice_get_past xs first (ltb-false first (length xs) (not_chosen (nat_lt first (length xs)) first e))
+    find_at (is_named name_of name) xs
+    ∙ slice_get_past xs first (ltb-false first (length xs) (not_chosen (nat_lt first (length xs)) first e))
 
 -- the item at the place is the one of the name
 pub named_at : {X : Type 0} (name_of : X → List ℕ) (name : List ℕ) (xs : List X) (at : ℕ) (d : X)
@@ -101,7 +104,8 @@ named_at name_of name xs at d place =
 pub has_name : {X : Type 0} (name_of : X → List ℕ) (name : List ℕ) (xs : List X) (at : ℕ) (d : X)
     → IsPlace name_of name xs at → name_of (get_or xs at d) ≡ name
 has_name name_of name xs at d place =
-    sym (same_from_bytes_eq name (name_of (get_or xs at d)) (found_passes (is_named name_of name) xs (get_or xs at d) (named_at name_of name xs at d place)))
+    sym (same_from_bytes_eq name (name_of (get_or xs at d))
+    (found_passes (is_named name_of name) xs (get_or xs at d) (named_at name_of name xs at d place)))
 
 -- an item set at the place of its name is the one of the name
 pub named-set_same : {X : Type 0} (name_of : X → List ℕ) (name : List ℕ) (xs : List X) (at : ℕ) (y : X)
@@ -126,18 +130,22 @@ is_some-or (Some x) b is = refl
 -- a name that has an item keeps having one
 pub named-push_some : {X : Type 0} (name_of : X → List ℕ) (name : List ℕ) (xs : List X) (y : X)
     → is_some (named name_of name xs) ≡ true → is_some (named name_of name (xs ++ y ∷ [])) ≡ true
-named-push_some name_of name xs y is = rw (find-append (is_named name_of name) xs (y ∷ [])) (is_some-or (named name_of name xs) (named name_of name (y ∷ [])) is)
+named-push_some name_of name xs y is =
+    rw (find-append (is_named name_of name) xs (y ∷ []))
+    (is_some-or (named name_of name xs) (named name_of name (y ∷ [])) is)
 
 -- an item that was pushed is that of its name, which had none
 pub named-push_same : {X : Type 0} (name_of : X → List ℕ) (name : List ℕ) (xs : List X) (y : X)
     → named name_of name xs ≡ None → name_of y ≡ name → named name_of name (xs ++ y ∷ []) ≡ Some y
-named-push_same name_of name xs y none is = rw (find-append (is_named name_of name) xs (y ∷ []), none, is, bytes_eq-same name) refl
+named-push_same name_of name xs y none is =
+    rw (find-append (is_named name_of name) xs (y ∷ []), none, is, bytes_eq-same name) refl
 
 -- the other names have what they had
 pub named-push_other : {X : Type 0} (name_of : X → List ℕ) (other : List ℕ) (xs : List X) (y : X) → other ≢ name_of y
     → named name_of other (xs ++ y ∷ []) ≡ named name_of other xs
 named-push_other name_of other xs y apart =
-    rw (find-append (is_named name_of other) xs (y ∷ []), bytes_eq-other other (name_of y) apart) (or_none (named name_of other xs))
+    rw (find-append (is_named name_of other) xs (y ∷ []), bytes_eq-other other (name_of y) apart)
+    (or_none (named name_of other xs))
 
 -- a name that has an item has a place
 pub found_place : {X : Type 0} (name_of : X → List ℕ) (name : List ℕ) (xs : List X)

@@ -34,7 +34,8 @@ pub largest-le : (n : ℕ) (ns : List ℕ) → AllByRecursion (λ k. k ≤ n) ns
 largest-le n [] facts = omega arith
 largest-le n (k ∷ ks) facts = omega (arith, facts.0, largest-le n ks facts.1)
 
-pub map_all : {X Y : Type 0} (P : Y → Type 0) (f : X → Y) → ((x : X) → P (f x)) → (xs : List X) → AllByRecursion P (map f xs)
+pub map_all : {X Y : Type 0} (P : Y → Type 0) (f : X → Y) → ((x : X) → P (f x)) → (xs : List X)
+    → AllByRecursion P (map f xs)
 map_all P f so [] = tt
 map_all P f so (x ∷ xs) = (so x, map_all P f so xs)
 
@@ -62,7 +63,8 @@ names_some (Some m) p e = ap (λ n. Some n) (eqb-true m p e)
 module _ {C : Type 0} (granted : ℕ → Counts) (t : Topology C) where
   -- the same haves of a geom's providers give the same want of its consumer
   want_by : (H K : ℕ → Counts) (c : Consumer) (o : Option (Geom C)) → geom_at t c.geom ≡ o
-      → ((g : Geom C) → geom_at t c.geom ≡ Some g → AllByRecursion (λ y. H y.number ≡ K y.number) (providers_of t g.number))
+      → ((g : Geom C) → geom_at t c.geom ≡ Some g
+      → AllByRecursion (λ y. H y.number ≡ K y.number) (providers_of t g.number))
       → want_given granted H t c ≡ want_given granted K t c
   want_by H K c None e same = rw e refl
   want_by H K c (Some g) e same =
@@ -91,12 +93,17 @@ module _ {C : Type 0} (granted : ℕ → Counts) (t : Topology C) where
       (λ (y : Provider). provider_at t y.number ≡ Some y)
       (λ (y : Provider). (provider_at t y.number ≡ Some y) × (y.geom ≡ c.geom))
       (λ (y : Provider). y.geom == g.number)
-      (λ y e h. (h, eqb-true y.geom g.number e ∙ eqb-true g.number c.geom (find_passes (λ z. z.number == c.geom) t.geoms g found)))
+      (λ y e h. (
+        h,
+        eqb-true y.geom g.number e
+            ∙ eqb-true g.number c.geom (find_passes (λ z. z.number == c.geom) t.geoms g found),
+      ))
       t.providers
       known
 
 -- a fact for each item that follows from another
-pub all_weaker : {X : Type 0} (P Q : X → Type 0) → ((x : X) → P x → Q x) → (xs : List X) → AllByRecursion P xs → AllByRecursion Q xs
+pub all_weaker : {X : Type 0} (P Q : X → Type 0) → ((x : X) → P x → Q x) → (xs : List X) → AllByRecursion P xs
+    → AllByRecursion Q xs
 all_weaker P Q so [] facts = facts
 all_weaker P Q so (x ∷ xs) facts = (so x facts.0, all_weaker P Q so xs facts.1)
 
@@ -118,7 +125,8 @@ module _ {C : Type 0} (granted : ℕ → Counts) (t : Topology C) (ranked : Rank
       (map_same (want_given granted (have_within granted k t) t) (want_given granted (have_within granted (suc k) t) t)
       (attached_to t p)
       (all_weaker (λ (c : Consumer). rank t x.geom < rank t c.geom)
-      (λ (c : Consumer). want_given granted (have_within granted k t) t c ≡ want_given granted (have_within granted (suc k) t) t c)
+      (λ (c : Consumer). want_given granted (have_within granted k t) t c
+      ≡ want_given granted (have_within granted (suc k) t) t c)
       (λ c above.
       want_by granted t (have_within granted k t) (have_within granted (suc k) t) c (geom_at t c.geom) refl
       (λ g e.
@@ -133,4 +141,5 @@ module _ {C : Type 0} (granted : ℕ → Counts) (t : Topology C) (ranked : Rank
   -- the counts of a provider are the sum over the consumers attached to it
   pub have-sum : (p : ℕ) (x : Provider) → provider_at t p ≡ Some x
       → have granted t p ≡ sum_counts (map (want granted t) (attached_to t p))
-  have-sum p x found = have_within-more (length t.geoms) p x found (omega (arith, rank_within-positive (length t.geoms) t x.geom))
+  have-sum p x found =
+      have_within-more (length t.geoms) p x found (omega (arith, rank_within-positive (length t.geoms) t x.geom))

@@ -27,12 +27,15 @@ ready-cons w k rest others true e all so =
     let is : rest ≡ [] = nil_from_length rest (eqb-true (length rest) 0 e) in rw is (so (rw e at all))
 ready-cons w k rest others false e all so = let no : false ≡ true = rw e at all in cc
 
-none-ready : (w : World) (k : ℕ) (actors : List (List LineCommand)) → list_all (λ (xs : List LineCommand). length xs == 0) actors ≡ true
+none-ready : (w : World) (k : ℕ) (actors : List (List LineCommand))
+    → list_all (λ (xs : List LineCommand). length xs == 0) actors ≡ true
     → flat_map (ready_actor w) (enumerate_from k actors) ≡ []
 none-ready w k [] all = refl
-none-ready w k (rest ∷ others) all = ready-cons w k rest others (length rest == 0) refl all (none-ready w (k + 1) others)
+none-ready w k (rest ∷ others) all =
+    ready-cons w k rest others (length rest == 0) refl all (none-ready w (k + 1) others)
 
-all-none : (a b c d e f g h : Option Step) → a ≡ None → b ≡ None → c ≡ None → d ≡ None → e ≡ None → f ≡ None → g ≡ None → h ≡ None
+all-none : (a b c d e f g h : Option Step) → a ≡ None → b ≡ None → c ≡ None → d ≡ None → e ≡ None → f ≡ None
+    → g ≡ None → h ≡ None
     → first_some (a ∷ b ∷ c ∷ d ∷ e ∷ f ∷ g ∷ h ∷ []) ≡ None
 all-none a b c d e f g h ea eb ec ed ee ef eg eh = rw (ea, eb, ec, ed, ee, ef, eg, eh) refl
 

@@ -8,7 +8,8 @@ use Rattle.geo_base.specs.Name.{is_short_name, name_of}
 use Rattle.geo_run.specs.Words.{is_decimal, value_of, number_of, short_name_of}
 
 -- one digit more
-pub value_of_more : (xs : List ℕ) (i : ℕ) → i < length xs → value_of (take (i + 1) xs) ≡ value_of (take i xs) * 10 + (get_or xs i 0 - 48)
+pub value_of_more : (xs : List ℕ) (i : ℕ) → i < length xs
+    → value_of (take (i + 1) xs) ≡ value_of (take i xs) * 10 + (get_or xs i 0 - 48)
 unfolding value_of
 value_of_more xs i h = fold_more (λ n b. n * 10 + (b - 48)) 0 xs i 0 h
 
@@ -17,7 +18,8 @@ fold_grows : (n : ℕ) (xs : List ℕ) → n ≤ fold (λ n b. n * 10 + (b - 48)
 fold_grows n [] = omega arith
 fold_grows n (x ∷ xs) = omega (arith, fold_grows (n * 10 + (x - 48)) xs)
 
-fold_front : (n : ℕ) (i : ℕ) (xs : List ℕ) → fold (λ n b. n * 10 + (b - 48)) n (take i xs) ≤ fold (λ n b. n * 10 + (b - 48)) n xs
+fold_front : (n : ℕ) (i : ℕ) (xs : List ℕ)
+    → fold (λ n b. n * 10 + (b - 48)) n (take i xs) ≤ fold (λ n b. n * 10 + (b - 48)) n xs
 fold_front n zero xs = fold_grows n xs
 fold_front n (suc i) [] = omega arith
 fold_front n (suc i) (x ∷ xs) = fold_front (n * 10 + (x - 48)) i xs
@@ -33,12 +35,14 @@ number_of_large xs i h =
     let large : 2 ^ 64 ≤ value_of xs = omega (arith, value_of_front xs i) in
     large_none (is_decimal xs) large
   where
-    large_none : (t : Bool) → 2 ^ 64 ≤ value_of xs → (if t && nat_lt (value_of xs) (2 ^ 64) then Some (value_of xs) else None) ≡ None
+    large_none : (t : Bool) → 2 ^ 64 ≤ value_of xs
+        → (if t && nat_lt (value_of xs) (2 ^ 64) then Some (value_of xs) else None) ≡ None
     large_none true h = let test : nat_lt (value_of xs) (2 ^ 64) ≡ false = grind (arith, nat_tests) in rw test refl
     large_none false h = refl
 
 -- digits that are decimal, and of a number that fits
-pub number_of_small : (xs : List ℕ) (i n : ℕ) → is_decimal xs ≡ true → length xs ≤ i → n ≡ value_of (take i xs) → n < 2 ^ 64 → number_of xs ≡ Some n
+pub number_of_small : (xs : List ℕ) (i n : ℕ) → is_decimal xs ≡ true → length xs ≤ i → n ≡ value_of (take i xs)
+    → n < 2 ^ 64 → number_of xs ≡ Some n
 unfolding number_of
 number_of_small xs i n d h e small =
     let whole : take i xs ≡ xs = take_all i xs h in

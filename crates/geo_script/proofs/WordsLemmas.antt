@@ -14,10 +14,13 @@ use Rattle.geo_model.specs.declared.command.Cause.TheVariants as causes
 use Rattle.geo_model.specs.ScriptWords.{Words, next_word, short_name, at_end, class_word, class_names, beside, found_or}
 
 -- a byte that stands there ends the first part
-pub split_at : (b : ℕ) (xs : List ℕ) (at : ℕ) → position (λ x. x == b) xs ≡ Some at → slice_split (λ x. x == b) xs ≡ take at xs ∷ slice_split (λ x. x == b) (drop (at + 1) xs)
+pub split_at : (b : ℕ) (xs : List ℕ) (at : ℕ) → position (λ x. x == b) xs ≡ Some at
+    → slice_split (λ x. x == b) xs ≡ take at xs ∷ slice_split (λ x. x == b) (drop (at + 1) xs)
 split_at b xs at e = into (nat_lt (position_or_len (λ x. x == b) xs) (length xs)) refl e
   where
-    into : (t : Bool) → nat_lt (position_or_len (λ x. x == b) xs) (length xs) ≡ t → (if t then Some (position_or_len (λ x. x == b) xs) else None) ≡ Some at → slice_split (λ x. x == b) xs ≡ take at xs ∷ slice_split (λ x. x == b) (drop (at + 1) xs)
+    into : (t : Bool) → nat_lt (position_or_len (λ x. x == b) xs) (length xs) ≡ t
+        → (if t then Some (position_or_len (λ x. x == b) xs) else None) ≡ Some at
+        → slice_split (λ x. x == b) xs ≡ take at xs ∷ slice_split (λ x. x == b) (drop (at + 1) xs)
     into true inside e =
         let lt : position_or_len (λ x. x == b) xs < length xs = grind (arith, nat_tests) in
         let same : position_or_len (λ x. x == b) xs ≡ at = cc in
@@ -25,11 +28,14 @@ split_at b xs at e = into (nat_lt (position_or_len (λ x. x == b) xs) (length xs
     into false inside e = absurd (cc)
 
 -- no part but one, up to the end
-split_whole : (b : ℕ) (xs : List ℕ) → length xs ≤ position_or_len (λ x. x == b) xs → slice_split (λ x. x == b) xs ≡ xs ∷ []
+split_whole : (b : ℕ) (xs : List ℕ) → length xs ≤ position_or_len (λ x. x == b) xs
+    → slice_split (λ x. x == b) xs ≡ xs ∷ []
 split_whole b [] h = refl
 split_whole b (x ∷ xs) h = into (x == b) h (split_whole b xs)
   where
-    into : (t : Bool) → length (x ∷ xs) ≤ cond (not t) (1 + position_or_len (λ x. x == b) xs) 0 → (length xs ≤ position_or_len (λ x. x == b) xs → slice_split (λ x. x == b) xs ≡ xs ∷ []) → cond t ([] ∷ slice_split (λ x. x == b) xs) (onto_first x (slice_split (λ x. x == b) xs)) ≡ (x ∷ xs) ∷ []
+    into : (t : Bool) → length (x ∷ xs) ≤ cond (not t) (1 + position_or_len (λ x. x == b) xs) 0
+        → (length xs ≤ position_or_len (λ x. x == b) xs → slice_split (λ x. x == b) xs ≡ xs ∷ [])
+        → cond t ([] ∷ slice_split (λ x. x == b) xs) (onto_first x (slice_split (λ x. x == b) xs)) ≡ (x ∷ xs) ∷ []
     into true h more = absurd (omega arith)
     into false h more = ap (onto_first x) (more (omega arith))
 
@@ -37,16 +43,19 @@ split_whole b (x ∷ xs) h = into (x == b) h (split_whole b xs)
 pub split_none : (b : ℕ) (xs : List ℕ) → position (λ x. x == b) xs ≡ None → slice_split (λ x. x == b) xs ≡ xs ∷ []
 split_none b xs e = into (nat_lt (position_or_len (λ x. x == b) xs) (length xs)) refl e
   where
-    into : (t : Bool) → nat_lt (position_or_len (λ x. x == b) xs) (length xs) ≡ t → (if t then Some (position_or_len (λ x. x == b) xs) else None) ≡ None → slice_split (λ x. x == b) xs ≡ xs ∷ []
+    into : (t : Bool) → nat_lt (position_or_len (λ x. x == b) xs) (length xs) ≡ t
+        → (if t then Some (position_or_len (λ x. x == b) xs) else None) ≡ None → slice_split (λ x. x == b) xs ≡ xs ∷ []
     into true inside e = absurd (cc)
     into false inside e = split_whole b xs (grind (arith, nat_tests))
 
 -- a line has a first word
-pub at_end-words : {A : Type 0} (value : A) (rest : List ℕ) → at_end value (slice_split (λ x. x == 32) rest) ≡ Err causes.Words
+pub at_end-words : {A : Type 0} (value : A) (rest : List ℕ)
+    → at_end value (slice_split (λ x. x == 32) rest) ≡ Err causes.Words
 at_end-words value [] = refl
 at_end-words value (x ∷ xs) = into (x == 32) (slice_split (λ x. x == 32) xs)
   where
-    into : (t : Bool) (parts : List (List ℕ)) → at_end value (if t then [] ∷ parts else onto_first x parts) ≡ Err causes.Words
+    into : (t : Bool) (parts : List (List ℕ))
+        → at_end value (if t then [] ∷ parts else onto_first x parts) ≡ Err causes.Words
     into true parts = refl
     into false [] = refl
     into false (part ∷ parts) = refl
@@ -72,7 +81,8 @@ word_in (Ok x) = x.0
 word_in (Err cause) = []
 
 -- a word that is no name is no short one
-pub short_name-refused : (ws : Words) (word : List ℕ) (rest : Words) → next_word ws ≡ Ok (word, rest) → name_of word ≡ None → Err causes.Name ≡ short_name ws
+pub short_name-refused : (ws : Words) (word : List ℕ) (rest : Words) → next_word ws ≡ Ok (word, rest)
+    → name_of word ≡ None → Err causes.Name ≡ short_name ws
 short_name-refused [] word rest e none = absurd (cc)
 short_name-refused (x ∷ xs) word rest e none =
     let same : x ≡ word = ap word_in e in
@@ -85,7 +95,8 @@ rest_in (Ok x) = x.1
 rest_in (Err cause) = []
 
 -- a class is read from the next word
-pub class_word-next : (ws : Words) (word : List ℕ) (rest : Words) → next_word ws ≡ Ok (word, rest) → class_word ws ≡ found_or causes.Word rest (beside class_names word)
+pub class_word-next : (ws : Words) (word : List ℕ) (rest : Words) → next_word ws ≡ Ok (word, rest)
+    → class_word ws ≡ found_or causes.Word rest (beside class_names word)
 class_word-next [] word rest e = absurd (cc)
 class_word-next (x ∷ xs) word rest e = ap (λ r. found_or causes.Word (rest_in r) (beside class_names (word_in r))) e
 

@@ -21,22 +21,35 @@ loop-i-init c =
 
 pub fact_at-fact-requires : goal.fact_at-fact-requires
 fact_at-fact-requires c =
-    zip_inside IsFact c.disks-decls.result.now c.items-pairs.result.now c.loop-i.i c.index-decls-i.result c.loop-i-test.true c.index-decls-i.is c.loop-i.invariant.fits
+    zip_inside IsFact c.disks-decls.result.now c.items-pairs.result.now c.loop-i.i c.index-decls-i.result
+    c.loop-i-test.true c.index-decls-i.is c.loop-i.invariant.fits
 
 pub add_disk-requires-clause-limited : goal.add_disk-requires-clause-limited
 add_disk-requires-clause-limited c =
-    let inside = zip_inside IsFact c.disks-decls.result.now c.items-pairs.result.now c.loop-i.i c.index-decls-i.result c.loop-i-test.true c.index-decls-i.is c.loop-i.invariant.fits in
-    let fits = zip_step IsFact c.disks-decls.result.now c.items-pairs.result.now c.loop-i.i c.index-decls-i.result c.fact_at-fact.result c.loop-i-test.true c.index-decls-i.is inside c.fact_at-fact.ensures c.loop-i.invariant.fits in
+    let inside =
+    zip_inside IsFact c.disks-decls.result.now c.items-pairs.result.now c.loop-i.i c.index-decls-i.result
+    c.loop-i-test.true c.index-decls-i.is c.loop-i.invariant.fits in
+    let fits = zip_step IsFact c.disks-decls.result.now c.items-pairs.result.now c.loop-i.i c.index-decls-i.result
+    c.fact_at-fact.result c.loop-i-test.true c.index-decls-i.is inside c.fact_at-fact.ensures
+    c.loop-i.invariant.fits in
     rw (mul_comm c.fact_at-fact.result.0 c.fact_at-fact.result.1) fits.0.limited
 
 pub loop-i-preserved : goal.loop-i-preserved
 loop-i-preserved c =
-    let inside = zip_inside IsFact c.disks-decls.result.now c.items-pairs.result.now c.loop-i.i c.index-decls-i.result c.loop-i-test.true c.index-decls-i.is c.loop-i.invariant.fits in
-    let fits = zip_step IsFact c.disks-decls.result.now c.items-pairs.result.now c.loop-i.i c.index-decls-i.result c.fact_at-fact.result c.loop-i-test.true c.index-decls-i.is inside c.fact_at-fact.ensures c.loop-i.invariant.fits in
-    let grown = disk_grows (seen c.loop-i.state) (seen c.add_disk.new.state) c.index-decls-i.result c.fact_at-fact.result c.in_ok-add_disk.ensures in
+    let inside =
+    zip_inside IsFact c.disks-decls.result.now c.items-pairs.result.now c.loop-i.i c.index-decls-i.result
+    c.loop-i-test.true c.index-decls-i.is c.loop-i.invariant.fits in
+    let fits = zip_step IsFact c.disks-decls.result.now c.items-pairs.result.now c.loop-i.i c.index-decls-i.result
+    c.fact_at-fact.result c.loop-i-test.true c.index-decls-i.is inside c.fact_at-fact.ensures
+    c.loop-i.invariant.fits in
+    let grown = disk_grows (seen c.loop-i.state) (seen c.add_disk.new.state) c.index-decls-i.result
+    c.fact_at-fact.result c.in_ok-add_disk.ensures in
     record {
-      built = disks_step (seen c.loop-i.state) (seen c.add_disk.new.state) (opening c.args.plan.now c.items-pairs.result.now) c.disks-decls.result.now c.items-pairs.result.now c.loop-i.i
-          c.index-decls-i.result c.fact_at-fact.result c.loop-i-test.true c.index-decls-i.is inside c.fact_at-fact.ensures c.in_ok-add_disk.ensures c.loop-i.invariant.built;
+      built = disks_step (seen c.loop-i.state) (seen c.add_disk.new.state)
+          (opening c.args.plan.now c.items-pairs.result.now) c.disks-decls.result.now
+          c.items-pairs.result.now c.loop-i.i
+          c.index-decls-i.result c.fact_at-fact.result c.loop-i-test.true c.index-decls-i.is inside
+          c.fact_at-fact.ensures c.in_ok-add_disk.ensures c.loop-i.invariant.built;
       fits = fits.1;
       disks = omega (arith, grown.disks, c.loop-i.invariant.disks);
       geoms = omega (arith, grown.geom, c.loop-i.invariant.geoms);
@@ -45,5 +58,6 @@ loop-i-preserved c =
 
 pub returns-clause-opened : goal.returns-clause-opened
 returns-clause-opened c =
-    disks_end (seen c.loop-i.state) (opening c.args.plan.now c.items-pairs.result.now) c.disks-decls.result.now c.items-pairs.result.now c.loop-i.i c.loop-i-test.false c.loop-i.invariant.built
+    disks_end (seen c.loop-i.state) (opening c.args.plan.now c.items-pairs.result.now) c.disks-decls.result.now
+    c.items-pairs.result.now c.loop-i.i c.loop-i-test.false c.loop-i.invariant.built
     ∙ ap (opening c.args.plan.now) c.items-pairs.ensures

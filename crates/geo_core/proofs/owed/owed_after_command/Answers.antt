@@ -10,4 +10,6 @@ overflow_sub-result c = let closed = rw c.if-is_closed.true at (c.is_closed.ensu
 pub returns-in-Read : goal.returns-in-Read
 unfolding do_command
 returns-in-Read c =
-    rw c.in-Read.is (c.owed-now.ensures ∙ sym (owed-do_read (seen c.args.state.now) c.args.line.now.line c.args.line.now.actor c.in-Read.field-0 c.in-Read.field-1 c.in-Read.field-2))
+    rw c.in-Read.is (c.owed-now.ensures
+    ∙ sym (owed-do_read (seen c.args.state.now) c.args.line.now.line c.args.line.now.actor c.in-Read.field-0
+    c.in-Read.field-1 c.in-Read.field-2))
