@@ -3,16 +3,12 @@ use Rattle.std.specs.Prelude.{◌≡◌, ℕ, ◌==◌, ◌&&◌, nat_le, Bool, 
 use Rattle.std.specs.List.{AllByRecursion, last_or}
 use Rattle.std.specs.Option.{option_map, option_or}
 use Rattle.std.proofs.Common.{refl, sym, ◌∙◌, ap, subst}
+use Rattle.std.proofs.lemmas.Bool.{and_parts}
 use Rattle.geo_model.specs.Words.{same_name}
 use Rattle.geo_model.specs.Topology.{Topology, Geom, Provider, Consumer, geom_at, provider_at, consumer_at}
 use Rattle.geo_model.specs.Graph.{IsInOrder}
 use Rattle.geo_laws_graph.specs.LookupLaws.{EachIsFound, WhatIsFoundLives}
-use Rattle.geo_laws_graph.proofs.Found.{each-found}
-
--- where both hold, the second does
-second_true : (a b : Bool) → (a && b) ≡ true → b ≡ true
-second_true true b e = e
-second_true false b e = absurd (cc)
+use Rattle.geo_laws_graph.proofs.Found.{found_at_numbers}
 
 module _ {X : Type 0} (P : X → Type 0) (test : X → Bool) where
   -- one item more in front: it is what is found, or a later one is
@@ -73,7 +69,7 @@ named_lives t name p facts found = pick (find sound t.providers) refl (last_or N
   pick (Some x) e q f is =
       let both = found_fact (λ (x : Provider). provider_at t x.number ≡ Some x) sound t.providers x facts e in
       let here : x.number ≡ p = cc in
-      stands x both.0 (second_true (not x.errored) (same_name x.name name) both.1) here
+      stands x both.0 (and_parts (not x.errored) (same_name x.name name) both.1).1 here
   pick None e (Some x) f is =
       let both = last_fact (λ (x : Provider). provider_at t x.number ≡ Some x) named t.providers x None tt facts f in
       let here : x.number ≡ p = cc in
@@ -83,7 +79,7 @@ named_lives t name p facts found = pick (find sound t.providers) refl (last_or N
 -- what a look-up finds lives
 pub found_lives : {C : Type 0} → WhatIsFoundLives C
 found_lives {C} =
-    let each : EachIsFound C = each-found in
+    let each : EachIsFound C = found_at_numbers in
     record {
       geom = λ t from_number g order found. lives_at (λ (x : Geom C). x.number) (geom_at t) (λ x. nat_le from_number x.number) t.geoms g (each.geoms t order) found;
       provider = λ t from_number p order found. lives_at (λ (x : Provider). x.number) (provider_at t) (λ x. nat_le from_number x.number) t.providers p (each.providers t order) found;

@@ -4,6 +4,7 @@ use Rattle.std.specs.List.{AllByRecursion, list_any}
 use Rattle.std.specs.Option.{option_or}
 use Rattle.std.proofs.Common.{inl, inr, refl, sym, ◌∙◌, ap, subst, arith}
 use Rattle.std.proofs.lemmas.Bool.{eqb-true, eq-eqb, ne_eqb, and_left, and_parts, and_from, or_right}
+use Rattle.std.proofs.Math.Bool.{or-false}
 use Rattle.std.proofs.lemmas.List.{append-nil}
 use Rattle.std.proofs.lemmas.List.Folds.{find-append, list_any-append}
 use Rattle.std.proofs.lemmas.List.Elements.{filter-append}
@@ -53,11 +54,7 @@ module _ {X : Type 0} (test : X → Bool) (xs : List X) (y : X) where
 
   -- with one more some item passes just where one did or the new one does
   pub any-pushed : list_any test (xs ++ y ∷ []) ≡ (list_any test xs || test y)
-  any-pushed = list_any-append test xs (y ∷ []) ∙ ap (λ b. list_any test xs || b) (last (test y)) where
-    -- or false changes no truth value
-    last : (b : Bool) → (b || false) ≡ b
-    last true = refl
-    last false = refl
+  any-pushed = list_any-append test xs (y ∷ []) ∙ ap (λ b. list_any test xs || b) (or-false (test y))
 
 -- nothing is found where none passes
 none_step : {X : Type 0} (test : X → Bool) (x : X) (xs : List X) (b : Bool) → test x ≡ b → (list_any test xs ≡ false → find test xs ≡ None)

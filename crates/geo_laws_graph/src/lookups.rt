@@ -2,6 +2,7 @@
 ghost use Rattle.geo_laws_graph.specs.LookupLaws.{AddedConsumerIsFound, AddedGeomIsFound, AddedProviderIsFound, AttachedIsFound, ConfigIsFound, DetachedIsFound, EachIsFound, ErrorIsFound, MarksAreFound, PartsStayAlive, RemovedConsumerIsGone, RemovedGeomIsGone, RemovedProviderIsGone, SeenGeomIsFound, SizeIsFound, SoundIsInOrder, StartIsFound, SteadyPartsLive, TwoChangesAreOne, WalksMeetAll, WhatIsFoundLives, WitheringIsFound};
 
 /// In lists in order of numbers each thing is what is found at its number.
+#[tactic(auto, using(crate::proofs::Found::found_at_numbers))]
 pub fn each_is_found<C>()
     ensures { EachIsFound C }
 {}
@@ -51,6 +52,7 @@ pub fn changed_geom_is_found<C>()
 {}
 
 /// In a graph whose configurations are seen otherwise each geom is found so.
+#[tactic(auto, using(crate::proofs::Found::seen_found))]
 pub fn seen_geom_is_found<C, D>()
     ensures { SeenGeomIsFound C D }
 {}
