@@ -8,16 +8,12 @@ use Rattle.std.proofs.Math.Bool.{or-false}
 use Rattle.std.proofs.lemmas.List.{append-nil}
 use Rattle.std.proofs.lemmas.List.Folds.{find-append, list_any-append}
 use Rattle.std.proofs.lemmas.List.Elements.{filter-append}
+use Rattle.geo_base.proofs.Tests.{or_none}
 use Rattle.geo_model.specs.Words.{change_where}
 use Rattle.geo_model.specs.Graph.{AreNumbers}
 use Rattle.geo_model.proofs.DemandLemmas.{find_passes}
 use Rattle.geo_laws_graph.proofs.Members.{has, find-Contains, Contains-map, All-from_contained, Contains-cases, nothing_in}
 use Rattle.geo_laws_graph.proofs.Lists.{changed, find-changed, any-changed, find-kept, find-gone, any-kept, found_fresh, found_itself}
-
--- what stands behind something found
-pub or_none : {X : Type 0} (o : Option X) → option_or o None ≡ o
-or_none None = refl
-or_none (Some x) = refl
 
 -- in a list of one item that doesn't pass nothing is found
 single_miss : {X : Type 0} (test : X → Bool) (y : X) → test y ≡ false → find test (y ∷ []) ≡ None
