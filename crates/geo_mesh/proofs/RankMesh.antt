@@ -5,9 +5,11 @@ use Rattle.std.proofs.Common.{refl, sym, ap, ◌∙◌, subst, inl, inr, arith}
 use Rattle.std.proofs.lemmas.Bool.{eqb-true, eq-eqb, ne_eqb}
 use Rattle.std.proofs.lemmas.List.{length-map, map-append, length-append}
 use Rattle.geo_base.specs.declared.kind.Kind.{Kind}
+use Rattle.geo_base.proofs.Tests.{filter_map-same}
 use Rattle.geo_model.specs.Words.{largest, is_granted_kind, names_number}
 use Rattle.geo_model.specs.Topology.{Geom, Provider, Consumer, geom_at, provider_at, consumer_at, consumers_of, attached_to}
 use Rattle.geo_model.specs.Rank.{rank, rank_limit, geoms_under, reaches, is_too_deep}
+use Rattle.geo_laws_graph.proofs.Living.{map_there}
 use Rattle.geo_slots.specs.Slots.{SlotsView, IsRising, value_at, with_value, without}
 use Rattle.geo_mesh.specs.declared.records.Scratch.{Scratch}
 use Rattle.geo_mesh.specs.declared.records.GeomRec.{GeomRec}
@@ -22,19 +24,12 @@ use Rattle.geo_mesh.specs.Mending.{IsAmong, StandsAbove, Climbs, Joined, above, 
 use Rattle.geo_mesh.specs.Index.{no_index}
 use Rattle.geo_mesh.specs.Ranks.{IsKin, kind_of, rank_of, rest_of, owner, owner_of, ranked_link_of, links_of, kinds, ranks, stored, offers, ranked_links, rank_at, under, ranked_below, below, rank_from, footing, number_or, is_high, IsWalkable, HaveRanks, HaveDevAndTaste, bare}
 use Rattle.geo_mesh.proofs.RowLemmas.{OnlyValue, only, map-with_value_same, map-without, rows_with-with_value, value_at-rows_with}
-use Rattle.geo_mesh.proofs.ViewLemmas.{geom_at-view, provider_at-view, consumer_at-view, count_falls, count_stays}
+use Rattle.geo_mesh.proofs.ViewLemmas.{row_there, geom_at-view, provider_at-view, consumer_at-view, count_falls, count_stays}
 use Rattle.geo_mesh.proofs.RankHeights.{local-climbs, local-height, local-few, height-climbs, rank-height, reached-stands, stands-reached}
 use Rattle.geo_mesh.proofs.RankRows.{peak, peak-is, peak-with, adds, all-at, passing-between, rising-with, with_value-same, kinds-bare}
+use Rattle.geo_mesh.proofs.RankWalk.{some_number}
 use Rattle.geo_mesh.proofs.RankFirst.{footing-none, footing-unnamed, rank_from-local, rank_from-few, rank_from-high}
 use Rattle.geo_mesh.proofs.RankKept.{ranks-new_consumer, ranks-destroy_consumer, ranks-new_provider, ranks-destroy_provider, ranks-new_geom, ranks-destroy_geom}
-
--- two functions with the same values take the same from a list
-filter_map-same : {X Y : Type 0} (f h : X → Option Y) → ((x : X) → f x ≡ h x) → (xs : List X) → filter_map f xs ≡ filter_map h xs
-filter_map-same f h same [] = refl
-filter_map-same f h same (x ∷ xs) = at (h x) refl (filter_map-same f h same xs) where
-  at : (o : Option _) → h x ≡ o → filter_map f xs ≡ filter_map h xs → filter_map f (x ∷ xs) ≡ filter_map h (x ∷ xs)
-  at None e rest = rw (same x, e) rest
-  at (Some y) e rest = rw (same x, e) (ap (λ ys. y ∷ ys) rest)
 
 module _ {C : Type 0} (gs : SlotsView (GeomCell C)) (edges : Edges) where
   -- the providers to which the consumers of a geom are attached, by the rows
@@ -215,21 +210,11 @@ module _ {C : Type 0} (gs : SlotsView (GeomCell C)) (edges : Edges) (live n : �
       record { count = mesh.count; standing = rw same mesh.standing }
 
 module _ {C : Type 0} (gs : SlotsView (GeomCell C)) (edges : Edges) (live : ℕ) where
-  -- what is seen is there
-  some_seen : {X Y : Type 0} (f : X → Y) (o : Option X) → IsSome (option_map f o) → IsSome o
-  some_seen f None there = there
-  some_seen f (Some v) there = refl
-
-  -- what is there is seen
-  some_mapped : {X Y : Type 0} (f : X → Y) (o : Option X) → IsSome o → IsSome (option_map f o)
-  some_mapped f None there = there
-  some_mapped f (Some v) there = refl
-
   -- a geom that is there has a class
   pub lives-kinds : (g : ℕ) → IsSome (geom_at (graph_of gs edges) g) → IsSome (value_at (kinds gs) g)
   lives-kinds g lives =
       let there : IsSome (option_map (λ v. geom_row (g, v)) (value_at gs.rows g)) = rw (geom_at-view gs edges g) at lives in
-      rw (value_at-rows_with (kind_of {C = C}) g gs.rows) (some_mapped (kind_of {C = C}) (value_at gs.rows g) (some_seen (λ v. geom_row (g, v)) (value_at gs.rows g) there))
+      rw (value_at-rows_with (kind_of {C = C}) g gs.rows) (map_there (kind_of {C = C}) (value_at gs.rows g) (row_there (λ v. geom_row (g, v)) (value_at gs.rows g) there))
 
   module _ (mesh : HaveRanks gs edges live) where
     -- the mesh stands with a new consumer, which is attached to nothing
@@ -330,10 +315,7 @@ module _ {C : Type 0} (gs : SlotsView (GeomCell C)) (edges : Edges) (live : ℕ)
         let one : rows_with ranked_link_of (with_value edges.consumers.rows n some) ≡ with_value (rows_with ranked_link_of edges.consumers.rows) n (v.consumer.geom, Some p) = rows_with-with_value ranked_link_of n some edges.consumers.rows ∙ ap (λ (e : ℕ × Option ℕ). with_value (rows_with ranked_link_of edges.consumers.rows) n e) is_some in
         let two : rows_with ranked_link_of (with_value edges.consumers.rows n none) ≡ with_value (rows_with ranked_link_of edges.consumers.rows) n (v.consumer.geom, None) = rows_with-with_value ranked_link_of n none edges.consumers.rows ∙ ap (λ (e : ℕ × Option ℕ). with_value (rows_with ranked_link_of edges.consumers.rows) n e) is_none in
         let found : IsSome (value_at (rows_with ranked_link_of edges.consumers.rows) n) = rw (value_at-rows_with ranked_link_of n edges.consumers.rows, ← at) refl in
-        rw (one, two) (joined-users (offers edges).rows (rows_with ranked_link_of edges.consumers.rows) n v.consumer.geom p (owner edges p) edges.consumers.next (rising-with ranked_link_of 1 edges.consumers.next edges.consumers.rows rising) found (owner_of_some (value_at (offers edges).rows p) offered)) where
-          owner_of_some : (o : Option ℕ) → IsSome o → o ≡ Some (number_or 0 o)
-          owner_of_some None there = absurd cc
-          owner_of_some (Some q) there = refl
+        rw (one, two) (joined-users (offers edges).rows (rows_with ranked_link_of edges.consumers.rows) n v.consumer.geom p (owner edges p) edges.consumers.next (rising-with ranked_link_of 1 edges.consumers.next edges.consumers.rows rising) found (some_number (value_at (offers edges).rows p) offered))
 
 -- the consumers as they stand
 pub same-cells : (edges : Edges) (n : ℕ) (v : ConsCell) → IsRising 1 edges.consumers.rows edges.consumers.next → Some v ≡ value_at edges.consumers.rows n → put_consumer edges n v ≡ edges

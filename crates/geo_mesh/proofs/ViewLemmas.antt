@@ -4,6 +4,7 @@ use Rattle.std.specs.List.{last_or, list_any}
 use Rattle.std.specs.Option.{option_or}
 use Rattle.std.proofs.Common.{arith, ap, ◌∙◌, subst, refl, sym}
 use Rattle.std.proofs.lemmas.Bool.{eqb-true, ne_eqb}
+use Rattle.std.proofs.Math.Bool.{or-false}
 use Rattle.geo_mesh.specs.Cells.{IsCount, geom_row, provider_row, consumer_row, have_of, risen_of, fallen_of, want_of, active_of, geom_scratch_of, provider_scratch_of, consumer_scratch_of, graph_of, graph, view_of, put_consumer, with_geom_cell, with_provider_cell, with_consumer_cell}
 use Rattle.geo_mesh.specs.declared.names.Names.{Names}
 use Rattle.geo_mesh.specs.Names.{AreNames, AreIds, sound_of, newest_of, is_sound_named}
@@ -11,6 +12,7 @@ use Rattle.geo_mesh.proofs.AlikeLemmas.{newest-names}
 use Rattle.std.proofs.lemmas.List.{map-append, length-map}
 use Rattle.geo_model.specs.Words.{same_name}
 use Rattle.geo_base.specs.declared.request.Counts.{Counts}
+use Rattle.geo_base.proofs.Tests.{is_some-map}
 use Rattle.geo_model.specs.Topology.{Geom, Provider, Consumer, geom_at, provider_at, consumer_at, set_error, set_size, set_withering, set_marks, set_config, note_started, find_provider, attach, detach}
 use Rattle.geo_slots.specs.Slots.{SlotsView, IsRising, value_at, with_value, without, first_from, with_insert}
 use Rattle.geo_mesh.specs.declared.records.Scratch.{Scratch}
@@ -398,18 +400,13 @@ module _ (n : ℕ) where
   unmarked low high (row ∷ rows) rising below =
       rw (ne_eqb row.0 n (λ same. omega (arith, same, rising.0)), unmarked (row.0 + 1) high rows rising.1 (omega (arith, rising.0))) refl
 
-  -- with one that doesn't hold, it holds as without it
-  or_false : (b : Bool) → (b || false) ≡ b
-  or_false true = refl
-  or_false false = refl
-
   -- one row more in front: it is the provider of the number, or a later one may be
   error_step : (low high : ℕ) (row : ℕ × ProvCell) (rows : List (ℕ × ProvCell)) (b : Bool) → (row.0 == n) ≡ b → IsRising low (row ∷ rows) high
       → list_any (λ (x : Provider). (x.number == n) && x.errored) (map provider_row rows) ≡ passes (λ (x : ProvCell). x.provider.errored) (value_at rows n)
       → list_any (λ (x : Provider). (x.number == n) && x.errored) (map provider_row (row ∷ rows)) ≡ passes (λ (x : ProvCell). x.provider.errored) (value_at (row ∷ rows) n)
   error_step low high row rows true e rising rest =
       let same : row.0 ≡ n = eqb-true row.0 n e in
-      rw (e, unmarked (row.0 + 1) high rows rising.1 (omega arith)) (or_false row.1.provider.errored)
+      rw (e, unmarked (row.0 + 1) high rows rising.1 (omega arith)) (or-false row.1.provider.errored)
   error_step low high row rows false e rising rest = rw e rest
 
   -- whether the provider of a number carries an error, by its row
@@ -432,7 +429,7 @@ module _ {C : Type 0} (n : ℕ) where
       → list_any (λ (x : Geom C). (x.number == n) && x.withering) (map geom_row (row ∷ rows)) ≡ passes (λ (x : GeomCell C). x.geom.withering) (value_at (row ∷ rows) n)
   wither_step low high row rows true e rising rest =
       let same : row.0 ≡ n = eqb-true row.0 n e in
-      rw (e, unwithered (row.0 + 1) high rows rising.1 (omega arith)) (or_false n row.1.geom.withering)
+      rw (e, unwithered (row.0 + 1) high rows rising.1 (omega arith)) (or-false row.1.geom.withering)
   wither_step low high row rows false e rising rest = rw e rest
 
   -- whether the geom of a number withers, by its row
@@ -451,23 +448,10 @@ any_found : {X : Type 0} (test : X → Bool) (xs : List X) → list_any test xs 
 any_found test [] = refl
 any_found test (x ∷ xs) = any_found_step test x xs (test x) refl (any_found test xs)
 
--- seen otherwise, what may be there is there as before
-some_map : {X Y : Type 0} (f : X → Y) (o : Option X) → is_some (option_map f o) ≡ is_some o
-some_map f None = refl
-some_map f (Some x) = refl
-
--- where none passes, none is found
-pub none_found : {X : Type 0} (test : X → Bool) (xs : List X) → list_any test xs ≡ false → find test xs ≡ None
-none_found test xs none = nothing (find test xs) (sym (any_found test xs) ∙ none)
-  where
-    nothing : {X : Type 0} (o : Option X) → is_some o ≡ false → o ≡ None
-    nothing None e = refl
-    nothing (Some x) e = absurd (cc)
-
 -- whether a name is taken, by the names
 pub taken : (ps : List Provider) (next : ℕ) (n : Names) → AreNames ps next n → (name : List ℕ) → is_some (sound_of n name) ≡ list_any (is_sound_named name) ps
 taken ps next n are name =
-    ap is_some (are.sound name) ∙ some_map (λ (x : Provider). x.number) (find (is_sound_named name) ps) ∙ sym (any_found (is_sound_named name) ps)
+    ap is_some (are.sound name) ∙ is_some-map (λ (x : Provider). x.number) (find (is_sound_named name) ps) ∙ sym (any_found (is_sound_named name) ps)
 
 -- another value under a number leaves the count
 pub count-with_value : {C : Type 0} (n : ℕ) (v : GeomCell C) (rows : List (ℕ × GeomCell C)) (live : ℕ) → IsCount (length rows) live → IsCount (length (with_value rows n v)) live
