@@ -8,7 +8,7 @@ use Rattle.geo_model.specs.Words.{same_name}
 use Rattle.geo_model.specs.Topology.{Topology, Geom, Provider, Consumer, geom_at, provider_at, consumer_at}
 use Rattle.geo_model.specs.Graph.{IsInOrder}
 use Rattle.geo_laws_graph.specs.LookupLaws.{EachIsFound, WhatIsFoundLives}
-use Rattle.geo_laws_graph.proofs.Found.{found_at_numbers}
+use Rattle.geo_laws_graph.proofs.Found.{each-found}
 
 module _ {X : Type 0} (P : X → Type 0) (test : X → Bool) where
   -- one item more in front: it is what is found, or a later one is
@@ -79,7 +79,7 @@ named_lives t name p facts found = pick (find sound t.providers) refl (last_or N
 -- what a look-up finds lives
 pub found_lives : {C : Type 0} → WhatIsFoundLives C
 found_lives {C} =
-    let each : EachIsFound C = found_at_numbers in
+    let each : EachIsFound C = each-found in
     record {
       geom = λ t from_number g order found. lives_at (λ (x : Geom C). x.number) (geom_at t) (λ x. nat_le from_number x.number) t.geoms g (each.geoms t order) found;
       provider = λ t from_number p order found. lives_at (λ (x : Provider). x.number) (provider_at t) (λ x. nat_le from_number x.number) t.providers p (each.providers t order) found;

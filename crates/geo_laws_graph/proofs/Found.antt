@@ -53,8 +53,8 @@ number_through f number same None None = refl
 
 module _ {C : Type 0} where
   -- in lists in order each is what is found at its number
-  pub found_at_numbers : EachIsFound C
-  found_at_numbers = record {
+  pub each-found : EachIsFound C
+  each-found = record {
     geoms = λ t order. each_found (λ (x : Geom C). x.number) t.next_geom t.geoms order.geoms;
     providers = λ t order. each_found (λ (x : Provider). x.number) t.next_provider t.providers order.providers;
     consumers = λ t order. each_found (λ (x : Consumer). x.number) t.next_consumer t.consumers order.consumers;

@@ -2,7 +2,6 @@
 ghost use Rattle.geo_laws_graph.specs.LookupLaws.{AddedConsumerIsFound, AddedGeomIsFound, AddedProviderIsFound, AttachedIsFound, ConfigIsFound, DetachedIsFound, EachIsFound, ErrorIsFound, MarksAreFound, PartsStayAlive, RemovedConsumerIsGone, RemovedGeomIsGone, RemovedProviderIsGone, SeenGeomIsFound, SizeIsFound, SoundIsInOrder, StartIsFound, SteadyPartsLive, TwoChangesAreOne, WalksMeetAll, WhatIsFoundLives, WitheringIsFound};
 
 /// In lists in order of numbers each thing is what is found at its number.
-#[tactic(auto, using(crate::proofs::Found::found_at_numbers))]
 pub fn each_is_found<C>()
     ensures { EachIsFound C }
 {}
