@@ -13,7 +13,7 @@ use Rattle.geo_model.specs.Topology.{Provider, Geom, Consumer, geom_at}
 use Rattle.geo_model.proofs.DemandLemmas.{names_some}
 use Rattle.geo_laws_graph.specs.LookupLaws.{EachIsFound}
 use Rattle.geo_laws_graph.proofs.Lists.{Rise, rise-from}
-use Rattle.geo_laws_graph.proofs.Found.{found_at_numbers}
+use Rattle.geo_laws_graph.proofs.Found.{each-found}
 use Rattle.geo_slots.specs.Slots.{SlotsView, IsRising, value_at}
 use Rattle.geo_mesh.specs.declared.records.GeomCell.{GeomCell}
 use Rattle.geo_mesh.specs.declared.records.ProvCell.{ProvCell}
@@ -295,7 +295,7 @@ module _ {C : Type 0} (gs : SlotsView (GeomCell C)) (edges : Edges) (orderly : I
   -- in an orderly graph the ranks find the first two geoms as they need them
   pub first-two : HaveDevAndTaste gs edges
   first-two =
-      let found : EachIsFound C = found_at_numbers in
+      let found : EachIsFound C = each-found in
       record {
         listed = first_listed;
         granted = first_granted gs.rows (found.geoms (graph_of gs edges) orderly.order);
