@@ -21,7 +21,7 @@ use Rattle.geo_mesh.specs.Index.{IsIndexed, HaveRoom, AreRooms, with_geom_index,
 use Rattle.geo_mesh.specs.Mesh.{IsMesh}
 use Rattle.geo_mesh.specs.Names.{AreNames, AreIds, HaveNameRoom, SameNames, AddsName, RetiresName, RemovesName, is_sound_named, id_of}
 use Rattle.geo_mesh.specs.Ranks.{kind_of, kinds, bare}
-use Rattle.geo_mesh.proofs.RowLemmas.{only, map-without}
+use Rattle.geo_mesh.proofs.RowLemmas.{only_value, map-without}
 use Rattle.geo_mesh.proofs.NameLemmas.{only_provider}
 use Rattle.geo_mesh.proofs.AlikeLemmas.{names-added, names-marked, names-removed}
 use Rattle.geo_mesh.proofs.IndexLemmas.{indexed-add_geom, indexed-add_provider, indexed-add_consumer, indexed-remove_geom, indexed-remove_provider, indexed-remove_consumer, indexed-attach, indexed-detach}
@@ -192,7 +192,7 @@ module _ {C : Type 0} (t : Tables C) (mesh : IsMesh t) where
         subst (λ xs. AreNames xs t.edges.providers.next m)
         (sym (map-without provider_row k (λ (x : Provider). x.number == k) (λ row. refl) t.edges.providers.rows))
         (names-removed (map provider_row t.edges.providers.rows) t.edges.providers.next t.names m mesh.names_are k (provider_row (k, v))
-        (only_provider k v t.edges.providers.rows (only k 1 t.edges.providers.next v t.edges.providers.rows rising at)) (found_provider k v at)
+        (only_provider k v t.edges.providers.rows (only_value k 1 t.edges.providers.next v t.edges.providers.rows rising at)) (found_provider k v at)
         removes.sound removes);
     names_ids = ids;
     names_room = name_room;
@@ -263,7 +263,7 @@ module _ {C : Type 0} (t : Tables C) (mesh : IsMesh t) where
       → AreNames (change_where (λ x. x.number == k) (λ x. record x { errored = true }) (map provider_row t.edges.providers.rows)) t.edges.providers.next m
   names-errored k v rising at m retires =
       names-marked (map provider_row t.edges.providers.rows) t.edges.providers.next t.names m mesh.names_are k (provider_row (k, v))
-      (only_provider k v t.edges.providers.rows (only k 1 t.edges.providers.next v t.edges.providers.rows rising at)) (found_provider k v at)
+      (only_provider k v t.edges.providers.rows (only_value k 1 t.edges.providers.next v t.edges.providers.rows rising at)) (found_provider k v at)
       retires.sound retires.ids retires.alike
 
   -- the numbers of the names stay where an error is set

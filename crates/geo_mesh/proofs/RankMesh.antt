@@ -23,7 +23,7 @@ use Rattle.geo_mesh.specs.Cells.{graph_of, view_of, put_consumer, put_provider, 
 use Rattle.geo_mesh.specs.Mending.{IsAmong, StandsAbove, Climbs, Joined, above, height}
 use Rattle.geo_mesh.specs.Index.{no_index}
 use Rattle.geo_mesh.specs.Ranks.{IsKin, kind_of, rank_of, rest_of, owner, owner_of, ranked_link_of, links_of, kinds, ranks, stored, offers, ranked_links, rank_at, under, ranked_below, below, rank_from, footing, number_or, is_high, IsWalkable, HaveRanks, HaveDevAndTaste, bare}
-use Rattle.geo_mesh.proofs.RowLemmas.{OnlyValue, only, map-with_value_same, map-without, rows_with-with_value, value_at-rows_with}
+use Rattle.geo_mesh.proofs.RowLemmas.{OnlyValue, only_value, map-with_value_same, map-without, rows_with-with_value, value_at-rows_with}
 use Rattle.geo_mesh.proofs.ViewLemmas.{row_there, geom_at-view, provider_at-view, consumer_at-view, count_falls, count_stays}
 use Rattle.geo_mesh.proofs.RankHeights.{local-climbs, local-height, local-few, height-climbs, rank-height, reached-stands, stands-reached}
 use Rattle.geo_mesh.proofs.RankRows.{peak, peak-is, peak-with, adds, all-at, passing-between, rising-with, with_value-same, kinds-bare}
@@ -188,7 +188,7 @@ module _ {C : Type 0} (gs : SlotsView (GeomCell C)) (edges : Edges) (live n : �
   pub mesh-geom : (v w : GeomCell C) → IsRising 1 gs.rows gs.next → Some v ≡ value_at gs.rows n → kind_of w ≡ kind_of v → rank_of w ≡ rank_of v
       → HaveRanks (record gs { rows = with_value gs.rows n w }) edges live
   mesh-geom v w rising at kind rank =
-      let is : OnlyValue n v gs.rows = only n 1 gs.next v gs.rows rising (sym at) in
+      let is : OnlyValue n v gs.rows = only_value n 1 gs.next v gs.rows rising (sym at) in
       let classes : rows_with (kind_of {C = C}) (with_value gs.rows n w) ≡ rows_with (kind_of {C = C}) gs.rows = map-with_value_same (row_with (kind_of {C = C})) n v w (ap (λ (k : Kind). (n, k)) kind) gs.rows is in
       let standing : rows_with (rank_of {C = C}) (with_value gs.rows n w) ≡ rows_with (rank_of {C = C}) gs.rows = map-with_value_same (row_with (rank_of {C = C})) n v w (ap (λ (k : ℕ). (n, k)) rank) gs.rows is in
       record { count = count_stays gs n w live mesh.count; standing = rw (classes, standing) mesh.standing }
@@ -197,7 +197,7 @@ module _ {C : Type 0} (gs : SlotsView (GeomCell C)) (edges : Edges) (live n : �
   pub mesh-provider : (v w : ProvCell) → IsRising 1 edges.providers.rows edges.providers.next → Some v ≡ value_at edges.providers.rows n → owner_of w ≡ owner_of v
       → HaveRanks gs (put_provider edges n w) live
   mesh-provider v w rising at owner =
-      let is : OnlyValue n v edges.providers.rows = only n 1 edges.providers.next v edges.providers.rows rising (sym at) in
+      let is : OnlyValue n v edges.providers.rows = only_value n 1 edges.providers.next v edges.providers.rows rising (sym at) in
       let same : rows_with owner_of (with_value edges.providers.rows n w) ≡ rows_with owner_of edges.providers.rows = map-with_value_same (row_with owner_of) n v w (ap (λ (k : ℕ). (n, k)) owner) edges.providers.rows is in
       record { count = mesh.count; standing = rw same mesh.standing }
 
@@ -205,7 +205,7 @@ module _ {C : Type 0} (gs : SlotsView (GeomCell C)) (edges : Edges) (live n : �
   pub mesh-consumer : (v w : ConsCell) → IsRising 1 edges.consumers.rows edges.consumers.next → Some v ≡ value_at edges.consumers.rows n → ranked_link_of w ≡ ranked_link_of v
       → HaveRanks gs (put_consumer edges n w) live
   mesh-consumer v w rising at ends =
-      let is : OnlyValue n v edges.consumers.rows = only n 1 edges.consumers.next v edges.consumers.rows rising (sym at) in
+      let is : OnlyValue n v edges.consumers.rows = only_value n 1 edges.consumers.next v edges.consumers.rows rising (sym at) in
       let same : rows_with ranked_link_of (with_value edges.consumers.rows n w) ≡ rows_with ranked_link_of edges.consumers.rows = map-with_value_same (row_with ranked_link_of) n v w (ap (λ (k : ℕ × Option ℕ). (n, k)) ends) edges.consumers.rows is in
       record { count = mesh.count; standing = rw same mesh.standing }
 

@@ -3,6 +3,7 @@ use Rattle.std.specs.Prelude.{◌≡◌, ◌⊎◌, ℕ, ◌+◌, ◌<◌, ◌�
 use Rattle.std.specs.List.{AllByRecursion}
 use Rattle.std.proofs.Common.{refl, sym, ap, ◌∙◌, subst, inl, inr, arith}
 use Rattle.std.proofs.lemmas.Bool.{eqb-true, eqb-false, eq-eqb, ne_eqb, leb-true, leb-false, le-leb, ltb-true, lt-ltb, and_parts}
+use Rattle.std.proofs.Math.Bool.{or_assoc}
 use Rattle.geo_base.specs.declared.kind.Kind.{Kind}
 use Rattle.geo_model.specs.Words.{largest, is_granted_kind}
 use Rattle.geo_model.specs.Rank.{rank_limit}
@@ -14,7 +15,7 @@ use Rattle.geo_mesh.specs.declared.records.GeomRec.{GeomRec}
 use Rattle.geo_mesh.specs.declared.records.GeomCell.{GeomCell}
 use Rattle.geo_mesh.proofs.RankMend.{largest-among, largest-most}
 use Rattle.geo_mesh.proofs.MarkLemmas.{value_at-set}
-use Rattle.geo_mesh.proofs.RowLemmas.{OnlyValue, only, map-with_value_same, value_at-rows_with}
+use Rattle.geo_mesh.proofs.RowLemmas.{OnlyValue, only_value, map-with_value_same, value_at-rows_with}
 use Rattle.geo_mesh.specs.Ranks.{kind_of, rank_of, rest_of, kinds, bare, stored, number_or, under, rank_through, rank_under, belongs, is_high, IsFirst, FirstIs}
 
 module _ {T : Type 0} where
@@ -300,7 +301,7 @@ module _ {C : Type 0} (gs : SlotsView (GeomCell C)) (n r : ℕ) (v : GeomCell C)
   pub store-same : bare (record gs { rows = with_value gs.rows n (record v { rank = r }) }) ≡ bare gs
   store-same =
       let w : GeomCell C = record v { rank = r } in
-      let is : OnlyValue n v gs.rows = only n 1 gs.next v gs.rows rising (sym at) in
+      let is : OnlyValue n v gs.rows = only_value n 1 gs.next v gs.rows rising (sym at) in
       rw (map-with_value_same (row_with (rest_of {C = C})) n v w refl gs.rows is) refl
 
   -- and the rank stands there
@@ -338,11 +339,6 @@ module _ (f : ℕ → ℕ) where
   high_same false a false so true = refl
   high_same false a false so false = refl
 
-  -- of three it doesn't matter which two are taken first
-  moved : (a x y : Bool) → (a || (x || y)) ≡ ((a || x) || y)
-  moved true x y = refl
-  moved false x y = refl
-
   -- whether a geom is above the limit, once one has a greater value
   pub high-more : (r : ℕ → ℕ) (n low high : ℕ) (classes : List (ℕ × Kind)) → IsRising low classes high → IsSome (value_at classes n) → f n < r n → ((x : ℕ) → (x ≡ n → ⊥) → r x ≡ f x)
       → is_high classes r ≡ (is_high classes f || (nat_lt rank_limit (r n) && not (passes is_granted_kind (value_at classes n))))
@@ -358,7 +354,7 @@ module _ (f : ℕ → ℕ) where
             rw (k, same, rest) (high_same (not (is_granted_kind row.1)) (nat_lt rank_limit (f n)) (nat_lt rank_limit (r n)) (λ e. lt-ltb rank_limit (r n) (omega (arith, ltb-true rank_limit (f n) e))) (is_high classes f))
         at false k there so =
             let here : r row.0 ≡ f row.0 = others row.0 (eqb-false row.0 n k) in
-            rw (k, here, so (rw k at there)) (moved (not (is_granted_kind row.1) && nat_lt rank_limit (f row.0)) (is_high classes f) (nat_lt rank_limit (r n) && not (passes is_granted_kind (value_at classes n))))
+            rw (k, here, so (rw k at there)) (sym (or_assoc (not (is_granted_kind row.1) && nat_lt rank_limit (f row.0)) (is_high classes f) (nat_lt rank_limit (r n) && not (passes is_granted_kind (value_at classes n)))))
 
   -- where no geom is above the limit, none is with smaller values
   pub high-less : (r : ℕ → ℕ) (classes : List (ℕ × Kind)) → ((x : ℕ) → r x ≤ f x) → is_high classes f ≡ false → is_high classes r ≡ false

@@ -23,7 +23,7 @@ use Rattle.geo_mesh.proofs.NoteLemmas.{notes-reserved, notes-geom_kept, notes-pr
 use Rattle.geo_mesh.specs.Mesh.{IsMesh}
 use Rattle.geo_mesh.specs.Ranks.{HaveRanks, footing}
 use Rattle.geo_mesh.specs.Whole.{IsWhole, IsRoomier}
-use Rattle.geo_mesh.proofs.RowLemmas.{OnlyValue, only, map-with_value}
+use Rattle.geo_mesh.proofs.RowLemmas.{OnlyValue, only_value, map-with_value}
 use Rattle.geo_mesh.proofs.IndexLemmas.{indexed-rooms, indexed-geom, indexed-provider, indexed-set_marks}
 use Rattle.geo_mesh.proofs.IdLemmas.{ids-same}
 use Rattle.geo_mesh.proofs.AlikeLemmas.{names-same, names-changed}
@@ -99,7 +99,7 @@ module _ {C : Type 0} (t : Tables C) (whole : IsWhole t) where
       } in
       let seen : geom_row (n, w) ≡ change (geom_row (n, v)) = λ i. record (geom_row (n, w)) { kind = keeps.kind i } in
       let same : map geom_row (with_value t.geoms.rows n w) ≡ change_where (λ x. x.number == n) change (graph t).geoms =
-      map-with_value geom_row n (λ (x : Geom C). x.number == n) change v w (λ row. refl) seen t.geoms.rows (only n 1 t.geoms.next v t.geoms.rows rising at) in
+      map-with_value geom_row n (λ (x : Geom C). x.number == n) change v w (λ row. refl) seen t.geoms.rows (only_value n 1 t.geoms.next v t.geoms.rows rising at) in
       let changed : graph (with_geom_cell t n w) ≡ record (graph t) { geoms = change_where (λ x. x.number == n) change (graph t).geoms } =
       ap (λ xs. record (graph t) { geoms = xs }) same in
       record {
@@ -134,7 +134,7 @@ module _ {C : Type 0} (t : Tables C) (whole : IsWhole t) where
       λ i. record (provider_row (n, w)) { geom = keeps.geom i; name = keeps.name i; errored = keeps.errored i } in
       let same : map provider_row (with_value t.edges.providers.rows n w) ≡ change_where (λ x. x.number == n) change (graph t).providers =
       map-with_value provider_row n (λ (x : Provider). x.number == n) change v w (λ row. refl) seen t.edges.providers.rows
-      (only n 1 t.edges.providers.next v t.edges.providers.rows rising at) in
+      (only_value n 1 t.edges.providers.next v t.edges.providers.rows rising at) in
       let changed : graph (with_provider_cell t n w) ≡ record (graph t) { providers = change_where (λ x. x.number == n) change (graph t).providers } =
       ap (λ xs. record (graph t) { providers = xs }) same in
       record {
@@ -175,7 +175,7 @@ module _ {C : Type 0} (t : Tables C) (whole : IsWhole t) where
       λ i. record (consumer_row (n, w)) { geom = keeps.geom i; provider = keeps.provider i } in
       let same : map consumer_row (with_value t.edges.consumers.rows n w) ≡ change_where (λ x. x.number == n) change (graph t).consumers =
       map-with_value consumer_row n (λ (x : Consumer). x.number == n) change v w (λ row. refl) seen t.edges.consumers.rows
-      (only n 1 t.edges.consumers.next v t.edges.consumers.rows rising at) in
+      (only_value n 1 t.edges.consumers.next v t.edges.consumers.rows rising at) in
       let changed : graph (with_consumer_cell t n w) ≡ set_marks (graph t) (λ x. x.number == n) w.consumer.spoiled =
       ap (λ xs. record (graph t) { consumers = xs }) same in
       record {
