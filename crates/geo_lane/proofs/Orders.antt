@@ -1,5 +1,5 @@
 -- Tickets in the order of their senders.
-use Rattle.std.proofs.Common.{◌≡◌, ◌≢◌, ℕ, ◌+◌, List, [], ◌∷◌, ◌++◌, length, slice_index_or, eqb, cond, Bool, All, refl, ap, ◌∙◌, sym, subst, arith, eq-eqb, ne_eqb}
+use Rattle.std.proofs.Common.{◌≡◌, ◌≢◌, ℕ, ◌+◌, List, [], ◌∷◌, ◌++◌, length, slice_index_or, eqb, cond, Bool, All, ap, ◌∙◌, sym, subst, arith, eq-eqb, ne_eqb}
 use mathlib.Core.List.{IsPrefix}
 use Rattle.std.proofs.lemmas.List.Elements.{filter-append}
 use Rattle.geo_lane.specs.declared.ticket.Ticket.{Ticket}

@@ -1,12 +1,11 @@
 -- What a look-up finds lives.
-use Rattle.std.specs.Prelude.{◌≡◌, ℕ, ◌==◌, ◌&&◌, nat_le, Bool, true, false, not, List, [], ◌∷◌, filter, find, Option, Some, None, IfSome, IsSome, IsSomeAnd}
+use Rattle.std.specs.Prelude.{◌≡◌, ℕ, ◌&&◌, nat_le, Bool, true, false, not, List, [], ◌∷◌, filter, find, Option, Some, None, IfSome, IsSome, IsSomeAnd}
 use Rattle.std.specs.List.{AllByRecursion, last_or}
 use Rattle.std.specs.Option.{option_map, option_or}
 use Rattle.std.proofs.Common.{refl, sym, ◌∙◌, ap, subst}
 use Rattle.std.proofs.lemmas.Bool.{and_parts}
 use Rattle.geo_model.specs.Words.{same_name}
 use Rattle.geo_model.specs.Topology.{Topology, Geom, Provider, Consumer, geom_at, provider_at, consumer_at}
-use Rattle.geo_model.specs.Graph.{IsInOrder}
 use Rattle.geo_laws_graph.specs.LookupLaws.{EachIsFound, WhatIsFoundLives}
 use Rattle.geo_laws_graph.proofs.Found.{each-found}
 
