@@ -3,8 +3,8 @@ use Rattle.std.proofs.Common.{◌≡◌, ℕ, ◌+◌, ◌<◌, ◌==◌, List, 
 use Rattle.std.proofs.lemmas.Bool.{cases_eq, eq-eqb, ne_eqb}
 use Rattle.std.specs.Prelude.{if◌then◌else◌}
 use Rattle.std.specs.List.{last_or}
-use Rattle.std.specs.Option.{option_map, is_some}
-use Rattle.std.specs.Prelude.{Result, Ok, Err, IsOk, OnOk, ◌⊎◌}
+use Rattle.std.specs.Option.{is_some}
+use Rattle.std.specs.Prelude.{◌⊎◌}
 use Rattle.geo_base.proofs.Tests.{is_some-map}
 use Rattle.geo_model.specs.Words.{same_name}
 use Rattle.geo_family.specs.Family.{names, is_parent, has_child, last_child}

@@ -3,21 +3,19 @@ use Rattle.std.proofs.Common.{◌≡◌, ℕ, ◌+◌, ◌-◌, ◌≤◌, ◌<�
 use Rattle.std.specs.Prelude.{max, length}
 use Rattle.std.specs.Option.{option_map}
 use Rattle.std.proofs.lemmas.List.{map-append, length-map}
-use Rattle.geo_slots.specs.Slots.{IsRising, value_at, with_value, without, with_insert}
+use Rattle.geo_slots.specs.Slots.{IsRising, value_at, without, with_insert}
 use Rattle.geo_family.specs.Family.{is_parent}
 use Rattle.geo_model.specs.Words.{change_where}
-use Rattle.geo_model.specs.Topology.{Topology, Provider, provider_at, add_geom, add_provider, add_consumer}
-use Rattle.geo_mesh.specs.declared.records.GeomRec.{GeomRec}
+use Rattle.geo_model.specs.Topology.{Provider, provider_at, add_geom, add_provider, add_consumer}
 use Rattle.geo_mesh.specs.declared.records.GeomCell.{GeomCell}
 use Rattle.geo_mesh.specs.declared.records.ProvCell.{ProvCell}
 use Rattle.geo_mesh.specs.declared.records.ConsCell.{ConsCell}
-use Rattle.geo_mesh.specs.declared.records.Scratch.{Scratch}
 use Rattle.geo_mesh.specs.declared.index.Index.{Index}
 use Rattle.geo_mesh.specs.declared.names.Names.{Names}
 use Rattle.geo_mesh.specs.declared.tables.Tables.{Tables}
 use Rattle.geo_mesh.specs.Cells.{IsCount, graph, graph_of, geom_row, provider_row, consumer_row, put_consumer}
 use Rattle.geo_mesh.specs.Rows.{row_with}
-use Rattle.geo_mesh.specs.Index.{IsIndexed, HaveRoom, AreRooms, with_geom_index, with_provider_index, with_consumer_index, without_geom_index, without_provider_index, without_consumer_index, attached_index, detached_index}
+use Rattle.geo_mesh.specs.Index.{IsIndexed, HaveRoom, with_geom_index, with_provider_index, with_consumer_index, without_geom_index, without_provider_index, without_consumer_index, attached_index, detached_index}
 use Rattle.geo_mesh.specs.Mesh.{IsMesh}
 use Rattle.geo_mesh.specs.Names.{AreNames, AreIds, HaveNameRoom, SameNames, AddsName, RetiresName, RemovesName, is_sound_named, id_of}
 use Rattle.geo_mesh.specs.Ranks.{kind_of, kinds, bare}

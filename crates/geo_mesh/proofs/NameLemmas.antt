@@ -1,7 +1,7 @@
 -- Names after each change of the providers.
 use Rattle.std.proofs.Common.{◌≡◌, ℕ, ◌==◌, List, [], ◌∷◌, ◌++◌, map, Bool, true, false, Some, None, Option, sym, refl, ap, ◌∙◌, subst, inl, inr, not, filter, filter_map, find}
 use Rattle.std.proofs.lemmas.Bool.{cases_eq, eq-eqb, ne_eqb, eqb-true, and_parts, not-true}
-use Rattle.std.specs.Prelude.{if◌then◌else◌, ◌&&◌}
+use Rattle.std.specs.Prelude.{if◌then◌else◌}
 use Rattle.std.specs.Option.{option_or}
 use Rattle.geo_model.specs.Words.{change_where, same_name}
 use Rattle.geo_model.specs.Topology.{Provider}

@@ -1,5 +1,5 @@
 -- The ranks that stand in the cells are the model's, and what an attach and a detach do to them.
-use Rattle.std.specs.Prelude.{◌≡◌, ℕ, ◌+◌, ◌-◌, ◌<◌, ◌≤◌, ◌^◌, ◌==◌, nat_lt, max, Bool, true, false, not, ◌&&◌, List, [], ◌∷◌, ◌++◌, Option, Some, None, IsSome, IfSome, map, filter, filter_map, length, option_map, if◌then◌else◌}
+use Rattle.std.specs.Prelude.{◌≡◌, ℕ, ◌+◌, ◌-◌, ◌<◌, ◌≤◌, ◌==◌, nat_lt, max, Bool, true, false, not, ◌&&◌, List, [], ◌∷◌, ◌++◌, Option, Some, None, IsSome, IfSome, map, filter, filter_map, length, option_map, if◌then◌else◌}
 use Rattle.std.specs.List.{list_any, AllByRecursion}
 use Rattle.std.proofs.Common.{refl, sym, ap, ◌∙◌, subst, inl, inr, arith}
 use Rattle.std.proofs.lemmas.Bool.{eqb-true, eq-eqb, ne_eqb}
@@ -22,7 +22,7 @@ use Rattle.geo_mesh.specs.Rows.{row_with, rows_with, passes}
 use Rattle.geo_mesh.specs.Cells.{graph_of, view_of, put_consumer, put_provider, geom_seen, geom_scratch_of, geom_row, provider_row, consumer_row}
 use Rattle.geo_mesh.specs.Mending.{IsAmong, StandsAbove, Climbs, Joined, above, height}
 use Rattle.geo_mesh.specs.Index.{no_index}
-use Rattle.geo_mesh.specs.Ranks.{IsKin, kind_of, rank_of, rest_of, owner, owner_of, ranked_link_of, links_of, kinds, ranks, stored, offers, ranked_links, rank_at, under, ranked_below, below, rank_from, footing, number_or, is_high, IsWalkable, HaveRanks, HaveDevAndTaste, bare}
+use Rattle.geo_mesh.specs.Ranks.{IsKin, kind_of, rank_of, rest_of, owner, owner_of, ranked_link_of, links_of, kinds, ranks, stored, offers, ranked_links, rank_at, under, ranked_below, below, rank_from, footing, is_high, IsWalkable, HaveRanks, HaveDevAndTaste, bare}
 use Rattle.geo_mesh.proofs.RowLemmas.{OnlyValue, only_value, map-with_value_same, map-without, rows_with-with_value, value_at-rows_with}
 use Rattle.geo_mesh.proofs.ViewLemmas.{row_there, geom_at-view, provider_at-view, consumer_at-view, count_falls, count_stays}
 use Rattle.geo_mesh.proofs.RankHeights.{local-climbs, local-height, local-few, height-climbs, rank-height, reached-stands, stands-reached}

@@ -1,5 +1,5 @@
 -- What an attach and a detach do to the mesh that stands.
-use Rattle.std.specs.Prelude.{◌≡◌, ℕ, ◌+◌, ◌<◌, ◌≤◌, ◌^◌, Bool, true, false, [], Option, Some, None, IsSome, IfSome, IsSomeAnd, length, map, option_map}
+use Rattle.std.specs.Prelude.{◌≡◌, ℕ, ◌+◌, ◌≤◌, Bool, true, false, [], Option, Some, None, IsSome, IfSome, IsSomeAnd, length, map, option_map}
 use Rattle.std.proofs.Common.{refl, sym, ap, ◌∙◌, subst, arith}
 use Rattle.std.proofs.lemmas.Bool.{false_from_ne_true}
 use Rattle.std.proofs.lemmas.List.{length-map}
@@ -8,7 +8,6 @@ use Rattle.geo_model.specs.Words.{largest}
 use Rattle.geo_model.specs.Topology.{consumer_at, provider_at, attach, is_errored}
 use Rattle.geo_model.specs.Rank.{reaches, is_too_deep, would_loop, attach_refusal}
 use Rattle.geo_slots.specs.Slots.{SlotsView, IsRising, value_at, with_value}
-use Rattle.geo_slots.proofs.RowLemmas.{IsRising-with_value}
 use Rattle.geo_mesh.specs.declared.records.AttachRefusal.{AttachRefusal}
 use Rattle.geo_mesh.specs.declared.records.AttachRefusal.TheVariants.{Enxio, Eloop, Edeep}
 use Rattle.geo_mesh.specs.Refusals.{errno_of}
@@ -19,7 +18,6 @@ use Rattle.geo_mesh.specs.declared.tables.Edges.{Edges}
 use Rattle.geo_mesh.specs.declared.index.Index.{Index}
 use Rattle.geo_mesh.specs.Rows.{row_with, rows_with}
 use Rattle.geo_mesh.specs.Cells.{graph_of, put_consumer, consumer_row, provider_row}
-use Rattle.geo_mesh.specs.Topo.{TopoView}
 use Rattle.geo_mesh.specs.Mending.{IsAmong, StandsAbove, Joined, IsJoinable, Lowered, above}
 use Rattle.geo_mesh.specs.Ranks.{IsKin, kind_of, ranked_link_of, owner_of, kinds, bare, offers, ranked_links, stored, ranked_below, owner, user, ranks, is_dev_or_taste, below, rank_from, is_high, IsRefusedFor, IsWalkable, IsAdmitted, HaveDevAndTaste, HaveRanks}
 use Rattle.geo_mesh.proofs.RowLemmas.{rows_with-with_value, value_at-rows_with}

@@ -6,8 +6,6 @@ use Rattle.geo_base.specs.declared.kind.Kind.{Kind}
 use Rattle.geo_model.proofs.DemandLemmas.{names_some}
 use Rattle.geo_slots.specs.Slots.{SlotsView, IsRising, value_at}
 use Rattle.geo_mesh.specs.declared.records.GeomCell.{GeomCell}
-use Rattle.geo_mesh.specs.declared.records.ProvCell.{ProvCell}
-use Rattle.geo_mesh.specs.declared.records.ConsCell.{ConsCell}
 use Rattle.geo_mesh.specs.declared.tables.Edges.{Edges}
 use Rattle.geo_mesh.specs.Rows.{passes}
 use Rattle.geo_mesh.specs.Mending.{IsAmong}

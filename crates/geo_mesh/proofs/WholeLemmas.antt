@@ -1,29 +1,25 @@
 -- What a mesh keeps as a whole, after each call.
-use Rattle.std.specs.Prelude.{◌≡◌, ℕ, ◌+◌, ◌-◌, ◌==◌, ◌<◌, ◌^◌, ◌≢◌, Bool, true, false, List, [], Some, None, find, map, length, IsSome}
-use Rattle.std.proofs.Common.{refl, sym, ◌∙◌, ap, subst, arith}
-use Rattle.geo_slots.specs.Slots.{SlotsView, IsRising, value_at, with_value, without, with_insert}
-use Rattle.geo_base.specs.declared.request.Counts.{Counts}
+use Rattle.std.specs.Prelude.{◌≡◌, ℕ, ◌==◌, true, Some, map}
+use Rattle.std.proofs.Common.{refl, sym, ap, subst}
+use Rattle.geo_slots.specs.Slots.{IsRising, value_at, with_value}
 use Rattle.geo_model.specs.Words.{change_where}
-use Rattle.geo_model.specs.Topology.{Topology, Geom, Provider, Consumer, geom_at, provider_at, consumer_at, providers_of, consumers_of, attached_to, set_marks, set_error}
+use Rattle.geo_model.specs.Topology.{Geom, Provider, Consumer, set_marks, set_error}
 use Rattle.geo_mesh.specs.declared.records.GeomCell.{GeomCell}
 use Rattle.geo_mesh.specs.declared.records.ProvCell.{ProvCell}
 use Rattle.geo_mesh.specs.declared.records.ConsCell.{ConsCell}
-use Rattle.geo_mesh.specs.declared.index.Index.{Index}
 use Rattle.geo_mesh.specs.declared.names.Names.{Names}
-use Rattle.geo_mesh.specs.declared.tables.Edges.{Edges}
 use Rattle.geo_mesh.specs.declared.tables.Tables.{Tables}
 use Rattle.geo_mesh.specs.Topo.{is_provider_size}
-use Rattle.geo_mesh.specs.Graph.{IsOrderly, IsOffer}
-use Rattle.geo_mesh.specs.Cells.{graph, graph_of, geom_row, provider_row, consumer_row, with_geom_cell, with_provider_cell, with_consumer_cell, put_provider, put_consumer}
-use Rattle.geo_mesh.specs.Index.{IsIndexed, HaveRoom, with_rooms}
-use Rattle.geo_mesh.specs.Names.{AreNames, AreIds, HaveNameRoom, SameNames, RetiresName}
+use Rattle.geo_mesh.specs.Graph.{IsOrderly}
+use Rattle.geo_mesh.specs.Cells.{graph, geom_row, provider_row, consumer_row, with_geom_cell, with_provider_cell, with_consumer_cell}
+use Rattle.geo_mesh.specs.Index.{IsIndexed, HaveRoom}
+use Rattle.geo_mesh.specs.Names.{AreNames, HaveNameRoom, RetiresName}
 use Rattle.geo_mesh.specs.declared.tables.Notes.{Notes}
 use Rattle.geo_mesh.specs.Notes.{AreNotes, HaveNoteRoom}
 use Rattle.geo_mesh.proofs.NoteLemmas.{notes-reserved, notes-geom_kept, notes-provider_kept}
-use Rattle.geo_mesh.specs.Mesh.{IsMesh}
-use Rattle.geo_mesh.specs.Ranks.{HaveRanks, footing}
+use Rattle.geo_mesh.specs.Ranks.{footing}
 use Rattle.geo_mesh.specs.Whole.{IsWhole, IsRoomier}
-use Rattle.geo_mesh.proofs.RowLemmas.{OnlyValue, only_value, map-with_value}
+use Rattle.geo_mesh.proofs.RowLemmas.{only_value, map-with_value}
 use Rattle.geo_mesh.proofs.IndexLemmas.{indexed-rooms, indexed-geom, indexed-provider, indexed-set_marks}
 use Rattle.geo_mesh.proofs.IdLemmas.{ids-same}
 use Rattle.geo_mesh.proofs.AlikeLemmas.{names-same, names-changed}

@@ -4,7 +4,6 @@ use Rattle.geo_mesh.specs.Topo.{with_provider}
 use Rattle.geo_mesh.specs.Cells.{graph, view_of, provider_row}
 use Rattle.geo_mesh.specs.Names.{AddsName, is_sound_named}
 use Rattle.geo_mesh.proofs.IndexLemmas.{offered_parent}
-use Rattle.geo_mesh.proofs.MeshLemmas.{name_room_for}
 use Rattle.geo_mesh.proofs.ViewLemmas.{with_provider-view, roomier-view}
 use Rattle.geo_laws_graph.proofs.Numbered.{find-none}
 use Rattle.geo_mesh.proofs.WholeParts.{whole-new_provider}
