@@ -1,6 +1,6 @@
 -- The last child comes in: what its parent gathers, and the rows without the children.
-use Rattle.std.proofs.Common.{◌≡◌, ◌≢◌, ℕ, suc, ◌+◌, ◌≤◌, List, [], ◌∷◌, ◌++◌, map, filter, length, not, ◌==◌, ◌&&◌, Bool, true, false, Option, Some, None, sym, refl, ap, ◌∙◌, subst, inl, inr, arith}
-use Rattle.std.proofs.lemmas.Bool.{cases_eq, eq-eqb, ne_eqb}
+use Rattle.std.proofs.Common.{◌≡◌, ◌≢◌, ℕ, suc, ◌+◌, ◌≤◌, List, [], ◌∷◌, ◌++◌, map, filter, length, not, ◌==◌, Bool, true, false, Option, Some, None, sym, refl, ap, ◌∙◌, subst, inl, inr, arith}
+use Rattle.std.proofs.lemmas.Bool.{cases_Bool, cases_eq, eq-eqb, ne_eqb, and_parts}
 use Rattle.std.proofs.lemmas.Option.{same_Some}
 use Rattle.std.specs.List.{cons_option, list_all}
 use Rattle.std.specs.Prelude.{flat_map, if◌then◌else◌}
@@ -26,7 +26,7 @@ use Rattle.geo_bio.specs.Gather.{held_error, error_from, bytes_from, without_all
 use Rattle.geo_bio.specs.Up.{resolved, held_as, gathered, completed}
 use Rattle.geo_bio.proofs.ValueLemmas.{value_at-with_value_same, value_at-with_value_other}
 use Rattle.geo_bio.proofs.TableLemmas.{family-with_value, bio_among-rows}
-use Rattle.geo_bio.proofs.KeptLemmas.{cases_bool, table_kept, IsRising-filter}
+use Rattle.geo_bio.proofs.KeptLemmas.{table_kept, IsRising-filter}
 use Rattle.geo_bio.proofs.FamilyLemmas.{IsChildUp, done_rows, rising_done, not_waiting, parent_done, split, seen_done, all_done}
 
 -- the rows that aren't children of a bio
@@ -55,24 +55,16 @@ done_if_child p j m y (row ∷ rows) all found owner =
       | inl here ↦
           let is : row.1 ≡ y = same_Some _ _ (rw (eq-eqb row.0 m here) at found) in
           let first : child_of p row.0 (is_done row.1.phase) row.1.owner ≡ Some (record { number = row.0; place = j; done = is_done y.phase }) = (λ i. child_of p row.0 (is_done (is i).phase) (is i).owner) ∙ ap (child_of p row.0 (is_done y.phase)) owner ∙ mine row.0 (is_done y.phase) in
-          left_true (is_done y.phase) _ (sym (ap (λ o. list_all (λ (c : Child). c.done) (cons_option o (family rows p))) first) ∙ all)
+          (and_parts (is_done y.phase) _ (sym (ap (λ o. list_all (λ (c : Child). c.done) (cons_option o (family rows p))) first) ∙ all)).0
       | inr other ↦ done_if_child p j m y rows (rest (child_of p row.0 (is_done row.1.phase) row.1.owner) (family rows p) all) (rw (ne_eqb row.0 m other) at found) owner
     ]
   where
     mine : (number : ℕ) (done : Bool) → child_of p number done (owners.Child p j) ≡ Some (record { number = number; place = j; done = done })
     mine number done = rw (eq-eqb p p refl) refl
 
-    left_true : (a b : Bool) → (a && b) ≡ true → a ≡ true
-    left_true true b e = refl
-    left_true false b e = e
-
-    right_true : (a b : Bool) → (a && b) ≡ true → b ≡ true
-    right_true true b e = e
-    right_true false b e = absurd (cc)
-
     rest : (o : Option Child) (xs : List Child) → list_all (λ c. c.done) (cons_option o xs) ≡ true → list_all (λ c. c.done) xs ≡ true
     rest None xs e = e
-    rest (Some c) xs e = right_true c.done (list_all (λ d. d.done) xs) e
+    rest (Some c) xs e = (and_parts c.done (list_all (λ d. d.done) xs) e).1
 
 -- The rows without the children
 
@@ -179,14 +171,14 @@ results-change : (log : ℕ → Option (List ℕ)) (n p : ℕ) (phase : Phase) (
 results-change log n p phase [] = refl
 results-change log n p phase (x ∷ bios) =
     let rest = results-change log n p phase bios in
-    elim (cases_bool (x.number == n)) [
+    elim (cases_Bool (x.number == n)) [
       | inl same ↦
-          elim (cases_bool (is_child_of x.owner p)) [
+          elim (cases_Bool (is_child_of x.owner p)) [
             | inl inside ↦ rw (same, inside) (ap (λ r. resolved log x.result ∷ r) rest)
             | inr outside ↦ rw (same, outside) rest
           ]
       | inr other ↦
-          elim (cases_bool (is_child_of x.owner p)) [
+          elim (cases_Bool (is_child_of x.owner p)) [
             | inl inside ↦ rw (other, inside) (ap (λ r. resolved log x.result ∷ r) rest)
             | inr outside ↦ rw (other, outside) rest
           ]
@@ -203,7 +195,7 @@ seen_others : (p : ℕ) (rows : List (ℕ × Bio)) → filter (λ z. not (is_chi
 seen_others p [] = refl
 seen_others p (row ∷ rows) =
     let rest = seen_others p rows in
-    elim (cases_bool (is_child_of row.1.owner p)) [
+    elim (cases_Bool (is_child_of row.1.owner p)) [
       | inl inside ↦ rw inside rest
       | inr outside ↦ rw outside (ap (λ xs. seen_row row ∷ xs) rest)
     ]
@@ -220,7 +212,7 @@ others-with_child p n x w low (row ∷ rows) high rising found was is =
           rw (eq-eqb row.0 n here, is, inside) (ap (λ r. others r p) rest)
       | inr other ↦
           let rest = others-with_child p n x w (row.0 + 1) rows high rising.1 (rw (ne_eqb row.0 n other) at found) was is in
-          elim (cases_bool (is_child_of row.1.owner p)) [
+          elim (cases_Bool (is_child_of row.1.owner p)) [
             | inl inside ↦ rw (ne_eqb row.0 n other, inside) rest
             | inr outside ↦ rw (ne_eqb row.0 n other, outside) (ap (λ xs. row ∷ xs) rest)
           ]
@@ -239,7 +231,7 @@ others-with_value p n x w low (row ∷ rows) high rising found was is =
           rw (outside, eq-eqb row.0 n here, is) (ap (λ xs. (n, w) ∷ xs) (ap (λ r. others r p) before ∙ sym after))
       | inr other ↦
           let rest = others-with_value p n x w (row.0 + 1) rows high rising.1 (rw (ne_eqb row.0 n other) at found) was is in
-          elim (cases_bool (is_child_of row.1.owner p)) [
+          elim (cases_Bool (is_child_of row.1.owner p)) [
             | inl inside ↦ rw (ne_eqb row.0 n other, inside) rest
             | inr outside ↦ rw (ne_eqb row.0 n other, outside, ne_eqb row.0 n other) (ap (λ xs. row ∷ xs) rest)
           ]

@@ -1,6 +1,6 @@
 -- A child comes in: its family counts one more that is Done.
 use Rattle.std.proofs.Common.{◌≡◌, ◌≢◌, ℕ, suc, ◌+◌, ◌<◌, List, [], ◌∷◌, map, length, ◌==◌, ◌&&◌, cond, Bool, true, false, Option, Some, None, sym, refl, ap, ◌∙◌, subst, inl, inr, arith}
-use Rattle.std.proofs.lemmas.Bool.{cases_eq, eq-eqb, ne_eqb}
+use Rattle.std.proofs.lemmas.Bool.{cases_Bool, cases_eq, eq-eqb, ne_eqb, MatchBool-at_true, MatchBool-at_false}
 use Rattle.std.proofs.lemmas.List.Sums.{count_by-le-length, sum_by-cons}
 use Rattle.std.proofs.lemmas.Option.{same_Some}
 use Rattle.std.specs.List.{cons_option, list_all}
@@ -19,11 +19,7 @@ use Rattle.geo_bio.specs.Rows.{seen, seen_row, at_phase, Child, child_of, family
 use Rattle.geo_bio.specs.Gather.{counted}
 use Rattle.geo_bio.specs.Up.{are_in}
 use Rattle.geo_bio.proofs.ValueLemmas.{value_at-with_value_same, value_at-with_value_other}
-use Rattle.geo_bio.proofs.KeptLemmas.{cases_bool}
-use Rattle.geo_bio.proofs.TableLemmas.{family-with_value, MatchBool_false, seen_changed}
-
-pub MatchBool_true : {b : Bool} (P Q : Type 0) → b ≡ true → MatchBool b P Q → P
-MatchBool_true {b} P Q e m = subst (λ c. MatchBool c P Q) e m
+use Rattle.geo_bio.proofs.TableLemmas.{family-with_value, seen_changed}
 
 pub into_true : {b : Bool} (P Q : Type 0) → b ≡ true → P → MatchBool b P Q
 into_true {b} P Q e m = subst (λ c. MatchBool c P Q) (sym e) m
@@ -43,7 +39,7 @@ pub all_in : (xs : List Child) → count_by (λ c. c.done) xs ≡ length xs → 
 all_in [] e = refl
 all_in (c ∷ cs) e =
     let long : length (c ∷ cs) ≡ 1 + length cs = omega arith in
-    elim (cases_bool c.done) [
+    elim (cases_Bool c.done) [
       | inl done ↦ rw done (all_in cs (omega (arith, long, e, count_done c cs done)))
       | inr open_still ↦ absurd (omega (arith, long, e, count_open c cs open_still, count_by-le-length (λ (x : Child). x.done) cs))
     ]
@@ -52,7 +48,7 @@ pub not_all_in : (xs : List Child) → count_by (λ c. c.done) xs < length xs �
 not_all_in [] less = absurd (omega (arith, less))
 not_all_in (c ∷ cs) less =
     let long : length (c ∷ cs) ≡ 1 + length cs = omega arith in
-    elim (cases_bool c.done) [
+    elim (cases_Bool c.done) [
       | inl done ↦ rw done (not_all_in cs (omega (arith, long, less, count_done c cs done)))
       | inr open_still ↦ rw open_still refl
     ]
@@ -166,7 +162,7 @@ module _ (rows : List (ℕ × Bio)) (next n p k : ℕ) (x y : Bio) (t : IsTable 
   parent_done = value_at-with_value_other n p (at_phase phases.Done x) rows (not_waiting p y u.parent u.waits) ∙ u.parent
 
   pub split : IsSplitInto (family rows p) y
-  split = MatchBool_true _ _ u.waits (t.families p y u.parent)
+  split = MatchBool-at_true _ _ u.waits (t.families p y u.parent)
 
   pub one_more : IsOneMoreDone (family rows p) (family done_rows p)
   one_more = family-done p n k x u.owner u.busy 1 rows next t.rising u.child
@@ -235,7 +231,7 @@ module _ (rows : List (ℕ × Bio)) (next n p k : ℕ) (x y : Bio) (t : IsTable 
           elim (cases_eq m n) [
             | inl here ↦
                 let z_is : at_phase phases.Done x ≡ z = same_Some _ _ (sym (value_at-with_value_same n x (at_phase phases.Done x) rows u.child) ∙ ap (value_at done_rows) (sym here) ∙ stands) in
-                let none : family rows n ≡ [] = MatchBool_false _ _ u.idle (t.families n x u.child) in
+                let none : family rows n ≡ [] = MatchBool-at_false _ _ u.idle (t.families n x u.child) in
                 let none_now : family counted_rows m ≡ [] = kin_counted m ∙ kin m other ∙ ap (family rows) here ∙ none in
                 rw (← z_is) none_now
             | inr different ↦

@@ -1,5 +1,6 @@
 -- What a look-up tells of the children of a bio.
 use Rattle.std.proofs.Common.{◌≡◌, ℕ, suc, ◌+◌, List, [], ◌∷◌, map, length, cond, true, Option, Some, None, sym, refl, ap, ◌∙◌, IfSome}
+use Rattle.std.proofs.lemmas.Bool.{MatchBool-at_true}
 use Rattle.std.proofs.lemmas.List.Sums.{sum_by-cons}
 use Rattle.std.specs.Prelude.{count_by}
 use Rattle.geo_model.specs.World.{BioOf, is_done, is_waiting, children_among}
@@ -8,7 +9,6 @@ use Rattle.geo_slots.specs.Slots.{value_at}
 use Rattle.geo_bio.specs.declared.bio.Bio.{Bio}
 use Rattle.geo_bio.specs.declared.bio.Held.{Held}
 use Rattle.geo_bio.specs.Rows.{seen_row, Child, family, FollowFrom, StandFrom, IsTable, KnowsChildren}
-use Rattle.geo_bio.proofs.FamilyLemmas.{MatchBool_true}
 use Rattle.geo_bio.proofs.CompleteLemmas.{standing, kid, stranger}
 
 -- the family of a bio among what contracts see
@@ -39,6 +39,6 @@ pub family_told : (rows : List (ℕ × Bio)) (next n : ℕ) → IsTable rows nex
 family_told rows next n t None found = tt
 family_told rows next n t (Some x) found =
     λ waits.
-    let s = MatchBool_true _ _ waits (t.families n x (sym found)) in
+    let s = MatchBool-at_true _ _ waits (t.families n x (sym found)) in
     let f = seen_family n rows in
     record { stand = f.same_places x.first_child 0 s.follow; all = sym s.count ∙ sym f.same_length; done = sym s.finished ∙ sym f.same_count }

@@ -1,6 +1,6 @@
 -- Rows that pass a test: what a look-up finds among them, and when they are a table.
-use Rattle.std.proofs.Common.{◌≡◌, ◌≢◌, ◌⊎◌, ℕ, ◌+◌, List, [], ◌∷◌, filter, not, ◌==◌, Bool, true, false, Some, None, sym, refl, ap, ◌∙◌, subst, inl, inr, arith}
-use Rattle.std.proofs.lemmas.Bool.{cases_eq, eq-eqb, ne_eqb}
+use Rattle.std.proofs.Common.{◌≡◌, ◌≢◌, ℕ, ◌+◌, List, [], ◌∷◌, filter, not, ◌==◌, Bool, true, false, Some, None, sym, refl, ap, ◌∙◌, subst, inl, inr, arith}
+use Rattle.std.proofs.lemmas.Bool.{cases_Bool, cases_eq, eq-eqb, ne_eqb}
 use Rattle.std.proofs.lemmas.Option.{same_Some}
 use Rattle.std.specs.List.{cons_option}
 use Rattle.geo_model.specs.declared.step.Owner.TheVariants as owners
@@ -11,16 +11,12 @@ use Rattle.geo_bio.specs.declared.bio.Bio.{Bio}
 use Rattle.geo_bio.specs.Rows.{child_of, family, HasFamily, IsTable}
 use Rattle.geo_bio.proofs.TableLemmas.{child_of-root}
 
-pub cases_bool : (b : Bool) → (b ≡ true) ⊎ (b ≡ false)
-cases_bool true = inl refl
-cases_bool false = inr refl
-
 module _ {T : Type 0} (test : ℕ × T → Bool) where
   pub IsRising-filter : (low : ℕ) (rows : List (ℕ × T)) (high : ℕ) → IsRising low rows high → IsRising low (filter test rows) high
   IsRising-filter low [] high rising = rising
   IsRising-filter low (row ∷ rows) high rising =
       let rest = IsRising-filter (row.0 + 1) rows high rising.1 in
-      elim (cases_bool (test row)) [
+      elim (cases_Bool (test row)) [
         | inl passes ↦ rw passes (rising.0, rest)
         | inr fails ↦ rw fails (IsRising_from low (row.0 + 1) (filter test rows) high (omega (arith, rising.0)) rest)
       ]
@@ -29,7 +25,7 @@ module _ {T : Type 0} (test : ℕ × T → Bool) where
   pub value_at-filter_back : (low : ℕ) (rows : List (ℕ × T)) (high m : ℕ) (y : T) → IsRising low rows high → value_at (filter test rows) m ≡ Some y → (value_at rows m ≡ Some y) × (test (m, y) ≡ true)
   value_at-filter_back low [] high m y rising found = absurd (cc)
   value_at-filter_back low (row ∷ rows) high m y rising found =
-      elim (cases_bool (test row)) [
+      elim (cases_Bool (test row)) [
         | inl passes ↦ kept passes (λ at. value_at-filter_back (row.0 + 1) rows high m y rising.1 at) (rw passes at found)
         | inr fails ↦
             let later = value_at-filter_back (row.0 + 1) rows high m y rising.1 (rw fails at found) in
@@ -61,7 +57,7 @@ module _ {T : Type 0} (test : ℕ × T → Bool) where
             rw (here, eq-eqb row.0 m same) (ap Some is)
         | inr other ↦
             let later = value_at-filter rows m y (rw (ne_eqb row.0 m other) at found) passes in
-            elim (cases_bool (test row)) [
+            elim (cases_Bool (test row)) [
               | inl keeps ↦ rw (keeps, ne_eqb row.0 m other) later
               | inr drops ↦ rw drops later
             ]

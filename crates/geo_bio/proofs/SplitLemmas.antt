@@ -1,6 +1,6 @@
 -- A bio is split: its children stand at the end of the table, and it waits for them.
 use Rattle.std.proofs.Common.{◌≡◌, ◌≢◌, ◌⊎◌, ℕ, suc, ◌+◌, ◌-◌, ◌^◌, ◌<◌, ◌≤◌, max, List, [], ◌∷◌, ◌++◌, map, length, drop, get_or, ◌==◌, cond, Bool, true, false, Option, Some, None, sym, refl, ap, ◌∙◌, subst, inl, inr, arith, append_assoc, append-nil}
-use Rattle.std.proofs.lemmas.Bool.{cases_eq, cases_lt, eq-eqb, ne_eqb}
+use Rattle.std.proofs.lemmas.Bool.{cases_eq, cases_lt, eq-eqb, ne_eqb, MatchBool-at_false}
 use Rattle.std.proofs.lemmas.List.{drop_more, map-append}
 use Rattle.std.proofs.lemmas.Option.{same_Some, MatchOption-at_some}
 use Rattle.std.specs.List.{cons_option}
@@ -14,7 +14,7 @@ use Rattle.geo_bio.specs.BioTable.{with_phase}
 use Rattle.geo_slots.specs.Slots.{SlotsView, IsRising, value_at, with_value, with_insert}
 use Rattle.geo_slots.proofs.RowLemmas.{IsRising-with_value, with_value_below, value_at_next}
 use Rattle.geo_bio.proofs.ValueLemmas.{value_at-with_value_same, value_at-with_value_other}
-use Rattle.geo_bio.proofs.TableLemmas.{family-with_value, family-none, MatchBool_false, seen_changed}
+use Rattle.geo_bio.proofs.TableLemmas.{family-with_value, family-none, seen_changed}
 use Rattle.geo_bio.specs.declared.bio.Bio.{Bio}
 use Rattle.geo_bio.specs.Rows.{seen, seen_row, Child, child_of, family, FollowFrom, HasFamily, IsSplitInto, WaitsIn, IsTable}
 use Rattle.geo_bio.specs.Split.{child_for, children_for, waiting, with_all, numbered, split_into}
@@ -158,7 +158,7 @@ module _ (rows : List (ℕ × Bio)) (next n : ℕ) (x : Bio) (pieces : List Piec
         elim (cases_eq m n) [
           | inl here ↦
               let y_is : parent ≡ y = same_Some _ _ (sym at_parent ∙ ap (value_at split_rows) (sym here) ∙ at) in
-              let none : family rows n ≡ [] = MatchBool_false _ _ was (t.families n x found) in
+              let none : family rows n ≡ [] = MatchBool-at_false _ _ was (t.families n x found) in
               let split : IsSplitInto (family kids n) parent = record {
                 follow = family-follows n x 0 next pieces targets;
                 count = family-length n x 0 next pieces targets ∙ length-children_for n x 0 pieces targets same;

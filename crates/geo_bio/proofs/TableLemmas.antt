@@ -1,8 +1,7 @@
 -- A table keeps its families.
-use Rattle.std.proofs.Common.{◌≡◌, ◌≢◌, ℕ, ◌+◌, ◌≤◌, List, [], ◌∷◌, ◌++◌, map, Bool, true, false, Option, Some, None, sym, refl, ap, ◌∙◌, subst, inl, inr, arith}
-use Rattle.std.proofs.lemmas.Bool.{cases_eq, eq-eqb, ne_eqb}
+use Rattle.std.proofs.Common.{◌≡◌, ◌≢◌, ℕ, ◌+◌, ◌≤◌, List, [], ◌∷◌, ◌++◌, map, Bool, true, false, Option, Some, None, sym, refl, ap, ◌∙◌, inl, inr, arith}
+use Rattle.std.proofs.lemmas.Bool.{cases_eq, eq-eqb, ne_eqb, MatchBool-at_false}
 use Rattle.std.proofs.lemmas.Option.{same_Some}
-use Rattle.std.specs.Bool.{MatchBool}
 use Rattle.std.specs.List.{cons_option}
 use Rattle.geo_model.specs.declared.step.Owner.{Owner}
 use Rattle.geo_model.specs.declared.step.Owner.TheVariants as owners
@@ -61,9 +60,6 @@ family-none p low (row ∷ rows) high rising none =
     no_child owners.Taste other = refl
     no_child (owners.Child parent index) other = rw (ne_eqb parent p (λ same. other index (ap (λ q. owners.Child q index) same))) refl
 
-pub MatchBool_false : {b : Bool} (P Q : Type 0) → b ≡ false → MatchBool b P Q → Q
-MatchBool_false {b} P Q e m = subst (λ c. MatchBool c P Q) e m
-
 -- a bio that isn't Waiting changes to another phase without Done
 pub table_changed : (rows : List (ℕ × Bio)) (next n : ℕ) (x w : Bio) → IsTable rows next → value_at rows n ≡ Some x → w.owner ≡ x.owner → is_done w.phase ≡ is_done x.phase → is_waiting x.phase ≡ false → is_waiting w.phase ≡ false → IsTable (with_value rows n w) next
 table_changed rows next n x w t found owner done was is =
@@ -86,7 +82,7 @@ table_changed rows next n x w t found owner done was is =
         elim (cases_eq number n) [
           | inl same ↦
               let y_is : w ≡ y = same_Some _ _ (sym (value_at-with_value_same n x w rows found) ∙ ap (value_at (with_value rows n w)) (sym same) ∙ at) in
-              let none : family rows n ≡ [] = MatchBool_false _ _ was (t.families n x found) in
+              let none : family rows n ≡ [] = MatchBool-at_false _ _ was (t.families n x found) in
               rw (kin number, same, none, ← y_is, is) refl
           | inr other ↦ rw (kin number) (t.families number y (sym (value_at-with_value_other n number w rows other) ∙ at))
         ]

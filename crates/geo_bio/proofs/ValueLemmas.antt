@@ -6,6 +6,11 @@ use Rattle.geo_slots.specs.Slots.{SlotsView, IsRising, value_at, with_value}
 use Rattle.geo_slots.proofs.RowLemmas.{IsRising_ends}
 
 module _ {T : Type 0} where
+  -- the first row that passes, once one more stands in front
+  found_either : (b : Bool) (row : ℕ × T) (o r : Option (ℕ × T)) → option_map (λ p. p.1) o ≡ option_map (λ p. p.1) r → option_map (λ p. p.1) (cond b (Some row) o) ≡ option_map (λ p. p.1) (cond b (Some row) r)
+  found_either true row o r e = refl
+  found_either false row o r e = e
+
   pub value_at-with_value_same : (n : ℕ) (x w : T) (rows : List (ℕ × T)) → value_at rows n ≡ Some x → value_at (with_value rows n w) n ≡ Some w
   value_at-with_value_same n x w [] found = absurd (cc)
   value_at-with_value_same n x w (row ∷ rows) found =
@@ -23,10 +28,6 @@ module _ {T : Type 0} where
             rw (eq-eqb row.0 n same, ne_eqb n m (λ here. differs (sym here)), ne_eqb row.0 m one) (value_at-with_value_other n m w rows differs)
         | inr other ↦ rw (ne_eqb row.0 n other) (found_either (row.0 == m) row _ _ (value_at-with_value_other n m w rows differs))
       ]
-    where
-      found_either : (b : Bool) (row : ℕ × T) (o r : Option (ℕ × T)) → option_map (λ p. p.1) o ≡ option_map (λ p. p.1) r → option_map (λ p. p.1) (cond b (Some row) o) ≡ option_map (λ p. p.1) (cond b (Some row) r)
-      found_either true row o r e = refl
-      found_either false row o r e = e
 
   pub value_at-push_same : (low : ℕ) (rows : List (ℕ × T)) (next : ℕ) (w : T) → IsRising low rows next → value_at (rows ++ (next, w) ∷ []) next ≡ Some w
   value_at-push_same low [] next w rising = rw (eq-eqb next next refl) refl
@@ -37,10 +38,6 @@ module _ {T : Type 0} where
   pub value_at-push_other : (rows : List (ℕ × T)) (next m : ℕ) (w : T) → m ≢ next → value_at (rows ++ (next, w) ∷ []) m ≡ value_at rows m
   value_at-push_other [] next m w differs = rw (ne_eqb next m (λ same. differs (sym same))) refl
   value_at-push_other (row ∷ rows) next m w differs = found_either (row.0 == m) row _ _ (value_at-push_other rows next m w differs)
-    where
-      found_either : (b : Bool) (row : ℕ × T) (o r : Option (ℕ × T)) → option_map (λ p. p.1) o ≡ option_map (λ p. p.1) r → option_map (λ p. p.1) (cond b (Some row) o) ≡ option_map (λ p. p.1) (cond b (Some row) r)
-      found_either true row o r e = refl
-      found_either false row o r e = e
 
   -- a search by number goes through a map of the rows
   pub find-from_items : {X : Type 0} → (item : ℕ × T → X) (number_of : X → ℕ) → ((row : ℕ × T) → number_of (item row) ≡ row.0) → (n : ℕ) (rows : List (ℕ × T)) → option_map number_of (find (λ x. nat_le n (number_of x)) (map item rows)) ≡ option_map (λ row. row.0) (find (λ row. nat_le n row.0) rows)

@@ -2,7 +2,7 @@
 use Rattle.std.proofs.Common.{◌≡◌, ℕ, ◌+◌, ◌-◌, ◌<◌, ◌≤◌, List, [], ◌∷◌, Bool, true, false, Some, None, Option, sym, refl, ap, ◌∙◌, subst, inl, inr, arith}
 use Rattle.std.specs.Prelude.{◌&&◌, nat_le}
 use Rattle.std.specs.Option.{option_map_or}
-use Rattle.std.proofs.lemmas.Bool.{cases_eq, cases_lt, eq-eqb, ne_eqb, eqb-true, le-leb, leb-true}
+use Rattle.std.proofs.lemmas.Bool.{cases_eq, cases_lt, eq-eqb, ne_eqb, eqb-true, le-leb, leb-true, and_parts}
 use Rattle.geo_slots.specs.Slots.{IsRising}
 use Rattle.geo_slots.proofs.RowLemmas.{value_at_below}
 use Rattle.geo_family.specs.declared.family.Link.{Link}
@@ -93,11 +93,6 @@ is_names : (o : Option ℕ) (p : ℕ) → o ≡ Some p → names o p ≡ true
 is_names None p never = absurd (cc)
 is_names (Some q) p same = let e : q ≡ p = cc in eq-eqb q p e
 
--- where both hold, each does
-both : (a b : Bool) → (a && b) ≡ true → (a ≡ true) × (b ≡ true)
-both true b e = (refl, e)
-both false b e = absurd (cc)
-
 module _ (p n : ℕ) where
   -- the part of the first row, and of the others
   here_at : (row : ℕ × Link) (rows : List (ℕ × Link)) → part_at parent_of (row ∷ rows) row.0 ≡ row.1.parent
@@ -147,7 +142,7 @@ module _ (p n : ℕ) where
       → (IsNearest (λ d. n ≤ d) Up (part_at parent_of rows) p o → first_child (children_of rows) p n ≡ o)
       → first_child (children_of (row ∷ rows)) p n ≡ o
   first_step low high row rows o true e rising is so =
-      let parts = both (nat_le n row.0) (names row.1.parent p) e in
+      let parts = and_parts (nat_le n row.0) (names row.1.parent p) e in
       rw e (found_row low high row rows rising (leb-true n row.0 parts.0) (names_is row.1.parent p parts.1) o is)
   first_step low high row rows o false e rising is so = rw e (so (other_row low high row rows rising e o is))
 

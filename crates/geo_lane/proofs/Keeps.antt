@@ -4,6 +4,7 @@ use mathlib.Core.Logic.{dite, inl, inr}
 use mathlib.Core.Option.{some, some-injective, some-ne-none}
 use native.Mathlib.Decide.{ℕ_discrete}
 use lib.ListN.{get_elem?}
+use Rattle.std.proofs.lemmas.List.{append-nil, append_assoc}
 use Rattle.std.proofs.lemmas.List.Elements.{All-append}
 use Rattle.crossbeam_queue.specs.Fifo.{Pushes, Pops, Forks, Merges, Learns}
 use Rattle.atomic_table.proofs.Lists.{at_set, set_else}
@@ -13,7 +14,7 @@ use Rattle.geo_lane.specs.declared.view.View.{View}
 use Rattle.geo_lane.specs.Ticket.{sent_by, AreNumbered}
 use Rattle.geo_lane.specs.View.{opening_view, nobody, one_more, newcomer, with_ended, sent, has_put, has_taken}
 use Rattle.geo_lane.specs.Delivery.{IsSentOf, Knows, IsDelivered, Tells, Puts, Takes}
-use Rattle.geo_lane.proofs.Orders.{append_more, append_nil, sent_more, sent_mine, sent_other, number_at, numbered_more}
+use Rattle.geo_lane.proofs.Orders.{sent_more, sent_mine, sent_other, number_at, numbered_more}
 
 impossible : {P : Type 0} → true ≡ false → P
 impossible e = absurd (cc e)
@@ -62,9 +63,9 @@ puts cap id v t live mine count items views _ r at =
     let k : Knows r.taken items r.made r.owner id v = r.each_view id v at in
     let own : IsSentOf (r.taken ++ items) r.made r.owner id v.number v.put = k.own live in
     let history : List Ticket = r.taken ++ items in
-    let back : r.taken ++ (items ++ t ∷ []) ≡ history ++ t ∷ [] = sym (append_more r.taken items (t ∷ [])) in
+    let back : r.taken ++ (items ++ t ∷ []) ≡ history ++ t ∷ [] = sym (append_assoc r.taken items (t ∷ [])) in
     let added : sent_by v.number (history ++ t ∷ []) ≡ v.put ++ t ∷ [] = sent_more v.number history (t ∷ []) ∙ (λ i. own.is i ++ sent_mine v.number t [] mine i) in
-    let other : (n : ℕ) → n ≢ v.number → sent_by n (history ++ t ∷ []) ≡ sent_by n history = λ n ne. sent_more n history (t ∷ []) ∙ (ap (λ (z : List Ticket). sent_by n history ++ z) (sent_other n t [] (λ e. ne (sym e ∙ mine))) ∙ append_nil (sent_by n history)) in
+    let other : (n : ℕ) → n ≢ v.number → sent_by n (history ++ t ∷ []) ≡ sent_by n history = λ n ne. sent_more n history (t ∷ []) ∙ (ap (λ (z : List Ticket). sent_by n history ++ z) (sent_other n t [] (λ e. ne (sym e ∙ mine))) ∙ append-nil (sent_by n history)) in
     let moved : (j n : ℕ) (put : List Ticket) → n ≢ v.number → IsSentOf history r.made r.owner j n put → IsSentOf (r.taken ++ (items ++ t ∷ [])) r.made r.owner j n put
     = λ j n put ne l. record { is = ap (sent_by n) back ∙ (other n ne ∙ l.is); owned = l.owned; below = l.below } in
     let knows : Knows r.taken (items ++ t ∷ []) r.made r.owner id (has_put v t) = record {
@@ -100,7 +101,7 @@ takes id v live zeroth t items views r at =
     let k : Knows r.taken (t ∷ items) r.made r.owner id v = r.each_view id v at in
     let mine : IsSentOf (r.taken ++ t ∷ items) r.made r.owner id v.number v.put = k.own live in
     let f = k.first live zeroth in
-    let back : (r.taken ++ t ∷ []) ++ items ≡ r.taken ++ t ∷ items = append_more r.taken (t ∷ []) items in
+    let back : (r.taken ++ t ∷ []) ++ items ≡ r.taken ++ t ∷ items = append_assoc r.taken (t ∷ []) items in
     let moved : (j n : ℕ) (put : List Ticket) → IsSentOf (r.taken ++ t ∷ items) r.made r.owner j n put → IsSentOf ((r.taken ++ t ∷ []) ++ items) r.made r.owner j n put
     = λ j n put l. record { is = ap (sent_by n) back ∙ l.is; owned = l.owned; below = l.below } in
     let here : sent_by t.sender (r.taken ++ t ∷ items) ≡ sent_by t.sender r.taken ++ t ∷ sent_by t.sender items = sent_more t.sender r.taken (t ∷ items) ∙ ap (λ (z : List Ticket). sent_by t.sender r.taken ++ z) (sent_mine t.sender t items refl) in

@@ -1,5 +1,5 @@
 -- Tickets in the order of their senders.
-use Rattle.std.proofs.Common.{◌≡◌, ◌≢◌, ℕ, ◌+◌, List, [], ◌∷◌, ◌++◌, length, slice_index_or, eqb, cond, Bool, All, refl, ap, ◌∙◌, sym, subst, arith, eq-eqb, ne_eqb}
+use Rattle.std.proofs.Common.{◌≡◌, ◌≢◌, ℕ, ◌+◌, List, [], ◌∷◌, ◌++◌, length, slice_index_or, eqb, cond, Bool, All, ap, ◌∙◌, sym, subst, arith, eq-eqb, ne_eqb}
 use mathlib.Core.List.{IsPrefix}
 use Rattle.std.proofs.lemmas.List.Elements.{filter-append}
 use Rattle.geo_lane.specs.declared.ticket.Ticket.{Ticket}
@@ -8,14 +8,6 @@ use Rattle.geo_lane.specs.declared.view.View.{View}
 use Rattle.geo_lane.specs.Ticket.{sent_by, AreNumbered}
 use Rattle.geo_lane.specs.View.{one_more}
 use Rattle.geo_lane.specs.Delivery.{Tells, IsInOrder, AreTakenInOrder}
-
-pub append_more : {A : Type 0} (xs ys zs : List A) → (xs ++ ys) ++ zs ≡ xs ++ (ys ++ zs)
-append_more [] ys zs = refl
-append_more (x ∷ xs) ys zs = ap (λ z. x ∷ z) (append_more xs ys zs)
-
-pub append_nil : {A : Type 0} (xs : List A) → xs ++ [] ≡ xs
-append_nil [] = refl
-append_nil (x ∷ xs) = ap (λ z. x ∷ z) (append_nil xs)
 
 pub sent_more : (n : ℕ) (xs ys : List Ticket) → sent_by n (xs ++ ys) ≡ sent_by n xs ++ sent_by n ys
 sent_more n xs ys = filter-append (λ (t : Ticket). eqb t.sender n) xs ys

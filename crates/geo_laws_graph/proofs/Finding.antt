@@ -1,18 +1,13 @@
 -- What a look-up finds lives.
-use Rattle.std.specs.Prelude.{◌≡◌, ℕ, ◌==◌, ◌&&◌, nat_le, Bool, true, false, not, List, [], ◌∷◌, filter, find, Option, Some, None, IfSome, IsSome, IsSomeAnd}
+use Rattle.std.specs.Prelude.{◌≡◌, ℕ, ◌&&◌, nat_le, Bool, true, false, not, List, [], ◌∷◌, filter, find, Option, Some, None, IfSome, IsSome, IsSomeAnd}
 use Rattle.std.specs.List.{AllByRecursion, last_or}
 use Rattle.std.specs.Option.{option_map, option_or}
 use Rattle.std.proofs.Common.{refl, sym, ◌∙◌, ap, subst}
+use Rattle.std.proofs.lemmas.Bool.{and_parts}
 use Rattle.geo_model.specs.Words.{same_name}
 use Rattle.geo_model.specs.Topology.{Topology, Geom, Provider, Consumer, geom_at, provider_at, consumer_at}
-use Rattle.geo_model.specs.Graph.{IsInOrder}
 use Rattle.geo_laws_graph.specs.LookupLaws.{EachIsFound, WhatIsFoundLives}
 use Rattle.geo_laws_graph.proofs.Found.{each-found}
-
--- where both hold, the second does
-second_true : (a b : Bool) → (a && b) ≡ true → b ≡ true
-second_true true b e = e
-second_true false b e = absurd (cc)
 
 module _ {X : Type 0} (P : X → Type 0) (test : X → Bool) where
   -- one item more in front: it is what is found, or a later one is
@@ -73,7 +68,7 @@ named_lives t name p facts found = pick (find sound t.providers) refl (last_or N
   pick (Some x) e q f is =
       let both = found_fact (λ (x : Provider). provider_at t x.number ≡ Some x) sound t.providers x facts e in
       let here : x.number ≡ p = cc in
-      stands x both.0 (second_true (not x.errored) (same_name x.name name) both.1) here
+      stands x both.0 (and_parts (not x.errored) (same_name x.name name) both.1).1 here
   pick None e (Some x) f is =
       let both = last_fact (λ (x : Provider). provider_at t x.number ≡ Some x) named t.providers x None tt facts f in
       let here : x.number ≡ p = cc in

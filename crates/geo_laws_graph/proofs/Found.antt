@@ -4,6 +4,7 @@ use Rattle.std.specs.List.{AllByRecursion, list_any, last_or}
 use Rattle.std.specs.Option.{option_or, option_to_list}
 use Rattle.std.proofs.Common.{refl, sym, ◌∙◌, ap, subst}
 use Rattle.std.proofs.lemmas.Bool.{eq-eqb, ne_eqb, and_right}
+use Rattle.std.proofs.Math.Bool.{or-false}
 use Rattle.std.proofs.lemmas.List.Elements.{filter_map-append}
 use Rattle.geo_model.specs.Words.{same_name, names_number, change_where}
 use Rattle.geo_model.specs.Topology.{Topology, Geom, Provider, Consumer, provider_at, consumer_at, consumers_of, providers_under, is_errored, is_withering, add_provider, remove_provider, set_error, set_size, set_marks, find_provider}
@@ -14,11 +15,6 @@ use Rattle.geo_laws_graph.proofs.Lists.{changed, find-changed, filter-changed, a
 use Rattle.std.proofs.lemmas.Slice.Eq.{bytes_eq-Decides}
 use Rattle.geo_laws_graph.proofs.Spared.{IsUntouched, find-untouched, filter-untouched, any-untouched, filter-away, any-fewer, IsSpared, find-spared, filter-spared, any-spared}
 use Rattle.geo_laws_graph.proofs.Numbered.{find-pushed, filter-pushed, filter-pushed_hit, find-pushed_hit, any-pushed, find-none, each_found, unique, at-new, at-others, at-gone, at-kept, any-kept_at, at-here, at-unchanged, any-unchanged, any-here}
-
--- or false changes no truth value
-or_false : (b : Bool) → (b || false) ≡ b
-or_false true = refl
-or_false false = refl
 
 -- the provider of one consumer, if there is one
 provider_list : (o : Option ℕ) (x : Consumer) → x.provider ≡ o → filter_map (λ (y : Consumer). y.provider) (x ∷ []) ≡ option_to_list o
@@ -74,7 +70,7 @@ module _ {C : Type 0} where
     others = λ t kind name config automatic g apart. at-others (λ (x : Geom C). x.number) t.geoms (new_geom t kind name config automatic) g apart;
     withering = λ t kind name config automatic g.
         any-pushed (λ (x : Geom C). (x.number == g) && x.withering) t.geoms (new_geom t kind name config automatic)
-        ∙ ap (λ b. is_withering t g || b) (and_right (t.next_geom == g) false refl) ∙ or_false (is_withering t g);
+        ∙ ap (λ b. is_withering t g || b) (and_right (t.next_geom == g) false refl) ∙ or-false (is_withering t g);
     order = λ t kind name config automatic order. record {
       geoms = numbers-push (λ (x : Geom C). x.number) t.next_geom t.geoms (new_geom t kind name config automatic) refl order.geoms;
       providers = order.providers;
@@ -92,7 +88,7 @@ module _ {C : Type 0} where
         filter-pushed (λ (x : Provider). x.geom == g) t.providers (new_provider t geom name size sector) (ne_eqb geom g (λ same. apart (sym same)));
     errors = λ t geom name size sector p.
         any-pushed (λ (x : Provider). (x.number == p) && x.errored) t.providers (new_provider t geom name size sector)
-        ∙ ap (λ b. is_errored t p || b) (and_right (t.next_provider == p) false refl) ∙ or_false (is_errored t p);
+        ∙ ap (λ b. is_errored t p || b) (and_right (t.next_provider == p) false refl) ∙ or-false (is_errored t p);
     taken = λ t geom name size sector other. any-pushed (λ (x : Provider). not x.errored && same_name x.name other) t.providers (new_provider t geom name size sector);
     named = λ t geom name size sector free.
         ap (λ o. option_map (λ (x : Provider). x.number) (option_or o (last_or None (filter (λ (x : Provider). same_name x.name name) (add_provider t geom name size sector).providers))))
@@ -385,8 +381,8 @@ module _ {C D : Type 0} (see : C → D) where
   numbers_seen (x ∷ xs) = ap (λ ns. x.number ∷ ns) (numbers_seen xs)
 
 -- configurations that are seen otherwise: each geom is found so
-pub seen-found : {C D : Type 0} → SeenGeomIsFound C D
-seen-found = record {
+pub seen_found : {C D : Type 0} → SeenGeomIsFound C D
+seen_found = record {
   at = λ see t g. find_seen see g t.geoms;
   withering = λ see t g. any_seen see g t.geoms;
   order = λ see t order. record {

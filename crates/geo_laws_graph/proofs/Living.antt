@@ -26,8 +26,8 @@ pub all_members : {X : Type 0} (P Q : X → Type 0) (xs : List X) → ((x : X) �
 all_members P Q xs so facts =
     All-from_recursion Q xs (All-from_contained Q xs (λ x here. so x here (at_contained P xs x (recursion_from_All P xs facts) here)))
 
--- where there is something, there is something after a change of it
-map_there : {X : Type 0} (f : X → X) (o : Option X) → IsSome o → IsSome (option_map f o)
+-- where there is something, there is something when it is seen otherwise
+pub map_there : {X Y : Type 0} (f : X → Y) (o : Option X) → IsSome o → IsSome (option_map f o)
 map_there f None there = there
 map_there f (Some x) there = refl
 

@@ -4,19 +4,16 @@ use Rattle.std.specs.List.{AllByRecursion, list_any}
 use Rattle.std.specs.Option.{option_or}
 use Rattle.std.proofs.Common.{inl, inr, refl, sym, ◌∙◌, ap, subst, arith}
 use Rattle.std.proofs.lemmas.Bool.{eqb-true, eq-eqb, ne_eqb, and_left, and_parts, and_from, or_right}
+use Rattle.std.proofs.Math.Bool.{or-false}
 use Rattle.std.proofs.lemmas.List.{append-nil}
 use Rattle.std.proofs.lemmas.List.Folds.{find-append, list_any-append}
 use Rattle.std.proofs.lemmas.List.Elements.{filter-append}
+use Rattle.geo_base.proofs.Tests.{or_none}
 use Rattle.geo_model.specs.Words.{change_where}
 use Rattle.geo_model.specs.Graph.{AreNumbers}
 use Rattle.geo_model.proofs.DemandLemmas.{find_passes}
 use Rattle.geo_laws_graph.proofs.Members.{has, find-Contains, Contains-map, All-from_contained, Contains-cases, nothing_in}
 use Rattle.geo_laws_graph.proofs.Lists.{changed, find-changed, any-changed, find-kept, find-gone, any-kept, found_fresh, found_itself}
-
--- what stands behind something found
-pub or_none : {X : Type 0} (o : Option X) → option_or o None ≡ o
-or_none None = refl
-or_none (Some x) = refl
 
 -- in a list of one item that doesn't pass nothing is found
 single_miss : {X : Type 0} (test : X → Bool) (y : X) → test y ≡ false → find test (y ∷ []) ≡ None
@@ -53,11 +50,7 @@ module _ {X : Type 0} (test : X → Bool) (xs : List X) (y : X) where
 
   -- with one more some item passes just where one did or the new one does
   pub any-pushed : list_any test (xs ++ y ∷ []) ≡ (list_any test xs || test y)
-  any-pushed = list_any-append test xs (y ∷ []) ∙ ap (λ b. list_any test xs || b) (last (test y)) where
-    -- or false changes no truth value
-    last : (b : Bool) → (b || false) ≡ b
-    last true = refl
-    last false = refl
+  any-pushed = list_any-append test xs (y ∷ []) ∙ ap (λ b. list_any test xs || b) (or-false (test y))
 
 -- nothing is found where none passes
 none_step : {X : Type 0} (test : X → Bool) (x : X) (xs : List X) (b : Bool) → test x ≡ b → (list_any test xs ≡ false → find test xs ≡ None)

@@ -51,6 +51,7 @@ pub fn changed_geom_is_found<C>()
 {}
 
 /// In a graph whose configurations are seen otherwise each geom is found so.
+#[tactic(auto, using(crate::proofs::Found::seen_found))]
 pub fn seen_geom_is_found<C, D>()
     ensures { SeenGeomIsFound C D }
 {}

@@ -1,5 +1,7 @@
 -- The passes are joined one by one, and then the state is taken out.
 use Rattle.std.proofs.Common.{◌≡◌, ℕ, zero, suc, ◌+◌, ◌<◌, ◌≤◌, List, [], ◌∷◌, ◌++◌, map, length, false, Option, Some, sym, refl, ap, ◌∙◌, subst, arith, slice_get, lt_of_not-le, slice_index_or, take, drop}
+use Rattle.std.proofs.lemmas.List.{append-nil, append_assoc}
+use Rattle.std.proofs.lemmas.Option.{same_Some}
 use mathlib.Core.Option.{some, none, some-injective}
 use lib.ListN.{get_elem?}
 use Rattle.atomic_table.specs.Seated.{TableId}
@@ -12,10 +14,7 @@ use Rattle.geo_lock.specs.Turns.{Ends, IsKept}
 use Rattle.geo_lock.specs.Pass.{PassView, claim_of}
 use Rattle.geo_lock.specs.Yard.{YardView, IsWhole, IsEnd}
 use Rattle.geo_lock.proofs.Keeps.{taken}
-use Rattle.geo_lock.proofs.Prefixes.{append_nil, append_more, none_has}
-
-pub same_some : {A : Type 0} (a b : A) → Some a ≡ Some b → a ≡ b
-same_some a b e = cc e
+use Rattle.geo_lock.proofs.Prefixes.{none_has}
 
 lt_or : (a b : ℕ) → (b ≤ a → ⊥) → a < b
 lt_or a b refuted = lt_of_not-le refuted
@@ -41,13 +40,13 @@ module _ {S B E : Type 0} where
   joining_step yard m0 all m p before rest is j w right m' now =
       let claims : m'.0.claims ≡ m.0.claims ++ claim_of p ∷ [] = ap (λ (z : Me S (View B E)). z.0.claims) now ∙ ap (λ (z : Me S (View B E)). m.0.claims ++ z.0.claims) right in record {
         me_is = now ∙ (λ i. (with_claims (j.me_is i).0 (m.0.claims ++ w.0.claims), (j.me_is i).1)) ∙ ap (λ (z : List (Claim E)). (with_claims m0.0 z, [])) (sym (ap (λ (z : Me S (View B E)). z.0.claims) now));
-        adds = ap (λ (z : List (Claim E)). z ++ map claim_of rest) claims ∙ (append_more m.0.claims (claim_of p ∷ []) (map claim_of rest) ∙ (ap (λ (z : List (PassView B E)). m.0.claims ++ map claim_of z) (sym is) ∙ j.adds));
+        adds = ap (λ (z : List (Claim E)). z ++ map claim_of rest) claims ∙ (append_assoc m.0.claims (claim_of p ∷ []) (map claim_of rest) ∙ (ap (λ (z : List (PassView B E)). m.0.claims ++ map claim_of z) (sym is) ∙ j.adds));
         first = (j.first.0, ap (λ (z : List (Claim E)). get_elem? z 0) claims ∙ at_longer m.0.claims (claim_of p ∷ []) 0 j.first.0 j.first.1, j.first.2);
         yards = λ k q e. j.yards (suc k) q (ap (λ (z : List (PassView B E)). slice_get z (suc k)) is ∙ e);
       }
 
   pub joining_end : (yard : TableId) (m0 : Me S (View B E)) (all : List (PassView B E)) (m : Me S (View B E)) (rest : List (PassView B E)) → length rest ≡ 0 → Joining yard m0 all m rest → m ≡ (with_claims m0.0 (m0.0.claims ++ map claim_of all), [])
-  joining_end yard m0 all m [] none_left j = j.me_is ∙ ap (λ (z : List (Claim E)). (with_claims m0.0 z, [])) (sym (append_nil m.0.claims) ∙ j.adds)
+  joining_end yard m0 all m [] none_left j = j.me_is ∙ ap (λ (z : List (Claim E)). (with_claims m0.0 z, [])) (sym (append-nil m.0.claims) ∙ j.adds)
   joining_end yard m0 all m (p ∷ rest) none_left j = absurd (omega arith)
 
 module _ {A : Type 0} where
@@ -59,13 +58,13 @@ module _ {A : Type 0} where
 
   pub index_at : (xs : List A) (k : ℕ) (d x : A) → slice_get xs k ≡ Some x → slice_index_or xs k d ≡ x
   index_at [] k d x e = absurd (cc e)
-  index_at (y ∷ xs) zero d x e = same_some y x e
+  index_at (y ∷ xs) zero d x e = same_Some y x e
   index_at (y ∷ xs) (suc k) d x e = index_at xs k d x e
 
 module _ {B E : Type 0} where
   pub at_claim : (ps : List (PassView B E)) (k : ℕ) (p : PassView B E) → slice_get ps k ≡ Some p → get_elem? (map claim_of ps) k ≡ some (claim_of p)
   at_claim [] k p e = absurd (cc e)
-  at_claim (q ∷ ps) zero p e = ap (λ (z : PassView B E). some (claim_of z)) (same_some q p e)
+  at_claim (q ∷ ps) zero p e = ap (λ (z : PassView B E). some (claim_of z)) (same_Some q p e)
   at_claim (q ∷ ps) (suc k) p e = at_claim ps k p e
 
   pub pass_at : (ps : List (PassView B E)) (n : ℕ) → n < length ps → (p : PassView B E) × (slice_get ps n ≡ Some p)
@@ -114,4 +113,4 @@ module _ {L B E : Type 0} (start : L → B) (log : L → List E) (lawful : B →
       let there : P y.start = subst P begun (e, found) in (there.0.state, there.1, ends_well start log lawful seat_of y all w v t.0 claims made there.0 there.0.state refl)
 
   pub close_result : (y : YardView B) (all : List (PassView B E)) (left : Option L) → ((x : L) × (left ≡ Some x) × IsEnd start log lawful seat_of y all x) → (x : L) → left ≡ Some x → IsEnd start log lawful seat_of y all x
-  close_result y all left t x is = let P : L → Type 0 = λ z. IsEnd start log lawful seat_of y all z in subst P (same_some t.0 x (sym t.1 ∙ is)) t.2
+  close_result y all left t x is = let P : L → Type 0 = λ z. IsEnd start log lawful seat_of y all z in subst P (same_Some t.0 x (sym t.1 ∙ is)) t.2

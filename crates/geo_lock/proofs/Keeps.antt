@@ -1,5 +1,6 @@
 -- Each step of the lock keeps its rule.
 use Rattle.std.proofs.Common.{◌≡◌, ℕ, zero, suc, ◌+◌, ◌*◌, ◌%◌, ◌^◌, ◌<◌, ◌≤◌, ◌≢◌, ⊎_elim, List, [], ◌∷◌, ◌++◌, length, get_or, set, eqb, cond, Bool, true, false, Option, Some, None, sym, refl, ap, ◌∙◌, subst, arith, length-set, eq-eqb, ne_eqb}
+use Rattle.std.proofs.lemmas.Option.{same_Some}
 use mathlib.Core.Logic.{dite}
 use mathlib.Core.Option.{some, none, some-injective, some-ne-none}
 use mathlib.Core.List.{IsPrefix}
@@ -15,9 +16,6 @@ use Rattle.geo_lock.specs.Logged.{entries_of, Grows}
 use Rattle.geo_lock.specs.View.{first_number, nobody, opening_view, one_more, newcomer, together, in_turn, out_of_turn}
 use Rattle.geo_lock.specs.Turns.{IsClaimOf, Knows, Placed, IsKept, TakesTurn, GivesTurn, Ends}
 use Rattle.geo_lock.proofs.Prefixes.{prefix_self, prefix_trans, at_bound, at_end, at_either, at_only, prefix_none}
-
-some_same : {A : Type 0} (a b : A) → Some a ≡ Some b → a ≡ b
-some_same a b e = cc e
 
 true_not_false : {P : Type 0} → true ≡ false → P
 true_not_false e = absurd (cc e)
@@ -322,9 +320,9 @@ module _ {L B E : Type 0} (start : L → B) (log : L → List E) (lawful : B →
 
   first_knows : lawful from [] → (j : ℕ) (d : V) → get_elem? (opening_view from ∷ []) j ≡ some d → Knows lawful seat_of from [] 1 (λ _. 0) false 0 j d
   first_knows law zero d e = subst (λ (z : V). Knows lawful seat_of from [] 1 (λ _. 0) false 0 0 z) (some-injective _ d e) record {
-    start = λ b f. sym (some_same from b f);
+    start = λ b f. sym (same_Some from b f);
     seen = prefix_self [];
-    law = λ b f. subst (λ (z : B). lawful z []) (some_same from b f) law;
+    law = λ b f. subst (λ (z : B). lawful z []) (same_Some from b f) law;
     turn = λ t. true_not_false (sym t);
     claims = λ i q g. subst (λ (z : Claim E). IsClaimOf seat_of [] 1 (λ _. 0) 0 1 z) (at_only _ q i g) record { entries = refl; among = refl; prefix = prefix_self []; owned = refl; below = omega arith; count = λ _. refl };
   }

@@ -1,8 +1,8 @@
 -- Names after each call.
 use Rattle.std.proofs.Common.{◌≡◌, ℕ, ◌+◌, ◌==◌, List, [], ◌∷◌, ◌++◌, map, Bool, true, false, Some, None, Option, IsSome, sym, refl, ap, ◌∙◌, subst, inl, inr, not, filter, find}
-use Rattle.std.proofs.lemmas.Bool.{cases_eq, eq-eqb, ne_eqb}
+use Rattle.std.proofs.lemmas.Bool.{cases_eq, eq-eqb, ne_eqb, or_right}
 use Rattle.std.proofs.lemmas.List.{map-append}
-use Rattle.std.specs.Prelude.{if◌then◌else◌, ◌&&◌, ◌||◌}
+use Rattle.std.specs.Prelude.{if◌then◌else◌, ◌&&◌}
 use Rattle.std.specs.List.{last_or}
 use Rattle.std.specs.Option.{option_map, option_and_then}
 use Rattle.geo_model.specs.Words.{change_where, same_name}
@@ -74,13 +74,9 @@ module _ (f g : List ℕ → Option ℕ) where
           let has : IsSome (f name) = subst (λ m. IsSome (f m)) (sym same) known.0 in
           let at_name = closed_here (f name) refl has (λ i is. here i is (first_has y ys i (subst (λ m. f m ≡ Some i) same is))) in
           subst (λ m. g m ≡ f m) same at_name),
-      agree-closed ys known.1 (λ i is has. here i is (or_later (names (f y.name) i) (has_child (under_ids f ys) i) has)),
+      agree-closed ys known.1 (λ i is has. here i is (or_right (names (f y.name) i) (has_child (under_ids f ys) i) has)),
     )
       where
-        or_later : (a b : Bool) → b ≡ true → (a || b) ≡ true
-        or_later true b e = refl
-        or_later false b e = e
-
         first_has : (y : Provider) (ys : List Provider) (i : ℕ) → f y.name ≡ Some i → has_child (under_ids f (y ∷ ys)) i ≡ true
         first_has y ys i is = rw (is, eq-eqb i i refl) refl
 

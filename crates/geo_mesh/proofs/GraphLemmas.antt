@@ -12,12 +12,8 @@ use Rattle.geo_model.specs.Sound.{DifferInName}
 use Rattle.geo_laws_graph.proofs.Members.{Has, has, All-from_contained, at_contained, Contains-filter, Contains-filter_map, Contains-map, largest-above, nothing_in}
 use Rattle.geo_slots.specs.Slots.{SlotsView}
 use Rattle.geo_mesh.specs.declared.records.GeomCell.{GeomCell}
-use Rattle.geo_mesh.specs.declared.records.ProvCell.{ProvCell}
-use Rattle.geo_mesh.specs.declared.records.ConsCell.{ConsCell}
 use Rattle.geo_mesh.specs.declared.tables.Edges.{Edges}
 use Rattle.geo_mesh.specs.declared.tables.Tables.{Tables}
-use Rattle.geo_mesh.specs.declared.index.Index.{Index}
-use Rattle.geo_mesh.specs.declared.names.Names.{Names}
 use Rattle.geo_mesh.specs.Cells.{graph_of, graph, provider_row}
 use Rattle.geo_mesh.specs.Graph.{IsSoundGraph}
 use Rattle.geo_mesh.specs.Names.{OneEach, is_sound_named}

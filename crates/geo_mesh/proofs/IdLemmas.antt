@@ -3,8 +3,9 @@ use Rattle.std.proofs.Common.{◌≡◌, ℕ, ◌+◌, ◌<◌, ◌==◌, List, 
 use Rattle.std.proofs.lemmas.Bool.{cases_eq, eq-eqb, ne_eqb}
 use Rattle.std.specs.Prelude.{if◌then◌else◌}
 use Rattle.std.specs.List.{last_or}
-use Rattle.std.specs.Option.{option_map, is_some}
-use Rattle.std.specs.Prelude.{Result, Ok, Err, IsOk, OnOk, ◌⊎◌}
+use Rattle.std.specs.Option.{is_some}
+use Rattle.std.specs.Prelude.{◌⊎◌}
+use Rattle.geo_base.proofs.Tests.{is_some-map}
 use Rattle.geo_model.specs.Words.{same_name}
 use Rattle.geo_family.specs.Family.{names, is_parent, has_child, last_child}
 use Rattle.geo_mesh.specs.declared.names.Names.{Names}
@@ -114,17 +115,8 @@ pub no_last : (children : List (ℕ × Option ℕ)) (p : ℕ) → is_some (last_
 no_last [] p none = refl
 no_last (row ∷ rows) p none = step (names row.1 p) refl none (λ h. no_last rows p h)
   where
-    mapped : {X Y : Type 0} (f : X → Y) (o : Option X) → is_some (option_map f o) ≡ is_some o
-    mapped f None = refl
-    mapped f (Some x) = refl
-
     step : (b : Bool) → names row.1 p ≡ b → is_some (last_child (row ∷ rows) p) ≡ false → (is_some (last_child rows p) ≡ false → has_child rows p ≡ false) → has_child (row ∷ rows) p ≡ false
     step true e none so =
         let is = rw e at none in
-        let never : true ≡ false = sym (last_is_some row (filter (λ row. names row.1 p) rows)) ∙ sym (mapped (λ (r : ℕ × Option ℕ). r.0) (last_or (Some row) (filter (λ row. names row.1 p) rows))) ∙ is in absurd (cc)
+        let never : true ≡ false = sym (last_is_some row (filter (λ row. names row.1 p) rows)) ∙ sym (is_some-map (λ (r : ℕ × Option ℕ). r.0) (last_or (Some row) (filter (λ row. names row.1 p) rows))) ∙ is in absurd (cc)
     step false e none so = rw e (so (rw e at none))
-
--- a fact of a result that is Ok
-pub on_ok : {T E : Type 0} {P : Type 0} (r : Result T E) → IsOk r → OnOk r P → P
-on_ok (Ok v) is p = p
-on_ok (Err e) never p = absurd (cc)

@@ -6,7 +6,7 @@ use Rattle.std.specs.Prelude.{nat_le, IsSomeAnd}
 use Rattle.std.specs.Option.{option_map}
 use Rattle.geo_base.specs.declared.kind.Kind.{Kind}
 use Rattle.geo_model.specs.Words.{change_where, names_number}
-use Rattle.geo_model.specs.Topology.{Topology, Geom, Provider, Consumer, add_geom, add_provider, add_consumer, remove_geom, remove_provider, remove_consumer, set_error, set_size, set_marks, set_withering, set_config, note_started, attach, geom_at, provider_at, consumer_at, providers_of, consumers_of, attached_to, detach}
+use Rattle.geo_model.specs.Topology.{Topology, Geom, Provider, Consumer, add_geom, add_provider, add_consumer, remove_geom, remove_provider, remove_consumer, set_marks, attach, geom_at, provider_at, consumer_at, providers_of, consumers_of, attached_to, detach}
 use Rattle.geo_slots.specs.Slots.{with_value, without, value_at}
 use Rattle.geo_family.specs.Family.{names, is_parent, has_child, first_child}
 use Rattle.geo_mesh.specs.declared.index.Index.{Index}

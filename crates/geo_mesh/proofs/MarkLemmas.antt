@@ -1,15 +1,15 @@
 -- Marks, over the family that keeps them.
-use Rattle.std.specs.Prelude.{◌≡◌, ℕ, ◌==◌, ◌&&◌, nat_le, Bool, true, false, List, [], ◌∷◌, ◌++◌, Option, Some, None, IsSome, IfSome, map, find, option_map}
+use Rattle.std.specs.Prelude.{◌≡◌, ℕ, ◌==◌, ◌&&◌, nat_le, Bool, true, false, List, [], ◌∷◌, ◌++◌, Option, Some, None, IsSome, IfSome, find, option_map}
 use Rattle.std.specs.List.{AllByRecursion}
 use Rattle.std.specs.Option.{is_some}
-use Rattle.std.proofs.Common.{refl, sym, ◌∙◌, ap, arith}
+use Rattle.std.proofs.Common.{refl, arith}
 use Rattle.std.proofs.lemmas.Bool.{eq-eqb, le-leb}
 use Rattle.std.proofs.lemmas.List.{map-append}
 use Rattle.geo_slots.specs.Slots.{value_at, with_value, without}
 use Rattle.geo_family.specs.Family.{names, first_child}
 use Rattle.geo_mesh.specs.Rows.{row_with, rows_with}
 use Rattle.geo_mesh.specs.Marks.{first_marked}
-use Rattle.geo_mesh.proofs.RowLemmas.{map-without, rows_with-with_value, value_at-rows_with}
+use Rattle.geo_mesh.proofs.RowLemmas.{map-without, value_at-rows_with}
 
 -- a number under parent 1, or under none
 abbrev pub IsUnder : ℕ × Option ℕ → Type 0

@@ -3,25 +3,23 @@ use Rattle.std.proofs.Common.{◌≡◌, ℕ, ◌+◌, ◌-◌, ◌≤◌, ◌<�
 use Rattle.std.specs.Prelude.{max, length}
 use Rattle.std.specs.Option.{option_map}
 use Rattle.std.proofs.lemmas.List.{map-append, length-map}
-use Rattle.geo_slots.specs.Slots.{IsRising, value_at, with_value, without, with_insert}
+use Rattle.geo_slots.specs.Slots.{IsRising, value_at, without, with_insert}
 use Rattle.geo_family.specs.Family.{is_parent}
 use Rattle.geo_model.specs.Words.{change_where}
-use Rattle.geo_model.specs.Topology.{Topology, Provider, provider_at, add_geom, add_provider, add_consumer}
-use Rattle.geo_mesh.specs.declared.records.GeomRec.{GeomRec}
+use Rattle.geo_model.specs.Topology.{Provider, provider_at, add_geom, add_provider, add_consumer}
 use Rattle.geo_mesh.specs.declared.records.GeomCell.{GeomCell}
 use Rattle.geo_mesh.specs.declared.records.ProvCell.{ProvCell}
 use Rattle.geo_mesh.specs.declared.records.ConsCell.{ConsCell}
-use Rattle.geo_mesh.specs.declared.records.Scratch.{Scratch}
 use Rattle.geo_mesh.specs.declared.index.Index.{Index}
 use Rattle.geo_mesh.specs.declared.names.Names.{Names}
 use Rattle.geo_mesh.specs.declared.tables.Tables.{Tables}
 use Rattle.geo_mesh.specs.Cells.{IsCount, graph, graph_of, geom_row, provider_row, consumer_row, put_consumer}
 use Rattle.geo_mesh.specs.Rows.{row_with}
-use Rattle.geo_mesh.specs.Index.{IsIndexed, HaveRoom, AreRooms, with_geom_index, with_provider_index, with_consumer_index, without_geom_index, without_provider_index, without_consumer_index, attached_index, detached_index}
+use Rattle.geo_mesh.specs.Index.{IsIndexed, HaveRoom, with_geom_index, with_provider_index, with_consumer_index, without_geom_index, without_provider_index, without_consumer_index, attached_index, detached_index}
 use Rattle.geo_mesh.specs.Mesh.{IsMesh}
 use Rattle.geo_mesh.specs.Names.{AreNames, AreIds, HaveNameRoom, SameNames, AddsName, RetiresName, RemovesName, is_sound_named, id_of}
 use Rattle.geo_mesh.specs.Ranks.{kind_of, kinds, bare}
-use Rattle.geo_mesh.proofs.RowLemmas.{only, map-without}
+use Rattle.geo_mesh.proofs.RowLemmas.{only_value, map-without}
 use Rattle.geo_mesh.proofs.NameLemmas.{only_provider}
 use Rattle.geo_mesh.proofs.AlikeLemmas.{names-added, names-marked, names-removed}
 use Rattle.geo_mesh.proofs.IndexLemmas.{indexed-add_geom, indexed-add_provider, indexed-add_consumer, indexed-remove_geom, indexed-remove_provider, indexed-remove_consumer, indexed-attach, indexed-detach}
@@ -192,7 +190,7 @@ module _ {C : Type 0} (t : Tables C) (mesh : IsMesh t) where
         subst (λ xs. AreNames xs t.edges.providers.next m)
         (sym (map-without provider_row k (λ (x : Provider). x.number == k) (λ row. refl) t.edges.providers.rows))
         (names-removed (map provider_row t.edges.providers.rows) t.edges.providers.next t.names m mesh.names_are k (provider_row (k, v))
-        (only_provider k v t.edges.providers.rows (only k 1 t.edges.providers.next v t.edges.providers.rows rising at)) (found_provider k v at)
+        (only_provider k v t.edges.providers.rows (only_value k 1 t.edges.providers.next v t.edges.providers.rows rising at)) (found_provider k v at)
         removes.sound removes);
     names_ids = ids;
     names_room = name_room;
@@ -263,7 +261,7 @@ module _ {C : Type 0} (t : Tables C) (mesh : IsMesh t) where
       → AreNames (change_where (λ x. x.number == k) (λ x. record x { errored = true }) (map provider_row t.edges.providers.rows)) t.edges.providers.next m
   names-errored k v rising at m retires =
       names-marked (map provider_row t.edges.providers.rows) t.edges.providers.next t.names m mesh.names_are k (provider_row (k, v))
-      (only_provider k v t.edges.providers.rows (only k 1 t.edges.providers.next v t.edges.providers.rows rising at)) (found_provider k v at)
+      (only_provider k v t.edges.providers.rows (only_value k 1 t.edges.providers.next v t.edges.providers.rows rising at)) (found_provider k v at)
       retires.sound retires.ids retires.alike
 
   -- the numbers of the names stay where an error is set

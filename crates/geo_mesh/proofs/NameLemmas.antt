@@ -1,7 +1,7 @@
 -- Names after each change of the providers.
 use Rattle.std.proofs.Common.{◌≡◌, ℕ, ◌==◌, List, [], ◌∷◌, ◌++◌, map, Bool, true, false, Some, None, Option, sym, refl, ap, ◌∙◌, subst, inl, inr, not, filter, filter_map, find}
-use Rattle.std.proofs.lemmas.Bool.{cases_eq, eq-eqb, ne_eqb, eqb-true}
-use Rattle.std.specs.Prelude.{if◌then◌else◌, ◌&&◌}
+use Rattle.std.proofs.lemmas.Bool.{cases_eq, eq-eqb, ne_eqb, eqb-true, and_parts, not-true}
+use Rattle.std.specs.Prelude.{if◌then◌else◌}
 use Rattle.std.specs.Option.{option_or}
 use Rattle.geo_model.specs.Words.{change_where, same_name}
 use Rattle.geo_model.specs.Topology.{Provider}
@@ -10,18 +10,13 @@ use Rattle.geo_mesh.specs.Cells.{provider_row}
 use Rattle.geo_mesh.specs.Names.{is_sound_named, OneEach}
 use Rattle.geo_mesh.proofs.RowLemmas.{OnlyValue}
 
--- where both hold, each does
-both_true : (a b : Bool) → (a && b) ≡ true → (a ≡ true) × (b ≡ true)
-both_true true b e = (refl, e)
-both_true false b e = absurd (cc)
-
 -- the same bytes are the same name
 pub same_is : (a b : List ℕ) → same_name a b ≡ true → a ≡ b
 same_is [] [] e = refl
 same_is [] (y ∷ ys) e = absurd (cc)
 same_is (x ∷ xs) [] e = absurd (cc)
 same_is (x ∷ xs) (y ∷ ys) e =
-    let parts = both_true (x == y) (same_name xs ys) e in λ i. eqb-true x y parts.0 i ∷ same_is xs ys parts.1 i
+    let parts = and_parts (x == y) (same_name xs ys) e in λ i. eqb-true x y parts.0 i ∷ same_is xs ys parts.1 i
 
 -- and a name is the same as itself
 pub is_same : (a : List ℕ) → same_name a a ≡ true
@@ -32,11 +27,6 @@ is_same (x ∷ xs) = rw (eq-eqb x x refl) (is_same xs)
 abbrev pub OnlyProvider : ℕ → Provider → List Provider → Type 0
 OnlyProvider n x [] = Unit {0}
 OnlyProvider n x (y ∷ ys) = ((y.number == n) ≡ true → y ≡ x) × OnlyProvider n x ys
-
--- what doesn't hold is false
-not_true : (a : Bool) → not a ≡ true → a ≡ false
-not_true true e = absurd (cc)
-not_true false e = refl
 
 -- a provider with an error isn't one without an error of any name
 pub errored_fails : (name : List ℕ) (z : Provider) → z.errored ≡ true → is_sound_named name z ≡ false
@@ -142,9 +132,9 @@ module _ (n : ℕ) (mark : Provider → Option Provider) (marked : (y z : Provid
       let none : find (is_sound_named x.name) ys ≡ None = subst (λ z. find (is_sound_named z.name) ys ≡ None) is (one.0 (ap (λ z. z.errored) is ∙ sound)) in
       marked-find x.name y ys e ∙ retired-none x.name ys none
   gone_step x y ys false true e f sound only one found so =
-      let parts = both_true (not y.errored) (same_name y.name x.name) f in
+      let parts = and_parts (not y.errored) (same_name y.name x.name) f in
       let names : y.name ≡ x.name = same_is y.name x.name parts.1 in
-      let none : find (is_sound_named x.name) ys ≡ None = subst (λ m. find (is_sound_named m) ys ≡ None) names (one.0 (not_true y.errored parts.0)) in
+      let none : find (is_sound_named x.name) ys ≡ None = subst (λ m. find (is_sound_named m) ys ≡ None) names (one.0 (not-true y.errored parts.0)) in
       let later : find (λ z. z.number == n) ys ≡ Some x = rw e at found in
       let passes : is_sound_named x.name x ≡ true = rw (sound, is_same x.name) refl in
       absurd (found_too (λ z. z.number == n) (is_sound_named x.name) x ys later passes none)

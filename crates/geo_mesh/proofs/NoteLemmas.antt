@@ -1,5 +1,5 @@
 -- Notes of providers and of withering geoms, after each change of the tables.
-use Rattle.std.specs.Prelude.{◌≡◌, ℕ, ◌+◌, ◌-◌, ◌≤◌, ◌==◌, Bool, true, false, List, [], ◌∷◌, ◌++◌, Some, IsSome, map, max, nat_le, filter}
+use Rattle.std.specs.Prelude.{◌≡◌, ℕ, ◌+◌, ◌-◌, ◌≤◌, ◌==◌, Bool, true, false, List, [], ◌∷◌, ◌++◌, Some, map, max, nat_le, filter}
 use Rattle.std.proofs.Common.{refl, sym, ◌∙◌, ap, subst, arith}
 use Rattle.std.proofs.lemmas.List.{map-append}
 use Rattle.geo_slots.specs.Slots.{SlotsView, IsRising, value_at, with_value, without, with_insert}
@@ -14,7 +14,7 @@ use Rattle.geo_mesh.specs.Cells.{risen_of, fallen_of, geom_row}
 use Rattle.geo_mesh.specs.Topo.{first_geom}
 use Rattle.geo_mesh.specs.Notes.{withering_of, HaveNoteRoom, IsSameNotes, AreNotes}
 use Rattle.geo_mesh.specs.Ranks.{bare, rest_of}
-use Rattle.geo_mesh.proofs.RowLemmas.{OnlyValue, only, map-with_value_same, rows_with-with_value, map-without}
+use Rattle.geo_mesh.proofs.RowLemmas.{OnlyValue, only_value, map-with_value_same, rows_with-with_value, map-without}
 
 -- with one number more, without a mark
 abbrev pub with_mark : MarksView → MarksView
@@ -104,7 +104,7 @@ module _ {C : Type 0} (n : Notes) (gs : SlotsView (GeomCell C)) (ps : SlotsView 
   pub notes-provider_kept : (k : ℕ) (v w : ProvCell) → IsRising 1 ps.rows ps.next → value_at ps.rows k ≡ Some v → w.provider.risen ≡ v.provider.risen
       → w.provider.fallen ≡ v.provider.fallen → AreNotes n gs ps → AreNotes n gs (record ps { rows = with_value ps.rows k w })
   notes-provider_kept k v w rising at risen fallen are =
-      let is : OnlyValue k v ps.rows = only k 1 ps.next v ps.rows rising at in
+      let is : OnlyValue k v ps.rows = only_value k 1 ps.next v ps.rows rising at in
       record {
         risen = are.risen ∙ sym (map-with_value_same (row_with risen_of) k v w (ap (λ (b : Bool). (k, b)) risen) ps.rows is);
         fallen = are.fallen ∙ sym (map-with_value_same (row_with fallen_of) k v w (ap (λ (b : Bool). (k, b)) fallen) ps.rows is);
@@ -132,7 +132,7 @@ module _ {C : Type 0} (n : Notes) (gs : SlotsView (GeomCell C)) (ps : SlotsView 
   pub notes-geom_kept : (k : ℕ) (v w : GeomCell C) → IsRising 1 gs.rows gs.next → value_at gs.rows k ≡ Some v → w.geom.withering ≡ v.geom.withering
       → AreNotes n gs ps → AreNotes n (record gs { rows = with_value gs.rows k w }) ps
   notes-geom_kept k v w rising at stays are =
-      let is : OnlyValue k v gs.rows = only k 1 gs.next v gs.rows rising at in
+      let is : OnlyValue k v gs.rows = only_value k 1 gs.next v gs.rows rising at in
       record {
         risen = are.risen;
         fallen = are.fallen;

@@ -1,5 +1,5 @@
 -- An orderly graph stays orderly through each change of one thing.
-use Rattle.std.specs.Prelude.{◌≡◌, ◌≢◌, ℕ, ◌+◌, ◌<◌, ◌≤◌, ◌^◌, ◌==◌, Bool, true, not, List, [], ◌∷◌, ◌++◌, find, Option, Some, None, All, IsSome, IfSome, IsSomeAnd, false}
+use Rattle.std.specs.Prelude.{◌≡◌, ◌≢◌, ℕ, ◌+◌, ◌<◌, ◌≤◌, ◌^◌, ◌==◌, Bool, true, not, List, [], ◌∷◌, ◌++◌, find, Option, Some, None, All, IsSome, IsSomeAnd, false}
 use Rattle.std.specs.Option.{option_map, option_or}
 use Rattle.std.proofs.Common.{refl, sym, ◌∙◌, ap, subst, arith}
 use Rattle.std.proofs.lemmas.List.Elements.{recursion_from_All, All-from_recursion, All-push, All-filter}
@@ -7,11 +7,11 @@ use Rattle.std.proofs.lemmas.List.Folds.{find-append}
 use Rattle.geo_base.specs.declared.kind.Kind.{Kind}
 use Rattle.geo_base.specs.declared.kind.Kind.TheVariants as kinds
 use Rattle.geo_model.specs.Words.{change_where}
-use Rattle.geo_model.specs.Topology.{Topology, Geom, Provider, Consumer, geom_at, provider_at, providers_of, consumers_of, attached_to, add_geom, add_provider, add_consumer, remove_geom, remove_provider, remove_consumer, attach, detach, set_error, set_size, set_withering, set_marks, set_config, note_started}
+use Rattle.geo_model.specs.Topology.{Topology, Geom, Provider, Consumer, geom_at, provider_at, providers_of, consumers_of, attached_to, add_geom, add_provider, add_consumer, remove_geom, remove_provider, remove_consumer, attach, detach, set_marks}
 use Rattle.geo_model.specs.Graph.{IsInOrder, PartsLive}
-use Rattle.geo_laws_graph.specs.LookupLaws.{AddedGeomIsFound, AddedProviderIsFound, AddedConsumerIsFound, RemovedGeomIsGone, RemovedProviderIsGone, RemovedConsumerIsGone, AttachedIsFound, DetachedIsFound, MarksAreFound, ErrorIsFound, SizeIsFound, WitheringIsFound, ConfigIsFound, StartIsFound, PartsStayAlive}
+use Rattle.geo_laws_graph.specs.LookupLaws.{AddedGeomIsFound, AddedProviderIsFound, AddedConsumerIsFound, RemovedGeomIsGone, RemovedProviderIsGone, RemovedConsumerIsGone, AttachedIsFound, DetachedIsFound, MarksAreFound, PartsStayAlive}
 use Rattle.geo_laws_graph.proofs.Lists.{changed, changed-keeps, find-changed, all-changed, numbers-changed}
-use Rattle.geo_laws_graph.proofs.Found.{added-geom, added-provider, added-consumer, removed-geom, removed-provider, removed-consumer, attached-found, detached-found, marks-found, error-found, size_found, withering-found, config-found, start-found}
+use Rattle.geo_laws_graph.proofs.Found.{added-geom, added-provider, added-consumer, removed-geom, removed-provider, removed-consumer, attached-found, detached-found, marks-found}
 use Rattle.geo_laws_graph.proofs.Living.{parts-alive, changed_parts, changed_provider-parts}
 use Rattle.geo_laws_graph.proofs.Numbered.{unique}
 use Rattle.std.specs.List.{AllByRecursion}

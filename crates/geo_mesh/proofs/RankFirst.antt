@@ -3,12 +3,14 @@ use Rattle.std.specs.Prelude.{◌≡◌, ◌≢◌, ◌⊎◌, ℕ, ◌+◌, ◌
 use Rattle.std.specs.List.{AllByRecursion}
 use Rattle.std.specs.Option.{option_map}
 use Rattle.std.proofs.Common.{refl, sym, ap, ◌∙◌, subst, inl, inr, arith}
-use Rattle.std.proofs.lemmas.Bool.{eqb-true, eq-eqb, ne_eqb}
+use Rattle.std.proofs.lemmas.Bool.{cases_Bool, eqb-true, eq-eqb, ne_eqb}
 use Rattle.std.proofs.lemmas.List.Elements.{recursion_from_All}
+use Rattle.std.proofs.Math.Bool.{or-false}
 use Rattle.geo_base.specs.declared.kind.Kind.{Kind}
 use Rattle.geo_base.specs.declared.kind.Kind.TheVariants as kinds
 use Rattle.geo_model.specs.Words.{largest, is_granted_kind, names_number}
 use Rattle.geo_model.specs.Topology.{Provider, Geom, Consumer, geom_at}
+use Rattle.geo_model.proofs.DemandLemmas.{names_some}
 use Rattle.geo_laws_graph.specs.LookupLaws.{EachIsFound}
 use Rattle.geo_laws_graph.proofs.Lists.{Rise, rise-from}
 use Rattle.geo_laws_graph.proofs.Found.{each-found}
@@ -30,12 +32,6 @@ use Rattle.geo_mesh.proofs.RankMend.{largest-same}
 use Rattle.geo_mesh.proofs.RankHeights.{local-few}
 use Rattle.geo_mesh.proofs.ViewLemmas.{geom_at-view}
 use Rattle.geo_mesh.proofs.RankRows.{all-at, kinds-bare}
-use Rattle.geo_mesh.proofs.RankWalk.{names-some}
-
--- by whether a geom is one of the first two
-first_or_not : (b : Bool) → (b ≡ true) ⊎ (b ≡ false)
-first_or_not true = inl refl
-first_or_not false = inr refl
 
 -- the rank of a later geom stands on what its consumers are attached to
 pub footing-later : (g : ℕ) (o : Option ℕ) → is_dev_or_taste g ≡ false → footing g o ≡ o
@@ -100,14 +96,14 @@ module _ (edges : Edges) where
   attached-later p c there = at (value_at edges.consumers.rows c) refl (rw (value_at-rows_with ranked_link_of c edges.consumers.rows) at there) where
     at : (o : Option ConsCell) → value_at edges.consumers.rows c ≡ o → passes (is_attached p) (option_map ranked_link_of o) ≡ true → is_dev_or_taste (user edges c) ≡ false
     at None e there = absurd (cc)
-    at (Some v) e there = rw (value_at-rows_with ranked_link_of c edges.consumers.rows, e) (footing-some v.consumer.geom p v.consumer.prov (names-some (footing v.consumer.geom v.consumer.prov) p there)).0
+    at (Some v) e there = rw (value_at-rows_with ranked_link_of c edges.consumers.rows, e) (footing-some v.consumer.geom p v.consumer.prov (names_some (footing v.consumer.geom v.consumer.prov) p there)).0
 
   -- and it is attached to that provider
   pub attached-linked : (p c : ℕ) → passes (is_attached p) (value_at (ranked_links edges).rows c) ≡ true → passes (is_attached p) (value_at (links edges).rows c) ≡ true
   attached-linked p c there = rw (value_at-rows_with links_of c edges.consumers.rows) (at (value_at edges.consumers.rows c) (rw (value_at-rows_with ranked_link_of c edges.consumers.rows) at there)) where
     at : (o : Option ConsCell) → passes (is_attached p) (option_map ranked_link_of o) ≡ true → passes (is_attached p) (option_map links_of o) ≡ true
     at None there = absurd (cc)
-    at (Some v) there = rw (footing-some v.consumer.geom p v.consumer.prov (names-some (footing v.consumer.geom v.consumer.prov) p there)).1 (eq-eqb p p refl)
+    at (Some v) there = rw (footing-some v.consumer.geom p v.consumer.prov (names_some (footing v.consumer.geom v.consumer.prov) p there)).1 (eq-eqb p p refl)
 
   -- the rank of a later geom stands on a provider to which its consumer is attached
   pub attached-ranked : (p c : ℕ) → is_dev_or_taste (user edges c) ≡ false → passes (is_attached p) (value_at (links edges).rows c) ≡ true → passes (is_attached p) (value_at (ranked_links edges).rows c) ≡ true
@@ -158,7 +154,7 @@ module _ (edges : Edges) where
 
       -- the ranks are one more than the highest directly below
       pub rank_from-local : (x : ℕ) → rank_from f edges x ≡ above (below edges) (rank_from f edges) x
-      rank_from-local x = at (first_or_not (is_dev_or_taste x)) where
+      rank_from-local x = at (cases_Bool (is_dev_or_taste x)) where
         at : (is_dev_or_taste x ≡ true) ⊎ (is_dev_or_taste x ≡ false) → rank_from f edges x ≡ above (below edges) (rank_from f edges) x
         at (inl first) = (let here : rank_from f edges x ≡ 1 + largest (map f (below edges x)) = rw first refl in omega (arith, same_beneath x))
         at (inr later) =
@@ -168,20 +164,17 @@ module _ (edges : Edges) where
 
       -- and no more than one above the number of geoms
       pub rank_from-few : (numbers : List ℕ) → ((g : ℕ) → is_dev_or_taste g ≡ true → IsAmong numbers g) → ((g : ℕ) → 2 ≤ f g → IsAmong numbers g) → (x : ℕ) → rank_from f edges x ≤ length numbers + 1
-      rank_from-few numbers listed stood x = local-few (rank_from f edges) (below edges) numbers rank_from-local (λ g high. at g high (first_or_not (is_dev_or_taste g))) x where
+      rank_from-few numbers listed stood x = local-few (rank_from f edges) (below edges) numbers rank_from-local (λ g high. at g high (cases_Bool (is_dev_or_taste g))) x where
         at : (g : ℕ) → 2 ≤ rank_from f edges g → (is_dev_or_taste g ≡ true) ⊎ (is_dev_or_taste g ≡ false) → IsAmong numbers g
         at g high (inl first) = listed g first
         at g high (inr later) = (let here : rank_from f edges g ≡ f g = rw later refl in stood g (omega arith))
 
     -- what stands above a later geom does so by the ranks
     pub stands-down : (x g : ℕ) → is_dev_or_taste x ≡ false → StandsAbove (below edges) x g → StandsAbove (ranked_below edges) x g
-    stands-down x g later stands = λ has here so. only (has x) (stands (λ y. has y || is_dev_or_taste y) (rw here refl) (λ y h there is. up has so y h there is (first_or_not (is_dev_or_taste y)))) where
+    stands-down x g later stands = λ has here so. only (has x) (stands (λ y. has y || is_dev_or_taste y) (rw here refl) (λ y h there is. up has so y h there is (cases_Bool (is_dev_or_taste y)))) where
       -- of one of two facts, of which the second is false
       only : (b : Bool) → (b || is_dev_or_taste x) ≡ true → b ≡ true
-      only b fact = at b (rw later at fact) where
-        at : (b : Bool) → (b || false) ≡ true → b ≡ true
-        at true fact = refl
-        at false fact = fact
+      only b fact = sym (or-false b) ∙ (rw later at fact)
 
       -- the fact goes up along each edge
       up : (has : ℕ → Bool) → ((y h : ℕ) → IsAmong (ranked_below edges y) h → has h ≡ true → has y ≡ true) → (y h : ℕ) → IsAmong (below edges y) h → (has h || is_dev_or_taste h) ≡ true
@@ -193,16 +186,12 @@ module _ (edges : Edges) where
       up has so y h there is (inr above_later) =
           let near : IsAmong (ranked_below edges y) h = subst (λ ms. IsAmong ms h) (sym (ranked-below y above_later)) there in
           let below_later : is_dev_or_taste h ≡ false = below-later y h there in
-          let here : has h ≡ true = at (has h) (rw below_later at is) in
+          let here : has h ≡ true = sym (or-false (has h)) ∙ (rw below_later at is) in
           rw (so y h near here) refl
-        where
-          at : (b : Bool) → (b || false) ≡ true → b ≡ true
-          at true fact = refl
-          at false fact = fact
 
   -- what stands above a geom by the ranks does so by the graph
   pub stands-up : (x g : ℕ) → StandsAbove (ranked_below edges) x g → StandsAbove (below edges) x g
-  stands-up x g stands = λ has here so. stands has here (λ y h there is. at has so y h there is (first_or_not (is_dev_or_taste y))) where
+  stands-up x g stands = λ has here so. stands has here (λ y h there is. at has so y h there is (cases_Bool (is_dev_or_taste y))) where
     at : (has : ℕ → Bool) → ((y h : ℕ) → IsAmong (below edges y) h → has h ≡ true → has y ≡ true) → (y h : ℕ) → IsAmong (ranked_below edges y) h → has h ≡ true
         → (is_dev_or_taste y ≡ true) ⊎ (is_dev_or_taste y ≡ false) → has y ≡ true
     at has so y h there is (inl first) = absurd (subst (λ ms. IsAmong ms h) (ranked_below-first y first) there)
@@ -211,7 +200,7 @@ module _ (edges : Edges) where
   -- the classes of the first two have no limit, so only the ranks in the cells can be too great
   pub rank_from-high : (f : ℕ → ℕ) (classes : List (ℕ × Kind)) → AllByRecursion (λ row. is_dev_or_taste row.0 ≡ true → is_granted_kind row.1 ≡ true) classes → is_high classes (rank_from f edges) ≡ is_high classes f
   rank_from-high f [] granted = refl
-  rank_from-high f (row ∷ rows) granted = at (first_or_not (is_dev_or_taste row.0)) (rank_from-high f rows granted.1) where
+  rank_from-high f (row ∷ rows) granted = at (cases_Bool (is_dev_or_taste row.0)) (rank_from-high f rows granted.1) where
     at : (is_dev_or_taste row.0 ≡ true) ⊎ (is_dev_or_taste row.0 ≡ false) → is_high rows (rank_from f edges) ≡ is_high rows f → is_high (row ∷ rows) (rank_from f edges) ≡ is_high (row ∷ rows) f
     at (inl first) rest = rw (granted.0 first, rest) refl
     at (inr later) rest = rw (later, rest) refl

@@ -1,13 +1,15 @@
 -- Heights over a graph without a loop: a function that is one more than its largest value below is the height, and so the rank; and which geoms are reached downwards.
-use Rattle.std.specs.Prelude.{◌≡◌, ◌⊎◌, ℕ, zero, suc, ◌+◌, ◌≤◌, ◌==◌, nat_le, Bool, true, false, ◌||◌, List, [], ◌∷◌, ◌++◌, map, flat_map, length, if◌then◌else◌}
+use Rattle.std.specs.Prelude.{◌≡◌, ◌⊎◌, ℕ, zero, suc, ◌+◌, ◌≤◌, ◌==◌, nat_le, Bool, true, false, List, [], ◌∷◌, map, flat_map, length, if◌then◌else◌}
 use Rattle.std.specs.List.{list_any}
 use Rattle.std.proofs.Common.{refl, sym, ap, ◌∙◌, inl, inr, arith}
-use Rattle.std.proofs.lemmas.Bool.{eqb-true, eq-eqb, leb-true, leb-false}
+use Rattle.std.proofs.lemmas.Bool.{cases_eq, eqb-true, eq-eqb, leb-true, leb-false, or_left, or_right, or_cases}
+use Rattle.std.proofs.lemmas.List.Folds.{list_any-append}
+use Rattle.std.proofs.Math.Bool.{or-false}
 use Rattle.geo_model.specs.Words.{largest}
 use Rattle.geo_model.specs.Topology.{Topology}
 use Rattle.geo_model.specs.Rank.{rank_within, geoms_under, geoms_reached_within}
 use Rattle.geo_mesh.specs.Mending.{IsAmong, above, height, Climbs, StandsAbove}
-use Rattle.geo_mesh.proofs.RankMend.{is_or_not, largest-among, largest-most, largest-same, largest-is}
+use Rattle.geo_mesh.proofs.RankMend.{largest-among, largest-most, largest-same, largest-is}
 
 module _ (below : ℕ → List ℕ) (f : ℕ → ℕ) where
   -- a function that is one more than its largest value below climbs
@@ -112,7 +114,7 @@ module _ (f : ℕ → ℕ) where
   taken_below : (below : ℕ → List ℕ) → ((g : ℕ) → f g ≡ above below f g) → (k g m : ℕ) → f g ≤ k → 1 ≤ m → m ≤ f g → (x : ℕ) × (f x ≡ m)
   taken_below below local zero g m few low high = absurd (omega (arith, local g))
   taken_below below local (suc k) g m few low high =
-      pick (is_or_not m (f g)) (largest-is f (below g)) (λ h small covers. taken_below below local k h m small low covers) where
+      pick (cases_eq m (f g)) (largest-is f (below g)) (λ h small covers. taken_below below local k h m small low covers) where
         pick : (m ≡ f g) ⊎ (m ≡ f g → ⊥) → (largest (map f (below g)) ≡ 0) ⊎ ((n : ℕ) × IsAmong (below g) n × (f n ≡ largest (map f (below g))))
             → ((h : ℕ) → f h ≤ k → m ≤ f h → (x : ℕ) × (f x ≡ m)) → (x : ℕ) × (f x ≡ m)
         pick (inl same) found so = (g, sym same)
@@ -135,42 +137,19 @@ module _ (f : ℕ → ℕ) where
 abbrev pub reached_in : {C : Type 0} → Topology C → ℕ → ℕ → ℕ → Bool
 reached_in t k y g = list_any (λ h. h == g) (geoms_reached_within k t y)
 
--- of two, of which one holds, it is the first or the second
-any_both_step : (a b c : Bool) → (a || b) ≡ true → (a ≡ true) ⊎ (b ≡ true)
-any_both_step true b c e = inl refl
-any_both_step false b c e = inr e
-
--- where the first holds, one of both does
-or_left : (a b : Bool) → a ≡ true → (a || b) ≡ true
-or_left true b e = refl
-or_left false b e = absurd cc
-
--- where the second holds, one of both does
-or_right : (a b : Bool) → b ≡ true → (a || b) ≡ true
-or_right true b e = refl
-or_right false b e = e
-
 module _ (test : ℕ → Bool) where
-  -- an item of two lists passes where one of the first or of the second does
-  any_append : (xs ys : List ℕ) → list_any test (xs ++ ys) ≡ (list_any test xs || list_any test ys)
-  any_append [] ys = refl
-  any_append (x ∷ xs) ys = rw (any_append xs ys) (joined (test x) (list_any test xs) (list_any test ys)) where
-    joined : (a b c : Bool) → (a || (b || c)) ≡ ((a || b) || c)
-    joined true b c = refl
-    joined false b c = refl
-
   -- one of many lists has an item that passes
   any_flat : (f : ℕ → List ℕ) (ms : List ℕ) (h : ℕ) → IsAmong ms h → list_any test (f h) ≡ true → list_any test (flat_map f ms) ≡ true
   any_flat f [] h there passes = absurd there
   any_flat f (m ∷ ms) h (inl same) passes =
-      any_append (f m) (flat_map f ms) ∙ or_left (list_any test (f m)) (list_any test (flat_map f ms)) (ap (λ n. list_any test (f n)) same ∙ passes)
+      list_any-append test (f m) (flat_map f ms) ∙ or_left (list_any test (f m)) (list_any test (flat_map f ms)) (ap (λ n. list_any test (f n)) same ∙ passes)
   any_flat f (m ∷ ms) h (inr later) passes =
-      any_append (f m) (flat_map f ms) ∙ or_right (list_any test (f m)) (list_any test (flat_map f ms)) (any_flat f ms h later passes)
+      list_any-append test (f m) (flat_map f ms) ∙ or_right (list_any test (f m)) (list_any test (flat_map f ms)) (any_flat f ms h later passes)
 
   -- an item of many lists that passes is in one of them
   flat_any : (f : ℕ → List ℕ) (ms : List ℕ) → list_any test (flat_map f ms) ≡ true → (h : ℕ) × IsAmong ms h × (list_any test (f h) ≡ true)
   flat_any f [] passes = absurd cc
-  flat_any f (m ∷ ms) passes = pick (any_both_step (list_any test (f m)) (list_any test (flat_map f ms)) true (sym (any_append (f m) (flat_map f ms)) ∙ passes)) (λ e. flat_any f ms e) where
+  flat_any f (m ∷ ms) passes = pick (or_cases (list_any test (f m)) (list_any test (flat_map f ms)) (sym (list_any-append test (f m) (flat_map f ms)) ∙ passes)) (λ e. flat_any f ms e) where
     pick : (list_any test (f m) ≡ true) ⊎ (list_any test (flat_map f ms) ≡ true) → (list_any test (flat_map f ms) ≡ true → (h : ℕ) × IsAmong ms h × (list_any test (f h) ≡ true))
         → (h : ℕ) × IsAmong (m ∷ ms) h × (list_any test (f h) ≡ true)
     pick (inl first) so = (m, inl refl, first)
@@ -190,12 +169,9 @@ module _ {C : Type 0} (t : Topology C) where
 
   -- a geom that reaches another downwards stands above it
   pub reached-stands : (k y g : ℕ) → reached_in t k y g ≡ true → StandsAbove (geoms_under t) y g
-  reached-stands zero y g there = λ has at so. (let same : y ≡ g = eqb-true y g (only (y == g) there) in rw same at) where
-    only : (a : Bool) → (a || false) ≡ true → a ≡ true
-    only true e = refl
-    only false e = e
+  reached-stands zero y g there = λ has at so. (let same : y ≡ g = eqb-true y g (sym (or-false (y == g)) ∙ there) in rw same at)
   reached-stands (suc k) y g there =
-      pick (any_both_step (y == g) (list_any (λ h. h == g) (flat_map (geoms_reached_within k t) (geoms_under t y))) true there) (λ h e. reached-stands k h g e) where
+      pick (or_cases (y == g) (list_any (λ h. h == g) (flat_map (geoms_reached_within k t) (geoms_under t y))) there) (λ h e. reached-stands k h g e) where
         pick : ((y == g) ≡ true) ⊎ (list_any (λ h. h == g) (flat_map (geoms_reached_within k t) (geoms_under t y)) ≡ true)
             → ((h : ℕ) → reached_in t k h g ≡ true → StandsAbove (geoms_under t) h g) → StandsAbove (geoms_under t) y g
         pick (inl here) deeper = λ has at so. (let same : y ≡ g = eqb-true y g here in rw same at)
@@ -206,12 +182,9 @@ module _ {C : Type 0} (t : Topology C) where
   module _ (f : ℕ → ℕ) (climbs : Climbs (geoms_under t) f) where
     -- what is reached is reached over as many levels as can be below
     reached_less : (k j y g : ℕ) → f y ≤ j → reached_in t k y g ≡ true → reached_in t j y g ≡ true
-    reached_less zero j y g low there = reached_self j g y (eqb-true y g (only (y == g) there)) where
-      only : (a : Bool) → (a || false) ≡ true → a ≡ true
-      only true e = refl
-      only false e = e
+    reached_less zero j y g low there = reached_self j g y (eqb-true y g (sym (or-false (y == g)) ∙ there))
     reached_less (suc k) j y g low there =
-        pick (any_both_step (y == g) (list_any (λ h. h == g) (flat_map (geoms_reached_within k t) (geoms_under t y))) true there) j low (λ i h small e. reached_less k i h g small e) where
+        pick (or_cases (y == g) (list_any (λ h. h == g) (flat_map (geoms_reached_within k t) (geoms_under t y))) there) j low (λ i h small e. reached_less k i h g small e) where
           pick : ((y == g) ≡ true) ⊎ (list_any (λ h. h == g) (flat_map (geoms_reached_within k t) (geoms_under t y)) ≡ true)
               → (j : ℕ) → f y ≤ j → ((i h : ℕ) → f h ≤ i → reached_in t k h g ≡ true → reached_in t i h g ≡ true) → reached_in t j y g ≡ true
           pick (inl here) j low deeper = reached_self j g y (eqb-true y g here)

@@ -2,14 +2,15 @@
 use Rattle.std.specs.Prelude.{◌≡◌, ◌⊎◌, ℕ, ◌+◌, ◌==◌, nat_lt, max, Bool, true, false, not, ◌&&◌, ◌||◌, List, [], ◌∷◌, ◌++◌, Option, Some, None, IsSome, IfSome, map, if◌then◌else◌}
 use Rattle.std.specs.List.{AllByRecursion}
 use Rattle.std.proofs.Common.{refl, sym, ap, ◌∙◌, inl, inr, arith}
-use Rattle.std.proofs.lemmas.Bool.{eqb-true, eqb-false, le-ltb}
+use Rattle.std.proofs.lemmas.Bool.{cases_eq, eqb-true, eqb-false, le-ltb, or_parts}
+use Rattle.std.proofs.Math.Bool.{or-false, and-false}
 use Rattle.geo_base.specs.declared.kind.Kind.{Kind}
 use Rattle.geo_model.specs.Words.{largest, is_granted_kind, names_number}
 use Rattle.geo_model.specs.Rank.{rank_limit}
 use Rattle.geo_model.proofs.DemandLemmas.{kept_by}
 use Rattle.geo_slots.specs.Slots.{IsRising, value_at, without}
 use Rattle.geo_mesh.specs.Ranks.{rank_at, under, rank_through, number_or, is_high, AreRanks}
-use Rattle.geo_mesh.proofs.RankMend.{is_or_not, largest-same}
+use Rattle.geo_mesh.proofs.RankMend.{largest-same}
 use Rattle.geo_mesh.proofs.RankRows.{peak, peak-is, adds, past_peak}
 
 module _ {T : Type 0} where
@@ -49,6 +50,11 @@ pub all-both : {X : Type 0} (P Q R : X → Type 0) → ((x : X) → P x → Q x 
 all-both P Q R so [] one two = tt
 all-both P Q R so (x ∷ xs) one two = (so x one.0 two.0, all-both P Q R so xs one.1 two.1)
 
+-- a number that is 0 where a test passes, and else 0
+zero_either : (b : Bool) (z : ℕ) → z ≡ 0 → (if b then z else 0) ≡ 0
+zero_either true z e = e
+zero_either false z e = refl
+
 module _ (classes : List (ℕ × Kind)) (standing owners : List (ℕ × ℕ)) (users : List (ℕ × (ℕ × Option ℕ))) (ranks : AreRanks classes standing owners users) where
   -- another graph with the same largest values below
   pub ranks-graph : (owners2 : List (ℕ × ℕ)) (users2 : List (ℕ × (ℕ × Option ℕ)))
@@ -80,12 +86,8 @@ module _ (classes : List (ℕ × Kind)) (standing owners : List (ℕ × ℕ)) (u
       (λ f x. peak-is owners f x (users ++ (n, (g, None)) ∷ []) ∙ peak_same f x users ∙ sym (peak-is owners f x users))
       (all-append (λ (row : ℕ × (ℕ × Option ℕ)). IsSome (value_at classes row.1.0)) users ((n, (g, None)) ∷ []) ranks.owned (lives, tt))
       (all-append (λ (row : ℕ × (ℕ × Option ℕ)). IfSome row.1.1 (λ p. IsSome (value_at owners p))) users ((n, (g, None)) ∷ []) ranks.attached (tt, tt)) where
-        none : (b : Bool) (z : ℕ) → z ≡ 0 → (if b then z else 0) ≡ 0
-        none true z e = e
-        none false z e = refl
-
         peak_same : (f : ℕ → ℕ) (x : ℕ) (users : List (ℕ × (ℕ × Option ℕ))) → peak owners f x (users ++ (n, (g, None)) ∷ []) ≡ peak owners f x users
-        peak_same f x [] = omega (arith, none (g == x) 0 refl)
+        peak_same f x [] = omega (arith, zero_either (g == x) 0 refl)
         peak_same f x (row ∷ users) = ap (λ m. max (adds owners f x row.1) m) (peak_same f x users)
 
   -- without a consumer that is attached to nothing
@@ -95,12 +97,8 @@ module _ (classes : List (ℕ × Kind)) (standing owners : List (ℕ × ℕ)) (u
       (λ f x. peak-is owners f x (without users c) ∙ peak_same f x 1 users rising free ∙ sym (peak-is owners f x users))
       (kept_by (λ (row : ℕ × (ℕ × Option ℕ)). IsSome (value_at classes row.1.0)) (λ (row : ℕ × (ℕ × Option ℕ)). IsSome (value_at classes row.1.0)) (λ row. not (row.0 == c)) (λ row e fact. fact) users ranks.owned)
       (kept_by (λ (row : ℕ × (ℕ × Option ℕ)). IfSome row.1.1 (λ p. IsSome (value_at owners p))) (λ (row : ℕ × (ℕ × Option ℕ)). IfSome row.1.1 (λ p. IsSome (value_at owners p))) (λ row. not (row.0 == c)) (λ row e fact. fact) users ranks.attached) where
-        none : (b : Bool) (z : ℕ) → z ≡ 0 → (if b then z else 0) ≡ 0
-        none true z e = e
-        none false z e = refl
-
         free_adds : (f : ℕ → ℕ) (x : ℕ) (e : ℕ × Option ℕ) → e.1 ≡ None → adds owners f x e ≡ 0
-        free_adds f x e is = rw is (none (e.0 == x) 0 refl)
+        free_adds f x e is = rw is (zero_either (e.0 == x) 0 refl)
 
         peak_same : (f : ℕ → ℕ) (x low : ℕ) (users : List (ℕ × (ℕ × Option ℕ))) → IsRising low users high → ((e : ℕ × Option ℕ) → value_at users c ≡ Some e → e.1 ≡ None) → peak owners f x (without users c) ≡ peak owners f x users
         peak_same f x low [] rising free = refl
@@ -159,11 +157,6 @@ module _ (classes : List (ℕ × Kind)) (standing owners : List (ℕ × ℕ)) (u
         peak_same f x [] facts = refl
         peak_same f x (row ∷ users) facts = rw (through f row.1.1 facts.0, peak_same f x users facts.1) refl
 
-  -- one more that doesn't hold changes nothing where none holds
-  or_false : (a : Bool) → a ≡ false → (a || false) ≡ false
-  or_false true e = e
-  or_false false e = refl
-
   -- a new geom has rank 1
   pub ranks-new_geom : (n : ℕ) (k : Kind) → value_at standing n ≡ None → AreRanks (classes ++ (n, k) ∷ []) (standing ++ (n, 1) ∷ []) owners users
   ranks-new_geom n k none =
@@ -185,14 +178,10 @@ module _ (classes : List (ℕ × Kind)) (standing owners : List (ℕ × ℕ)) (u
         here : rank_at (standing ++ (n, 1) ∷ []) n ≡ 1
         here = same standing n ∙ ap (λ (o : Option ℕ). number_or 1 o) none
 
-        both_false : (a : Bool) → (a && false) ≡ false
-        both_false true = refl
-        both_false false = refl
-
         low : (classes : List (ℕ × Kind)) → is_high classes (rank_at standing) ≡ false → is_high (classes ++ (n, k) ∷ []) (rank_at (standing ++ (n, 1) ∷ [])) ≡ false
         low [] e =
             let small : nat_lt rank_limit (rank_at (standing ++ (n, 1) ∷ []) n) ≡ false = le-ltb rank_limit (rank_at (standing ++ (n, 1) ∷ []) n) (omega (arith, here)) in
-            rw small (or_false (not (is_granted_kind k) && false) (both_false (not (is_granted_kind k))))
+            rw small (or-false (not (is_granted_kind k) && false) ∙ and-false (not (is_granted_kind k)))
         low (row ∷ classes) e = rw (same standing row.0) (split (not (is_granted_kind row.1) && nat_lt rank_limit (rank_at standing row.0)) (is_high classes (rank_at standing)) (is_high (classes ++ (n, k) ∷ []) (rank_at (standing ++ (n, 1) ∷ []))) e (λ h. low classes h)) where
           split : (a x y : Bool) → (a || x) ≡ false → (x ≡ false → y ≡ false) → (a || y) ≡ false
           split true x y e so = e
@@ -201,7 +190,7 @@ module _ (classes : List (ℕ × Kind)) (standing owners : List (ℕ × ℕ)) (u
   -- a geom that has no consumer is taken away
   pub ranks-destroy_geom : (n : ℕ) → AllByRecursion (λ (row : ℕ × (ℕ × Option ℕ)). (row.1.0 == n) ≡ false) users → AreRanks (without classes n) (without standing n) owners users
   ranks-destroy_geom n free =
-      ranks-geoms (without classes n) (without standing n) (λ x. same x (is_or_not x n)) (low classes ranks.low)
+      ranks-geoms (without classes n) (without standing n) (λ x. same x (cases_eq x n)) (low classes ranks.low)
       (all-both (λ (row : ℕ × (ℕ × Option ℕ)). (row.1.0 == n) ≡ false) (λ (row : ℕ × (ℕ × Option ℕ)). IsSome (value_at classes row.1.0)) (λ (row : ℕ × (ℕ × Option ℕ)). IsSome (value_at (without classes n) row.1.0))
       (λ row other fact. rw (value_at-without n row.1.0 classes (eqb-false row.1.0 n other)) fact) users free ranks.owned) where
         nothing : (f : ℕ → ℕ) (users : List (ℕ × (ℕ × Option ℕ))) → AllByRecursion (λ (row : ℕ × (ℕ × Option ℕ)). (row.1.0 == n) ≡ false) users → peak owners f n users ≡ 0
@@ -219,11 +208,7 @@ module _ (classes : List (ℕ × Kind)) (standing owners : List (ℕ × ℕ)) (u
 
         low : (classes : List (ℕ × Kind)) → is_high classes (rank_at standing) ≡ false → is_high (without classes n) (rank_at (without standing n)) ≡ false
         low [] e = refl
-        low (row ∷ classes) e = at (row.0 == n) refl (split (not (is_granted_kind row.1) && nat_lt rank_limit (rank_at standing row.0)) (is_high classes (rank_at standing)) e) (λ h. low classes h) where
-          split : (a x : Bool) → (a || x) ≡ false → (a ≡ false) × (x ≡ false)
-          split true x e = absurd cc
-          split false x e = (refl, e)
-
+        low (row ∷ classes) e = at (row.0 == n) refl (or_parts (not (is_granted_kind row.1) && nat_lt rank_limit (rank_at standing row.0)) (is_high classes (rank_at standing)) e) (λ h. low classes h) where
           at : (b : Bool) → (row.0 == n) ≡ b → ((not (is_granted_kind row.1) && nat_lt rank_limit (rank_at standing row.0)) ≡ false) × (is_high classes (rank_at standing) ≡ false)
               → (is_high classes (rank_at standing) ≡ false → is_high (without classes n) (rank_at (without standing n)) ≡ false) → is_high (without (row ∷ classes) n) (rank_at (without standing n)) ≡ false
           at true k parts so = rw k (so parts.1)

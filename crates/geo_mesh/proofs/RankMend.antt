@@ -1,24 +1,15 @@
 -- Values that are mended along a graph: how the steps of a walk upwards join, and that at the end each value is one more than the largest below.
-use Rattle.std.specs.Prelude.{◌≡◌, ◌⊎◌, ℕ, ◌+◌, ◌-◌, ◌<◌, ◌≤◌, ◌==◌, nat_le, max, Bool, true, false, List, [], ◌∷◌, map}
+use Rattle.std.specs.Prelude.{◌≡◌, ◌⊎◌, ℕ, ◌+◌, ◌-◌, ◌<◌, ◌≤◌, nat_le, max, List, [], ◌∷◌, map}
 use Rattle.std.proofs.Common.{refl, sym, ap, inl, inr, arith}
-use Rattle.std.proofs.lemmas.Bool.{eqb-true, eqb-false, le-leb, leb-true}
+use Rattle.std.proofs.lemmas.Bool.{cases_eq, le-leb, leb-true}
 use Rattle.geo_model.specs.Words.{largest}
 use Rattle.geo_mesh.specs.Mending.{IsAmong, above, Climbs, StandsAbove, Lifted, Lowered, Joined}
-
--- a number is another or isn't
-is_or_not_step : (m n : ℕ) (b : Bool) → (m == n) ≡ b → (m ≡ n) ⊎ (m ≡ n → ⊥)
-is_or_not_step m n true e = inl (eqb-true m n e)
-is_or_not_step m n false e = inr (eqb-false m n e)
-
--- so for any two numbers
-pub is_or_not : (m n : ℕ) → (m ≡ n) ⊎ (m ≡ n → ⊥)
-is_or_not m n = is_or_not_step m n (m == n) refl
 
 -- a number is in a list or isn't
 pub among_or_not : (ms : List ℕ) (n : ℕ) → IsAmong ms n ⊎ (IsAmong ms n → ⊥)
 among_or_not [] n = inr (λ h. h)
 among_or_not (m ∷ ms) n =
-    elim (is_or_not m n) [
+    elim (cases_eq m n) [
       | inl same ↦ inl (inl same)
       | inr differs ↦ elim (among_or_not ms n) [
         | inl there ↦ inl (inr there)
@@ -64,7 +55,7 @@ pub largest-is : (f : ℕ → ℕ) (ms : List ℕ) → (largest (map f ms) ≡ 0
 largest-is f [] = inl refl
 largest-is f (m ∷ ms) = elim (largest-is f ms) [
   | inl none ↦ inr (m, inl refl, omega arith)
-  | inr found ↦ pick found.0 found.1 found.2 (is_or_not (max (f m) (largest (map f ms))) (f m))
+  | inr found ↦ pick found.0 found.1 found.2 (cases_eq (max (f m) (largest (map f ms))) (f m))
 ] where
   pick : (n : ℕ) → IsAmong ms n → f n ≡ largest (map f ms) → (max (f m) (largest (map f ms)) ≡ f m) ⊎ (max (f m) (largest (map f ms)) ≡ f m → ⊥)
       → (max (f m) (largest (map f ms)) ≡ 0) ⊎ ((n : ℕ) × IsAmong (m ∷ ms) n × (f n ≡ max (f m) (largest (map f ms))))
@@ -96,12 +87,12 @@ module _ (below : ℕ → List ℕ) where
   pub lifted-more : (g : ℕ) (f r s : ℕ → ℕ) → Lifted below g 0 f r → Lifted below g 0 r s → Lifted below g 0 f s
   lifted-more g f r s one two = record {
     grows = λ x. omega (arith, one.grows x, two.grows x);
-    mended = λ x h i low. mended x h i low (is_or_not (r h) (s h));
+    mended = λ x h i low. mended x h i low (cases_eq (r h) (s h));
     here =
         (let up : above below r g ≤ above below s g = above-grows r s g two.grows in omega (arith, one.here, two.here));
     bounded = λ x other.
         (let up : above below r x ≤ above below s x = above-grows r s x two.grows in omega (arith, one.bounded x other, two.bounded x other));
-    reached = λ x low. reached x low (is_or_not (r x) (s x));
+    reached = λ x low. reached x low (cases_eq (r x) (s x));
   } where
     mended : (x h : ℕ) → IsAmong (below x) h → f h < s h → (r h ≡ s h) ⊎ (r h ≡ s h → ⊥) → s h < s x
     mended x h i low (inl same) =
@@ -118,8 +109,8 @@ module _ (below : ℕ → List ℕ) where
   lifted-above g x least f r under low one = record {
     grows = one.grows;
     mended = one.mended;
-    here = (let low : r g ≤ max (f g) (above below r g) = at g (is_or_not g x) in omega arith);
-    bounded = λ y other. at y (is_or_not y x);
+    here = (let low : r g ≤ max (f g) (above below r g) = at g (cases_eq g x) in omega arith);
+    bounded = λ y other. at y (cases_eq y x);
     reached = λ y grew. stands_on y x g (one.reached y grew) under;
   } where
     at : (y : ℕ) → (y ≡ x) ⊎ (y ≡ x → ⊥) → r y ≤ max (f y) (above below r y)
@@ -132,18 +123,18 @@ module _ (below : ℕ → List ℕ) where
   pub lifted-whole : (g least : ℕ) (f m r : ℕ → ℕ) → f g < least → m g ≡ least → ((x : ℕ) → (x ≡ g → ⊥) → m x ≡ f x)
       → Lifted below g 0 m r → ((x : ℕ) → IsAmong (below x) g → least + 1 ≤ r x) → Lifted below g least f r
   lifted-whole g least f m r low at others one passed = record {
-    grows = λ x. grows x (is_or_not x g);
-    mended = λ x h i grew. mended x h i grew (is_or_not h g);
+    grows = λ x. grows x (cases_eq x g);
+    mended = λ x h i grew. mended x h i grew (cases_eq h g);
     here = omega (arith, one.here);
     bounded = λ x other. omega (arith, others x other, one.bounded x other);
-    reached = λ x grew. reached x grew (is_or_not x g);
+    reached = λ x grew. reached x grew (cases_eq x g);
   } where
     grows : (x : ℕ) → (x ≡ g) ⊎ (x ≡ g → ⊥) → f x ≤ r x
     grows x (inl same) = rw same (omega (arith, one.grows g))
     grows x (inr differs) = omega (arith, others x differs, one.grows x)
 
     mended : (x h : ℕ) → IsAmong (below x) h → f h < r h → (h ≡ g) ⊎ (h ≡ g → ⊥) → r h < r x
-    mended x h i grew (inl same) = here x (rw same at i) (rw same at grew) same (is_or_not (m g) (r g)) where
+    mended x h i grew (inl same) = here x (rw same at i) (rw same at grew) same (cases_eq (m g) (r g)) where
       here : (x : ℕ) → IsAmong (below x) g → f g < r g → h ≡ g → (m g ≡ r g) ⊎ (m g ≡ r g → ⊥) → r h < r x
       here x i grew same (inl kept) = rw same (omega (arith, passed x i))
       here x i grew same (inr more) = rw same (one.mended x g i (omega (arith, one.grows g, more)))
@@ -169,13 +160,13 @@ module _ (below : ℕ → List ℕ) where
   pub lowered-store : (g : ℕ) (f m : ℕ → ℕ) → (IsAmong (below g) g → ⊥) → ((x : ℕ) → above below f x ≤ f x) → above below f g < f g
       → m g ≡ above below f g → ((x : ℕ) → (x ≡ g → ⊥) → m x ≡ f x)
       → ((x : ℕ) → m x ≤ f x) × ((x : ℕ) → above below m x ≤ m x) × (m g ≤ above below m g) × ((x : ℕ) → (IsAmong (below x) g → ⊥) → f x ≤ above below f x → m x ≤ above below m x)
-  lowered-store g f m apart enough high at others = (falls, (λ x. enough_at x (is_or_not x g)), omega (arith, here), λ x far low. stays x far low (is_or_not x g)) where
+  lowered-store g f m apart enough high at others = (falls, (λ x. enough_at x (cases_eq x g)), omega (arith, here), λ x far low. stays x far low (cases_eq x g)) where
     falls_at : (x : ℕ) → (x ≡ g) ⊎ (x ≡ g → ⊥) → m x ≤ f x
     falls_at x (inl same) = rw same (omega arith)
     falls_at x (inr differs) = omega (arith, others x differs)
 
     falls : (x : ℕ) → m x ≤ f x
-    falls x = falls_at x (is_or_not x g)
+    falls x = falls_at x (cases_eq x g)
 
     unseen : (x : ℕ) → (IsAmong (below x) g → ⊥) → largest (map m (below x)) ≡ largest (map f (below x))
     unseen x far = largest-same m f (below x) (λ n i. others n (λ same. far (rw same at i)))
@@ -225,7 +216,7 @@ module _ (below : ℕ → List ℕ) (f : ℕ → ℕ) where
     -- after a lift each value is enough again
     pub lifted-enough : ((x : ℕ) → above below f x ≤ f x) → (x : ℕ) → above below r x ≤ r x
     lifted-enough enough x =
-        let high : largest (map r (below x)) ≤ r x - 1 = largest-most r (r x - 1) (below x) (λ h under. at h under (is_or_not (f h) (r h))) in
+        let high : largest (map r (below x)) ≤ r x - 1 = largest-most r (r x - 1) (below x) (λ h under. at h under (cases_eq (f h) (r h))) in
         omega (arith, enough x, one.grows x) where
           at : (h : ℕ) → IsAmong (below x) h → (f h ≡ r h) ⊎ (f h ≡ r h → ⊥) → r h ≤ r x - 1
           at h under (inl same) = omega (arith, enough-climbs enough x h under, one.grows x)
@@ -244,7 +235,7 @@ module _ (below : ℕ → List ℕ) (f : ℕ → ℕ) where
 
       -- a lift that is taken back leaves values that are one more than the largest below
       pub lifted-undone : (s : ℕ → ℕ) → Lowered below r s → s g ≤ above below s g → (x : ℕ) → s x ≡ above below s x
-      lifted-undone s two low x = at x (is_or_not x g) where
+      lifted-undone s two low x = at x (cases_eq x g) where
         at : (x : ℕ) → (x ≡ g) ⊎ (x ≡ g → ⊥) → s x ≡ above below s x
         at x (inl same) = (let there : s g ≡ above below s g = omega (arith, low, two.enough g) in rw same there)
         at x (inr differs) = omega (arith, two.stays x (lifted-low x differs), two.enough x)
@@ -268,7 +259,7 @@ module _ (below : ℕ → List ℕ) (f : ℕ → ℕ) where
 
         -- where the geom that asks wasn't reached, the values are one more than the largest below in the graph with it below
         pub lifted-joined : (joined : ℕ → List ℕ) → Joined below joined g q → least ≤ r g → r q ≡ f q → (x : ℕ) → r x ≡ above joined r x
-        lifted-joined joined graph raised kept x = at x (is_or_not x g) where
+        lifted-joined joined graph raised kept x = at x (cases_eq x g) where
           at : (x : ℕ) → (x ≡ g) ⊎ (x ≡ g → ⊥) → r x ≡ above joined r x
           at x (inl same) =
               let up : above below f g ≤ above below r g = above-grows below f r g one.grows in
@@ -279,21 +270,21 @@ module _ (below : ℕ → List ℕ) (f : ℕ → ℕ) where
 module _ (apart joined : ℕ → List ℕ) (g q : ℕ) (graph : Joined apart joined g q) (f : ℕ → ℕ) (local : (x : ℕ) → f x ≡ above joined f x) where
   -- with one geom less below each value is still enough
   pub apart-enough : (x : ℕ) → above apart f x ≤ f x
-  apart-enough x = at x (is_or_not x g) where
+  apart-enough x = at x (cases_eq x g) where
     at : (x : ℕ) → (x ≡ g) ⊎ (x ≡ g → ⊥) → above apart f x ≤ f x
     at x (inl same) = (let there : above apart f g ≤ f g = omega (arith, local g, graph.here f) in rw same there)
     at x (inr differs) = omega (arith, local x, graph.others f x differs)
 
   -- once the geom is lowered, each is one more than the largest below
   pub apart-lowered : (s : ℕ → ℕ) → Lowered apart f s → s g ≤ above apart s g → (x : ℕ) → s x ≡ above apart s x
-  apart-lowered s one low x = at x (is_or_not x g) where
+  apart-lowered s one low x = at x (cases_eq x g) where
     at : (x : ℕ) → (x ≡ g) ⊎ (x ≡ g → ⊥) → s x ≡ above apart s x
     at x (inl same) = (let there : s g ≡ above apart s g = omega (arith, low, one.enough g) in rw same there)
     at x (inr differs) = omega (arith, one.stays x (omega (arith, local x, graph.others f x differs)), one.enough x)
 
   -- where what was below was low, nothing changes
   pub apart-kept : f q + 1 < f g → (x : ℕ) → f x ≡ above apart f x
-  apart-kept low x = at x (is_or_not x g) where
+  apart-kept low x = at x (cases_eq x g) where
     at : (x : ℕ) → (x ≡ g) ⊎ (x ≡ g → ⊥) → f x ≡ above apart f x
     at x (inl same) = (let there : f g ≡ above apart f g = omega (arith, local g, graph.here f, low) in rw same there)
     at x (inr differs) = omega (arith, local x, graph.others f x differs)

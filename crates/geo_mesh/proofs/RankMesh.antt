@@ -1,13 +1,15 @@
 -- The ranks that stand in the cells are the model's, and what an attach and a detach do to them.
-use Rattle.std.specs.Prelude.{◌≡◌, ℕ, ◌+◌, ◌-◌, ◌<◌, ◌≤◌, ◌^◌, ◌==◌, nat_lt, max, Bool, true, false, not, ◌&&◌, List, [], ◌∷◌, ◌++◌, Option, Some, None, IsSome, IfSome, map, filter, filter_map, length, option_map, if◌then◌else◌}
+use Rattle.std.specs.Prelude.{◌≡◌, ℕ, ◌+◌, ◌-◌, ◌<◌, ◌≤◌, ◌==◌, nat_lt, max, Bool, true, false, not, ◌&&◌, List, [], ◌∷◌, ◌++◌, Option, Some, None, IsSome, IfSome, map, filter, filter_map, length, option_map, if◌then◌else◌}
 use Rattle.std.specs.List.{list_any, AllByRecursion}
 use Rattle.std.proofs.Common.{refl, sym, ap, ◌∙◌, subst, inl, inr, arith}
 use Rattle.std.proofs.lemmas.Bool.{eqb-true, eq-eqb, ne_eqb}
 use Rattle.std.proofs.lemmas.List.{length-map, map-append, length-append}
 use Rattle.geo_base.specs.declared.kind.Kind.{Kind}
+use Rattle.geo_base.proofs.Tests.{filter_map-same}
 use Rattle.geo_model.specs.Words.{largest, is_granted_kind, names_number}
 use Rattle.geo_model.specs.Topology.{Geom, Provider, Consumer, geom_at, provider_at, consumer_at, consumers_of, attached_to}
 use Rattle.geo_model.specs.Rank.{rank, rank_limit, geoms_under, reaches, is_too_deep}
+use Rattle.geo_laws_graph.proofs.Living.{map_there}
 use Rattle.geo_slots.specs.Slots.{SlotsView, IsRising, value_at, with_value, without}
 use Rattle.geo_mesh.specs.declared.records.Scratch.{Scratch}
 use Rattle.geo_mesh.specs.declared.records.GeomRec.{GeomRec}
@@ -20,21 +22,14 @@ use Rattle.geo_mesh.specs.Rows.{row_with, rows_with, passes}
 use Rattle.geo_mesh.specs.Cells.{graph_of, view_of, put_consumer, put_provider, geom_seen, geom_scratch_of, geom_row, provider_row, consumer_row}
 use Rattle.geo_mesh.specs.Mending.{IsAmong, StandsAbove, Climbs, Joined, above, height}
 use Rattle.geo_mesh.specs.Index.{no_index}
-use Rattle.geo_mesh.specs.Ranks.{IsKin, kind_of, rank_of, rest_of, owner, owner_of, ranked_link_of, links_of, kinds, ranks, stored, offers, ranked_links, rank_at, under, ranked_below, below, rank_from, footing, number_or, is_high, IsWalkable, HaveRanks, HaveDevAndTaste, bare}
-use Rattle.geo_mesh.proofs.RowLemmas.{OnlyValue, only, map-with_value_same, map-without, rows_with-with_value, value_at-rows_with}
-use Rattle.geo_mesh.proofs.ViewLemmas.{geom_at-view, provider_at-view, consumer_at-view, count_falls, count_stays}
+use Rattle.geo_mesh.specs.Ranks.{IsKin, kind_of, rank_of, rest_of, owner, owner_of, ranked_link_of, links_of, kinds, ranks, stored, offers, ranked_links, rank_at, under, ranked_below, below, rank_from, footing, is_high, IsWalkable, HaveRanks, HaveDevAndTaste, bare}
+use Rattle.geo_mesh.proofs.RowLemmas.{OnlyValue, only_value, map-with_value_same, map-without, rows_with-with_value, value_at-rows_with}
+use Rattle.geo_mesh.proofs.ViewLemmas.{row_there, geom_at-view, provider_at-view, consumer_at-view, count_falls, count_stays}
 use Rattle.geo_mesh.proofs.RankHeights.{local-climbs, local-height, local-few, height-climbs, rank-height, reached-stands, stands-reached}
 use Rattle.geo_mesh.proofs.RankRows.{peak, peak-is, peak-with, adds, all-at, passing-between, rising-with, with_value-same, kinds-bare}
+use Rattle.geo_mesh.proofs.RankWalk.{some_number}
 use Rattle.geo_mesh.proofs.RankFirst.{footing-none, footing-unnamed, rank_from-local, rank_from-few, rank_from-high}
 use Rattle.geo_mesh.proofs.RankKept.{ranks-new_consumer, ranks-destroy_consumer, ranks-new_provider, ranks-destroy_provider, ranks-new_geom, ranks-destroy_geom}
-
--- two functions with the same values take the same from a list
-filter_map-same : {X Y : Type 0} (f h : X → Option Y) → ((x : X) → f x ≡ h x) → (xs : List X) → filter_map f xs ≡ filter_map h xs
-filter_map-same f h same [] = refl
-filter_map-same f h same (x ∷ xs) = at (h x) refl (filter_map-same f h same xs) where
-  at : (o : Option _) → h x ≡ o → filter_map f xs ≡ filter_map h xs → filter_map f (x ∷ xs) ≡ filter_map h (x ∷ xs)
-  at None e rest = rw (same x, e) rest
-  at (Some y) e rest = rw (same x, e) (ap (λ ys. y ∷ ys) rest)
 
 module _ {C : Type 0} (gs : SlotsView (GeomCell C)) (edges : Edges) where
   -- the providers to which the consumers of a geom are attached, by the rows
@@ -193,7 +188,7 @@ module _ {C : Type 0} (gs : SlotsView (GeomCell C)) (edges : Edges) (live n : �
   pub mesh-geom : (v w : GeomCell C) → IsRising 1 gs.rows gs.next → Some v ≡ value_at gs.rows n → kind_of w ≡ kind_of v → rank_of w ≡ rank_of v
       → HaveRanks (record gs { rows = with_value gs.rows n w }) edges live
   mesh-geom v w rising at kind rank =
-      let is : OnlyValue n v gs.rows = only n 1 gs.next v gs.rows rising (sym at) in
+      let is : OnlyValue n v gs.rows = only_value n 1 gs.next v gs.rows rising (sym at) in
       let classes : rows_with (kind_of {C = C}) (with_value gs.rows n w) ≡ rows_with (kind_of {C = C}) gs.rows = map-with_value_same (row_with (kind_of {C = C})) n v w (ap (λ (k : Kind). (n, k)) kind) gs.rows is in
       let standing : rows_with (rank_of {C = C}) (with_value gs.rows n w) ≡ rows_with (rank_of {C = C}) gs.rows = map-with_value_same (row_with (rank_of {C = C})) n v w (ap (λ (k : ℕ). (n, k)) rank) gs.rows is in
       record { count = count_stays gs n w live mesh.count; standing = rw (classes, standing) mesh.standing }
@@ -202,7 +197,7 @@ module _ {C : Type 0} (gs : SlotsView (GeomCell C)) (edges : Edges) (live n : �
   pub mesh-provider : (v w : ProvCell) → IsRising 1 edges.providers.rows edges.providers.next → Some v ≡ value_at edges.providers.rows n → owner_of w ≡ owner_of v
       → HaveRanks gs (put_provider edges n w) live
   mesh-provider v w rising at owner =
-      let is : OnlyValue n v edges.providers.rows = only n 1 edges.providers.next v edges.providers.rows rising (sym at) in
+      let is : OnlyValue n v edges.providers.rows = only_value n 1 edges.providers.next v edges.providers.rows rising (sym at) in
       let same : rows_with owner_of (with_value edges.providers.rows n w) ≡ rows_with owner_of edges.providers.rows = map-with_value_same (row_with owner_of) n v w (ap (λ (k : ℕ). (n, k)) owner) edges.providers.rows is in
       record { count = mesh.count; standing = rw same mesh.standing }
 
@@ -210,26 +205,16 @@ module _ {C : Type 0} (gs : SlotsView (GeomCell C)) (edges : Edges) (live n : �
   pub mesh-consumer : (v w : ConsCell) → IsRising 1 edges.consumers.rows edges.consumers.next → Some v ≡ value_at edges.consumers.rows n → ranked_link_of w ≡ ranked_link_of v
       → HaveRanks gs (put_consumer edges n w) live
   mesh-consumer v w rising at ends =
-      let is : OnlyValue n v edges.consumers.rows = only n 1 edges.consumers.next v edges.consumers.rows rising (sym at) in
+      let is : OnlyValue n v edges.consumers.rows = only_value n 1 edges.consumers.next v edges.consumers.rows rising (sym at) in
       let same : rows_with ranked_link_of (with_value edges.consumers.rows n w) ≡ rows_with ranked_link_of edges.consumers.rows = map-with_value_same (row_with ranked_link_of) n v w (ap (λ (k : ℕ × Option ℕ). (n, k)) ends) edges.consumers.rows is in
       record { count = mesh.count; standing = rw same mesh.standing }
 
 module _ {C : Type 0} (gs : SlotsView (GeomCell C)) (edges : Edges) (live : ℕ) where
-  -- what is seen is there
-  some_seen : {X Y : Type 0} (f : X → Y) (o : Option X) → IsSome (option_map f o) → IsSome o
-  some_seen f None there = there
-  some_seen f (Some v) there = refl
-
-  -- what is there is seen
-  some_mapped : {X Y : Type 0} (f : X → Y) (o : Option X) → IsSome o → IsSome (option_map f o)
-  some_mapped f None there = there
-  some_mapped f (Some v) there = refl
-
   -- a geom that is there has a class
   pub lives-kinds : (g : ℕ) → IsSome (geom_at (graph_of gs edges) g) → IsSome (value_at (kinds gs) g)
   lives-kinds g lives =
       let there : IsSome (option_map (λ v. geom_row (g, v)) (value_at gs.rows g)) = rw (geom_at-view gs edges g) at lives in
-      rw (value_at-rows_with (kind_of {C = C}) g gs.rows) (some_mapped (kind_of {C = C}) (value_at gs.rows g) (some_seen (λ v. geom_row (g, v)) (value_at gs.rows g) there))
+      rw (value_at-rows_with (kind_of {C = C}) g gs.rows) (map_there (kind_of {C = C}) (value_at gs.rows g) (row_there (λ v. geom_row (g, v)) (value_at gs.rows g) there))
 
   module _ (mesh : HaveRanks gs edges live) where
     -- the mesh stands with a new consumer, which is attached to nothing
@@ -330,10 +315,7 @@ module _ {C : Type 0} (gs : SlotsView (GeomCell C)) (edges : Edges) (live : ℕ)
         let one : rows_with ranked_link_of (with_value edges.consumers.rows n some) ≡ with_value (rows_with ranked_link_of edges.consumers.rows) n (v.consumer.geom, Some p) = rows_with-with_value ranked_link_of n some edges.consumers.rows ∙ ap (λ (e : ℕ × Option ℕ). with_value (rows_with ranked_link_of edges.consumers.rows) n e) is_some in
         let two : rows_with ranked_link_of (with_value edges.consumers.rows n none) ≡ with_value (rows_with ranked_link_of edges.consumers.rows) n (v.consumer.geom, None) = rows_with-with_value ranked_link_of n none edges.consumers.rows ∙ ap (λ (e : ℕ × Option ℕ). with_value (rows_with ranked_link_of edges.consumers.rows) n e) is_none in
         let found : IsSome (value_at (rows_with ranked_link_of edges.consumers.rows) n) = rw (value_at-rows_with ranked_link_of n edges.consumers.rows, ← at) refl in
-        rw (one, two) (joined-users (offers edges).rows (rows_with ranked_link_of edges.consumers.rows) n v.consumer.geom p (owner edges p) edges.consumers.next (rising-with ranked_link_of 1 edges.consumers.next edges.consumers.rows rising) found (owner_of_some (value_at (offers edges).rows p) offered)) where
-          owner_of_some : (o : Option ℕ) → IsSome o → o ≡ Some (number_or 0 o)
-          owner_of_some None there = absurd cc
-          owner_of_some (Some q) there = refl
+        rw (one, two) (joined-users (offers edges).rows (rows_with ranked_link_of edges.consumers.rows) n v.consumer.geom p (owner edges p) edges.consumers.next (rising-with ranked_link_of 1 edges.consumers.next edges.consumers.rows rising) found (some_number (value_at (offers edges).rows p) offered))
 
 -- the consumers as they stand
 pub same-cells : (edges : Edges) (n : ℕ) (v : ConsCell) → IsRising 1 edges.consumers.rows edges.consumers.next → Some v ≡ value_at edges.consumers.rows n → put_consumer edges n v ≡ edges

@@ -2,7 +2,8 @@
 use Rattle.std.specs.Prelude.{◌≡◌, ◌⊎◌, ℕ, ◌+◌, ◌<◌, ◌≤◌, ◌^◌, ◌==◌, nat_le, nat_lt, max, Bool, true, false, not, ◌&&◌, ◌||◌, List, [], ◌∷◌, Option, Some, None, IsSome, map, option_map, if◌then◌else◌}
 use Rattle.std.specs.List.{AllByRecursion}
 use Rattle.std.proofs.Common.{refl, sym, ap, ◌∙◌, subst, inl, inr, arith}
-use Rattle.std.proofs.lemmas.Bool.{eqb-true, eqb-false, eq-eqb, ne_eqb, leb-true, leb-false, le-leb, ltb-true, lt-ltb}
+use Rattle.std.proofs.lemmas.Bool.{eqb-true, eqb-false, eq-eqb, ne_eqb, leb-true, leb-false, le-leb, ltb-true, lt-ltb, and_parts}
+use Rattle.std.proofs.Math.Bool.{or_assoc}
 use Rattle.geo_base.specs.declared.kind.Kind.{Kind}
 use Rattle.geo_model.specs.Words.{largest, is_granted_kind}
 use Rattle.geo_model.specs.Rank.{rank_limit}
@@ -13,7 +14,8 @@ use Rattle.geo_mesh.specs.declared.records.Scratch.{Scratch}
 use Rattle.geo_mesh.specs.declared.records.GeomRec.{GeomRec}
 use Rattle.geo_mesh.specs.declared.records.GeomCell.{GeomCell}
 use Rattle.geo_mesh.proofs.RankMend.{largest-among, largest-most}
-use Rattle.geo_mesh.proofs.RowLemmas.{OnlyValue, only, map-with_value_same, value_at-rows_with}
+use Rattle.geo_mesh.proofs.MarkLemmas.{value_at-set}
+use Rattle.geo_mesh.proofs.RowLemmas.{OnlyValue, only_value, map-with_value_same, value_at-rows_with}
 use Rattle.geo_mesh.specs.Ranks.{kind_of, rank_of, rest_of, kinds, bare, stored, number_or, under, rank_through, rank_under, belongs, is_high, IsFirst, FirstIs}
 
 module _ {T : Type 0} where
@@ -32,14 +34,6 @@ module _ {T : Type 0} where
   -- a value under a number passes the test that all pass
   pub there-passes : (rows : List (ℕ × T)) (m : ℕ) (v : T) → value_at rows m ≡ Some v → passes (λ x. true) (value_at rows m) ≡ true
   there-passes rows m v there = rw there refl
-
-  -- the value under a number, after another was put there
-  pub value_at-here : (n : ℕ) (w : T) (rows : List (ℕ × T)) → IsSome (value_at rows n) → value_at (with_value rows n w) n ≡ Some w
-  value_at-here n w [] there = absurd cc
-  value_at-here n w (row ∷ rows) there = at (row.0 == n) refl there (λ e. value_at-here n w rows e) where
-    at : (b : Bool) → (row.0 == n) ≡ b → IsSome (value_at (row ∷ rows) n) → (IsSome (value_at rows n) → value_at (with_value rows n w) n ≡ Some w) → value_at (with_value (row ∷ rows) n w) n ≡ Some w
-    at true e there so = let self : (n == n) ≡ true = eq-eqb n n refl in rw (e, self) refl
-    at false e there so = rw (e, e) (so (rw e at there))
 
   -- the values under the other numbers stay
   pub value_at-other : (n m : ℕ) (w : T) (rows : List (ℕ × T)) → (m ≡ n → ⊥) → value_at (with_value rows n w) m ≡ value_at rows m
@@ -104,12 +98,6 @@ module _ {T : Type 0} where
     here false e rest = rw e rest
 
 module _ {T : Type 0} (test : T → Bool) (at : ℕ) where
-  -- where both hold, each does
-  both_true : (a b : Bool) → (a && b) ≡ true → (a ≡ true) × (b ≡ true)
-  both_true true true e = (refl, refl)
-  both_true true false e = absurd cc
-  both_true false b e = absurd cc
-
   -- what the first row that passes is
   first-found : (n low high : ℕ) (rows : List (ℕ × T)) → IsRising low rows high → high < 2 ^ 64 → option_map (λ row. row.0) (first_row test rows at) ≡ Some n → IsFirst test rows high at n
   first-found n low high [] rising bound found = absurd cc
@@ -120,7 +108,7 @@ module _ {T : Type 0} (test : T → Bool) (at : ℕ) where
         here true e found so =
             let it : Some row.0 ≡ Some n = rw e at found in
             let number : row.0 ≡ n = cc in
-            let parts = both_true (nat_le at row.0) (test row.1) e in
+            let parts = and_parts (nat_le at row.0) (test row.1) e in
             let same : (row.0 == n) ≡ true = eq-eqb row.0 n number in
             let passing : passes test (value_at (row ∷ rows) n) ≡ true = rw same parts.1 in
             record {
@@ -313,7 +301,7 @@ module _ {C : Type 0} (gs : SlotsView (GeomCell C)) (n r : ℕ) (v : GeomCell C)
   pub store-same : bare (record gs { rows = with_value gs.rows n (record v { rank = r }) }) ≡ bare gs
   store-same =
       let w : GeomCell C = record v { rank = r } in
-      let is : OnlyValue n v gs.rows = only n 1 gs.next v gs.rows rising (sym at) in
+      let is : OnlyValue n v gs.rows = only_value n 1 gs.next v gs.rows rising (sym at) in
       rw (map-with_value_same (row_with (rest_of {C = C})) n v w refl gs.rows is) refl
 
   -- and the rank stands there
@@ -322,7 +310,7 @@ module _ {C : Type 0} (gs : SlotsView (GeomCell C)) (n r : ℕ) (v : GeomCell C)
       let w : GeomCell C = record v { rank = r } in
       let there : value_at gs.rows n ≡ Some v = sym at in
       let lives : IsSome (value_at gs.rows n) = rw there refl in
-      rw (value_at-rows_with (rank_of {C = C}) n (with_value gs.rows n w), value_at-here n w gs.rows lives) refl
+      rw (value_at-rows_with (rank_of {C = C}) n (with_value gs.rows n w), value_at-set n w gs.rows lives) refl
 
   -- the other geoms keep their ranks
   pub store-others : (x : ℕ) → (x ≡ n → ⊥) → stored (record gs { rows = with_value gs.rows n (record v { rank = r }) }) x ≡ stored gs x
@@ -351,11 +339,6 @@ module _ (f : ℕ → ℕ) where
   high_same false a false so true = refl
   high_same false a false so false = refl
 
-  -- of three it doesn't matter which two are taken first
-  moved : (a x y : Bool) → (a || (x || y)) ≡ ((a || x) || y)
-  moved true x y = refl
-  moved false x y = refl
-
   -- whether a geom is above the limit, once one has a greater value
   pub high-more : (r : ℕ → ℕ) (n low high : ℕ) (classes : List (ℕ × Kind)) → IsRising low classes high → IsSome (value_at classes n) → f n < r n → ((x : ℕ) → (x ≡ n → ⊥) → r x ≡ f x)
       → is_high classes r ≡ (is_high classes f || (nat_lt rank_limit (r n) && not (passes is_granted_kind (value_at classes n))))
@@ -371,7 +354,7 @@ module _ (f : ℕ → ℕ) where
             rw (k, same, rest) (high_same (not (is_granted_kind row.1)) (nat_lt rank_limit (f n)) (nat_lt rank_limit (r n)) (λ e. lt-ltb rank_limit (r n) (omega (arith, ltb-true rank_limit (f n) e))) (is_high classes f))
         at false k there so =
             let here : r row.0 ≡ f row.0 = others row.0 (eqb-false row.0 n k) in
-            rw (k, here, so (rw k at there)) (moved (not (is_granted_kind row.1) && nat_lt rank_limit (f row.0)) (is_high classes f) (nat_lt rank_limit (r n) && not (passes is_granted_kind (value_at classes n))))
+            rw (k, here, so (rw k at there)) (sym (or_assoc (not (is_granted_kind row.1) && nat_lt rank_limit (f row.0)) (is_high classes f) (nat_lt rank_limit (r n) && not (passes is_granted_kind (value_at classes n)))))
 
   -- where no geom is above the limit, none is with smaller values
   pub high-less : (r : ℕ → ℕ) (classes : List (ℕ × Kind)) → ((x : ℕ) → r x ≤ f x) → is_high classes f ≡ false → is_high classes r ≡ false

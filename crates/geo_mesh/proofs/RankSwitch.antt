@@ -1,13 +1,13 @@
 -- What an attach and a detach do to the mesh that stands.
-use Rattle.std.specs.Prelude.{◌≡◌, ℕ, ◌+◌, ◌<◌, ◌≤◌, ◌^◌, Bool, true, false, [], Option, Some, None, IsSome, IfSome, IsSomeAnd, length, map, option_map}
+use Rattle.std.specs.Prelude.{◌≡◌, ℕ, ◌+◌, ◌≤◌, Bool, true, false, [], Option, Some, None, IsSome, IfSome, IsSomeAnd, length, map, option_map}
 use Rattle.std.proofs.Common.{refl, sym, ap, ◌∙◌, subst, arith}
+use Rattle.std.proofs.lemmas.Bool.{false_from_ne_true}
 use Rattle.std.proofs.lemmas.List.{length-map}
 use Rattle.geo_base.specs.declared.errno.Errno.TheVariants.{ELOOP, EDEEP}
 use Rattle.geo_model.specs.Words.{largest}
 use Rattle.geo_model.specs.Topology.{consumer_at, provider_at, attach, is_errored}
 use Rattle.geo_model.specs.Rank.{reaches, is_too_deep, would_loop, attach_refusal}
 use Rattle.geo_slots.specs.Slots.{SlotsView, IsRising, value_at, with_value}
-use Rattle.geo_slots.proofs.RowLemmas.{IsRising-with_value}
 use Rattle.geo_mesh.specs.declared.records.AttachRefusal.{AttachRefusal}
 use Rattle.geo_mesh.specs.declared.records.AttachRefusal.TheVariants.{Enxio, Eloop, Edeep}
 use Rattle.geo_mesh.specs.Refusals.{errno_of}
@@ -18,7 +18,6 @@ use Rattle.geo_mesh.specs.declared.tables.Edges.{Edges}
 use Rattle.geo_mesh.specs.declared.index.Index.{Index}
 use Rattle.geo_mesh.specs.Rows.{row_with, rows_with}
 use Rattle.geo_mesh.specs.Cells.{graph_of, put_consumer, consumer_row, provider_row}
-use Rattle.geo_mesh.specs.Topo.{TopoView}
 use Rattle.geo_mesh.specs.Mending.{IsAmong, StandsAbove, Joined, IsJoinable, Lowered, above}
 use Rattle.geo_mesh.specs.Ranks.{IsKin, kind_of, ranked_link_of, owner_of, kinds, bare, offers, ranked_links, stored, ranked_below, owner, user, ranks, is_dev_or_taste, below, rank_from, is_high, IsRefusedFor, IsWalkable, IsAdmitted, HaveDevAndTaste, HaveRanks}
 use Rattle.geo_mesh.proofs.RowLemmas.{rows_with-with_value, value_at-rows_with}
@@ -156,11 +155,6 @@ module _ {C : Type 0} (gs : SlotsView (GeomCell C)) (edges : Edges) (live : ℕ)
   loop_is : IsSome (value_at (offers edges).rows p) → would_loop (graph_of gs edges) (consumer_at (graph_of gs edges) n) (provider_at (graph_of gs edges) p) ≡ reaches (graph_of gs edges) (owner edges p) v.consumer.geom
   loop_is offered = rw (consumer_seen_at, provider_at-view gs edges p) (owned_by (value_at edges.providers.rows p) refl (rw (value_at-rows_with owner_of p edges.providers.rows) at offered))
 
-  -- what doesn't hold is false
-  bool_false : (b : Bool) → (b ≡ true → ⊥) → b ≡ false
-  bool_false true = λ no. absurd (no refl)
-  bool_false false = λ no. refl
-
   module _ (is : v.consumer.prov ≡ None) (offered : IsSome (value_at (offers edges).rows p)) (first : HaveDevAndTaste gs edges) (later : is_dev_or_taste v.consumer.geom ≡ false) where
     -- the graph after the attach is that before it, with the provider's geom below the consumer's
     on-joined : Joined (ranked_below edges) (ranked_below (switched (Some p))) v.consumer.geom (owner edges p)
@@ -194,7 +188,7 @@ module _ {C : Type 0} (gs : SlotsView (GeomCell C)) (edges : Edges) (live : ℕ)
     -- where the consumer's geom may have the other below it, the other doesn't reach it
     no_loop : (f : ℕ → ℕ) → IsJoinable (ranked_below edges) v.consumer.geom (owner edges p) f → reaches (graph_of gs edges) (owner edges p) v.consumer.geom ≡ false
     no_loop f joinable =
-        bool_false (reaches (graph_of gs edges) (owner edges p) v.consumer.geom)
+        false_from_ne_true (reaches (graph_of gs edges) (owner edges p) v.consumer.geom)
         (λ e. joinable.apart (stands-down edges first.bare (owner edges p) v.consumer.geom (owner-later edges first.bare p offered) (reaches-stands gs edges (owner edges p) v.consumer.geom e)))
 
     -- what an attach answers
@@ -224,7 +218,7 @@ module _ {C : Type 0} (gs : SlotsView (GeomCell C)) (edges : Edges) (live : ℕ)
     -- nothing reaches one of the first two geoms
     first_unreached : is_dev_or_taste v.consumer.geom ≡ true → reaches (graph_of gs edges) (owner edges p) v.consumer.geom ≡ false
     first_unreached here =
-        bool_false (reaches (graph_of gs edges) (owner edges p) v.consumer.geom)
+        false_from_ne_true (reaches (graph_of gs edges) (owner edges p) v.consumer.geom)
         (λ e.
         let stands : is_dev_or_taste (owner edges p) ≡ true = reaches-stands gs edges (owner edges p) v.consumer.geom e is_dev_or_taste here (λ y h near is. (let never : true ≡ false = sym is ∙ below-later edges first.bare y h near in absurd (cc))) in
         let never : true ≡ false = sym stands ∙ owner-later edges first.bare p offered in cc)

@@ -1,18 +1,15 @@
 -- The walks that mend ranks: what their loops keep.
 use Rattle.std.specs.Prelude.{◌≡◌, ◌⊎◌, ℕ, ◌+◌, ◌<◌, ◌==◌, Bool, true, false, List, Option, Some, None, IsSome, nat_le}
 use Rattle.std.proofs.Common.{refl, sym, ap, subst, inl, inr, arith}
-use Rattle.std.proofs.lemmas.Bool.{eqb-true, eq-eqb, leb-true, leb-false}
+use Rattle.std.proofs.lemmas.Bool.{cases_eq, eqb-true, eq-eqb, leb-true, leb-false}
 use Rattle.geo_base.specs.declared.kind.Kind.{Kind}
-use Rattle.geo_model.specs.Words.{names_number}
+use Rattle.geo_model.proofs.DemandLemmas.{names_some}
 use Rattle.geo_slots.specs.Slots.{SlotsView, IsRising, value_at}
 use Rattle.geo_mesh.specs.declared.records.GeomCell.{GeomCell}
-use Rattle.geo_mesh.specs.declared.records.ProvCell.{ProvCell}
-use Rattle.geo_mesh.specs.declared.records.ConsCell.{ConsCell}
 use Rattle.geo_mesh.specs.declared.tables.Edges.{Edges}
 use Rattle.geo_mesh.specs.Rows.{passes}
 use Rattle.geo_mesh.specs.Mending.{IsAmong}
 use Rattle.geo_mesh.specs.Ranks.{kinds, bare, offers, ranked_links, ranked_below, ranked_link_of, owner, user, user_of, number_or, is_offered, is_attached, IsFirst, IsWalkable}
-use Rattle.geo_mesh.proofs.RankMend.{is_or_not}
 use Rattle.geo_mesh.proofs.RankRows.{IsWay, under-way, way-under, kinds-bare, rising-with, all-at}
 
 -- the graph may be walked over whatever the ranks
@@ -24,15 +21,15 @@ pub offered-is : (g : ℕ) (o : Option ℕ) → passes (is_offered g) o ≡ true
 offered-is g None there = absurd cc
 offered-is g (Some h) there = ap (λ (n : ℕ). Some n) (eqb-true h g there)
 
--- where a number is named, it is that one
-pub names-some : (o : Option ℕ) (p : ℕ) → names_number o p ≡ true → o ≡ Some p
-names-some None p there = absurd cc
-names-some (Some q) p there = ap (λ (n : ℕ). Some n) (eqb-true q p there)
-
 -- a consumer that is attached to a provider is of its user
 pub attached-is : (p : ℕ) (o : Option (ℕ × Option ℕ)) → passes (is_attached p) o ≡ true → o ≡ Some (user_of o, Some p)
 attached-is p None there = absurd cc
-attached-is p (Some e) there = ap (λ (q : Option ℕ). Some (e.0, q)) (names-some e.1 p there)
+attached-is p (Some e) there = ap (λ (q : Option ℕ). Some (e.0, q)) (names_some e.1 p there)
+
+-- a number that is there is the one that is read where 0 would stand for none
+pub some_number : (o : Option ℕ) → IsSome o → o ≡ Some (number_or 0 o)
+some_number None there = absurd cc
+some_number (Some n) there = refl
 
 module _ (edges : Edges) where
   -- the owner of a provider that a geom offers is that geom
@@ -42,10 +39,7 @@ module _ (edges : Edges) where
   -- the owner of a provider is below the user of a consumer that is attached to it
   pub user-above : (p c : ℕ) → IsSome (value_at (offers edges).rows p) → passes (is_attached p) (value_at (ranked_links edges).rows c) ≡ true → IsAmong (ranked_below edges (user edges c)) (owner edges p)
   user-above p c lives there =
-      way-under (offers edges).rows (ranked_links edges).rows c p (user edges c) (owner edges p) (attached-is p (value_at (ranked_links edges).rows c) there) (at (value_at (offers edges).rows p) lives) where
-        at : (o : Option ℕ) → IsSome o → o ≡ Some (number_or 0 o)
-        at None lives = absurd cc
-        at (Some h) lives = refl
+      way-under (offers edges).rows (ranked_links edges).rows c p (user edges c) (owner edges p) (attached-is p (value_at (ranked_links edges).rows c) there) (some_number (value_at (offers edges).rows p) lives)
 
   -- what stands directly above a geom does so by a consumer that is attached to a provider of the geom
   pub above-user : IsRising 1 edges.consumers.rows edges.consumers.next → (P : ℕ → Type 0) (g : ℕ)
@@ -68,7 +62,7 @@ module _ (edges : Edges) where
 -- one more of a walk: a fact of all that pass below the next number
 pub walk-more : {T : Type 0} (test : T → Bool) (rows : List (ℕ × T)) (next at n : ℕ) (P : ℕ → Type 0) → IsFirst test rows next at n
     → ((m : ℕ) → m < at → passes test (value_at rows m) ≡ true → P m) → P n → (m : ℕ) → m < n + 1 → passes test (value_at rows m) ≡ true → P m
-walk-more test rows next at n P first so here m low there = pick (is_or_not m n) where
+walk-more test rows next at n P first so here m low there = pick (cases_eq m n) where
   pick : (m ≡ n) ⊎ (m ≡ n → ⊥) → P m
   pick (inl same) = subst P (sym same) here
   pick (inr differs) = under (nat_le at m) refl where

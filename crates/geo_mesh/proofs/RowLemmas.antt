@@ -31,10 +31,10 @@ module _ {T : Type 0} where
       ((λ t. let no : false ≡ true = sym e ∙ t in absurd cc), so (rw e at at))
 
   -- in rising rows the value under a number is the only one
-  pub only : (n low high : ℕ) (v : T) (rows : List (ℕ × T)) → IsRising low rows high → value_at rows n ≡ Some v → OnlyValue n v rows
-  only n low high v [] rising at = tt
-  only n low high v (row ∷ rows) rising at =
-      only_step n low high v row rows (row.0 == n) refl rising at (λ rest. only n (row.0 + 1) high v rows rising.1 rest)
+  pub only_value : (n low high : ℕ) (v : T) (rows : List (ℕ × T)) → IsRising low rows high → value_at rows n ≡ Some v → OnlyValue n v rows
+  only_value n low high v [] rising at = tt
+  only_value n low high v (row ∷ rows) rising at =
+      only_step n low high v row rows (row.0 == n) refl rising at (λ rest. only_value n (row.0 + 1) high v rows rising.1 rest)
 
 module _ {T Y : Type 0} (f : ℕ × T → Y) (n : ℕ) where
   -- one row, with the other value where it is under the number

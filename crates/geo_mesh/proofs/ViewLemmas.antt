@@ -1,9 +1,10 @@
 -- The mesh that the rows stand for, after a change of one row.
-use Rattle.std.specs.Prelude.{◌≡◌, ℕ, ◌+◌, ◌-◌, ◌==◌, nat_le, Bool, true, false, ◌&&◌, List, [], ◌∷◌, Option, Some, None, IsSome, map, find, filter, option_map, ◌||◌, is_some, suc, ◌<◌, length, if◌then◌else◌}
+use Rattle.std.specs.Prelude.{◌≡◌, ℕ, ◌+◌, ◌-◌, ◌==◌, nat_le, Bool, true, false, ◌&&◌, List, [], ◌∷◌, Option, Some, None, IsSome, map, find, filter, option_map, is_some, suc, ◌<◌, length, if◌then◌else◌}
 use Rattle.std.specs.List.{last_or, list_any}
 use Rattle.std.specs.Option.{option_or}
 use Rattle.std.proofs.Common.{arith, ap, ◌∙◌, subst, refl, sym}
 use Rattle.std.proofs.lemmas.Bool.{eqb-true, ne_eqb}
+use Rattle.std.proofs.Math.Bool.{or-false}
 use Rattle.geo_mesh.specs.Cells.{IsCount, geom_row, provider_row, consumer_row, have_of, risen_of, fallen_of, want_of, active_of, geom_scratch_of, provider_scratch_of, consumer_scratch_of, graph_of, graph, view_of, put_consumer, with_geom_cell, with_provider_cell, with_consumer_cell}
 use Rattle.geo_mesh.specs.declared.names.Names.{Names}
 use Rattle.geo_mesh.specs.Names.{AreNames, AreIds, sound_of, newest_of, is_sound_named}
@@ -11,6 +12,7 @@ use Rattle.geo_mesh.proofs.AlikeLemmas.{newest-names}
 use Rattle.std.proofs.lemmas.List.{map-append, length-map}
 use Rattle.geo_model.specs.Words.{same_name}
 use Rattle.geo_base.specs.declared.request.Counts.{Counts}
+use Rattle.geo_base.proofs.Tests.{is_some-map}
 use Rattle.geo_model.specs.Topology.{Geom, Provider, Consumer, geom_at, provider_at, consumer_at, set_error, set_size, set_withering, set_marks, set_config, note_started, find_provider, attach, detach}
 use Rattle.geo_slots.specs.Slots.{SlotsView, IsRising, value_at, with_value, without, first_from, with_insert}
 use Rattle.geo_mesh.specs.declared.records.Scratch.{Scratch}
@@ -22,7 +24,7 @@ use Rattle.geo_mesh.specs.declared.tables.Tables.{Tables}
 use Rattle.geo_mesh.specs.Whole.{IsRoomier}
 use Rattle.geo_mesh.specs.Rows.{row_with, passes}
 use Rattle.geo_mesh.specs.Topo.{no_counts, no_scratch, first_geom, first_provider, first_consumer, with_provider, with_consumer, with_topology, with_want, with_have, with_notes, with_active, with_geom_scratch, with_provider_scratch, with_consumer_scratch, without_geom, without_provider, without_consumer, IsButForRoom}
-use Rattle.geo_mesh.proofs.RowLemmas.{OnlyValue, only, map-with_value, map-with_value_same, rows_with-with_value, rows_with-change_at, map-without, find-map}
+use Rattle.geo_mesh.proofs.RowLemmas.{OnlyValue, only_value, map-with_value, map-with_value_same, rows_with-with_value, rows_with-change_at, map-without, find-map}
 use Rattle.geo_mesh.proofs.WalkLemmas.{first-map}
 
 -- what is seen is there
@@ -60,7 +62,7 @@ module _ {C : Type 0} (gs : SlotsView (GeomCell C)) (edges : Edges) (n : ℕ) wh
       → graph_of gs (put_consumer edges n (record v { consumer = record v.consumer { prov = Some p } })) ≡ attach (graph_of gs edges) n p
   attach-graph p v rising at =
       let w : ConsCell = record v { consumer = record v.consumer { prov = Some p } } in
-      let is : OnlyValue n v edges.consumers.rows = only n 1 edges.consumers.next v edges.consumers.rows rising at in
+      let is : OnlyValue n v edges.consumers.rows = only_value n 1 edges.consumers.next v edges.consumers.rows rising at in
       rw (map-with_value consumer_row n (λ (x : Consumer). x.number == n) (λ x. record x { provider = Some p }) v w (λ row. refl) refl edges.consumers.rows is) refl
 
 module _ {C : Type 0} (t : Tables C) (n : ℕ) where
@@ -69,7 +71,7 @@ module _ {C : Type 0} (t : Tables C) (n : ℕ) where
       → view_of (with_provider_cell t n (record v { provider = record v.provider { errored = true } })) ≡ with_topology (view_of t) (set_error (graph t) n)
   set_error-view v rising at =
       let w : ProvCell = record v { provider = record v.provider { errored = true } } in
-      let is : OnlyValue n v t.edges.providers.rows = only n 1 t.edges.providers.next v t.edges.providers.rows rising at in
+      let is : OnlyValue n v t.edges.providers.rows = only_value n 1 t.edges.providers.next v t.edges.providers.rows rising at in
       rw (
         map-with_value provider_row n (λ (x : Provider). x.number == n) (λ x. record x { errored = true }) v w (λ row. refl) refl t.edges.providers.rows is,
         map-with_value_same (row_with have_of) n v w refl t.edges.providers.rows is,
@@ -84,7 +86,7 @@ module _ {C : Type 0} (t : Tables C) (n : ℕ) where
       ≡ with_topology (view_of t) (set_size (graph t) n size)
   set_size-view size v rising at =
       let w : ProvCell = record v { provider = record v.provider { size = size } } in
-      let is : OnlyValue n v t.edges.providers.rows = only n 1 t.edges.providers.next v t.edges.providers.rows rising at in
+      let is : OnlyValue n v t.edges.providers.rows = only_value n 1 t.edges.providers.next v t.edges.providers.rows rising at in
       rw (
         map-with_value provider_row n (λ (x : Provider). x.number == n) (λ x. record x { size = size }) v w (λ row. refl) refl t.edges.providers.rows is,
         map-with_value_same (row_with have_of) n v w refl t.edges.providers.rows is,
@@ -98,7 +100,7 @@ module _ {C : Type 0} (t : Tables C) (n : ℕ) where
       → view_of (with_geom_cell t n (record v { geom = record v.geom { withering = true } })) ≡ with_topology (view_of t) (set_withering (graph t) n)
   set_withering-view v rising at =
       let w : GeomCell C = record v { geom = record v.geom { withering = true } } in
-      let is : OnlyValue n v t.geoms.rows = only n 1 t.geoms.next v t.geoms.rows rising at in
+      let is : OnlyValue n v t.geoms.rows = only_value n 1 t.geoms.next v t.geoms.rows rising at in
       rw (
         map-with_value geom_row n (λ (x : Geom C). x.number == n) (λ x. record x { withering = true }) v w (λ row. refl) refl t.geoms.rows is,
         map-with_value_same (row_with (geom_scratch_of {C = C})) n v w refl t.geoms.rows is,
@@ -109,7 +111,7 @@ module _ {C : Type 0} (t : Tables C) (n : ℕ) where
       → view_of (with_consumer_cell t n (record v { consumer = record v.consumer { spoiled = marked } })) ≡ with_topology (view_of t) (set_marks (graph t) (λ x. x.number == n) marked)
   set_spoiled-view marked v rising at =
       let w : ConsCell = record v { consumer = record v.consumer { spoiled = marked } } in
-      let is : OnlyValue n v t.edges.consumers.rows = only n 1 t.edges.consumers.next v t.edges.consumers.rows rising at in
+      let is : OnlyValue n v t.edges.consumers.rows = only_value n 1 t.edges.consumers.next v t.edges.consumers.rows rising at in
       rw (
         map-with_value consumer_row n (λ (x : Consumer). x.number == n) (λ x. record x { spoiled = marked }) v w (λ row. refl) refl t.edges.consumers.rows is,
         map-with_value_same (row_with want_of) n v w refl t.edges.consumers.rows is,
@@ -122,7 +124,7 @@ module _ {C : Type 0} (t : Tables C) (n : ℕ) where
       → view_of (with_consumer_cell t n (record v { consumer = record v.consumer { active = v.consumer.active + 1 } })) ≡ with_active (view_of t) n (λ m. m + 1)
   note_active-view v rising at =
       let w : ConsCell = record v { consumer = record v.consumer { active = v.consumer.active + 1 } } in
-      let is : OnlyValue n v t.edges.consumers.rows = only n 1 t.edges.consumers.next v t.edges.consumers.rows rising at in
+      let is : OnlyValue n v t.edges.consumers.rows = only_value n 1 t.edges.consumers.next v t.edges.consumers.rows rising at in
       rw (
         map-with_value_same consumer_row n v w refl t.edges.consumers.rows is,
         map-with_value_same (row_with want_of) n v w refl t.edges.consumers.rows is,
@@ -135,7 +137,7 @@ module _ {C : Type 0} (t : Tables C) (n : ℕ) where
       → view_of (with_consumer_cell t n (record v { consumer = record v.consumer { active = v.consumer.active - 1 } })) ≡ with_active (view_of t) n (λ m. m - 1)
   note_back-view v rising at =
       let w : ConsCell = record v { consumer = record v.consumer { active = v.consumer.active - 1 } } in
-      let is : OnlyValue n v t.edges.consumers.rows = only n 1 t.edges.consumers.next v t.edges.consumers.rows rising at in
+      let is : OnlyValue n v t.edges.consumers.rows = only_value n 1 t.edges.consumers.next v t.edges.consumers.rows rising at in
       rw (
         map-with_value_same consumer_row n v w refl t.edges.consumers.rows is,
         map-with_value_same (row_with want_of) n v w refl t.edges.consumers.rows is,
@@ -148,7 +150,7 @@ module _ {C : Type 0} (t : Tables C) (n : ℕ) where
       → view_of (with_consumer_cell t n (record v { consumer = record v.consumer { want = want } })) ≡ with_want (view_of t) n want
   set_want-view want v rising at =
       let w : ConsCell = record v { consumer = record v.consumer { want = want } } in
-      let is : OnlyValue n v t.edges.consumers.rows = only n 1 t.edges.consumers.next v t.edges.consumers.rows rising at in
+      let is : OnlyValue n v t.edges.consumers.rows = only_value n 1 t.edges.consumers.next v t.edges.consumers.rows rising at in
       rw (
         map-with_value_same consumer_row n v w refl t.edges.consumers.rows is,
         rows_with-with_value want_of n w t.edges.consumers.rows,
@@ -161,7 +163,7 @@ module _ {C : Type 0} (t : Tables C) (n : ℕ) where
       → view_of (with_provider_cell t n (record v { provider = record v.provider { have = have } })) ≡ with_have (view_of t) n have
   set_have-view have v rising at =
       let w : ProvCell = record v { provider = record v.provider { have = have } } in
-      let is : OnlyValue n v t.edges.providers.rows = only n 1 t.edges.providers.next v t.edges.providers.rows rising at in
+      let is : OnlyValue n v t.edges.providers.rows = only_value n 1 t.edges.providers.next v t.edges.providers.rows rising at in
       rw (
         map-with_value_same provider_row n v w refl t.edges.providers.rows is,
         rows_with-with_value have_of n w t.edges.providers.rows,
@@ -175,7 +177,7 @@ module _ {C : Type 0} (t : Tables C) (n : ℕ) where
       → view_of (with_provider_cell t n (record v { provider = record v.provider { risen = risen; fallen = fallen } })) ≡ with_notes (view_of t) n risen fallen
   set_noted-view risen fallen v rising at =
       let w : ProvCell = record v { provider = record v.provider { risen = risen; fallen = fallen } } in
-      let is : OnlyValue n v t.edges.providers.rows = only n 1 t.edges.providers.next v t.edges.providers.rows rising at in
+      let is : OnlyValue n v t.edges.providers.rows = only_value n 1 t.edges.providers.next v t.edges.providers.rows rising at in
       rw (
         map-with_value_same provider_row n v w refl t.edges.providers.rows is,
         map-with_value_same (row_with have_of) n v w refl t.edges.providers.rows is,
@@ -189,7 +191,7 @@ module _ {C : Type 0} (t : Tables C) (n : ℕ) where
       → view_of (with_geom_cell t n (record v { scratch = scratch })) ≡ with_geom_scratch (view_of t) n scratch
   set_geom_scratch-view scratch v rising at =
       let w : GeomCell C = record v { scratch = scratch } in
-      let is : OnlyValue n v t.geoms.rows = only n 1 t.geoms.next v t.geoms.rows rising at in
+      let is : OnlyValue n v t.geoms.rows = only_value n 1 t.geoms.next v t.geoms.rows rising at in
       rw (
         map-with_value_same geom_row n v w refl t.geoms.rows is,
         rows_with-with_value (geom_scratch_of {C = C}) n w t.geoms.rows,
@@ -200,7 +202,7 @@ module _ {C : Type 0} (t : Tables C) (n : ℕ) where
       → view_of (with_provider_cell t n (record v { scratch = scratch })) ≡ with_provider_scratch (view_of t) n scratch
   set_provider_scratch-view scratch v rising at =
       let w : ProvCell = record v { scratch = scratch } in
-      let is : OnlyValue n v t.edges.providers.rows = only n 1 t.edges.providers.next v t.edges.providers.rows rising at in
+      let is : OnlyValue n v t.edges.providers.rows = only_value n 1 t.edges.providers.next v t.edges.providers.rows rising at in
       rw (
         map-with_value_same provider_row n v w refl t.edges.providers.rows is,
         map-with_value_same (row_with have_of) n v w refl t.edges.providers.rows is,
@@ -214,7 +216,7 @@ module _ {C : Type 0} (t : Tables C) (n : ℕ) where
       → view_of (with_consumer_cell t n (record v { scratch = scratch })) ≡ with_consumer_scratch (view_of t) n scratch
   set_consumer_scratch-view scratch v rising at =
       let w : ConsCell = record v { scratch = scratch } in
-      let is : OnlyValue n v t.edges.consumers.rows = only n 1 t.edges.consumers.next v t.edges.consumers.rows rising at in
+      let is : OnlyValue n v t.edges.consumers.rows = only_value n 1 t.edges.consumers.next v t.edges.consumers.rows rising at in
       rw (
         map-with_value_same consumer_row n v w refl t.edges.consumers.rows is,
         map-with_value_same (row_with want_of) n v w refl t.edges.consumers.rows is,
@@ -227,7 +229,7 @@ module _ {C : Type 0} (t : Tables C) (n : ℕ) where
       → view_of (with_geom_cell t n (record v { geom = record v.geom { started = v.geom.started + 1 } })) ≡ with_topology (view_of t) (note_started (graph t) n)
   note_started-view v rising at =
       let w : GeomCell C = record v { geom = record v.geom { started = v.geom.started + 1 } } in
-      let is : OnlyValue n v t.geoms.rows = only n 1 t.geoms.next v t.geoms.rows rising at in
+      let is : OnlyValue n v t.geoms.rows = only_value n 1 t.geoms.next v t.geoms.rows rising at in
       rw (
         map-with_value geom_row n (λ (x : Geom C). x.number == n) (λ x. record x { started = x.started + 1 }) v w (λ row. refl) refl t.geoms.rows is,
         map-with_value_same (row_with (geom_scratch_of {C = C})) n v w refl t.geoms.rows is,
@@ -238,7 +240,7 @@ module _ {C : Type 0} (t : Tables C) (n : ℕ) where
       → view_of (with_consumer_cell t n (record v { consumer = record v.consumer { prov = None } })) ≡ with_topology (view_of t) (detach (graph t) n)
   detach-view v rising at =
       let w : ConsCell = record v { consumer = record v.consumer { prov = None } } in
-      let is : OnlyValue n v t.edges.consumers.rows = only n 1 t.edges.consumers.next v t.edges.consumers.rows rising at in
+      let is : OnlyValue n v t.edges.consumers.rows = only_value n 1 t.edges.consumers.next v t.edges.consumers.rows rising at in
       rw (
         map-with_value consumer_row n (λ (x : Consumer). x.number == n) (λ x. record x { provider = None }) v w (λ row. refl) refl t.edges.consumers.rows is,
         map-with_value_same (row_with want_of) n v w refl t.edges.consumers.rows is,
@@ -251,7 +253,7 @@ module _ {C : Type 0} (t : Tables C) (n : ℕ) where
       → view_of (with_consumer_cell t n (record v { consumer = record v.consumer { prov = Some p } })) ≡ with_topology (view_of t) (attach (graph t) n p)
   attach-view p v rising at =
       let w : ConsCell = record v { consumer = record v.consumer { prov = Some p } } in
-      let is : OnlyValue n v t.edges.consumers.rows = only n 1 t.edges.consumers.next v t.edges.consumers.rows rising at in
+      let is : OnlyValue n v t.edges.consumers.rows = only_value n 1 t.edges.consumers.next v t.edges.consumers.rows rising at in
       rw (
         map-with_value consumer_row n (λ (x : Consumer). x.number == n) (λ x. record x { provider = Some p }) v w (λ row. refl) refl t.edges.consumers.rows is,
         map-with_value_same (row_with want_of) n v w refl t.edges.consumers.rows is,
@@ -264,7 +266,7 @@ module _ {C : Type 0} (t : Tables C) (n : ℕ) where
       → view_of (with_geom_cell t n (record v { geom = record v.geom { config = config } })) ≡ with_topology (view_of t) (set_config (graph t) n config)
   swap_config-view config v rising at =
       let w : GeomCell C = record v { geom = record v.geom { config = config } } in
-      let is : OnlyValue n v t.geoms.rows = only n 1 t.geoms.next v t.geoms.rows rising at in
+      let is : OnlyValue n v t.geoms.rows = only_value n 1 t.geoms.next v t.geoms.rows rising at in
       rw (
         map-with_value geom_row n (λ (x : Geom C). x.number == n) (λ x. record x { config = config }) v w (λ row. refl) refl t.geoms.rows is,
         map-with_value_same (row_with (geom_scratch_of {C = C})) n v w refl t.geoms.rows is,
@@ -398,18 +400,13 @@ module _ (n : ℕ) where
   unmarked low high (row ∷ rows) rising below =
       rw (ne_eqb row.0 n (λ same. omega (arith, same, rising.0)), unmarked (row.0 + 1) high rows rising.1 (omega (arith, rising.0))) refl
 
-  -- with one that doesn't hold, it holds as without it
-  or_false : (b : Bool) → (b || false) ≡ b
-  or_false true = refl
-  or_false false = refl
-
   -- one row more in front: it is the provider of the number, or a later one may be
   error_step : (low high : ℕ) (row : ℕ × ProvCell) (rows : List (ℕ × ProvCell)) (b : Bool) → (row.0 == n) ≡ b → IsRising low (row ∷ rows) high
       → list_any (λ (x : Provider). (x.number == n) && x.errored) (map provider_row rows) ≡ passes (λ (x : ProvCell). x.provider.errored) (value_at rows n)
       → list_any (λ (x : Provider). (x.number == n) && x.errored) (map provider_row (row ∷ rows)) ≡ passes (λ (x : ProvCell). x.provider.errored) (value_at (row ∷ rows) n)
   error_step low high row rows true e rising rest =
       let same : row.0 ≡ n = eqb-true row.0 n e in
-      rw (e, unmarked (row.0 + 1) high rows rising.1 (omega arith)) (or_false row.1.provider.errored)
+      rw (e, unmarked (row.0 + 1) high rows rising.1 (omega arith)) (or-false row.1.provider.errored)
   error_step low high row rows false e rising rest = rw e rest
 
   -- whether the provider of a number carries an error, by its row
@@ -432,7 +429,7 @@ module _ {C : Type 0} (n : ℕ) where
       → list_any (λ (x : Geom C). (x.number == n) && x.withering) (map geom_row (row ∷ rows)) ≡ passes (λ (x : GeomCell C). x.geom.withering) (value_at (row ∷ rows) n)
   wither_step low high row rows true e rising rest =
       let same : row.0 ≡ n = eqb-true row.0 n e in
-      rw (e, unwithered (row.0 + 1) high rows rising.1 (omega arith)) (or_false n row.1.geom.withering)
+      rw (e, unwithered (row.0 + 1) high rows rising.1 (omega arith)) (or-false row.1.geom.withering)
   wither_step low high row rows false e rising rest = rw e rest
 
   -- whether the geom of a number withers, by its row
@@ -451,23 +448,10 @@ any_found : {X : Type 0} (test : X → Bool) (xs : List X) → list_any test xs 
 any_found test [] = refl
 any_found test (x ∷ xs) = any_found_step test x xs (test x) refl (any_found test xs)
 
--- seen otherwise, what may be there is there as before
-some_map : {X Y : Type 0} (f : X → Y) (o : Option X) → is_some (option_map f o) ≡ is_some o
-some_map f None = refl
-some_map f (Some x) = refl
-
--- where none passes, none is found
-pub none_found : {X : Type 0} (test : X → Bool) (xs : List X) → list_any test xs ≡ false → find test xs ≡ None
-none_found test xs none = nothing (find test xs) (sym (any_found test xs) ∙ none)
-  where
-    nothing : {X : Type 0} (o : Option X) → is_some o ≡ false → o ≡ None
-    nothing None e = refl
-    nothing (Some x) e = absurd (cc)
-
 -- whether a name is taken, by the names
-pub taken : (ps : List Provider) (next : ℕ) (n : Names) → AreNames ps next n → (name : List ℕ) → is_some (sound_of n name) ≡ list_any (is_sound_named name) ps
-taken ps next n are name =
-    ap is_some (are.sound name) ∙ some_map (λ (x : Provider). x.number) (find (is_sound_named name) ps) ∙ sym (any_found (is_sound_named name) ps)
+pub name_taken : (ps : List Provider) (next : ℕ) (n : Names) → AreNames ps next n → (name : List ℕ) → is_some (sound_of n name) ≡ list_any (is_sound_named name) ps
+name_taken ps next n are name =
+    ap is_some (are.sound name) ∙ is_some-map (λ (x : Provider). x.number) (find (is_sound_named name) ps) ∙ sym (any_found (is_sound_named name) ps)
 
 -- another value under a number leaves the count
 pub count-with_value : {C : Type 0} (n : ℕ) (v : GeomCell C) (rows : List (ℕ × GeomCell C)) (live : ℕ) → IsCount (length rows) live → IsCount (length (with_value rows n v)) live

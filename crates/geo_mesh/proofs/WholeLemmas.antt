@@ -1,29 +1,25 @@
 -- What a mesh keeps as a whole, after each call.
-use Rattle.std.specs.Prelude.{◌≡◌, ℕ, ◌+◌, ◌-◌, ◌==◌, ◌<◌, ◌^◌, ◌≢◌, Bool, true, false, List, [], Some, None, find, map, length, IsSome}
-use Rattle.std.proofs.Common.{refl, sym, ◌∙◌, ap, subst, arith}
-use Rattle.geo_slots.specs.Slots.{SlotsView, IsRising, value_at, with_value, without, with_insert}
-use Rattle.geo_base.specs.declared.request.Counts.{Counts}
+use Rattle.std.specs.Prelude.{◌≡◌, ℕ, ◌==◌, true, Some, map}
+use Rattle.std.proofs.Common.{refl, sym, ap, subst}
+use Rattle.geo_slots.specs.Slots.{IsRising, value_at, with_value}
 use Rattle.geo_model.specs.Words.{change_where}
-use Rattle.geo_model.specs.Topology.{Topology, Geom, Provider, Consumer, geom_at, provider_at, consumer_at, providers_of, consumers_of, attached_to, set_marks, set_error}
+use Rattle.geo_model.specs.Topology.{Geom, Provider, Consumer, set_marks, set_error}
 use Rattle.geo_mesh.specs.declared.records.GeomCell.{GeomCell}
 use Rattle.geo_mesh.specs.declared.records.ProvCell.{ProvCell}
 use Rattle.geo_mesh.specs.declared.records.ConsCell.{ConsCell}
-use Rattle.geo_mesh.specs.declared.index.Index.{Index}
 use Rattle.geo_mesh.specs.declared.names.Names.{Names}
-use Rattle.geo_mesh.specs.declared.tables.Edges.{Edges}
 use Rattle.geo_mesh.specs.declared.tables.Tables.{Tables}
 use Rattle.geo_mesh.specs.Topo.{is_provider_size}
-use Rattle.geo_mesh.specs.Graph.{IsOrderly, IsOffer}
-use Rattle.geo_mesh.specs.Cells.{graph, graph_of, geom_row, provider_row, consumer_row, with_geom_cell, with_provider_cell, with_consumer_cell, put_provider, put_consumer}
-use Rattle.geo_mesh.specs.Index.{IsIndexed, HaveRoom, with_rooms}
-use Rattle.geo_mesh.specs.Names.{AreNames, AreIds, HaveNameRoom, SameNames, RetiresName}
+use Rattle.geo_mesh.specs.Graph.{IsOrderly}
+use Rattle.geo_mesh.specs.Cells.{graph, geom_row, provider_row, consumer_row, with_geom_cell, with_provider_cell, with_consumer_cell}
+use Rattle.geo_mesh.specs.Index.{IsIndexed, HaveRoom}
+use Rattle.geo_mesh.specs.Names.{AreNames, HaveNameRoom, RetiresName}
 use Rattle.geo_mesh.specs.declared.tables.Notes.{Notes}
 use Rattle.geo_mesh.specs.Notes.{AreNotes, HaveNoteRoom}
 use Rattle.geo_mesh.proofs.NoteLemmas.{notes-reserved, notes-geom_kept, notes-provider_kept}
-use Rattle.geo_mesh.specs.Mesh.{IsMesh}
-use Rattle.geo_mesh.specs.Ranks.{HaveRanks, footing}
+use Rattle.geo_mesh.specs.Ranks.{footing}
 use Rattle.geo_mesh.specs.Whole.{IsWhole, IsRoomier}
-use Rattle.geo_mesh.proofs.RowLemmas.{OnlyValue, only, map-with_value}
+use Rattle.geo_mesh.proofs.RowLemmas.{only_value, map-with_value}
 use Rattle.geo_mesh.proofs.IndexLemmas.{indexed-rooms, indexed-geom, indexed-provider, indexed-set_marks}
 use Rattle.geo_mesh.proofs.IdLemmas.{ids-same}
 use Rattle.geo_mesh.proofs.AlikeLemmas.{names-same, names-changed}
@@ -99,7 +95,7 @@ module _ {C : Type 0} (t : Tables C) (whole : IsWhole t) where
       } in
       let seen : geom_row (n, w) ≡ change (geom_row (n, v)) = λ i. record (geom_row (n, w)) { kind = keeps.kind i } in
       let same : map geom_row (with_value t.geoms.rows n w) ≡ change_where (λ x. x.number == n) change (graph t).geoms =
-      map-with_value geom_row n (λ (x : Geom C). x.number == n) change v w (λ row. refl) seen t.geoms.rows (only n 1 t.geoms.next v t.geoms.rows rising at) in
+      map-with_value geom_row n (λ (x : Geom C). x.number == n) change v w (λ row. refl) seen t.geoms.rows (only_value n 1 t.geoms.next v t.geoms.rows rising at) in
       let changed : graph (with_geom_cell t n w) ≡ record (graph t) { geoms = change_where (λ x. x.number == n) change (graph t).geoms } =
       ap (λ xs. record (graph t) { geoms = xs }) same in
       record {
@@ -134,7 +130,7 @@ module _ {C : Type 0} (t : Tables C) (whole : IsWhole t) where
       λ i. record (provider_row (n, w)) { geom = keeps.geom i; name = keeps.name i; errored = keeps.errored i } in
       let same : map provider_row (with_value t.edges.providers.rows n w) ≡ change_where (λ x. x.number == n) change (graph t).providers =
       map-with_value provider_row n (λ (x : Provider). x.number == n) change v w (λ row. refl) seen t.edges.providers.rows
-      (only n 1 t.edges.providers.next v t.edges.providers.rows rising at) in
+      (only_value n 1 t.edges.providers.next v t.edges.providers.rows rising at) in
       let changed : graph (with_provider_cell t n w) ≡ record (graph t) { providers = change_where (λ x. x.number == n) change (graph t).providers } =
       ap (λ xs. record (graph t) { providers = xs }) same in
       record {
@@ -175,7 +171,7 @@ module _ {C : Type 0} (t : Tables C) (whole : IsWhole t) where
       λ i. record (consumer_row (n, w)) { geom = keeps.geom i; provider = keeps.provider i } in
       let same : map consumer_row (with_value t.edges.consumers.rows n w) ≡ change_where (λ x. x.number == n) change (graph t).consumers =
       map-with_value consumer_row n (λ (x : Consumer). x.number == n) change v w (λ row. refl) seen t.edges.consumers.rows
-      (only n 1 t.edges.consumers.next v t.edges.consumers.rows rising at) in
+      (only_value n 1 t.edges.consumers.next v t.edges.consumers.rows rising at) in
       let changed : graph (with_consumer_cell t n w) ≡ set_marks (graph t) (λ x. x.number == n) w.consumer.spoiled =
       ap (λ xs. record (graph t) { consumers = xs }) same in
       record {

@@ -1,6 +1,6 @@
 -- What a mesh keeps as a whole, where a part comes or goes, and where a consumer is attached or detached.
 use Rattle.std.specs.Prelude.{◌≡◌, ◌≢◌, ℕ, ◌+◌, ◌-◌, ◌<◌, ◌^◌, true, false, [], Option, Some, None, find, map, IsSome, IfSome}
-use Rattle.std.proofs.Common.{refl, sym, ◌∙◌, ap, subst}
+use Rattle.std.proofs.Common.{sym, ◌∙◌, ap, subst}
 use Rattle.geo_slots.specs.Slots.{SlotsView, IsRising, value_at, without, with_insert}
 use Rattle.geo_model.specs.Topology.{geom_at, provider_at, consumer_at, providers_of, consumers_of, attached_to}
 use Rattle.geo_mesh.specs.declared.records.GeomCell.{GeomCell}

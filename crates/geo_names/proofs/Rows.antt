@@ -1,15 +1,10 @@
 -- Rows under numbers, with one more behind or one taken away; and names that are the same.
-use Rattle.std.specs.Prelude.{◌≡◌, ℕ, ◌==◌, ◌&&◌, Bool, true, false, not, List, [], ◌∷◌, ◌++◌, Option, Some, None, IsSome, map, filter, Result, Ok, Err, IsOk, OnOk}
-use Rattle.std.proofs.Common.{refl, sym, ◌∙◌, ap, inl, inr}
-use Rattle.std.proofs.lemmas.Bool.{cases_eq, eq-eqb, ne_eqb, eqb-true}
+use Rattle.std.specs.Prelude.{◌≡◌, ℕ, ◌==◌, Bool, true, false, not, List, [], ◌∷◌, ◌++◌, Some, None, IsSome, map, filter}
+use Rattle.std.proofs.Common.{refl, sym, ◌∙◌, ap}
+use Rattle.std.proofs.lemmas.Bool.{eq-eqb, ne_eqb, eqb-true, and_parts}
 use Rattle.geo_slots.specs.Slots.{value_at, without}
 use Rattle.geo_family.specs.Family.{is_parent}
 use Rattle.geo_model.specs.Words.{same_name}
-
--- where both hold, each does
-both_true : (a b : Bool) → (a && b) ≡ true → (a ≡ true) × (b ≡ true)
-both_true true b e = (refl, e)
-both_true false b e = absurd (cc)
 
 -- the same bytes are the same name
 pub same_is : (a b : List ℕ) → same_name a b ≡ true → a ≡ b
@@ -17,7 +12,7 @@ same_is [] [] e = refl
 same_is [] (y ∷ ys) e = absurd (cc)
 same_is (x ∷ xs) [] e = absurd (cc)
 same_is (x ∷ xs) (y ∷ ys) e =
-    let parts = both_true (x == y) (same_name xs ys) e in λ i. eqb-true x y parts.0 i ∷ same_is xs ys parts.1 i
+    let parts = and_parts (x == y) (same_name xs ys) e in λ i. eqb-true x y parts.0 i ∷ same_is xs ys parts.1 i
 
 -- and a name is the same as itself
 pub is_same : (a : List ℕ) → same_name a a ≡ true
@@ -88,8 +83,3 @@ number_stands (row ∷ rows) n there = at (row.0 == n) refl there (λ later. num
       → is_parent (map (λ r. r.0) (row ∷ rows)) n ≡ true
   at true e there later = rw e refl
   at false e there later = rw e (later (rw e at there))
-
--- a fact of a result that is Ok
-pub on_ok : {T E : Type 0} {P : Type 0} (r : Result T E) → IsOk r → OnOk r P → P
-on_ok (Ok v) is p = p
-on_ok (Err e) never p = absurd (cc)

@@ -1,30 +1,26 @@
 -- Ids with their names, and numbers under the ids of their names.
-use Rattle.std.specs.Prelude.{◌≡◌, ℕ, ◌+◌, ◌<◌, ◌⊎◌, ◌==◌, ◌&&◌, ◌||◌, nat_le, Bool, true, false, not, List, [], ◌∷◌, ◌++◌, Option, Some, None, IsSome, map, filter, find, option_map, if◌then◌else◌}
+use Rattle.std.specs.Prelude.{◌≡◌, ℕ, ◌+◌, ◌⊎◌, ◌==◌, ◌&&◌, nat_le, Bool, true, false, not, List, [], ◌∷◌, ◌++◌, Option, Some, None, IsSome, filter, option_map, if◌then◌else◌}
 use Rattle.std.specs.List.{AllByRecursion, last_or}
 use Rattle.std.specs.Option.{is_some}
 use Rattle.std.proofs.Common.{refl, sym, ◌∙◌, ap, subst, inl, inr, arith}
-use Rattle.std.proofs.lemmas.Bool.{cases_eq, eq-eqb, ne_eqb, eqb-true, or_parts}
+use Rattle.std.proofs.lemmas.Bool.{cases_eq, eq-eqb, ne_eqb}
 use Rattle.std.proofs.lemmas.List.{map-append}
 use Rattle.geo_slots.specs.Slots.{IsRising, value_at, without, with_insert}
 use Rattle.geo_slots.proofs.RowLemmas.{value_at_next}
 use Rattle.geo_family.specs.Family.{names, has_child, first_child, last_child}
+use Rattle.geo_base.proofs.Tests.{some_of, is_some-map}
 use Rattle.geo_model.specs.Words.{same_name}
 use Rattle.geo_names.specs.declared.names.Inside.{Inside}
 use Rattle.geo_names.specs.Names.{first_named, last_named}
 use Rattle.geo_names.specs.Inside.{id_of, text_or, text_of, rows_of, rows_inside, IsUnder, IsInside}
 use Rattle.geo_names.proofs.Rows.{same_is, is_same, value_at-behind, value_at-last, value_at-other, value_at-without, value_at-gone, numbers-without}
 
--- what there is
-pub something : {X : Type 0} (o : Option X) → IsSome o → (x : X) × (o ≡ Some x)
-something None there = absurd cc
-something (Some x) there = (x, refl)
-
 module _ (n : Inside) (is : IsInside n) (name : List ℕ) where
   -- the name of a number's id, if it is this one, is this name
   test_at : (id : ℕ) → id_of n name ≡ Some id → (o : Option ℕ) → IsUnder n.texts.rows (0, o) → names o id ≡ same_name (text_of n.texts.rows o) name
   test_at id has None never = absurd never
   test_at id has (Some j) there =
-      let m = something (value_at n.texts.rows j) there in
+      let m = some_of (value_at n.texts.rows j) there in
       rw m.1 (elim (cases_eq j id) [
         | inl same ↦
             let here : Some m.0 ≡ Some name = sym m.1 ∙ ap (value_at n.texts.rows) same ∙ is.named name id has in
@@ -44,7 +40,7 @@ module _ (n : Inside) (is : IsInside n) (name : List ℕ) where
   test_none : id_of n name ≡ None → (o : Option ℕ) → IsUnder n.texts.rows (0, o) → same_name (text_of n.texts.rows o) name ≡ false
   test_none none None never = absurd never
   test_none none (Some j) there =
-      let m = something (value_at n.texts.rows j) there in
+      let m = some_of (value_at n.texts.rows j) there in
       rw m.1 (differs m.0 m.1 (same_name m.0 name) refl)
     where
       differs : (m : List ℕ) → value_at n.texts.rows j ≡ Some m → (b : Bool) → same_name m name ≡ b → same_name m name ≡ false
@@ -204,11 +200,6 @@ last_is_some : {X : Type 0} (x : X) (xs : List X) → is_some (last_or (Some x) 
 last_is_some x [] = refl
 last_is_some x (y ∷ ys) = last_is_some y ys
 
--- what is seen otherwise is there as before
-mapped : {X Y : Type 0} (f : X → Y) (o : Option X) → is_some (option_map f o) ≡ is_some o
-mapped f None = refl
-mapped f (Some x) = refl
-
 -- so it has none at all
 pub no_last : (children : List (ℕ × Option ℕ)) (p : ℕ) → is_some (last_child children p) ≡ false → has_child children p ≡ false
 no_last [] p none = refl
@@ -219,7 +210,7 @@ no_last (row ∷ rows) p none = step (names row.1 p) refl none (λ h. no_last ro
         let here = rw e at none in
         let never : true ≡ false =
         sym (last_is_some row (filter (λ row. names row.1 p) rows))
-        ∙ sym (mapped (λ (r : ℕ × Option ℕ). r.0) (last_or (Some row) (filter (λ row. names row.1 p) rows))) ∙ here in
+        ∙ sym (is_some-map (λ (r : ℕ × Option ℕ). r.0) (last_or (Some row) (filter (λ row. names row.1 p) rows))) ∙ here in
         absurd (cc)
     step false e none so = rw e (so (rw e at none))
 

@@ -1,9 +1,8 @@
 use Rattle.std.proofs.Common.{◌≡◌, ◌⊎◌, ℕ, ◌+◌, ◌<◌, ◌≤◌, Bool, true, false, nat_le, refl, sym, ◌∙◌, subst, inl, inr, arith}
-use Rattle.std.proofs.lemmas.Bool.{leb-true, leb-false}
+use Rattle.std.proofs.lemmas.Bool.{cases_eq, leb-true, leb-false}
 use Rattle.geo_slots.specs.Slots.{value_at}
 use Rattle.geo_mesh.specs.Rows.{passes}
 use Rattle.geo_mesh.specs.Ranks.{ranked_links, links, user, is_dev_or_taste, is_attached, IsFirst}
-use Rattle.geo_mesh.proofs.RankMend.{is_or_not}
 use Rattle.geo_mesh.proofs.RankFirst.{attached-later, attached-linked, attached-ranked}
 use Rattle.geo_mesh.proofs.ranks.ranked_consumer.Goals as goal
 
@@ -28,7 +27,7 @@ loop-cons-preserved c =
     let first : IsFirst (is_attached c.args.prov) (links c.args.edges.now).rows c.args.edges.now.consumers.next c.loop-cons.at c.in-Some.cons = c.in-Some.ensures in
     record {
       past = omega (arith, first.past, c.loop-cons.invariant.past);
-      none = λ m from_here low there. pick m from_here low there (is_or_not m c.in-Some.cons) (nat_le c.loop-cons.at m) refl;
+      none = λ m from_here low there. pick m from_here low there (cases_eq m c.in-Some.cons) (nat_le c.loop-cons.at m) refl;
     }
   where
     pick : (m : ℕ) → c.args.from ≤ m → m < c.in-Some.cons + 1 → passes (is_attached c.args.prov) (value_at (ranked_links c.args.edges.now).rows m) ≡ true → (m ≡ c.in-Some.cons) ⊎ (m ≡ c.in-Some.cons → ⊥)

@@ -1,5 +1,6 @@
 use Rattle.std.proofs.Common.{ap, arith}
-use Rattle.geo_mesh.proofs.IdLemmas.{ids-opened, on_ok}
+use Rattle.geo_base.proofs.Tests.{on_ok}
+use Rattle.geo_mesh.proofs.IdLemmas.{ids-opened}
 use Rattle.geo_mesh.proofs.names.Names.id_for.Goals as goal
 
 pub returns-clause-ids : goal.returns-clause-ids

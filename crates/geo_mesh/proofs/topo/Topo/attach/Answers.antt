@@ -1,6 +1,6 @@
-use Rattle.std.proofs.Common.{◌≡◌, Some, None, false, refl, sym, ◌∙◌, ap, subst, arith, IsSome}
-use Rattle.geo_slots.specs.Slots.{value_at, IsRising}
-use Rattle.geo_model.specs.Topology.{is_errored, attach}
+use Rattle.std.proofs.Common.{◌≡◌, Some, None, false, refl, sym, ◌∙◌, IsSome}
+use Rattle.geo_slots.specs.Slots.{value_at}
+use Rattle.geo_model.specs.Topology.{is_errored}
 use Rattle.geo_mesh.specs.Cells.{graph, put_consumer}
 use Rattle.geo_mesh.specs.Ranks.{HaveDevAndTaste, IsAdmitted, IsRefusedFor, offers, ranked_below, stored, owner, is_dev_or_taste}
 use Rattle.geo_mesh.proofs.IndexLemmas.{attached_free, attached_parent}

@@ -1,5 +1,4 @@
 use Rattle.std.proofs.Common.{rules}
-use Rattle.geo_mesh.specs.Cells.{graph}
 use Rattle.geo_mesh.proofs.ViewLemmas.{consumer_at-view}
 use Rattle.geo_mesh.proofs.RowLemmas.{value_at-rows_with}
 use Rattle.geo_mesh.specs.Cells.{want_of, active_of}

@@ -2,7 +2,7 @@ use Rattle.std.proofs.Common.{◌≡◌, ◌≤◌, ◌+◌, false, None, refl, 
 use Rattle.geo_mesh.specs.Cells.{graph, put_consumer}
 use Rattle.geo_mesh.specs.Index.{detached_index}
 use Rattle.geo_mesh.specs.Graph.{IsOrderly}
-use Rattle.geo_mesh.specs.Mending.{Lowered, above}
+use Rattle.geo_mesh.specs.Mending.{above}
 use Rattle.geo_mesh.specs.Ranks.{stored, owner, ranked_below, is_dev_or_taste}
 use Rattle.geo_mesh.proofs.MeshLemmas.{mesh-detached}
 use Rattle.geo_mesh.proofs.Orderly.{orderly-detach}

@@ -1,5 +1,4 @@
 use Rattle.std.proofs.Common.{refl, rules}
-use Rattle.geo_mesh.specs.Cells.{graph}
 use Rattle.geo_mesh.proofs.ViewLemmas.{find-names}
 use Rattle.geo_mesh.proofs.topo.Topo.find.Goals as goal
 

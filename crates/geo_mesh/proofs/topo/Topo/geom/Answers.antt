@@ -1,5 +1,4 @@
 use Rattle.std.proofs.Common.{rules}
-use Rattle.geo_mesh.specs.Cells.{graph}
 use Rattle.geo_mesh.proofs.ViewLemmas.{geom_at-view}
 use Rattle.geo_mesh.proofs.GraphLemmas.{sound-graph}
 use Rattle.geo_mesh.proofs.topo.Topo.geom.Goals as goal

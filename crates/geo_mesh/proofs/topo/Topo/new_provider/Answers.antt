@@ -4,8 +4,8 @@ use Rattle.geo_mesh.specs.Topo.{with_provider}
 use Rattle.geo_mesh.specs.Cells.{graph, view_of, provider_row}
 use Rattle.geo_mesh.specs.Names.{AddsName, is_sound_named}
 use Rattle.geo_mesh.proofs.IndexLemmas.{offered_parent}
-use Rattle.geo_mesh.proofs.MeshLemmas.{name_room_for}
-use Rattle.geo_mesh.proofs.ViewLemmas.{with_provider-view, roomier-view, none_found}
+use Rattle.geo_mesh.proofs.ViewLemmas.{with_provider-view, roomier-view}
+use Rattle.geo_laws_graph.proofs.Numbered.{find-none}
 use Rattle.geo_mesh.proofs.WholeParts.{whole-new_provider}
 use Rattle.geo_mesh.proofs.topo.Topo.new_provider.Goals as goal
 
@@ -34,7 +34,7 @@ invariant_of-self-2 g c =
     let graph_is : graph c.reserve.new.self ≡ c.args.self.now.topology =
     ap (λ v. v.topology) (roomier-view c.self.inside.tables c.reserve.new.self c.reserve.ensures.same) ∙ ap (λ v. v.topology) c.self.view_is in
     let free : find (is_sound_named c.args.name) (map provider_row c.reserve.new.self.edges.providers.rows) ≡ None =
-    none_found (is_sound_named c.args.name) (map provider_row c.reserve.new.self.edges.providers.rows)
+    find-none (is_sound_named c.args.name) (map provider_row c.reserve.new.self.edges.providers.rows)
     (subst (λ g. is_name_taken g c.args.name ≡ false) (sym graph_is) c.requires.free) in
     rw (c.insert-number.ensures.inserted, c.add_provider.ensures, c.add-2.ensures, c.add-3.ensures, c.number.ensures)
     (whole-new_provider c.reserve.new.self c.reserve.ensures.whole _ c.add.new.self refl refl refl c.add.ensures.ids free

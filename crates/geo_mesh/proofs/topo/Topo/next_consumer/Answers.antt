@@ -1,5 +1,4 @@
 use Rattle.std.proofs.Common.{rules}
-use Rattle.geo_mesh.specs.Cells.{graph}
 use Rattle.geo_mesh.proofs.ViewLemmas.{next_consumer-view}
 use Rattle.geo_mesh.proofs.GraphLemmas.{sound-graph}
 use Rattle.geo_mesh.proofs.topo.Topo.next_consumer.Goals as goal

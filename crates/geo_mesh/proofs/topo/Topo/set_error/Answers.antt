@@ -1,5 +1,4 @@
 use Rattle.std.proofs.Common.{◌≡◌, Some, sym, ◌∙◌, subst}
-use Rattle.geo_slots.specs.Slots.{value_at}
 use Rattle.geo_mesh.specs.Names.{RetiresName}
 use Rattle.geo_mesh.proofs.ViewLemmas.{set_error-view}
 use Rattle.geo_mesh.proofs.WholeLemmas.{whole-errored}
