@@ -1,4 +1,5 @@
--- Values that are mended along a graph: how the steps of a walk upwards join, and that at the end each value is one more than the largest below.
+-- Values that are mended along a graph: how the steps of a walk upwards join, and that at the end each value is one
+-- more than the largest below.
 use Rattle.std.specs.Prelude.{◌≡◌, ◌⊎◌, ℕ, ◌+◌, ◌-◌, ◌<◌, ◌≤◌, nat_le, max, List, [], ◌∷◌, map}
 use Rattle.std.proofs.Common.{refl, sym, ap, inl, inr, arith}
 use Rattle.std.proofs.lemmas.Bool.{cases_eq, le-leb, leb-true}
@@ -27,7 +28,8 @@ largest-among f (m ∷ ms) n there =
     ]
 
 -- a bound of the values is one of the largest
-pub largest-most : (f : ℕ → ℕ) (most : ℕ) (ms : List ℕ) → ((n : ℕ) → IsAmong ms n → f n ≤ most) → largest (map f ms) ≤ most
+pub largest-most : (f : ℕ → ℕ) (most : ℕ) (ms : List ℕ) → ((n : ℕ) → IsAmong ms n → f n ≤ most)
+    → largest (map f ms) ≤ most
 largest-most f most [] so = omega arith
 largest-most f most (m ∷ ms) so =
     let first : f m ≤ most = so m (inl refl) in
@@ -35,7 +37,8 @@ largest-most f most (m ∷ ms) so =
     omega arith
 
 -- greater values have a greater largest one
-pub largest-grows : (f r : ℕ → ℕ) (ms : List ℕ) → ((n : ℕ) → IsAmong ms n → f n ≤ r n) → largest (map f ms) ≤ largest (map r ms)
+pub largest-grows : (f r : ℕ → ℕ) (ms : List ℕ) → ((n : ℕ) → IsAmong ms n → f n ≤ r n)
+    → largest (map f ms) ≤ largest (map r ms)
 largest-grows f r [] so = omega arith
 largest-grows f r (m ∷ ms) so =
     let first : f m ≤ r m = so m (inl refl) in
@@ -43,7 +46,8 @@ largest-grows f r (m ∷ ms) so =
     omega arith
 
 -- the same values have the same largest one
-pub largest-same : (f r : ℕ → ℕ) (ms : List ℕ) → ((n : ℕ) → IsAmong ms n → f n ≡ r n) → largest (map f ms) ≡ largest (map r ms)
+pub largest-same : (f r : ℕ → ℕ) (ms : List ℕ) → ((n : ℕ) → IsAmong ms n → f n ≡ r n)
+    → largest (map f ms) ≡ largest (map r ms)
 largest-same f r [] so = refl
 largest-same f r (m ∷ ms) so =
     let first : f m ≡ r m = so m (inl refl) in
@@ -51,13 +55,15 @@ largest-same f r (m ∷ ms) so =
     omega arith
 
 -- the largest is none, or a value of the list
-pub largest-is : (f : ℕ → ℕ) (ms : List ℕ) → (largest (map f ms) ≡ 0) ⊎ ((n : ℕ) × IsAmong ms n × (f n ≡ largest (map f ms)))
+pub largest-is : (f : ℕ → ℕ) (ms : List ℕ) → (largest (map f ms) ≡ 0)
+    ⊎ ((n : ℕ) × IsAmong ms n × (f n ≡ largest (map f ms)))
 largest-is f [] = inl refl
 largest-is f (m ∷ ms) = elim (largest-is f ms) [
   | inl none ↦ inr (m, inl refl, omega arith)
   | inr found ↦ pick found.0 found.1 found.2 (cases_eq (max (f m) (largest (map f ms))) (f m))
 ] where
-  pick : (n : ℕ) → IsAmong ms n → f n ≡ largest (map f ms) → (max (f m) (largest (map f ms)) ≡ f m) ⊎ (max (f m) (largest (map f ms)) ≡ f m → ⊥)
+  pick : (n : ℕ) → IsAmong ms n → f n ≡ largest (map f ms) → (max (f m) (largest (map f ms)) ≡ f m)
+      ⊎ (max (f m) (largest (map f ms)) ≡ f m → ⊥)
       → (max (f m) (largest (map f ms)) ≡ 0) ⊎ ((n : ℕ) × IsAmong (m ∷ ms) n × (f n ≡ max (f m) (largest (map f ms))))
   pick n there is (inl first) = inr (m, inl refl, sym first)
   pick n there is (inr later) = inr (n, inr there, omega (arith, later))
@@ -91,7 +97,8 @@ module _ (below : ℕ → List ℕ) where
     here =
         (let up : above below r g ≤ above below s g = above-grows r s g two.grows in omega (arith, one.here, two.here));
     bounded = λ x other.
-        (let up : above below r x ≤ above below s x = above-grows r s x two.grows in omega (arith, one.bounded x other, two.bounded x other));
+        (let up : above below r x ≤ above below s x = above-grows r s x two.grows in
+        omega (arith, one.bounded x other, two.bounded x other));
     reached = λ x low. reached x low (cases_eq (r x) (s x));
   } where
     mended : (x h : ℕ) → IsAmong (below x) h → f h < s h → (r h ≡ s h) ⊎ (r h ≡ s h → ⊥) → s h < s x
@@ -105,7 +112,8 @@ module _ (below : ℕ → List ℕ) where
     reached x low (inr differs) = two.reached x (omega (arith, two.grows x, differs))
 
   -- lifting a geom that stands directly above another, as far as that one asks for
-  pub lifted-above : (g x least : ℕ) (f r : ℕ → ℕ) → IsAmong (below x) g → least ≤ f g + 1 → Lifted below x least f r → Lifted below g 0 f r
+  pub lifted-above : (g x least : ℕ) (f r : ℕ → ℕ) → IsAmong (below x) g → least ≤ f g + 1
+      → Lifted below x least f r → Lifted below g 0 f r
   lifted-above g x least f r under low one = record {
     grows = one.grows;
     mended = one.mended;
@@ -157,36 +165,42 @@ module _ (below : ℕ → List ℕ) where
   }
 
   -- a geom is given the value that it has to have, and what stands directly above it is lowered
-  pub lowered-store : (g : ℕ) (f m : ℕ → ℕ) → (IsAmong (below g) g → ⊥) → ((x : ℕ) → above below f x ≤ f x) → above below f g < f g
+  pub lowered-store : (g : ℕ) (f m : ℕ → ℕ) → (IsAmong (below g) g → ⊥) → ((x : ℕ) → above below f x ≤ f x)
+      → above below f g < f g
       → m g ≡ above below f g → ((x : ℕ) → (x ≡ g → ⊥) → m x ≡ f x)
-      → ((x : ℕ) → m x ≤ f x) × ((x : ℕ) → above below m x ≤ m x) × (m g ≤ above below m g) × ((x : ℕ) → (IsAmong (below x) g → ⊥) → f x ≤ above below f x → m x ≤ above below m x)
-  lowered-store g f m apart enough high at others = (falls, (λ x. enough_at x (cases_eq x g)), omega (arith, here), λ x far low. stays x far low (cases_eq x g)) where
-    falls_at : (x : ℕ) → (x ≡ g) ⊎ (x ≡ g → ⊥) → m x ≤ f x
-    falls_at x (inl same) = rw same (omega arith)
-    falls_at x (inr differs) = omega (arith, others x differs)
+      → ((x : ℕ) → m x ≤ f x) × ((x : ℕ) → above below m x ≤ m x) × (m g ≤ above below m g)
+      × ((x : ℕ) → (IsAmong (below x) g → ⊥) → f x ≤ above below f x → m x ≤ above below m x)
+  lowered-store g f m apart enough high at others =
+      (falls, (λ x. enough_at x (cases_eq x g)), omega (arith, here), λ x far low. stays x far low (cases_eq x g)) where
+        falls_at : (x : ℕ) → (x ≡ g) ⊎ (x ≡ g → ⊥) → m x ≤ f x
+        falls_at x (inl same) = rw same (omega arith)
+        falls_at x (inr differs) = omega (arith, others x differs)
 
-    falls : (x : ℕ) → m x ≤ f x
-    falls x = falls_at x (cases_eq x g)
+        falls : (x : ℕ) → m x ≤ f x
+        falls x = falls_at x (cases_eq x g)
 
-    unseen : (x : ℕ) → (IsAmong (below x) g → ⊥) → largest (map m (below x)) ≡ largest (map f (below x))
-    unseen x far = largest-same m f (below x) (λ n i. others n (λ same. far (rw same at i)))
+        unseen : (x : ℕ) → (IsAmong (below x) g → ⊥) → largest (map m (below x)) ≡ largest (map f (below x))
+        unseen x far = largest-same m f (below x) (λ n i. others n (λ same. far (rw same at i)))
 
-    here : above below m g ≡ above below f g
-    here = ap (λ n. 1 + n) (unseen g apart)
+        here : above below m g ≡ above below f g
+        here = ap (λ n. 1 + n) (unseen g apart)
 
-    enough_at : (x : ℕ) → (x ≡ g) ⊎ (x ≡ g → ⊥) → above below m x ≤ m x
-    enough_at x (inl same) = rw same (omega (arith, here))
-    enough_at x (inr differs) =
-        let less : above below m x ≤ above below f x = above-grows m f x falls in
-        omega (arith, enough x, others x differs)
+        enough_at : (x : ℕ) → (x ≡ g) ⊎ (x ≡ g → ⊥) → above below m x ≤ m x
+        enough_at x (inl same) = rw same (omega (arith, here))
+        enough_at x (inr differs) =
+            let less : above below m x ≤ above below f x = above-grows m f x falls in
+            omega (arith, enough x, others x differs)
 
-    stays : (x : ℕ) → (IsAmong (below x) g → ⊥) → f x ≤ above below f x → (x ≡ g) ⊎ (x ≡ g → ⊥) → m x ≤ above below m x
-    stays x far low (inl same) = rw same (omega (arith, here))
-    stays x far low (inr differs) = omega (arith, unseen x far, others x differs)
+        stays : (x : ℕ) → (IsAmong (below x) g → ⊥) → f x ≤ above below f x → (x ≡ g) ⊎ (x ≡ g → ⊥)
+            → m x ≤ above below m x
+        stays x far low (inl same) = rw same (omega (arith, here))
+        stays x far low (inr differs) = omega (arith, unseen x far, others x differs)
 
   -- once what stands directly above is lowered too, it is as if nothing had been stored
-  pub lowered-whole : (g : ℕ) (f m r : ℕ → ℕ) → (IsAmong (below g) g → ⊥) → ((x : ℕ) → above below f x ≤ f x) → above below f g < f g
-      → m g ≡ above below f g → ((x : ℕ) → (x ≡ g → ⊥) → m x ≡ f x) → Lowered below m r → ((x : ℕ) → IsAmong (below x) g → r x ≤ above below r x)
+  pub lowered-whole : (g : ℕ) (f m r : ℕ → ℕ) → (IsAmong (below g) g → ⊥) → ((x : ℕ) → above below f x ≤ f x)
+      → above below f g < f g
+      → m g ≡ above below f g → ((x : ℕ) → (x ≡ g → ⊥) → m x ≡ f x) → Lowered below m r
+      → ((x : ℕ) → IsAmong (below x) g → r x ≤ above below r x)
       → Lowered below f r × (r g ≤ above below r g)
   lowered-whole g f m r apart enough high at others one passed =
       let stored = lowered-store g f m apart enough high at others in (
@@ -197,7 +211,8 @@ module _ (below : ℕ → List ℕ) where
         },
         one.stays g stored.2,
       ) where
-        stays : (x : ℕ) → f x ≤ above below f x → IsAmong (below x) g ⊎ (IsAmong (below x) g → ⊥) → r x ≤ above below r x
+        stays : (x : ℕ) → f x ≤ above below f x → IsAmong (below x) g ⊎ (IsAmong (below x) g → ⊥)
+            → r x ≤ above below r x
         stays x low (inl near) = passed x near
         stays x low (inr far) = one.stays x ((lowered-store g f m apart enough high at others).3 x far low)
 
@@ -216,7 +231,8 @@ module _ (below : ℕ → List ℕ) (f : ℕ → ℕ) where
     -- after a lift each value is enough again
     pub lifted-enough : ((x : ℕ) → above below f x ≤ f x) → (x : ℕ) → above below r x ≤ r x
     lifted-enough enough x =
-        let high : largest (map r (below x)) ≤ r x - 1 = largest-most r (r x - 1) (below x) (λ h under. at h under (cases_eq (f h) (r h))) in
+        let high : largest (map r (below x)) ≤ r x - 1 =
+        largest-most r (r x - 1) (below x) (λ h under. at h under (cases_eq (f h) (r h))) in
         omega (arith, enough x, one.grows x) where
           at : (h : ℕ) → IsAmong (below x) h → (f h ≡ r h) ⊎ (f h ≡ r h → ⊥) → r h ≤ r x - 1
           at h under (inl same) = omega (arith, enough-climbs enough x h under, one.grows x)
@@ -250,15 +266,18 @@ module _ (below : ℕ → List ℕ) (f : ℕ → ℕ) where
         loops-lifted raised stands kept =
             let high : r g ≤ r q = leb-true (r g) (r q)
             (stands (λ y. nat_le (r g) (r y)) (le-leb (r g) (r g) (omega arith))
-            (λ y h under there. le-leb (r g) (r y) (omega (arith, leb-true (r g) (r h) there, enough-climbs_of y h under)))) in
+            (λ y h under there.
+            le-leb (r g) (r y) (omega (arith, leb-true (r g) (r h) there, enough-climbs_of y h under)))) in
             omega arith where
               enough-climbs_of : (y h : ℕ) → IsAmong (below y) h → r h < r y
               enough-climbs_of y h under =
                   let low : r h ≤ largest (map r (below y)) = largest-among r (below y) h under in
                   omega (arith, enough_all y)
 
-        -- where the geom that asks wasn't reached, the values are one more than the largest below in the graph with it below
-        pub lifted-joined : (joined : ℕ → List ℕ) → Joined below joined g q → least ≤ r g → r q ≡ f q → (x : ℕ) → r x ≡ above joined r x
+        -- where the geom that asks wasn't reached, the values are one more than the largest below in the graph with
+        -- it below
+        pub lifted-joined : (joined : ℕ → List ℕ) → Joined below joined g q → least ≤ r g → r q ≡ f q → (x : ℕ)
+            → r x ≡ above joined r x
         lifted-joined joined graph raised kept x = at x (cases_eq x g) where
           at : (x : ℕ) → (x ≡ g) ⊎ (x ≡ g → ⊥) → r x ≡ above joined r x
           at x (inl same) =
@@ -267,7 +286,8 @@ module _ (below : ℕ → List ℕ) (f : ℕ → ℕ) where
               rw same there
           at x (inr differs) = omega (arith, lifted-low x differs, enough_all x, graph.others r x differs)
 
-module _ (apart joined : ℕ → List ℕ) (g q : ℕ) (graph : Joined apart joined g q) (f : ℕ → ℕ) (local : (x : ℕ) → f x ≡ above joined f x) where
+module _ (apart joined : ℕ → List ℕ) (g q : ℕ) (graph : Joined apart joined g q) (f : ℕ → ℕ) (local : (x : ℕ)
+    → f x ≡ above joined f x) where
   -- with one geom less below each value is still enough
   pub apart-enough : (x : ℕ) → above apart f x ≤ f x
   apart-enough x = at x (cases_eq x g) where

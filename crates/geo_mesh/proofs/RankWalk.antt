@@ -13,8 +13,10 @@ use Rattle.geo_mesh.specs.Ranks.{kinds, bare, offers, ranked_links, ranked_below
 use Rattle.geo_mesh.proofs.RankRows.{IsWay, under-way, way-under, kinds-bare, rising-with, all-at}
 
 -- the graph may be walked over whatever the ranks
-pub walkable-bare : {C : Type 0} (gs ns : SlotsView (GeomCell C)) (edges : Edges) → bare ns ≡ bare gs → IsWalkable (kinds gs) edges → IsWalkable (kinds ns) edges
-walkable-bare gs ns edges same walkable = subst (λ classes. IsWalkable classes edges) (sym (kinds-bare gs ns same)) walkable
+pub walkable-bare : {C : Type 0} (gs ns : SlotsView (GeomCell C)) (edges : Edges) → bare ns ≡ bare gs
+    → IsWalkable (kinds gs) edges → IsWalkable (kinds ns) edges
+walkable-bare gs ns edges same walkable =
+    subst (λ classes. IsWalkable classes edges) (sym (kinds-bare gs ns same)) walkable
 
 -- a provider that is offered by a geom has it as its owner
 pub offered-is : (g : ℕ) (o : Option ℕ) → passes (is_offered g) o ≡ true → o ≡ Some g
@@ -37,16 +39,23 @@ module _ (edges : Edges) where
   owner-is g p there = rw (offered-is g (value_at (offers edges).rows p) there) refl
 
   -- the owner of a provider is below the user of a consumer that is attached to it
-  pub user-above : (p c : ℕ) → IsSome (value_at (offers edges).rows p) → passes (is_attached p) (value_at (ranked_links edges).rows c) ≡ true → IsAmong (ranked_below edges (user edges c)) (owner edges p)
+  pub user-above : (p c : ℕ) → IsSome (value_at (offers edges).rows p)
+      → passes (is_attached p) (value_at (ranked_links edges).rows c) ≡ true
+      → IsAmong (ranked_below edges (user edges c)) (owner edges p)
   user-above p c lives there =
-      way-under (offers edges).rows (ranked_links edges).rows c p (user edges c) (owner edges p) (attached-is p (value_at (ranked_links edges).rows c) there) (some_number (value_at (offers edges).rows p) lives)
+      way-under (offers edges).rows (ranked_links edges).rows c p (user edges c) (owner edges p)
+      (attached-is p (value_at (ranked_links edges).rows c) there)
+      (some_number (value_at (offers edges).rows p) lives)
 
   -- what stands directly above a geom does so by a consumer that is attached to a provider of the geom
   pub above-user : IsRising 1 edges.consumers.rows edges.consumers.next → (P : ℕ → Type 0) (g : ℕ)
-      → ((p c : ℕ) → passes (is_offered g) (value_at (offers edges).rows p) ≡ true → passes (is_attached p) (value_at (ranked_links edges).rows c) ≡ true → P (user edges c))
+      → ((p c : ℕ) → passes (is_offered g) (value_at (offers edges).rows p) ≡ true
+      → passes (is_attached p) (value_at (ranked_links edges).rows c) ≡ true → P (user edges c))
       → (x : ℕ) → IsAmong (ranked_below edges x) g → P x
   above-user rising P g so x there =
-      let way : IsWay (offers edges).rows (ranked_links edges).rows x g = under-way (offers edges).rows 1 edges.consumers.next (ranked_links edges).rows (rising-with ranked_link_of 1 edges.consumers.next edges.consumers.rows rising) x g there in
+      let way : IsWay (offers edges).rows (ranked_links edges).rows x g =
+      under-way (offers edges).rows 1 edges.consumers.next (ranked_links edges).rows
+      (rising-with ranked_link_of 1 edges.consumers.next edges.consumers.rows rising) x g there in
       at way (so way.prov way.cons (rw way.owner (self g)) (rw way.user (self way.prov))) where
         self : (n : ℕ) → (n == n) ≡ true
         self n = eq-eqb n n refl
@@ -55,13 +64,17 @@ module _ (edges : Edges) where
         at way fact = let same : user edges way.cons ≡ x = rw way.user refl in subst P same fact
 
   -- the geom of a consumer is there
-  pub user-lives : (classes : List (ℕ × Kind)) (p c : ℕ) → IsWalkable classes edges → passes (is_attached p) (value_at (ranked_links edges).rows c) ≡ true → IsSome (value_at classes (user edges c))
+  pub user-lives : (classes : List (ℕ × Kind)) (p c : ℕ) → IsWalkable classes edges
+      → passes (is_attached p) (value_at (ranked_links edges).rows c) ≡ true → IsSome (value_at classes (user edges c))
   user-lives classes p c walkable there =
-      all-at (λ (row : ℕ × (ℕ × Option ℕ)). IsSome (value_at classes row.1.0)) (ranked_links edges).rows c (user edges c, Some p) walkable.owned (attached-is p (value_at (ranked_links edges).rows c) there)
+      all-at (λ (row : ℕ × (ℕ × Option ℕ)). IsSome (value_at classes row.1.0)) (ranked_links edges).rows c
+      (user edges c, Some p) walkable.owned (attached-is p (value_at (ranked_links edges).rows c) there)
 
 -- one more of a walk: a fact of all that pass below the next number
-pub walk-more : {T : Type 0} (test : T → Bool) (rows : List (ℕ × T)) (next at n : ℕ) (P : ℕ → Type 0) → IsFirst test rows next at n
-    → ((m : ℕ) → m < at → passes test (value_at rows m) ≡ true → P m) → P n → (m : ℕ) → m < n + 1 → passes test (value_at rows m) ≡ true → P m
+pub walk-more : {T : Type 0} (test : T → Bool) (rows : List (ℕ × T)) (next at n : ℕ) (P : ℕ → Type 0)
+    → IsFirst test rows next at n
+    → ((m : ℕ) → m < at → passes test (value_at rows m) ≡ true → P m) → P n → (m : ℕ) → m < n + 1
+    → passes test (value_at rows m) ≡ true → P m
 walk-more test rows next at n P first so here m low there = pick (cases_eq m n) where
   pick : (m ≡ n) ⊎ (m ≡ n → ⊥) → P m
   pick (inl same) = subst P (sym same) here

@@ -21,25 +21,30 @@ is_same (x ∷ xs) = rw (eq-eqb x x refl) (is_same xs)
 
 module _ {T : Type 0} where
   -- the value under a number once a row stands behind
-  pub value_at-behind : (n m : ℕ) (v : T) (rows : List (ℕ × T)) → IsSome (value_at rows m) → value_at (rows ++ (n, v) ∷ []) m ≡ value_at rows m
+  pub value_at-behind : (n m : ℕ) (v : T) (rows : List (ℕ × T)) → IsSome (value_at rows m)
+      → value_at (rows ++ (n, v) ∷ []) m ≡ value_at rows m
   value_at-behind n m v [] there = absurd cc
   value_at-behind n m v (row ∷ rows) there = at (row.0 == m) refl there (λ e. value_at-behind n m v rows e) where
-    at : (b : Bool) → (row.0 == m) ≡ b → IsSome (value_at (row ∷ rows) m) → (IsSome (value_at rows m) → value_at (rows ++ (n, v) ∷ []) m ≡ value_at rows m)
+    at : (b : Bool) → (row.0 == m) ≡ b → IsSome (value_at (row ∷ rows) m)
+        → (IsSome (value_at rows m) → value_at (rows ++ (n, v) ∷ []) m ≡ value_at rows m)
         → value_at ((row ∷ rows) ++ (n, v) ∷ []) m ≡ value_at (row ∷ rows) m
     at true e there so = rw e refl
     at false e there so = rw e (so (rw e at there))
 
   -- the value of the row behind, where none had its number
-  pub value_at-last : (n : ℕ) (v : T) (rows : List (ℕ × T)) → value_at rows n ≡ None → value_at (rows ++ (n, v) ∷ []) n ≡ Some v
+  pub value_at-last : (n : ℕ) (v : T) (rows : List (ℕ × T)) → value_at rows n ≡ None
+      → value_at (rows ++ (n, v) ∷ []) n ≡ Some v
   value_at-last n v [] none = rw (eq-eqb n n refl) refl
   value_at-last n v (row ∷ rows) none = at (row.0 == n) refl none (λ e. value_at-last n v rows e) where
-    at : (b : Bool) → (row.0 == n) ≡ b → value_at (row ∷ rows) n ≡ None → (value_at rows n ≡ None → value_at (rows ++ (n, v) ∷ []) n ≡ Some v)
+    at : (b : Bool) → (row.0 == n) ≡ b → value_at (row ∷ rows) n ≡ None
+        → (value_at rows n ≡ None → value_at (rows ++ (n, v) ∷ []) n ≡ Some v)
         → value_at ((row ∷ rows) ++ (n, v) ∷ []) n ≡ Some v
     at true e none so = let never : Some row.1 ≡ None = rw e at none in absurd cc
     at false e none so = rw e (so (rw e at none))
 
   -- another number's value once a row stands behind
-  pub value_at-other : (n m : ℕ) (v : T) (rows : List (ℕ × T)) → (n ≡ m → ⊥) → value_at (rows ++ (n, v) ∷ []) m ≡ value_at rows m
+  pub value_at-other : (n m : ℕ) (v : T) (rows : List (ℕ × T)) → (n ≡ m → ⊥)
+      → value_at (rows ++ (n, v) ∷ []) m ≡ value_at rows m
   value_at-other n m v [] other = rw (ne_eqb n m other) refl
   value_at-other n m v (row ∷ rows) other = at (row.0 == m) refl (value_at-other n m v rows other) where
     at : (b : Bool) → (row.0 == m) ≡ b → value_at (rows ++ (n, v) ∷ []) m ≡ value_at rows m
@@ -50,13 +55,15 @@ module _ {T : Type 0} where
   -- the value under a number once another was taken away
   pub value_at-without : (n m : ℕ) (rows : List (ℕ × T)) → (m ≡ n → ⊥) → value_at (without rows n) m ≡ value_at rows m
   value_at-without n m [] other = refl
-  value_at-without n m (row ∷ rows) other = at (row.0 == n) refl (row.0 == m) refl (value_at-without n m rows other) where
-    at : (b : Bool) → (row.0 == n) ≡ b → (d : Bool) → (row.0 == m) ≡ d → value_at (without rows n) m ≡ value_at rows m
-        → value_at (without (row ∷ rows) n) m ≡ value_at (row ∷ rows) m
-    at true e true k rest = absurd (other (sym (eqb-true row.0 m k) ∙ eqb-true row.0 n e))
-    at true e false k rest = rw (e, k) rest
-    at false e true k rest = rw (e, k) refl
-    at false e false k rest = rw (e, k) rest
+  value_at-without n m (row ∷ rows) other =
+      at (row.0 == n) refl (row.0 == m) refl (value_at-without n m rows other) where
+        at : (b : Bool) → (row.0 == n) ≡ b → (d : Bool) → (row.0 == m) ≡ d
+            → value_at (without rows n) m ≡ value_at rows m
+            → value_at (without (row ∷ rows) n) m ≡ value_at (row ∷ rows) m
+        at true e true k rest = absurd (other (sym (eqb-true row.0 m k) ∙ eqb-true row.0 n e))
+        at true e false k rest = rw (e, k) rest
+        at false e true k rest = rw (e, k) refl
+        at false e false k rest = rw (e, k) rest
 
   -- no value is left under the number that was taken away
   pub value_at-gone : (n : ℕ) (rows : List (ℕ × T)) → value_at (without rows n) n ≡ None
@@ -67,19 +74,24 @@ module _ {T : Type 0} where
     at false e rest = rw (e, e) rest
 
   -- the numbers without one of them
-  pub numbers-without : (n : ℕ) (rows : List (ℕ × T)) → filter (λ m. not (m == n)) (map (λ (row : ℕ × T). row.0) rows) ≡ map (λ (row : ℕ × T). row.0) (without rows n)
+  pub numbers-without : (n : ℕ) (rows : List (ℕ × T))
+      → filter (λ m. not (m == n)) (map (λ (row : ℕ × T). row.0) rows) ≡ map (λ (row : ℕ × T). row.0) (without rows n)
   numbers-without n [] = refl
   numbers-without n (row ∷ rows) = at (row.0 == n) refl (numbers-without n rows) where
-    at : (b : Bool) → (row.0 == n) ≡ b → filter (λ m. not (m == n)) (map (λ (r : ℕ × T). r.0) rows) ≡ map (λ (r : ℕ × T). r.0) (without rows n)
-        → filter (λ m. not (m == n)) (map (λ (r : ℕ × T). r.0) (row ∷ rows)) ≡ map (λ (r : ℕ × T). r.0) (without (row ∷ rows) n)
+    at : (b : Bool) → (row.0 == n) ≡ b
+        → filter (λ m. not (m == n)) (map (λ (r : ℕ × T). r.0) rows) ≡ map (λ (r : ℕ × T). r.0) (without rows n)
+        → filter (λ m. not (m == n)) (map (λ (r : ℕ × T). r.0) (row ∷ rows))
+        ≡ map (λ (r : ℕ × T). r.0) (without (row ∷ rows) n)
     at true e rest = rw e rest
     at false e rest = rw e (ap (λ ns. row.0 ∷ ns) rest)
 
 -- a number with a value is among the numbers
-pub number_stands : {T : Type 0} (rows : List (ℕ × T)) (n : ℕ) → IsSome (value_at rows n) → is_parent (map (λ (row : ℕ × T). row.0) rows) n ≡ true
+pub number_stands : {T : Type 0} (rows : List (ℕ × T)) (n : ℕ) → IsSome (value_at rows n)
+    → is_parent (map (λ (row : ℕ × T). row.0) rows) n ≡ true
 number_stands [] n there = absurd cc
 number_stands (row ∷ rows) n there = at (row.0 == n) refl there (λ later. number_stands rows n later) where
-  at : (b : Bool) → (row.0 == n) ≡ b → IsSome (value_at (row ∷ rows) n) → (IsSome (value_at rows n) → is_parent (map (λ r. r.0) rows) n ≡ true)
+  at : (b : Bool) → (row.0 == n) ≡ b → IsSome (value_at (row ∷ rows) n)
+      → (IsSome (value_at rows n) → is_parent (map (λ r. r.0) rows) n ≡ true)
       → is_parent (map (λ r. r.0) (row ∷ rows)) n ≡ true
   at true e there later = rw e refl
   at false e there later = rw e (later (rw e at there))

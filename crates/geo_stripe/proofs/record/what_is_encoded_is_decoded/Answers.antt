@@ -27,8 +27,7 @@ decoded size bytes after x none named reads striped sized =
       name = record_name bytes;
       id = u32_at bytes 36;
       place = u16_at bytes 40;
-      count =
-          u16_at bytes 42;
+      count = u16_at bytes 42;
       stripe = u32_at bytes 44;
     }) none
     ∙ ap (λ name. answer (length bytes) name (u32_at bytes 36) (u16_at bytes 40) (u16_at bytes 42) (u32_at bytes 44))

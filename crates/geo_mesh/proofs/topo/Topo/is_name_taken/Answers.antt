@@ -7,4 +7,7 @@ use Rattle.geo_mesh.proofs.topo.Topo.is_name_taken.Goals as goal
 pub returns : goal.returns
 returns g c =
     rw (← c.self.view_is)
-    (c.is_some.ensures ∙ ap is_some c.sound.ensures ∙ name_taken (map provider_row c.self.inside.tables.edges.providers.rows) c.self.inside.tables.edges.providers.next c.self.inside.tables.names c.self.invariant.tables.names_are c.args.name.now)
+    (c.is_some.ensures ∙ ap is_some c.sound.ensures
+    ∙ name_taken (map provider_row c.self.inside.tables.edges.providers.rows)
+    c.self.inside.tables.edges.providers.next c.self.inside.tables.names c.self.invariant.tables.names_are
+    c.args.name.now)
