@@ -1,4 +1,5 @@
--- An append: the concat has grown, what rises is announced, and the growth is to be heard of; or the command is refused.
+-- An append: the concat has grown, what rises is announced, and the growth is to be heard of; or the command is
+-- refused.
 use Rattle.std.specs.Prelude.{◌≡◌, ℕ, false, List, [], ◌∷◌, Option, Some, None, IsSome, find, ◌==◌}
 use Rattle.std.proofs.Common.{refl, sym, subst}
 use Rattle.geo_base.specs.declared.errno.Errno.{Errno}
@@ -39,7 +40,8 @@ module _ (w : World) (x : Growing) (q : Provider) (firm : Firm w) (is : IsStandi
   appended-firm valid busy none =
       let good = valid_from w.topology x q valid in
       let opened : World = after_open w (with_component w x q) in
-      let ps : List ℕ = risen (granted_in w) w.topology (granted_in (with_component w x q)) (with_component w x q).topology in
+      let ps : List ℕ = risen (granted_in w) w.topology (granted_in (with_component w x q))
+      (with_component w x q).topology in
       queues_keep.posted opened (events.Resize x.provider.number)
       (subst (λ (ys : List Provider). IsSome (find (λ (z : Provider). z.number == x.provider.number) ys))
       (sym (announced-providers (granted_in (with_component w x q)) ps (queued_of (with_component w x q))))
@@ -54,9 +56,11 @@ module _ (w : World) (x : Growing) (q : Provider) (firm : Firm w) (is : IsStandi
   joined-firm line valid busy (Some e) some = number_firm w firm
 
   -- the append is refused before, or not
-  tested-firm : (line : ℕ) (e : Option Errno) → first_error (append_tests w x q) ≡ e → Firm (append_tested w line x q e).0
+  tested-firm : (line : ℕ) (e : Option Errno) → first_error (append_tests w x q) ≡ e
+      → Firm (append_tested w line x q e).0
   tested-firm line None none =
-      let a = none_refused (is_invalid_append w.topology x q) EINVAL ((is_growth_busy w x.provider.number, EBUSY) ∷ []) none in
+      let a = none_refused (is_invalid_append w.topology x q) EINVAL
+      ((is_growth_busy w x.provider.number, EBUSY) ∷ []) none in
       let b = none_refused (is_growth_busy w x.provider.number) EBUSY [] a.1 in
       joined-firm line a.0 b.0 (component_refusal w x q) refl
   tested-firm line (Some e) some = firm

@@ -1,4 +1,5 @@
--- A concat that may grow: its class, its configuration, its one provider; and that places are no more than consumers.
+-- A concat that may grow: its class, its configuration, its one provider; and that places are no more than
+-- consumers.
 use Rattle.std.specs.Prelude.{◌≡◌, ◌≢◌, ℕ, suc, ◌<◌, ◌≤◌, ◌==◌, Bool, true, false, not, ◌&&◌, List, [], ◌∷◌, ◌++◌, length, filter, find, flat_map, Option, Some, None, is_none, Contains}
 use Rattle.std.specs.List.{AllZip, list_any}
 use Rattle.std.specs.Option.{option_to_list}
@@ -68,7 +69,8 @@ its_geom g (p ∷ ps) x e = let same : record { geom = g; provider = p } ≡ x =
 pub growing_stands : (t : Topology Config) (name : List ℕ) (x : Growing) → IsInOrder t
     → growing_concat t name ≡ Some x → IsStanding t x
 growing_stands t name x order e =
-    let g = through (λ (g : Geom Config). with_provider g (providers_of t g.number)) (find (is_growing t name) t.geoms) x e in
+    let g = through (λ (g : Geom Config). with_provider g (providers_of t g.number))
+    (find (is_growing t name) t.geoms) x e in
     let same : g.first ≡ x.geom = its_geom g.first (providers_of t g.first.number) x g.then in
     let passes = find_passes (is_growing t name) t.geoms g.first g.is in
     let rest = and_parts (is_kind g.first.kind kinds.Concat) (not g.first.withering
@@ -105,7 +107,8 @@ one_only (x ∷ y ∷ xs) a b short first second = absurd (omega (arith, short))
 
 -- without a member a list is shorter
 shorter : (x : ℕ) (y : ℕ) (ys : List ℕ) → (Contains ys x → length (filter (λ z. not (z == x)) ys) < length ys)
-    → Contains (y ∷ ys) x → (b : Bool) → (y == x) ≡ b → length (filter (λ z. not (z == x)) (y ∷ ys)) < length (y ∷ ys)
+    → Contains (y ∷ ys) x → (b : Bool) → (y == x) ≡ b → length (filter (λ z. not (z == x)) (y ∷ ys))
+    < length (y ∷ ys)
 shorter x y ys rest here true e =
     let less = length-kept (λ z. not (z == x)) ys in
     rw e (omega (arith, less))
@@ -164,7 +167,8 @@ zip_members R S (x ∷ xs) (y ∷ ys) so facts = (
 )
 
 -- and one pair more
-pub zip_push : {A B : Type 0} (R : A → B → Type 0) (xs : List A) (ys : List B) (a : A) (b : B) → AllZip R xs ys → R a b
+pub zip_push : {A B : Type 0} (R : A → B → Type 0) (xs : List A) (ys : List B) (a : A) (b : B) → AllZip R xs ys
+    → R a b
     → AllZip R (xs ++ a ∷ []) (ys ++ b ∷ [])
 zip_push R [] [] a b facts fact = (fact, tt)
 zip_push R [] (y ∷ ys) a b facts fact = absurd facts

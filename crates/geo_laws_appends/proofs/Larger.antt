@@ -46,14 +46,16 @@ use Rattle.geo_laws_making.proofs.Made.{through}
 use Rattle.geo_laws_appends.proofs.Concats.{IsConcat, concat_of, IsStanding, still_fits, no_more, all-components, filled_still, place-component, zip_members, zip_push, zip_length}
 use Rattle.geo_laws_appends.proofs.Rises.{fails, order, live, geom_here, provider_here, provider_own, own_only, apart_from, wants_more, opened_upright, rank_away}
 
--- what an append asks of the concat and the provider: not too many consumers, one sector size, and a size that isn't too large
+-- what an append asks of the concat and the provider: not too many consumers, one sector size, and a size that
+-- isn't too large
 pub record IsValid (t : Topology Config) (x : Growing) (q : Provider) : Type 0 where
   pub few : length (consumers_of t x.geom.number) < component_limit
   pub sector : x.provider.sector ≡ q.sector
   pub limited : x.provider.size + q.size ≤ 2 ^ 60
 
 -- so the tests say
-pub valid_from : (t : Topology Config) (x : Growing) (q : Provider) → is_invalid_append t x q ≡ false → IsValid t x q
+pub valid_from : (t : Topology Config) (x : Growing) (q : Provider) → is_invalid_append t x q ≡ false
+    → IsValid t x q
 valid_from t x q valid =
     let a = or_parts x.geom.automatic (nat_le component_limit (length (consumers_of t x.geom.number))
     || (not (x.provider.sector == q.sector) || nat_lt size_limit (x.provider.size + q.size))) valid in
@@ -140,8 +142,10 @@ module _ (w : World) (x : Growing) (q : Provider) (firm : Firm w) (is : IsStandi
   -- each component stood
   stood : All (λ d. IsSomeAnd (consumer_at t d) (λ z. (z.geom ≡ n) × IsSome z.provider))
       (flat_map option_to_list before.places)
-  stood = subst (λ z. All (λ d. IsSomeAnd (consumer_at t d) (λ z. (z.geom ≡ n) × IsSome z.provider)) (components z)) before.is
-      (All-contains (HasItsComponents w) t.geoms x.geom firm.steady.components (geom_here w x firm is) (inl is.upright))
+  stood = subst (λ z. All (λ d. IsSomeAnd (consumer_at t d) (λ z. (z.geom ≡ n) × IsSome z.provider))
+      (components z)) before.is
+      (All-contains (HasItsComponents w) t.geoms x.geom firm.steady.components (geom_here w x firm is)
+      (inl is.upright))
 
   -- as long as its provider
   summed : x.provider.size ≡ sum before.sizes
@@ -249,7 +253,12 @@ module _ (w : World) (x : Growing) (q : Provider) (firm : Firm w) (is : IsStandi
   under (Some m) some r e =
       let y = has (provider_at t m) some in
       let s = provider_in m y.item y.is in
-      record { was = y.item; found = y.is; from = subst (IsGrownFrom y.item) (one-found (provider_at u m) s.now r s.found e) s.is }
+      record {
+        was = y.item;
+        found = y.is;
+        from = subst (IsGrownFrom y.item)
+            (one-found (provider_at u m) s.now r s.found e) s.is;
+      }
 
   -- The grown geom
 
@@ -262,23 +271,28 @@ module _ (w : World) (x : Growing) (q : Provider) (firm : Firm w) (is : IsStandi
       (flat_map option_to_list before.places) k stood (place-component before.places k here)) in
       some_if (consumer_at u k) d.item (consumer_in k d.item d.is) (λ own.
       if-found (option_and_then (provider_at u) d.item.provider) (λ r. (b ≤ r.size) × (b % r.sector ≡ 0)) (λ r e.
-      let s = under d.item.provider (All-contains (λ (z : Consumer). IsSome (option_and_then (provider_at t) z.provider))
+      let s = under d.item.provider
+      (All-contains (λ (z : Consumer). IsSome (option_and_then (provider_at t) z.provider))
       t.consumers d.item firm.steady.attached
       (find-Contains (λ (z : Consumer). z.number == k) t.consumers d.item d.is)) r e in
-      let fit = at-found (option_and_then (provider_at t) d.item.provider) (λ r. (b ≤ r.size) × (b % r.sector ≡ 0)) s.was
+      let fit = at-found (option_and_then (provider_at t) d.item.provider) (λ r. (b ≤ r.size)
+      × (b % r.sector ≡ 0)) s.was
       s.found (at-found (consumer_at t k) (λ z. z.geom ≡ n
-      → IfSome (option_and_then (provider_at t) z.provider) (λ r. (b ≤ r.size) × (b % r.sector ≡ 0))) d.item d.is fact own) in
+      → IfSome (option_and_then (provider_at t) z.provider) (λ r. (b ≤ r.size) × (b % r.sector ≡ 0))) d.item
+      d.is fact own) in
       let low : b ≤ s.was.size = fit.0 in
       let more : s.was.size ≤ r.size = s.from.larger in
       (omega arith, subst (λ m. b % m ≡ 0) (sym (ap (λ (z : Provider). z.sector) s.from.same)) fit.1)))
     where
       -- a fact of what is found
       some_if : (o : Option Consumer) (d : Consumer) → o ≡ Some d
-          → (d.geom ≡ n → IfSome (option_and_then (provider_at u) d.provider) (λ r. (b ≤ r.size) × (b % r.sector ≡ 0)))
+          → (d.geom ≡ n → IfSome (option_and_then (provider_at u) d.provider) (λ r. (b ≤ r.size)
+          × (b % r.sector ≡ 0)))
           → IfSome o (λ z. z.geom ≡ n
           → IfSome (option_and_then (provider_at u) z.provider) (λ r. (b ≤ r.size) × (b % r.sector ≡ 0)))
       some_if o d e so = subst (λ y. IfSome y (λ z. z.geom ≡ n
-          → IfSome (option_and_then (provider_at u) z.provider) (λ r. (b ≤ r.size) × (b % r.sector ≡ 0)))) (sym e) so
+          → IfSome (option_and_then (provider_at u) z.provider) (λ r. (b ≤ r.size) × (b % r.sector ≡ 0))))
+          (sym e) so
 
   -- the provider below the new consumer
   q_media : IsMediaSize q.size q.sector
@@ -297,8 +311,11 @@ module _ (w : World) (x : Growing) (q : Provider) (firm : Firm w) (is : IsStandi
       (sym new_in) (λ own.
       if-found (provider_at u q.number) (λ r. (q.size ≤ r.size) × (q.size % r.sector ≡ 0)) (λ r e.
       subst (λ (z : Provider). (q.size ≤ z.size) × (q.size % z.sector ≡ 0))
-      (one-found (provider_at u q.number) q_in.now r q_in.found e)
-      (q_in.is.larger, subst (λ m. q.size % m ≡ 0) (sym (ap (λ (z : Provider). z.sector) q_in.is.same)) q_media.whole)))
+      (one-found (provider_at u q.number) q_in.now r q_in.found e) (
+        q_in.is.larger,
+        subst (λ m. q.size % m ≡ 0) (sym (ap (λ (z : Provider). z.sector) q_in.is.same))
+            q_media.whole,
+      )))
 
   -- an old component is found in the end
   component_stands : (d : ℕ) → IsSomeAnd (consumer_at t d) (λ z. (z.geom ≡ n) × IsSome z.provider)
@@ -321,7 +338,8 @@ module _ (w : World) (x : Growing) (q : Provider) (firm : Firm w) (is : IsStandi
   few_before : length before.places ≤ length (consumers_of t n)
   few_before =
       let all = all-components before.places no_free in
-      let less = no_more (flat_map option_to_list before.places) (map (λ (z : Consumer). z.number) (consumers_of t n))
+      let less = no_more (flat_map option_to_list before.places)
+      (map (λ (z : Consumer). z.number) (consumers_of t n))
       (recursion-from_pairs (λ a b. a ≢ b) (flat_map option_to_list before.places) apart_before) (λ m here.
       let d = found-with (consumer_at t m) (λ z. (z.geom ≡ n) × IsSome z.provider)
       (All-contains (λ d. IsSomeAnd (consumer_at t d) (λ z. (z.geom ≡ n) × IsSome z.provider))
@@ -330,7 +348,8 @@ module _ (w : World) (x : Growing) (q : Provider) (firm : Firm w) (is : IsStandi
       (number_found (λ (z : Consumer). z.number) t.consumers m d.item d.is)
       (Contains-map (λ (z : Consumer). z.number) (consumers_of t n) d.item
       (Contains-filter (λ (z : Consumer). z.geom == n) t.consumers d.item
-      (find-Contains (λ (z : Consumer). z.number == m) t.consumers d.item d.is) (eq-eqb d.item.geom n d.fact.0)))) in
+      (find-Contains (λ (z : Consumer). z.number == m) t.consumers d.item d.is)
+      (eq-eqb d.item.geom n d.fact.0)))) in
       let same = length-map (consumers_of t n) (λ (z : Consumer). z.number) in
       omega arith
 
@@ -353,10 +372,12 @@ module _ (w : World) (x : Growing) (q : Provider) (firm : Firm w) (is : IsStandi
   one_still : length (providers_of u n) ≤ 1
   one_still =
       let few : length (providers_of t n) ≤ 1 =
-      All-contains (λ (z : Geom Config). z.kind ≡ kinds.Concat → length (providers_of t z.number) ≤ 1) t.geoms x.geom
+      All-contains (λ (z : Geom Config). z.kind ≡ kinds.Concat → length (providers_of t z.number) ≤ 1) t.geoms
+      x.geom
       firm.fitting.one (geom_here w x firm is) is.kind in
       let same : length (providers_of u n) ≡ length (providers_of t n) =
-      ap length (size_found.of (set_config (add_consumer t n (Some q.number)) n config) p (x.provider.size + q.size) n)
+      ap length (size_found.of (set_config (add_consumer t n (Some q.number)) n config) p
+      (x.provider.size + q.size) n)
       ∙ length-changed (λ (z : Provider). z.number == p) (λ z. record z { size = x.provider.size + q.size })
       (providers_of t n) in
       omega arith
@@ -376,7 +397,8 @@ module _ (w : World) (x : Growing) (q : Provider) (firm : Firm w) (is : IsStandi
         All (λ y. (y.sector ≡ disk.sector) × (y.size ≡ disk.size)) (providers_of u n))) (λ d e.
         let no : None ≡ Some d = sym (ap disk_of config_is) ∙ e in
         absurd (let bad : ⊥ = cc in bad));
-    components = subst (All (λ d. IsSomeAnd (consumer_at u d) (λ z. (z.geom ≡ n) × IsSome z.provider))) (sym components_are)
+    components = subst (All (λ d. IsSomeAnd (consumer_at u d) (λ z. (z.geom ≡ n) × IsSome z.provider)))
+        (sym components_are)
         (All-push (λ d. IsSomeAnd (consumer_at u d) (λ z. (z.geom ≡ n) × IsSome z.provider))
         (flat_map option_to_list before.places) c
         (All-weaker (λ d. IsSomeAnd (consumer_at t d) (λ z. (z.geom ≡ n) × IsSome z.provider))
@@ -384,7 +406,8 @@ module _ (w : World) (x : Growing) (q : Provider) (firm : Firm w) (is : IsStandi
         (flat_map option_to_list before.places) stood)
         (some-with (consumer_at u c) (λ z. (z.geom ≡ n) × IsSome z.provider) new new_in (refl, refl)));
     partial = λ free.
-        false_true (sym (ap (λ z. list_any is_none (places_of z)) config_is ∙ filled_still before.places c no_free) ∙ free);
+        false_true (sym (ap (λ z. list_any is_none (places_of z)) config_is
+        ∙ filled_still before.places c no_free) ∙ free);
     places = subst (λ z. AllZip (FitsPlace u n) (places_of z) (sizes_of z)) (sym config_is)
         (zip_push (FitsPlace u n) before.places before.sizes (Some c) q.size
         (zip_members (FitsPlace t n) (FitsPlace u n) before.places before.sizes old_fits fitted) new_fits);
@@ -430,7 +453,8 @@ module _ (w : World) (x : Growing) (q : Provider) (firm : Firm w) (is : IsStandi
     -- by what the consumer is attached to
     lower : (o : Option ℕ) → IsSomeAnd (option_and_then (provider_at t) o) (λ r.
         (spot.offset < r.size) × (r.sector ≡ x.provider.sector))
-        → IsSomeAnd (option_and_then (provider_at u) o) (λ r. (spot.offset < r.size) × (r.sector ≡ x.provider.sector))
+        → IsSomeAnd (option_and_then (provider_at u) o) (λ r. (spot.offset < r.size)
+        × (r.sector ≡ x.provider.sector))
     lower None fact = absurd fact
     lower (Some m) fact =
         let r = found-with (provider_at t m) (λ r. (spot.offset < r.size) × (r.sector ≡ x.provider.sector)) fact in
@@ -463,25 +487,30 @@ module _ (w : World) (x : Growing) (q : Provider) (firm : Firm w) (is : IsStandi
       elim (at-some (geom_at t x.provider.geom) (λ h. (is_zero (have (granted_in w) t x.provider.number) ≡ false)
       ⊎ (h.withering ≡ false) → IsSome (disk_of h.config) ⊎ IsPlaced t h x.provider) x.geom
       (ap (geom_at t) is.found.own ∙ is.found.geom)
-      (All-contains (LeadsDown w) t.providers x.provider firm.sound.places (provider_here w x firm is)) (inr is.upright)) [
+      (All-contains (LeadsDown w) t.providers x.provider firm.sound.places (provider_here w x firm is))
+      (inr is.upright)) [
         | inl disk ↦ false_true (subst (λ z. IsSome (disk_of z)) before.is disk)
         | inr so ↦ so
       ]
 
   -- the first new place, behind the old ones
-  new_place : (o : ℕ) → o < q.size → IsSomeAnd (place config x.provider.name (sum before.sizes + o)) (IsPlaceInside u g larger)
+  new_place : (o : ℕ) → o < q.size → IsSomeAnd (place config x.provider.name (sum before.sizes + o))
+      (IsPlaceInside u g larger)
   new_place o short =
       let spot : Spot = record { component = length before.sizes; offset = o } in
       let more : q.size ≤ q_in.now.size = q_in.is.larger in
-      let long : length before.places ≡ length before.sizes = zip_length (FitsPlace t n) before.places before.sizes fitted in
+      let long : length before.places ≡ length before.sizes = zip_length (FitsPlace t n) before.places
+      before.sizes fitted in
       some-with (place config x.provider.name (sum before.sizes + o)) (IsPlaceInside u g larger) spot
       (ap (λ z. place z x.provider.name (sum before.sizes + o)) config_is
       ∙ grown_concat.new before.id before.places before.sizes c q.size x.provider.name o short)
       (some-with (option_and_then (consumer_at u) (component config (length before.sizes))) (λ d. (d.geom ≡ n)
-      × IsSomeAnd (option_and_then (provider_at u) d.provider) (λ r. (o < r.size) × (r.sector ≡ x.provider.sector))) new
+      × IsSomeAnd (option_and_then (provider_at u) d.provider) (λ r. (o < r.size)
+      × (r.sector ≡ x.provider.sector))) new
       (ap (λ k. option_and_then (consumer_at u) (component config k)) (sym long)
       ∙ ap (λ z. option_and_then (consumer_at u) (component z (length before.places))) config_is
-      ∙ ap (option_and_then (consumer_at u)) (grown_concat.new_component before.id before.places before.sizes c q.size)
+      ∙ ap (option_and_then (consumer_at u)) (grown_concat.new_component before.id before.places before.sizes c
+      q.size)
       ∙ new_in) (
         refl,
         some-with (provider_at u q.number) (λ r. (o < r.size) × (r.sector ≡ x.provider.sector)) q_in.now q_in.found
@@ -521,13 +550,15 @@ module _ (w : World) (x : Growing) (q : Provider) (firm : Firm w) (is : IsStandi
   others : (m : ℕ) → m ≢ n → providers_of u m ≡ providers_of t m
   others m apart =
       size_found.of (set_config (add_consumer t n (Some q.number)) n config) p (x.provider.size + q.size) m
-      ∙ unhit (λ (z : Provider). z.number == p) (λ z. record z { size = x.provider.size + q.size }) (providers_of t m)
+      ∙ unhit (λ (z : Provider). z.number == p) (λ z. record z { size = x.provider.size + q.size })
+      (providers_of t m)
       (All-from_contained (λ (z : Provider). (z.number == p) ≡ false) (providers_of t m) (λ y here.
       let kept = filter-Contains (λ (z : Provider). z.geom == m) t.providers y here in
       ne_eqb y.number p (λ same.
       let one : y ≡ x.provider = one-found (provider_at t p) y x.provider
       (subst (λ k. provider_at t k ≡ Some y) same
-      (found_itself (λ (z : Provider). z.number) t.next_provider t.providers y (order w x firm is).providers kept.0))
+      (found_itself (λ (z : Provider). z.number) t.next_provider t.providers y (order w x firm is).providers
+      kept.0))
       is.found.provider in
       apart (sym (eqb-true y.geom m kept.1) ∙ ap (λ (z : Provider). z.geom) one ∙ is.found.own))))
 
@@ -638,7 +669,8 @@ module _ (w : World) (x : Growing) (q : Provider) (firm : Firm w) (is : IsStandi
     others = others;
     dev = added-consumer.others_of t n (Some q.number) 1 (λ same. not_dev (sym same));
     tasting = added-consumer.others_of t n (Some q.number) 2 (λ same. not_taste (sym same));
-    names = pairs-from (λ (z : Provider). z.number) DifferInName IsGrownFrom (λ a b of. ap (λ (z : Provider). z.number) of.same)
+    names = pairs-from (λ (z : Provider). z.number) DifferInName IsGrownFrom
+        (λ a b of. ap (λ (z : Provider). z.number) of.same)
         (λ a b d e first second apart.
         subst (λ z. DifferInName z e) (sym first.same)
         (subst (λ z. DifferInName (record a { size = d.size }) z) (sym second.same) apart))
@@ -670,7 +702,8 @@ module _ (w : World) (x : Growing) (q : Provider) (firm : Firm w) (is : IsStandi
   pub larger-firm : Firm (with_component w x q)
   larger-firm =
       more-firm w u g firm larger-more w.events
-      (All-weaker (λ e. IsSome (provider_at t (provider_of_event e))) (λ e. IsSome (provider_at u (provider_of_event e)))
+      (All-weaker (λ e. IsSome (provider_at t (provider_of_event e)))
+      (λ e. IsSome (provider_at u (provider_of_event e)))
       (λ e. living_still (provider_of_event e)) w.events firm.sound.events.living)
 
   -- and each provider of the graph before lives

@@ -1,4 +1,5 @@
--- What an append that isn't refused does to wants, counts and ranks; and what it leaves, where nothing is above the concat.
+-- What an append that isn't refused does to wants, counts and ranks; and what it leaves, where nothing is above
+-- the concat.
 use Rattle.std.specs.Prelude.{◌≡◌, ◌≢◌, ◌⊎◌, ℕ, ◌≤◌, ◌==◌, Bool, true, false, ◌&&◌, List, [], ◌∷◌, length, Some, None, Contains, IsSome, IsSomeAnd, IsTrue}
 use Rattle.std.specs.List.{list_any}
 use Rattle.std.proofs.Common.{inl, inr, refl, sym, ◌∙◌, ap, subst}
@@ -62,7 +63,8 @@ module _ (w : World) (x : Growing) (firm : Firm w) (is : IsStanding w.topology x
 
   -- so is its provider
   pub provider_here : Contains t.providers x.provider
-  provider_here = find-Contains (λ (z : Provider). z.number == x.provider.number) t.providers x.provider is.found.provider
+  provider_here = find-Contains (λ (z : Provider). z.number == x.provider.number) t.providers x.provider
+      is.found.provider
 
   -- which is one of the geom's
   pub provider_own : Contains (providers_of t x.geom.number) x.provider
@@ -74,9 +76,11 @@ module _ (w : World) (x : Growing) (firm : Firm w) (is : IsStanding w.topology x
   pub own_only : (y : Provider) → Contains t.providers y → y.geom ≡ x.geom.number → y ≡ x.provider
   own_only y here own =
       one_only (providers_of t x.geom.number) y x.provider
-      (All-contains (λ (z : Geom Config). z.kind ≡ kinds.Concat → length (providers_of t z.number) ≤ 1) t.geoms x.geom
+      (All-contains (λ (z : Geom Config). z.kind ≡ kinds.Concat → length (providers_of t z.number) ≤ 1) t.geoms
+      x.geom
       firm.fitting.one geom_here is.kind)
-      (Contains-filter (λ (z : Provider). z.geom == x.geom.number) t.providers y here (eq-eqb y.geom x.geom.number own))
+      (Contains-filter (λ (z : Provider). z.geom == x.geom.number) t.providers y here
+      (eq-eqb y.geom x.geom.number own))
       provider_own
 
   -- What is above the concat
@@ -89,7 +93,8 @@ module _ (w : World) (x : Growing) (firm : Firm w) (is : IsStanding w.topology x
     own : end.geom ≡ m
 
   -- a way down from the geom of a provider that is reached leads to one that is
-  way_down : (s m g : ℕ) (over : List ℕ) (y : Provider) → Contains (below t s) y.number → provider_at t y.number ≡ Some y
+  way_down : (s m g : ℕ) (over : List ℕ) (y : Provider) → Contains (below t s) y.number → provider_at t y.number
+      ≡ Some y
       → y.geom ≡ g → IsPath t g over m → Reached s m
   way_down s m g [] y reached stands own path =
       record { end = y; reached = reached; stands = stands; own = own ∙ path }
@@ -115,19 +120,22 @@ module _ (w : World) (x : Growing) (firm : Firm w) (is : IsStanding w.topology x
     pub unreached : reaches t y.geom x.geom.number ≡ false
 
   -- so it is
-  pub apart_from : (s : ℕ) (y : Provider) → provider_at t s ≡ Some y → is_below t x.provider.number s ≡ false → IsApart s y
+  pub apart_from : (s : ℕ) (y : Provider) → provider_at t s ≡ Some y → is_below t x.provider.number s ≡ false
+      → IsApart s y
   apart_from s y found away = record {
     number = λ same.
         no (subst (Contains (below t s)) same (below_self (length t.geoms) t s));
     geom = λ own.
         let one = own_only y (find-Contains (λ (z : Provider). z.number == s) t.providers y found) own in
-        no (subst (Contains (below t s)) (sym at ∙ ap (λ (z : Provider). z.number) one) (below_self (length t.geoms) t s));
+        no (subst (Contains (below t s)) (sym at ∙ ap (λ (z : Provider). z.number) one)
+        (below_self (length t.geoms) t s));
     unreached = fails (reaches t y.geom x.geom.number) (λ reaching.
         let way = path-from_reaches t y.geom x.geom.number reaching in
         let r = way_down s x.geom.number y.geom way.over y
         (subst (Contains (below t s)) (sym at) (below_self (length t.geoms) t s))
         (subst (λ m. provider_at t m ≡ Some y) (sym at) found) refl way.is in
-        let one = own_only r.end (find-Contains (λ (z : Provider). z.number == r.end.number) t.providers r.end r.stands)
+        let one = own_only r.end (find-Contains (λ (z : Provider). z.number == r.end.number) t.providers r.end
+        r.stands)
         r.own in
         no (subst (Contains (below t s)) (ap (λ (z : Provider). z.number) one) r.reached));
   }
@@ -197,25 +205,30 @@ module _ (w : World) (x : Growing) (firm : Firm w) (is : IsStanding w.topology x
         any-contained (λ (z : Geom Config). (z.number == y.geom) && z.withering) t.geoms h.item
         (find-Contains (λ (z : Geom Config). z.number == y.geom) t.geoms h.item h.is)
         (and_from (h.item.number == y.geom) h.item.withering
-        (eq-eqb h.item.number y.geom (number_found (λ (z : Geom Config). z.number) t.geoms y.geom h.item h.is)) withers) in
+        (eq-eqb h.item.number y.geom (number_found (λ (z : Geom Config). z.number) t.geoms y.geom h.item h.is))
+        withers) in
         let errored : y.errored ≡ true =
         All-contains (λ (z : Provider). IsTrue (is_withering t z.geom) → z.errored ≡ true) t.providers y
         firm.sound.providers.withering here geom_withers in
         let told : is_errored bare y.number ≡ true =
         any-contained (λ (z : Provider). (z.number == y.number) && z.errored) t.providers y here
         (and_from (y.number == y.number) y.errored (eq-eqb y.number y.number refl) errored) in
-        false_true (sym allowed.errors ∙ any-contained (is_errored bare) (below bare q.number) y.number reached told)))
+        false_true (sym allowed.errors ∙ any-contained (is_errored bare) (below bare q.number) y.number reached
+        told)))
 
     -- what comes to be open is of a geom that doesn't wither
     pub opened_upright : (y : Provider) → Contains t.providers y → is_zero (have (granted_in w) u y.number) ≡ false
-        → (is_zero (have (granted_in w) t y.number) ≡ false) ⊎ IsSomeAnd (geom_at t y.geom) (λ h. h.withering ≡ false)
+        → (is_zero (have (granted_in w) t y.number) ≡ false)
+        ⊎ IsSomeAnd (geom_at t y.geom) (λ h. h.withering ≡ false)
     opened_upright y here opened = by (list_any (λ r. r == y.number) (below bare q.number)) refl where
       -- by whether it is reached
       by : (b : Bool) → list_any (λ r. r == y.number) (below bare q.number) ≡ b
-          → (is_zero (have (granted_in w) t y.number) ≡ false) ⊎ IsSomeAnd (geom_at t y.geom) (λ h. h.withering ≡ false)
+          → (is_zero (have (granted_in w) t y.number) ≡ false)
+          ⊎ IsSomeAnd (geom_at t y.geom) (λ h. h.withering ≡ false)
       by true e =
           let r = some-passes (λ r. r == y.number) (below bare q.number) e in
-          inr (upright_below y here (subst (Contains (below bare q.number)) (eqb-true r.item y.number r.passes) r.here))
+          inr (upright_below y here (subst (Contains (below bare q.number)) (eqb-true r.item y.number r.passes)
+          r.here))
       by false e =
           inl (sym (ap is_zero (same_away y.number (λ reached.
           false_true (sym e ∙ any-contained (λ r. r == y.number) (below bare q.number) y.number reached
@@ -248,7 +261,8 @@ module _ (w : World) (x : Growing) (firm : Firm w) (is : IsStanding w.topology x
     rank_away h away =
         let stay = adding-stay.consumer t x.geom.number firm.sound.ranks.ranked live.geoms geom_there in
         let rises = attach-rises bare t.next_consumer q.number can stay.ranked
-        (add_consumer-geoms t x.geom.number None geom_there live.geoms) (added-consumer.order t x.geom.number None order)
+        (add_consumer-geoms t x.geom.number None geom_there live.geoms)
+        (added-consumer.order t x.geom.number None order)
         no_loop in
         (growth_is_not_seen.ranks w x q).same h
         ∙ sym (ap (λ (z : Topology Config). rank z h) made)

@@ -1,5 +1,5 @@
-//! Laws of an append, and of each command of geoms: it keeps a firm mesh firm, one that is sound, steady and fitting
-//! (geom(4), g_resize_provider(9)).
+//! Laws of an append, and of each command of geoms: it keeps a firm mesh firm, one that is sound, steady and
+//! fitting (geom(4), g_resize_provider(9)).
 #![tactic(auto)]
 
 ghost use Rattle.geo_laws_appends.specs.AppendLaws.{AppendsStayFirm};

@@ -34,7 +34,8 @@ pub record IsNumbered {X : Type 0} (k : ℕ) (xs : List X) (item : ℕ × X) : T
   pub here : Contains xs item.1
 
 -- each of the items with their numbers is so
-numbered : {X : Type 0} (k : ℕ) (xs : List X) (item : ℕ × X) → Contains (enumerate_from k xs) item → IsNumbered k xs item
+numbered : {X : Type 0} (k : ℕ) (xs : List X) (item : ℕ × X) → Contains (enumerate_from k xs) item
+    → IsNumbered k xs item
 numbered k [] item here = absurd (nothing_in item here)
 numbered {X} k (x ∷ xs) item here =
     elim (Contains-cases (k, x) item (enumerate_from (k + 1) xs) here) [
@@ -114,7 +115,8 @@ insert-firm w line disk (Some item) found firm =
     ((is_name_taken w.topology item.1.name, EEXIST) ∷ []) refused in
     let second = none_refused (is_name_taken w.topology item.1.name) EEXIST [] first.1 in
     stand-firm w item firm
-    (numbered 0 w.disks item (find-Contains (λ (z : ℕ × HeaderDisk). same_name z.1.name disk) (enumerate_from 0 w.disks) item
+    (numbered 0 w.disks item (find-Contains (λ (z : ℕ × HeaderDisk). same_name z.1.name disk)
+    (enumerate_from 0 w.disks) item
     found))
     first.0 second.0)
 

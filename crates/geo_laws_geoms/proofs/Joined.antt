@@ -42,8 +42,10 @@ use Rattle.geo_laws_geoms.proofs.NewPlaces.{whole_sizes, filled-list, none-free,
 names-found : (w : World) (names : List (List ℕ))
     → All (λ (p : Provider). provider_at w.topology p.number ≡ Some p) (found_providers w.topology names)
 names-found w names =
-    all_of (λ (p : Provider). provider_at w.topology p.number ≡ Some p) (found_providers w.topology names) (λ p here.
-    let o = filter_map-Contains (λ name. option_and_then (provider_at w.topology) (find_provider w.topology name)) names p
+    all_of (λ (p : Provider). provider_at w.topology p.number ≡ Some p) (found_providers w.topology names)
+    (λ p here.
+    let o = filter_map-Contains (λ name. option_and_then (provider_at w.topology)
+    (find_provider w.topology name)) names p
     here in
     let n = through (provider_at w.topology) (find_provider w.topology o.item) p o.fact in
     found_by_number w n.first p n.then)
@@ -108,7 +110,8 @@ module _ (w : World) (firm : Firm w) (ps : List Provider)
 
   -- and the sector size of all
   sector : (p : Provider) → Contains ps p → p.sector ≡ sector_of ps
-  sector p here = eqb-true p.sector (sector_of ps) (all_true (λ (p : Provider). p.sector == sector_of ps) ps same p here)
+  sector p here = eqb-true p.sector (sector_of ps) (all_true (λ (p : Provider). p.sector == sector_of ps) ps
+      same p here)
 
   -- which is one
   sector_size : IsSectorSize (sector_of ps)
@@ -132,7 +135,8 @@ module _ (w : World) (firm : Firm w) (ps : List Provider)
       (omega arith, (media q (below-among n ps c q e)).whole)))
 
   -- a component with its place
-  component_of : (k : ℕ) (there : IsAtPlace n ps k) → option_flatten (slice_get (new_places w.topology ps) k) ≡ Some there.consumer
+  component_of : (k : ℕ) (there : IsAtPlace n ps k) → option_flatten (slice_get (new_places w.topology ps) k)
+      ≡ Some there.consumer
   component_of k there = ap option_flatten there.at
 
   -- what every concat and stripe over them has
@@ -204,7 +208,8 @@ module _ (w : World) (firm : Firm w) (ps : List Provider)
     places = places_fit;
     disk = tt;
     sectors = sector_size;
-    offers = offers_one kinds.Concat concat (concat_name name) few can.free can.low can.some can.limited concat_whole
+    offers = offers_one kinds.Concat concat (concat_name name) few can.free can.low can.some can.limited
+        concat_whole
         (concat_place (concat_name name));
     names = pairs-from_recursion (λ (x y : NewSlice). same_name x.name y.name ≡ false)
         (record { name = concat_name name; size = joined_size concat } ∷ []) (tt, tt);
@@ -246,8 +251,10 @@ module _ (w : World) (firm : Firm w) (ps : List Provider)
         let place = at-place n ps spot.component (subst (λ m. spot.component < m) number_of lands.component) in
         let here = below-among n ps place.consumer place.provider place.below in
         let low : smallest (whole_sizes ps) ≤ place.provider.size =
-        smallest-le (whole_sizes ps) place.provider.size (Contains-map (λ (p : Provider). p.size) ps place.provider here) in
-        let strips : rows * stripe ≤ smallest (whole_sizes ps) = div-mul-le_self (smallest (whole_sizes ps)) stripe in
+        smallest-le (whole_sizes ps) place.provider.size
+        (Contains-map (λ (p : Provider). p.size) ps place.provider here) in
+        let strips : rows * stripe ≤ smallest (whole_sizes ps) = div-mul-le_self (smallest (whole_sizes ps))
+        stripe in
         let inside : spot.offset < rows * stripe = lands.inside in
         some-with (option_and_then (below_new n ps) (component striped spot.component)) (λ q.
         (spot.offset < q.size) × (q.sector ≡ sector_of ps)) place.provider
@@ -275,7 +282,8 @@ module _ (w : World) (firm : Firm w) (ps : List Provider)
       places = places_fit;
       disk = tt;
       sectors = sector_size;
-      offers = offers_one kinds.Stripe striped (stripe_name name) few can.free can.low can.some can.limited striped_whole
+      offers = offers_one kinds.Stripe striped (stripe_name name) few can.free can.low can.some can.limited
+          striped_whole
           (striped_place (stripe_name name));
       names = pairs-from_recursion (λ (x y : NewSlice). same_name x.name y.name ≡ false)
           (record { name = stripe_name name; size = joined_size striped } ∷ []) (tt, tt);
@@ -284,7 +292,8 @@ module _ (w : World) (firm : Firm w) (ps : List Provider)
     }
 
 -- as many as were named are no more than there may be
-few_found : (ps : List Provider) (wanted : ℕ) → wanted ≤ component_limit → length ps ≡ wanted → length ps ≤ component_limit
+few_found : (ps : List Provider) (wanted : ℕ) → wanted ≤ component_limit → length ps ≡ wanted
+    → length ps ≤ component_limit
 few_found ps wanted few all = subst (λ m. m ≤ component_limit) (sym all) few
 
 -- a concat over what is found keeps a firm world firm
@@ -328,5 +337,6 @@ concats_stay = record {
 pub stripes_stay : StripesStayFirm
 stripes_stay = record {
   stripe = λ w line name stripe provs some few firm.
-      stripe-firm w line name stripe (length provs) (found_providers w.topology provs) some few (names-found w provs) firm;
+      stripe-firm w line name stripe (length provs) (found_providers w.topology provs) some few
+      (names-found w provs) firm;
 }

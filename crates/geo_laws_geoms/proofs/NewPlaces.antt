@@ -1,4 +1,5 @@
--- The places of a new concat or stripe: one for each provider, filled by consumers one after another, with whole sizes.
+-- The places of a new concat or stripe: one for each provider, filled by consumers one after another, with whole
+-- sizes.
 use Rattle.std.specs.Prelude.{◌≡◌, ◌≢◌, ℕ, zero, suc, ◌+◌, ◌-◌, ◌*◌, ◌/◌, ◌%◌, ◌<◌, ◌≤◌, nat_lt, Bool, true, false, List, [], ◌∷◌, length, map, flat_map, sum, Option, Some, is_none, IsSome, Contains, slice_get}
 use Rattle.std.specs.List.{AllByRecursion, AllZip, list_any, range_with_len}
 use Rattle.std.specs.Option.{option_to_list}
@@ -171,7 +172,8 @@ pub record LandsStriped (n m stripe : ℕ) (spot : Spot) : Type 0 where
   pub inside : spot.offset < m * stripe
 
 -- so each does
-pub stripe-lands : (n m stripe o : ℕ) → 1 ≤ stripe → o < n * (m * stripe) → LandsStriped n m stripe (stripe_spot n stripe o)
+pub stripe-lands : (n m stripe o : ℕ) → 1 ≤ stripe → o < n * (m * stripe)
+    → LandsStriped n m stripe (stripe_spot n stripe o)
 stripe-lands n m stripe o some short =
     let strips : o / stripe < m * n = (div-lt_iff_lt-mul {k = stripe} {x = o} {y = m * n} (omega arith)).1
     (let same : n * (m * stripe) ≡ m * n * stripe = omega arith in omega arith) in

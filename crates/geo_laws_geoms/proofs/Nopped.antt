@@ -35,7 +35,8 @@ found_by_number w n p e =
 
 module _ (w : World) (firm : Firm w) (p : Provider) (name : List ℕ) (offset size fail : ℕ)
     (found : provider_at w.topology p.number ≡ Some p) (free : is_name_taken w.topology name ≡ false)
-    (valid : is_invalid_nop p name offset size ≡ false) (low : nat_lt rank_limit (rank_over w.topology (p ∷ [])) ≡ false) where
+    (valid : is_invalid_nop p name offset size ≡ false) (low : nat_lt rank_limit (rank_over w.topology (p ∷ []))
+    ≡ false) where
   -- the number of the consumer
   abbrev c : ℕ
   c = w.topology.next_consumer
@@ -76,7 +77,8 @@ module _ (w : World) (firm : Firm w) (p : Provider) (name : List ℕ) (offset si
 
   -- the provider's own size
   media : IsMediaSize p.size p.sector
-  media = All-contains (λ (x : Provider). IsMediaSize x.size x.sector) w.topology.providers p firm.sound.providers.sizes
+  media = All-contains (λ (x : Provider). IsMediaSize x.size x.sector) w.topology.providers p
+      firm.sound.providers.sizes
       (find-Contains (λ (x : Provider). x.number == p.number) w.topology.providers p found)
 
   -- the size of the window is one
@@ -119,9 +121,11 @@ module _ (w : World) (firm : Firm w) (p : Provider) (name : List ℕ) (offset si
   }
 
   -- and it stands
-  pub nopped-firm : Firm (with_made w kinds.Nop name (nop_config w.topology offset fail) (p ∷ []) name size p.sector)
+  pub nopped-firm : Firm (with_made w kinds.Nop name (nop_config w.topology offset fail) (p ∷ []) name size
+      p.sector)
   nopped-firm =
-      made-firm w kinds.Nop name (nop_config w.topology offset fail) false (p ∷ []) p.sector (slice ∷ []) firm nop_can
+      made-firm w kinds.Nop name (nop_config w.topology offset fail) false (p ∷ []) p.sector (slice ∷ []) firm
+      nop_can
 
 -- a nop over what is found keeps a firm world firm
 nop-firm : (w : World) (line : ℕ) (name : List ℕ) (offset size fail : ℕ) (o : Option Provider)

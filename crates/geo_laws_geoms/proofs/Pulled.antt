@@ -26,7 +26,8 @@ use Rattle.geo_laws_making.proofs.Over.{false_true}
 use Rattle.geo_laws_geoms.specs.GeomLaws.{PullsStayFirm, DestroysStayFirm}
 
 -- a geom that isn't of DEV or TASTE has neither's number
-pub neither_fixed : (g : Geom Config) → IsOfItsClass g → is_kind g.kind kinds.Dev ≡ false → is_kind g.kind kinds.Taste ≡ false
+pub neither_fixed : (g : Geom Config) → IsOfItsClass g → is_kind g.kind kinds.Dev ≡ false
+    → is_kind g.kind kinds.Taste ≡ false
     → (g.number ≢ 1) × (g.number ≢ 2)
 neither_fixed g class dev taste = (
   λ same. false_true (sym dev ∙ class.dev ∙ eq-eqb g.number 1 same),
@@ -34,10 +35,12 @@ neither_fixed g class dev taste = (
 )
 
 -- the geom that is found is of its class
-class_of_found : (w : World) → Firm w → (test : Geom Config → Bool) (g : Geom Config) → find test w.topology.geoms ≡ Some g
+class_of_found : (w : World) → Firm w → (test : Geom Config → Bool) (g : Geom Config)
+    → find test w.topology.geoms ≡ Some g
     → IsOfItsClass g
 class_of_found w firm test g found =
-    All-contains IsOfItsClass w.topology.geoms g firm.sound.numbers.classes (find-Contains test w.topology.geoms g found)
+    All-contains IsOfItsClass w.topology.geoms g firm.sound.numbers.classes
+    (find-Contains test w.topology.geoms g found)
 
 -- where a number is the one of an optional one, it is there
 number_there : (o : Option ℕ) (n : ℕ) → option_map_or (λ d. d == n) o false ≡ true → Has o
@@ -57,7 +60,8 @@ disk_class kinds.Stripe disk e = false_true e
 disk_class kinds.Nop disk e = false_true e
 
 -- so the geom of a disk is one of DISK
-of_disk : (kind : Kind) (config : Config) (d : ℕ) → fits_kind kind config ≡ true → disk_of config ≡ Some d → kind ≡ kinds.Disk
+of_disk : (kind : Kind) (config : Config) (d : ℕ) → fits_kind kind config ≡ true → disk_of config ≡ Some d
+    → kind ≡ kinds.Disk
 of_disk kind (Disk disk) d fits e = disk_class kind disk fits
 of_disk kind Nothing d fits e = absurd (let no : ⊥ = cc in no)
 of_disk kind (Mbr below slices) d fits e = absurd (let no : ⊥ = cc in no)
@@ -102,10 +106,12 @@ answered-firm w line None after firm made = made refl
 answered-firm w line (Some e) after firm made = firm
 
 -- a class that a command names isn't DEV or TASTE
-named_class : (kind : Kind) → IsNamedClass kind → (is_kind kind kinds.Dev ≡ false) × (is_kind kind kinds.Taste ≡ false)
+named_class : (kind : Kind) → IsNamedClass kind → (is_kind kind kinds.Dev ≡ false)
+    × (is_kind kind kinds.Taste ≡ false)
 named_class kind (inl adds) = by kind adds where
   -- by the class
-  by : (kind : Kind) → adds_exclusive kind ≡ true → (is_kind kind kinds.Dev ≡ false) × (is_kind kind kinds.Taste ≡ false)
+  by : (kind : Kind) → adds_exclusive kind ≡ true → (is_kind kind kinds.Dev ≡ false)
+      × (is_kind kind kinds.Taste ≡ false)
   by kinds.Disk e = (refl, refl)
   by kinds.Dev e = false_true e
   by kinds.Taste e = false_true e

@@ -1,4 +1,5 @@
--- The commands of geoms keep a mesh sound, steady and fitting: insert, pull, nop, concat, stripe and destroy (geom(4)).
+-- The commands of geoms keep a mesh sound, steady and fitting: insert, pull, nop, concat, stripe and destroy
+-- (geom(4)).
 use Rattle.std.specs.Prelude.{ℕ, ◌≤◌, List, length, Option}
 use Rattle.geo_base.specs.declared.kind.Kind.{Kind}
 use Rattle.geo_model.specs.World.{World, HeaderDisk}
@@ -27,7 +28,8 @@ pub record NopsStayFirm : Type 0 where
 
 -- a concat of at most as many providers as a geom has places
 pub record ConcatsStayFirm : Type 0 where
-  pub concat : (w : World) (line : ℕ) (name : List ℕ) (provs : List (List ℕ)) → length provs ≤ component_limit → Firm w
+  pub concat : (w : World) (line : ℕ) (name : List ℕ) (provs : List (List ℕ)) → length provs ≤ component_limit
+      → Firm w
       → Firm (do_concat w line name (length provs) (found_providers w.topology provs)).0
 
 -- and a stripe of as many, of one byte or more

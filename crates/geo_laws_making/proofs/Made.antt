@@ -48,7 +48,8 @@ use Rattle.geo_laws_more.proofs.MoreFirm.{more-firm}
 bare_over : (n m : ℕ) (ps : List Provider) (t : Topology Config) → StandsBare t m → StandsBare (over n t ps) m
 bare_over n m [] t bare = bare
 bare_over n m (p ∷ ps) t bare =
-    bare_over n m ps (add_consumer t n (Some p.number)) (record { stands = bare.stands; no_provider = bare.no_provider })
+    bare_over n m ps (add_consumer t n (Some p.number))
+    (record { stands = bare.stands; no_provider = bare.no_provider })
 
 -- the provider that is found through a number that there may be
 pub record Through {X Y : Type 0} (f : X → Option Y) (o : Option X) (y : Y) : Type 0 where
@@ -57,7 +58,8 @@ pub record Through {X Y : Type 0} (f : X → Option Y) (o : Option X) (y : Y) : 
   pub then : f first ≡ Some y
 
 -- what is found so
-pub through : {X Y : Type 0} (f : X → Option Y) (o : Option X) (y : Y) → option_and_then f o ≡ Some y → Through f o y
+pub through : {X Y : Type 0} (f : X → Option Y) (o : Option X) (y : Y) → option_and_then f o ≡ Some y
+    → Through f o y
 through f None y e = absurd (let no : ⊥ = cc in no)
 through f (Some x) y e = record { first = x; is = refl; then = e }
 
@@ -66,7 +68,8 @@ none_long : {X : Type 0} (xs : List X) → length xs ≡ 0 → xs ≡ []
 none_long [] e = refl
 none_long (x ∷ xs) e = absurd (omega (arith, e))
 
-module _ (w : World) (kind : Kind) (name : List ℕ) (config : Config) (automatic : Bool) (ps : List Provider) (sector : ℕ)
+module _ (w : World) (kind : Kind) (name : List ℕ) (config : Config) (automatic : Bool) (ps : List Provider)
+    (sector : ℕ)
     (slices : List NewSlice) (firm : Firm w) (can : CanMake w kind config ps sector slices) where
   -- the graph before
   abbrev t : Topology Config
@@ -112,7 +115,8 @@ module _ (w : World) (kind : Kind) (name : List ℕ) (config : Config) (automati
 
   -- nor is DEV or TASTE
   fixed_apart : (m : ℕ) → (m ≡ 1) ⊎ (m ≡ 2) → m ≢ n
-  fixed_apart m which = let there = stands-at w firm m which in lives_apart m (some-there (geom_at t m) there.item there.is)
+  fixed_apart m which = let there = stands-at w firm m which in lives_apart m
+      (some-there (geom_at t m) there.item there.is)
 
   -- a member of the old geoms isn't
   old_geom_apart : (x : Geom Config) → Contains t.geoms x → x.number ≢ n
@@ -142,7 +146,8 @@ module _ (w : World) (kind : Kind) (name : List ℕ) (config : Config) (automati
 
   -- so once the consumers stand
   geom_in_v : (m : ℕ) (x : Geom Config) → geom_at base m ≡ Some x → geom_at v m ≡ Some x
-  geom_in_v m x e = subst (λ xs. find (λ (z : Geom Config). z.number == m) xs ≡ Some x) (sym (over-geoms n ps base)) e
+  geom_in_v m x e = subst (λ xs. find (λ (z : Geom Config). z.number == m) xs ≡ Some x)
+      (sym (over-geoms n ps base)) e
 
   -- a provider that was found is found
   provider_in_end : (m : ℕ) (x : Provider) → provider_at t m ≡ Some x → provider_at u m ≡ Some x
@@ -236,7 +241,8 @@ module _ (w : World) (kind : Kind) (name : List ℕ) (config : Config) (automati
       let first = geom_came (granted_in w) t kind name config automatic firm.sound.ranks.ranked
       (each-found.providers t order)
       (all_of (λ (c : Consumer). c.geom ≢ n) t.consumers (λ c here.
-      lives_apart c.geom (All-contains (λ (z : Consumer). IsSome (geom_at t z.geom)) t.consumers c live.geoms here))) in
+      lives_apart c.geom (All-contains (λ (z : Consumer). IsSome (geom_at t z.geom)) t.consumers c live.geoms
+      here))) in
       let second = over-demand (granted_in w) n g refl can.dev can.taste ps base new_found none_of_it in
       record {
         haves = λ p. kept.demand.haves p ∙ second.haves p ∙ first.haves p;
@@ -256,7 +262,8 @@ module _ (w : World) (kind : Kind) (name : List ℕ) (config : Config) (automati
       ]
 
   -- an old consumer, or a new one
-  consumer_cases : (c : Consumer) → Contains u.consumers c → Contains t.consumers c ⊎ IsNewOne n t.next_consumer ps c
+  consumer_cases : (c : Consumer) → Contains u.consumers c → Contains t.consumers c
+      ⊎ IsNewOne n t.next_consumer ps c
   consumer_cases c here = over-cases n ps base c (subst (λ xs. Contains xs c) consumers_are here)
 
   -- an old consumer isn't of the geom
@@ -267,7 +274,8 @@ module _ (w : World) (kind : Kind) (name : List ℕ) (config : Config) (automati
   -- nor an old provider
   old_provider_apart : (p : Provider) → Contains t.providers p → p.geom ≢ n
   old_provider_apart p here =
-      lives_apart p.geom (All-contains (λ (z : Provider). IsSome (geom_at t z.geom)) t.providers p live.offerers here)
+      lives_apart p.geom (All-contains (λ (z : Provider). IsSome (geom_at t z.geom)) t.providers p live.offerers
+      here)
 
   -- so a consumer of the geom is a new one
   own_consumer : (c : Consumer) → Contains u.consumers c → c.geom ≡ n → IsNewOne n t.next_consumer ps c
@@ -290,13 +298,15 @@ module _ (w : World) (kind : Kind) (name : List ℕ) (config : Config) (automati
       let spot = found-with (place config x.name o) (λ spot.
       IsSomeAnd (option_and_then (below_new t.next_consumer ps) (component config spot.component)) (λ q.
       (spot.offset < q.size) × (q.sector ≡ sector))) (so o (subst (λ m. o < m) sized short)) in
-      let q = found-with (option_and_then (below_new t.next_consumer ps) (component config spot.item.component)) (λ q.
+      let q = found-with (option_and_then (below_new t.next_consumer ps) (component config spot.item.component))
+      (λ q.
       (spot.item.offset < q.size) × (q.sector ≡ sector)) spot.fact in
       let c = through (below_new t.next_consumer ps) (component config spot.item.component) q.item q.is in
       let both = new_in_end c.first q.item c.then in
       some-with (place config y.name o) (IsPlaceInside u g y) spot.item (ap (λ m. place config m o) named ∙ spot.is)
       (some-with (option_and_then (consumer_at u) (component config spot.item.component)) (λ d. (d.geom ≡ n)
-      × IsSomeAnd (option_and_then (provider_at u) d.provider) (λ q. (spot.item.offset < q.size) × (q.sector ≡ y.sector)))
+      × IsSomeAnd (option_and_then (provider_at u) d.provider) (λ q. (spot.item.offset < q.size)
+      × (q.sector ≡ y.sector)))
       (attached_one n c.first q.item) (ap (option_and_then (consumer_at u)) c.is ∙ both.0) (
         refl,
         some-with (provider_at u q.item.number) (λ q. (spot.item.offset < q.size) × (q.sector ≡ y.sector)) q.item
@@ -369,11 +379,13 @@ module _ (w : World) (kind : Kind) (name : List ℕ) (config : Config) (automati
       if-found (disk_of config) (λ a. IsSomeAnd (slice_get w.disks a) (λ disk.
       All (λ p. (p.sector ≡ disk.sector) × (p.size ≡ disk.size)) (providers_of u n))) (λ a e.
       let new = at-found (disk_of config) (IsNewDisk w sector slices) a e can.disk in
-      let disk = found-with (slice_get w.disks a) (λ disk. (sector ≡ disk.sector) × All (λ x. x.size ≡ disk.size) slices)
+      let disk = found-with (slice_get w.disks a) (λ disk. (sector ≡ disk.sector)
+      × All (λ x. x.size ≡ disk.size) slices)
       new.sizes in
       some-with (slice_get w.disks a) (λ disk.
       All (λ p. (p.sector ≡ disk.sector) × (p.size ≡ disk.size)) (providers_of u n)) disk.item disk.is
-      (all_of (λ (p : Provider). (p.sector ≡ disk.item.sector) × (p.size ≡ disk.item.size)) (providers_of u n) (λ p here.
+      (all_of (λ (p : Provider). (p.sector ≡ disk.item.sector) × (p.size ≡ disk.item.size)) (providers_of u n)
+      (λ p here.
       let o = own_provider p here in (
         o.sector ∙ disk.fact.0,
         o.size ∙ All-contains (λ (x : NewSlice). x.size ≡ disk.item.size) slices o.slice disk.fact.1 o.here,
@@ -427,7 +439,8 @@ module _ (w : World) (kind : Kind) (name : List ℕ) (config : Config) (automati
     sums = λ concat.
         all_of (λ (p : Provider). p.size ≡ joined_size config) (providers_of u n) (λ p here.
         let o = own_provider p here in
-        o.size ∙ All-contains (λ (x : NewSlice). x.size ≡ joined_size config) slices o.slice (can.one concat).1 o.here);
+        o.size ∙ All-contains (λ (x : NewSlice). x.size ≡ joined_size config) slices o.slice (can.one concat).1
+        o.here);
   }
 
   -- what stood stands as it stood
@@ -448,7 +461,8 @@ module _ (w : World) (kind : Kind) (name : List ℕ) (config : Config) (automati
       let same = rank_same h.item.number (old_geom_apart h.item here) in
       some-with (geom_of_provider u s.provider) (λ h. rank u h.number < taste_limit) h.item
       (ap (option_and_then (λ (x : Provider). geom_at u x.geom)) (provider_in_end s.provider p.first p.is)
-      ∙ geom_in_end p.first.geom h.item (found-before (λ (z : Geom Config). z.number == p.first.geom) t.geoms _ h.item p.then))
+      ∙ geom_in_end p.first.geom h.item (found-before (λ (z : Geom Config). z.number == p.first.geom) t.geoms _
+      h.item p.then))
       (subst (λ m. m < taste_limit) (sym same) h.fact)
 
   -- names differ
@@ -457,7 +471,8 @@ module _ (w : World) (kind : Kind) (name : List ℕ) (config : Config) (automati
       offered-names n sector slices (record (queued_of w) { topology = v })
       (recursion_from_All (λ (x : NewSlice). is_name_taken v x.name ≡ false) slices
       (All-weaker (CanOffer w config ps sector) (λ (x : NewSlice). is_name_taken v x.name ≡ false) (λ x offers.
-      ap (list_any (λ (z : Provider). not z.errored && same_name z.name x.name)) (over-providers n ps base) ∙ offers.free)
+      ap (list_any (λ (z : Provider). not z.errored && same_name z.name x.name)) (over-providers n ps base)
+      ∙ offers.free)
       slices can.offers))
       (recursion-from_pairs (λ (x y : NewSlice). same_name x.name y.name ≡ false) slices can.names)
       (subst (AllPairs DifferInName) (sym (over-providers n ps base)) firm.sound.providers.names)
@@ -493,7 +508,8 @@ module _ (w : World) (kind : Kind) (name : List ℕ) (config : Config) (automati
     others = λ m apart.
         offered-others n sector slices (record (queued_of w) { topology = v }) m apart
         ∙ ap (filter (λ (z : Provider). z.geom == m)) (over-providers n ps base);
-    dev = ap (filter (λ (z : Consumer). z.geom == 1)) consumers_are ∙ over-others n ps base 1 (fixed_apart 1 (inl refl));
+    dev = ap (filter (λ (z : Consumer). z.geom == 1)) consumers_are
+        ∙ over-others n ps base 1 (fixed_apart 1 (inl refl));
     tasting = ap (filter (λ (z : Consumer). z.geom == 2)) consumers_are
         ∙ over-others n ps base 2 (fixed_apart 2 (inr refl));
     names = names_differ;
@@ -506,7 +522,8 @@ module _ (w : World) (kind : Kind) (name : List ℕ) (config : Config) (automati
         (All-contains (λ (p : Provider). IsWholeIn config p.sector) ps new.below can.wholes new.here));
     fits = geom_fits;
     wants = λ c here.
-        subst (λ a. IsAtMost (want (granted_in w) t c) a) (sym (demand.wants c here)) (at_most-same (want (granted_in w) t c));
+        subst (λ a. IsAtMost (want (granted_in w) t c) a) (sym (demand.wants c here))
+        (at_most-same (want (granted_in w) t c));
     opened = λ y here used. inl (sym (ap is_zero (demand.haves y.number)) ∙ used);
     bios = λ x here. untouched x.target;
     tasted = if-found w.taste (λ s. IsUntouched t u g s.provider) (λ s e. untouched s.provider);
@@ -519,7 +536,8 @@ module _ (w : World) (kind : Kind) (name : List ℕ) (config : Config) (automati
       more-firm w u g firm made-more last.events
       (offered-living n sector slices (record (queued_of w) { topology = v })
       (over-order n ps base (added-geom.order t kind name config automatic order))
-      (subst (λ (xs : List Provider). All (λ e. IsSome (find (λ (z : Provider). z.number == provider_of_event e) xs)) w.events)
+      (subst (λ (xs : List Provider). All
+      (λ e. IsSome (find (λ (z : Provider). z.number == provider_of_event e) xs)) w.events)
       (sym (over-providers n ps base)) firm.sound.events.living))
 
 -- a geom that is made keeps a firm world firm

@@ -51,7 +51,8 @@ nothing_attached t order live =
     no_items (attached_to t t.next_provider) (All-from_contained (λ c. ⊥) (attached_to t t.next_provider) (λ c here.
     let kept = filter-Contains (λ (x : Consumer). names_number x.provider t.next_provider) t.consumers c here in
     none-there (provider_at t t.next_provider)
-    (found_fresh (λ (x : Provider). x.number) t.next_provider t.next_provider t.providers order.providers (omega arith))
+    (found_fresh (λ (x : Provider). x.number) t.next_provider t.next_provider t.providers order.providers
+    (omega arith))
     (at-found c.provider (λ p. IsSome (provider_at t p)) t.next_provider
     (names_some c.provider t.next_provider kept.1)
     (All-contains (λ (x : Consumer). IfSome x.provider (λ p. IsSome (provider_at t p))) t.consumers c live.providers
@@ -67,7 +68,8 @@ pub record KeepsGraph (granted : ℕ → Counts) (t u : Topology Config) : Type 
 
 module _ (n sector : ℕ) where
   -- geoms stay
-  pub offered-geoms : (xs : List NewSlice) (q : QueuedTopology Config) → (offered n sector q xs).topology.geoms ≡ q.topology.geoms
+  pub offered-geoms : (xs : List NewSlice) (q : QueuedTopology Config) → (offered n sector q xs).topology.geoms
+      ≡ q.topology.geoms
   offered-geoms [] q = refl
   offered-geoms (x ∷ xs) q = offered-geoms xs (offer q n x.name x.size sector)
 
@@ -87,7 +89,8 @@ module _ (n sector : ℕ) where
 
   -- a provider was there before, or is a new one
   pub offered-cases : (xs : List NewSlice) (q : QueuedTopology Config) (y : Provider)
-      → Contains (offered n sector q xs).topology.providers y → Contains q.topology.providers y ⊎ IsOffered n sector xs y
+      → Contains (offered n sector q xs).topology.providers y → Contains q.topology.providers y
+      ⊎ IsOffered n sector xs y
   offered-cases [] q y here = inl here
   offered-cases (x ∷ xs) q y here =
       elim (offered-cases xs (offer q n x.name x.size sector) y here) [
@@ -135,24 +138,31 @@ module _ (n sector : ℕ) where
       offered-number xs (offer q n x.name x.size sector) in
       let first : length (providers_of (add_provider q.topology n x.name x.size sector) n)
       ≡ length (providers_of q.topology n) + 1 =
-      ap length (added-provider.own q.topology n x.name x.size sector) ∙ length-append (providers_of q.topology n) _ in
+      ap length (added-provider.own q.topology n x.name x.size sector)
+      ∙ length-append (providers_of q.topology n) _ in
       omega arith
 
   -- the events are of providers that live
   pub offered-living : (xs : List NewSlice) (q : QueuedTopology Config) → IsInOrder q.topology
       → All (λ e. IsSome (provider_at q.topology (provider_of_event e))) q.events
-      → All (λ e. IsSome (provider_at (offered n sector q xs).topology (provider_of_event e))) (offered n sector q xs).events
+      → All (λ e. IsSome (provider_at (offered n sector q xs).topology (provider_of_event e)))
+      (offered n sector q xs).events
   offered-living [] q order living = living
   offered-living (x ∷ xs) q order living =
       let u : Topology Config = add_provider q.topology n x.name x.size sector in
-      offered-living xs (offer q n x.name x.size sector) (added-provider.order q.topology n x.name x.size sector order)
-      (All-push (λ e. IsSome (provider_at u (provider_of_event e))) q.events (events.NewProvider q.topology.next_provider)
-      (All-weaker (λ e. IsSome (provider_at q.topology (provider_of_event e))) (λ e. IsSome (provider_at u (provider_of_event e)))
+      offered-living xs (offer q n x.name x.size sector)
+      (added-provider.order q.topology n x.name x.size sector order)
+      (All-push (λ e. IsSome (provider_at u (provider_of_event e))) q.events
+      (events.NewProvider q.topology.next_provider)
+      (All-weaker (λ e. IsSome (provider_at q.topology (provider_of_event e)))
+      (λ e. IsSome (provider_at u (provider_of_event e)))
       (λ e. still (provider_of_event e)) q.events living)
-      (some-there (provider_at u q.topology.next_provider) _ (added-provider.new q.topology n x.name x.size sector order)))
+      (some-there (provider_at u q.topology.next_provider) _
+      (added-provider.new q.topology n x.name x.size sector order)))
     where
       -- one that lives does so still
-      still : (p : ℕ) → IsSome (provider_at q.topology p) → IsSome (provider_at (add_provider q.topology n x.name x.size sector) p)
+      still : (p : ℕ) → IsSome (provider_at q.topology p)
+          → IsSome (provider_at (add_provider q.topology n x.name x.size sector) p)
       still p = by (provider_at q.topology p) refl where
         -- by what is found
         by : (o : Option Provider) → provider_at q.topology p ≡ o → IsSome o
@@ -178,9 +188,11 @@ module _ (n sector : ℕ) where
         order = rest.order;
         live = rest.live;
         ranks = rest.ranks;
-        same = λ g. rest.same g ∙ (adding-stay.provider q.topology n x.name x.size sector ranks.ranked live.geoms).same g;
+        same = λ g. rest.same g
+            ∙ (adding-stay.provider q.topology n x.name x.size sector ranks.ranked live.geoms).same g;
         demand = demand-trans granted q.topology u (offered n sector (offer q n x.name x.size sector) xs).topology
-            (provider_came granted q.topology n x.name x.size sector (nothing_attached q.topology order live)) rest.demand;
+            (provider_came granted q.topology n x.name x.size sector (nothing_attached q.topology order live))
+            rest.demand;
       }
 
   -- a provider differs in name from a new one whose name is free
@@ -189,7 +201,8 @@ module _ (n sector : ℕ) where
       → IsTrue (not (not p.errored && same_name p.name x.name))
   free_differs q x free p here = by (not p.errored && same_name p.name x.name) refl where
     -- it hasn't the name, or carries an error
-    by : (b : Bool) → (not p.errored && same_name p.name x.name) ≡ b → IsTrue (not (not p.errored && same_name p.name x.name))
+    by : (b : Bool) → (not p.errored && same_name p.name x.name) ≡ b
+        → IsTrue (not (not p.errored && same_name p.name x.name))
     by true e =
         let taken : is_name_taken q.topology x.name ≡ true =
         any-contained (λ (z : Provider). not z.errored && same_name z.name x.name) q.topology.providers p here e in
@@ -200,7 +213,8 @@ module _ (n sector : ℕ) where
   pub offered-names : (xs : List NewSlice) (q : QueuedTopology Config)
       → AllByRecursion (λ (x : NewSlice). is_name_taken q.topology x.name ≡ false) xs
       → PairsByRecursion (λ (x y : NewSlice). same_name x.name y.name ≡ false) xs
-      → AllPairs DifferInName q.topology.providers → AllPairs DifferInName (offered n sector q xs).topology.providers
+      → AllPairs DifferInName q.topology.providers
+      → AllPairs DifferInName (offered n sector q xs).topology.providers
   offered-names [] q free apart differ = differ
   offered-names (x ∷ xs) q free apart differ =
       offered-names xs (offer q n x.name x.size sector) (still_free xs free.1 apart.0) apart.1
@@ -208,9 +222,11 @@ module _ (n sector : ℕ) where
       free_differs q x free.0 (get_or q.topology.providers k d) (Contains-get_or q.topology.providers k d short)))
     where
       -- the other names are free still
-      still_free : (ys : List NewSlice) → AllByRecursion (λ (y : NewSlice). is_name_taken q.topology y.name ≡ false) ys
+      still_free : (ys : List NewSlice) → AllByRecursion (λ (y : NewSlice). is_name_taken q.topology y.name
+          ≡ false) ys
           → AllByRecursion (λ (y : NewSlice). same_name x.name y.name ≡ false) ys
-          → AllByRecursion (λ (y : NewSlice). is_name_taken (add_provider q.topology n x.name x.size sector) y.name ≡ false) ys
+          → AllByRecursion (λ (y : NewSlice). is_name_taken (add_provider q.topology n x.name x.size sector)
+          y.name ≡ false) ys
       still_free [] free apart = tt
       still_free (y ∷ ys) free apart = (
         added-provider.taken q.topology n x.name x.size sector y.name

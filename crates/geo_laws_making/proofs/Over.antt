@@ -54,7 +54,8 @@ pub below-here : (n : ℕ) (p : Provider) (ps : List Provider) (c : ℕ) → c �
 below-here n p ps c same = rw (eq-eqb c n same) refl
 
 -- those behind it
-pub below-there : (n : ℕ) (p : Provider) (ps : List Provider) (c : ℕ) (q : Provider) → below_new (n + 1) ps c ≡ Some q
+pub below-there : (n : ℕ) (p : Provider) (ps : List Provider) (c : ℕ) (q : Provider) → below_new (n + 1) ps c
+    ≡ Some q
     → below_new n (p ∷ ps) c ≡ Some q
 below-there n p ps c q e =
     let low = below-from (n + 1) ps c q e in
@@ -73,7 +74,8 @@ rest_of n p ps c q e other = rw other at e
 -- what is below one of them is among the providers, by whether it is the first
 among_by : (n : ℕ) (p : Provider) (ps : List Provider) (c : ℕ) (q : Provider) → below_new n (p ∷ ps) c ≡ Some q
     → (below_new (n + 1) ps c ≡ Some q → Contains ps q) → (b : Bool) → (c == n) ≡ b → Contains (p ∷ ps) q
-among_by n p ps c q e among true first = subst (Contains (p ∷ ps)) (first_of n p ps c q e first) (Contains-here p ps)
+among_by n p ps c q e among true first = subst (Contains (p ∷ ps)) (first_of n p ps c q e first)
+    (Contains-here p ps)
 among_by n p ps c q e among false other = Contains-there p q ps (among (rest_of n p ps c q e other))
 
 -- so it is among them
@@ -168,16 +170,19 @@ module _ (n : ℕ) where
       → consumers_of (over n t ps) m ≡ consumers_of t m
   over-others [] t m apart = refl
   over-others (p ∷ ps) t m apart =
-      over-others ps (add_consumer t n (Some p.number)) m apart ∙ added-consumer.others_of t n (Some p.number) m apart
+      over-others ps (add_consumer t n (Some p.number)) m apart
+      ∙ added-consumer.others_of t n (Some p.number) m apart
 
   -- the lists are in order
   pub over-order : (ps : List Provider) (t : Topology Config) → IsInOrder t → IsInOrder (over n t ps)
   over-order [] t order = order
-  over-order (p ∷ ps) t order = over-order ps (add_consumer t n (Some p.number)) (added-consumer.order t n (Some p.number) order)
+  over-order (p ∷ ps) t order = over-order ps (add_consumer t n (Some p.number))
+      (added-consumer.order t n (Some p.number) order)
 
   -- what the parts name lives
   pub over-live : (ps : List Provider) (t : Topology Config) → IsSome (geom_at t n)
-      → AllByRecursion (λ (p : Provider). provider_at t p.number ≡ Some p) ps → PartsLive t → PartsLive (over n t ps)
+      → AllByRecursion (λ (p : Provider). provider_at t p.number ≡ Some p) ps → PartsLive t
+      → PartsLive (over n t ps)
   over-live [] t there found live = live
   over-live (p ∷ ps) t there found live =
       over-live ps (add_consumer t n (Some p.number)) there found.1
@@ -197,12 +202,14 @@ none_wanted kinds.Stripe granted dev taste = refl
 none_wanted kinds.Nop granted dev taste = refl
 
 -- so of any consumer of such a geom
-quiet_one : (granted : ℕ → Counts) (t : Topology Config) (c : Consumer) (g : Geom Config) → geom_at t c.geom ≡ Some g
+quiet_one : (granted : ℕ → Counts) (t : Topology Config) (c : Consumer) (g : Geom Config)
+    → geom_at t c.geom ≡ Some g
     → providers_of t g.number ≡ [] → is_kind g.kind kinds.Dev ≡ false → is_kind g.kind kinds.Taste ≡ false
     → want granted t c ≡ no_counts
 quiet_one granted t c g found none dev taste =
     ap (λ o. option_map_or (λ (x : Geom Config). want_of_kind x.kind
-    (map (λ (y : Provider). have granted t y.number) (providers_of t x.number)) (granted c.number)) o no_counts) found
+    (map (λ (y : Provider). have granted t y.number) (providers_of t x.number)) (granted c.number)) o no_counts)
+    found
     ∙ ap (λ ys. want_of_kind g.kind (map (λ (y : Provider). have granted t y.number) ys) (granted c.number)) none
     ∙ none_wanted g.kind (granted c.number) dev taste
 
@@ -218,6 +225,11 @@ over-demand granted n g number dev taste [] t found none = stays granted t
 over-demand granted n g number dev taste (p ∷ ps) t found none =
     demand-trans granted t (add_consumer t n (Some p.number)) (over n (add_consumer t n (Some p.number)) ps)
     (consumer_came granted t n (Some p.number) (λ some.
-    quiet_one granted t (record { number = t.next_consumer; geom = n; provider = Some p.number; spoiled = false }) g found
+    quiet_one granted t (record {
+      number = t.next_consumer;
+      geom = n;
+      provider = Some p.number;
+      spoiled = false;
+    }) g found
     (ap (providers_of t) number ∙ none) dev taste))
     (over-demand granted n g number dev taste ps (add_consumer t n (Some p.number)) found none)

@@ -53,7 +53,8 @@ pub record CanOffer (w : World) (config : Config) (ps : List Provider) (sector :
 -- the disk is one of the header, has no geom yet, and the providers have its sizes
 pub record IsNewDisk (w : World) (sector : ℕ) (slices : List NewSlice) (d : ℕ) : Type 0 where
   pub none : list_any (is_geom_of_disk d) w.topology.geoms ≡ false
-  pub sizes : IsSomeAnd (slice_get w.disks d) (λ disk. (sector ≡ disk.sector) × All (λ x. x.size ≡ disk.size) slices)
+  pub sizes : IsSomeAnd (slice_get w.disks d) (λ disk. (sector ≡ disk.sector)
+      × All (λ x. x.size ≡ disk.size) slices)
 
 -- a geom can be made of a class and a configuration over some providers
 pub record CanMake (w : World) (kind : Kind) (config : Config) (ps : List Provider) (sector : ℕ)

@@ -77,7 +77,8 @@ module _ (w : World) (u : Topology Config) (g : Geom Config) (firm : Firm w) (mo
   pub more-providers : ProvidersHold u
   more-providers = record {
     names = more.names;
-    withering = all_of (λ (x : Provider). IsTrue (is_withering u x.geom) → x.errored ≡ true) u.providers (λ y here withers.
+    withering = all_of (λ (x : Provider). IsTrue (is_withering u x.geom) → x.errored ≡ true) u.providers
+        (λ y here withers.
         let before = withered_before y.geom withers in
         elim (more.providers y here) [
           | inl old ↦
@@ -88,7 +89,8 @@ module _ (w : World) (u : Topology Config) (g : Geom Config) (firm : Firm w) (mo
     sizes = all_of (λ (x : Provider). IsMediaSize x.size x.sector) u.providers (λ y here.
         elim (more.providers y here) [
           | inl old ↦
-              All-contains (λ (x : Provider). IsMediaSize x.size x.sector) t.providers y firm.sound.providers.sizes old.0
+              All-contains (λ (x : Provider). IsMediaSize x.size x.sector) t.providers y
+              firm.sound.providers.sizes old.0
           | inr made ↦ made.size
         ]);
   }
@@ -164,7 +166,8 @@ module _ (w : World) (u : Topology Config) (g : Geom Config) (firm : Firm w) (mo
   inside : (h : Geom Config) (p : Provider) (spot : Spot) → IsPlaceInside t h p spot → IsPlaceInside u h p spot
   inside h p spot fact = by (component h.config spot.component) refl fact where
     -- by what the consumer is attached to
-    below : (o : Option ℕ) → IsSomeAnd (option_and_then (provider_at t) o) (λ r. (spot.offset < r.size) × (r.sector ≡ p.sector))
+    below : (o : Option ℕ) → IsSomeAnd (option_and_then (provider_at t) o) (λ r. (spot.offset < r.size)
+        × (r.sector ≡ p.sector))
         → IsSomeAnd (option_and_then (provider_at u) o) (λ r. (spot.offset < r.size) × (r.sector ≡ p.sector))
     below None under = under
     below (Some n) under =
@@ -178,7 +181,8 @@ module _ (w : World) (u : Topology Config) (g : Geom Config) (firm : Firm w) (mo
     -- by the component
     by : (o : Option ℕ) → component h.config spot.component ≡ o
         → IsSomeAnd (option_and_then (consumer_at t) o) (λ c. (c.geom ≡ h.number)
-        × IsSomeAnd (option_and_then (provider_at t) c.provider) (λ r. (spot.offset < r.size) × (r.sector ≡ p.sector)))
+        × IsSomeAnd (option_and_then (provider_at t) c.provider) (λ r. (spot.offset < r.size)
+        × (r.sector ≡ p.sector)))
         → IsPlaceInside u h p spot
     by None e fact = absurd fact
     by (Some n) e fact =
@@ -186,7 +190,8 @@ module _ (w : World) (u : Topology Config) (g : Geom Config) (firm : Firm w) (mo
         × IsSomeAnd (option_and_then (provider_at t) c.provider)
         (λ r. (spot.offset < r.size) × (r.sector ≡ p.sector))) fact in
         some-with (option_and_then (consumer_at u) (component h.config spot.component)) (λ c. (c.geom ≡ h.number)
-        × IsSomeAnd (option_and_then (provider_at u) c.provider) (λ r. (spot.offset < r.size) × (r.sector ≡ p.sector)))
+        × IsSomeAnd (option_and_then (provider_at u) c.provider) (λ r. (spot.offset < r.size)
+        × (r.sector ≡ p.sector)))
         d.item (ap (option_and_then (consumer_at u)) e ∙ more.old_consumers n d.item d.is)
         (d.fact.0, below d.item.provider d.fact.1)
 
@@ -207,7 +212,8 @@ module _ (w : World) (u : Topology Config) (g : Geom Config) (firm : Firm w) (mo
       (λ used. still h.item (h.fact (before h.item h.is used)))
     where
       -- a disk, or placed
-      still : (h : Geom Config) → IsSome (disk_of h.config) ⊎ IsPlaced t h p → IsSome (disk_of h.config) ⊎ IsPlaced u h p
+      still : (h : Geom Config) → IsSome (disk_of h.config) ⊎ IsPlaced t h p → IsSome (disk_of h.config)
+          ⊎ IsPlaced u h p
       still h (inl disk) = inl disk
       still h (inr is_placed) = inr (placed h p is_placed)
 
@@ -236,7 +242,8 @@ module _ (w : World) (u : Topology Config) (g : Geom Config) (firm : Firm w) (mo
   -- Bios
 
   -- a provider that is untouched stands with its geom
-  stands_both : (p : ℕ) → (x : Provider) → provider_at t p ≡ Some x → (provider_at u p ≡ Some x) × (x.geom ≢ g.number)
+  stands_both : (p : ℕ) → (x : Provider) → provider_at t p ≡ Some x → (provider_at u p ≡ Some x)
+      × (x.geom ≢ g.number)
       → StandsBoth t u p
   stands_both p x was still =
       let h = has (geom_at t x.geom) (All-contains (λ (z : Provider). IsSome (geom_at t z.geom)) t.providers x
@@ -261,24 +268,29 @@ module _ (w : World) (u : Topology Config) (g : Geom Config) (firm : Firm w) (mo
   bio_in_order : (queue : List Event) (x : Bio) → Contains w.bios x → IsBioInOrder (remade w u queue) x
   bio_in_order queue x here =
       let old = All-contains (IsBioInOrder w) w.bios x firm.sound.bios here in
-      let d = found-with (consumer_at t x.source) (λ c. (c.provider ≡ Some x.target) × HasCountFor w x c) old.source in
-      let less = more.wants d.item (find-Contains (λ (z : Consumer). z.number == x.source) t.consumers d.item d.is) in
+      let d = found-with (consumer_at t x.source) (λ c. (c.provider ≡ Some x.target) × HasCountFor w x c)
+      old.source in
+      let less = more.wants d.item (find-Contains (λ (z : Consumer). z.number == x.source) t.consumers d.item
+      d.is) in
       let s = target_stands x here in
       record {
-        source = some-with (consumer_at u x.source) (λ c. (c.provider ≡ Some x.target) × HasCountFor (remade w u queue) x c)
+        source = some-with (consumer_at u x.source) (λ c. (c.provider ≡ Some x.target)
+            × HasCountFor (remade w u queue) x c)
             d.item (more.old_consumers x.source d.item d.is) (
               d.fact.0,
               enough (is_read x.cmd) (want (granted_in w) t d.item).r (want (granted_in w) t d.item).w
                   (want (granted_in w) u d.item).r (want (granted_in w) u d.item).w less.r less.w d.fact.1,
             );
-        target = some-with (provider_at u x.target) (λ p. is_flush x.cmd ≡ false → IsRangeInside x p) s.provider s.found
+        target = some-with (provider_at u x.target) (λ p. is_flush x.cmd ≡ false → IsRangeInside x p) s.provider
+            s.found
             (at-some (provider_at t x.target) (λ p. is_flush x.cmd ≡ false → IsRangeInside x p) s.provider s.was
             old.target);
         bytes = old.bytes;
       }
 
   -- the children of a bio are its pieces
-  has_pieces : (queue : List Event) (x : Bio) → Contains w.bios x → HasItsPieces w x → HasItsPieces (remade w u queue) x
+  has_pieces : (queue : List Event) (x : Bio) → Contains w.bios x → HasItsPieces w x
+      → HasItsPieces (remade w u queue) x
   has_pieces queue x here old =
       let s = target_stands x here in
       some-with (provider_at u x.target) (λ p. IsSomeAnd (geom_at u p.geom) (λ g.
@@ -308,10 +320,12 @@ module _ (w : World) (u : Topology Config) (g : Geom Config) (firm : Firm w) (mo
       }
 
   -- the disk of a bio is what it was
-  same_disk : (queue : List Event) (x : Bio) → Contains w.bios x → disk_of_bio (remade w u queue) x ≡ disk_of_bio w x
+  same_disk : (queue : List Event) (x : Bio) → Contains w.bios x → disk_of_bio (remade w u queue) x
+      ≡ disk_of_bio w x
   same_disk queue x here =
       let s = target_stands x here in
-      disk_there u x.target s.provider s.geom s.found s.of ∙ sym (disk_there t x.target s.provider s.geom s.was s.was_of)
+      disk_there u x.target s.provider s.geom s.found s.of
+      ∙ sym (disk_there t x.target s.provider s.geom s.was s.was_of)
 
   -- bios are in order
   pub more-bios : (queue : List Event) → All (IsBioInOrder (remade w u queue)) w.bios
@@ -330,7 +344,8 @@ module _ (w : World) (u : Topology Config) (g : Geom Config) (firm : Firm w) (mo
         (All-contains (λ x. IsTrue (is_sent x.phase || is_busy x.phase) → IsSome (disk_of_bio w x)) w.bios x
         firm.sound.disks.at_disk here out));
     one_busy = λ i j d less_than short a b disk first second.
-        let here : Contains w.bios (get_or w.bios i d) = Contains-get_or w.bios i d (omega (arith, less_than, short)) in
+        let here : Contains w.bios (get_or w.bios i d) = Contains-get_or w.bios i d
+        (omega (arith, less_than, short)) in
         let there : Contains w.bios (get_or w.bios j d) = Contains-get_or w.bios j d short in
         firm.sound.disks.one_busy i j d less_than short a b disk
         (sym (same_disk queue (get_or w.bios i d) here) ∙ first)
@@ -347,14 +362,16 @@ module _ (w : World) (u : Topology Config) (g : Geom Config) (firm : Firm w) (mo
       stands_both s.provider p.item p.is (still p.item p.is)
     where
       -- it is there, since its geom is
-      by : (o : Option Provider) → IsSomeAnd (option_and_then (λ (x : Provider). geom_at t x.geom) o) (λ h. rank t h.number < taste_limit)
+      by : (o : Option Provider) → IsSomeAnd (option_and_then (λ (x : Provider). geom_at t x.geom) o)
+          (λ h. rank t h.number < taste_limit)
           → IsSome o
       by None fact = absurd fact
       by (Some x) fact = refl
 
   -- a taste is in order
   taste_holds : (queue : List Event) (o : Option Taste) → IfSome o (IsTasteInOrder w)
-      → IfSome o (λ s. (x : Provider) → provider_at t s.provider ≡ Some x → (provider_at u s.provider ≡ Some x) × (x.geom ≢ g.number))
+      → IfSome o (λ s. (x : Provider) → provider_at t s.provider ≡ Some x → (provider_at u s.provider ≡ Some x)
+      × (x.geom ≢ g.number))
       → IfSome o (λ s. IsSomeAnd (geom_of_provider u s.provider) (λ h. rank u h.number < taste_limit))
       → IfSome o (IsTasteInOrder (remade w u queue))
   taste_holds queue None old still low = tt

@@ -30,16 +30,28 @@ use Rattle.geo_laws_more.specs.MoreLaws.{IsGrownFrom, IsMore, MoreIsFirm}
 use Rattle.geo_laws_more.proofs.More.{WasBelow, before_order, target_stands, taste_stands, more-providers, more-counts, more-numbers, more-handles, more-places, more-bios, more-families, more-disks, more-events}
 
 -- what is asked stays in order where the facts are the same
-asked_still : (t u : Topology Config) (p : Provider) → facts_of u p ≡ facts_of t p → (a : Asked) → IsAskedInOrder t p a
+asked_still : (t u : Topology Config) (p : Provider) → facts_of u p ≡ facts_of t p → (a : Asked)
+    → IsAskedInOrder t p a
     → IsAskedInOrder u p a
 asked_still t u p facts NoClass fact = fact
-asked_still t u p facts (NextSector kind sector) fact = (subst (λ f. IsSome (taste_where kind f)) (sym facts) fact.0, fact.1)
+asked_still t u p facts (NextSector kind sector) fact = (
+  subst (λ f. IsSome (taste_where kind f))
+      (sym facts) fact.0,
+  fact.1,
+)
 asked_still t u p facts (ReadOut kind) fact = subst (λ f. IsSome (taste_where kind f)) (sym facts) fact
-asked_still t u p facts (ReadBack kind got) fact = (subst (λ f. IsSome (taste_where kind f)) (sym facts) fact.0, fact.1)
+asked_still t u p facts (ReadBack kind got) fact = (
+  subst (λ f. IsSome (taste_where kind f)) (sym facts) fact.0,
+  fact.1,
+)
 
 -- the facts, by the class and the provider
 abbrev with_kind : Provider → Option (Geom Config) → Facts
-with_kind p o = record { kind = option_map_or (λ (x : Geom Config). x.kind) o kinds.Disk; sector = p.sector; sectors = p.size / p.sector }
+with_kind p o = record {
+  kind = option_map_or (λ (x : Geom Config). x.kind) o kinds.Disk;
+  sector = p.sector;
+  sectors = p.size / p.sector;
+}
 
 module _ (w : World) (u : Topology Config) (g : Geom Config) (firm : Firm w) (more : IsMore w u g) where
   -- the graph before
@@ -47,14 +59,16 @@ module _ (w : World) (u : Topology Config) (g : Geom Config) (firm : Firm w) (mo
   t = w.topology
 
   -- a geom that was there is found, where it isn't the one
-  old_geom : (n : ℕ) → n ≢ g.number → IsSome (geom_at t n) → (h : Geom Config) → geom_at u n ≡ Some h → geom_at t n ≡ Some h
+  old_geom : (n : ℕ) → n ≢ g.number → IsSome (geom_at t n) → (h : Geom Config) → geom_at u n ≡ Some h
+      → geom_at t n ≡ Some h
   old_geom n apart there h found =
       let x = has (geom_at t n) there in
       let same : x.item ≡ h = one-found (geom_at u n) x.item h (more.old_geoms n x.item apart x.is) found in
       x.is ∙ ap (λ z. Some z) same
 
   -- an old consumer is attached
-  attached_before : (o : Option ℕ) → IsSome (option_and_then (provider_at t) o) → IsSome (option_and_then (provider_at u) o)
+  attached_before : (o : Option ℕ) → IsSome (option_and_then (provider_at t) o)
+      → IsSome (option_and_then (provider_at u) o)
   attached_before None there = there
   attached_before (Some n) there =
       let x = has (provider_at t n) there in
@@ -87,24 +101,29 @@ module _ (w : World) (u : Topology Config) (g : Geom Config) (firm : Firm w) (mo
       → (x.withering ≡ false) ⊎ IsTrue (has_open_provider w x)
   used_before queue x here apart (inl stands) = inl stands
   used_before queue x here apart (inr some) =
-      let was : list_any (λ (z : Provider). not (is_zero (have (granted_in w) u z.number))) (providers_of t x.number) ≡ true =
+      let was : list_any (λ (z : Provider). not (is_zero (have (granted_in w) u z.number)))
+      (providers_of t x.number) ≡ true =
       subst (λ ps. list_any (λ (z : Provider). not (is_zero (have (granted_in w) u z.number))) ps ≡ true)
       (more.others x.number apart) some in
-      let p = some-passes (λ (z : Provider). not (is_zero (have (granted_in w) u z.number))) (providers_of t x.number) was in
+      let p = some-passes (λ (z : Provider). not (is_zero (have (granted_in w) u z.number)))
+      (providers_of t x.number) was in
       let kept = filter-Contains (λ (z : Provider). z.geom == x.number) t.providers p.item p.here in
       elim (more.opened p.item kept.0 (not-true (is_zero (have (granted_in w) u p.item.number)) p.passes)) [
         | inl opened ↦
-            inr (any-contained (λ (z : Provider). not (is_zero (have (granted_in w) t z.number))) (providers_of t x.number)
+            inr (any-contained (λ (z : Provider). not (is_zero (have (granted_in w) t z.number)))
+            (providers_of t x.number)
             p.item p.here (ap not opened))
         | inr upright ↦
             inl (at-some (geom_at t p.item.geom) (λ h. h.withering ≡ false) x
             (subst (λ n. geom_at t n ≡ Some x) (sym (eqb-true p.item.geom x.number kept.1))
-            (found_itself (λ (z : Geom Config). z.number) t.next_geom t.geoms x (before_order w u g firm more).geoms here))
+            (found_itself (λ (z : Geom Config). z.number) t.next_geom t.geoms x
+            (before_order w u g firm more).geoms here))
             upright)
       ]
 
   -- each component still stands
-  components_stand : (queue : List Event) (y : Geom Config) → Contains u.geoms y → HasItsComponents (remade w u queue) y
+  components_stand : (queue : List Event) (y : Geom Config) → Contains u.geoms y
+      → HasItsComponents (remade w u queue) y
   components_stand queue y here =
       elim (more.geoms y here) [
         | inl old ↦ (λ used.
@@ -116,7 +135,8 @@ module _ (w : World) (u : Topology Config) (g : Geom Config) (firm : Firm w) (mo
             (All-contains (HasItsComponents w) t.geoms y firm.steady.components old.0
             (used_before queue y old.0 old.1 used)))
         | inr same ↦ (λ used.
-            subst (λ (z : Geom Config). All (λ c. IsSomeAnd (consumer_at u c) (λ x. (x.geom ≡ z.number) × IsSome x.provider))
+            subst (λ (z : Geom Config). All (λ c. IsSomeAnd (consumer_at u c) (λ x. (x.geom ≡ z.number)
+            × IsSome x.provider))
             (components z.config)) (sym same) more.fits.components)
       ]
 
@@ -163,7 +183,8 @@ module _ (w : World) (u : Topology Config) (g : Geom Config) (firm : Firm w) (mo
   -- what is below a consumer fits
   fits_below : (c : Consumer) → Contains u.consumers c → FitsBelow u c
   fits_below c here =
-      if-found (geom_at u c.geom) (λ h. IfSome (option_and_then (provider_at u) c.provider) (λ q. IsWholeIn h.config q.sector))
+      if-found (geom_at u c.geom) (λ h. IfSome (option_and_then (provider_at u) c.provider)
+      (λ q. IsWholeIn h.config q.sector))
       (λ h found. by h found (cases_eq c.geom g.number))
     where
       -- of the geom itself, or of another one
@@ -171,12 +192,14 @@ module _ (w : World) (u : Topology Config) (g : Geom Config) (firm : Firm w) (mo
           → IfSome (option_and_then (provider_at u) c.provider) (λ q. IsWholeIn h.config q.sector)
       by h found (inl own) =
           let same : g ≡ h = one-found (geom_at u c.geom) g h (ap (geom_at u) own ∙ more.stands) found in
-          subst (λ (z : Geom Config). IfSome (option_and_then (provider_at u) c.provider) (λ q. IsWholeIn z.config q.sector))
+          subst (λ (z : Geom Config). IfSome (option_and_then (provider_at u) c.provider)
+          (λ q. IsWholeIn z.config q.sector))
           same (more.wholes c here own)
       by h found (inr apart) =
           let old = other_consumer c here apart in
           let was = old_geom c.geom apart
-          (All-contains (λ (z : Consumer). IsSome (geom_at t z.geom)) t.consumers c firm.steady.parts.consumers old) h found in
+          (All-contains (λ (z : Consumer). IsSome (geom_at t z.geom)) t.consumers c firm.steady.parts.consumers
+          old) h found in
           if-found (option_and_then (provider_at u) c.provider) (λ q. IsWholeIn h.config q.sector) (λ q under.
           let b = was_below c.provider
           (All-contains (λ (z : Consumer). IsSome (option_and_then (provider_at t) z.provider)) t.consumers c
@@ -188,7 +211,8 @@ module _ (w : World) (u : Topology Config) (g : Geom Config) (firm : Firm w) (mo
           (All-contains (FitsBelow t) t.consumers c firm.fitting.wholes old))))
 
   -- a place of another geom fits
-  fits_place : (n : ℕ) → n ≢ g.number → (place : Option ℕ) (size : ℕ) → FitsPlace t n place size → FitsPlace u n place size
+  fits_place : (n : ℕ) → n ≢ g.number → (place : Option ℕ) (size : ℕ) → FitsPlace t n place size
+      → FitsPlace u n place size
   fits_place n apart None size fact = tt
   fits_place n apart (Some k) size fact =
       if-found (consumer_at u k) (λ c. c.geom ≡ n
@@ -198,21 +222,26 @@ module _ (w : World) (u : Topology Config) (g : Geom Config) (firm : Firm w) (mo
       let old = other_consumer c here (λ same. apart (sym own ∙ same)) in
       let was : consumer_at t k ≡ Some c = subst (λ m. consumer_at t m ≡ Some c)
       (number_found (λ (z : Consumer). z.number) u.consumers k c found)
-      (found_itself (λ (z : Consumer). z.number) t.next_consumer t.consumers c (before_order w u g firm more).consumers old) in
-      if-found (option_and_then (provider_at u) c.provider) (λ q. (size ≤ q.size) × (size % q.sector ≡ 0)) (λ q under.
+      (found_itself (λ (z : Consumer). z.number) t.next_consumer t.consumers c
+      (before_order w u g firm more).consumers old) in
+      if-found (option_and_then (provider_at u) c.provider) (λ q. (size ≤ q.size) × (size % q.sector ≡ 0))
+      (λ q under.
       let b = was_below c.provider
       (All-contains (λ (z : Consumer). IsSome (option_and_then (provider_at t) z.provider)) t.consumers c
       firm.steady.attached old) q under in
-      let fit = at-found (option_and_then (provider_at t) c.provider) (λ q. (size ≤ q.size) × (size % q.sector ≡ 0)) b.before
+      let fit = at-found (option_and_then (provider_at t) c.provider) (λ q. (size ≤ q.size)
+      × (size % q.sector ≡ 0)) b.before
       b.was (at-found (consumer_at t k) (λ c. c.geom ≡ n
-      → IfSome (option_and_then (provider_at t) c.provider) (λ q. (size ≤ q.size) × (size % q.sector ≡ 0))) c was fact own) in
+      → IfSome (option_and_then (provider_at t) c.provider) (λ q. (size ≤ q.size) × (size % q.sector ≡ 0))) c
+      was fact own) in
       let low : size ≤ b.before.size = fit.0 in
       let larger : b.before.size ≤ q.size = b.is.larger in
       (omega arith, subst (λ m. size % m ≡ 0) (sym (ap (λ (z : Provider). z.sector) b.is.same)) fit.1)))
 
   -- the taste asks in order
   asks : (o : Option Taste) → IfSome o (IsTasteInOrder w)
-      → IfSome o (λ s. (x : Provider) → provider_at t s.provider ≡ Some x → (provider_at u s.provider ≡ Some x) × (x.geom ≢ g.number))
+      → IfSome o (λ s. (x : Provider) → provider_at t s.provider ≡ Some x → (provider_at u s.provider ≡ Some x)
+      × (x.geom ≢ g.number))
       → IfSome o (λ s. IfSome (provider_at t s.provider) (λ p. IsAskedInOrder t p s.asked))
       → IfSome o (λ s. IfSome (provider_at u s.provider) (λ p. IsAskedInOrder u p s.asked))
   asks None order still old = tt
@@ -229,7 +258,8 @@ module _ (w : World) (u : Topology Config) (g : Geom Config) (firm : Firm w) (mo
     disks = firm.fitting.disks;
     sectors = all_of (λ (p : Provider). IsSectorSize p.sector) u.providers (λ p here.
         elim (more.providers p here) [
-          | inl old ↦ All-contains (λ (p : Provider). IsSectorSize p.sector) t.providers p firm.fitting.sectors old.0
+          | inl old ↦ All-contains (λ (p : Provider). IsSectorSize p.sector) t.providers p firm.fitting.sectors
+              old.0
           | inr made ↦ made.sector
         ]);
     wholes = all_of (FitsBelow u) u.consumers fits_below;
@@ -237,13 +267,15 @@ module _ (w : World) (u : Topology Config) (g : Geom Config) (firm : Firm w) (mo
         elim (more.geoms y here) [
           | inl old ↦
               all_zip-weaker (FitsPlace t y.number) (FitsPlace u y.number) (λ a b. fits_place y.number old.1 a b)
-              (places_of y.config) (sizes_of y.config) (All-contains (FitsPlaces t) t.geoms y firm.fitting.places old.0)
+              (places_of y.config) (sizes_of y.config)
+              (All-contains (FitsPlaces t) t.geoms y firm.fitting.places old.0)
           | inr same ↦ subst (FitsPlaces u) (sym same) more.fits.places
         ]);
     one = all_of (HasOneProvider u) u.geoms (λ y here.
         elim (more.geoms y here) [
           | inl old ↦
-              subst (λ (ps : List Provider). y.kind ≡ kinds.Concat → length ps ≤ 1) (sym (more.others y.number old.1))
+              subst (λ (ps : List Provider). y.kind ≡ kinds.Concat → length ps ≤ 1)
+              (sym (more.others y.number old.1))
               (All-contains (HasOneProvider t) t.geoms y firm.fitting.one old.0)
           | inr same ↦ subst (HasOneProvider u) (sym same) more.fits.one
         ]);
@@ -268,7 +300,8 @@ module _ (w : World) (u : Topology Config) (g : Geom Config) (firm : Firm w) (mo
           some-with (provider_at u x.target) (λ p. x.len ≡ p.sector) s.provider s.found
           (at-some (provider_at t x.target) (λ p. x.len ≡ p.sector) s.provider s.was
           (All-contains (λ x. IsTrue (is_taste_root x.owner)
-          → IsSomeAnd (provider_at t x.target) (λ p. x.len ≡ p.sector)) w.bios x firm.fitting.read.sector here root)));
+          → IsSomeAnd (provider_at t x.target) (λ p. x.len ≡ p.sector)) w.bios x firm.fitting.read.sector here
+          root)));
     };
     commands = firm.fitting.commands;
   }

@@ -1,5 +1,6 @@
 -- A graph that has come to more: one geom is new or has changed, and it has more consumers and providers; all else
--- stands as it stood, but that a provider may have grown. With such a graph a firm world stays firm: one that is sound,
+-- stands as it stood, but that a provider may have grown. With such a graph a firm world stays firm: one that is
+-- sound,
 -- steady and fitting (g_new_geomf, g_new_providerf, g_new_consumer).
 use Rattle.std.specs.Prelude.{◌≡◌, ◌≢◌, ◌⊎◌, ℕ, ◌<◌, ◌≤◌, false, List, [], Option, Some, Contains, IsSome, IsSomeAnd, IfSome, IsTrue, All, AllPairs, option_and_then}
 use Rattle.geo_base.specs.Sectors.{IsSectorSize}
@@ -31,7 +32,8 @@ pub record StandsGrown (x : Provider) (o : Option Provider) : Type 0 where
 abbrev pub IsUntouched : Topology Config → Topology Config → Geom Config → ℕ → Type 0
 IsUntouched t u g p = (x : Provider) → provider_at t p ≡ Some x → (provider_at u p ≡ Some x) × (x.geom ≢ g.number)
 
--- the geom that is new or has changed: another one than DEV and TASTE, of its class, with its components, places and sizes
+-- the geom that is new or has changed: another one than DEV and TASTE, of its class, with its components, places
+-- and sizes
 pub record GeomFits (w : World) (u : Topology Config) (g : Geom Config) : Type 0 where
   pub dev : g.number ≢ 1
   pub taste : g.number ≢ 2
@@ -72,7 +74,8 @@ pub record IsMore (w : World) (u : Topology Config) (g : Geom Config) : Type 0 w
   pub old_consumers : (n : ℕ) (x : Consumer) → consumer_at w.topology n ≡ Some x → consumer_at u n ≡ Some x
   -- and nothing else is new but the geom and its parts
   pub stands : geom_at u g.number ≡ Some g
-  pub geoms : (y : Geom Config) → Contains u.geoms y → (Contains w.topology.geoms y × (y.number ≢ g.number)) ⊎ (y ≡ g)
+  pub geoms : (y : Geom Config) → Contains u.geoms y → (Contains w.topology.geoms y × (y.number ≢ g.number))
+      ⊎ (y ≡ g)
   pub providers : (y : Provider) → Contains u.providers y
       → (Contains w.topology.providers y × (y.geom ≢ g.number)) ⊎ ProviderFits u g y
   pub consumers : (y : Consumer) → Contains u.consumers y → Contains w.topology.consumers y ⊎ ConsumerFits u g y

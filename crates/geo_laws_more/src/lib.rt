@@ -1,5 +1,5 @@
-//! Laws of a graph that has come to more: one geom is new or has changed, and it has more consumers and providers. A firm
-//! world, one that is sound, steady and fitting, stays firm with it (geom(4)).
+//! Laws of a graph that has come to more: one geom is new or has changed, and has more consumers and providers. A
+//! firm world, one that is sound, steady and fitting, stays firm with it (geom(4)).
 #![tactic(auto)]
 
 ghost use Rattle.geo_laws_more.specs.MoreLaws.{MoreIsFirm};
