@@ -4,7 +4,7 @@ use Rattle.std.specs.List.{AllZip, list_any}
 use Rattle.std.specs.Option.{option_map_or, option_to_list}
 use Prim.Native.Nat.{◌∣◌}
 use Rattle.std.proofs.Common.{inl, inr, refl, sym, ◌∙◌, ap, subst, arith, get_or}
-use Rattle.std.proofs.lemmas.Bool.{or_parts, not-false, leb-false, ltb-false, eqb-true, eq-eqb, ne_eqb, cases_eq, cases_lt}
+use Rattle.std.proofs.lemmas.Bool.{false_from_ne_true, or_parts, not-false, leb-false, ltb-false, eqb-true, eq-eqb, ne_eqb, cases_eq, cases_lt}
 use Rattle.std.proofs.lemmas.List.{length-append, length-map}
 use Rattle.std.proofs.lemmas.List.Elements.{All-contains, All-push, All-weaker, Contains-get_or}
 use Rattle.std.proofs.lemmas.List.Quantifiers.{all_pairs_push}
@@ -44,7 +44,7 @@ use Rattle.geo_laws_more.proofs.MoreFirm.{more-firm}
 use Rattle.geo_laws_making.proofs.Over.{false_true}
 use Rattle.geo_laws_making.proofs.Made.{through}
 use Rattle.geo_laws_appends.proofs.Concats.{IsConcat, concat_of, IsStanding, still_fits, no_more, all-components, filled_still, place-component, zip_members, zip_push, zip_length}
-use Rattle.geo_laws_appends.proofs.Rises.{fails, order, live, geom_here, provider_here, provider_own, own_only, apart_from, wants_more, opened_upright, rank_away}
+use Rattle.geo_laws_appends.proofs.Rises.{order, live, geom_here, provider_here, provider_own, own_only, apart_from, wants_more, opened_upright, rank_away}
 
 -- what an append asks of the concat and the provider: not too many consumers, one sector size, and a size that
 -- isn't too large
@@ -134,7 +134,7 @@ module _ (w : World) (x : Growing) (q : Provider) (firm : Firm w) (is : IsStandi
 
   -- none was free
   no_free : list_any is_none before.places ≡ false
-  no_free = fails (list_any is_none before.places) (λ free.
+  no_free = false_from_ne_true (list_any is_none before.places) (λ free.
       let none_left = All-contains (WaitsForPlaces w) t.geoms x.geom firm.steady.partial (geom_here w x firm is)
       (ap (λ z. list_any is_none (places_of z)) before.is ∙ free) in
       nothing_in x.provider (subst (λ ys. Contains ys x.provider) none_left (provider_own w x firm is)))
@@ -576,7 +576,7 @@ module _ (w : World) (x : Growing) (q : Provider) (firm : Firm w) (is : IsStandi
 
   -- a bio isn't
   bio_away : (b : Bio) → Contains w.bios b → is_below t p b.target ≡ false
-  bio_away b here = fails (is_below t p b.target) (λ yes.
+  bio_away b here = false_from_ne_true (is_below t p b.target) (λ yes.
       false_true (sym above.0 ∙ any-contained (λ (b : Bio). is_below t p b.target) w.bios b here yes))
 
   -- nor is a taste, which isn't too high either

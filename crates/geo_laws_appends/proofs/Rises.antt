@@ -3,7 +3,7 @@
 use Rattle.std.specs.Prelude.{◌≡◌, ◌≢◌, ◌⊎◌, ℕ, ◌≤◌, ◌==◌, Bool, true, false, ◌&&◌, List, [], ◌∷◌, length, Some, None, Contains, IsSome, IsSomeAnd, IsTrue}
 use Rattle.std.specs.List.{list_any}
 use Rattle.std.proofs.Common.{inl, inr, refl, sym, ◌∙◌, ap, subst}
-use Rattle.std.proofs.lemmas.Bool.{and_from, eqb-true, eq-eqb}
+use Rattle.std.proofs.lemmas.Bool.{and_from, eqb-true, eq-eqb, false_from_ne_true}
 use Rattle.std.proofs.lemmas.List.Elements.{All-contains}
 use Rattle.geo_model.specs.Topology.{Topology, Geom, Provider, Consumer, geom_at, provider_at, providers_of, is_errored, is_withering, add_consumer, attach}
 use Rattle.geo_model.specs.Rank.{rank, reaches, would_loop}
@@ -38,11 +38,6 @@ use Rattle.geo_laws_less.proofs.LessSteady.{some-passes}
 use Rattle.geo_laws_making.proofs.Over.{false_true}
 use Rattle.geo_laws_making.proofs.Made.{through}
 use Rattle.geo_laws_appends.proofs.Concats.{IsStanding, one_only}
-
--- a test that can't hold fails
-pub fails : (b : Bool) → (b ≡ true → ⊥) → b ≡ false
-fails true never = absurd (never refl)
-fails false never = refl
 
 module _ (w : World) (x : Growing) (firm : Firm w) (is : IsStanding w.topology x) where
   -- the graph before
@@ -129,7 +124,7 @@ module _ (w : World) (x : Growing) (firm : Firm w) (is : IsStanding w.topology x
         let one = own_only y (find-Contains (λ (z : Provider). z.number == s) t.providers y found) own in
         no (subst (Contains (below t s)) (sym at ∙ ap (λ (z : Provider). z.number) one)
         (below_self (length t.geoms) t s));
-    unreached = fails (reaches t y.geom x.geom.number) (λ reaching.
+    unreached = false_from_ne_true (reaches t y.geom x.geom.number) (λ reaching.
         let way = path-from_reaches t y.geom x.geom.number reaching in
         let r = way_down s x.geom.number y.geom way.over y
         (subst (Contains (below t s)) (sym at) (below_self (length t.geoms) t s))
@@ -200,7 +195,8 @@ module _ (w : World) (x : Growing) (firm : Firm w) (is : IsStanding w.topology x
     upright_below y here reached =
         let h = has (geom_at t y.geom) (All-contains (λ (z : Provider). IsSome (geom_at t z.geom)) t.providers y
         firm.steady.parts.providers here) in
-        some-with (geom_at t y.geom) (λ h. h.withering ≡ false) h.item h.is (fails h.item.withering (λ withers.
+        some-with (geom_at t y.geom) (λ h. h.withering ≡ false) h.item h.is
+        (false_from_ne_true h.item.withering (λ withers.
         let geom_withers : is_withering t y.geom ≡ true =
         any-contained (λ (z : Geom Config). (z.number == y.geom) && z.withering) t.geoms h.item
         (find-Contains (λ (z : Geom Config). z.number == y.geom) t.geoms h.item h.is)

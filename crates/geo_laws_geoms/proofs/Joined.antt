@@ -11,7 +11,6 @@ use Rattle.std.proofs.lemmas.Nat.Gcd.{dvd_of_mod-eq-zero, mod-eq-zero_of_dvd}
 use Rattle.std.proofs.Math.Nat.{dvd-mul_left_of_dvd, div-mul-le_self}
 use Rattle.geo_base.specs.Sectors.{IsSectorSize}
 use Rattle.geo_base.specs.declared.errno.Errno.TheVariants.{EEXIST, ENOENT, ENXIO, EINVAL, EDEEP}
-use Rattle.geo_base.specs.declared.kind.Kind.{Kind}
 use Rattle.geo_base.specs.declared.kind.Kind.TheVariants as kinds
 use Rattle.geo_model.specs.Words.{first_error, same_name}
 use Rattle.geo_model.specs.Names.{concat_name, stripe_name}
@@ -139,25 +138,21 @@ module _ (w : World) (firm : Firm w) (ps : List Provider)
       ≡ Some there.consumer
   component_of k there = ap option_flatten there.at
 
-  -- what every concat and stripe over them has
-  module _ (kind : Kind) (config : Config) (name : List ℕ) (few : length ps ≤ component_limit)
-      (free : is_name_taken w.topology name ≡ false) (low : rank_over w.topology ps ≤ rank_limit)
-      (some : 1 ≤ joined_size config) (limited : joined_size config ≤ 2 ^ 60)
-      (whole : joined_size config % sector_of ps ≡ 0) where
-    -- the provider to be made
-    abbrev pub slice : NewSlice
-    slice = record { name = name; size = joined_size config }
-
-    -- its size is one
-    pub joined_media : IsMediaSize (joined_size config) (sector_of ps)
-    joined_media = record { positive = some; whole = whole; limited = limited }
-
-    -- it can be offered, where its offsets are placed
-    pub offers_one : ((o : ℕ) → o < joined_size config → HasPlace config ps n (sector_of ps) name o)
-        → All (CanOffer w config ps (sector_of ps)) (slice ∷ [])
-    offers_one so =
-        All-from_recursion (CanOffer w config ps (sector_of ps)) (slice ∷ [])
-        (record { free = free; size = joined_media; leads = inr so }, tt)
+  -- the one provider to be made can be offered, where its offsets are placed
+  offers_one : (config : Config) (name : List ℕ) → is_name_taken w.topology name ≡ false → 1 ≤ joined_size config
+      → joined_size config ≤ 2 ^ 60 → joined_size config % sector_of ps ≡ 0
+      → ((o : ℕ) → o < joined_size config → HasPlace config ps n (sector_of ps) name o)
+      → All (CanOffer w config ps (sector_of ps)) (record { name = name; size = joined_size config } ∷ [])
+  offers_one config name free some limited whole so =
+      All-from_recursion (CanOffer w config ps (sector_of ps))
+      (record { name = name; size = joined_size config } ∷ []) (
+        record {
+          free = free;
+          size = record { positive = some; whole = whole; limited = limited };
+          leads = inr so;
+        },
+        tt,
+      )
 
   -- Concats
 
@@ -208,8 +203,7 @@ module _ (w : World) (firm : Firm w) (ps : List Provider)
     places = places_fit;
     disk = tt;
     sectors = sector_size;
-    offers = offers_one kinds.Concat concat (concat_name name) few can.free can.low can.some can.limited
-        concat_whole
+    offers = offers_one concat (concat_name name) can.free can.some can.limited concat_whole
         (concat_place (concat_name name));
     names = pairs-from_recursion (λ (x y : NewSlice). same_name x.name y.name ≡ false)
         (record { name = concat_name name; size = joined_size concat } ∷ []) (tt, tt);
@@ -282,8 +276,7 @@ module _ (w : World) (firm : Firm w) (ps : List Provider)
       places = places_fit;
       disk = tt;
       sectors = sector_size;
-      offers = offers_one kinds.Stripe striped (stripe_name name) few can.free can.low can.some can.limited
-          striped_whole
+      offers = offers_one striped (stripe_name name) can.free can.some can.limited striped_whole
           (striped_place (stripe_name name));
       names = pairs-from_recursion (λ (x y : NewSlice). same_name x.name y.name ≡ false)
           (record { name = stripe_name name; size = joined_size striped } ∷ []) (tt, tt);

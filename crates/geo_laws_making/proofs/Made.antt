@@ -5,6 +5,7 @@ use Rattle.std.specs.Option.{option_map_or}
 use Rattle.std.proofs.Common.{inl, inr, refl, sym, ◌∙◌, ap, subst, arith, get_or}
 use Rattle.std.proofs.lemmas.Bool.{eq-eqb, ne_eqb, eqb-true}
 use Rattle.std.proofs.lemmas.List.Elements.{All-contains, All-push, All-weaker, Contains-push_cases, Contains-get_or, recursion_from_All}
+use Rattle.std.proofs.lemmas.List.{nil_from_length}
 use Rattle.std.proofs.lemmas.List.Quantifiers.{all_pairs_push}
 use Rattle.geo_base.specs.Sectors.{IsSectorSize}
 use Rattle.geo_base.specs.declared.kind.Kind.{Kind}
@@ -62,11 +63,6 @@ pub through : {X Y : Type 0} (f : X → Option Y) (o : Option X) (y : Y) → opt
     → Through f o y
 through f None y e = absurd (let no : ⊥ = cc in no)
 through f (Some x) y e = record { first = x; is = refl; then = e }
-
--- a list as long as none is empty
-none_long : {X : Type 0} (xs : List X) → length xs ≡ 0 → xs ≡ []
-none_long [] e = refl
-none_long (x ∷ xs) e = absurd (omega (arith, e))
 
 module _ (w : World) (kind : Kind) (name : List ℕ) (config : Config) (automatic : Bool) (ps : List Provider)
     (sector : ℕ)
@@ -432,7 +428,7 @@ module _ (w : World) (kind : Kind) (name : List ℕ) (config : Config) (automati
         some-with (consumer_at u c) (λ x. (x.geom ≡ n) × IsSome x.provider) (attached_one n c q.item)
         (new_in_end c q.item q.is).0 (refl, refl)) (components config) can.filled;
     partial = λ free.
-        none_long (providers_of u n) (own_number ∙ ap length (can.partial free));
+        nil_from_length (providers_of u n) (own_number ∙ ap length (can.partial free));
     places = fits_places;
     one = λ concat. let few : length slices ≤ 1 = (can.one concat).0 in let all = own_number in omega arith;
     apart = record { apart = can.apart; few = can.few };
