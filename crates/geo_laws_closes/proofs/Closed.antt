@@ -73,7 +73,8 @@ module _ (w : World) (firm : Firm w) where
   one_holder h x n h_here x_here h_names x_names =
       let c = has_dev h n h_here h_names in
       let of : Contains (consumers_of t 1) c.consumer =
-      Contains-filter (λ (y : Consumer). y.geom == 1) t.consumers c.consumer c.here (eq-eqb c.consumer.geom 1 c.dev) in
+      Contains-filter (λ (y : Consumer). y.geom == 1) t.consumers c.consumer c.here (eq-eqb c.consumer.geom 1 c.dev)
+      in
       let one = (All-contains (IsHandleConsumer w) (consumers_of t 1) c.consumer firm.sound.handles.consumers
       of).one_handle in
       let short : length (filter (λ (y : Handle). names_number y.consumer n) w.handles) ≤ 1 =
@@ -82,8 +83,10 @@ module _ (w : World) (firm : Firm w) where
       let same = length-filter (λ (y : Handle). names_number y.consumer n) w.handles in
       omega (arith, same, count)) in
       one_item x h (filter (λ (y : Handle). names_number y.consumer n) w.handles) short
-      (Contains-filter (λ (y : Handle). names_number y.consumer n) w.handles x x_here (rw x_names (eq-eqb n n refl)))
-      (Contains-filter (λ (y : Handle). names_number y.consumer n) w.handles h h_here (rw h_names (eq-eqb n n refl)))
+      (Contains-filter (λ (y : Handle). names_number y.consumer n) w.handles x x_here
+      (rw x_names (eq-eqb n n refl)))
+      (Contains-filter (λ (y : Handle). names_number y.consumer n) w.handles h h_here
+      (rw h_names (eq-eqb n n refl)))
 
   module _ (h : Handle) (here : Contains w.handles h) where
     -- whether a handle is the one
@@ -131,7 +134,8 @@ module _ (w : World) (firm : Firm w) where
             (λ x. x.consumer ≡ Some source) fact in
             let there : find (λ (x : Handle). x.number == handle) w.handles ≡ Some h =
             subst (λ n. find (λ (x : Handle). x.number == n) w.handles ≡ Some h) same found_it in
-            let one : x.item ≡ h = one-found (find (λ (x : Handle). x.number == handle) w.handles) x.item h x.is there in
+            let one : x.item ≡ h = one-found (find (λ (x : Handle). x.number == handle) w.handles)
+            x.item h x.is there in
             unnamed (subst (λ (y : Handle). y.consumer ≡ Some source) one x.fact)
 
     -- A handle without a consumer
@@ -144,7 +148,8 @@ module _ (w : World) (firm : Firm w) where
           (spared (λ (x : Handle). names_number x.consumer d) (rw none refl));
       count = λ d. count_spared (λ (x : Handle). names_number x.consumer d) (rw none refl);
       each = All-filter (λ x. not (is_it x)) (HasItsConsumer w) w.handles firm.sound.handles.handles;
-      of_line = λ handle source fact. line_spared handle source (λ some. let no : None ≡ Some source = sym none ∙ some in
+      of_line = λ handle source fact. line_spared handle source
+          (λ some. let no : None ≡ Some source = sym none ∙ some in
           cc) fact;
     }
 
@@ -206,7 +211,11 @@ module _ (w : World) (firm : Firm w) where
         → is_active w d.number ≡ b → (line : ℕ) → Firm (close_handle w line (Some h)).0
     close_idle d d_here dev names true active line = rw (names, active) firm
     close_idle d d_here dev names false idle line =
-        rw (names, idle) (announces_keep.closed w (record w { topology = remove_consumer t d.number; handles = others })
+        rw (names, idle) (announces_keep.closed w (record w {
+          topology = remove_consumer t d.number;
+          handles =
+              others;
+        })
         (without-firm w firm d d_here dev others (others_released d names) idle))
 
     -- by its consumer
@@ -223,7 +232,8 @@ module _ (w : World) (firm : Firm w) where
       → Firm (close_handle w line o).0
   close_at actor name None e line = firm
   close_at actor name (Some h) e line =
-      close_by h (find-Contains (λ (x : Handle). (x.actor == actor) && same_name x.name name) w.handles h e) h.consumer
+      close_by h (find-Contains (λ (x : Handle). (x.actor == actor) && same_name x.name name) w.handles h e)
+      h.consumer
       refl line
 
 -- a close keeps a firm mesh firm

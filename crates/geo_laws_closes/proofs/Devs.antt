@@ -1,4 +1,4 @@
--- DEV and TASTE in a firm mesh: they offer nothing, they have no configuration, and their consumers hold their grants.
+-- DEV and TASTE in a firm mesh: DEV offers nothing and has no configuration, and consumers of both hold their grants.
 use Rattle.std.specs.Prelude.{◌≡◌, ◌≢◌, ◌⊎◌, ℕ, ◌==◌, true, [], Some, Contains, IsSome}
 use Rattle.std.proofs.Common.{inl, inr, refl, sym, ◌∙◌, ap, subst}
 use Rattle.std.proofs.lemmas.Bool.{eq-eqb, eqb-true}
@@ -120,6 +120,7 @@ module _ (w : World) (firm : Firm w) where
       let kept = filter-Contains (λ (x : Consumer). x.geom == 2) t.consumers tasting.consumer here in
       let there : consumer_at t s.consumer ≡ Some tasting.consumer =
       subst (λ n. consumer_at t n ≡ Some tasting.consumer) tasting.number
-      (found_itself (λ (x : Consumer). x.number) t.next_consumer t.consumers tasting.consumer order.consumers kept.0) in
+      (found_itself (λ (x : Consumer). x.number)
+      t.next_consumer t.consumers tasting.consumer order.consumers kept.0) in
       let same : tasting.consumer ≡ c = cc in
       sym (ap (λ (x : Consumer). x.geom) same) ∙ eqb-true tasting.consumer.geom 2 kept.1

@@ -19,8 +19,8 @@ use Rattle.geo_model.specs.Steady.{ComesFromItsOwner}
 use Rattle.geo_model.specs.Fitting.{Firm}
 use Rattle.geo_laws_effects.proofs.Killed.{grants-same}
 
--- the handles of a world in which none holds another consumer than before: each consumer has the handles that it had,
--- each handle has its consumer, and a line's handle has the consumer that it had
+-- the handles of a world in which none holds another consumer than before: each consumer has the handles that it
+-- had, each handle has its consumer, and a line's handle has the consumer that it had
 pub record AreSteady (w : World) (hs : List Handle) : Type 0 where
   pub numbers : AreNumbers (map (λ h. h.number) hs) w.next_handle
   pub found : (d : ℕ) → find (λ h. names_number h.consumer d) hs ≡ find (λ h. names_number h.consumer d) w.handles
@@ -40,7 +40,8 @@ module _ (w : World) (firm : Firm w) (hs : List Handle) (steady : AreSteady w hs
   grants : granted_in v ≡ granted_in w
   grants =
       grants-same (granted_in v) (granted_in w) (λ d.
-      ap (λ (o : Option Handle). option_map_or (λ (h : Handle). h.grant) o (taste_grant w.taste d)) (steady.found d))
+      ap (λ (o : Option Handle). option_map_or (λ (h : Handle). h.grant) o (taste_grant w.taste d))
+      (steady.found d))
 
   -- each consumer of DEV is that of one handle
   consumer_of_handle : (d : Consumer) → IsHandleConsumer w d → IsHandleConsumer v d
@@ -52,7 +53,8 @@ module _ (w : World) (firm : Firm w) (hs : List Handle) (steady : AreSteady w hs
   -- a bio is in order
   bio : (x : Bio) → IsBioInOrder w x → IsBioInOrder v x
   bio x is = record {
-    source = subst (λ (G : ℕ → Counts). IsSomeAnd (consumer_at w.topology x.source) (λ d. (d.provider ≡ Some x.target)
+    source = subst (λ (G : ℕ → Counts). IsSomeAnd (consumer_at w.topology x.source)
+        (λ d. (d.provider ≡ Some x.target)
         × ((IsTrue (is_read x.cmd) → 0 < (want G w.topology d).r)
         × (is_read x.cmd ≡ false → 0 < (want G w.topology d).w)))) (sym grants) is.source;
     target = is.target;
@@ -93,7 +95,8 @@ module _ (w : World) (firm : Firm w) (hs : List Handle) (steady : AreSteady w hs
       counts = record {
         exclusive = subst (λ (G : ℕ → Counts). IsTrue (is_exclusive G w.topology)) (sym grants)
             firm.sound.counts.exclusive;
-        limited = subst (λ (G : ℕ → Counts). IsTrue (fits_limit G w.topology)) (sym grants) firm.sound.counts.limited;
+        limited = subst (λ (G : ℕ → Counts). IsTrue (fits_limit G w.topology))
+            (sym grants) firm.sound.counts.limited;
       };
       providers = firm.sound.providers;
       numbers = record {
@@ -114,7 +117,8 @@ module _ (w : World) (firm : Firm w) (hs : List Handle) (steady : AreSteady w hs
       };
       places = subst (λ (G : ℕ → Counts). All (λ (p : Provider). IsSomeAnd (geom_at w.topology p.geom) (λ g.
           (is_zero (have G w.topology p.number) ≡ false) ⊎ (g.withering ≡ false)
-          → IsSome (disk_of g.config) ⊎ IsPlaced w.topology g p)) w.topology.providers) (sym grants) firm.sound.places;
+          → IsSome (disk_of g.config) ⊎ IsPlaced w.topology g p)) w.topology.providers)
+          (sym grants) firm.sound.places;
       bios = All-weaker (IsBioInOrder w) (IsBioInOrder v) bio w.bios firm.sound.bios;
       families = All-weaker (IsFamilyInOrder w) (IsFamilyInOrder v) family w.bios firm.sound.families;
       disks = record { at_disk = firm.sound.disks.at_disk; one_busy = firm.sound.disks.one_busy };

@@ -31,7 +31,8 @@ use Rattle.geo_laws_closes.specs.CloseLaws.{ReapsStayFirm}
 use Rattle.geo_laws_closes.proofs.Released.{AreReleased, without-firm}
 use Rattle.geo_laws_closes.proofs.Closed.{one_holder, has_dev}
 
-module _ (w : World) (firm : Firm w) (h : Handle) (here : Contains w.handles h) (dead : h.dead ≡ true) (d : Consumer)
+module _ (w : World) (firm : Firm w) (h : Handle) (here : Contains w.handles h) (dead : h.dead ≡ true)
+    (d : Consumer)
     (names : h.consumer ≡ Some d.number) where
   -- the graph
   abbrev t : Topology Config
@@ -50,7 +51,8 @@ module _ (w : World) (firm : Firm w) (h : Handle) (here : Contains w.handles h) 
   after = change_where hit change w.handles
 
   -- a handle of another consumer isn't touched
-  not_touched : (n : ℕ) → n ≢ d.number → (x : Handle) → IsUntouched hit (λ (y : Handle). names_number y.consumer n) change x
+  not_touched : (n : ℕ) → n ≢ d.number → (x : Handle)
+      → IsUntouched hit (λ (y : Handle). names_number y.consumer n) change x
   not_touched n apart x e =
       let is : x.consumer ≡ Some d.number = names_some x.consumer d.number e in
       (rw is (ne_eqb d.number n (λ same. apart (sym same))), refl)
@@ -91,7 +93,8 @@ module _ (w : World) (firm : Firm w) (h : Handle) (here : Contains w.handles h) 
       → IsSomeAnd (find (λ x. x.number == handle) w.handles) (λ x. x.consumer ≡ Some source)
       → IsSomeAnd (find (λ x. x.number == handle) after) (λ x. x.consumer ≡ Some source)
   line_kept handle source apart fact =
-      let x = found-with (find (λ (x : Handle). x.number == handle) w.handles) (λ x. x.consumer ≡ Some source) fact in
+      let x = found-with (find (λ (x : Handle). x.number == handle) w.handles)
+      (λ x. x.consumer ≡ Some source) fact in
       let missed : hit x.item ≡ false =
       subst (λ o. names_number o d.number ≡ false) (sym x.fact) (ne_eqb source d.number apart) in
       let same : changed hit change x.item ≡ x.item = rw missed refl in

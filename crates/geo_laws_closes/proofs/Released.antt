@@ -40,8 +40,8 @@ use Rattle.geo_laws_less.proofs.Found.{found-with, some-with, if-found, at-found
 use Rattle.geo_laws_less.proofs.LessBios.{no_count}
 use Rattle.geo_laws_closes.proofs.Devs.{holds_grants, dev_config, not_of_dev, of_taste}
 
--- the handles of a world where the consumer of a number has gone: all other consumers have the handles that they had,
--- each handle has its consumer, and a line's handle has the consumer that it had
+-- the handles of a world where the consumer of a number has gone: all other consumers have the handles that they
+-- had, each handle has its consumer, and a line's handle has the consumer that it had
 pub record AreReleased (w : World) (n : ℕ) (hs : List Handle) : Type 0 where
   pub numbers : AreNumbers (map (λ h. h.number) hs) w.next_handle
   pub found : (d : ℕ) → d ≢ n → find (λ h. names_number h.consumer d) hs
@@ -59,7 +59,8 @@ passes_apart n p e same = let is : (n == p) ≡ true = eq-eqb n p same in let no
     sym (ap not is) ∙ e in cc
 
 -- a test that all items pass keeps them all
-keeps_all : {X : Type 0} (test : X → Bool) (xs : List X) → AllByRecursion (λ x. test x ≡ true) xs → filter test xs ≡ xs
+keeps_all : {X : Type 0} (test : X → Bool) (xs : List X) → AllByRecursion (λ x. test x ≡ true) xs
+    → filter test xs ≡ xs
 keeps_all test [] facts = refl
 keeps_all test (x ∷ xs) facts = rw (facts.0, keeps_all test xs facts.1) refl
 
@@ -181,7 +182,8 @@ module _ (w : World) (firm : Firm w) (d : Consumer) (here : Contains w.topology.
     -- by the component
     by : (o : Option ℕ) → component g.config spot.component ≡ o
         → IsSomeAnd (option_and_then (consumer_at t) o) (λ c. (c.geom ≡ g.number)
-        × IsSomeAnd (option_and_then (provider_at t) c.provider) (λ r. (spot.offset < r.size) × (r.sector ≡ q.sector)))
+        × IsSomeAnd (option_and_then (provider_at t) c.provider)
+        (λ r. (spot.offset < r.size) × (r.sector ≡ q.sector)))
         → IsPlaceInside u g q spot
     by None e fact = absurd fact
     by (Some n) e fact =
@@ -189,7 +191,8 @@ module _ (w : World) (firm : Firm w) (d : Consumer) (here : Contains w.topology.
         × IsSomeAnd (option_and_then (provider_at t) c.provider)
         (λ r. (spot.offset < r.size) × (r.sector ≡ q.sector))) fact in
         some-with (option_and_then (consumer_at u) (component g.config spot.component)) (λ c. (c.geom ≡ g.number)
-        × IsSomeAnd (option_and_then (provider_at t) c.provider) (λ r. (spot.offset < r.size) × (r.sector ≡ q.sector)))
+        × IsSomeAnd (option_and_then (provider_at t) c.provider)
+        (λ r. (spot.offset < r.size) × (r.sector ≡ q.sector)))
         c.item (ap (option_and_then (consumer_at u)) e
         ∙ still n c.item c.is (λ one. other (sym c.fact.0 ∙ one))) c.fact
 
@@ -248,7 +251,8 @@ module _ (w : World) (firm : Firm w) (d : Consumer) (here : Contains w.topology.
 
     -- DEV has none
     by : (g.number ≡ 1) ⊎ (g.number ≢ 1)
-        → All (λ c. IsSomeAnd (consumer_at u c) (λ x. (x.geom ≡ g.number) × IsSome x.provider)) (components g.config)
+        → All (λ c. IsSomeAnd (consumer_at u c) (λ x. (x.geom ≡ g.number) × IsSome x.provider))
+        (components g.config)
     by (inl one) =
         subst (λ config. All (λ c. IsSomeAnd (consumer_at u c) (λ x. (x.geom ≡ g.number) × IsSome x.provider))
         (components config)) (sym (dev_config w firm g g_here one)) (λ k x short. absurd (omega (arith, short)))
@@ -366,7 +370,8 @@ module _ (w : World) (firm : Firm w) (d : Consumer) (here : Contains w.topology.
         All-contains (HasItsConsumer w) w.handles h.item firm.sound.handles.handles
         (find-Contains (λ (h : Handle). h.number == handle) w.handles h.item h.is) in
         let at : IsSomeAnd (consumer_at t z.source) (λ x. x.geom ≡ 1) =
-        subst (λ o. MatchOption o (h.item.dead ≡ true) (λ n. IsSomeAnd (consumer_at t n) (λ x. x.geom ≡ 1))) h.fact its in
+        subst (λ o. MatchOption o (h.item.dead ≡ true) (λ n. IsSomeAnd (consumer_at t n) (λ x. x.geom ≡ 1)))
+        h.fact its in
         inl (subst (λ o. IsSomeAnd o (λ (x : Consumer). x.geom ≡ 1)) e at)
     source_of z c e owners.Taste root comes =
         let s = found-with w.taste (λ s. (s.consumer ≡ z.source) × (s.provider ≡ z.target)) comes in
@@ -409,7 +414,8 @@ module _ (w : World) (firm : Firm w) (d : Consumer) (here : Contains w.topology.
         let c = found-with (consumer_at t z.source) (λ c. (c.provider ≡ Some z.target) × Serves but_it t z c)
         (serves z z_here) in
         let apart : z.source ≢ d.number = server_apart z c.item c.is c.fact.1 in
-        let found : consumer_at u z.source ≡ Some c.item = removed-consumer.others t d.number z.source apart ∙ c.is in
+        let found : consumer_at u z.source ≡ Some c.item = removed-consumer.others t d.number z.source apart
+        ∙ c.is in
         let same : want (granted_in without) u c.item ≡ want but_it t c.item =
         quiet.wants c.item (find-Contains (λ (x : Consumer). x.number == z.source) u.consumers c.item found) in
         record {
@@ -493,7 +499,8 @@ module _ (w : World) (firm : Firm w) (d : Consumer) (here : Contains w.topology.
           consumers = remove_consumer-geoms t d.number firm.steady.parts.consumers;
         };
         attached = All-filter (λ (x : Consumer). not (x.number == d.number))
-            (λ (c : Consumer). IsSome (option_and_then (provider_at t) c.provider)) t.consumers firm.steady.attached;
+            (λ (c : Consumer). IsSome (option_and_then (provider_at t) c.provider))
+            t.consumers firm.steady.attached;
         components = all_members (HasItsComponents w) (HasItsComponents without) t.geoms has_components
             firm.steady.components;
         partial = firm.steady.partial;

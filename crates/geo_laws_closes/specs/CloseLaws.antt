@@ -7,8 +7,8 @@ use Rattle.geo_model.specs.Freeing.{reap_work, reap}
 use Rattle.geo_model.specs.Laws.{world_by}
 use Rattle.geo_model.specs.Fitting.{Firm}
 
--- a close of a handle leaves a firm mesh firm, and so does that of the handle which an actor has under a name, if any:
--- whether it is refused or not
+-- a close of a handle leaves a firm mesh firm, and so does that of the handle which an actor has under a name, if
+-- any, whether it is refused or not
 pub record ClosesStayFirm : Type 0 where
   pub handle : (w : World) (line : ℕ) (h : Handle) → Contains w.handles h → Firm w
       → Firm (close_handle w line (Some h)).0

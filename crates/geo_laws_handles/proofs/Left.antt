@@ -1,27 +1,16 @@
--- Commands that only answer: an actor has fewer left, or one consumer number is used up. A firm world stays firm.
-use Rattle.std.specs.Prelude.{◌≡◌, ◌≢◌, ℕ, ◌+◌, ◌<◌, ◌≤◌, List, [], ◌∷◌, map, Some, All, slice_get}
-use Rattle.std.proofs.Common.{refl, subst, arith}
-use Rattle.std.proofs.lemmas.List.Elements.{All-set, All-tail, All-weaker, All-contains}
+-- An actor has fewer commands left: a firm world stays firm.
+use Rattle.std.specs.Prelude.{◌≡◌, ℕ, List, [], ◌∷◌, Some, All, slice_get}
+use Rattle.std.proofs.Common.{subst}
+use Rattle.std.proofs.lemmas.List.Elements.{All-set, All-tail, All-contains}
 use Rattle.std.proofs.lemmas.Option.{slice_get_within, get_or_from_slice_get}
 use Rattle.geo_model.specs.declared.command.LineCommand.{LineCommand}
-use Rattle.geo_model.specs.Topology.{Topology, Geom}
-use Rattle.geo_model.specs.Rank.{rank, rank_limit}
 use Rattle.geo_model.specs.Plans.{IsCommand}
-use Rattle.geo_model.specs.World.{World, Config, granted_in}
-use Rattle.geo_model.specs.Sound.{RanksHold, StandsBare}
-use Rattle.geo_model.specs.HandleCommands.{without_number}
+use Rattle.geo_model.specs.World.{World}
 use Rattle.geo_model.specs.Step.{with_commands}
 use Rattle.geo_model.specs.Fitting.{Firm}
 use Rattle.geo_laws_graph.proofs.Members.{Contains-here}
-use Rattle.geo_laws_ranks.specs.RankLaws.{AllRanksStay}
-use Rattle.geo_laws_ranks.proofs.EdgeRanks.{stays_all}
-use Rattle.geo_laws_rank_changes.proofs.KeptEdges.{parts-edges}
-use Rattle.geo_laws_counts.proofs.SeenCounts.{seen_stays}
-use Rattle.geo_laws_less.specs.LessLaws.{IsLess}
-use Rattle.geo_laws_less.proofs.Less.{less-self, same_tasting}
-use Rattle.geo_laws_less.proofs.LessFitting.{less-firm}
 use Rattle.geo_laws_bios.proofs.Apart.{commands_are_apart}
-use Rattle.geo_laws_handles.specs.LeftLaws.{RepliesStayFirm}
+use Rattle.geo_laws_handles.specs.LeftLaws.{CommandsLeftStayFirm}
 
 -- the commands that an actor has left are commands
 left_are : (w : World) (actor : ℕ) (cs : List LineCommand) → slice_get w.actors actor ≡ Some cs → Firm w
@@ -43,71 +32,9 @@ taken : (w : World) (actor : ℕ) (c : LineCommand) (rest : List LineCommand)
 taken w actor c rest found firm =
     commands_are_apart w (with_commands w actor rest).actors
     (All-set (All (λ (x : LineCommand). IsCommand x.command)) w.actors actor rest
-    (All-tail (λ (x : LineCommand). IsCommand x.command) c rest (left_are w actor (c ∷ rest) found firm)) firm.fitting.commands) firm
+    (All-tail (λ (x : LineCommand). IsCommand x.command) c rest (left_are w actor (c ∷ rest) found firm))
+    firm.fitting.commands) firm
 
-module _ (w : World) (firm : Firm w) where
-  -- the graph before
-  abbrev t : Topology Config
-  t = w.topology
-
-  -- and the graph with one consumer number used up
-  abbrev u : Topology Config
-  u = record t { next_consumer = t.next_consumer + 1 }
-
-  -- ranks stay
-  ranks_stay : AllRanksStay t u
-  ranks_stay = stays_all t u refl (parts-edges t u refl refl) (parts-edges u t refl refl) (λ live. live)
-
-  -- a geom that stands bare still does
-  bare : (g : ℕ) → StandsBare t g → StandsBare u g
-  bare g is = record { stands = is.stands; no_provider = is.no_provider }
-
-  -- so ranks hold
-  ranks_hold : RanksHold u
-  ranks_hold = record {
-    ranked = ranks_stay.ranked firm.sound.ranks.ranked;
-    not_deep = All-weaker (λ (x : Geom Config). x.number ≢ 1 → x.number ≢ 2 → rank t x.number ≤ rank_limit)
-        (λ (x : Geom Config). x.number ≢ 1 → x.number ≢ 2 → rank u x.number ≤ rank_limit)
-        (λ x so apart other. let low = so apart other in let same = ranks_stay.same x.number in omega arith)
-        t.geoms firm.sound.ranks.not_deep;
-    dev = bare 1 firm.sound.ranks.dev;
-    taste = bare 2 firm.sound.ranks.taste;
-  }
-
-  -- the graph has come to less by nothing
-  less : IsLess w t
-  less = less-self w firm
-
-  -- so has the graph with the number used up
-  less_by_number : IsLess w u
-  less_by_number = record {
-    order = record {
-      geoms = less.order.geoms;
-      providers = less.order.providers;
-      consumers = (
-        less.order.consumers.0,
-        All-weaker (λ (n : ℕ). n < t.next_consumer) (λ (n : ℕ). n < t.next_consumer + 1) (λ n low. omega arith)
-            (map (λ x. x.number) t.consumers) less.order.consumers.1,
-      );
-    };
-    ranks = ranks_hold;
-    lower = λ g. let same = ranks_stay.same g in omega arith;
-    demand = seen_stays (granted_in w) t u refl;
-    live = record { offerers = less.live.offerers; geoms = less.live.geoms; providers = less.live.providers };
-    geoms = less.geoms;
-    providers = less.providers;
-    consumers = less.consumers;
-    fewer = less.fewer;
-    stay = less.stay;
-    tasting = same_tasting t u refl w.taste firm.sound.handles.taste;
-  }
-
-  -- so the world is firm
-  number_firm : Firm (without_number w)
-  number_firm =
-      less-firm w u firm less_by_number w.events firm.sound.providers.withering firm.steady.unmarked
-      firm.sound.events.living
-
--- replies keep a firm world firm
-pub replies_stay_firm : RepliesStayFirm
-replies_stay_firm = record { taken = taken; command = next_is; number = number_firm }
+-- commands that are taken keep a firm world firm
+pub commands_left_stay_firm : CommandsLeftStayFirm
+commands_left_stay_firm = record { taken = taken; command = next_is }
