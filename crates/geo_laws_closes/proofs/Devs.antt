@@ -1,4 +1,4 @@
--- DEV and TASTE in a firm mesh: DEV offers nothing and has no configuration, and consumers of both hold their grants.
+-- DEV and TASTE in a firm mesh: DEV offers nothing and has no configuration; consumers of both hold their grants.
 use Rattle.std.specs.Prelude.{◌≡◌, ◌≢◌, ◌⊎◌, ℕ, ◌==◌, true, [], Some, Contains, IsSome}
 use Rattle.std.proofs.Common.{inl, inr, refl, sym, ◌∙◌, ap, subst}
 use Rattle.std.proofs.lemmas.Bool.{eq-eqb, eqb-true}
