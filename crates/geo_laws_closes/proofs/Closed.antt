@@ -191,7 +191,7 @@ module _ (w : World) (firm : Firm w) where
               (sym (removed-consumer.others t d.number n apart)) fact
 
       -- so the others are released
-      others_released : AreReleased w d.number others
+      pub others_released : AreReleased w d.number others
       others_released = record {
         numbers = others_numbers;
         found = λ n apart. find-spared is_it (λ (x : Handle). names_number x.consumer n) w.handles

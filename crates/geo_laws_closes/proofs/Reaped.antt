@@ -47,7 +47,7 @@ module _ (w : World) (firm : Firm w) (h : Handle) (here : Contains w.handles h) 
   change x = record x { consumer = None }
 
   -- the handles then
-  abbrev after : List Handle
+  abbrev pub after : List Handle
   after = change_where hit change w.handles
 
   -- a handle of another consumer isn't touched
@@ -105,7 +105,7 @@ module _ (w : World) (firm : Firm w) (h : Handle) (here : Contains w.handles h) 
       (ap (λ (y : Handle). y.consumer) same ∙ x.fact)
 
   -- so the handles are released
-  after_released : AreReleased w d.number after
+  pub after_released : AreReleased w d.number after
   after_released = record {
     numbers = numbers-changed (λ (x : Handle). x.number) hit change (λ x e. refl) w.next_handle w.handles
         firm.sound.numbers.handles;
@@ -130,7 +130,8 @@ module _ (w : World) (firm : Firm w) (h : Handle) (here : Contains w.handles h) 
       (without-firm w firm d d_here dev after after_released idle)
 
 -- what isn't active by its test is idle
-idle_by : (w : World) (o : Option ℕ) (n : ℕ) → o ≡ Some n → option_map_or (λ c. not (is_active w c)) o false ≡ true
+pub idle_by : (w : World) (o : Option ℕ) (n : ℕ) → o ≡ Some n
+    → option_map_or (λ c. not (is_active w c)) o false ≡ true
     → is_active w n ≡ false
 idle_by w o n is passes = off (is_active w n) (rw is at passes) where
   -- a test

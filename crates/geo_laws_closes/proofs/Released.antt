@@ -408,6 +408,13 @@ module _ (w : World) (firm : Firm w) (d : Consumer) (here : Contains w.topology.
         no_count (is_read z.cmd) (want but_it t c).r (want but_it t c).w (ap (λ a. a.r) none) (ap (λ a. a.w) none)
         counts
 
+    -- so no bio is from the one that goes
+    pub no_source : (z : Bio) → Contains w.bios z → z.source ≢ d.number
+    no_source z z_here =
+        let c = found-with (consumer_at t z.source) (λ c. (c.provider ≡ Some z.target) × Serves but_it t z c)
+        (serves z z_here) in
+        server_apart z c.item c.is c.fact.1
+
     -- each bio is in order
     bio : (z : Bio) → Contains w.bios z → IsBioInOrder w z → IsBioInOrder without z
     bio z z_here old =
