@@ -16,7 +16,7 @@ use Rattle.geo_laws_graph.proofs.Lists.{found_itself}
 use Rattle.geo_laws_graph.proofs.Numbered.{number_found}
 use Rattle.geo_laws_graph.proofs.Living.{sound-order}
 use Rattle.geo_laws_less.proofs.Found.{some-with}
-use Rattle.geo_laws_effects.proofs.MarksKept.{stands-at, class-at, not_set}
+use Rattle.geo_laws_effects.proofs.MarksKept.{stands-at, class-at, not_set, taste_kind}
 
 -- the class with DEV's number is DEV
 dev_kind : (kind : Kind) → is_kind kind kinds.Dev ≡ true → kind ≡ kinds.Dev
@@ -29,18 +29,6 @@ dev_kind kinds.Label e = not_set e
 dev_kind kinds.Concat e = not_set e
 dev_kind kinds.Stripe e = not_set e
 dev_kind kinds.Nop e = not_set e
-
--- the class with TASTE's number is TASTE
-taste_kind : (kind : Kind) → is_kind kind kinds.Taste ≡ true → kind ≡ kinds.Taste
-taste_kind kinds.Taste e = refl
-taste_kind kinds.Disk e = not_set e
-taste_kind kinds.Dev e = not_set e
-taste_kind kinds.Mbr e = not_set e
-taste_kind kinds.Ebr e = not_set e
-taste_kind kinds.Label e = not_set e
-taste_kind kinds.Concat e = not_set e
-taste_kind kinds.Stripe e = not_set e
-taste_kind kinds.Nop e = not_set e
 
 -- a geom of DEV has no configuration
 dev_nothing : (config : Config) → fits_kind kinds.Dev config ≡ true → config ≡ Nothing

@@ -1,6 +1,6 @@
 -- A consumer of DEV that is idle goes, and its handle has none or goes too: a firm world stays firm.
-use Rattle.std.specs.Prelude.{◌≡◌, ◌≢◌, ◌⊎◌, ℕ, ◌<◌, ◌≤◌, ◌==◌, ◌%◌, Bool, true, false, not, ◌&&◌, List, [], ◌∷◌, map, filter, find, count_by, Option, Some, None, All, Contains, IsSome, IsSomeAnd, IfSome, IsTrue, MatchOption, option_and_then, if◌then◌else◌}
-use Rattle.std.specs.List.{list_any, AllByRecursion}
+use Rattle.std.specs.Prelude.{◌≡◌, ◌≢◌, ◌⊎◌, ℕ, ◌<◌, ◌≤◌, ◌==◌, ◌%◌, Bool, true, false, not, ◌&&◌, List, [], ◌∷◌, map, find, count_by, Option, Some, None, All, Contains, IsSome, IsSomeAnd, IfSome, IsTrue, MatchOption, option_and_then, if◌then◌else◌}
+use Rattle.std.specs.List.{list_any}
 use Rattle.std.specs.Option.{option_map_or}
 use Rattle.std.proofs.Common.{inl, inr, refl, sym, ◌∙◌, ap, subst, arith}
 use Rattle.std.proofs.lemmas.Bool.{eq-eqb, eqb-true, ne_eqb, cases_eq, not_from_false, not-true, or_cases, or_left, or_right}
@@ -36,7 +36,7 @@ use Rattle.geo_laws_counts.proofs.LimitFacts.{all_of}
 use Rattle.geo_laws_demands.proofs.Openers.{wants_grant, went_quietly, went_less, went_exclusive, went_limit}
 use Rattle.geo_laws_bio_pieces.specs.PieceLaws.{Serves, SourceServes}
 use Rattle.geo_laws_bio_ups.proofs.Serving.{all_serve}
-use Rattle.geo_laws_less.proofs.Found.{found-with, some-with, if-found, at-found, one-found, all_zip-weaker}
+use Rattle.geo_laws_less.proofs.Found.{found-with, some-with, if-found, at-found, one-found, all_zip-weaker, keeps_all, passes_apart}
 use Rattle.geo_laws_less.proofs.LessBios.{no_count}
 use Rattle.geo_laws_closes.proofs.Devs.{holds_grants, dev_config, not_of_dev, of_taste}
 
@@ -52,17 +52,6 @@ pub record AreReleased (w : World) (n : ℕ) (hs : List Handle) : Type 0 where
   pub of_line : (handle source : ℕ) → source ≢ n
       → IsSomeAnd (find (λ h. h.number == handle) w.handles) (λ h. h.consumer ≡ Some source)
       → IsSomeAnd (find (λ h. h.number == handle) hs) (λ h. h.consumer ≡ Some source)
-
--- a number that passes isn't the one that goes
-passes_apart : (n p : ℕ) → not (n == p) ≡ true → n ≢ p
-passes_apart n p e same = let is : (n == p) ≡ true = eq-eqb n p same in let no : false ≡ true =
-    sym (ap not is) ∙ e in cc
-
--- a test that all items pass keeps them all
-keeps_all : {X : Type 0} (test : X → Bool) (xs : List X) → AllByRecursion (λ x. test x ≡ true) xs
-    → filter test xs ≡ xs
-keeps_all test [] facts = refl
-keeps_all test (x ∷ xs) facts = rw (facts.0, keeps_all test xs facts.1) refl
 
 module _ (w : World) (firm : Firm w) (d : Consumer) (here : Contains w.topology.consumers d) (dev : d.geom ≡ 1)
     (hs : List Handle) (released : AreReleased w d.number hs) where

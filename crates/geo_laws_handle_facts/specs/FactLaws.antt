@@ -1,5 +1,5 @@
--- What a command of a handle and a reap destroy was closed and idle, what they offer for taste lives, and what an open
--- answers (g_access(9), g_detach(9)).
+-- What a command of a handle and a reap destroy was closed and idle, what they offer for taste lives, and what an
+-- open answers (g_access(9), g_detach(9)).
 use Rattle.std.specs.Prelude.{◌≡◌, ◌≢◌, ℕ, true, List, Some, None, Ok, All, Contains, IfSome}
 use Rattle.geo_base.specs.declared.request.Counts.{Counts}
 use Rattle.geo_model.specs.declared.step.Entry.{Entry}

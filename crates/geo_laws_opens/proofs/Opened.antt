@@ -1,6 +1,6 @@
 -- A provider is opened: its new handle has a consumer of DEV there, and a firm world stays firm.
-use Rattle.std.specs.Prelude.{◌≡◌, ◌≢◌, ◌⊎◌, ℕ, ◌<◌, ◌≤◌, ◌==◌, ◌%◌, Bool, true, false, not, ◌&&◌, List, [], ◌∷◌, ◌++◌, length, filter, find, count_by, Option, Some, None, All, Contains, IsSome, IsSomeAnd, IfSome, IsTrue, MatchOption, option_and_then}
-use Rattle.std.specs.List.{AllByRecursion, AllZip, list_any}
+use Rattle.std.specs.Prelude.{◌≡◌, ◌≢◌, ◌⊎◌, ℕ, ◌<◌, ◌≤◌, ◌==◌, ◌%◌, Bool, true, false, not, ◌&&◌, List, [], ◌∷◌, ◌++◌, length, find, count_by, Option, Some, None, All, Contains, IsSome, IsSomeAnd, IfSome, IsTrue, MatchOption, option_and_then}
+use Rattle.std.specs.List.{AllZip, list_any}
 use Rattle.std.specs.Option.{option_map_or}
 use Rattle.std.proofs.Common.{inl, inr, refl, sym, ◌∙◌, ap, subst, arith}
 use Rattle.std.proofs.lemmas.Bool.{eq-eqb, eqb-true, ne_eqb, cases_eq}
@@ -39,16 +39,10 @@ use Rattle.geo_laws_demands.specs.DemandLaws.{StaysAround}
 use Rattle.geo_laws_demands.specs.AllowedLaws.{IsAllowed}
 use Rattle.geo_laws_demands.proofs.Openers.{came_stays, came_wants}
 use Rattle.geo_laws_demands.proofs.Refusing.{errors_came}
-use Rattle.geo_laws_bios.proofs.Items.{none_passes}
+use Rattle.geo_laws_bios.proofs.Items.{none_kept, none_passes}
 use Rattle.geo_laws_less.proofs.Found.{found-with, some-with, some-there, if-found, at-found, one-found, all_zip-weaker}
 use Rattle.geo_laws_less.proofs.LessSteady.{some-passes}
 use Rattle.geo_laws_closes.proofs.Devs.{holds_grants, dev_there, dev_config, not_of_dev}
-
--- where nothing passes, nothing is kept
-none_kept : {X : Type 0} (test : X → Bool) (xs : List X) → AllByRecursion (λ x. test x ≡ false) xs
-    → filter test xs ≡ []
-none_kept test [] none = refl
-none_kept test (x ∷ xs) none = rw (none.0, none_kept test xs none.1) refl
 
 -- who serves a bio, serves it with more counts
 more_serve : (b : Bool) (a c d : Counts) → d ≡ add_counts a c → (IsTrue b → 0 < a.r) × (b ≡ false → 0 < a.w)
