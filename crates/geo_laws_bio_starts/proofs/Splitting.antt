@@ -26,7 +26,7 @@ use Rattle.geo_laws_graph.proofs.Members.{find-Contains, filter-Contains, Contai
 use Rattle.geo_laws_graph.proofs.Numbered.{at-here, at-unchanged}
 use Rattle.geo_laws_bios.specs.BioFrames.{BiosHold}
 use Rattle.geo_laws_bios.specs.BioSteps.{turned}
-use Rattle.geo_laws_bios.proofs.Items.{some_weaker, pairs_map, all_changed, all-fewer, seen_map}
+use Rattle.geo_laws_bios.proofs.Items.{none_kept, some_weaker, pairs_map, all_changed, all-fewer, seen_map}
 use Rattle.geo_laws_bios.proofs.Phases.{not_waiting}
 use Rattle.geo_laws_bios.proofs.Turned.{AreItsPieces, range_turned}
 
@@ -53,12 +53,6 @@ pairs_quiet R Quiet so (y ∷ ys) xs pairs quiet =
     subst (AllPairs R) (append_assoc xs (y ∷ []) ys)
     (pairs_quiet R Quiet so ys (xs ++ y ∷ [])
     (all_pairs_push R xs y pairs (λ k d short. so (get_or xs k d) y quiet.0)) quiet.1)
-
--- where none passes, none is kept
-none_kept : {X : Type 0} (test : X → Bool) (xs : List X) → AllByRecursion (λ (x : X). test x ≡ false) xs
-    → filter test xs ≡ []
-none_kept test [] none = refl
-none_kept test (x ∷ xs) none = let out : test x ≡ false = none.0 in rw out (none_kept test xs none.1)
 
 -- where all pass, all are kept
 all_kept : {X : Type 0} (test : X → Bool) (xs : List X) → AllByRecursion (λ (x : X). test x ≡ true) xs

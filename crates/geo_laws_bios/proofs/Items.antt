@@ -1,5 +1,5 @@
 -- Lists of numbered items of which one is changed: what then holds of all, of pairs, and of tests over all.
-use Rattle.std.specs.Prelude.{◌≡◌, ℕ, ◌<◌, ◌==◌, Bool, true, false, List, [], ◌∷◌, length, map, find, Some, None, Option, All, AllPairs, IsSomeAnd, if◌then◌else◌}
+use Rattle.std.specs.Prelude.{◌≡◌, ℕ, ◌<◌, ◌==◌, Bool, true, false, List, [], ◌∷◌, length, map, filter, find, Some, None, Option, All, AllPairs, IsSomeAnd, if◌then◌else◌}
 use Rattle.std.specs.List.{AllByRecursion, list_all}
 use Rattle.std.proofs.Common.{refl, sym, ap, subst, arith, get_or}
 use Rattle.std.proofs.lemmas.List.{get_or-map, length-map}
@@ -57,6 +57,12 @@ pub none_passes : {X : Type 0} (test : X → Bool) (xs : List X) → find test x
     → AllByRecursion (λ (y : X). test y ≡ false) xs
 none_passes test [] none = tt
 none_passes test (x ∷ xs) none = none_step test x xs (test x) refl none (λ h. none_passes test xs h)
+
+-- where none passes, none is kept
+pub none_kept : {X : Type 0} (test : X → Bool) (xs : List X) → AllByRecursion (λ (x : X). test x ≡ false) xs
+    → filter test xs ≡ []
+none_kept test [] none = refl
+none_kept test (x ∷ xs) none = let out : test x ≡ false = none.0 in rw out (none_kept test xs none.1)
 
 module _ {X : Type 0} (hit test : X → Bool) (change : X → X)
     (out : (x : X) → hit x ≡ true → test (change x) ≡ false) where

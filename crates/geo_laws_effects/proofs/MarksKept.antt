@@ -5,6 +5,7 @@ use Rattle.std.specs.Option.{option_map_or}
 use Rattle.std.proofs.Common.{inl, inr, refl, sym, ◌∙◌, ap, subst}
 use Rattle.std.proofs.lemmas.Bool.{eqb-true}
 use Rattle.std.proofs.lemmas.List.Elements.{All-contains, All-weaker, All-push, All-tail, All-from_recursion}
+use Rattle.geo_base.specs.declared.kind.Kind.{Kind}
 use Rattle.geo_base.specs.declared.kind.Kind.TheVariants as kinds
 use Rattle.geo_model.specs.declared.step.Event.{Event}
 use Rattle.geo_model.specs.declared.step.Event.TheVariants as events
@@ -169,6 +170,18 @@ announced-firm w p lives firm =
 -- a mark that is taken isn't set
 pub not_set : {A : Type 0} → false ≡ true → A
 not_set e = absurd (let no : ⊥ = cc in no)
+
+-- the class with TASTE's number is TASTE
+pub taste_kind : (kind : Kind) → is_kind kind kinds.Taste ≡ true → kind ≡ kinds.Taste
+taste_kind kinds.Taste e = refl
+taste_kind kinds.Disk e = not_set e
+taste_kind kinds.Dev e = not_set e
+taste_kind kinds.Mbr e = not_set e
+taste_kind kinds.Ebr e = not_set e
+taste_kind kinds.Label e = not_set e
+taste_kind kinds.Concat e = not_set e
+taste_kind kinds.Stripe e = not_set e
+taste_kind kinds.Nop e = not_set e
 
 -- marks keep a firm world firm
 pub marks_keep : MarksKeepFirm

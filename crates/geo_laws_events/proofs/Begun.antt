@@ -6,11 +6,10 @@ use Rattle.std.proofs.Common.{inl, inr, refl, sym, ◌∙◌, ap, subst, arith}
 use Rattle.std.proofs.lemmas.Bool.{or_parts, leb-false, eq-eqb, cases_eq}
 use Rattle.std.proofs.lemmas.List.Elements.{All-contains, All-weaker, All-push}
 use Rattle.geo_base.specs.declared.request.Counts.{Counts}
-use Rattle.geo_base.specs.declared.kind.Kind.{Kind}
 use Rattle.geo_base.specs.declared.kind.Kind.TheVariants as kinds
 use Rattle.geo_model.specs.declared.step.Owner.{Owner}
 use Rattle.geo_model.specs.declared.step.Owner.TheVariants as owners
-use Rattle.geo_model.specs.Words.{is_kind, names_number, is_read, is_granted_kind}
+use Rattle.geo_model.specs.Words.{names_number, is_read, is_granted_kind}
 use Rattle.geo_model.specs.Topology.{Topology, Geom, Provider, Consumer, geom_at, provider_at, consumer_at, geom_of_provider, providers_of, consumers_of, is_errored, add_consumer}
 use Rattle.geo_model.specs.Rank.{rank}
 use Rattle.geo_model.specs.Demand.{have, want, is_zero, is_exclusive, fits_limit, no_counts, one_read}
@@ -52,7 +51,7 @@ use Rattle.geo_model.specs.Step.{step, event, event_of}
 use Rattle.geo_laws_events.specs.EventLaws.{EventStepKeepsFirm}
 use Rattle.geo_laws_effects.proofs.Killed.{all_killed-firm}
 use Rattle.geo_laws_effects.proofs.Announced.{spoil-firm, orphan-firm, resize-firm, killed_queued}
-use Rattle.geo_laws_effects.proofs.MarksKept.{queues_keep, stands-at, class-at, not_set}
+use Rattle.geo_laws_effects.proofs.MarksKept.{queues_keep, stands-at, class-at, not_set, taste_kind}
 
 -- a geom of TASTE has no configuration
 taste_nothing : (config : Config) → fits_kind kinds.Taste config ≡ true → config ≡ Nothing
@@ -64,18 +63,6 @@ taste_nothing (Label below) e = not_set e
 taste_nothing (Concat id places sizes) e = not_set e
 taste_nothing (Stripe id stripe places sizes) e = not_set e
 taste_nothing (Nop below offset fail) e = not_set e
-
--- the class with TASTE's number is TASTE
-taste_kind : (kind : Kind) → (is_kind kind kinds.Taste) ≡ true → kind ≡ kinds.Taste
-taste_kind kinds.Taste e = refl
-taste_kind kinds.Disk e = not_set e
-taste_kind kinds.Dev e = not_set e
-taste_kind kinds.Mbr e = not_set e
-taste_kind kinds.Ebr e = not_set e
-taste_kind kinds.Label e = not_set e
-taste_kind kinds.Concat e = not_set e
-taste_kind kinds.Stripe e = not_set e
-taste_kind kinds.Nop e = not_set e
 
 -- what the test of a taste says of the geom
 geom_tasted : (t : Topology Config) (o : Option (Geom Config))

@@ -1,7 +1,8 @@
 -- What is found, and pairs of a list in order of numbers.
-use Rattle.std.specs.Prelude.{◌≡◌, ℕ, ◌+◌, ◌<◌, ◌≤◌, ◌==◌, true, false, List, [], ◌∷◌, map, find, Option, Some, None, AllPairs, Contains, IfSome, IsSomeAnd, IsSome}
-use Rattle.std.specs.List.{AllZip}
+use Rattle.std.specs.Prelude.{◌≡◌, ◌≢◌, ℕ, ◌+◌, ◌<◌, ◌≤◌, ◌==◌, Bool, true, false, not, List, [], ◌∷◌, map, filter, find, Option, Some, None, AllPairs, Contains, IfSome, IsSomeAnd, IsSome}
+use Rattle.std.specs.List.{AllByRecursion, AllZip}
 use Rattle.std.proofs.Common.{inl, inr, refl, sym, ◌∙◌, ap, subst, arith}
+use Rattle.std.proofs.lemmas.Bool.{eq-eqb}
 use Rattle.geo_model.specs.Graph.{AreNumbers}
 use Rattle.geo_laws_graph.proofs.Members.{Contains-here, Contains-there, Contains-cases, nothing_in, All-from_contained, at_contained, find-Contains}
 use Rattle.geo_laws_graph.proofs.Lists.{Rise, rise-from, found_itself}
@@ -49,6 +50,17 @@ module _ {X : Type 0} where
   -- nothing isn't something
   pub none-there : (o : Option X) → o ≡ None → IsSome o → ⊥
   none-there o e there = let no : false ≡ true = subst (λ z. IsSome z) e there in cc
+
+-- a test that all items pass keeps them all
+pub keeps_all : {X : Type 0} (test : X → Bool) (xs : List X) → AllByRecursion (λ x. test x ≡ true) xs
+    → filter test xs ≡ xs
+keeps_all test [] facts = refl
+keeps_all test (x ∷ xs) facts = rw (facts.0, keeps_all test xs facts.1) refl
+
+-- a number that passes isn't the one that goes
+pub passes_apart : (n p : ℕ) → not (n == p) ≡ true → n ≢ p
+passes_apart n p e same = let is : (n == p) ≡ true = eq-eqb n p same in let no : false ≡ true =
+    sym (ap not is) ∙ e in cc
 
 -- a fact of each two items of two lists that follows from another
 pub all_zip-weaker : {A B : Type 0} (R S : A → B → Type 0) → ((a : A) (b : B) → R a b → S a b)

@@ -1,6 +1,5 @@
 -- A provider with nothing attached, a spent consumer and a bare geom go: the graph comes to less.
-use Rattle.std.specs.Prelude.{◌≡◌, ◌≢◌, ◌⊎◌, ℕ, ◌≤◌, ◌==◌, Bool, true, false, not, List, [], ◌∷◌, length, map, filter, Option, Some, None, All, Contains, IsSome, IsSomeAnd, IsTrue, MatchOption}
-use Rattle.std.specs.List.{AllByRecursion}
+use Rattle.std.specs.Prelude.{◌≡◌, ◌≢◌, ◌⊎◌, ℕ, ◌≤◌, ◌==◌, Bool, true, false, not, List, [], length, map, Option, Some, None, All, Contains, IsSome, IsSomeAnd, IsTrue, MatchOption}
 use Rattle.std.specs.Option.{option_map_or}
 use Rattle.std.proofs.Common.{inl, inr, refl, sym, ◌∙◌, ap, subst, arith}
 use Rattle.std.proofs.lemmas.Bool.{eqb-true, eq-eqb, ne_eqb, cases_eq}
@@ -33,7 +32,7 @@ use Rattle.geo_laws_counts.proofs.Counters.{nothing_above}
 use Rattle.geo_laws_counts.proofs.LimitFacts.{all_of}
 use Rattle.geo_laws_counts.proofs.Numbers.{numbers_lead}
 use Rattle.geo_laws_counts.proofs.Stays.{want_from, geom_went, provider_went, consumers_went}
-use Rattle.geo_laws_less.proofs.Found.{some-there, one-found}
+use Rattle.geo_laws_less.proofs.Found.{some-there, one-found, keeps_all, passes_apart}
 use Rattle.geo_laws_less.specs.LessLaws.{IsSpent, IsLess}
 use Rattle.geo_laws_less.proofs.Less.{same_le, same_tasting, geom-self, provider-self, consumer-self, less-self}
 use Rattle.geo_laws_less.proofs.LessSound.{never_spent}
@@ -42,11 +41,6 @@ use Rattle.geo_laws_less.proofs.LessFitting.{less-firm}
 -- a number that isn't lower than itself
 at_most_itself : (n : ℕ) → n ≤ n
 at_most_itself n = omega arith
-
--- a test that all items pass keeps them all
-keeps_all : {X : Type 0} (test : X → Bool) (xs : List X) → AllByRecursion (λ x. test x ≡ true) xs → filter test xs ≡ xs
-keeps_all test [] facts = refl
-keeps_all test (x ∷ xs) facts = rw (facts.0, keeps_all test xs facts.1) refl
 
 -- a class that is neither DEV's nor TASTE's isn't granted counts
 not_granted : (kind : Kind) → is_kind kind kinds.Dev ≡ false → is_kind kind kinds.Taste ≡ false
@@ -111,11 +105,6 @@ module _ (w : World) (firm : Firm w) where
     stay = λ x here. inl (consumer_there x here);
     tasting = same_tasting t (remove_provider t p) refl w.taste firm.sound.handles.taste;
   }
-
-  -- a number that passes isn't the one that goes
-  passes_apart : (n p : ℕ) → not (n == p) ≡ true → n ≢ p
-  passes_apart n p e same = let is : (n == p) ≡ true = eq-eqb n p same in let no : false ≡ true =
-      sym (ap not is) ∙ e in cc
 
   -- so the world is firm, without the events of that provider
   pub without_provider-firm : (p : ℕ) → attached_to t p ≡ []

@@ -1,0 +1,4 @@
+pub mod Freed
+pub mod Idle
+pub mod Offered
+pub mod Answered
