@@ -2,7 +2,10 @@
 -- partitions, a place of an assembly (geom(4)).
 use Rattle.std.specs.Prelude.{◌≡◌, ℕ, false, List, Some}
 use Rattle.geo_base.specs.declared.kind.Kind.{Kind}
+use Rattle.geo_base.specs.declared.kind.Kind.TheVariants as kinds
+use Rattle.geo_model.specs.declared.class.LabelRecord.{LabelRecord}
 use Rattle.geo_model.specs.declared.class.Shape.{Shape}
+use Rattle.geo_model.specs.declared.class.Shape.TheVariants.{Named}
 use Rattle.geo_model.specs.declared.class.Verdict.TheVariants.{Accept}
 use Rattle.geo_model.specs.declared.step.BioResult.TheVariants as results
 use Rattle.geo_model.specs.Topology.{Provider, provider_at}
@@ -27,3 +30,9 @@ pub record IsAccepted (w : World) (s : Taste) (p : Provider) (kind : Kind) (byte
 pub record AcceptsStayFirm : Type 0 where
   pub accept : (w : World) (s : Taste) (p : Provider) (kind : Kind) (bytes : List ℕ) (shape : Shape)
       (made : QueuedTopology Config) → Firm w → IsAccepted w s p kind bytes shape made → Firm (with_queued w made)
+
+-- with a label
+pub record LabelsStayFirm : Type 0 where
+  pub label : (w : World) (s : Taste) (p : Provider) (bytes : List ℕ) (found : LabelRecord)
+      (made : QueuedTopology Config) → Firm w → IsAccepted w s p kinds.Label bytes (Named found) made
+      → Firm (with_queued w made)

@@ -1,3 +1,11 @@
 //! Laws of what is accepted: what a class makes of a tasted provider keeps a firm mesh firm, one that is sound, steady and
 //! fitting (geom(4)).
 #![tactic(auto)]
+
+ghost use Rattle.geo_laws_accepts.specs.AcceptLaws.{LabelsStayFirm};
+
+/// A firm mesh stays firm with a label that is accepted.
+#[tactic(auto, using(crate::proofs::Labelled::labels_stay))]
+pub fn labels_stay_firm()
+    ensures { LabelsStayFirm }
+{}
