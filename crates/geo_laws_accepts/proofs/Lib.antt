@@ -1,2 +1,4 @@
 pub mod Accepted
 pub mod Labelled
+pub mod NewSlices
+pub mod Sliced

@@ -3,9 +3,11 @@
 use Rattle.std.specs.Prelude.{◌≡◌, ℕ, false, List, Some}
 use Rattle.geo_base.specs.declared.kind.Kind.{Kind}
 use Rattle.geo_base.specs.declared.kind.Kind.TheVariants as kinds
+use Rattle.geo_model.specs.declared.class.EbrTable.{EbrTable}
 use Rattle.geo_model.specs.declared.class.LabelRecord.{LabelRecord}
+use Rattle.geo_model.specs.declared.class.MbrTable.{MbrTable}
 use Rattle.geo_model.specs.declared.class.Shape.{Shape}
-use Rattle.geo_model.specs.declared.class.Shape.TheVariants.{Named}
+use Rattle.geo_model.specs.declared.class.Shape.TheVariants.{Slices, Logical, Named}
 use Rattle.geo_model.specs.declared.class.Verdict.TheVariants.{Accept}
 use Rattle.geo_model.specs.declared.step.BioResult.TheVariants as results
 use Rattle.geo_model.specs.Topology.{Provider, provider_at}
@@ -35,4 +37,16 @@ pub record AcceptsStayFirm : Type 0 where
 pub record LabelsStayFirm : Type 0 where
   pub label : (w : World) (s : Taste) (p : Provider) (bytes : List ℕ) (found : LabelRecord)
       (made : QueuedTopology Config) → Firm w → IsAccepted w s p kinds.Label bytes (Named found) made
+      → Firm (with_queued w made)
+
+-- with the slices of a table
+pub record SlicesStayFirm : Type 0 where
+  pub slices : (w : World) (s : Taste) (p : Provider) (bytes : List ℕ) (table : MbrTable)
+      (made : QueuedTopology Config) → Firm w → IsAccepted w s p kinds.Mbr bytes (Slices table) made
+      → Firm (with_queued w made)
+
+-- with the logical partitions of a chain
+pub record PartitionsStayFirm : Type 0 where
+  pub partitions : (w : World) (s : Taste) (p : Provider) (bytes : List ℕ) (table : EbrTable)
+      (made : QueuedTopology Config) → Firm w → IsAccepted w s p kinds.Ebr bytes (Logical table) made
       → Firm (with_queued w made)

@@ -2,10 +2,16 @@
 //! fitting (geom(4)).
 #![tactic(auto)]
 
-ghost use Rattle.geo_laws_accepts.specs.AcceptLaws.{LabelsStayFirm};
+ghost use Rattle.geo_laws_accepts.specs.AcceptLaws.{LabelsStayFirm, SlicesStayFirm};
 
 /// A firm mesh stays firm with a label that is accepted.
 #[tactic(auto, using(crate::proofs::Labelled::labels_stay))]
 pub fn labels_stay_firm()
     ensures { LabelsStayFirm }
+{}
+
+/// A firm mesh stays firm with the slices of a table that is accepted.
+#[tactic(auto, using(crate::proofs::Sliced::slices_stay))]
+pub fn slices_stay_firm()
+    ensures { SlicesStayFirm }
 {}
