@@ -2,3 +2,4 @@ pub mod Accepted
 pub mod Labelled
 pub mod NewSlices
 pub mod Sliced
+pub mod Parted

@@ -2,7 +2,7 @@
 //! fitting (geom(4)).
 #![tactic(auto)]
 
-ghost use Rattle.geo_laws_accepts.specs.AcceptLaws.{LabelsStayFirm, SlicesStayFirm};
+ghost use Rattle.geo_laws_accepts.specs.AcceptLaws.{LabelsStayFirm, PartitionsStayFirm, SlicesStayFirm};
 
 /// A firm mesh stays firm with a label that is accepted.
 #[tactic(auto, using(crate::proofs::Labelled::labels_stay))]
@@ -14,4 +14,10 @@ pub fn labels_stay_firm()
 #[tactic(auto, using(crate::proofs::Sliced::slices_stay))]
 pub fn slices_stay_firm()
     ensures { SlicesStayFirm }
+{}
+
+/// A firm mesh stays firm with the logical partitions of a chain that is accepted.
+#[tactic(auto, using(crate::proofs::Parted::partitions_stay))]
+pub fn partitions_stay_firm()
+    ensures { PartitionsStayFirm }
 {}
