@@ -1,0 +1,3 @@
+pub mod Assembled
+pub mod PlaceTaken
+pub mod Filled
