@@ -1,3 +1,5 @@
 pub mod Assembled
+pub mod OpenAssembly
 pub mod PlaceTaken
 pub mod Filled
+pub mod Finished

@@ -18,11 +18,10 @@ use Rattle.geo_model.specs.Acceptance.{places_of, fill_place, joined_size}
 use Rattle.geo_model.specs.Append.{component_limit}
 use Rattle.geo_model.specs.Graph.{IsInOrder, PartsLive}
 use Rattle.geo_model.specs.Sound.{RanksHold, DifferInDisk, IsMediaSize, IsOfItsClass, IsTasteInOrder}
-use Rattle.geo_model.specs.Steady.{HasItsComponents}
 use Rattle.geo_model.specs.Fitting.{IsWholeIn, FitsBelow, sizes_of, FitsPlace, FitsPlaces, PlacesHold, Firm}
 use Rattle.geo_laws_graph.specs.LookupLaws.{new_consumer}
-use Rattle.geo_laws_graph.proofs.Members.{find-Contains, Contains-filter, nothing_in, map-Contains}
-use Rattle.geo_laws_graph.proofs.Lists.{found_fresh, found_itself}
+use Rattle.geo_laws_graph.proofs.Members.{find-Contains, map-Contains}
+use Rattle.geo_laws_graph.proofs.Lists.{found_fresh}
 use Rattle.geo_laws_graph.proofs.Numbered.{number_found}
 use Rattle.geo_laws_graph.proofs.Found.{added-consumer, config-found}
 use Rattle.geo_laws_graph.proofs.Living.{found-before, parts-alive, sound-order, steady-parts}
@@ -43,15 +42,8 @@ use Rattle.geo_laws_making.proofs.Made.{through}
 use Rattle.geo_laws_more.specs.MoreLaws.{IsUntouched, GeomFits, ConsumerFits, IsMore}
 use Rattle.geo_laws_more.proofs.MoreFirm.{more-firm}
 use Rattle.geo_laws_assemblies.specs.AssemblyLaws.{CanTakePlace}
-use Rattle.geo_laws_assemblies.proofs.Assembled.{IsAssembly, has-places, filled-is, of-assembly, filled_of, filled-cases, filled-differ, in-places, zip-set, zip-among, IsOfAssembly}
-
--- a standing geom is an assembly without providers, in which the provider fits
-pub record IsOpenAssembly (w : World) (p : Provider) (g : Geom Config) : Type 0 where
-  pub stands : geom_at w.topology g.number ≡ Some g
-  pub upright : g.withering ≡ false
-  pub assembly : IsAssembly g.config
-  pub offers_none : providers_of w.topology g.number ≡ []
-  pub whole : IsWholeIn g.config p.sector
+use Rattle.geo_laws_assemblies.proofs.OpenAssembly.{IsOpenAssembly, is-there, its-class, its-assembly, isnt-dev, isnt-taste, offers-not, only-one, component-there}
+use Rattle.geo_laws_assemblies.proofs.Assembled.{has-places, filled-is, filled_of, filled-cases, filled-differ, in-places, zip-set, zip-among, IsOfAssembly}
 
 -- a geom that is one of the list with another configuration, or is as it was
 configured : (n : ℕ) (config : Config) (xs : List (Geom Config)) (y : Geom Config)
@@ -71,7 +63,7 @@ configured n config xs y here =
     )
 
 module _ (w : World) (p : Provider) (g : Geom Config) (k : ℕ) (firm : Firm w) (can : CanTakePlace w p)
-    (waits : IsOpenAssembly w p g) where
+    (waits : IsOpenAssembly w g) (whole : IsWholeIn g.config p.sector) where
   -- the graph before
   abbrev t : Topology Config
   t = w.topology
@@ -114,45 +106,31 @@ module _ (w : World) (p : Provider) (g : Geom Config) (k : ℕ) (firm : Firm w) 
 
   -- the geom was one of them
   here : Contains t.geoms g
-  here = find-Contains (λ (x : Geom Config). x.number == n) t.geoms g waits.stands
+  here = is-there w g firm waits
 
   -- it lives
   lives : IsSome (geom_at t n)
   lives = some-there (geom_at t n) g waits.stands
 
-  -- each one of its number is it
-  only : (x : Geom Config) → Contains t.geoms x → x.number ≡ n → x ≡ g
-  only x stands same =
-      one-found (geom_at t n) x g
-      (subst (λ m. geom_at t m ≡ Some x) same (found_itself (λ (z : Geom Config). z.number) t.next_geom t.geoms x order.geoms stands))
-      waits.stands
-
   -- its class
   class : IsOfItsClass g
-  class = All-contains IsOfItsClass t.geoms g firm.sound.numbers.classes here
+  class = its-class w g firm waits
 
   -- which is that of an assembly
   abbrev of_class : IsOfAssembly g.kind g.config
-  of_class = of-assembly g.kind g.config waits.assembly class.config
+  of_class = its-assembly w g firm waits
 
   -- so it isn't DEV
   not_dev : n ≢ 1
-  not_dev same =
-      let e : true ≡ false = sym (eq-eqb n 1 same) ∙ sym class.dev ∙ of_class.dev in
-      let no : ⊥ = cc in no
+  not_dev = isnt-dev w g firm waits
 
   -- nor TASTE
   not_taste : n ≢ 2
-  not_taste same =
-      let e : true ≡ false = sym (eq-eqb n 2 same) ∙ sym class.taste ∙ of_class.taste in
-      let no : ⊥ = cc in no
+  not_taste = isnt-taste w g firm waits
 
   -- no provider is of it
   not_of_it : (x : Provider) → Contains t.providers x → x.geom ≢ n
-  not_of_it x stands same =
-      nothing_in x
-      (subst (λ xs. Contains xs x) waits.offers_none
-      (Contains-filter (λ (z : Provider). z.geom == n) t.providers x stands (eq-eqb x.geom n same)))
+  not_of_it = offers-not w g firm waits
 
   -- a consumer that was found is found
   consumer_still : (m : ℕ) (x : Consumer) → consumer_at t m ≡ Some x → consumer_at u m ≡ Some x
@@ -225,7 +203,7 @@ module _ (w : World) (p : Provider) (g : Geom Config) (k : ℕ) (firm : Firm w) 
   geom_cases y stands =
       let o = configured n filled t.geoms y stands in
       elim o.fact [
-        | inl it ↦ inr (it.1 ∙ ap (λ (z : Geom Config). record z { config = filled }) (only o.item o.stands it.0))
+        | inl it ↦ inr (it.1 ∙ ap (λ (z : Geom Config). record z { config = filled }) (only-one w g firm waits o.item o.stands it.0))
         | inr other ↦
             inl (subst (Contains t.geoms) (sym other.1) o.stands, subst (λ (z : Geom Config). z.number ≢ n) (sym other.1) other.0)
       ]
@@ -248,7 +226,7 @@ module _ (w : World) (p : Provider) (g : Geom Config) (k : ℕ) (firm : Firm w) 
             ap (λ (z : Geom Config). z.number) it.1,
             ap (λ (z : Geom Config). disk_of z.config) it.1 ∙ (has-places filled (filled-is g.config k c size waits.assembly).assembly).no_disk
                 ∙ sym (has-places g.config waits.assembly).no_disk
-                ∙ ap (λ (z : Geom Config). disk_of z.config) (sym (only o.item o.stands it.0)),
+                ∙ ap (λ (z : Geom Config). disk_of z.config) (sym (only-one w g firm waits o.item o.stands it.0)),
           )
           | inr other ↦ (ap (λ (z : Geom Config). z.number) other.1, ap (λ (z : Geom Config). disk_of z.config) other.1)
         ];
@@ -270,13 +248,6 @@ module _ (w : World) (p : Provider) (g : Geom Config) (k : ℕ) (firm : Firm w) 
       (find-Contains (λ (x : Provider). x.number == p.number) t.providers p can.found) in
       mod-eq-zero_of_dvd p.sector (dvd-sub p.sector (dvd_of_mod-eq-zero p.sector media.whole) (dvd_refl p.sector))
 
-  -- what is in a place is an attached consumer of it
-  component_there : (d : ℕ) → Contains (components g.config) d
-      → IsSomeAnd (consumer_at t d) (λ x. (x.geom ≡ n) × IsSome x.provider)
-  component_there d stands =
-      All-contains (λ d. IsSomeAnd (consumer_at t d) (λ x. (x.geom ≡ n) × IsSome x.provider)) (components g.config) d
-      (All-contains (HasItsComponents w) t.geoms g firm.steady.components here (inl waits.upright)) stands
-
   -- so once the place is filled
   components_there : All (λ d. IsSomeAnd (consumer_at u d) (λ x. (x.geom ≡ n) × IsSome x.provider)) (components filled)
   components_there =
@@ -287,7 +258,7 @@ module _ (w : World) (p : Provider) (g : Geom Config) (k : ℕ) (firm : Firm w) 
             (ap (consumer_at u) new ∙ new_found) (refl, refl)
         | inr old ↦
             (let x = found-with (consumer_at t d) (λ x. (x.geom ≡ n) × IsSome x.provider)
-            (component_there d (subst (λ xs. Contains xs d) (sym (has-places g.config waits.assembly).components_are) old)) in
+            (component-there w g firm waits d (subst (λ xs. Contains xs d) (sym (has-places g.config waits.assembly).components_are) old)) in
             some-with (consumer_at u d) (λ x. (x.geom ≡ n) × IsSome x.provider) x.item (consumer_still d x.item x.is) x.fact)
       ])
 
@@ -319,7 +290,7 @@ module _ (w : World) (p : Provider) (g : Geom Config) (k : ℕ) (firm : Firm w) 
       old None b stands fact = tt
       old (Some d) b stands fact =
           let x = found-with (consumer_at t d) (λ x. (x.geom ≡ n) × IsSome x.provider)
-          (component_there d (subst (λ xs. Contains xs d) (sym (has-places g.config waits.assembly).components_are)
+          (component-there w g firm waits d (subst (λ xs. Contains xs d) (sym (has-places g.config waits.assembly).components_are)
           (in-places (places_of g.config) d stands))) in
           subst (λ o. IfSome o (λ x. x.geom ≡ n → IfSome (option_and_then (provider_at t) x.provider) (λ q.
           (b ≤ q.size) × (b % q.sector ≡ 0)))) (x.is ∙ sym (consumer_still d x.item x.is)) fact
@@ -334,7 +305,7 @@ module _ (w : World) (p : Provider) (g : Geom Config) (k : ℕ) (firm : Firm w) 
             (pairs-from_recursion (λ a b. a ≢ b) (filled_of (slice_set (places_of g.config) k (Some c)))
             (filled-differ (places_of g.config) k c (λ d stands.
             let x = found-with (consumer_at t d) (λ x. (x.geom ≡ n) × IsSome x.provider)
-            (component_there d (subst (λ xs. Contains xs d) (sym (has-places g.config waits.assembly).components_are) stands)) in
+            (component-there w g firm waits d (subst (λ xs. Contains xs d) (sym (has-places g.config waits.assembly).components_are) stands)) in
             consumer_apart d x.item x.is)
             (recursion-from_pairs (λ a b. a ≢ b) (filled_of (places_of g.config))
             (subst (AllPairs (λ a b. a ≢ b)) (has-places g.config waits.assembly).components_are before.apart))));
@@ -388,19 +359,19 @@ module _ (w : World) (p : Provider) (g : Geom Config) (k : ℕ) (firm : Firm w) 
   whole_below : (y : Consumer) → Contains u.consumers y → y.geom ≡ n
       → IfSome (option_and_then (provider_at u) y.provider) (λ q. IsWholeIn filled q.sector)
   whole_below y stands own =
-      let whole = (filled-is g.config k c size waits.assembly).whole in
+      let so = (filled-is g.config k c size waits.assembly).whole in
       elim (consumer_cases y stands) [
         | inl old ↦
             (let fits = at-found (geom_at t y.geom) (λ h. IfSome (option_and_then (provider_at t) y.provider) (λ q.
             IsWholeIn h.config q.sector)) g (ap (geom_at t) own ∙ waits.stands)
             (All-contains (FitsBelow t) t.consumers y firm.fitting.wholes old) in
             if-found (option_and_then (provider_at t) y.provider) (λ q. IsWholeIn filled q.sector) (λ q e.
-            whole q.sector (at-found (option_and_then (provider_at t) y.provider) (λ q. IsWholeIn g.config q.sector) q e fits)))
+            so q.sector (at-found (option_and_then (provider_at t) y.provider) (λ q. IsWholeIn g.config q.sector) q e fits)))
         | inr new ↦
             subst (λ (z : Consumer). IfSome (option_and_then (provider_at t) z.provider) (λ q. IsWholeIn filled q.sector)) new
             (if-found (provider_at t p.number) (λ q. IsWholeIn filled q.sector) (λ q e.
             subst (λ (z : Provider). IsWholeIn filled z.sector) (one-found (provider_at t p.number) p q can.found e)
-            (whole p.sector waits.whole)))
+            (so p.sector whole)))
       ]
 
   -- the graph has come to more
