@@ -23,8 +23,9 @@ use Rattle.geo_laws_less.proofs.Found.{some-with, some-there}
 use Rattle.geo_laws_making.specs.MakingLaws.{below_new, HasPlace, CanOffer, CanMake}
 use Rattle.geo_laws_making.proofs.Over.{false_true, below-here}
 use Rattle.geo_laws_making.proofs.Made.{made-firm}
+use Rattle.geo_laws_assemblies.proofs.MadeFree.{free-made, not-taken}
 use Rattle.geo_laws_accepts.specs.AcceptLaws.{IsAccepted, LabelsStayFirm}
-use Rattle.geo_laws_accepts.proofs.Accepted.{free-made, not-taken, found, media, sector_size, asks, low}
+use Rattle.geo_laws_accepts.proofs.Accepted.{found, media, sector_size, asks, low}
 
 -- a test of two sectors that asks has two
 two_sectors : (n m : ℕ) → IsSome (if nat_le 2 n then Some m else None) → 2 ≤ n

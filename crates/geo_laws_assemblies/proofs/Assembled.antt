@@ -108,6 +108,16 @@ in-places (Some d ∷ places) c here =
       | inr rest ↦ Contains-there d c (filled_of places) (in-places places c rest)
     ]
 
+-- and back
+pub of-places : (places : List (Option ℕ)) (c : ℕ) → Contains (filled_of places) c → Contains places (Some c)
+of-places [] c here = absurd (nothing_in c here)
+of-places (None ∷ places) c here = Contains-there None (Some c) places (of-places places c here)
+of-places (Some d ∷ places) c here =
+    elim (Contains-cases d c (filled_of places) here) [
+      | inl same ↦ subst (λ n. Contains (Some d ∷ places) (Some n)) same (Contains-here (Some d) places)
+      | inr rest ↦ Contains-there (Some d) (Some c) places (of-places places c rest)
+    ]
+
 -- what is in the places, once a place is filled, is new or was there
 pub filled-cases : (places : List (Option ℕ)) (k c d : ℕ) → Contains (filled_of (slice_set places k (Some c))) d
     → (d ≡ c) ⊎ Contains (filled_of places) d

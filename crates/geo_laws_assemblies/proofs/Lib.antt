@@ -3,3 +3,5 @@ pub mod OpenAssembly
 pub mod PlaceTaken
 pub mod Filled
 pub mod Finished
+pub mod MadeFree
+pub mod Placed

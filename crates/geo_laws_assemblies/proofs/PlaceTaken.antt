@@ -133,12 +133,12 @@ module _ (w : World) (p : Provider) (g : Geom Config) (k : ℕ) (firm : Firm w) 
   not_of_it = offers-not w g firm waits
 
   -- a consumer that was found is found
-  consumer_still : (m : ℕ) (x : Consumer) → consumer_at t m ≡ Some x → consumer_at u m ≡ Some x
-  consumer_still m x e = found-before (λ (z : Consumer). z.number == m) t.consumers _ x e
+  pub consumer-still : (m : ℕ) (x : Consumer) → consumer_at t m ≡ Some x → consumer_at u m ≡ Some x
+  consumer-still m x e = found-before (λ (z : Consumer). z.number == m) t.consumers _ x e
 
   -- so is the new one
-  new_found : consumer_at u c ≡ Some (new_consumer t n (Some p.number))
-  new_found = added-consumer.new t n (Some p.number) order
+  pub new-found : consumer_at u c ≡ Some (new_consumer t n (Some p.number))
+  new-found = added-consumer.new t n (Some p.number) order
 
   -- no consumer had its number
   consumer_apart : (m : ℕ) (x : Consumer) → consumer_at t m ≡ Some x → m ≢ c
@@ -236,8 +236,8 @@ module _ (w : World) (p : Provider) (g : Geom Config) (k : ℕ) (firm : Firm w) 
   -- The geom
 
   -- the components with the new one
-  components_now : components filled ≡ filled_of (slice_set (places_of g.config) k (Some c))
-  components_now =
+  pub components-now : components filled ≡ filled_of (slice_set (places_of g.config) k (Some c))
+  components-now =
       let is = filled-is g.config k c size waits.assembly in
       (has-places filled is.assembly).components_are ∙ ap (λ xs. filled_of xs) is.places_are
 
@@ -252,14 +252,14 @@ module _ (w : World) (p : Provider) (g : Geom Config) (k : ℕ) (firm : Firm w) 
   components_there : All (λ d. IsSomeAnd (consumer_at u d) (λ x. (x.geom ≡ n) × IsSome x.provider)) (components filled)
   components_there =
       all_of (λ d. IsSomeAnd (consumer_at u d) (λ x. (x.geom ≡ n) × IsSome x.provider)) (components filled) (λ d stands.
-      elim (filled-cases (places_of g.config) k c d (subst (λ xs. Contains xs d) components_now stands)) [
+      elim (filled-cases (places_of g.config) k c d (subst (λ xs. Contains xs d) components-now stands)) [
         | inl new ↦
             some-with (consumer_at u d) (λ x. (x.geom ≡ n) × IsSome x.provider) (new_consumer t n (Some p.number))
-            (ap (consumer_at u) new ∙ new_found) (refl, refl)
+            (ap (consumer_at u) new ∙ new-found) (refl, refl)
         | inr old ↦
             (let x = found-with (consumer_at t d) (λ x. (x.geom ≡ n) × IsSome x.provider)
             (component-there w g firm waits d (subst (λ xs. Contains xs d) (sym (has-places g.config waits.assembly).components_are) old)) in
-            some-with (consumer_at u d) (λ x. (x.geom ≡ n) × IsSome x.provider) x.item (consumer_still d x.item x.is) x.fact)
+            some-with (consumer_at u d) (λ x. (x.geom ≡ n) × IsSome x.provider) x.item (consumer-still d x.item x.is) x.fact)
       ])
 
   -- its places fit
@@ -279,7 +279,7 @@ module _ (w : World) (p : Provider) (g : Geom Config) (k : ℕ) (firm : Firm w) 
           (size ≤ q.size) × (size % q.sector ≡ 0))) (λ x e own.
           subst (λ (z : Consumer). IfSome (option_and_then (provider_at u) z.provider) (λ q.
           (size ≤ q.size) × (size % q.sector ≡ 0)))
-          (one-found (consumer_at u c) (new_consumer t n (Some p.number)) x new_found e)
+          (one-found (consumer_at u c) (new_consumer t n (Some p.number)) x new-found e)
           (if-found (provider_at t p.number) (λ q. (size ≤ q.size) × (size % q.sector ≡ 0)) (λ q under.
           subst (λ (z : Provider). (size ≤ z.size) × (size % z.sector ≡ 0))
           (one-found (provider_at t p.number) p q can.found under)
@@ -293,7 +293,7 @@ module _ (w : World) (p : Provider) (g : Geom Config) (k : ℕ) (firm : Firm w) 
           (component-there w g firm waits d (subst (λ xs. Contains xs d) (sym (has-places g.config waits.assembly).components_are)
           (in-places (places_of g.config) d stands))) in
           subst (λ o. IfSome o (λ x. x.geom ≡ n → IfSome (option_and_then (provider_at t) x.provider) (λ q.
-          (b ≤ q.size) × (b % q.sector ≡ 0)))) (x.is ∙ sym (consumer_still d x.item x.is)) fact
+          (b ≤ q.size) × (b % q.sector ≡ 0)))) (x.is ∙ sym (consumer-still d x.item x.is)) fact
 
   -- its places are apart and few
   places_hold : PlacesHold joined
@@ -301,7 +301,7 @@ module _ (w : World) (p : Provider) (g : Geom Config) (k : ℕ) (firm : Firm w) 
       let before = All-contains PlacesHold t.geoms g firm.fitting.apart here in
       let is = filled-is g.config k c size waits.assembly in
       record {
-        apart = subst (AllPairs (λ a b. a ≢ b)) (sym components_now)
+        apart = subst (AllPairs (λ a b. a ≢ b)) (sym components-now)
             (pairs-from_recursion (λ a b. a ≢ b) (filled_of (slice_set (places_of g.config) k (Some c)))
             (filled-differ (places_of g.config) k c (λ d stands.
             let x = found-with (consumer_at t d) (λ x. (x.geom ≡ n) × IsSome x.provider)
@@ -385,7 +385,7 @@ module _ (w : World) (p : Provider) (g : Geom Config) (k : ℕ) (firm : Firm w) 
     limited = demand.limit firm.sound.counts.limited;
     old_geoms = λ m x apart e. config-found.others v n filled m apart ∙ e;
     old_providers = λ m x e. record { now = x; found = e; is = record { same = refl; larger = omega arith } };
-    old_consumers = consumer_still;
+    old_consumers = consumer-still;
     stands = config-found.here v n filled g waits.stands;
     geoms = geom_cases;
     providers = λ y stands. inl (stands, not_of_it y stands);
