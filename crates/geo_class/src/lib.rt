@@ -1,0 +1,12 @@
+//! All classes behind one enum: what each asks for and says when a provider is tasted, and where its providers lie.
+#![tactic(auto)]
+
+mod config;
+mod places;
+mod split;
+mod verdict;
+
+pub use config::Config;
+pub use geo_model::{Facts, Shape, Verdict};
+pub use split::Media;
+pub use verdict::{judge, taste_where};
