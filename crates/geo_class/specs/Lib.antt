@@ -1,3 +1,4 @@
 pub mod Places
 pub mod Layout
 pub mod Split
+pub mod Assembly

@@ -1,12 +1,13 @@
 //! What a geom needs to place an offset, by its class.
-ghost use Rattle.std.specs.Prelude.{◌≡◌, ◌≤◌, ◌^◌, ◌==◌, false, None, Some, is_none, sum, if◌then◌else◌};
+ghost use Rattle.std.specs.Prelude.{◌≡◌, ◌≤◌, ◌^◌, ◌==◌, false, true, None, Some, is_none, sum, if◌then◌else◌};
 ghost use Rattle.std.specs.List.{list_any};
 ghost use Rattle.geo_model.specs.Place.{component, disk_of};
 ghost use Rattle.geo_model.specs.World.{Nothing, Disk, Mbr, Ebr, Label, Concat, Stripe, Nop};
 ghost use Rattle.geo_class.specs.Layout.{HasItsMap, IsConcatMap, IsStripeMap, config_of};
 ghost use Rattle.geo_class.specs.Places.{ArePlaces, IsStriped};
 
-use crate::places::{Places, smallest};
+use crate::places::Places;
+use crate::sizes::smallest;
 use geo_base::ConsId;
 use geo_concat::ConcatMap;
 use geo_ebr::EbrPart;
@@ -143,6 +144,64 @@ impl Config {
         }
     }
 
+    /// The places of a concat, whose components have sectors of `sector` bytes. A complete one has a size that a provider
+    /// may have.
+    pub(crate) fn concat_of(id: Option<u32>, places: Places, sector: u32) -> Config
+        requires { list_any is_none places.consumers ≡ false → sum places.sizes ≤ 2 ^ 60 }
+        ensures { result ≡ Concat id places.consumers places.sizes }
+    {
+        let map = concat_map(&places, sector);
+        Config {
+            layout: Layout::Concat { id, places, map },
+        }
+    }
+
+    /// The places of a stripe, whose components have sectors of `sector` bytes. A complete one has a stripe size, and a
+    /// size that a provider may have.
+    pub(crate) fn stripe_of(id: Option<u32>, stripe: u32, places: Places, sector: u32) -> Config
+        requires { list_any is_none places.consumers ≡ false → IsStriped stripe places.sizes }
+        ensures { result ≡ Stripe id stripe places.consumers places.sizes }
+    {
+        let map = stripe_map(stripe, &places, sector);
+        Config {
+            layout: Layout::Stripe {
+                id,
+                stripe,
+                places,
+                map,
+            },
+        }
+    }
+
+    /// The places of a concat, of which one is free.
+    pub(crate) fn partial_concat(id: Option<u32>, places: Places) -> Config
+        requires { list_any is_none places.consumers ≡ true }
+        ensures { result ≡ Concat id places.consumers places.sizes }
+    {
+        Config {
+            layout: Layout::Concat {
+                id,
+                places,
+                map: None,
+            },
+        }
+    }
+
+    /// The places of a stripe, of which one is free.
+    pub(crate) fn partial_stripe(id: Option<u32>, stripe: u32, places: Places) -> Config
+        requires { list_any is_none places.consumers ≡ true }
+        ensures { result ≡ Stripe id stripe places.consumers places.sizes }
+    {
+        Config {
+            layout: Layout::Stripe {
+                id,
+                stripe,
+                places,
+                map: None,
+            },
+        }
+    }
+
     /// The places of a concat, and the sizes of their components with sectors of `sector` bytes. A complete one has a size
     /// that a provider may have.
     pub fn concat(
@@ -155,11 +214,7 @@ impl Config {
         requires fits { list_any is_none consumers.items ≡ false → sum sizes.items ≤ 2 ^ 60 }
         ensures { result ≡ Concat id consumers.items sizes.items }
     {
-        let places = Places::new(consumers, sizes);
-        let map = concat_map(&places, sector);
-        Config {
-            layout: Layout::Concat { id, places, map },
-        }
+        Config::concat_of(id, Places::new(consumers, sizes), sector)
     }
 
     /// The places of a stripe, and the sizes of their components with sectors of `sector` bytes. A complete one has a
@@ -175,16 +230,7 @@ impl Config {
         requires fits { list_any is_none consumers.items ≡ false → IsStriped stripe sizes.items }
         ensures { result ≡ Stripe id stripe consumers.items sizes.items }
     {
-        let places = Places::new(consumers, sizes);
-        let map = stripe_map(stripe, &places, sector);
-        Config {
-            layout: Layout::Stripe {
-                id,
-                stripe,
-                places,
-                map,
-            },
-        }
+        Config::stripe_of(id, stripe, Places::new(consumers, sizes), sector)
     }
 
     /// A window from `offset` on, of which some requests fail by `fail`.

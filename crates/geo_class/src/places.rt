@@ -1,11 +1,11 @@
 //! The places of a CONCAT or STRIPE geom.
-ghost use Rattle.std.specs.Prelude.{◌≡◌, ◌≤◌, ◌<◌, length, slice_get, is_none, is_some};
+ghost use Rattle.std.specs.Prelude.{◌≡◌, ◌≤◌, ◌<◌, [], ◌∷◌, ◌++◌, length, replicate, slice_get, slice_set, None, Some, is_none, is_some, IfOk};
 ghost use Rattle.std.specs.List.{list_all, list_any};
 ghost use Rattle.std.specs.Option.{option_flatten};
-ghost use Rattle.geo_model.specs.Acceptance.{smallest};
 ghost use Rattle.geo_class.specs.Places.{ArePlaces};
 
-use geo_base::ConsId;
+use geo_base::{ConsId, NoMemory};
+use std::alloc::Global;
 use std::marker::Model;
 
 /// The consumers that fill the places, and the sizes of their components. Contracts see the two lists.
@@ -23,17 +23,6 @@ impl Model for Places {
     ghost view = { λ p. record { consumers = p.filled.items; sizes = p.cells.items } };
 
     ghost invariant = { λ p. ArePlaces p.filled.items p.cells.items };
-}
-
-/// The smallest of the sizes, 0 where there are none.
-pub fn smallest(sizes: &[u64]) -> u64
-    ensures { result ≡ smallest sizes.now }
-{
-    match sizes {
-        [] => 0,
-        [size] => *size,
-        [size, rest @ ..] => (*size).min(smallest(rest)),
-    }
 }
 
 impl Places {
@@ -56,6 +45,13 @@ impl Places {
         self.cells.as_slice()
     }
 
+    /// How many places there are.
+    pub fn count(&self) -> usize
+        ensures { result ≡ length self.now.consumers }
+    {
+        self.filled.len()
+    }
+
     /// Whether a place is free.
     pub fn has_free(&self) -> bool
         ensures { result ≡ list_any is_none self.now.consumers }
@@ -75,5 +71,46 @@ impl Places {
         ensures { result ≡ option_flatten (slice_get self.now.consumers place) }
     {
         self.filled.get(place as usize).copied().flatten()
+    }
+
+    /// So many places, all free.
+    pub fn free(alloc: Global, count: usize) -> Result<Places, NoMemory>
+        requires { count ≤ 16 }
+        ensures { IfOk result (λ p. p ≡ record { consumers = replicate count None; sizes = replicate count 0 }) }
+    {
+        Ok(Places {
+            filled: Vec::from_elem(alloc, None, count)?,
+            cells: Vec::from_elem(alloc, 0, count)?,
+        })
+    }
+
+    /// The same places, with one filled by a consumer that has a component of this size.
+    pub fn with_filled(
+        &self,
+        alloc: Global,
+        place: usize,
+        consumer: ConsId,
+        size: u64,
+    ) -> Result<Places, NoMemory>
+        requires { place < length self.now.consumers }
+        ensures { IfOk result (λ p. p ≡ record { consumers = slice_set self.now.consumers place (Some consumer); sizes = slice_set self.now.sizes place size }) }
+    {
+        let mut filled = Vec::from_slice(alloc, &self.filled)?;
+        let mut cells = Vec::from_slice(alloc, &self.cells)?;
+        filled[place] = Some(consumer);
+        cells[place] = size;
+        Ok(Places { filled, cells })
+    }
+
+    /// The same places, and one more behind them, filled by a consumer that has a component of this size.
+    pub fn with_more(&self, alloc: Global, consumer: ConsId, size: u64) -> Result<Places, NoMemory>
+        requires { length self.now.sizes < 16 }
+        ensures { IfOk result (λ p. p ≡ record { consumers = self.now.consumers ++ Some consumer ∷ []; sizes = self.now.sizes ++ size ∷ [] }) }
+    {
+        let mut filled = Vec::from_slice(alloc, &self.filled)?;
+        filled.push(Some(consumer))?;
+        let mut cells = Vec::from_slice(alloc, &self.cells)?;
+        cells.push(size)?;
+        Ok(Places { filled, cells })
     }
 }
