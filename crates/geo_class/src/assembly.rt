@@ -171,4 +171,25 @@ impl Config {
             _ => unreachable!(),
         }
     }
+
+    /// The concat with one more place behind the others, filled by a consumer that has a component of `size` bytes in
+    /// sectors of `sector`.
+    pub fn with_place(
+        &self,
+        alloc: Global,
+        consumer: ConsId,
+        size: u64,
+        sector: u32,
+    ) -> Result<Config, NoMemory>
+        requires { CanGrow self.now size }
+        ensures { IfOk result (λ config. config ≡ add_place self.now consumer size) }
+    {
+        match self.layout() {
+            Layout::Concat { id, places, .. } => {
+                let places = places.with_more(alloc, consumer, size)?;
+                Ok(Config::concat_of(*id, places, sector))
+            }
+            _ => unreachable!(),
+        }
+    }
 }

@@ -1,18 +1,21 @@
 //! What a geom needs to place an offset, by its class.
-ghost use Rattle.std.specs.Prelude.{◌≡◌, ◌≤◌, ◌^◌, ◌==◌, false, true, None, Some, is_none, sum, if◌then◌else◌};
+ghost use Rattle.std.specs.Prelude.{◌≡◌, ◌≤◌, ◌^◌, ◌==◌, false, true, None, Some, is_none, sum, IfOk, if◌then◌else◌};
 ghost use Rattle.std.specs.List.{list_any};
-ghost use Rattle.geo_model.specs.Place.{component, disk_of};
+ghost use Rattle.std.specs.Option.{option_to_list};
+ghost use Rattle.geo_model.specs.Place.{component, components, disk_of};
 ghost use Rattle.geo_model.specs.World.{Nothing, Disk, Mbr, Ebr, Label, Concat, Stripe, Nop};
+ghost use Rattle.geo_class.specs.Assembly.{fail_of};
 ghost use Rattle.geo_class.specs.Layout.{HasItsMap, IsConcatMap, IsStripeMap, config_of};
 ghost use Rattle.geo_class.specs.Places.{ArePlaces, IsStriped};
 
 use crate::places::Places;
 use crate::sizes::smallest;
-use geo_base::ConsId;
+use geo_base::{ConsId, NoMemory};
 use geo_concat::ConcatMap;
 use geo_ebr::EbrPart;
 use geo_mbr::Slice;
 use geo_stripe::StripeMap;
+use std::alloc::Global;
 use std::marker::Model;
 
 /// What a configuration keeps. `below` is the consumer at place 0.
@@ -59,6 +62,7 @@ pub struct Config {
 
 impl Model for Config {
     ghost use Rattle.geo_model.specs.World.{Config as ConfigValue};
+    ghost use Rattle.geo_class.specs.Assembly.{fail_of};
     ghost use Rattle.geo_class.specs.Layout.{HasItsMap, config_of};
 
     ghost Value = { ConfigValue };
@@ -73,6 +77,17 @@ fn at_zero(below: Option<ConsId>, place: u32) -> Option<ConsId>
     ensures { result ≡ (if place == 0 then below else None) }
 {
     if place == 0 { below } else { None }
+}
+
+/// The consumer at place 0, if one fills it.
+fn one_below(alloc: Global, below: Option<ConsId>) -> Result<Vec<ConsId>, NoMemory>
+    ensures { IfOk result (λ consumers. consumers.items ≡ option_to_list below) }
+{
+    let mut consumers = Vec::new(alloc);
+    if let Some(consumer) = below {
+        consumers.push(consumer)?;
+    }
+    Ok(consumers)
 }
 
 /// The map of a concat whose places are all filled.
@@ -277,6 +292,32 @@ impl Config {
         match &self.layout {
             Layout::Disk { disk } => Some(*disk),
             _ => None,
+        }
+    }
+
+    /// Which requests of a NOP geom fail.
+    pub fn fail(&self) -> Option<u64>
+        ensures { result ≡ fail_of self.now }
+    {
+        match self.layout() {
+            Layout::Nop { fail, .. } => Some(*fail),
+            _ => None,
+        }
+    }
+
+    /// The consumers that fill the geom's places, in the order of the places.
+    pub fn components(&self, alloc: Global) -> Result<Vec<ConsId>, NoMemory>
+        ensures { IfOk result (λ consumers. consumers.items ≡ components self.now) }
+    {
+        match self.layout() {
+            Layout::Nothing => Ok(Vec::new(alloc)),
+            Layout::Disk { .. } => Ok(Vec::new(alloc)),
+            Layout::Mbr { below, .. } => one_below(alloc, *below),
+            Layout::Ebr { below, .. } => one_below(alloc, *below),
+            Layout::Label { below } => one_below(alloc, *below),
+            Layout::Concat { places, .. } => places.consumers(alloc),
+            Layout::Stripe { places, .. } => places.consumers(alloc),
+            Layout::Nop { below, .. } => one_below(alloc, *below),
         }
     }
 }

@@ -6,10 +6,12 @@ mod config;
 mod places;
 mod sizes;
 mod split;
+mod taste;
 mod verdict;
 
 pub use config::Config;
 pub use geo_model::{Facts, Shape, Verdict};
 pub use sizes::{concat_size, stripe_size};
 pub use split::Media;
+pub use taste::{Asked, Taste};
 pub use verdict::{judge, taste_where};

@@ -1,7 +1,7 @@
 //! The places of a CONCAT or STRIPE geom.
-ghost use Rattle.std.specs.Prelude.{◌≡◌, ◌≤◌, ◌<◌, [], ◌∷◌, ◌++◌, length, replicate, slice_get, slice_set, None, Some, is_none, is_some, IfOk};
+ghost use Rattle.std.specs.Prelude.{◌≡◌, ◌≤◌, ◌<◌, [], ◌∷◌, ◌++◌, flat_map, length, replicate, slice_get, slice_set, None, Some, is_none, is_some, IfOk};
 ghost use Rattle.std.specs.List.{list_all, list_any};
-ghost use Rattle.std.specs.Option.{option_flatten};
+ghost use Rattle.std.specs.Option.{option_flatten, option_to_list};
 ghost use Rattle.geo_class.specs.Places.{ArePlaces};
 
 use geo_base::{ConsId, NoMemory};
@@ -112,5 +112,18 @@ impl Places {
         let mut cells = Vec::from_slice(alloc, &self.cells)?;
         cells.push(size)?;
         Ok(Places { filled, cells })
+    }
+
+    /// The consumers that fill places, in the order of the places.
+    pub fn consumers(&self, alloc: Global) -> Result<Vec<ConsId>, NoMemory>
+        ensures { IfOk result (λ consumers. consumers.items ≡ flat_map option_to_list self.now.consumers) }
+    {
+        let mut consumers = Vec::new(alloc);
+        for place in &self.filled {
+            if let Some(consumer) = place {
+                consumers.push(*consumer)?;
+            }
+        }
+        Ok(consumers)
     }
 }

@@ -1,0 +1,51 @@
+-- A taste under way, and what the model sees in it.
+use Rattle.std.specs.Prelude.{ℕ, List, [], ◌∷◌, Option, Some, None}
+use Rattle.geo_base.specs.declared.kind.Kind.{Kind}
+use Rattle.geo_base.specs.declared.request.Counts.{Counts}
+use Rattle.geo_model.specs.Chain.{no_links}
+use Rattle.geo_model.specs.declared.class.Facts.{Facts}
+use Rattle.geo_model.specs.declared.class.Verdict.{Verdict}
+use Rattle.geo_model.specs.declared.class.Verdict.TheVariants.{Decline, More, Accept}
+use Rattle.geo_model.specs.declared.step.BioResult.{BioResult}
+use Rattle.geo_model.specs.declared.step.BioResult.TheVariants.{Bytes}
+use Rattle.geo_model.specs.World.{Asked, NoClass, NextSector, ReadOut, ReadBack, Taste}
+use Rattle.geo_model.specs.Tasting.{with_read, verdict_on}
+use Rattle.geo_class.specs.declared.taste.Asked.{Asked as AskedKept}
+use Rattle.geo_class.specs.declared.taste.Asked.TheVariants as kept
+
+-- how far a class has been asked
+abbrev pub asked_of : AskedKept → Asked
+asked_of kept.NoClass = NoClass
+asked_of (kept.NextSector kind sector) = NextSector kind sector
+asked_of (kept.ReadOut kind) = ReadOut kind
+asked_of (kept.ReadBack kind got) = ReadBack kind got
+
+-- the taste when it is done with a class
+abbrev pub ended : Taste → Taste
+ended s = record s { asked = NoClass; reads = 0; chain = no_links }
+
+-- the taste with the next class taken off those that are left
+abbrev pub with_next : Taste → List Kind → Taste
+with_next s [] = s
+with_next s (kind ∷ rest) = record (ended s) { classes = rest }
+
+-- the bytes of a result
+abbrev pub bytes_back : Asked → Option (List ℕ)
+bytes_back (ReadBack kind (Bytes bytes)) = Some bytes
+bytes_back _ = None
+
+module _ (granted : ℕ → Counts) where
+  -- what the class that is asked says to the sector that is back, if one is
+  abbrev pub verdict_back : Taste → Facts → Asked → Option Verdict
+  verdict_back s f (ReadBack kind (Bytes bytes)) = Some (verdict_on granted s kind bytes f)
+  verdict_back s f _ = None
+
+  -- the taste after a verdict of a class on these bytes
+  abbrev pub after_verdict : Taste → Kind → List ℕ → Facts → Verdict → Taste
+  after_verdict s kind bytes f (More sector) = record (with_read granted s kind bytes f) { asked = NextSector kind sector }
+  after_verdict s kind bytes f (Decline cause) = ended s
+  after_verdict s kind bytes f (Accept shape) = ended s
+
+  abbrev pub after_back : Taste → Facts → Asked → Taste
+  after_back s f (ReadBack kind (Bytes bytes)) = after_verdict s kind bytes f (verdict_on granted s kind bytes f)
+  after_back s f _ = ended s
