@@ -1,8 +1,9 @@
 -- A taste under way, and what the model sees in it.
 use Rattle.std.specs.Prelude.{ℕ, List, [], ◌∷◌, Option, Some, None}
+use Rattle.std.specs.Option.{option_map, option_map_or}
 use Rattle.geo_base.specs.declared.kind.Kind.{Kind}
 use Rattle.geo_base.specs.declared.request.Counts.{Counts}
-use Rattle.geo_model.specs.Chain.{no_links}
+use Rattle.geo_model.specs.Chain.{no_links, with_link}
 use Rattle.geo_model.specs.declared.class.Facts.{Facts}
 use Rattle.geo_model.specs.declared.class.Verdict.{Verdict}
 use Rattle.geo_model.specs.declared.class.Verdict.TheVariants.{Decline, More, Accept}
@@ -29,16 +30,21 @@ abbrev pub with_next : Taste → List Kind → Taste
 with_next s [] = s
 with_next s (kind ∷ rest) = record (ended s) { classes = rest }
 
--- the bytes of a result
-abbrev pub bytes_back : Asked → Option (List ℕ)
-bytes_back (ReadBack kind (Bytes bytes)) = Some bytes
-bytes_back _ = None
+-- the class that is asked, with the bytes of the sector that is back
+abbrev pub sector_back : Asked → Option (Kind × List ℕ)
+sector_back (ReadBack kind (Bytes bytes)) = Some (kind, bytes)
+sector_back _ = None
+
+-- the taste after a verdict of EBR on a link: with that link where another one is wanted
+abbrev pub with_link_of : Taste → Facts → List ℕ → Verdict → Taste
+with_link_of s f bytes (More sector) = record s { chain = with_link f.sectors s.chain bytes }
+with_link_of s f bytes (Decline cause) = s
+with_link_of s f bytes (Accept shape) = s
 
 module _ (granted : ℕ → Counts) where
   -- what the class that is asked says to the sector that is back, if one is
-  abbrev pub verdict_back : Taste → Facts → Asked → Option Verdict
-  verdict_back s f (ReadBack kind (Bytes bytes)) = Some (verdict_on granted s kind bytes f)
-  verdict_back s f _ = None
+  abbrev pub verdict_back : Taste → Facts → Option Verdict
+  verdict_back s f = option_map (λ x. verdict_on granted s x.0 x.1 f) (sector_back s.asked)
 
   -- the taste after a verdict of a class on these bytes
   abbrev pub after_verdict : Taste → Kind → List ℕ → Facts → Verdict → Taste
@@ -46,6 +52,10 @@ module _ (granted : ℕ → Counts) where
   after_verdict s kind bytes f (Decline cause) = ended s
   after_verdict s kind bytes f (Accept shape) = ended s
 
-  abbrev pub after_back : Taste → Facts → Asked → Taste
-  after_back s f (ReadBack kind (Bytes bytes)) = after_verdict s kind bytes f (verdict_on granted s kind bytes f)
-  after_back s f _ = ended s
+  -- the taste after the verdict on the sector that is back; where none is back the class is done with
+  abbrev pub after_back : Taste → Facts → Taste
+  after_back s f =
+      option_map_or
+      (λ x. after_verdict s x.0 x.1 f (verdict_on granted s x.0 x.1 f))
+      (sector_back s.asked)
+      (ended s)

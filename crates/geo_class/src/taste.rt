@@ -1,11 +1,14 @@
 //! A taste under way (geom(4)).
 ghost use Rattle.std.specs.Prelude.{◌≡◌, ◌+◌, ◌^◌, ◌<◌, ◌≤◌, ℕ, length, slice_get, IfSome};
+ghost use Rattle.geo_base.specs.declared.kind.Kind.TheVariants as kinds;
 ghost use Rattle.geo_base.specs.declared.request.Counts.{Counts as CountsValue};
 ghost use Rattle.geo_model.specs.Bios.{read_back};
-ghost use Rattle.geo_model.specs.Chain.{no_links};
+ghost use Rattle.geo_model.specs.Chain.{feed, no_links};
 ghost use Rattle.geo_model.specs.Events.{tasting_classes};
+ghost use Rattle.geo_model.specs.Tasting.{verdict_on};
 ghost use Rattle.geo_model.specs.World.{NoClass, ReadOut, NextSector, is_read_out};
-ghost use Rattle.geo_class.specs.Taste.{after_back, asked_of, bytes_back, ended, verdict_back, with_next};
+ghost use Rattle.geo_ebr.specs.ChainView.{chain_after, verdict_of};
+ghost use Rattle.geo_class.specs.Taste.{after_back, after_verdict, asked_of, ended, sector_back, verdict_back, with_link_of, with_next};
 
 use crate::verdict::judge;
 use geo_base::{Block, ConsId, Kind, ProvId};
@@ -54,6 +57,27 @@ impl Model for Taste {
     ghost view = { λ t. record { provider = t.provider; consumer = t.consumer; classes = drop t.passed tasting_classes; asked = asked_of t.asked; reads = t.reads; chain = t.chain.chain } };
 
     ghost invariant = { λ t. t.passed ≤ 5 };
+}
+
+/// An answer of a chain as a verdict of the class.
+fn verdict_of(link: Link) -> Verdict
+    ensures { result ≡ verdict_of link }
+{
+    match link {
+        Link::More(sector) => Verdict::More(sector),
+        Link::Declined(cause) => Verdict::Decline(cause),
+        Link::Whole(table) => Verdict::Accept(Shape::Logical(table)),
+    }
+}
+
+/// What EBR says to the bytes of the next link, together with the links that were read.
+fn judge_chain(chain: &mut Chain, sector: &[u8], facts: &Facts) -> Verdict
+    requires { 512 ≤ length sector.now }
+    ensures verdict { result ≡ feed facts.now.sectors chain.old.chain sector.now }
+    ensures chain { chain.new ≡ chain_after (record chain.old { sectors = facts.now.sectors }) sector.now result }
+{
+    chain.set_sectors(facts.sectors);
+    verdict_of(chain.feed(sector))
 }
 
 impl Taste {
@@ -144,6 +168,82 @@ impl Taste {
         if let Asked::ReadOut { kind } = &self.asked {
             let kind = *kind;
             self.asked = Asked::ReadBack { kind, got };
+        }
+    }
+
+    /// What a class says to the bytes of a sector. The class is done with, unless it wants another sector.
+    fn judge_sector(&mut self, kind: Kind, sector: &[u8], facts: &Facts) -> Verdict
+        requires { 512 ≤ length sector.now }
+        ensures verdict { (granted : ℕ → CountsValue) → result ≡ verdict_on granted self.old kind sector.now facts.now }
+        ensures taste { (granted : ℕ → CountsValue) → self.new ≡ after_verdict granted self.old kind sector.now facts.now result }
+    {
+        match kind {
+            Kind::Ebr => self.judge_link(sector, facts),
+            _ => {
+                self.end_class();
+                judge(kind, sector, facts)
+            }
+        }
+    }
+
+    /// What EBR says to the bytes of the next link. The link is kept where another one is wanted.
+    fn read_link(&mut self, sector: &[u8], facts: &Facts) -> Verdict
+        requires { 512 ≤ length sector.now }
+        ensures verdict { result ≡ feed facts.now.sectors self.old.chain sector.now }
+        ensures taste { self.new ≡ with_link_of self.old facts.now sector.now result }
+    {
+        judge_chain(&mut self.chain, sector, facts)
+    }
+
+    /// A class wants a sector next.
+    fn want_next(&mut self, kind: Kind, sector: u64)
+        ensures { self.new ≡ record self.old { asked = NextSector kind sector } }
+    {
+        self.asked = Asked::NextSector { kind, sector };
+    }
+
+    /// What EBR says to the bytes of the next link. The class is done with, unless it wants another link.
+    fn judge_link(&mut self, sector: &[u8], facts: &Facts) -> Verdict
+        requires { 512 ≤ length sector.now }
+        ensures verdict { result ≡ feed facts.now.sectors self.old.chain sector.now }
+        ensures taste { (granted : ℕ → CountsValue) → self.new ≡ after_verdict granted self.old kinds.Ebr sector.now facts.now result }
+    {
+        let verdict = self.read_link(sector, facts);
+        match &verdict {
+            Verdict::More(next) => self.want_next(Kind::Ebr, *next),
+            Verdict::Decline(_) => self.end_class(),
+            Verdict::Accept(_) => self.end_class(),
+        }
+        verdict
+    }
+
+    /// Takes the sector that is back, with the class that asked for it. None where none is back, and all stays.
+    fn take_sector(&mut self) -> Option<(Kind, Block)>
+        ensures sector { result ≡ sector_back self.old.asked }
+        ensures taste { self.new ≡ record self.old { asked = NoClass } }
+    {
+        match std::mem::replace(&mut self.asked, Asked::NoClass) {
+            Asked::ReadBack {
+                kind,
+                got: BioResult::Bytes(block),
+            } => Some((kind, block)),
+            _ => None,
+        }
+    }
+
+    /// What the class that is asked says to the sector that is back, where the tasted provider has these facts. None
+    /// where the read failed, or none is back. The class is done with, unless it wants another sector.
+    pub fn judge_back(&mut self, facts: &Facts) -> Option<Verdict>
+        requires { IfSome (sector_back self.old.asked) (λ x. 512 ≤ length x.1) }
+        ensures verdict { (granted : ℕ → CountsValue) → result ≡ verdict_back granted self.old facts.now }
+        ensures taste { (granted : ℕ → CountsValue) → self.new ≡ after_back granted self.old facts.now }
+    {
+        match self.take_sector() {
+            Some((kind, block)) => Some(self.judge_sector(kind, block.bytes(), facts)),
+            None => {
+                self.end_class();
+                None
+            }
         }
     }
 }
