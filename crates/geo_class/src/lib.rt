@@ -3,6 +3,7 @@
 
 mod assembly;
 mod config;
+pub mod laws;
 mod places;
 mod sizes;
 mod split;

@@ -1,22 +1,24 @@
 //! How a range of a provider is cut, by the address map of its class.
-ghost use Rattle.std.specs.Prelude.{◌≡◌, ◌≢◌, ◌+◌, ◌-◌, ◌*◌, ◌^◌, ◌<◌, ◌≤◌, [], ◌∷◌, None, min, sum, IfOk, IfSome, IsSomeAnd, if◌then◌else◌};
+ghost use Rattle.std.specs.Prelude.{◌≡◌, ◌≢◌, ◌+◌, ◌-◌, ◌*◌, ◌^◌, ◌<◌, ◌≤◌, [], ◌∷◌, ◌++◌, None, map, min, sum, IfOk, OnOk, IfSome, IsSomeAnd, if◌then◌else◌};
 ghost use Rattle.std.specs.List.{last_or};
-ghost use Rattle.std.specs.Option.{option_map_or};
-ghost use Rattle.geo_model.specs.Place.{concat_stretches, cut, end_number, part_at, pieces, slice_at, slice_place, strips, window};
+ghost use Rattle.std.specs.Option.{option_map_or, option_to_list};
+ghost use Rattle.geo_model.specs.Bios.{empty_piece};
+ghost use Rattle.geo_model.specs.Place.{components, concat_stretches, cut, end_number, part_at, pieces, slice_at, slice_place, strips, window};
 ghost use Rattle.geo_model.specs.ScriptWords.{is_digit};
 ghost use Rattle.geo_model.specs.Topology.{Provider};
 ghost use Rattle.geo_stripe.specs.StripeMap.{striped_size};
 ghost use Rattle.geo_class.specs.Layout.{HasItsMap, config_of};
+ghost use Rattle.geo_class.specs.Targets.{consumers_for};
 ghost use Rattle.geo_class.specs.Split.{Covers, provider_of};
 
 use crate::config::{Config, Layout};
-use geo_base::{Name, NoMemory};
+use geo_base::{ConsId, Name, NoMemory};
 use geo_concat::ConcatMap;
 use geo_ebr::EbrPart;
 use geo_label::LabelMap;
 use geo_mbr::Slice;
 use geo_nop::NopMap;
-use geo_range::{AddressMap, PieceList, Span, Window};
+use geo_range::{AddressMap, Piece, PieceList, Span, Window};
 use geo_stripe::StripeMap;
 use std::alloc::Global;
 
@@ -25,6 +27,23 @@ const SECTOR: u64 = 512;
 
 /// As many as no table has places.
 const MANY: usize = 1000;
+
+/// The piece of a FLUSH, which has no bytes.
+const EMPTY: Piece = Piece {
+    child: 0,
+    span: Span { offset: 0, len: 0 },
+    at: 0,
+};
+
+/// Adds the consumer, if there is one.
+fn push_some(consumers: &mut Vec<ConsId>, found: Option<ConsId>) -> Result<(), NoMemory>
+    ensures { OnOk result (consumers.new.items ≡ consumers.old.items ++ option_to_list found) }
+{
+    if let Some(consumer) = found {
+        consumers.push(consumer)?;
+    }
+    Ok(())
+}
 
 /// A provider whose ranges are cut: its name, its size, and the size of its sectors.
 #[derive(Clone, Copy, Debug)]
@@ -199,5 +218,29 @@ impl Config {
         ensures { (x : Provider) → x.name ≡ media.now.name → x.size ≡ media.now.size → IfOk result (λ list. list.items ≡ pieces self.now x span.offset span.len) }
     {
         split_by(self.layout(), alloc, media, span)
+    }
+
+    /// The pieces of a FLUSH, which goes once through each component.
+    pub fn flush(&self, alloc: Global) -> Result<PieceList, NoMemory>
+        ensures { IfOk result (λ list. list.items ≡ map (λ c. empty_piece) (components self.now)) }
+    {
+        let consumers = self.components(alloc)?;
+        let mut list = PieceList::new(alloc);
+        list.reserve(consumers.len() as u64)?;
+        for _ in &consumers {
+            list.push(EMPTY);
+        }
+        Ok(list)
+    }
+
+    /// The consumers of these pieces, in their order; a piece at a place that no consumer fills is passed over.
+    pub fn consumers(&self, alloc: Global, pieces: &[Piece]) -> Result<Vec<ConsId>, NoMemory>
+        ensures { IfOk result (λ consumers. consumers.items ≡ consumers_for self.now pieces.now) }
+    {
+        let mut consumers = Vec::new(alloc);
+        for piece in pieces {
+            push_some(&mut consumers, self.component(piece.child))?;
+        }
+        Ok(consumers)
     }
 }
