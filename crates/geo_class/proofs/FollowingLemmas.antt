@@ -16,7 +16,7 @@ use Rattle.geo_model.specs.Tasting.{end_class, facts_of, follow, take_result, ve
 use Rattle.geo_model.specs.Topology.{Provider}
 use Rattle.geo_model.specs.World.{Asked, Config, ReadBack, Taste}
 use Rattle.geo_class.specs.Following.{TastesFollow}
-use Rattle.geo_class.specs.Taste.{after_back, after_verdict, ended, sector_back}
+use Rattle.geo_class.specs.Taste.{after_verdict, ended, sector_back}
 
 module _ (granted : ℕ → Counts) (q : QueuedTopology Config) (p : Provider) where
   -- a taste that is done with a class has no chain, whether or not the link was kept

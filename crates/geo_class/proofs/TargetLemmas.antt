@@ -1,10 +1,10 @@
 -- The pieces of a bio with their consumers.
-use Rattle.std.proofs.Common.{◌≡◌, ℕ, Bool, true, false, List, [], ◌∷◌, map, Option, Some, None, refl, ap, sym, ◌∙◌}
-use Rattle.std.specs.Prelude.{filter_map, flat_map, IsSome, if◌then◌else◌}
+use Rattle.std.proofs.Common.{◌≡◌, ℕ, List, [], ◌∷◌, map, Option, Some, None, refl, ap}
+use Rattle.std.specs.Prelude.{filter_map, flat_map, IsSome}
 use Rattle.std.specs.List.{AllByRecursion}
 use Rattle.std.specs.Option.{option_map, option_to_list}
 use Rattle.geo_model.specs.declared.span.Piece.{Piece}
-use Rattle.geo_model.specs.Bios.{PieceTarget, empty_piece, piece_targets}
+use Rattle.geo_model.specs.Bios.{empty_piece}
 use Rattle.geo_model.specs.Place.{component, components, pieces}
 use Rattle.geo_class.specs.Targets.{AreTargets, FlushesGoThrough, PiecesGoThrough}
 

@@ -1,9 +1,9 @@
 -- Which providers the maps of their geoms cover.
-use Rattle.std.specs.Prelude.{◌≡◌, ℕ, ◌<◌, ◌≤◌, ◌^◌, false, List, length, is_none, IsSomeAnd, ⊤}
+use Rattle.std.specs.Prelude.{◌≡◌, ℕ, ◌<◌, ◌≤◌, ◌^◌, false, List, is_none, IsSomeAnd, ⊤}
 use Rattle.std.specs.List.{list_any}
 use Rattle.geo_model.specs.Acceptance.{joined_size, places_of}
 use Rattle.geo_model.specs.Place.{place}
-use Rattle.geo_model.specs.World.{Config, Concat, Stripe}
+use Rattle.geo_model.specs.World.{Config, Stripe}
 use Rattle.geo_class.specs.Split.{Covers}
 
 -- each offset below a size has a place, at an offset before 2 ^ 60 there

@@ -7,7 +7,6 @@ use Rattle.geo_model.specs.Chain.{no_links, with_link}
 use Rattle.geo_model.specs.declared.class.Facts.{Facts}
 use Rattle.geo_model.specs.declared.class.Verdict.{Verdict}
 use Rattle.geo_model.specs.declared.class.Verdict.TheVariants.{Decline, More, Accept}
-use Rattle.geo_model.specs.declared.step.BioResult.{BioResult}
 use Rattle.geo_model.specs.declared.step.BioResult.TheVariants.{Bytes}
 use Rattle.geo_model.specs.World.{Asked, NoClass, NextSector, ReadOut, ReadBack, Taste}
 use Rattle.geo_model.specs.Tasting.{with_read, verdict_on}
