@@ -10,17 +10,19 @@ use Rattle.geo_model.specs.Place.{Spot, concat_spot, slice_at, part_at}
 use Rattle.geo_model.specs.World.{Nothing, Disk, Mbr, Ebr, Label, Concat, Stripe, Nop}
 use Rattle.geo_class.specs.Cover.{WhatLiesIsCovered}
 
+-- an offset in the first component
+abbrev at_first : ℕ → Spot
+at_first o = record { component = 0; offset = o }
+
 -- the last offset of a slice that lies before 2 ^ 60 tells its end, and so does that of a partition
 slice-end : (slice : Option Slice) (size : ℕ) → 1 ≤ size
-    → IsSomeAnd (option_map (λ (s : Slice). let spot : Spot = record { component = 0; offset = s.first * 512 + (size - 1) } in spot) slice)
-    (λ spot. spot.offset < 2 ^ 60)
+    → IsSomeAnd (option_map (λ (s : Slice). at_first (s.first * 512 + (size - 1))) slice) (λ spot. spot.offset < 2 ^ 60)
     → IfSome slice (λ s. s.first * 512 + size ≤ 2 ^ 60)
 slice-end (Some s) size some before = omega (arith, some, before)
 slice-end None size some before = tt
 
 part-end : (part : Option EbrPart) (size : ℕ) → 1 ≤ size
-    → IsSomeAnd (option_map (λ (s : EbrPart). let spot : Spot = record { component = 0; offset = s.first * 512 + (size - 1) } in spot) part)
-    (λ spot. spot.offset < 2 ^ 60)
+    → IsSomeAnd (option_map (λ (s : EbrPart). at_first (s.first * 512 + (size - 1))) part) (λ spot. spot.offset < 2 ^ 60)
     → IfSome part (λ s. s.first * 512 + size ≤ 2 ^ 60)
 part-end (Some s) size some before = omega (arith, some, before)
 part-end None size some before = tt
@@ -38,7 +40,8 @@ concat-step k o size rest false spot beyond later placed =
     let left : o - size < rest = later placed in
     omega (arith, high, left)
 
-concat-inside : (k : ℕ) (sizes : List ℕ) (o : ℕ) → IsSomeAnd (concat_spot k sizes o) (λ x. x.offset < 2 ^ 60) → o < sum sizes
+concat-inside : (k : ℕ) (sizes : List ℕ) (o : ℕ)
+    → IsSomeAnd (concat_spot k sizes o) (λ x. x.offset < 2 ^ 60) → o < sum sizes
 concat-inside k [] o never = absurd never
 concat-inside k (size ∷ sizes) o placed =
     let below : o < size + sum sizes =

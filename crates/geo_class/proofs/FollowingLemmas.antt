@@ -20,7 +20,8 @@ use Rattle.geo_class.specs.Taste.{after_verdict, ended, sector_back}
 
 module _ (granted : ℕ → Counts) (q : QueuedTopology Config) (p : Provider) where
   -- a taste that is done with a class has no chain, whether or not the link was kept
-  ended-read : (s : Taste) (kind : Kind) (bytes : List ℕ) (f : Facts) → ended (with_read granted s kind bytes f) ≡ ended s
+  ended-read : (s : Taste) (kind : Kind) (bytes : List ℕ) (f : Facts)
+      → ended (with_read granted s kind bytes f) ≡ ended s
   ended-read s kinds.Ebr bytes f = refl
   ended-read s _ bytes f = refl
 
@@ -31,7 +32,8 @@ module _ (granted : ℕ → Counts) (q : QueuedTopology Config) (p : Provider) w
   accepted-taste s None = refl
 
   followed : (s : Taste) (kind : Kind) (bytes : List ℕ) (f : Facts) (v : Verdict)
-      → (follow granted q (with_read granted s kind bytes f) p kind v).taste ≡ after_verdict granted s kind bytes f v
+      → (follow granted q (with_read granted s kind bytes f) p kind v).taste
+      ≡ after_verdict granted s kind bytes f v
   followed s kind bytes f (Decline cause) = ended-read s kind bytes f
   followed s kind bytes f (More sector) = refl
   followed s kind bytes f (Accept shape) =
@@ -41,7 +43,8 @@ module _ (granted : ℕ → Counts) (q : QueuedTopology Config) (p : Provider) w
   taken : (s : Taste) (kind : Kind) (got : BioResult)
       → (take_result granted q s p kind got).taste
       ≡ option_map_or
-      (λ (x : Kind × List ℕ). after_verdict granted s x.0 x.1 (facts_of q.topology p) (verdict_on granted s x.0 x.1 (facts_of q.topology p)))
+      (λ (x : Kind × List ℕ). after_verdict granted s x.0 x.1 (facts_of q.topology p)
+      (verdict_on granted s x.0 x.1 (facts_of q.topology p)))
       (sector_back (ReadBack kind got)) (ended s)
   taken s kind (Bytes bytes) =
       followed s kind bytes (facts_of q.topology p) (verdict_on granted s kind bytes (facts_of q.topology p))
@@ -53,6 +56,7 @@ tastes_follow granted q s p kind got asked =
     taken granted q p s kind got
     ∙ ap
     (λ (a : Asked). option_map_or
-    (λ (x : Kind × List ℕ). after_verdict granted s x.0 x.1 (facts_of q.topology p) (verdict_on granted s x.0 x.1 (facts_of q.topology p)))
+    (λ (x : Kind × List ℕ). after_verdict granted s x.0 x.1 (facts_of q.topology p)
+    (verdict_on granted s x.0 x.1 (facts_of q.topology p)))
     (sector_back a) (ended s))
     (sym asked)

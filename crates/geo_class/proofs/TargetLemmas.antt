@@ -10,15 +10,18 @@ use Rattle.geo_class.specs.Targets.{AreTargets, FlushesGoThrough, PiecesGoThroug
 
 -- one empty piece for each consumer
 through-each : (consumers : List ℕ)
-    → AreTargets (map (λ c. record { consumer = c; piece = empty_piece }) consumers) consumers (map (λ c. empty_piece) consumers)
+    → AreTargets (map (λ c. record { consumer = c; piece = empty_piece }) consumers)
+    consumers (map (λ c. empty_piece) consumers)
 through-each [] = record { consumers = refl; pieces = refl }
 through-each (c ∷ cs) =
     let rest = through-each cs in
     record { consumers = ap (λ ns. c ∷ ns) rest.consumers; pieces = ap (λ xs. empty_piece ∷ xs) rest.pieces }
 
 -- a piece whose consumer is there comes first, with it
-through-one : (at_place : Piece → Option ℕ) (s : Piece) (list : List Piece) (found : Option ℕ) → found ≡ at_place s → IsSome found
-    → AreTargets (filter_map (λ x. option_map (λ c. record { consumer = c; piece = x }) (at_place x)) list) (flat_map (λ x. option_to_list (at_place x)) list) list
+through-one : (at_place : Piece → Option ℕ) (s : Piece) (list : List Piece) (found : Option ℕ)
+    → found ≡ at_place s → IsSome found
+    → AreTargets (filter_map (λ x. option_map (λ c. record { consumer = c; piece = x }) (at_place x)) list)
+    (flat_map (λ x. option_to_list (at_place x)) list) list
     → AreTargets (filter_map (λ x. option_map (λ c. record { consumer = c; piece = x }) (at_place x)) (s ∷ list))
     (flat_map (λ x. option_to_list (at_place x)) (s ∷ list)) (s ∷ list)
 through-one at_place s list (Some c) is there rest =
@@ -26,7 +29,8 @@ through-one at_place s list (Some c) is there rest =
 through-one at_place s list None is never rest = let no : ⊥ = cc in absurd no
 
 through-found : (at_place : Piece → Option ℕ) (list : List Piece) → AllByRecursion (λ s. IsSome (at_place s)) list
-    → AreTargets (filter_map (λ x. option_map (λ c. record { consumer = c; piece = x }) (at_place x)) list) (flat_map (λ x. option_to_list (at_place x)) list) list
+    → AreTargets (filter_map (λ x. option_map (λ c. record { consumer = c; piece = x }) (at_place x)) list)
+    (flat_map (λ x. option_to_list (at_place x)) list) list
 through-found at_place [] all = record { consumers = refl; pieces = refl }
 through-found at_place (s ∷ list) all =
     through-one at_place s list (at_place s) refl all.0 (through-found at_place list all.1)

@@ -25,7 +25,8 @@ module _ (granted : ℕ → Counts) (s : Taste) (kind : Kind) (bytes : List ℕ)
   after-found shape (Err cause) = refl
 
   after-sized : (other : Bool) (found : LabelRecord)
-      → after_verdict granted s kind bytes f (if other then Decline causes.Media else Accept (Named found)) ≡ ended s
+      → after_verdict granted s kind bytes f (if other then Decline causes.Media else Accept (Named found))
+      ≡ ended s
   after-sized true found = refl
   after-sized false found = refl
 
@@ -56,7 +57,8 @@ verdict-moved granted s asked kinds.Ebr bytes f = refl
 verdict-moved granted s asked _ bytes f = refl
 
 -- nor in what the taste is after it
-wanting-moved : (granted : ℕ → Counts) (s : Taste) (asked : Asked) (kind : Kind) (bytes : List ℕ) (f : Facts) (sector : ℕ)
+wanting-moved : (granted : ℕ → Counts) (s : Taste) (asked : Asked) (kind : Kind) (bytes : List ℕ) (f : Facts)
+    (sector : ℕ)
     → after_verdict granted (record s { asked = asked }) kind bytes f (More sector)
     ≡ after_verdict granted s kind bytes f (More sector)
 wanting-moved granted s asked kinds.Ebr bytes f sector = refl

@@ -10,7 +10,7 @@ use Rattle.geo_class.specs.Split.{Covers}
 abbrev pub LiesBefore : Config → List ℕ → ℕ → Type 0
 LiesBefore config name size = (o : ℕ) → o < size → IsSomeAnd (place config name o) (λ spot. spot.offset < 2 ^ 60)
 
--- a stripe is as long as its provider; components beyond its end have places too, so that its places don't tell this
+-- a stripe is as long as its provider; its places don't tell this, since they have no end
 abbrev pub IsAsLong : Config → ℕ → Type 0
 IsAsLong (Stripe id stripe places sizes) size = size ≤ joined_size (Stripe id stripe places sizes)
 IsAsLong _ size = ⊤

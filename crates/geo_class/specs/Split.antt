@@ -8,7 +8,7 @@ use Rattle.geo_class.specs.declared.split.Media.{Media}
 use Rattle.geo_model.specs.World.{Config, Mbr, Ebr, Label, Concat, Stripe, Nop}
 use Rattle.geo_stripe.specs.StripeMap.{striped_size}
 
--- the map of the provider of a name covers so many bytes: a window ends by 2 ^ 60, and an assembly is complete and as long
+-- the map of the provider of a name covers so many bytes: a window ends by 2 ^ 60, an assembly is complete and as long
 abbrev pub Covers : Config → List ℕ → ℕ → Type 0
 Covers (Mbr below slices) name size = IfSome (slice_at slices name) (λ s. s.first * 512 + size ≤ 2 ^ 60)
 Covers (Ebr below parts) name size = IfSome (part_at parts name) (λ s. s.first * 512 + size ≤ 2 ^ 60)

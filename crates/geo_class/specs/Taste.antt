@@ -47,7 +47,8 @@ module _ (granted : ℕ → Counts) where
 
   -- the taste after a verdict of a class on these bytes
   abbrev pub after_verdict : Taste → Kind → List ℕ → Facts → Verdict → Taste
-  after_verdict s kind bytes f (More sector) = record (with_read granted s kind bytes f) { asked = NextSector kind sector }
+  after_verdict s kind bytes f (More sector) =
+      record (with_read granted s kind bytes f) { asked = NextSector kind sector }
   after_verdict s kind bytes f (Decline cause) = ended s
   after_verdict s kind bytes f (Accept shape) = ended s
 

@@ -25,7 +25,8 @@ fn can_stand_joined(places: &Places) -> bool
 /// Whether a stripe of these places can stand: one is free, or a provider may have its size.
 #[tactic(auto, using(crate::proofs::AssemblyLemmas::size_is))]
 fn can_stand_striped(stripe: u32, places: &Places) -> bool
-    ensures { result ≡ (not (list_all is_some places.now.consumers) || is_size (length places.now.sizes * ((smallest places.now.sizes / stripe) * stripe))) }
+    ensures { result ≡ (not (list_all is_some places.now.consumers)
+        || is_size (length places.now.sizes * ((smallest places.now.sizes / stripe) * stripe))) }
 {
     !places.are_all_filled() || stripe_size(stripe, places.sizes()).is_some()
 }
@@ -130,7 +131,8 @@ impl Config {
         }
     }
 
-    /// The size of the provider of the assembly, as far as its components are known. None where no provider may have it.
+    /// The size of the provider of the assembly, as far as its components are known. None where no provider may
+    /// have it.
     pub fn joined_size(&self) -> Option<u64>
         ensures { result ≡ size_of (joined_size self.now) }
     {
@@ -141,8 +143,8 @@ impl Config {
         }
     }
 
-    /// The assembly with a place filled by a consumer that has a component of `size` bytes in sectors of `sector`. None
-    /// where it is complete by that and no provider may have its size.
+    /// The assembly with a place filled by a consumer that has a component of `size` bytes in sectors of `sector`.
+    /// None where it is complete by that and no provider may have its size.
     pub fn filled(
         &self,
         alloc: Global,
@@ -172,8 +174,8 @@ impl Config {
         }
     }
 
-    /// The concat with one more place behind the others, filled by a consumer that has a component of `size` bytes in
-    /// sectors of `sector`.
+    /// The concat with one more place behind the others, filled by a consumer that has a component of `size` bytes
+    /// in sectors of `sector`.
     pub fn with_place(
         &self,
         alloc: Global,

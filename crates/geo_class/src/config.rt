@@ -159,8 +159,8 @@ impl Config {
         }
     }
 
-    /// The places of a concat, whose components have sectors of `sector` bytes. A complete one has a size that a provider
-    /// may have.
+    /// The places of a concat, whose components have sectors of `sector` bytes. A complete one has a size that a
+    /// provider may have.
     pub(crate) fn concat_of(id: Option<u32>, places: Places, sector: u32) -> Config
         requires { list_any is_none places.consumers ≡ false → sum places.sizes ≤ 2 ^ 60 }
         ensures { result ≡ Concat id places.consumers places.sizes }
@@ -171,8 +171,8 @@ impl Config {
         }
     }
 
-    /// The places of a stripe, whose components have sectors of `sector` bytes. A complete one has a stripe size, and a
-    /// size that a provider may have.
+    /// The places of a stripe, whose components have sectors of `sector` bytes. A complete one has a stripe size,
+    /// and a size that a provider may have.
     pub(crate) fn stripe_of(id: Option<u32>, stripe: u32, places: Places, sector: u32) -> Config
         requires { list_any is_none places.consumers ≡ false → IsStriped stripe places.sizes }
         ensures { result ≡ Stripe id stripe places.consumers places.sizes }
@@ -217,8 +217,8 @@ impl Config {
         }
     }
 
-    /// The places of a concat, and the sizes of their components with sectors of `sector` bytes. A complete one has a size
-    /// that a provider may have.
+    /// The places of a concat, and the sizes of their components with sectors of `sector` bytes. A complete one has
+    /// a size that a provider may have.
     pub fn concat(
         id: Option<u32>,
         consumers: Vec<Option<ConsId>>,
@@ -232,8 +232,8 @@ impl Config {
         Config::concat_of(id, Places::new(consumers, sizes), sector)
     }
 
-    /// The places of a stripe, and the sizes of their components with sectors of `sector` bytes. A complete one has a
-    /// stripe size, and a size that a provider may have.
+    /// The places of a stripe, and the sizes of their components with sectors of `sector` bytes. A complete one has
+    /// a stripe size, and a size that a provider may have.
     pub fn stripe(
         id: Option<u32>,
         stripe: u32,

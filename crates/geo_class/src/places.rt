@@ -93,7 +93,8 @@ impl Places {
         size: u64,
     ) -> Result<Places, NoMemory>
         requires { place < length self.now.consumers }
-        ensures { IfOk result (λ p. p ≡ record { consumers = slice_set self.now.consumers place (Some consumer); sizes = slice_set self.now.sizes place size }) }
+        ensures { IfOk result (λ p. p
+            ≡ record { consumers = slice_set self.now.consumers place (Some consumer); sizes = slice_set self.now.sizes place size }) }
     {
         let mut filled = Vec::from_slice(alloc, &self.filled)?;
         let mut cells = Vec::from_slice(alloc, &self.cells)?;
@@ -105,7 +106,8 @@ impl Places {
     /// The same places, and one more behind them, filled by a consumer that has a component of this size.
     pub fn with_more(&self, alloc: Global, consumer: ConsId, size: u64) -> Result<Places, NoMemory>
         requires { length self.now.sizes < 16 }
-        ensures { IfOk result (λ p. p ≡ record { consumers = self.now.consumers ++ Some consumer ∷ []; sizes = self.now.sizes ++ size ∷ [] }) }
+        ensures { IfOk result (λ p. p
+            ≡ record { consumers = self.now.consumers ++ Some consumer ∷ []; sizes = self.now.sizes ++ size ∷ [] }) }
     {
         let mut filled = Vec::from_slice(alloc, &self.filled)?;
         filled.push(Some(consumer))?;

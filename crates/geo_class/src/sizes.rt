@@ -30,8 +30,8 @@ fn total(sizes: &[u64]) -> Option<u64>
     }
 }
 
-/// The size of a provider whose components of these sizes stand one behind the other. None where no provider may have
-/// it: it is 0, or above 2^60.
+/// The size of a provider whose components of these sizes stand one behind the other. None where no provider may
+/// have it: it is 0, or above 2^60.
 pub fn concat_size(sizes: &[u64]) -> Option<u64>
     ensures { result ≡ size_of (sum sizes.now) }
 {

@@ -131,7 +131,8 @@ fn split_slice(
     requires some_byte { 0 < span.len }
     requires inside { span.offset + span.len ≤ media.now.size }
     requires covered { IfSome (slice_at slices.now media.now.name) (λ s. s.first * 512 + media.now.size ≤ 2 ^ 60) }
-    ensures { IfOk result (λ list. list.items ≡ cut span.offset span.len (option_map_or (λ s. window (s.first * 512) media.now.size ∷ []) (slice_at slices.now media.now.name) [])) }
+    ensures { IfOk result (λ list. list.items ≡ cut span.offset span.len
+        (option_map_or (λ s. window (s.first * 512) media.now.size ∷ []) (slice_at slices.now media.now.name) [])) }
 {
     match slice_at(slices, &media.name) {
         Some(slice) => split_window(alloc, u64::from(slice.first) * SECTOR, media, span),
@@ -149,7 +150,8 @@ fn split_part(
     requires some_byte { 0 < span.len }
     requires inside { span.offset + span.len ≤ media.now.size }
     requires covered { IfSome (part_at parts.now media.now.name) (λ s. s.first * 512 + media.now.size ≤ 2 ^ 60) }
-    ensures { IfOk result (λ list. list.items ≡ cut span.offset span.len (option_map_or (λ s. window (s.first * 512) media.now.size ∷ []) (part_at parts.now media.now.name) [])) }
+    ensures { IfOk result (λ list. list.items ≡ cut span.offset span.len
+        (option_map_or (λ s. window (s.first * 512) media.now.size ∷ []) (part_at parts.now media.now.name) [])) }
 {
     match part_at(parts, &media.name) {
         Some(part) => split_window(alloc, part.first * SECTOR, media, span),
@@ -161,7 +163,8 @@ fn split_part(
 fn split_concat(alloc: Global, map: &Option<ConcatMap>, span: Span) -> Result<PieceList, NoMemory>
     requires some_byte { 0 < span.len }
     requires inside { IsSomeAnd map.now (λ m. span.offset + span.len ≤ sum m.sizes) }
-    ensures { IfOk result (λ list. IfSome map.now (λ m. list.items ≡ cut span.offset span.len (concat_stretches 0 0 m.sizes))) }
+    ensures { IfOk result (λ list. IfSome map.now (λ m. list.items
+        ≡ cut span.offset span.len (concat_stretches 0 0 m.sizes))) }
 {
     match map {
         Some(map) => map.split(alloc, span),
@@ -173,7 +176,8 @@ fn split_concat(alloc: Global, map: &Option<ConcatMap>, span: Span) -> Result<Pi
 fn split_stripe(alloc: Global, map: &Option<StripeMap>, span: Span) -> Result<PieceList, NoMemory>
     requires some_byte { 0 < span.len }
     requires inside { IsSomeAnd map.now (λ m. span.offset + span.len ≤ striped_size m.count m.stripe m.smallest) }
-    ensures { IfOk result (λ list. IfSome map.now (λ m. list.items ≡ cut span.offset span.len (strips m.count m.stripe span.offset span.len))) }
+    ensures { IfOk result (λ list. IfSome map.now (λ m. list.items
+        ≡ cut span.offset span.len (strips m.count m.stripe span.offset span.len))) }
 {
     match map {
         Some(map) => map.split(alloc, span),
@@ -192,7 +196,8 @@ fn split_by(
     requires inside { span.offset + span.len ≤ media.now.size }
     requires covered { Covers (config_of layout.now) media.now.name media.now.size }
     requires kept { HasItsMap layout.now }
-    ensures { IfOk result (λ list. list.items ≡ pieces (config_of layout.now) (provider_of media.now) span.offset span.len) }
+    ensures { IfOk result (λ list. list.items
+        ≡ pieces (config_of layout.now) (provider_of media.now) span.offset span.len) }
 {
     match layout {
         Layout::Nothing => Ok(PieceList::new(alloc)),
@@ -209,13 +214,14 @@ fn split_by(
 }
 
 impl Config {
-    /// The pieces of a range of the geom's provider with this name and this size, cut at the end of each component and
-    /// of each strip.
+    /// The pieces of a range of the geom's provider with this name and this size, cut at the end of each component
+    /// and of each strip.
     pub fn split(&self, alloc: Global, media: &Media, span: Span) -> Result<PieceList, NoMemory>
         requires some_byte { 0 < span.len }
         requires inside { span.offset + span.len ≤ media.now.size }
         requires covered { Covers self.now media.now.name media.now.size }
-        ensures { (x : Provider) → x.name ≡ media.now.name → x.size ≡ media.now.size → IfOk result (λ list. list.items ≡ pieces self.now x span.offset span.len) }
+        ensures { (x : Provider) → x.name ≡ media.now.name → x.size ≡ media.now.size
+            → IfOk result (λ list. list.items ≡ pieces self.now x span.offset span.len) }
     {
         split_by(self.layout(), alloc, media, span)
     }

@@ -34,8 +34,8 @@ pub enum Asked {
     ReadBack { kind: Kind, got: BioResult },
 }
 
-/// A taste of a provider: the classes that are left, the one that is asked, the reads made for it, and the chain that
-/// EBR has read. Contracts see the model's taste.
+/// A taste of a provider: the classes that are left, the one that is asked, the reads made for it, and the chain
+/// that EBR has read. Contracts see the model's taste.
 #[derive(Debug, Drop)]
 pub struct Taste {
     provider: ProvId,
@@ -54,7 +54,14 @@ impl Model for Taste {
 
     ghost Value = { TasteValue };
 
-    ghost view = { λ t. record { provider = t.provider; consumer = t.consumer; classes = drop t.passed tasting_classes; asked = asked_of t.asked; reads = t.reads; chain = t.chain.chain } };
+    ghost view = { λ t. record {
+      provider = t.provider;
+      consumer = t.consumer;
+      classes = drop t.passed tasting_classes;
+      asked = asked_of t.asked;
+      reads = t.reads;
+      chain = t.chain.chain;
+    } };
 
     ghost invariant = { λ t. t.passed ≤ 5 };
 }
@@ -83,7 +90,14 @@ fn judge_chain(chain: &mut Chain, sector: &[u8], facts: &Facts) -> Verdict
 impl Taste {
     /// A taste of the provider to which TASTE's consumer is attached. No class was asked yet.
     pub fn new(provider: ProvId, consumer: ConsId) -> Taste
-        ensures { result ≡ record { provider = provider; consumer = consumer; classes = tasting_classes; asked = NoClass; reads = 0; chain = no_links } }
+        ensures { result ≡ record {
+          provider = provider;
+          consumer = consumer;
+          classes = tasting_classes;
+          asked = NoClass;
+          reads = 0;
+          chain = no_links;
+        } }
     {
         Taste {
             provider,
@@ -174,8 +188,10 @@ impl Taste {
     /// What a class says to the bytes of a sector. The class is done with, unless it wants another sector.
     fn judge_sector(&mut self, kind: Kind, sector: &[u8], facts: &Facts) -> Verdict
         requires { 512 ≤ length sector.now }
-        ensures verdict { (granted : ℕ → CountsValue) → result ≡ verdict_on granted self.old kind sector.now facts.now }
-        ensures taste { (granted : ℕ → CountsValue) → self.new ≡ after_verdict granted self.old kind sector.now facts.now result }
+        ensures verdict { (granted : ℕ → CountsValue)
+            → result ≡ verdict_on granted self.old kind sector.now facts.now }
+        ensures taste { (granted : ℕ → CountsValue)
+            → self.new ≡ after_verdict granted self.old kind sector.now facts.now result }
     {
         match kind {
             Kind::Ebr => self.judge_link(sector, facts),
@@ -206,7 +222,8 @@ impl Taste {
     fn judge_link(&mut self, sector: &[u8], facts: &Facts) -> Verdict
         requires { 512 ≤ length sector.now }
         ensures verdict { result ≡ feed facts.now.sectors self.old.chain sector.now }
-        ensures taste { (granted : ℕ → CountsValue) → self.new ≡ after_verdict granted self.old kinds.Ebr sector.now facts.now result }
+        ensures taste { (granted : ℕ → CountsValue)
+            → self.new ≡ after_verdict granted self.old kinds.Ebr sector.now facts.now result }
     {
         let verdict = self.read_link(sector, facts);
         match &verdict {
@@ -231,12 +248,14 @@ impl Taste {
         }
     }
 
-    /// What the class that is asked says to the sector that is back, where the tasted provider has these facts. None
-    /// where the read failed, or none is back. The class is done with, unless it wants another sector.
+    /// What the class that is asked says to the sector that is back, where the tasted provider has these facts.
+    /// None where the read failed, or none is back. The class is done with, unless it wants another sector.
     pub fn judge_back(&mut self, facts: &Facts) -> Option<Verdict>
         requires { IfSome (sector_back self.old.asked) (λ x. 512 ≤ length x.1) }
-        ensures verdict { (granted : ℕ → CountsValue) → result ≡ verdict_back granted self.old facts.now }
-        ensures taste { (granted : ℕ → CountsValue) → self.new ≡ after_back granted self.old facts.now }
+        ensures verdict { (granted : ℕ → CountsValue)
+            → result ≡ verdict_back granted self.old facts.now }
+        ensures taste { (granted : ℕ → CountsValue)
+            → self.new ≡ after_back granted self.old facts.now }
     {
         match self.take_sector() {
             Some((kind, block)) => Some(self.judge_sector(kind, block.bytes(), facts)),

@@ -23,8 +23,8 @@ fn last_sector(facts: &Facts) -> Option<u64>
 }
 
 /// The sector for which a class asks first: the first one for a partition table in sectors of 512 bytes, MBR on
-/// anything but an MBR geom's provider and EBR on such a provider alone, and the last one for a record, where there are
-/// two or more. None where the class doesn't look at the provider.
+/// anything but an MBR geom's provider and EBR on such a provider alone, and the last one for a record, where there
+/// are two or more. None where the class doesn't look at the provider.
 pub fn taste_where(kind: Kind, facts: &Facts) -> Option<u64>
     ensures { result ≡ taste_where kind facts.now }
 {
@@ -93,9 +93,9 @@ fn verdict_on_stripe(found: Result<StripeRecord, Declined>) -> Verdict
     }
 }
 
-/// What a class says to the sector for which it asked, which has these bytes: `Accept` with what it found, or `Decline`
-/// with the first cause. EBR judges a chain of sectors and not one; it declines here, as do the classes that don't
-/// taste.
+/// What a class says to the sector for which it asked, which has these bytes: `Accept` with what it found, or
+/// `Decline` with the first cause. EBR judges a chain of sectors and not one; it declines here, as do the classes
+/// that don't taste.
 pub fn judge(kind: Kind, sector: &[u8], facts: &Facts) -> Verdict
     requires { 512 ≤ length sector.now }
     ensures { result ≡ judge kind sector.now facts.now }

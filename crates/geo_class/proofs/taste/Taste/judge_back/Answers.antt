@@ -24,7 +24,8 @@ returns-in-Some-clause-taste c granted =
     c.bytes.ensures
     ∙ ap (λ s. after_verdict granted s c.in-Some.kind c.in-Some.block c.args.facts.now c.judge_sector.result)
     c.take_sector.ensures.taste
-    ∙ after-moved granted c.args.self.now NoClass c.in-Some.kind c.in-Some.block c.args.facts.now c.judge_sector.result
+    ∙ after-moved granted c.args.self.now NoClass c.in-Some.kind c.in-Some.block c.args.facts.now
+    c.judge_sector.result
     ∙ ap (after_verdict granted c.args.self.now c.in-Some.kind c.in-Some.block c.args.facts.now)
     (c.judge_sector.ensures.verdict granted
     ∙ ap (λ b. verdict_on granted c.take_sector.new.self c.in-Some.kind b c.args.facts.now) c.bytes.ensures
