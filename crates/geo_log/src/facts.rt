@@ -5,8 +5,8 @@ use geo_base::NoMemory;
 use std::alloc::Global;
 use std::marker::Model;
 
-/// The sector size in bytes and the sectors of each disk, in header order. Contracts see the list of these pairs, and
-/// for how many more there is room.
+/// The sector size in bytes and the sectors of each disk, in header order. Contracts see the list of these pairs,
+/// and for how many more there is room.
 #[derive(Debug, Drop)]
 pub struct DiskFacts {
     pairs: Vec<(u32, u64)>,
