@@ -5,12 +5,8 @@ use Rattle.std.proofs.lemmas.Bool.{cases_eq, eq-eqb, ne_eqb, eqb-true}
 use Rattle.geo_model.specs.Words.{names_number, same_name}
 use Rattle.geo_names.proofs.Rows.{same_is, is_same}
 use Rattle.geo_handles.specs.declared.key.Key.{Key}
+use Rattle.geo_handles.specs.Handles.{is_at}
 use Rattle.geo_handles.specs.Keys.{same_key, is_key, IsFinder}
-
--- whether a number is the one that may be there
-abbrev pub is_at : Option ℕ → ℕ → Bool
-is_at None m = false
-is_at (Some n) m = m == n
 
 -- a test of keys that holds just of a key and itself
 pub record IsTest {K : Type 0} (test : Option K → K → Bool) : Type 0 where

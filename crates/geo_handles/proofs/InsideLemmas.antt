@@ -15,10 +15,10 @@ use Rattle.geo_handles.specs.declared.key.Key.{Key}
 use Rattle.geo_handles.specs.declared.records.HandleRec.{HandleRec}
 use Rattle.geo_handles.specs.declared.handles.Inside.{Inside}
 use Rattle.geo_handles.specs.Keys.{key_named, same_key, is_key, name_key, consumer_key, number_of_key, number_of_consumer, IsFinder}
-use Rattle.geo_handles.specs.Handles.{handle_at, named_handle, holding_handle, closed}
+use Rattle.geo_handles.specs.Handles.{handle_at, named_handle, holding_handle, closed, is_at, HoldsAlone}
 use Rattle.geo_handles.specs.Inside.{handle_row, key_at, IsInside}
 use Rattle.geo_handles.proofs.FinderLemmas.{keys-test, consumers-test, finds, finder-same, finder-add, finder-drop}
-use Rattle.geo_handles.proofs.RowLemmas.{all-rows, length-without, IsOf, find-one, change-none, change-one}
+use Rattle.geo_handles.proofs.RowLemmas.{all-rows, all-items, length-without, IsOf, find-one, change-none, change-one}
 use Rattle.geo_handles.proofs.NumberLemmas.{value_at-set, value_at-kept}
 
 -- a number that has a key has a value
@@ -81,6 +81,10 @@ module _ (n : Inside) (is : IsInside n) where
   -- the handle of a consumer's number has the consumer
   pub held-by : (c k : ℕ) (x : HandleRec) → number_of_consumer n.consumers c ≡ Some k → value_at n.table.rows k ≡ Some x → x.consumer ≡ Some c
   held-by c k x has at = sym (ap (option_and_then consumer_key) at) ∙ is.held.found c k has
+
+  -- no other handle has the consumer, and none has the number
+  pub held-alone : (c : ℕ) → HoldsAlone (map handle_row n.table.rows) c (number_of_consumer n.consumers c)
+  held-alone c = all-items handle_row (λ h. names_number h.consumer c ≡ is_at (number_of_consumer n.consumers c) h.number) n.table.rows (held-all c)
 
   -- no number without a handle
   none : {o : Option ℕ} {h : Option Handle} → o ≡ option_map (λ (h : Handle). h.number) h → h ≡ None → o ≡ None

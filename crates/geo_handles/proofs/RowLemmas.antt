@@ -7,7 +7,7 @@ use Rattle.std.proofs.lemmas.Bool.{cases_eq, eq-eqb, ne_eqb}
 use Rattle.geo_model.specs.Words.{change_where}
 use Rattle.geo_slots.specs.Slots.{IsRising, value_at, with_value, without}
 use Rattle.geo_slots.proofs.RowLemmas.{value_at_below}
-use Rattle.geo_handles.proofs.FinderLemmas.{is_at}
+use Rattle.geo_handles.specs.Handles.{is_at}
 
 module _ {T : Type 0} where
   -- what holds of each number with its value holds of each row
@@ -44,6 +44,11 @@ module _ {T : Type 0} where
       stay low [] rising below = refl
       stay low (row ∷ rows) rising below =
           rw (ne_eqb row.0 n (λ same. omega (arith, same, rising.0))) (ap (λ xs. row ∷ xs) (stay (row.0 + 1) rows rising.1 (omega (arith, rising.0))))
+
+-- what holds of the item of each row holds of each item
+pub all-items : {T X : Type 0} (item : ℕ × T → X) (P : X → Type 0) (rows : List (ℕ × T)) → AllByRecursion (λ row. P (item row)) rows → AllByRecursion P (map item rows)
+all-items item P [] all = tt
+all-items item P (row ∷ rows) all = (all.0, all-items item P rows all.1)
 
 module _ {T X : Type 0} (item : ℕ × T → X) (test : X → Bool) where
   -- the test passes just the item of a number that may be there

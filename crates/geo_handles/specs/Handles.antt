@@ -1,5 +1,6 @@
 -- Handles, as contracts see them.
-use Rattle.std.specs.Prelude.{ℕ, ◌+◌, ◌==◌, ◌&&◌, Bool, true, false, not, List, [], ◌∷◌, ◌++◌, Option, Some, None, find, filter, option_map}
+use Rattle.std.specs.Prelude.{◌≡◌, ℕ, ◌+◌, ◌==◌, ◌&&◌, Bool, true, false, not, List, [], ◌∷◌, ◌++◌, Option, Some, None, find, filter, option_map}
+use Rattle.std.specs.List.{AllByRecursion}
 use Rattle.geo_base.specs.declared.request.Counts.{Counts}
 use Rattle.geo_model.specs.Words.{same_name, names_number, change_where}
 use Rattle.geo_model.specs.World.{Handle}
@@ -32,6 +33,15 @@ named_handle handles actor name = find (λ h. (h.actor == actor) && same_name h.
 -- the handle of a consumer
 abbrev pub holding_handle : List Handle → ℕ → Option Handle
 holding_handle handles c = find (λ h. names_number h.consumer c) handles
+
+-- whether a number is the one that may be there
+abbrev pub is_at : Option ℕ → ℕ → Bool
+is_at None m = false
+is_at (Some n) m = m == n
+
+-- each handle has the consumer just where it has the number that may be there
+abbrev pub HoldsAlone : List Handle → ℕ → Option ℕ → Type 0
+HoldsAlone handles c o = AllByRecursion (λ h. names_number h.consumer c ≡ is_at o h.number) handles
 
 -- with the next handle, of this actor, name, consumer and grant, which isn't dead and can't be reaped
 abbrev pub with_opened : HandlesView → ℕ → List ℕ → ℕ → Counts → HandlesView

@@ -2,7 +2,7 @@
 ghost use Rattle.std.specs.Prelude.{◌≡◌, ◌≤◌, ◌+◌, None, length, IsOk, OnOk, IfOk, IsSome, option_map, option_copied};
 ghost use Rattle.std.specs.Option.{option_and_then};
 ghost use Rattle.geo_slots.specs.Slots.{with_value, without};
-ghost use Rattle.geo_handles.specs.Handles.{no_handles, handle_seen, handle_at, named_handle, holding_handle, with_opened, killed, released, closed, first_ready};
+ghost use Rattle.geo_handles.specs.Handles.{no_handles, handle_seen, handle_at, named_handle, holding_handle, HoldsAlone, with_opened, killed, released, closed, first_ready};
 
 use crate::key::Key;
 use crate::parts;
@@ -105,10 +105,11 @@ impl Handles {
         parts::number_named(&self.inside.names, actor, name)
     }
 
-    /// The handle of a consumer.
+    /// The handle of a consumer. No other handle has the consumer.
     pub fn of_consumer(&self, consumer: ConsId) -> Option<HandleId>
         ensures number { result ≡ option_map (λ h. h.number) (holding_handle self.now.handles consumer) }
         ensures handle { option_and_then (handle_at self.now.handles) result ≡ holding_handle self.now.handles consumer }
+        ensures alone { HoldsAlone self.now.handles consumer result }
     {
         parts::number_held(&self.inside.consumers, consumer)
     }

@@ -3,10 +3,9 @@
 
 mod handles;
 mod key;
-mod laws;
+pub mod laws;
 mod parts;
 mod records;
 
 pub use handles::Handles;
-pub use laws::handles_are_of_world;
 pub use records::HandleRec;
