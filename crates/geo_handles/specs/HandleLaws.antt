@@ -25,8 +25,8 @@ pub record HandlesAreOfWorld (w : World) : Type 0 where
   pub closes : (h : Handle) → closed w.handles h.number ≡ (without_handle w h).handles
   pub first : (ready : List (ℕ × Bool)) → ready ≡ noted (is_to_reap w) w.handles → first_ready ready ≡ option_map (λ h. h.number) (reap_work w)
 
--- where the notes are what a test says, they are so after a handle came that doesn't pass it, after one was closed, and
--- after one was noted otherwise
+-- where the notes are what a test says, they are so after a handle came that doesn't pass it, after one was closed,
+-- and after one was noted otherwise
 pub record NotesFollow (test : Handle → Bool) (handles : List Handle) : Type 0 where
   pub opens : (h : Handle) → test h ≡ false → noted test handles ++ (h.number, false) ∷ [] ≡ noted test (handles ++ h ∷ [])
   pub closes : (n : ℕ) → without (noted test handles) n ≡ noted test (closed handles n)
