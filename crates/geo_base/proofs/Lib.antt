@@ -1,3 +1,4 @@
+pub mod Tests
 pub mod NameLemmas
 pub mod RunsLemmas
 pub mod RunsReach

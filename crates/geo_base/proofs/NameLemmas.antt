@@ -17,7 +17,8 @@ pub name_of-long : (bytes : List ℕ) → 63 < length bytes → name_of bytes �
 name_of-long bytes long = grind (arith, nat_tests)
 
 -- a name in front of what is left of 63 zeros
-pub kept_from : (bytes front zeros : List ℕ) → front ≡ bytes → is_name bytes ≡ true → zeros ≡ replicate 63 0 → IsKeptName (front ++ drop (length bytes) zeros) (length bytes)
+pub kept_from : (bytes front zeros : List ℕ) → front ≡ bytes → is_name bytes ≡ true → zeros ≡ replicate 63 0
+    → IsKeptName (front ++ drop (length bytes) zeros) (length bytes)
 kept_from bytes front zeros same named blank =
     let short : length bytes ≤ 63 = is_name-short bytes named in
     let long : length (drop (length bytes) (replicate {A = ℕ} 63 0)) ≡ 63 - length bytes =
@@ -31,7 +32,8 @@ kept_from bytes front zeros same named blank =
 
 -- two lists written one behind the other into cells stand there
 pub joined_cells : (front tail blank first second : List ℕ) (k : ℕ) → first ≡ front → second ≡ tail →
-    take (length front + length tail) (put_mid (length front) k (first ++ drop (length front) blank) second) ≡ front ++ tail
+    take (length front + length tail) (put_mid (length front) k (first ++ drop (length front) blank) second)
+    ≡ front ++ tail
 joined_cells front tail blank first second k same_first same_second =
     rw (same_first, same_second)
     (take-put_mid (length front) k (front ++ drop (length front) blank) tail (length front + length tail) refl

@@ -45,7 +45,8 @@ read-high : (bytes : List ℕ) (h : ℕ) → h < 16 → read_on Start bytes (hex
 unfolding read_on
 read-high bytes h lt = ap (λ o. inside_run bytes (high_place o)) (hex_value-digit h lt)
 
-read-low : (bytes : List ℕ) (v : ℕ) → v < 256 → (last_of bytes == v) ≡ false → read_on (High (v / 16)) bytes (hex_digit (v % 16)) ≡ Some (at_place (Byte v) bytes)
+read-low : (bytes : List ℕ) (v : ℕ) → v < 256 → (last_of bytes == v) ≡ false
+    → read_on (High (v / 16)) bytes (hex_digit (v % 16)) ≡ Some (at_place (Byte v) bytes)
 unfolding read_on byte_place
 read-low bytes v byte other =
     let parts : 16 * (v / 16) + v % 16 ≡ v = omega arith in
@@ -56,22 +57,26 @@ read-star : (bytes : List ℕ) (v : ℕ) → read_on (Byte v) bytes 42 ≡ Some 
 unfolding read_on
 read-star bytes v = refl
 
-read-digit : (bytes : List ℕ) (v n m d : ℕ) → d < 10 → m ≡ 10 * n + d → 1 ≤ m → length bytes + m ≤ 65536 → read_on (Times v n) bytes (48 + d) ≡ Some (at_place (Times v m) bytes)
+read-digit : (bytes : List ℕ) (v n m d : ℕ) → d < 10 → m ≡ 10 * n + d → 1 ≤ m → length bytes + m ≤ 65536
+    → read_on (Times v n) bytes (48 + d) ≡ Some (at_place (Times v m) bytes)
 unfolding read_on times_place
 read-digit bytes v n m d small e some few =
     let not_space : (48 + d == 32) ≡ false = grind (arith, nat_tests) in
     let value : 10 * n + (48 + d - 48) ≡ m = omega arith in
-    let good : ((nat_le 48 (48 + d) && nat_le (48 + d) 57) && (nat_le 1 m && nat_le (length bytes + m) 65536)) ≡ true = grind (arith, nat_tests) in
+    let good : ((nat_le 48 (48 + d) && nat_le (48 + d) 57) && (nat_le 1 m && nat_le (length bytes + m) 65536))
+    ≡ true = grind (arith, nat_tests) in
     rw (not_space, value, good) refl
 
-read-space : (bytes : List ℕ) (v n : ℕ) → 1 ≤ n → length bytes + n < 65536 → read_on (Times v n) bytes 32 ≡ Some (at_place Start (bytes ++ replicate n v))
+read-space : (bytes : List ℕ) (v n : ℕ) → 1 ≤ n → length bytes + n < 65536
+    → read_on (Times v n) bytes 32 ≡ Some (at_place Start (bytes ++ replicate n v))
 unfolding read_on ended_run
 read-space bytes v n some few =
     let good : (nat_le 1 n && nat_lt (length bytes + n) 65536) ≡ true = grind (arith, nat_tests) in
     rw good refl
 
 abbrev ReadsDigits : List ℕ → ℕ → ℕ → List ℕ → Type 0
-ReadsDigits bytes v n ds = 1 ≤ n → length bytes + n ≤ 65536 → read_more (Some (at_place (Times v 0) bytes)) ds ≡ Some (at_place (Times v n) bytes)
+ReadsDigits bytes v n ds = 1 ≤ n → length bytes + n ≤ 65536
+    → read_more (Some (at_place (Times v 0) bytes)) ds ≡ Some (at_place (Times v n) bytes)
 
 read-decimal : (bytes : List ℕ) (v n : ℕ) → n < 2 ^ 64 → ReadsDigits bytes v n (decimal n)
 read-decimal bytes v n fits = decimal_by_steps (ReadsDigits bytes v) one more n fits
@@ -79,15 +84,18 @@ read-decimal bytes v n fits = decimal_by_steps (ReadsDigits bytes v) one more n 
     one : (n : ℕ) → n < 10 → ReadsDigits bytes v n ((48 + n) ∷ [])
     one n small some few = read-digit bytes v 0 n n small (omega arith) some few
 
-    more : (n : ℕ) (ds : List ℕ) → 10 ≤ n → ReadsDigits bytes v (n / 10) ds → ReadsDigits bytes v n (ds ++ ((48 + n % 10) ∷ []))
+    more : (n : ℕ) (ds : List ℕ) → 10 ≤ n → ReadsDigits bytes v (n / 10) ds
+        → ReadsDigits bytes v n (ds ++ ((48 + n % 10) ∷ []))
     more n ds big before some few =
-        let front : read_more (Some (at_place (Times v 0) bytes)) ds ≡ Some (at_place (Times v (n / 10)) bytes) = before (omega arith) (omega arith) in
+        let front : read_more (Some (at_place (Times v 0) bytes)) ds ≡ Some (at_place (Times v (n / 10)) bytes) =
+        before (omega arith) (omega arith) in
         read_more-append (Some (at_place (Times v 0) bytes)) ds ((48 + n % 10) ∷ [])
         ∙ ap (λ o. read_more o ((48 + n % 10) ∷ [])) front
         ∙ read-digit bytes v (n / 10) n (n % 10) (omega arith) (omega arith) some few
 
 -- a run is read whole
-read-run : (bytes : List ℕ) (v n : ℕ) → v < 256 → (last_of bytes == v) ≡ false → 1 ≤ n → length bytes + n ≤ 65536 → read_more (Some (at_place Start bytes)) (run_text (run v n)) ≡ Some (at_place (Times v n) bytes)
+read-run : (bytes : List ℕ) (v n : ℕ) → v < 256 → (last_of bytes == v) ≡ false → 1 ≤ n → length bytes + n ≤ 65536
+    → read_more (Some (at_place Start bytes)) (run_text (run v n)) ≡ Some (at_place (Times v n) bytes)
 read-run bytes v n byte other some few =
     let ds = decimal n in
     ap (λ o. read_more o (hex_digit (v % 16) ∷ (42 ∷ ds))) (read-high bytes (v / 16) (omega arith))
@@ -96,7 +104,8 @@ read-run bytes v n byte other some few =
     ∙ read-decimal bytes v n (omega arith) some few
 
 -- a run and the bytes after it
-read-after : (cs : List ℕ) (bytes : List ℕ) (v n : ℕ) → v < 256 → AllByRecursion (λ b. b < 256) cs → (last_of bytes == v) ≡ false → 1 ≤ n → length bytes + n + length cs ≤ 65536 →
+read-after : (cs : List ℕ) (bytes : List ℕ) (v n : ℕ) → v < 256 → AllByRecursion (λ b. b < 256) cs
+    → (last_of bytes == v) ≡ false → 1 ≤ n → length bytes + n + length cs ≤ 65536 →
     EndsRun (read_more (Some (at_place Start bytes)) (text_after v n cs)) ((bytes ++ replicate n v) ++ cs)
 read-after [] bytes v n byte are other some few = record {
   byte = v;
@@ -107,15 +116,22 @@ read-after [] bytes v n byte are other some few = record {
   whole = sym (append-nil (bytes ++ replicate n v));
 }
 read-after (c ∷ cs) bytes v n byte are other some few =
-    into (c == v) refl (read-after cs bytes v (n + 1) byte are.1 other) (read-after cs (bytes ++ replicate n v) c 1 are.0 are.1)
+    into (c == v) refl (read-after cs bytes v (n + 1) byte are.1 other)
+    (read-after cs (bytes ++ replicate n v) c 1 are.0 are.1)
   where
     Whole : List ℕ → List ℕ → Type 0
     Whole text all = EndsRun (read_more (Some (at_place Start bytes)) text) all
 
     into : (t : Bool) → (c == v) ≡ t →
-        (1 ≤ n + 1 → length bytes + (n + 1) + length cs ≤ 65536 → EndsRun (read_more (Some (at_place Start bytes)) (text_after v (n + 1) cs)) ((bytes ++ replicate (n + 1) v) ++ cs)) →
-        ((last_of (bytes ++ replicate n v) == c) ≡ false → 1 ≤ 1 → length (bytes ++ replicate n v) + 1 + length cs ≤ 65536 → EndsRun (read_more (Some (at_place Start (bytes ++ replicate n v))) (text_after c 1 cs)) (((bytes ++ replicate n v) ++ replicate 1 c) ++ cs)) →
-        EndsRun (read_more (Some (at_place Start bytes)) (text_after v n (c ∷ cs))) ((bytes ++ replicate n v) ++ (c ∷ cs))
+        (1 ≤ n + 1 → length bytes + (n + 1) + length cs ≤ 65536
+        → EndsRun (read_more (Some (at_place Start bytes)) (text_after v (n + 1) cs))
+        ((bytes ++ replicate (n + 1) v) ++ cs)) →
+        ((last_of (bytes ++ replicate n v) == c) ≡ false → 1 ≤ 1
+        → length (bytes ++ replicate n v) + 1 + length cs ≤ 65536
+        → EndsRun (read_more (Some (at_place Start (bytes ++ replicate n v))) (text_after c 1 cs))
+        (((bytes ++ replicate n v) ++ replicate 1 c) ++ cs)) →
+        EndsRun (read_more (Some (at_place Start bytes)) (text_after v n (c ∷ cs))) ((bytes ++ replicate n v)
+        ++ (c ∷ cs))
     into true e on _ =
         let same : c ≡ v = grind (arith, nat_tests) in
         let r = on (omega arith) (omega arith) in
@@ -125,11 +141,15 @@ read-after (c ∷ cs) bytes v n byte are other some few =
           done = r.done;
           some = r.some;
           stands = ap (read_more (Some (at_place Start bytes))) (text_after-same v n c cs same) ∙ r.stands;
-          whole = r.whole ∙ ap (λ l. l ++ cs) (ap (λ l. bytes ++ l) (sym (replicate-append-replicate n 1 v)) ∙ sym (append_assoc bytes (replicate n v) (v ∷ []))) ∙ append_assoc (bytes ++ replicate n v) (v ∷ []) cs ∙ ap (λ x. (bytes ++ replicate n v) ++ (x ∷ cs)) (sym same);
+          whole = r.whole ∙ ap (λ l. l ++ cs) (ap (λ l. bytes ++ l) (sym (replicate-append-replicate n 1 v))
+              ∙ sym (append_assoc bytes (replicate n v) (v ∷ [])))
+              ∙ append_assoc (bytes ++ replicate n v) (v ∷ []) cs
+              ∙ ap (λ x. (bytes ++ replicate n v) ++ (x ∷ cs)) (sym same);
         }
     into false e _ next =
         let last : last_of (bytes ++ replicate n v) ≡ v = last_of-many bytes v n some in
-        let apart : (last_of (bytes ++ replicate n v) == c) ≡ false = (let f : (v == c) ≡ false = grind (arith, nat_tests) in ap (λ x. x == c) last ∙ f) in
+        let apart : (last_of (bytes ++ replicate n v) == c) ≡ false =
+        (let f : (v == c) ≡ false = grind (arith, nat_tests) in ap (λ x. x == c) last ∙ f) in
         let long = length-append bytes (replicate n v) in
         let r = next apart (omega arith) (omega (arith, long, length-replicate {A = ℕ} n v)) in
         record {
@@ -154,4 +174,5 @@ runs-end text (b ∷ bs) r =
     let few = r.not_long in
     let P : List ℕ → Type 0 = λ t. EndsRun (read_more (Some (at_place Start [])) t) (b ∷ bs) in
     let fresh : (256 == b) ≡ false = (let byte : b < 256 = are.0 in grind (arith, nat_tests)) in
-    subst P (sym (r.spelled ∙ runs_text-after b bs)) (read-after bs [] b 1 are.0 are.1 fresh (omega arith) (omega arith))
+    subst P (sym (r.spelled ∙ runs_text-after b bs))
+    (read-after bs [] b 1 are.0 are.1 fresh (omega arith) (omega arith))

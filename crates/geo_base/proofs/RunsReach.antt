@@ -16,7 +16,8 @@ IsDigits b = b < 256
 
 -- bytes that go on with another one have this text before its runs
 abbrev pub StandsBefore : List ℕ → List ℕ → Type 0
-StandsBefore pre bytes = (y : ℕ) (ys : List ℕ) → (last_of bytes == y) ≡ false → runs_text (bytes ++ (y ∷ ys)) ≡ pre ++ runs_text (y ∷ ys)
+StandsBefore pre bytes = (y : ℕ) (ys : List ℕ) → (last_of bytes == y) ≡ false
+    → runs_text (bytes ++ (y ∷ ys)) ≡ pre ++ runs_text (y ∷ ys)
 
 -- the digits of a number, none for 0
 abbrev pub number_so_far : ℕ → List ℕ
@@ -44,7 +45,14 @@ pub record Reached (place : Place) (bytes text : List ℕ) : Type 0 where
   pub fits : Fits_place place bytes
 
 pub reached_none : Reached Start [] []
-reached_none = record { pre = []; before = λ y ys _. refl; are_bytes = All-nil (λ b. b < 256); room = omega arith; spelled = refl; fits = tt }
+reached_none = record {
+  pre = [];
+  before = λ y ys _. refl;
+  are_bytes = All-nil (λ b. b < 256);
+  room = omega arith;
+  spelled = refl;
+  fits = tt;
+}
 
 pub reached-place : (place : Place) (bytes text : List ℕ) → Reached place bytes text → IsPlace place
 reached-place Start bytes text r = tt
@@ -63,16 +71,26 @@ hex_value-digit h lt = grind (arith, nat_tests)
 longer : (text pre s : List ℕ) (b : ℕ) (t : List ℕ) → text ≡ pre ++ s → s ++ b ∷ [] ≡ t → text ++ b ∷ [] ≡ pre ++ t
 longer text pre s b t e f = ap (λ l. l ++ b ∷ []) e ∙ append_assoc pre s (b ∷ []) ∙ ap (λ l. pre ++ l) f
 
-start-on : (bytes text : List ℕ) (b : ℕ) → Reached Start bytes text → IfSome (high_place (hex_value b)) (λ q. Reached q bytes (text ++ b ∷ []))
+start-on : (bytes text : List ℕ) (b : ℕ) → Reached Start bytes text
+    → IfSome (high_place (hex_value b)) (λ q. Reached q bytes (text ++ b ∷ []))
 start-on bytes text b r = into (hex_value b) refl
   where
     into : (o : Option ℕ) → hex_value b ≡ o → IfSome (high_place o) (λ q. Reached q bytes (text ++ b ∷ []))
     into None e = tt
     into (Some h) e =
         let told = hex_value-tells b h e in
-        record { pre = r.pre; before = r.before; are_bytes = r.are_bytes; room = r.room; spelled = longer text r.pre [] b _ r.spelled (ap (λ x. x ∷ []) (sym told.1)); fits = told.0 }
+        record {
+          pre = r.pre;
+          before = r.before;
+          are_bytes = r.are_bytes;
+          room = r.room;
+          spelled =
+              longer text r.pre [] b _ r.spelled (ap (λ x. x ∷ []) (sym told.1));
+          fits = told.0;
+        }
 
-high-on : (bytes text : List ℕ) (h b : ℕ) → Reached (High h) bytes text → IfSome (byte_place bytes h (hex_value b)) (λ q. Reached q bytes (text ++ b ∷ []))
+high-on : (bytes text : List ℕ) (h b : ℕ) → Reached (High h) bytes text
+    → IfSome (byte_place bytes h (hex_value b)) (λ q. Reached q bytes (text ++ b ∷ []))
 unfolding byte_place
 high-on bytes text h b r = into (hex_value b) refl
   where
@@ -80,7 +98,8 @@ high-on bytes text h b r = into (hex_value b) refl
     into None e = tt
     into (Some l) e = among (last_of bytes == 16 * h + l) refl
       where
-        among : (t : Bool) → (last_of bytes == 16 * h + l) ≡ t → IfSome (if t then None else Some (Byte (16 * h + l))) (λ q. Reached q bytes (text ++ b ∷ []))
+        among : (t : Bool) → (last_of bytes == 16 * h + l) ≡ t
+            → IfSome (if t then None else Some (Byte (16 * h + l))) (λ q. Reached q bytes (text ++ b ∷ []))
         among true _ = tt
         among false other =
             let told = hex_value-tells b l e in
@@ -92,14 +111,17 @@ high-on bytes text h b r = into (hex_value b) refl
               before = r.before;
               are_bytes = r.are_bytes;
               room = r.room;
-              spelled = longer text r.pre (hex_digit h ∷ []) b _ r.spelled (rw (up, down) (ap (λ x. hex_digit h ∷ (x ∷ [])) (sym told.1)));
+              spelled = longer text r.pre (hex_digit h ∷ []) b _ r.spelled
+                  (rw (up, down) (ap (λ x. hex_digit h ∷ (x ∷ [])) (sym told.1)));
               fits = (omega arith, other);
             }
 
-byte-on : (bytes text : List ℕ) (v b : ℕ) → Reached (Byte v) bytes text → IfSome (star_place v b) (λ q. Reached q bytes (text ++ b ∷ []))
+byte-on : (bytes text : List ℕ) (v b : ℕ) → Reached (Byte v) bytes text
+    → IfSome (star_place v b) (λ q. Reached q bytes (text ++ b ∷ []))
 byte-on bytes text v b r = into (b == 42) refl
   where
-    into : (t : Bool) → (b == 42) ≡ t → IfSome (if t then Some (Times v 0) else None) (λ q. Reached q bytes (text ++ b ∷ []))
+    into : (t : Bool) → (b == 42) ≡ t
+        → IfSome (if t then Some (Times v 0) else None) (λ q. Reached q bytes (text ++ b ∷ []))
     into false _ = tt
     into true e =
         let star : b ≡ 42 = grind (arith, nat_tests) in
@@ -108,15 +130,18 @@ byte-on bytes text v b r = into (b == 42) refl
           before = r.before;
           are_bytes = r.are_bytes;
           room = r.room;
-          spelled = longer text r.pre (hex_digit (v / 16) ∷ (hex_digit (v % 16) ∷ [])) b _ r.spelled (ap (λ x. hex_digit (v / 16) ∷ (hex_digit (v % 16) ∷ (x ∷ []))) star);
+          spelled = longer text r.pre (hex_digit (v / 16) ∷ (hex_digit (v % 16) ∷ [])) b _ r.spelled
+              (ap (λ x. hex_digit (v / 16) ∷ (hex_digit (v % 16) ∷ (x ∷ []))) star);
           fits = (r.fits.0, r.fits.1, omega (arith, r.room));
         }
 
 -- a number with one digit more
-number-on : (n b : ℕ) → 48 ≤ b → b ≤ 57 → 1 ≤ 10 * n + (b - 48) → 10 * n + (b - 48) ≤ 65536 → number_so_far n ++ b ∷ [] ≡ number_so_far (10 * n + (b - 48))
+number-on : (n b : ℕ) → 48 ≤ b → b ≤ 57 → 1 ≤ 10 * n + (b - 48) → 10 * n + (b - 48) ≤ 65536
+    → number_so_far n ++ b ∷ [] ≡ number_so_far (10 * n + (b - 48))
 number-on n b low high some few = into (n == 0) refl ((10 * n + (b - 48)) == 0) refl
   where
-    into : (t : Bool) → (n == 0) ≡ t → (u : Bool) → ((10 * n + (b - 48)) == 0) ≡ u → (if t then [] else decimal n) ++ b ∷ [] ≡ (if u then [] else decimal (10 * n + (b - 48)))
+    into : (t : Bool) → (n == 0) ≡ t → (u : Bool) → ((10 * n + (b - 48)) == 0) ≡ u
+        → (if t then [] else decimal n) ++ b ∷ [] ≡ (if u then [] else decimal (10 * n + (b - 48)))
     into t e true f = absurd (grind (arith, nat_tests))
     into true e false f =
         let none : n ≡ 0 = grind (arith, nat_tests) in
@@ -131,11 +156,18 @@ number-on n b low high some few = into (n == 0) refl ((10 * n + (b - 48)) == 0) 
         let fits : 10 * n + (b - 48) < 2 ^ 64 = omega arith in
         sym (decimal_step (10 * n + (b - 48)) big fits ∙ rw (up, down) refl)
 
-times-on : (bytes text : List ℕ) (v n b : ℕ) → Reached (Times v n) bytes text → IfSome (times_place bytes v n b) (λ q. Reached q bytes (text ++ b ∷ []))
+times-on : (bytes text : List ℕ) (v n b : ℕ) → Reached (Times v n) bytes text
+    → IfSome (times_place bytes v n b) (λ q. Reached q bytes (text ++ b ∷ []))
 unfolding times_place
-times-on bytes text v n b r = into ((nat_le 48 b && nat_le b 57) && (nat_le 1 (10 * n + (b - 48)) && nat_le (length bytes + (10 * n + (b - 48))) 65536)) refl
+times-on bytes text v n b r =
+    into ((nat_le 48 b && nat_le b 57)
+    && (nat_le 1 (10 * n + (b - 48)) && nat_le (length bytes + (10 * n + (b - 48))) 65536)) refl
   where
-    into : (t : Bool) → ((nat_le 48 b && nat_le b 57) && (nat_le 1 (10 * n + (b - 48)) && nat_le (length bytes + (10 * n + (b - 48))) 65536)) ≡ t → IfSome (if t then Some (Times v (10 * n + (b - 48))) else None) (λ q. Reached q bytes (text ++ b ∷ []))
+    into : (t : Bool)
+        → ((nat_le 48 b && nat_le b 57)
+        && (nat_le 1 (10 * n + (b - 48)) && nat_le (length bytes + (10 * n + (b - 48))) 65536)) ≡ t
+        → IfSome (if t then Some (Times v (10 * n + (b - 48))) else None)
+        (λ q. Reached q bytes (text ++ b ∷ []))
     into false _ = tt
     into true e =
         let low : 48 ≤ b = grind (arith, nat_tests) in
@@ -147,24 +179,32 @@ times-on bytes text v n b r = into ((nat_le 48 b && nat_le b 57) && (nat_le 1 (1
           before = r.before;
           are_bytes = r.are_bytes;
           room = r.room;
-          spelled = longer text r.pre (hex_digit (v / 16) ∷ (hex_digit (v % 16) ∷ (42 ∷ number_so_far n))) b _ r.spelled (ap (λ l. hex_digit (v / 16) ∷ (hex_digit (v % 16) ∷ (42 ∷ l))) (number-on n b low high some (omega arith)));
+          spelled = longer text r.pre (hex_digit (v / 16) ∷ (hex_digit (v % 16) ∷ (42 ∷ number_so_far n))) b _
+              r.spelled (ap (λ l. hex_digit (v / 16) ∷ (hex_digit (v % 16) ∷ (42 ∷ l)))
+              (number-on n b low high some (omega arith)));
           fits = (r.fits.0, r.fits.1, few);
         }
 
 -- the last of bytes behind others
 pub last_of-many : (bytes : List ℕ) (v n : ℕ) → 1 ≤ n → last_of (bytes ++ replicate n v) ≡ v
 last_of-many bytes v n h =
-    let long : length (bytes ++ replicate n v) - 1 ≡ length bytes + (n - 1) = omega (arith, length-append bytes (replicate n v), length-replicate n v) in
-    ap (λ k. get_or (bytes ++ replicate n v) k 256) long ∙ get_or-append-add bytes (replicate n v) (n - 1) 256 ∙ get_or-replicate n (n - 1) v 256 (omega arith)
+    let long : length (bytes ++ replicate n v) - 1 ≡ length bytes + (n - 1) =
+    omega (arith, length-append bytes (replicate n v), length-replicate n v) in
+    ap (λ k. get_or (bytes ++ replicate n v) k 256) long ∙ get_or-append-add bytes (replicate n v) (n - 1) 256
+    ∙ get_or-replicate n (n - 1) v 256 (omega arith)
 
 -- a run that ends stands before others
-stands-on : (pre bytes : List ℕ) (v n : ℕ) → 1 ≤ n → (last_of bytes == v) ≡ false → StandsBefore pre bytes → StandsBefore (pre ++ (run_text (run v n) ++ 32 ∷ [])) (bytes ++ replicate n v)
+stands-on : (pre bytes : List ℕ) (v n : ℕ) → 1 ≤ n → (last_of bytes == v) ≡ false → StandsBefore pre bytes
+    → StandsBefore (pre ++ (run_text (run v n) ++ 32 ∷ [])) (bytes ++ replicate n v)
 stands-on pre bytes v zero h other before = absurd (omega arith)
 stands-on pre bytes v (suc m) h other before = λ y ys new.
-    let apart : (y == v) ≡ false = (let e : (v == y) ≡ false = ap (λ x. x == y) (sym (last_of-many bytes v (suc m) h)) ∙ new in grind (arith, nat_tests)) in
+    let apart : (y == v) ≡ false =
+    (let e : (v == y) ≡ false = ap (λ x. x == y) (sym (last_of-many bytes v (suc m) h)) ∙ new in
+    grind (arith, nat_tests)) in
     ap runs_text (append_assoc bytes (replicate (suc m) v) (y ∷ ys))
     ∙ before v (replicate m v ++ (y ∷ ys)) other
-    ∙ ap (λ l. pre ++ l) (runs_more v (suc m) y ys h apart ∙ sym (append_assoc (run_text (run v (suc m))) (32 ∷ []) (runs_text (y ∷ ys))))
+    ∙ ap (λ l. pre ++ l) (runs_more v (suc m) y ys h apart
+    ∙ sym (append_assoc (run_text (run v (suc m))) (32 ∷ []) (runs_text (y ∷ ys))))
     ∙ sym (append_assoc pre (run_text (run v (suc m)) ++ 32 ∷ []) (runs_text (y ∷ ys)))
 
 number_so_far-some : (n : ℕ) → 1 ≤ n → number_so_far n ≡ decimal n
@@ -173,11 +213,13 @@ number_so_far-some n h = let e : (n == 0) ≡ false = grind (arith, nat_tests) i
 abbrev after_run : List ℕ → ℕ → ℕ → Reading
 after_run bytes v n = record { place = Start; bytes = bytes ++ replicate n v }
 
-space-on : (bytes text : List ℕ) (v n : ℕ) → Reached (Times v n) bytes text → IfSome (ended_run bytes v n) (λ x. Reached x.place x.bytes (text ++ 32 ∷ []))
+space-on : (bytes text : List ℕ) (v n : ℕ) → Reached (Times v n) bytes text
+    → IfSome (ended_run bytes v n) (λ x. Reached x.place x.bytes (text ++ 32 ∷ []))
 unfolding ended_run
 space-on bytes text v n r = into (nat_le 1 n && nat_lt (length bytes + n) 65536) refl
   where
-    into : (t : Bool) → (nat_le 1 n && nat_lt (length bytes + n) 65536) ≡ t → IfSome (if t then Some (after_run bytes v n) else None) (λ x. Reached x.place x.bytes (text ++ 32 ∷ []))
+    into : (t : Bool) → (nat_le 1 n && nat_lt (length bytes + n) 65536) ≡ t
+        → IfSome (if t then Some (after_run bytes v n) else None) (λ x. Reached x.place x.bytes (text ++ 32 ∷ []))
     into false _ = tt
     into true e =
         let some : 1 ≤ n = grind (arith, nat_tests) in
@@ -185,40 +227,51 @@ space-on bytes text v n r = into (nat_le 1 n && nat_lt (length bytes + n) 65536)
         record {
           pre = r.pre ++ (run_text (run v n) ++ 32 ∷ []);
           before = stands-on r.pre bytes v n some r.fits.1 r.before;
-          are_bytes = All-append (λ b. b < 256) bytes (replicate n v) r.are_bytes (All-replicate (λ b. b < 256) n v r.fits.0);
+          are_bytes = All-append (λ b. b < 256) bytes (replicate n v) r.are_bytes
+              (All-replicate (λ b. b < 256) n v r.fits.0);
           room = omega (arith, length-append bytes (replicate n v), length-replicate n v);
           spelled =
-              ap (λ l. l ++ 32 ∷ []) (r.spelled ∙ ap (λ l. r.pre ++ (hex_digit (v / 16) ∷ (hex_digit (v % 16) ∷ (42 ∷ l)))) (number_so_far-some n some))
-              ∙ append_assoc r.pre (run_text (run v n)) (32 ∷ []) ∙ sym (append-nil (r.pre ++ (run_text (run v n) ++ 32 ∷ [])));
+              ap (λ l. l ++ 32 ∷ []) (r.spelled
+              ∙ ap (λ l. r.pre ++ (hex_digit (v / 16) ∷ (hex_digit (v % 16) ∷ (42 ∷ l))))
+              (number_so_far-some n some))
+              ∙ append_assoc r.pre (run_text (run v n)) (32 ∷ [])
+              ∙ sym (append-nil (r.pre ++ (run_text (run v n) ++ 32 ∷ [])));
           fits = tt;
         }
 
-inside-on : (bytes text : List ℕ) (p : Option Place) → IfSome p (λ q. Reached q bytes text) → IfSome (inside_run bytes p) (λ x. Reached x.place x.bytes text)
+inside-on : (bytes text : List ℕ) (p : Option Place) → IfSome p (λ q. Reached q bytes text)
+    → IfSome (inside_run bytes p) (λ x. Reached x.place x.bytes text)
 inside-on bytes text None h = tt
 inside-on bytes text (Some q) h = h
 
 -- one byte more is read
-reached-on : (place : Place) (bytes text : List ℕ) (b : ℕ) → Reached place bytes text → IfSome (read_on place bytes b) (λ x. Reached x.place x.bytes (text ++ b ∷ []))
+reached-on : (place : Place) (bytes text : List ℕ) (b : ℕ) → Reached place bytes text
+    → IfSome (read_on place bytes b) (λ x. Reached x.place x.bytes (text ++ b ∷ []))
 unfolding read_on
 reached-on Start bytes text b r = inside-on bytes _ (high_place (hex_value b)) (start-on bytes text b r)
 reached-on (High h) bytes text b r = inside-on bytes _ (byte_place bytes h (hex_value b)) (high-on bytes text h b r)
 reached-on (Byte v) bytes text b r = inside-on bytes _ (star_place v b) (byte-on bytes text v b r)
 reached-on (Times v n) bytes text b r = into (b == 32) refl
   where
-    into : (t : Bool) → (b == 32) ≡ t → IfSome (if t then ended_run bytes v n else inside_run bytes (times_place bytes v n b)) (λ x. Reached x.place x.bytes (text ++ b ∷ []))
+    into : (t : Bool) → (b == 32) ≡ t
+        → IfSome (if t then ended_run bytes v n else inside_run bytes (times_place bytes v n b))
+        (λ x. Reached x.place x.bytes (text ++ b ∷ []))
     into false _ = inside-on bytes _ (times_place bytes v n b) (times-on bytes text v n b r)
     into true e =
         let space : b ≡ 32 = grind (arith, nat_tests) in
         let P : ℕ → Type 0 = λ c. IfSome (ended_run bytes v n) (λ x. Reached x.place x.bytes (text ++ c ∷ [])) in
         subst P (sym space) (space-on bytes text v n r)
 
-pub reached-next : (place next : Place) (bytes more text : List ℕ) (b : ℕ) → Reached place bytes text → read_on place bytes b ≡ Some (record { place = next; bytes = more }) → Reached next more (text ++ b ∷ [])
+pub reached-next : (place next : Place) (bytes more text : List ℕ) (b : ℕ) → Reached place bytes text
+    → read_on place bytes b ≡ Some (record { place = next; bytes = more }) → Reached next more (text ++ b ∷ [])
 reached-next place next bytes more text b r e =
     let P : Option Reading → Type 0 = λ o. IfSome o (λ x. Reached x.place x.bytes (text ++ b ∷ [])) in
     subst P e (reached-on place bytes text b r)
 
 -- a run behind what stands before it
-whole : (pre bytes : List ℕ) (v n : ℕ) → StandsBefore pre bytes → All (λ b. b < 256) bytes → v < 256 → (last_of bytes == v) ≡ false → 1 ≤ n → length bytes + n ≤ 65536 → IsRuns (pre ++ run_text (run v n)) (bytes ++ replicate n v)
+whole : (pre bytes : List ℕ) (v n : ℕ) → StandsBefore pre bytes → All (λ b. b < 256) bytes → v < 256
+    → (last_of bytes == v) ≡ false → 1 ≤ n → length bytes + n ≤ 65536
+    → IsRuns (pre ++ run_text (run v n)) (bytes ++ replicate n v)
 whole pre bytes v zero before are_bytes byte other some few = absurd (omega arith)
 whole pre bytes v (suc m) before are_bytes byte other some few =
     let long = length-append bytes (replicate (suc m) v) in
@@ -226,21 +279,30 @@ whole pre bytes v (suc m) before are_bytes byte other some few =
       spelled = ap (λ l. pre ++ l) (sym (runs_one v (suc m) some)) ∙ sym (before v (replicate m v) other);
       some_byte = omega (arith, long, length-replicate {A = ℕ} (suc m) v);
       not_long = omega (arith, long, length-replicate {A = ℕ} (suc m) v);
-      are_bytes = All-append (λ b. b < 256) bytes (replicate (suc m) v) are_bytes (All-replicate (λ b. b < 256) (suc m) v byte);
+      are_bytes = All-append (λ b. b < 256) bytes (replicate (suc m) v) are_bytes
+          (All-replicate (λ b. b < 256) (suc m) v byte);
     }
 
 -- the text of runs that ends with a number
-pub reached-runs : (v n : ℕ) (bytes text : List ℕ) → 1 ≤ n → Reached (Times v n) bytes text → IsRuns text (bytes ++ replicate n v)
+pub reached-runs : (v n : ℕ) (bytes text : List ℕ) → 1 ≤ n → Reached (Times v n) bytes text
+    → IsRuns text (bytes ++ replicate n v)
 reached-runs v n bytes text some r =
     let P : List ℕ → Type 0 = λ t. IsRuns t (bytes ++ replicate n v) in
-    subst P (ap (λ l. r.pre ++ (hex_digit (v / 16) ∷ (hex_digit (v % 16) ∷ (42 ∷ l)))) (sym (number_so_far-some n some)) ∙ sym r.spelled)
+    subst P (ap (λ l. r.pre ++ (hex_digit (v / 16) ∷ (hex_digit (v % 16) ∷ (42 ∷ l))))
+    (sym (number_so_far-some n some)) ∙ sym r.spelled)
     (whole r.pre bytes v n r.before r.are_bytes r.fits.0 r.fits.1 some r.fits.2)
 
 -- what is read begins a text of runs, if this rest ends a run
-ended : (place : Place) (bytes text : List ℕ) → Reached place bytes text → (v n : ℕ) (rest : List ℕ) → begun place ++ rest ≡ run_text (run v n) → v < 256 → (last_of bytes == v) ≡ false → 1 ≤ n → length bytes + n ≤ 65536 → BeginsRuns text
+ended : (place : Place) (bytes text : List ℕ) → Reached place bytes text → (v n : ℕ) (rest : List ℕ)
+    → begun place ++ rest ≡ run_text (run v n) → v < 256 → (last_of bytes == v) ≡ false → 1 ≤ n
+    → length bytes + n ≤ 65536 → BeginsRuns text
 ended place bytes text r v n rest e byte other some few =
-    let P : List ℕ → Type 0 = λ t. IsRuns t (bytes ++ replicate n v) in
-    (rest, bytes ++ replicate n v, subst P (ap (λ l. r.pre ++ l) (sym e) ∙ sym (append_assoc r.pre (begun place) rest) ∙ ap (λ t. t ++ rest) (sym r.spelled)) (whole r.pre bytes v n r.before r.are_bytes byte other some few))
+    let P : List ℕ → Type 0 = λ t. IsRuns t (bytes ++ replicate n v) in (
+      rest,
+      bytes ++ replicate n v,
+      subst P (ap (λ l. r.pre ++ l) (sym e) ∙ sym (append_assoc r.pre (begun place) rest)
+          ∙ ap (λ t. t ++ rest) (sym r.spelled)) (whole r.pre bytes v n r.before r.are_bytes byte other some few),
+    )
 
 -- of two bytes one differs from the last
 abbrev other_than : ℕ → ℕ → ℕ
@@ -256,18 +318,25 @@ pub reached-begins : (place : Place) (bytes text : List ℕ) → Reached place b
 reached-begins Start bytes text r =
     let v : ℕ = other_than (last_of bytes) 0 in
     let near = other_than-near (last_of bytes) 0 in
-    ended Start bytes text r v 1 (run_text (run v 1)) refl (omega (arith, near.1)) (other_than-differs (last_of bytes) 0) (omega arith) (omega (arith, r.room))
+    ended Start bytes text r v 1 (run_text (run v 1)) refl (omega (arith, near.1))
+    (other_than-differs (last_of bytes) 0) (omega arith) (omega (arith, r.room))
 reached-begins (High h) bytes text r =
     let v : ℕ = other_than (last_of bytes) (16 * h) in
     let near = other_than-near (last_of bytes) (16 * h) in
     let small : h < 16 = r.fits in
     let up : v / 16 ≡ h = omega (arith, near.0, near.1) in
-    ended (High h) bytes text r v 1 (hex_digit (v % 16) ∷ (42 ∷ decimal 1)) (ap (λ x. hex_digit x ∷ (hex_digit (v % 16) ∷ (42 ∷ decimal 1))) (sym up)) (omega (arith, near.1)) (other_than-differs (last_of bytes) (16 * h)) (omega arith) (omega (arith, r.room))
-reached-begins (Byte v) bytes text r = ended (Byte v) bytes text r v 1 (42 ∷ decimal 1) refl r.fits.0 r.fits.1 (omega arith) (omega (arith, r.room))
+    ended (High h) bytes text r v 1 (hex_digit (v % 16) ∷ (42 ∷ decimal 1))
+    (ap (λ x. hex_digit x ∷ (hex_digit (v % 16) ∷ (42 ∷ decimal 1))) (sym up)) (omega (arith, near.1))
+    (other_than-differs (last_of bytes) (16 * h)) (omega arith) (omega (arith, r.room))
+reached-begins (Byte v) bytes text r =
+    ended (Byte v) bytes text r v 1 (42 ∷ decimal 1) refl r.fits.0 r.fits.1 (omega arith) (omega (arith, r.room))
 reached-begins (Times v n) bytes text r = into (n == 0) refl
   where
     into : (t : Bool) → (n == 0) ≡ t → BeginsRuns text
     into true e =
         let none : n ≡ 0 = grind (arith, nat_tests) in
-        ended (Times v n) bytes text r v 1 (decimal 1) (rw e refl) r.fits.0 r.fits.1 (omega arith) (omega (arith, r.room))
-    into false e = ended (Times v n) bytes text r v n [] (append-nil (begun (Times v n)) ∙ rw e refl) r.fits.0 r.fits.1 (grind (arith, nat_tests)) r.fits.2
+        ended (Times v n) bytes text r v 1 (decimal 1) (rw e refl) r.fits.0 r.fits.1 (omega arith)
+        (omega (arith, r.room))
+    into false e =
+        ended (Times v n) bytes text r v n [] (append-nil (begun (Times v n)) ∙ rw e refl) r.fits.0 r.fits.1
+        (grind (arith, nat_tests)) r.fits.2

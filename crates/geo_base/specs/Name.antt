@@ -4,7 +4,8 @@ use Rattle.std.specs.List.{list_all}
 
 -- letters, digits, `_` and `-`
 abbrev pub is_word_byte : ℕ → Bool
-is_word_byte b = (nat_le 97 b && nat_le b 122) || (nat_le 65 b && nat_le b 90) || (nat_le 48 b && nat_le b 57) || (b == 95) || (b == 45)
+is_word_byte b = (nat_le 97 b && nat_le b 122) || (nat_le 65 b && nat_le b 90) || (nat_le 48 b && nat_le b 57)
+    || (b == 95) || (b == 45)
 
 -- those, `.` and `/`
 abbrev pub is_name_byte : ℕ → Bool

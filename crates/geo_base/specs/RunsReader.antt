@@ -43,7 +43,8 @@ star_place byte b = if b == 42 then Some (Times byte 0) else None
 -- behind a digit of the number, which isn't 0 and doesn't pass what may still stand
 unfoldable pub times_place : List ℕ → ℕ → ℕ → ℕ → Option Place
 times_place bytes byte times b =
-    if (nat_le 48 b && nat_le b 57) && (nat_le 1 (10 * times + (b - 48)) && nat_le (length bytes + (10 * times + (b - 48))) 65536)
+    if (nat_le 48 b && nat_le b 57)
+    && (nat_le 1 (10 * times + (b - 48)) && nat_le (length bytes + (10 * times + (b - 48))) 65536)
     then Some (Times byte (10 * times + (b - 48)))
     else None
 
@@ -64,4 +65,5 @@ unfoldable pub read_on : Place → List ℕ → ℕ → Option Reading
 read_on Start bytes b = inside_run bytes (high_place (hex_value b))
 read_on (High high) bytes b = inside_run bytes (byte_place bytes high (hex_value b))
 read_on (Byte byte) bytes b = inside_run bytes (star_place byte b)
-read_on (Times byte times) bytes b = if b == 32 then ended_run bytes byte times else inside_run bytes (times_place bytes byte times b)
+read_on (Times byte times) bytes b =
+    if b == 32 then ended_run bytes byte times else inside_run bytes (times_place bytes byte times b)

@@ -30,7 +30,8 @@ impl Model for Name {
 
     ghost inverse = { λ bytes. record { len = length bytes; cells = bytes ++ replicate (63 - length bytes) 0 } };
 
-    ghost inverse_ok = { λ name kept. kept_again (λ cells n. record { len = n; cells = cells }) name.cells name.len kept };
+    ghost inverse_ok = { λ name kept. kept_again (λ cells n. record { len = n; cells = cells }) name.cells name.len
+        kept };
 }
 
 /// Whether it is a letter, a digit, `_` or `-`.
@@ -86,7 +87,8 @@ impl Name {
 
     /// The name with these bytes behind it. `BadName` exactly where the bytes joined aren't a name.
     pub fn with_tail(&self, tail: &[u8]) -> Result<Name, BadName>
-        ensures { MatchResult result (λ name. name_of (self.now ++ tail.now) ≡ Some name) (λ _. name_of (self.now ++ tail.now) ≡ None) }
+        ensures { MatchResult result (λ name. name_of (self.now ++ tail.now) ≡ Some name)
+            (λ _. name_of (self.now ++ tail.now) ≡ None) }
     {
         let front = self.bytes();
         if 63 - front.len() < tail.len() {
@@ -106,8 +108,8 @@ impl Name {
         &self.cells[..self.len as usize]
     }
 
-    /// Whether it is short: at most 16 bytes, all of them letters, digits, `_` or `-`, as names of disks, actors, handles
-    /// and records are.
+    /// Whether it is short: at most 16 bytes, all of them letters, digits, `_` or `-`, as names of disks, actors,
+    /// handles and records are.
     pub fn is_short(&self) -> bool
         ensures { result ≡ is_short_name self.now }
     {

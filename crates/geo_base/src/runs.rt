@@ -148,7 +148,10 @@ fn times_place(bytes: &[u8], byte: u8, times: u32, b: u8) -> Option<Place>
 /// The run ends, and its bytes stand behind the others: there is one, and one more may stand.
 #[tactic(auto, unfolding(crate::specs::RunsReader::ended_run))]
 fn end_run(bytes: &mut Vec<u8>, byte: u8, times: u32) -> Result<Option<Place>, NoMemory>
-    ensures { IfOk result (λ place. MatchOption place (ended_run bytes.old.items byte times ≡ None) (λ place. ended_run bytes.old.items byte times ≡ Some (record { place = place; bytes = bytes.new.items }))) }
+    ensures { IfOk result
+        (λ place. MatchOption place (ended_run bytes.old.items byte times ≡ None)
+        (λ place. ended_run bytes.old.items byte times
+        ≡ Some (record { place = place; bytes = bytes.new.items }))) }
 {
     let times = times as usize;
     if times < 1 || MOST <= times || MOST - times <= bytes.len() {
@@ -171,7 +174,9 @@ fn push_bytes(bytes: &mut Vec<u8>, byte: u8, times: usize) -> Result<(), NoMemor
 #[tactic(auto, unfolding(crate::specs::RunsReader::read_on))]
 fn read_on(bytes: &mut Vec<u8>, place: Place, b: u8) -> Result<Option<Place>, NoMemory>
     requires { IsPlace place }
-    ensures { IfOk result (λ found. MatchOption found (read_on place bytes.old.items b ≡ None) (λ next. read_on place bytes.old.items b ≡ Some (record { place = next; bytes = bytes.new.items }))) }
+    ensures { IfOk result
+        (λ found. MatchOption found (read_on place bytes.old.items b ≡ None)
+        (λ next. read_on place bytes.old.items b ≡ Some (record { place = next; bytes = bytes.new.items }))) }
 {
     match place {
         Place::Times(byte, times) if b == b' ' => end_run(bytes, byte, times),
@@ -186,8 +191,8 @@ fn read_on(bytes: &mut Vec<u8>, place: Place, b: u8) -> Result<Option<Place>, No
     }
 }
 
-/// The bytes of a text of runs, which has fewer than 2^32 bytes. `At` says where a text isn't one: `at` is the length of
-/// its longest front with which a text of runs may begin.
+/// The bytes of a text of runs, which has fewer than 2^32 bytes. `At` says where a text isn't one: `at` is the length
+/// of its longest front with which a text of runs may begin.
 pub fn read_runs(alloc: Global, text: &[u8]) -> Result<Block, RunsRefusal>
     requires { length text.now < 2 ^ 32 }
     ensures { MatchResult result (λ block. IsRuns text.now block) (IsRunsRefusal text.now) }

@@ -9,23 +9,32 @@ use Rattle.geo_bio.specs.declared.bio.Held.TheVariants as held
 use Rattle.geo_bio.specs.Up.{resolved}
 use Rattle.geo_bio.specs.Gather.{held_error, error_from, bytes_from, without_all, copy_of, result_given}
 
-pub error_from-more : (rows : List (ℕ × Bio)) (first place count : ℕ) → place < count → error_from rows (first + place) (count - place) ≡ option_map_or (λ e. Some e) (option_and_then (λ x. held_error x.held) (value_at rows (first + place))) (error_from rows (first + (place + 1)) (count - (place + 1)))
+pub error_from-more : (rows : List (ℕ × Bio)) (first place count : ℕ) → place < count
+    → error_from rows (first + place) (count - place)
+    ≡ option_map_or (λ e. Some e) (option_and_then (λ x. held_error x.held) (value_at rows (first + place)))
+    (error_from rows (first + (place + 1)) (count - (place + 1)))
 error_from-more rows first place count more =
     let one : count - place ≡ suc (count - (place + 1)) = omega arith in
     let next : first + place + 1 ≡ first + (place + 1) = omega arith in
     rw (one, next) refl
 
-pub bytes_from-more : (log : ℕ → Option (List ℕ)) (rows : List (ℕ × Bio)) (first place count : ℕ) → place < count → bytes_from log rows (first + place) (count - place) ≡ option_map_or (λ x. bytes_of_result (resolved log x.held)) (value_at rows (first + place)) [] ++ bytes_from log rows (first + (place + 1)) (count - (place + 1))
+pub bytes_from-more : (log : ℕ → Option (List ℕ)) (rows : List (ℕ × Bio)) (first place count : ℕ) → place < count
+    → bytes_from log rows (first + place) (count - place)
+    ≡ option_map_or (λ x. bytes_of_result (resolved log x.held)) (value_at rows (first + place)) []
+    ++ bytes_from log rows (first + (place + 1)) (count - (place + 1))
 bytes_from-more log rows first place count more =
     let one : count - place ≡ suc (count - (place + 1)) = omega arith in
     let next : first + place + 1 ≡ first + (place + 1) = omega arith in
     rw (one, next) refl
 
-pub without_all-more : (rows : List (ℕ × Bio)) (first place count : ℕ) → place < count → without_all rows (first + place) (count - place) ≡ without_all (without rows (first + place)) (first + (place + 1)) (count - (place + 1))
+pub without_all-more : (rows : List (ℕ × Bio)) (first place count : ℕ) → place < count
+    → without_all rows (first + place) (count - place)
+    ≡ without_all (without rows (first + place)) (first + (place + 1)) (count - (place + 1))
 without_all-more rows first place count more =
     let one : count - place ≡ suc (count - (place + 1)) = omega arith in
     let next : first + place + 1 ≡ first + (place + 1) = omega arith in
-    ap (without_all rows (first + place)) one ∙ ap (λ a. without_all (without rows (first + place)) a (count - (place + 1))) next
+    ap (without_all rows (first + place)) one
+    ∙ ap (λ a. without_all (without rows (first + place)) a (count - (place + 1))) next
 
 -- a result from a copy is the result
 pub result_given-copy : (log : ℕ → Option (List ℕ)) (h : Option Held) → result_given h (copy_of log h) ≡ resolved log h
@@ -36,6 +45,7 @@ result_given-copy log (Some (held.AtPlace place)) = refl
 result_given-copy log (Some (held.Failed errno)) = refl
 
 -- one more part is joined
-pub join_step : (new old part rest tail all : List ℕ) → new ≡ old ++ part → tail ≡ part ++ rest → old ++ tail ≡ all → new ++ rest ≡ all
+pub join_step : (new old part rest tail all : List ℕ) → new ≡ old ++ part → tail ≡ part ++ rest → old ++ tail ≡ all
+    → new ++ rest ≡ all
 join_step new old part rest tail all pushed more so_far =
     ap (λ b. b ++ rest) pushed ∙ append_assoc old part rest ∙ ap (λ r. old ++ r) (sym more) ∙ so_far

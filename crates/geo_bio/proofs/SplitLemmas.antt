@@ -1,6 +1,6 @@
 -- A bio is split: its children stand at the end of the table, and it waits for them.
 use Rattle.std.proofs.Common.{◌≡◌, ◌≢◌, ◌⊎◌, ℕ, suc, ◌+◌, ◌-◌, ◌^◌, ◌<◌, ◌≤◌, max, List, [], ◌∷◌, ◌++◌, map, length, drop, get_or, ◌==◌, cond, Bool, true, false, Option, Some, None, sym, refl, ap, ◌∙◌, subst, inl, inr, arith, append_assoc, append-nil}
-use Rattle.std.proofs.lemmas.Bool.{cases_eq, cases_lt, eq-eqb, ne_eqb}
+use Rattle.std.proofs.lemmas.Bool.{cases_eq, cases_lt, eq-eqb, ne_eqb, MatchBool-at_false}
 use Rattle.std.proofs.lemmas.List.{drop_more, map-append}
 use Rattle.std.proofs.lemmas.Option.{same_Some, MatchOption-at_some}
 use Rattle.std.specs.List.{cons_option}
@@ -14,13 +14,19 @@ use Rattle.geo_bio.specs.BioTable.{with_phase}
 use Rattle.geo_slots.specs.Slots.{SlotsView, IsRising, value_at, with_value, with_insert}
 use Rattle.geo_slots.proofs.RowLemmas.{IsRising-with_value, with_value_below, value_at_next}
 use Rattle.geo_bio.proofs.ValueLemmas.{value_at-with_value_same, value_at-with_value_other}
-use Rattle.geo_bio.proofs.TableLemmas.{family-with_value, family-none, MatchBool_false, seen_changed}
+use Rattle.geo_bio.proofs.TableLemmas.{family-with_value, family-none, seen_changed}
 use Rattle.geo_bio.specs.declared.bio.Bio.{Bio}
 use Rattle.geo_bio.specs.Rows.{seen, seen_row, Child, child_of, family, FollowFrom, HasFamily, IsSplitInto, WaitsIn, IsTable}
 use Rattle.geo_bio.specs.Split.{child_for, children_for, waiting, with_all, numbered, split_into}
 
 -- the children come at the end
-pub with_all-numbered : {T : Type 0} → (s : SlotsView T) (xs : List T) → with_all s xs ≡ record { rows = s.rows ++ numbered s.next xs; next = s.next + length xs; spare = s.spare - length xs }
+pub with_all-numbered : {T : Type 0} → (s : SlotsView T) (xs : List T)
+    → with_all s xs ≡ record {
+      rows = s.rows ++ numbered s.next xs;
+      next = s.next + length xs;
+      spare =
+          s.spare - length xs;
+    }
 with_all-numbered s [] =
     let next : s.next ≡ s.next + 0 = omega arith in
     let spare : s.spare ≡ s.spare - 0 = omega arith in
@@ -33,35 +39,52 @@ with_all-numbered s (x ∷ xs) =
     with_all-numbered (with_insert s x) xs ∙ (λ i. record { rows = rows i; next = next i; spare = spare i })
 
 -- one more child
-pub children_for-step : (p : ℕ) (x : Bio) (k : ℕ) (pieces : List Piece) (targets : List (ℕ × ℕ)) (piece : Piece) (target : ℕ × ℕ) → k < length pieces → k < length targets → piece ≡ get_or pieces k piece → target ≡ get_or targets k target → children_for p x k (drop k pieces) (drop k targets) ≡ child_for p x k piece target ∷ children_for p x (k + 1) (drop (k + 1) pieces) (drop (k + 1) targets)
+pub children_for-step : (p : ℕ) (x : Bio) (k : ℕ) (pieces : List Piece) (targets : List (ℕ × ℕ)) (piece : Piece)
+    (target : ℕ × ℕ) → k < length pieces → k < length targets → piece ≡ get_or pieces k piece
+    → target ≡ get_or targets k target
+    → children_for p x k (drop k pieces) (drop k targets) ≡ child_for p x k piece target
+    ∷ children_for p x (k + 1) (drop (k + 1) pieces) (drop (k + 1) targets)
 children_for-step p x k pieces targets piece target in_pieces in_targets piece_is target_is =
     rw (drop_more pieces k piece in_pieces, drop_more targets k target in_targets, ← piece_is, ← target_is) refl
 
-pub length-children_for : (p : ℕ) (x : Bio) (k : ℕ) (pieces : List Piece) (targets : List (ℕ × ℕ)) → length targets ≡ length pieces → length (children_for p x k pieces targets) ≡ length pieces
+pub length-children_for : (p : ℕ) (x : Bio) (k : ℕ) (pieces : List Piece) (targets : List (ℕ × ℕ))
+    → length targets ≡ length pieces → length (children_for p x k pieces targets) ≡ length pieces
 length-children_for p x k [] targets same = refl
 length-children_for p x k (piece ∷ pieces) [] same = absurd (omega (arith, same))
-length-children_for p x k (piece ∷ pieces) (target ∷ targets) same = ap suc (length-children_for p x (k + 1) pieces targets (omega (arith, same)))
+length-children_for p x k (piece ∷ pieces) (target ∷ targets) same =
+    ap suc (length-children_for p x (k + 1) pieces targets (omega (arith, same)))
 
 -- the children as contracts see them
-pub seen-children : (first p : ℕ) (x : Bio) (k n : ℕ) (pieces : List Piece) (targets : List (ℕ × ℕ)) → n ≡ first + k → map seen_row (numbered n (children_for p x k pieces targets)) ≡ split_into first (seen p x) k pieces targets
+pub seen-children : (first p : ℕ) (x : Bio) (k n : ℕ) (pieces : List Piece) (targets : List (ℕ × ℕ))
+    → n ≡ first + k
+    → map seen_row (numbered n (children_for p x k pieces targets)) ≡ split_into first (seen p x) k pieces targets
 seen-children first p x k n [] targets place = refl
 seen-children first p x k n (piece ∷ pieces) [] place = refl
 seen-children first p x k n (piece ∷ pieces) (target ∷ targets) place =
-    λ i. seen (place i) (child_for p x k piece target) ∷ seen-children first p x (k + 1) (n + 1) pieces targets (omega (arith, place)) i
+    λ i. seen (place i) (child_for p x k piece target)
+    ∷ seen-children first p x (k + 1) (n + 1) pieces targets (omega (arith, place)) i
 
-pub IsRising-numbered : {T : Type 0} → (low : ℕ) (rows : List (ℕ × T)) (next : ℕ) (xs : List T) → IsRising low rows next → IsRising low (rows ++ numbered next xs) (next + length xs)
+pub IsRising-numbered : {T : Type 0} → (low : ℕ) (rows : List (ℕ × T)) (next : ℕ) (xs : List T)
+    → IsRising low rows next → IsRising low (rows ++ numbered next xs) (next + length xs)
 IsRising-numbered low [] next [] rising = omega (arith, rising)
 IsRising-numbered low [] next (x ∷ xs) rising =
-    let more : next + 1 + length xs ≡ next + suc (length xs) = omega arith in
-    (rising, subst (λ high. IsRising (next + 1) (numbered (next + 1) xs) high) more (IsRising-numbered (next + 1) [] (next + 1) xs (omega arith)))
+    let more : next + 1 + length xs ≡ next + suc (length xs) = omega arith in (
+      rising,
+      subst (λ high. IsRising (next + 1) (numbered (next + 1) xs) high) more
+          (IsRising-numbered (next + 1) [] (next + 1) xs (omega arith)),
+    )
 IsRising-numbered low (row ∷ rows) next xs rising = (rising.0, IsRising-numbered (row.0 + 1) rows next xs rising.1)
 
 -- a look-up in rows and those behind them
-pub value_at-append : {T : Type 0} → (rows more : List (ℕ × T)) (m : ℕ) → value_at (rows ++ more) m ≡ option_or (value_at rows m) (value_at more m)
+pub value_at-append : {T : Type 0} → (rows more : List (ℕ × T)) (m : ℕ)
+    → value_at (rows ++ more) m ≡ option_or (value_at rows m) (value_at more m)
 value_at-append [] more m = refl
 value_at-append {T} (row ∷ rows) more m = either (row.0 == m) _ _ (value_at-append rows more m)
   where
-    either : (b : Bool) (o r : Option (ℕ × T)) → option_map (λ p. p.1) o ≡ option_or (option_map (λ p. p.1) r) (value_at more m) → option_map (λ p. p.1) (cond b (Some row) o) ≡ option_or (option_map (λ p. p.1) (cond b (Some row) r)) (value_at more m)
+    either : (b : Bool) (o r : Option (ℕ × T))
+        → option_map (λ p. p.1) o ≡ option_or (option_map (λ p. p.1) r) (value_at more m)
+        → option_map (λ p. p.1) (cond b (Some row) o)
+        ≡ option_or (option_map (λ p. p.1) (cond b (Some row) r)) (value_at more m)
     either true o r e = refl
     either false o r e = e
 
@@ -71,52 +94,64 @@ pub record IsNewChild (p : ℕ) (y : Bio) : Type 0 where
   pub owner : y.owner ≡ owners.Child p index
   pub idle : is_waiting y.phase ≡ false
 
-new_child : (p : ℕ) (x : Bio) (k n : ℕ) (pieces : List Piece) (targets : List (ℕ × ℕ)) (m : ℕ) (y : Bio) → value_at (numbered n (children_for p x k pieces targets)) m ≡ Some y → IsNewChild p y
+new_child : (p : ℕ) (x : Bio) (k n : ℕ) (pieces : List Piece) (targets : List (ℕ × ℕ)) (m : ℕ) (y : Bio)
+    → value_at (numbered n (children_for p x k pieces targets)) m ≡ Some y → IsNewChild p y
 new_child p x k n [] targets m y found = absurd (cc)
 new_child p x k n (piece ∷ pieces) [] m y found = absurd (cc)
 new_child p x k n (piece ∷ pieces) (target ∷ targets) m y found =
     elim (cases_eq n m) [
       | inl same ↦
           let y_is : child_for p x k piece target ≡ y = same_Some _ _ (rw (eq-eqb n m same) at found) in
-          record { index = k; owner = ap (λ (z : Bio). z.owner) (sym y_is); idle = ap (λ (z : Bio). is_waiting z.phase) (sym y_is) }
+          record {
+            index = k;
+            owner = ap (λ (z : Bio). z.owner) (sym y_is);
+            idle =
+                ap (λ (z : Bio). is_waiting z.phase) (sym y_is);
+          }
       | inr other ↦ new_child p x (k + 1) (n + 1) pieces targets m y (rw (ne_eqb n m other) at found)
     ]
 
 family-append : (p : ℕ) (rows more : List (ℕ × Bio)) → family (rows ++ more) p ≡ family rows p ++ family more p
 family-append p [] more = refl
 family-append p (row ∷ rows) more =
-    ap (cons_option (child_of p row.0 (is_done row.1.phase) row.1.owner)) (family-append p rows more) ∙ cons_append (child_of p row.0 (is_done row.1.phase) row.1.owner) (family rows p) (family more p)
+    ap (cons_option (child_of p row.0 (is_done row.1.phase) row.1.owner)) (family-append p rows more)
+    ∙ cons_append (child_of p row.0 (is_done row.1.phase) row.1.owner) (family rows p) (family more p)
   where
     cons_append : (o : Option Child) (xs ys : List Child) → cons_option o (xs ++ ys) ≡ cons_option o xs ++ ys
     cons_append None xs ys = refl
     cons_append (Some x) xs ys = refl
 
 -- the new children are the family of their parent, and of no other
-family-other : (q p : ℕ) (x : Bio) (k n : ℕ) (pieces : List Piece) (targets : List (ℕ × ℕ)) → p ≢ q → family (numbered n (children_for p x k pieces targets)) q ≡ []
+family-other : (q p : ℕ) (x : Bio) (k n : ℕ) (pieces : List Piece) (targets : List (ℕ × ℕ)) → p ≢ q
+    → family (numbered n (children_for p x k pieces targets)) q ≡ []
 family-other q p x k n [] targets differs = refl
 family-other q p x k n (piece ∷ pieces) [] differs = refl
 family-other q p x k n (piece ∷ pieces) (target ∷ targets) differs =
     rw (ne_eqb p q differs) (family-other q p x (k + 1) (n + 1) pieces targets differs)
 
-family-follows : (p : ℕ) (x : Bio) (k n : ℕ) (pieces : List Piece) (targets : List (ℕ × ℕ)) → FollowFrom n k (family (numbered n (children_for p x k pieces targets)) p)
+family-follows : (p : ℕ) (x : Bio) (k n : ℕ) (pieces : List Piece) (targets : List (ℕ × ℕ))
+    → FollowFrom n k (family (numbered n (children_for p x k pieces targets)) p)
 family-follows p x k n [] targets = tt
 family-follows p x k n (piece ∷ pieces) [] = tt
 family-follows p x k n (piece ∷ pieces) (target ∷ targets) =
     rw (eq-eqb p p refl) (refl, (refl, family-follows p x (k + 1) (n + 1) pieces targets))
 
-family-length : (p : ℕ) (x : Bio) (k n : ℕ) (pieces : List Piece) (targets : List (ℕ × ℕ)) → length (family (numbered n (children_for p x k pieces targets)) p) ≡ length (children_for p x k pieces targets)
+family-length : (p : ℕ) (x : Bio) (k n : ℕ) (pieces : List Piece) (targets : List (ℕ × ℕ))
+    → length (family (numbered n (children_for p x k pieces targets)) p) ≡ length (children_for p x k pieces targets)
 family-length p x k n [] targets = refl
 family-length p x k n (piece ∷ pieces) [] = refl
 family-length p x k n (piece ∷ pieces) (target ∷ targets) =
     rw (eq-eqb p p refl) (ap suc (family-length p x (k + 1) (n + 1) pieces targets))
 
-family-none_done : (p : ℕ) (x : Bio) (k n : ℕ) (pieces : List Piece) (targets : List (ℕ × ℕ)) → count_by (λ c. c.done) (family (numbered n (children_for p x k pieces targets)) p) ≡ 0
+family-none_done : (p : ℕ) (x : Bio) (k n : ℕ) (pieces : List Piece) (targets : List (ℕ × ℕ))
+    → count_by (λ c. c.done) (family (numbered n (children_for p x k pieces targets)) p) ≡ 0
 family-none_done p x k n [] targets = refl
 family-none_done p x k n (piece ∷ pieces) [] = refl
 family-none_done p x k n (piece ∷ pieces) (target ∷ targets) =
     rw (eq-eqb p p refl) (family-none_done p x (k + 1) (n + 1) pieces targets)
 
-either_part : {A : Type 0} (o r : Option A) (y : A) → option_or o r ≡ Some y → (o ≡ Some y) ⊎ ((r ≡ Some y) × (o ≡ None))
+either_part : {A : Type 0} (o r : Option A) (y : A) → option_or o r ≡ Some y
+    → (o ≡ Some y) ⊎ ((r ≡ Some y) × (o ≡ None))
 either_part (Some z) r y e = inl e
 either_part None r y e = inr (e, refl)
 
@@ -131,7 +166,8 @@ module _ (rows : List (ℕ × Bio)) (next n : ℕ) (x : Bio) (pieces : List Piec
   abbrev pub split_rows : List (ℕ × Bio)
   split_rows = with_value (rows ++ kids) n parent
 
-  module _ (t : IsTable rows next) (found : value_at rows n ≡ Some x) (done : is_done x.phase ≡ false) (was : is_waiting x.phase ≡ false) (same : length targets ≡ length pieces) (few : length pieces < 2 ^ 32) where
+  module _ (t : IsTable rows next) (found : value_at rows n ≡ Some x) (done : is_done x.phase ≡ false)
+      (was : is_waiting x.phase ≡ false) (same : length targets ≡ length pieces) (few : length pieces < 2 ^ 32) where
     rising_all : IsRising 1 (rows ++ kids) (next + length (children_for n x 0 pieces targets))
     rising_all = IsRising-numbered 1 rows next (children_for n x 0 pieces targets) t.rising
 
@@ -142,23 +178,31 @@ module _ (rows : List (ℕ × Bio)) (next n : ℕ) (x : Bio) (pieces : List Piec
     at_parent = value_at-with_value_same n x parent (rows ++ kids) found_all
 
     kin : (p : ℕ) → family split_rows p ≡ family rows p ++ family kids p
-    kin p = family-with_value p n x parent 1 (rows ++ kids) (next + length (children_for n x 0 pieces targets)) rising_all found_all (ap (λ b. child_of p n b x.owner) (sym done)) ∙ family-append p rows kids
+    kin p = family-with_value p n x parent 1 (rows ++ kids) (next + length (children_for n x 0 pieces targets))
+        rising_all found_all (ap (λ b. child_of p n b x.owner) (sym done)) ∙ family-append p rows kids
 
     waits : (p : ℕ) → WaitsIn rows p → WaitsIn split_rows p
     waits p q =
-        let differs : p ≢ n = λ here. let e = sym found ∙ ap (value_at rows) (sym here) ∙ q.1 in let x_is = same_Some _ _ e in let b = sym was ∙ ap (λ (y : Bio). is_waiting y.phase) x_is ∙ q.2 in absurd (cc) in
-        (q.0, value_at-with_value_other n p parent (rows ++ kids) differs ∙ value_at-append rows kids p ∙ ap (λ o. option_or o (value_at kids p)) q.1, q.2)
+        let differs : p ≢ n = λ here. let e = sym found ∙ ap (value_at rows) (sym here) ∙ q.1 in let x_is =
+        same_Some _ _ e in let b = sym was ∙ ap (λ (y : Bio). is_waiting y.phase) x_is ∙ q.2 in absurd (cc) in (
+          q.0,
+          value_at-with_value_other n p parent (rows ++ kids) differs ∙ value_at-append rows kids p
+              ∙ ap (λ o. option_or o (value_at kids p)) q.1,
+          q.2,
+        )
 
-    where_it_stands : (m : ℕ) (y : Bio) → m ≢ n → value_at split_rows m ≡ Some y → (value_at rows m ≡ Some y) ⊎ ((value_at kids m ≡ Some y) × (value_at rows m ≡ None))
+    where_it_stands : (m : ℕ) (y : Bio) → m ≢ n → value_at split_rows m ≡ Some y → (value_at rows m ≡ Some y)
+        ⊎ ((value_at kids m ≡ Some y) × (value_at rows m ≡ None))
     where_it_stands m y other at =
-        either_part (value_at rows m) (value_at kids m) y (sym (value_at-append rows kids m) ∙ sym (value_at-with_value_other n m parent (rows ++ kids) other) ∙ at)
+        either_part (value_at rows m) (value_at kids m) y (sym (value_at-append rows kids m)
+        ∙ sym (value_at-with_value_other n m parent (rows ++ kids) other) ∙ at)
 
     families : (m : ℕ) (y : Bio) → value_at split_rows m ≡ Some y → HasFamily (family split_rows m) y
     families m y at =
         elim (cases_eq m n) [
           | inl here ↦
               let y_is : parent ≡ y = same_Some _ _ (sym at_parent ∙ ap (value_at split_rows) (sym here) ∙ at) in
-              let none : family rows n ≡ [] = MatchBool_false _ _ was (t.families n x found) in
+              let none : family rows n ≡ [] = MatchBool-at_false _ _ was (t.families n x found) in
               let split : IsSplitInto (family kids n) parent = record {
                 follow = family-follows n x 0 next pieces targets;
                 count = family-length n x 0 next pieces targets ∙ length-children_for n x 0 pieces targets same;
@@ -171,13 +215,15 @@ module _ (rows : List (ℕ × Bio)) (next n : ℕ) (x : Bio) (pieces : List Piec
               elim (where_it_stands m y other at) [
                 | inl old ↦ rw (kin m, no_kids, append-nil) (t.families m y old)
                 | inr new ↦
-                    let none = family-none m 1 rows next t.rising (λ l z k stands of. let q = t.parents l z m k stands of in let e = sym new.1 ∙ q.1 in absurd (cc)) in
+                    let none = family-none m 1 rows next t.rising (λ l z k stands of. let q =
+                    t.parents l z m k stands of in let e = sym new.1 ∙ q.1 in absurd (cc)) in
                     let child = new_child n x 0 next pieces targets m y new.0 in
                     rw (kin m, none, no_kids, child.idle) refl
               ]
         ]
 
-    parents : (m : ℕ) (y : Bio) (p k : ℕ) → value_at split_rows m ≡ Some y → y.owner ≡ owners.Child p k → WaitsIn split_rows p
+    parents : (m : ℕ) (y : Bio) (p k : ℕ) → value_at split_rows m ≡ Some y → y.owner ≡ owners.Child p k
+        → WaitsIn split_rows p
     parents m y p k at of =
         elim (cases_eq m n) [
           | inl here ↦
@@ -196,31 +242,52 @@ module _ (rows : List (ℕ × Bio)) (next n : ℕ) (x : Bio) (pieces : List Piec
     -- the table after a split
     pub table_split : IsTable split_rows (next + length (children_for n x 0 pieces targets))
     table_split = record {
-      rising = IsRising-with_value n parent 1 (rows ++ kids) (next + length (children_for n x 0 pieces targets)) rising_all;
+      rising = IsRising-with_value n parent 1 (rows ++ kids)
+          (next + length (children_for n x 0 pieces targets)) rising_all;
       families = families;
       parents = parents;
     }
 
 -- what the two steps of a split leave
-pub split_after : (mid new : SlotsView Bio) (rows : List (ℕ × Bio)) (high room n : ℕ) (change : Bio → Bio) → mid ≡ record { rows = rows; next = high; spare = room } → MatchOption (value_at mid.rows n) (new ≡ mid) (λ x. new ≡ record mid { rows = with_value mid.rows n (change x) }) → IfSome (value_at rows n) (λ x. new.rows ≡ with_value rows n (change x))
+pub split_after : (mid new : SlotsView Bio) (rows : List (ℕ × Bio)) (high room n : ℕ) (change : Bio → Bio)
+    → mid ≡ record { rows = rows; next = high; spare = room }
+    → MatchOption (value_at mid.rows n) (new ≡ mid) (λ x. new
+    ≡ record mid { rows = with_value mid.rows n (change x) })
+    → IfSome (value_at rows n) (λ x. new.rows ≡ with_value rows n (change x))
 split_after mid new rows high room n change all step =
-    by_case (value_at rows n) (subst (λ m. MatchOption (value_at m.rows n) (new ≡ m) (λ x. new ≡ record m { rows = with_value m.rows n (change x) })) all step)
+    by_case (value_at rows n)
+    (subst (λ m.
+    MatchOption (value_at m.rows n) (new ≡ m) (λ x. new
+    ≡ record m { rows = with_value m.rows n (change x) })) all step)
   where
-    by_case : (o : Option Bio) → MatchOption o (new ≡ record { rows = rows; next = high; spare = room }) (λ x. new ≡ record { rows = with_value rows n (change x); next = high; spare = room }) → IfSome o (λ x. new.rows ≡ with_value rows n (change x))
+    by_case : (o : Option Bio)
+        → MatchOption o (new ≡ record { rows = rows; next = high; spare = room }) (λ x. new
+        ≡ record { rows = with_value rows n (change x); next = high; spare = room })
+        → IfSome o (λ x. new.rows ≡ with_value rows n (change x))
     by_case (Some x) e = ap (λ s. s.rows) e
     by_case None e = tt
 
-pub split_next : (mid new : SlotsView Bio) (rows : List (ℕ × Bio)) (high room n : ℕ) (change : Bio → Bio) → mid ≡ record { rows = rows; next = high; spare = room } → MatchOption (value_at mid.rows n) (new ≡ mid) (λ x. new ≡ record mid { rows = with_value mid.rows n (change x) }) → new.next ≡ high
+pub split_next : (mid new : SlotsView Bio) (rows : List (ℕ × Bio)) (high room n : ℕ) (change : Bio → Bio)
+    → mid ≡ record { rows = rows; next = high; spare = room }
+    → MatchOption (value_at mid.rows n) (new ≡ mid) (λ x. new
+    ≡ record mid { rows = with_value mid.rows n (change x) }) → new.next ≡ high
 split_next mid new rows high room n change all step = by_case (value_at mid.rows n) step ∙ ap (λ s. s.next) all
   where
-    by_case : (o : Option Bio) → MatchOption o (new ≡ mid) (λ x. new ≡ record mid { rows = with_value mid.rows n (change x) }) → new.next ≡ mid.next
+    by_case : (o : Option Bio)
+        → MatchOption o (new ≡ mid) (λ x. new ≡ record mid { rows = with_value mid.rows n (change x) })
+        → new.next ≡ mid.next
     by_case (Some x) e = ap (λ s. s.next) e
     by_case None e = ap (λ s. s.next) e
 
-pub split_spare : (mid new : SlotsView Bio) (rows : List (ℕ × Bio)) (high room n : ℕ) (change : Bio → Bio) → mid ≡ record { rows = rows; next = high; spare = room } → MatchOption (value_at mid.rows n) (new ≡ mid) (λ x. new ≡ record mid { rows = with_value mid.rows n (change x) }) → new.spare ≡ room
+pub split_spare : (mid new : SlotsView Bio) (rows : List (ℕ × Bio)) (high room n : ℕ) (change : Bio → Bio)
+    → mid ≡ record { rows = rows; next = high; spare = room }
+    → MatchOption (value_at mid.rows n) (new ≡ mid) (λ x. new
+    ≡ record mid { rows = with_value mid.rows n (change x) }) → new.spare ≡ room
 split_spare mid new rows high room n change all step = by_case (value_at mid.rows n) step ∙ ap (λ s. s.spare) all
   where
-    by_case : (o : Option Bio) → MatchOption o (new ≡ mid) (λ x. new ≡ record mid { rows = with_value mid.rows n (change x) }) → new.spare ≡ mid.spare
+    by_case : (o : Option Bio)
+        → MatchOption o (new ≡ mid) (λ x. new ≡ record mid { rows = with_value mid.rows n (change x) })
+        → new.spare ≡ mid.spare
     by_case (Some x) e = ap (λ s. s.spare) e
     by_case None e = ap (λ s. s.spare) e
 
@@ -230,12 +297,16 @@ room_left old made count kept enough no_more = omega (arith, kept, enough, no_mo
 
 -- What the public call makes of the rows
 
-pub record IsSplit (rows : List (ℕ × Bio)) (next n : ℕ) (x : Bio) (pieces : List Piece) (targets : List (ℕ × ℕ)) (new : List (ℕ × Bio)) (high : ℕ) : Type 0 where
+pub record IsSplit (rows : List (ℕ × Bio)) (next n : ℕ) (x : Bio) (pieces : List Piece) (targets : List (ℕ × ℕ))
+    (new : List (ℕ × Bio)) (high : ℕ) : Type 0 where
   pub table : IsTable new high
-  pub seen_rows : map seen_row new ≡ change_number n (with_phase phases.Waiting) (map seen_row rows) ++ split_into next (seen n x) 0 pieces targets
+  pub seen_rows : map seen_row new ≡ change_number n (with_phase phases.Waiting) (map seen_row rows)
+      ++ split_into next (seen n x) 0 pieces targets
   pub grows : high ≡ next + length pieces
 
-module _ (rows : List (ℕ × Bio)) (next n : ℕ) (x : Bio) (pieces : List Piece) (targets : List (ℕ × ℕ)) (t : IsTable rows next) (found : value_at rows n ≡ Some x) (done : is_done x.phase ≡ false) (was : is_waiting x.phase ≡ false) (same : length targets ≡ length pieces) (few : length pieces < 2 ^ 32) where
+module _ (rows : List (ℕ × Bio)) (next n : ℕ) (x : Bio) (pieces : List Piece) (targets : List (ℕ × ℕ))
+    (t : IsTable rows next) (found : value_at rows n ≡ Some x) (done : is_done x.phase ≡ false)
+    (was : is_waiting x.phase ≡ false) (same : length targets ≡ length pieces) (few : length pieces < 2 ^ 32) where
   below_next : n < next
   below_next =
       elim (cases_lt n next) [
@@ -243,29 +314,47 @@ module _ (rows : List (ℕ × Bio)) (next n : ℕ) (x : Bio) (pieces : List Piec
         | inr past ↦ absurd (let e = sym (value_at_next n 1 rows next t.rising past) ∙ found in cc)
       ]
 
-  rows_split : split_rows rows next n x pieces targets ≡ with_value rows n (parent rows next n x pieces targets) ++ kids rows next n x pieces targets
+  rows_split : split_rows rows next n x pieces targets ≡ with_value rows n (parent rows next n x pieces targets)
+      ++ kids rows next n x pieces targets
   rows_split =
       let w = parent rows next n x pieces targets in
       let rising = IsRising-numbered next [] next (children_for n x 0 pieces targets) (omega arith) in
       map-append (λ row. if row.0 == n then (n, w) else row) rows (kids rows next n x pieces targets)
-      ∙ ap (λ more. with_value rows n w ++ more) (with_value_below n next w (kids rows next n x pieces targets) (next + length (children_for n x 0 pieces targets)) rising below_next)
+      ∙ ap (λ more. with_value rows n w ++ more)
+      (with_value_below n next w (kids rows next n x pieces targets)
+      (next + length (children_for n x 0 pieces targets)) rising below_next)
 
-  seen_split : map seen_row (split_rows rows next n x pieces targets) ≡ change_number n (with_phase phases.Waiting) (map seen_row rows) ++ split_into next (seen n x) 0 pieces targets
+  seen_split : map seen_row (split_rows rows next n x pieces targets)
+      ≡ change_number n (with_phase phases.Waiting) (map seen_row rows) ++ split_into next (seen n x) 0 pieces targets
   seen_split =
       let w = parent rows next n x pieces targets in
       let before = seen_changed rows next n x w (with_phase phases.Waiting) t found refl in
       let after = seen-children next n x 0 next pieces targets (omega arith) in
-      ap (map seen_row) rows_split ∙ map-append seen_row (with_value rows n w) (kids rows next n x pieces targets) ∙ (λ i. before i ++ after i)
+      ap (map seen_row) rows_split ∙ map-append seen_row (with_value rows n w) (kids rows next n x pieces targets)
+      ∙ (λ i. before i ++ after i)
 
   -- the rows that a split leaves
-  pub is_split : (mid new : SlotsView Bio) (room : ℕ) (y : Bio) (children : List Bio) → mid ≡ record { rows = rows; next = next; spare = room } → y ≡ x → children ≡ children_for n y 0 pieces targets → IfSome (value_at (mid.rows ++ numbered mid.next children) n) (λ z. new.rows ≡ with_value (mid.rows ++ numbered mid.next children) n (waiting (length children) mid.next z)) → new.next ≡ mid.next + length children → IsSplit rows next n x pieces targets new.rows new.next
+  pub is_split : (mid new : SlotsView Bio) (room : ℕ) (y : Bio) (children : List Bio)
+      → mid ≡ record { rows = rows; next = next; spare = room } → y ≡ x
+      → children ≡ children_for n y 0 pieces targets
+      → IfSome (value_at (mid.rows ++ numbered mid.next children) n) (λ z. new.rows
+      ≡ with_value (mid.rows ++ numbered mid.next children) n (waiting (length children) mid.next z))
+      → new.next ≡ mid.next + length children → IsSplit rows next n x pieces targets new.rows new.next
   is_split mid new room y children mid_is y_is children_is after grows =
       let kids_are = children_is ∙ ap (λ z. children_for n z 0 pieces targets) y_is in
       let count = length-children_for n x 0 pieces targets same in
       let there = found_all rows next n x pieces targets t found done was same few in
-      let rows_are = MatchOption-at_some _ _ x there (subst (λ cs. IfSome (value_at (rows ++ numbered next cs) n) (λ z. new.rows ≡ with_value (rows ++ numbered next cs) n (waiting (length cs) next z))) kids_are (subst (λ m. IfSome (value_at (m.rows ++ numbered m.next children) n) (λ z. new.rows ≡ with_value (m.rows ++ numbered m.next children) n (waiting (length children) m.next z))) mid_is after)) in
-      let split_is : new.rows ≡ split_rows rows next n x pieces targets = rows_are ∙ ap (λ k. with_value (rows ++ kids rows next n x pieces targets) n (waiting k next x)) count in
-      let high : new.next ≡ next + length (children_for n x 0 pieces targets) = grows ∙ (λ i. (mid_is i).next + length (kids_are i)) in
+      let rows_are =
+      MatchOption-at_some _ _ x there
+      (subst (λ cs. IfSome (value_at (rows ++ numbered next cs) n) (λ z. new.rows
+      ≡ with_value (rows ++ numbered next cs) n (waiting (length cs) next z))) kids_are
+      (subst (λ m. IfSome (value_at (m.rows ++ numbered m.next children) n) (λ z. new.rows
+      ≡ with_value (m.rows ++ numbered m.next children) n
+      (waiting (length children) m.next z))) mid_is after)) in
+      let split_is : new.rows ≡ split_rows rows next n x pieces targets =
+      rows_are ∙ ap (λ k. with_value (rows ++ kids rows next n x pieces targets) n (waiting k next x)) count in
+      let high : new.next ≡ next + length (children_for n x 0 pieces targets) =
+      grows ∙ (λ i. (mid_is i).next + length (kids_are i)) in
       record {
         table = rw (split_is, high) (table_split rows next n x pieces targets t found done was same few);
         seen_rows = ap (map seen_row) split_is ∙ seen_split;

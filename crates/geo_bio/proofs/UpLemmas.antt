@@ -34,48 +34,65 @@ up_facts phases.Done e = absurd (cc)
 
 -- the numbers of a family stay below the next number
 
-family_ends : (p low : ℕ) (rows : List (ℕ × Bio)) (high first place : ℕ) (fam : List Child) → IsRising low rows high → family rows p ≡ fam → FollowFrom first place fam → first ≤ high → first + length fam ≤ high
-family_ends p low [] high first place fam rising is follow below = subst (λ f. first + length f ≤ high) is (omega (arith, below))
+family_ends : (p low : ℕ) (rows : List (ℕ × Bio)) (high first place : ℕ) (fam : List Child)
+    → IsRising low rows high → family rows p ≡ fam → FollowFrom first place fam → first ≤ high
+    → first + length fam ≤ high
+family_ends p low [] high first place fam rising is follow below =
+    subst (λ f. first + length f ≤ high) is (omega (arith, below))
 family_ends p low (row ∷ rows) high first place fam rising is follow below =
     elim (standing p row.0 (is_done row.1.phase) row.1.owner) [
       | kid index owner inside mine ↦
           let e = sym (ap (λ o. cons_option o (family rows p)) mine) ∙ is in
           let f = subst (FollowFrom first place) (sym e) follow in
           let ends = IsRising_ends (row.0 + 1) rows high rising.1 in
-          let rest = family_ends p (row.0 + 1) rows high (first + 1) (place + 1) (family rows p) rising.1 refl f.1.1 (omega (arith, ends, f.0)) in
+          let rest = family_ends p (row.0 + 1) rows high (first + 1) (place + 1) (family rows p) rising.1 refl
+          f.1.1 (omega (arith, ends, f.0)) in
           subst (λ g. first + length g ≤ high) e (omega (arith, rest))
-      | stranger outside none ↦ family_ends p (row.0 + 1) rows high first place fam rising.1 (sym (ap (λ o. cons_option o (family rows p)) none) ∙ is) follow below
+      | stranger outside none ↦
+          family_ends p (row.0 + 1) rows high first place fam rising.1
+          (sym (ap (λ o. cons_option o (family rows p)) none) ∙ is) follow below
     ]
 
-pub family_below : (p low : ℕ) (rows : List (ℕ × Bio)) (high first place : ℕ) (fam : List Child) → IsRising low rows high → family rows p ≡ fam → FollowFrom first place fam → 1 ≤ length fam → first + length fam ≤ high
-family_below p low [] high first place fam rising is follow some = absurd (let none = subst (λ f. 1 ≤ length f) (sym is) some in omega (arith, none))
+pub family_below : (p low : ℕ) (rows : List (ℕ × Bio)) (high first place : ℕ) (fam : List Child)
+    → IsRising low rows high → family rows p ≡ fam → FollowFrom first place fam → 1 ≤ length fam
+    → first + length fam ≤ high
+family_below p low [] high first place fam rising is follow some =
+    absurd (let none = subst (λ f. 1 ≤ length f) (sym is) some in omega (arith, none))
 family_below p low (row ∷ rows) high first place fam rising is follow some =
     elim (standing p row.0 (is_done row.1.phase) row.1.owner) [
       | kid index owner inside mine ↦
           let e = sym (ap (λ o. cons_option o (family rows p)) mine) ∙ is in
           let f = subst (FollowFrom first place) (sym e) follow in
           let ends = IsRising_ends (row.0 + 1) rows high rising.1 in
-          let rest = family_ends p (row.0 + 1) rows high (first + 1) (place + 1) (family rows p) rising.1 refl f.1.1 (omega (arith, ends, f.0)) in
+          let rest = family_ends p (row.0 + 1) rows high (first + 1) (place + 1) (family rows p) rising.1 refl
+          f.1.1 (omega (arith, ends, f.0)) in
           subst (λ g. first + length g ≤ high) e (omega (arith, rest))
-      | stranger outside none ↦ family_below p (row.0 + 1) rows high first place fam rising.1 (sym (ap (λ o. cons_option o (family rows p)) none) ∙ is) follow some
+      | stranger outside none ↦
+          family_below p (row.0 + 1) rows high first place fam rising.1
+          (sym (ap (λ o. cons_option o (family rows p)) none) ∙ is) follow some
     ]
 
-changed_at-some : (change : Bio → Bio) (rows : List (ℕ × Bio)) (n : ℕ) (x : Bio) → value_at rows n ≡ Some x → changed_at change rows n ≡ with_value rows n (change x)
+changed_at-some : (change : Bio → Bio) (rows : List (ℕ × Bio)) (n : ℕ) (x : Bio) → value_at rows n ≡ Some x
+    → changed_at change rows n ≡ with_value rows n (change x)
 changed_at-some change rows n x found = ap (λ o. option_map_or (λ (v : Bio). with_value rows n (change v)) o rows) found
 
 -- a child that goes up, with its parent
-pub child_up : (rows : List (ℕ × Bio)) (next n p k : ℕ) (x : Bio) → IsTable rows next → value_at rows n ≡ Some x → is_up x.phase ≡ true → x.owner ≡ owners.Child p k → (y : Bio) × IsChildUp rows n p k x y
+pub child_up : (rows : List (ℕ × Bio)) (next n p k : ℕ) (x : Bio) → IsTable rows next → value_at rows n ≡ Some x
+    → is_up x.phase ≡ true → x.owner ≡ owners.Child p k → (y : Bio) × IsChildUp rows n p k x y
 child_up rows next n p k x t found up owner =
     let w = t.parents n x p k found owner in
     let facts = up_facts x.phase up in
     (w.0, record { child = found; owner = owner; busy = facts.0; idle = facts.1; parent = w.1; waits = w.2 })
 
-module _ (rows : List (ℕ × Bio)) (next n p k : ℕ) (x y : Bio) (t : IsTable rows next) (u : IsChildUp rows n p k x y) where
+module _ (rows : List (ℕ × Bio)) (next n p k : ℕ) (x y : Bio) (t : IsTable rows next)
+    (u : IsChildUp rows n p k x y) where
   pub children_below : y.first_child + y.children ≤ next
   children_below =
       let s = split rows next n p k x y t u in
       let less = fewer rows next n p k x y t u in
-      subst (λ c. y.first_child + c ≤ next) s.count (family_below p 1 rows next y.first_child 0 (family rows p) t.rising refl s.follow (omega (arith, less, s.count)))
+      subst (λ c. y.first_child + c ≤ next) s.count
+      (family_below p 1 rows next y.first_child 0 (family rows p) t.rising refl s.follow
+      (omega (arith, less, s.count)))
 
   module _ (log : ℕ → Option (List ℕ)) where
     pub record IsRisen (after : List (ℕ × Bio)) : Type 0 where
@@ -87,9 +104,13 @@ module _ (rows : List (ℕ × Bio)) (next n p k : ℕ) (x y : Bio) (t : IsTable 
     last_up last =
         let h = held_from log rows y in
         let all_gone = gone rows next n p k x y t u last in
-        let stands : value_at (without_all rows y.first_child y.children) p ≡ Some y = ap (λ r. value_at r p) all_gone ∙ value_at-filter (λ row. not (is_child_of row.1.owner p)) rows p y u.parent (ap not (no_child rows next n p k x y t u last)) in
+        let stands : value_at (without_all rows y.first_child y.children) p ≡ Some y =
+        ap (λ r. value_at r p) all_gone
+        ∙ value_at-filter (λ row. not (is_child_of row.1.owner p)) rows p y u.parent
+        (ap not (no_child rows next n p k x y t u last)) in
         let is : is_last y ≡ true = eq-eqb (y.finished + 1) y.children last in
-        let after : rows_up log rows n p y ≡ complete_rows rows next n p k x y t u last h = rw is (changed_at-some (ended h) (without_all rows y.first_child y.children) p y stands) in
+        let after : rows_up log rows n p y ≡ complete_rows rows next n p k x y t u last h =
+        rw is (changed_at-some (ended h) (without_all rows y.first_child y.children) p y stands) in
         let in_ = are_in-last rows next n p k x y t u last in
         record {
           table = subst (λ r. IsTable r next) (sym after) (table_complete rows next n p k x y t u last h);
@@ -101,7 +122,10 @@ module _ (rows : List (ℕ × Bio)) (next n p k : ℕ) (x y : Bio) (t : IsTable 
     other_up more =
         let is : is_last y ≡ false = ne_eqb (y.finished + 1) y.children (λ same. omega (arith, same, more)) in
         let first = changed_at-some (at_phase phases.Done) rows n x u.child in
-        let after : rows_up log rows n p y ≡ counted_rows rows next n p k x y t u = rw is (ap (λ r. changed_at counted r p) first ∙ changed_at-some counted (done_rows rows next n p k x y t u) p y (parent_done rows next n p k x y t u)) in
+        let after : rows_up log rows n p y ≡ counted_rows rows next n p k x y t u =
+        rw is (ap (λ r. changed_at counted r p) first
+        ∙ changed_at-some counted (done_rows rows next n p k x y t u) p y
+        (parent_done rows next n p k x y t u)) in
         let out = are_in-other rows next n p k x y t u more in
         record {
           table = subst (λ r. IsTable r next) (sym after) (table_counted rows next n p k x y t u);
@@ -118,14 +142,19 @@ module _ (rows : List (ℕ × Bio)) (next n p k : ℕ) (x y : Bio) (t : IsTable 
 
 -- A root goes up
 
-pub told_root : (log : ℕ → Option (List ℕ)) (bios : List (BioOf Held)) (x : BioOf Held) (owner : Owner) → is_root owner ≡ true → told_of_up log bios x owner ≡ risen.Root (resolved log x.result)
+pub told_root : (log : ℕ → Option (List ℕ)) (bios : List (BioOf Held)) (x : BioOf Held) (owner : Owner)
+    → is_root owner ≡ true → told_of_up log bios x owner ≡ risen.Root (resolved log x.result)
 told_root log bios x (owners.Line handle line) root = refl
 told_root log bios x owners.Taste root = refl
 told_root log bios x (owners.Child p k) root = absurd (cc)
 
-pub after_root : (log : ℕ → Option (List ℕ)) (rows : List (ℕ × Bio)) (n : ℕ) (x : BioOf Held) (owner : Owner) → x.number ≡ n → is_root owner ≡ true → map seen_row (without rows n) ≡ after_up log (map seen_row rows) x owner
-after_root log rows n x (owners.Line handle line) same root = sym (filter-items seen_row (λ y. y.number) (λ row. refl) n rows) ∙ ap (λ m. filter (λ (y : BioOf Held). not (y.number == m)) (map seen_row rows)) (sym same)
-after_root log rows n x owners.Taste same root = sym (filter-items seen_row (λ y. y.number) (λ row. refl) n rows) ∙ ap (λ m. filter (λ (y : BioOf Held). not (y.number == m)) (map seen_row rows)) (sym same)
+pub after_root : (log : ℕ → Option (List ℕ)) (rows : List (ℕ × Bio)) (n : ℕ) (x : BioOf Held) (owner : Owner)
+    → x.number ≡ n → is_root owner ≡ true → map seen_row (without rows n) ≡ after_up log (map seen_row rows) x owner
+after_root log rows n x (owners.Line handle line) same root =
+    sym (filter-items seen_row (λ y. y.number) (λ row. refl) n rows)
+    ∙ ap (λ m. filter (λ (y : BioOf Held). not (y.number == m)) (map seen_row rows)) (sym same)
+after_root log rows n x owners.Taste same root = sym (filter-items seen_row (λ y. y.number) (λ row. refl) n rows)
+    ∙ ap (λ m. filter (λ (y : BioOf Held). not (y.number == m)) (map seen_row rows)) (sym same)
 after_root log rows n x (owners.Child p k) same root = absurd (cc)
 
 pub root_unless_child : (owner : Owner) → ((p k : ℕ) → owner ≡ owners.Child p k → ⊥) → is_root owner ≡ true
@@ -140,11 +169,15 @@ either_answer (Ok v) P Q ok err = inl ok
 either_answer (Err e) P Q ok err = inr err
 
 -- the phase of a bio that is there
-pub phase_there : (test : Phase → Bool) (rows : List (ℕ × Bio)) (n : ℕ) (x : Bio) → value_at rows n ≡ Some x → has_phase test (map seen_row rows) n ≡ true → test x.phase ≡ true
+pub phase_there : (test : Phase → Bool) (rows : List (ℕ × Bio)) (n : ℕ) (x : Bio) → value_at rows n ≡ Some x
+    → has_phase test (map seen_row rows) n ≡ true → test x.phase ≡ true
 phase_there test rows n x found e =
-    sym (ap (λ o. option_map_or (λ (y : BioOf Held). test y.phase) o false) (bio_among-rows rows n ∙ ap (option_map (seen n)) found)) ∙ e
+    sym (ap (λ o. option_map_or (λ (y : BioOf Held). test y.phase) o false) (bio_among-rows rows n
+    ∙ ap (option_map (seen n)) found)) ∙ e
 
-module _ (log : ℕ → Option (List ℕ)) (old new : SlotsView Bio) (n p k : ℕ) (x : Bio) (t : IsTable old.rows old.next) (found : value_at old.rows n ≡ Some x) (up : is_up x.phase ≡ true) (owner : x.owner ≡ owners.Child p k) where
+module _ (log : ℕ → Option (List ℕ)) (old new : SlotsView Bio) (n p k : ℕ) (x : Bio)
+    (t : IsTable old.rows old.next) (found : value_at old.rows n ≡ Some x) (up : is_up x.phase ≡ true)
+    (owner : x.owner ≡ owners.Child p k) where
   its_parent : (y : Bio) × IsChildUp old.rows n p k x y
   its_parent = child_up old.rows old.next n p k x t found up owner
 
@@ -162,19 +195,27 @@ module _ (log : ℕ → Option (List ℕ)) (old new : SlotsView Bio) (n p k : �
   follow bound =
       let w = its_parent in
       let below = children_below old.rows old.next n p k x w.0 t w.1 in
-      subst (λ o. IfSome o (λ (y : Bio). y.first_child + y.children < 2 ^ 64)) (sym w.1.parent) (omega (arith, below, bound))
+      subst (λ o. IfSome o (λ (y : Bio). y.first_child + y.children < 2 ^ 64)) (sym w.1.parent)
+      (omega (arith, below, bound))
 
-  module _ {E : Type 0} (r : Result Risen E) (told : IfSome (value_at old.rows p) (λ y. IfOk r (λ z. z ≡ risen.InParent p (is_last y)))) (rises : IfSome (value_at old.rows p) (λ y. OnOk r (new ≡ record old { rows = rows_up log old.rows n p y }))) (stays : OnErr r (new ≡ old)) where
+  module _ {E : Type 0} (r : Result Risen E)
+      (told : IfSome (value_at old.rows p) (λ y. IfOk r (λ z. z ≡ risen.InParent p (is_last y))))
+      (rises : IfSome (value_at old.rows p)
+      (λ y. OnOk r (new ≡ record old { rows = rows_up log old.rows n p y })))
+      (stays : OnErr r (new ≡ old)) where
     among : bio_among (map seen_row old.rows) n ≡ Some (seen n x)
     among = bio_among-rows old.rows n ∙ ap (option_map (seen n)) found
 
     rises_there : OnOk r (new ≡ record old { rows = rows_up log old.rows n p its_parent.0 })
-    rises_there = subst (λ o. IfSome o (λ y. OnOk r (new ≡ record old { rows = rows_up log old.rows n p y }))) its_parent.1.parent rises
+    rises_there =
+        subst (λ o. IfSome o (λ y. OnOk r (new ≡ record old { rows = rows_up log old.rows n p y })))
+        its_parent.1.parent rises
 
     what_became : (new ≡ record old { rows = rows_up log old.rows n p its_parent.0 }) ⊎ (new ≡ old)
     what_became = either_answer r _ _ rises_there stays
 
-    risen_rows : IsRisen old.rows old.next n p k x its_parent.0 t its_parent.1 log (rows_up log old.rows n p its_parent.0)
+    risen_rows : IsRisen old.rows old.next n p k x its_parent.0 t its_parent.1 log
+        (rows_up log old.rows n p its_parent.0)
     risen_rows = is_risen old.rows old.next n p k x its_parent.0 t its_parent.1 log
 
     pub table_after_child : IsTable new.rows new.next
@@ -190,18 +231,32 @@ module _ (log : ℕ → Option (List ℕ)) (old new : SlotsView Bio) (n p k : �
     pub spare_after_child : new.spare ≡ old.spare
     spare_after_child = elim what_became [ inl e ↦ ap (λ s. s.spare) e | inr e ↦ ap (λ s. s.spare) e ]
 
-    pub told_after_child : IfSome (bio_among (map seen_row old.rows) n) (λ z. IfOk r (λ v. v ≡ told_of_up log (map seen_row old.rows) z z.owner))
+    pub told_after_child : IfSome (bio_among (map seen_row old.rows) n)
+        (λ z. IfOk r (λ v. v ≡ told_of_up log (map seen_row old.rows) z z.owner))
     told_after_child =
-        let there = subst (λ o. IfSome o (λ y. IfOk r (λ z. z ≡ risen.InParent p (is_last y)))) its_parent.1.parent told in
-        let e : risen.InParent p (is_last its_parent.0) ≡ told_of_up log (map seen_row old.rows) (seen n x) x.owner = ap (risen.InParent p) risen_rows.told ∙ ap (told_of_up log (map seen_row old.rows) (seen n x)) (sym owner) in
-        subst (λ o. IfSome o (λ z. IfOk r (λ v. v ≡ told_of_up log (map seen_row old.rows) z z.owner))) (sym among) (subst (λ w. IfOk r (λ v. v ≡ w)) e there)
+        let there = subst (λ o. IfSome o (λ y. IfOk r (λ z. z ≡ risen.InParent p (is_last y))))
+        its_parent.1.parent told in
+        let e : risen.InParent p (is_last its_parent.0)
+        ≡ told_of_up log (map seen_row old.rows) (seen n x) x.owner = ap (risen.InParent p) risen_rows.told
+        ∙ ap (told_of_up log (map seen_row old.rows) (seen n x)) (sym owner) in
+        subst (λ o. IfSome o (λ z. IfOk r (λ v. v ≡ told_of_up log (map seen_row old.rows) z z.owner))) (sym among)
+        (subst (λ w. IfOk r (λ v. v ≡ w)) e there)
 
-    pub rises_after_child : IfSome (bio_among (map seen_row old.rows) n) (λ z. OnOk r (map seen_row new.rows ≡ after_up log (map seen_row old.rows) z z.owner))
+    pub rises_after_child : IfSome (bio_among (map seen_row old.rows) n)
+        (λ z. OnOk r (map seen_row new.rows ≡ after_up log (map seen_row old.rows) z z.owner))
     rises_after_child =
-        let e : map seen_row (rows_up log old.rows n p its_parent.0) ≡ after_up log (map seen_row old.rows) (seen n x) x.owner = risen_rows.seen_rows ∙ ap (after_up log (map seen_row old.rows) (seen n x)) (sym owner) in
-        subst (λ o. IfSome o (λ z. OnOk r (map seen_row new.rows ≡ after_up log (map seen_row old.rows) z z.owner))) (sym among) (on_ok_weaker r (λ became. ap (λ (s : SlotsView Bio). map seen_row s.rows) became ∙ e) rises_there)
+        let e : map seen_row (rows_up log old.rows n p its_parent.0)
+        ≡ after_up log (map seen_row old.rows) (seen n x) x.owner = risen_rows.seen_rows
+        ∙ ap (after_up log (map seen_row old.rows) (seen n x)) (sym owner) in
+        subst (λ o. IfSome o
+        (λ z. OnOk r (map seen_row new.rows ≡ after_up log (map seen_row old.rows) z z.owner))) (sym among)
+        (on_ok_weaker r (λ became. ap (λ (s : SlotsView Bio). map seen_row s.rows) became ∙ e) rises_there)
 
-module _ {E : Type 0} (log : ℕ → Option (List ℕ)) (old new : SlotsView Bio) (n : ℕ) (x : Bio) (t : IsTable old.rows old.next) (found : value_at old.rows n ≡ Some x) (up : is_up x.phase ≡ true) (root : is_root x.owner ≡ true) (r : Result Risen E) (told : IfSome (value_at old.rows n) (λ y. IfOk r (λ z. z ≡ risen.Root (resolved log y.held)))) (gone : OnOk r (new ≡ record old { rows = without old.rows n })) (stays : OnErr r (new ≡ old)) where
+module _ {E : Type 0} (log : ℕ → Option (List ℕ)) (old new : SlotsView Bio) (n : ℕ) (x : Bio)
+    (t : IsTable old.rows old.next) (found : value_at old.rows n ≡ Some x) (up : is_up x.phase ≡ true)
+    (root : is_root x.owner ≡ true) (r : Result Risen E)
+    (told : IfSome (value_at old.rows n) (λ y. IfOk r (λ z. z ≡ risen.Root (resolved log y.held))))
+    (gone : OnOk r (new ≡ record old { rows = without old.rows n })) (stays : OnErr r (new ≡ old)) where
   among_roots : bio_among (map seen_row old.rows) n ≡ Some (seen n x)
   among_roots = bio_among-rows old.rows n ∙ ap (option_map (seen n)) found
 
@@ -211,7 +266,8 @@ module _ {E : Type 0} (log : ℕ → Option (List ℕ)) (old new : SlotsView Bio
   pub table_after_root : IsTable new.rows new.next
   table_after_root =
       elim root_became [
-        | inl e ↦ subst (λ s. IsTable s.rows s.next) (sym e) (table_without_root old.rows old.next n x t found root (up_facts x.phase up).1)
+        | inl e ↦ subst (λ s. IsTable s.rows s.next) (sym e)
+            (table_without_root old.rows old.next n x t found root (up_facts x.phase up).1)
         | inr e ↦ subst (λ s. IsTable s.rows s.next) (sym e) t
       ]
 
@@ -221,16 +277,20 @@ module _ {E : Type 0} (log : ℕ → Option (List ℕ)) (old new : SlotsView Bio
   pub spare_after_root : new.spare ≡ old.spare
   spare_after_root = elim root_became [ inl e ↦ ap (λ s. s.spare) e | inr e ↦ ap (λ s. s.spare) e ]
 
-  pub told_after_root : IfSome (bio_among (map seen_row old.rows) n) (λ z. IfOk r (λ v. v ≡ told_of_up log (map seen_row old.rows) z z.owner))
+  pub told_after_root : IfSome (bio_among (map seen_row old.rows) n)
+      (λ z. IfOk r (λ v. v ≡ told_of_up log (map seen_row old.rows) z z.owner))
   told_after_root =
       let there = subst (λ o. IfSome o (λ y. IfOk r (λ z. z ≡ risen.Root (resolved log y.held)))) found told in
       let e = told_root log (map seen_row old.rows) (seen n x) x.owner root in
-      subst (λ o. IfSome o (λ z. IfOk r (λ v. v ≡ told_of_up log (map seen_row old.rows) z z.owner))) (sym among_roots) (subst (λ w. IfOk r (λ v. v ≡ w)) (sym e) there)
+      subst (λ o. IfSome o (λ z. IfOk r (λ v. v ≡ told_of_up log (map seen_row old.rows) z z.owner)))
+      (sym among_roots) (subst (λ w. IfOk r (λ v. v ≡ w)) (sym e) there)
 
-  pub rises_after_root : IfSome (bio_among (map seen_row old.rows) n) (λ z. OnOk r (map seen_row new.rows ≡ after_up log (map seen_row old.rows) z z.owner))
+  pub rises_after_root : IfSome (bio_among (map seen_row old.rows) n)
+      (λ z. OnOk r (map seen_row new.rows ≡ after_up log (map seen_row old.rows) z z.owner))
   rises_after_root =
       let e = after_root log old.rows n (seen n x) x.owner refl root in
-      subst (λ o. IfSome o (λ z. OnOk r (map seen_row new.rows ≡ after_up log (map seen_row old.rows) z z.owner))) (sym among_roots) (on_ok_weaker r (λ became. ap (λ (s : SlotsView Bio). map seen_row s.rows) became ∙ e) gone)
+      subst (λ o. IfSome o (λ z. OnOk r (map seen_row new.rows ≡ after_up log (map seen_row old.rows) z z.owner)))
+      (sym among_roots) (on_ok_weaker r (λ became. ap (λ (s : SlotsView Bio). map seen_row s.rows) became ∙ e) gone)
 
   pub err_after_root : OnErr r (map seen_row new.rows ≡ map seen_row old.rows)
   err_after_root = on_err_weaker r (λ same. ap (λ (s : SlotsView Bio). map seen_row s.rows) same) stays

@@ -36,13 +36,15 @@ held_error _ = None
 abbrev pub error_from : List (ℕ × Bio) → ℕ → ℕ → Option Errno
 error_from rows first zero = None
 error_from rows first (suc more) =
-    option_map_or (λ e. Some e) (option_and_then (λ x. held_error x.held) (value_at rows first)) (error_from rows (first + 1) more)
+    option_map_or (λ e. Some e) (option_and_then (λ x. held_error x.held) (value_at rows first))
+    (error_from rows (first + 1) more)
 
 -- the bytes of so many bios from a number on, joined
 abbrev pub bytes_from : (ℕ → Option (List ℕ)) → List (ℕ × Bio) → ℕ → ℕ → List ℕ
 bytes_from log rows first zero = []
 bytes_from log rows first (suc more) =
-    option_map_or (λ x. bytes_of_result (resolved log x.held)) (value_at rows first) [] ++ bytes_from log rows (first + 1) more
+    option_map_or (λ x. bytes_of_result (resolved log x.held)) (value_at rows first) []
+    ++ bytes_from log rows (first + 1) more
 
 -- the rows without so many numbers from one on
 abbrev pub without_all : List (ℕ × Bio) → ℕ → ℕ → List (ℕ × Bio)
@@ -55,7 +57,8 @@ counted x = record x { finished = x.finished + 1 }
 
 -- what a parent holds from the first error and the bytes of its children
 abbrev pub held_of_parts : BioCmd → Option Errno → List ℕ → Held
-held_of_parts cmd error bytes = option_map_or (λ e. held.Failed e) error (if is_read cmd then held.Bytes bytes else held.Done)
+held_of_parts cmd error bytes =
+    option_map_or (λ e. held.Failed e) error (if is_read cmd then held.Bytes bytes else held.Done)
 
 -- what a parent holds once its children are in
 abbrev pub held_from : (ℕ → Option (List ℕ)) → List (ℕ × Bio) → Bio → Held

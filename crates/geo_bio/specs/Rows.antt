@@ -44,7 +44,8 @@ pub record Child : Type 0 where
 
 -- the row as a child of a bio, if it is one
 abbrev pub child_of : ℕ → ℕ → Bool → Owner → Option Child
-child_of parent number done (owners.Child p index) = cond (p == parent) (Some (record { number = number; place = index; done = done })) None
+child_of parent number done (owners.Child p index) =
+    cond (p == parent) (Some (record { number = number; place = index; done = done })) None
 child_of parent number done _ = None
 
 -- the children of a bio, in order
@@ -75,7 +76,8 @@ WaitsIn rows number = (x : Bio) × (value_at rows number ≡ Some x) × (is_wait
 pub record IsTable (rows : List (ℕ × Bio)) (next : ℕ) : Type 0 where
   pub rising : IsRising 1 rows next
   pub families : (number : ℕ) (x : Bio) → value_at rows number ≡ Some x → HasFamily (family rows number) x
-  pub parents : (number : ℕ) (x : Bio) (parent index : ℕ) → value_at rows number ≡ Some x → x.owner ≡ owners.Child parent index → WaitsIn rows parent
+  pub parents : (number : ℕ) (x : Bio) (parent index : ℕ) → value_at rows number ≡ Some x
+      → x.owner ≡ owners.Child parent index → WaitsIn rows parent
 
 -- the children of a bio, seen by contracts: their numbers follow each other from the first on, and so do their places
 abbrev pub StandFrom : ℕ → ℕ → ℕ → List (BioOf Held) → Type 0

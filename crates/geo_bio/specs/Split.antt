@@ -51,5 +51,6 @@ abbrev pub split_into : ℕ → BioOf Held → ℕ → List Piece → List (ℕ 
 split_into first x index [] targets = []
 split_into first x index (piece ∷ pieces) [] = []
 split_into first x index (piece ∷ pieces) (target ∷ targets) =
-    new_bio (first + index) x.cmd piece.span.offset piece.span.len (take piece.span.len (drop piece.at x.bytes)) target.0 target.1 (owners.Child x.number index)
+    new_bio (first + index) x.cmd piece.span.offset piece.span.len (take piece.span.len (drop piece.at x.bytes))
+    target.0 target.1 (owners.Child x.number index)
     ∷ split_into first x (index + 1) pieces targets

@@ -90,7 +90,8 @@ fn first_failure(bios: &Slots<Bio>, first: u64, count: u32) -> Option<Errno>
 
 // Adds the bytes that a bio holds, if it holds some.
 fn push_bytes<B: LogBytes>(bytes: &mut Vec<u8>, bio: &Bio, log: &B) -> Result<(), NoMemory>
-    ensures { OnOk result (bytes.new.items ≡ bytes.old.items ++ bytes_of_result (resolved (B.place_bytes log.now) bio.now.held)) }
+    ensures { OnOk result (bytes.new.items ≡ bytes.old.items
+        ++ bytes_of_result (resolved (B.place_bytes log.now) bio.now.held)) }
 {
     match &bio.held {
         Some(Held::Bytes(part)) => bytes.extend_from_slice(part.bytes())?,
@@ -108,7 +109,8 @@ fn push_bytes_at<B: LogBytes>(
     log: &B,
 ) -> Result<(), NoMemory>
     ensures { OnOk result (bytes.new.items ≡ bytes.old.items
-        ++ option_map_or (λ x. bytes_of_result (resolved (B.place_bytes log.now) x.held)) (value_at bios.now.rows number) []) }
+        ++ option_map_or (λ x. bytes_of_result (resolved (B.place_bytes log.now) x.held))
+        (value_at bios.now.rows number) []) }
 {
     match bios.get(number) {
         Some(bio) => push_bytes(bytes, bio, log),

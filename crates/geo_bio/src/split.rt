@@ -99,7 +99,8 @@ pub fn split_bio(bios: &mut Slots<Bio>, number: u64, children: Vec<Bio>) -> u64
     requires room { vec_len children ≤ bios.old.spare }
     ensures first { result ≡ bios.old.next }
     ensures rows { let rows = bios.old.rows ++ numbered bios.old.next children.items in
-        IfSome (value_at rows number) (λ x. bios.new.rows ≡ with_value rows number (waiting (length children.items) bios.old.next x)) }
+        IfSome (value_at rows number) (λ x. bios.new.rows
+        ≡ with_value rows number (waiting (length children.items) bios.old.next x)) }
     ensures next { bios.new.next ≡ bios.old.next + length children.items }
     ensures room { bios.new.spare ≡ bios.old.spare - length children.items }
 {

@@ -32,9 +32,15 @@ impl Model for ConcatMap {
 
     ghost invariant = { λ map. IsKept map.cells map.count };
 
-    ghost inverse = { λ map. record { cells = map.sizes ++ replicate (16 - length map.sizes) 0; count = length map.sizes; sector = map.sector } };
+    ghost inverse = { λ map. record {
+      cells = map.sizes ++ replicate (16 - length map.sizes) 0;
+      count =
+          length map.sizes;
+      sector = map.sector;
+    } };
 
-    ghost inverse_ok = { λ map kept. kept_again (λ cells n. record { cells = cells; count = n; sector = map.sector }) map.cells map.count kept };
+    ghost inverse_ok = { λ map kept.
+        kept_again (λ cells n. record { cells = cells; count = n; sector = map.sector }) map.cells map.count kept };
 }
 
 /// The component in which an offset lies, and the offset there.

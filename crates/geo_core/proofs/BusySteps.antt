@@ -1,7 +1,7 @@
 -- Which bios are Busy after a step.
 use Rattle.std.proofs.Common.{◌≡◌, ℕ, ◌==◌, true, false, List, [], ◌∷◌, Option, Some, None, Ok, IsOk, refl, sym, ◌∙◌, ap, subst, inl, inr}
 use Rattle.std.specs.List.{AllByRecursion}
-use Rattle.std.proofs.lemmas.Bool.{eqb-true}
+use Rattle.std.proofs.lemmas.Bool.{eqb-true, cases_Bool}
 use Rattle.geo_core.specs.declared.rows.Bio.{Bio}
 use Rattle.geo_model.specs.declared.step.BioResult.{BioResult}
 use Rattle.geo_core.specs.declared.rows.Phase.TheVariants.{Sent, Busy}
@@ -23,10 +23,9 @@ use Rattle.geo_core.specs.Step.{step}
 use Rattle.geo_core.specs.Log.{world_after}
 use Rattle.geo_core.specs.Laws.{IsNoTake}
 use Rattle.geo_core.specs.Sound.{NoneBusy}
-use Rattle.geo_core.proofs.RowsLemmas.{bool_cases}
 use Rattle.geo_core.proofs.Keeps.{All-snoc, All-update, All-without, find-passes}
 use Rattle.geo_core.proofs.Changes.{GoKeeps, go-keeps, start_of-keeps, deliver_of-keeps, up_of-keeps}
-use Rattle.geo_core.proofs.Owed.{unless-ok}
+use Rattle.geo_core.proofs.OwedPlaces.{unless-ok}
 
 abbrev IsQuiet : Bio → Type 0
 IsQuiet b = is_busy b.phase ≡ false
@@ -57,26 +56,37 @@ step-quiet : (w : World) (seat : ℕ) (s : Step) → IsNoTake s → NoneBusy w �
 unfolding step
 step-quiet w seat (steps.Go a) free q = go-keeps w NoneBusy a (go-quiet w q)
 step-quiet w seat (steps.Start b) free q =
-    start_of-keeps w NoneBusy (bio_at w b) (record { same = q; sent = λ n. sent-quiet w n q; ended = λ n result. ended-quiet w n result q })
+    start_of-keeps w NoneBusy (bio_at w b) (record {
+      same = q;
+      sent = λ n. sent-quiet w n q;
+      ended =
+          λ n result. ended-quiet w n result q;
+    })
 step-quiet w seat (steps.Take disk b) free q = absurd free
-step-quiet w seat (steps.Deliver b got) free q = deliver_of-keeps w NoneBusy seat got (bio_at w b) q (λ n result. ended-quiet w n result q)
+step-quiet w seat (steps.Deliver b got) free q =
+    deliver_of-keeps w NoneBusy seat got (bio_at w b) q (λ n result. ended-quiet w n result q)
 step-quiet w seat (steps.Up b) free q = up_of-keeps w NoneBusy (bio_at w b) q (λ n. gone-quiet w n q)
 
-pub stays_none_busy : (w u : World) (seat : ℕ) (s : Step) (outcome : Outcome) → IsNoTake s → NoneBusy w → step w seat s ≡ Ok (u, outcome) → NoneBusy u
+pub stays_none_busy : (w u : World) (seat : ℕ) (s : Step) (outcome : Outcome) → IsNoTake s → NoneBusy w
+    → step w seat s ≡ Ok (u, outcome) → NoneBusy u
 stays_none_busy w u seat s outcome free q e = subst NoneBusy (ap (world_after w) e) (step-quiet w seat s free q)
 
 -- a bio made Busy, and then given a result
-twice-quiet : (n : ℕ) (f g : Bio → Bio) → ((b : Bio) → (f b).number ≡ b.number) → ((b : Bio) → IsQuiet (g b)) → (bs : List Bio) → AllByRecursion IsQuiet bs → AllByRecursion IsQuiet (update_by (is_bio n) g (update_by (is_bio n) f bs))
+twice-quiet : (n : ℕ) (f g : Bio → Bio) → ((b : Bio) → (f b).number ≡ b.number) → ((b : Bio) → IsQuiet (g b))
+    → (bs : List Bio) → AllByRecursion IsQuiet bs
+    → AllByRecursion IsQuiet (update_by (is_bio n) g (update_by (is_bio n) f bs))
 unfolding update_by
 twice-quiet n f g same quiet [] q = tt
 twice-quiet n f g same quiet (x ∷ xs) q =
-    elim (bool_cases (is_bio n x)) [
-      | inl hit ↦ let again : is_bio n (f x) ≡ true = ap (λ m. m == n) (same x) ∙ hit in rw (hit, again) (quiet (f x), q.1)
+    elim (cases_Bool (is_bio n x)) [
+      | inl hit ↦ let again : is_bio n (f x) ≡ true = ap (λ m. m == n) (same x) ∙ hit in
+          rw (hit, again) (quiet (f x), q.1)
       | inr miss ↦ rw (miss, miss) (q.0, twice-quiet n f g same quiet xs q.1)
     ]
 
 -- the bio that a Take makes Busy
-taken-bio : (w u : World) (seat disk n : ℕ) (o : Option Bio) (asked : Outcome) → bio_at w n ≡ o → take_of w seat disk o ≡ Ok (u, asked) → u ≡ change_bio w n (with_phase (Busy seat))
+taken-bio : (w u : World) (seat disk n : ℕ) (o : Option Bio) (asked : Outcome) → bio_at w n ≡ o
+    → take_of w seat disk o ≡ Ok (u, asked) → u ≡ change_bio w n (with_phase (Busy seat))
 unfolding take_of take_bio
 taken-bio w u seat disk n None asked here e = absurd (cc e)
 taken-bio w u seat disk n (Some b) asked here e =
@@ -86,7 +96,8 @@ taken-bio w u seat disk n (Some b) asked here e =
     sym (ap (world_after w) made) ∙ ap (λ m. change_bio w m (with_phase (Busy seat))) own
 
 -- the bio that a Deliver gives its result
-given-bio : (u v : World) (seat n : ℕ) (got : DeviceResult) (o : Option Bio) (given : Outcome) → bio_at u n ≡ o → deliver_of u seat got o ≡ Ok (v, given) → v ≡ change_bio u n (up_with (result_of_device got))
+given-bio : (u v : World) (seat n : ℕ) (got : DeviceResult) (o : Option Bio) (given : Outcome) → bio_at u n ≡ o
+    → deliver_of u seat got o ≡ Ok (v, given) → v ≡ change_bio u n (up_with (result_of_device got))
 unfolding deliver_of deliver
 given-bio u v seat n got None given here e = absurd (cc e)
 given-bio u v seat n got (Some b) given here e =
@@ -95,7 +106,8 @@ given-bio u v seat n got (Some b) given here e =
     let own : b.number ≡ n = eqb-true b.number n (find-passes (is_bio n) u.bios b here) in
     sym (ap (world_after u) made) ∙ ap (λ m. change_bio u m (up_with (result_of_device got))) own
 
-busy-number : (seat : ℕ) (b : Bio) → (with_phase (Busy seat) b).number ≡ b.number
+-- a bio keeps its number as it becomes Busy
+pub busy-number : (seat : ℕ) (b : Bio) → (with_phase (Busy seat) b).number ≡ b.number
 unfolding with_phase
 busy-number seat b = refl
 
@@ -108,5 +120,7 @@ pub deliver_ends_busy : (w u v : World) (seat disk b : ℕ) (got : DeviceResult)
 unfolding step
 deliver_ends_busy w u v seat disk b got asked given q taken gave =
     let after : u ≡ change_bio w b (with_phase (Busy seat)) = taken-bio w u seat disk b (bio_at w b) asked refl taken in
-    let ended : v ≡ change_bio u b (up_with (result_of_device got)) = given-bio u v seat b got (bio_at u b) given refl gave in
-    rw (ended, after) (twice-quiet b (with_phase (Busy seat)) (up_with (result_of_device got)) (busy-number seat) (result-quiet (result_of_device got)) w.bios q)
+    let ended : v ≡ change_bio u b (up_with (result_of_device got)) =
+    given-bio u v seat b got (bio_at u b) given refl gave in
+    rw (ended, after) (twice-quiet b (with_phase (Busy seat)) (up_with (result_of_device got)) (busy-number seat)
+    (result-quiet (result_of_device got)) w.bios q)

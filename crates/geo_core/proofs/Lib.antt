@@ -1,6 +1,6 @@
 pub mod RowsLemmas
 pub mod Keeps
-pub mod Owed
+pub mod OwedPlaces
 pub mod Changes
 pub mod SoundSteps
 pub mod BusySteps

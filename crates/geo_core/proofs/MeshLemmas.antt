@@ -2,6 +2,8 @@
 use Rattle.std.proofs.Common.{◌≡◌, ℕ, ◌+◌, ◌<◌, ◌≤◌, true, false, List, [], ◌∷◌, ◌++◌, length, Some, None, Ok, Err, IsOk, refl, sym, ◌∙◌, ap, subst, arith, inl, inr}
 use Rattle.std.specs.Result.{result_err}
 use Rattle.std.proofs.lemmas.Bool.Decides.{nat_tests}
+use Rattle.std.proofs.lemmas.List.{length_push}
+use Rattle.std.proofs.lemmas.Bool.{cases_Bool}
 use Rattle.geo_model.specs.declared.command.DiskDecl.{DiskDecl}
 use Rattle.geo_core.specs.declared.rows.HeaderDisk.{HeaderDisk}
 use Rattle.geo_core.specs.declared.step.Entry.{Entry}
@@ -16,7 +18,6 @@ use Rattle.geo_core.specs.Step.{step}
 use Rattle.geo_core.specs.Log.{Legal, IsMade, replay, after_entry, world_after, owed, log_limit, is_full_after}
 use Rattle.geo_core.specs.Sound.{Sound}
 use Rattle.geo_core.specs.Mesh.{MeshView, world_of, IsHistory, IsShort, IsMesh, entry_of}
-use Rattle.geo_core.proofs.RowsLemmas.{bool_cases}
 use Rattle.geo_core.proofs.SoundSteps.{step-sound}
 use Rattle.geo_core.proofs.NearSteps.{IsNear, step-near}
 use Rattle.geo_core.proofs.OpeningSound.{opens_sound}
@@ -32,17 +33,38 @@ record IsFresh (w : World) : Type 0 where
 
 stand-fresh : (w : World) (disk : ℕ) (d : HeaderDisk) → IsFresh w → IsFresh (stand w disk d)
 unfolding stand
-stand-fresh w disk d f = record { handles = f.handles; bios = f.bios; consumers = f.consumers; consumer = f.consumer; handle = f.handle; bio = f.bio }
+stand-fresh w disk d f = record {
+  handles = f.handles;
+  bios = f.bios;
+  consumers = f.consumers;
+  consumer =
+      f.consumer;
+  handle = f.handle;
+  bio = f.bio;
+}
 
 with_disk-fresh : (w : World) (d : HeaderDisk) → IsFresh w → IsFresh (with_disk w d)
 unfolding with_disk
-with_disk-fresh w d f = record { handles = f.handles; bios = f.bios; consumers = f.consumers; consumer = f.consumer; handle = f.handle; bio = f.bio }
+with_disk-fresh w d f = record {
+  handles = f.handles;
+  bios = f.bios;
+  consumers = f.consumers;
+  consumer =
+      f.consumer;
+  handle = f.handle;
+  bio = f.bio;
+}
 
 add_disk-fresh : (w : World) (d : DiskDecl) (fact : ℕ × ℕ) → IsFresh w → IsFresh (add_disk w d fact)
 unfolding add_disk
 add_disk-fresh w d fact f =
     let there : IsFresh (with_disk w (disk_in_size d fact)) = with_disk-fresh w (disk_in_size d fact) f in
-    elim (bool_cases d.later) [ inl hit ↦ rw hit there | inr miss ↦ rw miss (stand-fresh (with_disk w (disk_in_size d fact)) (length w.disks) (disk_in_size d fact) there) ]
+    elim (cases_Bool d.later) [
+      | inl hit ↦
+          rw hit there
+      | inr miss ↦
+          rw miss (stand-fresh (with_disk w (disk_in_size d fact)) (length w.disks) (disk_in_size d fact) there)
+    ]
 
 add_disks-fresh : (w : World) (ds : List DiskDecl) (facts : List (ℕ × ℕ)) → IsFresh w → IsFresh (add_disks w ds facts)
 unfolding add_disks
@@ -52,7 +74,15 @@ add_disks-fresh w (d ∷ ds) (fact ∷ facts) f = add_disks-fresh (add_disk w d 
 
 opening-fresh : (plan : PlanView) (facts : List (ℕ × ℕ)) → IsFresh (opening plan facts)
 unfolding opening bare_world
-opening-fresh plan facts = add_disks-fresh (bare_world plan) plan.disks facts (record { handles = refl; bios = refl; consumers = refl; consumer = refl; handle = refl; bio = refl })
+opening-fresh plan facts =
+    add_disks-fresh (bare_world plan) plan.disks facts (record {
+      handles = refl;
+      bios = refl;
+      consumers = refl;
+      consumer = refl;
+      handle = refl;
+      bio = refl;
+    })
 
 fresh-owed : (w : World) → IsFresh w → owed w ≡ 0
 unfolding owed
@@ -66,7 +96,8 @@ fresh-short w f = record {
   attached = rw (f.consumers, f.handles) (omega arith);
 }
 
-history_first : (plan : PlanView) (facts : List (ℕ × ℕ)) → IsPlan plan → FactsFit plan facts → IsHistory (record { plan = plan; facts = facts; log = [] })
+history_first : (plan : PlanView) (facts : List (ℕ × ℕ)) → IsPlan plan → FactsFit plan facts
+    → IsHistory (record { plan = plan; facts = facts; log = [] })
 unfolding Legal replay
 history_first plan facts is fits = record {
   plan = is;
@@ -76,12 +107,14 @@ history_first plan facts is fits = record {
   places = let none = fresh-owed (opening plan facts) (opening-fresh plan facts) in omega (arith, none);
 }
 
-world_first : (plan : PlanView) (facts : List (ℕ × ℕ)) → world_of (record { plan = plan; facts = facts; log = [] }) ≡ opening plan facts
+world_first : (plan : PlanView) (facts : List (ℕ × ℕ))
+    → world_of (record { plan = plan; facts = facts; log = [] }) ≡ opening plan facts
 unfolding replay
 world_first plan facts = refl
 
 -- a mesh that has made no step
-pub mesh_first : (plan : PlanView) (facts : List (ℕ × ℕ)) (w : World) → IsPlan plan → FactsFit plan facts → w ≡ opening plan facts → IsMesh (record { plan = plan; facts = facts; log = [] }) w
+pub mesh_first : (plan : PlanView) (facts : List (ℕ × ℕ)) (w : World) → IsPlan plan → FactsFit plan facts
+    → w ≡ opening plan facts → IsMesh (record { plan = plan; facts = facts; log = [] }) w
 mesh_first plan facts w is fits e = record {
   history = history_first plan facts is fits;
   world = world_first plan facts ∙ sym e;
@@ -95,16 +128,14 @@ unfolding replay
 replay-more w [] e = refl
 replay-more w (d ∷ log) e = replay-more (after_entry w d) log e
 
-Legal-more : (w : World) (log : List Entry) (e : Entry) → Legal w log → IsMade (replay w log) e → Legal w (log ++ e ∷ [])
+Legal-more : (w : World) (log : List Entry) (e : Entry) → Legal w log → IsMade (replay w log) e
+    → Legal w (log ++ e ∷ [])
 unfolding Legal replay
 Legal-more w [] e h made = (made, tt)
 Legal-more w (d ∷ log) e h made = (h.0, Legal-more (after_entry w d) log e h.1 made)
 
-length-push : {X : Type 0} (xs : List X) (y : X) → length (xs ++ y ∷ []) ≡ length xs + 1
-length-push [] y = omega arith
-length-push (x ∷ xs) y = let rest = length-push xs y in omega (arith, rest)
-
-made-entry : (w u : World) (seat : ℕ) (s : Step) (o : Outcome) → step w seat s ≡ Ok (u, o) → IsMade w (entry_of seat s o)
+made-entry : (w u : World) (seat : ℕ) (s : Step) (o : Outcome) → step w seat s ≡ Ok (u, o)
+    → IsMade w (entry_of seat s o)
 made-entry w u seat s o e = rw e refl
 
 short-more : (entries : ℕ) (w u : World) → IsNear w u → IsShort entries w → IsShort (entries + 1) u
@@ -116,21 +147,23 @@ short-more entries w u near short = record {
 }
 
 -- a mesh with one more entry
-pub mesh_more : (m : MeshView) (w u : World) (seat : ℕ) (s : Step) (o : Outcome) (log : List Entry) → IsMesh m w → step w seat s ≡ Ok (u, o) → length m.log + 1 + owed u ≤ log_limit
+pub mesh_more : (m : MeshView) (w u : World) (seat : ℕ) (s : Step) (o : Outcome) (log : List Entry) → IsMesh m w
+    → step w seat s ≡ Ok (u, o) → length m.log + 1 + owed u ≤ log_limit
     → log ≡ m.log ++ entry_of seat s o ∷ [] → IsMesh (record { plan = m.plan; facts = m.facts; log = log }) u
 mesh_more m w u seat s o log is made place e =
     let first : World = opening m.plan m.facts in
     let here : step (world_of m) seat s ≡ Ok (u, o) = rw is.world made in
     let ended : after_entry (world_of m) (entry_of seat s o) ≡ u = ap (world_after (world_of m)) here in
     let replayed : replay first log ≡ u = rw e (replay-more first m.log (entry_of seat s o) ∙ ended) in
-    let long : length log ≡ length m.log + 1 = rw e (length-push m.log (entry_of seat s o)) in
+    let long : length log ≡ length m.log + 1 = rw e (length_push m.log (entry_of seat s o)) in
     let sound : Sound u = subst Sound ended (step-sound (world_of m) seat s is.history.sound) in
     let near : IsNear w u = subst (IsNear w) (ap (world_after w) made) (step-near w seat s) in
     record {
       history = record {
         plan = is.history.plan;
         facts = is.history.facts;
-        legal = rw e (Legal-more first m.log (entry_of seat s o) is.history.legal (made-entry (world_of m) u seat s o here));
+        legal = rw e
+            (Legal-more first m.log (entry_of seat s o) is.history.legal (made-entry (world_of m) u seat s o here));
         sound = rw replayed sound;
         places = rw (replayed, long) place;
       };
@@ -148,11 +181,13 @@ pub found-some : (a : Answer) (f : Found) → result_err a ≡ Some f → a ≡ 
 found-some (Ok made) f e = absurd (cc e)
 found-some (Err g) f e = cc
 
-pub full-is : (entries : ℕ) (w : World) (a : Answer) → IsOk a → log_limit < entries + 1 + owed (world_after w a) → is_full_after entries a ≡ true
+pub full-is : (entries : ℕ) (w : World) (a : Answer) → IsOk a → log_limit < entries + 1 + owed (world_after w a)
+    → is_full_after entries a ≡ true
 full-is entries w (Ok made) ok h = grind (arith, nat_tests)
 full-is entries w (Err found) ok h = absurd (cc ok)
 
-pub full-not : (entries : ℕ) (w : World) (a : Answer) → IsOk a → entries + 1 + owed (world_after w a) ≤ log_limit → is_full_after entries a ≡ false
+pub full-not : (entries : ℕ) (w : World) (a : Answer) → IsOk a → entries + 1 + owed (world_after w a) ≤ log_limit
+    → is_full_after entries a ≡ false
 full-not entries w (Ok made) ok h = grind (arith, nat_tests)
 full-not entries w (Err found) ok h = absurd (cc ok)
 

@@ -1,6 +1,8 @@
-use Rattle.std.proofs.Common.{◌≡◌, ℕ, suc, ◌+◌, ◌<◌, ◌≤◌, Bool, true, false, List, [], ◌∷◌, length, drop, get_or, Option, Some, None, refl, sym, ◌∙◌, ap, arith, add-one, inl, inr, subst, ◌⊎◌}
+use Rattle.std.proofs.Common.{◌≡◌, ℕ, suc, ◌+◌, ◌<◌, ◌≤◌, Bool, true, false, List, [], ◌∷◌, length, drop, get_or, Option, Some, None, refl, sym, ◌∙◌, ap, arith, add-one, inl, inr, subst}
 use Rattle.std.proofs.Math.Seq.{drop-cons}
 use Rattle.std.proofs.Math.ListN.{drop_of_length-le}
+use Rattle.std.proofs.lemmas.Option.{same_Some}
+use Rattle.std.proofs.lemmas.Bool.{cases_Bool}
 use Rattle.geo_core.specs.Rows.{place_of, next, find_by, update_by, without, IsPlace, IsNowhere}
 
 -- so many places on
@@ -16,7 +18,8 @@ pub later-0 : (o : Option ℕ) → later 0 o ≡ o
 later-0 None = refl
 later-0 (Some i) = ap Some (omega arith)
 
-pub place_of-other : {X : Type 0} (p : X → Bool) (x : X) (xs : List X) → p x ≡ false → place_of p (x ∷ xs) ≡ next (place_of p xs)
+pub place_of-other : {X : Type 0} (p : X → Bool) (x : X) (xs : List X) → p x ≡ false
+    → place_of p (x ∷ xs) ≡ next (place_of p xs)
 unfolding place_of
 place_of-other p x xs h = rw h refl
 
@@ -24,22 +27,29 @@ pub place_of-same : {X : Type 0} (p : X → Bool) (x : X) (xs : List X) → p x 
 unfolding place_of
 place_of-same p x xs h = rw h refl
 
-front : {X : Type 0} (xs : List X) (i : ℕ) (x : X) → i < length xs → x ≡ get_or xs i x → drop i xs ≡ x ∷ drop (i + 1) xs
+-- what is left of a list begins with the item at its place
+pub front : {X : Type 0} (xs : List X) (i : ℕ) (x : X) → i < length xs → x ≡ get_or xs i x
+    → drop i xs ≡ x ∷ drop (i + 1) xs
 front xs i x h e = rw (add-one, drop-cons xs i x, ← e) refl
 
 -- one row further
-pub place_step : {X : Type 0} (p : X → Bool) (xs : List X) (i : ℕ) (x : X) → i < length xs → x ≡ get_or xs i x → p x ≡ false →
+pub place_step : {X : Type 0} (p : X → Bool) (xs : List X) (i : ℕ) (x : X) → i < length xs → x ≡ get_or xs i x
+    → p x ≡ false →
     later i (place_of p (drop i xs)) ≡ later (i + 1) (place_of p (drop (i + 1) xs))
 place_step p xs i x h e miss =
-    ap (λ l. later i (place_of p l)) (front xs i x h e) ∙ ap (later i) (place_of-other p x (drop (i + 1) xs) miss) ∙ later-next i _
+    ap (λ l. later i (place_of p l)) (front xs i x h e) ∙ ap (later i) (place_of-other p x (drop (i + 1) xs) miss)
+    ∙ later-next i _
 
-pub place_found : {X : Type 0} (p : X → Bool) (xs : List X) (i : ℕ) (x : X) → i < length xs → x ≡ get_or xs i x → p x ≡ true →
+pub place_found : {X : Type 0} (p : X → Bool) (xs : List X) (i : ℕ) (x : X) → i < length xs → x ≡ get_or xs i x
+    → p x ≡ true →
     later i (place_of p (drop i xs)) ≡ Some i
 place_found p xs i x h e hit =
-    ap (λ l. later i (place_of p l)) (front xs i x h e) ∙ ap (later i) (place_of-same p x (drop (i + 1) xs) hit) ∙ ap Some (omega arith)
+    ap (λ l. later i (place_of p l)) (front xs i x h e) ∙ ap (later i) (place_of-same p x (drop (i + 1) xs) hit)
+    ∙ ap Some (omega arith)
 
 -- nothing is found past the end
-pub place_none : {X : Type 0} (p : X → Bool) (xs : List X) (i : ℕ) → length xs ≤ i → later i (place_of p (drop i xs)) ≡ None
+pub place_none : {X : Type 0} (p : X → Bool) (xs : List X) (i : ℕ) → length xs ≤ i
+    → later i (place_of p (drop i xs)) ≡ None
 unfolding place_of
 place_none p xs i h = rw (drop_of_length-le xs h) refl
 
@@ -52,7 +62,8 @@ here p x xs h = record {
   removed = rw h refl;
 }
 
-there : {X : Type 0} (p : X → Bool) (x : X) (xs : List X) (i : ℕ) → p x ≡ false → IsPlace p xs i → IsPlace p (x ∷ xs) (suc i)
+there : {X : Type 0} (p : X → Bool) (x : X) (xs : List X) (i : ℕ) → p x ≡ false → IsPlace p xs i
+    → IsPlace p (x ∷ xs) (suc i)
 unfolding find_by update_by without
 there p x xs i h k = record {
   inside = let q = k.inside in omega arith;
@@ -60,13 +71,6 @@ there p x xs i h k = record {
   changed = λ f d. rw h (ap (λ l. x ∷ l) (k.changed f d));
   removed = rw h (ap (λ l. x ∷ l) k.removed);
 }
-
-pub bool_cases : (b : Bool) → (b ≡ true) ⊎ (b ≡ false)
-bool_cases true = inl refl
-bool_cases false = inr refl
-
-some_inj : {i j : ℕ} → Some i ≡ Some j → i ≡ j
-some_inj e = cc
 
 next_some : (o : Option ℕ) (i : ℕ) → next o ≡ Some i → (j : ℕ) × (o ≡ Some j) × (suc j ≡ i)
 next_some None i e = absurd (cc)
@@ -76,8 +80,9 @@ pub place_at : {X : Type 0} (p : X → Bool) (xs : List X) (i : ℕ) → place_o
 unfolding place_of
 place_at p [] i e = absurd (cc)
 place_at p (x ∷ xs) i e =
-    elim (bool_cases (p x)) [
-      | inl hit ↦ let z : 0 ≡ i = some_inj (sym (place_of-same p x xs hit) ∙ e) in subst (IsPlace p (x ∷ xs)) z (here p x xs hit)
+    elim (cases_Bool (p x)) [
+      | inl hit ↦ let z : 0 ≡ i = same_Some _ _ (sym (place_of-same p x xs hit) ∙ e) in
+          subst (IsPlace p (x ∷ xs)) z (here p x xs hit)
       | inr miss ↦ let s = next_some (place_of p xs) i (sym (place_of-other p x xs miss) ∙ e) in
           subst (IsPlace p (x ∷ xs)) s.2 (there p x xs s.0 miss (place_at p xs s.0 s.1))
     ]
@@ -93,8 +98,13 @@ pub place_nowhere : {X : Type 0} (p : X → Bool) (xs : List X) → place_of p x
 unfolding place_of find_by update_by without
 place_nowhere p [] e = record { found = refl; changed = λ f. refl; removed = refl }
 place_nowhere p (x ∷ xs) e =
-    elim (bool_cases (p x)) [
+    elim (cases_Bool (p x)) [
       | inl hit ↦ absurd (some_none 0 (sym (place_of-same p x xs hit) ∙ e))
       | inr miss ↦ let k = place_nowhere p xs (next_none (place_of p xs) (sym (place_of-other p x xs miss) ∙ e)) in
-          record { found = rw miss k.found; changed = λ f. rw miss (ap (λ l. x ∷ l) (k.changed f)); removed = rw miss (ap (λ l. x ∷ l) k.removed) }
+          record {
+            found = rw miss k.found;
+            changed = λ f. rw miss (ap (λ l. x ∷ l) (k.changed f));
+            removed =
+                rw miss (ap (λ l. x ∷ l) k.removed);
+          }
     ]

@@ -36,7 +36,9 @@ bio_sector w b s = sector-some w b.target (provider_at w b.target) s refl
 -- a request has few sectors
 pub few_sectors : (w : World) (b : Bio) (sector : ℕ) → IsBioInOrder w b → b.len / sector < 2 ^ 32
 few_sectors w b sector order =
-    let short : b.len ≤ 32768 = some-inside (provider_at w b.target) (IsRangeInside b.offset b.len) (b.len ≤ 32768) (λ p range. range.not_long) order.1 in
+    let short : b.len ≤ 32768 =
+    some-inside (provider_at w b.target) (IsRangeInside b.offset b.len) (b.len ≤ 32768)
+    (λ p range. range.not_long) order.1 in
     let less = div-le_self b.len sector in
     omega (arith, short, less)
 

@@ -1,8 +1,8 @@
 -- Each step keeps a sound world sound.
-use Rattle.std.proofs.Common.{◌≡◌, ℕ, ◌<◌, ◌≤◌, ◌+◌, ◌%◌, ◌==◌, ◌&&◌, Bool, true, false, List, [], ◌∷◌, ◌++◌, Some, None, refl, arith, inl, inr, nat_lt, nat_le}
+use Rattle.std.proofs.Common.{◌≡◌, ℕ, ◌<◌, ◌+◌, ◌%◌, ◌==◌, Bool, true, List, [], ◌∷◌, ◌++◌, Some, None, refl, arith, inl, inr, nat_lt}
 use Rattle.std.specs.Option.{IsSomeAnd}
 use Rattle.std.specs.List.{AllByRecursion}
-use Rattle.std.proofs.lemmas.Bool.Decides.{nat_tests}
+use Rattle.std.proofs.lemmas.Bool.{cases_Bool, and_parts, eqb-true, ltb-true, leb-true}
 use Rattle.geo_base.specs.declared.errno.Errno.{Errno}
 use Rattle.geo_base.specs.declared.errno.Errno.TheVariants.{EINVAL, EIO}
 use Rattle.geo_core.specs.declared.command.LineCommand.{LineCommand}
@@ -23,30 +23,36 @@ use Rattle.geo_core.specs.Read.{is_valid_range, ends_inside, request_refusal, wi
 use Rattle.geo_core.specs.Step.{step}
 use Rattle.geo_core.specs.Log.{world_after, after_entry, replay}
 use Rattle.geo_core.specs.Sound.{Sound, IsRising, IsBioInOrder, IsRangeInside}
-use Rattle.geo_core.proofs.RowsLemmas.{bool_cases}
-use Rattle.geo_core.proofs.Keeps.{All-map, All-snoc, All-update, All-without}
+use Rattle.geo_core.proofs.Keeps.{All-snoc, All-update, All-without}
 use Rattle.geo_core.proofs.Changes.{less_left, GoKeeps, step-keeps}
+use Rattle.geo_model.proofs.DemandLemmas.{all_weaker}
 
 -- a new number is above all
-rising-snoc : (bs : List Bio) (b : Bio) → IsRising bs → AllByRecursion (λ x. x.number < b.number) bs → IsRising (bs ++ b ∷ [])
+rising-snoc : (bs : List Bio) (b : Bio) → IsRising bs → AllByRecursion (λ x. x.number < b.number) bs
+    → IsRising (bs ++ b ∷ [])
 rising-snoc [] b r h = (tt, tt)
 rising-snoc (x ∷ xs) b r h = (All-snoc (λ c. x.number < c.number) xs b r.0 h.0, rising-snoc xs b r.1 h.1)
 
 -- a change that keeps the number keeps the order
-rising-update : (p : Bio → Bool) (f : Bio → Bio) → ((b : Bio) → (f b).number ≡ b.number) → (bs : List Bio) → IsRising bs → IsRising (update_by p f bs)
+rising-update : (p : Bio → Bool) (f : Bio → Bio) → ((b : Bio) → (f b).number ≡ b.number) → (bs : List Bio)
+    → IsRising bs → IsRising (update_by p f bs)
 unfolding update_by
 rising-update p f same [] r = tt
 rising-update p f same (x ∷ xs) r =
-    elim (bool_cases (p x)) [
+    elim (cases_Bool (p x)) [
       | inl hit ↦ rw hit (rw (same x) r)
-      | inr miss ↦ rw miss (All-update (λ (c : Bio). x.number < c.number) p f (λ b l. rw (same b) l) xs r.0, rising-update p f same xs r.1)
+      | inr miss ↦
+          rw miss (
+            All-update (λ (c : Bio). x.number < c.number) p f (λ b l. rw (same b) l) xs r.0,
+            rising-update p f same xs r.1,
+          )
     ]
 
 rising-without : (p : Bio → Bool) (bs : List Bio) → IsRising bs → IsRising (without p bs)
 unfolding without
 rising-without p [] r = tt
 rising-without p (x ∷ xs) r =
-    elim (bool_cases (p x)) [
+    elim (cases_Bool (p x)) [
       | inl hit ↦ rw hit r.1
       | inr miss ↦ rw miss (All-without (λ (c : Bio). x.number < c.number) p xs r.0, rising-without p xs r.1)
     ]
@@ -103,40 +109,26 @@ left-sound w a s = record {
 
 opened-sound : (w : World) (actor : ℕ) (name : List ℕ) (p : Provider) → Sound w → Sound (with_handle w actor name p)
 unfolding with_handle disk_of
-opened-sound w actor name p s = record { rising = s.rising; below = s.below; bios = s.bios; providers = s.providers; actors = s.actors }
+opened-sound w actor name p s =
+    record { rising = s.rising; below = s.below; bios = s.bios; providers = s.providers; actors = s.actors }
 
 closed-sound : (w : World) (actor : ℕ) (name : List ℕ) (h : Handle) → Sound w → Sound (without_handle w actor name h)
 unfolding without_handle disk_of
-closed-sound w actor name h s = record { rising = s.rising; below = s.below; bios = s.bios; providers = s.providers; actors = s.actors }
+closed-sound w actor name h s =
+    record { rising = s.rising; below = s.below; bios = s.bios; providers = s.providers; actors = s.actors }
 
-both_first : (a b : Bool) → (a && b) ≡ true → a ≡ true
-both_first true b e = refl
-both_first false b e = absurd (cc e)
-
-both_then : (a b : Bool) → (a && b) ≡ true → b ≡ true
-both_then true b e = e
-both_then false b e = absurd (cc e)
-
-zero-from_test : (n : ℕ) → (n == 0) ≡ true → n ≡ 0
-zero-from_test n e = grind (arith, nat_tests)
-
-less-from_test : (m n : ℕ) → nat_lt m n ≡ true → m < n
-less-from_test m n e = grind (arith, nat_tests)
-
-at_most-from_test : (m n : ℕ) → nat_le m n ≡ true → m ≤ n
-at_most-from_test m n e = grind (arith, nat_tests)
-
-valid-inside : (p : Provider) (offset len : ℕ) → is_valid_range p.sector offset len ≡ true → ends_inside p.size offset len ≡ true → IsRangeInside offset len p
+valid-inside : (p : Provider) (offset len : ℕ) → is_valid_range p.sector offset len ≡ true
+    → ends_inside p.size offset len ≡ true → IsRangeInside offset len p
 unfolding is_valid_range ends_inside
 valid-inside p offset len valid inside =
-    let rest = both_then (offset % p.sector == 0) _ valid in
-    let long = both_then (len % p.sector == 0) _ rest in
+    let rest = (and_parts (offset % p.sector == 0) _ valid).1 in
+    let long = (and_parts (len % p.sector == 0) _ rest).1 in
     record {
-      some_byte = less-from_test 0 len (both_first (nat_lt 0 len) _ long);
-      not_long = at_most-from_test len request_limit (both_then (nat_lt 0 len) _ long);
-      offset_whole = zero-from_test (offset % p.sector) (both_first (offset % p.sector == 0) _ valid);
-      len_whole = zero-from_test (len % p.sector) (both_first (len % p.sector == 0) _ rest);
-      inside = at_most-from_test (offset + len) p.size inside;
+      some_byte = ltb-true 0 len (and_parts (nat_lt 0 len) _ long).0;
+      not_long = leb-true len request_limit (and_parts (nat_lt 0 len) _ long).1;
+      offset_whole = eqb-true (offset % p.sector) 0 (and_parts (offset % p.sector == 0) _ valid).0;
+      len_whole = eqb-true (len % p.sector) 0 (and_parts (len % p.sector == 0) _ rest).0;
+      inside = leb-true (offset + len) p.size inside;
     }
 
 some-none : (e : Errno) → Some e ≡ None → ⊥
@@ -146,23 +138,30 @@ some-none e h = cc
 refusal-none : (p : Provider) (offset len : ℕ) → request_refusal p offset len ≡ None → IsRangeInside offset len p
 unfolding request_refusal
 refusal-none p offset len e =
-    elim (bool_cases (is_valid_range p.sector offset len)) [
+    elim (cases_Bool (is_valid_range p.sector offset len)) [
       | inr bad ↦ absurd (some-none EINVAL (rw bad at e))
-      | inl valid ↦ elim (bool_cases (ends_inside p.size offset len)) [
+      | inl valid ↦ elim (cases_Bool (ends_inside p.size offset len)) [
         | inr past ↦ absurd (some-none EIO (rw (valid, past) at e))
         | inl inside ↦ valid-inside p offset len valid inside
       ]
     ]
 
-found-range : (w : World) (offset len : ℕ) (p : Provider) → provider_at w p.number ≡ Some p → IsRangeInside offset len p → IsSomeAnd (provider_at w p.number) (IsRangeInside offset len)
+found-range : (w : World) (offset len : ℕ) (p : Provider) → provider_at w p.number ≡ Some p
+    → IsRangeInside offset len p → IsSomeAnd (provider_at w p.number) (IsRangeInside offset len)
 found-range w offset len p e inside = rw e inside
 
-asked-sound : (w : World) (line offset len : ℕ) (h : Handle) (p : Provider) → provider_at w p.number ≡ Some p → request_refusal p offset len ≡ None → Sound w → Sound (with_request w line offset len h p)
+asked-sound : (w : World) (line offset len : ℕ) (h : Handle) (p : Provider) → provider_at w p.number ≡ Some p
+    → request_refusal p offset len ≡ None → Sound w → Sound (with_request w line offset len h p)
 unfolding with_request new_read disk_of
 asked-sound w line offset len h p there fine s = record {
   rising = rising-snoc w.bios _ s.rising s.below;
-  below = All-snoc (λ (b : Bio). b.number < w.next.bio + 1) w.bios _ (All-map (λ (b : Bio). b.number < w.next.bio) (λ (b : Bio). b.number < w.next.bio + 1) (λ b l. omega arith) w.bios s.below) (omega arith);
-  bios = All-snoc (IsBioInOrder w) w.bios _ s.bios (refl, found-range w offset len p there (refusal-none p offset len fine));
+  below = All-snoc (λ (b : Bio). b.number < w.next.bio + 1) w.bios _
+      (all_weaker (λ (b : Bio). b.number < w.next.bio) (λ (b : Bio). b.number < w.next.bio + 1)
+      (λ b l. omega arith) w.bios s.below) (omega arith);
+  bios = All-snoc (IsBioInOrder w) w.bios _ s.bios (
+    refl,
+    found-range w offset len p there (refusal-none p offset len fine),
+  );
   providers = s.providers;
   actors = s.actors;
 }
@@ -173,7 +172,8 @@ go-sound w s = record {
   spent = λ a. left-sound w a s;
   opened = λ a actor name p. left-sound (with_handle w actor name p) a (opened-sound w actor name p s);
   closed = λ a actor name h e. left-sound (without_handle w actor name h) a (closed-sound w actor name h s);
-  asked = λ a line offset len h p there fine. left-sound (with_request w line offset len h p) a (asked-sound w line offset len h p there fine s);
+  asked = λ a line offset len h p there fine.
+      left-sound (with_request w line offset len h p) a (asked-sound w line offset len h p there fine s);
 }
 
 -- the world after a step is sound, if the world before is
@@ -182,7 +182,12 @@ step-sound w seat s sound =
     step-keeps w Sound seat s
     (record {
       going = go-sound w sound;
-      starting = record { same = sound; sent = λ n. phase-sound w n _ sound; ended = λ n result. result-sound w n result sound };
+      starting = record {
+        same = sound;
+        sent = λ n. phase-sound w n _ sound;
+        ended =
+            λ n result. result-sound w n result sound;
+      };
       gone = λ n. gone-sound w n sound;
     })
     (λ n. phase-sound w n _ sound)

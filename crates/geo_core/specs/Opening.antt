@@ -39,7 +39,13 @@ abbrev pub disk_geom : World → ℕ → HeaderDisk → Geom
 disk_geom w disk d = record { number = w.next.geom; kind = kinds.Disk; name = d.name; config = configs.Disk disk }
 
 abbrev pub disk_provider : World → HeaderDisk → Provider
-disk_provider w d = record { number = w.next.provider; geom = w.next.geom; name = d.name; size = d.size; sector = d.sector }
+disk_provider w d = record {
+  number = w.next.provider;
+  geom = w.next.geom;
+  name = d.name;
+  size = d.size;
+  sector = d.sector;
+}
 
 -- a disk stands as a DISK geom with one provider of its name
 unfoldable pub stand : World → ℕ → HeaderDisk → World

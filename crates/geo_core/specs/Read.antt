@@ -29,7 +29,8 @@ ends_inside size offset len = nat_le (offset + len) size
 -- what refuses a request to a provider, if anything does
 unfoldable pub request_refusal : Provider → ℕ → ℕ → Option Errno
 request_refusal p offset len =
-    if is_valid_range p.sector offset len then (if ends_inside p.size offset len then None else Some EIO) else Some EINVAL
+    if is_valid_range p.sector offset len then (if ends_inside p.size offset len then None else Some EIO)
+    else Some EINVAL
 
 -- a READ from the handle's consumer to its provider
 unfoldable pub new_read : World → ℕ → ℕ → ℕ → Handle → Provider → Bio

@@ -15,7 +15,8 @@ use geo_base::{Errno, Name};
 /// Whether the handle can go.
 #[tactic(auto, unfolding(crate::specs::Close::do_close, crate::specs::Close::close_of))]
 pub fn is_closed(state: &State, actor: u32, name: &Name) -> bool
-    ensures { (line : ℕ) → owed (do_close (seen state.now) line actor name.now).0 + (if result then 1 else 0) ≡ owed (seen state.now) }
+    ensures { (line : ℕ)
+        → owed (do_close (seen state.now) line actor name.now).0 + (if result then 1 else 0) ≡ owed (seen state.now) }
 {
     let wanted = HandleNamed { actor, name: *name };
     let handle: Option<&Handle> = state.handles.find(&wanted);

@@ -81,7 +81,8 @@ pub fn deliver(
     got: &DeviceResult,
 ) -> Result<Made, NoMemory>
     requires { IsOk (deliver_of (seen state.old) seat got.now (bio_at (seen state.old) bio.now)) }
-    ensures { Takes result (seen state.old) (seen state.new) (deliver_of (seen state.old) seat got.now (bio_at (seen state.old) bio.now)) }
+    ensures { Takes result (seen state.old) (seen state.new)
+        (deliver_of (seen state.old) seat got.now (bio_at (seen state.old) bio.now)) }
 {
     let row: Option<&Bio> = state.bios.find(&ByNumber(bio.number()));
     let Some(row) = row else { unreachable!() };

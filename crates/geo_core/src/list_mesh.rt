@@ -49,7 +49,9 @@ fn add_provider(
     lines: &mut ProvLines,
 ) -> Result<(), NoMemory>
     requires { length state.now.consumers.items < 2 ^ 32 }
-    ensures { OnOk result ((rest : List ProviderRow) → lines.old ++ prov_lines_of (seen state.now) geom.now (provider.now ∷ rest) ≡ lines.new ++ prov_lines_of (seen state.now) geom.now rest) }
+    ensures { OnOk result ((rest : List ProviderRow)
+        → lines.old ++ prov_lines_of (seen state.now) geom.now (provider.now ∷ rest) ≡ lines.new
+        ++ prov_lines_of (seen state.now) geom.now rest) }
 {
     if provider.geom.number() != geom.number() {
         return Ok(());
@@ -107,7 +109,8 @@ fn geom_line(alloc: Global, state: &State, geom: &Geom) -> Result<GeomLine, NoMe
 /// A geom behind the lines, where it is printed.
 fn add_geom(alloc: Global, state: &State, geom: &Geom, lines: &mut MeshList) -> Result<(), NoMemory>
     requires { length state.now.consumers.items < 2 ^ 32 }
-    ensures { OnOk result ((rest : List GeomRow) → lines.old ++ lines_of (seen state.now) (geom.now ∷ rest) ≡ lines.new ++ lines_of (seen state.now) rest) }
+    ensures { OnOk result ((rest : List GeomRow)
+        → lines.old ++ lines_of (seen state.now) (geom.now ∷ rest) ≡ lines.new ++ lines_of (seen state.now) rest) }
 {
     if !is_printed(geom.kind) {
         return Ok(());

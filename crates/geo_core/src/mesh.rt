@@ -16,11 +16,11 @@ use super::facts::DiskFacts;
 use super::go::{go, go_found};
 use super::list_mesh::listing;
 use super::log::Log;
+use super::opening::opening;
 use super::order::{is_at_rest, pick};
-use super::places::owed_after;
+use super::owed::owed_after;
 use super::plan::Plan;
 use super::rows::State;
-use super::stand::opening;
 use super::start::{start, start_found};
 use super::step::{ApplyRefusal, Entry, Found, Made, Outcome, Step};
 use super::take::{take, take_found};
@@ -51,7 +51,8 @@ impl Model for Mesh {
 
     ghost view = { λ m. record { plan = m.plan; facts = m.facts.items; log = m.log.items } };
 
-    ghost invariant = { λ m. IsMesh (record { plan = m.plan; facts = m.facts.items; log = m.log.items }) (seen m.state) };
+    ghost invariant = { λ m. IsMesh (record { plan = m.plan; facts = m.facts.items; log = m.log.items })
+        (seen m.state) };
 }
 
 /// What is against a step, if anything.
@@ -105,8 +106,8 @@ impl Mesh {
     }
 
     /// Makes a step, and keeps it in the log. `NotEnabled` exactly where the step isn't enabled, with what was found;
-    /// `LogFull` exactly where it is enabled and its entry, with the places that are then owed, would bring the log above
-    /// 4,294,967,296 entries; `NoMemory` only else. After each the mesh is as before.
+    /// `LogFull` exactly where it is enabled and its entry, with the places that are then owed, would bring the log
+    /// above 4,294,967,296 entries; `NoMemory` only else. After each the mesh is as before.
     pub fn apply(&mut self, alloc: Global, seat: u32, step: Step) -> Result<Outcome, ApplyRefusal>
         ensures answer { Applies result self.old self.new seat step }
         ensures history { IsHistory self.new }

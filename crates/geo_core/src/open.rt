@@ -49,7 +49,8 @@ pub fn done(line: u32) -> Made
 /// How many handles an open adds.
 #[tactic(auto, unfolding(crate::specs::Open::do_open, crate::specs::Open::open_of, crate::specs::Open::open_at, crate::specs::Open::with_handle, crate::specs::Log::owed))]
 pub fn is_opened(state: &State, actor: u32, name: &Name, prov: &Name) -> bool
-    ensures { (line : ℕ) → owed (do_open (seen state.now) line actor name.now prov.now).0 ≡ owed (seen state.now) + (if result then 1 else 0) }
+    ensures { (line : ℕ) → owed (do_open (seen state.now) line actor name.now prov.now).0 ≡ owed (seen state.now)
+        + (if result then 1 else 0) }
 {
     let wanted = HandleNamed { actor, name: *name };
     state.handles.find(&wanted).is_none() && state.providers.find(&ProviderNamed(*prov)).is_some()

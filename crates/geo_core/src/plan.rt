@@ -21,7 +21,12 @@ impl Model for Plan {
 
     ghost view = { λ p. record { disks = p.disks.items; actors = p.actors.items; commands = p.commands.items } };
 
-    ghost invariant = { λ p. IsPlan (record { disks = p.disks.items; actors = p.actors.items; commands = p.commands.items }) };
+    ghost invariant = { λ p. IsPlan (record {
+      disks = p.disks.items;
+      actors = p.actors.items;
+      commands =
+          p.commands.items;
+    }) };
 }
 
 impl Plan {

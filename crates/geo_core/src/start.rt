@@ -60,7 +60,8 @@ pub fn start_found(state: &State, bio: &BioId) -> Option<Found>
 #[tactic(auto, unfolding(crate::specs::Start::start_of, crate::specs::Start::start_at))]
 pub fn start(state: &mut State, bio: &BioId) -> Made
     requires { IsOk (start_of (seen state.old) (bio_at (seen state.old) bio.now)) }
-    ensures { Takes (Ok result) (seen state.old) (seen state.new) (start_of (seen state.old) (bio_at (seen state.old) bio.now)) }
+    ensures { Takes (Ok result) (seen state.old) (seen state.new)
+        (start_of (seen state.old) (bio_at (seen state.old) bio.now)) }
 {
     let row: Option<&Bio> = state.bios.find(&ByNumber(bio.number()));
     let Some(row) = row else { unreachable!() };

@@ -87,7 +87,8 @@ pub fn take(
 ) -> Result<Made, NoMemory>
     requires sound { Sound (seen state.old) }
     requires enabled { IsOk (take_of (seen state.old) seat disk (bio_at (seen state.old) bio.now)) }
-    ensures { Takes result (seen state.old) (seen state.new) (take_of (seen state.old) seat disk (bio_at (seen state.old) bio.now)) }
+    ensures { Takes result (seen state.old) (seen state.new)
+        (take_of (seen state.old) seat disk (bio_at (seen state.old) bio.now)) }
 {
     let row: Option<&Bio> = state.bios.find(&ByNumber(bio.number()));
     let Some(row) = row else { unreachable!() };

@@ -56,7 +56,8 @@ fn line_of(owner: &Owner) -> u32
 #[tactic(auto, unfolding(crate::specs::Up::up_of, crate::specs::Up::up))]
 pub fn up(alloc: Global, state: &mut State, bio: &BioId) -> Result<Made, NoMemory>
     requires { IsOk (up_of (seen state.old) (bio_at (seen state.old) bio.now)) }
-    ensures { Takes result (seen state.old) (seen state.new) (up_of (seen state.old) (bio_at (seen state.old) bio.now)) }
+    ensures { Takes result (seen state.old) (seen state.new)
+        (up_of (seen state.old) (bio_at (seen state.old) bio.now)) }
 {
     let row: Option<&Bio> = state.bios.find(&ByNumber(bio.number()));
     let Some(row) = row else { unreachable!() };

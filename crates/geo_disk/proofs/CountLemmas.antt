@@ -9,7 +9,8 @@ use Rattle.geo_disk.specs.declared.lending.Count.{Count}
 
 -- counts of 0 behind others are as none
 tally_of_zero : (found : Option Count) (chosen : Bool) (zero_count : Count) → zero_count.tally ≡ no_faults
-    → option_map_or (λ (c : Count). c.tally) (option_or found (cond chosen (Some zero_count) None)) no_faults ≡ option_map_or (λ (c : Count). c.tally) found no_faults
+    → option_map_or (λ (c : Count). c.tally) (option_or found (cond chosen (Some zero_count) None)) no_faults
+    ≡ option_map_or (λ (c : Count). c.tally) found no_faults
 tally_of_zero None true zero_count is = is
 tally_of_zero None false zero_count is = refl
 tally_of_zero (Some c) chosen zero_count is = refl
@@ -19,4 +20,5 @@ pub tally_after_push : (counts : List Count) (other name : List ℕ)
     → tally_in (counts ++ (record { name = name; tally = no_faults }) ∷ []) other ≡ tally_in counts other
 tally_after_push counts other name =
     rw (find-append (is_named (λ (c : Count). c.name) other) counts ((record { name = name; tally = no_faults }) ∷ []))
-    (tally_of_zero (find (is_named (λ (c : Count). c.name) other) counts) (bytes_eq other name) (record { name = name; tally = no_faults }) refl)
+    (tally_of_zero (find (is_named (λ (c : Count). c.name) other) counts) (bytes_eq other name)
+    (record { name = name; tally = no_faults }) refl)

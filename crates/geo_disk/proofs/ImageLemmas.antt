@@ -1,8 +1,9 @@
 -- The bytes under the names of a shelf in memory, as disks are taken and given back.
 use Rattle.std.proofs.Common.{◌≡◌, ◌≢◌, ℕ, Bool, true, false, List, [], ◌∷◌, ◌++◌, length, Option, Some, None, bytes_eq, ◌||◌, cond, refl, ◌∙◌, sym, inl, inr, ◌<◌, ◌≤◌, ◌*◌, ◌/◌, set, Contains, zero, suc, arith}
-use Rattle.std.proofs.Math.Bool.{or-false}
+use Rattle.std.proofs.Math.Bool.{or-false, or-true}
 use Rattle.std.proofs.lemmas.Bool.{false_from_ne_true}
 use Rattle.std.specs.Option.{option_map}
+use Rattle.geo_base.proofs.Tests.{bytes_eq-same}
 use Rattle.geo_base.specs.Sectors.{sectors_of, IsSectorSize}
 use Rattle.geo_disk.specs.Names.{is_among, without}
 use Rattle.geo_disk.specs.Memory.{Memory}
@@ -12,7 +13,7 @@ use Rattle.geo_disk.specs.Shelf.{IsGivenTo, IsOfSize, IsTakenFrom}
 use Rattle.geo_disk.proofs.SectorLemmas.{sectors_length}
 use Rattle.std.proofs.Math.Nat.{mul_comm, zero-mul}
 use Rattle.geo_disk.specs.declared.mem_shelf.Slot.{Slot}
-use Rattle.geo_disk.proofs.NameLemmas.{IsPlace, among-push, among-without, bytes_eq-same, bytes_eq-other, Contains-from_among, named-set_same, named-set_other, named-push_same, named-push_other, same_or_other, set_keeps}
+use Rattle.geo_disk.proofs.NameLemmas.{IsPlace, among-push, among-without, bytes_eq-other, Contains-from_among, named-set_same, named-set_other, named-push_same, named-push_other, same_or_other, set_keeps}
 
 -- under a name that is lent there is nothing
 pub image_lent : (slots : List Slot) (lent : List (List ℕ)) (name : List ℕ) → is_among name lent ≡ true
@@ -49,36 +50,36 @@ has_bytes (Some slot) is = cc
 pub no_slot : (slots : List Slot) (lent : List (List ℕ)) (name : List ℕ) → (Contains lent name → ⊥)
     → image_in slots lent name ≡ None → slot_of slots name ≡ None
 no_slot slots lent name not_lent none =
-    let here : is_among name lent ≡ false = false_from_ne_true (is_among name lent) (λ is. not_lent (Contains-from_among name lent is)) in
+    let here : is_among name lent ≡ false =
+    false_from_ne_true (is_among name lent) (λ is. not_lent (Contains-from_among name lent is)) in
     has_bytes (slot_of slots name) (rw here at none)
 
 -- other names aren't lent by a push
 other_lent : (lent : List (List ℕ)) (name other : List ℕ) → other ≢ name
     → is_among other (lent ++ name ∷ []) ≡ is_among other lent
-other_lent lent name other apart = among-push other name lent ∙ rw (bytes_eq-other other name apart) (or-false (is_among other lent))
+other_lent lent name other apart = among-push other name lent
+    ∙ rw (bytes_eq-other other name apart) (or-false (is_among other lent))
 
 -- other names stay lent when one is given back
 other_stays : (lent : List (List ℕ)) (name other : List ℕ) → other ≢ name
     → is_among other (without name lent) ≡ is_among other lent
-other_stays lent name other apart = among-without other name lent ∙ rw (bytes_eq-other name other (λ e. apart (sym e))) refl
+other_stays lent name other apart = among-without other name lent
+    ∙ rw (bytes_eq-other name other (λ e. apart (sym e))) refl
 
 -- a name that was given back isn't lent
 given_back : (lent : List (List ℕ)) (name : List ℕ) → is_among name (without name lent) ≡ false
 given_back lent name = among-without name name lent ∙ rw (bytes_eq-same name) refl
 
 -- a name that was pushed is lent
-or_true : (b : Bool) → (b || true) ≡ true
-or_true true = refl
-or_true false = refl
-
 pushed_lent : (lent : List (List ℕ)) (name : List ℕ) → is_among name (lent ++ name ∷ []) ≡ true
-pushed_lent lent name = among-push name name lent ∙ rw (bytes_eq-same name) (or_true (is_among name lent))
+pushed_lent lent name = among-push name name lent ∙ rw (bytes_eq-same name) (or-true (is_among name lent))
 
 -- what a shelf has after a disk was taken out of its place
 pub after_take : (slots : List Slot) (lent : List (List ℕ)) (name : List ℕ) (sector at : ℕ) (slot : Slot)
     → IsPlace (λ (x : Slot). x.name) name slots at → is_among name lent ≡ false
     → slot_of slots name ≡ Some slot → IsDiskSize sector (length slot.bytes)
-    → IsTakenFrom name sector (Some (sectors_of sector slot.bytes)) (image_in slots lent) (image_in (set slots at (emptied_slot name)) (lent ++ name ∷ []))
+    → IsTakenFrom name sector (Some (sectors_of sector slot.bytes)) (image_in slots lent)
+    (image_in (set slots at (emptied_slot name)) (lent ++ name ∷ []))
 after_take slots lent name sector at slot place here is fits = record {
   bytes = rw (image_there slots lent name slot here is) (fits, refl);
   gone = image_lent (set slots at (emptied_slot name)) (lent ++ name ∷ []) name (pushed_lent lent name);
@@ -106,7 +107,8 @@ pub after_give : (slots news : List Slot) (lent : List (List ℕ)) (name : List 
     → IsGivenTo name (Some disk.sectors) (image_in slots lent) (image_in news (without name lent))
 after_give slots news lent name disk here others = record {
   bytes = image_there news (without name lent) name (kept_slot name disk) (given_back lent name) here;
-  others = λ other apart. image_same slots news lent (without name lent) other (other_stays lent name other apart) (others other apart);
+  others = λ other apart. image_same slots news lent (without name lent) other (other_stays lent name other apart)
+      (others other apart);
 }
 
 -- each lent name has its place after a disk came back
@@ -123,7 +125,8 @@ slots_after_give slots news lent name slot here others had other among =
 pub after_put : (slots : List Slot) (lent : List (List ℕ)) (slot : Slot) → (Contains lent slot.name → ⊥)
     → image_in slots lent slot.name ≡ None → image_in (slots ++ slot ∷ []) lent slot.name ≡ Some slot.bytes
 after_put slots lent slot not_lent none =
-    let here : is_among slot.name lent ≡ false = false_from_ne_true (is_among slot.name lent) (λ is. not_lent (Contains-from_among slot.name lent is)) in
+    let here : is_among slot.name lent ≡ false =
+    false_from_ne_true (is_among slot.name lent) (λ is. not_lent (Contains-from_among slot.name lent is)) in
     image_there (slots ++ slot ∷ []) lent slot.name slot here
     (named-push_same (λ (x : Slot). x.name) slot.name slots slot (no_slot slots lent slot.name not_lent none) refl)
 
@@ -131,7 +134,8 @@ after_put slots lent slot not_lent none =
 pub others_after_put : (slots : List Slot) (lent : List (List ℕ)) (slot : Slot) (other : List ℕ) → other ≢ slot.name
     → image_in (slots ++ slot ∷ []) lent other ≡ image_in slots lent other
 others_after_put slots lent slot other apart =
-    image_same slots (slots ++ slot ∷ []) lent lent other refl (named-push_other (λ (x : Slot). x.name) other slots slot apart)
+    image_same slots (slots ++ slot ∷ []) lent lent other refl
+    (named-push_other (λ (x : Slot). x.name) other slots slot apart)
 
 -- some bytes in sectors are some sectors
 some_sector : (size count bytes : ℕ) → bytes ≡ count * size → 1 ≤ bytes → 1 ≤ count

@@ -1,22 +1,19 @@
 -- Names in lists, and items that are found by their names.
-use Rattle.std.proofs.Common.{◌≡◌, ◌≢◌, ℕ, ◌<◌, ◌≤◌, Bool, true, false, List, [], ◌∷◌, ◌++◌, length, get_or, Option, Some, None, refl, ◌∙◌, ap, sym, is_some, bytes_eq, not, nat_lt, cond, slice_get, ◌||◌, ◌&&◌, Contains, set, ◌⊎◌, inl, inr}
+use Rattle.std.proofs.Common.{◌≡◌, ◌≢◌, ℕ, ◌<◌, Bool, true, false, List, [], ◌∷◌, ◌++◌, length, get_or, Option, Some, None, refl, ◌∙◌, ap, sym, is_some, bytes_eq, not, nat_lt, cond, slice_get, ◌||◌, ◌&&◌, Contains, set, ◌⊎◌, inl, inr}
 use Rattle.std.specs.Option.{option_or}
 use Rattle.std.proofs.Math.Bool.{or-false, or_assoc}
-use Rattle.std.proofs.lemmas.Bool.{lt-ltb, ltb-true, ltb-false}
+use Rattle.std.proofs.lemmas.Bool.{lt-ltb, ltb-true, ltb-false, cases_lt, false≢true}
 use Rattle.std.proofs.lemmas.Bool.Decides.{same_from_decides}
 use Rattle.std.proofs.lemmas.Option.{slice_get_past, slice_get-get_or}
 use Rattle.std.specs.Bool.{Decides}
 use Rattle.std.specs.Cmp.{IsEquivalence}
-use Rattle.std.specs.List.{find, position, position_or_len}
+use Rattle.std.specs.List.{position, position_or_len}
 use Rattle.std.proofs.lemmas.Bool.{false_from_ne_true}
 use Rattle.std.proofs.lemmas.List.Folds.{find_at, find-set, find_past, find-append}
 use Rattle.std.proofs.lemmas.Map.Views.{any-filter_same, Contains-from_any, list_any-from_Contains}
 use Rattle.std.proofs.lemmas.Slice.Eq.{bytes_eq-Decides}
+use Rattle.geo_base.proofs.Tests.{bytes_eq-same, found_passes, or_none}
 use Rattle.geo_disk.specs.Names.{is_among, is_named, named, without}
-
--- a name is the same as itself
-pub bytes_eq-same : (q : List ℕ) → bytes_eq q q ≡ true
-bytes_eq-same q = (bytes_eq-Decides q q).1 refl
 
 -- names that the test finds equal are equal
 pub same_from_bytes_eq : (a b : List ℕ) → bytes_eq a b ≡ true → a ≡ b
@@ -39,7 +36,8 @@ same_or_other a b = decided (bytes_eq a b) (bytes_eq-Decides a b)
 pub names_agree : IsEquivalence bytes_eq
 names_agree = record {
   refl = bytes_eq-same;
-  symm = λ a b. same_from_decides (bytes_eq a b) (bytes_eq b a) (bytes_eq-Decides a b) ((λ e. sym (same_from_bytes_eq b a e)), (λ e. (bytes_eq-Decides b a).1 (sym e)));
+  symm = λ a b. same_from_decides (bytes_eq a b) (bytes_eq b a) (bytes_eq-Decides a b)
+      ((λ e. sym (same_from_bytes_eq b a e)), (λ e. (bytes_eq-Decides b a).1 (sym e)));
   congr = λ a b q e. ap (λ n. bytes_eq n q) (same_from_bytes_eq a b e);
 }
 
@@ -55,7 +53,8 @@ among-from_Contains name names one = list_any-from_Contains names_agree name nam
 pub among-push : (name last : List ℕ) (names : List (List ℕ))
     → is_among name (names ++ last ∷ []) ≡ (is_among name names || bytes_eq name last)
 among-push name last [] = or-false (bytes_eq name last)
-among-push name last (first ∷ names) = ap (λ b. bytes_eq name first || b) (among-push name last names) ∙ sym (or_assoc (bytes_eq name first) (is_among name names) (bytes_eq name last))
+among-push name last (first ∷ names) = ap (λ b. bytes_eq name first || b) (among-push name last names)
+    ∙ sym (or_assoc (bytes_eq name first) (is_among name names) (bytes_eq name last))
 
 -- a name is among names without one if it is among them, and isn't that one
 pub among-without : (name gone : List ℕ) (names : List (List ℕ))
@@ -92,7 +91,8 @@ pub no_place_found : {X : Type 0} (name_of : X → List ℕ) (name : List ℕ) (
     → position (is_named name_of name) xs ≡ None → named name_of name xs ≡ None
 no_place_found name_of name xs e =
     let first : ℕ = position_or_len (is_named name_of name) xs in
-    find_at (is_named name_of name) xs ∙ slice_get_past xs first (ltb-false first (length xs) (not_chosen (nat_lt first (length xs)) first e))
+    find_at (is_named name_of name) xs
+    ∙ slice_get_past xs first (ltb-false first (length xs) (not_chosen (nat_lt first (length xs)) first e))
 
 -- the item at the place is the one of the name
 pub named_at : {X : Type 0} (name_of : X → List ℕ) (name : List ℕ) (xs : List X) (at : ℕ) (d : X)
@@ -100,22 +100,12 @@ pub named_at : {X : Type 0} (name_of : X → List ℕ) (name : List ℕ) (xs : L
 named_at name_of name xs at d place =
     find_at (is_named name_of name) xs ∙ ap (slice_get xs) (sym place.first) ∙ slice_get-get_or xs at d place.inside
 
--- one step of the search below
-found_step : {X : Type 0} (p : X → Bool) (y x : X) (rest : Option X) (b : Bool) → p y ≡ b
-    → (rest ≡ Some x → p x ≡ true) → cond b (Some y) rest ≡ Some x → p x ≡ true
-found_step p y x rest true is later e = let same : y ≡ x = cc in rw same at is
-found_step p y x rest false is later e = later e
-
--- what a search finds passes the test
-pub found_passes : {X : Type 0} (p : X → Bool) (xs : List X) (x : X) → find p xs ≡ Some x → p x ≡ true
-found_passes p [] x e = cc
-found_passes p (y ∷ ys) x e = found_step p y x (find p ys) (p y) refl (found_passes p ys x) e
-
 -- the item at the place has the name
 pub has_name : {X : Type 0} (name_of : X → List ℕ) (name : List ℕ) (xs : List X) (at : ℕ) (d : X)
     → IsPlace name_of name xs at → name_of (get_or xs at d) ≡ name
 has_name name_of name xs at d place =
-    sym (same_from_bytes_eq name (name_of (get_or xs at d)) (found_passes (is_named name_of name) xs (get_or xs at d) (named_at name_of name xs at d place)))
+    sym (same_from_bytes_eq name (name_of (get_or xs at d))
+    (found_passes (is_named name_of name) xs (get_or xs at d) (named_at name_of name xs at d place)))
 
 -- an item set at the place of its name is the one of the name
 pub named-set_same : {X : Type 0} (name_of : X → List ℕ) (name : List ℕ) (xs : List X) (at : ℕ) (y : X)
@@ -132,11 +122,6 @@ named-set_other name_of name other xs at y place is apart =
     (bytes_eq-other other (name_of (get_or xs at y)) (λ e. apart (e ∙ has_name name_of name xs at y place)))
     (bytes_eq-other other (name_of y) (λ e. apart (e ∙ is)))
 
--- nothing beside it
-or-none : {X : Type 0} (a : Option X) → option_or a None ≡ a
-or-none None = refl
-or-none (Some x) = refl
-
 -- one of two options is there
 pub is_some-or : {X : Type 0} (a b : Option X) → is_some a ≡ true → is_some (option_or a b) ≡ true
 is_some-or None b is = cc
@@ -145,31 +130,22 @@ is_some-or (Some x) b is = refl
 -- a name that has an item keeps having one
 pub named-push_some : {X : Type 0} (name_of : X → List ℕ) (name : List ℕ) (xs : List X) (y : X)
     → is_some (named name_of name xs) ≡ true → is_some (named name_of name (xs ++ y ∷ [])) ≡ true
-named-push_some name_of name xs y is = rw (find-append (is_named name_of name) xs (y ∷ [])) (is_some-or (named name_of name xs) (named name_of name (y ∷ [])) is)
+named-push_some name_of name xs y is =
+    rw (find-append (is_named name_of name) xs (y ∷ []))
+    (is_some-or (named name_of name xs) (named name_of name (y ∷ [])) is)
 
 -- an item that was pushed is that of its name, which had none
 pub named-push_same : {X : Type 0} (name_of : X → List ℕ) (name : List ℕ) (xs : List X) (y : X)
     → named name_of name xs ≡ None → name_of y ≡ name → named name_of name (xs ++ y ∷ []) ≡ Some y
-named-push_same name_of name xs y none is = rw (find-append (is_named name_of name) xs (y ∷ []), none, is, bytes_eq-same name) refl
+named-push_same name_of name xs y none is =
+    rw (find-append (is_named name_of name) xs (y ∷ []), none, is, bytes_eq-same name) refl
 
 -- the other names have what they had
 pub named-push_other : {X : Type 0} (name_of : X → List ℕ) (other : List ℕ) (xs : List X) (y : X) → other ≢ name_of y
     → named name_of other (xs ++ y ∷ []) ≡ named name_of other xs
 named-push_other name_of other xs y apart =
-    rw (find-append (is_named name_of other) xs (y ∷ []), bytes_eq-other other (name_of y) apart) (or-none (named name_of other xs))
-
--- nothing isn't something
-none_is_not_some : (X : Type 0) → is_some {T = X} None ≡ true → ⊥
-none_is_not_some X e = cc
-
--- by what the test says
-below_decided : (a b : ℕ) (test : Bool) → nat_lt a b ≡ test → (a < b) ⊎ (b ≤ a)
-below_decided a b true e = inl (ltb-true a b e)
-below_decided a b false e = inr (ltb-false a b e)
-
--- below or not
-below_or_not : (a b : ℕ) → (a < b) ⊎ (b ≤ a)
-below_or_not a b = below_decided a b (nat_lt a b) refl
+    rw (find-append (is_named name_of other) xs (y ∷ []), bytes_eq-other other (name_of y) apart)
+    (or_none (named name_of other xs))
 
 -- a name that has an item has a place
 pub found_place : {X : Type 0} (name_of : X → List ℕ) (name : List ℕ) (xs : List X)
@@ -177,9 +153,9 @@ pub found_place : {X : Type 0} (name_of : X → List ℕ) (name : List ℕ) (xs 
 found_place {X} name_of name xs is =
     let first : ℕ = position_or_len (is_named name_of name) xs in
     let at : is_some (slice_get xs first) ≡ true = rw (find_at (is_named name_of name) xs) at is in
-    elim (below_or_not first (length xs)) [
+    elim (cases_lt first (length xs)) [
       | inl below ↦ rw (lt-ltb first (length xs) below) refl
-      | inr above ↦ absurd (none_is_not_some X (rw (slice_get_past xs first above) at at))
+      | inr above ↦ absurd (false≢true (rw (slice_get_past xs first above) at at))
     ]
 
 -- an item set at the place of its name leaves an item under each name that had one
@@ -199,13 +175,3 @@ place_has_item {X} name_of name [] at e = cc
 place_has_item {X} name_of name (x ∷ xs) at e =
     let place : IsPlace name_of name (x ∷ xs) at = place_found name_of name (x ∷ xs) at e in
     rw (named_at name_of name (x ∷ xs) at x place) refl
-
--- the second of two tests that both pass
-pub and_right : (a b : Bool) → (a && b) ≡ true → b ≡ true
-and_right true b e = e
-and_right false b e = cc
-
--- one of two tests passes
-pub or_cases : (a b : Bool) → (a || b) ≡ true → (a ≡ true) ⊎ (b ≡ true)
-or_cases true b e = inl refl
-or_cases false b e = inr e

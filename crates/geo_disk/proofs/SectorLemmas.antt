@@ -21,7 +21,8 @@ length-cut_into (suc n) size bytes = ap suc (length-cut_into n size (drop size b
 pub take-cut_into : (k n size : ℕ) (bytes : List ℕ) → k ≤ n → take k (cut_into n size bytes) ≡ cut_into k size bytes
 take-cut_into zero n size bytes inside = refl
 take-cut_into (suc k) zero size bytes inside = absurd (omega arith)
-take-cut_into (suc k) (suc n) size bytes inside = ap (λ rest. take size bytes ∷ rest) (take-cut_into k n size (drop size bytes) (omega arith))
+take-cut_into (suc k) (suc n) size bytes inside =
+    ap (λ rest. take size bytes ∷ rest) (take-cut_into k n size (drop size bytes) (omega arith))
 
 -- the sectors from one on are those of the bytes from its place on
 pub drop-cut_into : (k r n size : ℕ) (bytes : List ℕ) → n ≡ k + r
@@ -60,13 +61,18 @@ cut_into-append (suc k) r (suc n) size front back split whole =
     let more : size ≤ length front = omega (arith, suc-mul_front k size) in
     rw (take-append-le size front back more, drop-append-le size front back more)
     (ap (λ rest. take size front ∷ rest)
-    (cut_into-append k r n size (drop size front) back (omega arith) (length-drop size front ∙ omega (arith, suc-mul_front k size))))
+    (cut_into-append k r n size (drop size front) back (omega arith) (length-drop size front
+    ∙ omega (arith, suc-mul_front k size))))
 
 -- bytes that are all zero are sectors of zeros
 pub cut_into-zeros : (n size : ℕ) → cut_into n size (replicate (n * size) 0) ≡ zero_sectors n size
 cut_into-zeros zero size = refl
 cut_into-zeros (suc n) size =
-    rw (suc-mul_front n size, take-replicate {X = ℕ} size (size + n * size) 0 (omega arith), drop-replicate {X = ℕ} size (size + n * size) 0)
+    rw (
+      suc-mul_front n size,
+      take-replicate {X = ℕ} size (size + n * size) 0 (omega arith),
+      drop-replicate {X = ℕ} size (size + n * size) 0,
+    )
     (let rest : size + n * size - size ≡ n * size = omega arith in
     rw rest (ap (λ r. replicate size 0 ∷ r) (cut_into-zeros n size)))
 
@@ -104,8 +110,10 @@ replaced_sectors size first m bytes part some whole many inside =
     let apart : (first + m) * size ≡ first * size + m * size = add-mul first m size in
     let front : List ℕ = take (first * size) bytes in
     let front_is : length front ≡ first * size = length-take-le (first * size) bytes (omega arith) in
-    cut_into-append (first + m) r n size (front ++ part) (drop (first * size + m * size) bytes) (omega arith) (length-append front part ∙ omega arith)
-    ∙ ap (λ xs. xs ++ cut_into r size (drop (first * size + m * size) bytes)) (cut_into-append first m (first + m) size front part refl front_is)
+    cut_into-append (first + m) r n size (front ++ part) (drop (first * size + m * size) bytes) (omega arith)
+    (length-append front part ∙ omega arith)
+    ∙ ap (λ xs. xs ++ cut_into r size (drop (first * size + m * size) bytes))
+    (cut_into-append first m (first + m) size front part refl front_is)
     ∙ ap (λ xs. (xs ++ cut_into m size part) ++ cut_into r size (drop (first * size + m * size) bytes))
     (cut_into-take first size bytes ∙ sym (take-cut_into first n size bytes (omega arith)))
     ∙ ap (λ xs. (take first (sectors_of size bytes) ++ cut_into m size part) ++ xs)
@@ -119,8 +127,10 @@ pub written_sectors : (size first m : ℕ) (bytes part new : List ℕ) → 0 < s
     → sectors_of size (written_over bytes new) ≡ with_sectors (sectors_of size bytes) first (cut_into m size part)
 written_sectors size first m bytes part new some whole many inside is =
     let upper : (first + m) * size ≤ length bytes / size * size = mul-le-mul_right size inside in
-    let fits : first * size + m * size ≤ length bytes = omega (arith, add-mul first m size, div-mul-le_self (length bytes) size) in
-    let as_many : length new ≡ length bytes = ap length is ∙ length-replace_range (first * size) (m * size) bytes part fits many in
+    let fits : first * size + m * size ≤ length bytes =
+    omega (arith, add-mul first m size, div-mul-le_self (length bytes) size) in
+    let as_many : length new ≡ length bytes =
+    ap length is ∙ length-replace_range (first * size) (m * size) bytes part fits many in
     ap (sectors_of size) (written_over-all bytes new as_many) ∙ ap (λ k. cut_into (k / size) size new) as_many
     ∙ ap (cut_into (length bytes / size) size) is ∙ replaced_sectors size first m bytes part some whole many inside
 

@@ -25,7 +25,8 @@ faults_by faults (Ram disk) = disk.faults
 faults_by faults (Shelved disk) = faults disk
 
 -- the sectors that a drive tells are as many as it has, where those of the disk that it holds are
-pub counted_by : {D : Type 0} (held : D → Option (List (List ℕ))) (sector_count : D → ℕ) → ((d : D) → IfSome (held d) (λ sectors. length sectors ≡ sector_count d))
+pub counted_by : {D : Type 0} (held : D → Option (List (List ℕ))) (sector_count : D → ℕ)
+    → ((d : D) → IfSome (held d) (λ sectors. length sectors ≡ sector_count d))
     → (drive : Drive D) → IfSome (held_by held drive) (λ sectors. length sectors ≡ count_by sector_count drive)
 counted_by held sector_count counted (Ram disk) = refl
 counted_by held sector_count counted (Shelved disk) = counted disk

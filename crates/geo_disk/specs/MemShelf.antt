@@ -16,12 +16,13 @@ use Rattle.geo_disk.specs.declared.mem_shelf.Slot.{Slot}
 same_names : IsEquivalence bytes_eq
 same_names = record {
   refl = λ a. (bytes_eq-Decides a a).1 refl;
-  symm = λ a b. same_from_decides (bytes_eq a b) (bytes_eq b a) (bytes_eq-Decides a b) ((λ e. sym ((bytes_eq-Decides b a).0 e)), (λ e. (bytes_eq-Decides b a).1 (sym e)));
+  symm = λ a b. same_from_decides (bytes_eq a b) (bytes_eq b a) (bytes_eq-Decides a b)
+      ((λ e. sym ((bytes_eq-Decides b a).0 e)), (λ e. (bytes_eq-Decides b a).1 (sym e)));
   congr = λ a b q e. ap (λ n. bytes_eq n q) ((bytes_eq-Decides a b).0 e);
 }
 
--- what a shelf in memory is: the places of its names, what is lent, which of its calls are to fail, how many it had, and
--- how many failed
+-- what a shelf in memory is: the places of its names, what is lent, which of its calls are to fail, how many it had,
+-- and how many failed
 pub record Store : Type 0 where
   pub slots : List Slot
   pub loans : Loans
@@ -50,7 +51,14 @@ disk_of sector faults slot = record {
 
 -- the place of a disk that came back
 abbrev pub kept_slot : List ℕ → Memory → Slot
-kept_slot name disk = record { name = name; bytes = joined_sectors disk.sectors; fails = disk.fails; calls = disk.calls; part = disk.part }
+kept_slot name disk = record {
+  name = name;
+  bytes = joined_sectors disk.sectors;
+  fails = disk.fails;
+  calls =
+      disk.calls;
+  part = disk.part;
+}
 
 -- the place of a name
 abbrev pub slot_of : List Slot → List ℕ → Option Slot
@@ -78,7 +86,8 @@ with_slot s slot = record s { slots = s.slots ++ slot ∷ [] }
 
 -- the shelf after one more call, which failed or didn't
 abbrev pub shelf_called : Bool → Store → Store
-shelf_called failed s = record s { calls = counted_on s.calls; faults = if failed then counted_on s.faults else s.faults }
+shelf_called failed s =
+    record s { calls = counted_on s.calls; faults = if failed then counted_on s.faults else s.faults }
 
 -- no call was counted, and those that are to fail are the same
 pub record AreSameCalls (old new : Store) : Type 0 where

@@ -2,8 +2,8 @@
 use Rattle.std.specs.Prelude.{◌≡◌, ℕ, ◌+◌, ◌-◌, ◌^◌, ◌%◌, ◌<◌, min, Bool, List, length, if◌then◌else◌}
 use Rattle.geo_base.specs.Sectors.{cut_into, with_sectors, zero_sectors}
 
--- what a disk in memory is: its sector size, the bytes of its sectors, which of its calls are to fail, how many it had and
--- how many failed, and how many sectors of a write or zero a failure still does
+-- what a disk in memory is: its sector size, the bytes of its sectors, which of its calls are to fail, how many it
+-- had and how many failed, and how many sectors of a write or zero a failure still does
 pub record Memory : Type 0 where
   pub sector : ℕ
   pub sectors : List (List ℕ)

@@ -43,7 +43,8 @@ IsMissing name old new = (old name ≡ None) × IsAsBefore old new
 
 -- what the shelf has under the name isn't whole sectors, or is too long
 abbrev pub IsOfBadSize : List ℕ → ℕ → Images → Images → Type 0
-IsOfBadSize name sector old new = IsSomeAnd (old name) (λ bytes. IsDiskSize sector (length bytes) → ⊥) × IsAsBefore old new
+IsOfBadSize name sector old new = IsSomeAnd (old name) (λ bytes. IsDiskSize sector (length bytes) → ⊥)
+    × IsAsBefore old new
 
 -- a fact on the disk, if one was taken
 abbrev pub IfTaken : {D : Type 0} → Result (Taken D) ShelfFault → (D → Type 0) → Type 0
@@ -60,7 +61,8 @@ MatchTaken (Ok BadSize) disk missing bad fault = bad
 MatchTaken (Err _) disk missing bad fault = fault
 
 -- what `take` does to what a shelf tells
-abbrev pub Takes : {D : Type 0} → (D → Option (List (List ℕ))) → List ℕ → ℕ → Result (Taken D) ShelfFault → Option Images → Option Images → Type 0
+abbrev pub Takes : {D : Type 0} → (D → Option (List (List ℕ))) → List ℕ → ℕ → Result (Taken D) ShelfFault
+    → Option Images → Option Images → Type 0
 Takes held name sector result old new =
     MatchTaken result
     (λ d. WhereTold (IsTakenFrom name sector (held d)) old new)
@@ -76,7 +78,8 @@ lent_by (Ok BadSize) name lent = lent
 lent_by (Err _) name lent = lent
 
 -- what `give` does to what a shelf tells
-abbrev pub Gives : {E : Type 0} → Option (List (List ℕ)) → List ℕ → Result (Unit {0}) E → Option Images → Option Images → Type 0
+abbrev pub Gives : {E : Type 0} → Option (List (List ℕ)) → List ℕ → Result (Unit {0}) E → Option Images
+    → Option Images → Type 0
 Gives held name (Ok _) old new = WhereTold (IsGivenTo name held) old new
 Gives held name (Err _) old new = WhereTold IsAsBefore old new
 

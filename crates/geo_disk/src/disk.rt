@@ -49,7 +49,8 @@ pub trait Disk {
         ensures cause { HasCause (faults self.old) (faults self.new) result }
         ensures called { calls self.new ≡ counted_on (calls self.old) };
 
-    /// Writes the bytes over the sectors from `first` on. After a failure the first `done` of them are written, and no other.
+    /// Writes the bytes over the sectors from `first` on. After a failure the first `done` of them are written, and
+    /// no other.
     fn write(&mut self, first: u64, bytes: &[u8]) -> Result<(), DiskFailed>
         requires { AreSectors (sector_bytes self.old) (sector_count self.old) first (length bytes.now) }
         ensures bytes { sector_bytes self.new ≡ sector_bytes self.old }
@@ -60,8 +61,8 @@ pub trait Disk {
         ensures cause { HasCause (faults self.old) (faults self.new) result }
         ensures called { calls self.new ≡ counted_on (calls self.old) };
 
-    /// Writes zeros over `count` sectors from `first` on. After a failure the first `done` of them are zero, and no other
-    /// sector changed.
+    /// Writes zeros over `count` sectors from `first` on. After a failure the first `done` of them are zero, and no
+    /// other sector changed.
     fn zero(&mut self, first: u64, count: u64) -> Result<(), DiskFailed>
         requires { first + count ≤ sector_count self.old }
         ensures bytes { sector_bytes self.new ≡ sector_bytes self.old }

@@ -74,7 +74,8 @@ impl<D: Disk> Disk for Drive<D> {
         ensures cause { HasCause (faults_by D.faults self.old) (faults_by D.faults self.new) result }
         ensures called { calls_by D.calls self.new ≡ counted_on (calls_by D.calls self.old) }
         ensures ram { IfRam self.old self.new (λ old new.
-            new ≡ called (is_err result) (after_write old first (done_of result (length bytes.now / old.sector)) bytes.now)) }
+            new ≡ called (is_err result)
+            (after_write old first (done_of result (length bytes.now / old.sector)) bytes.now)) }
         ensures fails { IfRam self.old self.new (λ old _. IsErr result ↔ Contains old.fails (counted_on old.calls)) }
     {
         match self {

@@ -28,7 +28,15 @@ impl Model for MemDisk {
 
     ghost Value = { Memory };
 
-    ghost view = { λ d. record { sector = d.sector; sectors = sectors_of d.sector d.bytes; fails = d.fails; calls = d.calls; faults = d.faults; part = d.part } };
+    ghost view = { λ d. record {
+      sector = d.sector;
+      sectors = sectors_of d.sector d.bytes;
+      fails = d.fails;
+      calls =
+          d.calls;
+      faults = d.faults;
+      part = d.part;
+    } };
 
     ghost invariant = { λ d. AreWhole d.sector d.bytes };
 }
@@ -37,7 +45,14 @@ impl MemDisk {
     /// A disk of these bytes in sectors of this size. Its calls of the numbers in `fails` are to fail, counted from 1.
     pub fn new(bytes: Block, sector: u32, fails: Calls) -> MemDisk
         requires { AreWhole sector bytes }
-        ensures { result ≡ record { sector = sector; sectors = sectors_of sector bytes; fails = fails; calls = 0; faults = 0; part = 0 } }
+        ensures { result ≡ record {
+          sector = sector;
+          sectors = sectors_of sector bytes;
+          fails = fails;
+          calls = 0;
+          faults = 0;
+          part = 0;
+        } }
     {
         MemDisk {
             bytes,
@@ -59,7 +74,15 @@ impl MemDisk {
         part: u64,
     ) -> MemDisk
         requires { AreWhole sector bytes }
-        ensures { result ≡ record { sector = sector; sectors = sectors_of sector bytes; fails = fails; calls = calls; faults = faults; part = part } }
+        ensures { result ≡ record {
+          sector = sector;
+          sectors = sectors_of sector bytes;
+          fails = fails;
+          calls =
+              calls;
+          faults = faults;
+          part = part;
+        } }
     {
         MemDisk {
             bytes,
@@ -78,8 +101,8 @@ impl MemDisk {
         self.faults
     }
 
-    /// What goes on where the disk is taken again: its bytes, the calls that are to fail, how many it had, and its failing
-    /// part.
+    /// What goes on where the disk is taken again: its bytes, the calls that are to fail, how many it had, and its
+    /// failing part.
     pub(crate) fn into_parts(self) -> (Block, Calls, u64, u64)
         ensures bytes { result.0 ≡ joined_sectors self.sectors }
         ensures fails { result.1 ≡ self.fails }

@@ -45,7 +45,13 @@ impl Model for MemShelf {
 
     ghost Value = { Store };
 
-    ghost view = { λ s. record { slots = s.slots.items; loans = s.lending; fails = s.fails; calls = s.calls; faults = s.faults } };
+    ghost view = { λ s. record {
+      slots = s.slots.items;
+      loans = s.lending;
+      fails = s.fails;
+      calls = s.calls;
+      faults = s.faults;
+    } };
 
     ghost invariant = { λ s. HasSlots s.lending.lent s.slots.items };
 }
@@ -105,7 +111,13 @@ fn keep(slots: &mut Vec<Slot>, name: &Name, disk: MemDisk)
 impl MemShelf {
     /// A shelf without names, of which no call is to fail.
     pub fn new(alloc: Global) -> MemShelf
-        ensures { result ≡ record { slots = []; loans = record { lent = []; counts = [] }; fails = []; calls = 0; faults = 0 } }
+        ensures { result ≡ record {
+          slots = [];
+          loans = record { lent = []; counts = [] };
+          fails = [];
+          calls = 0;
+          faults = 0;
+        } }
     {
         MemShelf {
             alloc,
@@ -287,8 +299,8 @@ impl Shelf for MemShelf {
             (take_faults_of self.new.loans) }
         ensures gives { (other : List ℕ) → give_faults_of self.new.loans other ≡ give_faults_of self.old.loans other }
 
-        // It fails exactly where the call's number is in the list, unless there is no memory for the count of the name; the
-        // disk goes on as it came back, and the other places stay.
+        // It fails exactly where the call's number is in the list, unless there is no memory for the count of the
+        // name; the disk goes on as it came back, and the other places stay.
         ensures fails { IsErrOf result ShelfFault.Failed → Contains self.old.fails (counted_on self.old.calls) }
         ensures must_fail { Contains self.old.fails (counted_on self.old.calls) → IsErr result }
         ensures emptied { IfTaken result (λ d. slot_of self.new.slots name.now ≡ Some (emptied_slot name.now)) }

@@ -97,5 +97,6 @@ pub trait Shelf {
         ensures gives { CountsCall (is_err result) name.now (give_faults self.old) (give_faults self.new) };
 
     /// Under a name that is lent the shelf has nothing.
-    ghost lent_is_missing: { (shelf : Self) (name : List ℕ) → Contains (lent shelf) name → IfSome (told shelf) (λ images. images name ≡ None) };
+    ghost lent_is_missing: { (shelf : Self) (name : List ℕ) → Contains (lent shelf) name
+        → IfSome (told shelf) (λ images. images name ≡ None) };
 }

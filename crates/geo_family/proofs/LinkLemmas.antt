@@ -9,19 +9,24 @@ use Rattle.geo_family.specs.Links.{change_at, part_at}
 
 module _ {T : Type 0} (n : ℕ) where
   -- past a number there is nothing to change
-  change_at_below : (g : T → T) (low high : ℕ) (rows : List (ℕ × T)) → IsRising low rows high → n < low → change_at g rows n ≡ rows
+  change_at_below : (g : T → T) (low high : ℕ) (rows : List (ℕ × T)) → IsRising low rows high → n < low
+      → change_at g rows n ≡ rows
   change_at_below g low high [] rising below = refl
   change_at_below g low high (row ∷ rows) rising below =
-      rw (ne_eqb row.0 n (λ same. omega (arith, same, rising.0))) (ap (λ xs. row ∷ xs) (change_at_below g (row.0 + 1) high rows rising.1 (omega (arith, rising.0))))
+      rw (ne_eqb row.0 n (λ same. omega (arith, same, rising.0)))
+      (ap (λ xs. row ∷ xs) (change_at_below g (row.0 + 1) high rows rising.1 (omega (arith, rising.0))))
 
   -- past a number no row gets another value
-  with_value_below : (w : T) (low high : ℕ) (rows : List (ℕ × T)) → IsRising low rows high → n < low → with_value rows n w ≡ rows
+  with_value_below : (w : T) (low high : ℕ) (rows : List (ℕ × T)) → IsRising low rows high → n < low
+      → with_value rows n w ≡ rows
   with_value_below w low high [] rising below = refl
   with_value_below w low high (row ∷ rows) rising below =
-      rw (ne_eqb row.0 n (λ same. omega (arith, same, rising.0))) (ap (λ xs. row ∷ xs) (with_value_below w (row.0 + 1) high rows rising.1 (omega (arith, rising.0))))
+      rw (ne_eqb row.0 n (λ same. omega (arith, same, rising.0)))
+      (ap (λ xs. row ∷ xs) (with_value_below w (row.0 + 1) high rows rising.1 (omega (arith, rising.0))))
 
   -- another value under a number is a change of the one that is there
-  pub with_value-change : (g : T → T) (v w : T) → g v ≡ w → (low high : ℕ) (rows : List (ℕ × T)) → IsRising low rows high → Some v ≡ value_at rows n
+  pub with_value-change : (g : T → T) (v w : T) → g v ≡ w → (low high : ℕ) (rows : List (ℕ × T))
+      → IsRising low rows high → Some v ≡ value_at rows n
       → with_value rows n w ≡ change_at g rows n
   with_value-change g v w so low high [] rising at = absurd cc
   with_value-change g v w so low high (row ∷ rows) rising at =
@@ -29,10 +34,16 @@ module _ {T : Type 0} (n : ℕ) where
         | inl same ↦
             let found : Some v ≡ Some row.1 = rw (eq-eqb row.0 n same) at at in
             let value : row.1 ≡ v = cc in
-            let stay : with_value rows n w ≡ rows = with_value_below w (row.0 + 1) high rows rising.1 (omega (arith, same)) in
-            let kept : change_at g rows n ≡ rows = change_at_below g (row.0 + 1) high rows rising.1 (omega (arith, same)) in
+            let stay : with_value rows n w ≡ rows =
+            with_value_below w (row.0 + 1) high rows rising.1 (omega (arith, same)) in
+            let kept : change_at g rows n ≡ rows =
+            change_at_below g (row.0 + 1) high rows rising.1 (omega (arith, same)) in
             rw (eq-eqb row.0 n same, stay, kept, value, so, same) refl
-        | inr other ↦ rw (ne_eqb row.0 n other, with_value-change g v w so (row.0 + 1) high rows rising.1 (rw (ne_eqb row.0 n other) at at)) refl
+        | inr other ↦
+            rw (
+              ne_eqb row.0 n other,
+              with_value-change g v w so (row.0 + 1) high rows rising.1 (rw (ne_eqb row.0 n other) at at),
+            ) refl
       ]
 
   -- where there is none, nothing changes
@@ -45,7 +56,8 @@ module _ {T : Type 0} (n : ℕ) where
       ]
 
   -- the value under the number is the changed one
-  pub value_at-change_here : (g : T → T) (rows : List (ℕ × T)) → value_at (change_at g rows n) n ≡ option_map g (value_at rows n)
+  pub value_at-change_here : (g : T → T) (rows : List (ℕ × T))
+      → value_at (change_at g rows n) n ≡ option_map g (value_at rows n)
   value_at-change_here g [] = refl
   value_at-change_here g (row ∷ rows) =
       elim (cases_eq row.0 n) [
@@ -54,7 +66,8 @@ module _ {T : Type 0} (n : ℕ) where
       ]
 
   -- the value under another number stays
-  pub value_at-change_other : (g : T → T) (c : ℕ) → (c ≡ n → ⊥) → (rows : List (ℕ × T)) → value_at (change_at g rows n) c ≡ value_at rows c
+  pub value_at-change_other : (g : T → T) (c : ℕ) → (c ≡ n → ⊥) → (rows : List (ℕ × T))
+      → value_at (change_at g rows n) c ≡ value_at rows c
   value_at-change_other g c apart [] = refl
   value_at-change_other g c apart (row ∷ rows) =
       elim (cases_eq row.0 n) [
@@ -70,7 +83,8 @@ module _ {T : Type 0} (n : ℕ) where
       ]
 
   -- a part that the change leaves alone stays everywhere
-  pub part-kept : (part : T → Option ℕ) (g : T → T) → ((v : T) → part (g v) ≡ part v) → (rows : List (ℕ × T)) → part_at part (change_at g rows n) ≡ part_at part rows
+  pub part-kept : (part : T → Option ℕ) (g : T → T) → ((v : T) → part (g v) ≡ part v) → (rows : List (ℕ × T))
+      → part_at part (change_at g rows n) ≡ part_at part rows
   part-kept part g same rows = λ i. λ c. kept c i
     where
       through : (o : Option T) → option_and_then part (option_map g o) ≡ option_and_then part o
@@ -85,7 +99,8 @@ module _ {T : Type 0} (n : ℕ) where
           ]
 
   -- a part that the change sets
-  pub part-set : (part : T → Option ℕ) (g : T → T) (o : Option ℕ) → ((v : T) → part (g v) ≡ o) → (rows : List (ℕ × T)) → IsSome (value_at rows n)
+  pub part-set : (part : T → Option ℕ) (g : T → T) (o : Option ℕ) → ((v : T) → part (g v) ≡ o)
+      → (rows : List (ℕ × T)) → IsSome (value_at rows n)
       → part_at part (change_at g rows n) ≡ put (part_at part rows) n o
   part-set part g o sets rows there = λ i. λ c. set c i
     where
@@ -101,7 +116,8 @@ module _ {T : Type 0} (n : ℕ) where
           ]
 
   -- who is there stays there
-  pub IsSome-change : (g : T → T) (c : ℕ) (rows : List (ℕ × T)) → IsSome (value_at rows c) → IsSome (value_at (change_at g rows n) c)
+  pub IsSome-change : (g : T → T) (c : ℕ) (rows : List (ℕ × T)) → IsSome (value_at rows c)
+      → IsSome (value_at (change_at g rows n) c)
   IsSome-change g c rows there =
       elim (cases_eq c n) [
         | inl here ↦ rw (here, value_at-change_here g rows) (mapped (value_at rows n) (rw here at there))

@@ -15,7 +15,8 @@ abbrev pub numbers_of : {T : Type 0} → List (ℕ × T) → List ℕ
 numbers_of rows = map (λ row. row.0) rows
 
 -- a change under one number leaves the numbers
-numbers-change : {T : Type 0} (g : T → T) (n : ℕ) (rows : List (ℕ × T)) → numbers_of (change_at g rows n) ≡ numbers_of rows
+numbers-change : {T : Type 0} (g : T → T) (n : ℕ) (rows : List (ℕ × T))
+    → numbers_of (change_at g rows n) ≡ numbers_of rows
 numbers-change g n [] = refl
 numbers-change g n (row ∷ rows) =
     elim (cases_eq row.0 n) [
@@ -24,17 +25,20 @@ numbers-change g n (row ∷ rows) =
     ]
 
 -- another first child leaves the numbers of the parents
-pub numbers-with_first : (o : Option ℕ) (p : ℕ) (to : Option ℕ) (ends : List (ℕ × Ends)) → numbers_of (with_first o p to ends) ≡ numbers_of ends
+pub numbers-with_first : (o : Option ℕ) (p : ℕ) (to : Option ℕ) (ends : List (ℕ × Ends))
+    → numbers_of (with_first o p to ends) ≡ numbers_of ends
 numbers-with_first None p to ends = numbers-change (λ e. record e { first = to }) p ends
 numbers-with_first (Some c) p to ends = refl
 
 -- another last child leaves the numbers of the parents
-pub numbers-with_last : (o : Option ℕ) (p : ℕ) (to : Option ℕ) (ends : List (ℕ × Ends)) → numbers_of (with_last o p to ends) ≡ numbers_of ends
+pub numbers-with_last : (o : Option ℕ) (p : ℕ) (to : Option ℕ) (ends : List (ℕ × Ends))
+    → numbers_of (with_last o p to ends) ≡ numbers_of ends
 numbers-with_last None p to ends = numbers-change (λ e. record e { last = to }) p ends
 numbers-with_last (Some c) p to ends = refl
 
 -- the numbers once a row was taken away
-pub numbers-without : {T : Type 0} (n : ℕ) (rows : List (ℕ × T)) → numbers_of (without rows n) ≡ filter (λ m. not (m == n)) (numbers_of rows)
+pub numbers-without : {T : Type 0} (n : ℕ) (rows : List (ℕ × T))
+    → numbers_of (without rows n) ≡ filter (λ m. not (m == n)) (numbers_of rows)
 numbers-without n [] = refl
 numbers-without n (row ∷ rows) =
     elim (cases_eq row.0 n) [
@@ -43,12 +47,14 @@ numbers-without n (row ∷ rows) =
     ]
 
 -- the numbers with one more row at the end
-pub numbers-push : {T : Type 0} (n : ℕ) (v : T) (rows : List (ℕ × T)) → numbers_of (rows ++ (n, v) ∷ []) ≡ numbers_of rows ++ n ∷ []
+pub numbers-push : {T : Type 0} (n : ℕ) (v : T) (rows : List (ℕ × T))
+    → numbers_of (rows ++ (n, v) ∷ []) ≡ numbers_of rows ++ n ∷ []
 numbers-push n v [] = refl
 numbers-push n v (row ∷ rows) = ap (λ xs. row.0 ∷ xs) (numbers-push n v rows)
 
 -- a parent that is named has its row
-pub parent_stands : {T : Type 0} (p : ℕ) (rows : List (ℕ × T)) → is_parent (numbers_of rows) p ≡ true → IsSome (value_at rows p)
+pub parent_stands : {T : Type 0} (p : ℕ) (rows : List (ℕ × T)) → is_parent (numbers_of rows) p ≡ true
+    → IsSome (value_at rows p)
 parent_stands p [] never = absurd (cc)
 parent_stands p (row ∷ rows) stands =
     elim (cases_eq row.0 p) [
@@ -57,26 +63,31 @@ parent_stands p (row ∷ rows) stands =
     ]
 
 -- a change that keeps the parent leaves each child with its parent
-children-change : (g : Link → Link) → ((l : Link) → parent_of (g l) ≡ parent_of l) → (n : ℕ) (links : List (ℕ × Link)) → children_of (change_at g links n) ≡ children_of links
+children-change : (g : Link → Link) → ((l : Link) → parent_of (g l) ≡ parent_of l)
+    → (n : ℕ) (links : List (ℕ × Link)) → children_of (change_at g links n) ≡ children_of links
 children-change g same n [] = refl
 children-change g same n (row ∷ rows) =
     elim (cases_eq row.0 n) [
-      | inl here ↦ rw (eq-eqb row.0 n here, same row.1) (ap (λ xs. (row.0, row.1.parent) ∷ xs) (children-change g same n rows))
+      | inl here ↦
+          rw (eq-eqb row.0 n here, same row.1) (ap (λ xs. (row.0, row.1.parent) ∷ xs) (children-change g same n rows))
       | inr other ↦ rw (ne_eqb row.0 n other) (ap (λ xs. (row.0, row.1.parent) ∷ xs) (children-change g same n rows))
     ]
 
 -- another number after a child leaves each child with its parent
-pub children-with_after : (o to : Option ℕ) (links : List (ℕ × Link)) → children_of (with_after o to links) ≡ children_of links
+pub children-with_after : (o to : Option ℕ) (links : List (ℕ × Link))
+    → children_of (with_after o to links) ≡ children_of links
 children-with_after None to links = refl
 children-with_after (Some c) to links = children-change (λ l. record l { after = to }) (λ l. refl) c links
 
 -- another number before a child leaves each child with its parent
-pub children-with_before : (o to : Option ℕ) (links : List (ℕ × Link)) → children_of (with_before o to links) ≡ children_of links
+pub children-with_before : (o to : Option ℕ) (links : List (ℕ × Link))
+    → children_of (with_before o to links) ≡ children_of links
 children-with_before None to links = refl
 children-with_before (Some c) to links = children-change (λ l. record l { before = to }) (λ l. refl) c links
 
 -- another link of a child gives it the parent of that link
-pub children-with_link : (n : ℕ) (l : Link) (links : List (ℕ × Link)) → children_of (with_link n l links) ≡ with_value (children_of links) n l.parent
+pub children-with_link : (n : ℕ) (l : Link) (links : List (ℕ × Link))
+    → children_of (with_link n l links) ≡ with_value (children_of links) n l.parent
 children-with_link n l [] = refl
 children-with_link n l (row ∷ rows) =
     elim (cases_eq row.0 n) [
@@ -86,10 +97,13 @@ children-with_link n l (row ∷ rows) =
 
 -- all the changes at once
 pub children-relinked : (child : ℕ) (link : Link) (prev behind to_after to_before : Option ℕ) (links : List (ℕ × Link))
-    → children_of (with_link child link (with_before behind to_before (with_after prev to_after links))) ≡ with_value (children_of links) child link.parent
+    → children_of (with_link child link (with_before behind to_before (with_after prev to_after links)))
+    ≡ with_value (children_of links) child link.parent
 children-relinked child link prev behind to_after to_before links =
     children-with_link child link (with_before behind to_before (with_after prev to_after links))
-    ∙ ap (λ rows. with_value rows child link.parent) (children-with_before behind to_before (with_after prev to_after links) ∙ children-with_after prev to_after links)
+    ∙ ap (λ rows. with_value rows child link.parent)
+    (children-with_before behind to_before (with_after prev to_after links)
+    ∙ children-with_after prev to_after links)
 
 -- the children once one was taken away
 pub children-without : (n : ℕ) (links : List (ℕ × Link)) → children_of (without links n) ≡ without (children_of links) n
@@ -101,12 +115,14 @@ children-without n (row ∷ rows) =
     ]
 
 -- the children with one more at the end
-pub children-push : (n : ℕ) (l : Link) (links : List (ℕ × Link)) → children_of (links ++ (n, l) ∷ []) ≡ children_of links ++ (n, l.parent) ∷ []
+pub children-push : (n : ℕ) (l : Link) (links : List (ℕ × Link))
+    → children_of (links ++ (n, l) ∷ []) ≡ children_of links ++ (n, l.parent) ∷ []
 children-push n l [] = refl
 children-push n l (row ∷ rows) = ap (λ xs. (row.0, row.1.parent) ∷ xs) (children-push n l rows)
 
 -- the parent of a child, by the rows and by what they stand for
-pub value_at-children : (n : ℕ) (links : List (ℕ × Link)) → value_at (children_of links) n ≡ option_map parent_of (value_at links n)
+pub value_at-children : (n : ℕ) (links : List (ℕ × Link))
+    → value_at (children_of links) n ≡ option_map parent_of (value_at links n)
 value_at-children n [] = refl
 value_at-children n (row ∷ rows) =
     elim (cases_eq row.0 n) [
@@ -115,7 +131,8 @@ value_at-children n (row ∷ rows) =
     ]
 
 -- a child without a parent
-pub free_child : (n : ℕ) (links : List (ℕ × Link)) → value_at (children_of links) n ≡ Some None → (part_at parent_of links n ≡ None) × IsSome (value_at links n)
+pub free_child : (n : ℕ) (links : List (ℕ × Link)) → value_at (children_of links) n ≡ Some None
+    → (part_at parent_of links n ≡ None) × IsSome (value_at links n)
 free_child n links free = from (value_at links n) (sym (value_at-children n links) ∙ free)
   where
     from : (o : Option Link) → option_map parent_of o ≡ Some None → (option_and_then parent_of o ≡ None) × IsSome o
@@ -123,19 +140,25 @@ free_child n links free = from (value_at links n) (sym (value_at-children n link
     from (Some l) is = let e : parent_of l ≡ None = cc in (e, refl)
 
 -- taking no parent away changes nothing
-pub children-kept : (n low high : ℕ) (links : List (ℕ × Link)) → IsRising low links high → part_at parent_of links n ≡ None → with_value (children_of links) n None ≡ children_of links
+pub children-kept : (n low high : ℕ) (links : List (ℕ × Link)) → IsRising low links high
+    → part_at parent_of links n ≡ None → with_value (children_of links) n None ≡ children_of links
 children-kept n low high [] rising free = refl
 children-kept n low high (row ∷ rows) rising free =
     elim (cases_eq row.0 n) [
       | inl same ↦
           let none : row.1.parent ≡ None = rw (eq-eqb row.0 n same) at free in
           let absent = value_at_below n (row.0 + 1) rows high rising.1 (omega (arith, same)) in
-          rw (eq-eqb row.0 n same, none, same) (ap (λ xs. (n, None) ∷ xs) (children-kept n (row.0 + 1) high rows rising.1 (rw absent refl)))
-      | inr other ↦ rw (ne_eqb row.0 n other) (ap (λ xs. (row.0, row.1.parent) ∷ xs) (children-kept n (row.0 + 1) high rows rising.1 (rw (ne_eqb row.0 n other) at free)))
+          rw (eq-eqb row.0 n same, none, same)
+          (ap (λ xs. (n, None) ∷ xs) (children-kept n (row.0 + 1) high rows rising.1 (rw absent refl)))
+      | inr other ↦
+          rw (ne_eqb row.0 n other)
+          (ap (λ xs. (row.0, row.1.parent) ∷ xs)
+          (children-kept n (row.0 + 1) high rows rising.1 (rw (ne_eqb row.0 n other) at free)))
     ]
 
 -- without a child it doesn't matter what parent it had
-pub without-with_value : {T : Type 0} (n : ℕ) (v : T) (rows : List (ℕ × T)) → without (with_value rows n v) n ≡ without rows n
+pub without-with_value : {T : Type 0} (n : ℕ) (v : T) (rows : List (ℕ × T))
+    → without (with_value rows n v) n ≡ without rows n
 without-with_value n v [] = refl
 without-with_value n v (row ∷ rows) =
     elim (cases_eq row.0 n) [
@@ -144,10 +167,14 @@ without-with_value n v (row ∷ rows) =
     ]
 
 -- after it, the child has no parent
-pub value_at-with_none : (n : ℕ) (rows : List (ℕ × Option ℕ)) (links : List (ℕ × Link)) → children_of links ≡ with_value rows n None → part_at parent_of links n ≡ None
-value_at-with_none n rows links same = from (value_at links n) (λ p is. after rows p (sym (ap (λ xs. value_at xs n) same) ∙ value_at-children n links ∙ is))
+pub value_at-with_none : (n : ℕ) (rows : List (ℕ × Option ℕ)) (links : List (ℕ × Link))
+    → children_of links ≡ with_value rows n None → part_at parent_of links n ≡ None
+value_at-with_none n rows links same =
+    from (value_at links n) (λ p is. after rows p (sym (ap (λ xs. value_at xs n) same)
+    ∙ value_at-children n links ∙ is))
   where
-    from : (o : Option Link) → ((p : ℕ) → option_map parent_of o ≡ Some (Some p) → ⊥) → option_and_then parent_of o ≡ None
+    from : (o : Option Link) → ((p : ℕ) → option_map parent_of o ≡ Some (Some p) → ⊥)
+        → option_and_then parent_of o ≡ None
     from None never = refl
     from (Some l) never = parent_none l.parent (λ p is. never p (ap (λ x. Some x) is))
       where
@@ -164,7 +191,8 @@ value_at-with_none n rows links same = from (value_at links n) (λ p is. after r
         ]
 
 -- who has no child is nobody's parent
-pub childless : (p : ℕ) (links : List (ℕ × Link)) → has_child (children_of links) p ≡ false → (d : ℕ) → part_at parent_of links d ≡ Some p → ⊥
+pub childless : (p : ℕ) (links : List (ℕ × Link)) → has_child (children_of links) p ≡ false → (d : ℕ)
+    → part_at parent_of links d ≡ Some p → ⊥
 childless p [] none d had = let never : None ≡ Some p = had in cc
 childless p (row ∷ rows) none d had =
     elim (cases_eq row.0 d) [
@@ -180,21 +208,25 @@ childless p (row ∷ rows) none d had =
     rest false is = is
 
 -- the numbers of the children rise as those of their rows
-pub children_rise : (low high : ℕ) (links : List (ℕ × Link)) → IsRising low links high → IsRising low (children_of links) high
+pub children_rise : (low high : ℕ) (links : List (ℕ × Link)) → IsRising low links high
+    → IsRising low (children_of links) high
 children_rise low high [] rising = rising
 children_rise low high (row ∷ rows) rising = (rising.0, children_rise (row.0 + 1) high rows rising.1)
 
 module _ {T : Type 0} (n : ℕ) where
   -- the value that was put at the end is found there
-  pub value_at-push : (v : T) (low : ℕ) (rows : List (ℕ × T)) → IsRising low rows n → value_at (rows ++ (n, v) ∷ []) n ≡ Some v
+  pub value_at-push : (v : T) (low : ℕ) (rows : List (ℕ × T)) → IsRising low rows n
+      → value_at (rows ++ (n, v) ∷ []) n ≡ Some v
   value_at-push v low [] rising = rw (eq-eqb n n refl) refl
   value_at-push v low (row ∷ rows) rising =
       let below = IsRising_ends (row.0 + 1) rows n rising.1 in
       rw (ne_eqb row.0 n (λ same. omega (arith, same, below))) (value_at-push v (row.0 + 1) rows rising.1)
 
   -- and is changed there
-  pub with_value-push : (v w : T) (low : ℕ) (rows : List (ℕ × T)) → IsRising low rows n → with_value (rows ++ (n, v) ∷ []) n w ≡ rows ++ (n, w) ∷ []
+  pub with_value-push : (v w : T) (low : ℕ) (rows : List (ℕ × T)) → IsRising low rows n
+      → with_value (rows ++ (n, v) ∷ []) n w ≡ rows ++ (n, w) ∷ []
   with_value-push v w low [] rising = rw (eq-eqb n n refl) refl
   with_value-push v w low (row ∷ rows) rising =
       let below = IsRising_ends (row.0 + 1) rows n rising.1 in
-      rw (ne_eqb row.0 n (λ same. omega (arith, same, below))) (ap (λ xs. row ∷ xs) (with_value-push v w (row.0 + 1) rows rising.1))
+      rw (ne_eqb row.0 n (λ same. omega (arith, same, below)))
+      (ap (λ xs. row ∷ xs) (with_value-push v w (row.0 + 1) rows rising.1))

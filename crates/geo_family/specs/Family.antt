@@ -28,7 +28,8 @@ has_child children parent = list_any (λ row. names row.1 parent) children
 
 -- the least child of a parent that isn't below a number
 abbrev pub first_child : List (ℕ × Option ℕ) → ℕ → ℕ → Option ℕ
-first_child children parent number = option_map (λ row. row.0) (find (λ row. nat_le number row.0 && names row.1 parent) children)
+first_child children parent number =
+    option_map (λ row. row.0) (find (λ row. nat_le number row.0 && names row.1 parent) children)
 
 -- the greatest child of a parent
 abbrev pub last_child : List (ℕ × Option ℕ) → ℕ → Option ℕ

@@ -39,8 +39,8 @@ last_of e = e.last
 abbrev pub children_of : List (ℕ × Link) → List (ℕ × Option ℕ)
 children_of links = map (λ row. (row.0, row.1.parent)) links
 
--- the neighbours of each child are those of its parent's children, and the ends of each parent are the first and the last
--- of its children
+-- the neighbours of each child are those of its parent's children, and the ends of each parent are the first and the
+-- last of its children
 pub record IsFamily (links : List (ℕ × Link)) (ends : List (ℕ × Ends)) : Type 0 where
   pub afters : IsNext Up (part_at parent_of links) (part_at after_of links)
   pub befores : IsNext Down (part_at parent_of links) (part_at before_of links)

@@ -69,7 +69,14 @@ impl Model for Family {
 impl Family {
     /// No parent and no child. It takes no memory yet.
     pub fn new(alloc: Global) -> Family
-        ensures { result ≡ record { parents = []; children = []; next_parent = 1; next_child = 1; parent_room = 0; child_room = 0 } }
+        ensures { result ≡ record {
+          parents = [];
+          children = [];
+          next_parent = 1;
+          next_child = 1;
+          parent_room = 0;
+          child_room = 0;
+        } }
     {
         Family {
             links: Slots::new(alloc),
@@ -80,7 +87,11 @@ impl Family {
     /// Keeps room for parents and children, so that as many take no memory. Where memory is wanting all stays, and the
     /// room is no less than it was.
     pub fn reserve(&mut self, parents: u64, children: u64) -> Result<(), NoMemory>
-        ensures same { self.new ≡ record self.old { parent_room = self.new.parent_room; child_room = self.new.child_room } }
+        ensures same { self.new ≡ record self.old {
+          parent_room = self.new.parent_room;
+          child_room =
+              self.new.child_room;
+        } }
         ensures parents { OnOk result (parents ≤ self.new.parent_room) }
         ensures children { OnOk result (children ≤ self.new.child_room) }
         ensures parents_stay { self.old.parent_room ≤ self.new.parent_room }
@@ -96,7 +107,11 @@ impl Family {
     pub fn add_parent(&mut self) -> u64
         requires { 1 ≤ self.old.parent_room }
         ensures number { result ≡ self.old.next_parent }
-        ensures added { self.new ≡ record self.old { parents = self.old.parents ++ self.old.next_parent ∷ []; next_parent = self.old.next_parent + 1; parent_room = self.old.parent_room - 1 } }
+        ensures added { self.new ≡ record self.old {
+          parents = self.old.parents ++ self.old.next_parent ∷ [];
+          next_parent = self.old.next_parent + 1;
+          parent_room = self.old.parent_room - 1;
+        } }
     {
         self.ends.insert(NO_ENDS)
     }
@@ -105,7 +120,13 @@ impl Family {
     pub fn add_child(&mut self) -> u64
         requires { 1 ≤ self.old.child_room }
         ensures number { result ≡ self.old.next_child }
-        ensures added { self.new ≡ record self.old { children = self.old.children ++ (self.old.next_child, None) ∷ []; next_child = self.old.next_child + 1; child_room = self.old.child_room - 1 } }
+        ensures added { self.new
+            ≡ record self.old {
+              children = self.old.children ++ (self.old.next_child, None) ∷ [];
+              next_child =
+                  self.old.next_child + 1;
+              child_room = self.old.child_room - 1;
+            } }
         ensures rising { IsRising 1 self.old.children self.old.next_child }
     {
         self.links.insert(NO_LINK)
@@ -116,7 +137,12 @@ impl Family {
         requires room { 1 ≤ self.old.child_room }
         requires parent { is_parent self.old.parents parent ≡ true }
         ensures number { result ≡ self.old.next_child }
-        ensures added { self.new ≡ record self.old { children = self.old.children ++ (self.old.next_child, Some parent) ∷ []; next_child = self.old.next_child + 1; child_room = self.old.child_room - 1 } }
+        ensures added { self.new
+            ≡ record self.old {
+              children = self.old.children ++ (self.old.next_child, Some parent) ∷ [];
+              next_child = self.old.next_child + 1;
+              child_room = self.old.child_room - 1;
+            } }
     {
         let child = self.add_child();
         self.link(child, parent);

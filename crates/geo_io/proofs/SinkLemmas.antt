@@ -32,4 +32,5 @@ Takes-none a = record { taken = sym (append-nil a.taken); grows = Grows-none a.h
 -- one more part of the bytes was taken
 pub Takes-part : (a b c : Basin) (n k : ℕ) (xs : List ℕ) → Takes a (take n xs) b
     → Takes b (take k (take (length xs - n) (drop n xs))) c → Takes a (take (n + k) xs) c
-Takes-part a b c n k xs h m = rw (take-add n k xs) (Takes-more a b c (take n xs) (take k (drop n xs)) h (rw tail_range at m))
+Takes-part a b c n k xs h m =
+    rw (take-add n k xs) (Takes-more a b c (take n xs) (take k (drop n xs)) h (rw tail_range at m))

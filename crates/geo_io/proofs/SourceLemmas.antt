@@ -54,7 +54,8 @@ IsAtEnd-found a b n xs g e ended none =
 -- what was given at a call is at most the buffer
 pub GivesAtMost-read : (a b : Stream) (n room : ℕ) (xs : List ℕ) → n ≤ length xs → length xs ≤ room
     → Gives a (take n xs) b → GivesAtMost a room b
-GivesAtMost-read a b n room xs h r g = record { bytes = take n xs; few = rw (length-take-le n xs h) (omega arith); gives = g }
+GivesAtMost-read a b n room xs h r g =
+    record { bytes = take n xs; few = rw (length-take-le n xs h) (omega arith); gives = g }
 
 -- given, and then nothing more
 pub GivesAtMost-same : (a b c : Stream) (x : List ℕ) (limit : ℕ) → Gives a x b → length x ≤ limit → c ≡ b
@@ -65,7 +66,12 @@ GivesAtMost-same a b c x limit g h e = record { bytes = x; few = h; gives = rw e
 pub GivesAtMost-more : (a b c : Stream) (x : List ℕ) (room limit : ℕ) → Gives a x b → GivesAtMost b room c
     → length x + room ≤ limit → GivesAtMost a limit c
 GivesAtMost-more a b c x room limit g t h =
-    record { bytes = x ++ t.bytes; few = rw (length-append x t.bytes) (omega (arith, t.few)); gives = Gives-more a b c x t.bytes g t.gives }
+    record {
+      bytes = x ++ t.bytes;
+      few = rw (length-append x t.bytes) (omega (arith, t.few));
+      gives =
+          Gives-more a b c x t.bytes g t.gives;
+    }
 
 -- what a range to the end is
 pub tail_range : (d : ℕ) (xs : List ℕ) → take (length xs - d) (drop d xs) ≡ drop d xs

@@ -3,8 +3,8 @@ use Rattle.std.specs.Prelude.{ℕ, ◌-◌, min, List, ◌++◌, length, Some}
 use Rattle.geo_io.specs.Counts.{raised}
 use Rattle.geo_io.specs.Sink.{Basin}
 
--- the bytes written, how many it can hold, how many a call takes at most, the numbers of the calls that fail, and the calls
--- and faults so far
+-- the bytes written, how many it can hold, how many a call takes at most, the numbers of the calls that fail, and the
+-- calls and faults so far
 pub record Store : Type 0 where
   pub written : List ℕ
   pub room : ℕ

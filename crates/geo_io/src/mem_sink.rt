@@ -28,7 +28,15 @@ impl Model for MemSink {
 
     ghost Value = { Store };
 
-    ghost view = { λ s. record { written = s.bytes.items; room = s.room; piece = s.piece; fails = s.fails; calls = s.calls; faults = s.faults } };
+    ghost view = { λ s. record {
+      written = s.bytes.items;
+      room = s.room;
+      piece = s.piece;
+      fails = s.fails;
+      calls =
+          s.calls;
+      faults = s.faults;
+    } };
 
     ghost invariant = { λ s. (0 < s.piece) × (vec_len s.bytes ≤ s.room) × (s.room ≤ vec_capacity s.bytes) };
 }
@@ -72,7 +80,8 @@ impl Sink for MemSink {
         ensures err { OnErr result (basin_of self.new ≡ basin_of self.old) }
         ensures cause { HasCause self.old.faults self.new.faults result }
 
-        // It fails exactly where the call's number is in the list or the room is used up, and else takes as much as fits.
+        // It fails exactly where the call's number is in the list or the room is used up, and else takes as much as
+        // fits.
         ensures fails { IsErr result ↔ (Contains self.old.fails (raised self.old.calls) ⊎ (length self.old.written
             ≡ self.old.room)) }
         ensures stored { IfOk result (λ n. (n ≡ stored_count self.old (length bytes.now)) × (self.new

@@ -41,7 +41,8 @@ impl Model for MemSource {
 }
 
 impl MemSource {
-    /// A source of these bytes, which gives at most `piece` at a call. Its calls are counted from 1; those in `fails` fail.
+    /// A source of these bytes, which gives at most `piece` at a call. Its calls are counted from 1; those in `fails`
+    /// fail.
     pub fn new(bytes: Block, piece: u32, fails: Calls) -> MemSource
         requires { 0 < piece }
         ensures { result ≡ record {

@@ -1,5 +1,5 @@
 -- Tickets in the order of their senders.
-use Rattle.std.proofs.Common.{◌≡◌, ◌≢◌, ℕ, ◌+◌, List, [], ◌∷◌, ◌++◌, length, slice_index_or, eqb, cond, Bool, All, refl, ap, ◌∙◌, sym, subst, arith, eq-eqb, ne_eqb}
+use Rattle.std.proofs.Common.{◌≡◌, ◌≢◌, ℕ, ◌+◌, List, [], ◌∷◌, ◌++◌, length, slice_index_or, eqb, cond, Bool, All, ap, ◌∙◌, sym, subst, arith, eq-eqb, ne_eqb}
 use mathlib.Core.List.{IsPrefix}
 use Rattle.std.proofs.lemmas.List.Elements.{filter-append}
 use Rattle.geo_lane.specs.declared.ticket.Ticket.{Ticket}
@@ -8,14 +8,6 @@ use Rattle.geo_lane.specs.declared.view.View.{View}
 use Rattle.geo_lane.specs.Ticket.{sent_by, AreNumbered}
 use Rattle.geo_lane.specs.View.{one_more}
 use Rattle.geo_lane.specs.Delivery.{Tells, IsInOrder, AreTakenInOrder}
-
-pub append_more : {A : Type 0} (xs ys zs : List A) → (xs ++ ys) ++ zs ≡ xs ++ (ys ++ zs)
-append_more [] ys zs = refl
-append_more (x ∷ xs) ys zs = ap (λ z. x ∷ z) (append_more xs ys zs)
-
-pub append_nil : {A : Type 0} (xs : List A) → xs ++ [] ≡ xs
-append_nil [] = refl
-append_nil (x ∷ xs) = ap (λ z. x ∷ z) (append_nil xs)
 
 pub sent_more : (n : ℕ) (xs ys : List Ticket) → sent_by n (xs ++ ys) ≡ sent_by n xs ++ sent_by n ys
 sent_more n xs ys = filter-append (λ (t : Ticket). eqb t.sender n) xs ys
@@ -31,7 +23,8 @@ pub number_at : (n k : ℕ) (xs ys : List Ticket) (t : Ticket) → AreNumbered n
 number_at n k [] ys t h = let e = h.1 in omega arith
 number_at n k (x ∷ xs) ys t h = let e = number_at n (k + 1) xs ys t h.2 in omega arith
 
-pub numbered_more : (n k : ℕ) (xs : List Ticket) (t : Ticket) → AreNumbered n k xs → t.sender ≡ n → t.number ≡ k + length xs → AreNumbered n k (xs ++ t ∷ [])
+pub numbered_more : (n k : ℕ) (xs : List Ticket) (t : Ticket) → AreNumbered n k xs → t.sender ≡ n
+    → t.number ≡ k + length xs → AreNumbered n k (xs ++ t ∷ [])
 numbered_more n k [] t h mine e = (mine, omega arith, tt)
 numbered_more n k (x ∷ xs) t h mine e = (h.0, h.1, numbered_more n (k + 1) xs t h.2 mine (omega arith))
 
@@ -44,11 +37,17 @@ begins : (n : ℕ) (taken items put : List Ticket) → sent_by n (taken ++ items
 begins n taken items put is = (sent_by n items, sym (sent_more n taken items) ∙ is)
 
 -- the order of what the pass 0 has taken, from what it can tell of its lane
-taken_in_order : (v : View) (items taken : List Ticket) → ((n : ℕ) → AreNumbered n 0 (sent_by n (taken ++ items))) → sent_by v.number (taken ++ items) ≡ v.put → All (λ (s : Sent). sent_by s.sender (taken ++ items) ≡ s.put) v.ended → taken ≡ v.taken → AreTakenInOrder v
+taken_in_order : (v : View) (items taken : List Ticket) → ((n : ℕ) → AreNumbered n 0 (sent_by n (taken ++ items)))
+    → sent_by v.number (taken ++ items) ≡ v.put
+    → All (λ (s : Sent). sent_by s.sender (taken ++ items) ≡ s.put) v.ended → taken ≡ v.taken → AreTakenInOrder v
 taken_in_order v items taken numbered own ended same = record {
-  numbered = λ n. subst (λ (z : List Ticket). AreNumbered n 0 (sent_by n z)) same (numbered_less n 0 (sent_by n taken) (sent_by n items) (subst (λ (z : List Ticket). AreNumbered n 0 z) (sent_more n taken items) (numbered n)));
+  numbered = λ n. subst (λ (z : List Ticket). AreNumbered n 0 (sent_by n z)) same
+      (numbered_less n 0 (sent_by n taken) (sent_by n items)
+      (subst (λ (z : List Ticket). AreNumbered n 0 z) (sent_more n taken items) (numbered n)));
   own = subst (λ (z : List Ticket). IsPrefix (sent_by v.number z) v.put) same (begins v.number taken items v.put own);
-  ended = λ k d under. let s : Sent = slice_index_or v.ended k d in subst (λ (z : List Ticket). IsPrefix (sent_by s.sender z) s.put) same (begins s.sender taken items s.put (ended k d under));
+  ended = λ k d under. let s : Sent = slice_index_or v.ended k d in
+      subst (λ (z : List Ticket). IsPrefix (sent_by s.sender z) s.put) same
+      (begins s.sender taken items s.put (ended k d under));
 }
 
 -- the order of a pass's tickets, from what it can tell of its lane
@@ -60,4 +59,9 @@ in_order v items t = record {
 
 -- another pass that was made changes nothing of the order
 pub still_in_order : (v : View) → IsInOrder v → IsInOrder (one_more v)
-still_in_order v o = record { put = o.put; taken = λ zeroth. let t = o.taken zeroth in record { numbered = t.numbered; own = t.own; ended = t.ended } }
+still_in_order v o =
+    record {
+      put = o.put;
+      taken = λ zeroth. let t = o.taken zeroth in
+          record { numbered = t.numbered; own = t.own; ended = t.ended };
+    }

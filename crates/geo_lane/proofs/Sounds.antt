@@ -19,7 +19,8 @@ at_last (x ∷ xs) a d = at_last xs a d
 -- what was taken of the pass that was taken in begins what it had put
 begins_now : (v w : View) → AreTakenInOrder (with_ended v w) → IsPrefix (sent_by w.number v.taken) w.put
 begins_now v w t = let last : Sent = sent w in let P : Sent → Type 0 = λ z. IsPrefix (sent_by z.sender v.taken) z.put in
-    subst P (at_last v.ended last last) (t.ended (length v.ended) last (let long = length-append v.ended (last ∷ []) in omega arith))
+    subst P (at_last v.ended last last) (t.ended (length v.ended) last (let long =
+    length-append v.ended (last ∷ []) in omega arith))
 
 module _ (sender split put_so_far : ℕ) (v : View) (s : IsSound sender split put_so_far v) where
   -- the view, as contracts see it
@@ -34,7 +35,8 @@ module _ (sender split put_so_far : ℕ) (v : View) (s : IsSound sender split pu
     live = ap (λ (z : View). z.live) e ∙ s.live;
     number = ap (λ (z : View). z.number) e ∙ s.number;
     split_is = ap (λ (z : View). z.split) e ∙ s.split_is;
-    count = let now = ap (λ (z : View). length z.put) e in let long = length-append v.put (t ∷ []) in let before = s.count in omega arith;
+    count = let now = ap (λ (z : View). length z.put) e in let long = length-append v.put (t ∷ []) in let before =
+        s.count in omega arith;
     order = in_order w p.1.0 p.1.1;
   }
 
@@ -47,7 +49,8 @@ module _ (sender split put_so_far : ℕ) (v : View) (s : IsSound sender split pu
     order = subst (λ (z : View). IsInOrder z) (sym e) (still_in_order v s.order);
   }
 
-  pub take_sound : (w : View) (res : Option Ticket) → MatchOption res ((w ≡ v) × Held 0 (Tells v)) (λ t. Takes v t w) → IsSound sender split put_so_far w
+  pub take_sound : (w : View) (res : Option Ticket)
+      → MatchOption res ((w ≡ v) × Held 0 (Tells v)) (λ t. Takes v t w) → IsSound sender split put_so_far w
   take_sound w None r = subst (λ (z : View). IsSound sender split put_so_far z) (sym r.0) s
   take_sound w (Some t) r = let e = r.0 in record {
     live = ap (λ (z : View). z.live) e ∙ s.live;
@@ -68,4 +71,5 @@ module _ (sender split put_so_far : ℕ) (v : View) (s : IsSound sender split pu
     }
 
     pub join_begins : sender ≡ 0 → IsPrefix (sent_by other.number v.taken) other.put
-    join_begins zeroth = let o = subst (λ (z : View). IsInOrder z) e join_sound.order in begins_now v other (o.taken (s.number ∙ zeroth))
+    join_begins zeroth = let o = subst (λ (z : View). IsInOrder z) e join_sound.order in
+        begins_now v other (o.taken (s.number ∙ zeroth))

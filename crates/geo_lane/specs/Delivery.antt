@@ -9,16 +9,19 @@ use Rattle.geo_lane.specs.declared.view.View.{View}
 use Rattle.geo_lane.specs.Ticket.{sent_by, AreNumbered}
 use Rattle.geo_lane.specs.View.{has_put, has_taken}
 
--- `put` is all that the sender n has put, and the view j knows it. `made` is how many passes there were, and `owner` says which view knows of each number
+-- `put` is all that the sender n has put, and the view j knows it. `made` is how many passes there were, and `owner`
+-- says which view knows of each number
 pub record IsSentOf (history : List Ticket) (made : ℕ) (owner : ℕ → ℕ) (j n : ℕ) (put : List Ticket) : Type 0 where
   pub is : sent_by n history ≡ put
   pub owned : owner n ≡ j
   pub below : n < made
 
--- what the view j says is true: what it has put, what the passes that it took in had put, and, of the pass 0, how many passes there were and what was taken
+-- what the view j says is true: what it has put, what the passes that it took in had put, and, of the pass 0, how
+-- many passes there were and what was taken
 pub record Knows (taken items : List Ticket) (made : ℕ) (owner : ℕ → ℕ) (j : ℕ) (v : View) : Type 0 where
   pub own : v.live ≡ true → IsSentOf (taken ++ items) made owner j v.number v.put
-  pub ended : v.live ≡ true → All (λ s. IsSentOf (taken ++ items) made owner j s.sender s.put × (s.sender ≢ v.number)) v.ended
+  pub ended : v.live ≡ true
+      → All (λ s. IsSentOf (taken ++ items) made owner j s.sender s.put × (s.sender ≢ v.number)) v.ended
   pub first : v.live ≡ true → v.number ≡ 0 → (v.split + 1 ≡ made) × (v.taken ≡ taken)
 
 -- the rule: each sender's tickets, taken or in the lane, are those that it put, numbered 0, 1, 2 and so on
@@ -38,7 +41,8 @@ pub record Tells (v : View) (items : List Ticket) : Type 0 where
   pub ended : All (λ s. sent_by s.sender (taken ++ items) ≡ s.put) v.ended
   pub first : v.number ≡ 0 → (taken ≡ v.taken) × ((n : ℕ) → v.split < n → sent_by n (taken ++ items) ≡ [])
 
--- what the pass 0 has taken of each sender is numbered 0, 1, 2 and so on, and begins what that sender put, where the pass knows it
+-- what the pass 0 has taken of each sender is numbered 0, 1, 2 and so on, and begins what that sender put, where the
+-- pass knows it
 pub record AreTakenInOrder (v : View) : Type 0 where
   pub numbered : (n : ℕ) → AreNumbered n 0 (sent_by n v.taken)
   pub own : IsPrefix (sent_by v.number v.taken) v.put
@@ -58,6 +62,8 @@ pub record HasTakenAll (v : View) : Type 0 where
 abbrev pub Puts : View → Ticket → View → Type 0
 Puts v t w = (w ≡ has_put v t) × ((items : List Ticket) × Tells w items)
 
--- the pass has taken the ticket, whose number is how many of its sender were taken before, and this is what it can tell of the lane after it
+-- the pass has taken the ticket, whose number is how many of its sender were taken before, and this is what it can
+-- tell of the lane after it
 abbrev pub Takes : View → Ticket → View → Type 0
-Takes v t w = (w ≡ has_taken v t) × (t.number ≡ length (sent_by t.sender v.taken)) × ((items : List Ticket) × Tells w items)
+Takes v t w = (w ≡ has_taken v t) × (t.number ≡ length (sent_by t.sender v.taken))
+    × ((items : List Ticket) × Tells w items)

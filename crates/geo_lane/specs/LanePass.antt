@@ -8,7 +8,8 @@ use Rattle.geo_lane.specs.declared.view.View.{View}
 use Rattle.geo_lane.specs.View.{a_view}
 use Rattle.geo_lane.specs.Delivery.{IsInOrder}
 
--- the lane, the pass's number, how many passes were made of it, what it has put, what it has taken, and what the passes that it took in had put
+-- the lane, the pass's number, how many passes were made of it, what it has put, what it has taken, and what the
+-- passes that it took in had put
 pub record LanePassView : Type 0 where
   pub lane : TableId
   pub sender : ℕ

@@ -5,7 +5,8 @@ use Rattle.geo_lane.specs.declared.sent.Sent.{Sent}
 use Rattle.geo_lane.specs.declared.view.View.{View}
 
 abbrev pub a_view : Bool → ℕ → ℕ → List Ticket → List Ticket → List Sent → View
-a_view live number split put taken ended = record { live = live; number = number; split = split; put = put; taken = taken; ended = ended }
+a_view live number split put taken ended =
+    record { live = live; number = number; split = split; put = put; taken = taken; ended = ended }
 
 -- the pass 0 of an empty lane
 abbrev pub opening_view : View

@@ -26,7 +26,15 @@ impl Model for LanePass {
 
     ghost Value = { LanePassView };
 
-    ghost view = { λ p. record { lane = p.pass.table_id; sender = p.sender; split = p.split; put = (known p.pass).put; taken = (known p.pass).taken; ended = (known p.pass).ended } };
+    ghost view = { λ p. record {
+      lane = p.pass.table_id;
+      sender = p.sender;
+      split = p.split;
+      put =
+          (known p.pass).put;
+      taken = (known p.pass).taken;
+      ended = (known p.pass).ended;
+    } };
 
     ghost invariant = { λ p. (p.pass.me.1 ≡ []) × IsSound p.sender p.split p.put_so_far (known p.pass) };
 }

@@ -40,7 +40,8 @@ module _ {X : Type 0} where
   -- a fact of each that is contained
   pub All-from_contained : (P : X → Type 0) (xs : List X) → ((x : X) → Contains xs x → P x) → AllByRecursion P xs
   All-from_contained P [] so = tt
-  All-from_contained P (x ∷ xs) so = (so x (Contains-here x xs), All-from_contained P xs (λ y c. so y (Contains-there x y xs c)))
+  All-from_contained P (x ∷ xs) so =
+      (so x (Contains-here x xs), All-from_contained P xs (λ y c. so y (Contains-there x y xs c)))
 
   -- what holds of all items holds of each that is contained
   pub at_contained : (P : X → Type 0) (xs : List X) (y : X) → AllByRecursion P xs → Contains xs y → P y
@@ -52,17 +53,21 @@ module _ {X : Type 0} where
       ]
 
   -- what is contained and passes a filter, is kept
-  kept_first : (test : X → Bool) (x y : X) (xs : List X) (b : Bool) → test x ≡ b → x ≡ y → test y ≡ true → Contains (filter test (x ∷ xs)) y
-  kept_first test x y xs true e same passes = rw e (subst (λ z. Contains (x ∷ filter test xs) z) same (Contains-here x (filter test xs)))
+  kept_first : (test : X → Bool) (x y : X) (xs : List X) (b : Bool) → test x ≡ b → x ≡ y → test y ≡ true
+      → Contains (filter test (x ∷ xs)) y
+  kept_first test x y xs true e same passes =
+      rw e (subst (λ z. Contains (x ∷ filter test xs) z) same (Contains-here x (filter test xs)))
   kept_first test x y xs false e same passes = let here : test x ≡ true = rw same passes in absurd cc
 
   -- what is kept of the rest is kept of the whole list
-  kept_behind : (test : X → Bool) (x y : X) (xs : List X) (b : Bool) → test x ≡ b → Contains (filter test xs) y → Contains (filter test (x ∷ xs)) y
+  kept_behind : (test : X → Bool) (x y : X) (xs : List X) (b : Bool) → test x ≡ b → Contains (filter test xs) y
+      → Contains (filter test (x ∷ xs)) y
   kept_behind test x y xs true e rest = rw e (Contains-there x y (filter test xs) rest)
   kept_behind test x y xs false e rest = rw e rest
 
   -- so each that is contained and passes is kept, wherever it stands
-  pub Contains-filter : (test : X → Bool) (xs : List X) (y : X) → Contains xs y → test y ≡ true → Contains (filter test xs) y
+  pub Contains-filter : (test : X → Bool) (xs : List X) (y : X) → Contains xs y → test y ≡ true
+      → Contains (filter test xs) y
   Contains-filter test [] y c passes = c
   Contains-filter test (x ∷ xs) y c passes =
       elim (Contains-cases x y xs c) [
@@ -72,7 +77,8 @@ module _ {X : Type 0} where
 
   -- what a filter keeps, is contained and passes
   passed_step : (test : X → Bool) (x y : X) (xs : List X) (b : Bool) → test x ≡ b
-      → (Contains (filter test xs) y → Contains xs y × (test y ≡ true)) → Contains (filter test (x ∷ xs)) y → Contains (x ∷ xs) y × (test y ≡ true)
+      → (Contains (filter test xs) y → Contains xs y × (test y ≡ true)) → Contains (filter test (x ∷ xs)) y
+      → Contains (x ∷ xs) y × (test y ≡ true)
   passed_step test x y xs true e so c =
       elim (Contains-cases x y (filter test xs) (rw e at c)) [
         | inl same ↦ (rw same (Contains-here y xs), rw same at e)
@@ -81,7 +87,8 @@ module _ {X : Type 0} where
   passed_step test x y xs false e so c = let more = so (rw e at c) in (Contains-there x y xs more.0, more.1)
 
   -- so for the whole list
-  pub filter-Contains : (test : X → Bool) (xs : List X) (y : X) → Contains (filter test xs) y → Contains xs y × (test y ≡ true)
+  pub filter-Contains : (test : X → Bool) (xs : List X) (y : X) → Contains (filter test xs) y
+      → Contains xs y × (test y ≡ true)
   filter-Contains test [] y c = absurd (nothing_in y c)
   filter-Contains test (x ∷ xs) y c = passed_step test x y xs (test x) refl (λ h. filter-Contains test xs y h) c
 
@@ -109,16 +116,19 @@ module _ {X Y : Type 0} where
       ]
 
   -- what filter_map gives of a member
-  mapped_first : (h : X → Option Y) (z x : X) (xs : List X) (y : Y) → z ≡ x → h x ≡ Some y → Contains (filter_map h (z ∷ xs)) y
+  mapped_first : (h : X → Option Y) (z x : X) (xs : List X) (y : Y) → z ≡ x → h x ≡ Some y
+      → Contains (filter_map h (z ∷ xs)) y
   mapped_first h z x xs y same e = rw (same, e) (Contains-here y (filter_map h xs))
 
   -- what filter_map gives of the rest, it gives of the whole list
-  mapped_behind : (h : X → Option Y) (z : X) (xs : List X) (y : Y) (o : Option Y) → h z ≡ o → Contains (filter_map h xs) y → Contains (filter_map h (z ∷ xs)) y
+  mapped_behind : (h : X → Option Y) (z : X) (xs : List X) (y : Y) (o : Option Y) → h z ≡ o
+      → Contains (filter_map h xs) y → Contains (filter_map h (z ∷ xs)) y
   mapped_behind h z xs y None none rest = rw none rest
   mapped_behind h z xs y (Some v) some rest = rw some (Contains-there v y (filter_map h xs) rest)
 
   -- so what it gives of any member is contained
-  pub Contains-filter_map : (h : X → Option Y) (xs : List X) (x : X) (y : Y) → Contains xs x → h x ≡ Some y → Contains (filter_map h xs) y
+  pub Contains-filter_map : (h : X → Option Y) (xs : List X) (x : X) (y : Y) → Contains xs x → h x ≡ Some y
+      → Contains (filter_map h xs) y
   Contains-filter_map h [] x y c e = absurd (nothing_in x c)
   Contains-filter_map h (z ∷ xs) x y c e =
       elim (Contains-cases z x xs c) [
@@ -128,7 +138,8 @@ module _ {X Y : Type 0} where
 
   -- where a member of what filter_map gives comes from
   origin_step : (h : X → Option Y) (x : X) (xs : List X) (y : Y) (o : Option Y) → h x ≡ o
-      → (Contains (filter_map h xs) y → Origin (λ x. h x ≡ Some y) xs) → Contains (filter_map h (x ∷ xs)) y → Origin (λ x. h x ≡ Some y) (x ∷ xs)
+      → (Contains (filter_map h xs) y → Origin (λ x. h x ≡ Some y) xs) → Contains (filter_map h (x ∷ xs)) y
+      → Origin (λ x. h x ≡ Some y) (x ∷ xs)
   origin_step h x xs y None e so c = further (λ x. h x ≡ Some y) x xs (so (rw e at c))
   origin_step h x xs y (Some v) e so c =
       elim (Contains-cases v y (filter_map h xs) (rw e at c)) [
@@ -137,7 +148,8 @@ module _ {X Y : Type 0} where
       ]
 
   -- so for the whole list
-  pub filter_map-Contains : (h : X → Option Y) (xs : List X) (y : Y) → Contains (filter_map h xs) y → Origin (λ x. h x ≡ Some y) xs
+  pub filter_map-Contains : (h : X → Option Y) (xs : List X) (y : Y) → Contains (filter_map h xs) y
+      → Origin (λ x. h x ≡ Some y) xs
   filter_map-Contains h [] y c = absurd (nothing_in y c)
   filter_map-Contains h (x ∷ xs) y c = origin_step h x xs y (h x) refl (λ k. filter_map-Contains h xs y k) c
 
@@ -169,9 +181,11 @@ has None some = absurd (let no : ⊥ = cc in no)
 has (Some x) some = record { item = x; is = refl }
 
 -- what is found is contained
-find_step : {X : Type 0} (test : X → Bool) (x : X) (xs : List X) (y : X) (b : Bool) → test x ≡ b → (find test xs ≡ Some y → Contains xs y)
+find_step : {X : Type 0} (test : X → Bool) (x : X) (xs : List X) (y : X) (b : Bool) → test x ≡ b
+    → (find test xs ≡ Some y → Contains xs y)
     → find test (x ∷ xs) ≡ Some y → Contains (x ∷ xs) y
-find_step test x xs y true e so found = let same : x ≡ y = cc in subst (λ z. Contains (x ∷ xs) z) same (Contains-here x xs)
+find_step test x xs y true e so found = let same : x ≡ y = cc in
+    subst (λ z. Contains (x ∷ xs) z) same (Contains-here x xs)
 find_step test x xs y false e so found = Contains-there x y xs (so (rw e at found))
 
 -- so for the whole list

@@ -4,19 +4,16 @@ use Rattle.std.specs.List.{AllByRecursion, list_any}
 use Rattle.std.specs.Option.{option_or}
 use Rattle.std.proofs.Common.{inl, inr, refl, sym, ◌∙◌, ap, subst, arith}
 use Rattle.std.proofs.lemmas.Bool.{eqb-true, eq-eqb, ne_eqb, and_left, and_parts, and_from, or_right}
+use Rattle.std.proofs.Math.Bool.{or-false}
 use Rattle.std.proofs.lemmas.List.{append-nil}
 use Rattle.std.proofs.lemmas.List.Folds.{find-append, list_any-append}
 use Rattle.std.proofs.lemmas.List.Elements.{filter-append}
+use Rattle.geo_base.proofs.Tests.{or_none}
 use Rattle.geo_model.specs.Words.{change_where}
 use Rattle.geo_model.specs.Graph.{AreNumbers}
 use Rattle.geo_model.proofs.DemandLemmas.{find_passes}
 use Rattle.geo_laws_graph.proofs.Members.{has, find-Contains, Contains-map, All-from_contained, Contains-cases, nothing_in}
 use Rattle.geo_laws_graph.proofs.Lists.{changed, find-changed, any-changed, find-kept, find-gone, any-kept, found_fresh, found_itself}
-
--- what stands behind something found
-pub or_none : {X : Type 0} (o : Option X) → option_or o None ≡ o
-or_none None = refl
-or_none (Some x) = refl
 
 -- in a list of one item that doesn't pass nothing is found
 single_miss : {X : Type 0} (test : X → Bool) (y : X) → test y ≡ false → find test (y ∷ []) ≡ None
@@ -37,11 +34,13 @@ filter_hit test y e = rw e refl
 module _ {X : Type 0} (test : X → Bool) (xs : List X) (y : X) where
   -- one more that doesn't pass: what is found and kept is as before
   pub find-pushed : test y ≡ false → find test (xs ++ y ∷ []) ≡ find test xs
-  find-pushed e = find-append test xs (y ∷ []) ∙ ap (option_or (find test xs)) (single_miss test y e) ∙ or_none (find test xs)
+  find-pushed e = find-append test xs (y ∷ []) ∙ ap (option_or (find test xs)) (single_miss test y e)
+      ∙ or_none (find test xs)
 
   -- so what is kept is as before
   pub filter-pushed : test y ≡ false → filter test (xs ++ y ∷ []) ≡ filter test xs
-  filter-pushed e = filter-append test xs (y ∷ []) ∙ ap (λ ys. filter test xs ++ ys) (filter_miss test y e) ∙ append-nil (filter test xs)
+  filter-pushed e = filter-append test xs (y ∷ []) ∙ ap (λ ys. filter test xs ++ ys) (filter_miss test y e)
+      ∙ append-nil (filter test xs)
 
   -- one that passes
   pub filter-pushed_hit : test y ≡ true → filter test (xs ++ y ∷ []) ≡ filter test xs ++ y ∷ []
@@ -53,14 +52,11 @@ module _ {X : Type 0} (test : X → Bool) (xs : List X) (y : X) where
 
   -- with one more some item passes just where one did or the new one does
   pub any-pushed : list_any test (xs ++ y ∷ []) ≡ (list_any test xs || test y)
-  any-pushed = list_any-append test xs (y ∷ []) ∙ ap (λ b. list_any test xs || b) (last (test y)) where
-    -- or false changes no truth value
-    last : (b : Bool) → (b || false) ≡ b
-    last true = refl
-    last false = refl
+  any-pushed = list_any-append test xs (y ∷ []) ∙ ap (λ b. list_any test xs || b) (or-false (test y))
 
 -- nothing is found where none passes
-none_step : {X : Type 0} (test : X → Bool) (x : X) (xs : List X) (b : Bool) → test x ≡ b → (list_any test xs ≡ false → find test xs ≡ None)
+none_step : {X : Type 0} (test : X → Bool) (x : X) (xs : List X) (b : Bool) → test x ≡ b
+    → (list_any test xs ≡ false → find test xs ≡ None)
     → list_any test (x ∷ xs) ≡ false → find test (x ∷ xs) ≡ None
 none_step test x xs true e so none = let bad : true ≡ false = rw e at none in absurd cc
 none_step test x xs false e so none = rw e (so (rw e at none))
@@ -71,7 +67,8 @@ find-none test [] none = refl
 find-none test (x ∷ xs) none = none_step test x xs (test x) refl (λ h. find-none test xs h) none
 
 -- one that is contained and passes
-pub any-contained : {X : Type 0} (test : X → Bool) (xs : List X) (x : X) → Contains xs x → test x ≡ true → list_any test xs ≡ true
+pub any-contained : {X : Type 0} (test : X → Bool) (xs : List X) (x : X) → Contains xs x → test x ≡ true
+    → list_any test xs ≡ true
 any-contained test [] x c e = absurd (nothing_in x c)
 any-contained test (y ∷ xs) x c e =
     elim (Contains-cases y x xs c) [
@@ -85,17 +82,21 @@ module _ {X : Type 0} (number : X → ℕ) where
   at xs n = find (λ (x : X). number x == n) xs
 
   -- each is what is found at its number
-  pub each_found : (next : ℕ) (xs : List X) → AreNumbers (map number xs) next → AllByRecursion (λ (x : X). at xs (number x) ≡ Some x) xs
-  each_found next xs are = All-from_contained (λ (x : X). at xs (number x) ≡ Some x) xs (λ x here. found_itself number next xs x are here)
+  pub each_found : (next : ℕ) (xs : List X) → AreNumbers (map number xs) next
+      → AllByRecursion (λ (x : X). at xs (number x) ≡ Some x) xs
+  each_found next xs are =
+      All-from_contained (λ (x : X). at xs (number x) ≡ Some x) xs (λ x here. found_itself number next xs x are here)
 
   -- what is found at a number has it
   pub number_found : (xs : List X) (n : ℕ) (x : X) → at xs n ≡ Some x → number x ≡ n
   number_found xs n x e = eqb-true (number x) n (find_passes (λ (y : X). number y == n) xs x e)
 
   -- one more of the next number
-  pub at-new : (next : ℕ) (xs : List X) (y : X) → number y ≡ next → AreNumbers (map number xs) next → at (xs ++ y ∷ []) next ≡ Some y
+  pub at-new : (next : ℕ) (xs : List X) (y : X) → number y ≡ next → AreNumbers (map number xs) next
+      → at (xs ++ y ∷ []) next ≡ Some y
   at-new next xs y is are =
-      find-pushed_hit (λ (x : X). number x == next) xs y (found_fresh number next next xs are (omega arith)) (eq-eqb (number y) next is)
+      find-pushed_hit (λ (x : X). number x == next) xs y (found_fresh number next next xs are (omega arith))
+      (eq-eqb (number y) next is)
 
   -- at other numbers the same is found
   pub at-others : (xs : List X) (y : X) (n : ℕ) → n ≢ number y → at (xs ++ y ∷ []) n ≡ at xs n
@@ -107,7 +108,8 @@ module _ {X : Type 0} (number : X → ℕ) where
 
   -- an item of another number stays
   stays_if : (n m : ℕ) → m ≢ n → (x : X) → (number x == m) ≡ true → not (number x == n) ≡ true
-  stays_if n m apart x e = let is = eqb-true (number x) m e in rw (ne_eqb (number x) n (λ same. apart (sym is ∙ same))) refl
+  stays_if n m apart x e = let is = eqb-true (number x) m e in
+      rw (ne_eqb (number x) n (λ same. apart (sym is ∙ same))) refl
 
   -- so at other numbers the same is found
   pub at-kept : (n m : ℕ) → m ≢ n → (xs : List X) → at (filter (λ (x : X). not (number x == n)) xs) m ≡ at xs m
@@ -115,12 +117,15 @@ module _ {X : Type 0} (number : X → ℕ) where
 
   -- a test beside the number
   pub any-kept_at : (test : X → Bool) (n m : ℕ) → m ≢ n → (xs : List X)
-      → list_any (λ (x : X). (number x == m) && test x) (filter (λ (x : X). not (number x == n)) xs) ≡ list_any (λ (x : X). (number x == m) && test x) xs
+      → list_any (λ (x : X). (number x == m) && test x) (filter (λ (x : X). not (number x == n)) xs)
+      ≡ list_any (λ (x : X). (number x == m) && test x) xs
   any-kept_at test n m apart xs =
-      any-kept (λ (x : X). not (number x == n)) (λ (x : X). (number x == m) && test x) (λ x e. stays_if n m apart x (and_parts (number x == m) (test x) e).0) xs
+      any-kept (λ (x : X). not (number x == n)) (λ (x : X). (number x == m) && test x)
+      (λ x e. stays_if n m apart x (and_parts (number x == m) (test x) e).0) xs
 
   -- a test that the one of the number doesn't pass
-  unique_step : (next n : ℕ) (xs : List X) (x : X) → AreNumbers (map number xs) next → at xs n ≡ Some x → (y : X) → Contains xs y → (number y == n) ≡ true → y ≡ x
+  unique_step : (next n : ℕ) (xs : List X) (x : X) → AreNumbers (map number xs) next → at xs n ≡ Some x → (y : X)
+      → Contains xs y → (number y == n) ≡ true → y ≡ x
   unique_step next n xs x are found y here e =
       let is : at xs (number y) ≡ Some y = found_itself number next xs y are here in
       let is_too : at xs n ≡ Some y = subst (λ (m : ℕ). at xs m ≡ Some y) (eqb-true (number y) n e) is in
@@ -129,7 +134,8 @@ module _ {X : Type 0} (number : X → ℕ) where
   -- only what is found at a number has it
   pub unique : (next n : ℕ) (xs : List X) (x : X) → AreNumbers (map number xs) next → at xs n ≡ Some x
       → AllByRecursion (λ (y : X). (number y == n) ≡ true → y ≡ x) xs
-  unique next n xs x are found = All-from_contained (λ (y : X). (number y == n) ≡ true → y ≡ x) xs (unique_step next n xs x are found)
+  unique next n xs x are found =
+      All-from_contained (λ (y : X). (number y == n) ≡ true → y ≡ x) xs (unique_step next n xs x are found)
 
   module _ (change : X → X) (same : (x : X) → number (change x) ≡ number x) (n : ℕ) where
     -- what is changed has the number that it had
@@ -137,7 +143,8 @@ module _ {X : Type 0} (number : X → ℕ) where
     keeps_number m x e = ap (λ k. k == m) (same x)
 
     -- one is changed
-    pub at-here : (xs : List X) (x : X) → at xs n ≡ Some x → at (change_where (λ (y : X). number y == n) change xs) n ≡ Some (change x)
+    pub at-here : (xs : List X) (x : X) → at xs n ≡ Some x
+        → at (change_where (λ (y : X). number y == n) change xs) n ≡ Some (change x)
     at-here xs x found =
         find-changed (λ (y : X). number y == n) change (λ (y : X). number y == n) (keeps_number n) xs
         ∙ ap (option_map (changed (λ (y : X). number y == n) change)) found
@@ -148,7 +155,8 @@ module _ {X : Type 0} (number : X → ℕ) where
         changed_hit e = rw e refl
 
     -- what is found at another number isn't changed
-    unchanged : (m : ℕ) → m ≢ n → (xs : List X) (o : Option X) → at xs m ≡ o → option_map (changed (λ (y : X). number y == n) change) o ≡ o
+    unchanged : (m : ℕ) → m ≢ n → (xs : List X) (o : Option X) → at xs m ≡ o
+        → option_map (changed (λ (y : X). number y == n) change) o ≡ o
     unchanged m apart xs None e = refl
     unchanged m apart xs (Some x) e =
         let is : number x ≡ m = number_found xs m x e in
@@ -156,12 +164,15 @@ module _ {X : Type 0} (number : X → ℕ) where
         rw other refl
 
     -- so at other numbers the same is found
-    pub at-unchanged : (m : ℕ) → m ≢ n → (xs : List X) → at (change_where (λ (y : X). number y == n) change xs) m ≡ at xs m
+    pub at-unchanged : (m : ℕ) → m ≢ n → (xs : List X)
+        → at (change_where (λ (y : X). number y == n) change xs) m ≡ at xs m
     at-unchanged m apart xs =
-        find-changed (λ (y : X). number y == n) change (λ (y : X). number y == m) (keeps_number m) xs ∙ unchanged m apart xs (at xs m) refl
+        find-changed (λ (y : X). number y == n) change (λ (y : X). number y == m) (keeps_number m) xs
+        ∙ unchanged m apart xs (at xs m) refl
 
     -- a test beside another number
-    other_test : (test : X → Bool) (m : ℕ) → m ≢ n → (x : X) → (number x == n) ≡ true → ((number (change x) == m) && test (change x)) ≡ ((number x == m) && test x)
+    other_test : (test : X → Bool) (m : ℕ) → m ≢ n → (x : X) → (number x == n) ≡ true
+        → ((number (change x) == m) && test (change x)) ≡ ((number x == m) && test x)
     other_test test m apart x e =
         let is : number x ≡ n = eqb-true (number x) n e in
         let before : (number x == m) ≡ false = ne_eqb (number x) m (λ k. apart (sym k ∙ is)) in
@@ -170,9 +181,11 @@ module _ {X : Type 0} (number : X → ℕ) where
 
     -- so one of another number passes just where it did
     pub any-unchanged : (test : X → Bool) (m : ℕ) → m ≢ n → (xs : List X)
-        → list_any (λ (x : X). (number x == m) && test x) (change_where (λ (y : X). number y == n) change xs) ≡ list_any (λ (x : X). (number x == m) && test x) xs
+        → list_any (λ (x : X). (number x == m) && test x) (change_where (λ (y : X). number y == n) change xs)
+        ≡ list_any (λ (x : X). (number x == m) && test x) xs
     any-unchanged test m apart xs =
-        any-changed (λ (y : X). number y == n) change (λ (x : X). (number x == m) && test x) (other_test test m apart) xs
+        any-changed (λ (y : X). number y == n) change (λ (x : X). (number x == m) && test x)
+        (other_test test m apart) xs
 
     -- the one that is changed passes
     pub any-here : (test : X → Bool) → ((x : X) → test (change x) ≡ true) → (xs : List X) → IsSome (at xs n)
@@ -183,6 +196,8 @@ module _ {X : Type 0} (number : X → ℕ) where
         let new : changed (λ (y : X). number y == n) change x.item ≡ change x.item = rw e refl in
         let here : Contains (change_where (λ (y : X). number y == n) change xs) (change x.item) =
         subst (Contains (change_where (λ (y : X). number y == n) change xs)) new
-        (Contains-map (changed (λ (y : X). number y == n) change) xs x.item (find-Contains (λ (y : X). number y == n) xs x.item x.is)) in
-        any-contained (λ (y : X). (number y == n) && test y) (change_where (λ (y : X). number y == n) change xs) (change x.item) here
+        (Contains-map (changed (λ (y : X). number y == n) change) xs x.item
+        (find-Contains (λ (y : X). number y == n) xs x.item x.is)) in
+        any-contained (λ (y : X). (number y == n) && test y) (change_where (λ (y : X). number y == n) change xs)
+        (change x.item) here
         (and_from (number (change x.item) == n) (test (change x.item)) (keeps_number n x.item e ∙ e) (so x.item))

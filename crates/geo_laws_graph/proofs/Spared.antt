@@ -12,38 +12,47 @@ module _ {X : Type 0} (hit test : X → Bool) where
     IsUntouched x = hit x ≡ true → (test x ≡ false) × (test (change x) ≡ false)
 
     -- one item more of the walk that finds one
-    find_step : (x : X) (xs : List X) (a b : Bool) → hit x ≡ a → test x ≡ b → IsUntouched x → find test (change_where hit change xs) ≡ find test xs
+    find_step : (x : X) (xs : List X) (a b : Bool) → hit x ≡ a → test x ≡ b → IsUntouched x
+        → find test (change_where hit change xs) ≡ find test xs
         → find test (change_where hit change (x ∷ xs)) ≡ find test (x ∷ xs)
-    find_step x xs true b e f un rest = let both = un e in let before : test x ≡ false = both.0 in let after : test (change x) ≡ false = both.1 in rw (e, after, before) rest
+    find_step x xs true b e f un rest = let both = un e in let before : test x ≡ false = both.0 in
+        let after : test (change x) ≡ false = both.1 in rw (e, after, before) rest
     find_step x xs false true e f un rest = rw (e, f) refl
     find_step x xs false false e f un rest = rw (e, f) rest
 
     -- then what is found, kept and passes is as before
-    pub find-untouched : (xs : List X) → AllByRecursion IsUntouched xs → find test (change_where hit change xs) ≡ find test xs
+    pub find-untouched : (xs : List X) → AllByRecursion IsUntouched xs
+        → find test (change_where hit change xs) ≡ find test xs
     find-untouched [] un = refl
     find-untouched (x ∷ xs) un = find_step x xs (hit x) (test x) refl refl un.0 (find-untouched xs un.1)
 
     -- one item more of those that are kept
-    filter_step : (x : X) (xs : List X) (a b : Bool) → hit x ≡ a → test x ≡ b → IsUntouched x → filter test (change_where hit change xs) ≡ filter test xs
+    filter_step : (x : X) (xs : List X) (a b : Bool) → hit x ≡ a → test x ≡ b → IsUntouched x
+        → filter test (change_where hit change xs) ≡ filter test xs
         → filter test (change_where hit change (x ∷ xs)) ≡ filter test (x ∷ xs)
-    filter_step x xs true b e f un rest = let both = un e in let before : test x ≡ false = both.0 in let after : test (change x) ≡ false = both.1 in rw (e, after, before) rest
+    filter_step x xs true b e f un rest = let both = un e in let before : test x ≡ false = both.0 in
+        let after : test (change x) ≡ false = both.1 in rw (e, after, before) rest
     filter_step x xs false true e f un rest = rw (e, f) (ap (λ ys. x ∷ ys) rest)
     filter_step x xs false false e f un rest = rw (e, f) rest
 
     -- what is kept is as before
-    pub filter-untouched : (xs : List X) → AllByRecursion IsUntouched xs → filter test (change_where hit change xs) ≡ filter test xs
+    pub filter-untouched : (xs : List X) → AllByRecursion IsUntouched xs
+        → filter test (change_where hit change xs) ≡ filter test xs
     filter-untouched [] un = refl
     filter-untouched (x ∷ xs) un = filter_step x xs (hit x) (test x) refl refl un.0 (filter-untouched xs un.1)
 
     -- one item more of the question whether any passes
-    any_step : (x : X) (xs : List X) (a b : Bool) → hit x ≡ a → test x ≡ b → IsUntouched x → list_any test (change_where hit change xs) ≡ list_any test xs
+    any_step : (x : X) (xs : List X) (a b : Bool) → hit x ≡ a → test x ≡ b → IsUntouched x
+        → list_any test (change_where hit change xs) ≡ list_any test xs
         → list_any test (change_where hit change (x ∷ xs)) ≡ list_any test (x ∷ xs)
-    any_step x xs true b e f un rest = let both = un e in let before : test x ≡ false = both.0 in let after : test (change x) ≡ false = both.1 in rw (e, after, before) rest
+    any_step x xs true b e f un rest = let both = un e in let before : test x ≡ false = both.0 in
+        let after : test (change x) ≡ false = both.1 in rw (e, after, before) rest
     any_step x xs false true e f un rest = rw (e, f) refl
     any_step x xs false false e f un rest = rw (e, f) rest
 
     -- some item passes just where one did
-    pub any-untouched : (xs : List X) → AllByRecursion IsUntouched xs → list_any test (change_where hit change xs) ≡ list_any test xs
+    pub any-untouched : (xs : List X) → AllByRecursion IsUntouched xs
+        → list_any test (change_where hit change xs) ≡ list_any test xs
     any-untouched [] un = refl
     any-untouched (x ∷ xs) un = any_step x xs (hit x) (test x) refl refl un.0 (any-untouched xs un.1)
 
@@ -63,13 +72,15 @@ module _ {X : Type 0} (hit test : X → Bool) where
     filter-away so (x ∷ xs) = away_step x xs (hit x) (test x) refl refl (so x) (filter-away so xs)
 
     -- one item more, which didn't pass
-    fewer_step : (x : X) (xs : List X) (a : Bool) → hit x ≡ a → test x ≡ false → (hit x ≡ true → test (change x) ≡ false)
+    fewer_step : (x : X) (xs : List X) (a : Bool) → hit x ≡ a → test x ≡ false
+        → (hit x ≡ true → test (change x) ≡ false)
         → list_any test (change_where hit change xs) ≡ false → list_any test (change_where hit change (x ∷ xs)) ≡ false
     fewer_step x xs true e none so rest = let after : test (change x) ≡ false = so e in rw (e, after) rest
     fewer_step x xs false e none so rest = rw (e, none) rest
 
     -- and where none passed none does
-    pub any-fewer : ((x : X) → hit x ≡ true → test (change x) ≡ false) → (xs : List X) → list_any test xs ≡ false → list_any test (change_where hit change xs) ≡ false
+    pub any-fewer : ((x : X) → hit x ≡ true → test (change x) ≡ false) → (xs : List X) → list_any test xs ≡ false
+        → list_any test (change_where hit change xs) ≡ false
     any-fewer so [] none = refl
     any-fewer so (x ∷ xs) none =
         let parts = or_parts (test x) (list_any test xs) none in
@@ -80,7 +91,8 @@ module _ {X : Type 0} (hit test : X → Bool) where
   IsSpared x = hit x ≡ true → test x ≡ false
 
   -- one item more of the walk that finds one, where it stays or goes
-  found_step : (x : X) (xs : List X) (a b : Bool) → hit x ≡ a → test x ≡ b → IsSpared x → find test (filter (λ y. not (hit y)) xs) ≡ find test xs
+  found_step : (x : X) (xs : List X) (a b : Bool) → hit x ≡ a → test x ≡ b → IsSpared x
+      → find test (filter (λ y. not (hit y)) xs) ≡ find test xs
       → find test (filter (λ y. not (hit y)) (x ∷ xs)) ≡ find test (x ∷ xs)
   found_step x xs true b e f spared rest = let out : test x ≡ false = spared e in rw (e, out) rest
   found_step x xs false true e f spared rest = rw (e, f) refl
@@ -92,25 +104,29 @@ module _ {X : Type 0} (hit test : X → Bool) where
   find-spared (x ∷ xs) spared = found_step x xs (hit x) (test x) refl refl spared.0 (find-spared xs spared.1)
 
   -- one item more of those that are kept, where it stays or goes
-  kept_step : (x : X) (xs : List X) (a b : Bool) → hit x ≡ a → test x ≡ b → IsSpared x → filter test (filter (λ y. not (hit y)) xs) ≡ filter test xs
+  kept_step : (x : X) (xs : List X) (a b : Bool) → hit x ≡ a → test x ≡ b → IsSpared x
+      → filter test (filter (λ y. not (hit y)) xs) ≡ filter test xs
       → filter test (filter (λ y. not (hit y)) (x ∷ xs)) ≡ filter test (x ∷ xs)
   kept_step x xs true b e f spared rest = let out : test x ≡ false = spared e in rw (e, out) rest
   kept_step x xs false true e f spared rest = rw (e, f) (ap (λ ys. x ∷ ys) rest)
   kept_step x xs false false e f spared rest = rw (e, f) rest
 
   -- what is kept is as before
-  pub filter-spared : (xs : List X) → AllByRecursion IsSpared xs → filter test (filter (λ y. not (hit y)) xs) ≡ filter test xs
+  pub filter-spared : (xs : List X) → AllByRecursion IsSpared xs
+      → filter test (filter (λ y. not (hit y)) xs) ≡ filter test xs
   filter-spared [] spared = refl
   filter-spared (x ∷ xs) spared = kept_step x xs (hit x) (test x) refl refl spared.0 (filter-spared xs spared.1)
 
   -- one item more of the question whether any passes, where it stays or goes
-  passes_step : (x : X) (xs : List X) (a b : Bool) → hit x ≡ a → test x ≡ b → IsSpared x → list_any test (filter (λ y. not (hit y)) xs) ≡ list_any test xs
+  passes_step : (x : X) (xs : List X) (a b : Bool) → hit x ≡ a → test x ≡ b → IsSpared x
+      → list_any test (filter (λ y. not (hit y)) xs) ≡ list_any test xs
       → list_any test (filter (λ y. not (hit y)) (x ∷ xs)) ≡ list_any test (x ∷ xs)
   passes_step x xs true b e f spared rest = let out : test x ≡ false = spared e in rw (e, out) rest
   passes_step x xs false true e f spared rest = rw (e, f) refl
   passes_step x xs false false e f spared rest = rw (e, f) rest
 
   -- some item passes just where one did
-  pub any-spared : (xs : List X) → AllByRecursion IsSpared xs → list_any test (filter (λ y. not (hit y)) xs) ≡ list_any test xs
+  pub any-spared : (xs : List X) → AllByRecursion IsSpared xs
+      → list_any test (filter (λ y. not (hit y)) xs) ≡ list_any test xs
   any-spared [] spared = refl
   any-spared (x ∷ xs) spared = passes_step x xs (hit x) (test x) refl refl spared.0 (any-spared xs spared.1)

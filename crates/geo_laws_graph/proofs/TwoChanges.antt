@@ -11,7 +11,8 @@ use Rattle.geo_laws_graph.proofs.Lists.{unhit, none_outside, rise-from}
 
 module _ {X : Type 0} (hit : X → Bool) (change : X → X) where
   -- a change of the last item alone
-  last-changed : (xs : List X) (y : X) → AllByRecursion (λ x. hit x ≡ false) xs → hit y ≡ true → change_where hit change (xs ++ y ∷ []) ≡ xs ++ change y ∷ []
+  last-changed : (xs : List X) (y : X) → AllByRecursion (λ x. hit x ≡ false) xs → hit y ≡ true
+      → change_where hit change (xs ++ y ∷ []) ≡ xs ++ change y ∷ []
   last-changed xs y others here = rw (map-append, here) (ap (λ zs. zs ++ change y ∷ []) (unhit hit change xs others))
 
   module _ (same : (x : X) → hit x ≡ true → hit (change x) ≡ true) where
@@ -33,9 +34,12 @@ module _ {C : Type 0} where
   two-changes = record {
     made = λ t geom p order.
         let before : AllByRecursion (λ (x : Consumer). (x.number == t.next_consumer) ≡ false) t.consumers =
-        none_outside (λ (x : Consumer). x.number) 0 t.next_consumer t.next_consumer t.consumers (rise-from t.next_consumer (map (λ (x : Consumer). x.number) t.consumers) order.consumers) (inr (omega arith)) in
+        none_outside (λ (x : Consumer). x.number) 0 t.next_consumer t.next_consumer t.consumers
+        (rise-from t.next_consumer (map (λ (x : Consumer). x.number) t.consumers) order.consumers)
+        (inr (omega arith)) in
         ap (λ xs. record t { consumers = xs; next_consumer = t.next_consumer + 1 })
-        (last-changed (λ (x : Consumer). x.number == t.next_consumer) (λ x. record x { provider = Some p }) t.consumers (new_consumer t geom None) before (eq-eqb t.next_consumer t.next_consumer refl));
+        (last-changed (λ (x : Consumer). x.number == t.next_consumer) (λ x. record x { provider = Some p })
+        t.consumers (new_consumer t geom None) before (eq-eqb t.next_consumer t.next_consumer refl));
     removed = λ t c.
         ap (λ xs. record t { consumers = xs })
         (changed-gone (λ (x : Consumer). x.number == c) (λ x. record x { provider = None }) (λ x e. e) t.consumers);

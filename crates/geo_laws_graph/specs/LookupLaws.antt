@@ -13,7 +13,15 @@ use Rattle.geo_model.specs.Graph.{AreNumbers, IsInOrder, PartsLive}
 -- what is made by adding
 abbrev pub new_geom : {C : Type 0} → Topology C → Kind → List ℕ → C → Bool → Geom C
 new_geom t kind name config automatic =
-    record { number = t.next_geom; kind = kind; name = name; config = config; automatic = automatic; withering = false; started = 0 }
+    record {
+      number = t.next_geom;
+      kind = kind;
+      name = name;
+      config = config;
+      automatic = automatic;
+      withering = false;
+      started = 0;
+    }
 
 -- a new provider of a geom, of the next number and without an error
 abbrev pub new_provider : {C : Type 0} → Topology C → ℕ → List ℕ → ℕ → ℕ → Provider
@@ -27,8 +35,10 @@ new_consumer t geom provider = record { number = t.next_consumer; geom = geom; p
 -- in lists in order each is what is found at its number
 pub record EachIsFound (C : Type 0) : Type 0 where
   pub geoms : (t : Topology C) → IsInOrder t → AllByRecursion (λ (x : Geom C). geom_at t x.number ≡ Some x) t.geoms
-  pub providers : (t : Topology C) → IsInOrder t → AllByRecursion (λ (x : Provider). provider_at t x.number ≡ Some x) t.providers
-  pub consumers : (t : Topology C) → IsInOrder t → AllByRecursion (λ (x : Consumer). consumer_at t x.number ≡ Some x) t.consumers
+  pub providers : (t : Topology C) → IsInOrder t
+      → AllByRecursion (λ (x : Provider). provider_at t x.number ≡ Some x) t.providers
+  pub consumers : (t : Topology C) → IsInOrder t
+      → AllByRecursion (λ (x : Consumer). consumer_at t x.number ≡ Some x) t.consumers
 
 -- Adding
 
@@ -50,7 +60,8 @@ pub record AddedProviderIsFound (C : Type 0) : Type 0 where
   pub others : (t : Topology C) (geom : ℕ) (name : List ℕ) (size sector p : ℕ) → p ≢ t.next_provider
       → provider_at (add_provider t geom name size sector) p ≡ provider_at t p
   pub own : (t : Topology C) (geom : ℕ) (name : List ℕ) (size sector : ℕ)
-      → providers_of (add_provider t geom name size sector) geom ≡ providers_of t geom ++ new_provider t geom name size sector ∷ []
+      → providers_of (add_provider t geom name size sector) geom ≡ providers_of t geom
+      ++ new_provider t geom name size sector ∷ []
   pub others_of : (t : Topology C) (geom : ℕ) (name : List ℕ) (size sector g : ℕ) → g ≢ geom
       → providers_of (add_provider t geom name size sector) g ≡ providers_of t g
   pub errors : (t : Topology C) (geom : ℕ) (name : List ℕ) (size sector p : ℕ)
@@ -59,7 +70,8 @@ pub record AddedProviderIsFound (C : Type 0) : Type 0 where
       → is_name_taken (add_provider t geom name size sector) other ≡ (is_name_taken t other || same_name name other)
   pub named : (t : Topology C) (geom : ℕ) (name : List ℕ) (size sector : ℕ) → is_name_taken t name ≡ false
       → find_provider (add_provider t geom name size sector) name ≡ Some t.next_provider
-  pub other_names : (t : Topology C) (geom : ℕ) (name : List ℕ) (size sector : ℕ) (other : List ℕ) → same_name name other ≡ false
+  pub other_names : (t : Topology C) (geom : ℕ) (name : List ℕ) (size sector : ℕ) (other : List ℕ)
+      → same_name name other ≡ false
       → find_provider (add_provider t geom name size sector) other ≡ find_provider t other
   pub order : (t : Topology C) (geom : ℕ) (name : List ℕ) (size sector : ℕ) → IsInOrder t
       → IsInOrder (add_provider t geom name size sector)
@@ -95,10 +107,12 @@ pub record RemovedGeomIsGone (C : Type 0) : Type 0 where
 pub record RemovedProviderIsGone (C : Type 0) : Type 0 where
   pub gone : (t : Topology C) (p : ℕ) → provider_at (remove_provider t p) p ≡ None
   pub others : (t : Topology C) (p q : ℕ) → q ≢ p → provider_at (remove_provider t p) q ≡ provider_at t q
-  pub of : (t : Topology C) (p g : ℕ) → providers_of (remove_provider t p) g ≡ filter (λ x. not (x.number == p)) (providers_of t g)
+  pub of : (t : Topology C) (p g : ℕ)
+      → providers_of (remove_provider t p) g ≡ filter (λ x. not (x.number == p)) (providers_of t g)
   pub errors : (t : Topology C) (p q : ℕ) → q ≢ p → is_errored (remove_provider t p) q ≡ is_errored t q
   pub taken : (t : Topology C) (p : ℕ) (x : Provider) (name : List ℕ) → IsInOrder t → provider_at t p ≡ Some x
-      → (not x.errored && same_name x.name name) ≡ false → is_name_taken (remove_provider t p) name ≡ is_name_taken t name
+      → (not x.errored && same_name x.name name) ≡ false
+      → is_name_taken (remove_provider t p) name ≡ is_name_taken t name
   pub other_names : (t : Topology C) (p : ℕ) (x : Provider) (name : List ℕ) → IsInOrder t → provider_at t p ≡ Some x
       → same_name x.name name ≡ false → find_provider (remove_provider t p) name ≡ find_provider t name
   pub order : (t : Topology C) (p : ℕ) → IsInOrder t → IsInOrder (remove_provider t p)
@@ -107,8 +121,10 @@ pub record RemovedProviderIsGone (C : Type 0) : Type 0 where
 pub record RemovedConsumerIsGone (C : Type 0) : Type 0 where
   pub gone : (t : Topology C) (c : ℕ) → consumer_at (remove_consumer t c) c ≡ None
   pub others : (t : Topology C) (c d : ℕ) → d ≢ c → consumer_at (remove_consumer t c) d ≡ consumer_at t d
-  pub of : (t : Topology C) (c g : ℕ) → consumers_of (remove_consumer t c) g ≡ filter (λ x. not (x.number == c)) (consumers_of t g)
-  pub at : (t : Topology C) (c p : ℕ) → attached_to (remove_consumer t c) p ≡ filter (λ x. not (x.number == c)) (attached_to t p)
+  pub of : (t : Topology C) (c g : ℕ)
+      → consumers_of (remove_consumer t c) g ≡ filter (λ x. not (x.number == c)) (consumers_of t g)
+  pub at : (t : Topology C) (c p : ℕ)
+      → attached_to (remove_consumer t c) p ≡ filter (λ x. not (x.number == c)) (attached_to t p)
   pub under : (t : Topology C) (c g : ℕ) (x : Consumer) → IsInOrder t → consumer_at t c ≡ Some x → x.geom ≢ g
       → providers_under (remove_consumer t c) g ≡ providers_under t g
   pub order : (t : Topology C) (c : ℕ) → IsInOrder t → IsInOrder (remove_consumer t c)
@@ -121,8 +137,10 @@ pub record AttachedIsFound (C : Type 0) : Type 0 where
       → consumer_at (attach t c p) c ≡ Some (record x { provider = Some p })
   pub others : (t : Topology C) (c p d : ℕ) → d ≢ c → consumer_at (attach t c p) d ≡ consumer_at t d
   pub of : (t : Topology C) (c p g : ℕ)
-      → consumers_of (attach t c p) g ≡ change_where (λ x. x.number == c) (λ x. record x { provider = Some p }) (consumers_of t g)
-  pub elsewhere : (t : Topology C) (c p q : ℕ) → q ≢ p → attached_to (attach t c p) q ≡ filter (λ x. not (x.number == c)) (attached_to t q)
+      → consumers_of (attach t c p) g
+      ≡ change_where (λ x. x.number == c) (λ x. record x { provider = Some p }) (consumers_of t g)
+  pub elsewhere : (t : Topology C) (c p q : ℕ) → q ≢ p
+      → attached_to (attach t c p) q ≡ filter (λ x. not (x.number == c)) (attached_to t q)
   pub under : (t : Topology C) (c p g : ℕ) (x : Consumer) → IsInOrder t → consumer_at t c ≡ Some x → x.geom ≢ g
       → providers_under (attach t c p) g ≡ providers_under t g
   pub order : (t : Topology C) (c p : ℕ) → IsInOrder t → IsInOrder (attach t c p)
@@ -133,14 +151,15 @@ pub record DetachedIsFound (C : Type 0) : Type 0 where
       → consumer_at (detach t c) c ≡ Some (record x { provider = None })
   pub others : (t : Topology C) (c d : ℕ) → d ≢ c → consumer_at (detach t c) d ≡ consumer_at t d
   pub of : (t : Topology C) (c g : ℕ)
-      → consumers_of (detach t c) g ≡ change_where (λ x. x.number == c) (λ x. record x { provider = None }) (consumers_of t g)
+      → consumers_of (detach t c) g
+      ≡ change_where (λ x. x.number == c) (λ x. record x { provider = None }) (consumers_of t g)
   pub at : (t : Topology C) (c p : ℕ) → attached_to (detach t c) p ≡ filter (λ x. not (x.number == c)) (attached_to t p)
   pub under : (t : Topology C) (c g : ℕ) (x : Consumer) → IsInOrder t → consumer_at t c ≡ Some x → x.geom ≢ g
       → providers_under (detach t c) g ≡ providers_under t g
   pub order : (t : Topology C) (c : ℕ) → IsInOrder t → IsInOrder (detach t c)
 
--- a consumer that is made and then attached is one that is made attached, and one that is detached and then removed is one that
--- is removed: so two calls make the one change that a step of the mesh speaks of
+-- a consumer that is made and then attached is one that is made attached, and one that is detached and then removed
+-- is one that is removed: so two calls make the one change that a step of the mesh speaks of
 pub record TwoChangesAreOne (C : Type 0) : Type 0 where
   pub made : (t : Topology C) (geom p : ℕ) → IsInOrder t
       → attach (add_consumer t geom None) t.next_consumer p ≡ add_consumer t geom (Some p)
@@ -152,10 +171,12 @@ pub record ErrorIsFound (C : Type 0) : Type 0 where
       → provider_at (set_error t p) p ≡ Some (record x { errored = true })
   pub others : (t : Topology C) (p q : ℕ) → q ≢ p → provider_at (set_error t p) q ≡ provider_at t q
   pub of : (t : Topology C) (p g : ℕ)
-      → providers_of (set_error t p) g ≡ change_where (λ x. x.number == p) (λ x. record x { errored = true }) (providers_of t g)
+      → providers_of (set_error t p) g
+      ≡ change_where (λ x. x.number == p) (λ x. record x { errored = true }) (providers_of t g)
   pub errored : (t : Topology C) (p : ℕ) → IsSome (provider_at t p) → is_errored (set_error t p) p ≡ true
   pub other_errors : (t : Topology C) (p q : ℕ) → q ≢ p → is_errored (set_error t p) q ≡ is_errored t q
-  pub free : (t : Topology C) (p : ℕ) (name : List ℕ) → is_name_taken t name ≡ false → is_name_taken (set_error t p) name ≡ false
+  pub free : (t : Topology C) (p : ℕ) (name : List ℕ) → is_name_taken t name ≡ false
+      → is_name_taken (set_error t p) name ≡ false
   pub taken : (t : Topology C) (p : ℕ) (x : Provider) (name : List ℕ) → IsInOrder t → provider_at t p ≡ Some x
       → same_name x.name name ≡ false → is_name_taken (set_error t p) name ≡ is_name_taken t name
   pub other_names : (t : Topology C) (p : ℕ) (x : Provider) (name : List ℕ) → IsInOrder t → provider_at t p ≡ Some x
@@ -168,10 +189,13 @@ pub record SizeIsFound (C : Type 0) : Type 0 where
       → provider_at (set_size t p size) p ≡ Some (record x { size = size })
   pub others : (t : Topology C) (p size q : ℕ) → q ≢ p → provider_at (set_size t p size) q ≡ provider_at t q
   pub of : (t : Topology C) (p size g : ℕ)
-      → providers_of (set_size t p size) g ≡ change_where (λ x. x.number == p) (λ x. record x { size = size }) (providers_of t g)
+      → providers_of (set_size t p size) g
+      ≡ change_where (λ x. x.number == p) (λ x. record x { size = size }) (providers_of t g)
   pub errors : (t : Topology C) (p size q : ℕ) → is_errored (set_size t p size) q ≡ is_errored t q
-  pub taken : (t : Topology C) (p size : ℕ) (name : List ℕ) → is_name_taken (set_size t p size) name ≡ is_name_taken t name
-  pub named : (t : Topology C) (p size : ℕ) (name : List ℕ) → find_provider (set_size t p size) name ≡ find_provider t name
+  pub taken : (t : Topology C) (p size : ℕ) (name : List ℕ)
+      → is_name_taken (set_size t p size) name ≡ is_name_taken t name
+  pub named : (t : Topology C) (p size : ℕ) (name : List ℕ)
+      → find_provider (set_size t p size) name ≡ find_provider t name
   pub order : (t : Topology C) (p size : ℕ) → IsInOrder t → IsInOrder (set_size t p size)
 
 -- a geom that withers is found so
@@ -185,16 +209,20 @@ pub record WitheringIsFound (C : Type 0) : Type 0 where
 
 -- marks are found at the consumers that pass, and change nothing else
 pub record MarksAreFound (C : Type 0) : Type 0 where
-  pub at : (t : Topology C) (test : Consumer → Bool) (mark : Bool) (c : ℕ) (x : Consumer) → consumer_at t c ≡ Some x → test x ≡ true
+  pub at : (t : Topology C) (test : Consumer → Bool) (mark : Bool) (c : ℕ) (x : Consumer)
+      → consumer_at t c ≡ Some x → test x ≡ true
       → consumer_at (set_marks t test mark) c ≡ Some (record x { spoiled = mark })
-  pub others : (t : Topology C) (test : Consumer → Bool) (mark : Bool) (c : ℕ) (x : Consumer) → consumer_at t c ≡ Some x → test x ≡ false
+  pub others : (t : Topology C) (test : Consumer → Bool) (mark : Bool) (c : ℕ) (x : Consumer)
+      → consumer_at t c ≡ Some x → test x ≡ false
       → consumer_at (set_marks t test mark) c ≡ Some x
-  pub none : (t : Topology C) (test : Consumer → Bool) (mark : Bool) (c : ℕ) → consumer_at t c ≡ None → consumer_at (set_marks t test mark) c ≡ None
+  pub none : (t : Topology C) (test : Consumer → Bool) (mark : Bool) (c : ℕ) → consumer_at t c ≡ None
+      → consumer_at (set_marks t test mark) c ≡ None
   pub of : (t : Topology C) (test : Consumer → Bool) (mark : Bool) (g : ℕ)
       → consumers_of (set_marks t test mark) g ≡ change_where test (λ x. record x { spoiled = mark }) (consumers_of t g)
   pub attached : (t : Topology C) (test : Consumer → Bool) (mark : Bool) (p : ℕ)
       → attached_to (set_marks t test mark) p ≡ change_where test (λ x. record x { spoiled = mark }) (attached_to t p)
-  pub under : (t : Topology C) (test : Consumer → Bool) (mark : Bool) (g : ℕ) → providers_under (set_marks t test mark) g ≡ providers_under t g
+  pub under : (t : Topology C) (test : Consumer → Bool) (mark : Bool) (g : ℕ)
+      → providers_under (set_marks t test mark) g ≡ providers_under t g
   pub order : (t : Topology C) (test : Consumer → Bool) (mark : Bool) → IsInOrder t → IsInOrder (set_marks t test mark)
 
 -- another configuration is found at the geom
@@ -202,7 +230,8 @@ pub record ConfigIsFound (C : Type 0) : Type 0 where
   pub here : (t : Topology C) (g : ℕ) (config : C) (x : Geom C) → geom_at t g ≡ Some x
       → geom_at (set_config t g config) g ≡ Some (record x { config = config })
   pub others : (t : Topology C) (g : ℕ) (config : C) (h : ℕ) → h ≢ g → geom_at (set_config t g config) h ≡ geom_at t h
-  pub withering : (t : Topology C) (g : ℕ) (config : C) (h : ℕ) → is_withering (set_config t g config) h ≡ is_withering t h
+  pub withering : (t : Topology C) (g : ℕ) (config : C) (h : ℕ)
+      → is_withering (set_config t g config) h ≡ is_withering t h
   pub order : (t : Topology C) (g : ℕ) (config : C) → IsInOrder t → IsInOrder (set_config t g config)
 
 -- and one more request started
@@ -227,7 +256,8 @@ seen_geom see x = record {
 
 -- configurations that are seen otherwise: each geom is found so
 pub record SeenGeomIsFound (C D : Type 0) : Type 0 where
-  pub at : (see : C → D) (t : Topology C) (g : ℕ) → geom_at (with_configs see t) g ≡ option_map (seen_geom see) (geom_at t g)
+  pub at : (see : C → D) (t : Topology C) (g : ℕ)
+      → geom_at (with_configs see t) g ≡ option_map (seen_geom see) (geom_at t g)
   pub withering : (see : C → D) (t : Topology C) (g : ℕ) → is_withering (with_configs see t) g ≡ is_withering t g
   pub order : (see : C → D) (t : Topology C) → IsInOrder t → IsInOrder (with_configs see t)
 
@@ -245,7 +275,8 @@ pub record IsStep {X : Type 0} (number : X → ℕ) (xs : List X) (next from_num
   pub past : from_number ≤ n
   pub known : n < next
 
--- a walk over a list in order of numbers, each time to the first number that isn't below one more than the last, meets each item once
+-- a walk over a list in order of numbers, each time to the first number that isn't below one more than the last,
+-- meets each item once
 pub record WalksMeetAll (X : Type 0) : Type 0 where
   pub begin : (number : X → ℕ) (xs : List X) → left_from number 0 xs ≡ xs
   pub step : (number : X → ℕ) (xs : List X) (next from_number n : ℕ) → AreNumbers (map number xs) next
@@ -260,12 +291,15 @@ pub record WalksMeetAll (X : Type 0) : Type 0 where
 
 -- what a look-up finds lives, and what is found by a name has it
 pub record WhatIsFoundLives (C : Type 0) : Type 0 where
-  pub geom : (t : Topology C) (from_number g : ℕ) → IsInOrder t → option_map (λ x. x.number) (find (λ x. nat_le from_number x.number) t.geoms) ≡ Some g
+  pub geom : (t : Topology C) (from_number g : ℕ) → IsInOrder t
+      → option_map (λ x. x.number) (find (λ x. nat_le from_number x.number) t.geoms) ≡ Some g
       → IsSome (geom_at t g)
   pub provider : (t : Topology C) (from_number p : ℕ) → IsInOrder t
-      → option_map (λ x. x.number) (find (λ x. nat_le from_number x.number) t.providers) ≡ Some p → IsSome (provider_at t p)
+      → option_map (λ x. x.number) (find (λ x. nat_le from_number x.number) t.providers) ≡ Some p
+      → IsSome (provider_at t p)
   pub consumer : (t : Topology C) (from_number c : ℕ) → IsInOrder t
-      → option_map (λ x. x.number) (find (λ x. nat_le from_number x.number) t.consumers) ≡ Some c → IsSome (consumer_at t c)
+      → option_map (λ x. x.number) (find (λ x. nat_le from_number x.number) t.consumers) ≡ Some c
+      → IsSome (consumer_at t c)
   pub named : (t : Topology C) (name : List ℕ) (p : ℕ) → IsInOrder t → find_provider t name ≡ Some p
       → IsSomeAnd (provider_at t p) (λ x. same_name x.name name ≡ true)
 
@@ -273,11 +307,14 @@ pub record WhatIsFoundLives (C : Type 0) : Type 0 where
 pub record PartsStayAlive (C : Type 0) : Type 0 where
   pub geom_added : (t : Topology C) (kind : Kind) (name : List ℕ) (config : C) (automatic : Bool) → PartsLive t
       → PartsLive (add_geom t kind name config automatic)
-  pub provider_added : (t : Topology C) (geom : ℕ) (name : List ℕ) (size sector : ℕ) → IsSome (geom_at t geom) → PartsLive t
+  pub provider_added : (t : Topology C) (geom : ℕ) (name : List ℕ) (size sector : ℕ) → IsSome (geom_at t geom)
+      → PartsLive t
       → PartsLive (add_provider t geom name size sector)
-  pub consumer_added : (t : Topology C) (geom : ℕ) (o : Option ℕ) → IsSome (geom_at t geom) → IfSome o (λ p. IsSome (provider_at t p))
+  pub consumer_added : (t : Topology C) (geom : ℕ) (o : Option ℕ) → IsSome (geom_at t geom)
+      → IfSome o (λ p. IsSome (provider_at t p))
       → PartsLive t → PartsLive (add_consumer t geom o)
-  pub geom_removed : (t : Topology C) (g : ℕ) → providers_of t g ≡ [] → consumers_of t g ≡ [] → PartsLive t → PartsLive (remove_geom t g)
+  pub geom_removed : (t : Topology C) (g : ℕ) → providers_of t g ≡ [] → consumers_of t g ≡ [] → PartsLive t
+      → PartsLive (remove_geom t g)
   pub provider_removed : (t : Topology C) (p : ℕ) → attached_to t p ≡ [] → PartsLive t → PartsLive (remove_provider t p)
   pub consumer_removed : (t : Topology C) (c : ℕ) → PartsLive t → PartsLive (remove_consumer t c)
   pub attached : (t : Topology C) (c p : ℕ) → IsSome (provider_at t p) → PartsLive t → PartsLive (attach t c p)

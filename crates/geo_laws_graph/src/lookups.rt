@@ -51,12 +51,13 @@ pub fn changed_geom_is_found<C>()
 {}
 
 /// In a graph whose configurations are seen otherwise each geom is found so.
+#[tactic(auto, using(crate::proofs::Found::seen_found))]
 pub fn seen_geom_is_found<C, D>()
     ensures { SeenGeomIsFound C D }
 {}
 
-/// A walk over a list in order of numbers, each time to the first number that isn't below one more than the last, meets each
-/// item once.
+/// A walk over a list in order of numbers, each time to the first number that isn't below one more than the last,
+/// meets each item once.
 pub fn walks_meet_all<X>()
     ensures { WalksMeetAll X }
 {}

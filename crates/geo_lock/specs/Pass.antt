@@ -9,7 +9,8 @@ use Rattle.geo_lock.specs.declared.view.View.{View}
 use Rattle.geo_lock.specs.Logged.{entries_of}
 use Rattle.geo_lock.specs.View.{a_claim, resting}
 
--- the yard, the start of its state, the pass's number, what it has seen of the log, its own entries, and for the pass 0 how many passes were made
+-- the yard, the start of its state, the pass's number, what it has seen of the log, its own entries, and for the pass
+-- 0 how many passes were made
 pub record PassView (B E : Type 0) : Type 0 where
   pub yard : TableId
   pub start : Option B
@@ -27,7 +28,8 @@ module _ {B E : Type 0} where
   abbrev pub claim_of : PassView B E → Claim E
   claim_of p = a_claim p.number p.own p.seen
 
-  -- what the pass has seen begins the log, and its own entries are those of the log with its number, in order, all of them among what it has seen
+  -- what the pass has seen begins the log, and its own entries are those of the log with its number, in order, all of
+  -- them among what it has seen
   pub record IsGoodIn (seat_of : E → ℕ) (p : PassView B E) (log : List E) : Type 0 where
     pub seen : IsPrefix p.seen log
     pub own : entries_of seat_of p.number log ≡ p.own
@@ -46,7 +48,8 @@ module _ {B E : Type 0} where
     pub made : q.made ≡ p.made
 
 -- what a pass keeps of its seat, out of turn
-pub record IsSound {S B E : Type 0} (lawful : B → List E → Type 0) (seat_of : E → ℕ) (b : B) (number made : ℕ) (me : Me S (View B E)) : Type 0 where
+pub record IsSound {S B E : Type 0} (lawful : B → List E → Type 0) (seat_of : E
+    → ℕ) (b : B) (number made : ℕ) (me : Me S (View B E)) : Type 0 where
   pub me_is : me ≡ (resting b number (own_of me.0.claims) me.0.seen made, [])
   pub own : entries_of seat_of number me.0.seen ≡ own_of me.0.claims
   pub law : lawful b me.0.seen

@@ -50,4 +50,5 @@ module _ {B E : Type 0} where
 
   -- out of turn, with the log seen and its own entries in it
   abbrev pub out_of_turn : (E → ℕ) → View B E → List E → View B E
-  out_of_turn seat_of v h = let n = first_number v.claims in a_view v.start h (a_claim n (entries_of seat_of n h) h ∷ []) v.made false
+  out_of_turn seat_of v h = let n = first_number v.claims in
+      a_view v.start h (a_claim n (entries_of seat_of n h) h ∷ []) v.made false

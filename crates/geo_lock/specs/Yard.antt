@@ -19,7 +19,8 @@ module _ {B E : Type 0} where
     pub yard : p.yard ≡ y.yard
     pub start : p.start ≡ Some y.start
 
-  -- the entry ends what the pass has seen now, and is one more of its own. What it had seen begins the log before the entry, of which `then` holds
+  -- the entry ends what the pass has seen now, and is one more of its own. What it had seen begins the log before the
+  -- entry, of which `then` holds
   pub record Makes (p q : PassView B E) (e : E) (then : List E → Type 0) : Type 0 where
     pub before : List E
     pub ends : q.seen ≡ before ++ e ∷ []
@@ -33,8 +34,10 @@ module _ {B E : Type 0} where
     pub of_yard : (k : ℕ) (p : PassView B E) → slice_get ps k ≡ Some p → IsPassOf y p × (p.number ≡ k)
     pub count : (p : PassView B E) → slice_get ps 0 ≡ Some p → p.made ≡ length ps
 
--- the state at the end: it has the yard's start, its log is lawful, each pass is good in it, and each entry has the number of a pass of the list
-pub record IsEnd {L B E : Type 0} (start : L → B) (log : L → List E) (lawful : B → List E → Type 0) (seat_of : E → ℕ) (y : YardView B) (ps : List (PassView B E)) (x : L) : Type 0 where
+-- the state at the end: it has the yard's start, its log is lawful, each pass is good in it, and each entry has the
+-- number of a pass of the list
+pub record IsEnd {L B E : Type 0} (start : L → B) (log : L → List E) (lawful : B → List E → Type 0) (seat_of : E
+    → ℕ) (y : YardView B) (ps : List (PassView B E)) (x : L) : Type 0 where
   pub begun : start x ≡ y.start
   pub law : lawful y.start (log x)
   pub good : All (λ p. IsGoodIn seat_of p (log x)) ps

@@ -57,5 +57,6 @@ pub trait Logged {
         ensures sure { takes_no_memory (start self.old) (log self.old) seat step ≡ true
             → lacks_memory is_no_memory result ≡ false };
 
-    ghost seat_is: { (seat : ℕ) (step : Self.Step) (outcome : Self.Outcome) → seat_of (entry seat step outcome) ≡ seat };
+    ghost seat_is: { (seat : ℕ) (step : Self.Step) (outcome : Self.Outcome)
+        → seat_of (entry seat step outcome) ≡ seat };
 }

@@ -26,7 +26,15 @@ impl<L: Logged> Model for Pass<L> {
 
     ghost Value = { PassView L.Start L.Entry };
 
-    ghost view = { λ p. record { yard = p.seat.table_id; start = p.seat.me.0.start; number = p.number; seen = p.seat.me.0.seen; own = own_of p.seat.me.0.claims; made = p.made } };
+    ghost view = { λ p. record {
+      yard = p.seat.table_id;
+      start = p.seat.me.0.start;
+      number = p.number;
+      seen =
+          p.seat.me.0.seen;
+      own = own_of p.seat.me.0.claims;
+      made = p.made;
+    } };
 
     ghost invariant = { λ p. (b : L.Start) × IsSound L.lawful L.seat_of b p.number p.made p.seat.me };
 }

@@ -148,7 +148,8 @@ impl<L: Logged> Yard<L> {
         requires own { seat.old.table_id ≡ self.now.yard }
         requires turn { (seat.old.me.0.turn ≡ true) × (seat.old.me.1 ≡ (0, None) ∷ []) }
         requires start { seat.old.me.0.start ≡ Some (L.start state) }
-        requires grows { (c : Claim L.Entry) × (seat.old.me.0.claims ≡ c ∷ []) × Grows L.seat_of c.number seat.old.me.0.seen (L.log state) }
+        requires grows { (c : Claim L.Entry) × (seat.old.me.0.claims ≡ c ∷ [])
+            × Grows L.seat_of c.number seat.old.me.0.seen (L.log state) }
         requires law { L.lawful (L.start state) (L.log state) × (length (L.log state) ≤ 2 ^ 62) }
         requires word { word ≡ 2 * length (L.log state) }
         ensures same { (seat.new.table_id ≡ seat.old.table_id) × (seat.new.id ≡ seat.old.id) }
@@ -197,10 +198,13 @@ impl<L: Logged> Yard<L> {
     // Joins the passes to the first one.
     fn join_all(&self, seat: &mut Seat<Option<L>, View<L::Start, L::Entry>>, others: Vec<Pass<L>>)
         requires own { seat.old.table_id ≡ self.now.yard }
-        requires of_yard { (k : ℕ) (p : PassView L.Start L.Entry) → slice_get others.items k ≡ Some p → p.yard ≡ self.now.yard }
-        requires first { (seat.old.me.1 ≡ []) × ((c : Claim L.Entry) × (get_elem? seat.old.me.0.claims 0 ≡ some c) × (c.number ≡ 0)) }
+        requires of_yard { (k : ℕ) (p : PassView L.Start L.Entry) → slice_get others.items k ≡ Some p
+            → p.yard ≡ self.now.yard }
+        requires first { (seat.old.me.1 ≡ [])
+            × ((c : Claim L.Entry) × (get_elem? seat.old.me.0.claims 0 ≡ some c) × (c.number ≡ 0)) }
         ensures same { (seat.new.table_id ≡ seat.old.table_id) × (seat.new.id ≡ seat.old.id) }
-        ensures joined { seat.new.me ≡ (with_claims seat.old.me.0 (seat.old.me.0.claims ++ map claim_of others.items), []) }
+        ensures joined { seat.new.me
+            ≡ (with_claims seat.old.me.0 (seat.old.me.0.claims ++ map claim_of others.items), []) }
     {
         for pass in others {
             let other = pass.into_seat();

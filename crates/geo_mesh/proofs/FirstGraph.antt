@@ -31,7 +31,11 @@ module _ {C : Type 0} where
 
   -- and has no parts
   none_live : PartsLive (no_graph {C = C})
-  none_live = record { offerers = λ k d less. absurd (omega arith); geoms = λ k d less. absurd (omega arith); providers = λ k d less. absurd (omega arith) }
+  none_live = record {
+    offerers = λ k d less. absurd (omega arith);
+    geoms = λ k d less. absurd (omega arith);
+    providers = λ k d less. absurd (omega arith);
+  }
 
   -- the graph with which a mesh begins is orderly
   pub orderly-first : (dev taste : C) → IsOrderly (with_taste dev taste)
@@ -39,16 +43,20 @@ module _ {C : Type 0} where
       let added : AddedGeomIsFound C = added-geom in
       let alive : PartsStayAlive C = parts-alive in
       record {
-        order = added.order (with_dev dev) kinds.Taste (codes "taste") taste false (added.order no_graph kinds.Dev (codes "dev") dev false none_in_order);
+        order = added.order (with_dev dev) kinds.Taste (codes "taste") taste false
+            (added.order no_graph kinds.Dev (codes "dev") dev false none_in_order);
         numbers = record {
-          geoms = All-push (λ (x : Geom C). 1 ≤ x.number) (with_dev dev).geoms _ (All-push (λ (x : Geom C). 1 ≤ x.number) [] _ (All-nil (λ (x : Geom C). 1 ≤ x.number)) (omega arith)) (omega arith);
+          geoms = All-push (λ (x : Geom C). 1 ≤ x.number) (with_dev dev).geoms _
+              (All-push (λ (x : Geom C). 1 ≤ x.number) [] _ (All-nil (λ (x : Geom C). 1 ≤ x.number)) (omega arith))
+              (omega arith);
           providers = λ k d less. absurd (omega arith);
           consumers = λ k d less. absurd (omega arith);
           next_geom = record { some = omega arith; fits = omega arith };
           next_provider = record { some = omega arith; fits = omega arith };
           next_consumer = record { some = omega arith; fits = omega arith };
         };
-        parts = alive.geom_added (with_dev dev) kinds.Taste (codes "taste") taste false (alive.geom_added no_graph kinds.Dev (codes "dev") dev false none_live);
+        parts = alive.geom_added (with_dev dev) kinds.Taste (codes "taste") taste false
+            (alive.geom_added no_graph kinds.Dev (codes "dev") dev false none_live);
         first = record { dev = refl; taste = refl };
         offers = All-nil IsOffer;
       }

@@ -12,12 +12,8 @@ use Rattle.geo_model.specs.Sound.{DifferInName}
 use Rattle.geo_laws_graph.proofs.Members.{Has, has, All-from_contained, at_contained, Contains-filter, Contains-filter_map, Contains-map, largest-above, nothing_in}
 use Rattle.geo_slots.specs.Slots.{SlotsView}
 use Rattle.geo_mesh.specs.declared.records.GeomCell.{GeomCell}
-use Rattle.geo_mesh.specs.declared.records.ProvCell.{ProvCell}
-use Rattle.geo_mesh.specs.declared.records.ConsCell.{ConsCell}
 use Rattle.geo_mesh.specs.declared.tables.Edges.{Edges}
 use Rattle.geo_mesh.specs.declared.tables.Tables.{Tables}
-use Rattle.geo_mesh.specs.declared.index.Index.{Index}
-use Rattle.geo_mesh.specs.declared.names.Names.{Names}
 use Rattle.geo_mesh.specs.Cells.{graph_of, graph, provider_row}
 use Rattle.geo_mesh.specs.Graph.{IsSoundGraph}
 use Rattle.geo_mesh.specs.Names.{OneEach, is_sound_named}
@@ -34,43 +30,68 @@ map_same f h same (x ∷ xs) = rw (same x, map_same f h same xs) refl
 
 -- Ranks
 
-module _ {C : Type 0} (gs : SlotsView (GeomCell C)) (edges : Edges) (live : ℕ) (mesh : HaveRanks gs edges live) (first : HaveDevAndTaste gs edges) where
+module _ {C : Type 0} (gs : SlotsView (GeomCell C)) (edges : Edges) (live : ℕ) (mesh : HaveRanks gs edges live)
+    (first : HaveDevAndTaste gs edges) where
   -- a rank is one more than the highest below
-  rank-above : (g : ℕ) → rank (graph_of gs edges) g ≡ 1 + largest (map (rank (graph_of gs edges)) (geoms_under (graph_of gs edges) g))
+  rank-above : (g : ℕ)
+      → rank (graph_of gs edges) g ≡ 1 + largest (map (rank (graph_of gs edges)) (geoms_under (graph_of gs edges) g))
   rank-above g =
       rank_from-rank gs edges live mesh first g
       ∙ rank_from-local edges first.bare (stored gs) mesh.standing.local g
-      ∙ ap (λ n. 1 + largest n) (sym (map_same (rank (graph_of gs edges)) (rank_from (stored gs) edges) (rank_from-rank gs edges live mesh first) (below edges g)))
+      ∙ ap (λ n. 1 + largest n)
+      (sym (map_same (rank (graph_of gs edges)) (rank_from (stored gs) edges)
+      (rank_from-rank gs edges live mesh first) (below edges g)))
       ∙ ap (λ hs. 1 + largest (map (rank (graph_of gs edges)) hs)) (sym (under-graph gs edges g))
 
   -- the geom of a provider to which a consumer is attached is below the consumer's geom
-  under_consumer : (c : Consumer) (p : ℕ) (x : Provider) → Contains (graph_of gs edges).consumers c → c.provider ≡ Some p → provider_at (graph_of gs edges) p ≡ Some x
+  under_consumer : (c : Consumer) (p : ℕ) (x : Provider) → Contains (graph_of gs edges).consumers c
+      → c.provider ≡ Some p → provider_at (graph_of gs edges) p ≡ Some x
       → Contains (geoms_under (graph_of gs edges) c.geom) x.geom
   under_consumer c p x here attached found =
-      Contains-filter_map (λ q. option_map (λ (y : Provider). y.geom) (provider_at (graph_of gs edges) q)) (providers_under (graph_of gs edges) c.geom) p x.geom
+      Contains-filter_map (λ q. option_map (λ (y : Provider). y.geom) (provider_at (graph_of gs edges) q))
+      (providers_under (graph_of gs edges) c.geom) p x.geom
       (Contains-filter_map (λ (d : Consumer). d.provider) (consumers_of (graph_of gs edges) c.geom) c p
-      (Contains-filter (λ (d : Consumer). d.geom == c.geom) (graph_of gs edges).consumers c here (eq-eqb c.geom c.geom refl))
+      (Contains-filter (λ (d : Consumer). d.geom == c.geom) (graph_of gs edges).consumers c here
+      (eq-eqb c.geom c.geom refl))
       attached)
       (rw found refl)
 
   -- so its rank is less
-  less_below : (c : Consumer) (p : ℕ) (x : Provider) → Contains (graph_of gs edges).consumers c → c.provider ≡ Some p → provider_at (graph_of gs edges) p ≡ Some x
+  less_below : (c : Consumer) (p : ℕ) (x : Provider) → Contains (graph_of gs edges).consumers c
+      → c.provider ≡ Some p → provider_at (graph_of gs edges) p ≡ Some x
       → rank (graph_of gs edges) x.geom < rank (graph_of gs edges) c.geom
   less_below c p x here attached found =
-      let among = Contains-map (rank (graph_of gs edges)) (geoms_under (graph_of gs edges) c.geom) x.geom (under_consumer c p x here attached found) in
-      omega (arith, rank-above c.geom, largest-above (map (rank (graph_of gs edges)) (geoms_under (graph_of gs edges) c.geom)) (rank (graph_of gs edges) x.geom) among)
+      let among = Contains-map (rank (graph_of gs edges)) (geoms_under (graph_of gs edges) c.geom) x.geom
+      (under_consumer c p x here attached found) in
+      omega (
+        arith,
+        rank-above c.geom,
+        largest-above (map (rank (graph_of gs edges)) (geoms_under (graph_of gs edges) c.geom))
+            (rank (graph_of gs edges) x.geom) among,
+      )
 
   -- there is no loop, where the providers live
-  graph_ranked : All (λ c. IfSome c.provider (λ p. IsSome (provider_at (graph_of gs edges) p))) (graph_of gs edges).consumers → Ranked (graph_of gs edges)
+  graph_ranked : All (λ c. IfSome c.provider (λ p. IsSome (provider_at (graph_of gs edges) p)))
+      (graph_of gs edges).consumers → Ranked (graph_of gs edges)
   graph_ranked live_providers =
-      All-from_recursion (λ c. IfSome c.provider (λ p. IsSomeAnd (provider_at (graph_of gs edges) p) (λ x. rank (graph_of gs edges) x.geom < rank (graph_of gs edges) c.geom))) (graph_of gs edges).consumers
-      (All-from_contained (λ c. IfSome c.provider (λ p. IsSomeAnd (provider_at (graph_of gs edges) p) (λ x. rank (graph_of gs edges) x.geom < rank (graph_of gs edges) c.geom))) (graph_of gs edges).consumers
+      All-from_recursion
+      (λ c. IfSome c.provider
+      (λ p. IsSomeAnd (provider_at (graph_of gs edges) p) (λ x. rank (graph_of gs edges) x.geom
+      < rank (graph_of gs edges) c.geom))) (graph_of gs edges).consumers
+      (All-from_contained
+      (λ c. IfSome c.provider
+      (λ p. IsSomeAnd (provider_at (graph_of gs edges) p) (λ x. rank (graph_of gs edges) x.geom
+      < rank (graph_of gs edges) c.geom))) (graph_of gs edges).consumers
       (λ c here. each c here c.provider refl
-      (at_contained (λ (d : Consumer). IfSome d.provider (λ p. IsSome (provider_at (graph_of gs edges) p))) (graph_of gs edges).consumers c
-      (recursion_from_All (λ (d : Consumer). IfSome d.provider (λ p. IsSome (provider_at (graph_of gs edges) p))) (graph_of gs edges).consumers live_providers) here)))
+      (at_contained (λ (d : Consumer). IfSome d.provider (λ p. IsSome (provider_at (graph_of gs edges) p)))
+      (graph_of gs edges).consumers c
+      (recursion_from_All (λ (d : Consumer). IfSome d.provider (λ p. IsSome (provider_at (graph_of gs edges) p)))
+      (graph_of gs edges).consumers live_providers) here)))
     where
-      each : (c : Consumer) → Contains (graph_of gs edges).consumers c → (o : Option ℕ) → c.provider ≡ o → IfSome o (λ p. IsSome (provider_at (graph_of gs edges) p))
-          → IfSome o (λ p. IsSomeAnd (provider_at (graph_of gs edges) p) (λ x. rank (graph_of gs edges) x.geom < rank (graph_of gs edges) c.geom))
+      each : (c : Consumer) → Contains (graph_of gs edges).consumers c → (o : Option ℕ) → c.provider ≡ o
+          → IfSome o (λ p. IsSome (provider_at (graph_of gs edges) p))
+          → IfSome o (λ p. IsSomeAnd (provider_at (graph_of gs edges) p) (λ x. rank (graph_of gs edges) x.geom
+          < rank (graph_of gs edges) c.geom))
       each c here None attached there = there
       each c here (Some p) attached there =
           let x : Has (provider_at (graph_of gs edges) p) = has (provider_at (graph_of gs edges) p) there in
@@ -79,11 +100,15 @@ module _ {C : Type 0} (gs : SlotsView (GeomCell C)) (edges : Edges) (live : ℕ)
 -- Names
 
 -- a provider without an error that comes behind another of its name
-alike_found : (x y : Provider) (ys : List Provider) → Contains ys y → is_sound_named x.name y ≡ true → find (is_sound_named x.name) ys ≡ None → DifferInName x y
+alike_found : (x y : Provider) (ys : List Provider) → Contains ys y → is_sound_named x.name y ≡ true
+    → find (is_sound_named x.name) ys ≡ None → DifferInName x y
 alike_found x y ys here passes none =
-    absurd (nothing_in y (subst (λ zs. Contains zs y) (empty ys none) (Contains-filter (is_sound_named x.name) ys y here passes)))
+    absurd (nothing_in y
+    (subst (λ zs. Contains zs y) (empty ys none) (Contains-filter (is_sound_named x.name) ys y here passes)))
   where
-    step : (z : Provider) (zs : List Provider) (b : Bool) → is_sound_named x.name z ≡ b → find (is_sound_named x.name) (z ∷ zs) ≡ None → (find (is_sound_named x.name) zs ≡ None → filter (is_sound_named x.name) zs ≡ [])
+    step : (z : Provider) (zs : List Provider) (b : Bool) → is_sound_named x.name z ≡ b
+        → find (is_sound_named x.name) (z ∷ zs) ≡ None
+        → (find (is_sound_named x.name) zs ≡ None → filter (is_sound_named x.name) zs ≡ [])
         → filter (is_sound_named x.name) (z ∷ zs) ≡ []
     step z zs true e none so = let never = rw e at none in absurd (cc)
     step z zs false e none so = rw e (so (rw e at none))
@@ -98,23 +123,28 @@ names_differ : (ps : List Provider) → OneEach ps → AllPairs DifferInName ps
 names_differ [] one = λ i j d less within. absurd (omega arith)
 names_differ (x ∷ xs) one =
     AllPairs-cons DifferInName x xs
-    (All-from_recursion (DifferInName x) xs (All-from_contained (DifferInName x) xs (λ y here. apart y here x.errored refl y.errored refl (same_name x.name y.name) refl)))
+    (All-from_recursion (DifferInName x) xs
+    (All-from_contained (DifferInName x) xs
+    (λ y here. apart y here x.errored refl y.errored refl (same_name x.name y.name) refl)))
     (names_differ xs one.1)
   where
-    apart : (y : Provider) → Contains xs y → (a : Bool) → x.errored ≡ a → (b : Bool) → y.errored ≡ b → (s : Bool) → same_name x.name y.name ≡ s → DifferInName x y
+    apart : (y : Provider) → Contains xs y → (a : Bool) → x.errored ≡ a → (b : Bool) → y.errored ≡ b → (s : Bool)
+        → same_name x.name y.name ≡ s → DifferInName x y
     apart y here true e b f s g = rw e refl
     apart y here false e true f s g = rw (e, f) refl
     apart y here false e false f false g = rw (e, f, g) refl
     apart y here false e false f true g =
         let names : x.name ≡ y.name = same_is x.name y.name g in
-        let passes : is_sound_named x.name y ≡ true = rw f (subst (λ n. same_name y.name n ≡ true) (sym names) (is_same y.name)) in
+        let passes : is_sound_named x.name y ≡ true =
+        rw f (subst (λ n. same_name y.name n ≡ true) (sym names) (is_same y.name)) in
         alike_found x y xs here passes (one.0 e)
 
 -- what a mesh keeps makes its graph a sound one
 pub sound-graph : {C : Type 0} (t : Tables C) → IsWhole t → IsSoundGraph (graph t)
 sound-graph t whole = record {
   orderly = whole.graph;
-  ranked = graph_ranked t.geoms t.edges t.live whole.ranks (first-two t.geoms t.edges whole.graph) whole.graph.parts.providers;
+  ranked = graph_ranked t.geoms t.edges t.live whole.ranks (first-two t.geoms t.edges whole.graph)
+      whole.graph.parts.providers;
   not_deep = mesh-low t.geoms t.edges t.live whole.ranks (first-two t.geoms t.edges whole.graph);
   names = names_differ (map provider_row t.edges.providers.rows) whole.tables.names_are.one;
 }

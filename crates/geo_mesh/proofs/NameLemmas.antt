@@ -1,7 +1,7 @@
 -- Names after each change of the providers.
 use Rattle.std.proofs.Common.{◌≡◌, ℕ, ◌==◌, List, [], ◌∷◌, ◌++◌, map, Bool, true, false, Some, None, Option, sym, refl, ap, ◌∙◌, subst, inl, inr, not, filter, filter_map, find}
-use Rattle.std.proofs.lemmas.Bool.{cases_eq, eq-eqb, ne_eqb, eqb-true}
-use Rattle.std.specs.Prelude.{if◌then◌else◌, ◌&&◌}
+use Rattle.std.proofs.lemmas.Bool.{cases_eq, eq-eqb, ne_eqb, eqb-true, and_parts, not-true}
+use Rattle.std.specs.Prelude.{if◌then◌else◌}
 use Rattle.std.specs.Option.{option_or}
 use Rattle.geo_model.specs.Words.{change_where, same_name}
 use Rattle.geo_model.specs.Topology.{Provider}
@@ -10,18 +10,13 @@ use Rattle.geo_mesh.specs.Cells.{provider_row}
 use Rattle.geo_mesh.specs.Names.{is_sound_named, OneEach}
 use Rattle.geo_mesh.proofs.RowLemmas.{OnlyValue}
 
--- where both hold, each does
-both_true : (a b : Bool) → (a && b) ≡ true → (a ≡ true) × (b ≡ true)
-both_true true b e = (refl, e)
-both_true false b e = absurd (cc)
-
 -- the same bytes are the same name
 pub same_is : (a b : List ℕ) → same_name a b ≡ true → a ≡ b
 same_is [] [] e = refl
 same_is [] (y ∷ ys) e = absurd (cc)
 same_is (x ∷ xs) [] e = absurd (cc)
 same_is (x ∷ xs) (y ∷ ys) e =
-    let parts = both_true (x == y) (same_name xs ys) e in λ i. eqb-true x y parts.0 i ∷ same_is xs ys parts.1 i
+    let parts = and_parts (x == y) (same_name xs ys) e in λ i. eqb-true x y parts.0 i ∷ same_is xs ys parts.1 i
 
 -- and a name is the same as itself
 pub is_same : (a : List ℕ) → same_name a a ≡ true
@@ -33,18 +28,14 @@ abbrev pub OnlyProvider : ℕ → Provider → List Provider → Type 0
 OnlyProvider n x [] = Unit {0}
 OnlyProvider n x (y ∷ ys) = ((y.number == n) ≡ true → y ≡ x) × OnlyProvider n x ys
 
--- what doesn't hold is false
-not_true : (a : Bool) → not a ≡ true → a ≡ false
-not_true true e = absurd (cc)
-not_true false e = refl
-
 -- a provider with an error isn't one without an error of any name
 pub errored_fails : (name : List ℕ) (z : Provider) → z.errored ≡ true → is_sound_named name z ≡ false
 errored_fails name z e = rw e refl
 
 module _ {X : Type 0} (test : X → Bool) where
   -- where none is found, by whether the first passes
-  miss_step : (y : X) (ys : List X) (b : Bool) → test y ≡ b → find test (y ∷ ys) ≡ None → (test y ≡ false) × (find test ys ≡ None)
+  miss_step : (y : X) (ys : List X) (b : Bool) → test y ≡ b → find test (y ∷ ys) ≡ None
+      → (test y ≡ false) × (find test ys ≡ None)
   miss_step y ys true e none = let never : Some y ≡ None = rw e at none in absurd (cc)
   miss_step y ys false e none = (e, rw e at none)
 
@@ -57,18 +48,21 @@ module _ {X : Type 0} (test : X → Bool) where
   skip y ys e = rw e refl
 
   -- one item more in front of those that another one joins at the end
-  push_step : (x y : X) (ys : List X) (b : Bool) → test y ≡ b → find test (ys ++ x ∷ []) ≡ option_or (find test ys) (if test x then Some x else None)
+  push_step : (x y : X) (ys : List X) (b : Bool) → test y ≡ b
+      → find test (ys ++ x ∷ []) ≡ option_or (find test ys) (if test x then Some x else None)
       → find test ((y ∷ ys) ++ x ∷ []) ≡ option_or (find test (y ∷ ys)) (if test x then Some x else None)
   push_step x y ys true e so = rw e refl
   push_step x y ys false e so = rw e so
 
   -- with one item more at the end: what was found before, else that item if it passes
-  find-push : (x : X) (ys : List X) → find test (ys ++ x ∷ []) ≡ option_or (find test ys) (if test x then Some x else None)
+  find-push : (x : X) (ys : List X)
+      → find test (ys ++ x ∷ []) ≡ option_or (find test ys) (if test x then Some x else None)
   find-push x [] = refl
   find-push x (y ∷ ys) = push_step x y ys (test y) refl (find-push x ys)
 
   -- one item more in front of one that is found and passes another test too
-  found_step : (other : X → Bool) (x y : X) (ys : List X) (b : Bool) → test y ≡ b → find test (y ∷ ys) ≡ Some x → other x ≡ true → find other (y ∷ ys) ≡ None
+  found_step : (other : X → Bool) (x y : X) (ys : List X) (b : Bool) → test y ≡ b → find test (y ∷ ys) ≡ Some x
+      → other x ≡ true → find other (y ∷ ys) ≡ None
       → (find test ys ≡ Some x → find other ys ≡ None → ⊥) → (other y ≡ false) × (find other ys ≡ None) → ⊥
   found_step other x y ys true e found passes none so miss =
       let same : Some y ≡ Some x = rw e at found in
@@ -77,13 +71,16 @@ module _ {X : Type 0} (test : X → Bool) where
   found_step other x y ys false e found passes none so miss = so (rw e at found) miss.1
 
 -- who is found and passes another test is found by that too
-found_too : {X : Type 0} (test other : X → Bool) (x : X) (ys : List X) → find test ys ≡ Some x → other x ≡ true → find other ys ≡ None → ⊥
+found_too : {X : Type 0} (test other : X → Bool) (x : X) (ys : List X) → find test ys ≡ Some x → other x ≡ true
+    → find other ys ≡ None → ⊥
 found_too test other x [] found passes none = let never : None ≡ Some x = found in cc
 found_too test other x (y ∷ ys) found passes none =
-    found_step test other x y ys (test y) refl found passes none (λ f m. found_too test other x ys f passes m) (missed other y ys none)
+    found_step test other x y ys (test y) refl found passes none (λ f m. found_too test other x ys f passes m)
+    (missed other y ys none)
 
 -- The providers with that of a number marked by an error, or gone
-module _ (n : ℕ) (mark : Provider → Option Provider) (marked : (y z : Provider) → mark y ≡ Some z → z.errored ≡ true) where
+module _ (n : ℕ) (mark : Provider → Option Provider) (marked : (y z : Provider) → mark y ≡ Some z
+    → z.errored ≡ true) where
   -- the provider of the number marked or gone, another one as it is
   abbrev pub retire : Provider → Option Provider
   retire y = if y.number == n then mark y else Some y
@@ -93,77 +90,98 @@ module _ (n : ℕ) (mark : Provider → Option Provider) (marked : (y z : Provid
   retired ys = filter_map retire ys
 
   -- whether it was marked or has gone, the one of the number isn't found
-  marked_step : (name : List ℕ) (y : Provider) (ys : List Provider) (o : Option Provider) → mark y ≡ o → (y.number == n) ≡ true
+  marked_step : (name : List ℕ) (y : Provider) (ys : List Provider) (o : Option Provider) → mark y ≡ o
+      → (y.number == n) ≡ true
       → find (is_sound_named name) (retired (y ∷ ys)) ≡ find (is_sound_named name) (retired ys)
   marked_step name y ys None e here = rw (here, e) refl
   marked_step name y ys (Some z) e here = rw (here, e, errored_fails name z (marked y z e)) refl
 
   -- the one of the number isn't found
-  marked-find : (name : List ℕ) (y : Provider) (ys : List Provider) → (y.number == n) ≡ true → find (is_sound_named name) (retired (y ∷ ys)) ≡ find (is_sound_named name) (retired ys)
+  marked-find : (name : List ℕ) (y : Provider) (ys : List Provider) → (y.number == n) ≡ true
+      → find (is_sound_named name) (retired (y ∷ ys)) ≡ find (is_sound_named name) (retired ys)
   marked-find name y ys here = marked_step name y ys (mark y) refl here
 
   -- another one is found if it is of the name, else one behind it
-  kept-find : (name : List ℕ) (y : Provider) (ys : List Provider) (b : Bool) → (y.number == n) ≡ false → is_sound_named name y ≡ b
+  kept-find : (name : List ℕ) (y : Provider) (ys : List Provider) (b : Bool) → (y.number == n) ≡ false
+      → is_sound_named name y ≡ b
       → find (is_sound_named name) (retired (y ∷ ys)) ≡ (if b then Some y else find (is_sound_named name) (retired ys))
   kept-find name y ys b apart e = rw (apart, e) refl
 
   -- none stays none
-  none_step : (name : List ℕ) (y : Provider) (ys : List Provider) (a : Bool) → (y.number == n) ≡ a → is_sound_named name y ≡ false
+  none_step : (name : List ℕ) (y : Provider) (ys : List Provider) (a : Bool) → (y.number == n) ≡ a
+      → is_sound_named name y ≡ false
       → find (is_sound_named name) (retired ys) ≡ None → find (is_sound_named name) (retired (y ∷ ys)) ≡ None
   none_step name y ys true e fails so = marked-find name y ys e ∙ so
   none_step name y ys false e fails so = kept-find name y ys false e fails ∙ so
 
   -- a name that had no provider without an error has none after
-  pub retired-none : (name : List ℕ) (ys : List Provider) → find (is_sound_named name) ys ≡ None → find (is_sound_named name) (retired ys) ≡ None
+  pub retired-none : (name : List ℕ) (ys : List Provider) → find (is_sound_named name) ys ≡ None
+      → find (is_sound_named name) (retired ys) ≡ None
   retired-none name [] none = refl
   retired-none name (y ∷ ys) none =
       let miss = missed (is_sound_named name) y ys none in
       none_step name y ys (y.number == n) refl miss.0 (retired-none name ys miss.1)
 
   -- one provider more in front: the one of the number, one of the name, or neither
-  same_step : (name : List ℕ) (x y : Provider) (ys : List Provider) (a b : Bool) → (y.number == n) ≡ a → is_sound_named name y ≡ b
-      → ((y.number == n) ≡ true → y ≡ x) → is_sound_named name x ≡ false → find (is_sound_named name) (retired ys) ≡ find (is_sound_named name) ys
+  same_step : (name : List ℕ) (x y : Provider) (ys : List Provider) (a b : Bool) → (y.number == n) ≡ a
+      → is_sound_named name y ≡ b
+      → ((y.number == n) ≡ true → y ≡ x) → is_sound_named name x ≡ false
+      → find (is_sound_named name) (retired ys) ≡ find (is_sound_named name) ys
       → find (is_sound_named name) (retired (y ∷ ys)) ≡ find (is_sound_named name) (y ∷ ys)
-  same_step name x y ys true b e f is fails so = marked-find name y ys e ∙ so ∙ sym (skip (is_sound_named name) y ys (ap (is_sound_named name) (is e) ∙ fails))
+  same_step name x y ys true b e f is fails so = marked-find name y ys e ∙ so
+      ∙ sym (skip (is_sound_named name) y ys (ap (is_sound_named name) (is e) ∙ fails))
   same_step name x y ys false true e f is fails so = kept-find name y ys true e f ∙ rw f refl
-  same_step name x y ys false false e f is fails so = kept-find name y ys false e f ∙ so ∙ sym (skip (is_sound_named name) y ys f)
+  same_step name x y ys false false e f is fails so = kept-find name y ys false e f ∙ so
+      ∙ sym (skip (is_sound_named name) y ys f)
 
   -- what isn't that of the number is found as before
-  pub retired-same : (name : List ℕ) (x : Provider) (ys : List Provider) → OnlyProvider n x ys → is_sound_named name x ≡ false → find (is_sound_named name) (retired ys) ≡ find (is_sound_named name) ys
+  pub retired-same : (name : List ℕ) (x : Provider) (ys : List Provider) → OnlyProvider n x ys
+      → is_sound_named name x ≡ false → find (is_sound_named name) (retired ys) ≡ find (is_sound_named name) ys
   retired-same name x [] only fails = refl
-  retired-same name x (y ∷ ys) only fails = same_step name x y ys (y.number == n) (is_sound_named name y) refl refl only.0 fails (retired-same name x ys only.1 fails)
+  retired-same name x (y ∷ ys) only fails =
+      same_step name x y ys (y.number == n) (is_sound_named name y) refl refl only.0 fails
+      (retired-same name x ys only.1 fails)
 
   -- one provider more in front: the one of the number, another of the name, or neither
-  gone_step : (x y : Provider) (ys : List Provider) (a b : Bool) → (y.number == n) ≡ a → is_sound_named x.name y ≡ b → x.errored ≡ false
+  gone_step : (x y : Provider) (ys : List Provider) (a b : Bool) → (y.number == n) ≡ a
+      → is_sound_named x.name y ≡ b → x.errored ≡ false
       → OnlyProvider n x (y ∷ ys) → OneEach (y ∷ ys) → find (λ z. z.number == n) (y ∷ ys) ≡ Some x
-      → (find (λ z. z.number == n) ys ≡ Some x → find (is_sound_named x.name) (retired ys) ≡ None) → find (is_sound_named x.name) (retired (y ∷ ys)) ≡ None
+      → (find (λ z. z.number == n) ys ≡ Some x → find (is_sound_named x.name) (retired ys) ≡ None)
+      → find (is_sound_named x.name) (retired (y ∷ ys)) ≡ None
   gone_step x y ys true b e f sound only one found so =
       let is : y ≡ x = only.0 e in
-      let none : find (is_sound_named x.name) ys ≡ None = subst (λ z. find (is_sound_named z.name) ys ≡ None) is (one.0 (ap (λ z. z.errored) is ∙ sound)) in
+      let none : find (is_sound_named x.name) ys ≡ None =
+      subst (λ z. find (is_sound_named z.name) ys ≡ None) is (one.0 (ap (λ z. z.errored) is ∙ sound)) in
       marked-find x.name y ys e ∙ retired-none x.name ys none
   gone_step x y ys false true e f sound only one found so =
-      let parts = both_true (not y.errored) (same_name y.name x.name) f in
+      let parts = and_parts (not y.errored) (same_name y.name x.name) f in
       let names : y.name ≡ x.name = same_is y.name x.name parts.1 in
-      let none : find (is_sound_named x.name) ys ≡ None = subst (λ m. find (is_sound_named m) ys ≡ None) names (one.0 (not_true y.errored parts.0)) in
+      let none : find (is_sound_named x.name) ys ≡ None =
+      subst (λ m. find (is_sound_named m) ys ≡ None) names (one.0 (not-true y.errored parts.0)) in
       let later : find (λ z. z.number == n) ys ≡ Some x = rw e at found in
       let passes : is_sound_named x.name x ≡ true = rw (sound, is_same x.name) refl in
       absurd (found_too (λ z. z.number == n) (is_sound_named x.name) x ys later passes none)
   gone_step x y ys false false e f sound only one found so = kept-find x.name y ys false e f ∙ so (rw e at found)
 
   -- the name of the one of the number has none any more
-  pub retired-gone : (x : Provider) (ys : List Provider) → x.errored ≡ false → OnlyProvider n x ys → OneEach ys → find (λ z. z.number == n) ys ≡ Some x
+  pub retired-gone : (x : Provider) (ys : List Provider) → x.errored ≡ false → OnlyProvider n x ys → OneEach ys
+      → find (λ z. z.number == n) ys ≡ Some x
       → find (is_sound_named x.name) (retired ys) ≡ None
   retired-gone x [] sound only one found = refl
   retired-gone x (y ∷ ys) sound only one found =
-      gone_step x y ys (y.number == n) (is_sound_named x.name y) refl refl sound only one found (λ f. retired-gone x ys sound only.1 one.1 f)
+      gone_step x y ys (y.number == n) (is_sound_named x.name y) refl refl sound only one found
+      (λ f. retired-gone x ys sound only.1 one.1 f)
 
   -- one more in front that is marked or gone leaves at most one of each name
-  one_marked : (y : Provider) (ys : List Provider) (o : Option Provider) → mark y ≡ o → (y.number == n) ≡ true → OneEach (retired ys) → OneEach (retired (y ∷ ys))
+  one_marked : (y : Provider) (ys : List Provider) (o : Option Provider) → mark y ≡ o → (y.number == n) ≡ true
+      → OneEach (retired ys) → OneEach (retired (y ∷ ys))
   one_marked y ys None e here so = rw (here, e) so
-  one_marked y ys (Some z) e here so = rw (here, e) ((λ sound. let never : true ≡ false = sym (marked y z e) ∙ sound in absurd (cc)), so)
+  one_marked y ys (Some z) e here so =
+      rw (here, e) ((λ sound. let never : true ≡ false = sym (marked y z e) ∙ sound in absurd (cc)), so)
 
   -- so does one more in front, whether it is that of the number or not
-  one_step : (y : Provider) (ys : List Provider) (a : Bool) → (y.number == n) ≡ a → (y.errored ≡ false → find (is_sound_named y.name) ys ≡ None) → OneEach (retired ys) → OneEach (retired (y ∷ ys))
+  one_step : (y : Provider) (ys : List Provider) (a : Bool) → (y.number == n) ≡ a
+      → (y.errored ≡ false → find (is_sound_named y.name) ys ≡ None) → OneEach (retired ys) → OneEach (retired (y ∷ ys))
   one_step y ys true e one so = one_marked y ys (mark y) refl e so
   one_step y ys false e one so = rw e ((λ sound. retired-none y.name ys (one sound)), so)
 
@@ -175,19 +193,23 @@ module _ (n : ℕ) (mark : Provider → Option Provider) (marked : (y z : Provid
 -- One more provider, of a name that none without an error has
 module _ (x : Provider) (sound : x.errored ≡ false) where
   -- it is found by its name
-  pub pushed-here : (ys : List Provider) → find (is_sound_named x.name) ys ≡ None → find (is_sound_named x.name) (ys ++ x ∷ []) ≡ Some x
+  pub pushed-here : (ys : List Provider) → find (is_sound_named x.name) ys ≡ None
+      → find (is_sound_named x.name) (ys ++ x ∷ []) ≡ Some x
   pushed-here ys none = find-push (is_sound_named x.name) x ys ∙ rw (none, sound, is_same x.name) refl
 
   -- and the others are found as before
-  pub pushed-other : (name : List ℕ) (ys : List Provider) → same_name x.name name ≡ false → find (is_sound_named name) (ys ++ x ∷ []) ≡ find (is_sound_named name) ys
-  pushed-other name ys other = find-push (is_sound_named name) x ys ∙ rw (sound, other) (or_none (find (is_sound_named name) ys))
+  pub pushed-other : (name : List ℕ) (ys : List Provider) → same_name x.name name ≡ false
+      → find (is_sound_named name) (ys ++ x ∷ []) ≡ find (is_sound_named name) ys
+  pushed-other name ys other = find-push (is_sound_named name) x ys
+      ∙ rw (sound, other) (or_none (find (is_sound_named name) ys))
     where
       or_none : (o : Option Provider) → option_or o None ≡ o
       or_none None = refl
       or_none (Some y) = refl
 
   -- one without an error that isn't found by the new name has another name
-  apart : (y : Provider) (b : Bool) → same_name x.name y.name ≡ b → y.errored ≡ false → is_sound_named x.name y ≡ false → b ≡ false
+  apart : (y : Provider) (b : Bool) → same_name x.name y.name ≡ b → y.errored ≡ false
+      → is_sound_named x.name y ≡ false → b ≡ false
   apart y false e clean fails = refl
   apart y true e clean fails =
       let names : x.name ≡ y.name = same_is x.name y.name e in
@@ -199,7 +221,8 @@ module _ (x : Provider) (sound : x.errored ≡ false) where
   pushed-one [] one none = ((λ _. refl), tt)
   pushed-one (y ∷ ys) one none =
       let miss = missed (is_sound_named x.name) y ys none in (
-        λ clean. pushed-other y.name ys (let b = apart y (same_name x.name y.name) refl clean miss.0 in b) ∙ one.0 clean,
+        λ clean. pushed-other y.name ys (let b = apart y (same_name x.name y.name) refl clean miss.0 in b)
+            ∙ one.0 clean,
         pushed-one ys one.1 miss.1,
       )
 
@@ -208,7 +231,9 @@ abbrev pub with_error : Provider → Provider
 with_error y = record y { errored = true }
 
 -- a mark, and a removal, by number
-pub retired-change : (n : ℕ) (ys : List Provider) → filter_map (λ (y : Provider). if y.number == n then Some (with_error y) else Some y) ys ≡ change_where (λ y. y.number == n) (λ y. record y { errored = true }) ys
+pub retired-change : (n : ℕ) (ys : List Provider)
+    → filter_map (λ (y : Provider). if y.number == n then Some (with_error y) else Some y) ys
+    ≡ change_where (λ y. y.number == n) (λ y. record y { errored = true }) ys
 retired-change n [] = refl
 retired-change n (y ∷ ys) =
     elim (cases_eq y.number n) [
@@ -217,7 +242,8 @@ retired-change n (y ∷ ys) =
     ]
 
 -- a removal leaves the providers of the other numbers
-pub retired-filter : (n : ℕ) (ys : List Provider) → filter_map (λ (y : Provider). if y.number == n then None else Some y) ys ≡ filter (λ y. not (y.number == n)) ys
+pub retired-filter : (n : ℕ) (ys : List Provider)
+    → filter_map (λ (y : Provider). if y.number == n then None else Some y) ys ≡ filter (λ y. not (y.number == n)) ys
 retired-filter n [] = refl
 retired-filter n (y ∷ ys) =
     elim (cases_eq y.number n) [
@@ -226,6 +252,7 @@ retired-filter n (y ∷ ys) =
     ]
 
 -- the only value under a number is the only provider of it
-pub only_provider : (n : ℕ) (v : ProvCell) (rows : List (ℕ × ProvCell)) → OnlyValue n v rows → OnlyProvider n (provider_row (n, v)) (map provider_row rows)
+pub only_provider : (n : ℕ) (v : ProvCell) (rows : List (ℕ × ProvCell)) → OnlyValue n v rows
+    → OnlyProvider n (provider_row (n, v)) (map provider_row rows)
 only_provider n v [] only = tt
 only_provider n v (row ∷ rows) only = ((λ here. ap provider_row (only.0 here)), only_provider n v rows only.1)

@@ -1,5 +1,5 @@
 -- Notes of providers and of withering geoms, after each change of the tables.
-use Rattle.std.specs.Prelude.{◌≡◌, ℕ, ◌+◌, ◌-◌, ◌≤◌, ◌==◌, Bool, true, false, List, [], ◌∷◌, ◌++◌, Some, IsSome, map, max, nat_le, filter}
+use Rattle.std.specs.Prelude.{◌≡◌, ℕ, ◌+◌, ◌-◌, ◌≤◌, ◌==◌, Bool, true, false, List, [], ◌∷◌, ◌++◌, Some, map, max, nat_le, filter}
 use Rattle.std.proofs.Common.{refl, sym, ◌∙◌, ap, subst, arith}
 use Rattle.std.proofs.lemmas.List.{map-append}
 use Rattle.geo_slots.specs.Slots.{SlotsView, IsRising, value_at, with_value, without, with_insert}
@@ -14,7 +14,7 @@ use Rattle.geo_mesh.specs.Cells.{risen_of, fallen_of, geom_row}
 use Rattle.geo_mesh.specs.Topo.{first_geom}
 use Rattle.geo_mesh.specs.Notes.{withering_of, HaveNoteRoom, IsSameNotes, AreNotes}
 use Rattle.geo_mesh.specs.Ranks.{bare, rest_of}
-use Rattle.geo_mesh.proofs.RowLemmas.{OnlyValue, only, map-with_value_same, rows_with-with_value, map-without}
+use Rattle.geo_mesh.proofs.RowLemmas.{OnlyValue, only_value, map-with_value_same, rows_with-with_value, map-without}
 
 -- with one number more, without a mark
 abbrev pub with_mark : MarksView → MarksView
@@ -35,19 +35,26 @@ module _ {C : Type 0} (n : Notes) (gs : SlotsView (GeomCell C)) (ps : SlotsView 
   notes-provider v are risen fallen = record {
     risen =
         rw (are.risen, are.risen_next)
-        (sym (map-append (row_with risen_of) ps.rows ((ps.next, v) ∷ []) ∙ ap (λ b. rows_with risen_of ps.rows ++ (ps.next, b) ∷ []) risen));
+        (sym (map-append (row_with risen_of) ps.rows ((ps.next, v) ∷ [])
+        ∙ ap (λ b. rows_with risen_of ps.rows ++ (ps.next, b) ∷ []) risen));
     fallen =
         rw (are.fallen, are.fallen_next)
-        (sym (map-append (row_with fallen_of) ps.rows ((ps.next, v) ∷ []) ∙ ap (λ b. rows_with fallen_of ps.rows ++ (ps.next, b) ∷ []) fallen));
+        (sym (map-append (row_with fallen_of) ps.rows ((ps.next, v) ∷ [])
+        ∙ ap (λ b. rows_with fallen_of ps.rows ++ (ps.next, b) ∷ []) fallen));
     withering = are.withering;
     risen_next = ap (λ k. k + 1) are.risen_next;
     fallen_next = ap (λ k. k + 1) are.fallen_next;
     withering_next = are.withering_next;
-    room = record { risen = omega (arith, are.room.risen); fallen = omega (arith, are.room.fallen); withering = are.room.withering };
+    room = record {
+      risen = omega (arith, are.room.risen);
+      fallen = omega (arith, are.room.fallen);
+      withering = are.room.withering;
+    };
   }
 
   -- with a new geom, which doesn't wither
-  pub notes-geom : (v : GeomCell C) → AreNotes n gs ps → v.geom.withering ≡ false → AreNotes (record n { withering = with_mark n.withering }) (with_insert gs v) ps
+  pub notes-geom : (v : GeomCell C) → AreNotes n gs ps → v.geom.withering ≡ false
+      → AreNotes (record n { withering = with_mark n.withering }) (with_insert gs v) ps
   notes-geom v are stays = record {
     risen = are.risen;
     fallen = are.fallen;
@@ -62,11 +69,13 @@ module _ {C : Type 0} (n : Notes) (gs : SlotsView (GeomCell C)) (ps : SlotsView 
   }
 
   -- without a geom
-  pub notes-without_geom : (k : ℕ) → AreNotes n gs ps → AreNotes (record n { withering = without_mark n.withering k }) (record gs { rows = without gs.rows k }) ps
+  pub notes-without_geom : (k : ℕ) → AreNotes n gs ps
+      → AreNotes (record n { withering = without_mark n.withering k }) (record gs { rows = without gs.rows k }) ps
   notes-without_geom k are = record {
     risen = are.risen;
     fallen = are.fallen;
-    withering = rw are.withering (sym (map-without (row_with (withering_of {C = C})) k (λ (row : ℕ × Bool). row.0 == k) (λ row. refl) gs.rows));
+    withering = rw are.withering
+        (sym (map-without (row_with (withering_of {C = C})) k (λ (row : ℕ × Bool). row.0 == k) (λ row. refl) gs.rows));
     risen_next = are.risen_next;
     fallen_next = are.fallen_next;
     withering_next = are.withering_next;
@@ -75,10 +84,13 @@ module _ {C : Type 0} (n : Notes) (gs : SlotsView (GeomCell C)) (ps : SlotsView 
 
   -- without a provider
   pub notes-without_provider : (k : ℕ) → AreNotes n gs ps
-      → AreNotes (record n { risen = without_mark n.risen k; fallen = without_mark n.fallen k }) gs (record ps { rows = without ps.rows k })
+      → AreNotes (record n { risen = without_mark n.risen k; fallen = without_mark n.fallen k }) gs
+      (record ps { rows = without ps.rows k })
   notes-without_provider k are = record {
-    risen = rw are.risen (sym (map-without (row_with risen_of) k (λ (row : ℕ × Bool). row.0 == k) (λ row. refl) ps.rows));
-    fallen = rw are.fallen (sym (map-without (row_with fallen_of) k (λ (row : ℕ × Bool). row.0 == k) (λ row. refl) ps.rows));
+    risen = rw are.risen
+        (sym (map-without (row_with risen_of) k (λ (row : ℕ × Bool). row.0 == k) (λ row. refl) ps.rows));
+    fallen = rw are.fallen
+        (sym (map-without (row_with fallen_of) k (λ (row : ℕ × Bool). row.0 == k) (λ row. refl) ps.rows));
     withering = are.withering;
     risen_next = are.risen_next;
     fallen_next = are.fallen_next;
@@ -88,7 +100,10 @@ module _ {C : Type 0} (n : Notes) (gs : SlotsView (GeomCell C)) (ps : SlotsView 
 
   -- with another cell of a provider, which may be noted otherwise
   pub notes-noted : (k : ℕ) (w : ProvCell) → AreNotes n gs ps
-      → AreNotes (record n { risen = set_mark n.risen k w.provider.risen; fallen = set_mark n.fallen k w.provider.fallen }) gs
+      → AreNotes (record n {
+        risen = set_mark n.risen k w.provider.risen;
+        fallen = set_mark n.fallen k w.provider.fallen;
+      }) gs
       (record ps { rows = with_value ps.rows k w })
   notes-noted k w are = record {
     risen = rw are.risen (sym (rows_with-with_value risen_of k w ps.rows));
@@ -101,13 +116,17 @@ module _ {C : Type 0} (n : Notes) (gs : SlotsView (GeomCell C)) (ps : SlotsView 
   }
 
   -- with another cell of a provider that is noted as before
-  pub notes-provider_kept : (k : ℕ) (v w : ProvCell) → IsRising 1 ps.rows ps.next → value_at ps.rows k ≡ Some v → w.provider.risen ≡ v.provider.risen
-      → w.provider.fallen ≡ v.provider.fallen → AreNotes n gs ps → AreNotes n gs (record ps { rows = with_value ps.rows k w })
+  pub notes-provider_kept : (k : ℕ) (v w : ProvCell) → IsRising 1 ps.rows ps.next → value_at ps.rows k ≡ Some v
+      → w.provider.risen ≡ v.provider.risen
+      → w.provider.fallen ≡ v.provider.fallen → AreNotes n gs ps
+      → AreNotes n gs (record ps { rows = with_value ps.rows k w })
   notes-provider_kept k v w rising at risen fallen are =
-      let is : OnlyValue k v ps.rows = only k 1 ps.next v ps.rows rising at in
+      let is : OnlyValue k v ps.rows = only_value k 1 ps.next v ps.rows rising at in
       record {
-        risen = are.risen ∙ sym (map-with_value_same (row_with risen_of) k v w (ap (λ (b : Bool). (k, b)) risen) ps.rows is);
-        fallen = are.fallen ∙ sym (map-with_value_same (row_with fallen_of) k v w (ap (λ (b : Bool). (k, b)) fallen) ps.rows is);
+        risen = are.risen
+            ∙ sym (map-with_value_same (row_with risen_of) k v w (ap (λ (b : Bool). (k, b)) risen) ps.rows is);
+        fallen = are.fallen
+            ∙ sym (map-with_value_same (row_with fallen_of) k v w (ap (λ (b : Bool). (k, b)) fallen) ps.rows is);
         withering = are.withering;
         risen_next = are.risen_next;
         fallen_next = are.fallen_next;
@@ -117,7 +136,8 @@ module _ {C : Type 0} (n : Notes) (gs : SlotsView (GeomCell C)) (ps : SlotsView 
 
   -- with another cell of a geom, which may wither or not
   pub notes-withering : (k : ℕ) (w : GeomCell C) → AreNotes n gs ps
-      → AreNotes (record n { withering = set_mark n.withering k w.geom.withering }) (record gs { rows = with_value gs.rows k w }) ps
+      → AreNotes (record n { withering = set_mark n.withering k w.geom.withering })
+      (record gs { rows = with_value gs.rows k w }) ps
   notes-withering k w are = record {
     risen = are.risen;
     fallen = are.fallen;
@@ -129,14 +149,17 @@ module _ {C : Type 0} (n : Notes) (gs : SlotsView (GeomCell C)) (ps : SlotsView 
   }
 
   -- with another cell of a geom that withers as before
-  pub notes-geom_kept : (k : ℕ) (v w : GeomCell C) → IsRising 1 gs.rows gs.next → value_at gs.rows k ≡ Some v → w.geom.withering ≡ v.geom.withering
+  pub notes-geom_kept : (k : ℕ) (v w : GeomCell C) → IsRising 1 gs.rows gs.next → value_at gs.rows k ≡ Some v
+      → w.geom.withering ≡ v.geom.withering
       → AreNotes n gs ps → AreNotes n (record gs { rows = with_value gs.rows k w }) ps
   notes-geom_kept k v w rising at stays are =
-      let is : OnlyValue k v gs.rows = only k 1 gs.next v gs.rows rising at in
+      let is : OnlyValue k v gs.rows = only_value k 1 gs.next v gs.rows rising at in
       record {
         risen = are.risen;
         fallen = are.fallen;
-        withering = are.withering ∙ sym (map-with_value_same (row_with (withering_of {C = C})) k v w (ap (λ (b : Bool). (k, b)) stays) gs.rows is);
+        withering = are.withering
+            ∙ sym (map-with_value_same (row_with (withering_of {C = C})) k v w (ap (λ (b : Bool). (k, b)) stays)
+            gs.rows is);
         risen_next = are.risen_next;
         fallen_next = are.fallen_next;
         withering_next = are.withering_next;
@@ -145,12 +168,14 @@ module _ {C : Type 0} (n : Notes) (gs : SlotsView (GeomCell C)) (ps : SlotsView 
 
 -- whether geoms wither is seen without the ranks
 withering_rest : {C : Type 0} (rows : List (ℕ × GeomCell C))
-    → rows_with (withering_of {C = C}) rows ≡ rows_with (λ (x : GeomRec C × Scratch). x.0.withering) (rows_with (rest_of {C = C}) rows)
+    → rows_with (withering_of {C = C}) rows
+    ≡ rows_with (λ (x : GeomRec C × Scratch). x.0.withering) (rows_with (rest_of {C = C}) rows)
 withering_rest [] = refl
 withering_rest {C} (row ∷ rows) = ap (λ xs. (row.0, row.1.geom.withering) ∷ xs) (withering_rest {C = C} rows)
 
 -- other ranks in the cells leave the notes
-pub notes-bare : {C : Type 0} (n : Notes) (gs ns : SlotsView (GeomCell C)) (ps : SlotsView ProvCell) → bare ns ≡ bare gs → AreNotes n gs ps → AreNotes n ns ps
+pub notes-bare : {C : Type 0} (n : Notes) (gs ns : SlotsView (GeomCell C)) (ps : SlotsView ProvCell)
+    → bare ns ≡ bare gs → AreNotes n gs ps → AreNotes n ns ps
 notes-bare {C} n gs ns ps same are =
     let rows : rows_with (withering_of {C = C}) ns.rows ≡ rows_with (withering_of {C = C}) gs.rows =
     withering_rest ns.rows
@@ -173,7 +198,8 @@ notes-bare {C} n gs ns ps same are =
     }
 
 -- notes with other room, where that is enough
-pub notes-reserved : {C : Type 0} (n m : Notes) (gs : SlotsView (GeomCell C)) (ps : SlotsView ProvCell) (g p : ℕ) → IsSameNotes n m → HaveNoteRoom g p m
+pub notes-reserved : {C : Type 0} (n m : Notes) (gs : SlotsView (GeomCell C)) (ps : SlotsView ProvCell) (g p : ℕ)
+    → IsSameNotes n m → HaveNoteRoom g p m
     → AreNotes n gs ps → AreNotes m (record gs { spare = g }) (record ps { spare = p })
 notes-reserved n m gs ps g p same room are = record {
   risen = ap (λ k. k.rows) same.risen ∙ are.risen;
@@ -186,7 +212,8 @@ notes-reserved n m gs ps g p same room are = record {
 }
 
 -- notes with room for what there was room for, and for more of it
-pub note_room_for : (a b d e g p : ℕ) (n : Notes) → HaveNoteRoom a b n → HaveNoteRoom d e n → g ≤ max a d → p ≤ max b e → HaveNoteRoom g p n
+pub note_room_for : (a b d e g p : ℕ) (n : Notes) → HaveNoteRoom a b n → HaveNoteRoom d e n → g ≤ max a d
+    → p ≤ max b e → HaveNoteRoom g p n
 note_room_for a b d e g p n one two most_g most_p = record {
   risen = omega (arith, one.risen, two.risen, most_p);
   fallen = omega (arith, one.fallen, two.fallen, most_p);
@@ -195,9 +222,12 @@ note_room_for a b d e g p n one two most_g most_p = record {
 
 module _ {C : Type 0} (from_number : ℕ) where
   -- one geom more in front, by whether it withers and isn't below the number
-  withering_step : (row : ℕ × GeomCell C) (rows : List (ℕ × GeomCell C)) (a b : Bool) → nat_le from_number row.0 ≡ a → row.1.geom.withering ≡ b
-      → first_marked (rows_with (withering_of {C = C}) rows) from_number ≡ first_geom (filter (λ x. x.withering) (map geom_row rows)) from_number
-      → first_marked (rows_with (withering_of {C = C}) (row ∷ rows)) from_number ≡ first_geom (filter (λ x. x.withering) (map geom_row (row ∷ rows))) from_number
+  withering_step : (row : ℕ × GeomCell C) (rows : List (ℕ × GeomCell C)) (a b : Bool)
+      → nat_le from_number row.0 ≡ a → row.1.geom.withering ≡ b
+      → first_marked (rows_with (withering_of {C = C}) rows) from_number
+      ≡ first_geom (filter (λ x. x.withering) (map geom_row rows)) from_number
+      → first_marked (rows_with (withering_of {C = C}) (row ∷ rows)) from_number
+      ≡ first_geom (filter (λ x. x.withering) (map geom_row (row ∷ rows))) from_number
   withering_step row rows true true e f rest = rw (e, f, e) refl
   withering_step row rows true false e f rest = rw (e, f) rest
   withering_step row rows false true e f rest = rw (e, f, e) rest
@@ -205,6 +235,8 @@ module _ {C : Type 0} (from_number : ℕ) where
 
   -- the first number with a mark is the first geom that withers
   pub first-withering : (rows : List (ℕ × GeomCell C))
-      → first_marked (rows_with (withering_of {C = C}) rows) from_number ≡ first_geom (filter (λ x. x.withering) (map geom_row rows)) from_number
+      → first_marked (rows_with (withering_of {C = C}) rows) from_number
+      ≡ first_geom (filter (λ x. x.withering) (map geom_row rows)) from_number
   first-withering [] = refl
-  first-withering (row ∷ rows) = withering_step row rows (nat_le from_number row.0) row.1.geom.withering refl refl (first-withering rows)
+  first-withering (row ∷ rows) =
+      withering_step row rows (nat_le from_number row.0) row.1.geom.withering refl refl (first-withering rows)

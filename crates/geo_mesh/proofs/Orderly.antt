@@ -1,5 +1,5 @@
 -- An orderly graph stays orderly through each change of one thing.
-use Rattle.std.specs.Prelude.{◌≡◌, ◌≢◌, ℕ, ◌+◌, ◌<◌, ◌≤◌, ◌^◌, ◌==◌, Bool, true, not, List, [], ◌∷◌, ◌++◌, find, Option, Some, None, All, IsSome, IfSome, IsSomeAnd, false}
+use Rattle.std.specs.Prelude.{◌≡◌, ◌≢◌, ℕ, ◌+◌, ◌<◌, ◌≤◌, ◌^◌, ◌==◌, Bool, true, not, List, [], ◌∷◌, ◌++◌, find, Option, Some, None, All, IsSome, IsSomeAnd, false}
 use Rattle.std.specs.Option.{option_map, option_or}
 use Rattle.std.proofs.Common.{refl, sym, ◌∙◌, ap, subst, arith}
 use Rattle.std.proofs.lemmas.List.Elements.{recursion_from_All, All-from_recursion, All-push, All-filter}
@@ -7,11 +7,11 @@ use Rattle.std.proofs.lemmas.List.Folds.{find-append}
 use Rattle.geo_base.specs.declared.kind.Kind.{Kind}
 use Rattle.geo_base.specs.declared.kind.Kind.TheVariants as kinds
 use Rattle.geo_model.specs.Words.{change_where}
-use Rattle.geo_model.specs.Topology.{Topology, Geom, Provider, Consumer, geom_at, provider_at, providers_of, consumers_of, attached_to, add_geom, add_provider, add_consumer, remove_geom, remove_provider, remove_consumer, attach, detach, set_error, set_size, set_withering, set_marks, set_config, note_started}
+use Rattle.geo_model.specs.Topology.{Topology, Geom, Provider, Consumer, geom_at, provider_at, providers_of, consumers_of, attached_to, add_geom, add_provider, add_consumer, remove_geom, remove_provider, remove_consumer, attach, detach, set_marks}
 use Rattle.geo_model.specs.Graph.{IsInOrder, PartsLive}
-use Rattle.geo_laws_graph.specs.LookupLaws.{AddedGeomIsFound, AddedProviderIsFound, AddedConsumerIsFound, RemovedGeomIsGone, RemovedProviderIsGone, RemovedConsumerIsGone, AttachedIsFound, DetachedIsFound, MarksAreFound, ErrorIsFound, SizeIsFound, WitheringIsFound, ConfigIsFound, StartIsFound, PartsStayAlive}
+use Rattle.geo_laws_graph.specs.LookupLaws.{AddedGeomIsFound, AddedProviderIsFound, AddedConsumerIsFound, RemovedGeomIsGone, RemovedProviderIsGone, RemovedConsumerIsGone, AttachedIsFound, DetachedIsFound, MarksAreFound, PartsStayAlive}
 use Rattle.geo_laws_graph.proofs.Lists.{changed, changed-keeps, find-changed, all-changed, numbers-changed}
-use Rattle.geo_laws_graph.proofs.Found.{added-geom, added-provider, added-consumer, removed-geom, removed-provider, removed-consumer, attached-found, detached-found, marks-found, error-found, size_found, withering-found, config-found, start-found}
+use Rattle.geo_laws_graph.proofs.Found.{added-geom, added-provider, added-consumer, removed-geom, removed-provider, removed-consumer, attached-found, detached-found, marks-found}
 use Rattle.geo_laws_graph.proofs.Living.{parts-alive, changed_parts, changed_provider-parts}
 use Rattle.geo_laws_graph.proofs.Numbered.{unique}
 use Rattle.std.specs.List.{AllByRecursion}
@@ -19,17 +19,21 @@ use Rattle.geo_mesh.specs.Topo.{is_provider_size}
 use Rattle.geo_mesh.specs.Graph.{IsNumber, IsOffer, IsOrderly}
 
 -- a fact of each item, where some are changed and the fact stays
-all_through : {X : Type 0} (P : X → Type 0) (hit : X → Bool) (change : X → X) → ((x : X) → P x → P (change x)) → (xs : List X) → All P xs → All P (change_where hit change xs)
+all_through : {X : Type 0} (P : X → Type 0) (hit : X → Bool) (change : X → X) → ((x : X) → P x → P (change x))
+    → (xs : List X) → All P xs → All P (change_where hit change xs)
 all_through P hit change so xs facts =
-    All-from_recursion P (change_where hit change xs) (all-changed hit change P (λ x e fact. so x fact) xs (recursion_from_All P xs facts))
+    All-from_recursion P (change_where hit change xs)
+    (all-changed hit change P (λ x e fact. so x fact) xs (recursion_from_All P xs facts))
 
 -- a fact of what there is, seen otherwise
-some_through : {X : Type 0} (P : X → Type 0) (f : X → X) → ((x : X) → P x → P (f x)) → (o : Option X) → IsSomeAnd o P → IsSomeAnd (option_map f o) P
+some_through : {X : Type 0} (P : X → Type 0) (f : X → X) → ((x : X) → P x → P (f x)) → (o : Option X)
+    → IsSomeAnd o P → IsSomeAnd (option_map f o) P
 some_through P f so (Some x) fact = so x fact
 some_through P f so None never = never
 
 -- a fact of the first of a list stays where another item comes behind it
-some_behind : {X : Type 0} (P : X → Type 0) (test : X → Bool) (xs ys : List X) → IsSomeAnd (find test xs) P → IsSomeAnd (find test (xs ++ ys)) P
+some_behind : {X : Type 0} (P : X → Type 0) (test : X → Bool) (xs ys : List X) → IsSomeAnd (find test xs) P
+    → IsSomeAnd (find test (xs ++ ys)) P
 some_behind P test xs ys fact = rw find-append (at (find test xs) fact) where
   at : (o : Option _) → IsSomeAnd o P → IsSomeAnd (option_or o (find test ys)) P
   at (Some x) fact = fact
@@ -44,15 +48,18 @@ module _ {C : Type 0} (t : Topology C) (is : IsOrderly t) where
   alive : PartsStayAlive C
   alive = parts-alive
 
-  module _ (g : ℕ) (change : Geom C → Geom C) (number : (x : Geom C) → (change x).number ≡ x.number) (kind : (x : Geom C) → (change x).kind ≡ x.kind) where
+  module _ (g : ℕ) (change : Geom C → Geom C) (number : (x : Geom C)
+      → (change x).number ≡ x.number) (kind : (x : Geom C) → (change x).kind ≡ x.kind) where
     -- the graph with a geom changed
     abbrev with_geom_changed : Topology C
     with_geom_changed = record t { geoms = change_where (λ (x : Geom C). x.number == g) change t.geoms }
 
     -- a geom keeps its class
-    class_stays : (n : ℕ) (k : Kind) → IsSomeAnd (geom_at t n) (λ x. x.kind ≡ k) → IsSomeAnd (geom_at with_geom_changed n) (λ x. x.kind ≡ k)
+    class_stays : (n : ℕ) (k : Kind) → IsSomeAnd (geom_at t n) (λ x. x.kind ≡ k)
+        → IsSomeAnd (geom_at with_geom_changed n) (λ x. x.kind ≡ k)
     class_stays n k stands =
-        rw (find-changed (λ (x : Geom C). x.number == g) change (λ (x : Geom C). x.number == n) (λ x e. ap (λ m. m == n) (number x)) t.geoms)
+        rw (find-changed (λ (x : Geom C). x.number == g) change (λ (x : Geom C). x.number == n)
+        (λ x e. ap (λ m. m == n) (number x)) t.geoms)
         (some_through (λ (x : Geom C). x.kind ≡ k) (changed (λ (x : Geom C). x.number == g) change)
         (λ x was. changed-keeps (λ (x : Geom C). x.number == g) change (λ (x : Geom C). x.kind) (λ y e. kind y) x ∙ was)
         (geom_at t n) stands)
@@ -61,7 +68,8 @@ module _ {C : Type 0} (t : Topology C) (is : IsOrderly t) where
     pub orderly-geom : IsOrderly with_geom_changed
     orderly-geom = record {
       order = record {
-        geoms = numbers-changed (λ (x : Geom C). x.number) (λ (x : Geom C). x.number == g) change (λ x e. number x) t.next_geom t.geoms is.order.geoms;
+        geoms = numbers-changed (λ (x : Geom C). x.number) (λ (x : Geom C). x.number == g) change (λ x e. number x)
+            t.next_geom t.geoms is.order.geoms;
         providers = is.order.providers;
         consumers = is.order.consumers;
       };
@@ -79,9 +87,11 @@ module _ {C : Type 0} (t : Topology C) (is : IsOrderly t) where
       offers = is.offers;
     }
 
-  module _ (p : ℕ) (change : Provider → Provider) (number : (x : Provider) → (change x).number ≡ x.number) (geom : (x : Provider) → (change x).geom ≡ x.geom) where
+  module _ (p : ℕ) (change : Provider → Provider) (number : (x : Provider)
+      → (change x).number ≡ x.number) (geom : (x : Provider) → (change x).geom ≡ x.geom) where
     -- what is offered still is, if it is the provider of the number
-    offer_at : (x y : Provider) (b : Bool) → (y.number == p) ≡ b → ((y.number == p) ≡ true → y ≡ x) → (IsOffer x → IsOffer (change x)) → IsOffer y
+    offer_at : (x y : Provider) (b : Bool) → (y.number == p) ≡ b → ((y.number == p) ≡ true → y ≡ x)
+        → (IsOffer x → IsOffer (change x)) → IsOffer y
         → IsOffer (changed (λ (z : Provider). z.number == p) change y)
     offer_at x y true e only so offer = rw e (subst (λ z. IsOffer z → IsOffer (change z)) (sym (only e)) so offer)
     offer_at x y false e only so offer = rw e offer
@@ -91,7 +101,8 @@ module _ {C : Type 0} (t : Topology C) (is : IsOrderly t) where
         → AllByRecursion (λ (y : Provider). (y.number == p) ≡ true → y ≡ x) ys → AllByRecursion IsOffer ys
         → AllByRecursion IsOffer (change_where (λ (z : Provider). z.number == p) change ys)
     offers_stay x so [] only offers = tt
-    offers_stay x so (y ∷ ys) only offers = (offer_at x y (y.number == p) refl only.0 so offers.0, offers_stay x so ys only.1 offers.1)
+    offers_stay x so (y ∷ ys) only offers =
+        (offer_at x y (y.number == p) refl only.0 so offers.0, offers_stay x so ys only.1 offers.1)
 
     -- a provider that is changed but keeps its number and its geom
     pub orderly-provider : (x : Provider) → provider_at t p ≡ Some x → (IsOffer x → IsOffer (change x))
@@ -99,7 +110,8 @@ module _ {C : Type 0} (t : Topology C) (is : IsOrderly t) where
     orderly-provider x found so = record {
       order = record {
         geoms = is.order.geoms;
-        providers = numbers-changed (λ (y : Provider). y.number) (λ (y : Provider). y.number == p) change (λ y e. number y)
+        providers = numbers-changed (λ (y : Provider). y.number) (λ (y : Provider). y.number == p) change
+            (λ y e. number y)
             t.next_provider t.providers is.order.providers;
         consumers = is.order.consumers;
       };
@@ -116,11 +128,13 @@ module _ {C : Type 0} (t : Topology C) (is : IsOrderly t) where
       first = record { dev = is.first.dev; taste = is.first.taste };
       offers =
           All-from_recursion IsOffer (change_where (λ (y : Provider). y.number == p) change t.providers)
-          (offers_stay x so t.providers (unique (λ (y : Provider). y.number) t.next_provider p t.providers x is.order.providers found)
+          (offers_stay x so t.providers
+          (unique (λ (y : Provider). y.number) t.next_provider p t.providers x is.order.providers found)
           (recursion_from_All IsOffer t.providers is.offers));
     }
 
-  module _ (hit : Consumer → Bool) (change : Consumer → Consumer) (number : (x : Consumer) → (change x).number ≡ x.number) where
+  module _ (hit : Consumer → Bool) (change : Consumer → Consumer) (number : (x : Consumer)
+      → (change x).number ≡ x.number) where
     -- the graph with some consumers changed
     abbrev with_changes : Topology C
     with_changes = record t { consumers = change_where hit change t.consumers }
@@ -132,7 +146,8 @@ module _ {C : Type 0} (t : Topology C) (is : IsOrderly t) where
       numbers = record {
         geoms = is.numbers.geoms;
         providers = is.numbers.providers;
-        consumers = all_through (λ (x : Consumer). 1 ≤ x.number) hit change (λ x some. subst (λ n. 1 ≤ n) (sym (number x)) some) t.consumers is.numbers.consumers;
+        consumers = all_through (λ (x : Consumer). 1 ≤ x.number) hit change
+            (λ x some. subst (λ n. 1 ≤ n) (sym (number x)) some) t.consumers is.numbers.consumers;
         next_geom = is.numbers.next_geom;
         next_provider = is.numbers.next_provider;
         next_consumer = is.numbers.next_consumer;
@@ -146,22 +161,26 @@ module _ {C : Type 0} (t : Topology C) (is : IsOrderly t) where
   pub orderly-attach : (c p : ℕ) → IsSome (provider_at t p) → IsOrderly (attach t c p)
   orderly-attach c p there =
       let law : AttachedIsFound C = attached-found in
-      consumers_changed (λ x. x.number == c) (λ x. record x { provider = Some p }) (λ x. refl) (law.order t c p is.order) (alive.attached t c p there is.parts)
+      consumers_changed (λ x. x.number == c) (λ x. record x { provider = Some p }) (λ x. refl)
+      (law.order t c p is.order) (alive.attached t c p there is.parts)
 
   -- a consumer that is detached
   pub orderly-detach : (c : ℕ) → IsOrderly (detach t c)
   orderly-detach c =
       let law : DetachedIsFound C = detached-found in
-      consumers_changed (λ x. x.number == c) (λ x. record x { provider = None }) (λ x. refl) (law.order t c is.order) (alive.detached t c is.parts)
+      consumers_changed (λ x. x.number == c) (λ x. record x { provider = None }) (λ x. refl)
+      (law.order t c is.order) (alive.detached t c is.parts)
 
   -- consumers with a mark, or without
   pub orderly-set_marks : (test : Consumer → Bool) (mark : Bool) → IsOrderly (set_marks t test mark)
   orderly-set_marks test mark =
       let law : MarksAreFound C = marks-found in
-      consumers_changed test (λ x. record x { spoiled = mark }) (λ x. refl) (law.order t test mark is.order) (alive.marked t test mark is.parts)
+      consumers_changed test (λ x. record x { spoiled = mark }) (λ x. refl) (law.order t test mark is.order)
+      (alive.marked t test mark is.parts)
 
   -- a geom more
-  pub orderly-add_geom : (kind : Kind) (name : List ℕ) (config : C) (automatic : Bool) → t.next_geom + 1 < 2 ^ 64 → IsOrderly (add_geom t kind name config automatic)
+  pub orderly-add_geom : (kind : Kind) (name : List ℕ) (config : C) (automatic : Bool) → t.next_geom + 1 < 2 ^ 64
+      → IsOrderly (add_geom t kind name config automatic)
   orderly-add_geom kind name config automatic fits =
       let law : AddedGeomIsFound C = added-geom in
       record {
@@ -177,13 +196,15 @@ module _ {C : Type 0} (t : Topology C) (is : IsOrderly t) where
         parts = alive.geom_added t kind name config automatic is.parts;
         first = record {
           dev = some_behind (λ (x : Geom C). x.kind ≡ kinds.Dev) (λ (x : Geom C). x.number == 1) t.geoms _ is.first.dev;
-          taste = some_behind (λ (x : Geom C). x.kind ≡ kinds.Taste) (λ (x : Geom C). x.number == 2) t.geoms _ is.first.taste;
+          taste = some_behind (λ (x : Geom C). x.kind ≡ kinds.Taste) (λ (x : Geom C). x.number == 2) t.geoms _
+              is.first.taste;
         };
         offers = is.offers;
       }
 
   -- a provider more, of a geom other than the first two
-  pub orderly-add_provider : (geom : ℕ) (name : List ℕ) (size sector : ℕ) → IsSome (geom_at t geom) → geom ≢ 1 → geom ≢ 2 → is_provider_size size sector ≡ true
+  pub orderly-add_provider : (geom : ℕ) (name : List ℕ) (size sector : ℕ) → IsSome (geom_at t geom) → geom ≢ 1
+      → geom ≢ 2 → is_provider_size size sector ≡ true
       → t.next_provider + 1 < 2 ^ 64 → IsOrderly (add_provider t geom name size sector)
   orderly-add_provider geom name size sector there not_dev not_taste sizes fits =
       let law : AddedProviderIsFound C = added-provider in
@@ -191,7 +212,8 @@ module _ {C : Type 0} (t : Topology C) (is : IsOrderly t) where
         order = law.order t geom name size sector is.order;
         numbers = record {
           geoms = is.numbers.geoms;
-          providers = All-push (λ (x : Provider). 1 ≤ x.number) t.providers _ is.numbers.providers is.numbers.next_provider.some;
+          providers = All-push (λ (x : Provider). 1 ≤ x.number) t.providers _ is.numbers.providers
+              is.numbers.next_provider.some;
           consumers = is.numbers.consumers;
           next_geom = is.numbers.next_geom;
           next_provider = next_number t.next_provider fits;
@@ -199,11 +221,16 @@ module _ {C : Type 0} (t : Topology C) (is : IsOrderly t) where
         };
         parts = alive.provider_added t geom name size sector there is.parts;
         first = record { dev = is.first.dev; taste = is.first.taste };
-        offers = All-push IsOffer t.providers _ is.offers (record { not_dev = not_dev; not_taste = not_taste; sizes = sizes });
+        offers = All-push IsOffer t.providers _ is.offers (record {
+          not_dev = not_dev;
+          not_taste = not_taste;
+          sizes = sizes;
+        });
       }
 
   -- a consumer more, attached to nothing
-  pub orderly-add_consumer : (geom : ℕ) → IsSome (geom_at t geom) → t.next_consumer + 1 < 2 ^ 64 → IsOrderly (add_consumer t geom None)
+  pub orderly-add_consumer : (geom : ℕ) → IsSome (geom_at t geom) → t.next_consumer + 1 < 2 ^ 64
+      → IsOrderly (add_consumer t geom None)
   orderly-add_consumer geom there fits =
       let law : AddedConsumerIsFound C = added-consumer in
       record {
@@ -211,7 +238,8 @@ module _ {C : Type 0} (t : Topology C) (is : IsOrderly t) where
         numbers = record {
           geoms = is.numbers.geoms;
           providers = is.numbers.providers;
-          consumers = All-push (λ (x : Consumer). 1 ≤ x.number) t.consumers _ is.numbers.consumers is.numbers.next_consumer.some;
+          consumers = All-push (λ (x : Consumer). 1 ≤ x.number) t.consumers _ is.numbers.consumers
+              is.numbers.next_consumer.some;
           next_geom = is.numbers.next_geom;
           next_provider = is.numbers.next_provider;
           next_consumer = next_number t.next_consumer fits;
@@ -222,13 +250,15 @@ module _ {C : Type 0} (t : Topology C) (is : IsOrderly t) where
       }
 
   -- a geom less, other than the first two, without parts
-  pub orderly-remove_geom : (g : ℕ) → g ≢ 1 → g ≢ 2 → providers_of t g ≡ [] → consumers_of t g ≡ [] → IsOrderly (remove_geom t g)
+  pub orderly-remove_geom : (g : ℕ) → g ≢ 1 → g ≢ 2 → providers_of t g ≡ [] → consumers_of t g ≡ []
+      → IsOrderly (remove_geom t g)
   orderly-remove_geom g not_dev not_taste no_provider no_consumer =
       let law : RemovedGeomIsGone C = removed-geom in
       record {
         order = law.order t g is.order;
         numbers = record {
-          geoms = All-filter (λ (x : Geom C). not (x.number == g)) (λ (x : Geom C). 1 ≤ x.number) t.geoms is.numbers.geoms;
+          geoms = All-filter (λ (x : Geom C). not (x.number == g)) (λ (x : Geom C). 1 ≤ x.number) t.geoms
+              is.numbers.geoms;
           providers = is.numbers.providers;
           consumers = is.numbers.consumers;
           next_geom = is.numbers.next_geom;
@@ -251,7 +281,8 @@ module _ {C : Type 0} (t : Topology C) (is : IsOrderly t) where
         order = law.order t p is.order;
         numbers = record {
           geoms = is.numbers.geoms;
-          providers = All-filter (λ (x : Provider). not (x.number == p)) (λ (x : Provider). 1 ≤ x.number) t.providers is.numbers.providers;
+          providers = All-filter (λ (x : Provider). not (x.number == p)) (λ (x : Provider). 1 ≤ x.number)
+              t.providers is.numbers.providers;
           consumers = is.numbers.consumers;
           next_geom = is.numbers.next_geom;
           next_provider = is.numbers.next_provider;
@@ -271,7 +302,8 @@ module _ {C : Type 0} (t : Topology C) (is : IsOrderly t) where
         numbers = record {
           geoms = is.numbers.geoms;
           providers = is.numbers.providers;
-          consumers = All-filter (λ (x : Consumer). not (x.number == c)) (λ (x : Consumer). 1 ≤ x.number) t.consumers is.numbers.consumers;
+          consumers = All-filter (λ (x : Consumer). not (x.number == c)) (λ (x : Consumer). 1 ≤ x.number)
+              t.consumers is.numbers.consumers;
           next_geom = is.numbers.next_geom;
           next_provider = is.numbers.next_provider;
           next_consumer = is.numbers.next_consumer;

@@ -3,12 +3,14 @@ use Rattle.std.specs.Prelude.{◌≡◌, ◌≢◌, ◌⊎◌, ℕ, ◌+◌, ◌
 use Rattle.std.specs.List.{AllByRecursion}
 use Rattle.std.specs.Option.{option_map}
 use Rattle.std.proofs.Common.{refl, sym, ap, ◌∙◌, subst, inl, inr, arith}
-use Rattle.std.proofs.lemmas.Bool.{eqb-true, eq-eqb, ne_eqb}
+use Rattle.std.proofs.lemmas.Bool.{cases_Bool, eqb-true, eq-eqb, ne_eqb}
 use Rattle.std.proofs.lemmas.List.Elements.{recursion_from_All}
+use Rattle.std.proofs.Math.Bool.{or-false}
 use Rattle.geo_base.specs.declared.kind.Kind.{Kind}
 use Rattle.geo_base.specs.declared.kind.Kind.TheVariants as kinds
 use Rattle.geo_model.specs.Words.{largest, is_granted_kind, names_number}
 use Rattle.geo_model.specs.Topology.{Provider, Geom, Consumer, geom_at}
+use Rattle.geo_model.proofs.DemandLemmas.{names_some}
 use Rattle.geo_laws_graph.specs.LookupLaws.{EachIsFound}
 use Rattle.geo_laws_graph.proofs.Lists.{Rise, rise-from}
 use Rattle.geo_laws_graph.proofs.Found.{each-found}
@@ -30,12 +32,6 @@ use Rattle.geo_mesh.proofs.RankMend.{largest-same}
 use Rattle.geo_mesh.proofs.RankHeights.{local-few}
 use Rattle.geo_mesh.proofs.ViewLemmas.{geom_at-view}
 use Rattle.geo_mesh.proofs.RankRows.{all-at, kinds-bare}
-use Rattle.geo_mesh.proofs.RankWalk.{names-some}
-
--- by whether a geom is one of the first two
-first_or_not : (b : Bool) → (b ≡ true) ⊎ (b ≡ false)
-first_or_not true = inl refl
-first_or_not false = inr refl
 
 -- the rank of a later geom stands on what its consumers are attached to
 pub footing-later : (g : ℕ) (o : Option ℕ) → is_dev_or_taste g ≡ false → footing g o ≡ o
@@ -62,65 +58,111 @@ footing-unnamed g n o e = at (is_dev_or_taste g) refl where
 -- where it stands on a provider, the geom is a later one
 pub footing-some : (g p : ℕ) (o : Option ℕ) → footing g o ≡ Some p → (is_dev_or_taste g ≡ false) × (o ≡ Some p)
 footing-some g p o there = at (is_dev_or_taste g) refl there where
-  at : (b : Bool) → is_dev_or_taste g ≡ b → (if b then None else o) ≡ Some p → (is_dev_or_taste g ≡ false) × (o ≡ Some p)
+  at : (b : Bool) → is_dev_or_taste g ≡ b → (if b then None else o) ≡ Some p → (is_dev_or_taste g ≡ false)
+      × (o ≡ Some p)
   at true e there = absurd (cc)
   at false e there = (e, there)
 
 module _ (g : ℕ) where
   -- the providers below a later geom, by either table
-  links_step : is_dev_or_taste g ≡ false → (row : ℕ × ConsCell) (rows : List (ℕ × ConsCell)) (b : Bool) → (row.1.consumer.geom == g) ≡ b
-      → filter_map (λ (r : ℕ × (ℕ × Option ℕ)). r.1.1) (filter (λ (r : ℕ × (ℕ × Option ℕ)). r.1.0 == g) (rows_with ranked_link_of rows)) ≡ filter_map (λ (r : ℕ × (ℕ × Option ℕ)). r.1.1) (filter (λ (r : ℕ × (ℕ × Option ℕ)). r.1.0 == g) (rows_with links_of rows))
-      → filter_map (λ (r : ℕ × (ℕ × Option ℕ)). r.1.1) (filter (λ (r : ℕ × (ℕ × Option ℕ)). r.1.0 == g) (rows_with ranked_link_of (row ∷ rows))) ≡ filter_map (λ (r : ℕ × (ℕ × Option ℕ)). r.1.1) (filter (λ (r : ℕ × (ℕ × Option ℕ)). r.1.0 == g) (rows_with links_of (row ∷ rows)))
+  links_step : is_dev_or_taste g ≡ false → (row : ℕ × ConsCell) (rows : List (ℕ × ConsCell)) (b : Bool)
+      → (row.1.consumer.geom == g) ≡ b
+      → filter_map (λ (r : ℕ × (ℕ × Option ℕ)). r.1.1)
+      (filter (λ (r : ℕ × (ℕ × Option ℕ)). r.1.0 == g) (rows_with ranked_link_of rows))
+      ≡ filter_map (λ (r : ℕ × (ℕ × Option ℕ)). r.1.1)
+      (filter (λ (r : ℕ × (ℕ × Option ℕ)). r.1.0 == g) (rows_with links_of rows))
+      → filter_map (λ (r : ℕ × (ℕ × Option ℕ)). r.1.1)
+      (filter (λ (r : ℕ × (ℕ × Option ℕ)). r.1.0 == g) (rows_with ranked_link_of (row ∷ rows)))
+      ≡ filter_map (λ (r : ℕ × (ℕ × Option ℕ)). r.1.1)
+      (filter (λ (r : ℕ × (ℕ × Option ℕ)). r.1.0 == g) (rows_with links_of (row ∷ rows)))
   links_step later row rows false e rest = rw e rest
-  links_step later row rows true e rest = at row.1.consumer.prov (footing-later row.1.consumer.geom row.1.consumer.prov (rw (eqb-true row.1.consumer.geom g e) later)) refl
+  links_step later row rows true e rest =
+      at row.1.consumer.prov
+      (footing-later row.1.consumer.geom row.1.consumer.prov (rw (eqb-true row.1.consumer.geom g e) later)) refl
     where
       at : (o : Option ℕ) → footing row.1.consumer.geom row.1.consumer.prov ≡ o → row.1.consumer.prov ≡ o
-          → filter_map (λ (r : ℕ × (ℕ × Option ℕ)). r.1.1) (filter (λ (r : ℕ × (ℕ × Option ℕ)). r.1.0 == g) (rows_with ranked_link_of (row ∷ rows))) ≡ filter_map (λ (r : ℕ × (ℕ × Option ℕ)). r.1.1) (filter (λ (r : ℕ × (ℕ × Option ℕ)). r.1.0 == g) (rows_with links_of (row ∷ rows)))
+          → filter_map (λ (r : ℕ × (ℕ × Option ℕ)). r.1.1)
+          (filter (λ (r : ℕ × (ℕ × Option ℕ)). r.1.0 == g) (rows_with ranked_link_of (row ∷ rows)))
+          ≡ filter_map (λ (r : ℕ × (ℕ × Option ℕ)). r.1.1)
+          (filter (λ (r : ℕ × (ℕ × Option ℕ)). r.1.0 == g) (rows_with links_of (row ∷ rows)))
       at None foot is = rw (e, foot, is) rest
       at (Some p) foot is = rw (e, foot, is) (ap (λ qs. p ∷ qs) rest)
 
   -- over all rows
   links_same : is_dev_or_taste g ≡ false → (rows : List (ℕ × ConsCell))
-      → filter_map (λ (r : ℕ × (ℕ × Option ℕ)). r.1.1) (filter (λ (r : ℕ × (ℕ × Option ℕ)). r.1.0 == g) (rows_with ranked_link_of rows)) ≡ filter_map (λ (r : ℕ × (ℕ × Option ℕ)). r.1.1) (filter (λ (r : ℕ × (ℕ × Option ℕ)). r.1.0 == g) (rows_with links_of rows))
+      → filter_map (λ (r : ℕ × (ℕ × Option ℕ)). r.1.1)
+      (filter (λ (r : ℕ × (ℕ × Option ℕ)). r.1.0 == g) (rows_with ranked_link_of rows))
+      ≡ filter_map (λ (r : ℕ × (ℕ × Option ℕ)). r.1.1)
+      (filter (λ (r : ℕ × (ℕ × Option ℕ)). r.1.0 == g) (rows_with links_of rows))
   links_same later [] = refl
   links_same later (row ∷ rows) = links_step later row rows (row.1.consumer.geom == g) refl (links_same later rows)
 
   -- the first two stand on no provider
-  no_footing : is_dev_or_taste g ≡ true → (rows : List (ℕ × ConsCell)) → filter_map (λ (r : ℕ × (ℕ × Option ℕ)). r.1.1) (filter (λ (r : ℕ × (ℕ × Option ℕ)). r.1.0 == g) (rows_with ranked_link_of rows)) ≡ []
+  no_footing : is_dev_or_taste g ≡ true → (rows : List (ℕ × ConsCell))
+      → filter_map (λ (r : ℕ × (ℕ × Option ℕ)). r.1.1)
+      (filter (λ (r : ℕ × (ℕ × Option ℕ)). r.1.0 == g) (rows_with ranked_link_of rows)) ≡ []
   no_footing first [] = refl
   no_footing first (row ∷ rows) = at (row.1.consumer.geom == g) refl (no_footing first rows) where
-    at : (b : Bool) → (row.1.consumer.geom == g) ≡ b → filter_map (λ (r : ℕ × (ℕ × Option ℕ)). r.1.1) (filter (λ (r : ℕ × (ℕ × Option ℕ)). r.1.0 == g) (rows_with ranked_link_of rows)) ≡ []
-        → filter_map (λ (r : ℕ × (ℕ × Option ℕ)). r.1.1) (filter (λ (r : ℕ × (ℕ × Option ℕ)). r.1.0 == g) (rows_with ranked_link_of (row ∷ rows))) ≡ []
-    at true e rest = rw (e, footing-first row.1.consumer.geom row.1.consumer.prov (rw (eqb-true row.1.consumer.geom g e) first)) rest
+    at : (b : Bool) → (row.1.consumer.geom == g) ≡ b
+        → filter_map (λ (r : ℕ × (ℕ × Option ℕ)). r.1.1)
+        (filter (λ (r : ℕ × (ℕ × Option ℕ)). r.1.0 == g) (rows_with ranked_link_of rows)) ≡ []
+        → filter_map (λ (r : ℕ × (ℕ × Option ℕ)). r.1.1)
+        (filter (λ (r : ℕ × (ℕ × Option ℕ)). r.1.0 == g) (rows_with ranked_link_of (row ∷ rows))) ≡ []
+    at true e rest =
+        rw (e, footing-first row.1.consumer.geom row.1.consumer.prov (rw (eqb-true row.1.consumer.geom g e) first)) rest
     at false e rest = rw e rest
 
 module _ (edges : Edges) where
   -- a consumer by which a rank stands on a provider is of a later geom
-  pub attached-later : (p c : ℕ) → passes (is_attached p) (value_at (ranked_links edges).rows c) ≡ true → is_dev_or_taste (user edges c) ≡ false
-  attached-later p c there = at (value_at edges.consumers.rows c) refl (rw (value_at-rows_with ranked_link_of c edges.consumers.rows) at there) where
-    at : (o : Option ConsCell) → value_at edges.consumers.rows c ≡ o → passes (is_attached p) (option_map ranked_link_of o) ≡ true → is_dev_or_taste (user edges c) ≡ false
-    at None e there = absurd (cc)
-    at (Some v) e there = rw (value_at-rows_with ranked_link_of c edges.consumers.rows, e) (footing-some v.consumer.geom p v.consumer.prov (names-some (footing v.consumer.geom v.consumer.prov) p there)).0
+  pub attached-later : (p c : ℕ) → passes (is_attached p) (value_at (ranked_links edges).rows c) ≡ true
+      → is_dev_or_taste (user edges c) ≡ false
+  attached-later p c there =
+      at (value_at edges.consumers.rows c) refl
+      (rw (value_at-rows_with ranked_link_of c edges.consumers.rows) at there) where
+        at : (o : Option ConsCell) → value_at edges.consumers.rows c ≡ o
+            → passes (is_attached p) (option_map ranked_link_of o) ≡ true → is_dev_or_taste (user edges c) ≡ false
+        at None e there = absurd (cc)
+        at (Some v) e there =
+            rw (value_at-rows_with ranked_link_of c edges.consumers.rows, e)
+            (footing-some v.consumer.geom p v.consumer.prov
+            (names_some (footing v.consumer.geom v.consumer.prov) p there)).0
 
   -- and it is attached to that provider
-  pub attached-linked : (p c : ℕ) → passes (is_attached p) (value_at (ranked_links edges).rows c) ≡ true → passes (is_attached p) (value_at (links edges).rows c) ≡ true
-  attached-linked p c there = rw (value_at-rows_with links_of c edges.consumers.rows) (at (value_at edges.consumers.rows c) (rw (value_at-rows_with ranked_link_of c edges.consumers.rows) at there)) where
-    at : (o : Option ConsCell) → passes (is_attached p) (option_map ranked_link_of o) ≡ true → passes (is_attached p) (option_map links_of o) ≡ true
-    at None there = absurd (cc)
-    at (Some v) there = rw (footing-some v.consumer.geom p v.consumer.prov (names-some (footing v.consumer.geom v.consumer.prov) p there)).1 (eq-eqb p p refl)
+  pub attached-linked : (p c : ℕ) → passes (is_attached p) (value_at (ranked_links edges).rows c) ≡ true
+      → passes (is_attached p) (value_at (links edges).rows c) ≡ true
+  attached-linked p c there =
+      rw (value_at-rows_with links_of c edges.consumers.rows)
+      (at (value_at edges.consumers.rows c)
+      (rw (value_at-rows_with ranked_link_of c edges.consumers.rows) at there)) where
+        at : (o : Option ConsCell) → passes (is_attached p) (option_map ranked_link_of o) ≡ true
+            → passes (is_attached p) (option_map links_of o) ≡ true
+        at None there = absurd (cc)
+        at (Some v) there =
+            rw (footing-some v.consumer.geom p v.consumer.prov
+            (names_some (footing v.consumer.geom v.consumer.prov) p there)).1 (eq-eqb p p refl)
 
   -- the rank of a later geom stands on a provider to which its consumer is attached
-  pub attached-ranked : (p c : ℕ) → is_dev_or_taste (user edges c) ≡ false → passes (is_attached p) (value_at (links edges).rows c) ≡ true → passes (is_attached p) (value_at (ranked_links edges).rows c) ≡ true
-  attached-ranked p c later there = rw (value_at-rows_with ranked_link_of c edges.consumers.rows) (at (value_at edges.consumers.rows c) refl (rw (value_at-rows_with links_of c edges.consumers.rows) at there)) where
-    at : (o : Option ConsCell) → value_at edges.consumers.rows c ≡ o → passes (is_attached p) (option_map links_of o) ≡ true → passes (is_attached p) (option_map ranked_link_of o) ≡ true
-    at None e there = absurd (cc)
-    at (Some v) e there =
-        let own : user edges c ≡ v.consumer.geom = rw (value_at-rows_with ranked_link_of c edges.consumers.rows, e) refl in
-        let stands : footing v.consumer.geom v.consumer.prov ≡ v.consumer.prov = footing-later v.consumer.geom v.consumer.prov (rw own at later) in
-        rw stands there
+  pub attached-ranked : (p c : ℕ) → is_dev_or_taste (user edges c) ≡ false
+      → passes (is_attached p) (value_at (links edges).rows c) ≡ true
+      → passes (is_attached p) (value_at (ranked_links edges).rows c) ≡ true
+  attached-ranked p c later there =
+      rw (value_at-rows_with ranked_link_of c edges.consumers.rows)
+      (at (value_at edges.consumers.rows c) refl
+      (rw (value_at-rows_with links_of c edges.consumers.rows) at there)) where
+        at : (o : Option ConsCell) → value_at edges.consumers.rows c ≡ o
+            → passes (is_attached p) (option_map links_of o) ≡ true
+            → passes (is_attached p) (option_map ranked_link_of o) ≡ true
+        at None e there = absurd (cc)
+        at (Some v) e there =
+            let own : user edges c ≡ v.consumer.geom =
+            rw (value_at-rows_with ranked_link_of c edges.consumers.rows, e) refl in
+            let stands : footing v.consumer.geom v.consumer.prov ≡ v.consumer.prov =
+            footing-later v.consumer.geom v.consumer.prov (rw own at later) in
+            rw stands there
 
 -- a provider's geom is a later one
-pub owner-later : (edges : Edges) → AllByRecursion (λ row. is_dev_or_taste row.1 ≡ false) (offers edges).rows → (p : ℕ) → IsSome (value_at (offers edges).rows p) → is_dev_or_taste (owner edges p) ≡ false
+pub owner-later : (edges : Edges) → AllByRecursion (λ row. is_dev_or_taste row.1 ≡ false) (offers edges).rows
+    → (p : ℕ) → IsSome (value_at (offers edges).rows p) → is_dev_or_taste (owner edges p) ≡ false
 owner-later edges bare p there = at (value_at (offers edges).rows p) refl there where
   at : (o : Option ℕ) → value_at (offers edges).rows p ≡ o → IsSome o → is_dev_or_taste (owner edges p) ≡ false
   at None e never = absurd (cc)
@@ -137,100 +179,130 @@ module _ (edges : Edges) where
 
   module _ (bare : AllByRecursion (λ row. is_dev_or_taste row.1 ≡ false) (offers edges).rows) where
     -- what offers a provider is a later geom
-    offered_later : (qs : List ℕ) (h : ℕ) → IsAmong (filter_map (value_at (offers edges).rows) qs) h → is_dev_or_taste h ≡ false
+    offered_later : (qs : List ℕ) (h : ℕ) → IsAmong (filter_map (value_at (offers edges).rows) qs) h
+        → is_dev_or_taste h ≡ false
     offered_later [] h there = absurd there
     offered_later (q ∷ qs) h there = at (value_at (offers edges).rows q) refl there (λ e. offered_later qs h e) where
-      at : (o : Option ℕ) → value_at (offers edges).rows q ≡ o → IsAmong (filter_map (value_at (offers edges).rows) (q ∷ qs)) h → (IsAmong (filter_map (value_at (offers edges).rows) qs) h → is_dev_or_taste h ≡ false) → is_dev_or_taste h ≡ false
+      at : (o : Option ℕ) → value_at (offers edges).rows q ≡ o
+          → IsAmong (filter_map (value_at (offers edges).rows) (q ∷ qs)) h
+          → (IsAmong (filter_map (value_at (offers edges).rows) qs) h → is_dev_or_taste h ≡ false)
+          → is_dev_or_taste h ≡ false
       at None e there so = so (rw e at there)
       at (Some k) e there so = pick (rw e at there) where
         pick : (k ≡ h) ⊎ IsAmong (filter_map (value_at (offers edges).rows) qs) h → is_dev_or_taste h ≡ false
-        pick (inl same) = subst (λ n. is_dev_or_taste n ≡ false) same (all-at (λ (row : ℕ × ℕ). is_dev_or_taste row.1 ≡ false) (offers edges).rows q k bare e)
+        pick (inl same) =
+            subst (λ n. is_dev_or_taste n ≡ false) same
+            (all-at (λ (row : ℕ × ℕ). is_dev_or_taste row.1 ≡ false) (offers edges).rows q k bare e)
         pick (inr rest) = so rest
 
     -- so what is directly below a geom is one
     pub below-later : (x h : ℕ) → IsAmong (below edges x) h → is_dev_or_taste h ≡ false
-    below-later x h there = offered_later (filter_map (λ (r : ℕ × (ℕ × Option ℕ)). r.1.1) (filter (λ (r : ℕ × (ℕ × Option ℕ)). r.1.0 == x) (links edges).rows)) h there
+    below-later x h there =
+        offered_later
+        (filter_map (λ (r : ℕ × (ℕ × Option ℕ)). r.1.1)
+        (filter (λ (r : ℕ × (ℕ × Option ℕ)). r.1.0 == x) (links edges).rows)) h there
 
     module _ (f : ℕ → ℕ) (local : (x : ℕ) → f x ≡ above (ranked_below edges) f x) where
       -- what is directly below a geom has the rank that stands in its cell
       same_beneath : (x : ℕ) → largest (map (rank_from f edges) (below edges x)) ≡ largest (map f (below edges x))
-      same_beneath x = largest-same (rank_from f edges) f (below edges x) (λ h there. (let later : is_dev_or_taste h ≡ false = below-later x h there in rw later refl))
+      same_beneath x =
+          largest-same (rank_from f edges) f (below edges x) (λ h there. (let later : is_dev_or_taste h ≡ false =
+          below-later x h there in rw later refl))
 
       -- the ranks are one more than the highest directly below
       pub rank_from-local : (x : ℕ) → rank_from f edges x ≡ above (below edges) (rank_from f edges) x
-      rank_from-local x = at (first_or_not (is_dev_or_taste x)) where
-        at : (is_dev_or_taste x ≡ true) ⊎ (is_dev_or_taste x ≡ false) → rank_from f edges x ≡ above (below edges) (rank_from f edges) x
-        at (inl first) = (let here : rank_from f edges x ≡ 1 + largest (map f (below edges x)) = rw first refl in omega (arith, same_beneath x))
+      rank_from-local x = at (cases_Bool (is_dev_or_taste x)) where
+        at : (is_dev_or_taste x ≡ true) ⊎ (is_dev_or_taste x ≡ false)
+            → rank_from f edges x ≡ above (below edges) (rank_from f edges) x
+        at (inl first) = (let here : rank_from f edges x ≡ 1 + largest (map f (below edges x)) = rw first refl in
+            omega (arith, same_beneath x))
         at (inr later) =
             let here : rank_from f edges x ≡ f x = rw later refl in
-            let stands : f x ≡ 1 + largest (map f (below edges x)) = subst (λ ms. f x ≡ 1 + largest (map f ms)) (ranked-below x later) (local x) in
+            let stands : f x ≡ 1 + largest (map f (below edges x)) =
+            subst (λ ms. f x ≡ 1 + largest (map f ms)) (ranked-below x later) (local x) in
             omega (arith, same_beneath x)
 
       -- and no more than one above the number of geoms
-      pub rank_from-few : (numbers : List ℕ) → ((g : ℕ) → is_dev_or_taste g ≡ true → IsAmong numbers g) → ((g : ℕ) → 2 ≤ f g → IsAmong numbers g) → (x : ℕ) → rank_from f edges x ≤ length numbers + 1
-      rank_from-few numbers listed stood x = local-few (rank_from f edges) (below edges) numbers rank_from-local (λ g high. at g high (first_or_not (is_dev_or_taste g))) x where
-        at : (g : ℕ) → 2 ≤ rank_from f edges g → (is_dev_or_taste g ≡ true) ⊎ (is_dev_or_taste g ≡ false) → IsAmong numbers g
-        at g high (inl first) = listed g first
-        at g high (inr later) = (let here : rank_from f edges g ≡ f g = rw later refl in stood g (omega arith))
+      pub rank_from-few : (numbers : List ℕ) → ((g : ℕ) → is_dev_or_taste g ≡ true → IsAmong numbers g)
+          → ((g : ℕ) → 2 ≤ f g → IsAmong numbers g) → (x : ℕ) → rank_from f edges x ≤ length numbers + 1
+      rank_from-few numbers listed stood x =
+          local-few (rank_from f edges) (below edges) numbers rank_from-local
+          (λ g high. at g high (cases_Bool (is_dev_or_taste g))) x where
+            at : (g : ℕ) → 2 ≤ rank_from f edges g → (is_dev_or_taste g ≡ true) ⊎ (is_dev_or_taste g ≡ false)
+                → IsAmong numbers g
+            at g high (inl first) = listed g first
+            at g high (inr later) = (let here : rank_from f edges g ≡ f g = rw later refl in stood g (omega arith))
 
     -- what stands above a later geom does so by the ranks
-    pub stands-down : (x g : ℕ) → is_dev_or_taste x ≡ false → StandsAbove (below edges) x g → StandsAbove (ranked_below edges) x g
-    stands-down x g later stands = λ has here so. only (has x) (stands (λ y. has y || is_dev_or_taste y) (rw here refl) (λ y h there is. up has so y h there is (first_or_not (is_dev_or_taste y)))) where
-      -- of one of two facts, of which the second is false
-      only : (b : Bool) → (b || is_dev_or_taste x) ≡ true → b ≡ true
-      only b fact = at b (rw later at fact) where
-        at : (b : Bool) → (b || false) ≡ true → b ≡ true
-        at true fact = refl
-        at false fact = fact
+    pub stands-down : (x g : ℕ) → is_dev_or_taste x ≡ false → StandsAbove (below edges) x g
+        → StandsAbove (ranked_below edges) x g
+    stands-down x g later stands =
+        λ has here so.
+        only (has x)
+        (stands (λ y. has y || is_dev_or_taste y) (rw here refl)
+        (λ y h there is. up has so y h there is (cases_Bool (is_dev_or_taste y)))) where
+          -- of one of two facts, of which the second is false
+          only : (b : Bool) → (b || is_dev_or_taste x) ≡ true → b ≡ true
+          only b fact = sym (or-false b) ∙ (rw later at fact)
 
-      -- the fact goes up along each edge
-      up : (has : ℕ → Bool) → ((y h : ℕ) → IsAmong (ranked_below edges y) h → has h ≡ true → has y ≡ true) → (y h : ℕ) → IsAmong (below edges y) h → (has h || is_dev_or_taste h) ≡ true
-          → (is_dev_or_taste y ≡ true) ⊎ (is_dev_or_taste y ≡ false) → (has y || is_dev_or_taste y) ≡ true
-      up has so y h there is (inl first) = at (has y) where
-        at : (b : Bool) → (b || is_dev_or_taste y) ≡ true
-        at true = refl
-        at false = first
-      up has so y h there is (inr above_later) =
-          let near : IsAmong (ranked_below edges y) h = subst (λ ms. IsAmong ms h) (sym (ranked-below y above_later)) there in
-          let below_later : is_dev_or_taste h ≡ false = below-later y h there in
-          let here : has h ≡ true = at (has h) (rw below_later at is) in
-          rw (so y h near here) refl
-        where
-          at : (b : Bool) → (b || false) ≡ true → b ≡ true
-          at true fact = refl
-          at false fact = fact
+          -- the fact goes up along each edge
+          up : (has : ℕ → Bool) → ((y h : ℕ) → IsAmong (ranked_below edges y) h → has h ≡ true → has y ≡ true)
+              → (y h : ℕ) → IsAmong (below edges y) h → (has h || is_dev_or_taste h) ≡ true
+              → (is_dev_or_taste y ≡ true) ⊎ (is_dev_or_taste y ≡ false) → (has y || is_dev_or_taste y) ≡ true
+          up has so y h there is (inl first) = at (has y) where
+            at : (b : Bool) → (b || is_dev_or_taste y) ≡ true
+            at true = refl
+            at false = first
+          up has so y h there is (inr above_later) =
+              let near : IsAmong (ranked_below edges y) h =
+              subst (λ ms. IsAmong ms h) (sym (ranked-below y above_later)) there in
+              let below_later : is_dev_or_taste h ≡ false = below-later y h there in
+              let here : has h ≡ true = sym (or-false (has h)) ∙ (rw below_later at is) in
+              rw (so y h near here) refl
 
   -- what stands above a geom by the ranks does so by the graph
   pub stands-up : (x g : ℕ) → StandsAbove (ranked_below edges) x g → StandsAbove (below edges) x g
-  stands-up x g stands = λ has here so. stands has here (λ y h there is. at has so y h there is (first_or_not (is_dev_or_taste y))) where
-    at : (has : ℕ → Bool) → ((y h : ℕ) → IsAmong (below edges y) h → has h ≡ true → has y ≡ true) → (y h : ℕ) → IsAmong (ranked_below edges y) h → has h ≡ true
-        → (is_dev_or_taste y ≡ true) ⊎ (is_dev_or_taste y ≡ false) → has y ≡ true
-    at has so y h there is (inl first) = absurd (subst (λ ms. IsAmong ms h) (ranked_below-first y first) there)
-    at has so y h there is (inr later) = so y h (subst (λ ms. IsAmong ms h) (ranked-below y later) there) is
+  stands-up x g stands =
+      λ has here so. stands has here (λ y h there is. at has so y h there is (cases_Bool (is_dev_or_taste y))) where
+        at : (has : ℕ → Bool) → ((y h : ℕ) → IsAmong (below edges y) h → has h ≡ true → has y ≡ true) → (y h : ℕ)
+            → IsAmong (ranked_below edges y) h → has h ≡ true
+            → (is_dev_or_taste y ≡ true) ⊎ (is_dev_or_taste y ≡ false) → has y ≡ true
+        at has so y h there is (inl first) = absurd (subst (λ ms. IsAmong ms h) (ranked_below-first y first) there)
+        at has so y h there is (inr later) = so y h (subst (λ ms. IsAmong ms h) (ranked-below y later) there) is
 
   -- the classes of the first two have no limit, so only the ranks in the cells can be too great
-  pub rank_from-high : (f : ℕ → ℕ) (classes : List (ℕ × Kind)) → AllByRecursion (λ row. is_dev_or_taste row.0 ≡ true → is_granted_kind row.1 ≡ true) classes → is_high classes (rank_from f edges) ≡ is_high classes f
+  pub rank_from-high : (f : ℕ → ℕ) (classes : List (ℕ × Kind))
+      → AllByRecursion (λ row. is_dev_or_taste row.0 ≡ true → is_granted_kind row.1 ≡ true) classes
+      → is_high classes (rank_from f edges) ≡ is_high classes f
   rank_from-high f [] granted = refl
-  rank_from-high f (row ∷ rows) granted = at (first_or_not (is_dev_or_taste row.0)) (rank_from-high f rows granted.1) where
-    at : (is_dev_or_taste row.0 ≡ true) ⊎ (is_dev_or_taste row.0 ≡ false) → is_high rows (rank_from f edges) ≡ is_high rows f → is_high (row ∷ rows) (rank_from f edges) ≡ is_high (row ∷ rows) f
-    at (inl first) rest = rw (granted.0 first, rest) refl
-    at (inr later) rest = rw (later, rest) refl
+  rank_from-high f (row ∷ rows) granted =
+      at (cases_Bool (is_dev_or_taste row.0)) (rank_from-high f rows granted.1) where
+        at : (is_dev_or_taste row.0 ≡ true) ⊎ (is_dev_or_taste row.0 ≡ false)
+            → is_high rows (rank_from f edges) ≡ is_high rows f
+            → is_high (row ∷ rows) (rank_from f edges) ≡ is_high (row ∷ rows) f
+        at (inl first) rest = rw (granted.0 first, rest) refl
+        at (inr later) rest = rw (later, rest) refl
 
 -- the numbers of rows that are seen otherwise
-numbers-with : {T U : Type 0} (h : T → U) (rows : List (ℕ × T)) → map (λ (row : ℕ × U). row.0) (rows_with h rows) ≡ map (λ (row : ℕ × T). row.0) rows
+numbers-with : {T U : Type 0} (h : T → U) (rows : List (ℕ × T))
+    → map (λ (row : ℕ × U). row.0) (rows_with h rows) ≡ map (λ (row : ℕ × T). row.0) rows
 numbers-with h [] = refl
 numbers-with h (row ∷ rows) = ap (λ ns. row.0 ∷ ns) (numbers-with h rows)
 
 -- other ranks in the cells leave the numbers
-pub numbers-bare : {C : Type 0} (gs ns : SlotsView (GeomCell C)) → bare ns ≡ bare gs → map (λ (row : ℕ × GeomCell C). row.0) ns.rows ≡ map (λ (row : ℕ × GeomCell C). row.0) gs.rows
+pub numbers-bare : {C : Type 0} (gs ns : SlotsView (GeomCell C)) → bare ns ≡ bare gs
+    → map (λ (row : ℕ × GeomCell C). row.0) ns.rows ≡ map (λ (row : ℕ × GeomCell C). row.0) gs.rows
 numbers-bare {C} gs ns same =
-    sym (numbers-with (kind_of {C = C}) ns.rows) ∙ ap (map (λ (row : ℕ × Kind). row.0)) (kinds-bare gs ns same) ∙ numbers-with (kind_of {C = C}) gs.rows
+    sym (numbers-with (kind_of {C = C}) ns.rows) ∙ ap (map (λ (row : ℕ × Kind). row.0)) (kinds-bare gs ns same)
+    ∙ numbers-with (kind_of {C = C}) gs.rows
 
 -- a number with a value is among the numbers
-value-listed : {T : Type 0} (rows : List (ℕ × T)) (n : ℕ) → IsSome (value_at rows n) → IsAmong (map (λ (row : ℕ × T). row.0) rows) n
+value-listed : {T : Type 0} (rows : List (ℕ × T)) (n : ℕ) → IsSome (value_at rows n)
+    → IsAmong (map (λ (row : ℕ × T). row.0) rows) n
 value-listed [] n there = absurd (cc)
 value-listed (row ∷ rows) n there = at (row.0 == n) refl there (value-listed rows n) where
-  at : (b : Bool) → (row.0 == n) ≡ b → IsSome (value_at (row ∷ rows) n) → (IsSome (value_at rows n) → IsAmong (map (λ r. r.0) rows) n) → IsAmong (map (λ r. r.0) (row ∷ rows)) n
+  at : (b : Bool) → (row.0 == n) ≡ b → IsSome (value_at (row ∷ rows) n)
+      → (IsSome (value_at rows n) → IsAmong (map (λ r. r.0) rows) n) → IsAmong (map (λ r. r.0) (row ∷ rows)) n
   at true e there so = inl (eqb-true row.0 n e)
   at false e there so = inr (so (rw e at there))
 
@@ -247,32 +319,41 @@ later_is : (g : ℕ) → g ≢ 1 → g ≢ 2 → is_dev_or_taste g ≡ false
 later_is g not_dev not_taste = rw (ne_eqb g 1 not_dev, ne_eqb g 2 not_taste) refl
 
 -- rows rise from 1 on where the numbers of what they stand for do
-module _ {T X : Type 0} (seen : ℕ × T → X) (number : X → ℕ) (is : (row : ℕ × T) → number (seen row) ≡ row.0) (next : ℕ) (some : 1 ≤ next) where
+module _ {T X : Type 0} (seen : ℕ × T → X) (number : X → ℕ) (is : (row : ℕ × T)
+    → number (seen row) ≡ row.0) (next : ℕ) (some : 1 ≤ next) where
   -- behind a number
-  behind : (low : ℕ) (rows : List (ℕ × T)) → low ≤ next → Rise low (map number (map seen rows)) next → IsRising low rows next
+  behind : (low : ℕ) (rows : List (ℕ × T)) → low ≤ next → Rise low (map number (map seen rows)) next
+      → IsRising low rows next
   behind low [] below rise = below
   behind low (row ∷ rows) below rise =
       let here : number (seen row) ≡ row.0 = is row in (
         omega (arith, rise.0),
-        behind (row.0 + 1) rows (omega (arith, rise.1)) (subst (λ n. Rise (n + 1) (map number (map seen rows)) next) here rise.2),
+        behind (row.0 + 1) rows (omega (arith, rise.1))
+            (subst (λ n. Rise (n + 1) (map number (map seen rows)) next) here rise.2),
       )
 
   -- from the first on
-  from_one : (rows : List (ℕ × T)) → AllByRecursion (λ x. 1 ≤ number x) (map seen rows) → Rise 0 (map number (map seen rows)) next → IsRising 1 rows next
+  from_one : (rows : List (ℕ × T)) → AllByRecursion (λ x. 1 ≤ number x) (map seen rows)
+      → Rise 0 (map number (map seen rows)) next → IsRising 1 rows next
   from_one [] one rise = some
   from_one (row ∷ rows) one rise =
       let here : number (seen row) ≡ row.0 = is row in (
         omega (arith, one.0),
-        behind (row.0 + 1) rows (omega (arith, rise.1)) (subst (λ n. Rise (n + 1) (map number (map seen rows)) next) here rise.2),
+        behind (row.0 + 1) rows (omega (arith, rise.1))
+            (subst (λ n. Rise (n + 1) (map number (map seen rows)) next) here rise.2),
       )
 
   -- so for a list in order
-  rows-rise : (rows : List (ℕ × T)) → All (λ x. 1 ≤ number x) (map seen rows) → AreNumbers (map number (map seen rows)) next → IsRising 1 rows next
-  rows-rise rows one order = from_one rows (recursion_from_All (λ x. 1 ≤ number x) (map seen rows) one) (rise-from next (map number (map seen rows)) order)
+  rows-rise : (rows : List (ℕ × T)) → All (λ x. 1 ≤ number x) (map seen rows)
+      → AreNumbers (map number (map seen rows)) next → IsRising 1 rows next
+  rows-rise rows one order =
+      from_one rows (recursion_from_All (λ x. 1 ≤ number x) (map seen rows) one)
+      (rise-from next (map number (map seen rows)) order)
 
 module _ {C : Type 0} (gs : SlotsView (GeomCell C)) (edges : Edges) (orderly : IsOrderly (graph_of gs edges)) where
   -- a geom of which something is known is there
-  stands_there : (n : ℕ) (P : Geom C → Type 0) → IsSomeAnd (geom_at (graph_of gs edges) n) P → IsSome (value_at gs.rows n)
+  stands_there : (n : ℕ) (P : Geom C → Type 0) → IsSomeAnd (geom_at (graph_of gs edges) n) P
+      → IsSome (value_at gs.rows n)
   stands_there n P fact = at (value_at gs.rows n) (rw (geom_at-view gs edges n) at fact) where
     at : (o : Option (GeomCell C)) → IsSomeAnd (option_map (λ v. geom_row (n, v)) o) P → IsSome o
     at None never = absurd never
@@ -282,26 +363,39 @@ module _ {C : Type 0} (gs : SlotsView (GeomCell C)) (edges : Edges) (orderly : I
   first_listed : (g : ℕ) → is_dev_or_taste g ≡ true → IsAmong (map (λ (row : ℕ × GeomCell C). row.0) gs.rows) g
   first_listed g first = at (first_is g first) where
     at : (g ≡ 1) ⊎ (g ≡ 2) → IsAmong (map (λ (row : ℕ × GeomCell C). row.0) gs.rows) g
-    at (inl dev) = subst (λ n. IsAmong (map (λ (row : ℕ × GeomCell C). row.0) gs.rows) n) (sym dev) (value-listed gs.rows 1 (stands_there 1 (λ x. x.kind ≡ kinds.Dev) orderly.first.dev))
-    at (inr taste) = subst (λ n. IsAmong (map (λ (row : ℕ × GeomCell C). row.0) gs.rows) n) (sym taste) (value-listed gs.rows 2 (stands_there 2 (λ x. x.kind ≡ kinds.Taste) orderly.first.taste))
+    at (inl dev) =
+        subst (λ n. IsAmong (map (λ (row : ℕ × GeomCell C). row.0) gs.rows) n) (sym dev)
+        (value-listed gs.rows 1 (stands_there 1 (λ x. x.kind ≡ kinds.Dev) orderly.first.dev))
+    at (inr taste) =
+        subst (λ n. IsAmong (map (λ (row : ℕ × GeomCell C). row.0) gs.rows) n) (sym taste)
+        (value-listed gs.rows 2 (stands_there 2 (λ x. x.kind ≡ kinds.Taste) orderly.first.taste))
 
   -- their classes have no limit
-  granted_of : (x : Geom C) → geom_at (graph_of gs edges) x.number ≡ Some x → is_dev_or_taste x.number ≡ true → is_granted_kind x.kind ≡ true
+  granted_of : (x : Geom C) → geom_at (graph_of gs edges) x.number ≡ Some x → is_dev_or_taste x.number ≡ true
+      → is_granted_kind x.kind ≡ true
   granted_of x found first = at (first_is x.number first) where
     at : (x.number ≡ 1) ⊎ (x.number ≡ 2) → is_granted_kind x.kind ≡ true
-    at (inl dev) = (let is : x.kind ≡ kinds.Dev = rw (subst (λ n. geom_at (graph_of gs edges) n ≡ Some x) dev found) at orderly.first.dev in rw is refl)
-    at (inr taste) = (let is : x.kind ≡ kinds.Taste = rw (subst (λ n. geom_at (graph_of gs edges) n ≡ Some x) taste found) at orderly.first.taste in rw is refl)
+    at (inl dev) =
+        (let is : x.kind ≡ kinds.Dev =
+        rw (subst (λ n. geom_at (graph_of gs edges) n ≡ Some x) dev found) at orderly.first.dev in rw is refl)
+    at (inr taste) =
+        (let is : x.kind ≡ kinds.Taste =
+        rw (subst (λ n. geom_at (graph_of gs edges) n ≡ Some x) taste found) at orderly.first.taste in rw is refl)
 
   -- so for each row
-  first_granted : (rows : List (ℕ × GeomCell C)) → AllByRecursion (λ (x : Geom C). geom_at (graph_of gs edges) x.number ≡ Some x) (map geom_row rows)
-      → AllByRecursion (λ (row : ℕ × Kind). is_dev_or_taste row.0 ≡ true → is_granted_kind row.1 ≡ true) (rows_with (kind_of {C = C}) rows)
+  first_granted : (rows : List (ℕ × GeomCell C))
+      → AllByRecursion (λ (x : Geom C). geom_at (graph_of gs edges) x.number ≡ Some x) (map geom_row rows)
+      → AllByRecursion (λ (row : ℕ × Kind). is_dev_or_taste row.0 ≡ true
+      → is_granted_kind row.1 ≡ true) (rows_with (kind_of {C = C}) rows)
   first_granted [] facts = tt
   first_granted (row ∷ rows) facts = (granted_of (geom_row row) facts.0, first_granted rows facts.1)
 
   -- and they offer no provider
-  first_bare : (rows : List (ℕ × ProvCell)) → AllByRecursion IsOffer (map provider_row rows) → AllByRecursion (λ (row : ℕ × ℕ). is_dev_or_taste row.1 ≡ false) (rows_with owner_of rows)
+  first_bare : (rows : List (ℕ × ProvCell)) → AllByRecursion IsOffer (map provider_row rows)
+      → AllByRecursion (λ (row : ℕ × ℕ). is_dev_or_taste row.1 ≡ false) (rows_with owner_of rows)
   first_bare [] facts = tt
-  first_bare (row ∷ rows) facts = (later_is row.1.provider.geom facts.0.not_dev facts.0.not_taste, first_bare rows facts.1)
+  first_bare (row ∷ rows) facts =
+      (later_is row.1.provider.geom facts.0.not_dev facts.0.not_taste, first_bare rows facts.1)
 
   -- in an orderly graph the ranks find the first two geoms as they need them
   pub first-two : HaveDevAndTaste gs edges
@@ -310,7 +404,8 @@ module _ {C : Type 0} (gs : SlotsView (GeomCell C)) (edges : Edges) (orderly : I
       record {
         listed = first_listed;
         granted = first_granted gs.rows (found.geoms (graph_of gs edges) orderly.order);
-        bare = first_bare edges.providers.rows (recursion_from_All IsOffer (map provider_row edges.providers.rows) orderly.offers);
+        bare = first_bare edges.providers.rows
+            (recursion_from_All IsOffer (map provider_row edges.providers.rows) orderly.offers);
       }
 
   -- the index tells what is in an orderly graph, and its rows rise
@@ -320,11 +415,13 @@ module _ {C : Type 0} (gs : SlotsView (GeomCell C)) (edges : Edges) (orderly : I
     owned = indexed.owned.children;
     attached = indexed.attached.children;
     providers_rise =
-        rows-rise provider_row (λ (x : Provider). x.number) (λ row. refl) edges.providers.next orderly.numbers.next_provider.some edges.providers.rows
+        rows-rise provider_row (λ (x : Provider). x.number) (λ row. refl) edges.providers.next
+        orderly.numbers.next_provider.some edges.providers.rows
         orderly.numbers.providers orderly.order.providers;
     providers_few = orderly.numbers.next_provider.fits;
     consumers_rise =
-        rows-rise consumer_row (λ (x : Consumer). x.number) (λ row. refl) edges.consumers.next orderly.numbers.next_consumer.some edges.consumers.rows
+        rows-rise consumer_row (λ (x : Consumer). x.number) (λ row. refl) edges.consumers.next
+        orderly.numbers.next_consumer.some edges.consumers.rows
         orderly.numbers.consumers orderly.order.consumers;
     consumers_few = orderly.numbers.next_consumer.fits;
   }

@@ -1,13 +1,16 @@
--- Heights over a graph without a loop: a function that is one more than its largest value below is the height, and so the rank; and which geoms are reached downwards.
-use Rattle.std.specs.Prelude.{◌≡◌, ◌⊎◌, ℕ, zero, suc, ◌+◌, ◌≤◌, ◌==◌, nat_le, Bool, true, false, ◌||◌, List, [], ◌∷◌, ◌++◌, map, flat_map, length, if◌then◌else◌}
+-- Heights over a graph without a loop: a function that is one more than its largest value below is the height, and so
+-- the rank; and which geoms are reached downwards.
+use Rattle.std.specs.Prelude.{◌≡◌, ◌⊎◌, ℕ, zero, suc, ◌+◌, ◌≤◌, ◌==◌, nat_le, Bool, true, false, List, [], ◌∷◌, map, flat_map, length, if◌then◌else◌}
 use Rattle.std.specs.List.{list_any}
 use Rattle.std.proofs.Common.{refl, sym, ap, ◌∙◌, inl, inr, arith}
-use Rattle.std.proofs.lemmas.Bool.{eqb-true, eq-eqb, leb-true, leb-false}
+use Rattle.std.proofs.lemmas.Bool.{cases_eq, eqb-true, eq-eqb, leb-true, leb-false, or_left, or_right, or_cases}
+use Rattle.std.proofs.lemmas.List.Folds.{list_any-append}
+use Rattle.std.proofs.Math.Bool.{or-false}
 use Rattle.geo_model.specs.Words.{largest}
 use Rattle.geo_model.specs.Topology.{Topology}
 use Rattle.geo_model.specs.Rank.{rank_within, geoms_under, geoms_reached_within}
 use Rattle.geo_mesh.specs.Mending.{IsAmong, above, height, Climbs, StandsAbove}
-use Rattle.geo_mesh.proofs.RankMend.{is_or_not, largest-among, largest-most, largest-same, largest-is}
+use Rattle.geo_mesh.proofs.RankMend.{largest-among, largest-most, largest-same, largest-is}
 
 module _ (below : ℕ → List ℕ) (f : ℕ → ℕ) where
   -- a function that is one more than its largest value below climbs
@@ -21,24 +24,29 @@ module _ (below : ℕ → List ℕ) (f : ℕ → ℕ) where
   local-height local zero g low = omega (arith, local g)
   local-height local (suc k) g low =
       let same : largest (map (height below k) (below g)) ≡ largest (map f (below g)) =
-      largest-same (height below k) f (below g) (λ h under. local-height local k h (omega (arith, local-climbs local g h under)))
+      largest-same (height below k) f (below g)
+      (λ h under. local-height local k h (omega (arith, local-climbs local g h under)))
       in omega (arith, local g)
 
   -- where a function climbs, one level more changes nothing from the level on that covers what is below
-  pub climbs-more : Climbs below f → ((g : ℕ) → 1 ≤ f g) → (k g : ℕ) → f g ≤ k + 1 → height below k g ≡ height below (suc k) g
+  pub climbs-more : Climbs below f → ((g : ℕ) → 1 ≤ f g) → (k g : ℕ) → f g ≤ k + 1
+      → height below k g ≡ height below (suc k) g
   climbs-more climbs positive zero g low =
       let none : largest (map (height below 0) (below g)) ≤ 0 =
       largest-most (height below 0) 0 (below g) (λ h under. absurd (omega (arith, climbs g h under, positive h)))
       in omega arith
   climbs-more climbs positive (suc k) g low =
       let same : largest (map (height below k) (below g)) ≡ largest (map (height below (suc k)) (below g)) =
-      largest-same (height below k) (height below (suc k)) (below g) (λ h under. climbs-more climbs positive k h (omega (arith, climbs g h under)))
+      largest-same (height below k) (height below (suc k)) (below g)
+      (λ h under. climbs-more climbs positive k h (omega (arith, climbs g h under)))
       in omega arith
 
   -- so the heights over enough levels climb
-  pub height-climbs : Climbs below f → ((g : ℕ) → 1 ≤ f g) → (k : ℕ) → ((g : ℕ) → f g ≤ k + 1) → Climbs below (height below k)
+  pub height-climbs : Climbs below f → ((g : ℕ) → 1 ≤ f g) → (k : ℕ) → ((g : ℕ) → f g ≤ k + 1)
+      → Climbs below (height below k)
   height-climbs climbs positive k few x h under =
-      let low : height below k h ≤ largest (map (height below k) (below x)) = largest-among (height below k) (below x) h under in
+      let low : height below k h ≤ largest (map (height below k) (below x)) =
+      largest-among (height below k) (below x) h under in
       let more : height below k x ≡ height below (suc k) x = climbs-more climbs positive k x (few x) in
       omega arith
 
@@ -46,14 +54,17 @@ module _ (below : ℕ → List ℕ) (f : ℕ → ℕ) where
 pub height-most : (below : ℕ → List ℕ) (k g : ℕ) → height below k g ≤ k + 1
 height-most below zero g = omega arith
 height-most below (suc k) g =
-    let low : largest (map (height below k) (below g)) ≤ k + 1 = largest-most (height below k) (k + 1) (below g) (λ h under. height-most below k h) in
+    let low : largest (map (height below k) (below g)) ≤ k + 1 =
+    largest-most (height below k) (k + 1) (below g) (λ h under. height-most below k h) in
     omega arith
 
 -- the rank over so many levels is the height over what is under the geoms
-pub rank-height : {C : Type 0} (t : Topology C) (below : ℕ → List ℕ) → ((g : ℕ) → geoms_under t g ≡ below g) → (k g : ℕ) → rank_within k t g ≡ height below k g
+pub rank-height : {C : Type 0} (t : Topology C) (below : ℕ → List ℕ) → ((g : ℕ) → geoms_under t g ≡ below g)
+    → (k g : ℕ) → rank_within k t g ≡ height below k g
 rank-height t below same zero g = refl
 rank-height t below same (suc k) g =
-    rw (same g) (ap (λ n. 1 + n) (largest-same (rank_within k t) (height below k) (below g) (λ h under. rank-height t below same k h)))
+    rw (same g) (ap (λ n. 1 + n)
+    (largest-same (rank_within k t) (height below k) (below g) (λ h under. rank-height t below same k h)))
 
 -- how many of the numbers have a value of at most n
 abbrev count_low : (ℕ → ℕ) → ℕ → List ℕ → ℕ
@@ -62,7 +73,8 @@ count_low f n (x ∷ xs) = count_low f n xs + (if nat_le (f x) n then 1 else 0)
 
 module _ (f : ℕ → ℕ) where
   -- a value that counts still counts under the next bound
-  one_grows : (n v : ℕ) (a b : Bool) → nat_le v n ≡ a → nat_le v (n + 1) ≡ b → (if a then 1 else 0) ≤ (if b then 1 else 0)
+  one_grows : (n v : ℕ) (a b : Bool) → nat_le v n ≡ a → nat_le v (n + 1) ≡ b
+      → (if a then 1 else 0) ≤ (if b then 1 else 0)
   one_grows n v false b e k = omega arith
   one_grows n v true true e k = omega arith
   one_grows n v true false e k = absurd (omega (arith, leb-true v n e, leb-false v (n + 1) k))
@@ -70,10 +82,12 @@ module _ (f : ℕ → ℕ) where
   -- under the next bound no fewer count
   count_low-grows : (n : ℕ) (xs : List ℕ) → count_low f n xs ≤ count_low f (n + 1) xs
   count_low-grows n [] = omega arith
-  count_low-grows n (x ∷ xs) = omega (arith, count_low-grows n xs, one_grows n (f x) (nat_le (f x) n) (nat_le (f x) (n + 1)) refl refl)
+  count_low-grows n (x ∷ xs) =
+      omega (arith, count_low-grows n xs, one_grows n (f x) (nat_le (f x) n) (nat_le (f x) (n + 1)) refl refl)
 
   -- the next value counts under the next bound, and not before
-  one_more : (n v : ℕ) (a b : Bool) → nat_le v n ≡ a → nat_le v (n + 1) ≡ b → v ≡ n + 1 → (if a then 1 else 0) + 1 ≤ (if b then 1 else 0)
+  one_more : (n v : ℕ) (a b : Bool) → nat_le v n ≡ a → nat_le v (n + 1) ≡ b → v ≡ n + 1
+      → (if a then 1 else 0) + 1 ≤ (if b then 1 else 0)
   one_more n v false true e k is = omega arith
   one_more n v true b e k is = absurd (omega (arith, leb-true v n e))
   one_more n v false false e k is = absurd (omega (arith, leb-false v (n + 1) k))
@@ -98,36 +112,45 @@ module _ (f : ℕ → ℕ) where
   count_low-most n (x ∷ xs) = omega (arith, count_low-most n xs, at_most_one (nat_le (f x) n))
 
   -- where each of the values 2 to n + 1 is taken in the list, the list has at least n numbers
-  count_low-least : (n : ℕ) (xs : List ℕ) → ((m : ℕ) → 1 ≤ m → m ≤ n → (x : ℕ) × IsAmong xs x × (f x ≡ m + 1)) → n ≤ count_low f (n + 1) xs
+  count_low-least : (n : ℕ) (xs : List ℕ) → ((m : ℕ) → 1 ≤ m → m ≤ n → (x : ℕ) × IsAmong xs x × (f x ≡ m + 1))
+      → n ≤ count_low f (n + 1) xs
   count_low-least zero xs taken = omega arith
   count_low-least (suc n) xs taken =
       let rest : n ≤ count_low f (n + 1) xs = count_low-least n xs (λ m low high. taken m low (omega arith)) in
       let here : (x : ℕ) × IsAmong xs x × (f x ≡ suc n + 1) = taken (suc n) (omega arith) (omega arith) in
       let value : f here.0 ≡ (n + 1) + 1 = omega (arith, here.2) in
-      let more : count_low f (n + 1) xs + 1 ≤ count_low f ((n + 1) + 1) xs = count_low-more (n + 1) here.0 xs here.1 value in
+      let more : count_low f (n + 1) xs + 1 ≤ count_low f ((n + 1) + 1) xs =
+      count_low-more (n + 1) here.0 xs here.1 value in
       let same : suc n + 1 ≡ (n + 1) + 1 = omega arith in
       rw same (omega arith)
 
   -- below a geom each smaller value is taken
-  taken_below : (below : ℕ → List ℕ) → ((g : ℕ) → f g ≡ above below f g) → (k g m : ℕ) → f g ≤ k → 1 ≤ m → m ≤ f g → (x : ℕ) × (f x ≡ m)
+  taken_below : (below : ℕ → List ℕ) → ((g : ℕ) → f g ≡ above below f g) → (k g m : ℕ) → f g ≤ k → 1 ≤ m → m ≤ f g
+      → (x : ℕ) × (f x ≡ m)
   taken_below below local zero g m few low high = absurd (omega (arith, local g))
   taken_below below local (suc k) g m few low high =
-      pick (is_or_not m (f g)) (largest-is f (below g)) (λ h small covers. taken_below below local k h m small low covers) where
-        pick : (m ≡ f g) ⊎ (m ≡ f g → ⊥) → (largest (map f (below g)) ≡ 0) ⊎ ((n : ℕ) × IsAmong (below g) n × (f n ≡ largest (map f (below g))))
+      pick (cases_eq m (f g)) (largest-is f (below g))
+      (λ h small covers. taken_below below local k h m small low covers) where
+        pick : (m ≡ f g) ⊎ (m ≡ f g → ⊥) → (largest (map f (below g)) ≡ 0)
+            ⊎ ((n : ℕ) × IsAmong (below g) n × (f n ≡ largest (map f (below g))))
             → ((h : ℕ) → f h ≤ k → m ≤ f h → (x : ℕ) × (f x ≡ m)) → (x : ℕ) × (f x ≡ m)
         pick (inl same) found so = (g, sym same)
         pick (inr differs) (inl none) so = absurd (omega (arith, local g, differs))
-        pick (inr differs) (inr found) so = so found.0 (omega (arith, local g, found.2)) (omega (arith, local g, found.2, differs))
+        pick (inr differs) (inr found) so =
+            so found.0 (omega (arith, local g, found.2)) (omega (arith, local g, found.2, differs))
 
-  -- a function that is one more than its largest value below, and 1 but for the numbers of a list, is at most one more than the list's length
-  pub local-few : (below : ℕ → List ℕ) (xs : List ℕ) → ((g : ℕ) → f g ≡ above below f g) → ((g : ℕ) → 2 ≤ f g → IsAmong xs g) → (g : ℕ) → f g ≤ length xs + 1
+  -- a function that is one more than its largest value below, and 1 but for the numbers of a list, is at most one
+  -- more than the list's length
+  pub local-few : (below : ℕ → List ℕ) (xs : List ℕ) → ((g : ℕ) → f g ≡ above below f g)
+      → ((g : ℕ) → 2 ≤ f g → IsAmong xs g) → (g : ℕ) → f g ≤ length xs + 1
   local-few below xs local listed g = least (f g) refl where
     least : (n : ℕ) → f g ≡ n → f g ≤ length xs + 1
     least zero e = omega arith
     least (suc n) e =
         let counted : n ≤ count_low f (n + 1) xs =
         count_low-least n xs (λ m low high.
-        (let found : (x : ℕ) × (f x ≡ m + 1) = taken_below below local (f g) g (m + 1) (omega arith) (omega arith) (omega arith) in
+        (let found : (x : ℕ) × (f x ≡ m + 1) =
+        taken_below below local (f g) g (m + 1) (omega arith) (omega arith) (omega arith) in
         (found.0, listed found.0 (omega (arith, found.1)), found.1)))
         in omega (arith, count_low-most (n + 1) xs)
 
@@ -135,91 +158,82 @@ module _ (f : ℕ → ℕ) where
 abbrev pub reached_in : {C : Type 0} → Topology C → ℕ → ℕ → ℕ → Bool
 reached_in t k y g = list_any (λ h. h == g) (geoms_reached_within k t y)
 
--- of two, of which one holds, it is the first or the second
-any_both_step : (a b c : Bool) → (a || b) ≡ true → (a ≡ true) ⊎ (b ≡ true)
-any_both_step true b c e = inl refl
-any_both_step false b c e = inr e
-
--- where the first holds, one of both does
-or_left : (a b : Bool) → a ≡ true → (a || b) ≡ true
-or_left true b e = refl
-or_left false b e = absurd cc
-
--- where the second holds, one of both does
-or_right : (a b : Bool) → b ≡ true → (a || b) ≡ true
-or_right true b e = refl
-or_right false b e = e
-
 module _ (test : ℕ → Bool) where
-  -- an item of two lists passes where one of the first or of the second does
-  any_append : (xs ys : List ℕ) → list_any test (xs ++ ys) ≡ (list_any test xs || list_any test ys)
-  any_append [] ys = refl
-  any_append (x ∷ xs) ys = rw (any_append xs ys) (joined (test x) (list_any test xs) (list_any test ys)) where
-    joined : (a b c : Bool) → (a || (b || c)) ≡ ((a || b) || c)
-    joined true b c = refl
-    joined false b c = refl
-
   -- one of many lists has an item that passes
-  any_flat : (f : ℕ → List ℕ) (ms : List ℕ) (h : ℕ) → IsAmong ms h → list_any test (f h) ≡ true → list_any test (flat_map f ms) ≡ true
+  any_flat : (f : ℕ → List ℕ) (ms : List ℕ) (h : ℕ) → IsAmong ms h → list_any test (f h) ≡ true
+      → list_any test (flat_map f ms) ≡ true
   any_flat f [] h there passes = absurd there
   any_flat f (m ∷ ms) h (inl same) passes =
-      any_append (f m) (flat_map f ms) ∙ or_left (list_any test (f m)) (list_any test (flat_map f ms)) (ap (λ n. list_any test (f n)) same ∙ passes)
+      list_any-append test (f m) (flat_map f ms)
+      ∙ or_left (list_any test (f m)) (list_any test (flat_map f ms)) (ap (λ n. list_any test (f n)) same ∙ passes)
   any_flat f (m ∷ ms) h (inr later) passes =
-      any_append (f m) (flat_map f ms) ∙ or_right (list_any test (f m)) (list_any test (flat_map f ms)) (any_flat f ms h later passes)
+      list_any-append test (f m) (flat_map f ms)
+      ∙ or_right (list_any test (f m)) (list_any test (flat_map f ms)) (any_flat f ms h later passes)
 
   -- an item of many lists that passes is in one of them
-  flat_any : (f : ℕ → List ℕ) (ms : List ℕ) → list_any test (flat_map f ms) ≡ true → (h : ℕ) × IsAmong ms h × (list_any test (f h) ≡ true)
+  flat_any : (f : ℕ → List ℕ) (ms : List ℕ) → list_any test (flat_map f ms) ≡ true → (h : ℕ) × IsAmong ms h
+      × (list_any test (f h) ≡ true)
   flat_any f [] passes = absurd cc
-  flat_any f (m ∷ ms) passes = pick (any_both_step (list_any test (f m)) (list_any test (flat_map f ms)) true (sym (any_append (f m) (flat_map f ms)) ∙ passes)) (λ e. flat_any f ms e) where
-    pick : (list_any test (f m) ≡ true) ⊎ (list_any test (flat_map f ms) ≡ true) → (list_any test (flat_map f ms) ≡ true → (h : ℕ) × IsAmong ms h × (list_any test (f h) ≡ true))
-        → (h : ℕ) × IsAmong (m ∷ ms) h × (list_any test (f h) ≡ true)
-    pick (inl first) so = (m, inl refl, first)
-    pick (inr rest) so = let found : (h : ℕ) × IsAmong ms h × (list_any test (f h) ≡ true) = so rest in (found.0, inr found.1, found.2)
+  flat_any f (m ∷ ms) passes =
+      pick (or_cases (list_any test (f m)) (list_any test (flat_map f ms))
+      (sym (list_any-append test (f m) (flat_map f ms)) ∙ passes)) (λ e. flat_any f ms e) where
+        pick : (list_any test (f m) ≡ true) ⊎ (list_any test (flat_map f ms) ≡ true)
+            → (list_any test (flat_map f ms) ≡ true → (h : ℕ) × IsAmong ms h × (list_any test (f h) ≡ true))
+            → (h : ℕ) × IsAmong (m ∷ ms) h × (list_any test (f h) ≡ true)
+        pick (inl first) so = (m, inl refl, first)
+        pick (inr rest) so = let found : (h : ℕ) × IsAmong ms h × (list_any test (f h) ≡ true) = so rest in
+            (found.0, inr found.1, found.2)
 
 module _ {C : Type 0} (t : Topology C) where
   -- a geom reaches itself over any number of levels
   reached_self : (k g y : ℕ) → (y ≡ g) → reached_in t k y g ≡ true
   reached_self zero g y same = or_left (y == g) false (eq-eqb y g same)
-  reached_self (suc k) g y same = or_left (y == g) (list_any (λ h. h == g) (flat_map (geoms_reached_within k t) (geoms_under t y))) (eq-eqb y g same)
+  reached_self (suc k) g y same =
+      or_left (y == g) (list_any (λ h. h == g) (flat_map (geoms_reached_within k t) (geoms_under t y)))
+      (eq-eqb y g same)
 
   -- what a geom directly below reaches is reached over one level more
-  reached_under : (k g y h : ℕ) → IsAmong (geoms_under t y) h → reached_in t k h g ≡ true → reached_in t (suc k) y g ≡ true
+  reached_under : (k g y h : ℕ) → IsAmong (geoms_under t y) h → reached_in t k h g ≡ true
+      → reached_in t (suc k) y g ≡ true
   reached_under k g y h under there =
       or_right (y == g) (list_any (λ h. h == g) (flat_map (geoms_reached_within k t) (geoms_under t y)))
       (any_flat (λ h. h == g) (geoms_reached_within k t) (geoms_under t y) h under there)
 
   -- a geom that reaches another downwards stands above it
   pub reached-stands : (k y g : ℕ) → reached_in t k y g ≡ true → StandsAbove (geoms_under t) y g
-  reached-stands zero y g there = λ has at so. (let same : y ≡ g = eqb-true y g (only (y == g) there) in rw same at) where
-    only : (a : Bool) → (a || false) ≡ true → a ≡ true
-    only true e = refl
-    only false e = e
+  reached-stands zero y g there =
+      λ has at so. (let same : y ≡ g = eqb-true y g (sym (or-false (y == g)) ∙ there) in rw same at)
   reached-stands (suc k) y g there =
-      pick (any_both_step (y == g) (list_any (λ h. h == g) (flat_map (geoms_reached_within k t) (geoms_under t y))) true there) (λ h e. reached-stands k h g e) where
-        pick : ((y == g) ≡ true) ⊎ (list_any (λ h. h == g) (flat_map (geoms_reached_within k t) (geoms_under t y)) ≡ true)
+      pick (or_cases (y == g) (list_any (λ h. h == g) (flat_map (geoms_reached_within k t) (geoms_under t y)))
+      there) (λ h e. reached-stands k h g e) where
+        pick : ((y == g) ≡ true)
+            ⊎ (list_any (λ h. h == g) (flat_map (geoms_reached_within k t) (geoms_under t y)) ≡ true)
             → ((h : ℕ) → reached_in t k h g ≡ true → StandsAbove (geoms_under t) h g) → StandsAbove (geoms_under t) y g
         pick (inl here) deeper = λ has at so. (let same : y ≡ g = eqb-true y g here in rw same at)
         pick (inr later) deeper =
-            let found : (h : ℕ) × IsAmong (geoms_under t y) h × (reached_in t k h g ≡ true) = flat_any (λ h. h == g) (geoms_reached_within k t) (geoms_under t y) later in
+            let found : (h : ℕ) × IsAmong (geoms_under t y) h × (reached_in t k h g ≡ true) =
+            flat_any (λ h. h == g) (geoms_reached_within k t) (geoms_under t y) later in
             λ has at so. so y found.0 found.1 (deeper found.0 found.2 has at so)
 
   module _ (f : ℕ → ℕ) (climbs : Climbs (geoms_under t) f) where
     -- what is reached is reached over as many levels as can be below
     reached_less : (k j y g : ℕ) → f y ≤ j → reached_in t k y g ≡ true → reached_in t j y g ≡ true
-    reached_less zero j y g low there = reached_self j g y (eqb-true y g (only (y == g) there)) where
-      only : (a : Bool) → (a || false) ≡ true → a ≡ true
-      only true e = refl
-      only false e = e
+    reached_less zero j y g low there = reached_self j g y (eqb-true y g (sym (or-false (y == g)) ∙ there))
     reached_less (suc k) j y g low there =
-        pick (any_both_step (y == g) (list_any (λ h. h == g) (flat_map (geoms_reached_within k t) (geoms_under t y))) true there) j low (λ i h small e. reached_less k i h g small e) where
-          pick : ((y == g) ≡ true) ⊎ (list_any (λ h. h == g) (flat_map (geoms_reached_within k t) (geoms_under t y)) ≡ true)
-              → (j : ℕ) → f y ≤ j → ((i h : ℕ) → f h ≤ i → reached_in t k h g ≡ true → reached_in t i h g ≡ true) → reached_in t j y g ≡ true
+        pick (or_cases (y == g) (list_any (λ h. h == g) (flat_map (geoms_reached_within k t) (geoms_under t y)))
+        there) j low (λ i h small e. reached_less k i h g small e) where
+          pick : ((y == g) ≡ true)
+              ⊎ (list_any (λ h. h == g) (flat_map (geoms_reached_within k t) (geoms_under t y)) ≡ true)
+              → (j : ℕ) → f y ≤ j → ((i h : ℕ) → f h ≤ i → reached_in t k h g ≡ true → reached_in t i h g ≡ true)
+              → reached_in t j y g ≡ true
           pick (inl here) j low deeper = reached_self j g y (eqb-true y g here)
           pick (inr later) zero low deeper =
-              let found : (h : ℕ) × IsAmong (geoms_under t y) h × (reached_in t k h g ≡ true) = flat_any (λ h. h == g) (geoms_reached_within k t) (geoms_under t y) later in
+              let found : (h : ℕ) × IsAmong (geoms_under t y) h × (reached_in t k h g ≡ true) =
+              flat_any (λ h. h == g) (geoms_reached_within k t) (geoms_under t y) later in
               absurd (omega (arith, climbs y found.0 found.1))
           pick (inr later) (suc j) low deeper =
-              let found : (h : ℕ) × IsAmong (geoms_under t y) h × (reached_in t k h g ≡ true) = flat_any (λ h. h == g) (geoms_reached_within k t) (geoms_under t y) later in
+              let found : (h : ℕ) × IsAmong (geoms_under t y) h × (reached_in t k h g ≡ true) =
+              flat_any (λ h. h == g) (geoms_reached_within k t) (geoms_under t y) later in
               reached_under j g y found.0 found.1 (deeper j found.0 (omega (arith, climbs y found.0 found.1)) found.2)
 
     -- what stands above a geom reaches it over enough levels

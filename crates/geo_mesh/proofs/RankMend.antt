@@ -1,24 +1,16 @@
--- Values that are mended along a graph: how the steps of a walk upwards join, and that at the end each value is one more than the largest below.
-use Rattle.std.specs.Prelude.{◌≡◌, ◌⊎◌, ℕ, ◌+◌, ◌-◌, ◌<◌, ◌≤◌, ◌==◌, nat_le, max, Bool, true, false, List, [], ◌∷◌, map}
+-- Values that are mended along a graph: how the steps of a walk upwards join, and that at the end each value is one
+-- more than the largest below.
+use Rattle.std.specs.Prelude.{◌≡◌, ◌⊎◌, ℕ, ◌+◌, ◌-◌, ◌<◌, ◌≤◌, nat_le, max, List, [], ◌∷◌, map}
 use Rattle.std.proofs.Common.{refl, sym, ap, inl, inr, arith}
-use Rattle.std.proofs.lemmas.Bool.{eqb-true, eqb-false, le-leb, leb-true}
+use Rattle.std.proofs.lemmas.Bool.{cases_eq, le-leb, leb-true}
 use Rattle.geo_model.specs.Words.{largest}
 use Rattle.geo_mesh.specs.Mending.{IsAmong, above, Climbs, StandsAbove, Lifted, Lowered, Joined}
-
--- a number is another or isn't
-is_or_not_step : (m n : ℕ) (b : Bool) → (m == n) ≡ b → (m ≡ n) ⊎ (m ≡ n → ⊥)
-is_or_not_step m n true e = inl (eqb-true m n e)
-is_or_not_step m n false e = inr (eqb-false m n e)
-
--- so for any two numbers
-pub is_or_not : (m n : ℕ) → (m ≡ n) ⊎ (m ≡ n → ⊥)
-is_or_not m n = is_or_not_step m n (m == n) refl
 
 -- a number is in a list or isn't
 pub among_or_not : (ms : List ℕ) (n : ℕ) → IsAmong ms n ⊎ (IsAmong ms n → ⊥)
 among_or_not [] n = inr (λ h. h)
 among_or_not (m ∷ ms) n =
-    elim (is_or_not m n) [
+    elim (cases_eq m n) [
       | inl same ↦ inl (inl same)
       | inr differs ↦ elim (among_or_not ms n) [
         | inl there ↦ inl (inr there)
@@ -36,7 +28,8 @@ largest-among f (m ∷ ms) n there =
     ]
 
 -- a bound of the values is one of the largest
-pub largest-most : (f : ℕ → ℕ) (most : ℕ) (ms : List ℕ) → ((n : ℕ) → IsAmong ms n → f n ≤ most) → largest (map f ms) ≤ most
+pub largest-most : (f : ℕ → ℕ) (most : ℕ) (ms : List ℕ) → ((n : ℕ) → IsAmong ms n → f n ≤ most)
+    → largest (map f ms) ≤ most
 largest-most f most [] so = omega arith
 largest-most f most (m ∷ ms) so =
     let first : f m ≤ most = so m (inl refl) in
@@ -44,7 +37,8 @@ largest-most f most (m ∷ ms) so =
     omega arith
 
 -- greater values have a greater largest one
-pub largest-grows : (f r : ℕ → ℕ) (ms : List ℕ) → ((n : ℕ) → IsAmong ms n → f n ≤ r n) → largest (map f ms) ≤ largest (map r ms)
+pub largest-grows : (f r : ℕ → ℕ) (ms : List ℕ) → ((n : ℕ) → IsAmong ms n → f n ≤ r n)
+    → largest (map f ms) ≤ largest (map r ms)
 largest-grows f r [] so = omega arith
 largest-grows f r (m ∷ ms) so =
     let first : f m ≤ r m = so m (inl refl) in
@@ -52,7 +46,8 @@ largest-grows f r (m ∷ ms) so =
     omega arith
 
 -- the same values have the same largest one
-pub largest-same : (f r : ℕ → ℕ) (ms : List ℕ) → ((n : ℕ) → IsAmong ms n → f n ≡ r n) → largest (map f ms) ≡ largest (map r ms)
+pub largest-same : (f r : ℕ → ℕ) (ms : List ℕ) → ((n : ℕ) → IsAmong ms n → f n ≡ r n)
+    → largest (map f ms) ≡ largest (map r ms)
 largest-same f r [] so = refl
 largest-same f r (m ∷ ms) so =
     let first : f m ≡ r m = so m (inl refl) in
@@ -60,13 +55,15 @@ largest-same f r (m ∷ ms) so =
     omega arith
 
 -- the largest is none, or a value of the list
-pub largest-is : (f : ℕ → ℕ) (ms : List ℕ) → (largest (map f ms) ≡ 0) ⊎ ((n : ℕ) × IsAmong ms n × (f n ≡ largest (map f ms)))
+pub largest-is : (f : ℕ → ℕ) (ms : List ℕ) → (largest (map f ms) ≡ 0)
+    ⊎ ((n : ℕ) × IsAmong ms n × (f n ≡ largest (map f ms)))
 largest-is f [] = inl refl
 largest-is f (m ∷ ms) = elim (largest-is f ms) [
   | inl none ↦ inr (m, inl refl, omega arith)
-  | inr found ↦ pick found.0 found.1 found.2 (is_or_not (max (f m) (largest (map f ms))) (f m))
+  | inr found ↦ pick found.0 found.1 found.2 (cases_eq (max (f m) (largest (map f ms))) (f m))
 ] where
-  pick : (n : ℕ) → IsAmong ms n → f n ≡ largest (map f ms) → (max (f m) (largest (map f ms)) ≡ f m) ⊎ (max (f m) (largest (map f ms)) ≡ f m → ⊥)
+  pick : (n : ℕ) → IsAmong ms n → f n ≡ largest (map f ms) → (max (f m) (largest (map f ms)) ≡ f m)
+      ⊎ (max (f m) (largest (map f ms)) ≡ f m → ⊥)
       → (max (f m) (largest (map f ms)) ≡ 0) ⊎ ((n : ℕ) × IsAmong (m ∷ ms) n × (f n ≡ max (f m) (largest (map f ms))))
   pick n there is (inl first) = inr (m, inl refl, sym first)
   pick n there is (inr later) = inr (n, inr there, omega (arith, later))
@@ -96,12 +93,13 @@ module _ (below : ℕ → List ℕ) where
   pub lifted-more : (g : ℕ) (f r s : ℕ → ℕ) → Lifted below g 0 f r → Lifted below g 0 r s → Lifted below g 0 f s
   lifted-more g f r s one two = record {
     grows = λ x. omega (arith, one.grows x, two.grows x);
-    mended = λ x h i low. mended x h i low (is_or_not (r h) (s h));
+    mended = λ x h i low. mended x h i low (cases_eq (r h) (s h));
     here =
         (let up : above below r g ≤ above below s g = above-grows r s g two.grows in omega (arith, one.here, two.here));
     bounded = λ x other.
-        (let up : above below r x ≤ above below s x = above-grows r s x two.grows in omega (arith, one.bounded x other, two.bounded x other));
-    reached = λ x low. reached x low (is_or_not (r x) (s x));
+        (let up : above below r x ≤ above below s x = above-grows r s x two.grows in
+        omega (arith, one.bounded x other, two.bounded x other));
+    reached = λ x low. reached x low (cases_eq (r x) (s x));
   } where
     mended : (x h : ℕ) → IsAmong (below x) h → f h < s h → (r h ≡ s h) ⊎ (r h ≡ s h → ⊥) → s h < s x
     mended x h i low (inl same) =
@@ -114,12 +112,13 @@ module _ (below : ℕ → List ℕ) where
     reached x low (inr differs) = two.reached x (omega (arith, two.grows x, differs))
 
   -- lifting a geom that stands directly above another, as far as that one asks for
-  pub lifted-above : (g x least : ℕ) (f r : ℕ → ℕ) → IsAmong (below x) g → least ≤ f g + 1 → Lifted below x least f r → Lifted below g 0 f r
+  pub lifted-above : (g x least : ℕ) (f r : ℕ → ℕ) → IsAmong (below x) g → least ≤ f g + 1
+      → Lifted below x least f r → Lifted below g 0 f r
   lifted-above g x least f r under low one = record {
     grows = one.grows;
     mended = one.mended;
-    here = (let low : r g ≤ max (f g) (above below r g) = at g (is_or_not g x) in omega arith);
-    bounded = λ y other. at y (is_or_not y x);
+    here = (let low : r g ≤ max (f g) (above below r g) = at g (cases_eq g x) in omega arith);
+    bounded = λ y other. at y (cases_eq y x);
     reached = λ y grew. stands_on y x g (one.reached y grew) under;
   } where
     at : (y : ℕ) → (y ≡ x) ⊎ (y ≡ x → ⊥) → r y ≤ max (f y) (above below r y)
@@ -132,18 +131,18 @@ module _ (below : ℕ → List ℕ) where
   pub lifted-whole : (g least : ℕ) (f m r : ℕ → ℕ) → f g < least → m g ≡ least → ((x : ℕ) → (x ≡ g → ⊥) → m x ≡ f x)
       → Lifted below g 0 m r → ((x : ℕ) → IsAmong (below x) g → least + 1 ≤ r x) → Lifted below g least f r
   lifted-whole g least f m r low at others one passed = record {
-    grows = λ x. grows x (is_or_not x g);
-    mended = λ x h i grew. mended x h i grew (is_or_not h g);
+    grows = λ x. grows x (cases_eq x g);
+    mended = λ x h i grew. mended x h i grew (cases_eq h g);
     here = omega (arith, one.here);
     bounded = λ x other. omega (arith, others x other, one.bounded x other);
-    reached = λ x grew. reached x grew (is_or_not x g);
+    reached = λ x grew. reached x grew (cases_eq x g);
   } where
     grows : (x : ℕ) → (x ≡ g) ⊎ (x ≡ g → ⊥) → f x ≤ r x
     grows x (inl same) = rw same (omega (arith, one.grows g))
     grows x (inr differs) = omega (arith, others x differs, one.grows x)
 
     mended : (x h : ℕ) → IsAmong (below x) h → f h < r h → (h ≡ g) ⊎ (h ≡ g → ⊥) → r h < r x
-    mended x h i grew (inl same) = here x (rw same at i) (rw same at grew) same (is_or_not (m g) (r g)) where
+    mended x h i grew (inl same) = here x (rw same at i) (rw same at grew) same (cases_eq (m g) (r g)) where
       here : (x : ℕ) → IsAmong (below x) g → f g < r g → h ≡ g → (m g ≡ r g) ⊎ (m g ≡ r g → ⊥) → r h < r x
       here x i grew same (inl kept) = rw same (omega (arith, passed x i))
       here x i grew same (inr more) = rw same (one.mended x g i (omega (arith, one.grows g, more)))
@@ -166,36 +165,42 @@ module _ (below : ℕ → List ℕ) where
   }
 
   -- a geom is given the value that it has to have, and what stands directly above it is lowered
-  pub lowered-store : (g : ℕ) (f m : ℕ → ℕ) → (IsAmong (below g) g → ⊥) → ((x : ℕ) → above below f x ≤ f x) → above below f g < f g
+  pub lowered-store : (g : ℕ) (f m : ℕ → ℕ) → (IsAmong (below g) g → ⊥) → ((x : ℕ) → above below f x ≤ f x)
+      → above below f g < f g
       → m g ≡ above below f g → ((x : ℕ) → (x ≡ g → ⊥) → m x ≡ f x)
-      → ((x : ℕ) → m x ≤ f x) × ((x : ℕ) → above below m x ≤ m x) × (m g ≤ above below m g) × ((x : ℕ) → (IsAmong (below x) g → ⊥) → f x ≤ above below f x → m x ≤ above below m x)
-  lowered-store g f m apart enough high at others = (falls, (λ x. enough_at x (is_or_not x g)), omega (arith, here), λ x far low. stays x far low (is_or_not x g)) where
-    falls_at : (x : ℕ) → (x ≡ g) ⊎ (x ≡ g → ⊥) → m x ≤ f x
-    falls_at x (inl same) = rw same (omega arith)
-    falls_at x (inr differs) = omega (arith, others x differs)
+      → ((x : ℕ) → m x ≤ f x) × ((x : ℕ) → above below m x ≤ m x) × (m g ≤ above below m g)
+      × ((x : ℕ) → (IsAmong (below x) g → ⊥) → f x ≤ above below f x → m x ≤ above below m x)
+  lowered-store g f m apart enough high at others =
+      (falls, (λ x. enough_at x (cases_eq x g)), omega (arith, here), λ x far low. stays x far low (cases_eq x g)) where
+        falls_at : (x : ℕ) → (x ≡ g) ⊎ (x ≡ g → ⊥) → m x ≤ f x
+        falls_at x (inl same) = rw same (omega arith)
+        falls_at x (inr differs) = omega (arith, others x differs)
 
-    falls : (x : ℕ) → m x ≤ f x
-    falls x = falls_at x (is_or_not x g)
+        falls : (x : ℕ) → m x ≤ f x
+        falls x = falls_at x (cases_eq x g)
 
-    unseen : (x : ℕ) → (IsAmong (below x) g → ⊥) → largest (map m (below x)) ≡ largest (map f (below x))
-    unseen x far = largest-same m f (below x) (λ n i. others n (λ same. far (rw same at i)))
+        unseen : (x : ℕ) → (IsAmong (below x) g → ⊥) → largest (map m (below x)) ≡ largest (map f (below x))
+        unseen x far = largest-same m f (below x) (λ n i. others n (λ same. far (rw same at i)))
 
-    here : above below m g ≡ above below f g
-    here = ap (λ n. 1 + n) (unseen g apart)
+        here : above below m g ≡ above below f g
+        here = ap (λ n. 1 + n) (unseen g apart)
 
-    enough_at : (x : ℕ) → (x ≡ g) ⊎ (x ≡ g → ⊥) → above below m x ≤ m x
-    enough_at x (inl same) = rw same (omega (arith, here))
-    enough_at x (inr differs) =
-        let less : above below m x ≤ above below f x = above-grows m f x falls in
-        omega (arith, enough x, others x differs)
+        enough_at : (x : ℕ) → (x ≡ g) ⊎ (x ≡ g → ⊥) → above below m x ≤ m x
+        enough_at x (inl same) = rw same (omega (arith, here))
+        enough_at x (inr differs) =
+            let less : above below m x ≤ above below f x = above-grows m f x falls in
+            omega (arith, enough x, others x differs)
 
-    stays : (x : ℕ) → (IsAmong (below x) g → ⊥) → f x ≤ above below f x → (x ≡ g) ⊎ (x ≡ g → ⊥) → m x ≤ above below m x
-    stays x far low (inl same) = rw same (omega (arith, here))
-    stays x far low (inr differs) = omega (arith, unseen x far, others x differs)
+        stays : (x : ℕ) → (IsAmong (below x) g → ⊥) → f x ≤ above below f x → (x ≡ g) ⊎ (x ≡ g → ⊥)
+            → m x ≤ above below m x
+        stays x far low (inl same) = rw same (omega (arith, here))
+        stays x far low (inr differs) = omega (arith, unseen x far, others x differs)
 
   -- once what stands directly above is lowered too, it is as if nothing had been stored
-  pub lowered-whole : (g : ℕ) (f m r : ℕ → ℕ) → (IsAmong (below g) g → ⊥) → ((x : ℕ) → above below f x ≤ f x) → above below f g < f g
-      → m g ≡ above below f g → ((x : ℕ) → (x ≡ g → ⊥) → m x ≡ f x) → Lowered below m r → ((x : ℕ) → IsAmong (below x) g → r x ≤ above below r x)
+  pub lowered-whole : (g : ℕ) (f m r : ℕ → ℕ) → (IsAmong (below g) g → ⊥) → ((x : ℕ) → above below f x ≤ f x)
+      → above below f g < f g
+      → m g ≡ above below f g → ((x : ℕ) → (x ≡ g → ⊥) → m x ≡ f x) → Lowered below m r
+      → ((x : ℕ) → IsAmong (below x) g → r x ≤ above below r x)
       → Lowered below f r × (r g ≤ above below r g)
   lowered-whole g f m r apart enough high at others one passed =
       let stored = lowered-store g f m apart enough high at others in (
@@ -206,7 +211,8 @@ module _ (below : ℕ → List ℕ) where
         },
         one.stays g stored.2,
       ) where
-        stays : (x : ℕ) → f x ≤ above below f x → IsAmong (below x) g ⊎ (IsAmong (below x) g → ⊥) → r x ≤ above below r x
+        stays : (x : ℕ) → f x ≤ above below f x → IsAmong (below x) g ⊎ (IsAmong (below x) g → ⊥)
+            → r x ≤ above below r x
         stays x low (inl near) = passed x near
         stays x low (inr far) = one.stays x ((lowered-store g f m apart enough high at others).3 x far low)
 
@@ -225,7 +231,8 @@ module _ (below : ℕ → List ℕ) (f : ℕ → ℕ) where
     -- after a lift each value is enough again
     pub lifted-enough : ((x : ℕ) → above below f x ≤ f x) → (x : ℕ) → above below r x ≤ r x
     lifted-enough enough x =
-        let high : largest (map r (below x)) ≤ r x - 1 = largest-most r (r x - 1) (below x) (λ h under. at h under (is_or_not (f h) (r h))) in
+        let high : largest (map r (below x)) ≤ r x - 1 =
+        largest-most r (r x - 1) (below x) (λ h under. at h under (cases_eq (f h) (r h))) in
         omega (arith, enough x, one.grows x) where
           at : (h : ℕ) → IsAmong (below x) h → (f h ≡ r h) ⊎ (f h ≡ r h → ⊥) → r h ≤ r x - 1
           at h under (inl same) = omega (arith, enough-climbs enough x h under, one.grows x)
@@ -244,7 +251,7 @@ module _ (below : ℕ → List ℕ) (f : ℕ → ℕ) where
 
       -- a lift that is taken back leaves values that are one more than the largest below
       pub lifted-undone : (s : ℕ → ℕ) → Lowered below r s → s g ≤ above below s g → (x : ℕ) → s x ≡ above below s x
-      lifted-undone s two low x = at x (is_or_not x g) where
+      lifted-undone s two low x = at x (cases_eq x g) where
         at : (x : ℕ) → (x ≡ g) ⊎ (x ≡ g → ⊥) → s x ≡ above below s x
         at x (inl same) = (let there : s g ≡ above below s g = omega (arith, low, two.enough g) in rw same there)
         at x (inr differs) = omega (arith, two.stays x (lifted-low x differs), two.enough x)
@@ -259,16 +266,19 @@ module _ (below : ℕ → List ℕ) (f : ℕ → ℕ) where
         loops-lifted raised stands kept =
             let high : r g ≤ r q = leb-true (r g) (r q)
             (stands (λ y. nat_le (r g) (r y)) (le-leb (r g) (r g) (omega arith))
-            (λ y h under there. le-leb (r g) (r y) (omega (arith, leb-true (r g) (r h) there, enough-climbs_of y h under)))) in
+            (λ y h under there.
+            le-leb (r g) (r y) (omega (arith, leb-true (r g) (r h) there, enough-climbs_of y h under)))) in
             omega arith where
               enough-climbs_of : (y h : ℕ) → IsAmong (below y) h → r h < r y
               enough-climbs_of y h under =
                   let low : r h ≤ largest (map r (below y)) = largest-among r (below y) h under in
                   omega (arith, enough_all y)
 
-        -- where the geom that asks wasn't reached, the values are one more than the largest below in the graph with it below
-        pub lifted-joined : (joined : ℕ → List ℕ) → Joined below joined g q → least ≤ r g → r q ≡ f q → (x : ℕ) → r x ≡ above joined r x
-        lifted-joined joined graph raised kept x = at x (is_or_not x g) where
+        -- where the geom that asks wasn't reached, the values are one more than the largest below in the graph with
+        -- it below
+        pub lifted-joined : (joined : ℕ → List ℕ) → Joined below joined g q → least ≤ r g → r q ≡ f q → (x : ℕ)
+            → r x ≡ above joined r x
+        lifted-joined joined graph raised kept x = at x (cases_eq x g) where
           at : (x : ℕ) → (x ≡ g) ⊎ (x ≡ g → ⊥) → r x ≡ above joined r x
           at x (inl same) =
               let up : above below f g ≤ above below r g = above-grows below f r g one.grows in
@@ -276,24 +286,25 @@ module _ (below : ℕ → List ℕ) (f : ℕ → ℕ) where
               rw same there
           at x (inr differs) = omega (arith, lifted-low x differs, enough_all x, graph.others r x differs)
 
-module _ (apart joined : ℕ → List ℕ) (g q : ℕ) (graph : Joined apart joined g q) (f : ℕ → ℕ) (local : (x : ℕ) → f x ≡ above joined f x) where
+module _ (apart joined : ℕ → List ℕ) (g q : ℕ) (graph : Joined apart joined g q) (f : ℕ → ℕ) (local : (x : ℕ)
+    → f x ≡ above joined f x) where
   -- with one geom less below each value is still enough
   pub apart-enough : (x : ℕ) → above apart f x ≤ f x
-  apart-enough x = at x (is_or_not x g) where
+  apart-enough x = at x (cases_eq x g) where
     at : (x : ℕ) → (x ≡ g) ⊎ (x ≡ g → ⊥) → above apart f x ≤ f x
     at x (inl same) = (let there : above apart f g ≤ f g = omega (arith, local g, graph.here f) in rw same there)
     at x (inr differs) = omega (arith, local x, graph.others f x differs)
 
   -- once the geom is lowered, each is one more than the largest below
   pub apart-lowered : (s : ℕ → ℕ) → Lowered apart f s → s g ≤ above apart s g → (x : ℕ) → s x ≡ above apart s x
-  apart-lowered s one low x = at x (is_or_not x g) where
+  apart-lowered s one low x = at x (cases_eq x g) where
     at : (x : ℕ) → (x ≡ g) ⊎ (x ≡ g → ⊥) → s x ≡ above apart s x
     at x (inl same) = (let there : s g ≡ above apart s g = omega (arith, low, one.enough g) in rw same there)
     at x (inr differs) = omega (arith, one.stays x (omega (arith, local x, graph.others f x differs)), one.enough x)
 
   -- where what was below was low, nothing changes
   pub apart-kept : f q + 1 < f g → (x : ℕ) → f x ≡ above apart f x
-  apart-kept low x = at x (is_or_not x g) where
+  apart-kept low x = at x (cases_eq x g) where
     at : (x : ℕ) → (x ≡ g) ⊎ (x ≡ g → ⊥) → f x ≡ above apart f x
     at x (inl same) = (let there : f g ≡ above apart f g = omega (arith, local g, graph.here f, low) in rw same there)
     at x (inr differs) = omega (arith, local x, graph.others f x differs)

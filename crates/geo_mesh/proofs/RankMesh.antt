@@ -1,13 +1,15 @@
 -- The ranks that stand in the cells are the model's, and what an attach and a detach do to them.
-use Rattle.std.specs.Prelude.{◌≡◌, ℕ, ◌+◌, ◌-◌, ◌<◌, ◌≤◌, ◌^◌, ◌==◌, nat_lt, max, Bool, true, false, not, ◌&&◌, List, [], ◌∷◌, ◌++◌, Option, Some, None, IsSome, IfSome, map, filter, filter_map, length, option_map, if◌then◌else◌}
+use Rattle.std.specs.Prelude.{◌≡◌, ℕ, ◌+◌, ◌-◌, ◌<◌, ◌≤◌, ◌==◌, nat_lt, max, Bool, true, false, not, ◌&&◌, List, [], ◌∷◌, ◌++◌, Option, Some, None, IsSome, IfSome, map, filter, filter_map, length, option_map, if◌then◌else◌}
 use Rattle.std.specs.List.{list_any, AllByRecursion}
 use Rattle.std.proofs.Common.{refl, sym, ap, ◌∙◌, subst, inl, inr, arith}
 use Rattle.std.proofs.lemmas.Bool.{eqb-true, eq-eqb, ne_eqb}
 use Rattle.std.proofs.lemmas.List.{length-map, map-append, length-append}
 use Rattle.geo_base.specs.declared.kind.Kind.{Kind}
+use Rattle.geo_base.proofs.Tests.{filter_map-same}
 use Rattle.geo_model.specs.Words.{largest, is_granted_kind, names_number}
 use Rattle.geo_model.specs.Topology.{Geom, Provider, Consumer, geom_at, provider_at, consumer_at, consumers_of, attached_to}
 use Rattle.geo_model.specs.Rank.{rank, rank_limit, geoms_under, reaches, is_too_deep}
+use Rattle.geo_laws_graph.proofs.Living.{map_there}
 use Rattle.geo_slots.specs.Slots.{SlotsView, IsRising, value_at, with_value, without}
 use Rattle.geo_mesh.specs.declared.records.Scratch.{Scratch}
 use Rattle.geo_mesh.specs.declared.records.GeomRec.{GeomRec}
@@ -20,77 +22,94 @@ use Rattle.geo_mesh.specs.Rows.{row_with, rows_with, passes}
 use Rattle.geo_mesh.specs.Cells.{graph_of, view_of, put_consumer, put_provider, geom_seen, geom_scratch_of, geom_row, provider_row, consumer_row}
 use Rattle.geo_mesh.specs.Mending.{IsAmong, StandsAbove, Climbs, Joined, above, height}
 use Rattle.geo_mesh.specs.Index.{no_index}
-use Rattle.geo_mesh.specs.Ranks.{IsKin, kind_of, rank_of, rest_of, owner, owner_of, ranked_link_of, links_of, kinds, ranks, stored, offers, ranked_links, rank_at, under, ranked_below, below, rank_from, footing, number_or, is_high, IsWalkable, HaveRanks, HaveDevAndTaste, bare}
-use Rattle.geo_mesh.proofs.RowLemmas.{OnlyValue, only, map-with_value_same, map-without, rows_with-with_value, value_at-rows_with}
-use Rattle.geo_mesh.proofs.ViewLemmas.{geom_at-view, provider_at-view, consumer_at-view, count_falls, count_stays}
+use Rattle.geo_mesh.specs.Ranks.{IsKin, kind_of, rank_of, rest_of, owner, owner_of, ranked_link_of, links_of, kinds, ranks, stored, offers, ranked_links, rank_at, under, ranked_below, below, rank_from, footing, is_high, IsWalkable, HaveRanks, HaveDevAndTaste, bare}
+use Rattle.geo_mesh.proofs.RowLemmas.{OnlyValue, only_value, map-with_value_same, map-without, rows_with-with_value, value_at-rows_with}
+use Rattle.geo_mesh.proofs.ViewLemmas.{row_there, geom_at-view, provider_at-view, consumer_at-view, count_falls, count_stays}
 use Rattle.geo_mesh.proofs.RankHeights.{local-climbs, local-height, local-few, height-climbs, rank-height, reached-stands, stands-reached}
 use Rattle.geo_mesh.proofs.RankRows.{peak, peak-is, peak-with, adds, all-at, passing-between, rising-with, with_value-same, kinds-bare}
+use Rattle.geo_mesh.proofs.RankWalk.{some_number}
 use Rattle.geo_mesh.proofs.RankFirst.{footing-none, footing-unnamed, rank_from-local, rank_from-few, rank_from-high}
 use Rattle.geo_mesh.proofs.RankKept.{ranks-new_consumer, ranks-destroy_consumer, ranks-new_provider, ranks-destroy_provider, ranks-new_geom, ranks-destroy_geom}
-
--- two functions with the same values take the same from a list
-filter_map-same : {X Y : Type 0} (f h : X → Option Y) → ((x : X) → f x ≡ h x) → (xs : List X) → filter_map f xs ≡ filter_map h xs
-filter_map-same f h same [] = refl
-filter_map-same f h same (x ∷ xs) = at (h x) refl (filter_map-same f h same xs) where
-  at : (o : Option _) → h x ≡ o → filter_map f xs ≡ filter_map h xs → filter_map f (x ∷ xs) ≡ filter_map h (x ∷ xs)
-  at None e rest = rw (same x, e) rest
-  at (Some y) e rest = rw (same x, e) (ap (λ ys. y ∷ ys) rest)
 
 module _ {C : Type 0} (gs : SlotsView (GeomCell C)) (edges : Edges) where
   -- the providers to which the consumers of a geom are attached, by the rows
   provs_under : (g : ℕ) (rows : List (ℕ × ConsCell))
-      → filter_map (λ (x : Consumer). x.provider) (filter (λ (x : Consumer). x.geom == g) (map consumer_row rows)) ≡ filter_map (λ (row : ℕ × (ℕ × Option ℕ)). row.1.1) (filter (λ (row : ℕ × (ℕ × Option ℕ)). row.1.0 == g) (rows_with links_of rows))
+      → filter_map (λ (x : Consumer). x.provider) (filter (λ (x : Consumer). x.geom == g) (map consumer_row rows))
+      ≡ filter_map (λ (row : ℕ × (ℕ × Option ℕ)). row.1.1)
+      (filter (λ (row : ℕ × (ℕ × Option ℕ)). row.1.0 == g) (rows_with links_of rows))
   provs_under g [] = refl
   provs_under g (row ∷ rows) = at (row.1.consumer.geom == g) refl row.1.consumer.prov refl (provs_under g rows) where
     at : (b : Bool) → (row.1.consumer.geom == g) ≡ b → (o : Option ℕ) → row.1.consumer.prov ≡ o
-        → filter_map (λ (x : Consumer). x.provider) (filter (λ (x : Consumer). x.geom == g) (map consumer_row rows)) ≡ filter_map (λ (row : ℕ × (ℕ × Option ℕ)). row.1.1) (filter (λ (row : ℕ × (ℕ × Option ℕ)). row.1.0 == g) (rows_with links_of rows))
-        → filter_map (λ (x : Consumer). x.provider) (filter (λ (x : Consumer). x.geom == g) (map consumer_row (row ∷ rows))) ≡ filter_map (λ (row : ℕ × (ℕ × Option ℕ)). row.1.1) (filter (λ (row : ℕ × (ℕ × Option ℕ)). row.1.0 == g) (rows_with links_of (row ∷ rows)))
+        → filter_map (λ (x : Consumer). x.provider)
+        (filter (λ (x : Consumer). x.geom == g) (map consumer_row rows))
+        ≡ filter_map (λ (row : ℕ × (ℕ × Option ℕ)). row.1.1)
+        (filter (λ (row : ℕ × (ℕ × Option ℕ)). row.1.0 == g) (rows_with links_of rows))
+        → filter_map (λ (x : Consumer). x.provider)
+        (filter (λ (x : Consumer). x.geom == g) (map consumer_row (row ∷ rows)))
+        ≡ filter_map (λ (row : ℕ × (ℕ × Option ℕ)). row.1.1)
+        (filter (λ (row : ℕ × (ℕ × Option ℕ)). row.1.0 == g) (rows_with links_of (row ∷ rows)))
     at false e o k rest = rw e rest
     at true e None k rest = rw (e, k) rest
     at true e (Some p) k rest = rw (e, k) (ap (λ qs. p ∷ qs) rest)
 
   -- the geom of a provider, by the rows
-  owner_seen : (p : ℕ) → option_map (λ (x : Provider). x.geom) (provider_at (graph_of gs edges) p) ≡ value_at (offers edges).rows p
-  owner_seen p = rw (provider_at-view gs edges p, value_at-rows_with owner_of p edges.providers.rows) (at (value_at edges.providers.rows p)) where
-    at : (o : Option ProvCell) → option_map (λ (x : Provider). x.geom) (option_map (λ v. provider_row (p, v)) o) ≡ option_map owner_of o
-    at None = refl
-    at (Some v) = refl
+  owner_seen : (p : ℕ)
+      → option_map (λ (x : Provider). x.geom) (provider_at (graph_of gs edges) p) ≡ value_at (offers edges).rows p
+  owner_seen p =
+      rw (provider_at-view gs edges p, value_at-rows_with owner_of p edges.providers.rows)
+      (at (value_at edges.providers.rows p)) where
+        at : (o : Option ProvCell)
+            → option_map (λ (x : Provider). x.geom) (option_map (λ v. provider_row (p, v)) o) ≡ option_map owner_of o
+        at None = refl
+        at (Some v) = refl
 
   -- the geoms directly below a geom, by the rows
   pub under-graph : (g : ℕ) → geoms_under (graph_of gs edges) g ≡ below edges g
   under-graph g =
-      filter_map-same (λ p. option_map (λ (x : Provider). x.geom) (provider_at (graph_of gs edges) p)) (value_at (offers edges).rows) owner_seen (filter_map (λ (x : Consumer). x.provider) (filter (λ (x : Consumer). x.geom == g) (map consumer_row edges.consumers.rows)))
+      filter_map-same (λ p. option_map (λ (x : Provider). x.geom) (provider_at (graph_of gs edges) p))
+      (value_at (offers edges).rows) owner_seen
+      (filter_map (λ (x : Consumer). x.provider)
+      (filter (λ (x : Consumer). x.geom == g) (map consumer_row edges.consumers.rows)))
       ∙ ap (filter_map (value_at (offers edges).rows)) (provs_under g edges.consumers.rows)
 
   -- a geom with a rank above 1 has a cell
-  pub stored-listed : (rows : List (ℕ × GeomCell C)) (g : ℕ) → 2 ≤ rank_at (rows_with (rank_of {C = C}) rows) g → IsAmong (map (λ row. row.0) rows) g
+  pub stored-listed : (rows : List (ℕ × GeomCell C)) (g : ℕ) → 2 ≤ rank_at (rows_with (rank_of {C = C}) rows) g
+      → IsAmong (map (λ row. row.0) rows) g
   stored-listed [] g high = absurd (omega arith)
   stored-listed (row ∷ rows) g high = at (row.0 == g) refl high (λ more. stored-listed rows g more) where
-    at : (b : Bool) → (row.0 == g) ≡ b → 2 ≤ rank_at (rows_with (rank_of {C = C}) (row ∷ rows)) g → (2 ≤ rank_at (rows_with (rank_of {C = C}) rows) g → IsAmong (map (λ row. row.0) rows) g) → IsAmong (map (λ row. row.0) (row ∷ rows)) g
+    at : (b : Bool) → (row.0 == g) ≡ b → 2 ≤ rank_at (rows_with (rank_of {C = C}) (row ∷ rows)) g
+        → (2 ≤ rank_at (rows_with (rank_of {C = C}) rows) g → IsAmong (map (λ row. row.0) rows) g)
+        → IsAmong (map (λ row. row.0) (row ∷ rows)) g
     at true e high so = inl (eqb-true row.0 g e)
     at false e high so = inr (so (rw e at high))
 
   -- ranks that are one more than the highest below are at most one more than there are geoms
-  pub stored-few : (users : ℕ → List ℕ) → ((x : ℕ) → stored gs x ≡ above users (stored gs) x) → (x : ℕ) → stored gs x ≤ length gs.rows + 1
+  pub stored-few : (users : ℕ → List ℕ) → ((x : ℕ) → stored gs x ≡ above users (stored gs) x) → (x : ℕ)
+      → stored gs x ≤ length gs.rows + 1
   stored-few users local x =
-      let few : stored gs x ≤ length (map (λ (row : ℕ × GeomCell C). row.0) gs.rows) + 1 = local-few (stored gs) users (map (λ row. row.0) gs.rows) local (stored-listed gs.rows) x in
+      let few : stored gs x ≤ length (map (λ (row : ℕ × GeomCell C). row.0) gs.rows) + 1 =
+      local-few (stored gs) users (map (λ row. row.0) gs.rows) local (stored-listed gs.rows) x in
       rw (length-map gs.rows (λ (row : ℕ × GeomCell C). row.0)) at few
 
   -- a function that is one more than its largest value below, with few values, is the rank
-  pub rank-is : (f : ℕ → ℕ) → ((x : ℕ) → f x ≡ above (below edges) f x) → ((x : ℕ) → f x ≤ length gs.rows + 1) → (x : ℕ) → rank (graph_of gs edges) x ≡ f x
+  pub rank-is : (f : ℕ → ℕ) → ((x : ℕ) → f x ≡ above (below edges) f x) → ((x : ℕ) → f x ≤ length gs.rows + 1)
+      → (x : ℕ) → rank (graph_of gs edges) x ≡ f x
   rank-is f local few x =
       rank-height (graph_of gs edges) (below edges) under-graph (length (map geom_row gs.rows)) x
       ∙ local-height (below edges) f local (length (map geom_row gs.rows)) x (rw (length-map gs.rows geom_row) (few x))
 
   -- whether a geom would be too deep, by the classes
-  pub deep-is : (f : ℕ → ℕ) → ((x : ℕ) → rank (graph_of gs edges) x ≡ f x) → is_too_deep (graph_of gs edges) ≡ is_high (kinds gs) f
+  pub deep-is : (f : ℕ → ℕ) → ((x : ℕ) → rank (graph_of gs edges) x ≡ f x)
+      → is_too_deep (graph_of gs edges) ≡ is_high (kinds gs) f
   deep-is f same = each (rank (graph_of gs edges)) same gs.rows where
     each : (r : ℕ → ℕ) → ((x : ℕ) → r x ≡ f x) → (rows : List (ℕ × GeomCell C))
-        → list_any (λ (x : Geom C). not (is_granted_kind x.kind) && nat_lt rank_limit (r x.number)) (map geom_row rows) ≡ is_high (rows_with (kind_of {C = C}) rows) f
+        → list_any (λ (x : Geom C). not (is_granted_kind x.kind) && nat_lt rank_limit (r x.number))
+        (map geom_row rows) ≡ is_high (rows_with (kind_of {C = C}) rows) f
     each r same [] = refl
     each r same (row ∷ rows) = rw (same row.0, each r same rows) refl
 
-  module _ (f : ℕ → ℕ) (local : (x : ℕ) → f x ≡ above (below edges) f x) (few : (x : ℕ) → f x ≤ length gs.rows + 1) where
+  module _ (f : ℕ → ℕ) (local : (x : ℕ) → f x ≡ above (below edges) f x) (few : (x : ℕ)
+      → f x ≤ length gs.rows + 1) where
     -- the values, each less by one, still climb
     lowered_climbs : Climbs (geoms_under (graph_of gs edges)) (λ x. f x - 1)
     lowered_climbs x h there =
@@ -102,12 +121,14 @@ module _ {C : Type 0} (gs : SlotsView (GeomCell C)) (edges : Edges) where
     stands-reaches x g stands =
         stands-reached (graph_of gs edges) (λ x. f x - 1) lowered_climbs (length (map geom_row gs.rows)) x g
         (λ y. rw (length-map gs.rows geom_row) (omega (arith, few y)))
-        (λ has at so. stands has at (λ y h there is. so y h (subst (λ ms. IsAmong ms h) (sym (under-graph y)) there) is))
+        (λ has at so.
+        stands has at (λ y h there is. so y h (subst (λ ms. IsAmong ms h) (sym (under-graph y)) there) is))
 
   -- what reaches a geom downwards stands above it
   pub reaches-stands : (x g : ℕ) → reaches (graph_of gs edges) x g ≡ true → StandsAbove (below edges) x g
   reaches-stands x g there =
-      let stands : StandsAbove (geoms_under (graph_of gs edges)) x g = reached-stands (graph_of gs edges) (length (map geom_row gs.rows)) x g there in
+      let stands : StandsAbove (geoms_under (graph_of gs edges)) x g =
+      reached-stands (graph_of gs edges) (length (map geom_row gs.rows)) x g there in
       λ has at so. stands has at (λ y h near is. so y h (subst (λ ms. IsAmong ms h) (under-graph y) near) is)
 
   module _ (live : ℕ) (mesh : HaveRanks gs edges live) where
@@ -116,47 +137,63 @@ module _ {C : Type 0} (gs : SlotsView (GeomCell C)) (edges : Edges) where
       pub rank_from-most : (x : ℕ) → rank_from (stored gs) edges x ≤ length gs.rows + 1
       rank_from-most x =
           let few : rank_from (stored gs) edges x ≤ length (map (λ (row : ℕ × GeomCell C). row.0) gs.rows) + 1 =
-          rank_from-few edges first.bare (stored gs) mesh.standing.local (map (λ (row : ℕ × GeomCell C). row.0) gs.rows) first.listed (stored-listed gs.rows) x in
+          rank_from-few edges first.bare (stored gs) mesh.standing.local
+          (map (λ (row : ℕ × GeomCell C). row.0) gs.rows) first.listed (stored-listed gs.rows) x in
           rw (length-map gs.rows (λ (row : ℕ × GeomCell C). row.0)) at few
 
       -- the ranks that stand in the cells, and those found from them, are the model's
       pub rank_from-rank : (x : ℕ) → rank (graph_of gs edges) x ≡ rank_from (stored gs) edges x
-      rank_from-rank x = rank-is (rank_from (stored gs) edges) (rank_from-local edges first.bare (stored gs) mesh.standing.local) rank_from-most x
+      rank_from-rank x =
+          rank-is (rank_from (stored gs) edges) (rank_from-local edges first.bare (stored gs) mesh.standing.local)
+          rank_from-most x
 
       -- no geom is too deep
       pub mesh-low : is_too_deep (graph_of gs edges) ≡ false
-      mesh-low = deep-is (rank_from (stored gs) edges) rank_from-rank ∙ rank_from-high edges (stored gs) (kinds gs) first.granted ∙ mesh.standing.low
+      mesh-low = deep-is (rank_from (stored gs) edges) rank_from-rank
+          ∙ rank_from-high edges (stored gs) (kinds gs) first.granted ∙ mesh.standing.low
 
     -- each rank that stands in a cell fits in 32 bits
     pub mesh-few : (x : ℕ) → stored gs x ≤ 4294967295
-    mesh-few x = omega (arith, stored-few (ranked_below edges) mesh.standing.local x, mesh.count.counted, mesh.count.few)
+    mesh-few x =
+        omega (arith, stored-few (ranked_below edges) mesh.standing.local x, mesh.count.counted, mesh.count.few)
 
     -- the mesh may be walked over
     pub mesh-walkable : IsKin edges → IsWalkable (kinds gs) edges
     mesh-walkable kin = record {
       kin = kin;
-      climbs = height-climbs (ranked_below edges) (stored gs) (local-climbs (ranked_below edges) (stored gs) mesh.standing.local) (λ x. omega (arith, mesh.standing.local x)) (length (kinds gs)) (λ x. rw (length-map gs.rows (row_with (kind_of {C = C}))) (stored-few (ranked_below edges) mesh.standing.local x));
+      climbs = height-climbs (ranked_below edges) (stored gs)
+          (local-climbs (ranked_below edges) (stored gs) mesh.standing.local)
+          (λ x. omega (arith, mesh.standing.local x)) (length (kinds gs))
+          (λ x. rw (length-map gs.rows (row_with (kind_of {C = C})))
+          (stored-few (ranked_below edges) mesh.standing.local x));
       owned = mesh.standing.owned;
       few = rw (length-map gs.rows (row_with (kind_of {C = C}))) (omega (arith, mesh.count.counted, mesh.count.few));
     }
 
 -- a graph in which a consumer is attached to nothing, and the same with it attached
-pub joined-users : (owners : List (ℕ × ℕ)) (users : List (ℕ × (ℕ × Option ℕ))) (c x p q high : ℕ) → IsRising 1 users high → IsSome (value_at users c) → value_at owners p ≡ Some q
+pub joined-users : (owners : List (ℕ × ℕ)) (users : List (ℕ × (ℕ × Option ℕ))) (c x p q high : ℕ)
+    → IsRising 1 users high → IsSome (value_at users c) → value_at owners p ≡ Some q
     → Joined (under owners (with_value users c (x, None))) (under owners (with_value users c (x, Some p))) x q
 joined-users owners users c x p q high rising there owner = record { here = here; others = others } where
-  one : (f : ℕ → ℕ) (o : Option ℕ) (y : ℕ) → largest (map f (under owners (with_value users c (x, o)) y)) ≡ max (adds owners f y (x, o)) (peak owners f y (without users c))
+  one : (f : ℕ → ℕ) (o : Option ℕ) (y : ℕ)
+      → largest (map f (under owners (with_value users c (x, o)) y))
+      ≡ max (adds owners f y (x, o)) (peak owners f y (without users c))
   one f o y = peak-is owners f y (with_value users c (x, o)) ∙ peak-with owners f y c 1 high (x, o) users rising there
 
   self : (x == x) ≡ true
   self = eq-eqb x x refl
 
-  here : (f : ℕ → ℕ) → largest (map f (under owners (with_value users c (x, Some p)) x)) ≡ max (largest (map f (under owners (with_value users c (x, None)) x))) (f q)
+  here : (f : ℕ → ℕ)
+      → largest (map f (under owners (with_value users c (x, Some p)) x))
+      ≡ max (largest (map f (under owners (with_value users c (x, None)) x))) (f q)
   here f =
       let some : adds owners f x (x, Some p) ≡ f q = rw (self, owner) refl in
       let none : adds owners f x (x, None) ≡ 0 = rw self refl in
       omega (arith, one f (Some p) x, one f None x)
 
-  others : (f : ℕ → ℕ) (y : ℕ) → (y ≡ x → ⊥) → largest (map f (under owners (with_value users c (x, Some p)) y)) ≡ largest (map f (under owners (with_value users c (x, None)) y))
+  others : (f : ℕ → ℕ) (y : ℕ) → (y ≡ x → ⊥)
+      → largest (map f (under owners (with_value users c (x, Some p)) y))
+      ≡ largest (map f (under owners (with_value users c (x, None)) y))
   others f y differs =
       let other : (x == y) ≡ false = ne_eqb x y (λ e. differs (sym e)) in
       let some : adds owners f y (x, Some p) ≡ 0 = rw other refl in
@@ -164,7 +201,8 @@ joined-users owners users c x p q high rising there owner = record { here = here
       omega (arith, one f (Some p) y, one f None y)
 
 -- a fact of each row, after another value was put under a number
-pub all-with_value : {T : Type 0} (P : ℕ × T → Type 0) (n : ℕ) (w : T) (rows : List (ℕ × T)) → P (n, w) → AllByRecursion P rows → AllByRecursion P (with_value rows n w)
+pub all-with_value : {T : Type 0} (P : ℕ × T → Type 0) (n : ℕ) (w : T) (rows : List (ℕ × T)) → P (n, w)
+    → AllByRecursion P rows → AllByRecursion P (with_value rows n w)
 all-with_value P n w [] here facts = tt
 all-with_value P n w (row ∷ rows) here facts = (at (row.0 == n) refl, all-with_value P n w rows here facts.1) where
   at : (b : Bool) → (row.0 == n) ≡ b → P (if row.0 == n then (n, w) else row)
@@ -172,189 +210,328 @@ all-with_value P n w (row ∷ rows) here facts = (at (row.0 == n) refl, all-with
   at false e = rw e facts.0
 
 -- the same bound, by the classes
-pub stored-bound : {C : Type 0} (gs : SlotsView (GeomCell C)) (users : ℕ → List ℕ) → ((x : ℕ) → stored gs x ≡ above users (stored gs) x) → (x : ℕ) → stored gs x ≤ length (kinds gs) + 1
+pub stored-bound : {C : Type 0} (gs : SlotsView (GeomCell C)) (users : ℕ → List ℕ)
+    → ((x : ℕ) → stored gs x ≡ above users (stored gs) x) → (x : ℕ) → stored gs x ≤ length (kinds gs) + 1
 stored-bound {C} gs users local x =
-    let none : Edges = record { providers = record { rows = []; next = 0; spare = 0 }; consumers = record { rows = []; next = 0; spare = 0 }; index = no_index } in
+    let none : Edges =
+    record {
+      providers = record { rows = []; next = 0; spare = 0 };
+      consumers = record { rows = []; next = 0; spare = 0 };
+      index = no_index;
+    } in
     let few : stored gs x ≤ length gs.rows + 1 = stored-few gs none users local x in
     rw (length-map gs.rows (row_with (kind_of {C = C}))) few
 
 -- ranks that are one more than the highest below are told by the graph
 pub stored-unique : {C : Type 0} (gs ns : SlotsView (GeomCell C)) (users : ℕ → List ℕ) → bare ns ≡ bare gs
-    → ((x : ℕ) → stored gs x ≡ above users (stored gs) x) → ((x : ℕ) → stored ns x ≡ above users (stored ns) x) → (x : ℕ) → stored ns x ≡ stored gs x
+    → ((x : ℕ) → stored gs x ≡ above users (stored gs) x) → ((x : ℕ) → stored ns x ≡ above users (stored ns) x)
+    → (x : ℕ) → stored ns x ≡ stored gs x
 stored-unique gs ns users same local again x =
     let count : length (kinds ns) ≡ length (kinds gs) = ap length (kinds-bare gs ns same) in
-    let one : height users (length (kinds gs)) x ≡ stored gs x = local-height users (stored gs) local (length (kinds gs)) x (stored-bound gs users local x) in
-    let two : height users (length (kinds gs)) x ≡ stored ns x = local-height users (stored ns) again (length (kinds gs)) x (omega (arith, stored-bound ns users again x)) in
+    let one : height users (length (kinds gs)) x ≡ stored gs x =
+    local-height users (stored gs) local (length (kinds gs)) x (stored-bound gs users local x) in
+    let two : height users (length (kinds gs)) x ≡ stored ns x =
+    local-height users (stored ns) again (length (kinds gs)) x (omega (arith, stored-bound ns users again x)) in
     omega arith
 
 -- the mesh stands as it did after a change of one row that leaves classes, ranks and the graph
 module _ {C : Type 0} (gs : SlotsView (GeomCell C)) (edges : Edges) (live n : ℕ) (mesh : HaveRanks gs edges live) where
   -- after a change of a geom that leaves its class and its rank
-  pub mesh-geom : (v w : GeomCell C) → IsRising 1 gs.rows gs.next → Some v ≡ value_at gs.rows n → kind_of w ≡ kind_of v → rank_of w ≡ rank_of v
+  pub mesh-geom : (v w : GeomCell C) → IsRising 1 gs.rows gs.next → Some v ≡ value_at gs.rows n
+      → kind_of w ≡ kind_of v → rank_of w ≡ rank_of v
       → HaveRanks (record gs { rows = with_value gs.rows n w }) edges live
   mesh-geom v w rising at kind rank =
-      let is : OnlyValue n v gs.rows = only n 1 gs.next v gs.rows rising (sym at) in
-      let classes : rows_with (kind_of {C = C}) (with_value gs.rows n w) ≡ rows_with (kind_of {C = C}) gs.rows = map-with_value_same (row_with (kind_of {C = C})) n v w (ap (λ (k : Kind). (n, k)) kind) gs.rows is in
-      let standing : rows_with (rank_of {C = C}) (with_value gs.rows n w) ≡ rows_with (rank_of {C = C}) gs.rows = map-with_value_same (row_with (rank_of {C = C})) n v w (ap (λ (k : ℕ). (n, k)) rank) gs.rows is in
+      let is : OnlyValue n v gs.rows = only_value n 1 gs.next v gs.rows rising (sym at) in
+      let classes : rows_with (kind_of {C = C}) (with_value gs.rows n w) ≡ rows_with (kind_of {C = C}) gs.rows =
+      map-with_value_same (row_with (kind_of {C = C})) n v w (ap (λ (k : Kind). (n, k)) kind) gs.rows is in
+      let standing : rows_with (rank_of {C = C}) (with_value gs.rows n w) ≡ rows_with (rank_of {C = C}) gs.rows =
+      map-with_value_same (row_with (rank_of {C = C})) n v w (ap (λ (k : ℕ). (n, k)) rank) gs.rows is in
       record { count = count_stays gs n w live mesh.count; standing = rw (classes, standing) mesh.standing }
 
   -- after a change of a provider that leaves its geom
-  pub mesh-provider : (v w : ProvCell) → IsRising 1 edges.providers.rows edges.providers.next → Some v ≡ value_at edges.providers.rows n → owner_of w ≡ owner_of v
+  pub mesh-provider : (v w : ProvCell) → IsRising 1 edges.providers.rows edges.providers.next
+      → Some v ≡ value_at edges.providers.rows n → owner_of w ≡ owner_of v
       → HaveRanks gs (put_provider edges n w) live
   mesh-provider v w rising at owner =
-      let is : OnlyValue n v edges.providers.rows = only n 1 edges.providers.next v edges.providers.rows rising (sym at) in
-      let same : rows_with owner_of (with_value edges.providers.rows n w) ≡ rows_with owner_of edges.providers.rows = map-with_value_same (row_with owner_of) n v w (ap (λ (k : ℕ). (n, k)) owner) edges.providers.rows is in
+      let is : OnlyValue n v edges.providers.rows =
+      only_value n 1 edges.providers.next v edges.providers.rows rising (sym at) in
+      let same : rows_with owner_of (with_value edges.providers.rows n w)
+      ≡ rows_with owner_of edges.providers.rows =
+      map-with_value_same (row_with owner_of) n v w (ap (λ (k : ℕ). (n, k)) owner) edges.providers.rows is in
       record { count = mesh.count; standing = rw same mesh.standing }
 
   -- after a change of a consumer that leaves its geom and where it is attached
-  pub mesh-consumer : (v w : ConsCell) → IsRising 1 edges.consumers.rows edges.consumers.next → Some v ≡ value_at edges.consumers.rows n → ranked_link_of w ≡ ranked_link_of v
+  pub mesh-consumer : (v w : ConsCell) → IsRising 1 edges.consumers.rows edges.consumers.next
+      → Some v ≡ value_at edges.consumers.rows n → ranked_link_of w ≡ ranked_link_of v
       → HaveRanks gs (put_consumer edges n w) live
   mesh-consumer v w rising at ends =
-      let is : OnlyValue n v edges.consumers.rows = only n 1 edges.consumers.next v edges.consumers.rows rising (sym at) in
-      let same : rows_with ranked_link_of (with_value edges.consumers.rows n w) ≡ rows_with ranked_link_of edges.consumers.rows = map-with_value_same (row_with ranked_link_of) n v w (ap (λ (k : ℕ × Option ℕ). (n, k)) ends) edges.consumers.rows is in
+      let is : OnlyValue n v edges.consumers.rows =
+      only_value n 1 edges.consumers.next v edges.consumers.rows rising (sym at) in
+      let same : rows_with ranked_link_of (with_value edges.consumers.rows n w)
+      ≡ rows_with ranked_link_of edges.consumers.rows =
+      map-with_value_same (row_with ranked_link_of) n v w (ap (λ (k : ℕ × Option ℕ). (n, k)) ends)
+      edges.consumers.rows is in
       record { count = mesh.count; standing = rw same mesh.standing }
 
 module _ {C : Type 0} (gs : SlotsView (GeomCell C)) (edges : Edges) (live : ℕ) where
-  -- what is seen is there
-  some_seen : {X Y : Type 0} (f : X → Y) (o : Option X) → IsSome (option_map f o) → IsSome o
-  some_seen f None there = there
-  some_seen f (Some v) there = refl
-
-  -- what is there is seen
-  some_mapped : {X Y : Type 0} (f : X → Y) (o : Option X) → IsSome o → IsSome (option_map f o)
-  some_mapped f None there = there
-  some_mapped f (Some v) there = refl
-
   -- a geom that is there has a class
   pub lives-kinds : (g : ℕ) → IsSome (geom_at (graph_of gs edges) g) → IsSome (value_at (kinds gs) g)
   lives-kinds g lives =
-      let there : IsSome (option_map (λ v. geom_row (g, v)) (value_at gs.rows g)) = rw (geom_at-view gs edges g) at lives in
-      rw (value_at-rows_with (kind_of {C = C}) g gs.rows) (some_mapped (kind_of {C = C}) (value_at gs.rows g) (some_seen (λ v. geom_row (g, v)) (value_at gs.rows g) there))
+      let there : IsSome (option_map (λ v. geom_row (g, v)) (value_at gs.rows g)) =
+      rw (geom_at-view gs edges g) at lives in
+      rw (value_at-rows_with (kind_of {C = C}) g gs.rows)
+      (map_there (kind_of {C = C}) (value_at gs.rows g)
+      (row_there (λ v. geom_row (g, v)) (value_at gs.rows g) there))
 
   module _ (mesh : HaveRanks gs edges live) where
     -- the mesh stands with a new consumer, which is attached to nothing
-    pub mesh-new_consumer : (n g next spare : ℕ) (v : ConsCell) → ranked_link_of v ≡ (g, None) → IsSome (value_at (kinds gs) g) → HaveRanks gs (record edges { consumers = record { rows = edges.consumers.rows ++ (n, v) ∷ []; next = next; spare = spare } }) live
+    pub mesh-new_consumer : (n g next spare : ℕ) (v : ConsCell) → ranked_link_of v ≡ (g, None)
+        → IsSome (value_at (kinds gs) g)
+        → HaveRanks gs
+        (record edges {
+          consumers =
+              record { rows = edges.consumers.rows ++ (n, v) ∷ []; next = next; spare = spare };
+        }) live
     mesh-new_consumer n g next spare v is lives =
-        let same : rows_with ranked_link_of (edges.consumers.rows ++ (n, v) ∷ []) ≡ rows_with ranked_link_of edges.consumers.rows ++ (n, (g, None)) ∷ [] = map-append (row_with ranked_link_of) edges.consumers.rows ((n, v) ∷ []) ∙ ap (λ (e : ℕ × Option ℕ). rows_with ranked_link_of edges.consumers.rows ++ (n, e) ∷ []) is in
-        record { count = mesh.count; standing = rw same (ranks-new_consumer (kinds gs) (ranks gs) (offers edges).rows (ranked_links edges).rows mesh.standing n g lives) }
+        let same : rows_with ranked_link_of (edges.consumers.rows ++ (n, v) ∷ [])
+        ≡ rows_with ranked_link_of edges.consumers.rows ++ (n, (g, None)) ∷ [] =
+        map-append (row_with ranked_link_of) edges.consumers.rows ((n, v) ∷ [])
+        ∙ ap (λ (e : ℕ × Option ℕ). rows_with ranked_link_of edges.consumers.rows ++ (n, e) ∷ []) is in
+        record {
+          count = mesh.count;
+          standing =
+              rw same (ranks-new_consumer (kinds gs) (ranks gs) (offers edges).rows (ranked_links edges).rows
+              mesh.standing n g lives);
+        }
 
     -- the mesh stands with a new provider
-    pub mesh-new_provider : (n next spare : ℕ) (v : ProvCell) → HaveRanks gs (record edges { providers = record { rows = edges.providers.rows ++ (n, v) ∷ []; next = next; spare = spare } }) live
+    pub mesh-new_provider : (n next spare : ℕ) (v : ProvCell)
+        → HaveRanks gs
+        (record edges {
+          providers =
+              record { rows = edges.providers.rows ++ (n, v) ∷ []; next = next; spare = spare };
+        }) live
     mesh-new_provider n next spare v =
-        let same : rows_with owner_of (edges.providers.rows ++ (n, v) ∷ []) ≡ rows_with owner_of edges.providers.rows ++ (n, owner_of v) ∷ [] = map-append (row_with owner_of) edges.providers.rows ((n, v) ∷ []) in
-        record { count = mesh.count; standing = rw same (ranks-new_provider (kinds gs) (ranks gs) (offers edges).rows (ranked_links edges).rows mesh.standing n (owner_of v)) }
+        let same : rows_with owner_of (edges.providers.rows ++ (n, v) ∷ [])
+        ≡ rows_with owner_of edges.providers.rows ++ (n, owner_of v) ∷ [] =
+        map-append (row_with owner_of) edges.providers.rows ((n, v) ∷ []) in
+        record {
+          count = mesh.count;
+          standing =
+              rw same (ranks-new_provider (kinds gs) (ranks gs) (offers edges).rows (ranked_links edges).rows
+              mesh.standing n (owner_of v));
+        }
 
     -- the mesh stands with a new geom of rank 1
-    pub mesh-new_geom : (next spare : ℕ) (v : GeomCell C) → rank_of v ≡ 1 → IsRising 1 gs.rows gs.next → live < 4294967294 → HaveRanks (record { rows = gs.rows ++ (gs.next, v) ∷ []; next = next; spare = spare }) edges (live + 1)
+    pub mesh-new_geom : (next spare : ℕ) (v : GeomCell C) → rank_of v ≡ 1 → IsRising 1 gs.rows gs.next
+        → live < 4294967294
+        → HaveRanks (record { rows = gs.rows ++ (gs.next, v) ∷ []; next = next; spare = spare }) edges (live + 1)
     mesh-new_geom next spare v is rising few =
-        let classes : rows_with (kind_of {C = C}) (gs.rows ++ (gs.next, v) ∷ []) ≡ kinds gs ++ (gs.next, kind_of v) ∷ [] = map-append (row_with (kind_of {C = C})) gs.rows ((gs.next, v) ∷ []) in
-        let standing : rows_with (rank_of {C = C}) (gs.rows ++ (gs.next, v) ∷ []) ≡ ranks gs ++ (gs.next, 1) ∷ [] = map-append (row_with (rank_of {C = C})) gs.rows ((gs.next, v) ∷ []) ∙ ap (λ (r : ℕ). ranks gs ++ (gs.next, r) ∷ []) is in
+        let classes : rows_with (kind_of {C = C}) (gs.rows ++ (gs.next, v) ∷ []) ≡ kinds gs ++ (gs.next, kind_of v)
+        ∷ [] = map-append (row_with (kind_of {C = C})) gs.rows ((gs.next, v) ∷ []) in
+        let standing : rows_with (rank_of {C = C}) (gs.rows ++ (gs.next, v) ∷ []) ≡ ranks gs ++ (gs.next, 1) ∷ [] =
+        map-append (row_with (rank_of {C = C})) gs.rows ((gs.next, v) ∷ [])
+        ∙ ap (λ (r : ℕ). ranks gs ++ (gs.next, r) ∷ []) is in
         record {
-          count = record { counted = rw (length-append gs.rows ((gs.next, v) ∷ [])) (omega (arith, mesh.count.counted)); few = omega arith };
-          standing = rw (classes, standing) (ranks-new_geom (kinds gs) (ranks gs) (offers edges).rows (ranked_links edges).rows mesh.standing gs.next (kind_of v) (none (value_at (ranks gs) gs.next) refl));
+          count = record {
+            counted =
+                rw (length-append gs.rows ((gs.next, v) ∷ [])) (omega (arith, mesh.count.counted));
+            few = omega arith;
+          };
+          standing = rw (classes, standing)
+              (ranks-new_geom (kinds gs) (ranks gs) (offers edges).rows (ranked_links edges).rows mesh.standing
+              gs.next (kind_of v) (none (value_at (ranks gs) gs.next) refl));
         } where
           none : (o : Option ℕ) → value_at (ranks gs) gs.next ≡ o → value_at (ranks gs) gs.next ≡ None
           none None e = e
           none (Some r) e =
               let there : passes (λ x. true) (value_at (ranks gs) gs.next) ≡ true = rw e refl in
-              absurd (omega (arith, (passing-between (λ x. true) gs.next 1 gs.next (ranks gs) (rising-with (rank_of {C = C}) 1 gs.next gs.rows rising) there).1))
+              absurd (omega (
+                arith,
+                (passing-between (λ x. true) gs.next 1 gs.next (ranks gs)
+                    (rising-with (rank_of {C = C}) 1 gs.next gs.rows rising) there).1,
+              ))
 
     -- the mesh stands without a consumer that is attached to nothing
-    pub mesh-destroy_consumer : (n : ℕ) → IsRising 1 edges.consumers.rows edges.consumers.next → IfSome (consumer_at (graph_of gs edges) n) (λ x. x.provider ≡ None) → HaveRanks gs (record edges { consumers = record edges.consumers { rows = without edges.consumers.rows n } }) live
+    pub mesh-destroy_consumer : (n : ℕ) → IsRising 1 edges.consumers.rows edges.consumers.next
+        → IfSome (consumer_at (graph_of gs edges) n) (λ x. x.provider ≡ None)
+        → HaveRanks gs
+        (record edges { consumers = record edges.consumers { rows = without edges.consumers.rows n } }) live
     mesh-destroy_consumer n rising free =
-        let same : rows_with ranked_link_of (without edges.consumers.rows n) ≡ without (rows_with ranked_link_of edges.consumers.rows) n = map-without (row_with ranked_link_of) n (λ (row : ℕ × (ℕ × Option ℕ)). row.0 == n) (λ row. refl) edges.consumers.rows in
-        record { count = mesh.count; standing = rw same (ranks-destroy_consumer (kinds gs) (ranks gs) (offers edges).rows (ranked_links edges).rows mesh.standing n edges.consumers.next (rising-with ranked_link_of 1 edges.consumers.next edges.consumers.rows rising) (λ e there. free_of e (value_at edges.consumers.rows n) (rw (value_at-rows_with ranked_link_of n edges.consumers.rows) at there) (rw (consumer_at-view gs edges n) at free))) } where
-          free_of : (e : ℕ × Option ℕ) (o : Option ConsCell) → option_map ranked_link_of o ≡ Some e → IfSome (option_map (λ v. consumer_row (n, v)) o) (λ x. x.provider ≡ None) → e.1 ≡ None
+        let same : rows_with ranked_link_of (without edges.consumers.rows n)
+        ≡ without (rows_with ranked_link_of edges.consumers.rows) n =
+        map-without (row_with ranked_link_of) n (λ (row : ℕ × (ℕ × Option ℕ)). row.0 == n) (λ row. refl)
+        edges.consumers.rows in
+        record {
+          count = mesh.count;
+          standing =
+              rw same (ranks-destroy_consumer (kinds gs) (ranks gs) (offers edges).rows (ranked_links edges).rows
+              mesh.standing n edges.consumers.next
+              (rising-with ranked_link_of 1 edges.consumers.next edges.consumers.rows rising)
+              (λ e there. free_of e (value_at edges.consumers.rows n)
+              (rw (value_at-rows_with ranked_link_of n edges.consumers.rows) at there)
+              (rw (consumer_at-view gs edges n) at free)));
+        } where
+          free_of : (e : ℕ × Option ℕ) (o : Option ConsCell) → option_map ranked_link_of o ≡ Some e
+              → IfSome (option_map (λ v. consumer_row (n, v)) o) (λ x. x.provider ≡ None) → e.1 ≡ None
           free_of e None there free = absurd cc
-          free_of e (Some v) there free = let same : ranked_link_of v ≡ e = cc in ap (λ (e : ℕ × Option ℕ). e.1) (sym same) ∙ ap (footing v.consumer.geom) free ∙ footing-none v.consumer.geom
+          free_of e (Some v) there free = let same : ranked_link_of v ≡ e = cc in
+              ap (λ (e : ℕ × Option ℕ). e.1) (sym same) ∙ ap (footing v.consumer.geom) free
+              ∙ footing-none v.consumer.geom
 
     -- where no consumer is attached to a provider, no row is
-    none_attached : (n : ℕ) (rows : List (ℕ × ConsCell)) → filter (λ (x : Consumer). names_number x.provider n) (map consumer_row rows) ≡ [] → AllByRecursion (λ (row : ℕ × (ℕ × Option ℕ)). names_number row.1.1 n ≡ false) (rows_with ranked_link_of rows)
+    none_attached : (n : ℕ) (rows : List (ℕ × ConsCell))
+        → filter (λ (x : Consumer). names_number x.provider n) (map consumer_row rows) ≡ []
+        → AllByRecursion (λ (row : ℕ × (ℕ × Option ℕ)). names_number row.1.1 n ≡ false)
+        (rows_with ranked_link_of rows)
     none_attached n [] none = tt
-    none_attached n (row ∷ rows) none = at (names_number row.1.consumer.prov n) refl none (λ e. none_attached n rows e) where
-      at : (b : Bool) → names_number row.1.consumer.prov n ≡ b → filter (λ (x : Consumer). names_number x.provider n) (map consumer_row (row ∷ rows)) ≡ [] → (filter (λ (x : Consumer). names_number x.provider n) (map consumer_row rows) ≡ [] → AllByRecursion (λ (row : ℕ × (ℕ × Option ℕ)). names_number row.1.1 n ≡ false) (rows_with ranked_link_of rows))
-          → AllByRecursion (λ (row : ℕ × (ℕ × Option ℕ)). names_number row.1.1 n ≡ false) (rows_with ranked_link_of (row ∷ rows))
-      at true e none so = let no = rw e at none in absurd cc
-      at false e none so = (footing-unnamed row.1.consumer.geom n row.1.consumer.prov e, so (rw e at none))
+    none_attached n (row ∷ rows) none =
+        at (names_number row.1.consumer.prov n) refl none (λ e. none_attached n rows e) where
+          at : (b : Bool) → names_number row.1.consumer.prov n ≡ b
+              → filter (λ (x : Consumer). names_number x.provider n) (map consumer_row (row ∷ rows)) ≡ []
+              → (filter (λ (x : Consumer). names_number x.provider n) (map consumer_row rows) ≡ []
+              → AllByRecursion (λ (row : ℕ × (ℕ × Option ℕ)). names_number row.1.1 n ≡ false)
+              (rows_with ranked_link_of rows))
+              → AllByRecursion (λ (row : ℕ × (ℕ × Option ℕ)). names_number row.1.1 n ≡ false)
+              (rows_with ranked_link_of (row ∷ rows))
+          at true e none so = let no = rw e at none in absurd cc
+          at false e none so = (footing-unnamed row.1.consumer.geom n row.1.consumer.prov e, so (rw e at none))
 
     -- the mesh stands without a provider to which nothing is attached
-    pub mesh-destroy_provider : (n : ℕ) → attached_to (graph_of gs edges) n ≡ [] → HaveRanks gs (record edges { providers = record edges.providers { rows = without edges.providers.rows n } }) live
+    pub mesh-destroy_provider : (n : ℕ) → attached_to (graph_of gs edges) n ≡ []
+        → HaveRanks gs
+        (record edges { providers = record edges.providers { rows = without edges.providers.rows n } }) live
     mesh-destroy_provider n none =
-        let same : rows_with owner_of (without edges.providers.rows n) ≡ without (rows_with owner_of edges.providers.rows) n = map-without (row_with owner_of) n (λ (row : ℕ × ℕ). row.0 == n) (λ row. refl) edges.providers.rows in
-        record { count = mesh.count; standing = rw same (ranks-destroy_provider (kinds gs) (ranks gs) (offers edges).rows (ranked_links edges).rows mesh.standing n (none_attached n edges.consumers.rows none)) }
+        let same : rows_with owner_of (without edges.providers.rows n)
+        ≡ without (rows_with owner_of edges.providers.rows) n =
+        map-without (row_with owner_of) n (λ (row : ℕ × ℕ). row.0 == n) (λ row. refl) edges.providers.rows in
+        record {
+          count = mesh.count;
+          standing =
+              rw same (ranks-destroy_provider (kinds gs) (ranks gs) (offers edges).rows (ranked_links edges).rows
+              mesh.standing n (none_attached n edges.consumers.rows none));
+        }
 
     -- where a geom has no consumer, no row is one of the geom's
-    none_used : (n : ℕ) (rows : List (ℕ × ConsCell)) → filter (λ (x : Consumer). x.geom == n) (map consumer_row rows) ≡ [] → AllByRecursion (λ (row : ℕ × (ℕ × Option ℕ)). (row.1.0 == n) ≡ false) (rows_with ranked_link_of rows)
+    none_used : (n : ℕ) (rows : List (ℕ × ConsCell))
+        → filter (λ (x : Consumer). x.geom == n) (map consumer_row rows) ≡ []
+        → AllByRecursion (λ (row : ℕ × (ℕ × Option ℕ)). (row.1.0 == n) ≡ false) (rows_with ranked_link_of rows)
     none_used n [] none = tt
     none_used n (row ∷ rows) none = at (row.1.consumer.geom == n) refl none (λ e. none_used n rows e) where
-      at : (b : Bool) → (row.1.consumer.geom == n) ≡ b → filter (λ (x : Consumer). x.geom == n) (map consumer_row (row ∷ rows)) ≡ [] → (filter (λ (x : Consumer). x.geom == n) (map consumer_row rows) ≡ [] → AllByRecursion (λ (row : ℕ × (ℕ × Option ℕ)). (row.1.0 == n) ≡ false) (rows_with ranked_link_of rows))
-          → AllByRecursion (λ (row : ℕ × (ℕ × Option ℕ)). (row.1.0 == n) ≡ false) (rows_with ranked_link_of (row ∷ rows))
+      at : (b : Bool) → (row.1.consumer.geom == n) ≡ b
+          → filter (λ (x : Consumer). x.geom == n) (map consumer_row (row ∷ rows)) ≡ []
+          → (filter (λ (x : Consumer). x.geom == n) (map consumer_row rows) ≡ []
+          → AllByRecursion (λ (row : ℕ × (ℕ × Option ℕ)). (row.1.0 == n) ≡ false)
+          (rows_with ranked_link_of rows))
+          → AllByRecursion (λ (row : ℕ × (ℕ × Option ℕ)). (row.1.0 == n) ≡ false)
+          (rows_with ranked_link_of (row ∷ rows))
       at true e none so = let no = rw e at none in absurd cc
       at false e none so = (e, so (rw e at none))
 
     -- the mesh stands without a geom that has no consumer
-    pub mesh-destroy_geom : (n next spare : ℕ) (v : GeomCell C) → IsRising 1 gs.rows gs.next → Some v ≡ value_at gs.rows n → consumers_of (graph_of gs edges) n ≡ [] → HaveRanks (record { rows = without gs.rows n; next = next; spare = spare }) edges (live - 1)
+    pub mesh-destroy_geom : (n next spare : ℕ) (v : GeomCell C) → IsRising 1 gs.rows gs.next
+        → Some v ≡ value_at gs.rows n → consumers_of (graph_of gs edges) n ≡ []
+        → HaveRanks (record { rows = without gs.rows n; next = next; spare = spare }) edges (live - 1)
     mesh-destroy_geom n next spare v rising at none =
-        let classes : rows_with (kind_of {C = C}) (without gs.rows n) ≡ without (kinds gs) n = map-without (row_with (kind_of {C = C})) n (λ (row : ℕ × Kind). row.0 == n) (λ row. refl) gs.rows in
-        let standing : rows_with (rank_of {C = C}) (without gs.rows n) ≡ without (ranks gs) n = map-without (row_with (rank_of {C = C})) n (λ (row : ℕ × ℕ). row.0 == n) (λ row. refl) gs.rows in
+        let classes : rows_with (kind_of {C = C}) (without gs.rows n) ≡ without (kinds gs) n =
+        map-without (row_with (kind_of {C = C})) n (λ (row : ℕ × Kind). row.0 == n) (λ row. refl) gs.rows in
+        let standing : rows_with (rank_of {C = C}) (without gs.rows n) ≡ without (ranks gs) n =
+        map-without (row_with (rank_of {C = C})) n (λ (row : ℕ × ℕ). row.0 == n) (λ row. refl) gs.rows in
         record {
           count = count_falls gs n live v rising at mesh.count;
-          standing = rw (classes, standing) (ranks-destroy_geom (kinds gs) (ranks gs) (offers edges).rows (ranked_links edges).rows mesh.standing n (none_used n edges.consumers.rows none));
+          standing = rw (classes, standing)
+              (ranks-destroy_geom (kinds gs) (ranks gs) (offers edges).rows (ranked_links edges).rows mesh.standing
+              n (none_used n edges.consumers.rows none));
         }
 
     -- another value of a consumer's ends, and other ranks
-    pub mesh-switch : (ns : SlotsView (GeomCell C)) (n p : ℕ) (o : Option ℕ) (v w : ConsCell) → bare ns ≡ bare gs → Some v ≡ value_at edges.consumers.rows n → ranked_link_of w ≡ (v.consumer.geom, o) → IfSome o (λ p. IsSome (value_at (offers edges).rows p))
-        → ((x : ℕ) → stored ns x ≡ above (ranked_below (put_consumer edges n w)) (stored ns) x) → is_high (kinds gs) (stored ns) ≡ false
+    pub mesh-switch : (ns : SlotsView (GeomCell C)) (n p : ℕ) (o : Option ℕ) (v w : ConsCell) → bare ns ≡ bare gs
+        → Some v ≡ value_at edges.consumers.rows n → ranked_link_of w ≡ (v.consumer.geom, o)
+        → IfSome o (λ p. IsSome (value_at (offers edges).rows p))
+        → ((x : ℕ) → stored ns x ≡ above (ranked_below (put_consumer edges n w)) (stored ns) x)
+        → is_high (kinds gs) (stored ns) ≡ false
         → HaveRanks ns (put_consumer edges n w) live
     mesh-switch ns n p o v w same at ends offered local low =
         let classes : kinds ns ≡ kinds gs = kinds-bare gs ns same in
         let count : length (kinds ns) ≡ length (kinds gs) = ap length classes in
         let here : length (kinds gs) ≡ length gs.rows = length-map gs.rows (row_with (kind_of {C = C})) in
         let there : length (kinds ns) ≡ length ns.rows = length-map ns.rows (row_with (kind_of {C = C})) in
-        let users : rows_with ranked_link_of (with_value edges.consumers.rows n w) ≡ with_value (rows_with ranked_link_of edges.consumers.rows) n (v.consumer.geom, o) = rows_with-with_value ranked_link_of n w edges.consumers.rows ∙ ap (λ (e : ℕ × Option ℕ). with_value (rows_with ranked_link_of edges.consumers.rows) n e) ends in
-        let found : value_at (rows_with ranked_link_of edges.consumers.rows) n ≡ Some (ranked_link_of v) = rw (value_at-rows_with ranked_link_of n edges.consumers.rows, ← at) refl in
+        let users : rows_with ranked_link_of (with_value edges.consumers.rows n w)
+        ≡ with_value (rows_with ranked_link_of edges.consumers.rows) n (v.consumer.geom, o) =
+        rows_with-with_value ranked_link_of n w edges.consumers.rows
+        ∙ ap (λ (e : ℕ × Option ℕ). with_value (rows_with ranked_link_of edges.consumers.rows) n e) ends in
+        let found : value_at (rows_with ranked_link_of edges.consumers.rows) n ≡ Some (ranked_link_of v) =
+        rw (value_at-rows_with ranked_link_of n edges.consumers.rows, ← at) refl in
         record {
           count = record { counted = omega (arith, mesh.count.counted); few = mesh.count.few };
           standing = record {
             local = local;
             low = rw classes low;
-            owned = rw (users, classes) (all-with_value (λ (row : ℕ × (ℕ × Option ℕ)). IsSome (value_at (kinds gs) row.1.0)) n (v.consumer.geom, o) (rows_with ranked_link_of edges.consumers.rows) (all-at (λ (row : ℕ × (ℕ × Option ℕ)). IsSome (value_at (kinds gs) row.1.0)) (rows_with ranked_link_of edges.consumers.rows) n (ranked_link_of v) mesh.standing.owned found) mesh.standing.owned);
-            attached = rw users (all-with_value (λ (row : ℕ × (ℕ × Option ℕ)). IfSome row.1.1 (λ p. IsSome (value_at (offers edges).rows p))) n (v.consumer.geom, o) (rows_with ranked_link_of edges.consumers.rows) offered mesh.standing.attached);
+            owned = rw (users, classes)
+                (all-with_value (λ (row : ℕ × (ℕ × Option ℕ)). IsSome (value_at (kinds gs) row.1.0)) n
+                (v.consumer.geom, o) (rows_with ranked_link_of edges.consumers.rows)
+                (all-at (λ (row : ℕ × (ℕ × Option ℕ)). IsSome (value_at (kinds gs) row.1.0))
+                (rows_with ranked_link_of edges.consumers.rows) n (ranked_link_of v)
+                mesh.standing.owned found) mesh.standing.owned);
+            attached = rw users
+                (all-with_value (λ (row : ℕ × (ℕ × Option ℕ)).
+                IfSome row.1.1 (λ p. IsSome (value_at (offers edges).rows p))) n (v.consumer.geom, o)
+                (rows_with ranked_link_of edges.consumers.rows) offered mesh.standing.attached);
           };
         }
 
     -- the graph with a consumer attached, beside the same with it attached to nothing
-    pub switch-joined : (n p : ℕ) (v some none : ConsCell) → IsRising 1 edges.consumers.rows edges.consumers.next → Some v ≡ value_at edges.consumers.rows n → ranked_link_of some ≡ (v.consumer.geom, Some p) → ranked_link_of none ≡ (v.consumer.geom, None) → IsSome (value_at (offers edges).rows p)
-        → Joined (ranked_below (put_consumer edges n none)) (ranked_below (put_consumer edges n some)) v.consumer.geom (owner edges p)
+    pub switch-joined : (n p : ℕ) (v some none : ConsCell) → IsRising 1 edges.consumers.rows edges.consumers.next
+        → Some v ≡ value_at edges.consumers.rows n → ranked_link_of some ≡ (v.consumer.geom, Some p)
+        → ranked_link_of none ≡ (v.consumer.geom, None) → IsSome (value_at (offers edges).rows p)
+        → Joined (ranked_below (put_consumer edges n none)) (ranked_below (put_consumer edges n some))
+        v.consumer.geom (owner edges p)
     switch-joined n p v some none rising at is_some is_none offered =
-        let one : rows_with ranked_link_of (with_value edges.consumers.rows n some) ≡ with_value (rows_with ranked_link_of edges.consumers.rows) n (v.consumer.geom, Some p) = rows_with-with_value ranked_link_of n some edges.consumers.rows ∙ ap (λ (e : ℕ × Option ℕ). with_value (rows_with ranked_link_of edges.consumers.rows) n e) is_some in
-        let two : rows_with ranked_link_of (with_value edges.consumers.rows n none) ≡ with_value (rows_with ranked_link_of edges.consumers.rows) n (v.consumer.geom, None) = rows_with-with_value ranked_link_of n none edges.consumers.rows ∙ ap (λ (e : ℕ × Option ℕ). with_value (rows_with ranked_link_of edges.consumers.rows) n e) is_none in
-        let found : IsSome (value_at (rows_with ranked_link_of edges.consumers.rows) n) = rw (value_at-rows_with ranked_link_of n edges.consumers.rows, ← at) refl in
-        rw (one, two) (joined-users (offers edges).rows (rows_with ranked_link_of edges.consumers.rows) n v.consumer.geom p (owner edges p) edges.consumers.next (rising-with ranked_link_of 1 edges.consumers.next edges.consumers.rows rising) found (owner_of_some (value_at (offers edges).rows p) offered)) where
-          owner_of_some : (o : Option ℕ) → IsSome o → o ≡ Some (number_or 0 o)
-          owner_of_some None there = absurd cc
-          owner_of_some (Some q) there = refl
+        let one : rows_with ranked_link_of (with_value edges.consumers.rows n some)
+        ≡ with_value (rows_with ranked_link_of edges.consumers.rows) n (v.consumer.geom, Some p) =
+        rows_with-with_value ranked_link_of n some edges.consumers.rows
+        ∙ ap (λ (e : ℕ × Option ℕ). with_value (rows_with ranked_link_of edges.consumers.rows) n
+        e) is_some in
+        let two : rows_with ranked_link_of (with_value edges.consumers.rows n none)
+        ≡ with_value (rows_with ranked_link_of edges.consumers.rows) n (v.consumer.geom, None) =
+        rows_with-with_value ranked_link_of n none edges.consumers.rows
+        ∙ ap (λ (e : ℕ × Option ℕ). with_value (rows_with ranked_link_of edges.consumers.rows) n
+        e) is_none in
+        let found : IsSome (value_at (rows_with ranked_link_of edges.consumers.rows) n) =
+        rw (value_at-rows_with ranked_link_of n edges.consumers.rows, ← at) refl in
+        rw (one, two) (joined-users (offers edges).rows (rows_with ranked_link_of edges.consumers.rows) n
+        v.consumer.geom p (owner edges p) edges.consumers.next
+        (rising-with ranked_link_of 1 edges.consumers.next edges.consumers.rows rising) found
+        (some_number (value_at (offers edges).rows p) offered))
 
 -- the consumers as they stand
-pub same-cells : (edges : Edges) (n : ℕ) (v : ConsCell) → IsRising 1 edges.consumers.rows edges.consumers.next → Some v ≡ value_at edges.consumers.rows n → put_consumer edges n v ≡ edges
-same-cells edges n v rising at = rw (with_value-same n 1 edges.consumers.next v edges.consumers.rows rising (sym at)) refl
+pub same-cells : (edges : Edges) (n : ℕ) (v : ConsCell) → IsRising 1 edges.consumers.rows edges.consumers.next
+    → Some v ≡ value_at edges.consumers.rows n → put_consumer edges n v ≡ edges
+same-cells edges n v rising at =
+    rw (with_value-same n 1 edges.consumers.next v edges.consumers.rows rising (sym at)) refl
 
 -- the geoms are seen without the ranks
-geoms_rest : {C : Type 0} (rows : List (ℕ × GeomCell C)) → map geom_row rows ≡ map (λ (row : ℕ × (GeomRec C × Scratch)). geom_seen row.0 row.1.0) (rows_with (rest_of {C = C}) rows)
+geoms_rest : {C : Type 0} (rows : List (ℕ × GeomCell C))
+    → map geom_row rows
+    ≡ map (λ (row : ℕ × (GeomRec C × Scratch)). geom_seen row.0 row.1.0) (rows_with (rest_of {C = C}) rows)
 geoms_rest [] = refl
 geoms_rest (row ∷ rows) = ap (λ xs. geom_row row ∷ xs) (geoms_rest rows)
 
 -- and so is their scratch
-scratch_rest : {C : Type 0} (rows : List (ℕ × GeomCell C)) → rows_with (geom_scratch_of {C = C}) rows ≡ rows_with (λ (x : GeomRec C × Scratch). x.1) (rows_with (rest_of {C = C}) rows)
+scratch_rest : {C : Type 0} (rows : List (ℕ × GeomCell C))
+    → rows_with (geom_scratch_of {C = C}) rows
+    ≡ rows_with (λ (x : GeomRec C × Scratch). x.1) (rows_with (rest_of {C = C}) rows)
 scratch_rest [] = refl
 scratch_rest {C} (row ∷ rows) = ap (λ xs. (row.0, row.1.scratch) ∷ xs) (scratch_rest {C = C} rows)
 
 -- the mesh is seen without the ranks
-pub view-bare : {C : Type 0} (t : Tables C) (ns : SlotsView (GeomCell C)) → bare ns ≡ bare t.geoms → view_of (record t { geoms = ns }) ≡ view_of t
+pub view-bare : {C : Type 0} (t : Tables C) (ns : SlotsView (GeomCell C)) → bare ns ≡ bare t.geoms
+    → view_of (record t { geoms = ns }) ≡ view_of t
 view-bare {C} t ns same =
     let geoms : map geom_row ns.rows ≡ map geom_row t.geoms.rows =
     geoms_rest ns.rows
-    ∙ ap (λ (s : SlotsView (GeomRec C × Scratch)). map (λ (row : ℕ × (GeomRec C × Scratch)). geom_seen row.0 row.1.0) s.rows) same
+    ∙ ap (λ (s : SlotsView (GeomRec C × Scratch)).
+    map (λ (row : ℕ × (GeomRec C × Scratch)). geom_seen row.0 row.1.0) s.rows) same
     ∙ sym (geoms_rest t.geoms.rows) in
     let scratches : rows_with (geom_scratch_of {C = C}) ns.rows ≡ rows_with (geom_scratch_of {C = C}) t.geoms.rows =
     scratch_rest ns.rows

@@ -1,13 +1,13 @@
 -- What an attach and a detach do to the mesh that stands.
-use Rattle.std.specs.Prelude.{◌≡◌, ℕ, ◌+◌, ◌<◌, ◌≤◌, ◌^◌, Bool, true, false, [], Option, Some, None, IsSome, IfSome, IsSomeAnd, length, map, option_map}
+use Rattle.std.specs.Prelude.{◌≡◌, ℕ, ◌+◌, ◌≤◌, Bool, true, false, [], Option, Some, None, IsSome, IfSome, IsSomeAnd, length, map, option_map}
 use Rattle.std.proofs.Common.{refl, sym, ap, ◌∙◌, subst, arith}
+use Rattle.std.proofs.lemmas.Bool.{false_from_ne_true}
 use Rattle.std.proofs.lemmas.List.{length-map}
 use Rattle.geo_base.specs.declared.errno.Errno.TheVariants.{ELOOP, EDEEP}
 use Rattle.geo_model.specs.Words.{largest}
 use Rattle.geo_model.specs.Topology.{consumer_at, provider_at, attach, is_errored}
 use Rattle.geo_model.specs.Rank.{reaches, is_too_deep, would_loop, attach_refusal}
 use Rattle.geo_slots.specs.Slots.{SlotsView, IsRising, value_at, with_value}
-use Rattle.geo_slots.proofs.RowLemmas.{IsRising-with_value}
 use Rattle.geo_mesh.specs.declared.records.AttachRefusal.{AttachRefusal}
 use Rattle.geo_mesh.specs.declared.records.AttachRefusal.TheVariants.{Enxio, Eloop, Edeep}
 use Rattle.geo_mesh.specs.Refusals.{errno_of}
@@ -18,7 +18,6 @@ use Rattle.geo_mesh.specs.declared.tables.Edges.{Edges}
 use Rattle.geo_mesh.specs.declared.index.Index.{Index}
 use Rattle.geo_mesh.specs.Rows.{row_with, rows_with}
 use Rattle.geo_mesh.specs.Cells.{graph_of, put_consumer, consumer_row, provider_row}
-use Rattle.geo_mesh.specs.Topo.{TopoView}
 use Rattle.geo_mesh.specs.Mending.{IsAmong, StandsAbove, Joined, IsJoinable, Lowered, above}
 use Rattle.geo_mesh.specs.Ranks.{IsKin, kind_of, ranked_link_of, owner_of, kinds, bare, offers, ranked_links, stored, ranked_below, owner, user, ranks, is_dev_or_taste, below, rank_from, is_high, IsRefusedFor, IsWalkable, IsAdmitted, HaveDevAndTaste, HaveRanks}
 use Rattle.geo_mesh.proofs.RowLemmas.{rows_with-with_value, value_at-rows_with}
@@ -31,7 +30,8 @@ use Rattle.geo_mesh.proofs.RankFirst.{footing-none, footing-later, footing-first
 use Rattle.geo_mesh.proofs.RankMesh.{all-with_value, same-cells, mesh-consumer, mesh-switch, mesh-low, switch-joined, stored-bound, stored-listed, rank_from-most, rank-is, deep-is, stands-reaches, reaches-stands}
 
 -- the mesh stands where the ranks are as they were
-pub mesh-kept : {C : Type 0} (gs ns : SlotsView (GeomCell C)) (edges : Edges) (live : ℕ) → HaveRanks gs edges live → bare ns ≡ bare gs → ((x : ℕ) → stored ns x ≡ stored gs x) → HaveRanks ns edges live
+pub mesh-kept : {C : Type 0} (gs ns : SlotsView (GeomCell C)) (edges : Edges) (live : ℕ) → HaveRanks gs edges live
+    → bare ns ≡ bare gs → ((x : ℕ) → stored ns x ≡ stored gs x) → HaveRanks ns edges live
 mesh-kept {C} gs ns edges live mesh same kept =
     let classes : kinds ns ≡ kinds gs = kinds-bare gs ns same in
     let count : length (kinds ns) ≡ length (kinds gs) = ap length classes in
@@ -40,13 +40,15 @@ mesh-kept {C} gs ns edges live mesh same kept =
     record {
       count = record { counted = omega (arith, mesh.count.counted); few = mesh.count.few };
       standing =
-          ranks-geoms (kinds gs) (ranks gs) (offers edges).rows (ranked_links edges).rows mesh.standing (kinds ns) (ranks ns) kept
+          ranks-geoms (kinds gs) (ranks gs) (offers edges).rows (ranked_links edges).rows mesh.standing (kinds ns)
+          (ranks ns) kept
           (rw classes (high-less (stored gs) (stored ns) (kinds gs) (λ x. omega (arith, kept x)) mesh.standing.low))
           (rw classes mesh.standing.owned);
     }
 
 module _ {C : Type 0} (gs : SlotsView (GeomCell C)) (edges : Edges) (live : ℕ) (mesh : HaveRanks gs edges live)
-    (n p : ℕ) (v : ConsCell) (rising : IsRising 1 edges.consumers.rows edges.consumers.next) (at : Some v ≡ value_at edges.consumers.rows n) where
+    (n p : ℕ) (v : ConsCell) (rising : IsRising 1 edges.consumers.rows edges.consumers.next) (at : Some v
+    ≡ value_at edges.consumers.rows n) where
   -- the consumer's cell, attached to a provider or to nothing
   abbrev put : Option ℕ → ConsCell
   put o = record v { consumer = record v.consumer { prov = o } }
@@ -61,7 +63,9 @@ module _ {C : Type 0} (gs : SlotsView (GeomCell C)) (edges : Edges) (live : ℕ)
 
   -- the consumer's geom is there
   pub user-stands : IsSome (value_at (kinds gs) v.consumer.geom)
-  user-stands = all-at (λ (row : ℕ × (ℕ × Option ℕ)). IsSome (value_at (kinds gs) row.1.0)) (rows_with ranked_link_of edges.consumers.rows) n (ranked_link_of v) mesh.standing.owned seen_row
+  user-stands =
+      all-at (λ (row : ℕ × (ℕ × Option ℕ)). IsSome (value_at (kinds gs) row.1.0))
+      (rows_with ranked_link_of edges.consumers.rows) n (ranked_link_of v) mesh.standing.owned seen_row
 
   -- attached to what it is attached to, the consumers are as they were
   unchanged : (o : Option ℕ) → v.consumer.prov ≡ o → switched o ≡ edges
@@ -79,7 +83,8 @@ module _ {C : Type 0} (gs : SlotsView (GeomCell C)) (edges : Edges) (live : ℕ)
   pub first-switched : (o : Option ℕ) → is_dev_or_taste v.consumer.geom ≡ true → HaveRanks gs (switched o) live
   first-switched o first =
       mesh-consumer gs edges live n mesh v (put o) rising at
-      (ap (λ (o : Option ℕ). (v.consumer.geom, o)) (footing-first v.consumer.geom o first ∙ sym (footing-first v.consumer.geom v.consumer.prov first)))
+      (ap (λ (o : Option ℕ). (v.consumer.geom, o)) (footing-first v.consumer.geom o first
+      ∙ sym (footing-first v.consumer.geom v.consumer.prov first)))
 
   -- a geom that stands just above another in rank is a later one
   pub off-later : stored gs (owner edges p) + 1 ≡ stored gs v.consumer.geom → is_dev_or_taste v.consumer.geom ≡ false
@@ -87,53 +92,77 @@ module _ {C : Type 0} (gs : SlotsView (GeomCell C)) (edges : Edges) (live : ℕ)
     pick : (b : Bool) → is_dev_or_taste v.consumer.geom ≡ b → is_dev_or_taste v.consumer.geom ≡ false
     pick false e = e
     pick true e =
-        let alone : stored gs v.consumer.geom ≡ 1 + largest (map (stored gs) []) = subst (λ ms. stored gs v.consumer.geom ≡ 1 + largest (map (stored gs) ms)) (ranked_below-first edges v.consumer.geom e) (mesh.standing.local v.consumer.geom) in
+        let alone : stored gs v.consumer.geom ≡ 1 + largest (map (stored gs) []) =
+        subst (λ ms. stored gs v.consumer.geom ≡ 1 + largest (map (stored gs) ms))
+        (ranked_below-first edges v.consumer.geom e) (mesh.standing.local v.consumer.geom) in
         let low : stored gs v.consumer.geom ≡ 1 = alone in
         absurd (omega (arith, mesh.standing.local (owner edges p)))
 
   module _ (is : v.consumer.prov ≡ Some p) (later : is_dev_or_taste v.consumer.geom ≡ false) where
     -- the provider to which it is attached is there
     offered : IsSome (value_at (offers edges).rows p)
-    offered = rw (later, is) at (all-at (λ (row : ℕ × (ℕ × Option ℕ)). IfSome row.1.1 (λ p. IsSome (value_at (offers edges).rows p))) (rows_with ranked_link_of edges.consumers.rows) n (ranked_link_of v) mesh.standing.attached seen_row)
+    offered = rw (later, is) at
+        (all-at (λ (row : ℕ × (ℕ × Option ℕ)). IfSome row.1.1 (λ p. IsSome (value_at (offers edges).rows p)))
+        (rows_with ranked_link_of edges.consumers.rows) n (ranked_link_of v) mesh.standing.attached seen_row)
 
     -- the graph is that after the detach, with the provider's geom below the consumer's
     off-joined : Joined (ranked_below (switched None)) (ranked_below edges) v.consumer.geom (owner edges p)
     off-joined =
-        subst (λ us. Joined (ranked_below (switched None)) (ranked_below us) v.consumer.geom (owner edges p)) (unchanged (Some p) is)
-        (switch-joined gs edges live mesh n p v (put (Some p)) (put None) rising at (ends-bound later) ends-free offered)
+        subst (λ us. Joined (ranked_below (switched None)) (ranked_below us) v.consumer.geom (owner edges p))
+        (unchanged (Some p) is)
+        (switch-joined gs edges live mesh n p v (put (Some p)) (put None) rising at (ends-bound later)
+        ends-free offered)
 
     -- after a detach no rank is too small
     pub off-enough : (x : ℕ) → above (ranked_below (switched None)) (stored gs) x ≤ stored gs x
-    off-enough = apart-enough (ranked_below (switched None)) (ranked_below edges) v.consumer.geom (owner edges p) off-joined (stored gs) mesh.standing.local
+    off-enough =
+        apart-enough (ranked_below (switched None)) (ranked_below edges) v.consumer.geom (owner edges p) off-joined
+        (stored gs) mesh.standing.local
 
     -- and the graph may be walked over
-    pub off-walkable : (i : Index) → IsKin (record (switched None) { index = i }) → IsWalkable (kinds gs) (record (switched None) { index = i })
+    pub off-walkable : (i : Index) → IsKin (record (switched None) { index = i })
+        → IsWalkable (kinds gs) (record (switched None) { index = i })
     off-walkable i kin =
-        let users : rows_with ranked_link_of (with_value edges.consumers.rows n (put None)) ≡ with_value (rows_with ranked_link_of edges.consumers.rows) n (v.consumer.geom, None) = rows_with-with_value ranked_link_of n (put None) edges.consumers.rows ∙ ap (λ (e : ℕ × Option ℕ). with_value (rows_with ranked_link_of edges.consumers.rows) n e) ends-free in
+        let users : rows_with ranked_link_of (with_value edges.consumers.rows n (put None))
+        ≡ with_value (rows_with ranked_link_of edges.consumers.rows) n (v.consumer.geom, None) =
+        rows_with-with_value ranked_link_of n (put None) edges.consumers.rows
+        ∙ ap (λ (e : ℕ × Option ℕ). with_value (rows_with ranked_link_of edges.consumers.rows) n e)
+        ends-free in
         let count : length (kinds gs) ≡ length gs.rows = length-map gs.rows (row_with (kind_of {C = C})) in
         record {
           kin = kin;
-          climbs = height-climbs (ranked_below (switched None)) (stored gs) (enough-climbs (ranked_below (switched None)) (stored gs) off-enough) (λ x. omega (arith, mesh.standing.local x)) (length (kinds gs)) (stored-bound gs (ranked_below edges) mesh.standing.local);
-          owned = rw users (all-with_value (λ (row : ℕ × (ℕ × Option ℕ)). IsSome (value_at (kinds gs) row.1.0)) n (v.consumer.geom, None) (rows_with ranked_link_of edges.consumers.rows) user-stands mesh.standing.owned);
+          climbs = height-climbs (ranked_below (switched None)) (stored gs)
+              (enough-climbs (ranked_below (switched None)) (stored gs) off-enough)
+              (λ x. omega (arith, mesh.standing.local x)) (length (kinds gs))
+              (stored-bound gs (ranked_below edges) mesh.standing.local);
+          owned = rw users (all-with_value (λ (row : ℕ × (ℕ × Option ℕ)). IsSome (value_at (kinds gs) row.1.0)) n
+              (v.consumer.geom, None) (rows_with ranked_link_of edges.consumers.rows) user-stands mesh.standing.owned);
           few = omega (arith, mesh.count.counted, mesh.count.few);
         }
 
     -- the mesh stands once the geom is lowered
-    pub off-lowered : (ns : SlotsView (GeomCell C)) → bare ns ≡ bare gs → Lowered (ranked_below (switched None)) (stored gs) (stored ns) → stored ns v.consumer.geom ≤ above (ranked_below (switched None)) (stored ns) v.consumer.geom → HaveRanks ns (switched None) live
+    pub off-lowered : (ns : SlotsView (GeomCell C)) → bare ns ≡ bare gs
+        → Lowered (ranked_below (switched None)) (stored gs) (stored ns)
+        → stored ns v.consumer.geom ≤ above (ranked_below (switched None)) (stored ns) v.consumer.geom
+        → HaveRanks ns (switched None) live
     off-lowered ns same one low =
         mesh-switch gs edges live mesh ns n p None v (put None) same at ends-free tt
-        (apart-lowered (ranked_below (switched None)) (ranked_below edges) v.consumer.geom (owner edges p) off-joined (stored gs) mesh.standing.local (stored ns) one low)
+        (apart-lowered (ranked_below (switched None)) (ranked_below edges) v.consumer.geom (owner edges p)
+        off-joined (stored gs) mesh.standing.local (stored ns) one low)
         (high-less (stored gs) (stored ns) (kinds gs) one.falls mesh.standing.low)
 
     -- and at once where the geom below wasn't the highest
     pub off-kept : (stored gs (owner edges p) + 1 ≡ stored gs v.consumer.geom → ⊥) → HaveRanks gs (switched None) live
     off-kept differs =
         mesh-switch gs edges live mesh gs n p None v (put None) refl at ends-free tt
-        (apart-kept (ranked_below (switched None)) (ranked_below edges) v.consumer.geom (owner edges p) off-joined (stored gs) mesh.standing.local (omega (arith, mesh.standing.local v.consumer.geom, off-joined.here (stored gs), differs)))
+        (apart-kept (ranked_below (switched None)) (ranked_below edges) v.consumer.geom (owner edges p) off-joined
+        (stored gs) mesh.standing.local
+        (omega (arith, mesh.standing.local v.consumer.geom, off-joined.here (stored gs), differs)))
         mesh.standing.low
 
   -- the mesh stands after a detach where the geom below wasn't the highest, or the rank doesn't stand on it
-  pub off-stays : v.consumer.prov ≡ Some p → (stored gs (owner edges p) + 1 ≡ stored gs v.consumer.geom → ⊥) → HaveRanks gs (switched None) live
+  pub off-stays : v.consumer.prov ≡ Some p → (stored gs (owner edges p) + 1 ≡ stored gs v.consumer.geom → ⊥)
+      → HaveRanks gs (switched None) live
   off-stays is differs = pick (is_dev_or_taste v.consumer.geom) refl where
     pick : (b : Bool) → is_dev_or_taste v.consumer.geom ≡ b → HaveRanks gs (switched None) live
     pick true e = first-switched None e
@@ -148,128 +177,183 @@ module _ {C : Type 0} (gs : SlotsView (GeomCell C)) (edges : Edges) (live : ℕ)
   consumer_seen_at = rw (consumer_at-view gs edges n, ← at) refl
 
   -- whether a loop would arise, by the provider's row: whether its geom reaches the consumer's
-  owned_by : (o : Option ProvCell) → value_at edges.providers.rows p ≡ o → IsSome (option_map owner_of o) → would_loop (graph_of gs edges) (Some (consumer_row (n, v))) (option_map (λ y. provider_row (p, y)) o) ≡ reaches (graph_of gs edges) (owner edges p) v.consumer.geom
+  owned_by : (o : Option ProvCell) → value_at edges.providers.rows p ≡ o → IsSome (option_map owner_of o)
+      → would_loop (graph_of gs edges) (Some (consumer_row (n, v))) (option_map (λ y. provider_row (p, y)) o)
+      ≡ reaches (graph_of gs edges) (owner edges p) v.consumer.geom
   owned_by None e there = absurd cc
-  owned_by (Some y) e there = let here : owner edges p ≡ y.provider.geom = rw (value_at-rows_with owner_of p edges.providers.rows, e) refl in rw here refl
+  owned_by (Some y) e there = let here : owner edges p ≡ y.provider.geom =
+      rw (value_at-rows_with owner_of p edges.providers.rows, e) refl in rw here refl
 
   -- a loop would arise just where the provider's geom reaches the consumer's
-  loop_is : IsSome (value_at (offers edges).rows p) → would_loop (graph_of gs edges) (consumer_at (graph_of gs edges) n) (provider_at (graph_of gs edges) p) ≡ reaches (graph_of gs edges) (owner edges p) v.consumer.geom
-  loop_is offered = rw (consumer_seen_at, provider_at-view gs edges p) (owned_by (value_at edges.providers.rows p) refl (rw (value_at-rows_with owner_of p edges.providers.rows) at offered))
+  loop_is : IsSome (value_at (offers edges).rows p)
+      → would_loop (graph_of gs edges) (consumer_at (graph_of gs edges) n) (provider_at (graph_of gs edges) p)
+      ≡ reaches (graph_of gs edges) (owner edges p) v.consumer.geom
+  loop_is offered =
+      rw (consumer_seen_at, provider_at-view gs edges p)
+      (owned_by (value_at edges.providers.rows p) refl
+      (rw (value_at-rows_with owner_of p edges.providers.rows) at offered))
 
-  -- what doesn't hold is false
-  bool_false : (b : Bool) → (b ≡ true → ⊥) → b ≡ false
-  bool_false true = λ no. absurd (no refl)
-  bool_false false = λ no. refl
-
-  module _ (is : v.consumer.prov ≡ None) (offered : IsSome (value_at (offers edges).rows p)) (first : HaveDevAndTaste gs edges) (later : is_dev_or_taste v.consumer.geom ≡ false) where
+  module _ (is : v.consumer.prov ≡ None) (offered : IsSome (value_at (offers edges).rows p))
+      (first : HaveDevAndTaste gs edges) (later : is_dev_or_taste v.consumer.geom ≡ false) where
     -- the graph after the attach is that before it, with the provider's geom below the consumer's
     on-joined : Joined (ranked_below edges) (ranked_below (switched (Some p))) v.consumer.geom (owner edges p)
     on-joined =
-        subst (λ us. Joined (ranked_below us) (ranked_below (switched (Some p))) v.consumer.geom (owner edges p)) (unchanged None is)
-        (switch-joined gs edges live mesh n p v (put (Some p)) (put None) rising at (ends-bound later) ends-free offered)
+        subst (λ us. Joined (ranked_below us) (ranked_below (switched (Some p))) v.consumer.geom (owner edges p))
+        (unchanged None is)
+        (switch-joined gs edges live mesh n p v (put (Some p)) (put None) rising at (ends-bound later)
+        ends-free offered)
 
     -- the mesh stands with the consumer attached
-    pub on-mesh : (ns : SlotsView (GeomCell C)) → bare ns ≡ bare gs → IsJoinable (ranked_below edges) v.consumer.geom (owner edges p) (stored ns) → is_high (kinds gs) (stored ns) ≡ false → HaveRanks ns (switched (Some p)) live
+    pub on-mesh : (ns : SlotsView (GeomCell C)) → bare ns ≡ bare gs
+        → IsJoinable (ranked_below edges) v.consumer.geom (owner edges p) (stored ns)
+        → is_high (kinds gs) (stored ns) ≡ false → HaveRanks ns (switched (Some p)) live
     on-mesh ns same joinable low =
-        mesh-switch gs edges live mesh ns n p (Some p) v (put (Some p)) same at (ends-bound later) offered (joinable.local (ranked_below (switched (Some p))) on-joined) low
+        mesh-switch gs edges live mesh ns n p (Some p) v (put (Some p)) same at (ends-bound later) offered
+        (joinable.local (ranked_below (switched (Some p))) on-joined) low
 
     -- after the attach no rank is more than one above the number of geoms
-    on-few : (ns : SlotsView (GeomCell C)) → bare ns ≡ bare gs → IsJoinable (ranked_below edges) v.consumer.geom (owner edges p) (stored ns) → (x : ℕ) → rank_from (stored ns) (switched (Some p)) x ≤ length gs.rows + 1
+    on-few : (ns : SlotsView (GeomCell C)) → bare ns ≡ bare gs
+        → IsJoinable (ranked_below edges) v.consumer.geom (owner edges p) (stored ns) → (x : ℕ)
+        → rank_from (stored ns) (switched (Some p)) x ≤ length gs.rows + 1
     on-few ns same joinable x =
-        let few : rank_from (stored ns) (switched (Some p)) x ≤ length (map (λ (row : ℕ × GeomCell C). row.0) gs.rows) + 1 =
-        rank_from-few (switched (Some p)) first.bare (stored ns) (joinable.local (ranked_below (switched (Some p))) on-joined) (map (λ (row : ℕ × GeomCell C). row.0) gs.rows) first.listed
+        let few : rank_from (stored ns) (switched (Some p)) x
+        ≤ length (map (λ (row : ℕ × GeomCell C). row.0) gs.rows) + 1 =
+        rank_from-few (switched (Some p)) first.bare (stored ns)
+        (joinable.local (ranked_below (switched (Some p))) on-joined)
+        (map (λ (row : ℕ × GeomCell C). row.0) gs.rows) first.listed
         (λ g high. subst (λ ms. IsAmong ms g) (numbers-bare gs ns same) (stored-listed gs edges ns.rows g high)) x in
         rw (length-map gs.rows (λ (row : ℕ × GeomCell C). row.0)) at few
 
     -- whether a geom would be too deep
-    on-deep : (ns : SlotsView (GeomCell C)) → bare ns ≡ bare gs → IsJoinable (ranked_below edges) v.consumer.geom (owner edges p) (stored ns) → is_too_deep (attach (graph_of gs edges) n p) ≡ is_high (kinds gs) (stored ns)
+    on-deep : (ns : SlotsView (GeomCell C)) → bare ns ≡ bare gs
+        → IsJoinable (ranked_below edges) v.consumer.geom (owner edges p) (stored ns)
+        → is_too_deep (attach (graph_of gs edges) n p) ≡ is_high (kinds gs) (stored ns)
     on-deep ns same joinable =
-        let local : (x : ℕ) → rank_from (stored ns) (switched (Some p)) x ≡ above (below (switched (Some p))) (rank_from (stored ns) (switched (Some p))) x =
-        rank_from-local (switched (Some p)) first.bare (stored ns) (joinable.local (ranked_below (switched (Some p))) on-joined) in
+        let local : (x : ℕ)
+        → rank_from (stored ns) (switched (Some p)) x
+        ≡ above (below (switched (Some p))) (rank_from (stored ns) (switched (Some p))) x =
+        rank_from-local (switched (Some p)) first.bare (stored ns)
+        (joinable.local (ranked_below (switched (Some p))) on-joined) in
         let deep : is_too_deep (graph_of gs (switched (Some p))) ≡ is_high (kinds gs) (stored ns) =
-        deep-is gs (switched (Some p)) (rank_from (stored ns) (switched (Some p))) (rank-is gs (switched (Some p)) (rank_from (stored ns) (switched (Some p))) local (on-few ns same joinable))
+        deep-is gs (switched (Some p)) (rank_from (stored ns) (switched (Some p)))
+        (rank-is gs (switched (Some p)) (rank_from (stored ns) (switched (Some p))) local (on-few ns same joinable))
         ∙ rank_from-high (switched (Some p)) (stored ns) (kinds gs) first.granted in
         rw on-graph at deep
 
     -- where the consumer's geom may have the other below it, the other doesn't reach it
-    no_loop : (f : ℕ → ℕ) → IsJoinable (ranked_below edges) v.consumer.geom (owner edges p) f → reaches (graph_of gs edges) (owner edges p) v.consumer.geom ≡ false
+    no_loop : (f : ℕ → ℕ) → IsJoinable (ranked_below edges) v.consumer.geom (owner edges p) f
+        → reaches (graph_of gs edges) (owner edges p) v.consumer.geom ≡ false
     no_loop f joinable =
-        bool_false (reaches (graph_of gs edges) (owner edges p) v.consumer.geom)
-        (λ e. joinable.apart (stands-down edges first.bare (owner edges p) v.consumer.geom (owner-later edges first.bare p offered) (reaches-stands gs edges (owner edges p) v.consumer.geom e)))
+        false_from_ne_true (reaches (graph_of gs edges) (owner edges p) v.consumer.geom)
+        (λ e. joinable.apart
+        (stands-down edges first.bare (owner edges p) v.consumer.geom (owner-later edges first.bare p offered)
+        (reaches-stands gs edges (owner edges p) v.consumer.geom e)))
 
     -- what an attach answers
-    pub on-loops : is_errored (graph_of gs edges) p ≡ false → StandsAbove (ranked_below edges) (owner edges p) v.consumer.geom → attach_refusal (graph_of gs edges) n p ≡ Some ELOOP
+    pub on-loops : is_errored (graph_of gs edges) p ≡ false
+        → StandsAbove (ranked_below edges) (owner edges p) v.consumer.geom
+        → attach_refusal (graph_of gs edges) n p ≡ Some ELOOP
     on-loops sound stands =
         let loops : reaches (graph_of gs edges) (owner edges p) v.consumer.geom ≡ true =
-        stands-reaches gs edges (rank_from (stored gs) edges) (rank_from-local edges first.bare (stored gs) mesh.standing.local) (rank_from-most gs edges live mesh first) (owner edges p) v.consumer.geom
+        stands-reaches gs edges (rank_from (stored gs) edges)
+        (rank_from-local edges first.bare (stored gs) mesh.standing.local)
+        (rank_from-most gs edges live mesh first) (owner edges p) v.consumer.geom
         (stands-up edges (owner edges p) v.consumer.geom stands)
         in rw (sound, loop_is offered, loops) refl
 
     -- where a geom would be too deep, it is refused with EDEEP
-    pub on-high : (ns : SlotsView (GeomCell C)) → is_errored (graph_of gs edges) p ≡ false → bare ns ≡ bare gs → IsJoinable (ranked_below edges) v.consumer.geom (owner edges p) (stored ns) → is_high (kinds gs) (stored ns) ≡ true → attach_refusal (graph_of gs edges) n p ≡ Some EDEEP
-    on-high ns sound same joinable high = rw (sound, loop_is offered, no_loop (stored ns) joinable, on-deep ns same joinable, high) refl
+    pub on-high : (ns : SlotsView (GeomCell C)) → is_errored (graph_of gs edges) p ≡ false → bare ns ≡ bare gs
+        → IsJoinable (ranked_below edges) v.consumer.geom (owner edges p) (stored ns)
+        → is_high (kinds gs) (stored ns) ≡ true → attach_refusal (graph_of gs edges) n p ≡ Some EDEEP
+    on-high ns sound same joinable high =
+        rw (sound, loop_is offered, no_loop (stored ns) joinable, on-deep ns same joinable, high) refl
 
     -- where no loop would arise and no geom be too deep, it isn't refused
-    pub on-free : (ns : SlotsView (GeomCell C)) → is_errored (graph_of gs edges) p ≡ false → bare ns ≡ bare gs → IsJoinable (ranked_below edges) v.consumer.geom (owner edges p) (stored ns) → is_high (kinds gs) (stored ns) ≡ false → attach_refusal (graph_of gs edges) n p ≡ None
-    on-free ns sound same joinable low = rw (sound, loop_is offered, no_loop (stored ns) joinable, on-deep ns same joinable, low) refl
+    pub on-free : (ns : SlotsView (GeomCell C)) → is_errored (graph_of gs edges) p ≡ false → bare ns ≡ bare gs
+        → IsJoinable (ranked_below edges) v.consumer.geom (owner edges p) (stored ns)
+        → is_high (kinds gs) (stored ns) ≡ false → attach_refusal (graph_of gs edges) n p ≡ None
+    on-free ns sound same joinable low =
+        rw (sound, loop_is offered, no_loop (stored ns) joinable, on-deep ns same joinable, low) refl
 
     -- why an attach is refused
-    pub on-refused : (e : AttachRefusal) → is_errored (graph_of gs edges) p ≡ false → IsRefusedFor e gs (ranked_below edges) v.consumer.geom (owner edges p) → attach_refusal (graph_of gs edges) n p ≡ Some (errno_of e)
+    pub on-refused : (e : AttachRefusal) → is_errored (graph_of gs edges) p ≡ false
+        → IsRefusedFor e gs (ranked_below edges) v.consumer.geom (owner edges p)
+        → attach_refusal (graph_of gs edges) n p ≡ Some (errno_of e)
     on-refused Enxio sound never = absurd never
     on-refused Eloop sound stands = on-loops sound stands
     on-refused Edeep sound high = on-high high.0 sound high.1 high.2 high.3
 
-  module _ (is : v.consumer.prov ≡ None) (offered : IsSome (value_at (offers edges).rows p)) (first : HaveDevAndTaste gs edges) (ns : SlotsView (GeomCell C)) (same : bare ns ≡ bare gs)
-      (admitted : IsAdmitted (is_dev_or_taste v.consumer.geom) (ranked_below edges) v.consumer.geom (owner edges p) (stored gs) (stored ns)) (low : is_high (kinds gs) (stored ns) ≡ false) where
+  module _ (is : v.consumer.prov ≡ None) (offered : IsSome (value_at (offers edges).rows p))
+      (first : HaveDevAndTaste gs edges) (ns : SlotsView (GeomCell C)) (same : bare ns ≡ bare gs)
+      (admitted : IsAdmitted (is_dev_or_taste v.consumer.geom) (ranked_below edges) v.consumer.geom (owner edges p)
+      (stored gs) (stored ns)) (low : is_high (kinds gs) (stored ns) ≡ false) where
     -- nothing reaches one of the first two geoms
-    first_unreached : is_dev_or_taste v.consumer.geom ≡ true → reaches (graph_of gs edges) (owner edges p) v.consumer.geom ≡ false
+    first_unreached : is_dev_or_taste v.consumer.geom ≡ true
+        → reaches (graph_of gs edges) (owner edges p) v.consumer.geom ≡ false
     first_unreached here =
-        bool_false (reaches (graph_of gs edges) (owner edges p) v.consumer.geom)
+        false_from_ne_true (reaches (graph_of gs edges) (owner edges p) v.consumer.geom)
         (λ e.
-        let stands : is_dev_or_taste (owner edges p) ≡ true = reaches-stands gs edges (owner edges p) v.consumer.geom e is_dev_or_taste here (λ y h near is. (let never : true ≡ false = sym is ∙ below-later edges first.bare y h near in absurd (cc))) in
+        let stands : is_dev_or_taste (owner edges p) ≡ true =
+        reaches-stands gs edges (owner edges p) v.consumer.geom e is_dev_or_taste here
+        (λ y h near is. (let never : true ≡ false = sym is ∙ below-later edges first.bare y h near in
+        absurd (cc))) in
         let never : true ≡ false = sym stands ∙ owner-later edges first.bare p offered in cc)
 
     -- the mesh stands with the consumer attached
     pub admitted-mesh : HaveRanks ns (switched (Some p)) live
     admitted-mesh = pick (is_dev_or_taste v.consumer.geom) refl admitted where
-      pick : (b : Bool) → is_dev_or_taste v.consumer.geom ≡ b → IsAdmitted b (ranked_below edges) v.consumer.geom (owner edges p) (stored gs) (stored ns) → HaveRanks ns (switched (Some p)) live
+      pick : (b : Bool) → is_dev_or_taste v.consumer.geom ≡ b
+          → IsAdmitted b (ranked_below edges) v.consumer.geom (owner edges p) (stored gs) (stored ns)
+          → HaveRanks ns (switched (Some p)) live
       pick true e kept = mesh-kept gs ns (switched (Some p)) live (first-switched (Some p) e) same kept
       pick false e joinable = on-mesh is offered first e ns same joinable low
 
     -- and the attach isn't refused, where the provider carries no error
     pub admitted-free : is_errored (graph_of gs edges) p ≡ false → attach_refusal (graph_of gs edges) n p ≡ None
     admitted-free sound = pick (is_dev_or_taste v.consumer.geom) refl admitted where
-      pick : (b : Bool) → is_dev_or_taste v.consumer.geom ≡ b → IsAdmitted b (ranked_below edges) v.consumer.geom (owner edges p) (stored gs) (stored ns) → attach_refusal (graph_of gs edges) n p ≡ None
+      pick : (b : Bool) → is_dev_or_taste v.consumer.geom ≡ b
+          → IsAdmitted b (ranked_below edges) v.consumer.geom (owner edges p) (stored gs) (stored ns)
+          → attach_refusal (graph_of gs edges) n p ≡ None
       pick true e kept =
-          let deep : is_too_deep (attach (graph_of gs edges) n p) ≡ false = rw on-graph at (mesh-low gs (switched (Some p)) live (first-switched (Some p) e) (record { listed = first.listed; granted = first.granted; bare = first.bare })) in
+          let deep : is_too_deep (attach (graph_of gs edges) n p) ≡ false =
+          rw on-graph at
+          (mesh-low gs (switched (Some p)) live (first-switched (Some p) e)
+          (record { listed = first.listed; granted = first.granted; bare = first.bare })) in
           rw (sound, loop_is offered, first_unreached e, deep) refl
       pick false e joinable = on-free is offered first e ns sound same joinable low
 
 module _ {C : Type 0} (gs : SlotsView (GeomCell C)) (edges : Edges) where
   -- a consumer that is attached to nothing has its cell
-  pub free-cell : (n : ℕ) → IsSomeAnd (consumer_at (graph_of gs edges) n) (λ x. x.provider ≡ None) → (v : ConsCell) × (Some v ≡ value_at edges.consumers.rows n) × (v.consumer.prov ≡ None)
+  pub free-cell : (n : ℕ) → IsSomeAnd (consumer_at (graph_of gs edges) n) (λ x. x.provider ≡ None)
+      → (v : ConsCell) × (Some v ≡ value_at edges.consumers.rows n) × (v.consumer.prov ≡ None)
   free-cell n there = pick (value_at edges.consumers.rows n) refl (rw (consumer_at-view gs edges n) at there) where
-    pick : (o : Option ConsCell) → value_at edges.consumers.rows n ≡ o → IsSomeAnd (option_map (λ v. consumer_row (n, v)) o) (λ x. x.provider ≡ None) → (v : ConsCell) × (Some v ≡ value_at edges.consumers.rows n) × (v.consumer.prov ≡ None)
+    pick : (o : Option ConsCell) → value_at edges.consumers.rows n ≡ o
+        → IsSomeAnd (option_map (λ v. consumer_row (n, v)) o) (λ x. x.provider ≡ None)
+        → (v : ConsCell) × (Some v ≡ value_at edges.consumers.rows n) × (v.consumer.prov ≡ None)
     pick None e there = absurd there
     pick (Some v) e there = (v, sym e, there)
 
   -- a provider that is there is offered
   pub provider-offered : (p : ℕ) → IsSome (provider_at (graph_of gs edges) p) → IsSome (value_at (offers edges).rows p)
-  provider-offered p there = rw (value_at-rows_with owner_of p edges.providers.rows) (pick (value_at edges.providers.rows p) (rw (provider_at-view gs edges p) at there)) where
-    pick : (o : Option ProvCell) → IsSome (option_map (λ v. provider_row (p, v)) o) → IsSome (option_map owner_of o)
-    pick None there = there
-    pick (Some v) there = refl
+  provider-offered p there =
+      rw (value_at-rows_with owner_of p edges.providers.rows)
+      (pick (value_at edges.providers.rows p) (rw (provider_at-view gs edges p) at there)) where
+        pick : (o : Option ProvCell) → IsSome (option_map (λ v. provider_row (p, v)) o) → IsSome (option_map owner_of o)
+        pick None there = there
+        pick (Some v) there = refl
 
   -- the geom of a consumer, by its cell
   pub user-cell : (n : ℕ) (v : ConsCell) → Some v ≡ value_at edges.consumers.rows n → user edges n ≡ v.consumer.geom
   user-cell n v at = rw (value_at-rows_with ranked_link_of n edges.consumers.rows, ← at) refl
 
   -- and it is attached to nothing
-  pub free-at : (n : ℕ) (v : ConsCell) → IsSomeAnd (consumer_at (graph_of gs edges) n) (λ x. x.provider ≡ None) → Some v ≡ value_at edges.consumers.rows n → v.consumer.prov ≡ None
+  pub free-at : (n : ℕ) (v : ConsCell) → IsSomeAnd (consumer_at (graph_of gs edges) n) (λ x. x.provider ≡ None)
+      → Some v ≡ value_at edges.consumers.rows n → v.consumer.prov ≡ None
   free-at n v there at = rw (consumer_at-view gs edges n, ← at) at there
 
   -- a consumer that is attached to something is so by its cell
-  pub bound-at : (n : ℕ) (v : ConsCell) → IfSome (consumer_at (graph_of gs edges) n) (λ x. IsSome x.provider) → Some v ≡ value_at edges.consumers.rows n → v.consumer.prov ≡ None → ⊥
+  pub bound-at : (n : ℕ) (v : ConsCell) → IfSome (consumer_at (graph_of gs edges) n) (λ x. IsSome x.provider)
+      → Some v ≡ value_at edges.consumers.rows n → v.consumer.prov ≡ None → ⊥
   bound-at n v there at none =
       let here : IsSome v.consumer.prov = rw (consumer_at-view gs edges n, ← at) at there in
       let no : false ≡ true = rw none at here in cc

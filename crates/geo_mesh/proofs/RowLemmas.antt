@@ -15,8 +15,10 @@ module _ {T : Type 0} where
   -- past the number there is no row under it
   past : (n low high : ℕ) (v : T) (rows : List (ℕ × T)) → n < low → IsRising low rows high → OnlyValue n v rows
   past n low high v [] above rising = tt
-  past n low high v (row ∷ rows) above rising =
-      ((λ e. let same : row.0 ≡ n = eqb-true row.0 n e in absurd (omega (arith, rising.0))), past n (row.0 + 1) high v rows (omega (arith, rising.0)) rising.1)
+  past n low high v (row ∷ rows) above rising = (
+    (λ e. let same : row.0 ≡ n = eqb-true row.0 n e in absurd (omega (arith, rising.0))),
+    past n (row.0 + 1) high v rows (omega (arith, rising.0)) rising.1,
+  )
 
   -- one row more in front: it is the one under the number, or the others have it
   only_step : (n low high : ℕ) (v : T) (row : ℕ × T) (rows : List (ℕ × T)) (b : Bool) → (row.0 == n) ≡ b
@@ -25,16 +27,20 @@ module _ {T : Type 0} where
   only_step n low high v row rows true e rising at so =
       let same : row.0 ≡ n = eqb-true row.0 n e in
       let found : Some row.1 ≡ Some v = rw e at at in
-      let value : row.1 ≡ v = cc in
-      ((λ _. let whole : (row.0, row.1) ≡ (n, v) = rw (same, value) refl in whole), past n (row.0 + 1) high v rows (omega arith) rising.1)
+      let value : row.1 ≡ v = cc in (
+        (λ _. let whole : (row.0, row.1) ≡ (n, v) = rw (same, value) refl in whole),
+        past n (row.0 + 1) high v rows (omega arith) rising.1,
+      )
   only_step n low high v row rows false e rising at so =
       ((λ t. let no : false ≡ true = sym e ∙ t in absurd cc), so (rw e at at))
 
   -- in rising rows the value under a number is the only one
-  pub only : (n low high : ℕ) (v : T) (rows : List (ℕ × T)) → IsRising low rows high → value_at rows n ≡ Some v → OnlyValue n v rows
-  only n low high v [] rising at = tt
-  only n low high v (row ∷ rows) rising at =
-      only_step n low high v row rows (row.0 == n) refl rising at (λ rest. only n (row.0 + 1) high v rows rising.1 rest)
+  pub only_value : (n low high : ℕ) (v : T) (rows : List (ℕ × T)) → IsRising low rows high
+      → value_at rows n ≡ Some v → OnlyValue n v rows
+  only_value n low high v [] rising at = tt
+  only_value n low high v (row ∷ rows) rising at =
+      only_step n low high v row rows (row.0 == n) refl rising at
+      (λ rest. only_value n (row.0 + 1) high v rows rising.1 rest)
 
 module _ {T Y : Type 0} (f : ℕ × T → Y) (n : ℕ) where
   -- one row, with the other value where it is under the number
@@ -77,7 +83,8 @@ module _ {T U : Type 0} (h : T → U) (n : ℕ) where
   put_row w row false e = rw e refl
 
   -- another value under a number, seen otherwise
-  pub rows_with-with_value : (w : T) (rows : List (ℕ × T)) → rows_with h (with_value rows n w) ≡ with_value (rows_with h rows) n (h w)
+  pub rows_with-with_value : (w : T) (rows : List (ℕ × T))
+      → rows_with h (with_value rows n w) ≡ with_value (rows_with h rows) n (h w)
   rows_with-with_value w [] = refl
   rows_with-with_value w (row ∷ rows) =
       let first = put_row w row (row.0 == n) refl in
@@ -86,7 +93,8 @@ module _ {T U : Type 0} (h : T → U) (n : ℕ) where
 
 module _ {T Y : Type 0} (f : ℕ × T → Y) (n : ℕ) where
   -- one row more in front, which is taken away or stays
-  without_step : (test : Y → Bool) (row : ℕ × T) (rows : List (ℕ × T)) (b : Bool) → (row.0 == n) ≡ b → test (f row) ≡ (row.0 == n)
+  without_step : (test : Y → Bool) (row : ℕ × T) (rows : List (ℕ × T)) (b : Bool) → (row.0 == n) ≡ b
+      → test (f row) ≡ (row.0 == n)
       → map f (without rows n) ≡ filter (λ y. not (test y)) (map f rows)
       → map f (without (row ∷ rows) n) ≡ filter (λ y. not (test y)) (map f (row ∷ rows))
   without_step test row rows true e same rest = rw (same, e) rest
@@ -100,7 +108,8 @@ module _ {T Y : Type 0} (f : ℕ × T → Y) (n : ℕ) where
       without_step test row rows (row.0 == n) refl (same row) (map-without test same rows)
 
   -- one row more in front, which is found or not
-  found_step : (test : Y → Bool) (row : ℕ × T) (rows : List (ℕ × T)) (b : Bool) → (row.0 == n) ≡ b → test (f row) ≡ (row.0 == n)
+  found_step : (test : Y → Bool) (row : ℕ × T) (rows : List (ℕ × T)) (b : Bool) → (row.0 == n) ≡ b
+      → test (f row) ≡ (row.0 == n)
       → find test (map f rows) ≡ option_map (λ v. f (n, v)) (value_at rows n)
       → find test (map f (row ∷ rows)) ≡ option_map (λ v. f (n, v)) (value_at (row ∷ rows) n)
   found_step test row rows true e same rest =

@@ -12,6 +12,7 @@ module _ {T Y : Type 0} (f : ℕ × T → Y) (name : Y → ℕ) (test : Y → Bo
   first_step row rows false e rest = rw (same row, e) rest
 
   -- the number of the first that passes, seen by f
-  pub first-map : (rows : List (ℕ × T)) → option_map name (find test (map f rows)) ≡ option_map (λ r. r.0) (find passed rows)
+  pub first-map : (rows : List (ℕ × T))
+      → option_map name (find test (map f rows)) ≡ option_map (λ r. r.0) (find passed rows)
   first-map [] = refl
   first-map (row ∷ rows) = first_step row rows (passed row) refl (first-map rows)

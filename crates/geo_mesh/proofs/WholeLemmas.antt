@@ -1,29 +1,25 @@
 -- What a mesh keeps as a whole, after each call.
-use Rattle.std.specs.Prelude.{◌≡◌, ℕ, ◌+◌, ◌-◌, ◌==◌, ◌<◌, ◌^◌, ◌≢◌, Bool, true, false, List, [], Some, None, find, map, length, IsSome}
-use Rattle.std.proofs.Common.{refl, sym, ◌∙◌, ap, subst, arith}
-use Rattle.geo_slots.specs.Slots.{SlotsView, IsRising, value_at, with_value, without, with_insert}
-use Rattle.geo_base.specs.declared.request.Counts.{Counts}
+use Rattle.std.specs.Prelude.{◌≡◌, ℕ, ◌==◌, true, Some, map}
+use Rattle.std.proofs.Common.{refl, sym, ap, subst}
+use Rattle.geo_slots.specs.Slots.{IsRising, value_at, with_value}
 use Rattle.geo_model.specs.Words.{change_where}
-use Rattle.geo_model.specs.Topology.{Topology, Geom, Provider, Consumer, geom_at, provider_at, consumer_at, providers_of, consumers_of, attached_to, set_marks, set_error}
+use Rattle.geo_model.specs.Topology.{Geom, Provider, Consumer, set_marks, set_error}
 use Rattle.geo_mesh.specs.declared.records.GeomCell.{GeomCell}
 use Rattle.geo_mesh.specs.declared.records.ProvCell.{ProvCell}
 use Rattle.geo_mesh.specs.declared.records.ConsCell.{ConsCell}
-use Rattle.geo_mesh.specs.declared.index.Index.{Index}
 use Rattle.geo_mesh.specs.declared.names.Names.{Names}
-use Rattle.geo_mesh.specs.declared.tables.Edges.{Edges}
 use Rattle.geo_mesh.specs.declared.tables.Tables.{Tables}
 use Rattle.geo_mesh.specs.Topo.{is_provider_size}
-use Rattle.geo_mesh.specs.Graph.{IsOrderly, IsOffer}
-use Rattle.geo_mesh.specs.Cells.{graph, graph_of, geom_row, provider_row, consumer_row, with_geom_cell, with_provider_cell, with_consumer_cell, put_provider, put_consumer}
-use Rattle.geo_mesh.specs.Index.{IsIndexed, HaveRoom, with_rooms}
-use Rattle.geo_mesh.specs.Names.{AreNames, AreIds, HaveNameRoom, SameNames, RetiresName}
+use Rattle.geo_mesh.specs.Graph.{IsOrderly}
+use Rattle.geo_mesh.specs.Cells.{graph, geom_row, provider_row, consumer_row, with_geom_cell, with_provider_cell, with_consumer_cell}
+use Rattle.geo_mesh.specs.Index.{IsIndexed, HaveRoom}
+use Rattle.geo_mesh.specs.Names.{AreNames, HaveNameRoom, RetiresName}
 use Rattle.geo_mesh.specs.declared.tables.Notes.{Notes}
 use Rattle.geo_mesh.specs.Notes.{AreNotes, HaveNoteRoom}
 use Rattle.geo_mesh.proofs.NoteLemmas.{notes-reserved, notes-geom_kept, notes-provider_kept}
-use Rattle.geo_mesh.specs.Mesh.{IsMesh}
-use Rattle.geo_mesh.specs.Ranks.{HaveRanks, footing}
+use Rattle.geo_mesh.specs.Ranks.{footing}
 use Rattle.geo_mesh.specs.Whole.{IsWhole, IsRoomier}
-use Rattle.geo_mesh.proofs.RowLemmas.{OnlyValue, only, map-with_value}
+use Rattle.geo_mesh.proofs.RowLemmas.{only_value, map-with_value}
 use Rattle.geo_mesh.proofs.IndexLemmas.{indexed-rooms, indexed-geom, indexed-provider, indexed-set_marks}
 use Rattle.geo_mesh.proofs.IdLemmas.{ids-same}
 use Rattle.geo_mesh.proofs.AlikeLemmas.{names-same, names-changed}
@@ -37,12 +33,14 @@ pub record KeepsGeom {C : Type 0} (v w : GeomCell C) : Type 0 where
   pub kind : w.geom.kind ≡ v.geom.kind
   pub rank : w.rank ≡ v.rank
 
--- what index, names and ranks read of a provider's cell is as it was, and its sizes are those of a provider if they were
+-- what index, names and ranks read of a provider's cell is as it was, and its sizes are those of a provider if they
+-- were
 pub record KeepsProvider (v w : ProvCell) : Type 0 where
   pub geom : w.provider.geom ≡ v.provider.geom
   pub name : w.provider.name ≡ v.provider.name
   pub errored : w.provider.errored ≡ v.provider.errored
-  pub sizes : is_provider_size v.provider.size v.provider.sector ≡ true → is_provider_size w.provider.size w.provider.sector ≡ true
+  pub sizes : is_provider_size v.provider.size v.provider.sector ≡ true
+      → is_provider_size w.provider.size w.provider.sector ≡ true
 
 -- what index, names and ranks read of a consumer's cell is as it was
 pub record KeepsConsumer (v w : ConsCell) : Type 0 where
@@ -51,8 +49,10 @@ pub record KeepsConsumer (v w : ConsCell) : Type 0 where
 
 module _ {C : Type 0} (t : Tables C) (whole : IsWhole t) where
   -- more room changes nothing else
-  pub whole-reserved : (u : Tables C) → IsRoomier t u → HaveRoom u.geoms.spare u.edges.providers.spare u.edges.consumers.spare u.edges.index
-      → HaveNameRoom u.edges.providers.spare u.names → HaveNoteRoom u.geoms.spare u.edges.providers.spare u.notes → IsWhole u
+  pub whole-reserved : (u : Tables C) → IsRoomier t u
+      → HaveRoom u.geoms.spare u.edges.providers.spare u.edges.consumers.spare u.edges.index
+      → HaveNameRoom u.edges.providers.spare u.names
+      → HaveNoteRoom u.geoms.spare u.edges.providers.spare u.notes → IsWhole u
   whole-reserved u is room name_room note_room =
       let roomy : Tables C = record {
         geoms = record t.geoms { spare = u.geoms.spare };
@@ -77,18 +77,22 @@ module _ {C : Type 0} (t : Tables C) (whole : IsWhole t) where
           count = whole.tables.count;
           indexed = indexed-rooms (graph t) t.edges.index whole.tables.indexed u.edges.index is.index;
           room = room;
-          names_are = names-same (map provider_row t.edges.providers.rows) t.edges.providers.next t.names u.names whole.tables.names_are is.names;
+          names_are = names-same (map provider_row t.edges.providers.rows) t.edges.providers.next t.names u.names
+              whole.tables.names_are is.names;
           names_ids = ids-same t.names u.names whole.tables.names_ids is.names;
           names_room = name_room;
-          notes = notes-reserved t.notes u.notes t.geoms t.edges.providers u.geoms.spare u.edges.providers.spare is.notes note_room whole.tables.notes;
+          notes = notes-reserved t.notes u.notes t.geoms t.edges.providers u.geoms.spare u.edges.providers.spare
+              is.notes note_room whole.tables.notes;
         };
         ranks = record { count = whole.ranks.count; standing = whole.ranks.standing };
         graph = whole.graph;
       })
 
   -- another cell of a geom that keeps what is read of it keeps the whole
-  pub whole-geom_noted : (n : ℕ) (v w : GeomCell C) (notes : Notes) → IsRising 1 t.geoms.rows t.geoms.next → value_at t.geoms.rows n ≡ Some v
-      → KeepsGeom v w → AreNotes notes (with_geom_cell t n w).geoms t.edges.providers → IsWhole (record (with_geom_cell t n w) { notes = notes })
+  pub whole-geom_noted : (n : ℕ) (v w : GeomCell C) (notes : Notes) → IsRising 1 t.geoms.rows t.geoms.next
+      → value_at t.geoms.rows n ≡ Some v
+      → KeepsGeom v w → AreNotes notes (with_geom_cell t n w).geoms t.edges.providers
+      → IsWhole (record (with_geom_cell t n w) { notes = notes })
   whole-geom_noted n v w notes rising at keeps are =
       let change : Geom C → Geom C = λ x. record x {
         name = w.geom.name;
@@ -99,8 +103,10 @@ module _ {C : Type 0} (t : Tables C) (whole : IsWhole t) where
       } in
       let seen : geom_row (n, w) ≡ change (geom_row (n, v)) = λ i. record (geom_row (n, w)) { kind = keeps.kind i } in
       let same : map geom_row (with_value t.geoms.rows n w) ≡ change_where (λ x. x.number == n) change (graph t).geoms =
-      map-with_value geom_row n (λ (x : Geom C). x.number == n) change v w (λ row. refl) seen t.geoms.rows (only n 1 t.geoms.next v t.geoms.rows rising at) in
-      let changed : graph (with_geom_cell t n w) ≡ record (graph t) { geoms = change_where (λ x. x.number == n) change (graph t).geoms } =
+      map-with_value geom_row n (λ (x : Geom C). x.number == n) change v w (λ row. refl) seen t.geoms.rows
+      (only_value n 1 t.geoms.next v t.geoms.rows rising at) in
+      let changed : graph (with_geom_cell t n w)
+      ≡ record (graph t) { geoms = change_where (λ x. x.number == n) change (graph t).geoms } =
       ap (λ xs. record (graph t) { geoms = xs }) same in
       record {
         tables = record {
@@ -115,27 +121,35 @@ module _ {C : Type 0} (t : Tables C) (whole : IsWhole t) where
           notes = are;
         };
         ranks = ranks.mesh-geom t.geoms t.edges t.live n whole.ranks v w rising (sym at) keeps.kind keeps.rank;
-        graph = subst (λ g. IsOrderly g) (sym changed) (orderly-geom (graph t) whole.graph n change (λ x. refl) (λ x. refl));
+        graph = subst (λ g. IsOrderly g) (sym changed)
+            (orderly-geom (graph t) whole.graph n change (λ x. refl) (λ x. refl));
       }
 
   -- so where the geom withers as before
-  pub whole-geom_cell : (n : ℕ) (v w : GeomCell C) → IsRising 1 t.geoms.rows t.geoms.next → value_at t.geoms.rows n ≡ Some v → KeepsGeom v w
+  pub whole-geom_cell : (n : ℕ) (v w : GeomCell C) → IsRising 1 t.geoms.rows t.geoms.next
+      → value_at t.geoms.rows n ≡ Some v → KeepsGeom v w
       → w.geom.withering ≡ v.geom.withering → IsWhole (with_geom_cell t n w)
   whole-geom_cell n v w rising at keeps stays =
-      whole-geom_noted n v w t.notes rising at keeps (notes-geom_kept t.notes t.geoms t.edges.providers n v w rising at stays whole.tables.notes)
+      whole-geom_noted n v w t.notes rising at keeps
+      (notes-geom_kept t.notes t.geoms t.edges.providers n v w rising at stays whole.tables.notes)
 
   -- another cell of a provider that keeps what is read of it keeps the whole
-  pub whole-provider_noted : (n : ℕ) (v w : ProvCell) (notes : Notes) → IsRising 1 t.edges.providers.rows t.edges.providers.next
-      → value_at t.edges.providers.rows n ≡ Some v → KeepsProvider v w → AreNotes notes t.geoms (with_provider_cell t n w).edges.providers
+  pub whole-provider_noted : (n : ℕ) (v w : ProvCell) (notes : Notes)
+      → IsRising 1 t.edges.providers.rows t.edges.providers.next
+      → value_at t.edges.providers.rows n ≡ Some v → KeepsProvider v w
+      → AreNotes notes t.geoms (with_provider_cell t n w).edges.providers
       → IsWhole (record (with_provider_cell t n w) { notes = notes })
   whole-provider_noted n v w notes rising at keeps are =
       let change : Provider → Provider = λ x. record x { size = w.provider.size; sector = w.provider.sector } in
       let seen : provider_row (n, w) ≡ change (provider_row (n, v)) =
       λ i. record (provider_row (n, w)) { geom = keeps.geom i; name = keeps.name i; errored = keeps.errored i } in
-      let same : map provider_row (with_value t.edges.providers.rows n w) ≡ change_where (λ x. x.number == n) change (graph t).providers =
-      map-with_value provider_row n (λ (x : Provider). x.number == n) change v w (λ row. refl) seen t.edges.providers.rows
-      (only n 1 t.edges.providers.next v t.edges.providers.rows rising at) in
-      let changed : graph (with_provider_cell t n w) ≡ record (graph t) { providers = change_where (λ x. x.number == n) change (graph t).providers } =
+      let same : map provider_row (with_value t.edges.providers.rows n w)
+      ≡ change_where (λ x. x.number == n) change (graph t).providers =
+      map-with_value provider_row n (λ (x : Provider). x.number == n) change v w (λ row. refl) seen
+      t.edges.providers.rows
+      (only_value n 1 t.edges.providers.next v t.edges.providers.rows rising at) in
+      let changed : graph (with_provider_cell t n w)
+      ≡ record (graph t) { providers = change_where (λ x. x.number == n) change (graph t).providers } =
       ap (λ xs. record (graph t) { providers = xs }) same in
       record {
         tables = record {
@@ -146,7 +160,8 @@ module _ {C : Type 0} (t : Tables C) (whole : IsWhole t) where
           room = whole.tables.room;
           names_are =
               subst (λ xs. AreNames xs t.edges.providers.next t.names) (sym same)
-              (names-changed (graph t).providers t.edges.providers.next t.names t.names whole.tables.names_are n change (λ x. refl) (λ x. refl) (λ x. refl));
+              (names-changed (graph t).providers t.edges.providers.next t.names t.names whole.tables.names_are n
+              change (λ x. refl) (λ x. refl) (λ x. refl));
           names_ids = whole.tables.names_ids;
           names_room = whole.tables.names_room;
           notes = are;
@@ -154,13 +169,19 @@ module _ {C : Type 0} (t : Tables C) (whole : IsWhole t) where
         ranks = ranks.mesh-provider t.geoms t.edges t.live n whole.ranks v w rising (sym at) keeps.geom;
         graph =
             subst (λ g. IsOrderly g) (sym changed)
-            (orderly-provider (graph t) whole.graph n change (λ x. refl) (λ x. refl) (provider_row (n, v)) (found_provider t whole.tables n v at)
-            (λ offer. record { not_dev = offer.not_dev; not_taste = offer.not_taste; sizes = keeps.sizes offer.sizes }));
+            (orderly-provider (graph t) whole.graph n change (λ x. refl) (λ x. refl) (provider_row (n, v))
+            (found_provider t whole.tables n v at)
+            (λ offer. record {
+              not_dev = offer.not_dev;
+              not_taste = offer.not_taste;
+              sizes = keeps.sizes offer.sizes;
+            }));
       }
 
   -- so where the provider is noted as before
   pub whole-provider_cell : (n : ℕ) (v w : ProvCell) → IsRising 1 t.edges.providers.rows t.edges.providers.next
-      → value_at t.edges.providers.rows n ≡ Some v → KeepsProvider v w → w.provider.risen ≡ v.provider.risen → w.provider.fallen ≡ v.provider.fallen
+      → value_at t.edges.providers.rows n ≡ Some v → KeepsProvider v w → w.provider.risen ≡ v.provider.risen
+      → w.provider.fallen ≡ v.provider.fallen
       → IsWhole (with_provider_cell t n w)
   whole-provider_cell n v w rising at keeps risen fallen =
       whole-provider_noted n v w t.notes rising at keeps
@@ -173,9 +194,11 @@ module _ {C : Type 0} (t : Tables C) (whole : IsWhole t) where
       let change : Consumer → Consumer = λ x. record x { spoiled = w.consumer.spoiled } in
       let seen : consumer_row (n, w) ≡ change (consumer_row (n, v)) =
       λ i. record (consumer_row (n, w)) { geom = keeps.geom i; provider = keeps.provider i } in
-      let same : map consumer_row (with_value t.edges.consumers.rows n w) ≡ change_where (λ x. x.number == n) change (graph t).consumers =
-      map-with_value consumer_row n (λ (x : Consumer). x.number == n) change v w (λ row. refl) seen t.edges.consumers.rows
-      (only n 1 t.edges.consumers.next v t.edges.consumers.rows rising at) in
+      let same : map consumer_row (with_value t.edges.consumers.rows n w)
+      ≡ change_where (λ x. x.number == n) change (graph t).consumers =
+      map-with_value consumer_row n (λ (x : Consumer). x.number == n) change v w (λ row. refl) seen
+      t.edges.consumers.rows
+      (only_value n 1 t.edges.consumers.next v t.edges.consumers.rows rising at) in
       let changed : graph (with_consumer_cell t n w) ≡ set_marks (graph t) (λ x. x.number == n) w.consumer.spoiled =
       ap (λ xs. record (graph t) { consumers = xs }) same in
       record {
@@ -192,25 +215,31 @@ module _ {C : Type 0} (t : Tables C) (whole : IsWhole t) where
         };
         ranks = ranks.mesh-consumer t.geoms t.edges t.live n whole.ranks v w rising (sym at)
             (λ i. (keeps.geom i, footing (keeps.geom i) (keeps.provider i)));
-        graph = subst (λ g. IsOrderly g) (sym changed) (orderly-set_marks (graph t) whole.graph (λ x. x.number == n) w.consumer.spoiled);
+        graph = subst (λ g. IsOrderly g) (sym changed)
+            (orderly-set_marks (graph t) whole.graph (λ x. x.number == n) w.consumer.spoiled);
       }
 
   -- an error at a provider, whose name is retired, keeps the whole
   pub whole-errored : (n : ℕ) (v : ProvCell) (m : Names) → IsRising 1 t.edges.providers.rows t.edges.providers.next
-      → value_at t.edges.providers.rows n ≡ Some v → RetiresName t.names m v.provider.name v.provider.errored → HaveNameRoom t.edges.providers.spare m
-      → IsWhole (record (with_provider_cell t n (record v { provider = record v.provider { errored = true } })) { names = m })
+      → value_at t.edges.providers.rows n ≡ Some v → RetiresName t.names m v.provider.name v.provider.errored
+      → HaveNameRoom t.edges.providers.spare m
+      → IsWhole (record (with_provider_cell t n (record v { provider = record v.provider { errored = true } }))
+      { names = m })
   whole-errored n v m rising at retires name_room =
       let w : ProvCell = record v { provider = record v.provider { errored = true } } in
-      let changed : graph (with_provider_cell t n w) ≡ set_error (graph t) n = ap (λ v. v.topology) (set_error-view t n v rising at) in
+      let changed : graph (with_provider_cell t n w) ≡ set_error (graph t) n =
+      ap (λ v. v.topology) (set_error-view t n v rising at) in
       record {
         tables = record {
           count = whole.tables.count;
           indexed =
               subst (λ g. IsIndexed g t.edges.index) (sym changed)
-              (indexed-provider (graph t) t.edges.index whole.tables.indexed n (λ x. record x { errored = true }) (λ x. refl) (λ x. refl));
+              (indexed-provider (graph t) t.edges.index whole.tables.indexed n (λ x. record x { errored = true })
+              (λ x. refl) (λ x. refl));
           room = whole.tables.room;
           names_are =
-              subst (λ g. AreNames g.providers t.edges.providers.next m) (sym changed) (names-errored t whole.tables n v rising at m retires);
+              subst (λ g. AreNames g.providers t.edges.providers.next m) (sym changed)
+              (names-errored t whole.tables n v rising at m retires);
           names_ids = ids-errored t whole.tables v.provider.name v.provider.errored m retires;
           names_room = name_room;
           notes = notes-provider_kept t.notes t.geoms t.edges.providers n v w rising at refl refl whole.tables.notes;
@@ -218,7 +247,8 @@ module _ {C : Type 0} (t : Tables C) (whole : IsWhole t) where
         ranks = ranks.mesh-provider t.geoms t.edges t.live n whole.ranks v w rising (sym at) refl;
         graph =
             subst (λ g. IsOrderly g) (sym changed)
-            (orderly-provider (graph t) whole.graph n (λ x. record x { errored = true }) (λ x. refl) (λ x. refl) (provider_row (n, v))
+            (orderly-provider (graph t) whole.graph n (λ x. record x { errored = true }) (λ x. refl) (λ x. refl)
+            (provider_row (n, v))
             (found_provider t whole.tables n v at)
             (λ offer. record { not_dev = offer.not_dev; not_taste = offer.not_taste; sizes = offer.sizes }));
       }

@@ -1,6 +1,6 @@
 -- What a mesh keeps as a whole, where a part comes or goes, and where a consumer is attached or detached.
 use Rattle.std.specs.Prelude.{◌≡◌, ◌≢◌, ℕ, ◌+◌, ◌-◌, ◌<◌, ◌^◌, true, false, [], Option, Some, None, find, map, IsSome, IfSome}
-use Rattle.std.proofs.Common.{refl, sym, ◌∙◌, ap, subst}
+use Rattle.std.proofs.Common.{sym, ◌∙◌, ap, subst}
 use Rattle.geo_slots.specs.Slots.{SlotsView, IsRising, value_at, without, with_insert}
 use Rattle.geo_model.specs.Topology.{geom_at, provider_at, consumer_at, providers_of, consumers_of, attached_to}
 use Rattle.geo_mesh.specs.declared.records.GeomCell.{GeomCell}
@@ -26,61 +26,90 @@ use Rattle.geo_mesh.proofs.Orderly.{orderly-add_geom, orderly-add_provider, orde
 use Rattle.geo_mesh.proofs.MeshLemmas.{graph-geom, graph-provider, graph-consumer, mesh-geom, mesh-provider, mesh-consumer, mesh-without_geom, mesh-without_provider, mesh-without_consumer, mesh-attached, mesh-detached, mesh-bare}
 
 -- the ranks don't see the index
-beside_index : {C : Type 0} (gs : SlotsView (GeomCell C)) (edges : Edges) (live : ℕ) (i : Index) → HaveRanks gs edges live → HaveRanks gs (record edges { index = i }) live
+beside_index : {C : Type 0} (gs : SlotsView (GeomCell C)) (edges : Edges) (live : ℕ) (i : Index)
+    → HaveRanks gs edges live → HaveRanks gs (record edges { index = i }) live
 beside_index gs edges live i are = record { count = are.count; standing = are.standing }
 
 module _ {C : Type 0} (t : Tables C) (whole : IsWhole t) where
   -- with a new geom, of rank 1
-  pub whole-new_geom : (v : GeomCell C) → v.geom.withering ≡ false → v.geom.started ≡ 0 → v.rank ≡ 1 → IsRising 1 t.geoms.rows t.geoms.next
+  pub whole-new_geom : (v : GeomCell C) → v.geom.withering ≡ false → v.geom.started ≡ 0 → v.rank ≡ 1
+      → IsRising 1 t.geoms.rows t.geoms.next
       → t.live < 4294967294 → t.geoms.next + 1 < 2 ^ 64
-      → IsWhole (record t { geoms = with_insert t.geoms v; edges = record t.edges { index = with_geom_index t.edges.index }; live = t.live + 1; notes = record t.notes { withering = with_mark t.notes.withering } })
+      → IsWhole (record t {
+        geoms = with_insert t.geoms v;
+        edges = record t.edges { index = with_geom_index t.edges.index };
+        live = t.live + 1;
+        notes = record t.notes { withering = with_mark t.notes.withering };
+      })
   whole-new_geom v stays none rank rising few fits = record {
     tables = mesh-geom t whole.tables v stays none few;
     ranks =
         beside_index (with_insert t.geoms v) t.edges (t.live + 1) (with_geom_index t.edges.index)
-        (ranks.mesh-new_geom t.geoms t.edges t.live whole.ranks (t.geoms.next + 1) (t.geoms.spare - 1) v rank rising few);
+        (ranks.mesh-new_geom t.geoms t.edges t.live whole.ranks (t.geoms.next + 1) (t.geoms.spare - 1) v rank
+        rising few);
     graph =
         subst (λ g. IsOrderly g) (sym (graph-geom t whole.tables v stays none))
         (orderly-add_geom (graph t) whole.graph v.geom.kind v.geom.name v.geom.config v.geom.automatic fits);
   }
 
   -- with a new provider of a geom other than the first two, of a name that no other has without an error
-  pub whole-new_provider : (v : ProvCell) (m : Names) → v.provider.errored ≡ false → v.provider.risen ≡ false → v.provider.fallen ≡ false → AreIds m
-      → find (is_sound_named v.provider.name) (map provider_row t.edges.providers.rows) ≡ None → AddsName t.names m v.provider.name t.edges.providers.next
-      → HaveNameRoom (t.edges.providers.spare - 1) m → IsSome (geom_at (graph t) v.provider.geom) → v.provider.geom ≢ 1 → v.provider.geom ≢ 2
+  pub whole-new_provider : (v : ProvCell) (m : Names) → v.provider.errored ≡ false → v.provider.risen ≡ false
+      → v.provider.fallen ≡ false → AreIds m
+      → find (is_sound_named v.provider.name) (map provider_row t.edges.providers.rows) ≡ None
+      → AddsName t.names m v.provider.name t.edges.providers.next
+      → HaveNameRoom (t.edges.providers.spare - 1) m → IsSome (geom_at (graph t) v.provider.geom)
+      → v.provider.geom ≢ 1 → v.provider.geom ≢ 2
       → is_provider_size v.provider.size v.provider.sector ≡ true → t.edges.providers.next + 1 < 2 ^ 64
       → IsWhole (record t {
-        edges = record t.edges { providers = with_insert t.edges.providers v; index = with_provider_index t.edges.index v.provider.geom };
+        edges = record t.edges {
+          providers = with_insert t.edges.providers v;
+          index = with_provider_index t.edges.index v.provider.geom;
+        };
         names = m;
         notes = record t.notes { risen = with_mark t.notes.risen; fallen = with_mark t.notes.fallen };
       })
   whole-new_provider v m sound risen fallen ids free adds name_room lives not_dev not_taste sizes fits = record {
     tables = mesh-provider t whole.tables v sound risen fallen m ids free adds name_room;
     ranks =
-        beside_index t.geoms (record t.edges { providers = with_insert t.edges.providers v }) t.live (with_provider_index t.edges.index v.provider.geom)
-        (ranks.mesh-new_provider t.geoms t.edges t.live whole.ranks t.edges.providers.next (t.edges.providers.next + 1) (t.edges.providers.spare - 1) v);
+        beside_index t.geoms (record t.edges { providers = with_insert t.edges.providers v }) t.live
+        (with_provider_index t.edges.index v.provider.geom)
+        (ranks.mesh-new_provider t.geoms t.edges t.live whole.ranks t.edges.providers.next
+        (t.edges.providers.next + 1) (t.edges.providers.spare - 1) v);
     graph =
         subst (λ g. IsOrderly g) (sym (graph-provider t whole.tables v sound))
-        (orderly-add_provider (graph t) whole.graph v.provider.geom v.provider.name v.provider.size v.provider.sector lives not_dev not_taste sizes fits);
+        (orderly-add_provider (graph t) whole.graph v.provider.geom v.provider.name v.provider.size
+        v.provider.sector lives not_dev not_taste sizes fits);
   }
 
   -- with a new consumer, attached to nothing
-  pub whole-new_consumer : (v : ConsCell) → v.consumer.prov ≡ None → v.consumer.spoiled ≡ false → IsSome (geom_at (graph t) v.consumer.geom)
+  pub whole-new_consumer : (v : ConsCell) → v.consumer.prov ≡ None → v.consumer.spoiled ≡ false
+      → IsSome (geom_at (graph t) v.consumer.geom)
       → t.edges.consumers.next + 1 < 2 ^ 64
-      → IsWhole (record t { edges = record t.edges { consumers = with_insert t.edges.consumers v; index = with_consumer_index t.edges.index v.consumer.geom } })
+      → IsWhole (record t {
+        edges =
+            record t.edges {
+              consumers = with_insert t.edges.consumers v;
+              index = with_consumer_index t.edges.index v.consumer.geom;
+            };
+      })
   whole-new_consumer v free clean lives fits = record {
     tables = mesh-consumer t whole.tables v free clean;
     ranks =
-        beside_index t.geoms (record t.edges { consumers = with_insert t.edges.consumers v }) t.live (with_consumer_index t.edges.index v.consumer.geom)
-        (ranks.mesh-new_consumer t.geoms t.edges t.live whole.ranks t.edges.consumers.next v.consumer.geom (t.edges.consumers.next + 1)
-        (t.edges.consumers.spare - 1) v (rw free (ap (λ (o : Option ℕ). (v.consumer.geom, o)) (footing-none v.consumer.geom)))
+        beside_index t.geoms (record t.edges { consumers = with_insert t.edges.consumers v }) t.live
+        (with_consumer_index t.edges.index v.consumer.geom)
+        (ranks.mesh-new_consumer t.geoms t.edges t.live whole.ranks t.edges.consumers.next v.consumer.geom
+        (t.edges.consumers.next + 1)
+        (t.edges.consumers.spare - 1) v
+        (rw free (ap (λ (o : Option ℕ). (v.consumer.geom, o)) (footing-none v.consumer.geom)))
         (ranks.lives-kinds t.geoms t.edges t.live v.consumer.geom lives));
     graph =
-        subst (λ g. IsOrderly g) (sym (graph-consumer t whole.tables v free clean)) (orderly-add_consumer (graph t) whole.graph v.consumer.geom lives fits);
+        subst (λ g. IsOrderly g) (sym (graph-consumer t whole.tables v free clean))
+        (orderly-add_consumer (graph t) whole.graph v.consumer.geom lives fits);
   }
 
   -- without a geom that has neither provider nor consumer
-  pub whole-without_geom : (n : ℕ) (v : GeomCell C) → IsRising 1 t.geoms.rows t.geoms.next → value_at t.geoms.rows n ≡ Some v → n ≢ 1 → n ≢ 2
+  pub whole-without_geom : (n : ℕ) (v : GeomCell C) → IsRising 1 t.geoms.rows t.geoms.next
+      → value_at t.geoms.rows n ≡ Some v → n ≢ 1 → n ≢ 2
       → providers_of (graph t) n ≡ [] → consumers_of (graph t) n ≡ []
       → IsWhole (record t {
         geoms = record t.geoms { rows = without t.geoms.rows n };
@@ -89,18 +118,23 @@ module _ {C : Type 0} (t : Tables C) (whole : IsWhole t) where
         notes = record t.notes { withering = without_mark t.notes.withering n };
       })
   whole-without_geom n v rising at not_dev not_taste no_provider no_consumer = record {
-    tables = mesh-without_geom t whole.tables n (t.live - 1) (count_falls t.geoms n t.live v rising (sym at) whole.tables.count);
+    tables = mesh-without_geom t whole.tables n (t.live - 1)
+        (count_falls t.geoms n t.live v rising (sym at) whole.tables.count);
     ranks =
-        beside_index (record t.geoms { rows = without t.geoms.rows n }) t.edges (t.live - 1) (without_geom_index t.edges.index n)
-        (ranks.mesh-destroy_geom t.geoms t.edges t.live whole.ranks n t.geoms.next t.geoms.spare v rising (sym at) no_consumer);
+        beside_index (record t.geoms { rows = without t.geoms.rows n }) t.edges (t.live - 1)
+        (without_geom_index t.edges.index n)
+        (ranks.mesh-destroy_geom t.geoms t.edges t.live whole.ranks n t.geoms.next t.geoms.spare v rising (sym at)
+        no_consumer);
     graph =
         subst (λ g. IsOrderly g) (sym (ap (λ v. v.topology) (without_geom-view t n (t.live - 1))))
         (orderly-remove_geom (graph t) whole.graph n not_dev not_taste no_provider no_consumer);
   }
 
   -- without a provider to which nothing is attached
-  pub whole-without_provider : (n : ℕ) (v : ProvCell) (m : Names) → IsRising 1 t.edges.providers.rows t.edges.providers.next
-      → value_at t.edges.providers.rows n ≡ Some v → AreIds m → RemovesName t.names m v.provider.name n v.provider.errored
+  pub whole-without_provider : (n : ℕ) (v : ProvCell) (m : Names)
+      → IsRising 1 t.edges.providers.rows t.edges.providers.next
+      → value_at t.edges.providers.rows n ≡ Some v → AreIds m
+      → RemovesName t.names m v.provider.name n v.provider.errored
       → HaveNameRoom t.edges.providers.spare m → attached_to (graph t) n ≡ []
       → IsWhole (record t {
         edges = record t.edges {
@@ -113,14 +147,18 @@ module _ {C : Type 0} (t : Tables C) (whole : IsWhole t) where
   whole-without_provider n v m rising at ids removes name_room none = record {
     tables = mesh-without_provider t whole.tables n v rising at m ids removes name_room;
     ranks =
-        beside_index t.geoms (record t.edges { providers = record t.edges.providers { rows = without t.edges.providers.rows n } }) t.live
-        (without_provider_index t.edges.index n) (ranks.mesh-destroy_provider t.geoms t.edges t.live whole.ranks n none);
+        beside_index t.geoms
+        (record t.edges { providers = record t.edges.providers { rows = without t.edges.providers.rows n } }) t.live
+        (without_provider_index t.edges.index n)
+        (ranks.mesh-destroy_provider t.geoms t.edges t.live whole.ranks n none);
     graph =
-        subst (λ g. IsOrderly g) (sym (ap (λ v. v.topology) (without_provider-view t n))) (orderly-remove_provider (graph t) whole.graph n none);
+        subst (λ g. IsOrderly g) (sym (ap (λ v. v.topology) (without_provider-view t n)))
+        (orderly-remove_provider (graph t) whole.graph n none);
   }
 
   -- without a consumer that is attached to nothing
-  pub whole-without_consumer : (n : ℕ) → IsRising 1 t.edges.consumers.rows t.edges.consumers.next → IfSome (consumer_at (graph t) n) (λ x. x.provider ≡ None)
+  pub whole-without_consumer : (n : ℕ) → IsRising 1 t.edges.consumers.rows t.edges.consumers.next
+      → IfSome (consumer_at (graph t) n) (λ x. x.provider ≡ None)
       → IsWhole (record t {
         edges = record t.edges {
           consumers = record t.edges.consumers { rows = without t.edges.consumers.rows n };
@@ -130,28 +168,35 @@ module _ {C : Type 0} (t : Tables C) (whole : IsWhole t) where
   whole-without_consumer n rising free = record {
     tables = mesh-without_consumer t whole.tables n;
     ranks =
-        beside_index t.geoms (record t.edges { consumers = record t.edges.consumers { rows = without t.edges.consumers.rows n } }) t.live
-        (without_consumer_index t.edges.index n) (ranks.mesh-destroy_consumer t.geoms t.edges t.live whole.ranks n rising free);
+        beside_index t.geoms
+        (record t.edges { consumers = record t.edges.consumers { rows = without t.edges.consumers.rows n } }) t.live
+        (without_consumer_index t.edges.index n)
+        (ranks.mesh-destroy_consumer t.geoms t.edges t.live whole.ranks n rising free);
     graph =
-        subst (λ g. IsOrderly g) (sym (ap (λ v. v.topology) (without_consumer-view t n))) (orderly-remove_consumer (graph t) whole.graph n);
+        subst (λ g. IsOrderly g) (sym (ap (λ v. v.topology) (without_consumer-view t n)))
+        (orderly-remove_consumer (graph t) whole.graph n);
   }
 
   -- with the ranks as they were, in other cells
-  pub whole-kept : (ns : SlotsView (GeomCell C)) → bare ns ≡ bare t.geoms → ((x : ℕ) → stored ns x ≡ stored t.geoms x) → IsWhole (record t { geoms = ns })
+  pub whole-kept : (ns : SlotsView (GeomCell C)) → bare ns ≡ bare t.geoms
+      → ((x : ℕ) → stored ns x ≡ stored t.geoms x) → IsWhole (record t { geoms = ns })
   whole-kept ns same kept = record {
     tables = mesh-bare t whole.tables ns same;
     ranks = mesh-kept t.geoms ns t.edges t.live whole.ranks same kept;
     graph = subst (λ g. IsOrderly g) (sym (ap (λ v. v.topology) (ranks.view-bare t ns same))) whole.graph;
   }
 
-  module _ (n : ℕ) (v : ConsCell) (rising : IsRising 1 t.edges.consumers.rows t.edges.consumers.next) (at : value_at t.edges.consumers.rows n ≡ Some v)
+  module _ (n : ℕ) (v : ConsCell) (rising : IsRising 1 t.edges.consumers.rows t.edges.consumers.next)
+      (at : value_at t.edges.consumers.rows n ≡ Some v)
       (ns : SlotsView (GeomCell C)) (same : bare ns ≡ bare t.geoms) where
     -- with a consumer attached to a provider, where the ranks stand for that graph
-    pub whole-attached : (p : ℕ) → HaveRanks ns (put_consumer t.edges n (record v { consumer = record v.consumer { prov = Some p } })) t.live
+    pub whole-attached : (p : ℕ)
+        → HaveRanks ns (put_consumer t.edges n (record v { consumer = record v.consumer { prov = Some p } })) t.live
         → IsSome (provider_at (graph t) p)
         → IsWhole (record t {
           geoms = ns;
-          edges = record (put_consumer t.edges n (record v { consumer = record v.consumer { prov = Some p } })) { index = attached_index t.edges.index n p };
+          edges = record (put_consumer t.edges n (record v { consumer = record v.consumer { prov = Some p } }))
+              { index = attached_index t.edges.index n p };
         })
     whole-attached p are lives =
         let edges : Edges = put_consumer t.edges n (record v { consumer = record v.consumer { prov = Some p } }) in
@@ -160,15 +205,18 @@ module _ {C : Type 0} (t : Tables C) (whole : IsWhole t) where
           tables = mesh-bare after (mesh-attached t whole.tables n p v rising at) ns same;
           ranks = beside_index ns edges t.live (attached_index t.edges.index n p) are;
           graph =
-              subst (λ g. IsOrderly g) (sym (ap (λ v. v.topology) (ranks.view-bare after ns same ∙ attach-view t n p v rising at)))
+              subst (λ g. IsOrderly g)
+              (sym (ap (λ v. v.topology) (ranks.view-bare after ns same ∙ attach-view t n p v rising at)))
               (orderly-attach (graph t) whole.graph n p lives);
         }
 
     -- with a consumer attached to nothing, where the ranks stand for that graph
-    pub whole-detached : HaveRanks ns (put_consumer t.edges n (record v { consumer = record v.consumer { prov = None } })) t.live
+    pub whole-detached : HaveRanks ns
+        (put_consumer t.edges n (record v { consumer = record v.consumer { prov = None } })) t.live
         → IsWhole (record t {
           geoms = ns;
-          edges = record (put_consumer t.edges n (record v { consumer = record v.consumer { prov = None } })) { index = detached_index t.edges.index n };
+          edges = record (put_consumer t.edges n (record v { consumer = record v.consumer { prov = None } }))
+              { index = detached_index t.edges.index n };
         })
     whole-detached are =
         let edges : Edges = put_consumer t.edges n (record v { consumer = record v.consumer { prov = None } }) in
@@ -177,6 +225,7 @@ module _ {C : Type 0} (t : Tables C) (whole : IsWhole t) where
           tables = mesh-bare after (mesh-detached t whole.tables n v rising at) ns same;
           ranks = beside_index ns edges t.live (detached_index t.edges.index n) are;
           graph =
-              subst (λ g. IsOrderly g) (sym (ap (λ v. v.topology) (ranks.view-bare after ns same ∙ detach-view t n v rising at)))
+              subst (λ g. IsOrderly g)
+              (sym (ap (λ v. v.topology) (ranks.view-bare after ns same ∙ detach-view t n v rising at)))
               (orderly-detach (graph t) whole.graph n);
         }

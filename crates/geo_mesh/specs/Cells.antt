@@ -18,11 +18,26 @@ use Rattle.geo_mesh.specs.Topo.{TopoView, no_scratch}
 
 -- the geom that stands under a number
 abbrev pub geom_seen : {C : Type 0} → ℕ → GeomRec C → Geom C
-geom_seen n x = record { number = n; kind = x.kind; name = x.name; config = x.config; automatic = x.automatic; withering = x.withering; started = x.started }
+geom_seen n x = record {
+  number = n;
+  kind = x.kind;
+  name = x.name;
+  config = x.config;
+  automatic = x.automatic;
+  withering = x.withering;
+  started = x.started;
+}
 
 -- the provider that stands under a number
 abbrev pub provider_seen : ℕ → ProvRec → Provider
-provider_seen n x = record { number = n; geom = x.geom; name = x.name; size = x.size; sector = x.sector; errored = x.errored }
+provider_seen n x = record {
+  number = n;
+  geom = x.geom;
+  name = x.name;
+  size = x.size;
+  sector = x.sector;
+  errored = x.errored;
+}
 
 -- the consumer that stands under a number
 abbrev pub consumer_seen : ℕ → ConsRec → Consumer
@@ -122,11 +137,13 @@ with_geom_cell t n w = record t { geoms = record t.geoms { rows = with_value t.g
 
 -- providers and consumers with another cell under the number of a provider
 abbrev pub put_provider : Edges → ℕ → ProvCell → Edges
-put_provider edges n w = record edges { providers = record edges.providers { rows = with_value edges.providers.rows n w } }
+put_provider edges n w =
+    record edges { providers = record edges.providers { rows = with_value edges.providers.rows n w } }
 
 -- the same under the number of a consumer
 abbrev pub put_consumer : Edges → ℕ → ConsCell → Edges
-put_consumer edges n w = record edges { consumers = record edges.consumers { rows = with_value edges.consumers.rows n w } }
+put_consumer edges n w =
+    record edges { consumers = record edges.consumers { rows = with_value edges.consumers.rows n w } }
 
 -- the tables with another cell under the number of a provider
 abbrev pub with_provider_cell : {C : Type 0} → Tables C → ℕ → ProvCell → Tables C

@@ -32,7 +32,8 @@ pub record IsOffer (x : Provider) : Type 0 where
   pub not_taste : x.geom ≢ 2
   pub sizes : is_provider_size x.size x.sector ≡ true
 
--- numbers are in order, what a part names lives, DEV and TASTE stand and have no provider, and sizes are those of providers
+-- numbers are in order, what a part names lives, DEV and TASTE stand and have no provider, and sizes are those of
+-- providers
 pub record IsOrderly {C : Type 0} (t : Topology C) : Type 0 where
   pub order : IsInOrder t
   pub numbers : NumbersFit t
@@ -40,7 +41,8 @@ pub record IsOrderly {C : Type 0} (t : Topology C) : Type 0 where
   pub first : FirstGeomsStand t
   pub offers : All IsOffer t.providers
 
--- it is orderly, there is no loop, no geom other than DEV and TASTE is too deep, and providers without an error differ in name
+-- it is orderly, there is no loop, no geom other than DEV and TASTE is too deep, and providers without an error
+-- differ in name
 pub record IsSoundGraph {C : Type 0} (t : Topology C) : Type 0 where
   pub orderly : IsOrderly t
   pub ranked : Ranked t

@@ -60,11 +60,19 @@ with_rooms i j = record {
 
 -- with a new parent, with a new child that may have a parent
 abbrev pub with_parent : FamilyView → FamilyView
-with_parent v = record v { parents = v.parents ++ v.next_parent ∷ []; next_parent = v.next_parent + 1; parent_room = v.parent_room - 1 }
+with_parent v = record v {
+  parents = v.parents ++ v.next_parent ∷ [];
+  next_parent = v.next_parent + 1;
+  parent_room = v.parent_room - 1;
+}
 
 -- with a new child, which may have a parent
 abbrev pub with_child : FamilyView → Option ℕ → FamilyView
-with_child v p = record v { children = v.children ++ (v.next_child, p) ∷ []; next_child = v.next_child + 1; child_room = v.child_room - 1 }
+with_child v p = record v {
+  children = v.children ++ (v.next_child, p) ∷ [];
+  next_child = v.next_child + 1;
+  child_room = v.child_room - 1;
+}
 
 -- without a parent, without a child
 abbrev pub without_parent : FamilyView → ℕ → FamilyView
@@ -92,22 +100,27 @@ without_geom_index i geom = record i { offered = without_parent i.offered geom; 
 
 -- without a provider
 abbrev pub without_provider_index : Index → ℕ → Index
-without_provider_index i prov = record i { offered = without_child i.offered prov; attached = without_parent i.attached prov }
+without_provider_index i prov =
+    record i { offered = without_child i.offered prov; attached = without_parent i.attached prov }
 
 -- without a consumer
 abbrev pub without_consumer_index : Index → ℕ → Index
-without_consumer_index i cons = record i { owned = without_child i.owned cons; attached = without_child i.attached cons }
+without_consumer_index i cons =
+    record i { owned = without_child i.owned cons; attached = without_child i.attached cons }
 
 -- with a consumer attached, with a consumer detached
 abbrev pub attached_index : Index → ℕ → ℕ → Index
-attached_index i cons prov = record i { attached = record i.attached { children = with_value i.attached.children cons (Some prov) } }
+attached_index i cons prov =
+    record i { attached = record i.attached { children = with_value i.attached.children cons (Some prov) } }
 
 -- with a consumer detached
 abbrev pub detached_index : Index → ℕ → Index
-detached_index i cons = record i { attached = record i.attached { children = with_value i.attached.children cons None } }
+detached_index i cons =
+    record i { attached = record i.attached { children = with_value i.attached.children cons None } }
 
 -- the family has these parents and children, and the next numbers
-pub record IsFamilyOf (v : FamilyView) (the_parents : List ℕ) (the_children : List (ℕ × Option ℕ)) (next_p next_c : ℕ) : Type 0 where
+pub record IsFamilyOf (v : FamilyView) (the_parents : List ℕ) (the_children : List (ℕ × Option ℕ))
+    (next_p next_c : ℕ) : Type 0 where
   pub parents : v.parents ≡ the_parents
   pub children : v.children ≡ the_children
   pub next_parent : v.next_parent ≡ next_p
@@ -137,4 +150,5 @@ consumer_providers xs = map (λ x. (x.number, x.provider)) xs
 pub record IsIndexed {C : Type 0} (t : Topology C) (i : Index) : Type 0 where
   pub offered : IsFamilyOf i.offered (geom_numbers t.geoms) (provider_geoms t.providers) t.next_geom t.next_provider
   pub owned : IsFamilyOf i.owned (geom_numbers t.geoms) (consumer_geoms t.consumers) t.next_geom t.next_consumer
-  pub attached : IsFamilyOf i.attached (provider_numbers t.providers) (consumer_providers t.consumers) t.next_provider t.next_consumer
+  pub attached : IsFamilyOf i.attached (provider_numbers t.providers) (consumer_providers t.consumers)
+      t.next_provider t.next_consumer

@@ -1,4 +1,5 @@
--- Functions over the numbers of geoms that rise along a graph, and how they are mended after the graph changed. The graph is given by the geoms directly below each geom.
+-- Functions over the numbers of geoms that rise along a graph, and how they are mended after the graph changed. The
+-- graph is given by the geoms directly below each geom.
 use Rattle.std.specs.Prelude.{◌≡◌, ◌⊎◌, ℕ, zero, suc, ◌+◌, ◌<◌, ◌≤◌, max, Bool, true, List, [], ◌∷◌, map}
 use Rattle.geo_model.specs.Words.{largest}
 
@@ -34,10 +35,11 @@ Climbs below f = (x h : ℕ) → IsAmong (below x) h → f h < f x
 
 -- whether one is the other or stands above it: it has each property that the other has, and that goes upwards
 abbrev pub StandsAbove : (ℕ → List ℕ) → ℕ → ℕ → Type 0
-StandsAbove below x g = (has : ℕ → Bool) → has g ≡ true → ((y h : ℕ) → IsAmong (below y) h → has h ≡ true → has y ≡ true) → has x ≡ true
+StandsAbove below x g = (has : ℕ → Bool) → has g ≡ true
+    → ((y h : ℕ) → IsAmong (below y) h → has h ≡ true → has y ≡ true) → has x ≡ true
 
--- from `f` to `r` values only grew: each that grew stands above the geom and again has greater ones above it; no value is
--- greater than it has to be, where the geom itself may have `least`
+-- from `f` to `r` values only grew: each that grew stands above the geom and again has greater ones above it; no
+-- value is greater than it has to be, where the geom itself may have `least`
 pub record Lifted (below : ℕ → List ℕ) (geom least : ℕ) (f r : ℕ → ℕ) : Type 0 where
   pub grows : (x : ℕ) → f x ≤ r x
   pub mended : (x h : ℕ) → IsAmong (below x) h → f h < r h → r h < r x
@@ -45,7 +47,8 @@ pub record Lifted (below : ℕ → List ℕ) (geom least : ℕ) (f r : ℕ → �
   pub bounded : (x : ℕ) → (x ≡ geom → ⊥) → r x ≤ max (f x) (above below r x)
   pub reached : (x : ℕ) → f x < r x → StandsAbove below x geom
 
--- from `f` to `r` values only fell, not below what they have to be; where one was no greater than it has to be it still is
+-- from `f` to `r` values only fell, not below what they have to be; where one was no greater than it has to be it
+-- still is
 pub record Lowered (below : ℕ → List ℕ) (f r : ℕ → ℕ) : Type 0 where
   pub falls : (x : ℕ) → r x ≤ f x
   pub enough : AreEnough below r

@@ -6,8 +6,8 @@ use Rattle.geo_mesh.specs.Names.{AreNames, AreIds, HaveNameRoom}
 use Rattle.geo_mesh.specs.Notes.{AreNotes}
 use Rattle.geo_mesh.specs.Index.{IsIndexed, HaveRoom}
 
--- the geoms are counted, the index is that of the graph, the names are those of the providers, and the notes are those of
--- the tables; all have room for what the tables have room for
+-- the geoms are counted, the index is that of the graph, the names are those of the providers, and the notes are
+-- those of the tables; all have room for what the tables have room for
 pub record IsMesh {C : Type 0} (t : Tables C) : Type 0 where
   pub count : IsCount (length t.geoms.rows) t.live
   pub indexed : IsIndexed (graph t) t.edges.index

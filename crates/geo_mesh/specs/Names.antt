@@ -85,7 +85,8 @@ pub record ClosesName (old new : Names) (name : List ℕ) : Type 0 where
 pub record RemovesName (old new : Names) (name : List ℕ) (number : ℕ) (errored : Bool) : Type 0 where
   pub sound : (q : List ℕ) → sound_of new q ≡ (if not errored && same_name name q then None else sound_of old q)
   pub others : (q : List ℕ) → same_name name q ≡ false → id_of new q ≡ id_of old q
-  pub here : (i : ℕ) → id_of old name ≡ Some i → has_child (without old.alike.children number) i ≡ true → id_of new name ≡ Some i
+  pub here : (i : ℕ) → id_of old name ≡ Some i → has_child (without old.alike.children number) i ≡ true
+      → id_of new name ≡ Some i
   pub children : new.alike.children ≡ without old.alike.children number
   pub next_child : new.alike.next_child ≡ old.alike.next_child
 

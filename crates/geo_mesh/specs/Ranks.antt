@@ -43,7 +43,8 @@ owner_of x = x.provider.geom
 abbrev pub is_dev_or_taste : ℕ → Bool
 is_dev_or_taste g = (g == 1) || (g == 2)
 
--- on which provider the rank of a consumer's geom stands: that to which it is attached, but none for the first two geoms
+-- on which provider the rank of a consumer's geom stands: that to which it is attached, but none for the first two
+-- geoms
 abbrev pub footing : ℕ → Option ℕ → Option ℕ
 footing g o = if is_dev_or_taste g then None else o
 
@@ -69,15 +70,27 @@ bare {C} gs = record { rows = rows_with (rest_of {C = C}) gs.rows; next = gs.nex
 
 -- the geom that offers each provider
 abbrev pub offers : Edges → SlotsView ℕ
-offers edges = record { rows = rows_with owner_of edges.providers.rows; next = edges.providers.next; spare = edges.providers.spare }
+offers edges = record {
+  rows = rows_with owner_of edges.providers.rows;
+  next = edges.providers.next;
+  spare = edges.providers.spare;
+}
 
 -- the geom of each consumer, and the provider on which the geom's rank stands by it
 abbrev pub ranked_links : Edges → SlotsView (ℕ × Option ℕ)
-ranked_links edges = record { rows = rows_with ranked_link_of edges.consumers.rows; next = edges.consumers.next; spare = edges.consumers.spare }
+ranked_links edges = record {
+  rows = rows_with ranked_link_of edges.consumers.rows;
+  next = edges.consumers.next;
+  spare = edges.consumers.spare;
+}
 
 -- the geom of each consumer, and the provider to which it is attached
 abbrev pub links : Edges → SlotsView (ℕ × Option ℕ)
-links edges = record { rows = rows_with links_of edges.consumers.rows; next = edges.consumers.next; spare = edges.consumers.spare }
+links edges = record {
+  rows = rows_with links_of edges.consumers.rows;
+  next = edges.consumers.next;
+  spare = edges.consumers.spare;
+}
 
 -- the rank under a number, and 1 where there is none
 abbrev pub rank_at : List (ℕ × ℕ) → ℕ → ℕ
@@ -99,7 +112,8 @@ ranked_below edges = under (offers edges).rows (ranked_links edges).rows
 abbrev pub below : Edges → ℕ → List ℕ
 below edges = under (offers edges).rows (links edges).rows
 
--- the rank of a geom: it stands in the cell, but for the first two geoms it is found from the ranks of the geoms beneath
+-- the rank of a geom: it stands in the cell, but for the first two geoms it is found from the ranks of the geoms
+-- beneath
 abbrev pub rank_from : (ℕ → ℕ) → Edges → ℕ → ℕ
 rank_from f edges g = if is_dev_or_taste g then above (below edges) f g else f g
 
@@ -140,7 +154,8 @@ rank_under f owners (Some e) = rank_through f owners e.1
 
 -- a fact of the geom of each consumer by which a rank stands on the provider
 abbrev pub EachUser : Edges → ℕ → (ℕ → Type 0) → Type 0
-EachUser edges prov P = (c : ℕ) → passes (is_attached prov) (value_at (ranked_links edges).rows c) ≡ true → P (user edges c)
+EachUser edges prov P = (c : ℕ) → passes (is_attached prov) (value_at (ranked_links edges).rows c) ≡ true
+    → P (user edges c)
 
 -- how far a geom may be raised at most: more than any rank that it can need
 abbrev pub highest_raise : {C : Type 0} → SlotsView (GeomCell C) → Edges → ℕ → ℕ
@@ -163,8 +178,8 @@ abbrev pub FirstIs : {T : Type 0} → (T → Bool) → SlotsView T → ℕ → O
 FirstIs test s at None = (m : ℕ) → passes test (value_at s.rows m) ≡ true → m < at
 FirstIs test s at (Some n) = IsFirst test s.rows s.next at n
 
--- the index tells whose each provider and each consumer is, and where each consumer is attached; the numbers rise, and the
--- next ones fit
+-- the index tells whose each provider and each consumer is, and where each consumer is attached; the numbers rise,
+-- and the next ones fit
 pub record IsKin (edges : Edges) : Type 0 where
   pub offered : edges.index.offered.children ≡ provider_geoms (map provider_row edges.providers.rows)
   pub owned : edges.index.owned.children ≡ consumer_geoms (map consumer_row edges.consumers.rows)
@@ -181,9 +196,10 @@ pub record IsWalkable (classes : List (ℕ × Kind)) (edges : Edges) : Type 0 wh
   pub owned : AllByRecursion (λ row. IsSome (value_at classes row.1.0)) (ranked_links edges).rows
   pub few : length classes ≤ 4294967294
 
--- each rank that stands in a cell is one more than the highest below, no geom other than DEV and TASTE is above the limit,
--- and each consumer's geom and each attached provider are there
-pub record AreRanks (classes : List (ℕ × Kind)) (standing owners : List (ℕ × ℕ)) (users : List (ℕ × (ℕ × Option ℕ))) : Type 0 where
+-- each rank that stands in a cell is one more than the highest below, no geom other than DEV and TASTE is above the
+-- limit, and each consumer's geom and each attached provider are there
+pub record AreRanks (classes : List (ℕ × Kind)) (standing owners : List (ℕ × ℕ))
+    (users : List (ℕ × (ℕ × Option ℕ))) : Type 0 where
   pub local : AreLocal (under owners users) (rank_at standing)
   pub low : is_high classes (rank_at standing) ≡ false
   pub owned : AllByRecursion (λ row. IsSome (value_at classes row.1.0)) users
@@ -194,13 +210,16 @@ pub record HaveRanks {C : Type 0} (gs : SlotsView (GeomCell C)) (edges : Edges) 
   pub count : IsCount (length gs.rows) live
   pub standing : AreRanks (kinds gs) (ranks gs) (offers edges).rows (ranked_links edges).rows
 
--- why one geom isn't put below another: the other stands below it already, or a geom other than DEV and TASTE would be above the limit
+-- why one geom isn't put below another: the other stands below it already, or a geom other than DEV and TASTE would
+-- be above the limit
 abbrev pub IsRefusedFor : {C : Type 0} → AttachRefusal → SlotsView (GeomCell C) → (ℕ → List ℕ) → ℕ → ℕ → Type 0
 IsRefusedFor Enxio gs below upper lower = ⊥
 IsRefusedFor Eloop gs below upper lower = StandsAbove below lower upper
-IsRefusedFor {C} Edeep gs below upper lower = (ns : SlotsView (GeomCell C)) × (bare ns ≡ bare gs) × IsJoinable below upper lower (stored ns) × (is_high (kinds gs) (stored ns) ≡ true)
+IsRefusedFor {C} Edeep gs below upper lower = (ns : SlotsView (GeomCell C)) × (bare ns ≡ bare gs)
+    × IsJoinable below upper lower (stored ns) × (is_high (kinds gs) (stored ns) ≡ true)
 
--- one geom is let below another: the other is one of the first two, and the ranks stay, or the ranks fit the graph with the edge
+-- one geom is let below another: the other is one of the first two, and the ranks stay, or the ranks fit the graph
+-- with the edge
 abbrev pub IsAdmitted : Bool → (ℕ → List ℕ) → ℕ → ℕ → (ℕ → ℕ) → (ℕ → ℕ) → Type 0
 IsAdmitted true below upper lower old new = (x : ℕ) → new x ≡ old x
 IsAdmitted false below upper lower old new = IsJoinable below upper lower new

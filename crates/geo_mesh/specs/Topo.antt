@@ -1,4 +1,5 @@
--- The mesh as contracts see it: the graph of the model, and beside it what is kept for its geoms, providers and consumers.
+-- The mesh as contracts see it: the graph of the model, and beside it what is kept for its geoms, providers and
+-- consumers.
 use Rattle.std.specs.Prelude.{◌≡◌, ℕ, ◌^◌, ◌%◌, ◌==◌, ◌&&◌, ◌||◌, nat_le, Bool, false, List, [], ◌∷◌, ◌++◌, Option, None, find, option_map, codes}
 use Rattle.geo_base.specs.declared.request.Counts.{Counts}
 use Rattle.geo_base.specs.declared.kind.Kind.{Kind}
@@ -51,7 +52,8 @@ first_geom xs from_number = option_map (λ x. x.number) (find (λ x. nat_le from
 -- whether a provider may have this media size and sector size, in bytes: a whole positive number of sectors of 512 or
 -- 4,096, and at most 2 ^ 60
 abbrev pub is_provider_size : ℕ → ℕ → Bool
-is_provider_size size sector = ((sector == 512) || (sector == 4096)) && (nat_le 1 size && (nat_le size (2 ^ 60) && (size % sector == 0)))
+is_provider_size size sector =
+    ((sector == 512) || (sector == 4096)) && (nat_le 1 size && (nat_le size (2 ^ 60) && (size % sector == 0)))
 
 -- the first number of the providers that isn't below a number
 abbrev pub first_provider : List Provider → ℕ → Option ℕ
@@ -145,7 +147,8 @@ module _ {C : Type 0} where
 
   -- with other notes of a provider
   abbrev pub with_notes : TopoView C → ℕ → Bool → Bool → TopoView C
-  with_notes t prov risen fallen = record t { risen = with_value t.risen prov risen; fallen = with_value t.fallen prov fallen }
+  with_notes t prov risen fallen =
+      record t { risen = with_value t.risen prov risen; fallen = with_value t.fallen prov fallen }
 
   -- with another number of requests out through a consumer
   abbrev pub with_active : TopoView C → ℕ → (ℕ → ℕ) → TopoView C
@@ -153,16 +156,20 @@ module _ {C : Type 0} where
 
   -- with other scratch of a geom, a provider, a consumer
   abbrev pub with_geom_scratch : TopoView C → ℕ → Scratch → TopoView C
-  with_geom_scratch t geom scratch = record t { scratches = record t.scratches { geoms = with_value t.scratches.geoms geom scratch } }
+  with_geom_scratch t geom scratch =
+      record t { scratches = record t.scratches { geoms = with_value t.scratches.geoms geom scratch } }
 
   -- with other scratch of a provider
   abbrev pub with_provider_scratch : TopoView C → ℕ → Scratch → TopoView C
-  with_provider_scratch t prov scratch = record t { scratches = record t.scratches { providers = with_value t.scratches.providers prov scratch } }
+  with_provider_scratch t prov scratch =
+      record t { scratches = record t.scratches { providers = with_value t.scratches.providers prov scratch } }
 
   -- with other scratch of a consumer
   abbrev pub with_consumer_scratch : TopoView C → ℕ → Scratch → TopoView C
-  with_consumer_scratch t cons scratch = record t { scratches = record t.scratches { consumers = with_value t.scratches.consumers cons scratch } }
+  with_consumer_scratch t cons scratch =
+      record t { scratches = record t.scratches { consumers = with_value t.scratches.consumers cons scratch } }
 
   -- the mesh that stands at first: geom 1 of class DEV, and geom 2 of class TASTE
   abbrev pub first_mesh : C → C → Room → TopoView C
-  first_mesh dev taste room = with_geom (with_geom (no_mesh room) kinds.Dev (codes "dev") dev false) kinds.Taste (codes "taste") taste false
+  first_mesh dev taste room =
+      with_geom (with_geom (no_mesh room) kinds.Dev (codes "dev") dev false) kinds.Taste (codes "taste") taste false

@@ -8,8 +8,8 @@ use geo_base::NoMemory;
 use geo_family::Family;
 use std::alloc::Global;
 
-/// The providers under their geoms, the consumers under their geoms, and the consumers under the providers to which they
-/// are attached.
+/// The providers under their geoms, the consumers under their geoms, and the consumers under the providers to which
+/// they are attached.
 #[derive(Drop)]
 pub struct Index {
     pub offered: Family,

@@ -55,7 +55,11 @@ impl Marks {
     /// The next number, without a mark.
     pub fn add(&mut self)
         requires { 1 ≤ self.old.room }
-        ensures { self.new ≡ record { rows = self.old.rows ++ (self.old.next, false) ∷ []; next = self.old.next + 1; room = self.old.room - 1 } }
+        ensures { self.new ≡ record {
+          rows = self.old.rows ++ (self.old.next, false) ∷ [];
+          next = self.old.next + 1;
+          room = self.old.room - 1;
+        } }
     {
         self.family.add_child();
     }

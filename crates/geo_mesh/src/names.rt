@@ -47,8 +47,8 @@ impl Hash for Key {
     }
 }
 
-/// The provider without an error of each name that has one, and all providers of a name under a number that the name has
-/// while there are any.
+/// The provider without an error of each name that has one, and all providers of a name under a number that the name
+/// has while there are any.
 #[derive(Drop)]
 pub struct Names {
     pub sound: HashMap<Key, u64>,

@@ -32,8 +32,8 @@ fn offered(edges: &Edges, geom: u64, from: u64) -> Option<u64>
     edges.index.offered.first_from(geom, from)
 }
 
-/// Whether the geom is DEV or TASTE, the first two: they have no provider, so no geom stands on their ranks, which are found
-/// where they are asked for and don't stand in their cells.
+/// Whether the geom is DEV or TASTE, the first two: they have no provider, so no geom stands on their ranks, which
+/// are found where they are asked for and don't stand in their cells.
 pub fn is_dev_or_taste(geom: u64) -> bool
     ensures { result ≡ is_dev_or_taste geom }
 {
@@ -279,8 +279,8 @@ fn lower_attached<C>(geoms: &mut Slots<GeomCell<C>>, edges: &Edges, prov: u64)
     }
 }
 
-/// Lets the lower geom be put below the upper one, to which ranks are given as `join` says. No rank stands on that of one of
-/// the first two geoms, so there nothing changes and nothing is refused.
+/// Lets the lower geom be put below the upper one, to which ranks are given as `join` says. No rank stands on that of
+/// one of the first two geoms, so there nothing changes and nothing is refused.
 pub fn admit<C>(
     geoms: &mut Slots<GeomCell<C>>,
     edges: &Edges,
@@ -292,7 +292,9 @@ pub fn admit<C>(
     requires local { AreLocal (ranked_below edges.now) (stored geoms.old) }
     requires low { is_high (kinds geoms.old) (stored geoms.old) ≡ false }
     ensures same { bare geoms.new ≡ bare geoms.old }
-    ensures admitted { OnOk result (IsAdmitted (is_dev_or_taste upper) (ranked_below edges.now) upper under (stored geoms.old) (stored geoms.new)) }
+    ensures admitted { OnOk result
+        (IsAdmitted (is_dev_or_taste upper) (ranked_below edges.now) upper under (stored geoms.old)
+        (stored geoms.new)) }
     ensures low { OnOk result (is_high (kinds geoms.old) (stored geoms.new) ≡ false) }
     ensures later { OnErr result (is_dev_or_taste upper ≡ false) }
     ensures refused { IfErr result (λ e. IsRefusedFor e geoms.old (ranked_below edges.now) upper under) }
@@ -304,9 +306,9 @@ pub fn admit<C>(
     join(geoms, edges, upper, under)
 }
 
-// Gives the upper geom, and those above it, the ranks that they have once the lower geom is below it. It's refused where
-// the lower geom stands above the upper one, else where a geom other than DEV and TASTE would be above the limit: then
-// the ranks are as before.
+// Gives the upper geom, and those above it, the ranks that they have once the lower geom is below it. It's refused
+// where the lower geom stands above the upper one, else where a geom other than DEV and TASTE would be above the
+// limit: then the ranks are as before.
 fn join<C>(
     geoms: &mut Slots<GeomCell<C>>,
     edges: &Edges,

@@ -46,8 +46,8 @@ pub struct Scratch {
     pub trial: Counts,
 }
 
-/// Why a consumer isn't attached: the provider carries an error, the geom would reach itself, or a geom would get a rank
-/// above 32 (g_attach(9)).
+/// Why a consumer isn't attached: the provider carries an error, the geom would reach itself, or a geom would get a
+/// rank above 32 (g_attach(9)).
 #[derive(Clone, Copy, Debug, PartialEq, Eq, Error)]
 pub enum AttachRefusal {
     #[error("the provider carries an error")]

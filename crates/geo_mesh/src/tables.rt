@@ -24,8 +24,8 @@ pub struct Edges {
     pub index: Index,
 }
 
-/// The providers whose write count is noted to have left zero, those for which it is noted to have reached zero, and the
-/// geoms that wither: each carries a mark among all.
+/// The providers whose write count is noted to have left zero, those for which it is noted to have reached zero, and
+/// the geoms that wither: each carries a mark among all.
 #[derive(Drop)]
 pub struct Notes {
     pub risen: Marks,
@@ -71,7 +71,8 @@ impl<C> Tables<C> {
         ensures geoms_most { self.new.geoms.spare ≤ max self.old.geoms.spare geoms }
         ensures providers_most { self.new.edges.providers.spare ≤ max self.old.edges.providers.spare providers }
         ensures consumers_most { self.new.edges.consumers.spare ≤ max self.old.edges.consumers.spare consumers }
-        ensures had_room { geoms ≤ self.old.geoms.spare → providers ≤ self.old.edges.providers.spare → consumers ≤ self.old.edges.consumers.spare → IsOk result }
+        ensures had_room { geoms ≤ self.old.geoms.spare → providers ≤ self.old.edges.providers.spare
+            → consumers ≤ self.old.edges.consumers.spare → IsOk result }
     {
         self.edges.index.reserve(geoms, providers, consumers)?;
         self.names.reserve(providers)?;

@@ -21,8 +21,8 @@ use geo_slots::Slots;
 use std::alloc::Global;
 use std::marker::Model;
 
-/// The mesh: geoms, providers and consumers, generic in the configuration of a class (geom(4)). Contracts see the graph,
-/// and beside it the counts, the requests that are out, the notes, the scratch and the room that is kept.
+/// The mesh: geoms, providers and consumers, generic in the configuration of a class (geom(4)). Contracts see the
+/// graph, and beside it the counts, the requests that are out, the notes, the scratch and the room that is kept.
 #[derive(Drop)]
 pub struct Topo<C> {
     tables: Tables<C>,
@@ -426,10 +426,11 @@ impl<C> Topo<C> {
         self.tables.consumer(cons).scratch
     }
 
-    /// Attaches the consumer, which isn't attached yet, to the provider (g_attach(9)); both live. It is refused where the
-    /// provider carries an error, else where the geom would reach itself, else where a geom other than DEV and TASTE would
-    /// get a rank above 32. Counts aren't touched: where a provider of the consumer's geom has a count already, the stored
-    /// counts stay as they are, and only a later join of the counts makes them those of the new graph.
+    /// Attaches the consumer, which isn't attached yet, to the provider (g_attach(9)); both live. It is refused where
+    /// the provider carries an error, else where the geom would reach itself, else where a geom other than DEV and
+    /// TASTE would get a rank above 32. Counts aren't touched: where a provider of the consumer's geom has a count
+    /// already, the stored counts stay as they are, and only a later join of the counts makes them those of the new
+    /// graph.
     pub fn attach(&mut self, cons: ConsId, prov: ProvId) -> Result<(), AttachRefusal>
         requires consumer { IsSomeAnd (consumer_at self.old.topology cons) (λ x. x.provider ≡ None) }
         requires provider { IsSome (provider_at self.old.topology prov) }

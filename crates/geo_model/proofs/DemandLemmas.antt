@@ -1,10 +1,12 @@
 -- The counts of a provider are the sum over the consumers attached to it, where the graph is ranked.
-use Rattle.std.specs.Prelude.{◌≡◌, ℕ, zero, suc, ◌+◌, ◌<◌, ◌≤◌, ◌==◌, Bool, true, false, List, [], ◌∷◌, Option, Some, None, filter, map, find, IfSome, IsSomeAnd, length}
+use Rattle.std.specs.Prelude.{◌≡◌, ℕ, zero, suc, ◌+◌, ◌<◌, ◌≤◌, ◌==◌, Bool, true, false, List, [], ◌∷◌, Option, Some, None, filter, map, IfSome, IsSomeAnd, length}
 use Rattle.std.specs.List.{AllByRecursion}
-use Rattle.std.proofs.Common.{refl, sym, ◌∙◌, ap, arith}
+use Rattle.std.proofs.Common.{refl, ◌∙◌, ap, arith}
 use Rattle.std.proofs.lemmas.Bool.{eqb-true}
 use Rattle.std.proofs.lemmas.List.Elements.{recursion_from_All}
 use Rattle.geo_base.specs.declared.request.Counts.{Counts}
+-- what a search finds passes the test
+pub use Rattle.geo_base.proofs.Tests.{found_passes as find_passes}
 use Rattle.geo_model.specs.Words.{names_number, largest}
 use Rattle.geo_model.specs.Topology.{Topology, Geom, Provider, Consumer, provider_at, geom_at, attached_to, providers_of}
 use Rattle.geo_model.specs.Rank.{rank, rank_within, geoms_under, Ranked}
@@ -27,22 +29,13 @@ kept_by P Q test so [] facts = facts
 kept_by P Q test so (x ∷ xs) facts =
     kept_cons Q test x xs (test x) refl (λ e. so x e facts.0) (kept_by P Q test so xs facts.1)
 
--- what find gives passes the test
-find_cons : {X : Type 0} (test : X → Bool) (y x : X) (ys : List X) (b : Bool) → test y ≡ b
-    → (find test ys ≡ Some x → test x ≡ true) → find test (y ∷ ys) ≡ Some x → test x ≡ true
-find_cons test y x ys true e rest found = let same : y ≡ x = cc in rw (sym same) e
-find_cons test y x ys false e rest found = rest (rw e at found)
-
-pub find_passes : {X : Type 0} (test : X → Bool) (xs : List X) (x : X) → find test xs ≡ Some x → test x ≡ true
-find_passes test [] x e = cc
-find_passes test (y ∷ ys) x e = find_cons test y x ys (test y) refl (find_passes test ys x) e
-
 -- the largest of numbers that have a bound
 pub largest-le : (n : ℕ) (ns : List ℕ) → AllByRecursion (λ k. k ≤ n) ns → largest ns ≤ n
 largest-le n [] facts = omega arith
 largest-le n (k ∷ ks) facts = omega (arith, facts.0, largest-le n ks facts.1)
 
-pub map_all : {X Y : Type 0} (P : Y → Type 0) (f : X → Y) → ((x : X) → P (f x)) → (xs : List X) → AllByRecursion P (map f xs)
+pub map_all : {X Y : Type 0} (P : Y → Type 0) (f : X → Y) → ((x : X) → P (f x)) → (xs : List X)
+    → AllByRecursion P (map f xs)
 map_all P f so [] = tt
 map_all P f so (x ∷ xs) = (so x, map_all P f so xs)
 
@@ -62,14 +55,16 @@ pub no_items : {X : Type 0} (xs : List X) → AllByRecursion (λ x. ⊥) xs → 
 no_items [] facts = refl
 no_items (x ∷ xs) facts = absurd facts.0
 
-names_some : (o : Option ℕ) (p : ℕ) → names_number o p ≡ true → o ≡ Some p
+-- what names a number is that number
+pub names_some : (o : Option ℕ) (p : ℕ) → names_number o p ≡ true → o ≡ Some p
 names_some None p e = cc
 names_some (Some m) p e = ap (λ n. Some n) (eqb-true m p e)
 
 module _ {C : Type 0} (granted : ℕ → Counts) (t : Topology C) where
   -- the same haves of a geom's providers give the same want of its consumer
   want_by : (H K : ℕ → Counts) (c : Consumer) (o : Option (Geom C)) → geom_at t c.geom ≡ o
-      → ((g : Geom C) → geom_at t c.geom ≡ Some g → AllByRecursion (λ y. H y.number ≡ K y.number) (providers_of t g.number))
+      → ((g : Geom C) → geom_at t c.geom ≡ Some g
+      → AllByRecursion (λ y. H y.number ≡ K y.number) (providers_of t g.number))
       → want_given granted H t c ≡ want_given granted K t c
   want_by H K c None e same = rw e refl
   want_by H K c (Some g) e same =
@@ -98,12 +93,17 @@ module _ {C : Type 0} (granted : ℕ → Counts) (t : Topology C) where
       (λ (y : Provider). provider_at t y.number ≡ Some y)
       (λ (y : Provider). (provider_at t y.number ≡ Some y) × (y.geom ≡ c.geom))
       (λ (y : Provider). y.geom == g.number)
-      (λ y e h. (h, eqb-true y.geom g.number e ∙ eqb-true g.number c.geom (find_passes (λ z. z.number == c.geom) t.geoms g found)))
+      (λ y e h. (
+        h,
+        eqb-true y.geom g.number e
+            ∙ eqb-true g.number c.geom (find_passes (λ z. z.number == c.geom) t.geoms g found),
+      ))
       t.providers
       known
 
 -- a fact for each item that follows from another
-pub all_weaker : {X : Type 0} (P Q : X → Type 0) → ((x : X) → P x → Q x) → (xs : List X) → AllByRecursion P xs → AllByRecursion Q xs
+pub all_weaker : {X : Type 0} (P Q : X → Type 0) → ((x : X) → P x → Q x) → (xs : List X) → AllByRecursion P xs
+    → AllByRecursion Q xs
 all_weaker P Q so [] facts = facts
 all_weaker P Q so (x ∷ xs) facts = (so x facts.0, all_weaker P Q so xs facts.1)
 
@@ -125,7 +125,8 @@ module _ {C : Type 0} (granted : ℕ → Counts) (t : Topology C) (ranked : Rank
       (map_same (want_given granted (have_within granted k t) t) (want_given granted (have_within granted (suc k) t) t)
       (attached_to t p)
       (all_weaker (λ (c : Consumer). rank t x.geom < rank t c.geom)
-      (λ (c : Consumer). want_given granted (have_within granted k t) t c ≡ want_given granted (have_within granted (suc k) t) t c)
+      (λ (c : Consumer). want_given granted (have_within granted k t) t c
+      ≡ want_given granted (have_within granted (suc k) t) t c)
       (λ c above.
       want_by granted t (have_within granted k t) (have_within granted (suc k) t) c (geom_at t c.geom) refl
       (λ g e.
@@ -140,4 +141,5 @@ module _ {C : Type 0} (granted : ℕ → Counts) (t : Topology C) (ranked : Rank
   -- the counts of a provider are the sum over the consumers attached to it
   pub have-sum : (p : ℕ) (x : Provider) → provider_at t p ≡ Some x
       → have granted t p ≡ sum_counts (map (want granted t) (attached_to t p))
-  have-sum p x found = have_within-more (length t.geoms) p x found (omega (arith, rank_within-positive (length t.geoms) t x.geom))
+  have-sum p x found =
+      have_within-more (length t.geoms) p x found (omega (arith, rank_within-positive (length t.geoms) t x.geom))

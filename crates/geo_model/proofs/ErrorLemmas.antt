@@ -23,7 +23,8 @@ first_of-append [] b = refl
 first_of-append (e ∷ a) b = refl
 
 -- the error of a joined result is the first failure
-joined-chosen : (cmd : BioCmd) (read : Bool) (found : List BioResult) (o : Option Errno) → first_failure found ≡ o → is_read cmd ≡ read
+joined-chosen : (cmd : BioCmd) (read : Bool) (found : List BioResult) (o : Option Errno) → first_failure found ≡ o
+    → is_read cmd ≡ read
     → error_of_result (joined_result cmd found) ≡ o
 joined-chosen cmd read found (Some e) first reads = rw first refl
 joined-chosen cmd true found None first reads = rw (first, reads) refl
@@ -32,8 +33,10 @@ joined-chosen cmd false found None first reads = rw (first, reads) refl
 joined-error : (cmd : BioCmd) (found : List BioResult) → error_of_result (joined_result cmd found) ≡ first_failure found
 joined-error cmd found = joined-chosen cmd (is_read cmd) found (first_failure found) refl refl
 
-module _ (f : ℕ → Option BioResult) (g : ℕ → List Errno) (known : (b : ℕ) (r : BioResult) → f b ≡ Some r → error_of_result r ≡ first_of (g b)) where
-  mutual_there : (b : ℕ) (bs : List ℕ) (here : Option BioResult) (others : Option (List BioResult)) (found : List BioResult)
+module _ (f : ℕ → Option BioResult) (g : ℕ → List Errno) (known : (b : ℕ) (r : BioResult) → f b ≡ Some r
+    → error_of_result r ≡ first_of (g b)) where
+  mutual_there : (b : ℕ) (bs : List ℕ) (here : Option BioResult) (others : Option (List BioResult))
+      (found : List BioResult)
       → f b ≡ here → all_there (map f bs) ≡ others → all_there (map f (b ∷ bs)) ≡ Some found
       → ((rest : List BioResult) → all_there (map f bs) ≡ Some rest → first_failure rest ≡ first_of (flat_map g bs))
       → first_failure found ≡ first_of (flat_map g (b ∷ bs))
@@ -52,15 +55,19 @@ module _ (f : ℕ → Option BioResult) (g : ℕ → List Errno) (known : (b : �
       mutual_there b bs (f b) (all_there (map f bs)) found refl refl all (λ rest h. children-first bs rest h)
 
 -- a device's answer
-device-error : (o : Option DeviceResult) (r : BioResult) → option_map result_of_device o ≡ Some r → error_of_result r ≡ first_of (device_errors o)
+device-error : (o : Option DeviceResult) (r : BioResult) → option_map result_of_device o ≡ Some r
+    → error_of_result r ≡ first_of (device_errors o)
 device-error None r e = cc
 device-error (Some (devices.Bytes bytes)) r e = let is : results.Bytes bytes ≡ r = cc in rw (sym is) refl
 device-error (Some devices.Done) r e = let is : results.Done ≡ r = cc in rw (sym is) refl
-device-error (Some (devices.Failed done)) r e = let is : result_of_device (devices.Failed done) ≡ r = cc in rw (sym is) refl
+device-error (Some (devices.Failed done)) r e = let is : result_of_device (devices.Failed done) ≡ r = cc in
+    rw (sym is) refl
 
-split-error : (f : ℕ → Option BioResult) (g : ℕ → List Errno) → ((b : ℕ) (r : BioResult) → f b ≡ Some r → error_of_result r ≡ first_of (g b))
+split-error : (f : ℕ → Option BioResult) (g : ℕ → List Errno)
+    → ((b : ℕ) (r : BioResult) → f b ≡ Some r → error_of_result r ≡ first_of (g b))
     → (bs : List ℕ) (cmd : Option BioCmd) (all : Option (List BioResult)) (r : BioResult) → all_there (map f bs) ≡ all
-    → (cmd >>= (λ c. all >>= (λ found. Some (joined_result c found)))) ≡ Some r → error_of_result r ≡ first_of (flat_map g bs)
+    → (cmd >>= (λ c. all >>= (λ found. Some (joined_result c found)))) ≡ Some r
+    → error_of_result r ≡ first_of (flat_map g bs)
 split-error f g known bs None all r h e = cc
 split-error f g known bs (Some cmd) None r h e = cc
 split-error f g known bs (Some cmd) (Some found) r h e =
@@ -68,15 +75,21 @@ split-error f g known bs (Some cmd) (Some found) r h e =
     rw (sym is) (joined-error cmd found ∙ children-first f g known bs found h)
 
 -- by the outcome of the Start
-outcome-error : (levels : ℕ) (history : List Moment) → ((b : ℕ) (r : BioResult) → result_within levels history b ≡ Some r → error_of_result r ≡ first_of (errors_within levels history b))
+outcome-error : (levels : ℕ) (history : List Moment)
+    → ((b : ℕ) (r : BioResult) → result_within levels history b ≡ Some r
+    → error_of_result r ≡ first_of (errors_within levels history b))
     → (b : ℕ) (before : World) (outcome : Outcome) (r : BioResult)
     → result_by history b before outcome (map (result_within levels history) (children_in outcome)) ≡ Some r
     → error_of_result r ≡ first_of (errors_by (errors_within levels history) history b before outcome)
-outcome-error levels history known b before outcomes.Bounced r e = let is : bounced_result before b ≡ r = cc in rw (sym is) refl
-outcome-error levels history known b before (outcomes.Queued disk) r e = device-error (device_answer_of (entries_of history) b) r e
+outcome-error levels history known b before outcomes.Bounced r e = let is : bounced_result before b ≡ r = cc in
+    rw (sym is) refl
+outcome-error levels history known b before (outcomes.Queued disk) r e =
+    device-error (device_answer_of (entries_of history) b) r e
 outcome-error levels history known b before (outcomes.Split first count) r e =
-    split-error (result_within levels history) (errors_within levels history) known (children_in (outcomes.Split first count))
-    (cmd_before before b) (all_there (map (result_within levels history) (children_in (outcomes.Split first count)))) r refl e
+    split-error (result_within levels history) (errors_within levels history) known
+    (children_in (outcomes.Split first count))
+    (cmd_before before b)
+    (all_there (map (result_within levels history) (children_in (outcomes.Split first count)))) r refl e
 outcome-error levels history known b before (outcomes.Replied line reply) r e = cc
 outcome-error levels history known b before (outcomes.Accepted line bio) r e = cc
 outcome-error levels history known b before (outcomes.Reading bio) r e = cc
@@ -86,9 +99,12 @@ outcome-error levels history known b before outcomes.Delivered r e = cc
 outcome-error levels history known b before (outcomes.Gathered parent complete) r e = cc
 outcome-error levels history known b before outcomes.TasteBack r e = cc
 
-moment-error : (levels : ℕ) (history : List Moment) → ((b : ℕ) (r : BioResult) → result_within levels history b ≡ Some r → error_of_result r ≡ first_of (errors_within levels history b))
+moment-error : (levels : ℕ) (history : List Moment)
+    → ((b : ℕ) (r : BioResult) → result_within levels history b ≡ Some r
+    → error_of_result r ≡ first_of (errors_within levels history b))
     → (b : ℕ) (o : Option Moment) (r : BioResult) → start_moment history b ≡ o
-    → result_within (suc levels) history b ≡ Some r → error_of_result r ≡ first_of (errors_within (suc levels) history b)
+    → result_within (suc levels) history b ≡ Some r
+    → error_of_result r ≡ first_of (errors_within (suc levels) history b)
 moment-error levels history known b None r s e = let none : None ≡ Some r = rw s at e in cc
 moment-error levels history known b (Some m) r s e =
     rw s (outcome-error levels history known b m.before m.entry.outcome r (rw s at e))

@@ -15,23 +15,42 @@ module _ {X : Type 0} (p test : X → Bool) (f : X → X) (after : (x : X) → p
   changed-one-less x e was = rw (e, after x, was) (omega arith)
 
   count-cons : (x : X) (xs : List X) →
-      count_by p (change_where test f (x ∷ xs)) ≡ cond (p (cond (test x) (f x) x)) 1 0 + count_by p (change_where test f xs)
+      count_by p (change_where test f (x ∷ xs)) ≡ cond (p (cond (test x) (f x) x)) 1 0
+      + count_by p (change_where test f xs)
   count-cons x xs = sum_by-cons (λ (y : X). cond (p y) 1 0) (cond (test x) (f x) x) (change_where test f xs)
 
   -- so do all of them
   pub change_where-count : (xs : List X) → count_by p (change_where test f xs) ≤ count_by p xs
   change_where-count [] = omega arith
   change_where-count (x ∷ xs) =
-      omega (arith, count-cons x xs, sum_by-cons (λ (y : X). cond (p y) 1 0) x xs, changed-less x (test x) refl, change_where-count xs)
+      omega (
+        arith,
+        count-cons x xs,
+        sum_by-cons (λ (y : X). cond (p y) 1 0) x xs,
+        changed-less x (test x) refl,
+        change_where-count xs,
+      )
 
   find-change : (x y : X) (xs : List X) (b : Bool) → test y ≡ b → find test (y ∷ xs) ≡ Some x → p x ≡ true
       → (find test xs ≡ Some x → count_by p (change_where test f xs) + 1 ≤ count_by p xs)
       → count_by p (change_where test f (y ∷ xs)) + 1 ≤ count_by p (y ∷ xs)
   find-change x y xs true e found was rest =
       let same : y ≡ x = cc in
-      omega (arith, count-cons y xs, sum_by-cons (λ (z : X). cond (p z) 1 0) y xs, changed-one-less y e (rw same was), change_where-count xs)
+      omega (
+        arith,
+        count-cons y xs,
+        sum_by-cons (λ (z : X). cond (p z) 1 0) y xs,
+        changed-one-less y e (rw same was),
+        change_where-count xs,
+      )
   find-change x y xs false e found was rest =
-      omega (arith, count-cons y xs, sum_by-cons (λ (z : X). cond (p z) 1 0) y xs, changed-less y false e, rest (rw e at found))
+      omega (
+        arith,
+        count-cons y xs,
+        sum_by-cons (λ (z : X). cond (p z) 1 0) y xs,
+        changed-less y false e,
+        rest (rw e at found),
+      )
 
   -- where the item that is found counted, one less is counted
   pub change_where-count-found : (xs : List X) (x : X) → find test xs ≡ Some x → p x ≡ true
@@ -53,7 +72,8 @@ module _ {X : Type 0} (test other : X → Bool) where
   kept-length [] = omega arith
   kept-length (x ∷ xs) = kept-cons x xs (test x) refl (kept-length xs)
 
-  kept-found : (x y : X) (xs : List X) (b c : Bool) → other y ≡ b → test y ≡ c → find other (y ∷ xs) ≡ Some x → test x ≡ true
+  kept-found : (x y : X) (xs : List X) (b c : Bool) → other y ≡ b → test y ≡ c → find other (y ∷ xs) ≡ Some x
+      → test x ≡ true
       → (find other xs ≡ Some x → length (filter (λ z. not (test z)) xs) + 1 ≤ length xs)
       → length (filter (λ z. not (test z)) (y ∷ xs)) + 1 ≤ length (y ∷ xs)
   kept-found x y xs b true e t found goes rest = rw t (omega (arith, kept-length xs))

@@ -30,7 +30,8 @@ use Rattle.geo_model.proofs.DemandLemmas.{find_passes}
 use Rattle.geo_model.proofs.FullLemmas.{change_where-count-found, kept-length-found}
 
 -- what a Deliver finds against itself says whether the bio is Busy
-busy_of : (w : World) (seat : ℕ) (x : Bio) (got : DeviceResult) (phase : Phase) → deliver_found w seat x got phase ≡ None → is_busy phase ≡ true
+busy_of : (w : World) (seat : ℕ) (x : Bio) (got : DeviceResult) (phase : Phase)
+    → deliver_found w seat x got phase ≡ None → is_busy phase ≡ true
 busy_of w seat x got phases.Down e = cc
 busy_of w seat x got phases.Sent e = cc
 busy_of w seat x got (phases.Busy holder) e = refl
@@ -43,12 +44,15 @@ owed-up : (w : World) (x : Bio) (b : ℕ) (r : BioResult) → bio_at w b ≡ Som
     → owed (change_bio w x.number (up_with r)) + 1 ≤ owed w
 owed-up w x b r found busy =
     let same : x.number ≡ b = eqb-true x.number b (find_passes (λ (y : Bio). y.number == b) w.bios x found) in
-    let less : count_by (λ (y : Bio). is_busy y.phase) (change_number b (up_with r) w.bios) + 1 ≤ count_by (λ (y : Bio). is_busy y.phase) w.bios =
-    change_where-count-found (λ (y : Bio). is_busy y.phase) (λ (y : Bio). y.number == b) (up_with r) (λ y. refl) w.bios x found busy in
+    let less : count_by (λ (y : Bio). is_busy y.phase) (change_number b (up_with r) w.bios) + 1
+    ≤ count_by (λ (y : Bio). is_busy y.phase) w.bios =
+    change_where-count-found (λ (y : Bio). is_busy y.phase) (λ (y : Bio). y.number == b) (up_with r) (λ y. refl)
+    w.bios x found busy in
     rw same (omega (arith, less))
 
 -- an answer fits where it leaves one place less owed than the log has
-fits-after : (n limit_left : ℕ) (w : World) (made : World × Outcome) → owed made.0 + 1 ≤ owed w → n + owed w ≤ log_limit → nat_lt log_limit (n + 1 + owed made.0) ≡ false
+fits-after : (n limit_left : ℕ) (w : World) (made : World × Outcome) → owed made.0 + 1 ≤ owed w
+    → n + owed w ≤ log_limit → nat_lt log_limit (n + 1 + owed made.0) ≡ false
 fits-after n limit_left w made less fits = le-ltb log_limit (n + 1 + owed made.0) (omega (arith, less, fits))
 
 deliver-fits : (n : ℕ) (w : World) (seat b : ℕ) (got : DeviceResult) (x : Bio) (found : Option Found)
@@ -63,7 +67,8 @@ deliver-fits n w seat b got x None e d fits =
 deliver_of-fits : (n : ℕ) (w : World) (seat b : ℕ) (got : DeviceResult) (o : Option Bio)
     → bio_at w b ≡ o → n + owed w ≤ log_limit → is_full_after n (deliver_of w seat got o) ≡ false
 deliver_of-fits n w seat b got None e fits = refl
-deliver_of-fits n w seat b got (Some x) e fits = deliver-fits n w seat b got x (deliver_found w seat x got x.phase) e refl fits
+deliver_of-fits n w seat b got (Some x) e fits =
+    deliver-fits n w seat b got x (deliver_found w seat x got x.phase) e refl fits
 
 pub deliver-is_full : (log : List Entry) (w : World) (seat b : ℕ) (got : DeviceResult)
     → length log + owed w ≤ log_limit → is_full log w seat (steps.Deliver b got) ≡ false
@@ -75,7 +80,8 @@ owed-close : (w : World) (h : Handle) (actor : ℕ) (name : List ℕ) → handle
     → owed (after_close w (without_handle w h)) + 1 ≤ owed w
 owed-close w h actor name found =
     let less : length (filter (λ (x : Handle). not (x.number == h.number)) w.handles) + 1 ≤ length w.handles =
-    kept-length-found (λ (x : Handle). x.number == h.number) (λ (x : Handle). (x.actor == actor) && same_name x.name name)
+    kept-length-found (λ (x : Handle). x.number == h.number) (λ (x : Handle). (x.actor == actor)
+    && same_name x.name name)
     w.handles h found (eq-eqb h.number h.number refl)
     in omega (arith, less)
 
@@ -86,7 +92,8 @@ close-active : (n : ℕ) (w : World) (line actor : ℕ) (name : List ℕ) (h : H
     → nat_lt log_limit (n + 1 + owed (close_handle w line (Some h)).0) ≡ false
 close-active n w line actor name h after true found active ok fits =
     let same : refused w line EBUSY ≡ (after, outcomes.Replied line replies.Ok) = rw active at ok in
-    let replied : outcomes.Replied line (replies.Refused EBUSY) ≡ outcomes.Replied line replies.Ok = ap (λ (x : World × Outcome). x.1) same in
+    let replied : outcomes.Replied line (replies.Refused EBUSY) ≡ outcomes.Replied line replies.Ok =
+    ap (λ (x : World × Outcome). x.1) same in
     let no : ⊥ = cc in absurd no
 close-active n w line actor name h after false found active ok fits =
     rw active
@@ -98,7 +105,8 @@ close-found : (n : ℕ) (w : World) (line actor : ℕ) (name : List ℕ) (o : Op
     → close_handle w line o ≡ (after, outcomes.Replied line replies.Ok) → n + owed w ≤ log_limit
     → nat_lt log_limit (n + 1 + owed (close_handle w line o).0) ≡ false
 close-found n w line actor name None after found ok fits =
-    let replied : outcomes.Replied line (replies.Refused EBADF) ≡ outcomes.Replied line replies.Ok = ap (λ (x : World × Outcome). x.1) ok in
+    let replied : outcomes.Replied line (replies.Refused EBADF) ≡ outcomes.Replied line replies.Ok =
+    ap (λ (x : World × Outcome). x.1) ok in
     let no : ⊥ = cc in absurd no
 close-found n w line actor name (Some h) after found ok fits =
     close-active n w line actor name h after (option_map_or (is_active w) h.consumer false) found refl ok fits
@@ -110,13 +118,16 @@ go-close : (n : ℕ) (w : World) (actor : ℕ) (c : LineCommand) (rest : List Li
     → is_full_after n (go_of w actor (Some (c ∷ rest))) ≡ false
 unfolding do_command
 go-close n w actor c rest name after close ok fits =
-    let closed : World × Outcome = close_handle (with_commands w actor rest) c.line (handle_of (with_commands w actor rest) actor name) in
+    let closed : World × Outcome =
+    close_handle (with_commands w actor rest) c.line (handle_of (with_commands w actor rest) actor name) in
     let made : Ok closed ≡ Ok (after, outcomes.Replied c.line replies.Ok) = rw close at ok in
     let same : closed ≡ (after, outcomes.Replied c.line replies.Ok) = cc in
     rw close
-    (close-found n (with_commands w actor rest) c.line actor name (handle_of (with_commands w actor rest) actor name) after refl same fits)
+    (close-found n (with_commands w actor rest) c.line actor name
+    (handle_of (with_commands w actor rest) actor name) after refl same fits)
 
-go-of-close : (n : ℕ) (w : World) (actor : ℕ) (o : Option (List LineCommand)) (c : LineCommand) (name : List ℕ) (after : World)
+go-of-close : (n : ℕ) (w : World) (actor : ℕ) (o : Option (List LineCommand)) (c : LineCommand) (name : List ℕ)
+    (after : World)
     → option_and_then first_command o ≡ Some c → c.command ≡ commands.Close name
     → go_of w actor o ≡ Ok (after, outcomes.Replied c.line replies.Ok) → n + owed w ≤ log_limit
     → is_full_after n (go_of w actor o) ≡ false

@@ -29,7 +29,8 @@ follow_cons o len a b s rest true e at_a next =
     let inside : max o s.start < min (o + len) (s.start + s.len) = ltb-true _ _ e in
     let first : max o s.start - o ≡ min (max o a) (o + len) - o = omega (arith, inside, at_a) in
     let some : 0 < min (o + len) (s.start + s.len) - max o s.start = omega (arith, inside) in
-    let after : min (max o (a + s.len)) (o + len) - o ≡ min (max o a) (o + len) - o + (min (o + len) (s.start + s.len) - max o s.start) =
+    let after : min (max o (a + s.len)) (o + len) - o
+    ≡ min (max o a) (o + len) - o + (min (o + len) (s.start + s.len) - max o s.start) =
     omega (arith, inside, at_a) in
     rw e (first, some, rw after at next)
 follow_cons o len a b s rest false e at_a next =
@@ -48,14 +49,17 @@ chain-follow o len a b (s ∷ rest) chain inside =
 concat-chain : (k start : ℕ) (sizes : List ℕ) → Chain start (start + sum sizes) (concat_stretches k start sizes)
 concat-chain k start [] = omega arith
 concat-chain k start (size ∷ sizes) =
-    let total : start + size + sum sizes ≡ start + sum (size ∷ sizes) = omega (arith, sum_by-cons (λ x. x) size sizes) in
+    let total : start + size + sum sizes ≡ start + sum (size ∷ sizes) =
+    omega (arith, sum_by-cons (λ x. x) size sizes) in
     (refl, rw total at (concat-chain (k + 1) (start + size) sizes))
 
-pub concat-follow : (id : Option ℕ) (places : List (Option ℕ)) (sizes : List ℕ) (x : Provider) (o len : ℕ) → o + len ≤ sum sizes
+pub concat-follow : (id : Option ℕ) (places : List (Option ℕ)) (sizes : List ℕ) (x : Provider) (o len : ℕ)
+    → o + len ≤ sum sizes
     → Follow 0 len (pieces (Concat id places sizes) x o len)
 concat-follow id places sizes x o len inside =
     let begin : min (max o 0) (o + len) - o ≡ 0 = omega arith in
-    rw begin at (chain-follow o len 0 (0 + sum sizes) (concat_stretches 0 0 sizes) (concat-chain 0 0 sizes) (omega (arith, inside)))
+    rw begin at (chain-follow o len 0 (0 + sum sizes) (concat_stretches 0 0 sizes) (concat-chain 0 0 sizes)
+    (omega (arith, inside)))
 
 -- stripe
 next_strip : (j stripe : ℕ) → (j + 1) * stripe ≡ j * stripe + stripe
@@ -71,8 +75,10 @@ pub stripe-follow : (id : Option ℕ) (stripe : ℕ) (places : List (Option ℕ)
     → 0 < stripe → 0 < len → Follow 0 len (pieces (Stripe id stripe places sizes) x o len)
 stripe-follow id stripe places sizes x o len some some_byte =
     let low : (o / stripe) * stripe ≤ o = div-mul-le_self o stripe in
-    let rising : o / stripe ≤ (o + len - 1) / stripe = le-div (o / stripe) (o + len - 1) stripe some (omega (arith, low, some_byte)) in
-    let count : (o / stripe) + ((o + len - 1) / stripe + 1 - o / stripe) ≡ (o + len - 1) / stripe + 1 = omega (arith, rising) in
+    let rising : o / stripe ≤ (o + len - 1) / stripe =
+    le-div (o / stripe) (o + len - 1) stripe some (omega (arith, low, some_byte)) in
+    let count : (o / stripe) + ((o + len - 1) / stripe + 1 - o / stripe) ≡ (o + len - 1) / stripe + 1 =
+    omega (arith, rising) in
     let last : o + len - 1 < (o + len - 1) / stripe * stripe + stripe = lt-div-mul-add some in
     let high : o + len ≤ ((o / stripe) + ((o + len - 1) / stripe + 1 - o / stripe)) * stripe =
     rw (count, next_strip ((o + len - 1) / stripe) stripe) (omega (arith, last, some_byte)) in
@@ -88,11 +94,14 @@ whole-follow o len size s at_zero of_size inside some_byte =
     let end : 0 + s.len ≡ size = omega (arith, of_size) in
     rw begin at (chain-follow o len 0 size (s ∷ []) (at_zero, end) inside)
 
-mbr-follow : (slices : List (Option Slice)) (x : Provider) (below : Option ℕ) (o len : ℕ) (found : Option Slice) → slice_at slices x.name ≡ found
+mbr-follow : (slices : List (Option Slice)) (x : Provider) (below : Option ℕ) (o len : ℕ) (found : Option Slice)
+    → slice_at slices x.name ≡ found
     → IsSome (slice_at slices x.name) → o + len ≤ x.size → 0 < len → Follow 0 len (pieces (Mbr below slices) x o len)
-mbr-follow slices x below o len None e some inside some_byte = let h : IsSome {T = Slice} None = rw e at some in let no : ⊥ = cc in absurd no
+mbr-follow slices x below o len None e some inside some_byte = let h : IsSome {T = Slice} None = rw e at some in
+    let no : ⊥ = cc in absurd no
 mbr-follow slices x below o len (Some s) e some inside some_byte =
-    rw e (whole-follow o len x.size (record { start = 0; len = x.size; component = 0; offset = s.first * 512 }) refl refl inside some_byte)
+    rw e (whole-follow o len x.size (record { start = 0; len = x.size; component = 0; offset = s.first * 512 })
+    refl refl inside some_byte)
 
 ebr-follow : (parts : List (Option EbrPart)) (x : Provider) (below : Option ℕ) (o len : ℕ) (found : Option EbrPart)
     → part_at parts x.name ≡ found
@@ -100,16 +109,21 @@ ebr-follow : (parts : List (Option EbrPart)) (x : Provider) (below : Option ℕ)
 ebr-follow parts x below o len None e some inside some_byte =
     let h : IsSome {T = EbrPart} None = rw e at some in let no : ⊥ = cc in absurd no
 ebr-follow parts x below o len (Some s) e some inside some_byte =
-    rw e (whole-follow o len x.size (record { start = 0; len = x.size; component = 0; offset = s.first * 512 }) refl refl inside some_byte)
+    rw e (whole-follow o len x.size (record { start = 0; len = x.size; component = 0; offset = s.first * 512 })
+    refl refl inside some_byte)
 
-pub pieces-follow : (config : Config) (x : Provider) (o len : ℕ) → 0 < len → HasRange config x o len → Follow 0 len (pieces config x o len)
+pub pieces-follow : (config : Config) (x : Provider) (o len : ℕ) → 0 < len → HasRange config x o len
+    → Follow 0 len (pieces config x o len)
 pieces-follow Nothing x o len some inside = absurd inside
 pieces-follow (Disk disk) x o len some inside = absurd inside
-pieces-follow (Mbr below slices) x o len some inside = mbr-follow slices x below o len (slice_at slices x.name) refl inside.0 inside.1 some
-pieces-follow (Ebr below parts) x o len some inside = ebr-follow parts x below o len (part_at parts x.name) refl inside.0 inside.1 some
+pieces-follow (Mbr below slices) x o len some inside =
+    mbr-follow slices x below o len (slice_at slices x.name) refl inside.0 inside.1 some
+pieces-follow (Ebr below parts) x o len some inside =
+    ebr-follow parts x below o len (part_at parts x.name) refl inside.0 inside.1 some
 pieces-follow (Label below) x o len some inside =
     whole-follow o len x.size (record { start = 0; len = x.size; component = 0; offset = 0 }) refl refl inside some
 pieces-follow (Concat id places sizes) x o len some inside = concat-follow id places sizes x o len inside
-pieces-follow (Stripe id stripe places sizes) x o len some inside = stripe-follow id stripe places sizes x o len inside some
+pieces-follow (Stripe id stripe places sizes) x o len some inside =
+    stripe-follow id stripe places sizes x o len inside some
 pieces-follow (Nop below offset fail) x o len some inside =
     whole-follow o len x.size (record { start = 0; len = x.size; component = 0; offset = offset }) refl refl inside some

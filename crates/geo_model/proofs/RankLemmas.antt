@@ -15,16 +15,19 @@ mapped_cons : {X Y : Type 0} (Q : Y → Type 0) (h : X → Option Y) (x : X) (xs
 mapped_cons Q h x xs None e so rest = rw e rest
 mapped_cons Q h x xs (Some y) e so rest = rw e (so y e, rest)
 
-pub mapped_by : {X Y : Type 0} (P : X → Type 0) (Q : Y → Type 0) (h : X → Option Y) → ((x : X) (y : Y) → h x ≡ Some y → P x → Q y)
+pub mapped_by : {X Y : Type 0} (P : X → Type 0) (Q : Y → Type 0) (h : X → Option Y)
+    → ((x : X) (y : Y) → h x ≡ Some y → P x → Q y)
     → (xs : List X) → AllByRecursion P xs → AllByRecursion Q (filter_map h xs)
 mapped_by P Q h so [] facts = facts
-mapped_by P Q h so (x ∷ xs) facts = mapped_cons Q h x xs (h x) refl (λ y e. so x y e facts.0) (mapped_by P Q h so xs facts.1)
+mapped_by P Q h so (x ∷ xs) facts =
+    mapped_cons Q h x xs (h x) refl (λ y e. so x y e facts.0) (mapped_by P Q h so xs facts.1)
 
 -- the geom of a provider that is found
 geom_found : {C : Type 0} (t : Topology C) (p g : ℕ) (bound : ℕ) (o : Option Provider) → provider_at t p ≡ o
     → option_map (λ x. x.geom) (provider_at t p) ≡ Some g
     → IsSomeAnd (provider_at t p) (λ x. rank t x.geom < bound) → rank t g < bound
-geom_found t p g bound None e found fact = let no : ⊥ = (let h : option_map (λ (x : Provider). x.geom) None ≡ Some g = rw e at found in cc) in absurd no
+geom_found t p g bound None e found fact = let no : ⊥ =
+    (let h : option_map (λ (x : Provider). x.geom) None ≡ Some g = rw e at found in cc) in absurd no
 geom_found t p g bound (Some x) e found fact =
     let h : option_map (λ (z : Provider). z.geom) (Some x) ≡ Some g = rw e at found in
     let same : x.geom ≡ g = cc in

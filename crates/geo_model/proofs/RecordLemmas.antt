@@ -3,10 +3,11 @@ use Rattle.std.specs.Prelude.{◌≡◌, ℕ, zero, suc, ◌+◌, ◌-◌, ◌%�
 use Rattle.std.specs.List.{list_all, prefix_len}
 use Rattle.std.specs.Int.{w16, w32, w64, to_le_bytes, from_le_bytes}
 use Rattle.std.proofs.Common.{refl, ◌∙◌, ap, subst, arith, length-append, inl, inr}
-use Rattle.std.proofs.lemmas.Bool.{and_parts, ne_eqb, leb-true, le-leb, lt-ltb, eq-eqb}
+use Rattle.std.proofs.lemmas.Bool.{and_parts, leb-true, le-leb, lt-ltb}
 use Rattle.std.proofs.lemmas.List.{length-replicate, append_assoc}
 use Rattle.std.proofs.lemmas.Nat.{from_le_bytes-to_le_bytes_2, from_le_bytes-to_le_bytes_4, from_le_bytes-to_le_bytes_8}
 use Rattle.std.proofs.Math.Seq.{take-append_seam, drop-append-add}
+use Rattle.geo_base.proofs.Tests.{word_byte-not_zero, bytes_eq-same}
 use Rattle.geo_base.specs.Name.{is_short_name, is_word_byte}
 use Rattle.geo_model.specs.declared.class.ConcatRecord.{ConcatRecord}
 use Rattle.geo_model.specs.declared.class.LabelRecord.{LabelRecord}
@@ -16,34 +17,36 @@ use Rattle.geo_model.specs.Records.{padded, record_head, label_magic, label_reco
 use Rattle.geo_base.specs.Sectors.{IsSectorSize}
 use Rattle.geo_model.specs.FormatLaws.{IsPlaceOf}
 
--- a name as its field of 16 bytes
-padded-length : (name : List ℕ) → length name ≤ 16 → length (padded 16 name) ≡ 16
-padded-length name short =
-    length-append name (replicate {A = ℕ} (16 - length name) 0) ∙ rw (length-replicate {A = ℕ} (16 - length name) 0) (omega (arith, short))
+-- bytes with zeros behind them are as long as their field
+pub length-padded : (size : ℕ) (bytes : List ℕ) → length bytes ≤ size → length (padded size bytes) ≡ size
+length-padded size bytes fits =
+    length-append bytes (replicate {A = ℕ} (size - length bytes) 0)
+    ∙ rw (length-replicate {A = ℕ} (size - length bytes) 0) (omega (arith, fits))
 
+-- a name as its field of 16 bytes
 field-take : (name rest : List ℕ) → length name ≤ 16 → take 16 (padded 16 name ++ rest) ≡ padded 16 name
-field-take name rest short = subst (λ n. take n (padded 16 name ++ rest) ≡ padded 16 name) (padded-length name short) (take-append_seam (padded 16 name) rest)
+field-take name rest short =
+    subst (λ n. take n (padded 16 name ++ rest) ≡ padded 16 name) (length-padded 16 name short)
+    (take-append_seam (padded 16 name) rest)
 
 field-drop : (name rest : List ℕ) (n : ℕ) → length name ≤ 16 → drop (16 + n) (padded 16 name ++ rest) ≡ drop n rest
 field-drop name rest n short =
-    subst (λ k. drop (k + n) (padded 16 name ++ rest) ≡ drop n rest) (padded-length name short) (drop-append-add (padded 16 name) rest n)
-
--- a byte of a name isn't zero
-word_byte-not_zero : (b : ℕ) → is_word_byte b ≡ true → not (b == 0) ≡ true
-word_byte-not_zero zero e = cc
-word_byte-not_zero (suc b) e = rw (ne_eqb (suc b) 0 (omega arith)) refl
+    subst (λ k. drop (k + n) (padded 16 name ++ rest) ≡ drop n rest) (length-padded 16 name short)
+    (drop-append-add (padded 16 name) rest n)
 
 zeros-prefix : (k : ℕ) → prefix_len (λ (b : ℕ). not (b == 0)) (replicate k 0) ≡ 0
 zeros-prefix zero = refl
 zeros-prefix (suc k) = refl
 
-name-prefix : (name : List ℕ) (k : ℕ) → list_all is_word_byte name ≡ true → prefix_len (λ (b : ℕ). not (b == 0)) (name ++ replicate k 0) ≡ length name
+name-prefix : (name : List ℕ) (k : ℕ) → list_all is_word_byte name ≡ true
+    → prefix_len (λ (b : ℕ). not (b == 0)) (name ++ replicate k 0) ≡ length name
 name-prefix [] k all = zeros-prefix k
 name-prefix (b ∷ name) k all =
     let parts = and_parts (is_word_byte b) (list_all is_word_byte name) all in
     rw (word_byte-not_zero b parts.0, name-prefix name k parts.1) (omega arith)
 
-name-taken : (name : List ℕ) (k : ℕ) → list_all is_word_byte name ≡ true → take_while (λ (b : ℕ). not (b == 0)) (name ++ replicate k 0) ≡ name
+name-taken : (name : List ℕ) (k : ℕ) → list_all is_word_byte name ≡ true
+    → take_while (λ (b : ℕ). not (b == 0)) (name ++ replicate k 0) ≡ name
 name-taken name k all = rw (name-prefix name k all) (take-append_seam name (replicate k 0))
 
 -- the name in its field is read again
@@ -60,35 +63,35 @@ short-length name e =
 short-bytes : (name : List ℕ) → is_short_name name ≡ true → list_all is_word_byte name ≡ true
 short-bytes name e = (and_parts (nat_le 1 (length name) && nat_le (length name) 16) (list_all is_word_byte name) e).1
 
--- bytes are the same as themselves
-bytes_eq-same : (bytes : List ℕ) → bytes_eq bytes bytes ≡ true
-bytes_eq-same [] = refl
-bytes_eq-same (b ∷ bytes) = rw (eq-eqb b b refl, bytes_eq-same bytes) refl
-
 -- a head in order has no cause
 head-none : (magic : List ℕ) (newest : ℕ) (bytes name : List ℕ) → bytes_eq (take 16 bytes) magic ≡ true
     → (nat_le 1 (u32_at bytes 16) && nat_le (u32_at bytes 16) newest) ≡ true
     → record_name bytes ≡ name → take 16 (drop 20 bytes) ≡ padded 16 name → is_short_name name ≡ true
     → first_error (head_tests magic newest bytes) ≡ None
 head-none magic newest bytes name m v n field short =
-    let same : bytes_eq (take 16 (drop 20 bytes)) (padded 16 (record_name bytes)) ≡ true = rw (n, field) (bytes_eq-same (padded 16 name)) in
+    let same : bytes_eq (take 16 (drop 20 bytes)) (padded 16 (record_name bytes)) ≡ true =
+    rw (n, field) (bytes_eq-same (padded 16 name)) in
     let named : is_short_name (record_name bytes) ≡ true = rw n short in
     rw (m, v, named, same) refl
 
 -- tests behind others that hold none
-row-errors : {E : Type 0} (row : Bool × E) (xs ys : List (Bool × E)) (b : Bool) → row.0 ≡ b → first_error (row ∷ xs) ≡ None
+row-errors : {E : Type 0} (row : Bool × E) (xs ys : List (Bool × E)) (b : Bool) → row.0 ≡ b
+    → first_error (row ∷ xs) ≡ None
     → (first_error xs ≡ None → first_error (xs ++ ys) ≡ first_error ys) → first_error (row ∷ xs ++ ys) ≡ first_error ys
 row-errors row xs ys true t e rest = let no : Some row.1 ≡ None = rw t at e in cc
 row-errors row xs ys false t e rest = rw t (rest (rw t at e))
 
-append-errors : {E : Type 0} (xs ys : List (Bool × E)) → first_error xs ≡ None → first_error (xs ++ ys) ≡ first_error ys
+-- so for all that stand before them
+pub append-errors : {E : Type 0} (xs ys : List (Bool × E)) → first_error xs ≡ None
+    → first_error (xs ++ ys) ≡ first_error ys
 append-errors [] ys e = refl
 append-errors (row ∷ xs) ys e = row-errors row xs ys row.0 refl e (append-errors xs ys)
 
 -- a place that is in order has no cause
 place-none : (bytes : List ℕ) (place count : ℕ) → u16_at bytes 40 ≡ place → u16_at bytes 42 ≡ count
     → 1 ≤ count → count ≤ 16 → place < count → first_error (place_test (u16_at bytes 40) (u16_at bytes 42) ∷ []) ≡ None
-place-none bytes place count p c some few inside = rw (p, c, le-leb 1 count some, le-leb count 16 few, lt-ltb place count inside) refl
+place-none bytes place count p c some few inside =
+    rw (p, c, le-leb 1 count some, le-leb count 16 few, lt-ltb place count inside) refl
 
 -- the fields behind the name of a record
 module _ (name fields rest : List ℕ) (short : length name ≤ 16) where
@@ -98,8 +101,10 @@ module _ (name fields rest : List ℕ) (short : length name ≤ 16) where
   fields-drop : (n : ℕ) → drop (16 + n) ((padded 16 name ++ fields) ++ rest) ≡ drop n (fields ++ rest)
   fields-drop n = ap (λ l. drop (16 + n) l) tail-is ∙ field-drop name (fields ++ rest) n short
 
-  fields-name : list_all is_word_byte name ≡ true → take_while (λ (b : ℕ). not (b == 0)) (take 16 ((padded 16 name ++ fields) ++ rest)) ≡ name
-  fields-name all = ap (λ l. take_while (λ (b : ℕ). not (b == 0)) (take 16 l)) tail-is ∙ name-read name (fields ++ rest) short all
+  fields-name : list_all is_word_byte name ≡ true
+      → take_while (λ (b : ℕ). not (b == 0)) (take 16 ((padded 16 name ++ fields) ++ rest)) ≡ name
+  fields-name all = ap (λ l. take_while (λ (b : ℕ). not (b == 0)) (take 16 l)) tail-is
+      ∙ name-read name (fields ++ rest) short all
 
   fields-take : take 16 ((padded 16 name ++ fields) ++ rest) ≡ padded 16 name
   fields-take = ap (λ l. take 16 l) tail-is ∙ field-take name (fields ++ rest) short
@@ -113,12 +118,14 @@ label-read_1 size name short =
     let low : length name ≤ 16 = short-length name short in
     let read : record_name bytes ≡ name = name-read name rest low (short-bytes name short) in
     let field : take 16 (drop 20 bytes) ≡ padded 16 name = field-take name rest low in
-    let head : first_error (head_tests label_magic 2 bytes) ≡ None = head-none label_magic 2 bytes name refl refl read field short in
+    let head : first_error (head_tests label_magic 2 bytes) ≡ None =
+    head-none label_magic 2 bytes name refl refl read field short in
     rw (head, read) refl
 
 -- a label of version 2
 label-read_2 : (size : ℕ) (name : List ℕ) (said : ℕ) → is_short_name name ≡ true → said < 2 ^ 64
-    → label_record (label_sector size (record { name = name; size = Some said })) ≡ Ok (record { name = name; size = Some said })
+    → label_record (label_sector size (record { name = name; size = Some said }))
+    ≡ Ok (record { name = name; size = Some said })
 label-read_2 size name said short fits =
     let bytes : List ℕ = label_sector size (record { name = name; size = Some said }) in
     let fields : List ℕ = to_le_bytes w64 said in
@@ -126,9 +133,11 @@ label-read_2 size name said short fits =
     let low : length name ≤ 16 = short-length name short in
     let read : record_name bytes ≡ name = fields-name name fields rest low (short-bytes name short) in
     let field : take 16 (drop 20 bytes) ≡ padded 16 name = fields-take name fields rest low in
-    let head : first_error (head_tests label_magic 2 bytes) ≡ None = head-none label_magic 2 bytes name refl refl read field short in
+    let head : first_error (head_tests label_magic 2 bytes) ≡ None =
+    head-none label_magic 2 bytes name refl refl read field short in
     let says : u64_at bytes 36 ≡ said =
-    ap (λ l. from_le_bytes w64 (take 8 l)) (fields-drop name fields rest low 0) ∙ from_le_bytes-to_le_bytes_8 said fits in
+    ap (λ l. from_le_bytes w64 (take 8 l)) (fields-drop name fields rest low 0)
+    ∙ from_le_bytes-to_le_bytes_8 said fits in
     rw (head, read, says) refl
 
 label-read_by : (size : ℕ) (name : List ℕ) (said : Option ℕ) → is_short_name name ≡ true → IfSome said (λ n. n < 2 ^ 64)
@@ -149,9 +158,11 @@ concat-read size x short fits =
     let low : length x.name ≤ 16 = short-length x.name short in
     let name : record_name bytes ≡ x.name = fields-name x.name fields rest low (short-bytes x.name short) in
     let field : take 16 (drop 20 bytes) ≡ padded 16 x.name = fields-take x.name fields rest low in
-    let head : first_error (head_tests concat_magic 1 bytes) ≡ None = head-none concat_magic 1 bytes x.name refl refl name field short in
+    let head : first_error (head_tests concat_magic 1 bytes) ≡ None =
+    head-none concat_magic 1 bytes x.name refl refl name field short in
     let id : u32_at bytes 36 ≡ x.id =
-    ap (λ l. from_le_bytes w32 (take 4 l)) (fields-drop x.name fields rest low 0) ∙ from_le_bytes-to_le_bytes_4 x.id fits.id_fits in
+    ap (λ l. from_le_bytes w32 (take 4 l)) (fields-drop x.name fields rest low 0)
+    ∙ from_le_bytes-to_le_bytes_4 x.id fits.id_fits in
     let place : u16_at bytes 40 ≡ x.place =
     ap (λ l. from_le_bytes w16 (take 2 l)) (fields-drop x.name fields rest low 4)
     ∙ from_le_bytes-to_le_bytes_2 x.place (omega (arith, fits.inside, fits.few_places)) in
@@ -166,38 +177,51 @@ concat-read size x short fits =
 -- how long the head of a record is, and a record in a sector
 head-length : (magic name : List ℕ) → length magic ≡ 16 → length name ≤ 16 → length (record_head magic 1 name) ≡ 36
 head-length magic name m short =
-    omega (arith, length-append magic (to_le_bytes w32 1 ++ padded 16 name), length-append (to_le_bytes w32 1) (padded 16 name), m, padded-length name short)
-
-sector-length : (size : ℕ) (bytes : List ℕ) → length bytes ≤ size → length (padded size bytes) ≡ size
-sector-length size bytes fits =
-    length-append bytes (replicate {A = ℕ} (size - length bytes) 0) ∙ rw (length-replicate {A = ℕ} (size - length bytes) 0) (omega (arith, fits))
+    omega (
+      arith,
+      length-append magic (to_le_bytes w32 1 ++ padded 16 name),
+      length-append (to_le_bytes w32 1) (padded 16 name),
+      m,
+      length-padded 16 name short,
+    )
 
 sector-large : (size : ℕ) → IsSectorSize size → 512 ≤ size
 sector-large size (inl e) = omega (arith, e)
 sector-large size (inr e) = omega (arith, e)
 
 -- a stripe size that is in order has no cause
-size-none : (bytes : List ℕ) (stripe size : ℕ) → u32_at bytes 44 ≡ stripe → length bytes ≡ size → is_stripe_size stripe size ≡ true
+size-none : (bytes : List ℕ) (stripe size : ℕ) → u32_at bytes 44 ≡ stripe → length bytes ≡ size
+    → is_stripe_size stripe size ≡ true
     → first_error (size_test (u32_at bytes 44) (length bytes) ∷ []) ≡ None
 size-none bytes stripe size s l good = rw (s, l, good) refl
 
-pub stripe-read : (size : ℕ) (x : StripeRecord) → IsSectorSize size → is_short_name x.name ≡ true → IsPlaceOf x.id x.place x.count
+pub stripe-read : (size : ℕ) (x : StripeRecord) → IsSectorSize size → is_short_name x.name ≡ true
+    → IsPlaceOf x.id x.place x.count
     → is_stripe_size x.stripe size ≡ true → stripe_record (stripe_sector size x) ≡ Ok x
 stripe-read size x sector short fits good =
-    let fields : List ℕ = to_le_bytes w32 x.id ++ (to_le_bytes w16 x.place ++ (to_le_bytes w16 x.count ++ to_le_bytes w32 x.stripe)) in
+    let fields : List ℕ =
+    to_le_bytes w32 x.id ++ (to_le_bytes w16 x.place ++ (to_le_bytes w16 x.count ++ to_le_bytes w32 x.stripe)) in
     let rest : List ℕ = replicate (size - length (record_head stripe_magic 1 x.name ++ fields)) 0 in
     let bytes : List ℕ = stripe_sector size x in
     let low : length x.name ≤ 16 = short-length x.name short in
     let long : length bytes ≡ size =
-    sector-length size (record_head stripe_magic 1 x.name ++ fields)
-    (omega (arith, length-append (record_head stripe_magic 1 x.name) fields, head-length stripe_magic x.name refl low, sector-large size sector)) in
+    length-padded size (record_head stripe_magic 1 x.name ++ fields)
+    (omega (
+      arith,
+      length-append (record_head stripe_magic 1 x.name) fields,
+      head-length stripe_magic x.name refl low,
+      sector-large size sector,
+    )) in
     let sizes = and_parts (nat_le 1 x.stripe) (nat_le x.stripe 32768 && (x.stripe % size == 0)) good in
-    let limited : x.stripe ≤ 32768 = leb-true x.stripe 32768 (and_parts (nat_le x.stripe 32768) (x.stripe % size == 0) sizes.1).0 in
+    let limited : x.stripe ≤ 32768 =
+    leb-true x.stripe 32768 (and_parts (nat_le x.stripe 32768) (x.stripe % size == 0) sizes.1).0 in
     let name : record_name bytes ≡ x.name = fields-name x.name fields rest low (short-bytes x.name short) in
     let field : take 16 (drop 20 bytes) ≡ padded 16 x.name = fields-take x.name fields rest low in
-    let head : first_error (head_tests stripe_magic 1 bytes) ≡ None = head-none stripe_magic 1 bytes x.name refl refl name field short in
+    let head : first_error (head_tests stripe_magic 1 bytes) ≡ None =
+    head-none stripe_magic 1 bytes x.name refl refl name field short in
     let id : u32_at bytes 36 ≡ x.id =
-    ap (λ l. from_le_bytes w32 (take 4 l)) (fields-drop x.name fields rest low 0) ∙ from_le_bytes-to_le_bytes_4 x.id fits.id_fits in
+    ap (λ l. from_le_bytes w32 (take 4 l)) (fields-drop x.name fields rest low 0)
+    ∙ from_le_bytes-to_le_bytes_4 x.id fits.id_fits in
     let place : u16_at bytes 40 ≡ x.place =
     ap (λ l. from_le_bytes w16 (take 2 l)) (fields-drop x.name fields rest low 4)
     ∙ from_le_bytes-to_le_bytes_2 x.place (omega (arith, fits.inside, fits.few_places)) in
@@ -207,11 +231,14 @@ stripe-read size x sector short fits good =
     let stripe : u32_at bytes 44 ≡ x.stripe =
     ap (λ l. from_le_bytes w32 (take 4 l)) (fields-drop x.name fields rest low 8)
     ∙ from_le_bytes-to_le_bytes_4 x.stripe (omega (arith, limited)) in
-    let tail : first_error (place_test (u16_at bytes 40) (u16_at bytes 42) ∷ size_test (u32_at bytes 44) (length bytes) ∷ []) ≡ None =
-    append-errors (place_test (u16_at bytes 40) (u16_at bytes 42) ∷ []) (size_test (u32_at bytes 44) (length bytes) ∷ [])
+    let tail : first_error (place_test (u16_at bytes 40) (u16_at bytes 42)
+    ∷ size_test (u32_at bytes 44) (length bytes) ∷ []) ≡ None =
+    append-errors (place_test (u16_at bytes 40) (u16_at bytes 42) ∷ [])
+    (size_test (u32_at bytes 44) (length bytes) ∷ [])
     (place-none bytes x.place x.count place count fits.some_place fits.few_places fits.inside)
     ∙ size-none bytes x.stripe size stripe long good in
     let tests : first_error (stripe_tests bytes) ≡ None =
-    append-errors (head_tests stripe_magic 1 bytes) (place_test (u16_at bytes 40) (u16_at bytes 42) ∷ size_test (u32_at bytes 44) (length bytes) ∷ []) head
+    append-errors (head_tests stripe_magic 1 bytes) (place_test (u16_at bytes 40) (u16_at bytes 42)
+    ∷ size_test (u32_at bytes 44) (length bytes) ∷ []) head
     ∙ tail in
     rw (tests, name, id, place, count, stripe) refl

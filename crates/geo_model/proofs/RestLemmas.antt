@@ -1,8 +1,9 @@
 -- At rest the fixed order gives no step.
 use Rattle.std.specs.Prelude.{◌≡◌, ℕ, ◌+◌, ◌==◌, Bool, true, false, List, [], ◌∷◌, length, flat_map, Option, Some, None, is_none, option_map}
 use Rattle.std.specs.List.{list_all, enumerate_from}
-use Rattle.std.proofs.Common.{refl, arith}
+use Rattle.std.proofs.Common.{refl}
 use Rattle.std.proofs.lemmas.Bool.{eqb-true, and_parts}
+use Rattle.std.proofs.lemmas.List.{nil_from_length}
 use Rattle.geo_model.specs.declared.command.LineCommand.{LineCommand}
 use Rattle.geo_model.specs.declared.step.Step.{Step}
 use Rattle.geo_model.specs.declared.step.Step.TheVariants as steps
@@ -11,10 +12,6 @@ use Rattle.geo_model.specs.World.{World, Bio, is_up, is_down}
 use Rattle.geo_model.specs.Freeing.{reap_work, wash_work}
 use Rattle.geo_model.specs.Step.{step, event, judge_next, reap_next, wash_next}
 use Rattle.geo_model.specs.Order.{Rest, is_at_rest, pick, first_bio, is_to_take, take_step, if_enabled, ready_actor, earliest, ready_actors}
-
-empty : {X : Type 0} (xs : List X) → (length xs == 0) ≡ true → xs ≡ []
-empty [] e = refl
-empty (x ∷ xs) e = let no : length (x ∷ xs) ≡ 0 = eqb-true (length (x ∷ xs)) 0 e in absurd (omega (arith, no))
 
 none : {X : Type 0} (o : Option X) → is_none o ≡ true → o ≡ None
 none None e = refl
@@ -26,15 +23,19 @@ ready-cons : (w : World) (k : ℕ) (rest : List LineCommand) (others : List (Lis
     → (list_all (λ (xs : List LineCommand). length xs == 0) others ≡ true
     → flat_map (ready_actor w) (enumerate_from (k + 1) others) ≡ [])
     → flat_map (ready_actor w) (enumerate_from k (rest ∷ others)) ≡ []
-ready-cons w k rest others true e all so = let is : rest ≡ [] = empty rest e in rw is (so (rw e at all))
+ready-cons w k rest others true e all so =
+    let is : rest ≡ [] = nil_from_length rest (eqb-true (length rest) 0 e) in rw is (so (rw e at all))
 ready-cons w k rest others false e all so = let no : false ≡ true = rw e at all in cc
 
-none-ready : (w : World) (k : ℕ) (actors : List (List LineCommand)) → list_all (λ (xs : List LineCommand). length xs == 0) actors ≡ true
+none-ready : (w : World) (k : ℕ) (actors : List (List LineCommand))
+    → list_all (λ (xs : List LineCommand). length xs == 0) actors ≡ true
     → flat_map (ready_actor w) (enumerate_from k actors) ≡ []
 none-ready w k [] all = refl
-none-ready w k (rest ∷ others) all = ready-cons w k rest others (length rest == 0) refl all (none-ready w (k + 1) others)
+none-ready w k (rest ∷ others) all =
+    ready-cons w k rest others (length rest == 0) refl all (none-ready w (k + 1) others)
 
-all-none : (a b c d e f g h : Option Step) → a ≡ None → b ≡ None → c ≡ None → d ≡ None → e ≡ None → f ≡ None → g ≡ None → h ≡ None
+all-none : (a b c d e f g h : Option Step) → a ≡ None → b ≡ None → c ≡ None → d ≡ None → e ≡ None → f ≡ None
+    → g ≡ None → h ≡ None
     → first_some (a ∷ b ∷ c ∷ d ∷ e ∷ f ∷ g ∷ h ∷ []) ≡ None
 all-none a b c d e f g h ea eb ec ed ee ef eg eh = rw (ea, eb, ec, ed, ee, ef, eg, eh) refl
 
@@ -69,8 +70,8 @@ pick-rest w rest =
     let three = and_parts _ _ two.1 in
     let four = and_parts _ _ three.1 in
     let five = and_parts _ _ four.1 in
-    let bios : w.bios ≡ [] = empty w.bios two.0 in
-    let events : w.events ≡ [] = empty w.events three.0 in
+    let bios : w.bios ≡ [] = nil_from_length w.bios (eqb-true (length w.bios) 0 two.0) in
+    let events : w.events ≡ [] = nil_from_length w.events (eqb-true (length w.events) 0 three.0) in
     let taste : w.taste ≡ None = none w.taste four.0 in
     all-none _ _ _ _ _ _ _ _
     (no-bio w (λ x. is_up x.phase) (λ x. steps.Up x.number) bios)

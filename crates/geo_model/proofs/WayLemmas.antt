@@ -3,11 +3,12 @@ use Rattle.std.specs.Prelude.{◌≡◌, ℕ, ◌+◌, Bool, true, false, Option
 use Rattle.std.proofs.Common.{refl, ◌∙◌}
 use Rattle.geo_model.specs.Topology.{Provider, Geom, is_errored, provider_with_geom}
 use Rattle.geo_model.specs.World.{World, Bio, Config, Nothing, Disk, Mbr, Ebr, Label, Concat, Stripe, Nop}
-use Rattle.geo_model.specs.Bios.{is_hit, start, start_at, start_at_nop, start_found, start_by, way_at, way_of}
+use Rattle.geo_model.specs.Bios.{is_hit, start, start_at, start_found, start_by, way_at, way_of}
 
 -- at a NOP geom
 hit : (w : World) (x : Bio) (p : Provider) (g : Geom Config) (below : Option ℕ) (offset fail : ℕ) (b : Bool)
-    → is_hit (g.started + 1) fail ≡ b → start_at w x p g (Nop below offset fail) ≡ start_by w x (way_at x p g (Nop below offset fail))
+    → is_hit (g.started + 1) fail ≡ b
+    → start_at w x p g (Nop below offset fail) ≡ start_by w x (way_at x p g (Nop below offset fail))
 hit w x p g below offset fail true e = rw e refl
 hit w x p g below offset fail false e = rw e refl
 
@@ -29,7 +30,8 @@ by-found : (w : World) (x : Bio) (found : Option (Provider × Geom Config)) → 
 by-found w x None fine e = rw (fine, e) refl
 by-found w x (Some found) fine e = rw (fine, e) (by-config w x found.0 found.1 found.1.config)
 
-by-error : (w : World) (x : Bio) (b : Bool) → is_errored w.topology x.target ≡ b → start w x ≡ start_by w x (way_of w.topology x)
+by-error : (w : World) (x : Bio) (b : Bool) → is_errored w.topology x.target ≡ b
+    → start w x ≡ start_by w x (way_of w.topology x)
 unfolding start
 by-error w x true e = rw e refl
 by-error w x false e =

@@ -47,7 +47,8 @@ is_other_size (Some said) size = not (said == size)
 
 -- a label that says another media size than that of the tasted provider is declined
 abbrev pub label_verdict : Facts → Result LabelRecord DeclineCause → Verdict
-label_verdict f (Ok found) = if is_other_size found.size (f.sectors * f.sector) then Decline causes.Media else Accept (Named found)
+label_verdict f (Ok found) =
+    if is_other_size found.size (f.sectors * f.sector) then Decline causes.Media else Accept (Named found)
 label_verdict f (Err cause) = Decline cause
 
 -- what a class says to a sector; EBR isn't asked so, since it judges a chain of sectors
@@ -100,8 +101,10 @@ with_slices q p kind config slices =
     fold (λ v x. offer v q.topology.next_geom x.name x.size 512) (with_geom_over q p kind config) slices
 
 -- the MBR geom with its slices, or the EBR geom with its partitions
-abbrev pub accept_slices : QueuedTopology Config → Provider → Kind → Config → List NewSlice → Option (QueuedTopology Config)
-accept_slices q p kind config slices = if_free q.topology (map (λ x. x.name) slices) (with_slices q p kind config slices)
+abbrev pub accept_slices : QueuedTopology Config → Provider → Kind → Config → List NewSlice
+    → Option (QueuedTopology Config)
+accept_slices q p kind config slices =
+    if_free q.topology (map (λ x. x.name) slices) (with_slices q p kind config slices)
 
 -- the LABEL geom, with a provider one sector smaller than the media
 abbrev pub with_label : QueuedTopology Config → Provider → List ℕ → QueuedTopology Config
@@ -123,7 +126,8 @@ empty_stripe found = Stripe (Some found.id) found.stripe (replicate found.count 
 
 -- whether a standing configuration is of the same assembly: the same class, id, count and stripe size
 abbrev pub is_same_assembly : Config → Config → Bool
-is_same_assembly (Concat (Some a) places sizes) (Concat (Some b) others other_sizes) = (a == b) && (length places == length others)
+is_same_assembly (Concat (Some a) places sizes) (Concat (Some b) others other_sizes) =
+    (a == b) && (length places == length others)
 is_same_assembly (Stripe (Some a) s places sizes) (Stripe (Some b) u others other_sizes) =
     (a == b) && ((s == u) && (length places == length others))
 is_same_assembly _ _ = false
@@ -147,7 +151,8 @@ add_place config c size = config
 -- a place filled by a consumer, and the size of its component kept
 abbrev pub fill_place : Config → ℕ → ℕ → ℕ → Config
 fill_place (Concat id places sizes) k c size = Concat id (slice_set places k (Some c)) (slice_set sizes k size)
-fill_place (Stripe id stripe places sizes) k c size = Stripe id stripe (slice_set places k (Some c)) (slice_set sizes k size)
+fill_place (Stripe id stripe places sizes) k c size =
+    Stripe id stripe (slice_set places k (Some c)) (slice_set sizes k size)
 fill_place config k c size = config
 
 -- the smallest of the sizes
@@ -186,7 +191,8 @@ finish q g config name sector =
 abbrev pub with_place : QueuedTopology Config → Provider → ℕ → Config → QueuedTopology Config
 with_place q p g filled = record q { topology = set_config (add_consumer q.topology g (Some p.number)) g filled }
 
--- the provider fills a place, its component being one sector smaller, and where no place is left the assembly is finished
+-- the provider fills a place, its component being one sector smaller, and where no place is left the assembly is
+-- finished
 abbrev pub join_place : QueuedTopology Config → Provider → ℕ → Config → ℕ → List ℕ → Option (QueuedTopology Config)
 join_place q p g config place name =
     let filled : Config = fill_place config place q.topology.next_consumer (p.size - p.sector) in

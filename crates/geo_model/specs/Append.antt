@@ -34,7 +34,8 @@ is_growing t name g =
     && (not g.withering && (same_name g.name name && not (length (providers_of t g.number) == 0)))
 
 abbrev pub growing_concat : Topology Config → List ℕ → Option Growing
-growing_concat t name = option_and_then (λ g. with_provider g (providers_of t g.number)) (find (is_growing t name) t.geoms)
+growing_concat t name =
+    option_and_then (λ g. with_provider g (providers_of t g.number)) (find (is_growing t name) t.geoms)
 
 -- the greatest number of components
 abbrev pub component_limit : ℕ

@@ -73,11 +73,12 @@ piece_targets config p x =
 abbrev pub bytes_of_piece : List ℕ → Piece → List ℕ
 bytes_of_piece bytes s = take s.span.len (drop s.at bytes)
 
--- the child for piece k of a bio, where next is the number of the first child; the zero stands for a consumer that isn't
--- attached, which no component is
+-- the child for piece k of a bio, where next is the number of the first child; the zero stands for a consumer that
+-- isn't attached, which no component is
 abbrev pub piece_child : {R : Type 0} → Topology Config → ℕ → BioOf R → ℕ → PieceTarget → BioOf R
 piece_child t next x k target =
-    new_bio (next + k) x.cmd target.piece.span.offset target.piece.span.len (bytes_of_piece x.bytes target.piece) target.consumer
+    new_bio (next + k) x.cmd target.piece.span.offset target.piece.span.len (bytes_of_piece x.bytes target.piece)
+    target.consumer
     (unwrap_or (provider_of_consumer t target.consumer) 0)
     (owners.Child x.number k)
 
@@ -286,8 +287,10 @@ taste_with got None = None
 taste_with got (Some t) = Some (record t { asked = read_back got t.asked })
 
 abbrev pub up_taste : World → Bio → World × Outcome
-up_taste w x =
-    (record (without_bio w x.number) { taste = taste_with (unwrap_or x.result results.Done) w.taste }, outcomes.TasteBack)
+up_taste w x = (
+  record (without_bio w x.number) { taste = taste_with (unwrap_or x.result results.Done) w.taste },
+  outcomes.TasteBack,
+)
 
 -- a result as the reply to a line
 abbrev pub reply_of_result : BioResult → Reply

@@ -1,5 +1,6 @@
--- Chains of logical partitions. A link is a sector with the signature of an MBR table: its first entry names a partition,
--- its second entry leads to the next link. The first link is sector 0 of the provider; sectors are of 512 bytes.
+-- Chains of logical partitions. A link is a sector with the signature of an MBR table: its first entry names a
+-- partition, its second entry leads to the next link. The first link is sector 0 of the provider; sectors are of 512
+-- bytes.
 use Rattle.std.specs.Prelude.{◌≡◌, ◌≢◌, ℕ, zero, suc, ◌+◌, ◌-◌, ◌<◌, ◌≤◌, ◌==◌, nat_lt, nat_le, Bool, true, false, not, ◌&&◌, ◌||◌, List, [], ◌∷◌, ◌++◌, length, map, replicate, Option, Some, None, Result, Ok, Err, is_some, All, AllPairs, IsTrue, ⊤, if◌then◌else◌}
 use Rattle.std.specs.List.{list_any}
 use Rattle.geo_base.specs.declared.decline.DeclineCause.{DeclineCause}
@@ -32,8 +33,8 @@ no_links = record { links = []; next = 0 }
 
 -- What a link says
 
--- the partition that the link at a sector names, of a provider of n sectors: the first entry counts from the link, and is
--- kept where its type, first sector and size aren't 0 and its end isn't past the media
+-- the partition that the link at a sector names, of a provider of n sectors: the first entry counts from the link,
+-- and is kept where its type, first sector and size aren't 0 and its end isn't past the media
 abbrev pub named_part : ℕ → ℕ → List ℕ → Option EbrPart
 named_part n sector bytes =
     let first = u32_at bytes (entry_start 0 + 8) in
@@ -70,8 +71,8 @@ was_read links sector = (sector == 0) || list_any (λ l. l.sector == sector) lin
 abbrev pub has_part : List LinkRead → Bool
 has_part links = list_any (λ l. is_some l.part) links
 
--- what is against a chain of n sectors whose last link has these bytes: the signature, the second entry, a way back, a way
--- past the media, one link too many; at its end, that it has no partition
+-- what is against a chain of n sectors whose last link has these bytes: the signature, the second entry, a way back,
+-- a way past the media, one link too many; at its end, that it has no partition
 abbrev pub link_tests : ℕ → Chain → List ℕ → List (Bool × DeclineCause)
 link_tests n c bytes =
     (not (has_signature bytes), causes.Signature)
@@ -107,7 +108,8 @@ pub record IsLinkAt (media : ℕ → List ℕ) (sector : ℕ) (on : Bool) : Type
 abbrev pub LeadOn : (ℕ → List ℕ) → List ℕ → Type 0
 LeadOn media [] = ⊥
 LeadOn media (sector ∷ []) = IsLinkAt media sector false
-LeadOn media (sector ∷ next ∷ rest) = IsLinkAt media sector true × (next_link (media sector) ≡ next) × LeadOn media (next ∷ rest)
+LeadOn media (sector ∷ next ∷ rest) = IsLinkAt media sector true × (next_link (media sector) ≡ next)
+    × LeadOn media (next ∷ rest)
 
 -- a walk over sectors begins at sector 0
 abbrev pub BeginsAtZero : List ℕ → Type 0

@@ -51,7 +51,8 @@ do_command w line actor (commands.Concat name provs) =
     do_concat w line name (length provs) (found_providers w.topology provs)
 do_command w line actor (commands.Stripe name stripe provs) =
     do_stripe w line name stripe (length provs) (found_providers w.topology provs)
-do_command w line actor (commands.Append name prov) = do_append w line (growing_concat w.topology name) (found_provider w prov)
+do_command w line actor (commands.Append name prov) =
+    do_append w line (growing_concat w.topology name) (found_provider w prov)
 do_command w line actor (commands.Destroy kind name) = do_destroy w line (named_geom w kind name)
 do_command w line actor (commands.Label name label) =
     write_record w line actor name (λ p. label_sector p.sector (record { name = label; size = None }))

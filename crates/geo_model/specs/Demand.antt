@@ -86,9 +86,13 @@ module _ {C : Type 0} (granted : ℕ → Counts) where
 -- the providers whose write count leaves zero from the one state to the other, in order of numbers
 abbrev pub risen : {C : Type 0} → (ℕ → Counts) → Topology C → (ℕ → Counts) → Topology C → List ℕ
 risen granted t granted_after t_after =
-    map (λ x. x.number) (filter (λ x. ((have granted t x.number).w == 0) && not ((have granted_after t_after x.number).w == 0)) t.providers)
+    map (λ x. x.number)
+    (filter (λ x. ((have granted t x.number).w == 0) && not ((have granted_after t_after x.number).w == 0))
+    t.providers)
 
 -- the providers whose write count comes to zero from the one state to the other, in order of numbers
 abbrev pub fallen : {C : Type 0} → (ℕ → Counts) → Topology C → (ℕ → Counts) → Topology C → List ℕ
 fallen granted t granted_after t_after =
-    map (λ x. x.number) (filter (λ x. not ((have granted t x.number).w == 0) && ((have granted_after t_after x.number).w == 0)) t.providers)
+    map (λ x. x.number)
+    (filter (λ x. not ((have granted t x.number).w == 0) && ((have granted_after t_after x.number).w == 0))
+    t.providers)

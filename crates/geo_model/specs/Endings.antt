@@ -93,7 +93,8 @@ pub record Call : Type 0 where
 -- what passed: the source gave the text, which it had left where it tells that, and the sink took what was written
 pub record BytesPass (call : Call) : Type 0 where
   pub gave : call.after.source.given ≡ call.before.source.given ++ call.text
-  pub had_left : IfSome call.before.source.left (λ had. IsSomeAnd call.after.source.left (λ has. had ≡ call.text ++ has))
+  pub had_left : IfSome call.before.source.left
+      (λ had. IsSomeAnd call.after.source.left (λ has. had ≡ call.text ++ has))
   pub took : call.after.sink.taken ≡ call.before.sink.taken ++ call.written
 
 -- the order in which one thread makes the steps, or those that are left after the threads

@@ -126,7 +126,8 @@ orphan_consumer q c = if is_of_dev q.topology c then q else wither_unless_wither
 abbrev pub orphan : {C : Type 0} → QueuedTopology C → ℕ → QueuedTopology C
 orphan q p = fold orphan_consumer q (attached_to q.topology p)
 
--- whether a consumer's provider has outgrown it: it holds no count, and its geom was made by a taste and isn't withering
+-- whether a consumer's provider has outgrown it: it holds no count, and its geom was made by a taste and isn't
+-- withering
 abbrev pub is_outgrown : {C : Type 0} → (ℕ → Counts) → Topology C → Consumer → Bool
 is_outgrown granted t c =
     is_zero (want granted t c) && option_map_or (λ g. g.automatic && not g.withering) (geom_at t c.geom) false
@@ -134,7 +135,7 @@ is_outgrown granted t c =
 abbrev pub outgrow_consumer : {C : Type 0} → (ℕ → Counts) → QueuedTopology C → Consumer → QueuedTopology C
 outgrow_consumer granted q c = if is_outgrown granted q.topology c then wither q c.geom else q
 
--- a provider has grown: each geom over it that a taste made and that isn't in use goes, in order of the consumers' numbers,
--- and the provider is offered for taste again (g_resize_provider)
+-- a provider has grown: each geom over it that a taste made and that isn't in use goes, in order of the consumers'
+-- numbers, and the provider is offered for taste again (g_resize_provider)
 abbrev pub resize : {C : Type 0} → (ℕ → Counts) → QueuedTopology C → ℕ → QueuedTopology C
 resize granted q p = offer_again (fold (outgrow_consumer granted) q (attached_to q.topology p)) p

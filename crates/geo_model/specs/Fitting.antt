@@ -1,5 +1,5 @@
--- What else holds at every moment of sizes and sectors, of concats and their places, of the taste's read, and of the commands
--- that are left. Soundness and steadiness alone aren't kept by each step.
+-- What else holds at every moment of sizes and sectors, of concats and their places, of the taste's read, and of the
+-- commands that are left. Soundness and steadiness alone aren't kept by each step.
 use Rattle.std.specs.Prelude.{◌≡◌, ◌≢◌, ℕ, ◌/◌, ◌%◌, ◌<◌, ◌≤◌, List, [], length, count_by, Option, Some, IsSome, IsSomeAnd, IfSome, IsTrue, All, AllPairs, ⊤, option_and_then}
 use Rattle.std.specs.List.{AllZip}
 use Rattle.geo_base.specs.Sectors.{IsSectorSize}
@@ -33,7 +33,8 @@ IsWholeIn _ sector = ⊤
 -- the configuration of a consumer's geom fits the sector size of the consumer's provider
 abbrev pub FitsBelow : Topology Config → Consumer → Type 0
 FitsBelow t c =
-    IfSome (geom_at t c.geom) (λ g. IfSome (option_and_then (provider_at t) c.provider) (λ q. IsWholeIn g.config q.sector))
+    IfSome (geom_at t c.geom)
+    (λ g. IfSome (option_and_then (provider_at t) c.provider) (λ q. IsWholeIn g.config q.sector))
 
 -- the sizes of a configuration
 abbrev pub sizes_of : Config → List ℕ
@@ -44,7 +45,8 @@ sizes_of _ = []
 -- a place that a consumer of the geom fills has a size in whole sectors of the provider below, and not above its size
 abbrev pub FitsPlace : Topology Config → ℕ → Option ℕ → ℕ → Type 0
 FitsPlace t g place size =
-    IfSome (option_and_then (consumer_at t) place) (λ c. c.geom ≡ g → IfSome (option_and_then (provider_at t) c.provider) (λ q.
+    IfSome (option_and_then (consumer_at t) place) (λ c. c.geom ≡ g
+    → IfSome (option_and_then (provider_at t) c.provider) (λ q.
     (size ≤ q.size) × (size % q.sector ≡ 0)))
 
 -- each place of a geom has a size, which fits
@@ -60,7 +62,8 @@ abbrev pub IsOneSector : Provider → BioResult → Type 0
 IsOneSector p (results.Bytes bytes) = length bytes ≡ p.sector
 IsOneSector p _ = ⊤
 
--- the class that is asked looks at the provider; the sector that is next is one of it, and the one that is back is one sector
+-- the class that is asked looks at the provider; the sector that is next is one of it, and the one that is back is
+-- one sector
 abbrev pub IsAskedInOrder : Topology Config → Provider → Asked → Type 0
 IsAskedInOrder t p NoClass = ⊤
 IsAskedInOrder t p (NextSector kind sector) = AsksThere t p kind × (sector < p.size / p.sector)
@@ -70,7 +73,8 @@ IsAskedInOrder t p (ReadBack kind got) = AsksThere t p kind × IsOneSector p got
 -- the read of a taste is one, and of one sector
 pub record TasteReadHolds (w : World) : Type 0 where
   pub one : count_by (λ x. is_taste_root x.owner) w.bios ≤ 1
-  pub sector : All (λ x. IsTrue (is_taste_root x.owner) → IsSomeAnd (provider_at w.topology x.target) (λ p. x.len ≡ p.sector)) w.bios
+  pub sector : All (λ x. IsTrue (is_taste_root x.owner)
+      → IsSomeAnd (provider_at w.topology x.target) (λ p. x.len ≡ p.sector)) w.bios
 
 -- a CONCAT has at most one provider
 abbrev pub HasOneProvider : Topology Config → Geom Config → Type 0
@@ -94,7 +98,8 @@ pub record Fitting (w : World) : Type 0 where
   pub one : All (HasOneProvider w.topology) w.topology.geoms
   pub apart : All PlacesHold w.topology.geoms
   pub sums : All (HasItsSum w.topology) w.topology.geoms
-  pub asked : IfSome w.taste (λ s. IfSome (provider_at w.topology s.provider) (λ p. IsAskedInOrder w.topology p s.asked))
+  pub asked : IfSome w.taste
+      (λ s. IfSome (provider_at w.topology s.provider) (λ p. IsAskedInOrder w.topology p s.asked))
   pub read : TasteReadHolds w
   pub commands : All (All (λ c. IsCommand c.command)) w.actors
 

@@ -18,7 +18,8 @@ ScriptsArePlans = (text : List ℕ) (plan : Plan) → IsScript text plan → IsP
 
 -- a generated text is a script
 abbrev pub GeneratedTextsAreScripts : Type 0
-GeneratedTextsAreScripts = (start count : ℕ) → IsMode (GenMode start count) → (plan : Plan) × IsScript (generated start count) plan
+GeneratedTextsAreScripts = (start count : ℕ) → IsMode (GenMode start count)
+    → (plan : Plan) × IsScript (generated start count) plan
 
 -- the bytes of a text of runs, as the reader of a line finds them
 abbrev pub runs_read : List ℕ → Option (List ℕ)

@@ -35,13 +35,15 @@ reap_handle w (Some c) = after_close w (reap_consumer w c)
 unfoldable pub reap : World → Handle → World
 reap w h = reap_handle w h.consumer
 
--- Wash, for any configuration of a class; granted tells what each consumer was granted, active whether it has a request out
+-- Wash, for any configuration of a class; granted tells what each consumer was granted, active whether it has a
+-- request out
 
 module _ {C : Type 0} (granted : ℕ → Counts) (active : ℕ → Bool) where
   -- a provider of a geom with nothing attached
   abbrev pub free_provider : Topology C → Geom C → Option WashWork
   free_provider t g =
-      option_map (λ p. washes.Provider p.number) (find (λ p. length (attached_to t p.number) == 0) (providers_of t g.number))
+      option_map (λ p. washes.Provider p.number)
+      (find (λ p. length (attached_to t p.number) == 0) (providers_of t g.number))
 
   -- a consumer of a geom with zero counts and no active request (a sound world implies the second by the first)
   abbrev pub is_idle : Topology C → Consumer → Bool

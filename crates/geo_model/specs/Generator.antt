@@ -45,7 +45,8 @@ abbrev pub entry_at : List (List ℕ) → ℕ → List ℕ
 entry_at texts k = unwrap_or (slice_get texts k) []
 
 abbrev pub open_provider : ℕ → List ℕ
-open_provider k = entry_at (codes "md0" ∷ codes "md1" ∷ codes "md2" ∷ codes "md3" ∷ codes "stripe/s" ∷ codes "concat/c" ∷ []) k
+open_provider k =
+    entry_at (codes "md0" ∷ codes "md1" ∷ codes "md2" ∷ codes "md3" ∷ codes "stripe/s" ∷ codes "concat/c" ∷ []) k
 
 abbrev pub open_counts : ℕ → List ℕ
 open_counts k = entry_at (codes "r1w0e0" ∷ codes "r0w1e0" ∷ codes "r1w1e0" ∷ codes "r1w0e1" ∷ codes "r1w1e1" ∷ []) k
@@ -68,11 +69,13 @@ abbrev pub command_text : ℕ → ℕ → ℕ → List ℕ
 command_text d1 d2 d3 =
     entry_at
     ((codes "open " ++ handle_text d2 ++ codes " " ++ open_provider ((d2 / 2) % 6) ++ codes " " ++ open_counts (d3 % 5))
-    ∷ (codes "open " ++ handle_text d2 ++ codes " " ++ open_provider ((d2 / 2) % 6) ++ codes " " ++ open_counts (d3 % 5))
+    ∷ (codes "open " ++ handle_text d2 ++ codes " " ++ open_provider ((d2 / 2) % 6) ++ codes " "
+    ++ open_counts (d3 % 5))
     ∷ (codes "close " ++ handle_text d2)
     ∷ (codes "read " ++ handle_text d2 ++ codes " " ++ offset_text d3 ++ codes " " ++ len_text d2)
     ∷ (codes "read " ++ handle_text d2 ++ codes " " ++ offset_text d3 ++ codes " " ++ len_text d2)
-    ∷ (codes "write " ++ handle_text d2 ++ codes " " ++ offset_text d3 ++ codes " " ++ byte_text (d3 % 256) ++ codes "*" ++ len_text d2)
+    ∷ (codes "write " ++ handle_text d2 ++ codes " " ++ offset_text d3 ++ codes " " ++ byte_text (d3 % 256)
+    ++ codes "*" ++ len_text d2)
     ∷ (codes "delete " ++ handle_text d2 ++ codes " " ++ offset_text d3 ++ codes " " ++ len_text d2)
     ∷ (codes "flush " ++ handle_text d2)
     ∷ [])
@@ -80,7 +83,8 @@ command_text d1 d2 d3 =
 
 -- lines from the one of number i on, by three draws each
 abbrev pub drawn_lines : ℕ → List ℕ → List ℕ
-drawn_lines i (d1 ∷ d2 ∷ d3 ∷ rest) = line (codes "a" ++ decimal (i % 4) ++ codes " " ++ command_text d1 d2 d3) ++ drawn_lines (i + 1) rest
+drawn_lines i (d1 ∷ d2 ∷ d3 ∷ rest) = line (codes "a" ++ decimal (i % 4) ++ codes " " ++ command_text d1 d2 d3)
+    ++ drawn_lines (i + 1) rest
 drawn_lines i _ = []
 
 -- the script from a number, with so many lines that are drawn

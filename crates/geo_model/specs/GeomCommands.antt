@@ -72,7 +72,8 @@ with_geom_at t kind name config ps =
     fold (λ u p. add_consumer u t.next_geom (Some p.number)) (add_geom t kind name config false) ps
 
 -- such a geom, and a provider of it that is offered for taste
-abbrev pub build : QueuedTopology Config → Kind → List ℕ → Config → List Provider → List ℕ → ℕ → ℕ → QueuedTopology Config
+abbrev pub build : QueuedTopology Config → Kind → List ℕ → Config → List Provider → List ℕ → ℕ → ℕ
+    → QueuedTopology Config
 build q kind geom_name config ps name size sector =
     offer
     (record q { topology = with_geom_at q.topology kind geom_name config ps })
@@ -171,7 +172,8 @@ destroy_tests granted t g = (is_in_use granted t g, EBUSY) ∷ []
 abbrev pub do_destroy : World → ℕ → Option (Geom Config) → World × Outcome
 do_destroy w line None = refused w line ENOENT
 do_destroy w line (Some g) =
-    answer w line (first_error (destroy_tests (granted_in w) w.topology g.number)) (with_queued w (wither (queued_of w) g.number))
+    answer w line (first_error (destroy_tests (granted_in w) w.topology g.number))
+    (with_queued w (wither (queued_of w) g.number))
 
 -- the provider of a name, and the geom of a class and a name that `destroy` means
 abbrev pub found_provider : World → List ℕ → Option Provider

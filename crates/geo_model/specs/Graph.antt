@@ -1,4 +1,5 @@
--- What every graph keeps that is changed one thing at a time: the order of its numbers, and that what its parts name lives.
+-- What every graph keeps that is changed one thing at a time: the order of its numbers, and that what its parts name
+-- lives.
 use Rattle.std.specs.Prelude.{ℕ, ◌<◌, List, map, IsSome, IfSome, All}
 use Rattle.std.specs.List.Sorted.{IsStrictlyIncreasing}
 use Rattle.geo_model.specs.Topology.{Topology, geom_at, provider_at}

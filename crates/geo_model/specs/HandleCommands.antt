@@ -82,7 +82,8 @@ close_handle w line (Some h) =
 
 -- requests
 
--- an accepted request is a bio from the handle's consumer to its provider; the zeros stand for a handle without one, which is never accepted
+-- an accepted request is a bio from the handle's consumer to its provider; the zeros stand for a handle without one,
+-- which is never accepted
 abbrev pub accept_request : World → ℕ → Handle → Asking → World × Outcome
 accept_request w line h a = (
   submit w a.cmd a.offset a.len a.bytes

@@ -35,14 +35,15 @@ pub record Prints (call : Call) (ending : Ending) (due : List ℕ) : Type 0 wher
   pub cut_off : call.status ≡ 4 → IsCutOff call due
   pub whole : call.status ≢ 4 → IsWritten call ending due
 
--- each disk that was kept back, and a take that failed, is one more fault of the shelf; for each name that was kept back a
--- give of it failed
+-- each disk that was kept back, and a take that failed, is one more fault of the shelf; for each name that was kept
+-- back a give of it failed
 pub record LentAfter (ending : Ending) (before after : ShelfView) : Type 0 where
   pub faults : RoseBy (failed_takes ending + length (kept_back before after)) before.faults after.faults
   pub gives : All (λ name. Rose (before.give_faults name) (after.give_faults name)) (kept_back before after)
 
 -- with threads the log is what the jobs did and then what was left, and in a run to its end it says why the jobs ended
-pub record FollowsRun (order : StepOrder) (plan : Plan) (opened : World) (ending : Ending) (log : List Entry) : Type 0 where
+pub record FollowsRun (order : StepOrder) (plan : Plan) (opened : World) (ending : Ending)
+    (log : List Entry) : Type 0 where
   pub threads : List Entry
   pub rest : List Entry
   pub parts : log ≡ threads ++ rest
@@ -72,10 +73,10 @@ pub record LeavesOutside (mode : Mode) (ending : Ending) (before after : Outside
   pub source : IsGen mode ⊎ IsBadWords ending → after.source ≡ before.source
   pub shelf : IsGen mode ⊎ IsBeforeDisks ending → after.shelf ≡ before.shelf
 
--- Whatever the interleaving, everything printed is the report of the history kept under the topology lock, which replays
--- from the opening; at every prefix counts are sums of open demands and no writer stands beside another's exclusive right;
--- opens are refused exactly where the mesh forbids; every accepted bio completes once, and if successful through exactly
--- its flat map's sectors; geoms are freed only closed, detached and idle.
+-- Whatever the interleaving, everything printed is the report of the history kept under the topology lock, which
+-- replays from the opening; at every prefix counts are sums of open demands and no writer stands beside another's
+-- exclusive right; opens are refused exactly where the mesh forbids; every accepted bio completes once, and if
+-- successful through exactly its flat map's sectors; geoms are freed only closed, detached and idle.
 pub record KeepsAll (call : Call) (mode : Mode) (plan : Plan) (ending : Ending) : Type 0 where
   pub read_as : ReadAs call mode plan
   pub bytes : BytesPass call

@@ -1,4 +1,5 @@
--- What a history keeps: a sound mesh at every prefix, opens answered, requests completed once, and only idle things freed.
+-- What a history keeps: a sound mesh at every prefix, opens answered, requests completed once, and only idle things
+-- freed.
 use Rattle.std.specs.Prelude.{◌≡◌, ◌≢◌, ◌⊎◌, ℕ, ◌≤◌, ◌&&◌, Bool, true, false, List, [], ◌∷◌, count_by, slice_get, Option, Some, None, IsSome, IsSomeAnd, IsTrue, All, Contains, ⊤, option_and_then}
 use Rattle.std.specs.List.{list_any}
 use Rattle.geo_base.specs.declared.errno.Errno.{Errno}
@@ -129,7 +130,8 @@ RequestsCompleteOnce opened log =
 -- each accepted bio is completed
 abbrev pub RequestsAreComplete : World → List Entry → Type 0
 RequestsAreComplete opened log =
-    AtEachEntry opened log (λ w e. (line b : ℕ) → e.outcome ≡ outcomes.Accepted line b → count_by (is_reply_to b) log ≡ 1)
+    AtEachEntry opened log (λ w e. (line b : ℕ) → e.outcome ≡ outcomes.Accepted line b
+    → count_by (is_reply_to b) log ≡ 1)
 
 -- Freeing (g_wither_geom(9))
 
@@ -160,7 +162,8 @@ pub record FreesOnlyIdle (before : World) (e : Entry) : Type 0 where
       → consumer_at (after_entry before e).topology c.number ≡ None → GoesIdle before e c
   pub providers : (p : Provider) → Contains before.topology.providers p
       → provider_at (after_entry before e).topology p.number ≡ None → attached_to before.topology p.number ≡ []
-  pub geoms : (g : ℕ) → IsSome (geom_at before.topology g) → geom_at (after_entry before e).topology g ≡ None → Free before g
+  pub geoms : (g : ℕ) → IsSome (geom_at before.topology g) → geom_at (after_entry before e).topology g ≡ None
+      → Free before g
 
 abbrev pub AlwaysFreesOnlyIdle : World → List Entry → Type 0
 AlwaysFreesOnlyIdle opened log = AtEachEntry opened log FreesOnlyIdle

@@ -80,8 +80,8 @@ is_offer (events.NewProvider p) = true
 is_offer (events.Resize p) = true
 is_offer _ = false
 
--- whether a step washes a consumer while a taste is under way or to come: by it the rank of the tasted provider's geom can
--- fall, and what the taste may cost rises
+-- whether a step washes a consumer while a taste is under way or to come: by it the rank of the tasted provider's
+-- geom can fall, and what the taste may cost rises
 abbrev pub is_early_wash : World → Step → Bool
 is_early_wash w steps.Wash = is_of_consumer (wash_work w) && (is_some w.taste || list_any is_offer w.events)
 is_early_wash w s = false
@@ -196,7 +196,8 @@ LegalParts = (w : World) (xs ys : List Entry) → Legal w (xs ++ ys) → Legal w
 -- each byte of each piece of a request lies where the address map says
 abbrev pub PiecesArePlaced : Type 0
 PiecesArePlaced =
-    (config : Config) (x : Provider) (o len : ℕ) → AllByRecursion (PieceIsPlaced (place config x.name) o) (pieces config x o len)
+    (config : Config) (x : Provider) (o len : ℕ)
+    → AllByRecursion (PieceIsPlaced (place config x.name) o) (pieces config x o len)
 
 -- a range is one of the address map
 abbrev pub HasRange : Config → Provider → ℕ → ℕ → Type 0
@@ -212,7 +213,8 @@ HasRange (Nop below offset fail) x o len = o + len ≤ x.size
 -- the pieces of a request follow each other from its beginning to its end
 abbrev pub PiecesFollow : Type 0
 PiecesFollow =
-    (config : Config) (x : Provider) (o len : ℕ) → 0 < len → HasRange config x o len → Follow 0 len (pieces config x o len)
+    (config : Config) (x : Provider) (o len : ℕ) → 0 < len → HasRange config x o len
+    → Follow 0 len (pieces config x o len)
 
 -- what a start does, the graph tells, and the bios change by that alone
 abbrev pub StartsAreInParts : Type 0

@@ -12,7 +12,14 @@ use Rattle.geo_model.specs.GeomCommands.{stand}
 abbrev pub first_topology : Topology Config
 first_topology =
     add_geom
-    (add_geom (record { geoms = []; providers = []; consumers = []; next_geom = 1; next_provider = 1; next_consumer = 1 })
+    (add_geom (record {
+      geoms = [];
+      providers = [];
+      consumers = [];
+      next_geom = 1;
+      next_provider = 1;
+      next_consumer = 1;
+    })
     kinds.Dev dev_name Nothing false)
     kinds.Taste taste_name Nothing false
 

@@ -27,7 +27,8 @@ is_below t p upper = list_any (λ q. q == p) (below t upper)
 abbrev pub has_error_below : {C : Type 0} → Topology C → ℕ → Bool
 has_error_below t p = list_any (is_errored t) (below t p)
 
--- what refuses a demand above the provider, in the state in which it stands (a consumer of DEV or TASTE changes nothing below)
+-- what refuses a demand above the provider, in the state in which it stands (a consumer of DEV or TASTE changes
+-- nothing below)
 abbrev pub grant_refusal : {C : Type 0} → (ℕ → Counts) → Topology C → ℕ → Option Errno
 grant_refusal granted t p =
     first_error
@@ -52,8 +53,8 @@ open_refusal_at granted t (Some p) grant = grant_refusal (with_grant granted t.n
 abbrev pub open_refusal : {C : Type 0} → (ℕ → Counts) → Topology C → List ℕ → Counts → Option Errno
 open_refusal granted t name grant = open_refusal_at granted t (find_provider t name) grant
 
--- what refuses that an unattached consumer of a geom is attached to one more provider, and that its wants are granted there,
--- if anything does: what is below, what is above, and then the counts in the state with the consumer attached
+-- what refuses that an unattached consumer of a geom is attached to one more provider, and that its wants are granted
+-- there, if anything does: what is below, what is above, and then the counts in the state with the consumer attached
 abbrev pub join_refusal : {C : Type 0} → (ℕ → Counts) → Topology C → ℕ → ℕ → Option Errno
 join_refusal granted t c p =
     first_error

@@ -110,8 +110,8 @@ makes_of_taste = sum_by can_make tasting_classes
 abbrev pub taste_cost : ℕ
 taste_cost = 400
 
--- what an offered provider can cost, by so many levels below the limit of tasting: its taste, and the offers of all that
--- the taste can make
+-- what an offered provider can cost, by so many levels below the limit of tasting: its taste, and the offers of all
+-- that the taste can make
 abbrev pub taste_weight_below : ℕ → ℕ
 taste_weight_below zero = 1
 taste_weight_below (suc levels) = taste_cost + makes_of_taste * taste_weight_below levels
@@ -163,7 +163,8 @@ is_loss _ = false
 -- one level of the way down: at a disk Start, Take, Deliver and Up, else Start, Up and the steps of each child
 abbrev pub down_step : (Bio → ℕ) → World → Bio → Config → Provider → ℕ
 down_step below w x (Disk disk) p = 4
-down_step below w x config p = 2 + sum_by (λ target. below (piece_child w.topology w.next_bio x 0 target)) (piece_targets config p x)
+down_step below w x config p =
+    2 + sum_by (λ target. below (piece_child w.topology w.next_bio x 0 target)) (piece_targets config p x)
 
 -- the steps that a bio that goes down needs over so many levels, with all of its children
 abbrev pub down_steps_within : ℕ → World → Bio → ℕ

@@ -34,7 +34,8 @@ part_at parts name = option_flatten (slice_get parts (end_number name - 1))
 -- the component whose range holds the offset, counted from k, at the offset less the sizes before it
 abbrev pub concat_spot : ℕ → List ℕ → ℕ → Option Spot
 concat_spot k [] o = None
-concat_spot k (size ∷ sizes) o = if nat_lt o size then Some (record { component = k; offset = o }) else concat_spot (k + 1) sizes (o - size)
+concat_spot k (size ∷ sizes) o =
+    if nat_lt o size then Some (record { component = k; offset = o }) else concat_spot (k + 1) sizes (o - size)
 
 -- strip number o / stripe goes to the components in turn
 abbrev pub stripe_spot : ℕ → ℕ → ℕ → Spot
@@ -44,8 +45,10 @@ stripe_spot n stripe o = record { component = (o / stripe) % n; offset = ((o / s
 abbrev pub place : Config → List ℕ → ℕ → Option Spot
 place Nothing name o = None
 place (Disk disk) name o = None
-place (Mbr below slices) name o = option_map (λ s. record { component = 0; offset = s.first * 512 + o }) (slice_at slices name)
-place (Ebr below parts) name o = option_map (λ s. record { component = 0; offset = s.first * 512 + o }) (part_at parts name)
+place (Mbr below slices) name o =
+    option_map (λ s. record { component = 0; offset = s.first * 512 + o }) (slice_at slices name)
+place (Ebr below parts) name o =
+    option_map (λ s. record { component = 0; offset = s.first * 512 + o }) (part_at parts name)
 place (Label below) name o = Some (record { component = 0; offset = o })
 place (Concat id places sizes) name o = concat_spot 0 sizes o
 place (Stripe id stripe places sizes) name o = Some (stripe_spot (length sizes) stripe o)
@@ -160,7 +163,12 @@ piece_in o len s =
     let from_here = max o s.start in
     let to_here = min (o + len) (s.start + s.len) in
     if nat_lt from_here to_here
-    then Some (record { child = s.component; span = record { offset = s.offset + (from_here - s.start); len = to_here - from_here }; at = from_here - o })
+    then Some (record {
+      child = s.component;
+      span =
+          record { offset = s.offset + (from_here - s.start); len = to_here - from_here };
+      at = from_here - o;
+    })
     else None
 
 -- a range, cut at the end of each stretch
@@ -180,7 +188,8 @@ StretchIsPlaced at_offset s =
 
 abbrev pub PieceIsPlaced : (ℕ → Option Spot) → ℕ → Piece → Type 0
 PieceIsPlaced at_offset o x =
-    (j : ℕ) → j < x.span.len → at_offset (o + x.at + j) ≡ Some (record { component = x.child; offset = x.span.offset + j })
+    (j : ℕ) → j < x.span.len
+    → at_offset (o + x.at + j) ≡ Some (record { component = x.child; offset = x.span.offset + j })
 
 -- pieces that aren't empty follow each other from a place of the request to another
 abbrev pub Follow : ℕ → ℕ → List Piece → Type 0

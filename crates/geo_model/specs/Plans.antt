@@ -81,7 +81,8 @@ IsCommand (commands.Destroy kind geom) = IsNamedClass kind × IsProviderName geo
 IsCommand (commands.Label h name) = IsShortName h × IsShortName name
 IsCommand (commands.Relabel h name) = IsShortName h × IsShortName name
 IsCommand (commands.MarkConcat h name id place count) = IsShortName h × IsShortName name × IsMark id place count
-IsCommand (commands.MarkStripe h name id place count stripe) = IsShortName h × IsShortName name × IsMark id place count × IsStripe stripe
+IsCommand (commands.MarkStripe h name id place count stripe) = IsShortName h × IsShortName name
+    × IsMark id place count × IsStripe stripe
 IsCommand commands.Mesh = ⊤
 
 -- a command line of one of so many actors

@@ -21,7 +21,8 @@ rank t g = rank_within (length t.geoms) t g
 
 -- each attached consumer's geom has a greater rank than the geom of its provider
 abbrev pub Ranked : {C : Type 0} → Topology C → Type 0
-Ranked t = All (λ c. IfSome c.provider (λ p. IsSomeAnd (provider_at t p) (λ x. rank t x.geom < rank t c.geom))) t.consumers
+Ranked t = All
+    (λ c. IfSome c.provider (λ p. IsSomeAnd (provider_at t p) (λ x. rank t x.geom < rank t c.geom))) t.consumers
 
 -- the geom, and over so many levels each geom that is reached downwards from it
 abbrev pub geoms_reached_within : {C : Type 0} → ℕ → Topology C → ℕ → List ℕ

@@ -58,7 +58,8 @@ mbr_tests bytes sectors =
 
 -- the table in a sector, or the first cause to decline it
 abbrev pub mbr_table : List ℕ → ℕ → Result MbrTable DeclineCause
-mbr_table bytes sectors = unless (first_error (mbr_tests bytes sectors)) (record { slices = kept_entries bytes sectors })
+mbr_table bytes sectors =
+    unless (first_error (mbr_tests bytes sectors)) (record { slices = kept_entries bytes sectors })
 
 -- Records
 
@@ -84,7 +85,11 @@ abbrev pub head_tests : List ℕ → ℕ → List ℕ → List (Bool × DeclineC
 head_tests magic newest bytes =
     (not (bytes_eq (take 16 bytes) magic), causes.Magic)
     ∷ (not (nat_le 1 (u32_at bytes 16) && nat_le (u32_at bytes 16) newest), causes.Version)
-    ∷ (not (is_short_name (record_name bytes) && bytes_eq (take 16 (drop 20 bytes)) (padded 16 (record_name bytes))), causes.BadName)
+    ∷ (
+      not (is_short_name (record_name bytes)
+          && bytes_eq (take 16 (drop 20 bytes)) (padded 16 (record_name bytes))),
+      causes.BadName,
+    )
     ∷ []
 
 -- place and count are in order: 1 to 16 places, and the place is one of them
@@ -149,7 +154,8 @@ label_sector size x = padded size (label_head x.name x.size)
 
 abbrev pub concat_sector : ℕ → ConcatRecord → List ℕ
 concat_sector size x =
-    padded size (record_head concat_magic 1 x.name ++ (to_le_bytes w32 x.id ++ (to_le_bytes w16 x.place ++ to_le_bytes w16 x.count)))
+    padded size (record_head concat_magic 1 x.name
+    ++ (to_le_bytes w32 x.id ++ (to_le_bytes w16 x.place ++ to_le_bytes w16 x.count)))
 
 abbrev pub stripe_sector : ℕ → StripeRecord → List ℕ
 stripe_sector size x =

@@ -26,4 +26,5 @@ module _ {C : Type 0} (granted : ℕ → Counts) (t : Topology C) where
   abbrev pub IsOverLimit : ℕ → Type 0
   IsOverLimit p =
       IsSomeAnd (provider_at t p) (λ x.
-      (count_limit < (have granted t p).r) ⊎ (count_limit < (have granted t p).w) ⊎ (count_limit < (have granted t p).e))
+      (count_limit < (have granted t p).r) ⊎ (count_limit < (have granted t p).w)
+      ⊎ (count_limit < (have granted t p).e))

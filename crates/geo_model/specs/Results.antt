@@ -81,8 +81,8 @@ queued_leaf log b = do
   got ← device_answer_of log b
   Some (record { bio = b; request = request; got = got })
 
--- the leaves by the outcome of a Start: none where it bounced, the bio itself where it was queued, those of its children
--- where it was split
+-- the leaves by the outcome of a Start: none where it bounced, the bio itself where it was queued, those of its
+-- children where it was split
 abbrev pub leaves_by : (ℕ → List Leaf) → List Entry → ℕ → Outcome → List Leaf
 leaves_by below log b outcomes.Bounced = []
 leaves_by below log b (outcomes.Queued disk) = option_to_list (queued_leaf log b)
@@ -124,7 +124,8 @@ cmd_before before b = option_map (λ x. x.cmd) (bio_at before b)
 -- the result of a bio by the outcome of its Start, from the results of its children in order
 abbrev pub result_by : List Moment → ℕ → World → Outcome → List (Option BioResult) → Option BioResult
 result_by history b before outcomes.Bounced of_children = Some (bounced_result before b)
-result_by history b before (outcomes.Queued disk) of_children = option_map result_of_device (device_answer_of (entries_of history) b)
+result_by history b before (outcomes.Queued disk) of_children =
+    option_map result_of_device (device_answer_of (entries_of history) b)
 result_by history b before (outcomes.Split first count) of_children = do
   cmd ← cmd_before before b
   found ← all_there of_children

@@ -25,7 +25,14 @@ ram_words ws = do
   sector ← sector_size name.1
   sectors ← sector_count sector.0 sector.1
   later ← later_word sectors.1
-  at_end (record { kind = disk_kinds.Ram; name = name.0; sector = sector.0; sectors = sectors.0; later = later.0 }) later.1
+  at_end (record {
+    kind = disk_kinds.Ram;
+    name = name.0;
+    sector = sector.0;
+    sectors = sectors.0;
+    later =
+        later.0;
+  }) later.1
 
 abbrev pub disk_words : Words → Result DiskDecl Cause
 disk_words ws = do
@@ -52,7 +59,8 @@ empty_plan = record { disks = []; actors = []; commands = [] }
 -- a disk more, unless an earlier one has its name or sixteen are there
 abbrev pub disk_tests : Plan → DiskDecl → List (Bool × Cause)
 disk_tests plan d =
-    (list_any (λ x. same_name x.name d.name) plan.disks, causes.Twice) ∷ (nat_le 16 (length plan.disks), causes.Many) ∷ []
+    (list_any (λ x. same_name x.name d.name) plan.disks, causes.Twice)
+    ∷ (nat_le 16 (length plan.disks), causes.Many) ∷ []
 
 abbrev pub add_disk : Plan → DiskDecl → Result Plan Cause
 add_disk plan d = unless (first_error (disk_tests plan d)) (record plan { disks = plan.disks ++ d ∷ [] })

@@ -40,7 +40,8 @@ hex_value b = if is_digit b then b - 48 else (if nat_le 97 b && nat_le b 102 the
 -- a word `BB*N` as a run
 abbrev pub run_of : List ℕ → Option ByteRun
 run_of (high ∷ low ∷ star ∷ digits) =
-    if nat_lt (hex_value high) 16 && (nat_lt (hex_value low) 16 && ((star == 42) && (is_decimal digits && nat_le 1 (value_of digits))))
+    if nat_lt (hex_value high) 16
+    && (nat_lt (hex_value low) 16 && ((star == 42) && (is_decimal digits && nat_le 1 (value_of digits))))
     then Some (record { byte = 16 * hex_value high + hex_value low; times = value_of digits })
     else None
 run_of _ = None

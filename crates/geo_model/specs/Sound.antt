@@ -107,7 +107,8 @@ pub record IsHandleConsumer (w : World) (c : Consumer) : Type 0 where
 
 -- a reaped handle is dead; another one has a consumer of DEV
 abbrev pub HasItsConsumer : World → Handle → Type 0
-HasItsConsumer w h = MatchOption h.consumer (h.dead ≡ true) (λ c. IsSomeAnd (consumer_at w.topology c) (λ x. x.geom ≡ 1))
+HasItsConsumer w h =
+    MatchOption h.consumer (h.dead ≡ true) (λ c. IsSomeAnd (consumer_at w.topology c) (λ x. x.geom ≡ 1))
 
 -- the one consumer of TASTE is the taste's, attached to the tasted provider
 pub record IsTasting (t : Topology Config) (s : Taste) : Type 0 where
@@ -147,7 +148,8 @@ LeadsDown w p =
 
 -- Events and the taste
 
--- the reads made for the class asked are at most 33, at most 32 where one more is to come, and none where no class is asked
+-- the reads made for the class asked are at most 33, at most 32 where one more is to come, and none where no class is
+-- asked
 abbrev pub AreReadsInOrder : Asked → ℕ → Type 0
 AreReadsInOrder NoClass reads = reads ≡ 0
 AreReadsInOrder (NextSector kind sector) reads = reads < reads_limit
@@ -178,8 +180,8 @@ pub record IsPartOf (n : ℕ) (s : EbrPart) : Type 0 where
   pub some : 1 ≤ s.count
   pub inside : s.first + s.count ≤ n
 
--- the chain of a taste of a provider of n sectors, for which EBR is asked after so many reads: its links are the first of
--- a chain, and the next one isn't among them
+-- the chain of a taste of a provider of n sectors, for which EBR is asked after so many reads: its links are the
+-- first of a chain, and the next one isn't among them
 pub record ChainHolds (n : ℕ) (asked : Asked) (made : ℕ) (c : Chain) : Type 0 where
   pub reads : made ≡ length c.links + reads_out asked
   pub few : length c.links < link_limit
@@ -203,7 +205,8 @@ pub record IsTasteInOrder (w : World) (s : Taste) : Type 0 where
 
 pub record EventsHold (w : World) : Type 0 where
   pub living : All (λ e. IsSome (provider_at w.topology (provider_of_event e))) w.events
-  pub read_out : IsTrue (list_any (λ x. is_taste_root x.owner) w.bios) ↔ IsTrue (option_map_or (λ s. is_read_out s.asked) w.taste false)
+  pub read_out : IsTrue (list_any (λ x. is_taste_root x.owner) w.bios)
+      ↔ IsTrue (option_map_or (λ s. is_read_out s.asked) w.taste false)
   pub taste : IfSome w.taste (IsTasteInOrder w)
 
 -- all of it

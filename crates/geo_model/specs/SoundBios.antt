@@ -85,7 +85,8 @@ pub record IsFamilyInOrder (w : World) (x : Bio) : Type 0 where
 
 -- not both are Busy at one disk
 abbrev pub NotBothBusy : World → Bio → Bio → Type 0
-NotBothBusy w x y = IsTrue (is_busy x.phase) → IsTrue (is_busy y.phase) → (d : ℕ) → disk_of_bio w x ≡ Some d → disk_of_bio w y ≢ Some d
+NotBothBusy w x y = IsTrue (is_busy x.phase) → IsTrue (is_busy y.phase) → (d : ℕ) → disk_of_bio w x ≡ Some d
+    → disk_of_bio w y ≢ Some d
 
 pub record DisksHold (w : World) : Type 0 where
   pub at_disk : All (λ x. IsTrue (is_sent x.phase || is_busy x.phase) → IsSome (disk_of_bio w x)) w.bios

@@ -41,7 +41,8 @@ has_open_provider w g =
 abbrev pub HasItsComponents : World → Geom Config → Type 0
 HasItsComponents w g =
     (g.withering ≡ false) ⊎ IsTrue (has_open_provider w g)
-    → All (λ c. IsSomeAnd (consumer_at w.topology c) (λ x. (x.geom ≡ g.number) × IsSome x.provider)) (components g.config)
+    → All (λ c. IsSomeAnd (consumer_at w.topology c) (λ x. (x.geom ≡ g.number) × IsSome x.provider))
+    (components g.config)
 
 -- an assembly with a free place has no provider
 abbrev pub WaitsForPlaces : World → Geom Config → Type 0

@@ -59,7 +59,11 @@ is_ended t s = is_errored t s.provider || option_map_or (λ c. c.spoiled) (consu
 module _ (granted : ℕ → Counts) where
   -- the class that is asked is done with
   abbrev pub end_class : QueuedTopology Config → Taste → Judged → Judging
-  end_class q s judged = record { queued = q; taste = record s { asked = NoClass; reads = 0; chain = no_links }; judged = judged }
+  end_class q s judged = record {
+    queued = q;
+    taste = record s { asked = NoClass; reads = 0; chain = no_links };
+    judged = judged;
+  }
 
   -- the taste ends
   abbrev pub end_taste : QueuedTopology Config → Taste → Judging
@@ -75,8 +79,10 @@ module _ (granted : ℕ → Counts) where
   -- the verdict on a sector that was read
   abbrev pub follow : QueuedTopology Config → Taste → Provider → Kind → Verdict → Judging
   follow q s p kind (Decline cause) = end_class q s Next
-  follow q s p kind (More sector) = record { queued = q; taste = record s { asked = NextSector kind sector }; judged = Next }
-  follow q s p kind (Accept shape) = option_map_or (λ made. end_class made s Made) (accept q p shape) (end_class q s Next)
+  follow q s p kind (More sector) =
+      record { queued = q; taste = record s { asked = NextSector kind sector }; judged = Next }
+  follow q s p kind (Accept shape) =
+      option_map_or (λ made. end_class made s Made) (accept q p shape) (end_class q s Next)
 
   -- the taste, where EBR keeps the link that was read
   abbrev pub with_read : Taste → Kind → List ℕ → Facts → Taste
@@ -101,7 +107,8 @@ module _ (granted : ℕ → Counts) where
       let left : Taste = record s { classes = rest; asked = NoClass; reads = 0; chain = no_links } in
       if is_attached_class q.topology kind s.provider
       then end_class q left Next
-      else option_map_or (λ sector. read_sector q left kind sector) (taste_where kind (facts_of q.topology p)) (end_class q left Next)
+      else option_map_or (λ sector. read_sector q left kind sector) (taste_where kind (facts_of q.topology p))
+      (end_class q left Next)
 
   abbrev pub next_class : QueuedTopology Config → Taste → Provider → List Kind → Judging
   next_class q s p [] = end_taste q s

@@ -130,21 +130,44 @@ is_withering t g = list_any (λ x. (x.number == g) && x.withering) t.geoms
 -- with a new geom, of the next number (g_new_geomf)
 abbrev pub add_geom : {C : Type 0} → Topology C → Kind → List ℕ → C → Bool → Topology C
 add_geom t kind name config automatic = record t {
-  geoms = t.geoms ++ record { number = t.next_geom; kind = kind; name = name; config = config; automatic = automatic; withering = false; started = 0 } ∷ [];
+  geoms = t.geoms ++ record {
+    number = t.next_geom;
+    kind = kind;
+    name = name;
+    config = config;
+    automatic =
+        automatic;
+    withering = false;
+    started = 0;
+  } ∷ [];
   next_geom = t.next_geom + 1;
 }
 
 -- with a new provider, of the next number (g_new_providerf)
 abbrev pub add_provider : {C : Type 0} → Topology C → ℕ → List ℕ → ℕ → ℕ → Topology C
 add_provider t geom name size sector = record t {
-  providers = t.providers ++ record { number = t.next_provider; geom = geom; name = name; size = size; sector = sector; errored = false } ∷ [];
+  providers = t.providers ++ record {
+    number = t.next_provider;
+    geom = geom;
+    name = name;
+    size = size;
+    sector =
+        sector;
+    errored = false;
+  } ∷ [];
   next_provider = t.next_provider + 1;
 }
 
 -- with a new consumer, of the next number, attached to the provider where there is one (g_new_consumer, g_attach(9))
 abbrev pub add_consumer : {C : Type 0} → Topology C → ℕ → Option ℕ → Topology C
 add_consumer t geom provider = record t {
-  consumers = t.consumers ++ record { number = t.next_consumer; geom = geom; provider = provider; spoiled = false } ∷ [];
+  consumers = t.consumers ++ record {
+    number = t.next_consumer;
+    geom = geom;
+    provider = provider;
+    spoiled =
+        false;
+  } ∷ [];
   next_consumer = t.next_consumer + 1;
 }
 
@@ -162,7 +185,8 @@ remove_consumer t c = record t { consumers = filter (λ x. not (x.number == c)) 
 
 -- with the consumer attached to the provider (g_attach(9))
 abbrev pub attach : {C : Type 0} → Topology C → ℕ → ℕ → Topology C
-attach t c p = record t { consumers = change_where (λ x. x.number == c) (λ x. record x { provider = Some p }) t.consumers }
+attach t c p =
+    record t { consumers = change_where (λ x. x.number == c) (λ x. record x { provider = Some p }) t.consumers }
 
 -- with the consumer attached to nothing (g_detach(9))
 abbrev pub detach : {C : Type 0} → Topology C → ℕ → Topology C
@@ -170,11 +194,13 @@ detach t c = record t { consumers = change_where (λ x. x.number == c) (λ x. re
 
 -- with an error at the provider
 abbrev pub set_error : {C : Type 0} → Topology C → ℕ → Topology C
-set_error t p = record t { providers = change_where (λ x. x.number == p) (λ x. record x { errored = true }) t.providers }
+set_error t p =
+    record t { providers = change_where (λ x. x.number == p) (λ x. record x { errored = true }) t.providers }
 
 -- with another media size of the provider
 abbrev pub set_size : {C : Type 0} → Topology C → ℕ → ℕ → Topology C
-set_size t p size = record t { providers = change_where (λ x. x.number == p) (λ x. record x { size = size }) t.providers }
+set_size t p size =
+    record t { providers = change_where (λ x. x.number == p) (λ x. record x { size = size }) t.providers }
 
 -- with the geom withering (g_wither_geom(9))
 abbrev pub set_withering : {C : Type 0} → Topology C → ℕ → Topology C
@@ -186,8 +212,10 @@ set_marks t test mark = record t { consumers = change_where test (λ x. record x
 
 -- with another configuration of the geom
 abbrev pub set_config : {C : Type 0} → Topology C → ℕ → C → Topology C
-set_config t g config = record t { geoms = change_where (λ x. x.number == g) (λ x. record x { config = config }) t.geoms }
+set_config t g config =
+    record t { geoms = change_where (λ x. x.number == g) (λ x. record x { config = config }) t.geoms }
 
 -- with one more started request at the geom
 abbrev pub note_started : {C : Type 0} → Topology C → ℕ → Topology C
-note_started t g = record t { geoms = change_where (λ x. x.number == g) (λ x. record x { started = x.started + 1 }) t.geoms }
+note_started t g =
+    record t { geoms = change_where (λ x. x.number == g) (λ x. record x { started = x.started + 1 }) t.geoms }

@@ -46,7 +46,8 @@ pub record Handle : Type 0 where
   pub grant : Counts
   pub dead : Bool
 
--- a request on its way (g_bio(9)), with results of a type R; offset and len are in bytes, and bytes are those of a WRITE
+-- a request on its way (g_bio(9)), with results of a type R; offset and len are in bytes, and bytes are those of a
+-- WRITE
 pub record BioOf (R : Type 0) : Type 0 where
   pub number : ℕ
   pub cmd : BioCmd

@@ -12,8 +12,8 @@ pub enum DiskKind {
     Shelf,
 }
 
-/// A disk of the header: its sector size in bytes, its sectors (0 for a disk of the shelf), and whether it stands only once
-/// it is inserted.
+/// A disk of the header: its sector size in bytes, its sectors (0 for a disk of the shelf), and whether it stands
+/// only once it is inserted.
 #[derive(Clone, Copy, Debug)]
 pub struct DiskDecl {
     pub kind: DiskKind,

@@ -25,8 +25,8 @@ pub fn pieces_are_placed()
     ensures follow { PiecesFollow }
 {}
 
-/// A Deliver, and a close that is answered ok, spend a place of the log that was owed, so none of them is ever refused for
-/// want of a place.
+/// A Deliver, and a close that is answered ok, spend a place of the log that was owed, so none of them is ever
+/// refused for want of a place.
 pub fn owed_places_are_kept()
     ensures delivers { DeliversAreNeverFull }
     ensures closes { ClosesAreNeverFull }

@@ -19,7 +19,8 @@ with_name v name = record v { rows = v.rows ++ (v.next, name) ∷ []; next = v.n
 
 -- the least number of a name that isn't below a number
 abbrev pub first_named : List (ℕ × List ℕ) → List ℕ → ℕ → Option ℕ
-first_named rows name from_number = option_map (λ row. row.0) (find (λ row. nat_le from_number row.0 && same_name row.1 name) rows)
+first_named rows name from_number =
+    option_map (λ row. row.0) (find (λ row. nat_le from_number row.0 && same_name row.1 name) rows)
 
 -- the greatest number of a name
 abbrev pub last_named : List (ℕ × List ℕ) → List ℕ → Option ℕ

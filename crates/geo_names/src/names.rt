@@ -12,8 +12,8 @@ use std::alloc::Global;
 use std::collections::HashMap;
 use std::marker::Model;
 
-/// What is kept of names: the id of each name that is in use, the name of each id, and the numbers under the ids of their
-/// names.
+/// What is kept of names: the id of each name that is in use, the name of each id, and the numbers under the ids of
+/// their names.
 #[derive(Drop)]
 pub struct Inside {
     pub ids: HashMap<Key, u64>,
@@ -23,8 +23,8 @@ pub struct Inside {
 
 /// Numbers that count from 1 and aren't used again, each with a name; many may have one name.
 ///
-/// Contracts see the rows, each a number with its name, in rising order of the numbers, beside the next number and for how
-/// many more memory is kept.
+/// Contracts see the rows, each a number with its name, in rising order of the numbers, beside the next number and
+/// for how many more memory is kept.
 #[derive(Drop)]
 pub struct Names {
     inside: Inside,

@@ -43,11 +43,14 @@ pub trait AddressMap {
     fn split(&self, alloc: Global, span: Span) -> Result<PieceList, NoMemory>
         requires some_byte { 0 < span.len }
         requires inside { span.offset + span.len ≤ media self.now }
-        ensures { IfOk result (λ list. list.items ≡ cut span.offset span.len (stretches self.now span.offset span.len)) };
+        ensures { IfOk result (λ list. list.items
+            ≡ cut span.offset span.len (stretches self.now span.offset span.len)) };
 
     // The pieces follow each other from the beginning of the range to its end.
-    ghost pieces_follow: { (m : Self) (o len : ℕ) → 0 < len → o + len ≤ media m → Follow 0 len (cut o len (stretches m o len)) };
+    ghost pieces_follow: { (m : Self) (o len : ℕ) → 0 < len → o + len ≤ media m
+        → Follow 0 len (cut o len (stretches m o len)) };
 
     // Each byte of each piece lies where the map says.
-    ghost pieces_are_placed: { (m : Self) (o len : ℕ) → AllByRecursion (PieceIsPlaced (spot m) o) (cut o len (stretches m o len)) };
+    ghost pieces_are_placed: { (m : Self) (o len : ℕ)
+        → AllByRecursion (PieceIsPlaced (spot m) o) (cut o len (stretches m o len)) };
 }

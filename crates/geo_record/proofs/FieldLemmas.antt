@@ -4,6 +4,7 @@ use Rattle.std.proofs.lemmas.List.{append-nil, take_at, drop_at, drop_all, drop-
 use Rattle.std.specs.Int.{w16, w32, w64, from_le_bytes}
 use Rattle.byteorder.specs.Endian.{little_number}
 use Rattle.geo_model.specs.Records.{padded}
+use Rattle.geo_model.proofs.RecordLemmas.{length-padded}
 
 -- the number in the first bytes, by its two spellings
 pub little-u16 : (xs : List ℕ) → little_number 2 xs ≡ from_le_bytes w16 (take 2 xs)
@@ -29,16 +30,12 @@ little-u64 (a ∷ b ∷ c ∷ d ∷ e ∷ f ∷ []) = omega arith
 little-u64 (a ∷ b ∷ c ∷ d ∷ e ∷ f ∷ g ∷ []) = omega arith
 little-u64 (a ∷ b ∷ c ∷ d ∷ e ∷ f ∷ g ∷ h ∷ xs) = omega arith
 
--- what stands in front of the zeros, how many zeros there are, and how long it is in all
+-- what stands in front of the zeros, and how many zeros there are
 pub take-padded : (n k : ℕ) (front : List ℕ) → length front ≡ k → take k (padded n front) ≡ front
 take-padded n k front size = take_at front (replicate (n - length front) 0) k size
 
 pub drop-padded : (n k : ℕ) (front : List ℕ) → length front ≡ k → drop k (padded n front) ≡ replicate (n - k) 0
 drop-padded n k front size = drop_at front (replicate (n - length front) 0) k size ∙ ap (λ m. replicate (n - m) 0) size
-
-pub length-padded : (n : ℕ) (front : List ℕ) → length front ≤ n → length (padded n front) ≡ n
-length-padded n front fits =
-    omega (arith, length-append front (replicate (n - length front) 0), length-replicate {A = ℕ} (n - length front) 0)
 
 -- bytes written over the zeros behind the first k
 pub put-zeros : (xs bytes : List ℕ) (k m : ℕ) → length bytes ≡ m → k + m ≤ length xs

@@ -1,25 +1,16 @@
 -- Names in a field, with zeros behind them.
 use Rattle.std.proofs.Common.{◌≡◌, ℕ, zero, suc, ◌-◌, ◌≤◌, Bool, true, false, ◌&&◌, not, List, [], ◌∷◌, ◌++◌, length, take, drop, replicate, refl, sym, ap, ◌∙◌, arith, length-drop, length-take-le, take-append-drop, Some, None, inl, inr}
-use Rattle.std.proofs.lemmas.Bool.{eqb-true, leb-true, le-leb, cases_Bool}
+use Rattle.std.proofs.lemmas.Bool.{eqb-true, leb-true, cases_Bool, and_parts}
 use Rattle.std.proofs.lemmas.Slice.Eq.{bytes_eq-Decides}
 use Rattle.std.proofs.lemmas.List.Sums.{prefix_len-le-length}
 use Rattle.std.specs.Prelude.{◌==◌, nat_le, if◌then◌else◌, bytes_eq}
 use Rattle.std.specs.List.{list_all, prefix_len}
-use Rattle.geo_base.specs.Name.{is_word_byte, is_name_byte, is_short_name, is_name, name_of}
+use Rattle.std.proofs.Math.Bool.{and-false}
+use Rattle.geo_base.proofs.Tests.{same_tests, short_name-named}
+use Rattle.geo_base.specs.Name.{is_word_byte, is_short_name, is_name, name_of}
 use Rattle.geo_model.specs.Records.{padded}
 use Rattle.geo_record.specs.Head.{padded_name}
 use Rattle.geo_record.proofs.FieldLemmas.{drop-padded}
-
--- both tests pass
-pub both : (a b : Bool) → (a && b) ≡ true → (a ≡ true) × (b ≡ true)
-both true b e = (refl, e)
-both false b e = let no : ⊥ = cc in absurd no
-
--- two tests that pass together are the same
-same_test : (a b : Bool) → (a ≡ true → b ≡ true) → (b ≡ true → a ≡ true) → a ≡ b
-same_test true b there back = sym (there refl)
-same_test false true there back = back refl
-same_test false false there back = refl
 
 list_all-zeros : (n : ℕ) → list_all (λ b. b == 0) (replicate n 0) ≡ true
 list_all-zeros zero = refl
@@ -28,7 +19,7 @@ list_all-zeros (suc n) = list_all-zeros n
 replicate-from_zeros : (xs : List ℕ) → list_all (λ b. b == 0) xs ≡ true → xs ≡ replicate (length xs) 0
 replicate-from_zeros [] zeros = refl
 replicate-from_zeros (x ∷ xs) zeros =
-    let parts = both (x == 0) (list_all (λ b. b == 0) xs) zeros in
+    let parts = and_parts (x == 0) (list_all (λ b. b == 0) xs) zeros in
     let first : x ≡ 0 = eqb-true x 0 parts.0 in
     let rest : xs ≡ replicate (length xs) 0 = replicate-from_zeros xs parts.1 in
     ap (λ y. y ∷ xs) first ∙ ap (λ ys. 0 ∷ ys) rest
@@ -39,7 +30,7 @@ bytes_eq-padded : (field : List ℕ) (len : ℕ) → length field ≡ 16 → len
 bytes_eq-padded field len size short =
     let taken : length (take len field) ≡ len = length-take-le len field (omega (arith, size, short)) in
     let left : length (drop len field) ≡ 16 - len = omega (arith, length-drop len field, size) in
-    same_test (bytes_eq field (padded 16 (take len field))) (list_all (λ b. b == 0) (drop len field))
+    same_tests (bytes_eq field (padded 16 (take len field))) (list_all (λ b. b == 0) (drop len field))
     (λ same.
     let whole : field ≡ padded 16 (take len field) = (bytes_eq-Decides field (padded 16 (take len field))).0 same in
     let rest : drop len field ≡ replicate (16 - len) 0 = ap (drop len) whole
@@ -52,13 +43,6 @@ bytes_eq-padded field len size short =
     ∙ ap (λ ys. take len field ++ ys) rest in
     (bytes_eq-Decides field (padded 16 (take len field))).1 whole)
 
-list_all-word_bytes : (bytes : List ℕ) → list_all is_word_byte bytes ≡ true → list_all is_name_byte bytes ≡ true
-list_all-word_bytes [] words = refl
-list_all-word_bytes (b ∷ bytes) words =
-    let parts = both (is_word_byte b) (list_all is_word_byte bytes) words in
-    let first : is_name_byte b ≡ true = rw parts.0 refl in
-    rw (first, list_all-word_bytes bytes parts.1) refl
-
 -- what a short name is
 pub record ShortName (bytes : List ℕ) : Type 0 where
   pub few : length bytes ≤ 16
@@ -67,18 +51,14 @@ pub record ShortName (bytes : List ℕ) : Type 0 where
 
 pub short_name : (bytes : List ℕ) → is_short_name bytes ≡ true → ShortName bytes
 short_name bytes short =
-    let outer = both (nat_le 1 (length bytes) && nat_le (length bytes) 16) (list_all is_word_byte bytes) short in
-    let inner = both (nat_le 1 (length bytes)) (nat_le (length bytes) 16) outer.0 in
+    let outer = and_parts (nat_le 1 (length bytes) && nat_le (length bytes) 16) (list_all is_word_byte bytes) short in
+    let inner = and_parts (nat_le 1 (length bytes)) (nat_le (length bytes) 16) outer.0 in
     let few : length bytes ≤ 16 = leb-true (length bytes) 16 inner.1 in
     record {
       few = few;
       words = outer.1;
-      named = rw (inner.0, le-leb (length bytes) 63 (omega (arith, few)), list_all-word_bytes bytes outer.1) refl;
+      named = short_name-named bytes short;
     }
-
-and_false : (a : Bool) → (a && false) ≡ false
-and_false true = refl
-and_false false = refl
 
 -- a name that was made has the bytes that it was made of
 name_of-when : (bytes name : List ℕ) (b : Bool) → is_name bytes ≡ b → name_of bytes ≡ Some name → bytes ≡ name
@@ -102,7 +82,7 @@ module _ (field : List ℕ) (len : ℕ) (size : length field ≡ 16) (before : l
 
     -- another byte than zero stands behind it
     pub padded_name-rest : list_all (λ b. b == 0) (drop len field) ≡ false → padded_name field ≡ None
-    padded_name-rest rest = padded_name-is ∙ (rw (rest, and_false (is_short_name (take len field))) refl)
+    padded_name-rest rest = padded_name-is ∙ (rw (rest, and-false (is_short_name (take len field))) refl)
 
     -- it isn't a short name
     pub padded_name-not_short : is_short_name (take len field) ≡ false → padded_name field ≡ None

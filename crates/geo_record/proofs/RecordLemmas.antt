@@ -1,6 +1,6 @@
 -- What is read in a sector that holds a record.
-use Rattle.std.proofs.Common.{◌≡◌, ℕ, zero, suc, ◌+◌, ◌-◌, ◌<◌, ◌≤◌, ◌^◌, true, not, List, [], ◌∷◌, ◌++◌, length, take, drop, replicate, refl, sym, ap, ◌∙◌, arith, append_assoc, length-append, None, inl, inr}
-use Rattle.std.proofs.lemmas.Bool.{eqb-true, le-leb, cases_Bool}
+use Rattle.std.proofs.Common.{◌≡◌, ℕ, zero, suc, ◌+◌, ◌-◌, ◌<◌, ◌≤◌, ◌^◌, true, not, List, [], ◌∷◌, ◌++◌, length, take, drop, replicate, refl, sym, ap, ◌∙◌, arith, append_assoc, length-append, None}
+use Rattle.std.proofs.lemmas.Bool.{le-leb, and_parts}
 use Rattle.std.proofs.lemmas.List.{take_at, drop_at, drop-drop}
 use Rattle.std.proofs.lemmas.List.Sums.{take_while-cons}
 use Rattle.std.proofs.lemmas.Nat.{from_le_bytes-to_le_bytes_2, from_le_bytes-to_le_bytes_4, from_le_bytes-to_le_bytes_8}
@@ -8,20 +8,13 @@ use Rattle.std.proofs.lemmas.Slice.Eq.{bytes_eq-Decides}
 use Rattle.std.specs.Prelude.{◌==◌, bytes_eq, take_while}
 use Rattle.std.specs.List.{list_all}
 use Rattle.std.specs.Int.{w16, w32, w64, to_le_bytes, from_le_bytes}
+use Rattle.geo_base.proofs.Tests.{word_byte-not_zero}
 use Rattle.geo_base.specs.Name.{is_word_byte, is_short_name}
 use Rattle.geo_model.specs.Words.{first_error}
+use Rattle.geo_model.proofs.RecordLemmas.{length-padded}
 use Rattle.geo_model.specs.Records.{padded, record_head, record_name, head_tests, u16_at, u32_at, u64_at}
-use Rattle.geo_record.proofs.FieldLemmas.{length-padded, holds_first, holds-behind}
-use Rattle.geo_record.proofs.NameLemmas.{both, short_name}
-
--- a byte of a name isn't zero
-word_byte-nonzero : (b : ℕ) → is_word_byte b ≡ true → not (b == 0) ≡ true
-word_byte-nonzero b word = elim (cases_Bool (b == 0)) [
-  | inl at_zero ↦
-      let word_zero : is_word_byte 0 ≡ true = rw (eqb-true b 0 at_zero) at word in
-      let no : ⊥ = cc in absurd no
-  | inr other ↦ rw other refl
-]
+use Rattle.geo_record.proofs.FieldLemmas.{holds_first, holds-behind}
+use Rattle.geo_record.proofs.NameLemmas.{short_name}
 
 -- a name ends where zeros begin
 take_while-name : (name : List ℕ) (n : ℕ) → list_all is_word_byte name ≡ true
@@ -29,9 +22,9 @@ take_while-name : (name : List ℕ) (n : ℕ) → list_all is_word_byte name ≡
 take_while-name [] zero words = refl
 take_while-name [] (suc n) words = take_while-cons (λ b. not (b == 0)) 0 (replicate n 0)
 take_while-name (b ∷ name) n words =
-    let parts = both (is_word_byte b) (list_all is_word_byte name) words in
+    let parts = and_parts (is_word_byte b) (list_all is_word_byte name) words in
     take_while-cons (λ b. not (b == 0)) b (name ++ replicate n 0)
-    ∙ rw (word_byte-nonzero b parts.0, take_while-name name n parts.1) refl
+    ∙ rw (word_byte-not_zero b parts.0, take_while-name name n parts.1) refl
 
 -- parts one behind the other
 layout : (a b c d e : List ℕ) → ((a ++ (b ++ c)) ++ d) ++ e ≡ a ++ (b ++ (c ++ (d ++ e)))

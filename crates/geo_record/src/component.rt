@@ -17,7 +17,9 @@ pub fn is_place(place: u16, count: u16) -> bool
 pub fn put_component(sector: &mut [u8], id: u32, place: u16, count: u16)
     requires room { 44 ≤ length sector.old }
     requires free { drop 36 sector.old ≡ replicate (length sector.old - 36) 0 }
-    ensures { sector.new ≡ padded (length sector.old) (take 36 sector.old ++ (to_le_bytes w32 id ++ (to_le_bytes w16 place ++ to_le_bytes w16 count))) }
+    ensures { sector.new
+        ≡ padded (length sector.old) (take 36 sector.old
+        ++ (to_le_bytes w32 id ++ (to_le_bytes w16 place ++ to_le_bytes w16 count))) }
 {
     put_u32(sector, 36, id);
     put_u16(sector, 40, place);

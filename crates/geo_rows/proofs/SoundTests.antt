@@ -6,15 +6,16 @@ use Rattle.std.specs.List.Sorted.{IsStrictlyIncreasing}
 use Rattle.std.specs.Option.{option_map_or}
 use Rattle.std.proofs.Common.{refl, arith, sym, ap, subst, ◌∙◌}
 use Rattle.std.proofs.Common.{get_or, inl, inr}
-use Rattle.std.proofs.lemmas.Bool.{true≢false, and_parts}
+use Rattle.std.proofs.lemmas.Bool.{true≢false, and_parts, and_from}
 use Rattle.std.proofs.lemmas.List.Sums.{list_all-from_AllPass}
 use Rattle.std.proofs.lemmas.List.FromFn.{length-range_with_len, get_or-range_with_len}
 use Rattle.std.proofs.Math.Nat.{div-zero, le-div_iff_mul-le, suc-mul}
 use Rattle.std.proofs.lemmas.Bool.Decides.{Decides-and, Decides-not, Decides-like, Decides-eqb, Decides-ltb}
 use Rattle.std.proofs.lemmas.List.Kept.{AllPairs-from_increasing}
 use Rattle.std.proofs.lemmas.Slice.Eq.{bytes_eq-Decides}
+use Rattle.std.proofs.lemmas.Option.{same_Some}
 use Rattle.geo_rows.proofs.TestFacts.{always, itself, at_most, under, each, if_there, there_and, pairs}
-use Rattle.geo_rows.proofs.SteadyTests.{untrue, bare, named, some_inner}
+use Rattle.geo_rows.proofs.SteadyTests.{untrue, bare, named}
 use Rattle.geo_rows.proofs.FittingTests.{kind_is, no_kind, media_size}
 use Rattle.geo_base.specs.declared.kind.Kind.{Kind}
 use Rattle.geo_base.specs.declared.kind.Kind.TheVariants as kinds
@@ -68,7 +69,7 @@ both_ways false false = (λ e. (λ h. h, λ h. h), λ h. refl)
 -- a fact of a number that is named
 of_named : (o : Option ℕ) (test : ℕ → Bool) (P : ℕ → Type 0) → ((d : ℕ) → Decides (test d) (P d)) → Decides (none_or o test) ((d : ℕ) → o ≡ Some d → P d)
 of_named None test P one = (λ e d no. absurd (true≢false (ap (λ o. is_some o) (sym no))), λ h. refl)
-of_named (Some x) test P one = (λ e d told. subst P (some_inner x d told) ((one x).0 e), λ h. (one x).1 (h x refl))
+of_named (Some x) test P one = (λ e d told. subst P (same_Some x d told) ((one x).0 e), λ h. (one x).1 (h x refl))
 
 -- Ranks and counts
 
@@ -525,10 +526,6 @@ all_lead : (w : World) (ps : List Provider) → All (LeadsDown w) ps → list_al
 all_lead w ps h =
     list_all-from_AllPass (leads_down w) ps (λ i d lt. let one = h i d lt in leads_there w (get_or ps i d) (geom_at w.topology (get_or ps i d).geom) one)
 
--- both tests
-and_both : {a b : Bool} → a ≡ true → b ≡ true → (a && b) ≡ true
-and_both {a} {b} e f = (Decides-and a b (itself a) (itself b)).1 (e, f)
-
 -- All of it
 
 pub sound_tested : TestsSound
@@ -567,14 +564,14 @@ sound_tested w =
             events = d10.0 h10.0;
           },
       λ h.
-          and_both (d1.1 h.ranks)
-          (and_both (d2.1 h.counts)
-          (and_both (d3.1 h.providers)
-          (and_both (d4.1 h.numbers)
-          (and_both (d5.1 h.handles)
-          (and_both (all_lead w w.topology.providers h.places)
-          (and_both (d7.1 h.bios)
-          (and_both (d8.1 h.families)
-          (and_both (d9.1 h.disks)
-          (and_both (d10.1 h.events) refl))))))))),
+          and_from _ _ (d1.1 h.ranks)
+          (and_from _ _ (d2.1 h.counts)
+          (and_from _ _ (d3.1 h.providers)
+          (and_from _ _ (d4.1 h.numbers)
+          (and_from _ _ (d5.1 h.handles)
+          (and_from _ _ (all_lead w w.topology.providers h.places)
+          (and_from _ _ (d7.1 h.bios)
+          (and_from _ _ (d8.1 h.families)
+          (and_from _ _ (d9.1 h.disks)
+          (and_from _ _ (d10.1 h.events) refl))))))))),
     )

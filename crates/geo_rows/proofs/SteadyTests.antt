@@ -4,6 +4,7 @@ use Rattle.std.specs.Bool.{Decides}
 use Rattle.std.proofs.Common.{refl, arith, sym, ap}
 use Rattle.std.proofs.lemmas.Bool.{true≢false, eqb-true}
 use Rattle.std.proofs.lemmas.Bool.Decides.{Decides-and, Decides-or, Decides-like, Decides-eqb, Decides-ltb}
+use Rattle.std.proofs.lemmas.Option.{same_Some}
 use Rattle.geo_rows.proofs.TestFacts.{always, itself, under, each, there_and}
 use Rattle.geo_model.specs.declared.step.BioResult.{BioResult}
 use Rattle.geo_model.specs.declared.step.BioResult.TheVariants as results
@@ -30,18 +31,10 @@ bare (x ∷ xs) = (
 )
 
 -- a number that is named
-pub some_inner : (m n : ℕ) → Some m ≡ Some n → m ≡ n
-some_inner m n e = ap (λ o. inner o) e
-  where
-    inner : Option ℕ → ℕ
-    inner None = 0
-    inner (Some k) = k
-
--- a number that is named
 pub named : (o : Option ℕ) (n : ℕ) → Decides (names_number o n) (o ≡ Some n)
 named None n = (λ e. absurd (true≢false (sym e)), λ e. absurd (true≢false (ap (λ o. is_some o) (sym e))))
 named (Some m) n =
-    (λ e. ap (λ k. Some k) (eqb-true m n e), λ e. (Decides-eqb m n).1 (some_inner m n e))
+    (λ e. ap (λ k. Some k) (eqb-true m n e), λ e. (Decides-eqb m n).1 (same_Some m n e))
 
 -- DEV and TASTE aren't automatic
 made : (t : Topology Config) → Decides (are_made t) (AreMade t)

@@ -1,11 +1,12 @@
 -- Tests that decide a fact, put together.
-use Rattle.std.specs.Prelude.{ℕ, suc, ◌≤◌, nat_le, Bool, true, false, not, ◌&&◌, ◌||◌, List, [], ◌∷◌, Option, Some, None, IsSomeAnd, IfSome, IsTrue, All, AllPairs, ⊤}
+use Rattle.std.specs.Prelude.{ℕ, ◌≤◌, nat_le, Bool, true, false, not, ◌&&◌, ◌||◌, List, [], ◌∷◌, Option, Some, None, IsSomeAnd, IfSome, IsTrue, All, AllPairs, ⊤}
 use Rattle.std.specs.Bool.{Decides}
 use Rattle.std.specs.List.{list_all, AllZip}
 use Rattle.std.proofs.Common.{refl, arith, sym}
 use Rattle.std.proofs.lemmas.Bool.{true≢false, leb-true, le-leb}
 use Rattle.std.proofs.lemmas.Bool.Decides.{Decides-and, Decides-like, Decides-by_and}
 use Rattle.std.proofs.lemmas.List.Kept.{AllPairs-cons}
+use Rattle.geo_base.proofs.Tests.{pairs_head, pairs_tail}
 use Rattle.geo_rows.specs.WorkedSound.{some_and, none_or, all_pairs}
 use Rattle.geo_rows.specs.WorkedFitting.{all_beside}
 
@@ -47,21 +48,13 @@ beside test P one [] (y ∷ ys) = (λ e. absurd (true≢false (sym e)), λ h. ab
 beside test P one (x ∷ xs) [] = (λ e. absurd (true≢false (sym e)), λ h. absurd h)
 beside test P one (x ∷ xs) (y ∷ ys) = Decides-and (test x y) (all_beside test xs ys) (one x y) (beside test P one xs ys)
 
--- the first with each later one, and the later ones among themselves
-first_of : {A : Type 0} → (P : A → A → Type 0) (x : A) (xs : List A) → AllPairs P (x ∷ xs) → All (P x) xs
-first_of P x xs h = λ k d lt. h 0 (suc k) d (omega arith) (omega arith)
-
--- the later ones among themselves
-later_of : {A : Type 0} → (P : A → A → Type 0) (x : A) (xs : List A) → AllPairs P (x ∷ xs) → AllPairs P xs
-later_of P x xs h = λ i j d lt below. h (suc i) (suc j) d (omega arith) (omega arith)
-
 -- a fact of each two items, in order
 pub pairs : {A : Type 0} → (test : A → A → Bool) → (P : A → A → Type 0) → ((x y : A) → Decides (test x y) (P x y)) → (xs : List A) → Decides (all_pairs test xs) (AllPairs P xs)
 pairs test P one [] = (λ e i j d lt below. absurd (omega arith), λ h. refl)
 pairs test P one (x ∷ xs) =
     Decides-like (list_all (test x) xs && all_pairs test xs)
     (λ h. AllPairs-cons P x xs h.0 h.1)
-    (λ h. (first_of P x xs h, later_of P x xs h))
+    (λ h. (pairs_head P x xs h, pairs_tail P x xs h))
     (Decides-and (list_all (test x) xs) (all_pairs test xs) (each (test x) (P x) (one x) xs) (pairs test P one xs))
 
 -- three facts, and four

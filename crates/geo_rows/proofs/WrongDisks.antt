@@ -1,8 +1,9 @@
 -- The programs that do wrong with disks are refused.
-use Rattle.std.specs.Prelude.{◌≡◌, ◌≢◌, ℕ, true, false, Bool, ◌&&◌, List, [], ◌∷◌, ◌++◌, find, None, IsSome, IsSomeAnd, All, codes, refl}
+use Rattle.std.specs.Prelude.{◌≡◌, ◌≢◌, ℕ, ◌&&◌, List, [], ◌∷◌, ◌++◌, find, None, IsSome, IsSomeAnd, All, codes, refl}
 use Rattle.std.specs.List.{list_any}
 use Rattle.std.proofs.Common.{sym, ◌∙◌, subst, arith}
 use Rattle.std.proofs.lemmas.List.{append_cancel_left, append_cancel_right}
+use Rattle.std.proofs.Math.Bool.{and-false}
 use Rattle.geo_base.specs.Faults.{Rose}
 use Rattle.geo_model.specs.declared.command.DiskDecl.{DiskDecl}
 use Rattle.geo_model.specs.World.{Plan}
@@ -27,13 +28,9 @@ drops_disk-refused call mode plan ending wrong kept =
     wrong.not_given (subst P wrong.kept.2 (kept.lent.gives wrong.kept.0 wrong.name wrong.kept.1))
 
 -- where nothing was kept back there is no first disk that was
-none_among : (b : Bool) → (b && false) ≡ false
-none_among true = refl
-none_among false = refl
-
 no_first : (disks : List DiskDecl) → find (λ d. is_shelf d.kind && list_any (same_name d.name) []) disks ≡ None
 no_first [] = refl
-no_first (d ∷ disks) = rw (none_among (is_shelf d.kind)) (no_first disks)
+no_first (d ∷ disks) = rw (and-false (is_shelf d.kind)) (no_first disks)
 
 other_letter : (a b : ℕ) (x y : List ℕ) → a ∷ x ≡ b ∷ y → a ≢ b → ⊥
 other_letter a b x y e differ = let same : a ≡ b = cc in differ same

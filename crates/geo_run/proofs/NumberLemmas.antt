@@ -1,14 +1,15 @@
 -- Names and numbers.
-use Rattle.std.proofs.Common.{◌≡◌, ℕ, zero, suc, ◌+◌, ◌-◌, ◌*◌, ◌^◌, ◌<◌, ◌≤◌, Bool, true, false, List, [], ◌∷◌, length, Some, None, refl, sym, ◌∙◌, ap, arith, get_or, take, fold, ◌&&◌, ◌||◌, ◌==◌, nat_lt, nat_le, if◌then◌else◌}
-use Rattle.std.specs.List.{list_all}
+use Rattle.std.proofs.Common.{◌≡◌, ℕ, zero, suc, ◌+◌, ◌-◌, ◌*◌, ◌^◌, ◌<◌, ◌≤◌, Bool, true, false, List, [], ◌∷◌, length, Some, None, refl, sym, ◌∙◌, ap, arith, get_or, take, fold, ◌&&◌, nat_lt, if◌then◌else◌}
 use Rattle.std.proofs.lemmas.List.{take_all}
 use Rattle.std.proofs.lemmas.List.Sums.{fold_more}
 use Rattle.std.proofs.lemmas.Bool.Decides.{nat_tests}
-use Rattle.geo_base.specs.Name.{is_name, is_short_name, is_name_byte, is_word_byte, name_of}
+use Rattle.geo_base.proofs.Tests.{short_name-named}
+use Rattle.geo_base.specs.Name.{is_short_name, name_of}
 use Rattle.geo_run.specs.Words.{is_decimal, value_of, number_of, short_name_of}
 
 -- one digit more
-pub value_of_more : (xs : List ℕ) (i : ℕ) → i < length xs → value_of (take (i + 1) xs) ≡ value_of (take i xs) * 10 + (get_or xs i 0 - 48)
+pub value_of_more : (xs : List ℕ) (i : ℕ) → i < length xs
+    → value_of (take (i + 1) xs) ≡ value_of (take i xs) * 10 + (get_or xs i 0 - 48)
 unfolding value_of
 value_of_more xs i h = fold_more (λ n b. n * 10 + (b - 48)) 0 xs i 0 h
 
@@ -17,7 +18,8 @@ fold_grows : (n : ℕ) (xs : List ℕ) → n ≤ fold (λ n b. n * 10 + (b - 48)
 fold_grows n [] = omega arith
 fold_grows n (x ∷ xs) = omega (arith, fold_grows (n * 10 + (x - 48)) xs)
 
-fold_front : (n : ℕ) (i : ℕ) (xs : List ℕ) → fold (λ n b. n * 10 + (b - 48)) n (take i xs) ≤ fold (λ n b. n * 10 + (b - 48)) n xs
+fold_front : (n : ℕ) (i : ℕ) (xs : List ℕ)
+    → fold (λ n b. n * 10 + (b - 48)) n (take i xs) ≤ fold (λ n b. n * 10 + (b - 48)) n xs
 fold_front n zero xs = fold_grows n xs
 fold_front n (suc i) [] = omega arith
 fold_front n (suc i) (x ∷ xs) = fold_front (n * 10 + (x - 48)) i xs
@@ -33,12 +35,14 @@ number_of_large xs i h =
     let large : 2 ^ 64 ≤ value_of xs = omega (arith, value_of_front xs i) in
     large_none (is_decimal xs) large
   where
-    large_none : (t : Bool) → 2 ^ 64 ≤ value_of xs → (if t && nat_lt (value_of xs) (2 ^ 64) then Some (value_of xs) else None) ≡ None
+    large_none : (t : Bool) → 2 ^ 64 ≤ value_of xs
+        → (if t && nat_lt (value_of xs) (2 ^ 64) then Some (value_of xs) else None) ≡ None
     large_none true h = let test : nat_lt (value_of xs) (2 ^ 64) ≡ false = grind (arith, nat_tests) in rw test refl
     large_none false h = refl
 
 -- digits that are decimal, and of a number that fits
-pub number_of_small : (xs : List ℕ) (i n : ℕ) → is_decimal xs ≡ true → length xs ≤ i → n ≡ value_of (take i xs) → n < 2 ^ 64 → number_of xs ≡ Some n
+pub number_of_small : (xs : List ℕ) (i n : ℕ) → is_decimal xs ≡ true → length xs ≤ i → n ≡ value_of (take i xs)
+    → n < 2 ^ 64 → number_of xs ≡ Some n
 unfolding number_of
 number_of_small xs i n d h e small =
     let whole : take i xs ≡ xs = take_all i xs h in
@@ -55,29 +59,10 @@ unfolding value_of
 value_of_none = refl
 
 -- bytes that aren't a name aren't a short one
-word_bytes_are_name_bytes : (xs : List ℕ) → list_all is_word_byte xs ≡ true → list_all is_name_byte xs ≡ true
-word_bytes_are_name_bytes [] h = refl
-word_bytes_are_name_bytes (x ∷ xs) h = joined (is_word_byte x) (x == 46) (x == 47) (λ k. word_bytes_are_name_bytes xs k) h
-  where
-    joined : (t a b : Bool) → (list_all is_word_byte xs ≡ true → list_all is_name_byte xs ≡ true) → (t && list_all is_word_byte xs) ≡ true → ((t || a || b) && list_all is_name_byte xs) ≡ true
-    joined true a b rest k = rest k
-    joined false a b rest k = cc
-
--- a short name is a name
-is_name_short : (xs : List ℕ) → is_short_name xs ≡ true → is_name xs ≡ true
-is_name_short xs h = parts (nat_le 1 (length xs)) (nat_le (length xs) 16) refl h
-  where
-    parts : (s t : Bool) → nat_le (length xs) 16 ≡ t → (s && t && list_all is_word_byte xs) ≡ true → (s && nat_le (length xs) 63 && list_all is_name_byte xs) ≡ true
-    parts true true e k =
-        let fits : nat_le (length xs) 63 ≡ true = grind (arith, nat_tests) in
-        rw (fits, word_bytes_are_name_bytes xs k) refl
-    parts true false e k = cc
-    parts false t e k = cc
-
 pub short_name_of_none : (xs : List ℕ) → name_of xs ≡ None → short_name_of xs ≡ None
 unfolding short_name_of
 short_name_of_none xs h = tested (is_short_name xs) refl
   where
     tested : (t : Bool) → is_short_name xs ≡ t → (if t then Some xs else None) ≡ None
     tested false e = refl
-    tested true e = absurd (cc (rw (is_name_short xs e) at h))
+    tested true e = absurd (cc (rw (short_name-named xs e) at h))

@@ -4,6 +4,7 @@ use Rattle.std.specs.List.{AllByRecursion}
 use Rattle.std.specs.Str.{bytes_eq}
 use Rattle.std.proofs.lemmas.Bool.Decides.{nat_tests, eqb_tells}
 use Rattle.std.proofs.lemmas.List.Elements.{All-from_recursion}
+use Rattle.std.proofs.lemmas.Bool.{and_parts}
 use Rattle.geo_base.specs.Name.{is_short_name, is_name, name_of}
 use Rattle.geo_core.specs.declared.command.Command.{Command}
 use Rattle.geo_core.specs.declared.command.Command.TheVariants.{Open, Close, Read, Sync}
@@ -26,14 +27,6 @@ if_true : {X : Type 0} (t : Bool) (o : Option X) (x : X) → (if t then o else N
 if_true true o x h = refl
 if_true false o x h = cc
 
-and_left : (a b : Bool) → (a && b) ≡ true → a ≡ true
-and_left true b h = refl
-and_left false b h = cc
-
-and_right : (a b : Bool) → (a && b) ≡ true → b ≡ true
-and_right true b h = h
-and_right false b h = cc
-
 -- Names
 
 short_name_is : (word name : List ℕ) → short_name_of word ≡ Some name → IsShortName name
@@ -53,19 +46,22 @@ long_name_is word name h =
 sector_is : (s c : ℕ) → is_ram_size s c ≡ true → (s ≡ 512) ⊎ (s ≡ 4096)
 sector_is s c h = either (eqb_tells s 512) (eqb_tells s 4096)
   where
-    either : ((s == 512 ≡ true) × (s ≡ 512)) ⊎ ((s == 512 ≡ false) × (s ≢ 512)) → ((s == 4096 ≡ true) × (s ≡ 4096)) ⊎ ((s == 4096 ≡ false) × (s ≢ 4096)) → (s ≡ 512) ⊎ (s ≡ 4096)
+    either : ((s == 512 ≡ true) × (s ≡ 512)) ⊎ ((s == 512 ≡ false) × (s ≢ 512)) → ((s == 4096 ≡ true) × (s ≡ 4096))
+        ⊎ ((s == 4096 ≡ false) × (s ≢ 4096)) → (s ≡ 512) ⊎ (s ≡ 4096)
     either (inl p) q = inl p.1
     either (inr p) (inl q) = inr q.1
     either (inr p) (inr q) = let k = rw (p.0, q.0) at h in absurd (cc)
 
 sectors_are : (s c : ℕ) → is_ram_size s c ≡ true → (1 ≤ c) × (c * s ≤ 67108864)
 sectors_are s c h =
-    let front : ((s == 512 || s == 4096) && nat_le 1 c) ≡ true = and_left _ (nat_le (c * s) 67108864) h in
-    let some : nat_le 1 c ≡ true = and_right (s == 512 || s == 4096) (nat_le 1 c) front in
-    let small : nat_le (c * s) 67108864 ≡ true = and_right ((s == 512 || s == 4096) && nat_le 1 c) (nat_le (c * s) 67108864) h in
+    let front : ((s == 512 || s == 4096) && nat_le 1 c) ≡ true = (and_parts _ (nat_le (c * s) 67108864) h).0 in
+    let some : nat_le 1 c ≡ true = (and_parts (s == 512 || s == 4096) (nat_le 1 c) front).1 in
+    let small : nat_le (c * s) 67108864 ≡ true =
+    (and_parts ((s == 512 || s == 4096) && nat_le 1 c) (nat_le (c * s) 67108864) h).1 in
     (grind (arith, nat_tests), grind (arith, nat_tests))
 
-ram_of_is : (name : Option (List ℕ)) (s c : Option ℕ) (d : DiskDecl) → ((n : List ℕ) → name ≡ Some n → IsShortName n) → ram_of name s c ≡ Some d → IsDiskDecl d
+ram_of_is : (name : Option (List ℕ)) (s c : Option ℕ) (d : DiskDecl)
+    → ((n : List ℕ) → name ≡ Some n → IsShortName n) → ram_of name s c ≡ Some d → IsDiskDecl d
 unfolding ram_of
 ram_of_is None s c d k h = cc
 ram_of_is (Some n) None c d k h = cc
@@ -83,7 +79,8 @@ ram_words_is (word ∷ []) d h = cc
 ram_words_is (word ∷ name ∷ []) d h = cc
 ram_words_is (word ∷ name ∷ sector ∷ []) d h = cc
 ram_words_is (word ∷ name ∷ sector ∷ sectors ∷ []) d h =
-    ram_of_is (short_name_of name) (number_of sector) (number_of sectors) d (short_name_is name) (if_some (bytes_eq word (codes "ram")) _ d h)
+    ram_of_is (short_name_of name) (number_of sector) (number_of sectors) d (short_name_is name)
+    (if_some (bytes_eq word (codes "ram")) _ d h)
 ram_words_is (word ∷ name ∷ sector ∷ sectors ∷ more ∷ ws) d h = cc
 
 disk_at_is : (line : List ℕ) (d : DiskDecl) → disk_at line ≡ Some d → IsDiskDecl d
@@ -97,10 +94,16 @@ unfolding actor_words short_name_of
 actor_words_is [] name h = cc
 actor_words_is (word ∷ []) name h = cc
 actor_words_is (word ∷ own ∷ []) name h =
-    let tested : (bytes_eq word (codes "actor") && not (is_header_word own)) ≡ true = if_true _ (short_name_of own) name h in
-    let named : short_name_of own ≡ Some name = if_some (bytes_eq word (codes "actor") && not (is_header_word own)) (short_name_of own) name h in
+    let tested : (bytes_eq word (codes "actor") && not (is_header_word own)) ≡ true =
+    if_true _ (short_name_of own) name h in
+    let named : short_name_of own ≡ Some name =
+    if_some (bytes_eq word (codes "actor") && not (is_header_word own)) (short_name_of own) name h in
     let same : own ≡ name = cc (if_some (is_short_name own) (Some own) name named) in
-    subst IsActor same (record { short = if_true (is_short_name own) (Some own) name named; no_header_word = and_right (bytes_eq word (codes "actor")) (not (is_header_word own)) tested })
+    subst IsActor same (record {
+      short = if_true (is_short_name own) (Some own) name named;
+      no_header_word =
+          (and_parts (bytes_eq word (codes "actor")) (not (is_header_word own)) tested).1;
+    })
 actor_words_is (word ∷ own ∷ more ∷ ws) name h = cc
 
 actor_at_is : (line name : List ℕ) → actor_at line ≡ Some name → IsActor name
@@ -109,7 +112,8 @@ actor_at_is line name h = actor_words_is (words_of line) name (if_some (is_plain
 
 -- Commands
 
-open_of_is : (h p : Option (List ℕ)) (t : Bool) (c : Command) → ((n : List ℕ) → h ≡ Some n → IsShortName n) → ((n : List ℕ) → p ≡ Some n → IsTrue (is_name n)) → open_of h p t ≡ Some c → IsCommand c
+open_of_is : (h p : Option (List ℕ)) (t : Bool) (c : Command) → ((n : List ℕ) → h ≡ Some n → IsShortName n)
+    → ((n : List ℕ) → p ≡ Some n → IsTrue (is_name n)) → open_of h p t ≡ Some c → IsCommand c
 unfolding open_of
 open_of_is None p t c k l e = cc
 open_of_is (Some h) None t c k l e = cc
@@ -125,7 +129,8 @@ open_words_is (h ∷ p ∷ []) c e = cc
 open_words_is (h ∷ p ∷ g ∷ []) c e = open_of_is (short_name_of h) (name_of p) _ c (short_name_is h) (long_name_is p) e
 open_words_is (h ∷ p ∷ g ∷ more ∷ ws) c e = cc
 
-close_of_is : (h : Option (List ℕ)) (c : Command) → ((n : List ℕ) → h ≡ Some n → IsShortName n) → close_of h ≡ Some c → IsCommand c
+close_of_is : (h : Option (List ℕ)) (c : Command) → ((n : List ℕ) → h ≡ Some n → IsShortName n)
+    → close_of h ≡ Some c → IsCommand c
 unfolding close_of
 close_of_is None c k e = cc
 close_of_is (Some h) c k e = let same : Close h ≡ c = cc in subst IsCommand same (k h refl)
@@ -136,7 +141,8 @@ close_words_is [] c e = cc
 close_words_is (h ∷ []) c e = close_of_is (short_name_of h) c (short_name_is h) e
 close_words_is (h ∷ more ∷ ws) c e = cc
 
-read_of_is : (h : Option (List ℕ)) (o l : Option ℕ) (c : Command) → ((n : List ℕ) → h ≡ Some n → IsShortName n) → read_of h o l ≡ Some c → IsCommand c
+read_of_is : (h : Option (List ℕ)) (o l : Option ℕ) (c : Command) → ((n : List ℕ) → h ≡ Some n → IsShortName n)
+    → read_of h o l ≡ Some c → IsCommand c
 unfolding read_of
 read_of_is None o l c k e = cc
 read_of_is (Some h) None l c k e = cc
@@ -158,9 +164,14 @@ sync_words_is (more ∷ ws) c e = cc
 
 verb_words_is : (verb : List ℕ) (ws : List (List ℕ)) (c : Command) → verb_words verb ws ≡ Some c → IsCommand c
 unfolding verb_words
-verb_words_is verb ws c e = by_verb (bytes_eq verb (codes "open")) (bytes_eq verb (codes "close")) (bytes_eq verb (codes "read")) (bytes_eq verb (codes "sync")) e
+verb_words_is verb ws c e =
+    by_verb (bytes_eq verb (codes "open")) (bytes_eq verb (codes "close")) (bytes_eq verb (codes "read"))
+    (bytes_eq verb (codes "sync")) e
   where
-    by_verb : (o k r s : Bool) → (if o then open_words ws else (if k then close_words ws else (if r then read_words ws else (if s then sync_words ws else None)))) ≡ Some c → IsCommand c
+    by_verb : (o k r s : Bool)
+        → (if o then open_words ws else
+        (if k then close_words ws else (if r then read_words ws else (if s then sync_words ws else None))))
+        ≡ Some c → IsCommand c
     by_verb true k r s h = open_words_is ws c h
     by_verb false true r s h = close_words_is ws c h
     by_verb false false true s h = read_words_is ws c h
@@ -180,11 +191,12 @@ AreCommands : ℕ → List LineCommand → Type 0
 AreCommands n [] = Unit {0}
 AreCommands n (c ∷ cs) = (c.line ≡ n) × (IsCommandLine 1 c × AreCommands (n + 1) cs)
 
-command_line_is : (actor line : List ℕ) (n : ℕ) (c : Command) → command_at actor n line ≡ Some c → IsCommandLine 1 (record { line = n; actor = 0; command = c })
+command_line_is : (actor line : List ℕ) (n : ℕ) (c : Command) → command_at actor n line ≡ Some c
+    → IsCommandLine 1 (record { line = n; actor = 0; command = c })
 unfolding command_at
 command_line_is actor line n c e =
     let tests : (nat_le n 4096 && is_plain line) ≡ true = if_true (nat_le n 4096 && is_plain line) _ c e in
-    let low : nat_le n 4096 ≡ true = and_left (nat_le n 4096) (is_plain line) tests in
+    let low : nat_le n 4096 ≡ true = (and_parts (nat_le n 4096) (is_plain line) tests).0 in
     record {
       line = grind (arith, nat_tests);
       actor = omega arith;
@@ -202,28 +214,32 @@ with_command_is n (Some c) (Ok rest) cs k l e =
     let same : made ∷ rest ≡ cs = cc in
     subst (AreCommands n) same (refl, (k c refl, l rest refl))
 
-commands_of_is : (actor : List ℕ) (n : ℕ) (lines : List (List ℕ)) (cs : List LineCommand) → commands_of actor n lines ≡ Ok cs → AreCommands n cs
+commands_of_is : (actor : List ℕ) (n : ℕ) (lines : List (List ℕ)) (cs : List LineCommand)
+    → commands_of actor n lines ≡ Ok cs → AreCommands n cs
 unfolding commands_of AreCommands
 commands_of_is actor n [] cs e =
     let none : List LineCommand = [] in
     let same : none ≡ cs = cc in
     subst (AreCommands n) same tt
 commands_of_is actor n (line ∷ lines) cs e =
-    with_command_is n (command_at actor n line) (commands_of actor (n + 1) lines) cs (λ c k. command_line_is actor line n c k) (λ rest k. commands_of_is actor (n + 1) lines rest k) e
+    with_command_is n (command_at actor n line) (commands_of actor (n + 1) lines) cs
+    (λ c k. command_line_is actor line n c k) (λ rest k. commands_of_is actor (n + 1) lines rest k) e
 
 all_lines : (n : ℕ) (cs : List LineCommand) → AreCommands n cs → AllByRecursion (IsCommandLine 1) cs
 unfolding AreCommands
 all_lines n [] h = tt
 all_lines n (c ∷ cs) h = (h.1.0, all_lines (n + 1) cs h.1.1)
 
-line_at : (n : ℕ) (cs : List LineCommand) → AreCommands n cs → (k : ℕ) → k < length (map (λ (c : LineCommand). c.line) cs) → get_or (map (λ (c : LineCommand). c.line) cs) k 0 ≡ n + k
+line_at : (n : ℕ) (cs : List LineCommand) → AreCommands n cs → (k : ℕ)
+    → k < length (map (λ (c : LineCommand). c.line) cs) → get_or (map (λ (c : LineCommand). c.line) cs) k 0 ≡ n + k
 unfolding AreCommands
 line_at n [] h k low = absurd (omega arith)
 line_at n (c ∷ cs) h zero low = omega (arith, h.0)
 line_at n (c ∷ cs) h (suc k) low = line_at (n + 1) cs h.1.1 k (omega arith) ∙ omega arith
 
 -- the plan of a text is one that a mesh can begin with
-pub IsPlan_read : (disk : DiskDecl) (actor : List ℕ) (commands : List LineCommand) (first second : List ℕ) (lines : List (List ℕ)) →
+pub IsPlan_read : (disk : DiskDecl) (actor : List ℕ) (commands : List LineCommand) (first second : List ℕ)
+    (lines : List (List ℕ)) →
     disk_at first ≡ Some disk → actor_at second ≡ Some actor → commands_of actor 3 lines ≡ Ok commands →
     IsPlan (record { disks = disk ∷ []; actors = actor ∷ []; commands = commands })
 IsPlan_read disk actor commands first second lines d a c =
@@ -236,7 +252,8 @@ IsPlan_read disk actor commands first second lines d a c =
       actors = All-from_recursion IsActor (actor ∷ []) (actor_at_is second actor a, tt);
       actor_names = λ i j d less low. absurd (omega arith);
       commands = All-from_recursion (IsCommandLine 1) commands (all_lines 3 commands are);
-      lines = λ k low. let before = line_at 3 commands are k (omega arith) in let after = line_at 3 commands are (k + 1) low in omega arith;
+      lines = λ k low. let before = line_at 3 commands are k (omega arith) in let after =
+          line_at 3 commands are (k + 1) low in omega arith;
     }
 
 -- The one disk
@@ -268,7 +285,8 @@ ram_at line d h = record {
   ram = ram_words_kind (words_of line) d (if_some (is_plain line) _ d h);
 }
 
-planned_one : (disk : DiskDecl) (actor : List ℕ) (r : Result (List LineCommand) ℕ) (plan : PlanView) → IsRamDecl disk → planned disk actor r ≡ Ok plan → HasOneRam plan
+planned_one : (disk : DiskDecl) (actor : List ℕ) (r : Result (List LineCommand) ℕ) (plan : PlanView)
+    → IsRamDecl disk → planned disk actor r ≡ Ok plan → HasOneRam plan
 unfolding planned
 planned_one disk actor (Ok cs) plan ram e =
     let made : PlanView = record { disks = disk ∷ []; actors = actor ∷ []; commands = cs } in
@@ -276,12 +294,14 @@ planned_one disk actor (Ok cs) plan ram e =
     subst HasOneRam same (record { disk = disk; only = refl; ram = ram })
 planned_one disk actor (Err fault) plan ram e = cc
 
-with_actor_one : (disk : DiskDecl) (actor : Option (List ℕ)) (lines : List (List ℕ)) (plan : PlanView) → IsRamDecl disk → plan_with_actor disk actor lines ≡ Ok plan → HasOneRam plan
+with_actor_one : (disk : DiskDecl) (actor : Option (List ℕ)) (lines : List (List ℕ)) (plan : PlanView)
+    → IsRamDecl disk → plan_with_actor disk actor lines ≡ Ok plan → HasOneRam plan
 unfolding plan_with_actor
 with_actor_one disk None lines plan ram e = cc
 with_actor_one disk (Some actor) lines plan ram e = planned_one disk actor (commands_of actor 3 lines) plan ram e
 
-with_disk_one : (disk : Option DiskDecl) (lines : List (List ℕ)) (plan : PlanView) → ((d : DiskDecl) → disk ≡ Some d → IsRamDecl d) → plan_with_disk disk lines ≡ Ok plan → HasOneRam plan
+with_disk_one : (disk : Option DiskDecl) (lines : List (List ℕ)) (plan : PlanView)
+    → ((d : DiskDecl) → disk ≡ Some d → IsRamDecl d) → plan_with_disk disk lines ≡ Ok plan → HasOneRam plan
 unfolding plan_with_disk
 with_disk_one None lines plan k e = cc
 with_disk_one (Some disk) [] plan k e = cc

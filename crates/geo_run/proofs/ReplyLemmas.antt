@@ -1,6 +1,6 @@
 -- Replies have texts of runs: a request has 1 to 32,768 bytes, and so has its reply.
 use Rattle.std.proofs.Common.{◌≡◌, ℕ, ◌≤◌, ◌==◌, true, List, [], ◌∷◌, length, Option, Some, None, Ok, Err, IfSome, IsSomeAnd, refl, ap, subst, arith, inl, inr, nat_lt}
-use Rattle.std.proofs.lemmas.Bool.{eqb-true}
+use Rattle.std.proofs.lemmas.Bool.{eqb-true, cases_Bool}
 use Rattle.geo_base.specs.declared.errno.Errno.{Errno}
 use Rattle.geo_base.specs.declared.errno.Errno.TheVariants.{ENXIO}
 use Rattle.geo_core.specs.declared.command.Command.{Command}
@@ -36,7 +36,6 @@ use Rattle.geo_core.specs.Go.{waits_for, do_command, spent, go_of, go}
 use Rattle.geo_core.specs.Step.{step}
 use Rattle.geo_core.specs.Log.{world_after}
 use Rattle.geo_core.specs.Sound.{Sound, IsBioInOrder, IsRangeInside}
-use Rattle.geo_core.proofs.RowsLemmas.{bool_cases}
 use Rattle.geo_core.proofs.Keeps.{All-snoc, All-update, All-without, find-All}
 use Rattle.geo_core.proofs.Changes.{go-keeps, take_of-keeps, up_of-keeps}
 use Rattle.geo_run.specs.Replies.{FitsReply, FitsResult, ResultsFit, FitsOutcome, RepliesFit}
@@ -58,28 +57,41 @@ go-fits w a r =
 
 start_at-fits : (w : World) (b : Bio) (o : Option ℕ) → ResultsFit w → ResultsFit (start_at w b o).0
 unfolding start_at with_phase up_with
-start_at-fits w b None r = let P : Bio → Type 0 = λ b. FitsResult b.result in All-update P (is_bio b.number) (up_with (results.Failed ENXIO)) (λ x l. tt) w.bios r
-start_at-fits w b (Some disk) r = let P : Bio → Type 0 = λ b. FitsResult b.result in All-update P (is_bio b.number) (with_phase phases.Sent) (λ x l. l) w.bios r
+start_at-fits w b None r = let P : Bio → Type 0 = λ b. FitsResult b.result in
+    All-update P (is_bio b.number) (up_with (results.Failed ENXIO)) (λ x l. tt) w.bios r
+start_at-fits w b (Some disk) r = let P : Bio → Type 0 = λ b. FitsResult b.result in
+    All-update P (is_bio b.number) (with_phase phases.Sent) (λ x l. l) w.bios r
 
 start_of-fits : (w : World) (o : Option Bio) → ResultsFit w → ResultsFit (world_after w (start_of w o))
 unfolding start_of
 start_of-fits w None r = r
 start_of-fits w (Some b) r =
-    elim (bool_cases (is_down b.phase)) [ inl hit ↦ rw hit (start_at-fits w b (disk_of_bio w b) r) | inr miss ↦ rw miss r ]
+    elim (cases_Bool (is_down b.phase)) [
+      | inl hit ↦
+          rw hit (start_at-fits w b (disk_of_bio w b) r)
+      | inr miss ↦ rw miss r
+    ]
 
 take-fits : (w : World) (seat disk n : ℕ) → ResultsFit w → ResultsFit (world_after w (take_of w seat disk (bio_at w n)))
 unfolding with_phase
 take-fits w seat disk n r =
     let P : Bio → Type 0 = λ b. FitsResult b.result in
-    take_of-keeps w ResultsFit seat disk (bio_at w n) r (λ m. All-update P (is_bio m) (with_phase (phases.Busy seat)) (λ x l. l) w.bios r)
+    take_of-keeps w ResultsFit seat disk (bio_at w n) r
+    (λ m. All-update P (is_bio m) (with_phase (phases.Busy seat)) (λ x l. l) w.bios r)
 
 -- an answer that nothing is against fits
-fitting_is : (seat : ℕ) (b : Bio) (got : DeviceResult) (phase : Phase) → deliver_found seat b got phase ≡ None → is_fitting b got ≡ true
+fitting_is : (seat : ℕ) (b : Bio) (got : DeviceResult) (phase : Phase) → deliver_found seat b got phase ≡ None
+    → is_fitting b got ≡ true
 unfolding deliver_found
 fitting_is seat b got (phases.Busy holder) e =
-    elim (bool_cases (is_fitting b got)) [
+    elim (cases_Bool (is_fitting b got)) [
       | inl hit ↦ hit
-      | inr miss ↦ elim (bool_cases (holder == seat)) [ inl own ↦ absurd (cc (rw (own, miss) at e)) | inr other ↦ absurd (cc (rw other at e)) ]
+      | inr miss ↦
+          elim (cases_Bool (holder == seat)) [
+            | inl own ↦
+                absurd (cc (rw (own, miss) at e))
+            | inr other ↦ absurd (cc (rw other at e))
+          ]
     ]
 fitting_is seat b got phases.Down e = cc
 fitting_is seat b got phases.Sent e = cc
@@ -89,28 +101,35 @@ range_is : (b : Bio) (o : Option Provider) → IsSomeAnd o (IsRangeInside b.offs
 range_is b None h = absurd h
 range_is b (Some p) h = (h.some_byte, omega (arith, h.not_long))
 
-got-fits : (b : Bio) (got : DeviceResult) → is_fitting b got ≡ true → (1 ≤ b.len) × (b.len ≤ 65536) → FitsResult (Some (result_of_device got))
+got-fits : (b : Bio) (got : DeviceResult) → is_fitting b got ≡ true → (1 ≤ b.len) × (b.len ≤ 65536)
+    → FitsResult (Some (result_of_device got))
 unfolding is_fitting result_of_device
 got-fits b (devices.Bytes bytes) e h = let own : length bytes ≡ b.len = eqb-true (length bytes) b.len e in rw own h
 got-fits b devices.Done e h = tt
 got-fits b (devices.Failed sectors) e h = tt
 
-found-fits : (w : World) (seat : ℕ) (got : DeviceResult) (b : Bio) (f : Option Found) → IsBioInOrder w b → ResultsFit w → deliver_found seat b got b.phase ≡ f → ResultsFit (world_after w (unless_found f (deliver w b got)))
+found-fits : (w : World) (seat : ℕ) (got : DeviceResult) (b : Bio) (f : Option Found) → IsBioInOrder w b
+    → ResultsFit w → deliver_found seat b got b.phase ≡ f
+    → ResultsFit (world_after w (unless_found f (deliver w b got)))
 unfolding deliver up_with unless_found
 found-fits w seat got b (Some found) order r e = r
 found-fits w seat got b None order r e =
     let P : Bio → Type 0 = λ b. FitsResult b.result in
-    let fits : FitsResult (Some (result_of_device got)) = got-fits b got (fitting_is seat b got b.phase e) (range_is b (provider_at w b.target) order.1) in
+    let fits : FitsResult (Some (result_of_device got)) =
+    got-fits b got (fitting_is seat b got b.phase e) (range_is b (provider_at w b.target) order.1) in
     All-update P (is_bio b.number) (up_with (result_of_device got)) (λ x l. fits) w.bios r
 
-deliver-fits : (w : World) (seat n : ℕ) (got : DeviceResult) (o : Option Bio) → bio_at w n ≡ o → Sound w → ResultsFit w → ResultsFit (world_after w (deliver_of w seat got o))
+deliver-fits : (w : World) (seat n : ℕ) (got : DeviceResult) (o : Option Bio) → bio_at w n ≡ o → Sound w
+    → ResultsFit w → ResultsFit (world_after w (deliver_of w seat got o))
 unfolding deliver_of
 deliver-fits w seat n got None here sound r = r
 deliver-fits w seat n got (Some b) here sound r =
-    found-fits w seat got b (deliver_found seat b got b.phase) (find-All (IsBioInOrder w) (is_bio n) w.bios b sound.bios here) r refl
+    found-fits w seat got b (deliver_found seat b got b.phase)
+    (find-All (IsBioInOrder w) (is_bio n) w.bios b sound.bios here) r refl
 
 up-fits : (w : World) (n : ℕ) → ResultsFit w → ResultsFit (world_after w (up_of w (bio_at w n)))
-up-fits w n r = let P : Bio → Type 0 = λ b. FitsResult b.result in up_of-keeps w ResultsFit (bio_at w n) r (λ m. All-without P (is_bio m) w.bios r)
+up-fits w n r = let P : Bio → Type 0 = λ b. FitsResult b.result in
+    up_of-keeps w ResultsFit (bio_at w n) r (λ m. All-without P (is_bio m) w.bios r)
 
 step-fits : (w : World) (seat : ℕ) (s : Step) → Sound w → ResultsFit w → ResultsFit (world_after w (step w seat s))
 unfolding step
@@ -131,27 +150,37 @@ unfolding unless_found FitsAnswer
 unless-answers None made h = h
 unless-answers (Some found) made h = tt
 
-open_at-answers : (w : World) (line actor : ℕ) (name : List ℕ) (o : Option Provider) → FitsOutcome (open_at w line actor name o).1
+open_at-answers : (w : World) (line actor : ℕ) (name : List ℕ) (o : Option Provider)
+    → FitsOutcome (open_at w line actor name o).1
 unfolding open_at
 open_at-answers w line actor name None = tt
 open_at-answers w line actor name (Some p) = tt
 
-open_of-answers : (w : World) (line actor : ℕ) (name prov : List ℕ) (o : Option Handle) → FitsOutcome (open_of w line actor name prov o).1
+open_of-answers : (w : World) (line actor : ℕ) (name prov : List ℕ) (o : Option Handle)
+    → FitsOutcome (open_of w line actor name prov o).1
 unfolding open_of
 open_of-answers w line actor name prov (Some h) = tt
-open_of-answers w line actor name prov None = open_at-answers w line actor name (find_by (is_provider_named prov) w.providers)
+open_of-answers w line actor name prov None =
+    open_at-answers w line actor name (find_by (is_provider_named prov) w.providers)
 
-close_of-answers : (w : World) (line actor : ℕ) (name : List ℕ) (o : Option Handle) → FitsOutcome (close_of w line actor name o).1
+close_of-answers : (w : World) (line actor : ℕ) (name : List ℕ) (o : Option Handle)
+    → FitsOutcome (close_of w line actor name o).1
 unfolding close_of
 close_of-answers w line actor name None = tt
-close_of-answers w line actor name (Some h) = elim (bool_cases (is_active w h.consumer)) [ inl hit ↦ rw hit tt | inr miss ↦ rw miss tt ]
+close_of-answers w line actor name (Some h) = elim (cases_Bool (is_active w h.consumer)) [
+  | inl hit ↦
+      rw hit tt
+  | inr miss ↦ rw miss tt
+]
 
-answered-answers : (w : World) (line offset len : ℕ) (h : Handle) (p : Provider) (o : Option Errno) → FitsOutcome (request_answered w line offset len h p o).1
+answered-answers : (w : World) (line offset len : ℕ) (h : Handle) (p : Provider) (o : Option Errno)
+    → FitsOutcome (request_answered w line offset len h p o).1
 unfolding request_answered
 answered-answers w line offset len h p (Some errno) = tt
 answered-answers w line offset len h p None = tt
 
-read_at-answers : (w : World) (line offset len : ℕ) (h : Handle) (o : Option Provider) → FitsOutcome (read_at w line offset len h o).1
+read_at-answers : (w : World) (line offset len : ℕ) (h : Handle) (o : Option Provider)
+    → FitsOutcome (read_at w line offset len h o).1
 unfolding read_at
 read_at-answers w line offset len h None = tt
 read_at-answers w line offset len h (Some p) = answered-answers w line offset len h p (request_refusal p offset len)
@@ -163,7 +192,8 @@ read_of-answers w line offset len (Some h) = read_at-answers w line offset len h
 
 command-answers : (w : World) (c : LineCommand) (command : Command) → FitsOutcome (do_command w c command).1
 unfolding do_command do_open do_close do_read
-command-answers w c (commands.Open name prov grant) = open_of-answers w c.line c.actor name prov (handle_of w c.actor name)
+command-answers w c (commands.Open name prov grant) =
+    open_of-answers w c.line c.actor name prov (handle_of w c.actor name)
 command-answers w c (commands.Close name) = close_of-answers w c.line c.actor name (handle_of w c.actor name)
 command-answers w c (commands.Read name offset len) = read_of-answers w c.line offset len (handle_of w c.actor name)
 command-answers w c commands.Sync = tt
@@ -175,11 +205,17 @@ spent-answers a (w, outcome) h = h
 go_of-answers : (w : World) (a : ℕ) (o : Option LineCommand) → FitsAnswer (go_of w a o)
 unfolding go_of FitsAnswer
 go_of-answers w a None = tt
-go_of-answers w a (Some c) = unless-answers (waits_for w a c.command) (spent a (do_command w c c.command)) (spent-answers a (do_command w c c.command) (command-answers w c c.command))
+go_of-answers w a (Some c) =
+    unless-answers (waits_for w a c.command) (spent a (do_command w c c.command))
+    (spent-answers a (do_command w c c.command) (command-answers w c c.command))
 
 go-answers : (w : World) (a : ℕ) → FitsAnswer (go w a)
 unfolding go FitsAnswer
-go-answers w a = elim (bool_cases (nat_lt a w.actors)) [ inl hit ↦ rw hit (go_of-answers w a (find_by (is_of_actor a) w.left)) | inr miss ↦ rw miss tt ]
+go-answers w a = elim (cases_Bool (nat_lt a w.actors)) [
+  | inl hit ↦
+      rw hit (go_of-answers w a (find_by (is_of_actor a) w.left))
+  | inr miss ↦ rw miss tt
+]
 
 start_at-answers : (w : World) (b : Bio) (o : Option ℕ) → FitsOutcome (start_at w b o).1
 unfolding start_at
@@ -189,7 +225,11 @@ start_at-answers w b (Some disk) = tt
 start-answers : (w : World) (o : Option Bio) → FitsAnswer (start_of w o)
 unfolding start_of FitsAnswer
 start-answers w None = tt
-start-answers w (Some b) = elim (bool_cases (is_down b.phase)) [ inl hit ↦ rw hit (start_at-answers w b (disk_of_bio w b)) | inr miss ↦ rw miss tt ]
+start-answers w (Some b) = elim (cases_Bool (is_down b.phase)) [
+  | inl hit ↦
+      rw hit (start_at-answers w b (disk_of_bio w b))
+  | inr miss ↦ rw miss tt
+]
 
 take-answers : (w : World) (seat disk : ℕ) (o : Option Bio) → FitsAnswer (take_of w seat disk o)
 unfolding take_of take_bio FitsAnswer
@@ -214,7 +254,11 @@ up-answers w n None here r = tt
 up-answers w n (Some b) here r =
     let P : Bio → Type 0 = λ b. FitsResult b.result in
     let fits : FitsResult b.result = find-All P (is_bio n) w.bios b r here in
-    elim (bool_cases (is_up b.phase)) [ inl hit ↦ rw hit (reply-answers (line_of b.owner) b.result fits) | inr miss ↦ rw miss tt ]
+    elim (cases_Bool (is_up b.phase)) [
+      | inl hit ↦
+          rw hit (reply-answers (line_of b.owner) b.result fits)
+      | inr miss ↦ rw miss tt
+    ]
 
 step-answers : (w : World) (seat : ℕ) (s : Step) → ResultsFit w → FitsAnswer (step w seat s)
 unfolding step
@@ -226,10 +270,12 @@ step-answers w seat (steps.Up b) r = up-answers w b (bio_at w b) refl r
 
 -- A step that was made
 
-pub results_fit : (w u : World) (seat : ℕ) (s : Step) (outcome : Outcome) → Sound w → ResultsFit w → step w seat s ≡ Ok (u, outcome) → ResultsFit u
+pub results_fit : (w u : World) (seat : ℕ) (s : Step) (outcome : Outcome) → Sound w → ResultsFit w
+    → step w seat s ≡ Ok (u, outcome) → ResultsFit u
 results_fit w u seat s outcome sound r e = subst ResultsFit (ap (world_after w) e) (step-fits w seat s sound r)
 
-pub outcome_fits : (w u : World) (seat : ℕ) (s : Step) (outcome : Outcome) → ResultsFit w → step w seat s ≡ Ok (u, outcome) → FitsOutcome outcome
+pub outcome_fits : (w u : World) (seat : ℕ) (s : Step) (outcome : Outcome) → ResultsFit w
+    → step w seat s ≡ Ok (u, outcome) → FitsOutcome outcome
 unfolding FitsAnswer
 outcome_fits w u seat s outcome r e = subst FitsAnswer e (step-answers w seat s r)
 
@@ -237,7 +283,11 @@ outcome_fits w u seat s outcome r e = subst FitsAnswer e (step-answers w seat s 
 
 reply_in_fits : (line : ℕ) (o : Outcome) → FitsOutcome o → IfSome (reply_in line o) FitsReply
 unfolding reply_in
-reply_in_fits line (outcomes.Replied own reply) h = elim (bool_cases (own == line)) [ inl hit ↦ rw hit h | inr miss ↦ rw miss tt ]
+reply_in_fits line (outcomes.Replied own reply) h = elim (cases_Bool (own == line)) [
+  | inl hit ↦
+      rw hit h
+  | inr miss ↦ rw miss tt
+]
 reply_in_fits line (outcomes.Accepted own bio) h = tt
 reply_in_fits line (outcomes.Queued disk) h = tt
 reply_in_fits line outcomes.Bounced h = tt
@@ -248,8 +298,10 @@ reply_in_fits line outcomes.Delivered h = tt
 pub reply_from_fits : (log : List Entry) (line : ℕ) → RepliesFit log → IfSome (reply_from log line) FitsReply
 unfolding reply_from
 reply_from_fits [] line h = tt
-reply_from_fits (e ∷ log) line h = first (reply_in line e.outcome) (reply_in_fits line e.outcome h.0) (reply_from_fits log line h.1)
+reply_from_fits (e ∷ log) line h =
+    first (reply_in line e.outcome) (reply_in_fits line e.outcome h.0) (reply_from_fits log line h.1)
   where
-    first : (o : Option Reply) → IfSome o FitsReply → IfSome (reply_from log line) FitsReply → IfSome (or_else o (reply_from log line)) FitsReply
+    first : (o : Option Reply) → IfSome o FitsReply → IfSome (reply_from log line) FitsReply
+        → IfSome (or_else o (reply_from log line)) FitsReply
     first None k l = l
     first (Some reply) k l = k

@@ -9,15 +9,19 @@ use Rattle.geo_run.specs.Report.{reply_from, reply_in, or_else}
 front : (log : List Entry) (i : ℕ) (e : Entry) → i < length log → e ≡ get_or log i e → drop i log ≡ e ∷ drop (i + 1) log
 front log i e h is = rw (add-one, drop-cons log i e, ← is) refl
 
-pub reply_step : (line : ℕ) (log : List Entry) (i : ℕ) (e : Entry) → i < length log → e ≡ get_or log i e → None ≡ reply_in line e.outcome →
+pub reply_step : (line : ℕ) (log : List Entry) (i : ℕ) (e : Entry) → i < length log → e ≡ get_or log i e
+    → None ≡ reply_in line e.outcome →
     reply_from (drop i log) line ≡ reply_from (drop (i + 1) log) line
 unfolding reply_from
-reply_step line log i e h is none = ap (λ l. reply_from l line) (front log i e h is) ∙ ap (λ o. or_else o (reply_from (drop (i + 1) log) line)) (sym none)
+reply_step line log i e h is none = ap (λ l. reply_from l line) (front log i e h is)
+    ∙ ap (λ o. or_else o (reply_from (drop (i + 1) log) line)) (sym none)
 
-pub reply_found : (line : ℕ) (log : List Entry) (i : ℕ) (e : Entry) (r : Reply) → i < length log → e ≡ get_or log i e → Some r ≡ reply_in line e.outcome →
+pub reply_found : (line : ℕ) (log : List Entry) (i : ℕ) (e : Entry) (r : Reply) → i < length log
+    → e ≡ get_or log i e → Some r ≡ reply_in line e.outcome →
     reply_from (drop i log) line ≡ Some r
 unfolding reply_from
-reply_found line log i e r h is some = ap (λ l. reply_from l line) (front log i e h is) ∙ ap (λ o. or_else o (reply_from (drop (i + 1) log) line)) (sym some)
+reply_found line log i e r h is some = ap (λ l. reply_from l line) (front log i e h is)
+    ∙ ap (λ o. or_else o (reply_from (drop (i + 1) log) line)) (sym some)
 
 pub reply_none : (line : ℕ) (log : List Entry) (i : ℕ) → length log ≤ i → reply_from (drop i log) line ≡ None
 unfolding reply_from

@@ -60,7 +60,8 @@ pub record IsOrderly (m : MeshView) : Type 0 where
 
 -- each disk of the header has the sizes of this disk
 abbrev pub HasSizesOf : RamDiskView → World → Type 0
-HasSizesOf disk w = (k : ℕ) → IfSome (slice_get w.disks k) (λ d. (d.sector ≡ disk.sector) × (d.size ≡ length disk.bytes))
+HasSizesOf disk w = (k : ℕ)
+    → IfSome (slice_get w.disks k) (λ d. (d.sector ≡ disk.sector) × (d.size ≡ length disk.bytes))
 
 -- a mesh between two turns of the fixed order, over a disk of zeros
 pub record IsBetween (disk : RamDiskView) (m : MeshView) : Type 0 where

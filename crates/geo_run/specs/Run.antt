@@ -179,7 +179,8 @@ pub record IsReadFault (old new : SourceSeen) : Type 0 where
 
 -- when a run of a source ends so: its faults rose, it gave too many bytes, or it was read to its end
 abbrev pub HasRunCause : Ending → SourceSeen → SourceSeen → Ended → Type 0
-HasRunCause (Reported plan facts entries) old new ended = HasRead (Reported plan facts entries) old.stream new.stream ended
+HasRunCause (Reported plan facts entries) old new ended =
+    HasRead (Reported plan facts entries) old.stream new.stream ended
 HasRunCause (NoScript line) old new ended = HasRead (NoScript line) old.stream new.stream ended
 HasRunCause LogFull old new ended = HasRead LogFull old.stream new.stream ended
 HasRunCause OutOfMemory old new ended = HasReadLog old.stream new.stream ended

@@ -18,13 +18,15 @@ use Rattle.geo_run.specs.Words.{lines_of, words_of, is_plain, number_of, short_n
 unfoldable pub open_of : Option (List ℕ) → Option (List ℕ) → Bool → Option Command
 open_of None provider one_read = None
 open_of (Some handle) None one_read = None
-open_of (Some handle) (Some provider) one_read = if one_read then Some (Open handle provider (record { r = 1; w = 0; e = 0 })) else None
+open_of (Some handle) (Some provider) one_read =
+    if one_read then Some (Open handle provider (record { r = 1; w = 0; e = 0 })) else None
 
 unfoldable pub open_words : List (List ℕ) → Option Command
 open_words [] = None
 open_words (handle ∷ []) = None
 open_words (handle ∷ provider ∷ []) = None
-open_words (handle ∷ provider ∷ counts ∷ []) = open_of (short_name_of handle) (name_of provider) (bytes_eq counts (codes "r1w0e0"))
+open_words (handle ∷ provider ∷ counts ∷ []) =
+    open_of (short_name_of handle) (name_of provider) (bytes_eq counts (codes "r1w0e0"))
 open_words (handle ∷ provider ∷ counts ∷ more ∷ words) = None
 
 -- `close H`
@@ -92,7 +94,8 @@ ram_words [] = None
 ram_words (word ∷ []) = None
 ram_words (word ∷ name ∷ []) = None
 ram_words (word ∷ name ∷ sector ∷ []) = None
-ram_words (word ∷ name ∷ sector ∷ sectors ∷ []) = if bytes_eq word (codes "ram") then ram_of (short_name_of name) (number_of sector) (number_of sectors) else None
+ram_words (word ∷ name ∷ sector ∷ sectors ∷ []) =
+    if bytes_eq word (codes "ram") then ram_of (short_name_of name) (number_of sector) (number_of sectors) else None
 ram_words (word ∷ name ∷ sector ∷ sectors ∷ more ∷ words) = None
 
 -- whether a word begins a line of the header
@@ -103,7 +106,8 @@ is_header_word word = list_any (same_name word) header_words
 unfoldable pub actor_words : List (List ℕ) → Option (List ℕ)
 actor_words [] = None
 actor_words (word ∷ []) = None
-actor_words (word ∷ name ∷ []) = if bytes_eq word (codes "actor") && not (is_header_word name) then short_name_of name else None
+actor_words (word ∷ name ∷ []) =
+    if bytes_eq word (codes "actor") && not (is_header_word name) then short_name_of name else None
 actor_words (word ∷ name ∷ more ∷ words) = None
 
 -- Texts

@@ -211,8 +211,8 @@ fn is_step(words: &[String]) -> bool
     }
 }
 
-/// The end of a program that has no memory even for its words: it writes `out of memory`, and gives the exit status, which is
-/// 6, or 4 where the sink fails.
+/// The end of a program that has no memory even for its words: it writes `out of memory`, and gives the exit status,
+/// which is 6, or 4 where the sink fails.
 pub fn without_memory<K: Sink>(sink: &mut K) -> u8
     ensures { Writes result 6 (codes "out of memory\n")
         (sink_seen (K.basin sink.old) (K.faults sink.old)) (sink_seen (K.basin sink.new) (K.faults sink.new)) }
@@ -236,8 +236,8 @@ pub fn run<S: Source, K: Sink>(
       sink_after = sink_seen (K.basin sink.new) (K.faults sink.new);
     }) }
 
-    // Wherever a log is there, the source was read whole, its text is a script, and the log is legal from the opening of
-    // the plan of that script, in the fixed order.
+    // Wherever a log is there, the source was read whole, its text is a script, and the log is legal from the opening
+    // of the plan of that script, in the fixed order.
     ensures log { HasReadLog (S.stream source.old) (S.stream source.new) result }
 
     // On other words the usage line is written, and nothing is read.

@@ -7,6 +7,7 @@ use Rattle.std.proofs.lemmas.List.{map_push, get_or_append_left, get_or_push, le
 use Rattle.std.proofs.lemmas.List.Elements.{All-nil, All-cons, All-push, All-weaker, All-map}
 use Rattle.std.proofs.lemmas.List.Quantifiers.{all_pairs_push, position-Some}
 use Rattle.std.proofs.lemmas.Slice.Eq.{bytes_eq-Decides}
+use Rattle.std.proofs.lemmas.Bool.{ltb-true}
 use Rattle.geo_model.specs.declared.command.Cause.{Cause}
 use Rattle.geo_model.specs.declared.command.Cause.TheVariants as causes
 use Rattle.geo_model.specs.declared.command.Command.{Command}
@@ -31,7 +32,8 @@ none_passes : {X : Type 0} (p : X → Bool) (xs : List X) → list_any p xs ≡ 
 none_passes p [] e = All-nil (λ x. p x ≡ false)
 none_passes {X = X} p (x ∷ xs) e = into (p x) refl e (λ more. none_passes p xs more)
   where
-    into : (t : Bool) → p x ≡ t → (t || list_any p xs) ≡ false → (list_any p xs ≡ false → All (λ y. p y ≡ false) xs) → All (λ y. p y ≡ false) (x ∷ xs)
+    into : (t : Bool) → p x ≡ t → (t || list_any p xs) ≡ false
+        → (list_any p xs ≡ false → All (λ y. p y ≡ false) xs) → All (λ y. p y ≡ false) (x ∷ xs)
     into true t e more = absurd (cc)
     into false t e more = All-cons (λ y. p y ≡ false) x xs t (more e)
 
@@ -52,7 +54,8 @@ differ_back a b e = into (same_name a b) refl
         absurd (cc)
 
 -- a name more that differs from those before
-names_push : (names : List (List ℕ)) (name : List ℕ) → AllPairs Differ names → All (λ x. Differ x name) names → AllPairs Differ (names ++ name ∷ [])
+names_push : (names : List (List ℕ)) (name : List ℕ) → AllPairs Differ names → All (λ x. Differ x name) names
+    → AllPairs Differ (names ++ name ∷ [])
 names_push names name pairs others = all_pairs_push Differ names name pairs (λ k d h. others k d h)
 
 -- an element more than fewer than sixteen
@@ -65,13 +68,15 @@ few-push xs x e = grown (length xs) (length (xs ++ x ∷ [])) (length_push xs x)
 -- What is added to a plan
 
 -- a plan with a disk more keeps the rules
-with_disk : (n : ℕ) (plan : Plan) (d : DiskDecl) → Upto n plan → IsDiskDecl d → list_any (λ x. same_name x.name d.name) plan.disks ≡ false → nat_le 16 (length plan.disks) ≡ false →
+with_disk : (n : ℕ) (plan : Plan) (d : DiskDecl) → Upto n plan → IsDiskDecl d
+    → list_any (λ x. same_name x.name d.name) plan.disks ≡ false → nat_le 16 (length plan.disks) ≡ false →
     Upto n (record plan { disks = plan.disks ++ d ∷ [] })
 with_disk n plan d is disk other few =
     let names : AllPairs Differ (map (λ x. x.name) plan.disks ++ d.name ∷ []) =
     names_push (map (λ x. x.name) plan.disks) d.name is.plan.disk_names
     (All-map (λ x. Differ x d.name) (λ x. x.name) plan.disks
-    (All-weaker (λ x. same_name x.name d.name ≡ false) (λ x. Differ x.name d.name) (λ x e. differ x.name d.name e) plan.disks (none_passes (λ x. same_name x.name d.name) plan.disks other))) in
+    (All-weaker (λ x. same_name x.name d.name ≡ false) (λ x. Differ x.name d.name) (λ x e. differ x.name d.name e)
+    plan.disks (none_passes (λ x. same_name x.name d.name) plan.disks other))) in
     record {
       plan = record {
         few_disks = few-push plan.disks d few;
@@ -88,16 +93,22 @@ with_disk n plan d is disk other few =
 
 -- a disk is added under the rules
 add_disk-keeps : (n : ℕ) (plan : Plan) (d : DiskDecl) → Upto n plan → IsDiskDecl d → Gives (Upto n) (add_disk plan d)
-add_disk-keeps n plan d is disk = into (list_any (λ x. same_name x.name d.name) plan.disks) refl (nat_le 16 (length plan.disks)) refl
+add_disk-keeps n plan d is disk =
+    into (list_any (λ x. same_name x.name d.name) plan.disks) refl (nat_le 16 (length plan.disks)) refl
   where
-    into : (a : Bool) → list_any (λ x. same_name x.name d.name) plan.disks ≡ a → (b : Bool) → nat_le 16 (length plan.disks) ≡ b →
-        Gives (Upto n) (unless (first_error ((a, causes.Twice) ∷ (b, causes.Many) ∷ [])) (record plan { disks = plan.disks ++ d ∷ [] }))
+    into : (a : Bool) → list_any (λ x. same_name x.name d.name) plan.disks ≡ a → (b : Bool)
+        → nat_le 16 (length plan.disks) ≡ b →
+        Gives (Upto n)
+        (unless (first_error ((a, causes.Twice) ∷ (b, causes.Many) ∷ []))
+        (record plan { disks = plan.disks ++ d ∷ [] }))
     into true ea b eb = tt
     into false ea true eb = tt
     into false ea false eb = with_disk n plan d is disk ea eb
 
 -- a plan with an actor more keeps the rules
-with_actor : (n : ℕ) (plan : Plan) (name : List ℕ) → Upto n plan → IsShortName name → list_any (same_name name) plan.actors ≡ false → list_any (same_name name) header_words ≡ false → nat_le 16 (length plan.actors) ≡ false →
+with_actor : (n : ℕ) (plan : Plan) (name : List ℕ) → Upto n plan → IsShortName name
+    → list_any (same_name name) plan.actors ≡ false → list_any (same_name name) header_words ≡ false
+    → nat_le 16 (length plan.actors) ≡ false →
     Upto n (record plan { actors = plan.actors ++ name ∷ [] })
 with_actor n plan name is short other no_word few =
     record {
@@ -106,34 +117,54 @@ with_actor n plan name is short other no_word few =
         disks = is.plan.disks;
         disk_names = is.plan.disk_names;
         few_actors = few-push plan.actors name few;
-        actors = All-push IsActor plan.actors name is.plan.actors (record { short = short; no_header_word = ap not no_word });
+        actors = All-push IsActor plan.actors name is.plan.actors (record {
+          short = short;
+          no_header_word =
+              ap not no_word;
+        });
         actor_names = names_push plan.actors name is.plan.actor_names
-            (All-weaker (λ x. same_name name x ≡ false) (λ x. Differ x name) (λ x e. differ_back x name e) plan.actors (none_passes (same_name name) plan.actors other));
-        commands = All-weaker (IsCommandLine (length plan.actors)) (IsCommandLine (length (plan.actors ++ name ∷ []))) (λ c h. more c h) plan.commands is.plan.commands;
+            (All-weaker (λ x. same_name name x ≡ false) (λ x. Differ x name) (λ x e. differ_back x name e)
+            plan.actors (none_passes (same_name name) plan.actors other));
+        commands = All-weaker (IsCommandLine (length plan.actors))
+            (IsCommandLine (length (plan.actors ++ name ∷ []))) (λ c h. more c h) plan.commands is.plan.commands;
         lines = is.plan.lines;
       };
       below = is.below;
     }
   where
-    more : (c : LineCommand) → IsCommandLine (length plan.actors) c → IsCommandLine (length (plan.actors ++ name ∷ [])) c
-    more c h = record { some_line = h.some_line; line = h.line; actor = up c.actor (length plan.actors) _ (length_push plan.actors name) h.actor; command = h.command }
+    more : (c : LineCommand) → IsCommandLine (length plan.actors) c
+        → IsCommandLine (length (plan.actors ++ name ∷ [])) c
+    more c h = record {
+      some_line = h.some_line;
+      line = h.line;
+      actor =
+          up c.actor (length plan.actors) _ (length_push plan.actors name) h.actor;
+      command = h.command;
+    }
       where
         up : (a b k : ℕ) → k ≡ b + 1 → a < b → a < k
         up a b k e h = omega arith
 
 -- an actor is added under the rules
-add_actor-keeps : (n : ℕ) (plan : Plan) (name : List ℕ) → Upto n plan → IsShortName name → Gives (Upto n) (add_actor plan name)
-add_actor-keeps n plan name is short = into (list_any (same_name name) plan.actors) refl (list_any (same_name name) header_words) refl (nat_le 16 (length plan.actors)) refl
+add_actor-keeps : (n : ℕ) (plan : Plan) (name : List ℕ) → Upto n plan → IsShortName name
+    → Gives (Upto n) (add_actor plan name)
+add_actor-keeps n plan name is short =
+    into (list_any (same_name name) plan.actors) refl (list_any (same_name name) header_words) refl
+    (nat_le 16 (length plan.actors)) refl
   where
-    into : (a : Bool) → list_any (same_name name) plan.actors ≡ a → (w : Bool) → list_any (same_name name) header_words ≡ w → (b : Bool) → nat_le 16 (length plan.actors) ≡ b →
-        Gives (Upto n) (unless (first_error ((a || w, causes.Twice) ∷ (b, causes.Many) ∷ [])) (record plan { actors = plan.actors ++ name ∷ [] }))
+    into : (a : Bool) → list_any (same_name name) plan.actors ≡ a → (w : Bool)
+        → list_any (same_name name) header_words ≡ w → (b : Bool) → nat_le 16 (length plan.actors) ≡ b →
+        Gives (Upto n)
+        (unless (first_error ((a || w, causes.Twice) ∷ (b, causes.Many) ∷ []))
+        (record plan { actors = plan.actors ++ name ∷ [] }))
     into true ea w ew b eb = tt
     into false ea true ew b eb = tt
     into false ea false ew true eb = tt
     into false ea false ew false eb = with_actor n plan name is short ea ew eb
 
 -- numbers that rise, and one above them
-rising-push : (xs : List ℕ) (y : ℕ) → IsStrictlyIncreasing xs → All (λ x. x < y) xs → IsStrictlyIncreasing (xs ++ y ∷ [])
+rising-push : (xs : List ℕ) (y : ℕ) → IsStrictlyIncreasing xs → All (λ x. x < y) xs
+    → IsStrictlyIncreasing (xs ++ y ∷ [])
 rising-push xs y rising below = λ k inside. into k (nat_lt (k + 1) (length xs)) refl inside
   where
     before : (k : ℕ) → k + 1 < length xs → get_or (xs ++ y ∷ []) k 0 < get_or (xs ++ y ∷ []) (k + 1) 0
@@ -150,11 +181,9 @@ rising-push xs y rising below = λ k inside. into k (nat_lt (k + 1) (length xs))
         let b : get_or (xs ++ y ∷ []) (k + 1) 0 ≡ y = get_or_push xs y 0 (k + 1) last in
         omega arith
 
-    into : (k : ℕ) (t : Bool) → nat_lt (k + 1) (length xs) ≡ t → k + 1 < length (xs ++ y ∷ []) → get_or (xs ++ y ∷ []) k 0 < get_or (xs ++ y ∷ []) (k + 1) 0
-    into k true t inside = before k (below_test (k + 1) (length xs) t)
-      where
-        below_test : (a b : ℕ) → nat_lt a b ≡ true → a < b
-        below_test a b t = grind (arith, nat_tests)
+    into : (k : ℕ) (t : Bool) → nat_lt (k + 1) (length xs) ≡ t → k + 1 < length (xs ++ y ∷ [])
+        → get_or (xs ++ y ∷ []) k 0 < get_or (xs ++ y ∷ []) (k + 1) 0
+    into k true t inside = before k (ltb-true (k + 1) (length xs) t)
     into k false t inside = at k (last (length xs) (length (xs ++ y ∷ [])) (length_push xs y) t inside)
       where
         last : (a b : ℕ) → b ≡ a + 1 → nat_lt (k + 1) a ≡ false → k + 1 < b → a ≡ k + 1
@@ -165,10 +194,12 @@ abbrev line_command : ℕ → ℕ → Command → LineCommand
 line_command n actor c = record { line = n; actor = actor; command = c }
 
 -- a command line is added under the rules
-add_command-keeps : (n : ℕ) (plan : Plan) (actor : ℕ) (c : Command) → 1 ≤ n → n ≤ 4096 → Upto n plan → actor < length plan.actors → IsCommand c → Gives (Upto (n + 1)) (add_command plan n actor c)
+add_command-keeps : (n : ℕ) (plan : Plan) (actor : ℕ) (c : Command) → 1 ≤ n → n ≤ 4096 → Upto n plan
+    → actor < length plan.actors → IsCommand c → Gives (Upto (n + 1)) (add_command plan n actor c)
 add_command-keeps n plan actor c some few is inside command =
     let lines : IsStrictlyIncreasing (map (λ (x : LineCommand). x.line) plan.commands ++ n ∷ []) =
-    rising-push (map (λ (x : LineCommand). x.line) plan.commands) n is.plan.lines (All-map (λ x. x < n) (λ (x : LineCommand). x.line) plan.commands is.below) in
+    rising-push (map (λ (x : LineCommand). x.line) plan.commands) n is.plan.lines
+    (All-map (λ x. x < n) (λ (x : LineCommand). x.line) plan.commands is.below) in
     record {
       plan = record {
         few_disks = is.plan.few_disks;
@@ -177,25 +208,23 @@ add_command-keeps n plan actor c some few is inside command =
         few_actors = is.plan.few_actors;
         actors = is.plan.actors;
         actor_names = is.plan.actor_names;
-        commands = All-push (IsCommandLine (length plan.actors)) plan.commands (line_command n actor c) is.plan.commands (record { some_line = some; line = few; actor = inside; command = command });
-        lines = subst IsStrictlyIncreasing (sym (map_push (λ (x : LineCommand). x.line) plan.commands (line_command n actor c))) lines;
+        commands = All-push (IsCommandLine (length plan.actors)) plan.commands (line_command n actor c)
+            is.plan.commands (record { some_line = some; line = few; actor = inside; command = command });
+        lines = subst IsStrictlyIncreasing
+            (sym (map_push (λ (x : LineCommand). x.line) plan.commands (line_command n actor c))) lines;
       };
       below = All-push (λ (x : LineCommand). x.line < n + 1) plan.commands (line_command n actor c)
-          (All-weaker (λ (x : LineCommand). x.line < n) (λ (x : LineCommand). x.line < n + 1) (λ x h. up x.line h) plan.commands is.below) (omega arith);
+          (All-weaker (λ (x : LineCommand). x.line < n) (λ (x : LineCommand). x.line < n + 1) (λ x h. omega arith)
+          plan.commands is.below) (omega arith);
     }
-  where
-    up : (k : ℕ) → k < n → k < n + 1
-    up k h = omega arith
 
 -- lines below a number are below the next
 next_number : (n : ℕ) (plan : Plan) → Upto n plan → Upto (n + 1) plan
 next_number n plan is = record {
   plan = is.plan;
-  below = All-weaker (λ (x : LineCommand). x.line < n) (λ (x : LineCommand). x.line < n + 1) (λ x h. up x.line h) plan.commands is.below;
+  below = All-weaker (λ (x : LineCommand). x.line < n) (λ (x : LineCommand). x.line < n + 1) (λ x h. omega arith)
+      plan.commands is.below;
 }
-  where
-    up : (k : ℕ) → k < n → k < n + 1
-    up k h = omega arith
 
 -- the same for what a reader gives
 next_gives : (n : ℕ) (r : Result Plan Cause) → Gives (Upto n) r → Gives (Upto (n + 1)) r
@@ -209,16 +238,20 @@ header-rows : (n : ℕ) (plan : Plan) → Upto n plan → EachRow (Reader (Upto 
 header-rows n plan is = (ram, (disk, (actor, tt)))
   where
     ram : Reader (Upto n) (λ ws. ram_words ws >>= add_disk plan)
-    ram ws = after IsDiskDecl (Upto n) (ram_words ws) (add_disk plan) (ram-gives ws) (λ d h. add_disk-keeps n plan d is h)
+    ram ws = after IsDiskDecl (Upto n) (ram_words ws) (add_disk plan) (ram-gives ws)
+        (λ d h. add_disk-keeps n plan d is h)
 
     disk : Reader (Upto n) (λ ws. disk_words ws >>= add_disk plan)
-    disk ws = after IsDiskDecl (Upto n) (disk_words ws) (add_disk plan) (disk-gives ws) (λ d h. add_disk-keeps n plan d is h)
+    disk ws = after IsDiskDecl (Upto n) (disk_words ws) (add_disk plan) (disk-gives ws)
+        (λ d h. add_disk-keeps n plan d is h)
 
     actor : Reader (Upto n) (λ ws. actor_words ws >>= add_actor plan)
-    actor ws = after IsShortName (Upto n) (actor_words ws) (add_actor plan) (actor-gives ws) (λ name h. add_actor-keeps n plan name is h)
+    actor ws = after IsShortName (Upto n) (actor_words ws) (add_actor plan) (actor-gives ws)
+        (λ name h. add_actor-keeps n plan name is h)
 
 -- so does one that may stand behind a command line
-header-keeps : (n : ℕ) (plan : Plan) (r : Result Plan Cause) → Gives (Upto n) r → Gives (Upto n) (before_commands plan r)
+header-keeps : (n : ℕ) (plan : Plan) (r : Result Plan Cause) → Gives (Upto n) r
+    → Gives (Upto n) (before_commands plan r)
 header-keeps n plan r h = into (length plan.commands == 0)
   where
     into : (t : Bool) → Gives (Upto n) (if t then r else Err causes.Header)
@@ -226,28 +259,37 @@ header-keeps n plan r h = into (length plan.commands == 0)
     into false = tt
 
 -- a line of an actor keeps the rules
-actor_line-keeps : (n : ℕ) (plan : Plan) (o : Option ℕ) (ws : Words) → 1 ≤ n → n ≤ 4096 → Upto n plan → ((actor : ℕ) → o ≡ Some actor → actor < length plan.actors) → Gives (Upto (n + 1)) (actor_line plan n o ws)
+actor_line-keeps : (n : ℕ) (plan : Plan) (o : Option ℕ) (ws : Words) → 1 ≤ n → n ≤ 4096 → Upto n plan
+    → ((actor : ℕ) → o ≡ Some actor → actor < length plan.actors) → Gives (Upto (n + 1)) (actor_line plan n o ws)
 actor_line-keeps n plan None ws some few is inside = tt
 actor_line-keeps n plan (Some actor) ws some few is inside =
-    after IsCommand (Upto (n + 1)) (by_word command_table ws) (add_command plan n actor) (commands-give ws) (λ c h. add_command-keeps n plan actor c some few is (inside actor refl) h)
+    after IsCommand (Upto (n + 1)) (by_word command_table ws) (add_command plan n actor) (commands-give ws)
+    (λ c h. add_command-keeps n plan actor c some few is (inside actor refl) h)
 
 -- a line keeps the rules, by its words
-words_line-keeps : (n : ℕ) (plan : Plan) (ws : Words) → 1 ≤ n → n ≤ 4096 → Upto n plan → Gives (Upto (n + 1)) (words_line plan n ws)
+words_line-keeps : (n : ℕ) (plan : Plan) (ws : Words) → 1 ≤ n → n ≤ 4096 → Upto n plan
+    → Gives (Upto (n + 1)) (words_line plan n ws)
 words_line-keeps n plan [] some few is = tt
 words_line-keeps n plan (word ∷ words) some few is =
-    into (beside (header_table plan) word) (λ read e. beside-all (Reader (Upto n)) (header_table plan) word read (header-rows n plan is) e)
+    into (beside (header_table plan) word)
+    (λ read e. beside-all (Reader (Upto n)) (header_table plan) word read (header-rows n plan is) e)
   where
-    into : (o : Option (Words → Result Plan Cause)) → ((read : Words → Result Plan Cause) → o ≡ Some read → Reader (Upto n) read) → Gives (Upto (n + 1)) (line_by plan n word words o)
+    into : (o : Option (Words → Result Plan Cause))
+        → ((read : Words → Result Plan Cause) → o ≡ Some read → Reader (Upto n) read)
+        → Gives (Upto (n + 1)) (line_by plan n word words o)
     into None known =
         actor_line-keeps n plan (position (same_name word) plan.actors) words some few is
         (λ actor e. (position-Some (same_name word) plan.actors actor [] e).0)
-    into (Some read) known = next_gives n (before_commands plan (read words)) (header-keeps n plan (read words) (known read refl words))
+    into (Some read) known =
+        next_gives n (before_commands plan (read words)) (header-keeps n plan (read words) (known read refl words))
 
 -- a line that isn't skipped keeps the rules
-plan_with_line-keeps : (n : ℕ) (plan : Plan) (line : List ℕ) → 1 ≤ n → Upto n plan → Gives (Upto (n + 1)) (plan_with_line plan n line)
+plan_with_line-keeps : (n : ℕ) (plan : Plan) (line : List ℕ) → 1 ≤ n → Upto n plan
+    → Gives (Upto (n + 1)) (plan_with_line plan n line)
 plan_with_line-keeps n plan line some is =
     into (nat_lt 4096 n) refl
-    ((is_long line, causes.Long) ∷ (not (list_all (λ b. nat_le 32 b && nat_le b 126) line), causes.Byte) ∷ (list_any (λ word. length word == 0) (words_of line), causes.Space) ∷ [])
+    ((is_long line, causes.Long) ∷ (not (list_all (λ b. nat_le 32 b && nat_le b 126) line), causes.Byte)
+    ∷ (list_any (λ word. length word == 0) (words_of line), causes.Space) ∷ [])
   where
     not_above : nat_lt 4096 n ≡ false → n ≤ 4096
     not_above t = grind (arith, nat_tests)
@@ -256,7 +298,8 @@ plan_with_line-keeps n plan line some is =
     tested few None = words_line-keeps n plan (words_of line) some few is
     tested few (Some cause) = tt
 
-    into : (t : Bool) → nat_lt 4096 n ≡ t → (rows : List (Bool × Cause)) → Gives (Upto (n + 1)) (unless (first_error ((t, causes.Lines) ∷ rows)) (words_of line) >>= words_line plan n)
+    into : (t : Bool) → nat_lt 4096 n ≡ t → (rows : List (Bool × Cause))
+        → Gives (Upto (n + 1)) (unless (first_error ((t, causes.Lines) ∷ rows)) (words_of line) >>= words_line plan n)
     into true t rows = tt
     into false t rows = tested (not_above t) (first_error rows)
 
@@ -273,7 +316,8 @@ at_line-keeps P n (Ok plan) h = h
 at_line-keeps P n (Err cause) h = tt
 
 -- each line keeps the rules
-next_line-keeps : (n : ℕ) (r : Result Plan Fault) (line : List ℕ) → 1 ≤ n → Keeps (Upto n) r → Keeps (Upto (n + 1)) (next_line r (n, line))
+next_line-keeps : (n : ℕ) (r : Result Plan Fault) (line : List ℕ) → 1 ≤ n → Keeps (Upto n) r
+    → Keeps (Upto (n + 1)) (next_line r (n, line))
 next_line-keeps n (Err fault) line some h = tt
 next_line-keeps n (Ok plan) line some is = into (is_skipped line)
   where
@@ -287,9 +331,11 @@ without_number n (Ok plan) h = h.plan
 without_number n (Err fault) h = tt
 
 -- all lines keep the rules
-lines-keep : (lines : List (List ℕ)) (n : ℕ) (r : Result Plan Fault) → 1 ≤ n → Keeps (Upto n) r → Keeps IsPlan (fold next_line r (enumerate_from n lines))
+lines-keep : (lines : List (List ℕ)) (n : ℕ) (r : Result Plan Fault) → 1 ≤ n → Keeps (Upto n) r
+    → Keeps IsPlan (fold next_line r (enumerate_from n lines))
 lines-keep [] n r some h = without_number n r h
-lines-keep (line ∷ lines) n r some h = lines-keep lines (n + 1) (next_line r (n, line)) (omega arith) (next_line-keeps n r line some h)
+lines-keep (line ∷ lines) n r some h =
+    lines-keep lines (n + 1) (next_line r (n, line)) (omega arith) (next_line-keeps n r line some h)
 
 -- the empty plan keeps the rules
 nothing_yet : Upto 1 empty_plan
@@ -310,4 +356,5 @@ nothing_yet = record {
 -- the plan of a script keeps the rules of plans
 pub scripts-are-plans : ScriptsArePlans
 unfolding script
-scripts-are-plans text plan e = subst (Keeps IsPlan) e (lines-keep (lines_of text) 1 (Ok empty_plan) (omega arith) nothing_yet)
+scripts-are-plans text plan e =
+    subst (Keeps IsPlan) e (lines-keep (lines_of text) 1 (Ok empty_plan) (omega arith) nothing_yet)

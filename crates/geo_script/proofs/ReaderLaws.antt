@@ -4,6 +4,7 @@ use Rattle.std.specs.List.{All}
 use Rattle.std.specs.Option.{option_map_or}
 use Rattle.std.proofs.lemmas.Bool.Decides.{nat_tests}
 use Rattle.std.proofs.lemmas.List.Elements.{All-nil, All-cons}
+use Rattle.std.proofs.lemmas.Bool.{ltb-true}
 use Rattle.geo_base.specs.Name.{is_name, is_short_name}
 use Rattle.geo_base.specs.Sectors.{IsSectorSize}
 use Rattle.geo_base.specs.declared.request.Counts.{Counts}
@@ -23,7 +24,8 @@ Gives P (Ok x) = P x
 Gives P (Err cause) = Unit {0}
 
 -- two readers one after the other
-pub after : {A B : Type 0} (P : A → Type 0) (Q : B → Type 0) (r : Result A Cause) (f : A → Result B Cause) → Gives P r → ((x : A) → P x → Gives Q (f x)) → Gives Q (r >>= f)
+pub after : {A B : Type 0} (P : A → Type 0) (Q : B → Type 0) (r : Result A Cause) (f : A → Result B Cause)
+    → Gives P r → ((x : A) → P x → Gives Q (f x)) → Gives Q (r >>= f)
 after P Q (Ok x) f h more = more x h
 after P Q (Err cause) f h more = tt
 
@@ -37,7 +39,8 @@ abbrev pub OfValue : {A : Type 0} → (A → Type 0) → A × Words → Type 0
 OfValue P x = P x.0
 
 -- a value that is found has what each such value has
-found-gives : {A : Type 0} (P : A → Type 0) (cause : Cause) (ws : Words) (o : Option A) → ((x : A) → o ≡ Some x → P x) → Gives (OfValue P) (found_or cause ws o)
+found-gives : {A : Type 0} (P : A → Type 0) (cause : Cause) (ws : Words) (o : Option A)
+    → ((x : A) → o ≡ Some x → P x) → Gives (OfValue P) (found_or cause ws o)
 found-gives P cause ws None h = tt
 found-gives P cause ws (Some x) h = h x refl
 
@@ -49,7 +52,8 @@ EachRow P [] = Unit {0}
 EachRow P (row ∷ rows) = P row.1 × EachRow P rows
 
 -- what is found in a table is one of its rows
-pub beside-all : {A : Type 0} (P : A → Type 0) (table : List (List ℕ × A)) (word : List ℕ) (x : A) → EachRow P table → beside table word ≡ Some x → P x
+pub beside-all : {A : Type 0} (P : A → Type 0) (table : List (List ℕ × A)) (word : List ℕ) (x : A)
+    → EachRow P table → beside table word ≡ Some x → P x
 beside-all P [] word x each e = absurd (cc)
 beside-all P (row ∷ rows) word x each e = into (same_name row.0 word) (beside-all P rows word x each.1) e
   where
@@ -62,22 +66,29 @@ abbrev pub Reader : {A : Type 0} → (A → Type 0) → (Words → Result A Caus
 Reader P read = (ws : Words) → Gives P (read ws)
 
 -- a table of readers is a reader
-pub by_word-gives : {A : Type 0} (P : A → Type 0) (table : List (List ℕ × (Words → Result A Cause))) → EachRow (Reader P) table → Reader P (by_word table)
+pub by_word-gives : {A : Type 0} (P : A → Type 0) (table : List (List ℕ × (Words → Result A Cause)))
+    → EachRow (Reader P) table → Reader P (by_word table)
 by_word-gives P table each [] = tt
-by_word-gives {A = A} P table each (word ∷ words) = into (beside table word) (λ read e. beside-all (Reader P) table word read each e)
+by_word-gives {A = A} P table each (word ∷ words) =
+    into (beside table word) (λ read e. beside-all (Reader P) table word read each e)
   where
-    into : (o : Option (Words → Result A Cause)) → ((read : Words → Result A Cause) → o ≡ Some read → Reader P read) → Gives P (option_map_or (λ read. read words) o (Err causes.Word))
+    into : (o : Option (Words → Result A Cause))
+        → ((read : Words → Result A Cause) → o ≡ Some read → Reader P read)
+        → Gives P (option_map_or (λ read. read words) o (Err causes.Word))
     into None h = tt
     into (Some read) h = h read refl words
 
 -- Names and numbers
 
 -- a word that is read passes the test
-tested-gives : (test : List ℕ → Bool) (cause : Cause) (ws : Words) → Gives (OfValue (λ word. IsTrue (test word))) (tested test cause ws)
+tested-gives : (test : List ℕ → Bool) (cause : Cause) (ws : Words)
+    → Gives (OfValue (λ word. IsTrue (test word))) (tested test cause ws)
 tested-gives test cause [] = tt
 tested-gives test cause (word ∷ words) = into (test word) refl
   where
-    into : (t : Bool) → test word ≡ t → Gives (OfValue (λ word. IsTrue (test word))) (if◌then◌else◌ {A = Result (List ℕ × Words) Cause} t (Ok (word, words)) (Err cause))
+    into : (t : Bool) → test word ≡ t
+        → Gives (OfValue (λ word. IsTrue (test word)))
+        (if◌then◌else◌ {A = Result (List ℕ × Words) Cause} t (Ok (word, words)) (Err cause))
     into true e = e
     into false e = tt
 
@@ -97,8 +108,10 @@ InRange test n = (test n ≡ true) × IsWord64 n
 number-fits : (word : List ℕ) (n : ℕ) → number_of word ≡ Some n → IsWord64 n
 number-fits word n e = into (is_decimal word) (nat_lt (value_of word) (2 ^ 64)) refl e
   where
-    into : (d t : Bool) → nat_lt (value_of word) (2 ^ 64) ≡ t → (if d && t then Some (value_of word) else None) ≡ Some n → n < 2 ^ 64
-    into true true t e = let same : value_of word ≡ n = cc in subst (λ (m : ℕ). m < 2 ^ 64) same (below (value_of word) t)
+    into : (d t : Bool) → nat_lt (value_of word) (2 ^ 64) ≡ t
+        → (if d && t then Some (value_of word) else None) ≡ Some n → n < 2 ^ 64
+    into true true t e = let same : value_of word ≡ n = cc in
+        subst (λ (m : ℕ). m < 2 ^ 64) same (below (value_of word) t)
       where
         below : (v : ℕ) → nat_lt v (2 ^ 64) ≡ true → v < 2 ^ 64
         below v t = grind (arith, nat_tests)
@@ -111,7 +124,9 @@ ranged-gives : (test : ℕ → Bool) (ws : Words) → Gives (OfValue (InRange te
 ranged-gives test [] = tt
 ranged-gives test (word ∷ words) = into (number_of word) (λ n e. number-fits word n e)
   where
-    tried : (n : ℕ) (t : Bool) → test n ≡ t → IsWord64 n → Gives (OfValue (InRange test)) (if◌then◌else◌ {A = Result (ℕ × Words) Cause} t (Ok (n, words)) (Err causes.Range))
+    tried : (n : ℕ) (t : Bool) → test n ≡ t → IsWord64 n
+        → Gives (OfValue (InRange test))
+        (if◌then◌else◌ {A = Result (ℕ × Words) Cause} t (Ok (n, words)) (Err causes.Range))
     tried n true e fits = (e, fits)
     tried n false e fits = tt
 
@@ -126,7 +141,8 @@ weaker P Q (Err cause) h g = tt
 
 -- a number has at most 64 bits
 pub any_number-gives : (ws : Words) → Gives (OfValue IsWord64) (any_number ws)
-any_number-gives ws = weaker (OfValue (InRange (λ n. true))) (OfValue IsWord64) (any_number ws) (λ x h. h.1) (ranged-gives (λ n. true) ws)
+any_number-gives ws =
+    weaker (OfValue (InRange (λ n. true))) (OfValue IsWord64) (any_number ws) (λ x h. h.1) (ranged-gives (λ n. true) ws)
 
 -- the test of a sector size
 sector-one : (n : ℕ) → ((n == 512) || (n == 4096)) ≡ true → IsSectorSize n
@@ -142,7 +158,9 @@ sector-one n e = into (n == 512) refl (n == 4096) refl e
 
 -- a sector size is one of the two
 pub sector_size-gives : (ws : Words) → Gives (OfValue IsSectorSize) (sector_size ws)
-sector_size-gives ws = weaker (OfValue (InRange (λ n. (n == 512) || (n == 4096)))) (OfValue IsSectorSize) (sector_size ws) (λ x h. sector-one x.0 h.0) (ranged-gives (λ n. (n == 512) || (n == 4096)) ws)
+sector_size-gives ws =
+    weaker (OfValue (InRange (λ n. (n == 512) || (n == 4096)))) (OfValue IsSectorSize) (sector_size ws)
+    (λ x h. sector-one x.0 h.0) (ranged-gives (λ n. (n == 512) || (n == 4096)) ws)
 
 -- the sectors of a disk in memory
 abbrev pub IsSectorCount : ℕ → ℕ → Type 0
@@ -156,23 +174,24 @@ two_tests a b c d e = (grind (arith, nat_tests), grind (arith, nat_tests))
 le_and_lt : (a b c d : ℕ) → (nat_le a b && nat_lt c d) ≡ true → (a ≤ b) × (c < d)
 le_and_lt a b c d e = (grind (arith, nat_tests), grind (arith, nat_tests))
 
--- a test of an order
-lt_test : (a b : ℕ) → nat_lt a b ≡ true → a < b
-lt_test a b e = grind (arith, nat_tests)
-
 -- the sectors of a disk in memory are few
 pub sector_count-gives : (sector : ℕ) (ws : Words) → Gives (OfValue (IsSectorCount sector)) (sector_count sector ws)
 sector_count-gives sector ws =
-    weaker (OfValue (InRange (λ n. nat_le 1 n && nat_le (n * sector) 67108864))) (OfValue (IsSectorCount sector)) (sector_count sector ws) (λ x h. two_tests 1 x.0 (x.0 * sector) 67108864 h.0)
+    weaker (OfValue (InRange (λ n. nat_le 1 n && nat_le (n * sector) 67108864))) (OfValue (IsSectorCount sector))
+    (sector_count sector ws) (λ x h. two_tests 1 x.0 (x.0 * sector) 67108864 h.0)
     (ranged-gives (λ n. nat_le 1 n && nat_le (n * sector) 67108864) ws)
 
 -- an id fits 32 bits
 pub record_id-gives : (ws : Words) → Gives (OfValue (λ n. n < 2 ^ 32)) (record_id ws)
-record_id-gives ws = weaker (OfValue (InRange (λ n. nat_lt n (2 ^ 32)))) (OfValue (λ n. n < 2 ^ 32)) (record_id ws) (λ x h. lt_test x.0 (2 ^ 32) h.0) (ranged-gives (λ n. nat_lt n (2 ^ 32)) ws)
+record_id-gives ws =
+    weaker (OfValue (InRange (λ n. nat_lt n (2 ^ 32)))) (OfValue (λ n. n < 2 ^ 32)) (record_id ws)
+    (λ x h. ltb-true x.0 (2 ^ 32) h.0) (ranged-gives (λ n. nat_lt n (2 ^ 32)) ws)
 
 -- a place fits 16 bits
 pub record_place-gives : (ws : Words) → Gives (OfValue (λ n. n < 65536)) (record_place ws)
-record_place-gives ws = weaker (OfValue (InRange (λ n. nat_lt n 65536))) (OfValue (λ n. n < 65536)) (record_place ws) (λ x h. lt_test x.0 65536 h.0) (ranged-gives (λ n. nat_lt n 65536) ws)
+record_place-gives ws =
+    weaker (OfValue (InRange (λ n. nat_lt n 65536))) (OfValue (λ n. n < 65536)) (record_place ws)
+    (λ x h. ltb-true x.0 65536 h.0) (ranged-gives (λ n. nat_lt n 65536) ws)
 
 -- 1 to 16
 abbrev pub IsCount : ℕ → Type 0
@@ -180,24 +199,29 @@ IsCount n = (1 ≤ n) × (n ≤ 16)
 
 -- a count is 1 to 16
 pub record_count-gives : (ws : Words) → Gives (OfValue IsCount) (record_count ws)
-record_count-gives ws = weaker (OfValue (InRange (λ n. nat_le 1 n && nat_le n 16))) (OfValue IsCount) (record_count ws) (λ x h. two_tests 1 x.0 x.0 16 h.0) (ranged-gives (λ n. nat_le 1 n && nat_le n 16) ws)
+record_count-gives ws =
+    weaker (OfValue (InRange (λ n. nat_le 1 n && nat_le n 16))) (OfValue IsCount) (record_count ws)
+    (λ x h. two_tests 1 x.0 x.0 16 h.0) (ranged-gives (λ n. nat_le 1 n && nat_le n 16) ws)
 
 -- a stripe size is 1 or more and fits 32 bits
 pub stripe_size-gives : (ws : Words) → Gives (OfValue IsStripe) (stripe_size ws)
 stripe_size-gives ws =
     weaker (OfValue (InRange (λ n. nat_le 1 n && nat_lt n (2 ^ 32)))) (OfValue IsStripe) (stripe_size ws)
-    (λ x h. let told = le_and_lt 1 x.0 x.0 (2 ^ 32) h.0 in record { some = told.0; limited = told.1 }) (ranged-gives (λ n. nat_le 1 n && nat_lt n (2 ^ 32)) ws)
+    (λ x h. let told = le_and_lt 1 x.0 x.0 (2 ^ 32) h.0 in record { some = told.0; limited = told.1 })
+    (ranged-gives (λ n. nat_le 1 n && nat_lt n (2 ^ 32)) ws)
 
 -- Counts, classes, runs and components
 
 -- digits that aren't all zero
-some-count : (a b c : ℕ) → 48 ≤ a → 48 ≤ b → 48 ≤ c → not ((a == 48) && ((b == 48) && (c == 48))) ≡ true → (a - 48 ≢ 0) ⊎ (b - 48 ≢ 0) ⊎ (c - 48 ≢ 0)
+some-count : (a b c : ℕ) → 48 ≤ a → 48 ≤ b → 48 ≤ c → not ((a == 48) && ((b == 48) && (c == 48))) ≡ true
+    → (a - 48 ≢ 0) ⊎ (b - 48 ≢ 0) ⊎ (c - 48 ≢ 0)
 some-count a b c la lb lc e = into (a == 48) refl (b == 48) refl (c == 48) refl e
   where
     other : (n : ℕ) → 48 ≤ n → (n == 48) ≡ false → n - 48 ≢ 0
     other n low t = let apart : n ≢ 48 = grind (arith, nat_tests) in λ none. absurd (apart (omega arith))
 
-    into : (p : Bool) → (a == 48) ≡ p → (q : Bool) → (b == 48) ≡ q → (r : Bool) → (c == 48) ≡ r → not (p && (q && r)) ≡ true → (a - 48 ≢ 0) ⊎ (b - 48 ≢ 0) ⊎ (c - 48 ≢ 0)
+    into : (p : Bool) → (a == 48) ≡ p → (q : Bool) → (b == 48) ≡ q → (r : Bool) → (c == 48) ≡ r
+        → not (p && (q && r)) ≡ true → (a - 48 ≢ 0) ⊎ (b - 48 ≢ 0) ⊎ (c - 48 ≢ 0)
     into false ea q eb r ec e = inl (other a la ea)
     into true ea false eb r ec e = inr (inl (other b lb eb))
     into true ea true eb false ec e = inr (inr (other c lc ec))
@@ -212,7 +236,8 @@ digit-range : (a : ℕ) → is_digit a ≡ true → (48 ≤ a) × (a ≤ 57)
 digit-range a e = two_tests 48 a a 57 e
 
 -- the last four of seven tests at once
-six_true : (p q r s t u v : Bool) → (p && (q && (r && (s && (t && (u && v)))))) ≡ true → (s ≡ true) × (t ≡ true) × (u ≡ true) × (v ≡ true)
+six_true : (p q r s t u v : Bool) → (p && (q && (r && (s && (t && (u && v)))))) ≡ true → (s ≡ true) × (t ≡ true)
+    × (u ≡ true) × (v ≡ true)
 six_true true true true true true true v e = (refl, refl, refl, e)
 six_true true true true true true false v e = absurd (cc)
 six_true true true true true false u v e = absurd (cc)
@@ -231,13 +256,23 @@ counts-grant (r ∷ a ∷ w ∷ b ∷ []) g e = absurd (cc)
 counts-grant (r ∷ a ∷ w ∷ b ∷ x ∷ []) g e = absurd (cc)
 counts-grant (r ∷ a ∷ w ∷ b ∷ x ∷ c ∷ d ∷ ds) g e = absurd (cc)
 counts-grant (r ∷ a ∷ w ∷ b ∷ x ∷ c ∷ []) g e =
-    into ((r == 114) && ((w == 119) && ((x == 101) && (is_digit a && (is_digit b && (is_digit c && not ((a == 48) && ((b == 48) && (c == 48))))))))) refl e
+    into ((r == 114)
+    && ((w == 119)
+    && ((x == 101)
+    && (is_digit a && (is_digit b && (is_digit c && not ((a == 48) && ((b == 48) && (c == 48))))))))) refl e
   where
-    into : (t : Bool) → ((r == 114) && ((w == 119) && ((x == 101) && (is_digit a && (is_digit b && (is_digit c && not ((a == 48) && ((b == 48) && (c == 48))))))))) ≡ t → (if t then Some (counts_at a b c) else None) ≡ Some g → IsGrant g
+    into : (t : Bool)
+        → ((r == 114)
+        && ((w == 119)
+        && ((x == 101)
+        && (is_digit a
+        && (is_digit b && (is_digit c && not ((a == 48) && ((b == 48) && (c == 48))))))))) ≡ t
+        → (if t then Some (counts_at a b c) else None) ≡ Some g → IsGrant g
     into false t e = absurd (cc)
     into true t e =
         let same : counts_at a b c ≡ g = cc in
-        let told = six_true (r == 114) (w == 119) (x == 101) (is_digit a) (is_digit b) (is_digit c) (not ((a == 48) && ((b == 48) && (c == 48)))) t in
+        let told = six_true (r == 114) (w == 119) (x == 101) (is_digit a) (is_digit b) (is_digit c)
+        (not ((a == 48) && ((b == 48) && (c == 48)))) t in
         let da = digit-range a told.0 in
         let db = digit-range b told.1 in
         let dc = digit-range c told.2 in
@@ -254,7 +289,8 @@ counts-grant (r ∷ a ∷ w ∷ b ∷ x ∷ c ∷ []) g e =
 -- the same for the reader of a word
 pub counts_word-gives : (ws : Words) → Gives (OfValue IsGrant) (counts_word ws)
 counts_word-gives [] = tt
-counts_word-gives (word ∷ words) = found-gives IsGrant causes.Counts words (counts_of word) (λ g e. counts-grant word g e)
+counts_word-gives (word ∷ words) =
+    found-gives IsGrant causes.Counts words (counts_of word) (λ g e. counts-grant word g e)
 
 -- each class of the table can be named
 class-rows : EachRow IsNamedClass class_names
@@ -263,14 +299,17 @@ class-rows = (inl refl, (inl refl, (inl refl, (inl refl, (inl refl, (inr refl, t
 -- a class that is read can be named
 pub class_word-gives : (ws : Words) → Gives (OfValue IsNamedClass) (class_word ws)
 class_word-gives [] = tt
-class_word-gives (word ∷ words) = found-gives IsNamedClass causes.Word words (beside class_names word) (λ k e. beside-all IsNamedClass class_names word k class-rows e)
+class_word-gives (word ∷ words) =
+    found-gives IsNamedClass causes.Word words (beside class_names word)
+    (λ k e. beside-all IsNamedClass class_names word k class-rows e)
 
 -- runs that are read are 1 to 65,536 bytes
 pub runs_words-gives : (ws : Words) → Gives (OfValue IsRunsBytes) (runs_words ws)
 runs_words-gives [] = tt
 runs_words-gives (word ∷ words) =
     found-gives IsRunsBytes causes.Runs [] (option_and_then fitting_bytes (runs_in (word ∷ words)))
-    (λ bytes e. let told = read-bytes (word ∷ words) bytes (omega arith) e in record { some = told.0; not_long = told.1; each = told.2 })
+    (λ bytes e. let told = read-bytes (word ∷ words) bytes (omega arith) e in
+    record { some = told.0; not_long = told.1; each = told.2 })
 
 -- so many names at most, and one where a word stands
 record AreNames (n : ℕ) (ws : Words) (names : List (List ℕ)) : Type 0 where
@@ -285,7 +324,8 @@ names-give (suc n) [] = record { few = omega arith; some = λ h. h; each = All-n
 names-give zero (word ∷ words) = tt
 names-give (suc n) (word ∷ words) = into (is_name word) refl (names_within n words) (names-give n words)
   where
-    into : (t : Bool) → is_name word ≡ t → (r : Result (List (List ℕ)) Cause) → Gives (AreNames n words) r → Gives (AreNames (suc n) (word ∷ words)) (if t then (r >>= λ names. Ok (word ∷ names)) else Err causes.Name)
+    into : (t : Bool) → is_name word ≡ t → (r : Result (List (List ℕ)) Cause) → Gives (AreNames n words) r
+        → Gives (AreNames (suc n) (word ∷ words)) (if t then (r >>= λ names. Ok (word ∷ names)) else Err causes.Name)
     into false t r h = tt
     into true t (Err cause) h = tt
     into true t (Ok names) h =
@@ -296,7 +336,8 @@ names-give (suc n) (word ∷ words) = into (is_name word) refl (names_within n w
 pub long_names-gives : (ws : Words) → Gives (OfValue AreComponents) (long_names ws)
 long_names-gives [] = tt
 long_names-gives (word ∷ words) =
-    after (AreNames 16 (word ∷ words)) (OfValue AreComponents) (names_within 16 (word ∷ words)) (λ names. Ok (names, [])) (names-give 16 (word ∷ words))
+    after (AreNames 16 (word ∷ words)) (OfValue AreComponents) (names_within 16 (word ∷ words))
+    (λ names. Ok (names, [])) (names-give 16 (word ∷ words))
     (λ names h. record { some = h.some (omega arith); not_many = h.few; each = h.each })
 
 -- Commands
@@ -311,7 +352,8 @@ open-gives ws =
 
 close-gives : Reader IsCommand close_words
 close-gives ws =
-    after (OfValue IsShortName) IsCommand (short_name ws) _ (short_name-gives ws) (λ h hs. at_end-gives IsCommand (commands.Close h.0) h.1 hs)
+    after (OfValue IsShortName) IsCommand (short_name ws) _ (short_name-gives ws)
+    (λ h hs. at_end-gives IsCommand (commands.Close h.0) h.1 hs)
 
 read-gives : Reader IsCommand read_words
 read-gives ws =
@@ -336,15 +378,18 @@ delete-gives ws =
 
 flush-gives : Reader IsCommand flush_words
 flush-gives ws =
-    after (OfValue IsShortName) IsCommand (short_name ws) _ (short_name-gives ws) (λ h hs. at_end-gives IsCommand (commands.Flush h.0) h.1 hs)
+    after (OfValue IsShortName) IsCommand (short_name ws) _ (short_name-gives ws)
+    (λ h hs. at_end-gives IsCommand (commands.Flush h.0) h.1 hs)
 
 insert-gives : Reader IsCommand insert_words
 insert-gives ws =
-    after (OfValue IsShortName) IsCommand (short_name ws) _ (short_name-gives ws) (λ d ds. at_end-gives IsCommand (commands.Insert d.0) d.1 ds)
+    after (OfValue IsShortName) IsCommand (short_name ws) _ (short_name-gives ws)
+    (λ d ds. at_end-gives IsCommand (commands.Insert d.0) d.1 ds)
 
 pull-gives : Reader IsCommand pull_words
 pull-gives ws =
-    after (OfValue IsShortName) IsCommand (short_name ws) _ (short_name-gives ws) (λ d ds. at_end-gives IsCommand (commands.Pull d.0) d.1 ds)
+    after (OfValue IsShortName) IsCommand (short_name ws) _ (short_name-gives ws)
+    (λ d ds. at_end-gives IsCommand (commands.Pull d.0) d.1 ds)
 
 nop-gives : Reader IsCommand nop_words
 nop-gives ws =
@@ -393,7 +438,8 @@ relabel-gives ws =
 
 -- the numbers of a record
 abbrev marked : {id place count : ℕ} → id < 2 ^ 32 → place < 65536 → IsCount count → IsMark id place count
-marked id_fits place_fits few = record { id_fits = id_fits; place_fits = place_fits; some_place = few.0; few_places = few.1 }
+marked id_fits place_fits few =
+    record { id_fits = id_fits; place_fits = place_fits; some_place = few.0; few_places = few.1 }
 
 -- a record of a concatenation, behind the handle
 mark_concat-gives : (h : List ℕ) → IsShortName h → Reader IsCommand (mark_concat_words h)
@@ -412,12 +458,18 @@ mark_stripe-gives h hs ws =
     after (OfValue (λ n. n < 65536)) IsCommand (record_place id.1) _ (record_place-gives id.1) (λ place ps.
     after (OfValue IsCount) IsCommand (record_count place.1) _ (record_count-gives place.1) (λ count cs.
     after (OfValue IsStripe) IsCommand (stripe_size count.1) _ (stripe_size-gives count.1) (λ stripe ss.
-    at_end-gives IsCommand (commands.MarkStripe h name.0 id.0 place.0 count.0 stripe.0) stripe.1 (hs, ns, marked is ps cs, ss))))))
+    at_end-gives IsCommand (commands.MarkStripe h name.0 id.0 place.0 count.0 stripe.0) stripe.1 (
+      hs,
+      ns,
+      marked is ps cs,
+      ss,
+    ))))))
 
 mark-gives : Reader IsCommand mark_words
 mark-gives ws =
     after (OfValue IsShortName) IsCommand (short_name ws) _ (short_name-gives ws) (λ h hs.
-    by_word-gives IsCommand ((codes "concat", mark_concat_words h.0) ∷ (codes "stripe", mark_stripe_words h.0) ∷ []) (mark_concat-gives h.0 hs, (mark_stripe-gives h.0 hs, tt)) h.1)
+    by_word-gives IsCommand ((codes "concat", mark_concat_words h.0) ∷ (codes "stripe", mark_stripe_words h.0)
+    ∷ []) (mark_concat-gives h.0 hs, (mark_stripe-gives h.0 hs, tt)) h.1)
 
 sync-gives : Reader IsCommand (at_end commands.Sync)
 sync-gives ws = at_end-gives IsCommand commands.Sync ws tt
@@ -430,11 +482,32 @@ mesh-gives ws = at_end-gives IsCommand commands.Mesh ws tt
 
 -- the commands on disks, geoms and records, and of the listing
 geom-rows : EachRow (Reader IsCommand) geom_commands
-geom-rows = (insert-gives, (pull-gives, (nop-gives, (concat-gives, (stripe-gives, (append-gives, (destroy-gives, (label-gives, (relabel-gives, (mark-gives, (mesh-gives, tt)))))))))))
+geom-rows = (
+  insert-gives,
+  (
+    pull-gives,
+    (
+      nop-gives,
+      (
+        concat-gives,
+        (
+          stripe-gives,
+          (append-gives, (destroy-gives, (label-gives, (relabel-gives, (mark-gives, (mesh-gives, tt)))))),
+        ),
+      ),
+    ),
+  ),
+)
 
 -- all commands of the table
 command-rows : EachRow (Reader IsCommand) command_table
-command-rows = (open-gives, (close-gives, (read-gives, (write-gives, (delete-gives, (flush-gives, (sync-gives, (settle-gives, geom-rows))))))))
+command-rows = (
+  open-gives,
+  (
+    close-gives,
+    (read-gives, (write-gives, (delete-gives, (flush-gives, (sync-gives, (settle-gives, geom-rows)))))),
+  ),
+)
 
 -- a command that is read has its form
 pub commands-give : Reader IsCommand (by_word command_table)
@@ -455,9 +528,16 @@ pub ram-gives : Reader IsDiskDecl ram_words
 ram-gives ws =
     after (OfValue IsShortName) IsDiskDecl (short_name ws) _ (short_name-gives ws) (λ name ns.
     after (OfValue IsSectorSize) IsDiskDecl (sector_size name.1) _ (sector_size-gives name.1) (λ sector ss.
-    after (OfValue (IsSectorCount sector.0)) IsDiskDecl (sector_count sector.0 sector.1) _ (sector_count-gives sector.0 sector.1) (λ sectors cs.
+    after (OfValue (IsSectorCount sector.0)) IsDiskDecl (sector_count sector.0 sector.1) _
+    (sector_count-gives sector.0 sector.1) (λ sectors cs.
     after (λ x. Unit {0}) IsDiskDecl (later_word sectors.1) _ (later-gives sectors.1) (λ later ls.
-    at_end-gives IsDiskDecl (record { kind = disk_kinds.Ram; name = name.0; sector = sector.0; sectors = sectors.0; later = later.0 }) later.1
+    at_end-gives IsDiskDecl (record {
+      kind = disk_kinds.Ram;
+      name = name.0;
+      sector = sector.0;
+      sectors = sectors.0;
+      later = later.0;
+    }) later.1
     (record { name = ns; sector = ss; sectors = cs })))))
 
 -- a disk of the shelf has its form
@@ -466,10 +546,17 @@ disk-gives ws =
     after (OfValue IsShortName) IsDiskDecl (short_name ws) _ (short_name-gives ws) (λ name ns.
     after (OfValue IsSectorSize) IsDiskDecl (sector_size name.1) _ (sector_size-gives name.1) (λ sector ss.
     after (λ x. Unit {0}) IsDiskDecl (later_word sector.1) _ (later-gives sector.1) (λ later ls.
-    at_end-gives IsDiskDecl (record { kind = disk_kinds.Shelf; name = name.0; sector = sector.0; sectors = 0; later = later.0 }) later.1
+    at_end-gives IsDiskDecl (record {
+      kind = disk_kinds.Shelf;
+      name = name.0;
+      sector = sector.0;
+      sectors = 0;
+      later = later.0;
+    }) later.1
     (record { name = ns; sector = ss; sectors = refl }))))
 
 -- an actor's name is short
 pub actor-gives : Reader IsShortName actor_words
 actor-gives ws =
-    after (OfValue IsShortName) IsShortName (short_name ws) _ (short_name-gives ws) (λ name ns. at_end-gives IsShortName name.0 name.1 ns)
+    after (OfValue IsShortName) IsShortName (short_name ws) _ (short_name-gives ws)
+    (λ name ns. at_end-gives IsShortName name.0 name.1 ns)

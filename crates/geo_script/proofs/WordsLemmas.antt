@@ -1,10 +1,11 @@
 -- The words of a line, from the first on.
-use Rattle.std.proofs.Common.{◌≡◌, ℕ, ◌+◌, ◌<◌, ◌≤◌, ◌==◌, ◌-◌, ◌&&◌, ◌||◌, nat_lt, nat_le, Bool, true, false, not, List, [], ◌∷◌, length, take, drop, Option, Some, None, Result, Ok, Err, refl, sym, ◌∙◌, ap, arith, cond, length-drop, if◌then◌else◌}
-use Rattle.std.specs.List.{slice_split, position, position_or_len, onto_first, list_all}
+use Rattle.std.proofs.Common.{◌≡◌, ℕ, ◌+◌, ◌<◌, ◌≤◌, ◌==◌, ◌-◌, nat_lt, Bool, true, false, not, List, [], ◌∷◌, length, take, drop, Option, Some, None, Result, Ok, Err, refl, sym, ◌∙◌, ap, arith, cond, length-drop, if◌then◌else◌}
+use Rattle.std.specs.List.{slice_split, position, position_or_len, onto_first}
 use Rattle.std.proofs.lemmas.List.Splits.{slice_split_first}
 use Rattle.std.proofs.lemmas.List.{take_all}
 use Rattle.std.proofs.lemmas.Bool.Decides.{nat_tests}
-use Rattle.geo_base.specs.Name.{name_of, is_name, is_name_byte, is_word_byte, is_short_name}
+use Rattle.geo_base.proofs.Tests.{short_name-named}
+use Rattle.geo_base.specs.Name.{name_of, is_name, is_short_name}
 use Rattle.std.specs.Option.{is_some}
 use Rattle.std.specs.Borrow.{Bor}
 use Rattle.geo_script.specs.WordsLeft.{words_left}
@@ -13,10 +14,13 @@ use Rattle.geo_model.specs.declared.command.Cause.TheVariants as causes
 use Rattle.geo_model.specs.ScriptWords.{Words, next_word, short_name, at_end, class_word, class_names, beside, found_or}
 
 -- a byte that stands there ends the first part
-pub split_at : (b : ℕ) (xs : List ℕ) (at : ℕ) → position (λ x. x == b) xs ≡ Some at → slice_split (λ x. x == b) xs ≡ take at xs ∷ slice_split (λ x. x == b) (drop (at + 1) xs)
+pub split_at : (b : ℕ) (xs : List ℕ) (at : ℕ) → position (λ x. x == b) xs ≡ Some at
+    → slice_split (λ x. x == b) xs ≡ take at xs ∷ slice_split (λ x. x == b) (drop (at + 1) xs)
 split_at b xs at e = into (nat_lt (position_or_len (λ x. x == b) xs) (length xs)) refl e
   where
-    into : (t : Bool) → nat_lt (position_or_len (λ x. x == b) xs) (length xs) ≡ t → (if t then Some (position_or_len (λ x. x == b) xs) else None) ≡ Some at → slice_split (λ x. x == b) xs ≡ take at xs ∷ slice_split (λ x. x == b) (drop (at + 1) xs)
+    into : (t : Bool) → nat_lt (position_or_len (λ x. x == b) xs) (length xs) ≡ t
+        → (if t then Some (position_or_len (λ x. x == b) xs) else None) ≡ Some at
+        → slice_split (λ x. x == b) xs ≡ take at xs ∷ slice_split (λ x. x == b) (drop (at + 1) xs)
     into true inside e =
         let lt : position_or_len (λ x. x == b) xs < length xs = grind (arith, nat_tests) in
         let same : position_or_len (λ x. x == b) xs ≡ at = cc in
@@ -24,11 +28,14 @@ split_at b xs at e = into (nat_lt (position_or_len (λ x. x == b) xs) (length xs
     into false inside e = absurd (cc)
 
 -- no part but one, up to the end
-split_whole : (b : ℕ) (xs : List ℕ) → length xs ≤ position_or_len (λ x. x == b) xs → slice_split (λ x. x == b) xs ≡ xs ∷ []
+split_whole : (b : ℕ) (xs : List ℕ) → length xs ≤ position_or_len (λ x. x == b) xs
+    → slice_split (λ x. x == b) xs ≡ xs ∷ []
 split_whole b [] h = refl
 split_whole b (x ∷ xs) h = into (x == b) h (split_whole b xs)
   where
-    into : (t : Bool) → length (x ∷ xs) ≤ cond (not t) (1 + position_or_len (λ x. x == b) xs) 0 → (length xs ≤ position_or_len (λ x. x == b) xs → slice_split (λ x. x == b) xs ≡ xs ∷ []) → cond t ([] ∷ slice_split (λ x. x == b) xs) (onto_first x (slice_split (λ x. x == b) xs)) ≡ (x ∷ xs) ∷ []
+    into : (t : Bool) → length (x ∷ xs) ≤ cond (not t) (1 + position_or_len (λ x. x == b) xs) 0
+        → (length xs ≤ position_or_len (λ x. x == b) xs → slice_split (λ x. x == b) xs ≡ xs ∷ [])
+        → cond t ([] ∷ slice_split (λ x. x == b) xs) (onto_first x (slice_split (λ x. x == b) xs)) ≡ (x ∷ xs) ∷ []
     into true h more = absurd (omega arith)
     into false h more = ap (onto_first x) (more (omega arith))
 
@@ -36,48 +43,31 @@ split_whole b (x ∷ xs) h = into (x == b) h (split_whole b xs)
 pub split_none : (b : ℕ) (xs : List ℕ) → position (λ x. x == b) xs ≡ None → slice_split (λ x. x == b) xs ≡ xs ∷ []
 split_none b xs e = into (nat_lt (position_or_len (λ x. x == b) xs) (length xs)) refl e
   where
-    into : (t : Bool) → nat_lt (position_or_len (λ x. x == b) xs) (length xs) ≡ t → (if t then Some (position_or_len (λ x. x == b) xs) else None) ≡ None → slice_split (λ x. x == b) xs ≡ xs ∷ []
+    into : (t : Bool) → nat_lt (position_or_len (λ x. x == b) xs) (length xs) ≡ t
+        → (if t then Some (position_or_len (λ x. x == b) xs) else None) ≡ None → slice_split (λ x. x == b) xs ≡ xs ∷ []
     into true inside e = absurd (cc)
     into false inside e = split_whole b xs (grind (arith, nat_tests))
 
 -- a line has a first word
-pub at_end-words : {A : Type 0} (value : A) (rest : List ℕ) → at_end value (slice_split (λ x. x == 32) rest) ≡ Err causes.Words
+pub at_end-words : {A : Type 0} (value : A) (rest : List ℕ)
+    → at_end value (slice_split (λ x. x == 32) rest) ≡ Err causes.Words
 at_end-words value [] = refl
 at_end-words value (x ∷ xs) = into (x == 32) (slice_split (λ x. x == 32) xs)
   where
-    into : (t : Bool) (parts : List (List ℕ)) → at_end value (if t then [] ∷ parts else onto_first x parts) ≡ Err causes.Words
+    into : (t : Bool) (parts : List (List ℕ))
+        → at_end value (if t then [] ∷ parts else onto_first x parts) ≡ Err causes.Words
     into true parts = refl
     into false [] = refl
     into false (part ∷ parts) = refl
 
--- bytes of a short name are bytes of a name
-word_bytes-name_bytes : (bytes : List ℕ) → list_all is_word_byte bytes ≡ true → list_all is_name_byte bytes ≡ true
-word_bytes-name_bytes [] e = refl
-word_bytes-name_bytes (b ∷ bs) e = into (is_word_byte b) e (word_bytes-name_bytes bs)
-  where
-    into : (t : Bool) → (t && list_all is_word_byte bs) ≡ true → (list_all is_word_byte bs ≡ true → list_all is_name_byte bs ≡ true) → ((t || (b == 46) || (b == 47)) && list_all is_name_byte bs) ≡ true
-    into true e more = more e
-    into false e more = absurd (cc)
-
--- a short name is a name
-short-named : (word : List ℕ) → is_short_name word ≡ true → is_name word ≡ true
-short-named word e = into (list_all is_word_byte word) refl e
-  where
-    into : (t : Bool) → list_all is_word_byte word ≡ t → (nat_le 1 (length word) && nat_le (length word) 16 && t) ≡ true → is_name word ≡ true
-    into true each e =
-        let named : list_all is_name_byte word ≡ true = word_bytes-name_bytes word each in
-        let some : (nat_le 1 (length word) && nat_le (length word) 63) ≡ true = grind (arith, nat_tests) in
-        rw (some, named) refl
-    into false each e = grind (arith, nat_tests)
-
--- a short name is a name
+-- what is no name is no short name
 pub no_name-no_short_name : (word : List ℕ) → name_of word ≡ None → is_short_name word ≡ false
 no_name-no_short_name word e = into (is_short_name word) refl
   where
     into : (t : Bool) → is_short_name word ≡ t → t ≡ false
     into false short = refl
     into true short =
-        let named : is_name word ≡ true = short-named word short in
+        let named : is_name word ≡ true = short_name-named word short in
         let none : Some word ≡ None = sym (ap (λ t. if t then Some word else None) named) ∙ e in
         absurd (cc)
 
@@ -86,12 +76,13 @@ pub behind : (at : ℕ) (xs : List ℕ) → take (length xs - (at + 1)) (drop (a
 behind at xs = take_all (length xs - (at + 1)) (drop (at + 1) xs) (omega (arith, length-drop (at + 1) xs))
 
 -- the word that was read
-abbrev word_in : Result (List ℕ × Words) Cause → List ℕ
+abbrev pub word_in : Result (List ℕ × Words) Cause → List ℕ
 word_in (Ok x) = x.0
 word_in (Err cause) = []
 
 -- a word that is no name is no short one
-pub short_name-refused : (ws : Words) (word : List ℕ) (rest : Words) → next_word ws ≡ Ok (word, rest) → name_of word ≡ None → Err causes.Name ≡ short_name ws
+pub short_name-refused : (ws : Words) (word : List ℕ) (rest : Words) → next_word ws ≡ Ok (word, rest)
+    → name_of word ≡ None → Err causes.Name ≡ short_name ws
 short_name-refused [] word rest e none = absurd (cc)
 short_name-refused (x ∷ xs) word rest e none =
     let same : x ≡ word = ap word_in e in
@@ -99,12 +90,13 @@ short_name-refused (x ∷ xs) word rest e none =
     rw refused refl
 
 -- the words behind it
-abbrev rest_in : Result (List ℕ × Words) Cause → Words
+abbrev pub rest_in : Result (List ℕ × Words) Cause → Words
 rest_in (Ok x) = x.1
 rest_in (Err cause) = []
 
 -- a class is read from the next word
-pub class_word-next : (ws : Words) (word : List ℕ) (rest : Words) → next_word ws ≡ Ok (word, rest) → class_word ws ≡ found_or causes.Word rest (beside class_names word)
+pub class_word-next : (ws : Words) (word : List ℕ) (rest : Words) → next_word ws ≡ Ok (word, rest)
+    → class_word ws ≡ found_or causes.Word rest (beside class_names word)
 class_word-next [] word rest e = absurd (cc)
 class_word-next (x ∷ xs) word rest e = ap (λ r. found_or causes.Word (rest_in r) (beside class_names (word_in r))) e
 

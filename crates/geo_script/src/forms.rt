@@ -209,7 +209,9 @@ fn mark_stripe(handle: Name, words: Words<'_>) -> Result<Command, Cause>
 
 /// What stands behind the handle of `mark`: `concat ..` or `stripe ..`.
 fn mark_by(handle: Name, word: &[u8], words: Words<'_>) -> Result<Command, Cause>
-    ensures { result ≡ by_word ((codes "concat", mark_concat_words handle) ∷ (codes "stripe", mark_stripe_words handle) ∷ []) (word.now ∷ words.entry) }
+    ensures { result
+        ≡ by_word ((codes "concat", mark_concat_words handle) ∷ (codes "stripe", mark_stripe_words handle) ∷ [])
+        (word.now ∷ words.entry) }
 {
     if b"concat".as_slice() == word {
         mark_concat(handle, words)

@@ -121,7 +121,8 @@ fn add_command(
     name: &[u8],
     words: Words<'_>,
 ) -> Result<(), LineRefusal>
-    ensures { Adds result draft.new (actor_line draft.old number (position (same_name name.now) draft.old.actors) words.entry) }
+    ensures { Adds result draft.new (actor_line draft.old number (position (same_name name.now) draft.old.actors)
+        words.entry) }
 {
     let Some(actor) = draft.actor_number(name) else {
         return Err(LineRefusal::Fault(Cause::Actor));

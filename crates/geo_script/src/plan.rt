@@ -7,8 +7,9 @@ use geo_model::{DiskDecl, LineCommand};
 use std::marker::Model;
 
 /// What a script says, which contracts see as its disks in header order, its actors in that of their lines, and its
-/// commands in rising order of their lines. Each plan keeps the rules of plans: at most 16 disks of different names, at most
-/// 16 actors of different names that aren't words of the header, and commands of these actors whose words have their forms.
+/// commands in rising order of their lines. Each plan keeps the rules of plans: at most 16 disks of different names,
+/// at most 16 actors of different names that aren't words of the header, and commands of these actors whose words
+/// have their forms.
 #[derive(Debug, Drop)]
 pub struct Plan {
     disks: Vec<DiskDecl>,
@@ -24,7 +25,12 @@ impl Model for Plan {
 
     ghost view = { λ p. record { disks = p.disks.items; actors = p.actors.items; commands = p.commands.items } };
 
-    ghost invariant = { λ p. IsPlan (record { disks = p.disks.items; actors = p.actors.items; commands = p.commands.items }) };
+    ghost invariant = { λ p. IsPlan (record {
+      disks = p.disks.items;
+      actors = p.actors.items;
+      commands =
+          p.commands.items;
+    }) };
 }
 
 impl Plan {

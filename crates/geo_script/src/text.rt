@@ -41,9 +41,9 @@ fn draft_of(alloc: Global, text: &[u8]) -> Result<Draft, ParseRefusal>
     Ok(draft)
 }
 
-/// The plan of a text of fewer than 2^32 bytes. `Fault` exactly where the text isn't a script, with the first line that is
-/// against the grammar and the first cause there. A line is passed over a fixed number of times, and none of its words is
-/// copied but into the plan.
+/// The plan of a text of fewer than 2^32 bytes. `Fault` exactly where the text isn't a script, with the first line
+/// that is against the grammar and the first cause there. A line is passed over a fixed number of times, and none of
+/// its words is copied but into the plan.
 pub fn parse(alloc: Global, text: &[u8]) -> Result<Plan, ParseRefusal>
     requires { length text.now < 2 ^ 32 }
     ensures answer { Parses result (script text.now) }

@@ -20,11 +20,13 @@ use Rattle.geo_slots.specs.Index.{keyed, reserved, key_at, has_row, with_key, ke
 
 -- Look-ups in the index
 
-flatten_either : (b : Bool) (k : ℕ) (o : Option (Option ℕ)) (r : Option ℕ) → option_flatten o ≡ r → option_flatten (cond b (Some (Some k)) o) ≡ cond b (Some k) r
+flatten_either : (b : Bool) (k : ℕ) (o : Option (Option ℕ)) (r : Option ℕ) → option_flatten o ≡ r
+    → option_flatten (cond b (Some (Some k)) o) ≡ cond b (Some k) r
 flatten_either true k o r e = refl
 flatten_either false k o r e = e
 
-flatten_none : (b : Bool) (o : Option (Option ℕ)) → option_flatten o ≡ None → option_flatten (cond b (Some None) o) ≡ None
+flatten_none : (b : Bool) (o : Option (Option ℕ)) → option_flatten o ≡ None
+    → option_flatten (cond b (Some None) o) ≡ None
 flatten_none true o e = refl
 flatten_none false o e = e
 
@@ -33,7 +35,8 @@ key_at-reserved n first zero = refl
 key_at-reserved n first (suc more) = flatten_none (first == n) _ (key_at-reserved n (first + 1) more)
 
 -- the key of a number is that of its row
-pub key_at-parts : (n : ℕ) (live : List (ℕ × ℕ)) (next spare : ℕ) → key_at n (map keyed live ++ reserved next spare) ≡ lookup (λ m. m == n) live
+pub key_at-parts : (n : ℕ) (live : List (ℕ × ℕ)) (next spare : ℕ)
+    → key_at n (map keyed live ++ reserved next spare) ≡ lookup (λ m. m == n) live
 key_at-parts n [] next spare = key_at-reserved n next spare
 key_at-parts n (p ∷ ps) next spare = flatten_either (p.0 == n) p.1 _ _ (key_at-parts n ps next spare)
 
@@ -47,23 +50,28 @@ module _ {T : Type 0} where
   rows-reserved values first (suc more) = rows-reserved values (first + 1) more
 
   -- what is reserved has no rows
-  pub rows-parts : (values : Slab T) (live : List (ℕ × ℕ)) (next spare : ℕ) → rows_of values (map keyed live ++ reserved next spare) ≡ rows_of values (map keyed live)
+  pub rows-parts : (values : Slab T) (live : List (ℕ × ℕ)) (next spare : ℕ)
+      → rows_of values (map keyed live ++ reserved next spare) ≡ rows_of values (map keyed live)
   rows-parts values [] next spare = rows-reserved values next spare
   rows-parts values (p ∷ ps) next spare = rw (rows-parts values ps next spare)
 
-  find_either : (values : Slab T) (b : Bool) (n k : ℕ) (o : Option ℕ) (t : T) (r : Option (ℕ × T)) → get values k ≡ Some t → option_and_then (get values) o ≡ option_map (λ row. row.1) r → option_and_then (get values) (cond b (Some k) o) ≡ option_map (λ row. row.1) (cond b (Some (n, t)) r)
+  find_either : (values : Slab T) (b : Bool) (n k : ℕ) (o : Option ℕ) (t : T) (r : Option (ℕ × T))
+      → get values k ≡ Some t → option_and_then (get values) o ≡ option_map (λ row. row.1) r
+      → option_and_then (get values) (cond b (Some k) o) ≡ option_map (λ row. row.1) (cond b (Some (n, t)) r)
   find_either values true n k o t r here rest = here
   find_either values false n k o t r here rest = rest
 
   -- the value of a number is that of its key
-  pub value_at-rows : (values : Slab T) (n : ℕ) (live : List (ℕ × ℕ)) → AreHeld values live → option_and_then (get values) (lookup (λ m. m == n) live) ≡ value_at (rows_of values (map keyed live)) n
+  pub value_at-rows : (values : Slab T) (n : ℕ) (live : List (ℕ × ℕ)) → AreHeld values live
+      → option_and_then (get values) (lookup (λ m. m == n) live) ≡ value_at (rows_of values (map keyed live)) n
   value_at-rows values n [] held = refl
   value_at-rows values n (p ∷ ps) held =
       let t = some_value (get values p.1) held.0 in
       rw t.1 (find_either values (p.0 == n) p.0 p.1 _ t.0 _ t.1 (value_at-rows values n ps held.1))
 
   -- the rows rise as the numbers do
-  pub IsRising-rows : (values : Slab T) (low : ℕ) (live : List (ℕ × ℕ)) (high : ℕ) → AreHeld values live → IsRising low live high → IsRising low (rows_of values (map keyed live)) high
+  pub IsRising-rows : (values : Slab T) (low : ℕ) (live : List (ℕ × ℕ)) (high : ℕ) → AreHeld values live
+      → IsRising low live high → IsRising low (rows_of values (map keyed live)) high
   IsRising-rows values low [] high held rising = rising
   IsRising-rows values low (p ∷ ps) high held rising =
       let t = some_value (get values p.1) held.0 in
@@ -72,14 +80,16 @@ module _ {T : Type 0} where
 -- Keys of the index
 
 -- no number outside the range of the numbers has a key
-pub lookup_past : (n low : ℕ) (live : List (ℕ × ℕ)) (high : ℕ) → IsRising low live high → high ≤ n → lookup (λ m. m == n) live ≡ None
+pub lookup_past : (n low : ℕ) (live : List (ℕ × ℕ)) (high : ℕ) → IsRising low live high → high ≤ n
+    → lookup (λ m. m == n) live ≡ None
 lookup_past n low [] high rising past = refl
 lookup_past n low (p ∷ ps) high rising past =
     let ends = IsRising_ends (p.0 + 1) ps high rising.1 in
     rw (ne_eqb p.0 n (λ same. omega (arith, same))) (lookup_past n (p.0 + 1) ps high rising.1 past)
 
 -- the row that is reserved for a number
-pub has_row-next : (low : ℕ) (live : List (ℕ × ℕ)) (next spare : ℕ) → IsRising low live next → 1 ≤ spare → has_row next (map keyed live ++ reserved next spare) ≡ true
+pub has_row-next : (low : ℕ) (live : List (ℕ × ℕ)) (next spare : ℕ) → IsRising low live next → 1 ≤ spare
+    → has_row next (map keyed live ++ reserved next spare) ≡ true
 has_row-next low [] next zero rising some = absurd (omega arith)
 has_row-next low [] next (suc spare) rising some = rw (eq-eqb next next refl) refl
 has_row-next low (p ∷ ps) next spare rising some =
@@ -87,39 +97,54 @@ has_row-next low (p ∷ ps) next spare rising some =
     rw (ne_eqb p.0 next (λ same. omega (arith, same))) (has_row-next (p.0 + 1) ps next spare rising.1 some)
 
 -- the next number gets a key
-pub with_key-next : (key low : ℕ) (live : List (ℕ × ℕ)) (next spare : ℕ) → IsRising low live next → with_key next key (map keyed live ++ reserved next (suc spare)) ≡ map keyed (live ++ (next, key) ∷ []) ++ reserved (next + 1) spare
+pub with_key-next : (key low : ℕ) (live : List (ℕ × ℕ)) (next spare : ℕ) → IsRising low live next
+    → with_key next key (map keyed live ++ reserved next (suc spare)) ≡ map keyed (live ++ (next, key) ∷ [])
+    ++ reserved (next + 1) spare
 with_key-next key low [] next spare rising = rw (eq-eqb next next refl) refl
 with_key-next key low (p ∷ ps) next spare rising =
     let ends = IsRising_ends (p.0 + 1) ps next rising.1 in
-    rw (ne_eqb p.0 next (λ same. omega (arith, same))) (ap (λ rest. keyed p ∷ rest) (with_key-next key (p.0 + 1) ps next spare rising.1))
+    rw (ne_eqb p.0 next (λ same. omega (arith, same)))
+    (ap (λ rest. keyed p ∷ rest) (with_key-next key (p.0 + 1) ps next spare rising.1))
 
 cmp_above : (n m : ℕ) → m < n → nat_cmp n m ≡ Greater
 cmp_above n m above = rw (le-ltb n m (omega arith), ne_eqb n m (λ same. omega (arith, same))) refl
 
-insert_entry-reserved : (first more n : ℕ) → n ≡ first + more → insert_entry nat_cmp (reserved first more) n None ≡ reserved first (suc more)
+insert_entry-reserved : (first more n : ℕ) → n ≡ first + more
+    → insert_entry nat_cmp (reserved first more) n None ≡ reserved first (suc more)
 insert_entry-reserved first zero n place = let same : n ≡ first = omega arith in ap (λ m. (m, None) ∷ []) same
 insert_entry-reserved first (suc more) n place =
-    rw (cmp_above n first (omega arith)) (ap (λ rest. (first, None) ∷ rest) (insert_entry-reserved (first + 1) more n (omega arith)))
+    rw (cmp_above n first (omega arith))
+    (ap (λ rest. (first, None) ∷ rest) (insert_entry-reserved (first + 1) more n (omega arith)))
 
 -- the room of one more number comes at the end
-pub insert_entry-parts : (low : ℕ) (live : List (ℕ × ℕ)) (next spare : ℕ) → IsRising low live next → insert_entry nat_cmp (map keyed live ++ reserved next spare) (next + spare) None ≡ map keyed live ++ reserved next (suc spare)
+pub insert_entry-parts : (low : ℕ) (live : List (ℕ × ℕ)) (next spare : ℕ) → IsRising low live next
+    → insert_entry nat_cmp (map keyed live ++ reserved next spare) (next + spare) None ≡ map keyed live
+    ++ reserved next (suc spare)
 insert_entry-parts low [] next spare rising = insert_entry-reserved next spare (next + spare) refl
 insert_entry-parts low (p ∷ ps) next spare rising =
     let ends = IsRising_ends (p.0 + 1) ps next rising.1 in
-    rw (cmp_above (next + spare) p.0 (omega arith)) (ap (λ rest. keyed p ∷ rest) (insert_entry-parts (p.0 + 1) ps next spare rising.1))
+    rw (cmp_above (next + spare) p.0 (omega arith))
+    (ap (λ rest. keyed p ∷ rest) (insert_entry-parts (p.0 + 1) ps next spare rising.1))
 
-remove_either : (b : Bool) (p : ℕ × ℕ) (ps : List (ℕ × ℕ)) (more rest : List (ℕ × Option ℕ)) (left : List (ℕ × ℕ)) → (b ≡ false → more ≡ map keyed left ++ rest) → cond b (map keyed ps ++ rest) (keyed p ∷ more) ≡ map keyed (cond b ps (p ∷ left)) ++ rest
+remove_either : (b : Bool) (p : ℕ × ℕ) (ps : List (ℕ × ℕ)) (more rest : List (ℕ × Option ℕ)) (left : List (ℕ × ℕ))
+    → (b ≡ false → more ≡ map keyed left ++ rest)
+    → cond b (map keyed ps ++ rest) (keyed p ∷ more) ≡ map keyed (cond b ps (p ∷ left)) ++ rest
 remove_either true p ps more rest left e = refl
 remove_either false p ps more rest left e = ap (λ xs. keyed p ∷ xs) (e refl)
 
 -- a number with a key is taken away
-pub remove_entry-parts : (n key : ℕ) (live : List (ℕ × ℕ)) (rest : List (ℕ × Option ℕ)) → lookup (λ m. m == n) live ≡ Some key → remove_entry (λ m. m == n) (map keyed live ++ rest) ≡ map keyed (remove_entry (λ m. m == n) live) ++ rest
+pub remove_entry-parts : (n key : ℕ) (live : List (ℕ × ℕ)) (rest : List (ℕ × Option ℕ))
+    → lookup (λ m. m == n) live ≡ Some key
+    → remove_entry (λ m. m == n) (map keyed live ++ rest) ≡ map keyed (remove_entry (λ m. m == n) live) ++ rest
 remove_entry-parts n key [] rest found = absurd (cc)
 remove_entry-parts n key (p ∷ ps) rest found =
-    remove_either (p.0 == n) p ps _ rest _ (λ other. remove_entry-parts n key ps rest (sym (ap (λ b. cond b (Some p.1) (lookup (λ m. m == n) ps)) other) ∙ found))
+    remove_either (p.0 == n) p ps _ rest _
+    (λ other. remove_entry-parts n key ps rest
+    (sym (ap (λ b. cond b (Some p.1) (lookup (λ m. m == n) ps)) other) ∙ found))
 
 -- the numbers still rise
-pub IsRising-remove_entry : (n low : ℕ) (live : List (ℕ × ℕ)) (high : ℕ) → IsRising low live high → IsRising low (remove_entry (λ m. m == n) live) high
+pub IsRising-remove_entry : (n low : ℕ) (live : List (ℕ × ℕ)) (high : ℕ) → IsRising low live high
+    → IsRising low (remove_entry (λ m. m == n) live) high
 IsRising-remove_entry n low [] high rising = rising
 IsRising-remove_entry n low (p ∷ ps) high rising =
     elim (cases_eq p.0 n) [
@@ -149,7 +174,8 @@ NoneHas-push : (k n key : ℕ) (live : List (ℕ × ℕ)) → NoneHas k live →
 NoneHas-push k n key [] none differs = (differs, tt)
 NoneHas-push k n key (p ∷ ps) none differs = (none.0, NoneHas-push k n key ps none.1 differs)
 
-pub AreApart-push : (n key : ℕ) (live : List (ℕ × ℕ)) → NoneHas key live → AreApart live → AreApart (live ++ (n, key) ∷ [])
+pub AreApart-push : (n key : ℕ) (live : List (ℕ × ℕ)) → NoneHas key live → AreApart live
+    → AreApart (live ++ (n, key) ∷ [])
 AreApart-push n key [] none apart = (tt, tt)
 AreApart-push n key (p ∷ ps) none apart =
     (NoneHas-push p.1 n key ps apart.0 (λ same. none.0 (sym same)), AreApart-push n key ps none.1 apart.1)
@@ -167,7 +193,8 @@ first_key_from-reserved : (n first more : ℕ) → first_key_from n (reserved fi
 first_key_from-reserved n first zero = refl
 first_key_from-reserved n first (suc more) = none_either (nat_le n first) _ (first_key_from-reserved n (first + 1) more)
   where
-    none_either : (b : Bool) (o : Option (ℕ × Option ℕ)) → option_and_then keyed_number o ≡ None → option_and_then keyed_number (cond b (Some (first, None)) o) ≡ None
+    none_either : (b : Bool) (o : Option (ℕ × Option ℕ)) → option_and_then keyed_number o ≡ None
+        → option_and_then keyed_number (cond b (Some (first, None)) o) ≡ None
     none_either true o e = refl
     none_either false o e = e
 
@@ -175,41 +202,53 @@ first_key_from-reserved n first (suc more) = none_either (nat_le n first) _ (fir
 
 module _ {T : Type 0} where
   -- a key without a value is no number's
-  pub NoneHas-vacant : (values : Slab T) (key : ℕ) (live : List (ℕ × ℕ)) → get values key ≡ None → AreHeld values live → NoneHas key live
+  pub NoneHas-vacant : (values : Slab T) (key : ℕ) (live : List (ℕ × ℕ)) → get values key ≡ None
+      → AreHeld values live → NoneHas key live
   NoneHas-vacant values key [] vacant held = tt
   NoneHas-vacant values key (p ∷ ps) vacant held =
       let t = some_value (get values p.1) held.0 in
-      let e = t.1 in
-      ((λ same. absurd (let found : get values key ≡ Some t.0 = ap (get values) (sym same) ∙ e in cc)), NoneHas-vacant values key ps vacant held.1)
+      let e = t.1 in (
+        (λ same. absurd (let found : get values key ≡ Some t.0 = ap (get values) (sym same) ∙ e in cc)),
+        NoneHas-vacant values key ps vacant held.1,
+      )
 
   -- where only one key's value changes, other numbers keep their rows
-  rows-others : (old new : Slab T) (key : ℕ) (slot : Option T) (live : List (ℕ × ℕ)) → Updates old new key slot → NoneHas key live → rows_of new (map keyed live) ≡ rows_of old (map keyed live)
+  rows-others : (old new : Slab T) (key : ℕ) (slot : Option T) (live : List (ℕ × ℕ)) → Updates old new key slot
+      → NoneHas key live → rows_of new (map keyed live) ≡ rows_of old (map keyed live)
   rows-others old new key slot [] updates none = refl
   rows-others old new key slot (p ∷ ps) updates none =
       rw (updates.others p.1 none.0) (rw (rows-others old new key slot ps updates none.1) refl)
 
-  AreHeld-others : (old new : Slab T) (key : ℕ) (slot : Option T) (live : List (ℕ × ℕ)) → Updates old new key slot → NoneHas key live → AreHeld old live → AreHeld new live
+  AreHeld-others : (old new : Slab T) (key : ℕ) (slot : Option T) (live : List (ℕ × ℕ)) → Updates old new key slot
+      → NoneHas key live → AreHeld old live → AreHeld new live
   AreHeld-others old new key slot [] updates none held = tt
   AreHeld-others old new key slot (p ∷ ps) updates none held =
       (rw (updates.others p.1 none.0) held.0, AreHeld-others old new key slot ps updates none.1 held.1)
 
   -- a value under the next number comes at the end
-  pub rows-push : (old new : Slab T) (key n : ℕ) (value : T) (live : List (ℕ × ℕ)) → Updates old new key (Some value) → NoneHas key live → rows_of new (map keyed (live ++ (n, key) ∷ [])) ≡ rows_of old (map keyed live) ++ (n, value) ∷ []
+  pub rows-push : (old new : Slab T) (key n : ℕ) (value : T) (live : List (ℕ × ℕ))
+      → Updates old new key (Some value) → NoneHas key live
+      → rows_of new (map keyed (live ++ (n, key) ∷ [])) ≡ rows_of old (map keyed live) ++ (n, value) ∷ []
   rows-push old new key n value [] updates none = rw updates.changed refl
   rows-push old new key n value (p ∷ ps) updates none =
-      rw (updates.others p.1 none.0) (rw (rows-push old new key n value ps updates none.1) (cons_append (row_of old (keyed p)) _ _))
+      rw (updates.others p.1 none.0)
+      (rw (rows-push old new key n value ps updates none.1) (cons_append (row_of old (keyed p)) _ _))
     where
       cons_append : (o : Option (ℕ × T)) (xs ys : List (ℕ × T)) → cons_option o (xs ++ ys) ≡ cons_option o xs ++ ys
       cons_append None xs ys = refl
       cons_append (Some x) xs ys = refl
 
-  pub AreHeld-push : (old new : Slab T) (key n : ℕ) (value : T) (live : List (ℕ × ℕ)) → Updates old new key (Some value) → NoneHas key live → AreHeld old live → AreHeld new (live ++ (n, key) ∷ [])
+  pub AreHeld-push : (old new : Slab T) (key n : ℕ) (value : T) (live : List (ℕ × ℕ))
+      → Updates old new key (Some value) → NoneHas key live → AreHeld old live → AreHeld new (live ++ (n, key) ∷ [])
   AreHeld-push old new key n value [] updates none held = (ap is_some updates.changed, tt)
   AreHeld-push old new key n value (p ∷ ps) updates none held =
       (rw (updates.others p.1 none.0) held.0, AreHeld-push old new key n value ps updates none.1 held.1)
 
   -- another value under a number that has one
-  pub rows-with_value : (old new : Slab T) (key n low : ℕ) (w : T) (live : List (ℕ × ℕ)) (high : ℕ) → Updates old new key (Some w) → AreHeld old live → AreApart live → IsRising low live high → lookup (λ m. m == n) live ≡ Some key → rows_of new (map keyed live) ≡ with_value (rows_of old (map keyed live)) n w
+  pub rows-with_value : (old new : Slab T) (key n low : ℕ) (w : T) (live : List (ℕ × ℕ)) (high : ℕ)
+      → Updates old new key (Some w) → AreHeld old live → AreApart live → IsRising low live high
+      → lookup (λ m. m == n) live ≡ Some key
+      → rows_of new (map keyed live) ≡ with_value (rows_of old (map keyed live)) n w
   rows-with_value old new key n low w [] high updates held apart rising found = absurd (cc)
   rows-with_value old new key n low w (p ∷ ps) high updates held apart rising found =
       let t = some_value (get old p.1) held.0 in
@@ -218,7 +257,8 @@ module _ {T : Type 0} where
             let key_is : p.1 ≡ key = same_Some _ _ (rw (eq-eqb p.0 n same) at found) in
             let now : get new p.1 ≡ Some w = ap (get new) key_is ∙ updates.changed in
             let others = rows-others old new key (Some w) ps updates (subst (λ k. NoneHas k ps) key_is apart.0) in
-            let rest = with_value_below n (p.0 + 1) w _ high (IsRising-rows old (p.0 + 1) ps high held.1 rising.1) (omega (arith, same)) in
+            let rest = with_value_below n (p.0 + 1) w _ high (IsRising-rows old (p.0 + 1) ps high held.1 rising.1)
+            (omega (arith, same)) in
             rw (now, t.1, eq-eqb p.0 n same, others, rest, same) refl
         | inr other ↦
             let in_rest = rw (ne_eqb p.0 n other) at found in
@@ -227,7 +267,8 @@ module _ {T : Type 0} where
             rw (now, t.1, ne_eqb p.0 n other, rest) refl
       ]
 
-  pub AreHeld-with_value : (old new : Slab T) (key : ℕ) (w : T) (live : List (ℕ × ℕ)) → Updates old new key (Some w) → AreHeld old live → AreHeld new live
+  pub AreHeld-with_value : (old new : Slab T) (key : ℕ) (w : T) (live : List (ℕ × ℕ))
+      → Updates old new key (Some w) → AreHeld old live → AreHeld new live
   AreHeld-with_value old new key w [] updates held = tt
   AreHeld-with_value old new key w (p ∷ ps) updates held = (
     elim (cases_eq p.1 key) [
@@ -238,7 +279,9 @@ module _ {T : Type 0} where
   )
 
   -- the rows without a number
-  pub rows-without : (old new : Slab T) (key n low : ℕ) (live : List (ℕ × ℕ)) (high : ℕ) → Updates old new key None → AreHeld old live → AreApart live → IsRising low live high → lookup (λ m. m == n) live ≡ Some key → rows_of new (map keyed (remove_entry (λ m. m == n) live)) ≡ without (rows_of old (map keyed live)) n
+  pub rows-without : (old new : Slab T) (key n low : ℕ) (live : List (ℕ × ℕ)) (high : ℕ) → Updates old new key None
+      → AreHeld old live → AreApart live → IsRising low live high → lookup (λ m. m == n) live ≡ Some key
+      → rows_of new (map keyed (remove_entry (λ m. m == n) live)) ≡ without (rows_of old (map keyed live)) n
   rows-without old new key n low [] high updates held apart rising found = absurd (cc)
   rows-without old new key n low (p ∷ ps) high updates held apart rising found =
       let t = some_value (get old p.1) held.0 in
@@ -246,7 +289,8 @@ module _ {T : Type 0} where
         | inl same ↦
             let key_is : p.1 ≡ key = same_Some _ _ (rw (eq-eqb p.0 n same) at found) in
             let others = rows-others old new key None ps updates (subst (λ k. NoneHas k ps) key_is apart.0) in
-            let rest = without_below n (p.0 + 1) _ high (IsRising-rows old (p.0 + 1) ps high held.1 rising.1) (omega (arith, same)) in
+            let rest = without_below n (p.0 + 1) _ high (IsRising-rows old (p.0 + 1) ps high held.1 rising.1)
+            (omega (arith, same)) in
             rw (t.1, eq-eqb p.0 n same, others, rest) refl
         | inr other ↦
             let in_rest = rw (ne_eqb p.0 n other) at found in
@@ -255,25 +299,35 @@ module _ {T : Type 0} where
             rw (t.1, ne_eqb p.0 n other, now, rest) refl
       ]
 
-  pub AreHeld-without : (old new : Slab T) (key n low : ℕ) (live : List (ℕ × ℕ)) (high : ℕ) → Updates old new key None → AreHeld old live → AreApart live → lookup (λ m. m == n) live ≡ Some key → AreHeld new (remove_entry (λ m. m == n) live)
+  pub AreHeld-without : (old new : Slab T) (key n low : ℕ) (live : List (ℕ × ℕ)) (high : ℕ)
+      → Updates old new key None → AreHeld old live → AreApart live → lookup (λ m. m == n) live ≡ Some key
+      → AreHeld new (remove_entry (λ m. m == n) live)
   AreHeld-without old new key n low [] high updates held apart found = tt
   AreHeld-without old new key n low (p ∷ ps) high updates held apart found =
       elim (cases_eq p.0 n) [
         | inl same ↦
             let key_is : p.1 ≡ key = same_Some _ _ (rw (eq-eqb p.0 n same) at found) in
-            rw (eq-eqb p.0 n same) (AreHeld-others old new key None ps updates (subst (λ k. NoneHas k ps) key_is apart.0) held.1)
+            rw (eq-eqb p.0 n same)
+            (AreHeld-others old new key None ps updates (subst (λ k. NoneHas k ps) key_is apart.0) held.1)
         | inr other ↦
             let in_rest = rw (ne_eqb p.0 n other) at found in
             let now : get new p.1 ≡ get old p.1 = updates.others p.1 (key_of_found p.1 n key ps apart.0 in_rest) in
-            rw (ne_eqb p.0 n other) (rw now held.0, AreHeld-without old new key n low ps high updates held.1 apart.1 in_rest)
+            rw (ne_eqb p.0 n other) (
+              rw now held.0,
+              AreHeld-without old new key n low ps high updates held.1 apart.1 in_rest,
+            )
       ]
 
-  find_from_either : (values : Slab T) (b : Bool) (p : ℕ × ℕ) (t : T) (o : Option (ℕ × Option ℕ)) (r : Option (ℕ × T)) → option_and_then keyed_number o ≡ option_map (λ row. row.0) r → option_and_then keyed_number (cond b (Some (keyed p)) o) ≡ option_map (λ row. row.0) (cond b (Some (p.0, t)) r)
+  find_from_either : (values : Slab T) (b : Bool) (p : ℕ × ℕ) (t : T) (o : Option (ℕ × Option ℕ))
+      (r : Option (ℕ × T)) → option_and_then keyed_number o ≡ option_map (λ row. row.0) r
+      → option_and_then keyed_number (cond b (Some (keyed p)) o)
+      ≡ option_map (λ row. row.0) (cond b (Some (p.0, t)) r)
   find_from_either values true p t o r rest = refl
   find_from_either values false p t o r rest = rest
 
   -- the first number with a key is the first row's
-  pub first_key_from-rows : (values : Slab T) (n : ℕ) (live : List (ℕ × ℕ)) (next spare : ℕ) → AreHeld values live → first_key_from n (map keyed live ++ reserved next spare) ≡ first_from (rows_of values (map keyed live)) n
+  pub first_key_from-rows : (values : Slab T) (n : ℕ) (live : List (ℕ × ℕ)) (next spare : ℕ) → AreHeld values live
+      → first_key_from n (map keyed live ++ reserved next spare) ≡ first_from (rows_of values (map keyed live)) n
   first_key_from-rows values n [] next spare held = first_key_from-reserved n next spare
   first_key_from-rows values n (p ∷ ps) next spare held =
       let t = some_value (get values p.1) held.0 in
@@ -283,27 +337,36 @@ module _ {T : Type 0} where
 
 module _ {T : Type 0} (index : List (ℕ × Option ℕ)) (values : Slab T) (next spare : ℕ) where
   -- the value of a number is the value of its key
-  pub value_of_key : (n : ℕ) → IsIndex index values next spare → option_and_then (get values) (key_at n index) ≡ value_at (rows_of values index) n
+  pub value_of_key : (n : ℕ) → IsIndex index values next spare
+      → option_and_then (get values) (key_at n index) ≡ value_at (rows_of values index) n
   value_of_key n i =
-      rw (i.parts, key_at-parts n i.live next spare, rows-parts values i.live next spare) (value_at-rows values n i.live i.held)
+      rw (i.parts, key_at-parts n i.live next spare, rows-parts values i.live next spare)
+      (value_at-rows values n i.live i.held)
 
   pub rising_rows : IsIndex index values next spare → IsRising 1 (rows_of values index) next
   rising_rows i = rw (i.parts, rows-parts values i.live next spare) (IsRising-rows values 1 i.live next i.held i.rising)
 
   -- the first number with a key is that of the first row
-  pub first_of_keys : (n : ℕ) → IsIndex index values next spare → first_key_from n index ≡ first_from (rows_of values index) n
-  first_of_keys n i = rw (i.parts, rows-parts values i.live next spare) (first_key_from-rows values n i.live next spare i.held)
+  pub first_of_keys : (n : ℕ) → IsIndex index values next spare
+      → first_key_from n index ≡ first_from (rows_of values index) n
+  first_of_keys n i =
+      rw (i.parts, rows-parts values i.live next spare) (first_key_from-rows values n i.live next spare i.held)
 
-  key_live : (n key : ℕ) (i : IsIndex index values next spare) → key_at n index ≡ Some key → lookup (λ m. m == n) i.live ≡ Some key
+  key_live : (n key : ℕ) (i : IsIndex index values next spare) → key_at n index ≡ Some key
+      → lookup (λ m. m == n) i.live ≡ Some key
   key_live n key i found = sym (key_at-parts n i.live next spare) ∙ ap (key_at n) (sym i.parts) ∙ found
 
   -- another value under a number
-  pub rows_with_value : (new : Slab T) (n key : ℕ) (w : T) → IsIndex index values next spare → key_at n index ≡ Some key → Updates values new key (Some w) → rows_of new index ≡ with_value (rows_of values index) n w
+  pub rows_with_value : (new : Slab T) (n key : ℕ) (w : T) → IsIndex index values next spare
+      → key_at n index ≡ Some key → Updates values new key (Some w)
+      → rows_of new index ≡ with_value (rows_of values index) n w
   rows_with_value new n key w i found updates =
       rw (i.parts, rows-parts values i.live next spare, rows-parts new i.live next spare)
       (rows-with_value values new key n 1 w i.live next updates i.held i.apart i.rising (key_live n key i found))
 
-  pub index_with_value : (new : Slab T) (n key : ℕ) (w : T) → IsIndex index values next spare → key_at n index ≡ Some key → Updates values new key (Some w) → HasRoomFor new spare → IsIndex index new next spare
+  pub index_with_value : (new : Slab T) (n key : ℕ) (w : T) → IsIndex index values next spare
+      → key_at n index ≡ Some key → Updates values new key (Some w) → HasRoomFor new spare
+      → IsIndex index new next spare
   index_with_value new n key w i found updates room =
       record {
         live = i.live;
@@ -316,18 +379,29 @@ module _ {T : Type 0} (index : List (ℕ × Option ℕ)) (values : Slab T) (next
       }
 
   -- a number taken away
-  pub rows_without : (left : List (ℕ × Option ℕ)) (new : Slab T) (n key : ℕ) → IsIndex index values next spare → key_at n index ≡ Some key → Updates values new key None → left ≡ remove_entry (λ m. m == n) index → rows_of new left ≡ without (rows_of values index) n
+  pub rows_without : (left : List (ℕ × Option ℕ)) (new : Slab T) (n key : ℕ) → IsIndex index values next spare
+      → key_at n index ≡ Some key → Updates values new key None → left ≡ remove_entry (λ m. m == n) index
+      → rows_of new left ≡ without (rows_of values index) n
   rows_without left new n key i found updates removed =
       let live = key_live n key i found in
-      rw (removed, i.parts, remove_entry-parts n key i.live (reserved next spare) live, rows-parts values i.live next spare, rows-parts new (remove_entry (λ m. m == n) i.live) next spare)
+      rw (
+        removed,
+        i.parts,
+        remove_entry-parts n key i.live (reserved next spare) live,
+        rows-parts values i.live next spare,
+        rows-parts new (remove_entry (λ m. m == n) i.live) next spare,
+      )
       (rows-without values new key n 1 i.live next updates i.held i.apart i.rising live)
 
-  pub index_without : (left : List (ℕ × Option ℕ)) (new : Slab T) (n key : ℕ) → IsIndex index values next spare → key_at n index ≡ Some key → Updates values new key None → HasRoomFor new spare → left ≡ remove_entry (λ m. m == n) index → IsIndex left new next spare
+  pub index_without : (left : List (ℕ × Option ℕ)) (new : Slab T) (n key : ℕ) → IsIndex index values next spare
+      → key_at n index ≡ Some key → Updates values new key None → HasRoomFor new spare
+      → left ≡ remove_entry (λ m. m == n) index → IsIndex left new next spare
   index_without left new n key i found updates room removed =
       let live = key_live n key i found in
       record {
         live = remove_entry (λ m. m == n) i.live;
-        parts = removed ∙ ap (remove_entry (λ m. m == n)) i.parts ∙ remove_entry-parts n key i.live (reserved next spare) live;
+        parts = removed ∙ ap (remove_entry (λ m. m == n)) i.parts
+            ∙ remove_entry-parts n key i.live (reserved next spare) live;
         rising = IsRising-remove_entry n 1 i.live next i.rising;
         held = AreHeld-without values new key n 1 i.live next updates i.held i.apart live;
         apart = AreApart-remove_entry n i.live i.apart;
@@ -336,20 +410,31 @@ module _ {T : Type 0} (index : List (ℕ × Option ℕ)) (values : Slab T) (next
       }
 
   -- the next number with a value
-  pub rows_with_next : (left : List (ℕ × Option ℕ)) (new : Slab T) (key : ℕ) (value : T) → 1 ≤ spare → IsIndex index values next spare → get values key ≡ None → Updates values new key (Some value) → left ≡ with_key next key index → rows_of new left ≡ rows_of values index ++ (next, value) ∷ []
+  pub rows_with_next : (left : List (ℕ × Option ℕ)) (new : Slab T) (key : ℕ) (value : T) → 1 ≤ spare
+      → IsIndex index values next spare → get values key ≡ None → Updates values new key (Some value)
+      → left ≡ with_key next key index → rows_of new left ≡ rows_of values index ++ (next, value) ∷ []
   rows_with_next left new key value some i vacant updates given =
       let one : spare ≡ suc (spare - 1) = omega arith in
       let parts = i.parts ∙ ap (λ n. map keyed i.live ++ reserved next n) one in
-      rw (given, parts, with_key-next key 1 i.live next (spare - 1) i.rising, rows-parts new (i.live ++ (next, key) ∷ []) (next + 1) (spare - 1), rows-parts values i.live next (suc (spare - 1)))
+      rw (
+        given,
+        parts,
+        with_key-next key 1 i.live next (spare - 1) i.rising,
+        rows-parts new (i.live ++ (next, key) ∷ []) (next + 1) (spare - 1),
+        rows-parts values i.live next (suc (spare - 1)),
+      )
       (rows-push values new key next value i.live updates (NoneHas-vacant values key i.live vacant i.held))
 
-  pub index_with_next : (left : List (ℕ × Option ℕ)) (new : Slab T) (key : ℕ) (value : T) → 1 ≤ spare → IsIndex index values next spare → get values key ≡ None → Updates values new key (Some value) → HasRoomFor new (spare - 1) → left ≡ with_key next key index → IsIndex left new (next + 1) (spare - 1)
+  pub index_with_next : (left : List (ℕ × Option ℕ)) (new : Slab T) (key : ℕ) (value : T) → 1 ≤ spare
+      → IsIndex index values next spare → get values key ≡ None → Updates values new key (Some value)
+      → HasRoomFor new (spare - 1) → left ≡ with_key next key index → IsIndex left new (next + 1) (spare - 1)
   index_with_next left new key value some i vacant updates room given =
       let one : spare ≡ suc (spare - 1) = omega arith in
       let none = NoneHas-vacant values key i.live vacant i.held in
       record {
         live = i.live ++ (next, key) ∷ [];
-        parts = given ∙ ap (with_key next key) (i.parts ∙ ap (λ n. map keyed i.live ++ reserved next n) one) ∙ with_key-next key 1 i.live next (spare - 1) i.rising;
+        parts = given ∙ ap (with_key next key) (i.parts ∙ ap (λ n. map keyed i.live ++ reserved next n) one)
+            ∙ with_key-next key 1 i.live next (spare - 1) i.rising;
         rising = IsRising-push 1 i.live next key i.rising;
         held = AreHeld-push values new key next value i.live updates none i.held;
         apart = AreApart-push next key i.live none i.apart;
@@ -361,16 +446,26 @@ module _ {T : Type 0} (index : List (ℕ × Option ℕ)) (values : Slab T) (next
   has_next_row some i = rw i.parts (has_row-next 1 i.live next spare i.rising some)
 
   -- room for one more number
-  pub rows_with_room : (more : List (ℕ × Option ℕ)) → IsIndex index values next spare → more ≡ insert_entry nat_cmp index (next + spare) None → rows_of values more ≡ rows_of values index
+  pub rows_with_room : (more : List (ℕ × Option ℕ)) → IsIndex index values next spare
+      → more ≡ insert_entry nat_cmp index (next + spare) None → rows_of values more ≡ rows_of values index
   rows_with_room more i inserted =
-      rw (inserted, i.parts, insert_entry-parts 1 i.live next spare i.rising, rows-parts values i.live next (suc spare), rows-parts values i.live next spare) refl
+      rw (
+        inserted,
+        i.parts,
+        insert_entry-parts 1 i.live next spare i.rising,
+        rows-parts values i.live next (suc spare),
+        rows-parts values i.live next spare,
+      ) refl
 
-  pub index_with_room : (more : List (ℕ × Option ℕ)) → IsIndex index values next spare → more ≡ insert_entry nat_cmp index (next + spare) None → HasRoomFor values (spare + 1) → next + spare + 1 < 2 ^ 64 → IsIndex more values next (spare + 1)
+  pub index_with_room : (more : List (ℕ × Option ℕ)) → IsIndex index values next spare
+      → more ≡ insert_entry nat_cmp index (next + spare) None → HasRoomFor values (spare + 1)
+      → next + spare + 1 < 2 ^ 64 → IsIndex more values next (spare + 1)
   index_with_room more i inserted room numbers =
       let one : suc spare ≡ spare + 1 = omega arith in
       record {
         live = i.live;
-        parts = inserted ∙ ap (λ xs. insert_entry nat_cmp xs (next + spare) None) i.parts ∙ insert_entry-parts 1 i.live next spare i.rising ∙ ap (λ n. map keyed i.live ++ reserved next n) one;
+        parts = inserted ∙ ap (λ xs. insert_entry nat_cmp xs (next + spare) None) i.parts
+            ∙ insert_entry-parts 1 i.live next spare i.rising ∙ ap (λ n. map keyed i.live ++ reserved next n) one;
         rising = i.rising;
         held = i.held;
         apart = i.apart;
@@ -378,7 +473,8 @@ module _ {T : Type 0} (index : List (ℕ × Option ℕ)) (values : Slab T) (next
         numbers = omega (arith, numbers);
       }
 
-  held_key : (key n : ℕ) (live : List (ℕ × ℕ)) → AreHeld values live → lookup (λ m. m == n) live ≡ Some key → (t : T) × (get values key ≡ Some t)
+  held_key : (key n : ℕ) (live : List (ℕ × ℕ)) → AreHeld values live → lookup (λ m. m == n) live ≡ Some key
+      → (t : T) × (get values key ≡ Some t)
   held_key key n [] held found = absurd (cc)
   held_key key n (p ∷ ps) held found =
       elim (cases_eq p.0 n) [
@@ -390,11 +486,13 @@ module _ {T : Type 0} (index : List (ℕ × Option ℕ)) (values : Slab T) (next
       ]
 
   -- the key of a number has a value
-  pub value_held : (n key : ℕ) → IsIndex index values next spare → key_at n index ≡ Some key → (t : T) × (get values key ≡ Some t)
+  pub value_held : (n key : ℕ) → IsIndex index values next spare → key_at n index ≡ Some key
+      → (t : T) × (get values key ≡ Some t)
   value_held n key i found = held_key key n i.live i.held (key_live n key i found)
 
 -- another value takes no room
-pub HasRoomFor-with_value : {T : Type 0} → (values : Slab T) (key spare : ℕ) (w : T) → (t : T) × (get values key ≡ Some t) → HasRoomFor values spare → HasRoomFor (slab_with_value values key w) spare
+pub HasRoomFor-with_value : {T : Type 0} → (values : Slab T) (key spare : ℕ) (w : T)
+    → (t : T) × (get values key ≡ Some t) → HasRoomFor values spare → HasRoomFor (slab_with_value values key w) spare
 HasRoomFor-with_value {T} values key spare w held room =
     let count : Option T → ℕ = λ o. cond (is_some o) 1 0 in
     let within = ContainsKey-within values key (ap is_some held.1) in
@@ -406,7 +504,8 @@ HasRoomFor-with_value {T} values key spare w held room =
 module _ {T : Type 0} (old new : Slab T) (same : SameValues old new) where
   rows_same : (index : List (ℕ × Option ℕ)) → rows_of new index ≡ rows_of old index
   rows_same [] = refl
-  rows_same (p ∷ ps) = rw (rows_same ps) (ap (λ o. cons_option (option_map (λ value. (p.0, value)) o) (rows_of old ps)) (value_same p.1))
+  rows_same (p ∷ ps) =
+      rw (rows_same ps) (ap (λ o. cons_option (option_map (λ value. (p.0, value)) o) (rows_of old ps)) (value_same p.1))
     where
       value_same : (key : Option ℕ) → option_and_then (get new) key ≡ option_and_then (get old) key
       value_same None = refl
@@ -417,7 +516,8 @@ module _ {T : Type 0} (old new : Slab T) (same : SameValues old new) where
   AreHeld-same (p ∷ ps) held = (rw (same p.1) held.0, AreHeld-same ps held.1)
 
   -- a slab with the same values serves as well
-  index_same : (index : List (ℕ × Option ℕ)) (next spare : ℕ) → IsIndex index old next spare → HasRoomFor new spare → IsIndex index new next spare
+  index_same : (index : List (ℕ × Option ℕ)) (next spare : ℕ) → IsIndex index old next spare → HasRoomFor new spare
+      → IsIndex index new next spare
   index_same index next spare i room =
       record {
         live = i.live;
@@ -434,9 +534,11 @@ module _ {T : Type 0} (old new : Slab T) (kept : new ≡ record old { capacity =
   pub rows_reserved : (index : List (ℕ × Option ℕ)) → rows_of new index ≡ rows_of old index
   rows_reserved index = rows_same old new (λ key. ap (λ s. get s key) kept) index
 
-  pub index_reserved : (index : List (ℕ × Option ℕ)) (next spare : ℕ) → old.capacity ≤ new.capacity → IsIndex index old next spare → IsIndex index new next spare
+  pub index_reserved : (index : List (ℕ × Option ℕ)) (next spare : ℕ) → old.capacity ≤ new.capacity
+      → IsIndex index old next spare → IsIndex index new next spare
   index_reserved index next spare more i =
-      index_same old new (λ key. ap (λ s. get s key) kept) index next spare i (omega (arith, more, i.room, ap slab_len kept))
+      index_same old new (λ key. ap (λ s. get s key) kept) index next spare i
+      (omega (arith, more, i.room, ap slab_len kept))
 
 -- the test by which a map finds a number
 pub finds_number : (n : ℕ) → is_at (nat_cmp n) ≡ (λ m. m == n)
@@ -446,13 +548,15 @@ finds_number n = λ i m. same n m i
     same n m = grind (arith, nat_tests)
 
 -- a search from a number on
-pub find-between : (n : ℕ) (es : List (ℕ × Option ℕ)) → find (λ p. nat_le n p.0) es ≡ slice_get (entries_between nat_cmp (Included n) Unbounded es) 0
+pub find-between : (n : ℕ) (es : List (ℕ × Option ℕ))
+    → find (λ p. nat_le n p.0) es ≡ slice_get (entries_between nat_cmp (Included n) Unbounded es) 0
 find-between n [] = refl
 find-between n (p ∷ ps) = rw (test_is p.0) (either (nat_le n p.0) _ _ (find-between n ps))
   where
     test_is : (m : ℕ) → range_contains nat_cmp (Included n) Unbounded m ≡ nat_le n m
     test_is m = grind (arith, nat_tests)
 
-    either : (b : Bool) (o : Option (ℕ × Option ℕ)) (rest : List (ℕ × Option ℕ)) → o ≡ slice_get rest 0 → cond b (Some p) o ≡ slice_get (cond b (p ∷ rest) rest) 0
+    either : (b : Bool) (o : Option (ℕ × Option ℕ)) (rest : List (ℕ × Option ℕ)) → o ≡ slice_get rest 0
+        → cond b (Some p) o ≡ slice_get (cond b (p ∷ rest) rest) 0
     either true o rest e = refl
     either false o rest e = e

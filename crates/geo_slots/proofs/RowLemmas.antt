@@ -10,61 +10,78 @@ use Rattle.geo_slots.specs.Slots.{IsRising, value_at, first_from, with_value, wi
 module _ {T : Type 0} where
   pub IsRising_ends : (low : ℕ) (rows : List (ℕ × T)) (high : ℕ) → IsRising low rows high → low ≤ high
   IsRising_ends low [] high rising = rising
-  IsRising_ends low (row ∷ rows) high rising = let rest = IsRising_ends (row.0 + 1) rows high rising.1 in omega (arith, rising.0)
+  IsRising_ends low (row ∷ rows) high rising = let rest = IsRising_ends (row.0 + 1) rows high rising.1 in
+      omega (arith, rising.0)
 
-  pub IsRising_from : (low higher : ℕ) (rows : List (ℕ × T)) (high : ℕ) → low ≤ higher → IsRising higher rows high → IsRising low rows high
+  pub IsRising_from : (low higher : ℕ) (rows : List (ℕ × T)) (high : ℕ) → low ≤ higher → IsRising higher rows high
+      → IsRising low rows high
   IsRising_from low higher [] high below rising = omega (arith, below, rising)
   IsRising_from low higher (row ∷ rows) high below rising = (omega (arith, below, rising.0), rising.1)
 
   -- the next number comes at the end
-  pub IsRising-push : (low : ℕ) (rows : List (ℕ × T)) (next : ℕ) (value : T) → IsRising low rows next → IsRising low (rows ++ (next, value) ∷ []) (next + 1)
+  pub IsRising-push : (low : ℕ) (rows : List (ℕ × T)) (next : ℕ) (value : T) → IsRising low rows next
+      → IsRising low (rows ++ (next, value) ∷ []) (next + 1)
   IsRising-push low [] next value rising = (rising, omega arith)
   IsRising-push low (row ∷ rows) next value rising = (rising.0, IsRising-push (row.0 + 1) rows next value rising.1)
 
   -- without a number the others still rise
-  pub IsRising-without : (n low : ℕ) (rows : List (ℕ × T)) (high : ℕ) → IsRising low rows high → IsRising low (without rows n) high
+  pub IsRising-without : (n low : ℕ) (rows : List (ℕ × T)) (high : ℕ) → IsRising low rows high
+      → IsRising low (without rows n) high
   IsRising-without n low [] high rising = rising
   IsRising-without n low (row ∷ rows) high rising =
       elim (cases_eq row.0 n) [
         | inl same ↦
             let rest = IsRising-without n (row.0 + 1) rows high rising.1 in
-            rw (eq-eqb row.0 n same) (IsRising_from low (row.0 + 1) (without rows n) high (omega (arith, rising.0)) rest)
+            rw (eq-eqb row.0 n same)
+            (IsRising_from low (row.0 + 1) (without rows n) high (omega (arith, rising.0)) rest)
         | inr other ↦ rw (ne_eqb row.0 n other) (rising.0, IsRising-without n (row.0 + 1) rows high rising.1)
       ]
 
   -- another value under a number leaves the numbers as they are
-  pub IsRising-with_value : (n : ℕ) (w : T) (low : ℕ) (rows : List (ℕ × T)) (high : ℕ) → IsRising low rows high → IsRising low (with_value rows n w) high
+  pub IsRising-with_value : (n : ℕ) (w : T) (low : ℕ) (rows : List (ℕ × T)) (high : ℕ) → IsRising low rows high
+      → IsRising low (with_value rows n w) high
   IsRising-with_value n w low [] high rising = rising
   IsRising-with_value n w low (row ∷ rows) high rising =
       elim (cases_eq row.0 n) [
         | inl same ↦
-            rw (eq-eqb row.0 n same) (omega (arith, rising.0, same), subst (λ m. IsRising (m + 1) (with_value rows n w) high) same (IsRising-with_value n w (row.0 + 1) rows high rising.1))
+            rw (eq-eqb row.0 n same) (
+              omega (arith, rising.0, same),
+              subst (λ m. IsRising (m + 1) (with_value rows n w) high) same
+                  (IsRising-with_value n w (row.0 + 1) rows high rising.1),
+            )
         | inr other ↦ rw (ne_eqb row.0 n other) (rising.0, IsRising-with_value n w (row.0 + 1) rows high rising.1)
       ]
 
   -- a number below all has no value
-  pub value_at_below : (n low : ℕ) (rows : List (ℕ × T)) (high : ℕ) → IsRising low rows high → n < low → value_at rows n ≡ None
+  pub value_at_below : (n low : ℕ) (rows : List (ℕ × T)) (high : ℕ) → IsRising low rows high → n < low
+      → value_at rows n ≡ None
   value_at_below n low [] high rising below = refl
   value_at_below n low (row ∷ rows) high rising below =
-      rw (ne_eqb row.0 n (λ same. omega (arith, same, rising.0))) (value_at_below n (row.0 + 1) rows high rising.1 (omega (arith, rising.0)))
+      rw (ne_eqb row.0 n (λ same. omega (arith, same, rising.0)))
+      (value_at_below n (row.0 + 1) rows high rising.1 (omega (arith, rising.0)))
 
   -- a number from the next one on has no value
-  pub value_at_next : (n low : ℕ) (rows : List (ℕ × T)) (high : ℕ) → IsRising low rows high → high ≤ n → value_at rows n ≡ None
+  pub value_at_next : (n low : ℕ) (rows : List (ℕ × T)) (high : ℕ) → IsRising low rows high → high ≤ n
+      → value_at rows n ≡ None
   value_at_next n low [] high rising past = refl
   value_at_next n low (row ∷ rows) high rising past =
       let ends = IsRising_ends (row.0 + 1) rows high rising.1 in
       rw (ne_eqb row.0 n (λ same. omega (arith, same))) (value_at_next n (row.0 + 1) rows high rising.1 past)
 
   -- a number below all changes nothing
-  pub with_value_below : (n low : ℕ) (w : T) (rows : List (ℕ × T)) (high : ℕ) → IsRising low rows high → n < low → with_value rows n w ≡ rows
+  pub with_value_below : (n low : ℕ) (w : T) (rows : List (ℕ × T)) (high : ℕ) → IsRising low rows high → n < low
+      → with_value rows n w ≡ rows
   with_value_below n low w [] high rising below = refl
   with_value_below n low w (row ∷ rows) high rising below =
-      rw (ne_eqb row.0 n (λ same. omega (arith, same, rising.0))) (ap (λ xs. row ∷ xs) (with_value_below n (row.0 + 1) w rows high rising.1 (omega (arith, rising.0))))
+      rw (ne_eqb row.0 n (λ same. omega (arith, same, rising.0)))
+      (ap (λ xs. row ∷ xs) (with_value_below n (row.0 + 1) w rows high rising.1 (omega (arith, rising.0))))
 
-  pub without_below : (n low : ℕ) (rows : List (ℕ × T)) (high : ℕ) → IsRising low rows high → n < low → without rows n ≡ rows
+  pub without_below : (n low : ℕ) (rows : List (ℕ × T)) (high : ℕ) → IsRising low rows high → n < low
+      → without rows n ≡ rows
   without_below n low [] high rising below = refl
   without_below n low (row ∷ rows) high rising below =
-      rw (ne_eqb row.0 n (λ same. omega (arith, same, rising.0))) (ap (λ xs. row ∷ xs) (without_below n (row.0 + 1) rows high rising.1 (omega (arith, rising.0))))
+      rw (ne_eqb row.0 n (λ same. omega (arith, same, rising.0)))
+      (ap (λ xs. row ∷ xs) (without_below n (row.0 + 1) rows high rising.1 (omega (arith, rising.0))))
 
   -- a number without a value is in no row
   pub without_absent : (n : ℕ) (rows : List (ℕ × T)) → value_at rows n ≡ None → without rows n ≡ rows
@@ -72,11 +89,14 @@ module _ {T : Type 0} where
   without_absent n (row ∷ rows) absent =
       elim (cases_eq row.0 n) [
         | inl same ↦ let e = rw (eq-eqb row.0 n same) at absent in absurd (cc)
-        | inr other ↦ rw (ne_eqb row.0 n other) (ap (λ xs. row ∷ xs) (without_absent n rows (rw (ne_eqb row.0 n other) at absent)))
+        | inr other ↦
+            rw (ne_eqb row.0 n other)
+            (ap (λ xs. row ∷ xs) (without_absent n rows (rw (ne_eqb row.0 n other) at absent)))
       ]
 
   -- the first number from a number on is one of the table's
-  pub first_from_found : (n m low : ℕ) (rows : List (ℕ × T)) (high : ℕ) → IsRising low rows high → first_from rows n ≡ Some m → record { from : n ≤ m; below : m < high; stands : IsSome (value_at rows m) }
+  pub first_from_found : (n m low : ℕ) (rows : List (ℕ × T)) (high : ℕ) → IsRising low rows high
+      → first_from rows n ≡ Some m → record { from : n ≤ m; below : m < high; stands : IsSome (value_at rows m) }
   first_from_found n m low [] high rising found = absurd (cc)
   first_from_found n m low (row ∷ rows) high rising found =
       let ends = IsRising_ends (row.0 + 1) rows high rising.1 in
@@ -95,9 +115,11 @@ module _ {T : Type 0} where
 
 -- A list that is made of the rows, where each item has its row's number, as the lists of a topology are
 
-module _ {T X : Type 0} (item : ℕ × T → X) (number_of : X → ℕ) (keeps : (row : ℕ × T) → number_of (item row) ≡ row.0) where
+module _ {T X : Type 0} (item : ℕ × T → X) (number_of : X → ℕ) (keeps : (row : ℕ × T)
+    → number_of (item row) ≡ row.0) where
   -- the item of a number, where it has one, is that of the number with its value
-  pub find-items : (n : ℕ) (rows : List (ℕ × T)) → find (λ x. number_of x == n) (map item rows) ≡ option_map (λ value. item (n, value)) (value_at rows n)
+  pub find-items : (n : ℕ) (rows : List (ℕ × T))
+      → find (λ x. number_of x == n) (map item rows) ≡ option_map (λ value. item (n, value)) (value_at rows n)
   find-items n [] = refl
   find-items n (row ∷ rows) =
       elim (cases_eq row.0 n) [
@@ -107,22 +129,28 @@ module _ {T X : Type 0} (item : ℕ × T → X) (number_of : X → ℕ) (keeps :
       ]
 
   -- a change of the item of a number is a change of its value
-  pub change-items : (n : ℕ) (w : T) (change : X → X) (low : ℕ) (rows : List (ℕ × T)) (high : ℕ) → IsRising low rows high → ((value : T) → value_at rows n ≡ Some value → change (item (n, value)) ≡ item (n, w)) → map (λ x. if number_of x == n then change x else x) (map item rows) ≡ map item (with_value rows n w)
+  pub change-items : (n : ℕ) (w : T) (change : X → X) (low : ℕ) (rows : List (ℕ × T)) (high : ℕ)
+      → IsRising low rows high
+      → ((value : T) → value_at rows n ≡ Some value → change (item (n, value)) ≡ item (n, w))
+      → map (λ x. if number_of x == n then change x else x) (map item rows) ≡ map item (with_value rows n w)
   change-items n w change low [] high rising changed = refl
   change-items n w change low (row ∷ rows) high rising changed =
       elim (cases_eq row.0 n) [
         | inl same ↦
             let here = changed row.1 (rw (eq-eqb row.0 n same) refl) in
             let absent = value_at_below n (row.0 + 1) rows high rising.1 (omega (arith, same)) in
-            let rest = change-items n w change (row.0 + 1) rows high rising.1 (λ value found. absurd (let e = sym absent ∙ found in cc)) in
+            let rest = change-items n w change (row.0 + 1) rows high rising.1
+            (λ value found. absurd (let e = sym absent ∙ found in cc)) in
             rw (keeps row, eq-eqb row.0 n same) (λ i. (ap (λ m. change (item (m, row.1))) same ∙ here) i ∷ rest i)
         | inr other ↦
-            let rest = change-items n w change (row.0 + 1) rows high rising.1 (λ value found. changed value (rw (ne_eqb row.0 n other) found)) in
+            let rest = change-items n w change (row.0 + 1) rows high rising.1
+            (λ value found. changed value (rw (ne_eqb row.0 n other) found)) in
             rw (keeps row, ne_eqb row.0 n other) (ap (λ xs. item row ∷ xs) rest)
       ]
 
   -- the items without a number are those of the rows without it
-  pub filter-items : (n : ℕ) (rows : List (ℕ × T)) → filter (λ x. not (number_of x == n)) (map item rows) ≡ map item (without rows n)
+  pub filter-items : (n : ℕ) (rows : List (ℕ × T))
+      → filter (λ x. not (number_of x == n)) (map item rows) ≡ map item (without rows n)
   filter-items n [] = refl
   filter-items n (row ∷ rows) =
       elim (cases_eq row.0 n) [
@@ -131,6 +159,7 @@ module _ {T X : Type 0} (item : ℕ × T → X) (number_of : X → ℕ) (keeps :
       ]
 
 -- the items with the next number at the end are those of the rows with it
-pub map-push : {T X : Type 0} → (item : ℕ × T → X) (rows : List (ℕ × T)) (n : ℕ) (value : T) → map item (rows ++ (n, value) ∷ []) ≡ map item rows ++ item (n, value) ∷ []
+pub map-push : {T X : Type 0} → (item : ℕ × T → X) (rows : List (ℕ × T)) (n : ℕ) (value : T)
+    → map item (rows ++ (n, value) ∷ []) ≡ map item rows ++ item (n, value) ∷ []
 map-push item [] n value = refl
 map-push item (row ∷ rows) n value = ap (λ xs. item row ∷ xs) (map-push item rows n value)

@@ -39,7 +39,8 @@ fn push_strips(list: &mut PieceList, span: Span, count: u64, stripe: u64, first:
     requires room { end ≤ list.old.spare + first }
     requires range_fits { span.offset + span.len < 2 ^ 64 }
     requires strips_fit { end * stripe < 2 ^ 64 }
-    ensures { list.new.items ≡ list.old.items ++ cut span.offset span.len (map (strip count stripe) (range_with_len first (end - first))) }
+    ensures { list.new.items ≡ list.old.items
+        ++ cut span.offset span.len (map (strip count stripe) (range_with_len first (end - first))) }
 {
     for number in first..end {
         list.push_part(

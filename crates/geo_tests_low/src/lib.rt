@@ -1,5 +1,5 @@
-//! Tests of the low layers: plain types, tables, bytes in and out, disks, scripts, address maps and records. They stand in
-//! one crate, since a crate with tests is proved twice.
+//! Tests of the low layers: plain types, tables, bytes in and out, disks, scripts, address maps and records. They
+//! stand in one crate, since a crate with tests is proved twice.
 #![tactic(auto)]
 
 #[cfg(test)]

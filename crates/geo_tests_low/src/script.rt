@@ -254,7 +254,8 @@ fn lines_at_their_most(rt: HostRuntime) -> Result<(), Fail> {
     Ok(())
 }
 
-/// What becomes of a line behind the header of an actor, whose front is written out and whose rest is one part so many times.
+/// What becomes of a line behind the header of an actor, whose front is written out and whose rest is one part so
+/// many times.
 fn long_line(
     rt: &impl Abort,
     alloc: Global,

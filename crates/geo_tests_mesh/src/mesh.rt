@@ -47,7 +47,8 @@ fn attach(topo: &mut Topo<u8>, cons: ConsId, prov: ProvId) -> Result<Option<Atta
     Ok(topo.attach(cons, prov).err())
 }
 
-// A tower of NOP geoms of ranks 1 to `height`, each attached to the one below: its lowest consumer and its top provider.
+// A tower of NOP geoms of ranks 1 to `height`, each attached to the one below: its lowest consumer and its top
+// provider.
 fn tower(topo: &mut Topo<u8>, height: u8) -> Result<(ConsId, GeomId, ProvId), Fail> {
     let (_, mut below) = geom_of(topo, &[b'a'])?;
     let (mut top, upper) = geom_of(topo, &[b'b'])?;

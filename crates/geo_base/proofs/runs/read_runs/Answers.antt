@@ -8,29 +8,39 @@ use Rattle.geo_base.proofs.runs.read_runs.Goals as goal
 use Rattle.geo_base.proofs.runs.read_runs.Goals.{in_default-via-in-Times+else-times-ge1, in_default-via-in_default}
 
 pub returns-in-None : goal.returns-in-None
-returns-in-None c = fault-at c.args.text.now c.loop-at.bytes.items c.loop-at.place c.loop-at.at (omega arith) c.loop-at.invariant.reached c.loop-at.invariant.ran (rw c.in-None.is at c.in_ok-next.ensures)
+returns-in-None c =
+    fault-at c.args.text.now c.loop-at.bytes.items c.loop-at.place c.loop-at.at (omega arith)
+    c.loop-at.invariant.reached c.loop-at.invariant.ran (rw c.in-None.is at c.in_ok-next.ensures)
 
 pub loop-at-preserved : goal.loop-at-preserved
 loop-at-preserved c =
     let goes = rw c.in-Some.is at c.in_ok-next.ensures in
     record {
-      reached = next-reached c.args.text.now c.loop-at.bytes.items c.read_on.new.bytes.items c.loop-at.place c.in-Some.next c.loop-at.at (omega arith) c.loop-at.invariant.reached goes;
-      ran = next-ran c.args.text.now c.loop-at.bytes.items c.read_on.new.bytes.items c.loop-at.place c.in-Some.next c.loop-at.at (omega arith) c.loop-at.invariant.ran goes;
+      reached = next-reached c.args.text.now c.loop-at.bytes.items c.read_on.new.bytes.items c.loop-at.place
+          c.in-Some.next c.loop-at.at (omega arith) c.loop-at.invariant.reached goes;
+      ran = next-ran c.args.text.now c.loop-at.bytes.items c.read_on.new.bytes.items c.loop-at.place c.in-Some.next
+          c.loop-at.at (omega arith) c.loop-at.invariant.ran goes;
     }
 
 pub returns-in_ok-push_bytes-in-Times : goal.returns-in_ok-push_bytes-in-Times
 returns-in_ok-push_bytes-in-Times c =
-    let here = all-reached c.args.text.now c.loop-at.bytes.items c.loop-at.place c.loop-at.at c.loop-at-test.false c.loop-at.invariant.reached in
+    let here = all-reached c.args.text.now c.loop-at.bytes.items c.loop-at.place c.loop-at.at c.loop-at-test.false
+    c.loop-at.invariant.reached in
     let at_times = subst (λ (p : _). Reached p c.loop-at.bytes.items c.args.text.now) c.in-Times.is here in
-    subst (IsRuns c.args.text.now) (sym (c.from_vec.ensures ∙ c.in_ok-push_bytes-in-Times.ensures)) (reached-runs c.in-Times.byte c.in-Times.times c.loop-at.bytes.items c.args.text.now c.if-times-ge1.true at_times)
+    subst (IsRuns c.args.text.now) (sym (c.from_vec.ensures ∙ c.in_ok-push_bytes-in-Times.ensures))
+    (reached-runs c.in-Times.byte c.in-Times.times c.loop-at.bytes.items c.args.text.now
+    c.if-times-ge1.true at_times)
 
 pub returns-in_default : goal.returns-in_default
 returns-in_default c =
     fault-end c.args.text.now c.loop-at.bytes.items c.loop-at.place
-    (all-reached c.args.text.now c.loop-at.bytes.items c.loop-at.place c.loop-at.at c.loop-at-test.false c.loop-at.invariant.reached)
-    (all-ran c.args.text.now c.loop-at.bytes.items c.loop-at.place c.loop-at.at c.loop-at-test.false c.loop-at.invariant.ran)
+    (all-reached c.args.text.now c.loop-at.bytes.items c.loop-at.place c.loop-at.at c.loop-at-test.false
+    c.loop-at.invariant.reached)
+    (all-ran c.args.text.now c.loop-at.bytes.items c.loop-at.place c.loop-at.at c.loop-at-test.false
+    c.loop-at.invariant.ran)
     (elim c.in_default.branch [
-      | in_default-via-in-Times+else-times-ge1 w ↦ λ v n some same. let times : w.in-Times.times ≡ n = cc in absurd (omega arith)
+      | in_default-via-in-Times+else-times-ge1 w ↦
+          λ v n some same. let times : w.in-Times.times ≡ n = cc in absurd (omega arith)
       | in_default-via-in_default w ↦ λ v n _ same. w.in_default.not-Times v n same
     ])
 

@@ -15,12 +15,18 @@ loop-next-preserved c =
     elim c.if-next-byte.branch [
       | then-next-byte w ↦ record {
         counted = omega arith;
-        whole = rw (w.text-is, w.byte-is, w.times-is) (text_on c.args.bytes.now c.loop-next.next-index c.loop-next.byte c.loop-next.times c.loop-next.text.items _ (omega arith) w.if-next-byte.true c.loop-next.invariant.whole);
+        whole = rw (w.text-is, w.byte-is, w.times-is)
+            (text_on c.args.bytes.now c.loop-next.next-index c.loop-next.byte c.loop-next.times
+            c.loop-next.text.items _ (omega arith) w.if-next-byte.true c.loop-next.invariant.whole);
       }
       | else-next-byte+in_ok-push_run+in_ok-push w ↦ record {
         counted = omega arith;
         whole =
-            let other : (get_or c.args.bytes.now c.loop-next.next-index 0 == c.loop-next.byte) ≡ false = grind (arith, nat_tests, w.if-next-byte.false) in
-            rw (w.text-is, w.byte-is, w.times-is) (text_next c.args.bytes.now c.loop-next.next-index c.loop-next.byte c.loop-next.times c.loop-next.text.items _ _ (omega arith) other (w.in_ok-push.ensures.items ∙ ap (λ l. l ++ 32 ∷ []) w.in_ok-push_run.ensures) c.loop-next.invariant.whole);
+            let other : (get_or c.args.bytes.now c.loop-next.next-index 0 == c.loop-next.byte) ≡ false =
+            grind (arith, nat_tests, w.if-next-byte.false) in
+            rw (w.text-is, w.byte-is, w.times-is)
+            (text_next c.args.bytes.now c.loop-next.next-index c.loop-next.byte c.loop-next.times
+            c.loop-next.text.items _ _ (omega arith) other (w.in_ok-push.ensures.items
+            ∙ ap (λ l. l ++ 32 ∷ []) w.in_ok-push_run.ensures) c.loop-next.invariant.whole);
       }
     ]

@@ -4,4 +4,5 @@ use Rattle.geo_bio.proofs.gather.joined.Given as goal
 
 abbrev pub invariant-loop-place : goal.invariant-loop-place
 invariant-loop-place g l =
-    l.bytes.items ++ bytes_from (g.B.LogBytes.place_bytes l.log) l.bios.rows (l.first + l.place) (l.count - l.place) ≡ bytes_from (g.B.LogBytes.place_bytes l.log) l.bios.rows l.first l.count
+    l.bytes.items ++ bytes_from (g.B.LogBytes.place_bytes l.log) l.bios.rows (l.first + l.place)
+    (l.count - l.place) ≡ bytes_from (g.B.LogBytes.place_bytes l.log) l.bios.rows l.first l.count

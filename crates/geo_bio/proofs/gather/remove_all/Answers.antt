@@ -7,9 +7,11 @@ pub loop-place-preserved : goal.loop-place-preserved
 loop-place-preserved c =
     let i = c.loop-place.invariant in
     let e = c.remove.ensures.removed in
-    let step = without_all-more c.loop-place.bios.rows c.args.first c.loop-place.place c.args.count c.loop-place-test.true in
+    let step = without_all-more c.loop-place.bios.rows c.args.first c.loop-place.place c.args.count
+    c.loop-place-test.true in
     record {
-      rest = ap (λ s. without_all s.rows (c.args.first + (c.loop-place.place + 1)) (c.args.count - (c.loop-place.place + 1))) e ∙ sym step ∙ i.rest;
+      rest = ap (λ s. without_all s.rows (c.args.first + (c.loop-place.place + 1))
+          (c.args.count - (c.loop-place.place + 1))) e ∙ sym step ∙ i.rest;
       next = ap (λ s. s.next) e ∙ i.next;
       spare = ap (λ s. s.spare) e ∙ i.spare;
     }

@@ -9,6 +9,7 @@ use Rattle.geo_bio.proofs.gather.rise_in.Goals as goal
 
 pub count_child-requires : goal.count_child-requires
 count_child-requires g c =
-    let still = value_at-changed_other c.args.bios.now c.set_phase.new.bios c.args.number c.args.parent (at_phase phases.Done) c.requires.apart c.set_phase.ensures in
+    let still = value_at-changed_other c.args.bios.now c.set_phase.new.bios c.args.number c.args.parent
+    (at_phase phases.Done) c.requires.apart c.set_phase.ensures in
     let there = ap (value_at c.set_phase.new.bios.rows) c.number-else-complete.ensures ∙ still in
     subst (λ o. IfSome o (λ (x : Bio). x.finished + 1 < 4294967296)) (sym there) c.requires.counts

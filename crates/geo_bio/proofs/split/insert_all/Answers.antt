@@ -28,7 +28,8 @@ loop-child-preserved c =
     let next = ap (λ s. s.next) e.inserted in
     let spare = ap (λ s. s.spare) e.inserted in
     record {
-      rest = ap (λ s. with_all s c.next.new.self.rest.items) e.inserted ∙ sym (ap (with_all c.loop-child.bios) items) ∙ i.rest;
+      rest = ap (λ s. with_all s c.next.new.self.rest.items) e.inserted
+          ∙ sym (ap (with_all c.loop-child.bios) items) ∙ i.rest;
       room = omega (arith, i.room, count, spare);
       numbers = omega (arith, i.numbers, count, next);
       last = λ h. omega (arith, e.number, next);
@@ -36,13 +37,15 @@ loop-child-preserved c =
 
 pub returns-clause-inserted : goal.returns-clause-inserted
 returns-clause-inserted c =
-    let none = nil_from_length c.loop-child.child-iterator.rest.items (omega (arith, c.in-None.ensures.steps.0, c.loop-child.child-iterator.rest.ok)) in
+    let none = nil_from_length c.loop-child.child-iterator.rest.items
+    (omega (arith, c.in-None.ensures.steps.0, c.loop-child.child-iterator.rest.ok)) in
     sym (ap (with_all c.loop-child.bios) none) ∙ c.loop-child.invariant.rest
 
 pub returns-clause-last : goal.returns-clause-last
 returns-clause-last c = λ some.
     let i = c.loop-child.invariant in
-    let none : length c.loop-child.child-iterator.rest.items ≡ 0 = omega (arith, c.in-None.ensures.steps.0, c.loop-child.child-iterator.rest.ok) in
+    let none : length c.loop-child.child-iterator.rest.items ≡ 0 =
+    omega (arith, c.in-None.ensures.steps.0, c.loop-child.child-iterator.rest.ok) in
     let count = c.args.children.ok in
     let last = i.last (omega (arith, i.numbers, none, count, some)) in
     omega (arith, i.numbers, none, count, last)

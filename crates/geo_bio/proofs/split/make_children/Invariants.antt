@@ -4,4 +4,5 @@ use Rattle.geo_bio.proofs.split.make_children.Given as goal
 
 abbrev pub invariant-loop-index : goal.invariant-loop-index
 invariant-loop-index l =
-    l.children.items ++ children_for l.parent l.bio l.index (drop l.index l.pieces) (drop l.index l.targets) ≡ children_for l.parent l.bio 0 l.pieces l.targets
+    l.children.items ++ children_for l.parent l.bio l.index (drop l.index l.pieces) (drop l.index l.targets)
+    ≡ children_for l.parent l.bio 0 l.pieces l.targets

@@ -4,14 +4,18 @@ use Rattle.geo_bio.proofs.SplitLemmas.{with_all-numbered, split_after, split_nex
 use Rattle.geo_bio.proofs.split.split_bio.Goals as goal
 
 pub returns-clause-first : goal.returns-clause-first
-returns-clause-first c = omega (arith, c.insert_all-last.ensures.last c.requires.some, c.len-count.ensures, c.requires.some)
+returns-clause-first c =
+    omega (arith, c.insert_all-last.ensures.last c.requires.some, c.len-count.ensures, c.requires.some)
 
 pub returns-clause-rows : goal.returns-clause-rows
 returns-clause-rows c =
     let all = c.insert_all-last.ensures.inserted ∙ with_all-numbered c.args.bios.now c.args.children.items in
-    let first : c.insert_all-last.result - (c.len-count.result - 1) ≡ c.args.bios.now.next = omega (arith, c.insert_all-last.ensures.last c.requires.some, c.len-count.ensures, c.requires.some) in
-    let count : c.len-count.result ≡ length c.args.children.items = omega (arith, c.len-count.ensures, c.args.children.ok) in
-    let after = split_after _ c.wait_for.new.bios _ _ _ c.args.number (waiting c.len-count.result (c.insert_all-last.result - (c.len-count.result - 1))) all c.wait_for.ensures in
+    let first : c.insert_all-last.result - (c.len-count.result - 1) ≡ c.args.bios.now.next =
+    omega (arith, c.insert_all-last.ensures.last c.requires.some, c.len-count.ensures, c.requires.some) in
+    let count : c.len-count.result ≡ length c.args.children.items =
+    omega (arith, c.len-count.ensures, c.args.children.ok) in
+    let after = split_after _ c.wait_for.new.bios _ _ _ c.args.number
+    (waiting c.len-count.result (c.insert_all-last.result - (c.len-count.result - 1))) all c.wait_for.ensures in
     rw (first, count) at after
 
 pub returns-clause-next : goal.returns-clause-next

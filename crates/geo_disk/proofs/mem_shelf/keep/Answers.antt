@@ -5,20 +5,34 @@ use Rattle.geo_disk.proofs.NameLemmas.{IsPlace, found_place, named-set_same, nam
 use Rattle.geo_disk.proofs.mem_shelf.keep.Goals as goal
 
 -- where the disk is put
-place : (c : goal.After-drop-index_mut-2) → IsPlace (λ (x : Slot). x.name) c.args.name.now c.args.slots.now.items c.unwrap-at.result
+place : (c : goal.After-drop-index_mut-2)
+    → IsPlace (λ (x : Slot). x.name) c.args.name.now c.args.slots.now.items c.unwrap-at.result
 place c = place_found (λ (x : Slot). x.name) c.args.name.now c.args.slots.now.items c.unwrap-at.result
     (rw (← c.as_slice.ensures.value) (sym c.place_of.ensures ∙ c.unwrap-at.ensures))
 
 pub unwrap-at-requires : goal.unwrap-at-requires
 unwrap-at-requires c =
-    rw (c.place_of.ensures, c.as_slice.ensures.value) (found_place (λ (x : Slot). x.name) c.args.name.now c.args.slots.now.items c.requires)
+    rw (c.place_of.ensures, c.as_slice.ensures.value)
+    (found_place (λ (x : Slot). x.name) c.args.name.now c.args.slots.now.items c.requires)
 
 pub returns-clause-here : goal.returns-clause-here
 returns-clause-here c =
-    rw (c.into_parts-bytes.ensures.bytes, c.into_parts-bytes.ensures.fails, c.into_parts-bytes.ensures.calls, c.into_parts-bytes.ensures.part)
-    (named-set_same (λ (x : Slot). x.name) c.args.name.now c.args.slots.now.items c.unwrap-at.result (kept_slot c.args.name.now c.args.disk) (place c) refl)
+    rw (
+      c.into_parts-bytes.ensures.bytes,
+      c.into_parts-bytes.ensures.fails,
+      c.into_parts-bytes.ensures.calls,
+      c.into_parts-bytes.ensures.part,
+    )
+    (named-set_same (λ (x : Slot). x.name) c.args.name.now c.args.slots.now.items c.unwrap-at.result
+    (kept_slot c.args.name.now c.args.disk) (place c) refl)
 
 pub returns-clause-others : goal.returns-clause-others
 returns-clause-others c other apart =
-    rw (c.into_parts-bytes.ensures.bytes, c.into_parts-bytes.ensures.fails, c.into_parts-bytes.ensures.calls, c.into_parts-bytes.ensures.part)
-    (named-set_other (λ (x : Slot). x.name) c.args.name.now other c.args.slots.now.items c.unwrap-at.result (kept_slot c.args.name.now c.args.disk) (place c) refl apart)
+    rw (
+      c.into_parts-bytes.ensures.bytes,
+      c.into_parts-bytes.ensures.fails,
+      c.into_parts-bytes.ensures.calls,
+      c.into_parts-bytes.ensures.part,
+    )
+    (named-set_other (λ (x : Slot). x.name) c.args.name.now other c.args.slots.now.items c.unwrap-at.result
+    (kept_slot c.args.name.now c.args.disk) (place c) refl apart)

@@ -8,20 +8,28 @@ loop-at-init c = c.start-at.ensures.way
 
 pub returns-then-number-child : goal.returns-then-number-child
 returns-then-number-child c =
-    sym (first_child_is c.args.parent c.args.number 1 c.args.links.now.next c.args.links.now.rows (Some c.in-Some.child) c.start-at.ensures.rising
-    (way_up_ends (part_at parent_of c.args.links.now.rows) c.args.parent c.args.number c.loop-at.at c.in-Some.child c.in-Some.is c.if-number-child.true c.loop-at.invariant))
+    sym (first_child_is c.args.parent c.args.number 1 c.args.links.now.next c.args.links.now.rows
+    (Some c.in-Some.child) c.start-at.ensures.rising
+    (way_up_ends (part_at parent_of c.args.links.now.rows) c.args.parent c.args.number c.loop-at.at c.in-Some.child
+    c.in-Some.is c.if-number-child.true c.loop-at.invariant))
 
 pub loop-at-smaller : goal.loop-at-smaller
 loop-at-smaller c =
     rw c.after_at-at.ensures
-    (way_up_falls (part_at parent_of c.args.links.now.rows) c.args.parent c.args.number c.loop-at.at c.in-Some.child c.in-Some.is (omega arith) c.loop-at.invariant (part_at after_of c.args.links.now.rows) c.requires.afters)
+    (way_up_falls (part_at parent_of c.args.links.now.rows) c.args.parent c.args.number c.loop-at.at
+    c.in-Some.child c.in-Some.is (omega arith) c.loop-at.invariant (part_at after_of c.args.links.now.rows)
+    c.requires.afters)
 
 pub loop-at-preserved : goal.loop-at-preserved
 loop-at-preserved c =
     rw c.after_at-at.ensures
-    (way_up_goes_on (part_at parent_of c.args.links.now.rows) c.args.parent c.args.number c.loop-at.at c.in-Some.child c.in-Some.is (omega arith) c.loop-at.invariant (part_at after_of c.args.links.now.rows) c.requires.afters)
+    (way_up_goes_on (part_at parent_of c.args.links.now.rows) c.args.parent c.args.number c.loop-at.at
+    c.in-Some.child c.in-Some.is (omega arith) c.loop-at.invariant (part_at after_of c.args.links.now.rows)
+    c.requires.afters)
 
 pub returns : goal.returns
 returns c =
-    sym (first_child_is c.args.parent c.args.number 1 c.args.links.now.next c.args.links.now.rows None c.start-at.ensures.rising
-    (way_up_none (part_at parent_of c.args.links.now.rows) c.args.parent c.args.number c.loop-at.at c.in_default.is c.loop-at.invariant))
+    sym (first_child_is c.args.parent c.args.number 1 c.args.links.now.next c.args.links.now.rows None
+    c.start-at.ensures.rising
+    (way_up_none (part_at parent_of c.args.links.now.rows) c.args.parent c.args.number c.loop-at.at c.in_default.is
+    c.loop-at.invariant))

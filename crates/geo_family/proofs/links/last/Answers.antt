@@ -6,4 +6,6 @@ use Rattle.geo_family.proofs.links.last.Goals as goal
 pub returns : goal.returns
 returns c =
     c.last_at.ensures
-    ∙ sym (last_child_is c.args.parent 1 c.args.links.now.next c.args.links.now.rows (part_at last_of c.args.ends.now.rows c.args.parent) c.first_from.ensures.rising (c.requires.lasts c.args.parent))
+    ∙ sym (last_child_is c.args.parent 1 c.args.links.now.next c.args.links.now.rows
+    (part_at last_of c.args.ends.now.rows c.args.parent) c.first_from.ensures.rising
+    (c.requires.lasts c.args.parent))

@@ -4,8 +4,18 @@ use Rattle.geo_family.proofs.links.set_after.Goals as goal
 
 pub returns-in-Some-get_mut : goal.returns-in-Some-get_mut
 returns-in-Some-get_mut c =
-    rw (c.in-Some.is, with_value-change c.in-Some.number (λ l. record l { after = c.args.to }) c.in-Some-get_mut.link.now (record c.in-Some-get_mut.link.now { after = c.args.to }) refl 1 c.args.links.now.next c.args.links.now.rows c.get_mut.ensures.rising (rw c.in-Some-get_mut.is at c.get_mut.ensures.value)) refl
+    rw (
+      c.in-Some.is,
+      with_value-change c.in-Some.number (λ l. record l { after = c.args.to }) c.in-Some-get_mut.link.now
+          (record c.in-Some-get_mut.link.now { after = c.args.to }) refl 1 c.args.links.now.next
+          c.args.links.now.rows c.get_mut.ensures.rising
+          (rw c.in-Some-get_mut.is at c.get_mut.ensures.value),
+    ) refl
 
 pub returns-in_default-get_mut : goal.returns-in_default-get_mut
 returns-in_default-get_mut c =
-    rw (c.in-Some.is, change_at-absent c.in-Some.number (λ l. record l { after = c.args.to }) c.args.links.now.rows (rw c.in_default-get_mut.is at c.get_mut.ensures.value)) refl
+    rw (
+      c.in-Some.is,
+      change_at-absent c.in-Some.number (λ l. record l { after = c.args.to }) c.args.links.now.rows
+          (rw c.in_default-get_mut.is at c.get_mut.ensures.value),
+    ) refl

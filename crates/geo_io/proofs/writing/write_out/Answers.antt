@@ -4,7 +4,9 @@ use Rattle.geo_io.proofs.writing.write_out.Goals as goal
 
 pub loop-done-preserved : goal.loop-done-preserved
 loop-done-preserved g c = record {
-  grown = Takes-part (g.K.Sink.basin c.args.sink.now) (g.K.Sink.basin c.loop-done.sink) (g.K.Sink.basin c.write.new.self) c.loop-done.done c.in-Ok.count c.args.bytes.now c.loop-done.invariant.grown c.in-Ok.ensures.bytes;
+  grown = Takes-part (g.K.Sink.basin c.args.sink.now) (g.K.Sink.basin c.loop-done.sink)
+      (g.K.Sink.basin c.write.new.self) c.loop-done.done c.in-Ok.count c.args.bytes.now c.loop-done.invariant.grown
+      c.in-Ok.ensures.bytes;
   inside = omega (arith, c.in-Ok.ensures.bound);
   later = omega (arith, c.in-Ok.ensures.cause.later);
 }

@@ -19,20 +19,31 @@ raise-loop-prov-init g t c = record {
 
 pub raise-overflow_add-least : goal.raise-overflow_add-least
 raise-overflow_add-least g t c =
-    let most : height (ranked_below c.args.edges.now) (length (kinds c.args.geoms.now)) c.args.geom ≤ length (kinds c.args.geoms.now) + 1 = height-most (ranked_below c.args.edges.now) (length (kinds c.args.geoms.now)) c.args.geom in
+    let most : height (ranked_below c.args.edges.now) (length (kinds c.args.geoms.now)) c.args.geom
+    ≤ length (kinds c.args.geoms.now) + 1 =
+    height-most (ranked_below c.args.edges.now) (length (kinds c.args.geoms.now)) c.args.geom in
     let few : c.args.least ≤ 2 ^ 34 = omega (arith, c.requires.fits, c.requires.walkable.few) in
     search rules
 
 pub raise-raise_attached-high-requires : goal.raise-raise_attached-high-requires
 raise-raise_attached-high-requires g t c κs within =
-    let first : IsFirst (is_offered c.args.geom) (offers c.args.edges.now).rows c.args.edges.now.providers.next c.loop-prov.at c.in-Some.prov = c.in-Some.ensures in
-    let own : owner c.args.edges.now c.in-Some.prov ≡ c.args.geom = owner-is c.args.edges.now c.args.geom c.in-Some.prov first.passing in
+    let first : IsFirst (is_offered c.args.geom) (offers c.args.edges.now).rows c.args.edges.now.providers.next
+    c.loop-prov.at c.in-Some.prov = c.in-Some.ensures in
+    let own : owner c.args.edges.now c.in-Some.prov ≡ c.args.geom =
+    owner-is c.args.edges.now c.args.geom c.in-Some.prov first.passing in
     let same : bare c.loop-prov.geoms ≡ bare c.args.geoms.now = c.loop-prov.invariant.same ∙ c.lift-high.ensures.same in
-    let classes : kinds c.loop-prov.geoms ≡ kinds c.args.geoms.now = kinds-bare c.args.geoms.now c.loop-prov.geoms same in
-    let most : height (ranked_below c.args.edges.now) (length (kinds c.args.geoms.now)) c.args.geom ≤ length (kinds c.args.geoms.now) + 1 = height-most (ranked_below c.args.edges.now) (length (kinds c.args.geoms.now)) c.args.geom in
-    let tall : height (ranked_below c.args.edges.now) (length (kinds c.loop-prov.geoms)) (owner c.args.edges.now c.in-Some.prov) ≡ height (ranked_below c.args.edges.now) (length (kinds c.args.geoms.now)) c.args.geom = rw (own, classes) refl in
+    let classes : kinds c.loop-prov.geoms ≡ kinds c.args.geoms.now =
+    kinds-bare c.args.geoms.now c.loop-prov.geoms same in
+    let most : height (ranked_below c.args.edges.now) (length (kinds c.args.geoms.now)) c.args.geom
+    ≤ length (kinds c.args.geoms.now) + 1 =
+    height-most (ranked_below c.args.edges.now) (length (kinds c.args.geoms.now)) c.args.geom in
+    let tall : height (ranked_below c.args.edges.now) (length (kinds c.loop-prov.geoms))
+    (owner c.args.edges.now c.in-Some.prov)
+    ≡ height (ranked_below c.args.edges.now) (length (kinds c.args.geoms.now)) c.args.geom =
+    rw (own, classes) refl in
     let count : length (kinds c.loop-prov.geoms) ≡ length (kinds c.args.geoms.now) = ap length classes in
-    let raised : c.args.least ≤ stored c.loop-prov.geoms (owner c.args.edges.now c.in-Some.prov) = rw own (omega (arith, c.lift-high.ensures.here, c.loop-prov.invariant.lifted.grows c.args.geom)) in (
+    let raised : c.args.least ≤ stored c.loop-prov.geoms (owner c.args.edges.now c.in-Some.prov) =
+    rw own (omega (arith, c.lift-high.ensures.here, c.loop-prov.invariant.lifted.grows c.args.geom)) in (
       omega (arith, c.decreases),
       (
         λ a there. within a there,
@@ -44,7 +55,8 @@ raise-raise_attached-high-requires g t c κs within =
               omega arith,
               (
                 omega (arith, c.requires.fits),
-                (rw (kinds-bare c.lift-high.new.geoms c.loop-prov.geoms c.loop-prov.invariant.same) c.loop-prov.invariant.high),
+                (rw (kinds-bare c.lift-high.new.geoms c.loop-prov.geoms c.loop-prov.invariant.same)
+                    c.loop-prov.invariant.high),
               ),
             ),
           ),
@@ -54,49 +66,84 @@ raise-raise_attached-high-requires g t c κs within =
 
 pub raise-loop-prov-preserved : goal.raise-loop-prov-preserved
 raise-loop-prov-preserved g t c =
-    let first : IsFirst (is_offered c.args.geom) (offers c.args.edges.now).rows c.args.edges.now.providers.next c.loop-prov.at c.in-Some.prov = c.in-Some.ensures in
-    let own : owner c.args.edges.now c.in-Some.prov ≡ c.args.geom = owner-is c.args.edges.now c.args.geom c.in-Some.prov first.passing in
-    let now : Lifted (ranked_below c.args.edges.now) c.args.geom 0 (stored c.loop-prov.geoms) (stored c.raise_attached-high.new.geoms) =
-    subst (λ o. Lifted (ranked_below c.args.edges.now) o 0 (stored c.loop-prov.geoms) (stored c.raise_attached-high.new.geoms)) own c.raise_attached-high.ensures.lifted in
+    let first : IsFirst (is_offered c.args.geom) (offers c.args.edges.now).rows c.args.edges.now.providers.next
+    c.loop-prov.at c.in-Some.prov = c.in-Some.ensures in
+    let own : owner c.args.edges.now c.in-Some.prov ≡ c.args.geom =
+    owner-is c.args.edges.now c.args.geom c.in-Some.prov first.passing in
+    let now : Lifted (ranked_below c.args.edges.now) c.args.geom 0 (stored c.loop-prov.geoms)
+    (stored c.raise_attached-high.new.geoms) =
+    subst (λ o. Lifted (ranked_below c.args.edges.now) o 0 (stored c.loop-prov.geoms)
+    (stored c.raise_attached-high.new.geoms)) own c.raise_attached-high.ensures.lifted in
     record {
       same = c.raise_attached-high.ensures.same ∙ c.loop-prov.invariant.same;
-      lifted = lifted-more (ranked_below c.args.edges.now) c.args.geom (stored c.lift-high.new.geoms) (stored c.loop-prov.geoms) (stored c.raise_attached-high.new.geoms) c.loop-prov.invariant.lifted now;
-      high = rw (← kinds-bare c.lift-high.new.geoms c.loop-prov.geoms c.loop-prov.invariant.same) c.raise_attached-high.ensures.high;
+      lifted = lifted-more (ranked_below c.args.edges.now) c.args.geom (stored c.lift-high.new.geoms)
+          (stored c.loop-prov.geoms) (stored c.raise_attached-high.new.geoms) c.loop-prov.invariant.lifted now;
+      high = rw (← kinds-bare c.lift-high.new.geoms c.loop-prov.geoms c.loop-prov.invariant.same)
+          c.raise_attached-high.ensures.high;
       passed = λ p m low offered.
-          walk-more (is_offered c.args.geom) (offers c.args.edges.now).rows c.args.edges.now.providers.next c.loop-prov.at c.in-Some.prov
-          (λ q. passes (is_attached q) (value_at (ranked_links c.args.edges.now).rows m) ≡ true → c.args.least + 1 ≤ stored c.raise_attached-high.new.geoms (user c.args.edges.now m)) first
-          (λ q low offered attached. omega (arith, c.loop-prov.invariant.passed q m low offered attached, now.grows (user c.args.edges.now m)))
+          walk-more (is_offered c.args.geom) (offers c.args.edges.now).rows c.args.edges.now.providers.next
+          c.loop-prov.at c.in-Some.prov
+          (λ q. passes (is_attached q) (value_at (ranked_links c.args.edges.now).rows m) ≡ true
+          → c.args.least + 1 ≤ stored c.raise_attached-high.new.geoms (user c.args.edges.now m)) first
+          (λ q low offered attached. omega (
+            arith,
+            c.loop-prov.invariant.passed q m low offered attached,
+            now.grows (user c.args.edges.now m),
+          ))
           (λ attached. c.raise_attached-high.ensures.raised m attached) p low offered;
     }
 
 pub raise-returns-clause-lifted : goal.raise-returns-clause-lifted
 raise-returns-clause-lifted g t c =
-    let none : (m : ℕ) → passes (is_offered c.args.geom) (value_at (offers c.args.edges.now).rows m) ≡ true → m < c.loop-prov.at = c.in_default.ensures in
-    let low : stored c.args.geoms.now c.args.geom < c.args.least = omega (arith, c.stored.ensures, c.if-least-stored.false) in
-    lifted-whole (ranked_below c.args.edges.now) c.args.geom c.args.least (stored c.args.geoms.now) (stored c.lift-high.new.geoms) (stored c.loop-prov.geoms) low c.lift-high.ensures.here c.lift-high.ensures.others c.loop-prov.invariant.lifted
-    (above-user c.args.edges.now c.requires.walkable.kin.consumers_rise (λ x. c.args.least + 1 ≤ stored c.loop-prov.geoms x) c.args.geom
+    let none : (m : ℕ) → passes (is_offered c.args.geom) (value_at (offers c.args.edges.now).rows m) ≡ true
+    → m < c.loop-prov.at = c.in_default.ensures in
+    let low : stored c.args.geoms.now c.args.geom < c.args.least =
+    omega (arith, c.stored.ensures, c.if-least-stored.false) in
+    lifted-whole (ranked_below c.args.edges.now) c.args.geom c.args.least (stored c.args.geoms.now)
+    (stored c.lift-high.new.geoms) (stored c.loop-prov.geoms) low c.lift-high.ensures.here
+    c.lift-high.ensures.others c.loop-prov.invariant.lifted
+    (above-user c.args.edges.now c.requires.walkable.kin.consumers_rise (λ x. c.args.least + 1
+    ≤ stored c.loop-prov.geoms x) c.args.geom
     (λ p m offered attached. c.loop-prov.invariant.passed p m (none p offered) offered attached))
 
 pub raise-returns-clause-high : goal.raise-returns-clause-high
-raise-returns-clause-high g t c = rw (← kinds-bare c.args.geoms.now c.lift-high.new.geoms c.lift-high.ensures.same) c.loop-prov.invariant.high
+raise-returns-clause-high g t c =
+    rw (← kinds-bare c.args.geoms.now c.lift-high.new.geoms c.lift-high.ensures.same) c.loop-prov.invariant.high
 
 pub raise_attached-raise-high-requires : goal.raise_attached-raise-high-requires
 raise_attached-raise-high-requires g t c κs within =
-    let first : IsFirst (is_attached c.args.prov) (ranked_links c.args.edges.now).rows c.args.edges.now.consumers.next c.loop-cons.at c.in-Some.cons = c.in-Some.ensures in
-    let classes : kinds c.loop-cons.geoms ≡ kinds c.args.geoms.now = kinds-bare c.args.geoms.now c.loop-cons.geoms c.loop-cons.invariant.same in
-    let walkable = walkable-bare c.args.geoms.now c.loop-cons.geoms c.args.edges.now c.loop-cons.invariant.same c.requires.walkable in
+    let first : IsFirst (is_attached c.args.prov) (ranked_links c.args.edges.now).rows
+    c.args.edges.now.consumers.next c.loop-cons.at c.in-Some.cons = c.in-Some.ensures in
+    let classes : kinds c.loop-cons.geoms ≡ kinds c.args.geoms.now =
+    kinds-bare c.args.geoms.now c.loop-cons.geoms c.loop-cons.invariant.same in
+    let walkable =
+    walkable-bare c.args.geoms.now c.loop-cons.geoms c.args.edges.now c.loop-cons.invariant.same
+    c.requires.walkable in
     let count : length (kinds c.loop-cons.geoms) ≡ length (kinds c.args.geoms.now) = ap length classes in
-    let near : IsAmong (ranked_below c.args.edges.now (user c.args.edges.now c.in-Some.cons)) (owner c.args.edges.now c.args.prov) = user-above c.args.edges.now c.args.prov c.in-Some.cons c.requires.lives first.passing in
-    let climbs : height (ranked_below c.args.edges.now) (length (kinds c.args.geoms.now)) (owner c.args.edges.now c.args.prov) < height (ranked_below c.args.edges.now) (length (kinds c.args.geoms.now)) (user c.args.edges.now c.in-Some.cons) = c.requires.walkable.climbs (user c.args.edges.now c.in-Some.cons) (owner c.args.edges.now c.args.prov) near in
-    let most : height (ranked_below c.args.edges.now) (length (kinds c.args.geoms.now)) (user c.args.edges.now c.in-Some.cons) ≤ length (kinds c.args.geoms.now) + 1 = height-most (ranked_below c.args.edges.now) (length (kinds c.args.geoms.now)) (user c.args.edges.now c.in-Some.cons) in
-    let tall : height (ranked_below c.args.edges.now) (length (kinds c.loop-cons.geoms)) c.user.result ≡ height (ranked_below c.args.edges.now) (length (kinds c.args.geoms.now)) (user c.args.edges.now c.in-Some.cons) = rw (c.user.ensures, classes) refl in (
+    let near : IsAmong (ranked_below c.args.edges.now (user c.args.edges.now c.in-Some.cons))
+    (owner c.args.edges.now c.args.prov) =
+    user-above c.args.edges.now c.args.prov c.in-Some.cons c.requires.lives first.passing in
+    let climbs : height (ranked_below c.args.edges.now) (length (kinds c.args.geoms.now))
+    (owner c.args.edges.now c.args.prov)
+    < height (ranked_below c.args.edges.now) (length (kinds c.args.geoms.now))
+    (user c.args.edges.now c.in-Some.cons) =
+    c.requires.walkable.climbs (user c.args.edges.now c.in-Some.cons)
+    (owner c.args.edges.now c.args.prov) near in
+    let most : height (ranked_below c.args.edges.now) (length (kinds c.args.geoms.now))
+    (user c.args.edges.now c.in-Some.cons) ≤ length (kinds c.args.geoms.now) + 1 =
+    height-most (ranked_below c.args.edges.now) (length (kinds c.args.geoms.now))
+    (user c.args.edges.now c.in-Some.cons) in
+    let tall : height (ranked_below c.args.edges.now) (length (kinds c.loop-cons.geoms)) c.user.result
+    ≡ height (ranked_below c.args.edges.now) (length (kinds c.args.geoms.now))
+    (user c.args.edges.now c.in-Some.cons) = rw (c.user.ensures, classes) refl in (
       omega (arith, c.decreases),
       (
         λ a there. within a there,
         (
           walkable,
           (
-            rw c.user.ensures (user-lives c.args.edges.now (kinds c.loop-cons.geoms) c.args.prov c.in-Some.cons walkable first.passing),
+            rw c.user.ensures (user-lives c.args.edges.now (kinds c.loop-cons.geoms) c.args.prov c.in-Some.cons
+                walkable first.passing),
             (
               omega (arith, c.requires.fits),
               (rw classes c.loop-cons.invariant.high),
@@ -108,19 +155,31 @@ raise_attached-raise-high-requires g t c κs within =
 
 pub raise_attached-loop-cons-preserved : goal.raise_attached-loop-cons-preserved
 raise_attached-loop-cons-preserved g t c =
-    let first : IsFirst (is_attached c.args.prov) (ranked_links c.args.edges.now).rows c.args.edges.now.consumers.next c.loop-cons.at c.in-Some.cons = c.in-Some.ensures in
-    let near : IsAmong (ranked_below c.args.edges.now (user c.args.edges.now c.in-Some.cons)) (owner c.args.edges.now c.args.prov) = user-above c.args.edges.now c.args.prov c.in-Some.cons c.requires.lives first.passing in
-    let low : c.args.least ≤ stored c.loop-cons.geoms (owner c.args.edges.now c.args.prov) + 1 = omega (arith, c.requires.low, c.loop-cons.invariant.lifted.grows (owner c.args.edges.now c.args.prov)) in
-    let one : Lifted (ranked_below c.args.edges.now) (user c.args.edges.now c.in-Some.cons) c.args.least (stored c.loop-cons.geoms) (stored c.raise-high.new.geoms) =
-    subst (λ x. Lifted (ranked_below c.args.edges.now) x c.args.least (stored c.loop-cons.geoms) (stored c.raise-high.new.geoms)) c.user.ensures c.raise-high.ensures.lifted in
-    let now : Lifted (ranked_below c.args.edges.now) (owner c.args.edges.now c.args.prov) 0 (stored c.loop-cons.geoms) (stored c.raise-high.new.geoms) =
-    lifted-above (ranked_below c.args.edges.now) (owner c.args.edges.now c.args.prov) (user c.args.edges.now c.in-Some.cons) c.args.least (stored c.loop-cons.geoms) (stored c.raise-high.new.geoms) near low one in
+    let first : IsFirst (is_attached c.args.prov) (ranked_links c.args.edges.now).rows
+    c.args.edges.now.consumers.next c.loop-cons.at c.in-Some.cons = c.in-Some.ensures in
+    let near : IsAmong (ranked_below c.args.edges.now (user c.args.edges.now c.in-Some.cons))
+    (owner c.args.edges.now c.args.prov) =
+    user-above c.args.edges.now c.args.prov c.in-Some.cons c.requires.lives first.passing in
+    let low : c.args.least ≤ stored c.loop-cons.geoms (owner c.args.edges.now c.args.prov) + 1 =
+    omega (arith, c.requires.low, c.loop-cons.invariant.lifted.grows (owner c.args.edges.now c.args.prov)) in
+    let one : Lifted (ranked_below c.args.edges.now) (user c.args.edges.now c.in-Some.cons) c.args.least
+    (stored c.loop-cons.geoms) (stored c.raise-high.new.geoms) =
+    subst (λ x. Lifted (ranked_below c.args.edges.now) x c.args.least (stored c.loop-cons.geoms)
+    (stored c.raise-high.new.geoms)) c.user.ensures c.raise-high.ensures.lifted in
+    let now : Lifted (ranked_below c.args.edges.now) (owner c.args.edges.now c.args.prov) 0
+    (stored c.loop-cons.geoms) (stored c.raise-high.new.geoms) =
+    lifted-above (ranked_below c.args.edges.now) (owner c.args.edges.now c.args.prov)
+    (user c.args.edges.now c.in-Some.cons) c.args.least (stored c.loop-cons.geoms)
+    (stored c.raise-high.new.geoms) near low one in
     record {
       same = c.raise-high.ensures.same ∙ c.loop-cons.invariant.same;
-      lifted = lifted-more (ranked_below c.args.edges.now) (owner c.args.edges.now c.args.prov) (stored c.args.geoms.now) (stored c.loop-cons.geoms) (stored c.raise-high.new.geoms) c.loop-cons.invariant.lifted now;
+      lifted = lifted-more (ranked_below c.args.edges.now) (owner c.args.edges.now c.args.prov)
+          (stored c.args.geoms.now) (stored c.loop-cons.geoms) (stored c.raise-high.new.geoms)
+          c.loop-cons.invariant.lifted now;
       high = rw (← kinds-bare c.args.geoms.now c.loop-cons.geoms c.loop-cons.invariant.same) c.raise-high.ensures.high;
       raised =
-          walk-more (is_attached c.args.prov) (ranked_links c.args.edges.now).rows c.args.edges.now.consumers.next c.loop-cons.at c.in-Some.cons
+          walk-more (is_attached c.args.prov) (ranked_links c.args.edges.now).rows c.args.edges.now.consumers.next
+          c.loop-cons.at c.in-Some.cons
           (λ m. c.args.least ≤ stored c.raise-high.new.geoms (user c.args.edges.now m)) first
           (λ m low there. omega (arith, c.loop-cons.invariant.raised m low there, now.grows (user c.args.edges.now m)))
           (rw (← c.user.ensures) c.raise-high.ensures.raised);

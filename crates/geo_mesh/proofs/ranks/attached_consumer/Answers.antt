@@ -9,8 +9,12 @@ use Rattle.geo_mesh.proofs.ranks.attached_consumer.Goals as goal
 
 pub returns : goal.returns
 returns c =
-    first-is (is_attached c.args.prov) c.args.from _ (links c.args.edges.now) (rising-with links_of 1 c.args.edges.now.consumers.next c.args.edges.now.consumers.rows c.requires.consumers_rise) c.requires.consumers_few
+    first-is (is_attached c.args.prov) c.args.from _ (links c.args.edges.now)
+    (rising-with links_of 1 c.args.edges.now.consumers.next c.args.edges.now.consumers.rows
+    c.requires.consumers_rise) c.requires.consumers_few
     (c.first_from.ensures
     ∙ ap (λ rows. first_child rows c.args.prov c.args.from) c.requires.attached
-    ∙ first-kin consumer_row (λ x. (x.number, x.provider)) (λ x. x.consumer.prov) (λ row. refl) (λ x. is_attached c.args.prov (links_of x)) c.args.prov c.args.from (λ x. names-same x.consumer.prov c.args.prov) c.args.edges.now.consumers.rows
+    ∙ first-kin consumer_row (λ x. (x.number, x.provider)) (λ x. x.consumer.prov) (λ row. refl)
+    (λ x. is_attached c.args.prov (links_of x)) c.args.prov c.args.from
+    (λ x. names-same x.consumer.prov c.args.prov) c.args.edges.now.consumers.rows
     ∙ first-with links_of (is_attached c.args.prov) c.args.from c.args.edges.now.consumers.rows)

@@ -8,8 +8,11 @@ use Rattle.geo_mesh.proofs.ranks.belonging.Goals as goal
 
 pub returns : goal.returns
 returns c =
-    first-is (belongs c.args.geom) c.args.from _ (links c.args.edges.now) (rising-with links_of 1 c.args.edges.now.consumers.next c.args.edges.now.consumers.rows c.requires.consumers_rise) c.requires.consumers_few
+    first-is (belongs c.args.geom) c.args.from _ (links c.args.edges.now)
+    (rising-with links_of 1 c.args.edges.now.consumers.next c.args.edges.now.consumers.rows
+    c.requires.consumers_rise) c.requires.consumers_few
     (c.first_from.ensures
     ∙ ap (λ rows. first_child rows c.args.geom c.args.from) c.requires.owned
-    ∙ first-kin consumer_row (λ x. (x.number, Some x.geom)) (λ x. Some x.consumer.geom) (λ row. refl) (λ x. belongs c.args.geom (links_of x)) c.args.geom c.args.from (λ x. refl) c.args.edges.now.consumers.rows
+    ∙ first-kin consumer_row (λ x. (x.number, Some x.geom)) (λ x. Some x.consumer.geom) (λ row. refl)
+    (λ x. belongs c.args.geom (links_of x)) c.args.geom c.args.from (λ x. refl) c.args.edges.now.consumers.rows
     ∙ first-with links_of (belongs c.args.geom) c.args.from c.args.edges.now.consumers.rows)

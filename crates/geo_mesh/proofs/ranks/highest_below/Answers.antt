@@ -9,29 +9,50 @@ use Rattle.geo_mesh.proofs.ranks.highest_below.Goals as goal
 
 pub returns-then-highest-most : goal.returns-then-highest-most
 returns-then-highest-most g c =
-    let first : IsFirst (belongs c.args.geom) (links c.args.edges.now).rows c.args.edges.now.consumers.next c.loop-cons.at c.in-Some.cons = c.in-Some.ensures in
-    let here : rank_under (stored c.args.geoms.now) (offers c.args.edges.now).rows (value_at (links c.args.edges.now).rows c.in-Some.cons) ≤ largest (map (stored c.args.geoms.now) (below c.args.edges.now c.args.geom)) =
-    rank_under-most (stored c.args.geoms.now) (offers c.args.edges.now).rows (links c.args.edges.now).rows c.args.geom c.in-Some.cons first.passing in
-    omega (arith, c.loop-cons.invariant.most, c.requires.most, c.max-highest.ensures, c.rank_below.ensures, c.if-highest-most.true)
+    let first : IsFirst (belongs c.args.geom) (links c.args.edges.now).rows c.args.edges.now.consumers.next
+    c.loop-cons.at c.in-Some.cons = c.in-Some.ensures in
+    let here : rank_under (stored c.args.geoms.now) (offers c.args.edges.now).rows
+    (value_at (links c.args.edges.now).rows c.in-Some.cons)
+    ≤ largest (map (stored c.args.geoms.now) (below c.args.edges.now c.args.geom)) =
+    rank_under-most (stored c.args.geoms.now) (offers c.args.edges.now).rows (links c.args.edges.now).rows
+    c.args.geom c.in-Some.cons first.passing in
+    omega (
+      arith,
+      c.loop-cons.invariant.most,
+      c.requires.most,
+      c.max-highest.ensures,
+      c.rank_below.ensures,
+      c.if-highest-most.true,
+    )
 
 pub loop-cons-preserved : goal.loop-cons-preserved
 loop-cons-preserved g c =
-    let first : IsFirst (belongs c.args.geom) (links c.args.edges.now).rows c.args.edges.now.consumers.next c.loop-cons.at c.in-Some.cons = c.in-Some.ensures in
-    let here : rank_under (stored c.args.geoms.now) (offers c.args.edges.now).rows (value_at (links c.args.edges.now).rows c.in-Some.cons) ≤ largest (map (stored c.args.geoms.now) (below c.args.edges.now c.args.geom)) =
-    rank_under-most (stored c.args.geoms.now) (offers c.args.edges.now).rows (links c.args.edges.now).rows c.args.geom c.in-Some.cons first.passing in
+    let first : IsFirst (belongs c.args.geom) (links c.args.edges.now).rows c.args.edges.now.consumers.next
+    c.loop-cons.at c.in-Some.cons = c.in-Some.ensures in
+    let here : rank_under (stored c.args.geoms.now) (offers c.args.edges.now).rows
+    (value_at (links c.args.edges.now).rows c.in-Some.cons)
+    ≤ largest (map (stored c.args.geoms.now) (below c.args.edges.now c.args.geom)) =
+    rank_under-most (stored c.args.geoms.now) (offers c.args.edges.now).rows (links c.args.edges.now).rows
+    c.args.geom c.in-Some.cons first.passing in
     record {
       most = omega (arith, c.loop-cons.invariant.most, c.max-highest.ensures, c.rank_below.ensures);
       covers =
-          walk-more (belongs c.args.geom) (links c.args.edges.now).rows c.args.edges.now.consumers.next c.loop-cons.at c.in-Some.cons
-          (λ m. rank_under (stored c.args.geoms.now) (offers c.args.edges.now).rows (value_at (links c.args.edges.now).rows m) ≤ c.max-highest.result) first
+          walk-more (belongs c.args.geom) (links c.args.edges.now).rows c.args.edges.now.consumers.next
+          c.loop-cons.at c.in-Some.cons
+          (λ m. rank_under (stored c.args.geoms.now) (offers c.args.edges.now).rows
+          (value_at (links c.args.edges.now).rows m) ≤ c.max-highest.result) first
           (λ m low there. omega (arith, c.loop-cons.invariant.covers m low there, c.max-highest.ensures))
           (omega (arith, c.max-highest.ensures, c.rank_below.ensures));
     }
 
 pub returns : goal.returns
 returns g c =
-    let none : (m : ℕ) → passes (belongs c.args.geom) (value_at (links c.args.edges.now).rows m) ≡ true → m < c.loop-cons.at = c.in_default.ensures in
+    let none : (m : ℕ) → passes (belongs c.args.geom) (value_at (links c.args.edges.now).rows m) ≡ true
+    → m < c.loop-cons.at = c.in_default.ensures in
     let most : largest (map (stored c.args.geoms.now) (below c.args.edges.now c.args.geom)) ≤ c.loop-cons.highest =
-    under-most (stored c.args.geoms.now) (offers c.args.edges.now).rows (links c.args.edges.now).rows c.args.geom c.loop-cons.highest 1 c.args.edges.now.consumers.next (rising-with links_of 1 c.args.edges.now.consumers.next c.args.edges.now.consumers.rows c.requires.kin.consumers_rise)
+    under-most (stored c.args.geoms.now) (offers c.args.edges.now).rows (links c.args.edges.now).rows c.args.geom
+    c.loop-cons.highest 1 c.args.edges.now.consumers.next
+    (rising-with links_of 1 c.args.edges.now.consumers.next c.args.edges.now.consumers.rows
+    c.requires.kin.consumers_rise)
     (λ m there. c.loop-cons.invariant.covers m (none m there) there) in
     omega (arith, c.loop-cons.invariant.most)

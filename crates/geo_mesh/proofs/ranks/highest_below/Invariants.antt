@@ -8,7 +8,8 @@ use Rattle.geo_mesh.proofs.ranks.highest_below.Given as goal
 abbrev pub invariant-loop-cons : goal.invariant-loop-cons
 invariant-loop-cons g l = record {
   most : l.highest ≤ largest (map (stored l.geoms) (below l.edges l.geom));
-  covers : (c : ℕ) → c < l.at → passes (belongs l.geom) (value_at (links l.edges).rows c) ≡ true → rank_under (stored l.geoms) (offers l.edges).rows (value_at (links l.edges).rows c) ≤ l.highest;
+  covers : (c : ℕ) → c < l.at → passes (belongs l.geom) (value_at (links l.edges).rows c) ≡ true
+      → rank_under (stored l.geoms) (offers l.edges).rows (value_at (links l.edges).rows c) ≤ l.highest;
 }
 
 abbrev pub decreases-loop-cons : goal.decreases-loop-cons

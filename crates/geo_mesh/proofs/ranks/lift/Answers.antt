@@ -11,24 +11,56 @@ use Rattle.geo_mesh.proofs.ranks.lift.Goals as goal
 
 pub returns-then-high-clause-high : goal.returns-then-high-clause-high
 returns-then-high-clause-high g c =
-    let more : stored c.args.geoms.now c.args.geom < stored c.store.new.geoms c.args.geom = omega (arith, c.requires.more, c.store.ensures.here) in
-    let whole : is_high (kinds c.args.geoms.now) (stored c.store.new.geoms) ≡ (is_high (kinds c.args.geoms.now) (stored c.args.geoms.now) || (nat_lt rank_limit (stored c.store.new.geoms c.args.geom) && not (passes is_granted_kind (value_at (kinds c.args.geoms.now) c.args.geom)))) =
-    high-more (stored c.args.geoms.now) (stored c.store.new.geoms) c.args.geom 1 c.args.geoms.now.next (kinds c.args.geoms.now) (rising-with kind_of 1 c.args.geoms.now.next c.args.geoms.now.rows c.store.ensures.rising) c.requires.lives more c.store.ensures.others in
+    let more : stored c.args.geoms.now c.args.geom < stored c.store.new.geoms c.args.geom =
+    omega (arith, c.requires.more, c.store.ensures.here) in
+    let whole : is_high (kinds c.args.geoms.now) (stored c.store.new.geoms)
+    ≡ (is_high (kinds c.args.geoms.now) (stored c.args.geoms.now)
+    || (nat_lt rank_limit (stored c.store.new.geoms c.args.geom)
+    && not (passes is_granted_kind (value_at (kinds c.args.geoms.now) c.args.geom)))) =
+    high-more (stored c.args.geoms.now) (stored c.store.new.geoms) c.args.geom 1 c.args.geoms.now.next
+    (kinds c.args.geoms.now)
+    (rising-with kind_of 1 c.args.geoms.now.next c.args.geoms.now.rows c.store.ensures.rising)
+    c.requires.lives more c.store.ensures.others in
     rw (whole, ← c.requires.high, c.if-high.true) refl
 
 pub returns-then-rank-gt-RANK_LIMIT-clause-high : goal.returns-then-rank-gt-RANK_LIMIT-clause-high
 returns-then-rank-gt-RANK_LIMIT-clause-high g c =
-    let more : stored c.args.geoms.now c.args.geom < stored c.store.new.geoms c.args.geom = omega (arith, c.requires.more, c.store.ensures.here) in
-    let whole : is_high (kinds c.args.geoms.now) (stored c.store.new.geoms) ≡ (is_high (kinds c.args.geoms.now) (stored c.args.geoms.now) || (nat_lt rank_limit (stored c.store.new.geoms c.args.geom) && not (passes is_granted_kind (value_at (kinds c.args.geoms.now) c.args.geom)))) =
-    high-more (stored c.args.geoms.now) (stored c.store.new.geoms) c.args.geom 1 c.args.geoms.now.next (kinds c.args.geoms.now) (rising-with kind_of 1 c.args.geoms.now.next c.args.geoms.now.rows c.store.ensures.rising) c.requires.lives more c.store.ensures.others in
-    let high : nat_lt rank_limit (stored c.store.new.geoms c.args.geom) ≡ true = lt-ltb rank_limit (stored c.store.new.geoms c.args.geom) (omega (arith, c.store.ensures.here, c.if-rank-gt-RANK_LIMIT.true)) in
-    rw (whole, ← c.requires.high, c.if-high.false, high, c.is_granted_at.ensures, kinds-bare c.args.geoms.now c.store.new.geoms c.store.ensures.same) refl
+    let more : stored c.args.geoms.now c.args.geom < stored c.store.new.geoms c.args.geom =
+    omega (arith, c.requires.more, c.store.ensures.here) in
+    let whole : is_high (kinds c.args.geoms.now) (stored c.store.new.geoms)
+    ≡ (is_high (kinds c.args.geoms.now) (stored c.args.geoms.now)
+    || (nat_lt rank_limit (stored c.store.new.geoms c.args.geom)
+    && not (passes is_granted_kind (value_at (kinds c.args.geoms.now) c.args.geom)))) =
+    high-more (stored c.args.geoms.now) (stored c.store.new.geoms) c.args.geom 1 c.args.geoms.now.next
+    (kinds c.args.geoms.now)
+    (rising-with kind_of 1 c.args.geoms.now.next c.args.geoms.now.rows c.store.ensures.rising)
+    c.requires.lives more c.store.ensures.others in
+    let high : nat_lt rank_limit (stored c.store.new.geoms c.args.geom) ≡ true =
+    lt-ltb rank_limit (stored c.store.new.geoms c.args.geom)
+    (omega (arith, c.store.ensures.here, c.if-rank-gt-RANK_LIMIT.true)) in
+    rw (
+      whole,
+      ← c.requires.high,
+      c.if-high.false,
+      high,
+      c.is_granted_at.ensures,
+      kinds-bare c.args.geoms.now c.store.new.geoms c.store.ensures.same,
+    ) refl
 
 pub returns-else-rank-gt-RANK_LIMIT-clause-high : goal.returns-else-rank-gt-RANK_LIMIT-clause-high
 returns-else-rank-gt-RANK_LIMIT-clause-high g c =
-    let more : stored c.args.geoms.now c.args.geom < stored c.store.new.geoms c.args.geom = omega (arith, c.requires.more, c.store.ensures.here) in
-    let whole : is_high (kinds c.args.geoms.now) (stored c.store.new.geoms) ≡ (is_high (kinds c.args.geoms.now) (stored c.args.geoms.now) || (nat_lt rank_limit (stored c.store.new.geoms c.args.geom) && not (passes is_granted_kind (value_at (kinds c.args.geoms.now) c.args.geom)))) =
-    high-more (stored c.args.geoms.now) (stored c.store.new.geoms) c.args.geom 1 c.args.geoms.now.next (kinds c.args.geoms.now) (rising-with kind_of 1 c.args.geoms.now.next c.args.geoms.now.rows c.store.ensures.rising) c.requires.lives more c.store.ensures.others in
-    let low : nat_lt rank_limit (stored c.store.new.geoms c.args.geom) ≡ false = le-ltb rank_limit (stored c.store.new.geoms c.args.geom) (omega (arith, c.store.ensures.here, c.if-rank-gt-RANK_LIMIT.false)) in
+    let more : stored c.args.geoms.now c.args.geom < stored c.store.new.geoms c.args.geom =
+    omega (arith, c.requires.more, c.store.ensures.here) in
+    let whole : is_high (kinds c.args.geoms.now) (stored c.store.new.geoms)
+    ≡ (is_high (kinds c.args.geoms.now) (stored c.args.geoms.now)
+    || (nat_lt rank_limit (stored c.store.new.geoms c.args.geom)
+    && not (passes is_granted_kind (value_at (kinds c.args.geoms.now) c.args.geom)))) =
+    high-more (stored c.args.geoms.now) (stored c.store.new.geoms) c.args.geom 1 c.args.geoms.now.next
+    (kinds c.args.geoms.now)
+    (rising-with kind_of 1 c.args.geoms.now.next c.args.geoms.now.rows c.store.ensures.rising)
+    c.requires.lives more c.store.ensures.others in
+    let low : nat_lt rank_limit (stored c.store.new.geoms c.args.geom) ≡ false =
+    le-ltb rank_limit (stored c.store.new.geoms c.args.geom)
+    (omega (arith, c.store.ensures.here, c.if-rank-gt-RANK_LIMIT.false)) in
     let asked : nat_lt rank_limit c.args.rank ≡ false = le-ltb rank_limit c.args.rank c.if-rank-gt-RANK_LIMIT.false in
     rw (whole, ← c.requires.high, c.if-high.false, low, asked) refl

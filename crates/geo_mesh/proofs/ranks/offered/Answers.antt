@@ -8,8 +8,11 @@ use Rattle.geo_mesh.proofs.ranks.offered.Goals as goal
 
 pub returns : goal.returns
 returns c =
-    first-is (is_offered c.args.geom) c.args.from _ (offers c.args.edges.now) (rising-with owner_of 1 c.args.edges.now.providers.next c.args.edges.now.providers.rows c.requires.providers_rise) c.requires.providers_few
+    first-is (is_offered c.args.geom) c.args.from _ (offers c.args.edges.now)
+    (rising-with owner_of 1 c.args.edges.now.providers.next c.args.edges.now.providers.rows
+    c.requires.providers_rise) c.requires.providers_few
     (c.first_from.ensures
     ∙ ap (λ rows. first_child rows c.args.geom c.args.from) c.requires.offered
-    ∙ first-kin provider_row (λ x. (x.number, Some x.geom)) (λ x. Some x.provider.geom) (λ row. refl) (λ x. is_offered c.args.geom (owner_of x)) c.args.geom c.args.from (λ x. refl) c.args.edges.now.providers.rows
+    ∙ first-kin provider_row (λ x. (x.number, Some x.geom)) (λ x. Some x.provider.geom) (λ row. refl)
+    (λ x. is_offered c.args.geom (owner_of x)) c.args.geom c.args.from (λ x. refl) c.args.edges.now.providers.rows
     ∙ first-with owner_of (is_offered c.args.geom) c.args.from c.args.edges.now.providers.rows)

@@ -7,7 +7,8 @@ use Rattle.geo_mesh.proofs.ranks.ranked_consumer.Given as goal
 abbrev pub invariant-loop-cons : goal.invariant-loop-cons
 invariant-loop-cons l = record {
   past : l.from ≤ l.at;
-  none : (m : ℕ) → l.from ≤ m → m < l.at → passes (is_attached l.prov) (value_at (ranked_links l.edges).rows m) ≡ true → ⊥;
+  none : (m : ℕ) → l.from ≤ m → m < l.at
+      → passes (is_attached l.prov) (value_at (ranked_links l.edges).rows m) ≡ true → ⊥;
 }
 
 abbrev pub decreases-loop-cons : goal.decreases-loop-cons

@@ -7,10 +7,16 @@ pub cell_mut-requires : goal.cell_mut-requires
 cell_mut-requires g c = seen-some kind_of c.args.geom c.args.geoms.now.rows c.requires.lives
 
 pub returns-clause-same : goal.returns-clause-same
-returns-clause-same g c = store-same c.args.geoms.now c.args.geom c.args.rank c.cell_mut.result.now c.cell_mut.ensures.rising (sym c.cell_mut.ensures.cell)
+returns-clause-same g c =
+    store-same c.args.geoms.now c.args.geom c.args.rank c.cell_mut.result.now c.cell_mut.ensures.rising
+    (sym c.cell_mut.ensures.cell)
 
 pub returns-clause-here : goal.returns-clause-here
-returns-clause-here g c = store-here c.args.geoms.now c.args.geom c.args.rank c.cell_mut.result.now c.cell_mut.ensures.rising (sym c.cell_mut.ensures.cell)
+returns-clause-here g c =
+    store-here c.args.geoms.now c.args.geom c.args.rank c.cell_mut.result.now c.cell_mut.ensures.rising
+    (sym c.cell_mut.ensures.cell)
 
 pub returns-clause-others : goal.returns-clause-others
-returns-clause-others g c = store-others c.args.geoms.now c.args.geom c.args.rank c.cell_mut.result.now c.cell_mut.ensures.rising (sym c.cell_mut.ensures.cell)
+returns-clause-others g c =
+    store-others c.args.geoms.now c.args.geom c.args.rank c.cell_mut.result.now c.cell_mut.ensures.rising
+    (sym c.cell_mut.ensures.cell)

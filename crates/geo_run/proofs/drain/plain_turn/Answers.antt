@@ -12,5 +12,6 @@ returns-clause-orderly c =
 
 pub returns-clause-between : goal.returns-clause-between
 returns-clause-between c =
-    between_plain c.args.disk.now c.args.mesh.now c.advance.new.mesh c.args.step c.in_ok-advance.field-0 c.requires.between c.requires.no_take c.requires.next
+    between_plain c.args.disk.now c.args.mesh.now c.advance.new.mesh c.args.step c.in_ok-advance.field-0
+    c.requires.between c.requires.no_take c.requires.next
     c.in_ok-advance.ensures.made c.in_ok-advance.ensures.kept c.in_ok-advance.ensures.history

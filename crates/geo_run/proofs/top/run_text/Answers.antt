@@ -13,10 +13,12 @@ pub returns-in-Ok-fault_text : goal.returns-in-Ok-fault_text
 returns-in-Ok-fault_text g c =
     EndsText-fault c.args.text.now c.bytes.result.now c.in-Err-Fault.line _ _ _
     (rw c.in-Err-Fault.field-0-is at c.in-Err-Fault.ensures)
-    c.unopened-in-Ok-fault_text.ensures.no_log (c.bytes.ensures ∙ c.in-Ok-fault_text.ensures) c.unopened-in-Ok-fault_text.ensures.writes
+    c.unopened-in-Ok-fault_text.ensures.no_log (c.bytes.ensures ∙ c.in-Ok-fault_text.ensures)
+    c.unopened-in-Ok-fault_text.ensures.writes
 
 pub returns-in-Err : goal.returns-in-Err
-returns-in-Err g c = EndsText-memory c.args.text.now _ _ _ c.unopened-in-Err.ensures.no_log c.unopened-in-Err.ensures.writes
+returns-in-Err g c =
+    EndsText-memory c.args.text.now _ _ _ c.unopened-in-Err.ensures.no_log c.unopened-in-Err.ensures.writes
 
 pub run_plan-requires : goal.run_plan-requires
 run_plan-requires g c = HasOneRam_script c.args.text.now c.in-Ok.plan c.in-Ok.ensures

@@ -6,7 +6,8 @@ use Rattle.geo_run.proofs.words.without_empty_end.Goals as goal
 pub returns-then-ends_empty : goal.returns-then-ends_empty
 returns-then-ends_empty c =
     let yes : ends_empty (texts c.args.lines.items) ≡ true = cc (c.ends_empty.ensures, c.as_slice.ensures.value) in
-    rw c.pop.ensures.rest (drop_empty_end_yes _ c.args.lines.items (cc (c.as_slice.ensures.value, c.as_slice.ensures.len)) yes)
+    rw c.pop.ensures.rest
+    (drop_empty_end_yes _ c.args.lines.items (cc (c.as_slice.ensures.value, c.as_slice.ensures.len)) yes)
 
 pub returns-else-ends_empty : goal.returns-else-ends_empty
 returns-else-ends_empty c =

@@ -5,4 +5,5 @@ use Rattle.geo_script.proofs.forms.mark.Goals as goal
 pub returns : goal.returns
 returns c =
     c.mark_by.ensures
-    ∙ sym (mark_words-next c.args.words c.in_ok-handle.handle c.in_ok-handle.words c.in_ok-word.word.now c.in_ok-word.words (sym c.in_ok-handle.ensures) c.in_ok-word.ensures)
+    ∙ sym (mark_words-next c.args.words c.in_ok-handle.handle c.in_ok-handle.words c.in_ok-word.word.now
+    c.in_ok-word.words (sym c.in_ok-handle.ensures) c.in_ok-word.ensures)

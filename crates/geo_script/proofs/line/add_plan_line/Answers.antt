@@ -10,4 +10,5 @@ pub returns : goal.returns
 returns c =
     let cons = next_word-cons c.of.result c.in_ok-word.word.now c.in_ok-word.words c.in_ok-word.ensures in
     let P : Result Plan Cause → Type 0 = λ r. Adds c.add_by.result c.add_by.new.draft r in
-    subst P (sym (plan_with_line-by c.args.draft.now c.args.number c.args.line.now c.in_ok-word.word.now c.in_ok-word.words (sym c.line_fault.ensures ∙ c.in_default.is) (sym c.of.ensures ∙ cons))) c.add_by.ensures
+    subst P (sym (plan_with_line-by c.args.draft.now c.args.number c.args.line.now c.in_ok-word.word.now
+    c.in_ok-word.words (sym c.line_fault.ensures ∙ c.in_default.is) (sym c.of.ensures ∙ cons))) c.add_by.ensures

@@ -13,4 +13,6 @@ pub returns-in_err-add_line : goal.returns-in_err-add_line
 returns-in_err-add_line c =
     let p = err_from_is_err_and c.from_residual.result c.from_residual.ensures.1 in
     rw (p.1, p.2)
-    (read_refused c.loop-rest.draft c.add_line.new.draft c.in_err-add_line.field-0.0 c.loop-rest.number c.loop-rest.rest.now c.first_line.result.0.now c.first_line.result.1.now _ c.first_line.ensures.lines c.in_err-add_line.ensures c.loop-rest.invariant.read)
+    (read_refused c.loop-rest.draft c.add_line.new.draft c.in_err-add_line.field-0.0 c.loop-rest.number
+    c.loop-rest.rest.now c.first_line.result.0.now c.first_line.result.1.now _ c.first_line.ensures.lines
+    c.in_err-add_line.ensures c.loop-rest.invariant.read)

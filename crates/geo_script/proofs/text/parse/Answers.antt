@@ -4,4 +4,6 @@ use Rattle.geo_script.proofs.PlanLaw.{scripts-are-plans}
 use Rattle.geo_script.proofs.text.parse.Goals as goal
 
 pub from_parts-requires : goal.from_parts-requires
-from_parts-requires c = subst IsPlan (sym c.into_parts-disks.ensures) (scripts-are-plans c.args.text.now c.in_ok-draft_of.field-0 c.in_ok-draft_of.ensures)
+from_parts-requires c =
+    subst IsPlan (sym c.into_parts-disks.ensures)
+    (scripts-are-plans c.args.text.now c.in_ok-draft_of.field-0 c.in_ok-draft_of.ensures)

@@ -6,4 +6,5 @@ use Rattle.geo_script.proofs.words.at_end.Goals as goal
 
 pub returns-in-Some : goal.returns-in-Some
 returns-in-Some g c =
-    sym (at_end-words c.args.value c.in-Some.field-0.now) ∙ ap (at_end c.args.value) (ap words_left (sym c.in-Some.is) ∙ c.words.view_is)
+    sym (at_end-words c.args.value c.in-Some.field-0.now)
+    ∙ ap (at_end c.args.value) (ap words_left (sym c.in-Some.is) ∙ c.words.view_is)

@@ -10,14 +10,16 @@ returns-in_err-name c =
     let few : length c.loop-names.names.items < 16 = omega (arith, c.loop-names.names.ok) in
     let some : 1 ≤ length c.loop-names.words = grind (arith, nat_tests) in
     rw (p.1, p.2)
-    (names_fault c.loop-names.names.items c.loop-names.words c.args.words c.in_err-name.field-0.0 few some c.loop-names.invariant.some (sym c.in_err-name.ensures) c.loop-names.invariant.read)
+    (names_fault c.loop-names.names.items c.loop-names.words c.args.words c.in_err-name.field-0.0 few some
+    c.loop-names.invariant.some (sym c.in_err-name.ensures) c.loop-names.invariant.read)
 
 pub loop-names-preserved : goal.loop-names-preserved
 loop-names-preserved c =
     let few : length c.loop-names.names.items < 16 = omega (arith, c.loop-names.names.ok) in
     let items = c.in_ok-push-2.ensures.items in
     record {
-      read = rw items (names_on c.loop-names.names.items c.loop-names.words c.in_ok-name.name c.in_ok-name.rest _ few (sym c.in_ok-name.ensures) c.loop-names.invariant.read);
+      read = rw items (names_on c.loop-names.names.items c.loop-names.words c.in_ok-name.name c.in_ok-name.rest _
+          few (sym c.in_ok-name.ensures) c.loop-names.invariant.read);
       few = rw items (omega (arith, length-append c.loop-names.names.items (c.in_ok-name.name ∷ [])));
       some = c.loop-names.invariant.some;
     }

@@ -5,7 +5,7 @@ use Rattle.geo_model.specs.declared.class.StripeRecord.{StripeRecord}
 use Rattle.geo_model.specs.Words.{first_error, unless}
 use Rattle.geo_model.specs.Records.{stripe_magic, stripe_record, stripe_sector, place_test, size_test, record_name, record_head, head_tests, u16_at, u32_at}
 use Rattle.geo_record.proofs.AnswerLemmas.{unless-behind}
-use Rattle.geo_record.proofs.FieldLemmas.{length-padded}
+use Rattle.geo_model.proofs.RecordLemmas.{length-padded}
 use Rattle.geo_record.proofs.RecordLemmas.{HasRecord, has_record, first_error-head, record_name-is, drop-head, length-head, ReadsComponent, reads_component, u32_at-there, first_version}
 use Rattle.geo_stripe.proofs.record.what_is_encoded_is_decoded.Goals as goal
 
@@ -27,8 +27,7 @@ decoded size bytes after x none named reads striped sized =
       name = record_name bytes;
       id = u32_at bytes 36;
       place = u16_at bytes 40;
-      count =
-          u16_at bytes 42;
+      count = u16_at bytes 42;
       stripe = u32_at bytes 44;
     }) none
     ∙ ap (λ name. answer (length bytes) name (u32_at bytes 36) (u16_at bytes 40) (u16_at bytes 42) (u32_at bytes 44))

@@ -12,13 +12,16 @@ use Rattle.geo_bio.proofs.table.BioTable.get.Goals as goal
 pub returns-clause-found : goal.returns-clause-found
 returns-clause-found c =
     let found = c.get.ensures.value ∙ ap (value_at c.self.inside.bios.rows) c.number.ensures in
-    ap (option_map (seen c.args.bio)) found ∙ sym (bio_among-rows c.self.inside.bios.rows c.args.bio) ∙ ap (λ v. bio_among v.bios c.args.bio) c.self.view_is
+    ap (option_map (seen c.args.bio)) found ∙ sym (bio_among-rows c.self.inside.bios.rows c.args.bio)
+    ∙ ap (λ v. bio_among v.bios c.args.bio) c.self.view_is
 
 pub returns-clause-family : goal.returns-clause-family
 returns-clause-family c =
     let found = c.get.ensures.value ∙ ap (value_at c.self.inside.bios.rows) c.number.ensures in
-    let told = family_told c.self.inside.bios.rows c.self.inside.bios.next c.args.bio c.self.invariant (option_copied c.get.result) found in
-    subst (λ (v : BioTableView). IfSome (option_copied c.get.result) (λ x. is_waiting x.phase ≡ true → KnowsChildren c.args.bio (children_among v.bios c.args.bio) x)) c.self.view_is told
+    let told = family_told c.self.inside.bios.rows c.self.inside.bios.next c.args.bio c.self.invariant
+    (option_copied c.get.result) found in
+    subst (λ (v : BioTableView). IfSome (option_copied c.get.result) (λ x. is_waiting x.phase ≡ true
+    → KnowsChildren c.args.bio (children_among v.bios c.args.bio) x)) c.self.view_is told
 
 pub returns-clause-in_order : goal.returns-clause-in_order
 returns-clause-in_order c =

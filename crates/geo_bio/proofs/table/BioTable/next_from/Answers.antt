@@ -8,7 +8,8 @@ use Rattle.geo_bio.proofs.table.BioTable.next_from.Goals as goal
 pub returns-in-Some-clause-first : goal.returns-in-Some-clause-first
 returns-in-Some-clause-first c =
     let first = find-from_items seen_row (λ x. x.number) (λ row. refl) c.args.number c.self.inside.bios.rows in
-    ap Some c.new.ensures ∙ sym c.in-Some.is ∙ c.first_from.ensures.first ∙ sym first ∙ ap (λ v. first_bio v.bios c.args.number) c.self.view_is
+    ap Some c.new.ensures ∙ sym c.in-Some.is ∙ c.first_from.ensures.first ∙ sym first
+    ∙ ap (λ v. first_bio v.bios c.args.number) c.self.view_is
 
 pub returns-in-None-clause-first : goal.returns-in-None-clause-first
 returns-in-None-clause-first c =

@@ -9,14 +9,23 @@ use Rattle.geo_bio.proofs.table.BioTable.send.Goals as goal
 
 pub invariant_of-self : goal.invariant_of-self
 invariant_of-self c =
-    let x = bio_of_phase is_down c.self.inside.bios.rows c.args.bio (subst (λ v. has_phase is_down v.bios c.args.bio ≡ true) (sym c.self.view_is) c.requires) in
+    let x = bio_of_phase is_down c.self.inside.bios.rows c.args.bio
+    (subst (λ v. has_phase is_down v.bios c.args.bio ≡ true) (sym c.self.view_is) c.requires) in
     let after = MatchOption-at_some _ _ x.0 x.1 (rw c.number.ensures at c.set_phase.ensures) in
     let facts = down_facts x.0.phase x.2 in
-    rw after (table_changed _ _ c.args.bio x.0 (at_phase phases.Sent x.0) c.self.invariant x.1 refl (sym facts.0) facts.1 refl)
+    rw after (table_changed _ _ c.args.bio x.0 (at_phase phases.Sent x.0) c.self.invariant x.1 refl (sym facts.0)
+    facts.1 refl)
 
 pub returns : goal.returns
 returns c =
-    let x = bio_of_phase is_down c.self.inside.bios.rows c.args.bio (subst (λ v. has_phase is_down v.bios c.args.bio ≡ true) (sym c.self.view_is) c.requires) in
+    let x = bio_of_phase is_down c.self.inside.bios.rows c.args.bio
+    (subst (λ v. has_phase is_down v.bios c.args.bio ≡ true) (sym c.self.view_is) c.requires) in
     let after = MatchOption-at_some _ _ x.0 x.1 (rw c.number.ensures at c.set_phase.ensures) in
-    let bios = seen_changed _ _ c.args.bio x.0 (at_phase phases.Sent x.0) (with_phase phases.Sent) c.self.invariant x.1 refl in
-    rw (← c.self.view_is, after) (λ i. record { bios = bios i; next = c.self.inside.bios.next; spare = c.self.inside.bios.spare })
+    let bios = seen_changed _ _ c.args.bio x.0 (at_phase phases.Sent x.0) (with_phase phases.Sent)
+    c.self.invariant x.1 refl in
+    rw (← c.self.view_is, after) (λ i. record {
+      bios = bios i;
+      next = c.self.inside.bios.next;
+      spare =
+          c.self.inside.bios.spare;
+    })

@@ -4,4 +4,5 @@ use Rattle.geo_bio.proofs.table.BioTable.submit.Goals as goal
 
 pub invariant_of-self-2 : goal.invariant_of-self-2
 invariant_of-self-2 c =
-    rw (c.insert.ensures.inserted, c.reserve.ensures.values_stay) (table_pushed _ _ _ c.self.invariant c.requires.root refl)
+    rw (c.insert.ensures.inserted, c.reserve.ensures.values_stay)
+    (table_pushed _ _ _ c.self.invariant c.requires.root refl)

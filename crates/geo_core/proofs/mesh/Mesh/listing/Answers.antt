@@ -5,5 +5,6 @@ use Rattle.geo_core.proofs.mesh.Mesh.listing.Goals as goal
 
 pub listing-requires : goal.listing-requires
 listing-requires c =
-    let old : MeshView = record { plan = c.self.inside.plan; facts = c.self.inside.facts.items; log = c.self.inside.log.items } in
+    let old : MeshView =
+    record { plan = c.self.inside.plan; facts = c.self.inside.facts.items; log = c.self.inside.log.items } in
     few_consumers old (seen c.self.inside.state) c.self.invariant

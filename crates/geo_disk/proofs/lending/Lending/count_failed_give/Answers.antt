@@ -2,4 +2,6 @@ use Rattle.geo_disk.proofs.NameLemmas.{among-from_Contains}
 use Rattle.geo_disk.proofs.lending.Lending.count_failed_give.Goals as goal
 
 pub set_count-requires : goal.set_count-requires
-set_count-requires c = c.self.invariant c.args.name.now (among-from_Contains c.args.name.now c.self.inside.lent.items (rw (← c.self.view_is) at c.requires))
+set_count-requires c =
+    c.self.invariant c.args.name.now
+    (among-from_Contains c.args.name.now c.self.inside.lent.items (rw (← c.self.view_is) at c.requires))

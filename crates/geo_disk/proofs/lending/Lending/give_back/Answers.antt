@@ -1,21 +1,28 @@
 use Rattle.std.proofs.Common.{rules, ◌≡◌, true, bytes_eq, not, ap, ◌∙◌, sym, ◌&&◌}
 use Rattle.std.proofs.lemmas.Fn.{filter_same}
+use Rattle.std.proofs.lemmas.Bool.{and_parts}
 use Rattle.geo_disk.specs.Lending.{Loans}
 use Rattle.geo_disk.specs.Names.{is_among, without}
-use Rattle.geo_disk.proofs.NameLemmas.{among-from_Contains, among-without, and_right}
+use Rattle.geo_disk.proofs.NameLemmas.{among-from_Contains, among-without}
 use Rattle.geo_disk.proofs.lending.Lending.give_back.Goals as goal
 
 pub set_count-requires : goal.set_count-requires
-set_count-requires c = c.self.invariant c.args.name.now (among-from_Contains c.args.name.now c.self.inside.lent.items (rw (← c.self.view_is) at c.requires))
+set_count-requires c =
+    c.self.invariant c.args.name.now
+    (among-from_Contains c.args.name.now c.self.inside.lent.items (rw (← c.self.view_is) at c.requires))
 
 pub invariant_of-self : goal.invariant_of-self
 invariant_of-self c name among =
     let left : c.retain.new.self.items ≡ without c.args.name.now c.self.inside.lent.items =
-    filter_same _ (λ other. not (bytes_eq c.args.name.now other)) _ (λ x b f' k. search rules) _ _ c.retain.ensures.filtered in
+    filter_same _ (λ other. not (bytes_eq c.args.name.now other)) _ (λ x b f' k. search rules) _ _
+    c.retain.ensures.filtered in
     let both : (not (bytes_eq c.args.name.now name) && is_among name c.self.inside.lent.items) ≡ true =
     sym (among-without name c.args.name.now c.self.inside.lent.items) ∙ (rw left at among) in
-    c.set_count.ensures.kept name (c.self.invariant name (and_right (not (bytes_eq c.args.name.now name)) (is_among name c.self.inside.lent.items) both))
+    c.set_count.ensures.kept name
+    (c.self.invariant name
+    (and_parts (not (bytes_eq c.args.name.now name)) (is_among name c.self.inside.lent.items) both).1)
 
 pub returns-clause-lent : goal.returns-clause-lent
 returns-clause-lent c =
-    filter_same _ (λ other. not (bytes_eq c.args.name.now other)) _ (λ x b f' k. search rules) _ _ c.retain.ensures.filtered ∙ ap (λ (l : Loans). without c.args.name.now l.lent) c.self.view_is
+    filter_same _ (λ other. not (bytes_eq c.args.name.now other)) _ (λ x b f' k. search rules) _ _
+    c.retain.ensures.filtered ∙ ap (λ (l : Loans). without c.args.name.now l.lent) c.self.view_is

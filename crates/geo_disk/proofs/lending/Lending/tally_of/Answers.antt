@@ -8,7 +8,11 @@ returns-in-Some c =
     let place : IsPlace (λ (x : Count). x.name) c.args.name.now c.self.inside.counts.items c.in-Some.at =
     place_found (λ (x : Count). x.name) c.args.name.now c.self.inside.counts.items c.in-Some.at
     (rw (← c.as_slice.ensures.value) (sym c.place_of.ensures ∙ c.in-Some.is)) in
-    rw (← c.self.view_is, named_at (λ (x : Count). x.name) c.args.name.now c.self.inside.counts.items c.in-Some.at c.index.result.now place)
+    rw (
+      ← c.self.view_is,
+      named_at (λ (x : Count). x.name) c.args.name.now c.self.inside.counts.items c.in-Some.at
+          c.index.result.now place,
+    )
     (ap (λ (x : Count). x.tally) c.index.ensures)
 
 pub returns-in-None : goal.returns-in-None

@@ -6,17 +6,21 @@ use Rattle.geo_disk.proofs.SectorLemmas.{cut_into-take, length-cut_into, sectors
 use Rattle.geo_disk.proofs.mem_disk.MemDisk.write_sectors.Goals as goal
 
 -- the sectors of the bytes that are kept afterwards
-sectors_are : (c : goal.After-self-1) → sectors_of c.self.inside.sector (written_over c.self.inside.bytes c.write_over.new.bytes)
-    ≡ with_sectors (sectors_of c.self.inside.sector c.self.inside.bytes) c.args.first (cut_into c.args.count c.self.inside.sector c.args.bytes.now)
+sectors_are : (c : goal.After-self-1)
+    → sectors_of c.self.inside.sector (written_over c.self.inside.bytes c.write_over.new.bytes)
+    ≡ with_sectors (sectors_of c.self.inside.sector c.self.inside.bytes) c.args.first
+    (cut_into c.args.count c.self.inside.sector c.args.bytes.now)
 sectors_are c =
     let size : ℕ = c.self.inside.sector in
     let part : List ℕ = take (c.args.count * size) c.args.bytes.now in
-    let many : length part ≡ c.args.count * size = some_sectors size c.args.count c.args.bytes.now (rw (← c.self.view_is) at c.requires.some) in
+    let many : length part ≡ c.args.count * size =
+    some_sectors size c.args.count c.args.bytes.now (rw (← c.self.view_is) at c.requires.some) in
     written_sectors size c.args.first c.args.count c.self.inside.bytes part c.write_over.new.bytes
     c.self.invariant.some_size c.self.invariant.whole many
     (rw (← sectors_length c.self.inside.sector c.self.inside.bytes) (rw (← c.self.view_is) at c.requires.inside))
     (rw (many, c.byte_place-from.ensures.place, c.bytes_mut.ensures.value) at c.write_over.ensures)
-    ∙ ap (with_sectors (sectors_of size c.self.inside.bytes) c.args.first) (cut_into-take c.args.count size c.args.bytes.now)
+    ∙ ap (with_sectors (sectors_of size c.self.inside.bytes) c.args.first)
+    (cut_into-take c.args.count size c.args.bytes.now)
 
 pub byte_place-from-requires-clause-sectors : goal.byte_place-from-requires-clause-sectors
 byte_place-from-requires-clause-sectors c =
@@ -25,13 +29,25 @@ byte_place-from-requires-clause-sectors c =
     (record {
       some_size = c.self.invariant.some_size;
       whole = mul-mod_left c.args.count size;
-      inside = rw (mul-div_left c.args.count c.self.invariant.some_size, c.len-all.ensures, ← sectors_length size c.self.inside.bytes) (rw (← c.self.view_is) at c.requires.inside);
+      inside = rw (
+        mul-div_left c.args.count c.self.invariant.some_size,
+        c.len-all.ensures,
+        ← sectors_length size c.self.inside.bytes,
+      ) (rw (← c.self.view_is) at c.requires.inside);
     })
 
 pub returns-clause-written : goal.returns-clause-written
 returns-clause-written c =
     rw (← c.self.view_is)
-    (ap (λ sectors. record { sector = c.self.inside.sector; sectors = sectors; fails = c.self.inside.fails; calls = c.self.inside.calls; faults = c.self.inside.faults; part = c.self.inside.part })
+    (ap (λ sectors. record {
+      sector = c.self.inside.sector;
+      sectors = sectors;
+      fails = c.self.inside.fails;
+      calls =
+          c.self.inside.calls;
+      faults = c.self.inside.faults;
+      part = c.self.inside.part;
+    })
     (sectors_are c))
 
 pub returns-clause-length : goal.returns-clause-length
@@ -39,5 +55,6 @@ returns-clause-length c =
     let size : ℕ = c.self.inside.sector in
     rw (← c.self.view_is)
     (ap length (sectors_are c)
-    ∙ with_sectors_length (sectors_of size c.self.inside.bytes) c.args.first (cut_into c.args.count size c.args.bytes.now)
+    ∙ with_sectors_length (sectors_of size c.self.inside.bytes) c.args.first
+    (cut_into c.args.count size c.args.bytes.now)
     (rw (length-cut_into c.args.count size c.args.bytes.now) (rw (← c.self.view_is) at c.requires.inside)))

@@ -11,8 +11,10 @@ asked : (c : goal.After-row_known-1) → c.args.first + c.args.count ≤ length 
 asked c = rw (← sectors_length c.self.inside.sector c.self.inside.bytes) (rw (← c.self.view_is) at c.requires)
 
 -- the sectors of the bytes that are kept afterwards
-sectors_are : (c : goal.After-self-1) → sectors_of c.self.inside.sector (written_over c.self.inside.bytes c.zero_over.new.bytes)
-    ≡ with_sectors (sectors_of c.self.inside.sector c.self.inside.bytes) c.args.first (zero_sectors c.args.count c.self.inside.sector)
+sectors_are : (c : goal.After-self-1)
+    → sectors_of c.self.inside.sector (written_over c.self.inside.bytes c.zero_over.new.bytes)
+    ≡ with_sectors (sectors_of c.self.inside.sector c.self.inside.bytes) c.args.first
+    (zero_sectors c.args.count c.self.inside.sector)
 sectors_are c =
     let size : ℕ = c.self.inside.sector in
     let zeros : List ℕ = replicate (c.args.count * size) 0 in
@@ -25,8 +27,15 @@ sectors_are c =
 pub overflow_mul-size : goal.overflow_mul-size
 overflow_mul-size c =
     let size : ℕ = c.self.inside.sector in
-    let upper : (c.args.first + c.args.count) * size ≤ length c.self.inside.bytes / size * size = mul-le-mul_right size (asked c) in
-    omega (arith, add-mul c.args.first c.args.count size, div-mul-le_self (length c.self.inside.bytes) size, c.len-all.ensures, c.len-all.type_inv)
+    let upper : (c.args.first + c.args.count) * size ≤ length c.self.inside.bytes / size * size =
+    mul-le-mul_right size (asked c) in
+    omega (
+      arith,
+      add-mul c.args.first c.args.count size,
+      div-mul-le_self (length c.self.inside.bytes) size,
+      c.len-all.ensures,
+      c.len-all.type_inv,
+    )
 
 pub byte_place-from-requires-clause-sectors : goal.byte_place-from-requires-clause-sectors
 byte_place-from-requires-clause-sectors c = record {
@@ -38,7 +47,15 @@ byte_place-from-requires-clause-sectors c = record {
 pub returns-clause-zeroed : goal.returns-clause-zeroed
 returns-clause-zeroed c =
     rw (← c.self.view_is)
-    (ap (λ sectors. record { sector = c.self.inside.sector; sectors = sectors; fails = c.self.inside.fails; calls = c.self.inside.calls; faults = c.self.inside.faults; part = c.self.inside.part })
+    (ap (λ sectors. record {
+      sector = c.self.inside.sector;
+      sectors = sectors;
+      fails = c.self.inside.fails;
+      calls =
+          c.self.inside.calls;
+      faults = c.self.inside.faults;
+      part = c.self.inside.part;
+    })
     (sectors_are c))
 
 pub returns-clause-length : goal.returns-clause-length

@@ -7,10 +7,14 @@ use Rattle.geo_disk.proofs.SectorLemmas.{bytes_between-sectors_of, sectors_lengt
 use Rattle.geo_disk.proofs.mem_disk.MemDiskDisk.read.Goals as goal
 
 -- what is asked, said of the bytes that are kept
-asked : (c : goal.After-len) → AreSectors c.self.inside.sector (length c.self.inside.bytes / c.self.inside.sector) c.args.first (length c.args.out.now)
+asked : (c : goal.After-len)
+    → AreSectors c.self.inside.sector (length c.self.inside.bytes / c.self.inside.sector) c.args.first
+    (length c.args.out.now)
 asked c =
-    let size : c.self.inside.sector ≡ c.args.self.now.sector = ap (λ (m : Memory). m.sector) (c.self.view_is ∙ c.if-next_fails.ensures.called) in
-    let held : sectors_of c.self.inside.sector c.self.inside.bytes ≡ c.args.self.now.sectors = ap (λ (m : Memory). m.sectors) (c.self.view_is ∙ c.if-next_fails.ensures.called) in
+    let size : c.self.inside.sector ≡ c.args.self.now.sector =
+    ap (λ (m : Memory). m.sector) (c.self.view_is ∙ c.if-next_fails.ensures.called) in
+    let held : sectors_of c.self.inside.sector c.self.inside.bytes ≡ c.args.self.now.sectors =
+    ap (λ (m : Memory). m.sectors) (c.self.view_is ∙ c.if-next_fails.ensures.called) in
     rw (← sectors_length c.self.inside.sector c.self.inside.bytes, held, size) c.requires
 
 pub byte_place-from-requires-clause-sectors : goal.byte_place-from-requires-clause-sectors
@@ -18,11 +22,16 @@ byte_place-from-requires-clause-sectors c = rw c.len.ensures (asked c)
 
 pub returns-clause-read : goal.returns-clause-read
 returns-clause-read c =
-    let size : c.self.inside.sector ≡ c.args.self.now.sector = ap (λ (m : Memory). m.sector) (c.self.view_is ∙ c.if-next_fails.ensures.called) in
-    let held : sectors_of c.self.inside.sector c.self.inside.bytes ≡ c.args.self.now.sectors = ap (λ (m : Memory). m.sectors) (c.self.view_is ∙ c.if-next_fails.ensures.called) in
+    let size : c.self.inside.sector ≡ c.args.self.now.sector =
+    ap (λ (m : Memory). m.sector) (c.self.view_is ∙ c.if-next_fails.ensures.called) in
+    let held : sectors_of c.self.inside.sector c.self.inside.bytes ≡ c.args.self.now.sectors =
+    ap (λ (m : Memory). m.sectors) (c.self.view_is ∙ c.if-next_fails.ensures.called) in
     let count : ℕ = length c.args.out.now / c.self.inside.sector in
-    let asked_now : AreSectors c.self.inside.sector (length c.self.inside.bytes / c.self.inside.sector) c.args.first (length c.args.out.now) = rw (← sectors_length c.self.inside.sector c.self.inside.bytes, held, size) c.requires in
-    let many : c.byte_place-from.result + length c.args.out.now - c.byte_place-from.result ≡ count * c.self.inside.sector =
+    let asked_now : AreSectors c.self.inside.sector (length c.self.inside.bytes / c.self.inside.sector)
+    c.args.first (length c.args.out.now) =
+    rw (← sectors_length c.self.inside.sector c.self.inside.bytes, held, size) c.requires in
+    let many : c.byte_place-from.result + length c.args.out.now - c.byte_place-from.result
+    ≡ count * c.self.inside.sector =
     omega (arith, asked_now.whole, asked_now.some_size, mul_comm c.self.inside.sector count) in
     rw (← size, ← held, c.copy_from_slice.ensures.len)
     (c.copy_from_slice.ensures.after ∙ rw (many, c.byte_place-from.ensures.place, c.bytes.ensures) refl

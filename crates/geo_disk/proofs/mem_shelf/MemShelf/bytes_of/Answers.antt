@@ -11,11 +11,14 @@ returns-in-Some c =
     (rw (← c.as_slice.ensures.value) (sym c.place_of.ensures ∙ c.in-Some.is)) in
     rw (← c.self.view_is)
     (ap Some c.bytes.ensures
-    ∙ sym (image_there c.self.inside.slots.items c.self.inside.lending.lent c.args.name.now c.index.result.now (sym c.if-lent.ensures.among)
-    (named_at (λ (x : Slot). x.name) c.args.name.now c.self.inside.slots.items c.in-Some.at c.index.result.now place ∙ ap Some (sym c.index.ensures))))
+    ∙ sym (image_there c.self.inside.slots.items c.self.inside.lending.lent c.args.name.now c.index.result.now
+    (sym c.if-lent.ensures.among)
+    (named_at (λ (x : Slot). x.name) c.args.name.now c.self.inside.slots.items c.in-Some.at c.index.result.now
+    place ∙ ap Some (sym c.index.ensures))))
 
 pub returns-in-None : goal.returns-in-None
 returns-in-None c =
     rw (← c.self.view_is)
     (sym (image_none c.self.inside.slots.items c.self.inside.lending.lent c.args.name.now
-    (no_place_found (λ (x : Slot). x.name) c.args.name.now c.self.inside.slots.items (rw (← c.as_slice.ensures.value) (sym c.place_of.ensures ∙ c.in-None.is)))))
+    (no_place_found (λ (x : Slot). x.name) c.args.name.now c.self.inside.slots.items
+    (rw (← c.as_slice.ensures.value) (sym c.place_of.ensures ∙ c.in-None.is)))))

@@ -4,15 +4,19 @@ use Rattle.geo_disk.proofs.NameLemmas.{among-from_Contains}
 use Rattle.geo_disk.proofs.mem_shelf.MemShelf.give_now.Goals as goal
 
 pub keep-requires : goal.keep-requires
-keep-requires c = c.self.invariant c.args.name.now (among-from_Contains c.args.name.now c.self.inside.lending.lent (rw (← c.self.view_is) at c.requires))
+keep-requires c =
+    c.self.invariant c.args.name.now
+    (among-from_Contains c.args.name.now c.self.inside.lending.lent (rw (← c.self.view_is) at c.requires))
 
 pub invariant_of-self : goal.invariant_of-self
 invariant_of-self c =
     rw c.give_back.ensures.lent
-    (slots_after_give c.self.inside.slots.items c.keep.new.slots.items c.self.inside.lending.lent c.args.name.now (kept_slot c.args.name.now c.args.disk)
+    (slots_after_give c.self.inside.slots.items c.keep.new.slots.items c.self.inside.lending.lent c.args.name.now
+    (kept_slot c.args.name.now c.args.disk)
     c.keep.ensures.here c.keep.ensures.others c.self.invariant)
 
 pub returns-clause-given : goal.returns-clause-given
 returns-clause-given c =
     rw (c.give_back.ensures.lent, ← c.self.view_is)
-    (after_give c.self.inside.slots.items c.keep.new.slots.items c.self.inside.lending.lent c.args.name.now c.args.disk c.keep.ensures.here c.keep.ensures.others)
+    (after_give c.self.inside.slots.items c.keep.new.slots.items c.self.inside.lending.lent c.args.name.now
+    c.args.disk c.keep.ensures.here c.keep.ensures.others)

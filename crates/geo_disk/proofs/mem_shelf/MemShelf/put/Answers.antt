@@ -6,16 +6,26 @@ use Rattle.geo_disk.proofs.mem_shelf.MemShelf.put.Goals as goal
 pub invariant_of-self-2 : goal.invariant_of-self-2
 invariant_of-self-2 c name among =
     rw c.in_ok-push.ensures.items
-    (named-push_some (λ (x : Slot). x.name) name c.self.inside.slots.items (record { name = c.args.name.now; bytes = c.args.bytes; fails = c.args.fails; calls = 0; part = 0 })
+    (named-push_some (λ (x : Slot). x.name) name c.self.inside.slots.items
+    (record { name = c.args.name.now; bytes = c.args.bytes; fails = c.args.fails; calls = 0; part = 0 })
     (c.self.invariant name among))
 
 pub returns-clause-put : goal.returns-clause-put
 returns-clause-put c =
     rw c.in_ok-push.ensures.items
-    (after_put c.self.inside.slots.items c.self.inside.lending.lent (record { name = c.args.name.now; bytes = c.args.bytes; fails = c.args.fails; calls = 0; part = 0 })
+    (after_put c.self.inside.slots.items c.self.inside.lending.lent (record {
+      name = c.args.name.now;
+      bytes =
+          c.args.bytes;
+      fails = c.args.fails;
+      calls = 0;
+      part = 0;
+    })
     (rw (← c.self.view_is) at c.requires.not_lent) (rw (← c.self.view_is) at c.requires.new))
 
 pub returns-clause-others : goal.returns-clause-others
 returns-clause-others c other apart =
     rw (c.in_ok-push.ensures.items, ← c.self.view_is)
-    (others_after_put c.self.inside.slots.items c.self.inside.lending.lent (record { name = c.args.name.now; bytes = c.args.bytes; fails = c.args.fails; calls = 0; part = 0 }) other apart)
+    (others_after_put c.self.inside.slots.items c.self.inside.lending.lent
+    (record { name = c.args.name.now; bytes = c.args.bytes; fails = c.args.fails; calls = 0; part = 0 })
+    other apart)

@@ -5,4 +5,5 @@ use Rattle.geo_event.proofs.queue.EventQueue.cancel.Goals as goal
 
 pub returns-clause-events : goal.returns-clause-events
 returns-clause-events c =
-    filter_same _ (λ e. not (provider_of_event e == c.args.prov)) _ (λ x b f' k. search rules) _ _ c.retain.ensures.filtered ∙ ap (λ q. without_events_of q.events c.args.prov) c.self.view_is
+    filter_same _ (λ e. not (provider_of_event e == c.args.prov)) _ (λ x b f' k. search rules) _ _
+    c.retain.ensures.filtered ∙ ap (λ q. without_events_of q.events c.args.prov) c.self.view_is

@@ -6,8 +6,11 @@ use Rattle.geo_family.proofs.family.Family.add_child.Goals as goal
 
 pub invariant_of-self : goal.invariant_of-self
 invariant_of-self c =
-    rw c.insert.ensures.inserted (family-push_links c.self.inside.links.rows c.self.inside.ends.rows c.self.invariant c.self.inside.links.next (record { parent = None; before = None; after = None }) refl refl refl)
+    rw c.insert.ensures.inserted
+    (family-push_links c.self.inside.links.rows c.self.inside.ends.rows c.self.invariant
+    c.self.inside.links.next (record { parent = None; before = None; after = None }) refl refl refl)
 
 pub returns-clause-rising : goal.returns-clause-rising
 returns-clause-rising c =
-    subst (λ v. IsRising 1 v.children v.next_child) c.self.view_is (children_rise 1 c.self.inside.links.next c.self.inside.links.rows c.insert.ensures.rising)
+    subst (λ v. IsRising 1 v.children v.next_child) c.self.view_is
+    (children_rise 1 c.self.inside.links.next c.self.inside.links.rows c.insert.ensures.rising)

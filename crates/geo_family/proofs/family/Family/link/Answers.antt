@@ -7,20 +7,38 @@ use Rattle.geo_family.proofs.family.Family.link.Goals as goal
 
 pub last_below-before-requires-clause-apart : goal.last_below-before-requires-clause-apart
 last_below-before-requires-clause-apart c =
-    (free_child c.args.child c.self.inside.links.rows (ap (λ v. value_at v.children c.args.child) c.self.view_is ∙ c.requires.free)).0
+    (free_child c.args.child c.self.inside.links.rows (ap (λ v. value_at v.children c.args.child) c.self.view_is
+    ∙ c.requires.free)).0
 
 pub invariant_of-self : goal.invariant_of-self
 invariant_of-self c =
-    let free = free_child c.args.child c.self.inside.links.rows (ap (λ v. value_at v.children c.args.child) c.self.view_is ∙ c.requires.free) in
-    let stands = parent_stands c.args.parent c.self.inside.ends.rows (ap (λ v. is_parent v.parents c.args.parent) c.self.view_is ∙ c.requires.parent) in
+    let free = free_child c.args.child c.self.inside.links.rows
+    (ap (λ v. value_at v.children c.args.child) c.self.view_is ∙ c.requires.free) in
+    let stands =
+    parent_stands c.args.parent c.self.inside.ends.rows
+    (ap (λ v. is_parent v.parents c.args.parent) c.self.view_is ∙ c.requires.parent) in
     rw (c.set_link.ensures, c.set_last.ensures, c.set_before.ensures, c.set_first.ensures, c.set_after.ensures)
-    (family-link c.self.inside.links.rows c.self.inside.ends.rows c.self.invariant c.args.child c.args.parent stands free.0 free.1 c.last_below-before.result c.last_below-before.ensures c.behind-after.result c.behind-after.ensures)
+    (family-link c.self.inside.links.rows c.self.inside.ends.rows c.self.invariant c.args.child c.args.parent
+    stands free.0 free.1 c.last_below-before.result c.last_below-before.ensures c.behind-after.result
+    c.behind-after.ensures)
 
 pub returns : goal.returns
 returns c =
-    rw (← c.self.view_is, c.set_link.ensures, c.set_last.ensures, c.set_before.ensures, c.set_first.ensures, c.set_after.ensures)
+    rw (
+      ← c.self.view_is,
+      c.set_link.ensures,
+      c.set_last.ensures,
+      c.set_before.ensures,
+      c.set_first.ensures,
+      c.set_after.ensures,
+    )
     (rw (
-      children-relinked c.args.child (record { parent = Some c.args.parent; before = c.last_below-before.result; after = c.behind-after.result }) c.last_below-before.result c.behind-after.result (Some c.args.child) (Some c.args.child) c.self.inside.links.rows,
+      children-relinked c.args.child (record {
+        parent = Some c.args.parent;
+        before = c.last_below-before.result;
+        after = c.behind-after.result;
+      }) c.last_below-before.result c.behind-after.result (Some c.args.child)
+          (Some c.args.child) c.self.inside.links.rows,
       numbers-with_last c.behind-after.result c.args.parent (Some c.args.child) _,
       numbers-with_first c.last_below-before.result c.args.parent (Some c.args.child) c.self.inside.ends.rows,
     ) refl)

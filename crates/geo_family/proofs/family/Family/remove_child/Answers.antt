@@ -8,14 +8,16 @@ pub invariant_of-self : goal.invariant_of-self
 invariant_of-self c =
     let children = ap (λ v. v.children) (c.self.view_is ∙ c.unlink.ensures) in
     rw c.remove.ensures.removed
-    (family-without_link c.self.inside.links.rows c.self.inside.ends.rows c.self.invariant c.args.child (value_at-with_none c.args.child c.args.self.now.children c.self.inside.links.rows children))
+    (family-without_link c.self.inside.links.rows c.self.inside.ends.rows c.self.invariant c.args.child
+    (value_at-with_none c.args.child c.args.self.now.children c.self.inside.links.rows children))
 
 pub returns : goal.returns
 returns c =
     let view = c.self.view_is ∙ c.unlink.ensures in
     rw (c.remove.ensures.removed, children-without c.args.child c.self.inside.links.rows) (λ i. record {
       parents = (view i).parents;
-      children = (ap (λ v. without v.children c.args.child) view ∙ without-with_value c.args.child None c.args.self.now.children) i;
+      children = (ap (λ v. without v.children c.args.child) view
+          ∙ without-with_value c.args.child None c.args.self.now.children) i;
       next_parent = (view i).next_parent;
       next_child = (view i).next_child;
       parent_room = (view i).parent_room;

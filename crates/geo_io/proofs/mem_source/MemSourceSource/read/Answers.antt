@@ -10,15 +10,21 @@ returns-clause-bytes c =
     let part = tail_range c.self.inside.at c.bytes.result.now ∙ ap (drop c.self.inside.at) c.bytes.ensures in
     record {
       given =
-          given c.self.inside.at c.min-count.result c.self.inside.bytes c.args.out.now c.copy_from_slice.new.self _ part size c.copy_from_slice.ensures.after
-          ∙ ap (λ (f : Feed). f.given ++ take c.min-count.result (c.copy_from_slice.new.self ++ drop c.min-count.result c.args.out.now)) c.self.view_is;
+          given c.self.inside.at c.min-count.result c.self.inside.bytes c.args.out.now c.copy_from_slice.new.self _
+          part size c.copy_from_slice.ensures.after
+          ∙ ap (λ (f : Feed). f.given
+          ++ take c.min-count.result (c.copy_from_slice.new.self ++ drop c.min-count.result c.args.out.now))
+          c.self.view_is;
       goes =
           sym (ap (λ (f : Feed). f.left) c.self.view_is)
-          ∙ moved c.self.inside.at c.min-count.result c.self.inside.bytes c.args.out.now c.copy_from_slice.new.self _ part
+          ∙ moved c.self.inside.at c.min-count.result c.self.inside.bytes c.args.out.now
+          c.copy_from_slice.new.self _ part
           (omega (arith, c.min.ensures, c.min-count.ensures)) size c.copy_from_slice.ensures.after;
     }
 
 pub returns-clause-fed : goal.returns-clause-fed
 returns-clause-fed c =
-    fed c.self.inside.at c.min-count.result c.self.inside.calls c.saturating_add-self-inside.result c.self.inside.piece c.self.inside.faults c.self.inside.bytes c.self.inside.fails c.self.inside.ended c.saturating_add-self-inside.ensures
+    fed c.self.inside.at c.min-count.result c.self.inside.calls c.saturating_add-self-inside.result
+    c.self.inside.piece c.self.inside.faults c.self.inside.bytes c.self.inside.fails c.self.inside.ended
+    c.saturating_add-self-inside.ensures
     ∙ ap (λ (f : Feed). after_read f c.min-count.result) c.self.view_is

@@ -4,7 +4,11 @@ use Rattle.geo_lane.proofs.Sounds.{split_sound}
 use Rattle.geo_lane.proofs.lane.Lane.split_pass.Goals as goal
 
 pub another-other-requires-clause-rule : goal.another-other-requires-clause-rule
-another-other-requires-clause-rule g c = let s = c.pass.invariant.1 in forks _ _ s.live (s.number ∙ (ap (λ p. p.sender) c.pass.view_is ∙ c.requires.first))
+another-other-requires-clause-rule g c = let s = c.pass.invariant.1 in
+    forks _ _ s.live (s.number ∙ (ap (λ p. p.sender) c.pass.view_is ∙ c.requires.first))
 
 pub invariant_of-pass : goal.invariant_of-pass
-invariant_of-pass g c = (c.another-other.ensures.queue.0.2 ∙ c.pass.invariant.0, split_sound _ _ _ _ c.pass.invariant.1 _ c.another-other.ensures.rule.0)
+invariant_of-pass g c = (
+  c.another-other.ensures.queue.0.2 ∙ c.pass.invariant.0,
+  split_sound _ _ _ _ c.pass.invariant.1 _ c.another-other.ensures.rule.0,
+)

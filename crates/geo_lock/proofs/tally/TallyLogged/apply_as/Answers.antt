@@ -6,4 +6,7 @@ pub invariant_of-self : goal.invariant_of-self
 invariant_of-self c = rw c.in-Ok.ensures.items (pushed _ _ _ _ _ c.self.invariant (search rules) (search rules))
 
 pub returns-in-Ok-clause-lawful : goal.returns-in-Ok-clause-lawful
-returns-in-Ok-clause-lawful c = rw c.in-Ok.ensures.items ((pushed c.self.inside.sum c.args.seat c.args.step c.self.inside.log.items c.in-Some.sum c.self.invariant (search rules) (search rules)).1)
+returns-in-Ok-clause-lawful c =
+    rw c.in-Ok.ensures.items
+    ((pushed c.self.inside.sum c.args.seat c.args.step c.self.inside.log.items c.in-Some.sum c.self.invariant
+    (search rules) (search rules)).1)

@@ -9,71 +9,117 @@ use Rattle.geo_lock.proofs.Sounds.{claims_are, start_is, turned_sound, grown, ma
 use Rattle.geo_lock.proofs.yard.Yard.apply.Goals as goal
 
 pub enter-word-requires-clause-rests : goal.enter-word-requires-clause-rests
-enter-word-requires-clause-rests g c = let e = c.pass.invariant.1.me_is in (ap (λ m. m.1) e, (_, ap (λ m. get_elem? m.0.claims 0) e))
+enter-word-requires-clause-rests g c = let e = c.pass.invariant.1.me_is in
+    (ap (λ m. m.1) e, (_, ap (λ m. get_elem? m.0.claims 0) e))
 
 pub leave-requires-clause-grows : goal.leave-requires-clause-grows
 leave-requires-clause-grows g c = let e = c.enter-word.ensures.turn in let m = c.apply_as-result.ensures in (
   _,
   ap (λ m. m.0.claims) e ∙ claims_are _ _ _ _ _ _ c.pass.invariant.1,
-  subst (λ z. Grows g.L.Logged.seat_of c.pass.inside.number z.0.seen (g.L.Logged.log c.apply_as-result.new.self)) (sym e)
-      (grown g.L.Logged.log g.L.Logged.seat_of c.pass.inside.number (λ o. g.L.Logged.entry c.pass.inside.number c.args.step o) c.enter-word.result.1 c.apply_as-result.new.self
+  subst (λ z. Grows g.L.Logged.seat_of c.pass.inside.number z.0.seen (g.L.Logged.log c.apply_as-result.new.self))
+      (sym e)
+      (grown g.L.Logged.log g.L.Logged.seat_of c.pass.inside.number
+      (λ o. g.L.Logged.entry c.pass.inside.number c.args.step o) c.enter-word.result.1 c.apply_as-result.new.self
       (λ o. g.met.L.Logged.seat_is c.pass.inside.number c.args.step o) c.apply_as-result.result m.ok m.err),
 )
 
 pub invariant_of-pass : goal.invariant_of-pass
-invariant_of-pass g c = let e = c.enter-word.ensures.turn in let m = c.apply_as-result.ensures in let f = c.enter-word.ensures.found in
+invariant_of-pass g c = let e = c.enter-word.ensures.turn in let m = c.apply_as-result.ensures in let f =
+    c.enter-word.ensures.found in
     let same = m.start ∙ f.start_is _ (start_is g.L.Logged.lawful g.L.Logged.seat_of _ _ _ _ c.pass.invariant.1) in
-    turned_sound g.L.Logged.lawful g.L.Logged.seat_of _ _ _ _ c.pass.invariant.1 g.L.Logged.start g.L.Logged.log _ _ f (g.L.Logged.log c.apply_as-result.new.self)
-    (grown g.L.Logged.log g.L.Logged.seat_of c.pass.inside.number (λ o. g.L.Logged.entry c.pass.inside.number c.args.step o) c.enter-word.result.1 c.apply_as-result.new.self
+    turned_sound g.L.Logged.lawful g.L.Logged.seat_of _ _ _ _ c.pass.invariant.1 g.L.Logged.start g.L.Logged.log _
+    _ f (g.L.Logged.log c.apply_as-result.new.self)
+    (grown g.L.Logged.log g.L.Logged.seat_of c.pass.inside.number
+    (λ o. g.L.Logged.entry c.pass.inside.number c.args.step o) c.enter-word.result.1 c.apply_as-result.new.self
     (λ o. g.met.L.Logged.seat_is c.pass.inside.number c.args.step o) c.apply_as-result.result m.ok m.err)
     (subst (λ z. g.L.Logged.lawful z (g.L.Logged.log c.apply_as-result.new.self)) same m.lawful) _
-    (c.leave.ensures.turn ∙ ap (λ z. (out_of_turn g.L.Logged.seat_of z.0 (g.L.Logged.log c.apply_as-result.new.self), [])) e)
+    (c.leave.ensures.turn
+    ∙ ap (λ z. (out_of_turn g.L.Logged.seat_of z.0 (g.L.Logged.log c.apply_as-result.new.self), [])) e)
 
 pub returns-clause-longer : goal.returns-clause-longer
 returns-clause-longer g c = let m = c.apply_as-result.ensures in let f = c.enter-word.ensures.found in
-    rw (← c.pass.view_is, ap (λ z. z.0.seen) c.leave.ensures.turn) (prefix_trans _ (g.L.Logged.log c.enter-word.result.1) _ f.longer
-    (grown g.L.Logged.log g.L.Logged.seat_of c.pass.inside.number (λ o. g.L.Logged.entry c.pass.inside.number c.args.step o) c.enter-word.result.1 c.apply_as-result.new.self
+    rw (← c.pass.view_is, ap (λ z. z.0.seen) c.leave.ensures.turn)
+    (prefix_trans _ (g.L.Logged.log c.enter-word.result.1) _ f.longer
+    (grown g.L.Logged.log g.L.Logged.seat_of c.pass.inside.number
+    (λ o. g.L.Logged.entry c.pass.inside.number c.args.step o) c.enter-word.result.1 c.apply_as-result.new.self
     (λ o. g.met.L.Logged.seat_is c.pass.inside.number c.args.step o) c.apply_as-result.result m.ok m.err).longer)
 
 pub returns-clause-made : goal.returns-clause-made
-returns-clause-made g c = let m = c.apply_as-result.ensures in let f = c.enter-word.ensures.found in let n = ap (λ p. p.number) c.pass.view_is in
+returns-clause-made g c = let m = c.apply_as-result.ensures in let f = c.enter-word.ensures.found in let n =
+    ap (λ p. p.number) c.pass.view_is in
     let same = f.start_is c.args.self.now.start (ap (λ p. p.start) c.pass.view_is ∙ c.requires.start) in
     let claims = claims_are g.L.Logged.lawful g.L.Logged.seat_of _ _ _ _ c.pass.invariant.1 in
-    makes g.L.Logged.log g.L.Logged.seat_of g.L.Logged.is_no_memory c.args.pass.now.number (λ o. g.L.Logged.entry c.args.pass.now.number c.args.step o) c.enter-word.result.1 c.apply_as-result.new.self
-    (λ o. g.met.L.Logged.seat_is c.args.pass.now.number c.args.step o) (λ h. g.L.Logged.answer c.args.self.now.start h c.args.pass.now.number c.args.step) c.args.pass.now _
+    makes g.L.Logged.log g.L.Logged.seat_of g.L.Logged.is_no_memory c.args.pass.now.number
+    (λ o. g.L.Logged.entry c.args.pass.now.number c.args.step o) c.enter-word.result.1 c.apply_as-result.new.self
+    (λ o. g.met.L.Logged.seat_is c.args.pass.now.number c.args.step o)
+    (λ h. g.L.Logged.answer c.args.self.now.start h c.args.pass.now.number c.args.step) c.args.pass.now _
     (subst (λ p. IsPrefix p.seen (g.L.Logged.log c.enter-word.result.1)) c.pass.view_is f.longer)
-    (subst (λ p. entries_of g.L.Logged.seat_of p.number (g.L.Logged.log c.enter-word.result.1) ≡ p.own) c.pass.view_is (f.own _ (ap (λ z. get_elem? z 0) claims)))
+    (subst (λ p. entries_of g.L.Logged.seat_of p.number (g.L.Logged.log c.enter-word.result.1) ≡ p.own)
+    c.pass.view_is (f.own _ (ap (λ z. get_elem? z 0) claims)))
     (ap (λ z. z.0.seen) c.leave.ensures.turn)
-    (ap (λ z. own_of z.0.claims) c.leave.ensures.turn ∙ ap (λ k. entries_of g.L.Logged.seat_of k (g.L.Logged.log c.apply_as-result.new.self)) (ap (λ z. first_number z.0.claims) c.enter-word.ensures.turn ∙ (ap first_number claims ∙ n)))
+    (ap (λ z. own_of z.0.claims) c.leave.ensures.turn
+    ∙ ap (λ k. entries_of g.L.Logged.seat_of k (g.L.Logged.log c.apply_as-result.new.self))
+    (ap (λ z. first_number z.0.claims) c.enter-word.ensures.turn ∙ (ap first_number claims ∙ n)))
     c.apply_as-result.result
-    (subst (λ k. IfOk c.apply_as-result.result (λ o. g.L.Logged.log c.apply_as-result.new.self ≡ g.L.Logged.log c.enter-word.result.1 ++ g.L.Logged.entry k c.args.step o ∷ [])) n m.ok)
+    (subst (λ k. IfOk c.apply_as-result.result (λ o. g.L.Logged.log c.apply_as-result.new.self
+    ≡ g.L.Logged.log c.enter-word.result.1 ++ g.L.Logged.entry k c.args.step o ∷ [])) n m.ok)
     (λ w. m.answer w ∙ (λ i. g.L.Logged.answer (same i) (g.L.Logged.log c.enter-word.result.1) (n i) c.args.step))
 
 pub returns-clause-unmade : goal.returns-clause-unmade
 returns-clause-unmade g c = let f = c.enter-word.ensures.found in let n = ap (λ p. p.number) c.pass.view_is in
     let claims = claims_are g.L.Logged.lawful g.L.Logged.seat_of _ _ _ _ c.pass.invariant.1 in
-    unmade g.L.Logged.log g.L.Logged.seat_of g.L.Logged.is_no_memory c.args.pass.now.number c.enter-word.result.1 c.apply_as-result.new.self c.args.pass.now
-    record { yard = c.leave.new.seat.table_id; start = c.leave.new.seat.me.0.start; number = c.pass.inside.number; seen = c.leave.new.seat.me.0.seen; own = own_of c.leave.new.seat.me.0.claims; made = c.pass.inside.made }
-    (subst (λ p. entries_of g.L.Logged.seat_of p.number (g.L.Logged.log c.enter-word.result.1) ≡ p.own) c.pass.view_is (f.own _ (ap (λ z. get_elem? z 0) claims)))
-    (ap (λ z. own_of z.0.claims) c.leave.ensures.turn ∙ ap (λ k. entries_of g.L.Logged.seat_of k (g.L.Logged.log c.apply_as-result.new.self)) (ap (λ z. first_number z.0.claims) c.enter-word.ensures.turn ∙ (ap first_number claims ∙ n)))
+    unmade g.L.Logged.log g.L.Logged.seat_of g.L.Logged.is_no_memory c.args.pass.now.number c.enter-word.result.1
+    c.apply_as-result.new.self c.args.pass.now
+    record {
+      yard = c.leave.new.seat.table_id;
+      start = c.leave.new.seat.me.0.start;
+      number = c.pass.inside.number;
+      seen = c.leave.new.seat.me.0.seen;
+      own = own_of c.leave.new.seat.me.0.claims;
+      made = c.pass.inside.made;
+    }
+    (subst (λ p. entries_of g.L.Logged.seat_of p.number (g.L.Logged.log c.enter-word.result.1) ≡ p.own)
+    c.pass.view_is (f.own _ (ap (λ z. get_elem? z 0) claims)))
+    (ap (λ z. own_of z.0.claims) c.leave.ensures.turn
+    ∙ ap (λ k. entries_of g.L.Logged.seat_of k (g.L.Logged.log c.apply_as-result.new.self))
+    (ap (λ z. first_number z.0.claims) c.enter-word.ensures.turn ∙ (ap first_number claims ∙ n)))
     c.apply_as-result.result c.apply_as-result.ensures.err
 
 pub returns-clause-refused : goal.returns-clause-refused
 returns-clause-refused g c = let m = c.apply_as-result.ensures in let n = ap (λ p. p.number) c.pass.view_is in
-    let same = c.enter-word.ensures.found.start_is c.args.self.now.start (ap (λ p. p.start) c.pass.view_is ∙ c.requires.start) in
-    refused g.L.Logged.log g.L.Logged.seat_of g.L.Logged.is_no_memory c.args.pass.now.number c.enter-word.result.1 c.apply_as-result.new.self
+    let same = c.enter-word.ensures.found.start_is c.args.self.now.start (ap (λ p. p.start) c.pass.view_is
+    ∙ c.requires.start) in
+    refused g.L.Logged.log g.L.Logged.seat_of g.L.Logged.is_no_memory c.args.pass.now.number c.enter-word.result.1
+    c.apply_as-result.new.self
     (λ h. g.L.Logged.answer c.args.self.now.start h c.args.pass.now.number c.args.step)
-    record { yard = c.leave.new.seat.table_id; start = c.leave.new.seat.me.0.start; number = c.pass.inside.number; seen = c.leave.new.seat.me.0.seen; own = own_of c.leave.new.seat.me.0.claims; made = c.pass.inside.made }
+    record {
+      yard = c.leave.new.seat.table_id;
+      start = c.leave.new.seat.me.0.start;
+      number = c.pass.inside.number;
+      seen = c.leave.new.seat.me.0.seen;
+      own = own_of c.leave.new.seat.me.0.claims;
+      made = c.pass.inside.made;
+    }
     (ap (λ z. z.0.seen) c.leave.ensures.turn)
     c.apply_as-result.result m.err
     (λ w. m.answer w ∙ (λ i. g.L.Logged.answer (same i) (g.L.Logged.log c.enter-word.result.1) (n i) c.args.step))
 
 pub returns-clause-sure : goal.returns-clause-sure
 returns-clause-sure g c = let m = c.apply_as-result.ensures in let n = ap (λ p. p.number) c.pass.view_is in
-    let same = c.enter-word.ensures.found.start_is c.args.self.now.start (ap (λ p. p.start) c.pass.view_is ∙ c.requires.start) in
-    sure g.L.Logged.log g.L.Logged.seat_of g.L.Logged.is_no_memory c.args.pass.now.number c.enter-word.result.1 c.apply_as-result.new.self
+    let same = c.enter-word.ensures.found.start_is c.args.self.now.start (ap (λ p. p.start) c.pass.view_is
+    ∙ c.requires.start) in
+    sure g.L.Logged.log g.L.Logged.seat_of g.L.Logged.is_no_memory c.args.pass.now.number c.enter-word.result.1
+    c.apply_as-result.new.self
     (λ h. g.L.Logged.takes_no_memory c.args.self.now.start h c.args.pass.now.number c.args.step)
-    record { yard = c.leave.new.seat.table_id; start = c.leave.new.seat.me.0.start; number = c.pass.inside.number; seen = c.leave.new.seat.me.0.seen; own = own_of c.leave.new.seat.me.0.claims; made = c.pass.inside.made }
+    record {
+      yard = c.leave.new.seat.table_id;
+      start = c.leave.new.seat.me.0.start;
+      number = c.pass.inside.number;
+      seen = c.leave.new.seat.me.0.seen;
+      own = own_of c.leave.new.seat.me.0.claims;
+      made = c.pass.inside.made;
+    }
     (ap (λ z. z.0.seen) c.leave.ensures.turn)
     c.apply_as-result.result m.err
-    (λ t. m.sure ((λ i. g.L.Logged.takes_no_memory (same i) (g.L.Logged.log c.enter-word.result.1) (n i) c.args.step) ∙ t))
+    (λ t. m.sure
+    ((λ i. g.L.Logged.takes_no_memory (same i) (g.L.Logged.log c.enter-word.result.1) (n i) c.args.step) ∙ t))

@@ -5,7 +5,15 @@ use Rattle.geo_mesh.proofs.marks.Marks.add.Goals as goal
 pub invariant_of-self : goal.invariant_of-self
 invariant_of-self c =
     rw c.add_child.ensures.added
-    (record { stands = c.self.invariant.stands; under = under-push c.self.inside.family.children c.self.inside.family.next_child c.self.invariant.under })
+    (record {
+      stands = c.self.invariant.stands;
+      under =
+          under-push c.self.inside.family.children c.self.inside.family.next_child c.self.invariant.under;
+    })
 
 pub returns : goal.returns
-returns c = rw (← c.self.view_is, c.add_child.ensures.added, marks-push c.self.inside.family.children c.self.inside.family.next_child) refl
+returns c = rw (
+  ← c.self.view_is,
+  c.add_child.ensures.added,
+  marks-push c.self.inside.family.children c.self.inside.family.next_child,
+) refl

@@ -5,7 +5,15 @@ use Rattle.geo_mesh.proofs.marks.Marks.remove.Goals as goal
 pub invariant_of-self : goal.invariant_of-self
 invariant_of-self c =
     rw c.remove_child.ensures
-    (record { stands = c.self.invariant.stands; under = under-without c.args.number c.self.inside.family.children c.self.invariant.under })
+    (record {
+      stands = c.self.invariant.stands;
+      under =
+          under-without c.args.number c.self.inside.family.children c.self.invariant.under;
+    })
 
 pub returns : goal.returns
-returns c = rw (← c.self.view_is, c.remove_child.ensures, marks-without c.args.number c.self.inside.family.children) refl
+returns c = rw (
+  ← c.self.view_is,
+  c.remove_child.ensures,
+  marks-without c.args.number c.self.inside.family.children,
+) refl

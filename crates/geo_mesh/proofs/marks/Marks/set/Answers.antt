@@ -22,7 +22,11 @@ invariant_of-self c =
 pub invariant_of-self-else-marked : goal.invariant_of-self-else-marked
 invariant_of-self-else-marked c =
     rw c.unlink.ensures
-    (record { stands = c.self.invariant.stands; under = under-set c.args.number None c.self.inside.family.children tt c.self.invariant.under })
+    (record {
+      stands = c.self.invariant.stands;
+      under =
+          under-set c.args.number None c.self.inside.family.children tt c.self.invariant.under;
+    })
 
 pub returns-then-marked : goal.returns-then-marked
 returns-then-marked c =
@@ -37,4 +41,9 @@ returns-then-marked c =
 
 pub returns-else-marked : goal.returns-else-marked
 returns-else-marked c =
-    rw (← c.self.view_is, c.unlink.ensures, rows_with-with_value is_some c.args.number None c.self.inside.family.children, c.if-marked.false) refl
+    rw (
+      ← c.self.view_is,
+      c.unlink.ensures,
+      rows_with-with_value is_some c.args.number None c.self.inside.family.children,
+      c.if-marked.false,
+    ) refl

@@ -132,13 +132,19 @@ returns-in_err-reserve-4-clause-whole g c =
       providers_stay = omega arith;
       consumers_stay = omega arith;
     })
-    (room_for c.args.self.now.geoms.spare c.args.self.now.edges.providers.spare c.args.self.now.edges.consumers.spare c.args.geoms c.args.providers c.args.consumers
-    c.reserve-4.new.self.spare c.args.self.now.edges.providers.spare c.args.self.now.edges.consumers.spare c.reserve.new.self
-    (c.reserve.ensures.room_stays _ _ _ c.requires.tables.room) c.in_ok-reserve.ensures.room (c.reserve-4.ensures.no_more) (omega arith) (omega arith))
-    (name_room_for c.args.self.now.edges.providers.spare c.args.providers c.args.self.now.edges.providers.spare c.reserve-2.new.self
+    (room_for c.args.self.now.geoms.spare c.args.self.now.edges.providers.spare
+    c.args.self.now.edges.consumers.spare c.args.geoms c.args.providers c.args.consumers
+    c.reserve-4.new.self.spare c.args.self.now.edges.providers.spare c.args.self.now.edges.consumers.spare
+    c.reserve.new.self
+    (c.reserve.ensures.room_stays _ _ _ c.requires.tables.room) c.in_ok-reserve.ensures.room
+    (c.reserve-4.ensures.no_more) (omega arith) (omega arith))
+    (name_room_for c.args.self.now.edges.providers.spare c.args.providers c.args.self.now.edges.providers.spare
+    c.reserve-2.new.self
     (c.reserve-2.ensures.room_stays _ c.requires.tables.names_room) c.in_ok-reserve-2.ensures.room (omega arith))
-    (note_room_for c.args.self.now.geoms.spare c.args.self.now.edges.providers.spare c.args.geoms c.args.providers c.reserve-4.new.self.spare c.args.self.now.edges.providers.spare c.reserve-3.new.self
-    (c.reserve-3.ensures.room_stays _ _ c.requires.tables.notes.room) c.in_ok-reserve-3.ensures.room (c.reserve-4.ensures.no_more) (omega arith))
+    (note_room_for c.args.self.now.geoms.spare c.args.self.now.edges.providers.spare c.args.geoms c.args.providers
+    c.reserve-4.new.self.spare c.args.self.now.edges.providers.spare c.reserve-3.new.self
+    (c.reserve-3.ensures.room_stays _ _ c.requires.tables.notes.room) c.in_ok-reserve-3.ensures.room
+    (c.reserve-4.ensures.no_more) (omega arith))
 
 pub returns-in_err-reserve-5-clause-same : goal.returns-in_err-reserve-5-clause-same
 returns-in_err-reserve-5-clause-same g c = record {
@@ -169,13 +175,19 @@ returns-in_err-reserve-5-clause-whole g c =
       providers_stay = omega arith;
       consumers_stay = omega arith;
     })
-    (room_for c.args.self.now.geoms.spare c.args.self.now.edges.providers.spare c.args.self.now.edges.consumers.spare c.args.geoms c.args.providers c.args.consumers
+    (room_for c.args.self.now.geoms.spare c.args.self.now.edges.providers.spare
+    c.args.self.now.edges.consumers.spare c.args.geoms c.args.providers c.args.consumers
     c.reserve-4.new.self.spare c.reserve-5.new.self.spare c.args.self.now.edges.consumers.spare c.reserve.new.self
-    (c.reserve.ensures.room_stays _ _ _ c.requires.tables.room) c.in_ok-reserve.ensures.room (c.reserve-4.ensures.no_more) (c.reserve-5.ensures.no_more) (omega arith))
-    (name_room_for c.args.self.now.edges.providers.spare c.args.providers c.reserve-5.new.self.spare c.reserve-2.new.self
-    (c.reserve-2.ensures.room_stays _ c.requires.tables.names_room) c.in_ok-reserve-2.ensures.room (c.reserve-5.ensures.no_more))
-    (note_room_for c.args.self.now.geoms.spare c.args.self.now.edges.providers.spare c.args.geoms c.args.providers c.reserve-4.new.self.spare c.reserve-5.new.self.spare c.reserve-3.new.self
-    (c.reserve-3.ensures.room_stays _ _ c.requires.tables.notes.room) c.in_ok-reserve-3.ensures.room (c.reserve-4.ensures.no_more) (c.reserve-5.ensures.no_more))
+    (c.reserve.ensures.room_stays _ _ _ c.requires.tables.room) c.in_ok-reserve.ensures.room
+    (c.reserve-4.ensures.no_more) (c.reserve-5.ensures.no_more) (omega arith))
+    (name_room_for c.args.self.now.edges.providers.spare c.args.providers c.reserve-5.new.self.spare
+    c.reserve-2.new.self
+    (c.reserve-2.ensures.room_stays _ c.requires.tables.names_room) c.in_ok-reserve-2.ensures.room
+    (c.reserve-5.ensures.no_more))
+    (note_room_for c.args.self.now.geoms.spare c.args.self.now.edges.providers.spare c.args.geoms c.args.providers
+    c.reserve-4.new.self.spare c.reserve-5.new.self.spare c.reserve-3.new.self
+    (c.reserve-3.ensures.room_stays _ _ c.requires.tables.notes.room) c.in_ok-reserve-3.ensures.room
+    (c.reserve-4.ensures.no_more) (c.reserve-5.ensures.no_more))
 
 pub returns-in_err-reserve-6-clause-same : goal.returns-in_err-reserve-6-clause-same
 returns-in_err-reserve-6-clause-same g c = record {
@@ -206,13 +218,19 @@ returns-in_err-reserve-6-clause-whole g c =
       providers_stay = omega arith;
       consumers_stay = omega arith;
     })
-    (room_for c.args.self.now.geoms.spare c.args.self.now.edges.providers.spare c.args.self.now.edges.consumers.spare c.args.geoms c.args.providers c.args.consumers
+    (room_for c.args.self.now.geoms.spare c.args.self.now.edges.providers.spare
+    c.args.self.now.edges.consumers.spare c.args.geoms c.args.providers c.args.consumers
     c.reserve-4.new.self.spare c.reserve-5.new.self.spare c.reserve-6.new.self.spare c.reserve.new.self
-    (c.reserve.ensures.room_stays _ _ _ c.requires.tables.room) c.in_ok-reserve.ensures.room (c.reserve-4.ensures.no_more) (c.reserve-5.ensures.no_more) (c.reserve-6.ensures.no_more))
-    (name_room_for c.args.self.now.edges.providers.spare c.args.providers c.reserve-5.new.self.spare c.reserve-2.new.self
-    (c.reserve-2.ensures.room_stays _ c.requires.tables.names_room) c.in_ok-reserve-2.ensures.room (c.reserve-5.ensures.no_more))
-    (note_room_for c.args.self.now.geoms.spare c.args.self.now.edges.providers.spare c.args.geoms c.args.providers c.reserve-4.new.self.spare c.reserve-5.new.self.spare c.reserve-3.new.self
-    (c.reserve-3.ensures.room_stays _ _ c.requires.tables.notes.room) c.in_ok-reserve-3.ensures.room (c.reserve-4.ensures.no_more) (c.reserve-5.ensures.no_more))
+    (c.reserve.ensures.room_stays _ _ _ c.requires.tables.room) c.in_ok-reserve.ensures.room
+    (c.reserve-4.ensures.no_more) (c.reserve-5.ensures.no_more) (c.reserve-6.ensures.no_more))
+    (name_room_for c.args.self.now.edges.providers.spare c.args.providers c.reserve-5.new.self.spare
+    c.reserve-2.new.self
+    (c.reserve-2.ensures.room_stays _ c.requires.tables.names_room) c.in_ok-reserve-2.ensures.room
+    (c.reserve-5.ensures.no_more))
+    (note_room_for c.args.self.now.geoms.spare c.args.self.now.edges.providers.spare c.args.geoms c.args.providers
+    c.reserve-4.new.self.spare c.reserve-5.new.self.spare c.reserve-3.new.self
+    (c.reserve-3.ensures.room_stays _ _ c.requires.tables.notes.room) c.in_ok-reserve-3.ensures.room
+    (c.reserve-4.ensures.no_more) (c.reserve-5.ensures.no_more))
 
 pub returns-clause-same : goal.returns-clause-same
 returns-clause-same g c = record {
@@ -243,10 +261,16 @@ returns-clause-whole g c =
       providers_stay = omega arith;
       consumers_stay = omega arith;
     })
-    (room_for c.args.self.now.geoms.spare c.args.self.now.edges.providers.spare c.args.self.now.edges.consumers.spare c.args.geoms c.args.providers c.args.consumers
+    (room_for c.args.self.now.geoms.spare c.args.self.now.edges.providers.spare
+    c.args.self.now.edges.consumers.spare c.args.geoms c.args.providers c.args.consumers
     c.reserve-4.new.self.spare c.reserve-5.new.self.spare c.reserve-6.new.self.spare c.reserve.new.self
-    (c.reserve.ensures.room_stays _ _ _ c.requires.tables.room) c.in_ok-reserve.ensures.room (c.reserve-4.ensures.no_more) (c.reserve-5.ensures.no_more) (c.reserve-6.ensures.no_more))
-    (name_room_for c.args.self.now.edges.providers.spare c.args.providers c.reserve-5.new.self.spare c.reserve-2.new.self
-    (c.reserve-2.ensures.room_stays _ c.requires.tables.names_room) c.in_ok-reserve-2.ensures.room (c.reserve-5.ensures.no_more))
-    (note_room_for c.args.self.now.geoms.spare c.args.self.now.edges.providers.spare c.args.geoms c.args.providers c.reserve-4.new.self.spare c.reserve-5.new.self.spare c.reserve-3.new.self
-    (c.reserve-3.ensures.room_stays _ _ c.requires.tables.notes.room) c.in_ok-reserve-3.ensures.room (c.reserve-4.ensures.no_more) (c.reserve-5.ensures.no_more))
+    (c.reserve.ensures.room_stays _ _ _ c.requires.tables.room) c.in_ok-reserve.ensures.room
+    (c.reserve-4.ensures.no_more) (c.reserve-5.ensures.no_more) (c.reserve-6.ensures.no_more))
+    (name_room_for c.args.self.now.edges.providers.spare c.args.providers c.reserve-5.new.self.spare
+    c.reserve-2.new.self
+    (c.reserve-2.ensures.room_stays _ c.requires.tables.names_room) c.in_ok-reserve-2.ensures.room
+    (c.reserve-5.ensures.no_more))
+    (note_room_for c.args.self.now.geoms.spare c.args.self.now.edges.providers.spare c.args.geoms c.args.providers
+    c.reserve-4.new.self.spare c.reserve-5.new.self.spare c.reserve-3.new.self
+    (c.reserve-3.ensures.room_stays _ _ c.requires.tables.notes.room) c.in_ok-reserve-3.ensures.room
+    (c.reserve-4.ensures.no_more) (c.reserve-5.ensures.no_more))

@@ -6,7 +6,13 @@ use Rattle.geo_mesh.proofs.topo.Topo.consumer_of.Goals as goal
 
 pub returns-clause-first : goal.returns-clause-first
 returns-clause-first g c =
-    rw (← c.self.view_is, ← c.number.ensures, ← owned_first (graph c.self.inside.tables) c.self.inside.tables.edges.index c.self.invariant.tables.indexed c.number.result c.args.from, ← c.first_from.ensures) (search rules)
+    rw (
+      ← c.self.view_is,
+      ← c.number.ensures,
+      ← owned_first (graph c.self.inside.tables) c.self.inside.tables.edges.index c.self.invariant.tables.indexed
+          c.number.result c.args.from,
+      ← c.first_from.ensures,
+    ) (search rules)
 
 pub returns-clause-sound : goal.returns-clause-sound
 returns-clause-sound g c = rw (← c.self.view_is) (sound-graph c.self.inside.tables c.self.invariant)

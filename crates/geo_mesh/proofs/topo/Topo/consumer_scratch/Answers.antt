@@ -8,4 +8,8 @@ consumer-requires g c = rw (← c.self.view_is) at c.requires
 
 pub returns : goal.returns
 returns g c =
-    rw (← c.self.view_is, value_at-rows_with consumer_scratch_of c.args.cons c.self.inside.tables.edges.consumers.rows, c.consumer.ensures) refl
+    rw (
+      ← c.self.view_is,
+      value_at-rows_with consumer_scratch_of c.args.cons c.self.inside.tables.edges.consumers.rows,
+      c.consumer.ensures,
+    ) refl

@@ -8,29 +8,46 @@ use Rattle.geo_mesh.proofs.topo.Topo.destroy_geom.Goals as goal
 
 pub remove_geom-requires-clause-no_provider : goal.remove_geom-requires-clause-no_provider
 remove_geom-requires-clause-no_provider g c =
-    offered_none (graph c.self.inside.tables) c.self.inside.tables.edges.index c.self.invariant.tables.indexed c.number-in-Some.result
+    offered_none (graph c.self.inside.tables) c.self.inside.tables.edges.index c.self.invariant.tables.indexed
+    c.number-in-Some.result
     (rw (← c.self.view_is, ← c.number-in-Some.ensures) at c.requires.no_provider)
 
 pub remove_geom-requires-clause-no_consumer : goal.remove_geom-requires-clause-no_consumer
 remove_geom-requires-clause-no_consumer g c =
-    owned_none (graph c.self.inside.tables) c.self.inside.tables.edges.index c.self.invariant.tables.indexed c.number-in-Some.result
+    owned_none (graph c.self.inside.tables) c.self.inside.tables.edges.index c.self.invariant.tables.indexed
+    c.number-in-Some.result
     (rw (← c.self.view_is, ← c.number-in-Some.ensures) at c.requires.no_consumer)
 
 pub invariant_of-self : goal.invariant_of-self
 invariant_of-self g c =
-    rw (c.remove_geom.ensures, c.remove-in-Some.ensures, c.number-in-Some.ensures, c.number-in-Some-2.ensures, ← c.number.ensures, c.remove.ensures.removed)
-    (whole-without_geom c.self.inside.tables c.self.invariant c.number.result c.in-Some._cell c.in-Some.ensures.rising (sym c.in-Some.ensures.value)
+    rw (
+      c.remove_geom.ensures,
+      c.remove-in-Some.ensures,
+      c.number-in-Some.ensures,
+      c.number-in-Some-2.ensures,
+      ← c.number.ensures,
+      c.remove.ensures.removed,
+    )
+    (whole-without_geom c.self.inside.tables c.self.invariant c.number.result c.in-Some._cell
+    c.in-Some.ensures.rising (sym c.in-Some.ensures.value)
     (rw (← c.number.ensures) at c.requires.not_dev) (rw (← c.number.ensures) at c.requires.not_taste)
-    (rw (← c.self.view_is, ← c.number.ensures) at c.requires.no_provider) (rw (← c.self.view_is, ← c.number.ensures) at c.requires.no_consumer))
+    (rw (← c.self.view_is, ← c.number.ensures) at c.requires.no_provider)
+    (rw (← c.self.view_is, ← c.number.ensures) at c.requires.no_consumer))
 
 pub invariant_of-self-in_default : goal.invariant_of-self-in_default
 invariant_of-self-in_default g c =
-    rw (c.remove.ensures.removed, without_absent c.number.result c.self.inside.tables.geoms.rows (sym c.in_default.ensures.value)) c.self.invariant
+    rw (
+      c.remove.ensures.removed,
+      without_absent c.number.result c.self.inside.tables.geoms.rows (sym c.in_default.ensures.value),
+    )
+    c.self.invariant
 
 pub returns-in-Some-clause-removed : goal.returns-in-Some-clause-removed
 returns-in-Some-clause-removed g c =
-    rw (← c.self.view_is, ← c.number.ensures, c.remove.ensures.removed) (without_geom-view c.self.inside.tables c.number.result (c.self.inside.tables.live - 1))
+    rw (← c.self.view_is, ← c.number.ensures, c.remove.ensures.removed)
+    (without_geom-view c.self.inside.tables c.number.result (c.self.inside.tables.live - 1))
 
 pub returns-in_default-clause-removed : goal.returns-in_default-clause-removed
 returns-in_default-clause-removed g c =
-    rw (← c.self.view_is, ← c.number.ensures, c.remove.ensures.removed) (without_geom-view c.self.inside.tables c.number.result c.self.inside.tables.live)
+    rw (← c.self.view_is, ← c.number.ensures, c.remove.ensures.removed)
+    (without_geom-view c.self.inside.tables c.number.result c.self.inside.tables.live)

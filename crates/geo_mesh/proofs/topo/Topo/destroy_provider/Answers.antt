@@ -9,23 +9,44 @@ use Rattle.geo_mesh.proofs.topo.Topo.destroy_provider.Goals as goal
 
 pub remove_provider-requires : goal.remove_provider-requires
 remove_provider-requires g c =
-    attached_none (graph c.self.inside.tables) c.self.inside.tables.edges.index c.self.invariant.tables.indexed c.number-in-Some-2.result (rw (← c.self.view_is, ← c.number-in-Some-2.ensures) at c.requires)
+    attached_none (graph c.self.inside.tables) c.self.inside.tables.edges.index c.self.invariant.tables.indexed
+    c.number-in-Some-2.result (rw (← c.self.view_is, ← c.number-in-Some-2.ensures) at c.requires)
 
 pub invariant_of-self : goal.invariant_of-self
 invariant_of-self g c =
-    rw (c.remove_provider.ensures, c.remove-in-Some-2.ensures, c.remove-in-Some-3.ensures, c.number-in-Some-2.ensures, c.number-in-Some-3.ensures, c.number-in-Some-4.ensures, ← c.number.ensures, c.remove.ensures.removed)
-    (whole-without_provider c.self.inside.tables c.self.invariant c.number.result c.in-Some.cell c.remove-in-Some.new.self c.in-Some.ensures.rising
+    rw (
+      c.remove_provider.ensures,
+      c.remove-in-Some-2.ensures,
+      c.remove-in-Some-3.ensures,
+      c.number-in-Some-2.ensures,
+      c.number-in-Some-3.ensures,
+      c.number-in-Some-4.ensures,
+      ← c.number.ensures,
+      c.remove.ensures.removed,
+    )
+    (whole-without_provider c.self.inside.tables c.self.invariant c.number.result c.in-Some.cell
+    c.remove-in-Some.new.self c.in-Some.ensures.rising
     (sym c.in-Some.ensures.value) c.remove-in-Some.ensures.ids
-    (subst (λ k. RemovesName c.self.inside.tables.names c.remove-in-Some.new.self c.in-Some.cell.provider.name k c.in-Some.cell.provider.errored)
+    (subst (λ k. RemovesName c.self.inside.tables.names c.remove-in-Some.new.self c.in-Some.cell.provider.name k
+    c.in-Some.cell.provider.errored)
     (c.number-in-Some.ensures ∙ sym c.number.ensures) c.remove-in-Some.ensures.removed)
-    (c.remove-in-Some.ensures.room _ c.self.invariant.tables.names_room) (rw (← c.self.view_is, ← c.number.ensures) at c.requires))
+    (c.remove-in-Some.ensures.room _ c.self.invariant.tables.names_room)
+    (rw (← c.self.view_is, ← c.number.ensures) at c.requires))
 
 pub invariant_of-self-in_default : goal.invariant_of-self-in_default
 invariant_of-self-in_default g c =
-    rw (c.remove.ensures.removed, without_absent c.number.result c.self.inside.tables.edges.providers.rows (sym c.in_default.ensures.value)) c.self.invariant
+    rw (
+      c.remove.ensures.removed,
+      without_absent c.number.result c.self.inside.tables.edges.providers.rows (sym c.in_default.ensures.value),
+    )
+    c.self.invariant
 
 pub returns-in-Some : goal.returns-in-Some
-returns-in-Some g c = rw (← c.self.view_is, ← c.number.ensures, c.remove.ensures.removed) (without_provider-view c.self.inside.tables c.number.result)
+returns-in-Some g c =
+    rw (← c.self.view_is, ← c.number.ensures, c.remove.ensures.removed)
+    (without_provider-view c.self.inside.tables c.number.result)
 
 pub returns-in_default : goal.returns-in_default
-returns-in_default g c = rw (← c.self.view_is, ← c.number.ensures, c.remove.ensures.removed) (without_provider-view c.self.inside.tables c.number.result)
+returns-in_default g c =
+    rw (← c.self.view_is, ← c.number.ensures, c.remove.ensures.removed)
+    (without_provider-view c.self.inside.tables c.number.result)

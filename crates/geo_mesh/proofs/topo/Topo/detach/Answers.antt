@@ -2,7 +2,7 @@ use Rattle.std.proofs.Common.{◌≡◌, ◌≤◌, ◌+◌, false, None, refl, 
 use Rattle.geo_mesh.specs.Cells.{graph, put_consumer}
 use Rattle.geo_mesh.specs.Index.{detached_index}
 use Rattle.geo_mesh.specs.Graph.{IsOrderly}
-use Rattle.geo_mesh.specs.Mending.{Lowered, above}
+use Rattle.geo_mesh.specs.Mending.{above}
 use Rattle.geo_mesh.specs.Ranks.{stored, owner, ranked_below, is_dev_or_taste}
 use Rattle.geo_mesh.proofs.MeshLemmas.{mesh-detached}
 use Rattle.geo_mesh.proofs.Orderly.{orderly-detach}
@@ -18,68 +18,135 @@ consumer_mut-cell-requires g c = rw (← c.self.view_is) at c.requires.lives
 
 pub unreachable-requires : goal.unreachable-requires
 unreachable-requires g c =
-    bound-at c.self.inside.tables.geoms c.self.inside.tables.edges c.args.cons c.consumer_mut-cell.result.now (rw (← c.self.view_is) at c.requires.attached) (sym c.consumer_mut-cell.ensures.cell) c.in_default.is
+    bound-at c.self.inside.tables.geoms c.self.inside.tables.edges c.args.cons c.consumer_mut-cell.result.now
+    (rw (← c.self.view_is) at c.requires.attached) (sym c.consumer_mut-cell.ensures.cell) c.in_default.is
 
 pub overflow_add-stored : goal.overflow_add-stored
 overflow_add-stored g c =
-    let few : stored c.self.inside.tables.geoms c.owner-under.result ≤ 4294967295 = mesh-few c.self.inside.tables.geoms c.self.inside.tables.edges c.self.inside.tables.live c.self.invariant.ranks c.owner-under.result in
+    let few : stored c.self.inside.tables.geoms c.owner-under.result ≤ 4294967295 =
+    mesh-few c.self.inside.tables.geoms c.self.inside.tables.edges c.self.inside.tables.live
+    c.self.invariant.ranks c.owner-under.result in
     let fits : c.stored.result ≤ 4294967295 = omega (arith, c.stored.ensures) in
     search rules
 
 pub lower-requires-clause-walkable : goal.lower-requires-clause-walkable
 lower-requires-clause-walkable g c =
-    let just_above : stored c.self.inside.tables.geoms (owner c.self.inside.tables.edges c.in-Some.prov) + 1 ≡ stored c.self.inside.tables.geoms c.consumer_mut-cell.result.now.consumer.geom =
-    rw (c.stored.ensures, c.stored-2.ensures, c.owner-under.ensures, c.number-2.ensures, c.number-upper.ensures) at c.if-stored.true in
+    let just_above : stored c.self.inside.tables.geoms (owner c.self.inside.tables.edges c.in-Some.prov) + 1
+    ≡ stored c.self.inside.tables.geoms c.consumer_mut-cell.result.now.consumer.geom =
+    rw (c.stored.ensures, c.stored-2.ensures, c.owner-under.ensures, c.number-2.ensures, c.number-upper.ensures) at
+    c.if-stored.true in
     let later : is_dev_or_taste c.consumer_mut-cell.result.now.consumer.geom ≡ false =
-    off-later c.self.inside.tables.geoms c.self.inside.tables.edges c.self.inside.tables.live c.self.invariant.ranks c.args.cons c.in-Some.prov c.consumer_mut-cell.result.now c.consumer_mut-cell.ensures.rising (sym c.consumer_mut-cell.ensures.cell) just_above in
-    let indexed = (mesh-detached c.self.inside.tables c.self.invariant.tables c.args.cons c.consumer_mut-cell.result.now c.consumer_mut-cell.ensures.rising c.consumer_mut-cell.ensures.cell).indexed in
+    off-later c.self.inside.tables.geoms c.self.inside.tables.edges c.self.inside.tables.live
+    c.self.invariant.ranks c.args.cons c.in-Some.prov c.consumer_mut-cell.result.now
+    c.consumer_mut-cell.ensures.rising (sym c.consumer_mut-cell.ensures.cell) just_above in
+    let indexed =
+    (mesh-detached c.self.inside.tables c.self.invariant.tables c.args.cons c.consumer_mut-cell.result.now
+    c.consumer_mut-cell.ensures.rising c.consumer_mut-cell.ensures.cell).indexed in
     let orderly =
-    subst (λ t. IsOrderly t) (sym (ap (λ v. v.topology) (detach-view c.self.inside.tables c.args.cons c.consumer_mut-cell.result.now c.consumer_mut-cell.ensures.rising c.consumer_mut-cell.ensures.cell)))
+    subst (λ t. IsOrderly t)
+    (sym (ap (λ v. v.topology)
+    (detach-view c.self.inside.tables c.args.cons c.consumer_mut-cell.result.now
+    c.consumer_mut-cell.ensures.rising c.consumer_mut-cell.ensures.cell)))
     (orderly-detach (graph c.self.inside.tables) c.self.invariant.graph c.args.cons) in
     rw (c.detach.ensures, c.number.ensures)
-    (off-walkable c.self.inside.tables.geoms c.self.inside.tables.edges c.self.inside.tables.live c.self.invariant.ranks c.args.cons c.in-Some.prov c.consumer_mut-cell.result.now c.consumer_mut-cell.ensures.rising (sym c.consumer_mut-cell.ensures.cell) c.in-Some.is later (detached_index c.self.inside.tables.edges.index c.args.cons) (kin-of c.self.inside.tables.geoms _ orderly indexed))
+    (off-walkable c.self.inside.tables.geoms c.self.inside.tables.edges c.self.inside.tables.live
+    c.self.invariant.ranks c.args.cons c.in-Some.prov c.consumer_mut-cell.result.now
+    c.consumer_mut-cell.ensures.rising (sym c.consumer_mut-cell.ensures.cell) c.in-Some.is later
+    (detached_index c.self.inside.tables.edges.index c.args.cons)
+    (kin-of c.self.inside.tables.geoms _ orderly indexed))
 
 pub lower-requires-clause-lives : goal.lower-requires-clause-lives
-lower-requires-clause-lives g c = rw c.number-upper.ensures (user-stands c.self.inside.tables.geoms c.self.inside.tables.edges c.self.inside.tables.live c.self.invariant.ranks c.args.cons c.in-Some.prov c.consumer_mut-cell.result.now c.consumer_mut-cell.ensures.rising (sym c.consumer_mut-cell.ensures.cell))
+lower-requires-clause-lives g c =
+    rw c.number-upper.ensures
+    (user-stands c.self.inside.tables.geoms c.self.inside.tables.edges c.self.inside.tables.live
+    c.self.invariant.ranks c.args.cons c.in-Some.prov c.consumer_mut-cell.result.now
+    c.consumer_mut-cell.ensures.rising (sym c.consumer_mut-cell.ensures.cell))
 
 pub lower-requires-clause-later : goal.lower-requires-clause-later
 lower-requires-clause-later g c =
-    let just_above : stored c.self.inside.tables.geoms (owner c.self.inside.tables.edges c.in-Some.prov) + 1 ≡ stored c.self.inside.tables.geoms c.consumer_mut-cell.result.now.consumer.geom =
-    rw (c.stored.ensures, c.stored-2.ensures, c.owner-under.ensures, c.number-2.ensures, c.number-upper.ensures) at c.if-stored.true in
+    let just_above : stored c.self.inside.tables.geoms (owner c.self.inside.tables.edges c.in-Some.prov) + 1
+    ≡ stored c.self.inside.tables.geoms c.consumer_mut-cell.result.now.consumer.geom =
+    rw (c.stored.ensures, c.stored-2.ensures, c.owner-under.ensures, c.number-2.ensures, c.number-upper.ensures) at
+    c.if-stored.true in
     let later : is_dev_or_taste c.consumer_mut-cell.result.now.consumer.geom ≡ false =
-    off-later c.self.inside.tables.geoms c.self.inside.tables.edges c.self.inside.tables.live c.self.invariant.ranks c.args.cons c.in-Some.prov c.consumer_mut-cell.result.now c.consumer_mut-cell.ensures.rising (sym c.consumer_mut-cell.ensures.cell) just_above in
+    off-later c.self.inside.tables.geoms c.self.inside.tables.edges c.self.inside.tables.live
+    c.self.invariant.ranks c.args.cons c.in-Some.prov c.consumer_mut-cell.result.now
+    c.consumer_mut-cell.ensures.rising (sym c.consumer_mut-cell.ensures.cell) just_above in
     rw c.number-upper.ensures later
 
 pub lower-requires-clause-enough : goal.lower-requires-clause-enough
 lower-requires-clause-enough g c =
-    let just_above : stored c.self.inside.tables.geoms (owner c.self.inside.tables.edges c.in-Some.prov) + 1 ≡ stored c.self.inside.tables.geoms c.consumer_mut-cell.result.now.consumer.geom =
-    rw (c.stored.ensures, c.stored-2.ensures, c.owner-under.ensures, c.number-2.ensures, c.number-upper.ensures) at c.if-stored.true in
+    let just_above : stored c.self.inside.tables.geoms (owner c.self.inside.tables.edges c.in-Some.prov) + 1
+    ≡ stored c.self.inside.tables.geoms c.consumer_mut-cell.result.now.consumer.geom =
+    rw (c.stored.ensures, c.stored-2.ensures, c.owner-under.ensures, c.number-2.ensures, c.number-upper.ensures) at
+    c.if-stored.true in
     let later : is_dev_or_taste c.consumer_mut-cell.result.now.consumer.geom ≡ false =
-    off-later c.self.inside.tables.geoms c.self.inside.tables.edges c.self.inside.tables.live c.self.invariant.ranks c.args.cons c.in-Some.prov c.consumer_mut-cell.result.now c.consumer_mut-cell.ensures.rising (sym c.consumer_mut-cell.ensures.cell) just_above in
-    off-enough c.self.inside.tables.geoms c.self.inside.tables.edges c.self.inside.tables.live c.self.invariant.ranks c.args.cons c.in-Some.prov c.consumer_mut-cell.result.now c.consumer_mut-cell.ensures.rising (sym c.consumer_mut-cell.ensures.cell) c.in-Some.is later
+    off-later c.self.inside.tables.geoms c.self.inside.tables.edges c.self.inside.tables.live
+    c.self.invariant.ranks c.args.cons c.in-Some.prov c.consumer_mut-cell.result.now
+    c.consumer_mut-cell.ensures.rising (sym c.consumer_mut-cell.ensures.cell) just_above in
+    off-enough c.self.inside.tables.geoms c.self.inside.tables.edges c.self.inside.tables.live
+    c.self.invariant.ranks c.args.cons c.in-Some.prov c.consumer_mut-cell.result.now
+    c.consumer_mut-cell.ensures.rising (sym c.consumer_mut-cell.ensures.cell) c.in-Some.is later
 
 pub invariant_of-self : goal.invariant_of-self
 invariant_of-self g c =
-    let just_above : stored c.self.inside.tables.geoms (owner c.self.inside.tables.edges c.in-Some.prov) + 1 ≡ stored c.self.inside.tables.geoms c.consumer_mut-cell.result.now.consumer.geom =
-    rw (c.stored.ensures, c.stored-2.ensures, c.owner-under.ensures, c.number-2.ensures, c.number-upper.ensures) at c.if-stored.true in
+    let just_above : stored c.self.inside.tables.geoms (owner c.self.inside.tables.edges c.in-Some.prov) + 1
+    ≡ stored c.self.inside.tables.geoms c.consumer_mut-cell.result.now.consumer.geom =
+    rw (c.stored.ensures, c.stored-2.ensures, c.owner-under.ensures, c.number-2.ensures, c.number-upper.ensures) at
+    c.if-stored.true in
     let later : is_dev_or_taste c.consumer_mut-cell.result.now.consumer.geom ≡ false =
-    off-later c.self.inside.tables.geoms c.self.inside.tables.edges c.self.inside.tables.live c.self.invariant.ranks c.args.cons c.in-Some.prov c.consumer_mut-cell.result.now c.consumer_mut-cell.ensures.rising (sym c.consumer_mut-cell.ensures.cell) just_above in
-    let low = subst (λ x. stored c.lower.new.geoms x ≤ above (ranked_below (put_consumer c.self.inside.tables.edges c.args.cons (record c.consumer_mut-cell.result.now { consumer = record c.consumer_mut-cell.result.now.consumer { prov = None } }))) (stored c.lower.new.geoms) x) c.number-upper.ensures c.lower.ensures.low in
+    off-later c.self.inside.tables.geoms c.self.inside.tables.edges c.self.inside.tables.live
+    c.self.invariant.ranks c.args.cons c.in-Some.prov c.consumer_mut-cell.result.now
+    c.consumer_mut-cell.ensures.rising (sym c.consumer_mut-cell.ensures.cell) just_above in
+    let low = subst (λ x. stored c.lower.new.geoms x
+    ≤ above (ranked_below
+    (put_consumer c.self.inside.tables.edges c.args.cons
+    (record c.consumer_mut-cell.result.now {
+      consumer =
+          record c.consumer_mut-cell.result.now.consumer { prov = None };
+    }))) (stored c.lower.new.geoms)
+    x) c.number-upper.ensures c.lower.ensures.low in
     rw (c.detach.ensures, c.number.ensures)
-    (whole-detached c.self.inside.tables c.self.invariant c.args.cons c.consumer_mut-cell.result.now c.consumer_mut-cell.ensures.rising c.consumer_mut-cell.ensures.cell c.lower.new.geoms c.lower.ensures.same
-    (off-lowered c.self.inside.tables.geoms c.self.inside.tables.edges c.self.inside.tables.live c.self.invariant.ranks c.args.cons c.in-Some.prov c.consumer_mut-cell.result.now c.consumer_mut-cell.ensures.rising (sym c.consumer_mut-cell.ensures.cell) c.in-Some.is later c.lower.new.geoms c.lower.ensures.same c.lower.ensures.lowered low))
+    (whole-detached c.self.inside.tables c.self.invariant c.args.cons c.consumer_mut-cell.result.now
+    c.consumer_mut-cell.ensures.rising c.consumer_mut-cell.ensures.cell c.lower.new.geoms c.lower.ensures.same
+    (off-lowered c.self.inside.tables.geoms c.self.inside.tables.edges c.self.inside.tables.live
+    c.self.invariant.ranks c.args.cons c.in-Some.prov c.consumer_mut-cell.result.now
+    c.consumer_mut-cell.ensures.rising (sym c.consumer_mut-cell.ensures.cell) c.in-Some.is later
+    c.lower.new.geoms c.lower.ensures.same c.lower.ensures.lowered low))
 
 pub invariant_of-self-else-stored : goal.invariant_of-self-else-stored
 invariant_of-self-else-stored g c =
     rw (c.detach.ensures, c.number.ensures)
-    (whole-detached c.self.inside.tables c.self.invariant c.args.cons c.consumer_mut-cell.result.now c.consumer_mut-cell.ensures.rising c.consumer_mut-cell.ensures.cell c.self.inside.tables.geoms refl
-    (off-stays c.self.inside.tables.geoms c.self.inside.tables.edges c.self.inside.tables.live c.self.invariant.ranks c.args.cons c.in-Some.prov c.consumer_mut-cell.result.now c.consumer_mut-cell.ensures.rising (sym c.consumer_mut-cell.ensures.cell) c.in-Some.is
-    (λ e. c.if-stored.false (rw (c.stored.ensures, c.stored-2.ensures, c.owner-under.ensures, c.number-2.ensures, c.number-upper.ensures) e))))
+    (whole-detached c.self.inside.tables c.self.invariant c.args.cons c.consumer_mut-cell.result.now
+    c.consumer_mut-cell.ensures.rising c.consumer_mut-cell.ensures.cell c.self.inside.tables.geoms refl
+    (off-stays c.self.inside.tables.geoms c.self.inside.tables.edges c.self.inside.tables.live
+    c.self.invariant.ranks c.args.cons c.in-Some.prov c.consumer_mut-cell.result.now
+    c.consumer_mut-cell.ensures.rising (sym c.consumer_mut-cell.ensures.cell) c.in-Some.is
+    (λ e. c.if-stored.false (rw (
+      c.stored.ensures,
+      c.stored-2.ensures,
+      c.owner-under.ensures,
+      c.number-2.ensures,
+      c.number-upper.ensures,
+    ) e))))
 
 pub returns-then-stored : goal.returns-then-stored
 returns-then-stored g c =
-    view-bare (record c.self.inside.tables { edges = record (put_consumer c.self.inside.tables.edges c.args.cons (record c.consumer_mut-cell.result.now { consumer = record c.consumer_mut-cell.result.now.consumer { prov = None } })) { index = c.detach.new.self } })
-    c.lower.new.geoms c.lower.ensures.same ∙ (rw (← c.self.view_is) (detach-view c.self.inside.tables c.args.cons c.consumer_mut-cell.result.now c.consumer_mut-cell.ensures.rising c.consumer_mut-cell.ensures.cell))
+    view-bare (record c.self.inside.tables {
+      edges =
+          record (put_consumer c.self.inside.tables.edges c.args.cons
+          (record c.consumer_mut-cell.result.now {
+            consumer =
+                record c.consumer_mut-cell.result.now.consumer { prov = None };
+          })) { index = c.detach.new.self };
+    })
+    c.lower.new.geoms c.lower.ensures.same
+    ∙ (rw (← c.self.view_is)
+    (detach-view c.self.inside.tables c.args.cons c.consumer_mut-cell.result.now
+    c.consumer_mut-cell.ensures.rising c.consumer_mut-cell.ensures.cell))
 
 pub returns-else-stored : goal.returns-else-stored
-returns-else-stored g c = rw (← c.self.view_is) (detach-view c.self.inside.tables c.args.cons c.consumer_mut-cell.result.now c.consumer_mut-cell.ensures.rising c.consumer_mut-cell.ensures.cell)
+returns-else-stored g c =
+    rw (← c.self.view_is)
+    (detach-view c.self.inside.tables c.args.cons c.consumer_mut-cell.result.now
+    c.consumer_mut-cell.ensures.rising c.consumer_mut-cell.ensures.cell)

@@ -1,11 +1,23 @@
 use Rattle.std.proofs.Common.{refl, rules}
-use Rattle.geo_mesh.specs.Cells.{graph}
 use Rattle.geo_mesh.proofs.ViewLemmas.{find-names}
 use Rattle.geo_mesh.proofs.topo.Topo.find.Goals as goal
 
 pub returns-in-Some : goal.returns-in-Some
-returns-in-Some g c = rw (← c.self.view_is, c.new.ensures, find-names c.self.inside.tables c.self.inside.tables.names c.self.invariant.tables.names_are c.self.invariant.tables.names_ids c.args.name.now, ← c.in-Some.ensures) refl
+returns-in-Some g c =
+    rw (
+      ← c.self.view_is,
+      c.new.ensures,
+      find-names c.self.inside.tables c.self.inside.tables.names c.self.invariant.tables.names_are
+          c.self.invariant.tables.names_ids c.args.name.now,
+      ← c.in-Some.ensures,
+    ) refl
 
 pub returns-in-None : goal.returns-in-None
 returns-in-None g c =
-    rw (← c.self.view_is, find-names c.self.inside.tables c.self.inside.tables.names c.self.invariant.tables.names_are c.self.invariant.tables.names_ids c.args.name.now, ← c.in-None.ensures, ← c.newest.ensures) (search rules)
+    rw (
+      ← c.self.view_is,
+      find-names c.self.inside.tables c.self.inside.tables.names c.self.invariant.tables.names_are
+          c.self.invariant.tables.names_ids c.args.name.now,
+      ← c.in-None.ensures,
+      ← c.newest.ensures,
+    ) (search rules)

@@ -8,7 +8,8 @@ use Rattle.geo_mesh.proofs.topo.Topo.first_risen.Goals as goal
 
 pub returns-clause-first : goal.returns-clause-first
 returns-clause-first g c =
-    let first = ap (λ rows. first_marked rows 0) c.self.invariant.tables.notes.risen ∙ first-of_all (rows_with risen_of c.self.inside.tables.edges.providers.rows) in
+    let first = ap (λ rows. first_marked rows 0) c.self.invariant.tables.notes.risen
+    ∙ first-of_all (rows_with risen_of c.self.inside.tables.edges.providers.rows) in
     rw (← c.self.view_is, ← first, ← c.first_from.ensures) (search rules)
 
 pub returns-clause-sound : goal.returns-clause-sound

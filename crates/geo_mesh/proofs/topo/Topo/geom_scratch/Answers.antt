@@ -8,4 +8,8 @@ geom-requires g c = rw (← c.self.view_is) at c.requires
 
 pub returns : goal.returns
 returns g c =
-    rw (← c.self.view_is, value_at-rows_with geom_scratch_of c.args.geom c.self.inside.tables.geoms.rows, c.geom.ensures) refl
+    rw (
+      ← c.self.view_is,
+      value_at-rows_with geom_scratch_of c.args.geom c.self.inside.tables.geoms.rows,
+      c.geom.ensures,
+    ) refl

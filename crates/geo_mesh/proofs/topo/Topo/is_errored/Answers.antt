@@ -4,4 +4,10 @@ use Rattle.geo_mesh.proofs.topo.Topo.is_errored.Goals as goal
 
 pub returns : goal.returns
 returns g c =
-    rw (← c.self.view_is, ← c.number.ensures, is_errored-rows c.number.result 1 c.self.inside.tables.edges.providers.next c.self.inside.tables.edges.providers.rows c.get.ensures.rising, ← c.get.ensures.value) (search rules)
+    rw (
+      ← c.self.view_is,
+      ← c.number.ensures,
+      is_errored-rows c.number.result 1 c.self.inside.tables.edges.providers.next
+          c.self.inside.tables.edges.providers.rows c.get.ensures.rising,
+      ← c.get.ensures.value,
+    ) (search rules)

@@ -5,7 +5,22 @@ use Rattle.geo_mesh.proofs.topo.Topo.new.Goals as goal
 pub invariant_of-result : goal.invariant_of-result
 invariant_of-result g c =
     let few : c.reserve.new.self.spare ≤ 2 = rw c.new-geoms.ensures at c.reserve.ensures.no_more in
-    rw (c.insert-2.ensures.inserted, c.insert.ensures.inserted, c.new_cell-2.ensures, c.new_cell.ensures, c.fixed_name-2.ensures, c.fixed_name.ensures, c.reserve.ensures.values_stay, c.new-geoms.ensures, c.new.ensures, c.new-2.ensures, c.add_geom-2.ensures, c.add_geom.ensures, c.reserve-2.ensures.same, c.new-index.ensures)
+    rw (
+      c.insert-2.ensures.inserted,
+      c.insert.ensures.inserted,
+      c.new_cell-2.ensures,
+      c.new_cell.ensures,
+      c.fixed_name-2.ensures,
+      c.fixed_name.ensures,
+      c.reserve.ensures.values_stay,
+      c.new-geoms.ensures,
+      c.new.ensures,
+      c.new-2.ensures,
+      c.add_geom-2.ensures,
+      c.add_geom.ensures,
+      c.reserve-2.ensures.same,
+      c.new-index.ensures,
+    )
     (record {
       tables =
           record {

@@ -9,35 +9,46 @@ use Rattle.geo_mesh.proofs.topo.Topo.new_consumer.Goals as goal
 
 pub returns-in_err-reserve-clause-other_room : goal.returns-in_err-reserve-clause-other_room
 returns-in_err-reserve-clause-other_room g c =
-    let geoms : c.reserve.new.self.geoms.spare ≡ c.self.inside.tables.geoms.spare = omega (arith, c.reserve.ensures.same, c.reserve.ensures.geoms_most) in
-    let providers : c.reserve.new.self.edges.providers.spare ≡ c.self.inside.tables.edges.providers.spare = omega (arith, c.reserve.ensures.same, c.reserve.ensures.providers_most) in
+    let geoms : c.reserve.new.self.geoms.spare ≡ c.self.inside.tables.geoms.spare =
+    omega (arith, c.reserve.ensures.same, c.reserve.ensures.geoms_most) in
+    let providers : c.reserve.new.self.edges.providers.spare ≡ c.self.inside.tables.edges.providers.spare =
+    omega (arith, c.reserve.ensures.same, c.reserve.ensures.providers_most) in
     rw (← c.self.view_is, c.reserve.ensures.same.live, geoms, providers) refl
 
 pub returns-clause-other_room : goal.returns-clause-other_room
 returns-clause-other_room g c =
-    let geoms : c.reserve.new.self.geoms.spare ≡ c.self.inside.tables.geoms.spare = omega (arith, c.reserve.ensures.same, c.reserve.ensures.geoms_most) in
-    let providers : c.reserve.new.self.edges.providers.spare ≡ c.self.inside.tables.edges.providers.spare = omega (arith, c.reserve.ensures.same, c.reserve.ensures.providers_most) in
+    let geoms : c.reserve.new.self.geoms.spare ≡ c.self.inside.tables.geoms.spare =
+    omega (arith, c.reserve.ensures.same, c.reserve.ensures.geoms_most) in
+    let providers : c.reserve.new.self.edges.providers.spare ≡ c.self.inside.tables.edges.providers.spare =
+    omega (arith, c.reserve.ensures.same, c.reserve.ensures.providers_most) in
     rw (← c.self.view_is, c.reserve.ensures.same.live, geoms, providers) refl
 
 pub add_consumer-requires-clause-geom : goal.add_consumer-requires-clause-geom
 add_consumer-requires-clause-geom g c =
     let graph_is : graph c.reserve.new.self ≡ c.args.self.now.topology =
-    ap (λ v. v.topology) (roomier-view c.self.inside.tables c.reserve.new.self c.reserve.ensures.same) ∙ ap (λ v. v.topology) c.self.view_is in
+    ap (λ v. v.topology) (roomier-view c.self.inside.tables c.reserve.new.self c.reserve.ensures.same)
+    ∙ ap (λ v. v.topology) c.self.view_is in
     rw c.number.ensures
-    (owned_parent (graph c.reserve.new.self) c.reserve.new.self.edges.index c.reserve.ensures.whole.tables.indexed c.args.geom
+    (owned_parent (graph c.reserve.new.self) c.reserve.new.self.edges.index
+    c.reserve.ensures.whole.tables.indexed c.args.geom
     (subst (λ g. IsSome (geom_at g c.args.geom)) (sym graph_is) c.requires))
 
 pub invariant_of-self-2 : goal.invariant_of-self-2
 invariant_of-self-2 g c =
     let graph_is : graph c.reserve.new.self ≡ c.args.self.now.topology =
-    ap (λ v. v.topology) (roomier-view c.self.inside.tables c.reserve.new.self c.reserve.ensures.same) ∙ ap (λ v. v.topology) c.self.view_is in
+    ap (λ v. v.topology) (roomier-view c.self.inside.tables c.reserve.new.self c.reserve.ensures.same)
+    ∙ ap (λ v. v.topology) c.self.view_is in
     rw (c.insert-number.ensures.inserted, c.add_consumer.ensures, c.number.ensures)
-    (whole-new_consumer c.reserve.new.self c.reserve.ensures.whole _ refl refl (subst (λ g. IsSome (geom_at g c.args.geom)) (sym graph_is) c.requires)
+    (whole-new_consumer c.reserve.new.self c.reserve.ensures.whole _ refl refl
+    (subst (λ g. IsSome (geom_at g c.args.geom)) (sym graph_is) c.requires)
     (rw c.insert-number.ensures.inserted at c.insert-number.ensures.bound))
 
 pub returns-clause-added : goal.returns-clause-added
 returns-clause-added g c =
     rw (← c.self.view_is, c.insert-number.ensures.inserted)
     (with_consumer-view c.reserve.new.self c.args.geom c.reserve.new.self.edges.consumers.spare
-    ∙ ap (λ v. record (with_consumer v c.args.geom) { room = record (view_of c.reserve.new.self).room { consumers = c.reserve.new.self.edges.consumers.spare - 1 } })
+    ∙ ap (λ v. record (with_consumer v c.args.geom) {
+      room =
+          record (view_of c.reserve.new.self).room { consumers = c.reserve.new.self.edges.consumers.spare - 1 };
+    })
     (roomier-view c.self.inside.tables c.reserve.new.self c.reserve.ensures.same))

@@ -5,19 +5,24 @@ use Rattle.geo_mesh.proofs.topo.Topo.new_geom.Goals as goal
 
 pub returns-in_err-reserve-clause-other_room : goal.returns-in_err-reserve-clause-other_room
 returns-in_err-reserve-clause-other_room g c =
-    let providers : c.reserve.new.self.edges.providers.spare ≡ c.self.inside.tables.edges.providers.spare = omega (arith, c.reserve.ensures.same, c.reserve.ensures.providers_most) in
-    let consumers : c.reserve.new.self.edges.consumers.spare ≡ c.self.inside.tables.edges.consumers.spare = omega (arith, c.reserve.ensures.same, c.reserve.ensures.consumers_most) in
+    let providers : c.reserve.new.self.edges.providers.spare ≡ c.self.inside.tables.edges.providers.spare =
+    omega (arith, c.reserve.ensures.same, c.reserve.ensures.providers_most) in
+    let consumers : c.reserve.new.self.edges.consumers.spare ≡ c.self.inside.tables.edges.consumers.spare =
+    omega (arith, c.reserve.ensures.same, c.reserve.ensures.consumers_most) in
     rw (← c.self.view_is, c.reserve.ensures.same.live, providers, consumers) refl
 
 pub returns-clause-other_room : goal.returns-clause-other_room
 returns-clause-other_room g c =
-    let providers : c.reserve.new.self.edges.providers.spare ≡ c.self.inside.tables.edges.providers.spare = omega (arith, c.reserve.ensures.same, c.reserve.ensures.providers_most) in
-    let consumers : c.reserve.new.self.edges.consumers.spare ≡ c.self.inside.tables.edges.consumers.spare = omega (arith, c.reserve.ensures.same, c.reserve.ensures.consumers_most) in
+    let providers : c.reserve.new.self.edges.providers.spare ≡ c.self.inside.tables.edges.providers.spare =
+    omega (arith, c.reserve.ensures.same, c.reserve.ensures.providers_most) in
+    let consumers : c.reserve.new.self.edges.consumers.spare ≡ c.self.inside.tables.edges.consumers.spare =
+    omega (arith, c.reserve.ensures.same, c.reserve.ensures.consumers_most) in
     rw (← c.self.view_is, c.reserve.ensures.same.live, providers, consumers) refl
 
 pub invariant_of-self-2 : goal.invariant_of-self-2
 invariant_of-self-2 g c =
     rw (c.insert-number.ensures.inserted, c.add_geom.ensures, c.add.ensures, c.new_cell.ensures)
-    (whole-new_geom c.reserve.new.self c.reserve.ensures.whole (made_cell c.args.kind c.args.name c.args.config c.args.automatic) refl refl refl
+    (whole-new_geom c.reserve.new.self c.reserve.ensures.whole
+    (made_cell c.args.kind c.args.name c.args.config c.args.automatic) refl refl refl
     c.insert-number.ensures.rising (omega (arith, c.reserve.ensures.same.live, c.if-self-ge-MOST_GEOMS.false))
     (rw c.insert-number.ensures.inserted at c.insert-number.ensures.bound))

@@ -4,48 +4,62 @@ use Rattle.geo_mesh.specs.Topo.{with_provider}
 use Rattle.geo_mesh.specs.Cells.{graph, view_of, provider_row}
 use Rattle.geo_mesh.specs.Names.{AddsName, is_sound_named}
 use Rattle.geo_mesh.proofs.IndexLemmas.{offered_parent}
-use Rattle.geo_mesh.proofs.MeshLemmas.{name_room_for}
-use Rattle.geo_mesh.proofs.ViewLemmas.{with_provider-view, roomier-view, none_found}
+use Rattle.geo_mesh.proofs.ViewLemmas.{with_provider-view, roomier-view}
+use Rattle.geo_laws_graph.proofs.Numbered.{find-none}
 use Rattle.geo_mesh.proofs.WholeParts.{whole-new_provider}
 use Rattle.geo_mesh.proofs.topo.Topo.new_provider.Goals as goal
 
 pub returns-in_err-reserve-clause-other_room : goal.returns-in_err-reserve-clause-other_room
 returns-in_err-reserve-clause-other_room g c =
-    let geoms : c.reserve.new.self.geoms.spare ≡ c.self.inside.tables.geoms.spare = omega (arith, c.reserve.ensures.same, c.reserve.ensures.geoms_most) in
-    let consumers : c.reserve.new.self.edges.consumers.spare ≡ c.self.inside.tables.edges.consumers.spare = omega (arith, c.reserve.ensures.same, c.reserve.ensures.consumers_most) in
+    let geoms : c.reserve.new.self.geoms.spare ≡ c.self.inside.tables.geoms.spare =
+    omega (arith, c.reserve.ensures.same, c.reserve.ensures.geoms_most) in
+    let consumers : c.reserve.new.self.edges.consumers.spare ≡ c.self.inside.tables.edges.consumers.spare =
+    omega (arith, c.reserve.ensures.same, c.reserve.ensures.consumers_most) in
     rw (← c.self.view_is, c.reserve.ensures.same.live, geoms, consumers) refl
 
 pub returns-clause-other_room : goal.returns-clause-other_room
 returns-clause-other_room g c =
-    let geoms : c.reserve.new.self.geoms.spare ≡ c.self.inside.tables.geoms.spare = omega (arith, c.reserve.ensures.same, c.reserve.ensures.geoms_most) in
-    let consumers : c.reserve.new.self.edges.consumers.spare ≡ c.self.inside.tables.edges.consumers.spare = omega (arith, c.reserve.ensures.same, c.reserve.ensures.consumers_most) in
+    let geoms : c.reserve.new.self.geoms.spare ≡ c.self.inside.tables.geoms.spare =
+    omega (arith, c.reserve.ensures.same, c.reserve.ensures.geoms_most) in
+    let consumers : c.reserve.new.self.edges.consumers.spare ≡ c.self.inside.tables.edges.consumers.spare =
+    omega (arith, c.reserve.ensures.same, c.reserve.ensures.consumers_most) in
     rw (← c.self.view_is, c.reserve.ensures.same.live, geoms, consumers) refl
 
 pub add_provider-requires-clause-geom : goal.add_provider-requires-clause-geom
 add_provider-requires-clause-geom g c =
     let graph_is : graph c.reserve.new.self ≡ c.args.self.now.topology =
-    ap (λ v. v.topology) (roomier-view c.self.inside.tables c.reserve.new.self c.reserve.ensures.same) ∙ ap (λ v. v.topology) c.self.view_is in
+    ap (λ v. v.topology) (roomier-view c.self.inside.tables c.reserve.new.self c.reserve.ensures.same)
+    ∙ ap (λ v. v.topology) c.self.view_is in
     rw c.number.ensures
-    (offered_parent (graph c.reserve.new.self) c.reserve.new.self.edges.index c.reserve.ensures.whole.tables.indexed c.args.geom
+    (offered_parent (graph c.reserve.new.self) c.reserve.new.self.edges.index
+    c.reserve.ensures.whole.tables.indexed c.args.geom
     (subst (λ g. IsSome (geom_at g c.args.geom)) (sym graph_is) c.requires.lives))
 
 pub invariant_of-self-2 : goal.invariant_of-self-2
 invariant_of-self-2 g c =
     let graph_is : graph c.reserve.new.self ≡ c.args.self.now.topology =
-    ap (λ v. v.topology) (roomier-view c.self.inside.tables c.reserve.new.self c.reserve.ensures.same) ∙ ap (λ v. v.topology) c.self.view_is in
+    ap (λ v. v.topology) (roomier-view c.self.inside.tables c.reserve.new.self c.reserve.ensures.same)
+    ∙ ap (λ v. v.topology) c.self.view_is in
     let free : find (is_sound_named c.args.name) (map provider_row c.reserve.new.self.edges.providers.rows) ≡ None =
-    none_found (is_sound_named c.args.name) (map provider_row c.reserve.new.self.edges.providers.rows)
+    find-none (is_sound_named c.args.name) (map provider_row c.reserve.new.self.edges.providers.rows)
     (subst (λ g. is_name_taken g c.args.name ≡ false) (sym graph_is) c.requires.free) in
     rw (c.insert-number.ensures.inserted, c.add_provider.ensures, c.add-2.ensures, c.add-3.ensures, c.number.ensures)
-    (whole-new_provider c.reserve.new.self c.reserve.ensures.whole _ c.add.new.self refl refl refl c.add.ensures.ids free
-    (subst (λ k. AddsName c.reserve.new.self.names c.add.new.self c.args.name k) c.insert-number.ensures.number c.add.ensures.added)
+    (whole-new_provider c.reserve.new.self c.reserve.ensures.whole _ c.add.new.self refl refl refl
+    c.add.ensures.ids free
+    (subst (λ k. AddsName c.reserve.new.self.names c.add.new.self c.args.name k) c.insert-number.ensures.number
+    c.add.ensures.added)
     (c.add.ensures.room _ c.reserve.ensures.whole.tables.names_room)
-    (subst (λ g. IsSome (geom_at g c.args.geom)) (sym graph_is) c.requires.lives) c.requires.not_dev c.requires.not_taste c.requires.size
+    (subst (λ g. IsSome (geom_at g c.args.geom)) (sym graph_is) c.requires.lives) c.requires.not_dev
+    c.requires.not_taste c.requires.size
     (rw c.insert-number.ensures.inserted at c.insert-number.ensures.bound))
 
 pub returns-clause-added : goal.returns-clause-added
 returns-clause-added g c =
     rw (← c.self.view_is, c.insert-number.ensures.inserted)
-    (with_provider-view c.reserve.new.self c.args.geom c.args.name c.args.size c.args.sector c.reserve.new.self.edges.providers.spare
-    ∙ ap (λ v. record (with_provider v c.args.geom c.args.name c.args.size c.args.sector) { room = record (view_of c.reserve.new.self).room { providers = c.reserve.new.self.edges.providers.spare - 1 } })
+    (with_provider-view c.reserve.new.self c.args.geom c.args.name c.args.size c.args.sector
+    c.reserve.new.self.edges.providers.spare
+    ∙ ap (λ v. record (with_provider v c.args.geom c.args.name c.args.size c.args.sector) {
+      room =
+          record (view_of c.reserve.new.self).room { providers = c.reserve.new.self.edges.providers.spare - 1 };
+    })
     (roomier-view c.self.inside.tables c.reserve.new.self c.reserve.ensures.same))

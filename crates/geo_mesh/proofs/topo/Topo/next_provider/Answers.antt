@@ -1,12 +1,12 @@
 use Rattle.std.proofs.Common.{rules}
-use Rattle.geo_mesh.specs.Cells.{graph}
 use Rattle.geo_mesh.proofs.ViewLemmas.{next_provider-view}
 use Rattle.geo_mesh.proofs.GraphLemmas.{sound-graph}
 use Rattle.geo_mesh.proofs.topo.Topo.next_provider.Goals as goal
 
 pub returns-clause-first : goal.returns-clause-first
 returns-clause-first g c =
-    rw (← c.self.view_is, next_provider-view c.self.inside.tables 0 c.args.from, ← c.first_from.ensures.first) (search rules)
+    rw (← c.self.view_is, next_provider-view c.self.inside.tables 0 c.args.from, ← c.first_from.ensures.first)
+    (search rules)
 
 pub returns-clause-sound : goal.returns-clause-sound
 returns-clause-sound g c = rw (← c.self.view_is) (sound-graph c.self.inside.tables c.self.invariant)

@@ -11,15 +11,21 @@ consumer_mut-requires g c = rw (← c.self.view_is) at c.requires.lives
 pub returns : goal.returns
 returns g c =
     rw (← c.self.view_is)
-    (note_active-view c.self.inside.tables c.args.cons c.consumer_mut.result.now c.consumer_mut.ensures.rising c.consumer_mut.ensures.cell)
+    (note_active-view c.self.inside.tables c.args.cons c.consumer_mut.result.now c.consumer_mut.ensures.rising
+    c.consumer_mut.ensures.cell)
 
 pub invariant_of-self : goal.invariant_of-self
 invariant_of-self g c =
-    whole-consumer_cell c.self.inside.tables c.self.invariant c.args.cons c.consumer_mut.result.now _ c.consumer_mut.ensures.rising c.consumer_mut.ensures.cell
+    whole-consumer_cell c.self.inside.tables c.self.invariant c.args.cons c.consumer_mut.result.now _
+    c.consumer_mut.ensures.rising c.consumer_mut.ensures.cell
     (record { geom = refl; provider = refl })
 
 pub overflow_add-consumer_mut : goal.overflow_add-consumer_mut
 overflow_add-consumer_mut g c =
     let few : c.consumer_mut.result.now.consumer.active < 2 ^ 63 =
-    rw (← c.self.view_is, value_at-rows_with active_of c.args.cons c.self.inside.tables.edges.consumers.rows, c.consumer_mut.ensures.cell) at c.requires.few in
+    rw (
+      ← c.self.view_is,
+      value_at-rows_with active_of c.args.cons c.self.inside.tables.edges.consumers.rows,
+      c.consumer_mut.ensures.cell,
+    ) at c.requires.few in
     search rules

@@ -9,15 +9,21 @@ geom_mut-requires g c = rw (← c.self.view_is) at c.requires.lives
 pub returns : goal.returns
 returns g c =
     rw (← c.self.view_is)
-    (note_started-view c.self.inside.tables c.args.geom c.geom_mut.result.now c.geom_mut.ensures.rising c.geom_mut.ensures.cell)
+    (note_started-view c.self.inside.tables c.args.geom c.geom_mut.result.now c.geom_mut.ensures.rising
+    c.geom_mut.ensures.cell)
 
 pub invariant_of-self : goal.invariant_of-self
 invariant_of-self g c =
-    whole-geom_cell c.self.inside.tables c.self.invariant c.args.geom c.geom_mut.result.now _ c.geom_mut.ensures.rising c.geom_mut.ensures.cell
+    whole-geom_cell c.self.inside.tables c.self.invariant c.args.geom c.geom_mut.result.now _
+    c.geom_mut.ensures.rising c.geom_mut.ensures.cell
     (record { kind = refl; rank = refl }) refl
 
 pub overflow_add-geom_mut : goal.overflow_add-geom_mut
 overflow_add-geom_mut g c =
     let few : c.geom_mut.result.now.geom.started < 2 ^ 63 =
-    rw (← c.self.view_is, geom_at-view c.self.inside.tables.geoms c.self.inside.tables.edges c.args.geom, c.geom_mut.ensures.cell) at c.requires.few in
+    rw (
+      ← c.self.view_is,
+      geom_at-view c.self.inside.tables.geoms c.self.inside.tables.edges c.args.geom,
+      c.geom_mut.ensures.cell,
+    ) at c.requires.few in
     search rules

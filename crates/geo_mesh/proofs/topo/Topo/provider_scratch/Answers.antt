@@ -8,4 +8,8 @@ provider-requires g c = rw (← c.self.view_is) at c.requires
 
 pub returns : goal.returns
 returns g c =
-    rw (← c.self.view_is, value_at-rows_with provider_scratch_of c.args.prov c.self.inside.tables.edges.providers.rows, c.provider.ensures) refl
+    rw (
+      ← c.self.view_is,
+      value_at-rows_with provider_scratch_of c.args.prov c.self.inside.tables.edges.providers.rows,
+      c.provider.ensures,
+    ) refl

@@ -1,5 +1,4 @@
 use Rattle.std.proofs.Common.{◌≡◌, Some, sym, ◌∙◌, subst}
-use Rattle.geo_slots.specs.Slots.{value_at}
 use Rattle.geo_mesh.specs.Names.{RetiresName}
 use Rattle.geo_mesh.proofs.ViewLemmas.{set_error-view}
 use Rattle.geo_mesh.proofs.WholeLemmas.{whole-errored}
@@ -14,13 +13,17 @@ provider_mut-requires g c = rw (← c.self.view_is) at c.requires
 pub returns : goal.returns
 returns g c =
     rw (← c.self.view_is)
-    (set_error-view c.self.inside.tables c.args.prov c.provider_mut.result.now c.provider_mut.ensures.rising c.provider_mut.ensures.cell)
+    (set_error-view c.self.inside.tables c.args.prov c.provider_mut.result.now c.provider_mut.ensures.rising
+    c.provider_mut.ensures.cell)
 
 pub invariant_of-self : goal.invariant_of-self
 invariant_of-self g c =
     let cell : c.provider.result.now ≡ c.provider_mut.result.now =
-    (let same : Some c.provider.result.now ≡ Some c.provider_mut.result.now = sym c.provider.ensures ∙ c.provider_mut.ensures.cell in cc) in
-    whole-errored c.self.inside.tables c.self.invariant c.args.prov c.provider_mut.result.now c.retire.new.self c.provider_mut.ensures.rising
+    (let same : Some c.provider.result.now ≡ Some c.provider_mut.result.now = sym c.provider.ensures
+    ∙ c.provider_mut.ensures.cell in cc) in
+    whole-errored c.self.inside.tables c.self.invariant c.args.prov c.provider_mut.result.now c.retire.new.self
+    c.provider_mut.ensures.rising
     c.provider_mut.ensures.cell
-    (subst (λ v. RetiresName c.self.inside.tables.names c.retire.new.self v.provider.name v.provider.errored) cell c.retire.ensures.retired)
+    (subst (λ v. RetiresName c.self.inside.tables.names c.retire.new.self v.provider.name v.provider.errored) cell
+    c.retire.ensures.retired)
     (c.retire.ensures.room _ c.self.invariant.tables.names_room)

@@ -9,9 +9,11 @@ geom_mut-requires g c = rw (← c.self.view_is) at c.requires
 pub returns : goal.returns
 returns g c =
     rw (← c.self.view_is)
-    (set_geom_scratch-view c.self.inside.tables c.args.geom c.args.scratch c.geom_mut.result.now c.geom_mut.ensures.rising c.geom_mut.ensures.cell)
+    (set_geom_scratch-view c.self.inside.tables c.args.geom c.args.scratch c.geom_mut.result.now
+    c.geom_mut.ensures.rising c.geom_mut.ensures.cell)
 
 pub invariant_of-self : goal.invariant_of-self
 invariant_of-self g c =
-    whole-geom_cell c.self.inside.tables c.self.invariant c.args.geom c.geom_mut.result.now _ c.geom_mut.ensures.rising c.geom_mut.ensures.cell
+    whole-geom_cell c.self.inside.tables c.self.invariant c.args.geom c.geom_mut.result.now _
+    c.geom_mut.ensures.rising c.geom_mut.ensures.cell
     (record { kind = refl; rank = refl }) refl

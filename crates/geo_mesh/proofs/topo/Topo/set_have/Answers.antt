@@ -9,9 +9,11 @@ provider_mut-requires g c = rw (← c.self.view_is) at c.requires
 pub returns : goal.returns
 returns g c =
     rw (← c.self.view_is)
-    (set_have-view c.self.inside.tables c.args.prov c.args.have c.provider_mut.result.now c.provider_mut.ensures.rising c.provider_mut.ensures.cell)
+    (set_have-view c.self.inside.tables c.args.prov c.args.have c.provider_mut.result.now
+    c.provider_mut.ensures.rising c.provider_mut.ensures.cell)
 
 pub invariant_of-self : goal.invariant_of-self
 invariant_of-self g c =
-    whole-provider_cell c.self.inside.tables c.self.invariant c.args.prov c.provider_mut.result.now _ c.provider_mut.ensures.rising c.provider_mut.ensures.cell
+    whole-provider_cell c.self.inside.tables c.self.invariant c.args.prov c.provider_mut.result.now _
+    c.provider_mut.ensures.rising c.provider_mut.ensures.cell
     (record { geom = refl; name = refl; errored = refl; sizes = λ fits. fits }) refl refl

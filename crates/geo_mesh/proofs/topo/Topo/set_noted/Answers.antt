@@ -11,19 +11,33 @@ provider_mut-cell-requires g c = rw (← c.self.view_is) at c.requires
 
 pub set-requires : goal.set-requires
 set-requires g c =
-    rw (c.number.ensures, c.self.invariant.tables.notes.risen, value_at-rows_with risen_of c.args.prov c.self.inside.tables.edges.providers.rows, c.provider_mut-cell.ensures.cell) refl
+    rw (
+      c.number.ensures,
+      c.self.invariant.tables.notes.risen,
+      value_at-rows_with risen_of c.args.prov c.self.inside.tables.edges.providers.rows,
+      c.provider_mut-cell.ensures.cell,
+    ) refl
 
 pub set-requires-2 : goal.set-requires-2
 set-requires-2 g c =
-    rw (c.number-2.ensures, c.self.invariant.tables.notes.fallen, value_at-rows_with fallen_of c.args.prov c.self.inside.tables.edges.providers.rows, c.provider_mut-cell.ensures.cell) refl
+    rw (
+      c.number-2.ensures,
+      c.self.invariant.tables.notes.fallen,
+      value_at-rows_with fallen_of c.args.prov c.self.inside.tables.edges.providers.rows,
+      c.provider_mut-cell.ensures.cell,
+    ) refl
 
 pub returns : goal.returns
 returns g c =
-    rw (← c.self.view_is) (set_noted-view c.self.inside.tables c.args.prov c.args.risen c.args.fallen c.provider_mut-cell.result.now c.provider_mut-cell.ensures.rising c.provider_mut-cell.ensures.cell)
+    rw (← c.self.view_is)
+    (set_noted-view c.self.inside.tables c.args.prov c.args.risen c.args.fallen c.provider_mut-cell.result.now
+    c.provider_mut-cell.ensures.rising c.provider_mut-cell.ensures.cell)
 
 pub invariant_of-self : goal.invariant_of-self
 invariant_of-self g c =
     rw (c.set.ensures, c.set-2.ensures, c.number.ensures, c.number-2.ensures)
-    (whole-provider_noted c.self.inside.tables c.self.invariant c.args.prov c.provider_mut-cell.result.now _ _ c.provider_mut-cell.ensures.rising c.provider_mut-cell.ensures.cell
+    (whole-provider_noted c.self.inside.tables c.self.invariant c.args.prov c.provider_mut-cell.result.now _ _
+    c.provider_mut-cell.ensures.rising c.provider_mut-cell.ensures.cell
     (record { geom = refl; name = refl; errored = refl; sizes = λ fits. fits })
-    (notes-noted c.self.inside.tables.notes c.self.inside.tables.geoms c.self.inside.tables.edges.providers c.args.prov _ c.self.invariant.tables.notes))
+    (notes-noted c.self.inside.tables.notes c.self.inside.tables.geoms c.self.inside.tables.edges.providers
+    c.args.prov _ c.self.invariant.tables.notes))

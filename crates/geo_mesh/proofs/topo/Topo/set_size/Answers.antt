@@ -13,12 +13,17 @@ provider_mut-requires g c = rw (← c.self.view_is) at c.requires.lives
 pub returns : goal.returns
 returns g c =
     rw (← c.self.view_is)
-    (set_size-view c.self.inside.tables c.args.prov c.args.size c.provider_mut.result.now c.provider_mut.ensures.rising c.provider_mut.ensures.cell)
+    (set_size-view c.self.inside.tables c.args.prov c.args.size c.provider_mut.result.now
+    c.provider_mut.ensures.rising c.provider_mut.ensures.cell)
 
 pub invariant_of-self : goal.invariant_of-self
 invariant_of-self g c =
-    let found : provider_at (graph c.self.inside.tables) c.args.prov ≡ Some (provider_row (c.args.prov, c.provider_mut.result.now)) =
-    found_provider c.self.inside.tables c.self.invariant.tables c.args.prov c.provider_mut.result.now c.provider_mut.ensures.cell in
-    let fits : is_provider_size c.args.size c.provider_mut.result.now.provider.sector ≡ true = rw (← c.self.view_is, found) at c.requires.sectors in
-    whole-provider_cell c.self.inside.tables c.self.invariant c.args.prov c.provider_mut.result.now _ c.provider_mut.ensures.rising c.provider_mut.ensures.cell
+    let found : provider_at (graph c.self.inside.tables) c.args.prov
+    ≡ Some (provider_row (c.args.prov, c.provider_mut.result.now)) =
+    found_provider c.self.inside.tables c.self.invariant.tables c.args.prov c.provider_mut.result.now
+    c.provider_mut.ensures.cell in
+    let fits : is_provider_size c.args.size c.provider_mut.result.now.provider.sector ≡ true =
+    rw (← c.self.view_is, found) at c.requires.sectors in
+    whole-provider_cell c.self.inside.tables c.self.invariant c.args.prov c.provider_mut.result.now _
+    c.provider_mut.ensures.rising c.provider_mut.ensures.cell
     (record { geom = refl; name = refl; errored = refl; sizes = λ was. fits }) refl refl

@@ -9,9 +9,11 @@ consumer_mut-requires g c = rw (← c.self.view_is) at c.requires
 pub returns : goal.returns
 returns g c =
     rw (← c.self.view_is)
-    (set_spoiled-view c.self.inside.tables c.args.cons c.args.marked c.consumer_mut.result.now c.consumer_mut.ensures.rising c.consumer_mut.ensures.cell)
+    (set_spoiled-view c.self.inside.tables c.args.cons c.args.marked c.consumer_mut.result.now
+    c.consumer_mut.ensures.rising c.consumer_mut.ensures.cell)
 
 pub invariant_of-self : goal.invariant_of-self
 invariant_of-self g c =
-    whole-consumer_cell c.self.inside.tables c.self.invariant c.args.cons c.consumer_mut.result.now _ c.consumer_mut.ensures.rising c.consumer_mut.ensures.cell
+    whole-consumer_cell c.self.inside.tables c.self.invariant c.args.cons c.consumer_mut.result.now _
+    c.consumer_mut.ensures.rising c.consumer_mut.ensures.cell
     (record { geom = refl; provider = refl })

@@ -11,14 +11,27 @@ geom_mut-requires g c = rw (← c.self.view_is) at c.requires
 
 pub set-requires : goal.set-requires
 set-requires g c =
-    rw (c.number.ensures, c.self.invariant.tables.notes.withering, value_at-rows_with withering_of c.args.geom c.self.inside.tables.geoms.rows, c.geom_mut.ensures.cell) refl
+    rw (
+      c.number.ensures,
+      c.self.invariant.tables.notes.withering,
+      value_at-rows_with withering_of c.args.geom c.self.inside.tables.geoms.rows,
+      c.geom_mut.ensures.cell,
+    ) refl
 
 pub returns : goal.returns
-returns g c = rw (← c.self.view_is) (set_withering-view c.self.inside.tables c.args.geom c.geom_mut.result.now c.geom_mut.ensures.rising c.geom_mut.ensures.cell)
+returns g c =
+    rw (← c.self.view_is)
+    (set_withering-view c.self.inside.tables c.args.geom c.geom_mut.result.now c.geom_mut.ensures.rising
+    c.geom_mut.ensures.cell)
 
 pub invariant_of-self : goal.invariant_of-self
 invariant_of-self g c =
     rw (c.set.ensures, c.number.ensures)
-    (whole-geom_noted c.self.inside.tables c.self.invariant c.args.geom c.geom_mut.result.now (record c.geom_mut.result.now { geom = record c.geom_mut.result.now.geom { withering = true } }) _ c.geom_mut.ensures.rising c.geom_mut.ensures.cell
+    (whole-geom_noted c.self.inside.tables c.self.invariant c.args.geom c.geom_mut.result.now
+    (record c.geom_mut.result.now { geom = record c.geom_mut.result.now.geom { withering = true } }) _
+    c.geom_mut.ensures.rising c.geom_mut.ensures.cell
     (record { kind = refl; rank = refl })
-    (notes-withering c.self.inside.tables.notes c.self.inside.tables.geoms c.self.inside.tables.edges.providers c.args.geom (record c.geom_mut.result.now { geom = record c.geom_mut.result.now.geom { withering = true } }) c.self.invariant.tables.notes))
+    (notes-withering c.self.inside.tables.notes c.self.inside.tables.geoms c.self.inside.tables.edges.providers
+    c.args.geom (record c.geom_mut.result.now {
+      geom = record c.geom_mut.result.now.geom { withering = true };
+    }) c.self.invariant.tables.notes))

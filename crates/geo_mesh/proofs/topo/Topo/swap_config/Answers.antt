@@ -8,14 +8,22 @@ geom_mut-cell-requires g c = rw (← c.self.view_is) at c.requires
 
 pub returns-clause-old : goal.returns-clause-old
 returns-clause-old g c =
-    rw (← c.self.view_is, geom_at-view c.self.inside.tables.geoms c.self.inside.tables.edges c.args.geom, c.geom_mut-cell.ensures.cell, c.replace.ensures.value) refl
+    rw (
+      ← c.self.view_is,
+      geom_at-view c.self.inside.tables.geoms c.self.inside.tables.edges c.args.geom,
+      c.geom_mut-cell.ensures.cell,
+      c.replace.ensures.value,
+    ) refl
 
 pub returns-clause-swapped : goal.returns-clause-swapped
 returns-clause-swapped g c =
     rw (← c.self.view_is, c.replace.ensures.after)
-    (swap_config-view c.self.inside.tables c.args.geom c.args.config c.geom_mut-cell.result.now c.geom_mut-cell.ensures.rising c.geom_mut-cell.ensures.cell)
+    (swap_config-view c.self.inside.tables c.args.geom c.args.config c.geom_mut-cell.result.now
+    c.geom_mut-cell.ensures.rising c.geom_mut-cell.ensures.cell)
 
 pub invariant_of-self : goal.invariant_of-self
 invariant_of-self g c =
-    rw c.replace.ensures.after (whole-geom_cell c.self.inside.tables c.self.invariant c.args.geom c.geom_mut-cell.result.now _ c.geom_mut-cell.ensures.rising c.geom_mut-cell.ensures.cell
+    rw c.replace.ensures.after
+    (whole-geom_cell c.self.inside.tables c.self.invariant c.args.geom c.geom_mut-cell.result.now _
+    c.geom_mut-cell.ensures.rising c.geom_mut-cell.ensures.cell
     (record { kind = refl; rank = refl }) refl)

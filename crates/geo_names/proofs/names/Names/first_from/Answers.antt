@@ -5,8 +5,12 @@ use Rattle.geo_names.proofs.names.Names.first_from.Goals as goal
 pub returns-in-Some : goal.returns-in-Some
 returns-in-Some c =
     rw (← c.self.view_is)
-    (c.first_from.ensures ∙ first-found c.self.inside.inside c.self.invariant c.args.name.now c.in-Some.id.now c.args.from (sym c.in-Some.ensures.value))
+    (c.first_from.ensures
+    ∙ first-found c.self.inside.inside c.self.invariant c.args.name.now c.in-Some.id.now c.args.from
+    (sym c.in-Some.ensures.value))
 
 pub returns-in-None : goal.returns-in-None
 returns-in-None c =
-    rw (← c.self.view_is) (sym (first-missing c.self.inside.inside c.self.invariant c.args.name.now (sym c.in-None.ensures.value) c.args.from))
+    rw (← c.self.view_is)
+    (sym (first-missing c.self.inside.inside c.self.invariant c.args.name.now (sym c.in-None.ensures.value)
+    c.args.from))

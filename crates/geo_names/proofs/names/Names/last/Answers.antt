@@ -5,8 +5,11 @@ use Rattle.geo_names.proofs.names.Names.last.Goals as goal
 pub returns-in-Some : goal.returns-in-Some
 returns-in-Some c =
     rw (← c.self.view_is)
-    (c.last.ensures ∙ last-found c.self.inside.inside c.self.invariant c.args.name.now c.in-Some.id.now (sym c.in-Some.ensures.value))
+    (c.last.ensures
+    ∙ last-found c.self.inside.inside c.self.invariant c.args.name.now c.in-Some.id.now
+    (sym c.in-Some.ensures.value))
 
 pub returns-in-None : goal.returns-in-None
 returns-in-None c =
-    rw (← c.self.view_is) (sym (last-missing c.self.inside.inside c.self.invariant c.args.name.now (sym c.in-None.ensures.value)))
+    rw (← c.self.view_is)
+    (sym (last-missing c.self.inside.inside c.self.invariant c.args.name.now (sym c.in-None.ensures.value)))

@@ -9,7 +9,8 @@ close-requires c =
       next = c.self.invariant.next;
       named = c.self.invariant.named;
       back = c.self.invariant.back;
-      under = under-without c.self.inside.inside.texts.rows c.args.number c.self.inside.inside.alike.children c.self.invariant.under;
+      under = under-without c.self.inside.inside.texts.rows c.args.number c.self.inside.inside.alike.children
+          c.self.invariant.under;
     })
 
 pub returns-clause-removed : goal.returns-clause-removed

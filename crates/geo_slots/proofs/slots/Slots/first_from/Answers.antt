@@ -3,7 +3,8 @@ use Rattle.geo_slots.proofs.IndexLemmas.{first_of_keys, rising_rows}
 use Rattle.geo_slots.proofs.slots.Slots.first_from.Goals as goal
 
 pub returns-clause-first : goal.returns-clause-first
-returns-clause-first g c = rw (← c.self.view_is, ← first_of_keys _ _ _ _ c.args.number c.self.invariant) c.first_keyed.ensures
+returns-clause-first g c =
+    rw (← c.self.view_is, ← first_of_keys _ _ _ _ c.args.number c.self.invariant) c.first_keyed.ensures
 
 pub returns-clause-rising : goal.returns-clause-rising
 returns-clause-rising g c = rw (← c.self.view_is) (rising_rows _ _ _ _ c.self.invariant)

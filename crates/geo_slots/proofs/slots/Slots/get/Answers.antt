@@ -4,7 +4,8 @@ use Rattle.geo_slots.proofs.slots.Slots.get.Goals as goal
 
 pub returns-in-Some-clause-value : goal.returns-in-Some-clause-value
 returns-in-Some-clause-value g c =
-    rw (← c.self.view_is, ← value_of_key _ _ _ _ c.args.number c.self.invariant, ← c.key_of.ensures, c.in-Some.is) c.get.ensures
+    rw (← c.self.view_is, ← value_of_key _ _ _ _ c.args.number c.self.invariant, ← c.key_of.ensures, c.in-Some.is)
+    c.get.ensures
 
 pub returns-in-Some-clause-rising : goal.returns-in-Some-clause-rising
 returns-in-Some-clause-rising g c = rw (← c.self.view_is) (rising_rows _ _ _ _ c.self.invariant)

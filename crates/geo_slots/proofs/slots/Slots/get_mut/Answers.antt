@@ -9,22 +9,32 @@ use Rattle.geo_slots.proofs.slots.Slots.get_mut.Goals as goal
 
 pub invariant_of-self-lent : goal.invariant_of-self-lent
 invariant_of-self-lent g c =
-    let found : key_at c.args.number c.self.inside.index.entries ≡ Some c.in-Some.key = sym c.key_of.ensures ∙ c.in-Some.is in
+    let found : key_at c.args.number c.self.inside.index.entries ≡ Some c.in-Some.key = sym c.key_of.ensures
+    ∙ c.in-Some.is in
     let held = value_held _ _ _ _ c.args.number _ c.self.invariant found in λ _. (
       λ w.
           let updates = Updates-with_value c.self.inside.values c.in-Some.key w (ap is_some held.1) in
-          let room = HasRoomFor-with_value c.self.inside.values c.in-Some.key c.self.inside.spare w held c.self.invariant.room in
+          let room = HasRoomFor-with_value c.self.inside.values c.in-Some.key c.self.inside.spare w held
+          c.self.invariant.room in
           index_with_value _ _ _ _ _ c.args.number _ w c.self.invariant found updates room,
       c.self.invariant,
     )
 
 pub returns-in-Some : goal.returns-in-Some
 returns-in-Some g c =
-    let found : key_at c.args.number c.self.inside.index.entries ≡ Some c.in-Some.key = sym c.key_of.ensures ∙ c.in-Some.is in
+    let found : key_at c.args.number c.self.inside.index.entries ≡ Some c.in-Some.key = sym c.key_of.ensures
+    ∙ c.in-Some.is in
     let held = value_held _ _ _ _ c.args.number _ c.self.invariant found in
     let value = value_of_key _ _ _ _ c.args.number c.self.invariant in
-    let rows = λ (w : g.row.T.Denot). rows_with_value _ _ _ _ _ c.args.number _ w c.self.invariant found (Updates-with_value c.self.inside.values c.in-Some.key w (ap is_some held.1)) in (
-      (λ i. read_of (ghost_name_of c.get_mut.result) (λ w. record { rows = (rows w ∙ ap (λ v. with_value v.rows c.args.number w) c.self.view_is) i; next = (c.self.view_is i).next; spare = (c.self.view_is i).spare }) (c.self.view_is i)),
+    let rows = λ (w : g.row.T.Denot). rows_with_value _ _ _ _ _ c.args.number _ w c.self.invariant found
+    (Updates-with_value c.self.inside.values c.in-Some.key w (ap is_some held.1)) in (
+      (λ i. read_of (ghost_name_of c.get_mut.result)
+          (λ w. record {
+            rows = (rows w ∙ ap (λ v. with_value v.rows c.args.number w) c.self.view_is) i;
+            next =
+                (c.self.view_is i).next;
+            spare = (c.self.view_is i).spare;
+          }) (c.self.view_is i)),
       record {
         writes_back = tt;
         value = rw (← c.self.view_is, ← value, ← c.key_of.ensures, c.in-Some.is) c.get_mut.ensures.value;

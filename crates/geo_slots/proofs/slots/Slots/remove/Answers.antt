@@ -9,12 +9,15 @@ use Rattle.geo_slots.proofs.slots.Slots.remove.Goals as goal
 
 pub invariant_of-self : goal.invariant_of-self
 invariant_of-self g c =
-    let found : key_at c.args.number c.self.inside.index.entries ≡ Some c.in-Some.key = sym c.key_of.ensures ∙ c.in-Some.is in
+    let found : key_at c.args.number c.self.inside.index.entries ≡ Some c.in-Some.key = sym c.key_of.ensures
+    ∙ c.in-Some.is in
     let held = value_held _ _ _ _ c.args.number _ c.self.invariant found in
     let e = c.try_remove.ensures in
     let less = rw (e.value ∙ held.1) at e.len in
-    let room : HasRoomFor c.try_remove.new.self c.self.inside.spare = omega (arith, c.self.invariant.room, less, e.capacity) in
-    let left = c.remove.ensures.entries ∙ ap (λ test. remove_entry test c.self.inside.index.entries) (finds_number c.args.number) in
+    let room : HasRoomFor c.try_remove.new.self c.self.inside.spare =
+    omega (arith, c.self.invariant.room, less, e.capacity) in
+    let left = c.remove.ensures.entries
+    ∙ ap (λ test. remove_entry test c.self.inside.index.entries) (finds_number c.args.number) in
     index_without _ _ _ _ _ _ _ _ c.self.invariant found e.updates room left
 
 pub returns-in-Some-clause-value : goal.returns-in-Some-clause-value
@@ -24,8 +27,10 @@ returns-in-Some-clause-value g c =
 
 pub returns-in-Some-clause-removed : goal.returns-in-Some-clause-removed
 returns-in-Some-clause-removed g c =
-    let found : key_at c.args.number c.self.inside.index.entries ≡ Some c.in-Some.key = sym c.key_of.ensures ∙ c.in-Some.is in
-    let left = c.remove.ensures.entries ∙ ap (λ test. remove_entry test c.self.inside.index.entries) (finds_number c.args.number) in
+    let found : key_at c.args.number c.self.inside.index.entries ≡ Some c.in-Some.key = sym c.key_of.ensures
+    ∙ c.in-Some.is in
+    let left = c.remove.ensures.entries
+    ∙ ap (λ test. remove_entry test c.self.inside.index.entries) (finds_number c.args.number) in
     let rows = rows_without _ _ _ _ _ _ _ _ c.self.invariant found c.try_remove.ensures.updates left in
     rw (← c.self.view_is) (λ i. record { rows = rows i; next = c.self.inside.next; spare = c.self.inside.spare })
 
@@ -38,7 +43,8 @@ returns-in-None-clause-value g c =
 
 pub returns-in-None-clause-removed : goal.returns-in-None-clause-removed
 returns-in-None-clause-removed g c =
-    let absent = sym (value_of_key _ _ _ _ c.args.number c.self.invariant) ∙ ap (option_and_then (get c.self.inside.values)) (sym c.key_of.ensures ∙ c.in-None.is) in
+    let absent = sym (value_of_key _ _ _ _ c.args.number c.self.invariant)
+    ∙ ap (option_and_then (get c.self.inside.values)) (sym c.key_of.ensures ∙ c.in-None.is) in
     let stay = without_absent c.args.number _ absent in
     rw (← c.self.view_is) (λ i. record { rows = sym stay i; next = c.self.inside.next; spare = c.self.inside.spare })
 

@@ -11,7 +11,8 @@ loop-self-init g c =
       sound = index_reserved _ _ c.reserve.ensures.rest_kept _ _ _ c.reserve.ensures.capacity c.self.invariant;
       room = c.in_ok-reserve.ensures.room;
       numbers = c.in-Some.ensures.0;
-      rows_stay = rows_reserved c.self.inside.values c.reserve.new.self c.reserve.ensures.rest_kept c.self.inside.index.entries ∙ ap (λ v. v.rows) c.self.view_is;
+      rows_stay = rows_reserved c.self.inside.values c.reserve.new.self c.reserve.ensures.rest_kept
+          c.self.inside.index.entries ∙ ap (λ v. v.rows) c.self.view_is;
       next_stays = ap (λ v. v.next) c.self.view_is;
       grows = omega (arith, ap (λ v. v.spare) c.self.view_is);
       within = omega arith;

@@ -3,7 +3,7 @@ use Rattle.std.specs.List.{AllZip}
 use Rattle.geo_core.specs.World.{seen}
 use Rattle.geo_model.specs.Plans.{IsFact}
 use Rattle.geo_core.specs.Opening.{opening, add_disks}
-use Rattle.geo_core.proofs.stand.opening.Given as goal
+use Rattle.geo_core.proofs.opening.opening.Given as goal
 
 abbrev pub invariant-loop-i : goal.invariant-loop-i
 invariant-loop-i l = record {
