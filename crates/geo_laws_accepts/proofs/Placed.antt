@@ -21,7 +21,7 @@ use Rattle.geo_laws_geoms.proofs.Inserted.{none_refused}
 use Rattle.geo_laws_formats.specs.RecordLaws.{IsPlace}
 use Rattle.geo_laws_assemblies.proofs.Placed.{concat_places_stay, stripe_places_stay}
 use Rattle.geo_laws_accepts.specs.AcceptLaws.{IsAccepted, PlacesStayFirm}
-use Rattle.geo_laws_accepts.proofs.Accepted.{found, has_geom, asks, one_sector, longer}
+use Rattle.geo_laws_accepts.proofs.Accepted.{found, has_geom, one_sector}
 
 -- what is read where a record is accepted
 pub record IsRead {A : Type 0} (o : Option DeclineCause) (read found : A) : Type 0 where
@@ -94,8 +94,6 @@ concat_firm w s p bytes member made firm accepted =
     (record {
       found = found w s p kinds.Concat bytes (Joined member) made firm accepted;
       low = omega arith;
-      large = longer w s p kinds.Concat bytes (Joined member) made firm accepted
-          (asks w s p kinds.Concat bytes (Joined member) made firm accepted);
     })
     (subst (λ (x : ConcatRecord). IsPlace x.place x.count) read.same (concat_place bytes read.none))
     accepted.makes
@@ -114,8 +112,6 @@ stripe_firm w s p bytes member made firm accepted =
     (record {
       found = found w s p kinds.Stripe bytes (Striped member) made firm accepted;
       low = omega arith;
-      large = longer w s p kinds.Stripe bytes (Striped member) made firm accepted
-          (asks w s p kinds.Stripe bytes (Striped member) made firm accepted);
     })
     (subst (λ (x : StripeRecord). IsPlace x.place x.count) read.same place.0)
     (subst (λ (x : StripeRecord). 1 ≤ x.stripe) read.same place.1)

@@ -15,7 +15,7 @@ use Rattle.geo_model.specs.Fitting.{IsWholeIn, sizes_of}
 use Rattle.geo_laws_graph.proofs.Members.{Contains-here, Contains-there}
 use Rattle.geo_laws_less.proofs.Found.{FoundWith}
 use Rattle.geo_laws_geoms.proofs.NewPlaces.{smallest-le, stripe-lands}
-use Rattle.geo_laws_assemblies.proofs.Assembled.{IsAssembly}
+use Rattle.geo_laws_places.specs.PlaceLaws.{IsAssembly}
 
 -- a place is filled by a consumer of the geom, at a provider that its component fits
 pub record HasBelow (t : Topology Config) (n sector : ℕ) (item : Option ℕ) (size : ℕ) : Type 0 where

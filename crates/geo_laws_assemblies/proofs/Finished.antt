@@ -1,13 +1,12 @@
 -- An assembly whose places are all filled gets its provider: the graph has come to more, and a firm world with it
 -- is firm.
-use Rattle.std.specs.Prelude.{◌≡◌, ◌≢◌, ◌⊎◌, ℕ, zero, suc, ◌+◌, ◌%◌, ◌^◌, ◌<◌, ◌≤◌, ◌==◌, Bool, true, false, List, [], ◌∷◌, ◌++◌, length, Option, Some, None, is_some, is_none, All, Contains, IsSome, IsSomeAnd, IfSome, option_and_then, slice_get}
+use Rattle.std.specs.Prelude.{◌≡◌, ◌≢◌, ◌⊎◌, ℕ, zero, suc, ◌+◌, ◌%◌, ◌<◌, ◌≤◌, ◌==◌, Bool, true, false, List, [], ◌∷◌, ◌++◌, length, Option, Some, None, is_some, is_none, All, Contains, IsSome, IsSomeAnd, IfSome, option_and_then, slice_get}
 use Rattle.std.specs.List.{AllZip, list_all, list_any}
 use Rattle.std.specs.Option.{option_flatten}
 use Rattle.std.proofs.Common.{inl, inr, refl, sym, ◌∙◌, ap, subst, arith}
 use Rattle.std.proofs.lemmas.Bool.{eq-eqb, eqb-true}
 use Rattle.std.proofs.lemmas.List.Elements.{All-contains, All-from_recursion, Contains-push_cases}
-use Rattle.geo_base.specs.Sectors.{IsSectorSize}
-use Rattle.geo_model.specs.Topology.{Topology, Geom, Provider, Consumer, geom_at, provider_at, consumer_at, geom_of_provider, providers_of, is_name_taken, add_provider}
+use Rattle.geo_model.specs.Topology.{Topology, Geom, Provider, Consumer, geom_at, provider_at, consumer_at, geom_of_provider, providers_of, add_provider}
 use Rattle.geo_model.specs.Rank.{rank}
 use Rattle.geo_model.specs.Demand.{want, is_zero}
 use Rattle.geo_model.specs.Events.{offer, taste_limit}
@@ -32,8 +31,10 @@ use Rattle.geo_laws_making.proofs.Made.{through}
 use Rattle.geo_laws_making.proofs.Offered.{KeepsGraph, offered-keeps, offered-living, offered-names}
 use Rattle.geo_laws_more.specs.MoreLaws.{IsUntouched, GeomFits, ProviderFits, IsMore}
 use Rattle.geo_laws_more.proofs.MoreFirm.{more-firm}
-use Rattle.geo_laws_assemblies.proofs.Assembled.{has-places, in-places, zip-among}
-use Rattle.geo_laws_assemblies.proofs.OpenAssembly.{IsOpenAssembly, is-there, its-class, isnt-dev, isnt-taste, offers-not, only-one, component-there}
+use Rattle.geo_laws_places.proofs.Assembled.{has-places, in-places, zip-among}
+use Rattle.geo_laws_places.proofs.OpenAssembly.{is-there, its-class, isnt-dev, isnt-taste, offers-not, only-one, component-there}
+use Rattle.geo_laws_places.specs.PlaceLaws.{IsOpenAssembly}
+use Rattle.geo_laws_assemblies.specs.AssemblyLaws.{CanFinish, FinishesStayFirm}
 use Rattle.geo_laws_assemblies.proofs.Filled.{HasBelow, assembly-lands, assembly-whole}
 
 -- where all are filled, none is free
@@ -47,19 +48,6 @@ at_place : {X : Type 0} (xs : List X) (k : ℕ) (x : X) → slice_get xs k ≡ S
 at_place [] k x e = absurd (let no : ⊥ = cc in no)
 at_place (y ∷ xs) zero x e = subst (Contains (y ∷ xs)) (let same : y ≡ x = cc in same) (Contains-here y xs)
 at_place (y ∷ xs) (suc k) x e = Contains-there y x xs (at_place xs k x e)
-
--- what a provider over all places needs: they are filled, by components of one sector size, and its name and size
--- are good
-pub record CanFinish (w : World) (g : Geom Config) (name : List ℕ) (sector : ℕ) : Type 0 where
-  pub full : list_all is_some (places_of g.config) ≡ true
-  pub sectors : IsSectorSize sector
-  pub whole : IsWholeIn g.config sector
-  pub same : (d : ℕ) (x : Consumer) (q : Provider) → Contains (components g.config) d
-      → consumer_at w.topology d ≡ Some x
-      → option_and_then (provider_at w.topology) x.provider ≡ Some q → q.sector ≡ sector
-  pub free : is_name_taken w.topology name ≡ false
-  pub some : 1 ≤ joined_size g.config
-  pub limited : joined_size g.config ≤ 2 ^ 60
 
 module _ (w : World) (g : Geom Config) (name : List ℕ) (sector : ℕ) (firm : Firm w) (waits : IsOpenAssembly w g)
     (can : CanFinish w g name sector) where
@@ -323,3 +311,7 @@ module _ (w : World) (g : Geom Config) (name : List ℕ) (sector : ℕ) (firm : 
   finished-firm =
       more-firm w u g firm finished-more (offer (queued_of w) n name size sector).events
       (offered-living n sector (slice ∷ []) (queued_of w) order firm.sound.events.living)
+
+-- so say all completions
+pub finishes_stay : FinishesStayFirm
+finishes_stay = record { finish = λ w g name sector firm waits can. finished-firm w g name sector firm waits can }

@@ -1,6 +1,3 @@
-pub mod Assembled
-pub mod OpenAssembly
-pub mod PlaceTaken
 pub mod Filled
 pub mod Finished
 pub mod MadeFree

@@ -35,10 +35,11 @@ use Rattle.geo_laws_less.proofs.Found.{found-with, one-found}
 use Rattle.geo_laws_making.specs.MakingLaws.{below_new, CanOffer, IsNewDisk, CanMake}
 use Rattle.geo_laws_making.proofs.Over.{false_true}
 use Rattle.geo_laws_making.proofs.Made.{made-firm}
-use Rattle.geo_laws_assemblies.specs.AssemblyLaws.{CanTakePlace, ConcatPlacesStayFirm, StripePlacesStayFirm}
-use Rattle.geo_laws_assemblies.proofs.Assembled.{IsAssembly, has-places, filled-is, filled_of, filled-cases, of-places}
-use Rattle.geo_laws_assemblies.proofs.OpenAssembly.{IsOpenAssembly, component-there}
-use Rattle.geo_laws_assemblies.proofs.PlaceTaken.{taken-firm, new-found, consumer-still, components-now}
+use Rattle.geo_laws_places.specs.PlaceLaws.{CanTakePlace, IsAssembly, IsOpenAssembly}
+use Rattle.geo_laws_assemblies.specs.AssemblyLaws.{ConcatPlacesStayFirm, StripePlacesStayFirm}
+use Rattle.geo_laws_places.proofs.Assembled.{has-places, filled-is, filled_of, filled-cases, of-places}
+use Rattle.geo_laws_places.proofs.OpenAssembly.{component-there}
+use Rattle.geo_laws_places.proofs.PlaceTaken.{taken-firm, new-found, consumer-still, components-now}
 use Rattle.geo_laws_assemblies.proofs.Finished.{finished-firm}
 use Rattle.geo_laws_assemblies.proofs.MadeFree.{free-made, not-taken}
 
@@ -286,7 +287,7 @@ module _ (w : World) (p : Provider) (m : Member) (count : ℕ) (made : QueuedTop
       (adding-stay.geom before m.kind m.geom_name m.empty true firm.sound.ranks.ranked live.geoms).same p.geom in
       joined-firm begun p (new_geom before m.kind m.geom_name m.empty true) m.place m.name made
       (made-firm w m.kind m.geom_name m.empty true [] 512 [] firm empty_can)
-      (record { found = can.found; low = subst (λ n. n < 32) (sym same) can.low; large = can.large })
+      (record { found = can.found; low = subst (λ n. n < 32) (sym same) can.low })
       (record {
         stands = added-geom.new before m.kind m.geom_name m.empty true order;
         upright = refl;

@@ -1,9 +1,9 @@
 -- A standing assembly that has no provider: what is known of it in a firm world.
-use Rattle.std.specs.Prelude.{◌≡◌, ◌≢◌, ◌==◌, ℕ, true, false, [], Some, Contains, IsSome, IsSomeAnd}
+use Rattle.std.specs.Prelude.{◌≡◌, ◌≢◌, ◌==◌, ℕ, true, false, Some, Contains, IsSome, IsSomeAnd}
 use Rattle.std.proofs.Common.{inl, sym, ◌∙◌, subst}
 use Rattle.std.proofs.lemmas.Bool.{eq-eqb}
 use Rattle.std.proofs.lemmas.List.Elements.{All-contains}
-use Rattle.geo_model.specs.Topology.{Topology, Geom, Provider, geom_at, consumer_at, providers_of}
+use Rattle.geo_model.specs.Topology.{Topology, Geom, Provider, geom_at, consumer_at}
 use Rattle.geo_model.specs.World.{World, Config}
 use Rattle.geo_model.specs.Place.{components}
 use Rattle.geo_model.specs.Sound.{IsOfItsClass}
@@ -13,14 +13,8 @@ use Rattle.geo_laws_graph.proofs.Members.{find-Contains, Contains-filter, nothin
 use Rattle.geo_laws_graph.proofs.Lists.{found_itself}
 use Rattle.geo_laws_graph.proofs.Living.{sound-order}
 use Rattle.geo_laws_less.proofs.Found.{one-found}
-use Rattle.geo_laws_assemblies.proofs.Assembled.{IsAssembly, IsOfAssembly, of-assembly}
-
--- a standing geom is an assembly without providers
-pub record IsOpenAssembly (w : World) (g : Geom Config) : Type 0 where
-  pub stands : geom_at w.topology g.number ≡ Some g
-  pub upright : g.withering ≡ false
-  pub assembly : IsAssembly g.config
-  pub offers_none : providers_of w.topology g.number ≡ []
+use Rattle.geo_laws_places.specs.PlaceLaws.{IsOpenAssembly}
+use Rattle.geo_laws_places.proofs.Assembled.{IsOfAssembly, of-assembly}
 
 module _ (w : World) (g : Geom Config) (firm : Firm w) (waits : IsOpenAssembly w g) where
   -- the graph

@@ -1,5 +1,5 @@
 -- The configuration of an assembly, and what it is with one more place filled.
-use Rattle.std.specs.Prelude.{◌≡◌, ◌≢◌, ◌⊎◌, ℕ, zero, suc, true, false, List, [], ◌∷◌, flat_map, Option, Some, None, Contains, ⊤, slice_get, slice_set}
+use Rattle.std.specs.Prelude.{◌≡◌, ◌≢◌, ◌⊎◌, ℕ, zero, suc, true, false, List, [], ◌∷◌, flat_map, Option, Some, None, Contains, slice_get, slice_set}
 use Rattle.std.specs.List.{AllZip}
 use Rattle.std.specs.Option.{option_flatten, option_to_list}
 use Rattle.std.proofs.Common.{inl, inr, refl, sym, ◌∙◌, subst}
@@ -12,15 +12,10 @@ use Rattle.geo_model.specs.Acceptance.{places_of, fill_place}
 use Rattle.geo_model.specs.Sound.{fits_kind}
 use Rattle.geo_model.specs.Fitting.{IsWholeIn, sizes_of}
 use Rattle.geo_laws_graph.proofs.Members.{Contains-here, Contains-there, Contains-cases, nothing_in, All-from_contained, at_contained}
+use Rattle.geo_laws_places.specs.PlaceLaws.{IsAssembly}
 use Rattle.geo_laws_opening.proofs.Standers.{PairsByRecursion}
 
 -- Configurations
-
--- that of an assembly
-abbrev pub IsAssembly : Config → Type 0
-IsAssembly (Concat id places sizes) = ⊤
-IsAssembly (Stripe id stripe places sizes) = ⊤
-IsAssembly _ = ⊥
 
 -- its components are what is in its places, and it is of no disk
 pub record HasPlaces (config : Config) : Type 0 where

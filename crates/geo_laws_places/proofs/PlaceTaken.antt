@@ -41,9 +41,9 @@ use Rattle.geo_laws_making.proofs.Over.{over-demand}
 use Rattle.geo_laws_making.proofs.Made.{through}
 use Rattle.geo_laws_more.specs.MoreLaws.{IsUntouched, GeomFits, ConsumerFits, IsMore}
 use Rattle.geo_laws_more.proofs.MoreFirm.{more-firm}
-use Rattle.geo_laws_assemblies.specs.AssemblyLaws.{CanTakePlace}
-use Rattle.geo_laws_assemblies.proofs.OpenAssembly.{IsOpenAssembly, is-there, its-class, its-assembly, isnt-dev, isnt-taste, offers-not, only-one, component-there}
-use Rattle.geo_laws_assemblies.proofs.Assembled.{has-places, filled-is, filled_of, filled-cases, filled-differ, in-places, zip-set, zip-among, IsOfAssembly}
+use Rattle.geo_laws_places.specs.PlaceLaws.{CanTakePlace, IsOpenAssembly, TakesStayFirm}
+use Rattle.geo_laws_places.proofs.OpenAssembly.{is-there, its-class, its-assembly, isnt-dev, isnt-taste, offers-not, only-one, component-there}
+use Rattle.geo_laws_places.proofs.Assembled.{has-places, filled-is, filled_of, filled-cases, filled-differ, in-places, zip-set, zip-among, IsOfAssembly}
 
 -- a geom that is one of the list with another configuration, or is as it was
 configured : (n : ℕ) (config : Config) (xs : List (Geom Config)) (y : Geom Config)
@@ -441,3 +441,7 @@ module _ (w : World) (p : Provider) (g : Geom Config) (k : ℕ) (firm : Firm w) 
   -- so the world is firm
   pub taken-firm : Firm (record w { topology = u; events = w.events })
   taken-firm = more-firm w u joined firm taken-more w.events firm.sound.events.living
+
+-- so say all places
+pub takes_stay : TakesStayFirm
+takes_stay = record { take = λ w p g k firm can waits whole. taken-firm w p g k firm can waits whole }
