@@ -55,7 +55,7 @@ use Rattle.geo_laws_effects.proofs.Announced.{spoil-firm, orphan-firm, resize-fi
 use Rattle.geo_laws_effects.proofs.MarksKept.{queues_keep, stands-at, class-at, not_set}
 
 -- a geom of TASTE has no configuration
-taste_nothing : (config : Config) → fits_kind kinds.Taste config ≡ true → config ≡ Nothing
+pub taste_nothing : (config : Config) → fits_kind kinds.Taste config ≡ true → config ≡ Nothing
 taste_nothing Nothing e = refl
 taste_nothing (Disk disk) e = not_set e
 taste_nothing (Mbr below slices) e = not_set e
@@ -66,7 +66,7 @@ taste_nothing (Stripe id stripe places sizes) e = not_set e
 taste_nothing (Nop below offset fail) e = not_set e
 
 -- the class with TASTE's number is TASTE
-taste_kind : (kind : Kind) → (is_kind kind kinds.Taste) ≡ true → kind ≡ kinds.Taste
+pub taste_kind : (kind : Kind) → (is_kind kind kinds.Taste) ≡ true → kind ≡ kinds.Taste
 taste_kind kinds.Taste e = refl
 taste_kind kinds.Disk e = not_set e
 taste_kind kinds.Dev e = not_set e

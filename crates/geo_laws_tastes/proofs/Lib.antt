@@ -1,0 +1,4 @@
+pub mod Asking
+pub mod Tasters
+pub mod Ending
+pub mod Tastes
