@@ -24,9 +24,23 @@ pub record IsAsking (w : World) (s : Taste) : Type 0 where
   pub chain : HasItsChain w s
   pub asked : IfSome (provider_at w.topology s.provider) (λ p. IsAskedInOrder w.topology p s.asked)
 
--- a taste of which no read is out goes on, to where none is out, or ends: its consumer is detached and destroyed
+-- no read of the taste is out, its provider is found, and nothing refuses it a read there
+pub record IsGranted (w : World) (s : Taste) (p : Provider) : Type 0 where
+  pub taste : w.taste ≡ Some s
+  pub idle : is_read_out s.asked ≡ false
+  pub found : provider_at w.topology s.provider ≡ Some p
+  pub passes : grant_refusal (with_grant (granted_in w) s.consumer one_read) w.topology s.provider ≡ None
+
+-- a taste of which no read is out goes on, to where none is out; or the read of a sector is submitted, which nothing
+-- refuses; or the taste ends: its consumer is detached and destroyed
 pub record TastesStayFirm : Type 0 where
   pub goes_on : (w : World) (s : Taste) (classes : List Kind) (asked : Asked) (reads : ℕ) (chain : Chain)
       → w.taste ≡ Some s → is_read_out s.asked ≡ false → is_read_out asked ≡ false
       → IsAsking w (asking s classes asked reads chain) → Firm w → Firm (with_taste w (asking s classes asked reads chain))
+  pub reads : (w : World) (s : Taste) (p : Provider) (classes : List Kind) (kind : Kind) (reads : ℕ) (chain : Chain)
+      (sector : ℕ) → IsGranted w s p → sector < p.size / p.sector
+      → IsAsking w (asking s classes (ReadOut kind) reads chain) → Firm w
+      → Firm
+      (submit_read (with_taste w (asking s classes (ReadOut kind) reads chain))
+      (asking s classes (ReadOut kind) reads chain) sector)
   pub ends : (w : World) (s : Taste) → w.taste ≡ Some s → is_read_out s.asked ≡ false → Firm w → Firm (abort_taste w s)
