@@ -4,3 +4,4 @@ pub mod Ending
 pub mod Reading
 pub mod Submitting
 pub mod Tastes
+pub mod Chains

@@ -1,1 +1,2 @@
 pub mod TasteLaws
+pub mod ChainSteps
