@@ -1,0 +1,5 @@
+pub mod Accepted
+pub mod Labelled
+pub mod NewSlices
+pub mod Sliced
+pub mod Parted
