@@ -5,3 +5,5 @@ pub mod Reading
 pub mod Submitting
 pub mod Tastes
 pub mod Chains
+pub mod Firsts
+pub mod Judging

@@ -1,2 +1,3 @@
 pub mod TasteLaws
 pub mod ChainSteps
+pub mod JudgeLaws

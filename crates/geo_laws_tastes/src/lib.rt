@@ -2,6 +2,7 @@
 #![tactic(auto)]
 
 ghost use Rattle.geo_laws_tastes.specs.ChainSteps.{LinksStayInOrder};
+ghost use Rattle.geo_laws_tastes.specs.JudgeLaws.{JudgesStayFirm};
 ghost use Rattle.geo_laws_tastes.specs.TasteLaws.{TastesStayFirm};
 
 /// A taste of which no read is out goes on, or ends, and its consumer goes.
@@ -14,4 +15,11 @@ pub fn tastes_stay_firm()
 #[tactic(auto, using(crate::proofs::Chains::links_stay_in_order))]
 pub fn links_stay_in_order()
     ensures { LinksStayInOrder }
+{}
+
+/// A step of a taste leaves a firm world firm, and the chain's next link one, where what is made of an accepted sector
+/// leaves it firm.
+#[tactic(auto, using(crate::proofs::Judging::judges_stay_firm))]
+pub fn judges_stay_firm()
+    ensures { JudgesStayFirm }
 {}
