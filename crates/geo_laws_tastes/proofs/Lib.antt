@@ -4,6 +4,3 @@ pub mod Ending
 pub mod Reading
 pub mod Submitting
 pub mod Tastes
-pub mod Chains
-pub mod Firsts
-pub mod Judging

@@ -1,3 +1,1 @@
 pub mod TasteLaws
-pub mod ChainSteps
-pub mod JudgeLaws

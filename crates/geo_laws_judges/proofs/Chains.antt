@@ -20,7 +20,7 @@ use Rattle.geo_model.specs.World.{NextSector, ReadBack}
 use Rattle.geo_model.specs.Sound.{ChainHolds, IsPartOf}
 use Rattle.geo_laws_formats.proofs.ChainWalks.{leads-to}
 use Rattle.geo_laws_formats.proofs.ChainTests.{LeadsTo}
-use Rattle.geo_laws_tastes.specs.ChainSteps.{IsNextLink, GoesOnTo, LinksStayInOrder}
+use Rattle.geo_laws_judges.specs.ChainSteps.{IsNextLink, GoesOnTo, LinksStayInOrder}
 
 -- Lists of sectors
 

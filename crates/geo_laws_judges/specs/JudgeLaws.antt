@@ -5,7 +5,7 @@ use Rattle.geo_model.specs.World.{World}
 use Rattle.geo_model.specs.Fitting.{Firm}
 use Rattle.geo_model.specs.Laws.{world_by}
 use Rattle.geo_laws_accepts.specs.AcceptLaws.{AcceptsStayFirm}
-use Rattle.geo_laws_tastes.specs.ChainSteps.{HasNextLink}
+use Rattle.geo_laws_judges.specs.ChainSteps.{HasNextLink}
 
 -- the world is firm, and where EBR is asked, the chain's next link is one
 pub record IsFirmWithLinks (w : World) : Type 0 where

@@ -36,13 +36,13 @@ use Rattle.geo_laws_graph.proofs.Members.{find-Contains}
 use Rattle.geo_laws_less.proofs.Found.{if-found, at-found}
 use Rattle.geo_laws_accepts.specs.AcceptLaws.{AcceptsStayFirm, IsAccepted}
 use Rattle.geo_laws_tastes.specs.TasteLaws.{asking, with_taste, IsAsking, IsGranted}
-use Rattle.geo_laws_tastes.specs.ChainSteps.{IsNextLink, HasNextLink, GoesOnTo}
-use Rattle.geo_laws_tastes.specs.JudgeLaws.{IsFirmWithLinks, JudgesStayFirm}
+use Rattle.geo_laws_judges.specs.ChainSteps.{IsNextLink, HasNextLink, GoesOnTo}
+use Rattle.geo_laws_judges.specs.JudgeLaws.{IsFirmWithLinks, JudgesStayFirm}
 use Rattle.geo_laws_tastes.proofs.Asking.{asking-firm}
 use Rattle.geo_laws_tastes.proofs.Submitting.{submitted-firm}
 use Rattle.geo_laws_tastes.proofs.Ending.{abort-firm}
-use Rattle.geo_laws_tastes.proofs.Chains.{more_links}
-use Rattle.geo_laws_tastes.proofs.Firsts.{first_inside, has_sector, judge_no_more}
+use Rattle.geo_laws_judges.proofs.Chains.{more_links}
+use Rattle.geo_laws_judges.proofs.Firsts.{first_inside, has_sector, judge_no_more}
 
 -- a class that is asked is one
 not_asked : {A : Type 0} (kind : Kind) → None ≡ Some kind → A
