@@ -20,7 +20,7 @@ use Rattle.geo_model.specs.World.{NextSector, ReadBack}
 use Rattle.geo_model.specs.Sound.{ChainHolds, IsPartOf}
 use Rattle.geo_laws_formats.proofs.ChainWalks.{leads-to}
 use Rattle.geo_laws_formats.proofs.ChainTests.{LeadsTo}
-use Rattle.geo_laws_judges.specs.ChainSteps.{IsNextLink, GoesOnTo, LinksStayInOrder}
+use Rattle.geo_laws_judges.specs.ChainSteps.{GoesOnTo, LinksStayInOrder}
 
 -- Lists of sectors
 
@@ -95,9 +95,9 @@ module _ (n : ℕ) (c : Chain) (bytes : List ℕ) (sector : ℕ) where
 
 -- a link that leads on leaves a chain in order
 pub more_links : (n made sector : ℕ) (c : Chain) (bytes : List ℕ) (got : BioResult)
-    → ChainHolds n (ReadBack kinds.Ebr got) made c → IsNextLink n c → feed n c bytes ≡ More sector
+    → ChainHolds n (ReadBack kinds.Ebr got) made c → feed n c bytes ≡ More sector
     → GoesOnTo n made sector (with_link n c bytes)
-more_links n made sector c bytes got hold next e =
+more_links n made sector c bytes got hold e =
     let on = by_cause n c bytes sector (first_error (link_tests n (with_link n c bytes) bytes)) refl e in
     let l : LinkRead = record { sector = c.next; part = named_part n c.next bytes } in
     let fresh = or_parts (next_link bytes == 0) (list_any (λ (x : LinkRead). x.sector == next_link bytes) (c.links ++ l ∷ []))
@@ -106,21 +106,21 @@ more_links n made sector c bytes got hold next e =
     let few : length (c.links ++ l ∷ []) < 32 = on.leads.few in
     let near : next_link bytes < n = on.leads.near in
     let reads : made ≡ length c.links + 1 = hold.reads in
-    let zero : BeginsAtZero (map (λ x. x.sector) (c.links ++ l ∷ [])) = begins_with c.links l next.zero in
+    let zero : BeginsAtZero (map (λ x. x.sector) (c.links ++ l ∷ [])) = begins_with c.links l hold.zero in
     record {
       hold = record {
         reads = omega (arith, longer, reads);
         few = few;
         parts = All-push (λ (x : LinkRead). IfSome x.part (IsPartOf n)) c.links l hold.parts (named_in n c.next bytes);
         sector = sym on.next;
-        zero = zero;
-        inside = All-push (λ (x : LinkRead). x.sector < n) c.links l hold.inside next.near;
+        zero = begins_on c.links l (next_link bytes) zero;
+        inside = All-push (λ (x : LinkRead). x.sector < n) c.links l hold.inside hold.near;
+        near = near;
         apart = subst (AllPairs (λ a b. a ≢ b)) (sym (map-append (λ (x : LinkRead). x.sector) c.links (l ∷ [])))
             (all_pairs_push (λ a b. a ≢ b) (map (λ (x : LinkRead). x.sector) c.links) c.next hold.apart
             (All-map (λ a. a ≢ c.next) (λ (x : LinkRead). x.sector) c.links hold.new));
         new = none_at (next_link bytes) (c.links ++ l ∷ []) fresh.1;
       };
-      next = record { zero = begins_on c.links l (next_link bytes) zero; near = near };
       reads = omega (arith, longer, few, reads);
       inside = subst (λ m. m < n) on.next near;
     }

@@ -36,8 +36,8 @@ use Rattle.geo_laws_graph.proofs.Members.{find-Contains}
 use Rattle.geo_laws_less.proofs.Found.{if-found, at-found}
 use Rattle.geo_laws_accepts.specs.AcceptLaws.{AcceptsStayFirm, IsAccepted}
 use Rattle.geo_laws_tastes.specs.TasteLaws.{asking, with_taste, IsAsking, IsGranted}
-use Rattle.geo_laws_judges.specs.ChainSteps.{IsNextLink, HasNextLink, GoesOnTo}
-use Rattle.geo_laws_judges.specs.JudgeLaws.{IsFirmWithLinks, JudgesStayFirm}
+use Rattle.geo_laws_judges.specs.ChainSteps.{GoesOnTo}
+use Rattle.geo_laws_judges.specs.JudgeLaws.{JudgesStayFirm}
 use Rattle.geo_laws_tastes.proofs.Asking.{asking-firm}
 use Rattle.geo_laws_tastes.proofs.Submitting.{submitted-firm}
 use Rattle.geo_laws_tastes.proofs.Ending.{abort-firm}
@@ -54,10 +54,9 @@ record CanRead (t : Topology Config) (p : Provider) (kind : Kind) (sector reads 
   inside : sector < p.size / p.sector
   few : reads + 1 ≤ reads_limit
   hold : Some kind ≡ Some kinds.Ebr → ChainHolds (p.size / p.sector) (ReadOut kind) (reads + 1) chain
-  next : Some kind ≡ Some kinds.Ebr → IsNextLink (p.size / p.sector) chain
 
 module _ (accepts : AcceptsStayFirm) (w : World) (firm : Firm w) (s : Taste) (is : w.taste ≡ Some s)
-    (idle : is_read_out s.asked ≡ false) (linked : HasNextLink w s) where
+    (idle : is_read_out s.asked ≡ false) where
   -- the graph, the grants, the graph with the queue
   abbrev t : Topology Config
   t = w.topology
@@ -68,27 +67,25 @@ module _ (accepts : AcceptsStayFirm) (w : World) (firm : Firm w) (s : Taste) (is
   abbrev q : QueuedTopology Config
   q = queued_of w
 
-  -- the world then is as it has to be
+  -- the world then is firm
   abbrev Kept : Judging → Type 0
-  Kept x = IsFirmWithLinks (judged_world w x x.judged).0
+  Kept x = Firm (judged_world w x x.judged).0
 
   -- The end of a class, and of the taste
 
   -- a class that is done with, in a world with this taste
   class_ends : (v : World) → Firm v → v.taste ≡ Some s → (classes : List Kind)
-      → IsFirmWithLinks (with_taste v (asking s classes NoClass 0 no_links))
-  class_ends v firm is classes = record {
-    firm = asking-firm v s classes NoClass 0 no_links firm is idle refl (record {
-      reads = refl;
-      chain = λ ebr. not_asked kinds.Ebr ebr;
-      asked = if-found (provider_at v.topology s.provider) (λ p. IsAskedInOrder v.topology p NoClass) (λ p e. tt);
-    });
-    next = λ ebr. not_asked kinds.Ebr ebr;
-  }
+      → Firm (with_taste v (asking s classes NoClass 0 no_links))
+  class_ends v firm is classes =
+      asking-firm v s classes NoClass 0 no_links firm is idle refl (record {
+        reads = refl;
+        chain = λ ebr. not_asked kinds.Ebr ebr;
+        asked = if-found (provider_at v.topology s.provider) (λ p. IsAskedInOrder v.topology p NoClass) (λ p e. tt);
+      })
 
   -- the taste ends
   taste_ends : Kept (end_taste g q s)
-  taste_ends = record { firm = abort-firm w firm s is idle; next = tt }
+  taste_ends = abort-firm w firm s is idle
 
   module _ (p : Provider) (found : provider_at t s.provider ≡ Some p) where
     -- the sectors of the provider
@@ -128,17 +125,15 @@ module _ (accepts : AcceptsStayFirm) (w : World) (firm : Firm w) (s : Taste) (is
           judged = Read sector;
         })
     read_kept classes asked reads chain kind sector can (Some e) refused = class_ends w firm is classes
-    read_kept classes asked reads chain kind sector can None passes = record {
-      firm = submitted-firm w firm s p (record { taste = is; idle = idle; found = found; passes = passes }) classes kind
-          (reads + 1) chain
-          (record {
-            reads = can.few;
-            chain = λ ebr. there (λ p. ChainHolds (p.size / p.sector) (ReadOut kind) (reads + 1) chain) (can.hold ebr);
-            asked = there (λ p. IsAskedInOrder t p (ReadOut kind)) can.there;
-          })
-          sector can.inside;
-      next = λ ebr. there (λ p. IsNextLink (p.size / p.sector) chain) (can.next ebr);
-    }
+    read_kept classes asked reads chain kind sector can None passes =
+        submitted-firm w firm s p (record { taste = is; idle = idle; found = found; passes = passes }) classes kind
+        (reads + 1) chain
+        (record {
+          reads = can.few;
+          chain = λ ebr. there (λ p. ChainHolds (p.size / p.sector) (ReadOut kind) (reads + 1) chain) (can.hold ebr);
+          asked = there (λ p. IsAskedInOrder t p (ReadOut kind)) can.there;
+        })
+        sector can.inside
 
     -- A result
 
@@ -158,19 +153,15 @@ module _ (accepts : AcceptsStayFirm) (w : World) (firm : Firm w) (s : Taste) (is
     -- the next link of a chain is known
     more_kept : (kind : Kind) (got : BioResult) (c : Chain) (sector : ℕ) → s.asked ≡ ReadBack kind got → kind ≡ kinds.Ebr
         → GoesOnTo n s.reads sector c
-        → IsFirmWithLinks (with_taste w (asking s s.classes (NextSector kind sector) s.reads c))
-    more_kept kind got c sector asks ebr goes = record {
-      firm = asking-firm w s s.classes (NextSector kind sector) s.reads c firm is idle refl (record {
-        reads = goes.reads;
-        chain = λ asked. there (λ p. ChainHolds (p.size / p.sector) (NextSector kind sector) s.reads c)
-            (subst (λ k. ChainHolds n (NextSector k sector) s.reads c) (sym ebr) goes.hold);
-        asked = there (λ p. IsAskedInOrder t p (NextSector kind sector)) (
-          (let back : IsAskedInOrder t p (ReadBack kind got) = subst (IsAskedInOrder t p) asks was_asked in back.0),
-          goes.inside,
-        );
-      });
-      next = λ asked. there (λ p. IsNextLink (p.size / p.sector) c) goes.next;
-    }
+        → Firm (with_taste w (asking s s.classes (NextSector kind sector) s.reads c))
+    more_kept kind got c sector asks ebr goes =
+        let back : IsAskedInOrder t p (ReadBack kind got) = subst (IsAskedInOrder t p) asks was_asked in
+        asking-firm w s s.classes (NextSector kind sector) s.reads c firm is idle refl (record {
+          reads = goes.reads;
+          chain = λ asked. there (λ p. ChainHolds (p.size / p.sector) (NextSector kind sector) s.reads c)
+              (subst (λ k. ChainHolds n (NextSector k sector) s.reads c) (sym ebr) goes.hold);
+          asked = there (λ p. IsAskedInOrder t p (NextSector kind sector)) (back.0, goes.inside);
+        })
 
     -- by the verdict
     follow_kept : (kind : Kind) (bytes : List ℕ) (c : Chain) → s.asked ≡ ReadBack kind (results.Bytes bytes)
@@ -191,12 +182,10 @@ module _ (accepts : AcceptsStayFirm) (w : World) (firm : Firm w) (s : Taste) (is
         let ebr : class_asked s.asked ≡ Some kinds.Ebr = ap class_asked asks in
         let hold : ChainHolds n s.asked s.reads s.chain =
         at-found (provider_at t s.provider) (λ p. ChainHolds (p.size / p.sector) s.asked s.reads s.chain) p found
-        (was.chain ebr) in
-        let next : IsNextLink n s.chain =
-        at-found (provider_at t s.provider) (λ p. IsNextLink (p.size / p.sector) s.chain) p found (linked ebr) in (
+        (was.chain ebr) in (
           refl,
           more_links n s.reads sector s.chain bytes (results.Bytes bytes)
-              (subst (λ a. ChainHolds n a s.reads s.chain) asks hold) next more,
+              (subst (λ a. ChainHolds n a s.reads s.chain) asks hold) more,
         )
 
     -- a sector that is back, by the class
@@ -250,12 +239,12 @@ module _ (accepts : AcceptsStayFirm) (w : World) (firm : Firm w) (s : Taste) (is
         few = omega arith;
         parts = All-nil _;
         sector = tt;
-        zero = tt;
+        zero = refl;
         inside = All-nil _;
+        near = some_sector;
         apart = λ i j d less short. absurd (omega (arith, short));
         new = All-nil _;
       };
-      next = λ ebr. record { zero = refl; near = some_sector };
     }
 
     -- by the sector for which it asks first
@@ -309,11 +298,10 @@ module _ (accepts : AcceptsStayFirm) (w : World) (firm : Firm w) (s : Taste) (is
                 sector = tt;
                 zero = held.zero;
                 inside = held.inside;
+                near = held.near;
                 apart = held.apart;
                 new = held.new;
               };
-          next = λ ebr. at-found (provider_at t s.provider) (λ p. IsNextLink (p.size / p.sector) s.chain) p found
-              (linked (same ∙ ebr));
         }
 
     -- by how far a class has been asked
@@ -342,26 +330,24 @@ module _ (accepts : AcceptsStayFirm) (w : World) (firm : Firm w) (s : Taste) (is
   going_kept false e = provider_kept e (provider_at t s.provider) refl
 
   -- so a step of the taste
-  pub judged-firm : IsFirmWithLinks (judge_step w s).0
+  pub judged-firm : Firm (judge_step w s).0
   unfolding judge_step
   judged-firm = going_kept (is_ended t s) refl
 
 -- a read that is out refuses the step
-refused-firm : AcceptsStayFirm → (w : World) (s : Taste) → w.taste ≡ Some s → IsFirmWithLinks w → HasNextLink w s
-    → (b : Bool) → is_read_out s.asked ≡ b → IsFirmWithLinks (world_after w (judge_of w (Some s)))
-refused-firm accepts w s is firm linked true out = rw out firm
-refused-firm accepts w s is firm linked false idle = rw idle (judged-firm accepts w firm.firm s is idle linked)
+refused-firm : AcceptsStayFirm → (w : World) (s : Taste) → w.taste ≡ Some s → Firm w → (b : Bool)
+    → is_read_out s.asked ≡ b → Firm (world_after w (judge_of w (Some s)))
+refused-firm accepts w s is firm true out = rw out firm
+refused-firm accepts w s is firm false idle = rw idle (judged-firm accepts w firm s is idle)
 
 -- by the taste
-by_taste : AcceptsStayFirm → (w : World) → IsFirmWithLinks w → (o : Option Taste) → w.taste ≡ o
-    → IsFirmWithLinks (world_after w (judge_of w o))
+by_taste : AcceptsStayFirm → (w : World) → Firm w → (o : Option Taste) → w.taste ≡ o
+    → Firm (world_after w (judge_of w o))
 by_taste accepts w firm None is = firm
-by_taste accepts w firm (Some s) is =
-    refused-firm accepts w s is firm (subst (λ (o : Option Taste). IfSome o (HasNextLink w)) is firm.next)
-    (is_read_out s.asked) refl
+by_taste accepts w firm (Some s) is = refused-firm accepts w s is firm (is_read_out s.asked) refl
 
 -- the step of a taste
-step-firm : AcceptsStayFirm → (w : World) (seat : ℕ) → IsFirmWithLinks w → IsFirmWithLinks (world_by w seat steps.Judge)
+step-firm : AcceptsStayFirm → (w : World) (seat : ℕ) → Firm w → Firm (world_by w seat steps.Judge)
 unfolding step judge_next
 step-firm accepts w seat firm = by_taste accepts w firm w.taste refl
 

@@ -10,8 +10,7 @@ pub fn links_stay_in_order()
     ensures { LinksStayInOrder }
 {}
 
-/// A step of a taste leaves a firm world firm, and the chain's next link one, where what is made of an accepted sector
-/// leaves it firm.
+/// A step of a taste leaves a firm world firm, where what is made of an accepted sector does.
 #[tactic(auto, using(crate::proofs::Judging::judges_stay_firm))]
 pub fn judges_stay_firm()
     ensures { JudgesStayFirm }

@@ -1,5 +1,5 @@
 -- What holds of the mesh at every moment.
-use Rattle.std.specs.Prelude.{◌≡◌, ◌≢◌, ◌↔◌, ◌⊎◌, ℕ, ◌+◌, ◌/◌, ◌%◌, ◌^◌, ◌<◌, ◌≤◌, ◌==◌, Bool, true, false, not, ◌&&◌, [], ◌∷◌, length, map, count_by, Option, Some, None, ⊤, IsSome, IsSomeAnd, IfSome, MatchOption, IsTrue, All, AllPairs, option_and_then, slice_get}
+use Rattle.std.specs.Prelude.{◌≡◌, ◌≢◌, ◌↔◌, ◌⊎◌, ℕ, ◌+◌, ◌/◌, ◌%◌, ◌^◌, ◌<◌, ◌≤◌, ◌==◌, Bool, true, false, not, ◌&&◌, [], ◌∷◌, ◌++◌, length, map, count_by, Option, Some, None, ⊤, IsSome, IsSomeAnd, IfSome, MatchOption, IsTrue, All, AllPairs, option_and_then, slice_get}
 use Rattle.std.specs.List.{list_any}
 use Rattle.std.specs.Option.{option_map_or}
 use Rattle.geo_base.specs.declared.kind.Kind.{Kind}
@@ -178,15 +178,16 @@ pub record IsPartOf (n : ℕ) (s : EbrPart) : Type 0 where
   pub some : 1 ≤ s.count
   pub inside : s.first + s.count ≤ n
 
--- the chain of a taste of a provider of n sectors, for which EBR is asked after so many reads: its links are the first of
--- a chain, and the next one isn't among them
+-- the chain of a taste of a provider of n sectors, for which EBR is asked after so many reads: its links and the next one
+-- are the first of a chain, and the next one isn't among them
 pub record ChainHolds (n : ℕ) (asked : Asked) (made : ℕ) (c : Chain) : Type 0 where
   pub reads : made ≡ length c.links + reads_out asked
   pub few : length c.links < link_limit
   pub parts : All (λ l. IfSome l.part (IsPartOf n)) c.links
   pub sector : IsNext asked c.next
-  pub zero : BeginsAtZero (map (λ l. l.sector) c.links)
+  pub zero : BeginsAtZero (map (λ l. l.sector) c.links ++ c.next ∷ [])
   pub inside : All (λ l. l.sector < n) c.links
+  pub near : c.next < n
   pub apart : AllPairs (λ a b. a ≢ b) (map (λ l. l.sector) c.links)
   pub new : All (λ l. l.sector ≢ c.next) c.links
 
