@@ -1,50 +1,34 @@
 -- What is known of a tasted provider whose sector a class accepts.
-use Rattle.std.specs.Prelude.{◌≡◌, ℕ, ◌<◌, ◌≤◌, ◌==◌, Bool, true, false, not, ◌&&◌, List, [], ◌∷◌, Some, None, IfSome, Contains}
+use Rattle.std.specs.Prelude.{◌≡◌, ℕ, ◌-◌, ◌*◌, ◌/◌, ◌<◌, ◌≤◌, ◌==◌, nat_le, Bool, true, false, List, [], ◌∷◌, Some, None, IsSome, IfSome, Contains, if◌then◌else◌}
 use Rattle.std.proofs.Common.{refl, subst, arith}
-use Rattle.std.proofs.lemmas.Bool.{and_parts, not-true}
+use Rattle.std.proofs.lemmas.Bool.{leb-true}
 use Rattle.std.proofs.lemmas.List.Elements.{All-contains}
-use Rattle.geo_base.specs.Name.{is_name}
+use Rattle.std.proofs.Math.Nat.{div-mul-le_self, mul-le-mul_right}
 use Rattle.geo_base.specs.Sectors.{IsSectorSize}
 use Rattle.geo_base.specs.declared.kind.Kind.{Kind}
 use Rattle.geo_model.specs.declared.class.Shape.{Shape}
 use Rattle.geo_model.specs.declared.step.BioResult.TheVariants as results
-use Rattle.geo_model.specs.Topology.{Topology, Geom, Provider, geom_at, provider_at, geom_of_provider, is_name_taken}
+use Rattle.geo_model.specs.Topology.{Topology, Geom, Provider, geom_at, provider_at, geom_of_provider}
 use Rattle.geo_model.specs.Rank.{rank, rank_limit}
 use Rattle.geo_model.specs.World.{World, Config, Taste, ReadBack}
 use Rattle.geo_model.specs.Events.{QueuedTopology, taste_limit}
-use Rattle.geo_model.specs.Acceptance.{are_names_free, if_free}
 use Rattle.geo_model.specs.GeomCommands.{rank_over}
 use Rattle.geo_model.specs.Sound.{IsMediaSize, IsTasteInOrder}
 use Rattle.geo_model.specs.Fitting.{AsksThere, IsOneSector, IsAskedInOrder, Firm}
 use Rattle.geo_laws_graph.proofs.Members.{find-Contains}
 use Rattle.geo_laws_graph.proofs.Numbered.{number_found}
-use Rattle.geo_laws_counts.proofs.LimitFacts.{all_true}
 use Rattle.geo_laws_less.proofs.Found.{found-with, at-found, one-found}
 use Rattle.geo_laws_making.proofs.Made.{through}
 use Rattle.geo_laws_geoms.proofs.Nopped.{found_by_number}
 use Rattle.geo_laws_accepts.specs.AcceptLaws.{IsAccepted}
 
--- what is made where names are free
-pub record IsMadeFree (t : Topology Config) (names : List (List ℕ)) (there made : QueuedTopology Config) : Type 0 where
-  pub free : are_names_free t names ≡ true
-  pub is : there ≡ made
-
--- so it is where it is made at all
-pub free-made : (t : Topology Config) (names : List (List ℕ)) (there made : QueuedTopology Config)
-    → if_free t names there ≡ Some made → IsMadeFree t names there made
-free-made t names there made e = by (are_names_free t names) refl e where
-  -- by whether the names are free
-  by : (b : Bool) → are_names_free t names ≡ b → if_free t names there ≡ Some made → IsMadeFree t names there made
-  by true is e = record { free = is; is = let both : Some there ≡ Some made = rw is at e in cc }
-  by false is e = absurd (let none : None ≡ Some made = rw is at e in let no : ⊥ = cc in no)
-
--- a name of those that are free isn't taken
-pub not-taken : (t : Topology Config) (names : List (List ℕ)) → are_names_free t names ≡ true → (name : List ℕ)
-    → Contains names name → is_name_taken t name ≡ false
-not-taken t names free name here =
-    not-true (is_name_taken t name)
-    (and_parts (is_name name) (not (is_name_taken t name))
-    (all_true (λ name. is_name name && not (is_name_taken t name)) names free name here)).1
+-- a test of two sectors that asks has two
+two_sectors : (n m : ℕ) → IsSome (if nat_le 2 n then Some m else None) → 2 ≤ n
+two_sectors n m = by (nat_le 2 n) refl where
+  -- by the test
+  by : (b : Bool) → nat_le 2 n ≡ b → IsSome (if b then Some m else None) → 2 ≤ n
+  by true e asks = leb-true 2 n e
+  by false e asks = absurd (let no : ⊥ = cc in no)
 
 module _ (w : World) (s : Taste) (p : Provider) (kind : Kind) (bytes : List ℕ) (shape : Shape)
     (made : QueuedTopology Config) (firm : Firm w) (accepted : IsAccepted w s p kind bytes shape made) where
@@ -107,3 +91,12 @@ module _ (w : World) (s : Taste) (p : Provider) (kind : Kind) (bytes : List ℕ)
   -- so a geom over it isn't too high
   pub low : rank_over t (p ∷ []) ≤ rank_limit
   low = let here : rank t p.geom < 8 = has_geom.low in omega arith
+
+  -- where a class asks whether there are two sectors, the provider is longer than one
+  pub longer : IsSome (if nat_le 2 (p.size / p.sector) then Some (p.size / p.sector - 1) else None) → p.sector < p.size
+  longer some =
+      let two : 2 ≤ p.size / p.sector = two_sectors (p.size / p.sector) (p.size / p.sector - 1) some in
+      let all : p.size / p.sector * p.sector ≤ p.size = div-mul-le_self p.size p.sector in
+      let more : 2 * p.sector ≤ p.size / p.sector * p.sector = mul-le-mul_right p.sector two in
+      let positive : 1 ≤ p.size = media.positive in
+      omega arith

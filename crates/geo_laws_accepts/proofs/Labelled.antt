@@ -1,10 +1,9 @@
 -- A label: a geom over the tasted provider, with a provider that is one sector smaller.
-use Rattle.std.specs.Prelude.{◌≡◌, ◌≢◌, ℕ, ◌+◌, ◌-◌, ◌*◌, ◌/◌, ◌^◌, ◌<◌, ◌≤◌, nat_le, Bool, true, false, List, [], ◌∷◌, Some, None, IsSome, if◌then◌else◌}
+use Rattle.std.specs.Prelude.{◌≡◌, ◌≢◌, ℕ, ◌-◌, ◌^◌, ◌<◌, ◌≤◌, true, false, List, [], ◌∷◌, Some, IsSome}
 use Rattle.std.proofs.Common.{inr, refl, subst, arith}
-use Rattle.std.proofs.lemmas.Bool.{leb-true}
 use Rattle.std.proofs.lemmas.List.Elements.{All-from_recursion}
 use Rattle.std.proofs.lemmas.Nat.Gcd.{dvd_of_mod-eq-zero, mod-eq-zero_of_dvd, dvd_refl}
-use Rattle.std.proofs.Math.Nat.{dvd-sub, div-mul-le_self, mul-le-mul_right}
+use Rattle.std.proofs.Math.Nat.{dvd-sub}
 use Rattle.geo_base.specs.declared.kind.Kind.TheVariants as kinds
 use Rattle.geo_model.specs.declared.class.LabelRecord.{LabelRecord}
 use Rattle.geo_model.specs.declared.class.Shape.TheVariants.{Named}
@@ -23,16 +22,9 @@ use Rattle.geo_laws_less.proofs.Found.{some-with, some-there}
 use Rattle.geo_laws_making.specs.MakingLaws.{below_new, HasPlace, CanOffer, CanMake}
 use Rattle.geo_laws_making.proofs.Over.{false_true, below-here}
 use Rattle.geo_laws_making.proofs.Made.{made-firm}
+use Rattle.geo_laws_assemblies.proofs.MadeFree.{free-made, not-taken}
 use Rattle.geo_laws_accepts.specs.AcceptLaws.{IsAccepted, LabelsStayFirm}
-use Rattle.geo_laws_accepts.proofs.Accepted.{free-made, not-taken, found, media, sector_size, asks, low}
-
--- a test of two sectors that asks has two
-two_sectors : (n m : ℕ) → IsSome (if nat_le 2 n then Some m else None) → 2 ≤ n
-two_sectors n m = by (nat_le 2 n) refl where
-  -- by the test
-  by : (b : Bool) → nat_le 2 n ≡ b → IsSome (if b then Some m else None) → 2 ≤ n
-  by true e asks = leb-true 2 n e
-  by false e asks = absurd (let no : ⊥ = cc in no)
+use Rattle.geo_laws_accepts.proofs.Accepted.{found, media, sector_size, asks, low, longer}
 
 module _ (w : World) (s : Taste) (p : Provider) (bytes : List ℕ) (record_of : LabelRecord)
     (made : QueuedTopology Config) (firm : Firm w)
@@ -50,14 +42,10 @@ module _ (w : World) (s : Taste) (p : Provider) (bytes : List ℕ) (record_of : 
   slice = record { name = label_name record_of.name; size = p.size - p.sector }
 
   -- there are two sectors
-  large : p.sector + 1 ≤ p.size
+  large : p.sector < p.size
   large =
-      let two : 2 ≤ p.size / p.sector = two_sectors (p.size / p.sector) (p.size / p.sector - 1)
-      (asks w s p kinds.Label bytes (Named record_of) made firm accepted) in
-      let all : p.size / p.sector * p.sector ≤ p.size = div-mul-le_self p.size p.sector in
-      let more : 2 * p.sector ≤ p.size / p.sector * p.sector = mul-le-mul_right p.sector two in
-      let some : 1 ≤ p.size = (media w s p kinds.Label bytes (Named record_of) made firm accepted).positive in
-      omega arith
+      longer w s p kinds.Label bytes (Named record_of) made firm accepted
+      (asks w s p kinds.Label bytes (Named record_of) made firm accepted)
 
   -- its size is one
   label_media : IsMediaSize (p.size - p.sector) p.sector

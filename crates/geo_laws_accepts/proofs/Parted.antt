@@ -32,8 +32,9 @@ use Rattle.geo_laws_less.proofs.Found.{some-with, some-there, at-found, if-found
 use Rattle.geo_laws_making.specs.MakingLaws.{below_new, HasPlace, CanOffer, CanMake}
 use Rattle.geo_laws_making.proofs.Over.{false_true, below-here}
 use Rattle.geo_laws_making.proofs.Made.{made-firm}
+use Rattle.geo_laws_assemblies.proofs.MadeFree.{free-made, not-taken}
 use Rattle.geo_laws_accepts.specs.AcceptLaws.{IsAccepted, PartitionsStayFirm}
-use Rattle.geo_laws_accepts.proofs.Accepted.{free-made, not-taken, found, media, asks, low, tasting}
+use Rattle.geo_laws_accepts.proofs.Accepted.{found, media, asks, low, tasting}
 use Rattle.geo_laws_accepts.proofs.NewSlices.{IsOfPlace, of-place, new-differ, logical-tells}
 use Rattle.geo_laws_accepts.proofs.Sliced.{asks-first, not-zero}
 

@@ -30,8 +30,9 @@ use Rattle.geo_laws_less.proofs.Found.{some-with, some-there}
 use Rattle.geo_laws_making.specs.MakingLaws.{below_new, HasPlace, CanOffer, CanMake}
 use Rattle.geo_laws_making.proofs.Over.{false_true, below-here}
 use Rattle.geo_laws_making.proofs.Made.{made-firm}
+use Rattle.geo_laws_assemblies.proofs.MadeFree.{free-made, not-taken}
 use Rattle.geo_laws_accepts.specs.AcceptLaws.{IsAccepted, SlicesStayFirm}
-use Rattle.geo_laws_accepts.proofs.Accepted.{free-made, not-taken, found, media, asks, low}
+use Rattle.geo_laws_accepts.proofs.Accepted.{found, media, asks, low}
 use Rattle.geo_laws_accepts.proofs.NewSlices.{IsOfPlace, of-place, new-differ, slice-tells}
 
 -- the first part of a test that asks holds

@@ -3,11 +3,13 @@
 use Rattle.std.specs.Prelude.{◌≡◌, ℕ, false, List, Some}
 use Rattle.geo_base.specs.declared.kind.Kind.{Kind}
 use Rattle.geo_base.specs.declared.kind.Kind.TheVariants as kinds
+use Rattle.geo_model.specs.declared.class.ConcatRecord.{ConcatRecord}
 use Rattle.geo_model.specs.declared.class.EbrTable.{EbrTable}
 use Rattle.geo_model.specs.declared.class.LabelRecord.{LabelRecord}
 use Rattle.geo_model.specs.declared.class.MbrTable.{MbrTable}
 use Rattle.geo_model.specs.declared.class.Shape.{Shape}
-use Rattle.geo_model.specs.declared.class.Shape.TheVariants.{Slices, Logical, Named}
+use Rattle.geo_model.specs.declared.class.StripeRecord.{StripeRecord}
+use Rattle.geo_model.specs.declared.class.Shape.TheVariants.{Slices, Logical, Named, Joined, Striped}
 use Rattle.geo_model.specs.declared.class.Verdict.TheVariants.{Accept}
 use Rattle.geo_model.specs.declared.step.BioResult.TheVariants as results
 use Rattle.geo_model.specs.Topology.{Provider, provider_at}
@@ -49,4 +51,13 @@ pub record SlicesStayFirm : Type 0 where
 pub record PartitionsStayFirm : Type 0 where
   pub partitions : (w : World) (s : Taste) (p : Provider) (bytes : List ℕ) (table : EbrTable)
       (made : QueuedTopology Config) → Firm w → IsAccepted w s p kinds.Ebr bytes (Logical table) made
+      → Firm (with_queued w made)
+
+-- with a place of a concat or of a stripe, and with the provider that comes with the last one
+pub record PlacesStayFirm : Type 0 where
+  pub concat : (w : World) (s : Taste) (p : Provider) (bytes : List ℕ) (found : ConcatRecord)
+      (made : QueuedTopology Config) → Firm w → IsAccepted w s p kinds.Concat bytes (Joined found) made
+      → Firm (with_queued w made)
+  pub stripe : (w : World) (s : Taste) (p : Provider) (bytes : List ℕ) (found : StripeRecord)
+      (made : QueuedTopology Config) → Firm w → IsAccepted w s p kinds.Stripe bytes (Striped found) made
       → Firm (with_queued w made)

@@ -2,7 +2,7 @@
 //! fitting (geom(4)).
 #![tactic(auto)]
 
-ghost use Rattle.geo_laws_accepts.specs.AcceptLaws.{LabelsStayFirm, PartitionsStayFirm, SlicesStayFirm};
+ghost use Rattle.geo_laws_accepts.specs.AcceptLaws.{AcceptsStayFirm, LabelsStayFirm, PartitionsStayFirm, PlacesStayFirm, SlicesStayFirm};
 
 /// A firm mesh stays firm with a label that is accepted.
 #[tactic(auto, using(crate::proofs::Labelled::labels_stay))]
@@ -20,4 +20,16 @@ pub fn slices_stay_firm()
 #[tactic(auto, using(crate::proofs::Parted::partitions_stay))]
 pub fn partitions_stay_firm()
     ensures { PartitionsStayFirm }
+{}
+
+/// A firm mesh stays firm with a place of a concat or a stripe that is accepted, and with its completion.
+#[tactic(auto, using(crate::proofs::Placed::places_stay))]
+pub fn places_stay_firm()
+    ensures { PlacesStayFirm }
+{}
+
+/// A firm mesh stays firm with whatever is made of an accepted verdict.
+#[tactic(auto, using(crate::proofs::Accepts::accepts_stay))]
+pub fn accepts_stay_firm()
+    ensures { AcceptsStayFirm }
 {}

@@ -1,0 +1,17 @@
+//! Laws of assemblies: a provider that takes a place of a concat or a stripe by its record keeps a firm mesh firm, one that
+//! is sound, steady and fitting (geom(4)).
+#![tactic(auto)]
+
+ghost use Rattle.geo_laws_assemblies.specs.AssemblyLaws.{ConcatPlacesStayFirm, StripePlacesStayFirm};
+
+/// A firm mesh stays firm where a provider takes a place of a concat.
+#[tactic(auto, using(crate::proofs::Placed::concat_places_stay))]
+pub fn concat_places_stay_firm()
+    ensures { ConcatPlacesStayFirm }
+{}
+
+/// A firm mesh stays firm where a provider takes a place of a stripe.
+#[tactic(auto, using(crate::proofs::Placed::stripe_places_stay))]
+pub fn stripe_places_stay_firm()
+    ensures { StripePlacesStayFirm }
+{}
