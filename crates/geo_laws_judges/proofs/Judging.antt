@@ -34,7 +34,8 @@ use Rattle.geo_model.specs.Log.{world_after}
 use Rattle.geo_model.specs.Step.{step, judge_of, judge_next}
 use Rattle.geo_laws_graph.proofs.Members.{find-Contains}
 use Rattle.geo_laws_less.proofs.Found.{if-found, at-found}
-use Rattle.geo_laws_accepts.specs.AcceptLaws.{AcceptsStayFirm, IsAccepted}
+use Rattle.geo_laws_accepts.specs.AcceptLaws.{IsAccepted}
+use Rattle.geo_laws_accepts.proofs.Accepts.{accepts_stay}
 use Rattle.geo_laws_tastes.specs.TasteLaws.{asking, with_taste, IsAsking, IsGranted}
 use Rattle.geo_laws_judges.specs.ChainSteps.{GoesOnTo}
 use Rattle.geo_laws_judges.specs.JudgeLaws.{JudgesStayFirm}
@@ -55,7 +56,7 @@ record CanRead (t : Topology Config) (p : Provider) (kind : Kind) (sector reads 
   few : reads + 1 ≤ reads_limit
   hold : Some kind ≡ Some kinds.Ebr → ChainHolds (p.size / p.sector) (ReadOut kind) (reads + 1) chain
 
-module _ (accepts : AcceptsStayFirm) (w : World) (firm : Firm w) (s : Taste) (is : w.taste ≡ Some s)
+module _ (w : World) (firm : Firm w) (s : Taste) (is : w.taste ≡ Some s)
     (idle : is_read_out s.asked ≡ false) where
   -- the graph, the grants, the graph with the queue
   abbrev t : Topology Config
@@ -147,7 +148,7 @@ module _ (accepts : AcceptsStayFirm) (w : World) (firm : Firm w) (s : Taste) (is
     made_kept kind bytes c shape asks going verdict None makes = class_ends w firm is s.classes
     made_kept kind bytes c shape asks going verdict (Some made) makes =
         class_ends (with_queued w made)
-        (accepts.accept w s p kind bytes shape made firm
+        (accepts_stay.accept w s p kind bytes shape made firm
         (record { taste = is; asked = asks; going = going; found = found; verdict = verdict; makes = makes })) is s.classes
 
     -- the next link of a chain is known
@@ -335,22 +336,26 @@ module _ (accepts : AcceptsStayFirm) (w : World) (firm : Firm w) (s : Taste) (is
   judged-firm = going_kept (is_ended t s) refl
 
 -- a read that is out refuses the step
-refused-firm : AcceptsStayFirm → (w : World) (s : Taste) → w.taste ≡ Some s → Firm w → (b : Bool)
-    → is_read_out s.asked ≡ b → Firm (world_after w (judge_of w (Some s)))
-refused-firm accepts w s is firm true out = rw out firm
-refused-firm accepts w s is firm false idle = rw idle (judged-firm accepts w firm s is idle)
+refused-firm : (w : World) (s : Taste) → w.taste ≡ Some s → Firm w → (b : Bool) → is_read_out s.asked ≡ b
+    → Firm (world_after w (judge_of w (Some s)))
+refused-firm w s is firm true out = rw out firm
+refused-firm w s is firm false idle = rw idle (judged-firm w firm s is idle)
 
 -- by the taste
-by_taste : AcceptsStayFirm → (w : World) → Firm w → (o : Option Taste) → w.taste ≡ o
-    → Firm (world_after w (judge_of w o))
-by_taste accepts w firm None is = firm
-by_taste accepts w firm (Some s) is = refused-firm accepts w s is firm (is_read_out s.asked) refl
+by_taste : (w : World) → Firm w → (o : Option Taste) → w.taste ≡ o → Firm (world_after w (judge_of w o))
+by_taste w firm None is = firm
+by_taste w firm (Some s) is = refused-firm w s is firm (is_read_out s.asked) refl
 
--- the step of a taste
-step-firm : AcceptsStayFirm → (w : World) (seat : ℕ) → Firm w → Firm (world_by w seat steps.Judge)
-unfolding step judge_next
-step-firm accepts w seat firm = by_taste accepts w firm w.taste refl
+-- a step of a taste, whether it is enabled or not
+next-firm : (w : World) → Firm w → Firm (world_after w (judge_next w))
+unfolding judge_next
+next-firm w firm = by_taste w firm w.taste refl
+
+-- so the step by any seat
+step-firm : (w : World) (seat : ℕ) → Firm w → Firm (world_by w seat steps.Judge)
+unfolding step
+step-firm w seat firm = next-firm w firm
 
 -- steps of tastes keep a firm mesh firm
 pub judges_stay_firm : JudgesStayFirm
-judges_stay_firm = record { step = step-firm }
+judges_stay_firm = record { judged = next-firm; step = step-firm }

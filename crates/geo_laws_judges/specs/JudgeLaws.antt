@@ -4,8 +4,10 @@ use Rattle.geo_model.specs.declared.step.Step.TheVariants as steps
 use Rattle.geo_model.specs.World.{World}
 use Rattle.geo_model.specs.Fitting.{Firm}
 use Rattle.geo_model.specs.Laws.{world_by}
-use Rattle.geo_laws_accepts.specs.AcceptLaws.{AcceptsStayFirm}
+use Rattle.geo_model.specs.Log.{world_after}
+use Rattle.geo_model.specs.Step.{judge_next}
 
--- the step of a taste leaves a firm world firm, where what is made of an accepted sector does
+-- a step of a taste leaves a firm world firm, whether it is enabled or not, made by any seat
 pub record JudgesStayFirm : Type 0 where
-  pub step : AcceptsStayFirm → (w : World) (seat : ℕ) → Firm w → Firm (world_by w seat steps.Judge)
+  pub judged : (w : World) → Firm w → Firm (world_after w (judge_next w))
+  pub step : (w : World) (seat : ℕ) → Firm w → Firm (world_by w seat steps.Judge)

@@ -10,7 +10,7 @@ pub fn links_stay_in_order()
     ensures { LinksStayInOrder }
 {}
 
-/// A step of a taste leaves a firm world firm, where what is made of an accepted sector does.
+/// A step of a taste leaves a firm world firm.
 #[tactic(auto, using(crate::proofs::Judging::judges_stay_firm))]
 pub fn judges_stay_firm()
     ensures { JudgesStayFirm }
