@@ -46,7 +46,8 @@ module _ (w : World) (s : Taste) (p : Provider) (kind : Kind) (bytes : List ℕ)
 
   -- has a size
   pub media : IsMediaSize p.size p.sector
-  media = All-contains (λ (x : Provider). IsMediaSize x.size x.sector) t.providers p firm.sound.providers.sizes stands
+  media =
+      All-contains (λ (x : Provider). IsMediaSize x.size x.sector) t.providers p firm.sound.providers.sizes stands
 
   -- and a sector size
   pub sector_size : IsSectorSize p.sector
@@ -84,7 +85,8 @@ module _ (w : World) (s : Taste) (p : Provider) (kind : Kind) (bytes : List ℕ)
       let h = found-with (geom_of_provider t s.provider) (λ h. rank t h.number < taste_limit) tasting.rank in
       let x = through (λ (x : Provider). geom_at t x.geom) (provider_at t s.provider) h.item h.is in
       let same : x.first ≡ p = one-found (provider_at t s.provider) x.first p x.is accepted.found in
-      let is : geom_at t p.geom ≡ Some h.item = subst (λ (z : Provider). geom_at t z.geom ≡ Some h.item) same x.then in
+      let is : geom_at t p.geom ≡ Some h.item =
+      subst (λ (z : Provider). geom_at t z.geom ≡ Some h.item) same x.then in
       let number : h.item.number ≡ p.geom = number_found (λ (z : Geom Config). z.number) t.geoms p.geom h.item is in
       record { geom = h.item; is = is; low = subst (λ m. rank t m < taste_limit) number h.fact }
 
@@ -93,7 +95,8 @@ module _ (w : World) (s : Taste) (p : Provider) (kind : Kind) (bytes : List ℕ)
   low = let here : rank t p.geom < 8 = has_geom.low in omega arith
 
   -- where a class asks whether there are two sectors, the provider is longer than one
-  pub longer : IsSome (if nat_le 2 (p.size / p.sector) then Some (p.size / p.sector - 1) else None) → p.sector < p.size
+  pub longer : IsSome (if nat_le 2 (p.size / p.sector) then Some (p.size / p.sector - 1) else None)
+      → p.sector < p.size
   longer some =
       let two : 2 ≤ p.size / p.sector = two_sectors (p.size / p.sector) (p.size / p.sector - 1) some in
       let all : p.size / p.sector * p.sector ≤ p.size = div-mul-le_self p.size p.sector in

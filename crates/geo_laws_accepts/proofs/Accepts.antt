@@ -32,7 +32,8 @@ pub record IsOfShape {A : Type 0} (make : A → Shape) (shape : Shape) : Type 0 
   pub is : shape ≡ make found
 
 -- so it is where a class says so
-shape_of : {A : Type 0} (make : A → Shape) (r : Result A DeclineCause) (shape : Shape) → verdict_of make r ≡ Accept shape
+shape_of : {A : Type 0} (make : A → Shape) (r : Result A DeclineCause) (shape : Shape)
+    → verdict_of make r ≡ Accept shape
     → IsOfShape make shape
 shape_of make (Ok found) shape e = record { found = found; is = let same : make found ≡ shape = cc in sym same }
 shape_of make (Err cause) shape e = absurd (let no : ⊥ = cc in no)
@@ -50,13 +51,16 @@ label_of f (Ok found) shape e = label_by found shape (is_other_size found.size (
 label_of f (Err cause) shape e = absurd (let no : ⊥ = cc in no)
 
 -- of a chain, by whether it leads on
-chain_by : (c : Chain) (shape : Shape) (b : Bool) → (if b then More c.next else Accept (Logical (table_of c.links))) ≡ Accept shape
+chain_by : (c : Chain) (shape : Shape) (b : Bool)
+    → (if b then More c.next else Accept (Logical (table_of c.links))) ≡ Accept shape
     → IsOfShape Logical shape
 chain_by c shape true e = absurd (let no : ⊥ = cc in no)
-chain_by c shape false e = record { found = table_of c.links; is = let same : Logical (table_of c.links) ≡ shape = cc in sym same }
+chain_by c shape false e =
+    record { found = table_of c.links; is = let same : Logical (table_of c.links) ≡ shape = cc in sym same }
 
 -- so of a chain
-chain_of : (c : Chain) (bytes : List ℕ) (o : Option DeclineCause) (shape : Shape) → chain_verdict c bytes o ≡ Accept shape
+chain_of : (c : Chain) (bytes : List ℕ) (o : Option DeclineCause) (shape : Shape)
+    → chain_verdict c bytes o ≡ Accept shape
     → IsOfShape Logical shape
 chain_of c bytes (Some cause) shape e = absurd (let no : ⊥ = cc in no)
 chain_of c bytes None shape e = chain_by c shape (leads_on bytes) e
@@ -79,7 +83,8 @@ module _ (w : World) (s : Taste) (p : Provider) (bytes : List ℕ) (shape : Shap
       parts-firm w s p bytes o.found made firm (subst (λ x. IsAccepted w s p kinds.Ebr bytes x made) o.is accepted)
   accepted-firm kinds.Label accepted =
       let o = label_of f (label_record bytes) shape accepted.verdict in
-      label-firm w s p bytes o.found made firm (subst (λ x. IsAccepted w s p kinds.Label bytes x made) o.is accepted)
+      label-firm w s p bytes o.found made firm (subst
+      (λ x. IsAccepted w s p kinds.Label bytes x made) o.is accepted)
   accepted-firm kinds.Concat accepted =
       let o = shape_of Joined (concat_record bytes) shape accepted.verdict in
       places_stay.concat w s p bytes o.found made firm

@@ -55,7 +55,8 @@ module _ (w : World) (s : Taste) (p : Provider) (bytes : List ℕ) (record_of : 
       let limited : p.size ≤ 2 ^ 60 = m.limited in
       record {
         positive = omega arith;
-        whole = mod-eq-zero_of_dvd p.sector (dvd-sub p.sector (dvd_of_mod-eq-zero p.sector m.whole) (dvd_refl p.sector));
+        whole = mod-eq-zero_of_dvd p.sector (dvd-sub p.sector (dvd_of_mod-eq-zero p.sector m.whole)
+            (dvd_refl p.sector));
         limited = omega arith;
       }
 

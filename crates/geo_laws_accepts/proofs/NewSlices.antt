@@ -28,7 +28,8 @@ module _ {X : Type 0} (name : ℕ → List ℕ) (count : X → ℕ) where
   -- the providers of the places from number k on
   abbrev pub new_of : ℕ → List (Option X) → List NewSlice
   new_of k xs =
-      filter_map (λ item. option_map (λ s. record { name = name item.0; size = count s * 512 }) item.1) (enumerate_from k xs)
+      filter_map (λ item. option_map (λ s. record { name = name item.0; size = count s * 512 }) item.1)
+      (enumerate_from k xs)
 
   -- a provider is that of a place that is filled
   pub record IsOfPlace (k : ℕ) (xs : List (Option X)) (x : NewSlice) : Type 0 where
@@ -39,7 +40,8 @@ module _ {X : Type 0} (name : ℕ → List ℕ) (count : X → ℕ) where
     pub size_is : x.size ≡ count item * 512
 
   -- one of the places behind the first
-  behind : (k : ℕ) (o : Option X) (xs : List (Option X)) (x : NewSlice) → IsOfPlace (k + 1) xs x → IsOfPlace k (o ∷ xs) x
+  behind : (k : ℕ) (o : Option X) (xs : List (Option X)) (x : NewSlice) → IsOfPlace (k + 1) xs x
+      → IsOfPlace k (o ∷ xs) x
   behind k o xs x rest =
       let number : k + 1 + rest.place ≡ k + suc rest.place = omega arith in
       record {

@@ -62,11 +62,12 @@ module _ (bytes : List ℕ) (n sector : ℕ) (s : EbrPart) where
   bad = (entry_type bytes 0 == 0) || ((first == 0) || ((count == 0) || nat_lt n (sector + first + count)))
 
   -- by whether it is kept
-  named_by : (b : Bool) → bad ≡ b → (if b then None else Some (record { first = sector + first; count = count })) ≡ Some s
-      → IsPartOf n s
+  named_by : (b : Bool) → bad ≡ b
+      → (if b then None else Some (record { first = sector + first; count = count })) ≡ Some s → IsPartOf n s
   named_by true is e = absurd (let no : ⊥ = cc in no)
   named_by false is e =
-      let a = or_parts (entry_type bytes 0 == 0) ((first == 0) || ((count == 0) || nat_lt n (sector + first + count))) is in
+      let a = or_parts (entry_type bytes 0 == 0)
+      ((first == 0) || ((count == 0) || nat_lt n (sector + first + count))) is in
       let b = or_parts (first == 0) ((count == 0) || nat_lt n (sector + first + count)) a.1 in
       let d = or_parts (count == 0) (nat_lt n (sector + first + count)) b.1 in
       subst (IsPartOf n) (let same : record { first = sector + first; count = count } ≡ s = cc in same)
@@ -127,16 +128,19 @@ module _ (w : World) (s : Taste) (p : Provider) (bytes : List ℕ) (table : EbrT
   parts_are : (table_of links).parts ≡ table.parts
   parts_are =
       ap (λ (x : EbrTable). x.parts)
-      (links-read (with_link n s.chain bytes) bytes (first_error (link_tests n (with_link n s.chain bytes) bytes)) table
+      (links-read (with_link n s.chain bytes) bytes
+      (first_error (link_tests n (with_link n s.chain bytes) bytes)) table
       accepted.verdict)
 
   -- so many
   number : length table.parts ≡ 32
   number =
       let all : length (map (λ (l : LinkRead). l.part) links ++ replicate (32 - length links) None)
-      ≡ length (map (λ (l : LinkRead). l.part) links) + length (replicate {A = Option EbrPart} (32 - length links) None) =
+      ≡ length (map (λ (l : LinkRead). l.part) links)
+      + length (replicate {A = Option EbrPart} (32 - length links) None) =
       length-append (map (λ (l : LinkRead). l.part) links) (replicate (32 - length links) None) in
-      let first : length (map (λ (l : LinkRead). l.part) links) ≡ length links = length-map links (λ (l : LinkRead). l.part) in
+      let first : length (map (λ (l : LinkRead). l.part) links) ≡ length links =
+      length-map links (λ (l : LinkRead). l.part) in
       let rest : length (replicate {A = Option EbrPart} (32 - length links) None) ≡ 32 - length links =
       length-replicate {A = Option EbrPart} (32 - length links) None in
       let short = few in
@@ -197,7 +201,8 @@ module _ (w : World) (s : Taste) (p : Provider) (bytes : List ℕ) (table : EbrT
       IsSomeAnd (option_and_then (below_new c (p ∷ [])) (component config z.component)) (λ q.
       (z.offset < q.size) × (q.sector ≡ 512))) spot
       (ap (option_map (λ (y : EbrPart). record { component = 0; offset = y.first * 512 + o })) at)
-      (some-with (below_new c (p ∷ []) c) (λ q. (spot.offset < q.size) × (q.sector ≡ 512)) p (below-here c p [] c refl)
+      (some-with (below_new c (p ∷ []) c) (λ q. (spot.offset < q.size) × (q.sector ≡ 512)) p
+      (below-here c p [] c refl)
       (omega arith, sectors_are))
 
   -- the names are free
@@ -232,7 +237,8 @@ module _ (w : World) (s : Taste) (p : Provider) (bytes : List ℕ) (table : EbrT
           leads = inr (has_place x o);
         });
     names = pairs-from_recursion (λ (x y : NewSlice). same_name x.name y.name ≡ false) slices
-        (new-differ (logical_name p.name) (λ (y : EbrPart). y.count) (λ name. end_number name - 1) (length table.parts)
+        (new-differ (logical_name p.name) (λ (y : EbrPart). y.count) (λ name. end_number name - 1)
+        (length table.parts)
         (λ i less.
         let here : i + 1 - 1 ≡ i = omega arith in
         let all : length table.parts ≡ 32 = number in

@@ -63,9 +63,11 @@ none_behind [] ys none = none
 none_behind (row ∷ xs) ys none = none_behind xs ys (none_refused row.0 row.1 (xs ++ ys) none).1
 
 -- the place in a concat's record
-concat_place : (bytes : List ℕ) → first_error (concat_tests bytes) ≡ None → IsPlace (u16_at bytes 40) (u16_at bytes 42)
+concat_place : (bytes : List ℕ) → first_error (concat_tests bytes) ≡ None
+    → IsPlace (u16_at bytes 40) (u16_at bytes 42)
 concat_place bytes none =
-    let rest = none_behind (head_tests concat_magic 1 bytes) (place_test (u16_at bytes 40) (u16_at bytes 42) ∷ []) none in
+    let rest = none_behind (head_tests concat_magic 1 bytes)
+    (place_test (u16_at bytes 40) (u16_at bytes 42) ∷ []) none in
     good_place (u16_at bytes 40) (u16_at bytes 42)
     (none_refused (place_test (u16_at bytes 40) (u16_at bytes 42)).0 causes.Place [] rest).0
 
@@ -106,7 +108,8 @@ stripe_firm w s p bytes member made firm accepted =
     let read = stripe_read (first_error (stripe_tests bytes)) _ member accepted.verdict in
     let low = (has_geom w s p kinds.Stripe bytes (Striped member) made firm accepted).low in
     let place = stripe_place bytes read.none in
-    let sector : length bytes ≡ p.sector = one_sector w s p kinds.Stripe bytes (Striped member) made firm accepted in
+    let sector : length bytes ≡ p.sector =
+    one_sector w s p kinds.Stripe bytes (Striped member) made firm accepted in
     stripe_places_stay.stripe w p member made firm
     (record {
       found = found w s p kinds.Stripe bytes (Striped member) made firm accepted;

@@ -78,7 +78,8 @@ module _ (bytes : List ℕ) (n k : ℕ) (s : Slice) where
   kept-inside e = kept_by bad refl e
 
 -- an item of a list that is made of numbers from one on
-made-at : {X : Type 0} (f : ℕ → X) (n m k : ℕ) (x : X) → slice_get (map f (range_with_len n m)) k ≡ Some x → f (n + k) ≡ x
+made-at : {X : Type 0} (f : ℕ → X) (n m k : ℕ) (x : X) → slice_get (map f (range_with_len n m)) k ≡ Some x
+    → f (n + k) ≡ x
 made-at f n zero k x e = absurd (let no : ⊥ = cc in no)
 made-at f n (suc m) zero x e =
     let number : n + 0 ≡ n = omega arith in
@@ -88,7 +89,8 @@ made-at f n (suc m) (suc k) x e =
     ap f number ∙ made-at f (n + 1) m k x e
 
 -- the table that is accepted is the one that was read
-table-read : (o : Option DeclineCause) (x table : MbrTable) → verdict_of Slices (unless o x) ≡ Accept (Slices table) → x ≡ table
+table-read : (o : Option DeclineCause) (x table : MbrTable) → verdict_of Slices (unless o x) ≡ Accept (Slices table)
+    → x ≡ table
 table-read None x table e = cc
 table-read (Some cause) x table e = absurd (let no : ⊥ = cc in no)
 
@@ -125,7 +127,8 @@ module _ (w : World) (s : Taste) (p : Provider) (bytes : List ℕ) (table : MbrT
   kept : kept_entries bytes n ≡ table.slices
   kept =
       ap (λ (x : MbrTable). x.slices)
-      (table-read (first_error (mbr_tests bytes n)) (record { slices = kept_entries bytes n }) table accepted.verdict)
+      (table-read (first_error (mbr_tests bytes n))
+      (record { slices = kept_entries bytes n }) table accepted.verdict)
 
   -- each is some sectors
   inside : (k : ℕ) (x : Slice) → slice_get table.slices k ≡ Some (Some x) → IsSliceOf n x
@@ -166,7 +169,8 @@ module _ (w : World) (s : Taste) (p : Provider) (bytes : List ℕ) (table : MbrT
       IsSomeAnd (option_and_then (below_new c (p ∷ [])) (component config z.component)) (λ q.
       (z.offset < q.size) × (q.sector ≡ 512))) spot
       (ap (option_map (λ (y : Slice). record { component = 0; offset = y.first * 512 + o })) at)
-      (some-with (below_new c (p ∷ []) c) (λ q. (spot.offset < q.size) × (q.sector ≡ 512)) p (below-here c p [] c refl)
+      (some-with (below_new c (p ∷ []) c) (λ q. (spot.offset < q.size) × (q.sector ≡ 512)) p
+      (below-here c p [] c refl)
       (omega arith, sectors_are))
 
   -- the names are free

@@ -1,5 +1,5 @@
--- What an accepted verdict makes of a tasted provider keeps a mesh sound, steady and fitting: a label, slices, logical
--- partitions, a place of an assembly (geom(4)).
+-- What an accepted verdict makes of a tasted provider keeps a mesh sound, steady and fitting: a label, slices,
+-- logical partitions, a place of an assembly (geom(4)).
 use Rattle.std.specs.Prelude.{◌≡◌, ℕ, false, List, Some}
 use Rattle.geo_base.specs.declared.kind.Kind.{Kind}
 use Rattle.geo_base.specs.declared.kind.Kind.TheVariants as kinds

@@ -1,5 +1,5 @@
-//! Laws of what is accepted: what a class makes of a tasted provider keeps a firm mesh firm, one that is sound, steady and
-//! fitting (geom(4)).
+//! Laws of what is accepted: what a class makes of a tasted provider keeps a firm mesh firm, one that is sound,
+//! steady and fitting (geom(4)).
 #![tactic(auto)]
 
 ghost use Rattle.geo_laws_accepts.specs.AcceptLaws.{AcceptsStayFirm, LabelsStayFirm, PartitionsStayFirm, PlacesStayFirm, SlicesStayFirm};

@@ -31,7 +31,8 @@ pub record HasPlaces (config : Config) : Type 0 where
 -- so it is
 pub has-places : (config : Config) → IsAssembly config → HasPlaces config
 has-places (Concat id places sizes) is = record { components_are = refl; component_is = λ k. refl; no_disk = refl }
-has-places (Stripe id stripe places sizes) is = record { components_are = refl; component_is = λ k. refl; no_disk = refl }
+has-places (Stripe id stripe places sizes) is =
+    record { components_are = refl; component_is = λ k. refl; no_disk = refl }
 has-places _ is = absurd is
 
 -- with a place filled it is the same but for that place
@@ -82,7 +83,8 @@ of_stripe kinds.Concat id stripe places sizes fits = absurd (let no : ⊥ = cc i
 of_stripe kinds.Nop id stripe places sizes fits = absurd (let no : ⊥ = cc in no)
 
 -- so for any assembly
-pub of-assembly : (kind : Kind) (config : Config) → IsAssembly config → fits_kind kind config ≡ true → IsOfAssembly kind config
+pub of-assembly : (kind : Kind) (config : Config) → IsAssembly config → fits_kind kind config ≡ true
+    → IsOfAssembly kind config
 of-assembly kind (Concat id places sizes) is fits = of_concat kind id places sizes fits
 of-assembly kind (Stripe id stripe places sizes) is fits = of_stripe kind id stripe places sizes fits
 of-assembly kind _ is fits = absurd is
@@ -104,7 +106,8 @@ in-places (None ∷ places) c here =
 in-places (Some d ∷ places) c here =
     elim (Contains-cases (Some d) (Some c) places here) [
       | inl same ↦
-          subst (λ n. Contains (d ∷ filled_of places) n) (let e : d ≡ c = cc in e) (Contains-here d (filled_of places))
+          subst (λ n. Contains (d ∷ filled_of places) n) (let e : d ≡ c = cc in e)
+          (Contains-here d (filled_of places))
       | inr rest ↦ Contains-there d c (filled_of places) (in-places places c rest)
     ]
 
@@ -167,7 +170,8 @@ filled-differ (Some b ∷ places) (suc k) c other apart = (
     of_first a here = at_contained (λ x. b ≢ x) (filled_of places) a apart.0 here
 
 -- a fact of each place and its size, where one is filled
-pub zip-set : {A B : Type 0} (R : A → B → Type 0) (xs : List A) (ys : List B) (k : ℕ) (a : A) (b : B) → AllZip R xs ys
+pub zip-set : {A B : Type 0} (R : A → B → Type 0) (xs : List A) (ys : List B) (k : ℕ) (a : A) (b : B)
+    → AllZip R xs ys
     → R a b → AllZip R (slice_set xs k a) (slice_set ys k b)
 zip-set R [] [] k a b facts new = facts
 zip-set R [] (y ∷ ys) k a b facts new = absurd facts

@@ -39,7 +39,8 @@ pub record IsAt {A B : Type 0} (R : A → B → Type 0) (xs : List A) (ys : List
   pub fact : R item size
 
 -- so for each place
-pub zip-at : {A B : Type 0} (R : A → B → Type 0) (xs : List A) (ys : List B) (k : ℕ) → AllZip R xs ys → k < length ys
+pub zip-at : {A B : Type 0} (R : A → B → Type 0) (xs : List A) (ys : List B) (k : ℕ) → AllZip R xs ys
+    → k < length ys
     → IsAt R xs ys k
 zip-at R [] [] k facts short = absurd (omega (arith, short))
 zip-at R [] (y ∷ ys) k facts short = absurd facts
@@ -136,10 +137,12 @@ module _ (R : Option ℕ → ℕ → Type 0) where
       }
 
   -- so each offset of an assembly lands in a component
-  pub assembly-lands : (config : Config) (sector : ℕ) (name : List ℕ) (o : ℕ) → IsAssembly config → IsWholeIn config sector
+  pub assembly-lands : (config : Config) (sector : ℕ) (name : List ℕ) (o : ℕ) → IsAssembly config
+      → IsWholeIn config sector
       → AllZip R (places_of config) (sizes_of config) → o < joined_size config
       → FoundWith (place config name o) (LandsAt R (places_of config) 0)
-  assembly-lands (Concat id places sizes) sector name o is whole facts short = concat-lands 0 places sizes o facts short
+  assembly-lands (Concat id places sizes) sector name o is whole facts short =
+      concat-lands 0 places sizes o facts short
   assembly-lands (Stripe id stripe places sizes) sector name o is whole facts short = record {
     item = stripe_spot (length sizes) stripe o;
     is = refl;
@@ -148,7 +151,8 @@ module _ (R : Option ℕ → ℕ → Type 0) where
   assembly-lands _ sector name o is whole facts short = absurd is
 
 -- the sum of sizes in whole sectors is one
-sum_whole : (sector : ℕ) (places : List (Option ℕ)) (sizes : List ℕ) → AllZip (λ (a : Option ℕ) b. b % sector ≡ 0) places sizes
+sum_whole : (sector : ℕ) (places : List (Option ℕ)) (sizes : List ℕ)
+    → AllZip (λ (a : Option ℕ) b. b % sector ≡ 0) places sizes
     → sector ∣ sum sizes
 sum_whole sector [] [] facts = dvd-zero sector
 sum_whole sector [] (b ∷ bs) facts = absurd facts
@@ -159,7 +163,8 @@ sum_whole sector (a ∷ places) (b ∷ bs) facts =
 
 -- so is the size of an assembly
 pub assembly-whole : (config : Config) (sector : ℕ) → IsAssembly config → IsWholeIn config sector
-    → AllZip (λ (a : Option ℕ) b. b % sector ≡ 0) (places_of config) (sizes_of config) → joined_size config % sector ≡ 0
+    → AllZip (λ (a : Option ℕ) b. b % sector ≡ 0) (places_of config) (sizes_of config)
+    → joined_size config % sector ≡ 0
 assembly-whole (Concat id places sizes) sector is whole facts =
     mod-eq-zero_of_dvd sector (sum_whole sector places sizes facts)
 assembly-whole (Stripe id stripe places sizes) sector is whole facts =

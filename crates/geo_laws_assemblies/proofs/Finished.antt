@@ -1,4 +1,5 @@
--- An assembly whose places are all filled gets its provider: the graph has come to more, and a firm world with it is firm.
+-- An assembly whose places are all filled gets its provider: the graph has come to more, and a firm world with it
+-- is firm.
 use Rattle.std.specs.Prelude.{◌≡◌, ◌≢◌, ◌⊎◌, ℕ, zero, suc, ◌+◌, ◌%◌, ◌^◌, ◌<◌, ◌≤◌, ◌==◌, Bool, true, false, List, [], ◌∷◌, ◌++◌, length, Option, Some, None, is_some, is_none, All, Contains, IsSome, IsSomeAnd, IfSome, option_and_then, slice_get}
 use Rattle.std.specs.List.{AllZip, list_all, list_any}
 use Rattle.std.specs.Option.{option_flatten}
@@ -47,12 +48,14 @@ at_place [] k x e = absurd (let no : ⊥ = cc in no)
 at_place (y ∷ xs) zero x e = subst (Contains (y ∷ xs)) (let same : y ≡ x = cc in same) (Contains-here y xs)
 at_place (y ∷ xs) (suc k) x e = Contains-there y x xs (at_place xs k x e)
 
--- what a provider over all places needs: they are filled, by components of one sector size, and its name and size are good
+-- what a provider over all places needs: they are filled, by components of one sector size, and its name and size
+-- are good
 pub record CanFinish (w : World) (g : Geom Config) (name : List ℕ) (sector : ℕ) : Type 0 where
   pub full : list_all is_some (places_of g.config) ≡ true
   pub sectors : IsSectorSize sector
   pub whole : IsWholeIn g.config sector
-  pub same : (d : ℕ) (x : Consumer) (q : Provider) → Contains (components g.config) d → consumer_at w.topology d ≡ Some x
+  pub same : (d : ℕ) (x : Consumer) (q : Provider) → Contains (components g.config) d
+      → consumer_at w.topology d ≡ Some x
       → option_and_then (provider_at w.topology) x.provider ≡ Some q → q.sector ≡ sector
   pub free : is_name_taken w.topology name ≡ false
   pub some : 1 ≤ joined_size g.config
@@ -95,7 +98,8 @@ module _ (w : World) (g : Geom Config) (name : List ℕ) (sector : ℕ) (firm : 
   -- the graph keeps what it has
   kept : KeepsGraph (granted_in w) t u
   kept =
-      offered-keeps n sector (granted_in w) (slice ∷ []) (queued_of w) (isnt-dev w g firm waits) (isnt-taste w g firm waits)
+      offered-keeps n sector (granted_in w) (slice ∷ []) (queued_of w) (isnt-dev w g firm waits)
+      (isnt-taste w g firm waits)
       (some-there (geom_at t n) g waits.stands) order live firm.sound.ranks
 
   -- a provider that was found is found
@@ -105,7 +109,8 @@ module _ (w : World) (g : Geom Config) (name : List ℕ) (sector : ℕ) (firm : 
   -- what a consumer is attached to is what it was
   below_still : (x : Consumer) → Contains t.consumers x
       → option_and_then (provider_at u) x.provider ≡ option_and_then (provider_at t) x.provider
-  below_still x stands = by x.provider (All-contains (λ (c : Consumer). IsSome (option_and_then (provider_at t) c.provider))
+  below_still x stands =
+      by x.provider (All-contains (λ (c : Consumer). IsSome (option_and_then (provider_at t) c.provider))
       t.consumers x firm.steady.attached stands) where
         -- by what it names
         by : (o : Option ℕ) → IsSome (option_and_then (provider_at t) o)
@@ -135,9 +140,12 @@ module _ (w : World) (g : Geom Config) (name : List ℕ) (sector : ℕ) (firm : 
           let q = has (option_and_then (provider_at t) x.item.provider)
           (All-contains (λ (c : Consumer). IsSome (option_and_then (provider_at t) c.provider)) t.consumers x.item
           firm.steady.attached (consumer_here d.item x.item x.is)) in
-          let fits = at-found (option_and_then (provider_at t) x.item.provider) (λ q. (b ≤ q.size) × (b % q.sector ≡ 0)) q.item q.is
-          (at-found (option_and_then (consumer_at t) a) (λ c. c.geom ≡ n → IfSome (option_and_then (provider_at t) c.provider) (λ q.
-          (b ≤ q.size) × (b % q.sector ≡ 0))) x.item (ap (option_and_then (consumer_at t)) d.is ∙ x.is) fact x.fact.0) in
+          let fits = at-found (option_and_then (provider_at t) x.item.provider)
+          (λ q. (b ≤ q.size) × (b % q.sector ≡ 0)) q.item q.is
+          (at-found (option_and_then (consumer_at t) a)
+          (λ c. c.geom ≡ n → IfSome (option_and_then (provider_at t) c.provider) (λ q.
+          (b ≤ q.size) × (b % q.sector ≡ 0))) x.item
+          (ap (option_and_then (consumer_at t)) d.is ∙ x.is) fact x.fact.0) in
           record {
             number = d.item;
             is = d.is;
@@ -156,7 +164,8 @@ module _ (w : World) (g : Geom Config) (name : List ℕ) (sector : ℕ) (firm : 
   size_is = record {
     positive = can.some;
     whole = assembly-whole g.config sector waits.assembly can.whole
-        (zip-among (HasBelow t n sector) (λ (a : Option ℕ) b. b % sector ≡ 0) (places_of g.config) (sizes_of g.config)
+        (zip-among (HasBelow t n sector) (λ (a : Option ℕ) b. b % sector ≡ 0) (places_of g.config)
+        (sizes_of g.config)
         (λ a b stands has_below. subst (λ m. b % m ≡ 0) has_below.same has_below.whole) all_below);
     limited = can.limited;
   }
@@ -168,7 +177,8 @@ module _ (w : World) (g : Geom Config) (name : List ℕ) (sector : ℕ) (firm : 
   -- each offset of it is placed
   placed : IsPlaced u g new
   placed o short =
-      let lands = assembly-lands (HasBelow t n sector) g.config sector name o waits.assembly can.whole all_below short in
+      let lands =
+      assembly-lands (HasBelow t n sector) g.config sector name o waits.assembly can.whole all_below short in
       let below = lands.fact.fact in
       let number : lands.item.component ≡ lands.fact.place =
       (let e : lands.item.component ≡ 0 + lands.fact.place = lands.fact.is in omega arith) in
@@ -179,7 +189,8 @@ module _ (w : World) (g : Geom Config) (name : List ℕ) (sector : ℕ) (firm : 
       ∙ ap option_flatten lands.fact.at ∙ below.is in
       some-with (place g.config name o) (IsPlaceInside u g new) lands.item lands.is
       (some-with (option_and_then (consumer_at t) (component g.config lands.item.component)) (λ d. (d.geom ≡ n)
-      × IsSomeAnd (option_and_then (provider_at u) d.provider) (λ q. (lands.item.offset < q.size) × (q.sector ≡ sector)))
+      × IsSomeAnd (option_and_then (provider_at u) d.provider)
+      (λ q. (lands.item.offset < q.size) × (q.sector ≡ sector)))
       below.consumer (ap (option_and_then (consumer_at t)) at ∙ below.found) (
         below.geom,
         some-with (option_and_then (provider_at u) below.consumer.provider)
@@ -244,7 +255,8 @@ module _ (w : World) (g : Geom Config) (name : List ℕ) (sector : ℕ) (firm : 
     by false e = inl (stands, λ same. false_true (sym e ∙ eq-eqb y.number n same))
 
   -- a provider was there, or is the new one
-  provider_cases : (y : Provider) → Contains u.providers y → (Contains t.providers y × (y.geom ≢ n)) ⊎ ProviderFits u g y
+  provider_cases : (y : Provider) → Contains u.providers y
+      → (Contains t.providers y × (y.geom ≢ n)) ⊎ ProviderFits u g y
   provider_cases y stands =
       elim (Contains-push_cases t.providers new y stands) [
         | inl old ↦ inl (old, offers-not w g firm waits y old)
@@ -253,8 +265,11 @@ module _ (w : World) (g : Geom Config) (name : List ℕ) (sector : ℕ) (firm : 
 
   -- what stood stands as it stood
   untouched : (m : ℕ) → IsUntouched t u g m
-  untouched m x e =
-      (provider_still m x e, offers-not w g firm waits x (find-Contains (λ (z : Provider). z.number == m) t.providers x e))
+  untouched m x e = (
+    provider_still m x e,
+    offers-not w g firm waits x
+        (find-Contains (λ (z : Provider). z.number == m) t.providers x e),
+  )
 
   -- the taste isn't too high
   low_still : (o : Option Taste) → IfSome o (IsTasteInOrder w)
@@ -295,7 +310,8 @@ module _ (w : World) (g : Geom Config) (name : List ℕ) (sector : ℕ) (firm : 
         (All-contains (FitsBelow t) t.consumers y firm.fitting.wholes stands));
     fits = geom_fits;
     wants = λ y stands.
-        subst (λ a. IsAtMost (want (granted_in w) t y) a) (sym (kept.demand.wants y tt)) (at_most-same (want (granted_in w) t y));
+        subst (λ a. IsAtMost (want (granted_in w) t y) a) (sym (kept.demand.wants y tt))
+        (at_most-same (want (granted_in w) t y));
     opened = λ y stands used. inl (sym (ap is_zero (kept.demand.haves y.number)) ∙ used);
     bios = λ x stands. untouched x.target;
     tasted = if-found w.taste (λ s. IsUntouched t u g s.provider) (λ s e. untouched s.provider);

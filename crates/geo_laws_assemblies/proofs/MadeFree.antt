@@ -10,7 +10,8 @@ use Rattle.geo_model.specs.Acceptance.{are_names_free, if_free}
 use Rattle.geo_laws_counts.proofs.LimitFacts.{all_true}
 
 -- what is made where names are free
-pub record IsMadeFree (t : Topology Config) (names : List (List ℕ)) (there made : QueuedTopology Config) : Type 0 where
+pub record IsMadeFree (t : Topology Config) (names : List (List ℕ))
+    (there made : QueuedTopology Config) : Type 0 where
   pub free : are_names_free t names ≡ true
   pub is : there ≡ made
 

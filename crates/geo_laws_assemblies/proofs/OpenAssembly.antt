@@ -36,7 +36,8 @@ module _ (w : World) (g : Geom Config) (firm : Firm w) (waits : IsOpenAssembly w
   only-one x stands same =
       one-found (geom_at t g.number) x g
       (subst (λ m. geom_at t m ≡ Some x) same
-      (found_itself (λ (z : Geom Config). z.number) t.next_geom t.geoms x (sound-order w firm.sound.numbers).geoms stands))
+      (found_itself (λ (z : Geom Config). z.number) t.next_geom t.geoms x
+      (sound-order w firm.sound.numbers).geoms stands))
       waits.stands
 
   -- its class
@@ -70,5 +71,6 @@ module _ (w : World) (g : Geom Config) (firm : Firm w) (waits : IsOpenAssembly w
   pub component-there : (d : ℕ) → Contains (components g.config) d
       → IsSomeAnd (consumer_at t d) (λ x. (x.geom ≡ g.number) × IsSome x.provider)
   component-there d stands =
-      All-contains (λ d. IsSomeAnd (consumer_at t d) (λ x. (x.geom ≡ g.number) × IsSome x.provider)) (components g.config) d
+      All-contains (λ d. IsSomeAnd (consumer_at t d) (λ x. (x.geom ≡ g.number) × IsSome x.provider))
+      (components g.config) d
       (All-contains (HasItsComponents w) t.geoms g firm.steady.components is-there (inl waits.upright)) stands

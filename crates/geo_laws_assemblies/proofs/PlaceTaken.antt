@@ -48,13 +48,16 @@ use Rattle.geo_laws_assemblies.proofs.Assembled.{has-places, filled-is, filled_o
 -- a geom that is one of the list with another configuration, or is as it was
 configured : (n : ℕ) (config : Config) (xs : List (Geom Config)) (y : Geom Config)
     → Contains (change_where (λ (x : Geom Config). x.number == n) (λ x. record x { config = config }) xs) y
-    → ComesFrom (λ (x z : Geom Config). ((x.number ≡ n) × (z ≡ record x { config = config })) ⊎ ((x.number ≢ n) × (z ≡ x))) xs y
+    → ComesFrom (λ (x z : Geom Config).
+    ((x.number ≡ n) × (z ≡ record x { config = config })) ⊎ ((x.number ≢ n) × (z ≡ x))) xs y
 configured n config xs y here =
-    let o = map-Contains (λ (x : Geom Config). if x.number == n then record x { config = config } else x) xs y here in
+    let o = map-Contains (λ (x : Geom Config). if x.number == n then record x { config = config } else x) xs y
+    here in
     record { item = o.item; stands = o.stands; fact = by o.item (o.item.number == n) refl o.fact }
   where
     -- by whether it is the one
-    by : (x : Geom Config) (b : Bool) → (x.number == n) ≡ b → (if x.number == n then record x { config = config } else x) ≡ y
+    by : (x : Geom Config) (b : Bool) → (x.number == n) ≡ b
+        → (if x.number == n then record x { config = config } else x) ≡ y
         → ((x.number ≡ n) × (y ≡ record x { config = config })) ⊎ ((x.number ≢ n) × (y ≡ x))
     by x true e is = inl (eqb-true x.number n e, sym (rw e at is))
     by x false e is = inr (
@@ -203,9 +206,14 @@ module _ (w : World) (p : Provider) (g : Geom Config) (k : ℕ) (firm : Firm w) 
   geom_cases y stands =
       let o = configured n filled t.geoms y stands in
       elim o.fact [
-        | inl it ↦ inr (it.1 ∙ ap (λ (z : Geom Config). record z { config = filled }) (only-one w g firm waits o.item o.stands it.0))
+        | inl it ↦
+            inr (it.1 ∙ ap (λ (z : Geom Config). record z { config = filled })
+            (only-one w g firm waits o.item o.stands it.0))
         | inr other ↦
-            inl (subst (Contains t.geoms) (sym other.1) o.stands, subst (λ (z : Geom Config). z.number ≢ n) (sym other.1) other.0)
+            inl (
+              subst (Contains t.geoms) (sym other.1) o.stands,
+              subst (λ (z : Geom Config). z.number ≢ n) (sym other.1) other.0,
+            )
       ]
 
   -- disks differ
@@ -224,11 +232,15 @@ module _ (w : World) (p : Provider) (g : Geom Config) (k : ℕ) (firm : Firm w) 
         fact = elim o.fact [
           | inl it ↦ (
             ap (λ (z : Geom Config). z.number) it.1,
-            ap (λ (z : Geom Config). disk_of z.config) it.1 ∙ (has-places filled (filled-is g.config k c size waits.assembly).assembly).no_disk
+            ap (λ (z : Geom Config). disk_of z.config) it.1
+                ∙ (has-places filled (filled-is g.config k c size waits.assembly).assembly).no_disk
                 ∙ sym (has-places g.config waits.assembly).no_disk
                 ∙ ap (λ (z : Geom Config). disk_of z.config) (sym (only-one w g firm waits o.item o.stands it.0)),
           )
-          | inr other ↦ (ap (λ (z : Geom Config). z.number) other.1, ap (λ (z : Geom Config). disk_of z.config) other.1)
+          | inr other ↦ (
+            ap (λ (z : Geom Config). z.number) other.1,
+            ap (λ (z : Geom Config). disk_of z.config) other.1,
+          )
         ];
       })
       firm.sound.numbers.one_geom_of_disk
@@ -244,22 +256,27 @@ module _ (w : World) (p : Provider) (g : Geom Config) (k : ℕ) (firm : Firm w) 
   -- the size of the component is in whole sectors
   whole_size : size % p.sector ≡ 0
   whole_size =
-      let media = All-contains (λ (x : Provider). IsMediaSize x.size x.sector) t.providers p firm.sound.providers.sizes
+      let media =
+      All-contains (λ (x : Provider). IsMediaSize x.size x.sector) t.providers p firm.sound.providers.sizes
       (find-Contains (λ (x : Provider). x.number == p.number) t.providers p can.found) in
       mod-eq-zero_of_dvd p.sector (dvd-sub p.sector (dvd_of_mod-eq-zero p.sector media.whole) (dvd_refl p.sector))
 
   -- so once the place is filled
-  components_there : All (λ d. IsSomeAnd (consumer_at u d) (λ x. (x.geom ≡ n) × IsSome x.provider)) (components filled)
+  components_there
+      : All (λ d. IsSomeAnd (consumer_at u d) (λ x. (x.geom ≡ n) × IsSome x.provider)) (components filled)
   components_there =
-      all_of (λ d. IsSomeAnd (consumer_at u d) (λ x. (x.geom ≡ n) × IsSome x.provider)) (components filled) (λ d stands.
+      all_of (λ d. IsSomeAnd (consumer_at u d) (λ x. (x.geom ≡ n) × IsSome x.provider)) (components filled)
+      (λ d stands.
       elim (filled-cases (places_of g.config) k c d (subst (λ xs. Contains xs d) components-now stands)) [
         | inl new ↦
             some-with (consumer_at u d) (λ x. (x.geom ≡ n) × IsSome x.provider) (new_consumer t n (Some p.number))
             (ap (consumer_at u) new ∙ new-found) (refl, refl)
         | inr old ↦
             (let x = found-with (consumer_at t d) (λ x. (x.geom ≡ n) × IsSome x.provider)
-            (component-there w g firm waits d (subst (λ xs. Contains xs d) (sym (has-places g.config waits.assembly).components_are) old)) in
-            some-with (consumer_at u d) (λ x. (x.geom ≡ n) × IsSome x.provider) x.item (consumer-still d x.item x.is) x.fact)
+            (component-there w g firm waits d (subst (λ xs. Contains xs d)
+            (sym (has-places g.config waits.assembly).components_are) old)) in
+            some-with (consumer_at u d) (λ x. (x.geom ≡ n) × IsSome x.provider) x.item
+            (consumer-still d x.item x.is) x.fact)
       ])
 
   -- its places fit
@@ -290,7 +307,8 @@ module _ (w : World) (p : Provider) (g : Geom Config) (k : ℕ) (firm : Firm w) 
       old None b stands fact = tt
       old (Some d) b stands fact =
           let x = found-with (consumer_at t d) (λ x. (x.geom ≡ n) × IsSome x.provider)
-          (component-there w g firm waits d (subst (λ xs. Contains xs d) (sym (has-places g.config waits.assembly).components_are)
+          (component-there w g firm waits d (subst (λ xs. Contains xs d)
+          (sym (has-places g.config waits.assembly).components_are)
           (in-places (places_of g.config) d stands))) in
           subst (λ o. IfSome o (λ x. x.geom ≡ n → IfSome (option_and_then (provider_at t) x.provider) (λ q.
           (b ≤ q.size) × (b % q.sector ≡ 0)))) (x.is ∙ sym (consumer-still d x.item x.is)) fact
@@ -305,7 +323,8 @@ module _ (w : World) (p : Provider) (g : Geom Config) (k : ℕ) (firm : Firm w) 
             (pairs-from_recursion (λ a b. a ≢ b) (filled_of (slice_set (places_of g.config) k (Some c)))
             (filled-differ (places_of g.config) k c (λ d stands.
             let x = found-with (consumer_at t d) (λ x. (x.geom ≡ n) × IsSome x.provider)
-            (component-there w g firm waits d (subst (λ xs. Contains xs d) (sym (has-places g.config waits.assembly).components_are) stands)) in
+            (component-there w g firm waits d (subst (λ xs. Contains xs d)
+            (sym (has-places g.config waits.assembly).components_are) stands)) in
             consumer_apart d x.item x.is)
             (recursion-from_pairs (λ a b. a ≢ b) (filled_of (places_of g.config))
             (subst (AllPairs (λ a b. a ≢ b)) (has-places g.config waits.assembly).components_are before.apart))));
@@ -329,7 +348,8 @@ module _ (w : World) (p : Provider) (g : Geom Config) (k : ℕ) (firm : Firm w) 
     one = λ concat. let none : length (providers_of t n) ≡ 0 = ap length waits.offers_none in omega arith;
     apart = places_hold;
     sums = λ concat.
-        subst (All (λ (x : Provider). x.size ≡ joined_size filled)) (sym waits.offers_none) (All-nil (λ (x : Provider). x.size ≡ joined_size filled));
+        subst (All (λ (x : Provider). x.size ≡ joined_size filled)) (sym waits.offers_none)
+        (All-nil (λ (x : Provider). x.size ≡ joined_size filled));
   }
 
   -- what stood stands as it stood
@@ -343,8 +363,10 @@ module _ (w : World) (p : Provider) (g : Geom Config) (k : ℕ) (firm : Firm w) 
   low_still (Some s) old =
       let h = found-with (geom_of_provider t s.provider) (λ h. rank t h.number < taste_limit) old.rank in
       let x = through (λ (x : Provider). geom_at t x.geom) (provider_at t s.provider) h.item h.is in
-      let apart = not_of_it x.first (find-Contains (λ (z : Provider). z.number == s.provider) t.providers x.first x.is) in
-      let number : h.item.number ≡ x.first.geom = number_found (λ (z : Geom Config). z.number) t.geoms x.first.geom h.item x.then in
+      let apart =
+      not_of_it x.first (find-Contains (λ (z : Provider). z.number == s.provider) t.providers x.first x.is) in
+      let number : h.item.number ≡ x.first.geom =
+      number_found (λ (z : Geom Config). z.number) t.geoms x.first.geom h.item x.then in
       let same = rank_same h.item.number (λ e. apart (sym number ∙ e)) in
       some-with (geom_of_provider u s.provider) (λ h. rank u h.number < taste_limit) h.item
       (ap (option_and_then (λ (x : Provider). geom_at u x.geom)) x.is
@@ -352,7 +374,8 @@ module _ (w : World) (p : Provider) (g : Geom Config) (k : ℕ) (firm : Firm w) 
       (subst (λ m. m < taste_limit) (sym same) h.fact)
 
   -- a consumer was there, or is the new one
-  consumer_cases : (y : Consumer) → Contains u.consumers y → Contains t.consumers y ⊎ (new_consumer t n (Some p.number) ≡ y)
+  consumer_cases : (y : Consumer) → Contains u.consumers y
+      → Contains t.consumers y ⊎ (new_consumer t n (Some p.number) ≡ y)
   consumer_cases y stands = Contains-push_cases t.consumers (new_consumer t n (Some p.number)) y stands
 
   -- what a consumer of the geom is attached to has whole sectors for it
@@ -366,9 +389,11 @@ module _ (w : World) (p : Provider) (g : Geom Config) (k : ℕ) (firm : Firm w) 
             IsWholeIn h.config q.sector)) g (ap (geom_at t) own ∙ waits.stands)
             (All-contains (FitsBelow t) t.consumers y firm.fitting.wholes old) in
             if-found (option_and_then (provider_at t) y.provider) (λ q. IsWholeIn filled q.sector) (λ q e.
-            so q.sector (at-found (option_and_then (provider_at t) y.provider) (λ q. IsWholeIn g.config q.sector) q e fits)))
+            so q.sector (at-found (option_and_then (provider_at t) y.provider)
+            (λ q. IsWholeIn g.config q.sector) q e fits)))
         | inr new ↦
-            subst (λ (z : Consumer). IfSome (option_and_then (provider_at t) z.provider) (λ q. IsWholeIn filled q.sector)) new
+            subst (λ (z : Consumer). IfSome (option_and_then (provider_at t) z.provider)
+            (λ q. IsWholeIn filled q.sector)) new
             (if-found (provider_at t p.number) (λ q. IsWholeIn filled q.sector) (λ q e.
             subst (λ (z : Provider). IsWholeIn filled z.sector) (one-found (provider_at t p.number) p q can.found e)
             (so p.sector whole)))
@@ -379,7 +404,8 @@ module _ (w : World) (p : Provider) (g : Geom Config) (k : ℕ) (firm : Firm w) 
   taken-more = record {
     order = config-found.order v n filled (added-consumer.order t n (Some p.number) order);
     live = parts-alive.config v n filled
-        (parts-alive.consumer_added t n (Some p.number) lives (some-there (provider_at t p.number) p can.found) live);
+        (parts-alive.consumer_added t n (Some p.number) lives
+        (some-there (provider_at t p.number) p can.found) live);
     ranks = ranks_u;
     exclusive = demand.exclusive firm.sound.counts.exclusive;
     limited = demand.limit firm.sound.counts.limited;
@@ -404,7 +430,8 @@ module _ (w : World) (p : Provider) (g : Geom Config) (k : ℕ) (firm : Firm w) 
     wholes = whole_below;
     fits = geom_fits;
     wants = λ y stands.
-        subst (λ a. IsAtMost (want (granted_in w) t y) a) (sym (demand.wants y tt)) (at_most-same (want (granted_in w) t y));
+        subst (λ a. IsAtMost (want (granted_in w) t y) a) (sym (demand.wants y tt))
+        (at_most-same (want (granted_in w) t y));
     opened = λ y stands used. inl (sym (ap is_zero (demand.haves y.number)) ∙ used);
     bios = λ x stands. untouched x.target;
     tasted = if-found w.taste (λ s. IsUntouched t u joined s.provider) (λ s e. untouched s.provider);

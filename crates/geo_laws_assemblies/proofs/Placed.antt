@@ -107,7 +107,8 @@ module _ (w : World) (p : Provider) (g : Geom Config) (k : ℕ) (name : List ℕ
   -- it is finished where its places are full
   finished_by : list_all is_some (places_of filled) ≡ true → (b : Bool) → is_size (joined_size filled) ≡ b
       → (if b
-      then if_free taken.topology (name ∷ []) (offer (with_place (queued_of w) p g.number filled) g.number name (joined_size filled) p.sector)
+      then if_free taken.topology (name ∷ []) (offer (with_place (queued_of w) p g.number filled) g.number name
+      (joined_size filled) p.sector)
       else None) ≡ Some made
       → Firm (with_queued w made)
   finished_by full false size e = absurd (let no : ⊥ = cc in no)
@@ -135,7 +136,8 @@ module _ (w : World) (p : Provider) (g : Geom Config) (k : ℕ) (name : List ℕ
       → Firm (with_queued w made)
   joined_by true full e = finished_by full (is_size (joined_size filled)) refl e
   joined_by false open_still e =
-      subst (λ q. Firm (with_queued w q)) (let is : with_place (queued_of w) p g.number filled ≡ made = cc in is) firm_taken
+      let is : with_place (queued_of w) p g.number filled ≡ made = cc in
+      subst (λ q. Firm (with_queued w q)) is firm_taken
 
   -- so a provider that joins keeps the world firm
   joined-firm : join_place (queued_of w) p g.number g.config k name ≡ Some made → Firm (with_queued w made)
@@ -176,7 +178,8 @@ same_stripe : (config : Config) (id stripe count sector : ℕ) → (1 ≤ stripe
     → is_same_assembly config (Stripe (Some id) stripe (replicate count None) (replicate count 0)) ≡ true
     → IsSameAs config count sector
 same_stripe (Stripe (Some a) s places sizes) id stripe count sector whole e =
-    let parts = and_parts (a == id) ((s == stripe) && (length places == length (replicate {A = Option ℕ} count None))) e in
+    let parts =
+    and_parts (a == id) ((s == stripe) && (length places == length (replicate {A = Option ℕ} count None))) e in
     let rest = and_parts (s == stripe) (length places == length (replicate {A = Option ℕ} count None)) parts.1 in
     record {
       assembly = tt;
@@ -212,7 +215,8 @@ none_filled (suc count) = none_filled count
 
 -- each of them fits
 none_fit : (next count : ℕ) → AllZip
-    (λ place size. IfSome (option_and_then (below_new next []) place) (λ q. (size ≤ q.size) × (size % q.sector ≡ 0)))
+    (λ place size. IfSome (option_and_then (below_new next []) place)
+    (λ q. (size ≤ q.size) × (size % q.sector ≡ 0)))
     (replicate count None) (replicate count 0)
 none_fit next zero = tt
 none_fit next (suc count) = (tt, none_fit next count)
@@ -228,7 +232,8 @@ pub record IsEmpty (kind : Kind) (config : Config) (count : ℕ) : Type 0 where
 
 -- a member of an assembly that a record names
 module _ (w : World) (p : Provider) (m : Member) (count : ℕ) (made : QueuedTopology Config) (firm : Firm w)
-    (can : CanTakePlace w p) (empty : IsEmpty m.kind m.empty count) (few : count ≤ component_limit) (inside : m.place < count)
+    (can : CanTakePlace w p) (empty : IsEmpty m.kind m.empty count) (few : count ≤ component_limit)
+    (inside : m.place < count)
     (whole : IsWholeIn m.empty p.sector) where
   -- the graph before
   abbrev before : Topology Config
@@ -251,8 +256,10 @@ module _ (w : World) (p : Provider) (m : Member) (count : ℕ) (made : QueuedTop
     filled = subst (All (λ c. IsSome (below_new before.next_consumer [] c))) (sym bare)
         (All-nil (λ c. IsSome (below_new before.next_consumer [] c)));
     apart = subst (AllPairs (λ a b. a ≢ b)) (sym bare) (pairs-from_recursion (λ a b. a ≢ b) [] tt);
-    few = subst (λ n. n ≤ component_limit) (sym (ap length empty.places ∙ length-replicate {A = Option ℕ} count None)) few;
-    places = subst (λ xs. AllZip (λ place size. IfSome (option_and_then (below_new before.next_consumer []) place) (λ q.
+    few = subst (λ n. n ≤ component_limit)
+        (sym (ap length empty.places ∙ length-replicate {A = Option ℕ} count None)) few;
+    places = subst (λ xs. AllZip (λ place size. IfSome (option_and_then (below_new before.next_consumer []) place)
+        (λ q.
         (size ≤ q.size) × (size % q.sector ≡ 0))) xs (sizes_of m.empty)) (sym empty.places)
         (subst (λ ys. AllZip (λ place size. IfSome (option_and_then (below_new before.next_consumer []) place) (λ q.
         (size ≤ q.size) × (size % q.sector ≡ 0))) (replicate count None) ys) (sym empty.sizes)
@@ -270,7 +277,8 @@ module _ (w : World) (p : Provider) (m : Member) (count : ℕ) (made : QueuedTop
   begun = with_queued w (record (queued_of w) { topology = add_geom before m.kind m.geom_name m.empty true })
 
   -- a provider that joins a new geom
-  new_firm : join_place (queued_of begun) p before.next_geom m.empty m.place m.name ≡ Some made → Firm (with_queued w made)
+  new_firm : join_place (queued_of begun) p before.next_geom m.empty m.place m.name ≡ Some made
+      → Firm (with_queued w made)
   new_firm e =
       let order = sound-order w firm.sound.numbers in
       let live = steady-parts before firm.steady.parts firm.steady.attached in
@@ -288,7 +296,8 @@ module _ (w : World) (p : Provider) (m : Member) (count : ℕ) (made : QueuedTop
       whole (λ d x q here found below. absurd (nothing_in d (subst (λ xs. Contains xs d) bare here))) e
 
   -- a provider that joins a standing geom
-  standing_firm : (g : Geom Config) → Contains before.geoms g → g.withering ≡ false → IsSameAs g.config count p.sector
+  standing_firm : (g : Geom Config) → Contains before.geoms g → g.withering ≡ false
+      → IsSameAs g.config count p.sector
       → (b : Bool) → can_join before p g m.place ≡ b
       → (if b then join_place (queued_of w) p g.number g.config m.place m.name else None) ≡ Some made
       → Firm (with_queued w made)
@@ -307,27 +316,32 @@ module _ (w : World) (p : Provider) (m : Member) (count : ℕ) (made : QueuedTop
       })
       is.whole (λ d x q among found below.
       let place : Contains (places_of g.config) (Some d) =
-      of-places (places_of g.config) d (subst (λ xs. Contains xs d) (has-places g.config is.assembly).components_are among) in
+      of-places (places_of g.config) d (subst (λ xs. Contains xs d)
+      (has-places g.config is.assembly).components_are among) in
       eqb-true q.sector p.sector
       (all_true (λ x. x.sector == p.sector) (providers_at before (places_of g.config)) parts.1 q
       (Contains-filter_map
       (λ place. option_and_then (provider_at before) (option_and_then (provider_of_consumer before) place))
       (places_of g.config) (Some d) q place
-      (ap (λ o. option_and_then (provider_at before) (option_and_then (λ (z : Consumer). z.provider) o)) found ∙ below)))) e
+      (ap (λ o. option_and_then (provider_at before) (option_and_then (λ (z : Consumer). z.provider) o)) found
+      ∙ below)))) e
 
   -- by whether one stands
-  pub member-firm : ((g : Geom Config) → is_same_assembly g.config m.empty ≡ true → IsSameAs g.config count p.sector)
+  pub member-firm
+      : ((g : Geom Config) → is_same_assembly g.config m.empty ≡ true → IsSameAs g.config count p.sector)
       → (o : Option (Geom Config)) → standing_geom before m.geom_name m.empty ≡ o
       → join_at (queued_of w) p m o ≡ Some made → Firm (with_queued w made)
   member-firm is None found e = new_firm e
   member-firm is (Some g) found e =
       let test = find_passes (λ (x : Geom Config). x.automatic && (not x.withering && (same_name x.name m.geom_name
       && is_same_assembly x.config m.empty))) before.geoms g found in
-      let here = find-Contains (λ (x : Geom Config). x.automatic && (not x.withering && (same_name x.name m.geom_name
+      let here = find-Contains (λ (x : Geom Config). x.automatic &&
+      (not x.withering && (same_name x.name m.geom_name
       && is_same_assembly x.config m.empty))) before.geoms g found in
       let first = and_parts g.automatic (not g.withering && (same_name g.name m.geom_name
       && is_same_assembly g.config m.empty)) test in
-      let second = and_parts (not g.withering) (same_name g.name m.geom_name && is_same_assembly g.config m.empty) first.1 in
+      let second =
+      and_parts (not g.withering) (same_name g.name m.geom_name && is_same_assembly g.config m.empty) first.1 in
       let third = and_parts (same_name g.name m.geom_name) (is_same_assembly g.config m.empty) second.1 in
       standing_firm g here (not-true g.withering second.0) (is g third.1) (can_join before p g m.place) refl e
 

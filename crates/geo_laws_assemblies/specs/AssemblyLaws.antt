@@ -1,5 +1,5 @@
--- The places of an assembly: a provider takes one, in the standing geom of the assembly or in a new one, and where all are
--- filled the geom gets its provider. A firm mesh stays firm with it (geom(4)).
+-- The places of an assembly: a provider takes one, in the standing geom of the assembly or in a new one, and where
+-- all are filled the geom gets its provider. A firm mesh stays firm with it (geom(4)).
 use Rattle.std.specs.Prelude.{◌≡◌, ◌%◌, ◌<◌, ◌≤◌, Some}
 use Rattle.geo_model.specs.declared.class.ConcatRecord.{ConcatRecord}
 use Rattle.geo_model.specs.declared.class.StripeRecord.{StripeRecord}
@@ -12,7 +12,8 @@ use Rattle.geo_model.specs.Acceptance.{accept_member, concat_member, stripe_memb
 use Rattle.geo_model.specs.Fitting.{Firm}
 use Rattle.geo_laws_formats.specs.RecordLaws.{IsPlace}
 
--- a provider can take a place: it stands, a geom over it isn't too high, and it is longer than the sector of its record
+-- a provider can take a place: it stands, a geom over it isn't too high, and it is longer than the sector of its
+-- record
 pub record CanTakePlace (w : World) (p : Provider) : Type 0 where
   pub found : provider_at w.topology p.number ≡ Some p
   pub low : rank w.topology p.geom < rank_limit

@@ -1,5 +1,5 @@
-//! Laws of assemblies: a provider that takes a place of a concat or a stripe by its record keeps a firm mesh firm, one that
-//! is sound, steady and fitting (geom(4)).
+//! Laws of assemblies: a provider that takes a place of a concat or a stripe by its record keeps a firm mesh firm,
+//! one that is sound, steady and fitting (geom(4)).
 #![tactic(auto)]
 
 ghost use Rattle.geo_laws_assemblies.specs.AssemblyLaws.{ConcatPlacesStayFirm, StripePlacesStayFirm};
