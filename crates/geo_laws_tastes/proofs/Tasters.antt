@@ -22,8 +22,7 @@ use Rattle.geo_laws_counts.specs.CountWords.{HoldsGrants, IsOnlyOne}
 use Rattle.geo_laws_counts.proofs.Numbers.{number_is_only}
 use Rattle.geo_laws_counts.proofs.Upward.{names_some}
 use Rattle.geo_laws_less.proofs.Found.{found-with, some-with, one-found}
-use Rattle.geo_laws_effects.proofs.MarksKept.{stands-at, class-at}
-use Rattle.geo_laws_effects.proofs.MarksKept.{taste_kind}
+use Rattle.geo_laws_effects.proofs.MarksKept.{stands-at, class-at, taste_kind}
 use Rattle.geo_laws_events.proofs.Begun.{taste_nothing}
 
 module _ (w : World) (firm : Firm w) where
