@@ -77,7 +77,6 @@ module _ (w : World) (s : Taste) (p : Provider) (bytes : List ℕ) (shape : Shap
       let o = shape_of Slices (mbr_table bytes f.sectors) shape accepted.verdict in
       slices-firm w s p bytes o.found made firm (subst (λ x. IsAccepted w s p kinds.Mbr bytes x made) o.is accepted)
   accepted-firm kinds.Ebr accepted =
-      let c : Chain = with_link f.sectors s.chain bytes in
       let o = chain_of (with_link f.sectors s.chain bytes) bytes
       (first_error (link_tests f.sectors (with_link f.sectors s.chain bytes) bytes)) shape accepted.verdict in
       parts-firm w s p bytes o.found made firm (subst (λ x. IsAccepted w s p kinds.Ebr bytes x made) o.is accepted)

@@ -119,8 +119,6 @@ module _ (R : Option ℕ → ℕ → Type 0) where
       → o < length sizes * ((smallest sizes / stripe) * stripe)
       → LandsAt R places 0 (stripe_spot (length sizes) stripe o)
   stripe_lands places sizes stripe o facts some short =
-      let rows : ℕ = smallest sizes / stripe in
-      let spot : Spot = stripe_spot (length sizes) stripe o in
       let lands = stripe-lands (length sizes) (smallest sizes / stripe) stripe o some short in
       let at = zip-at R places sizes (stripe_spot (length sizes) stripe o).component facts lands.component in
       let low : smallest sizes ≤ at.size = smallest-le sizes at.size at.among in
