@@ -70,3 +70,6 @@ other_next-unsound = refl
 pub same_next-sound : is_sound (chain_world (NextSector kinds.Ebr 10) 1 (chain_of (read_link 0 1 4 ∷ []) 10)) ≡ true
 unfolding start take_bio deliver up do_event judge_step reap wash_work wash do_command listing go event judge_next reap_next wash_next step is_sound is_steady is_fitting_world digits
 same_next-sound = refl
+
+-- what `chains_of_tastes` says
+pub ruleset chains_of_tastes = (lawful-holds, lawful-kept, empty_part-unsound, empty_part-judged, long_part-unsound, long_part-judged, late_first-unsound, far_link-unsound, more_reads-unsound, full_chain-unsound, same_sectors-unsound, goes_back-unsound, other_next-unsound, same_next-sound)
