@@ -3,7 +3,7 @@ use Rattle.std.specs.Prelude.{◌≡◌, ◌≢◌, ℕ, zero, suc, ◌<◌, ◌
 use Rattle.std.specs.List.{AllByRecursion}
 use Rattle.std.specs.Option.{option_map_or}
 use Rattle.std.proofs.Common.{refl, sym, ◌∙◌, ap, arith, length-append}
-use Rattle.std.proofs.lemmas.Bool.{eqb-true, ne_eqb}
+use Rattle.std.proofs.lemmas.Bool.{eqb-true, ne_eqb, not-false}
 use Rattle.std.proofs.lemmas.List.{append-nil}
 use Rattle.std.proofs.lemmas.List.Elements.{recursion_from_All, filter-append}
 use Rattle.geo_base.specs.declared.kind.Kind.{Kind}
@@ -134,15 +134,11 @@ module _ {C : Type 0} (granted : ℕ → Counts) (t : Topology C) where
         (λ (c : Consumer). geom_at (remove_geom t g) c.geom ≡ geom_at t c.geom)
         (λ c other.
         find-kept (λ x. x.number == c.geom) (λ x. not (x.number == g))
-        (λ x gone. ne_eqb x.number c.geom (λ e. other (sym e ∙ eqb-true x.number g (not_false (x.number == g) gone))))
+        (λ x gone. ne_eqb x.number c.geom (λ e. other (sym e ∙ eqb-true x.number g (not-false (x.number == g) gone))))
         t.geoms)
         t.consumers
         (recursion_from_All _ t.consumers bare)))
         k (omega arith) p
-      where
-        not_false : (b : Bool) → not b ≡ false → b ≡ true
-        not_false true e = refl
-        not_false false e = cc
 
     pub gone_geom : Ranked (remove_geom t g) → NumbersLead t → (p : ℕ) → have granted (remove_geom t g) p ≡ have granted t p
     gone_geom ranked known p =
@@ -238,10 +234,6 @@ module _ {C : Type 0} (granted : ℕ → Counts) (t : Topology C) where
       (λ k n.
       sum-left_out (λ y. have_within granted k t y.number) (λ y. y.geom == n) (λ y. not (y.number == g)) t.providers
       (of_each (λ (y : Provider). not (y.number == g) ≡ false → have_within granted k t y.number ≡ no_counts)
-      (λ y gone. rw (eqb-true y.number g (not_false (y.number == g) gone)) (none_within granted t g none k))
+      (λ y gone. rw (eqb-true y.number g (not-false (y.number == g) gone)) (none_within granted t g none k))
       t.providers))
       p
-    where
-      not_false : (b : Bool) → not b ≡ false → b ≡ true
-      not_false true e = refl
-      not_false false e = cc

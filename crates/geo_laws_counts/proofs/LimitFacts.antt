@@ -26,13 +26,14 @@ true_all p [] so = refl
 true_all p (y ∷ ys) so =
     and_from (p y) (list_all p ys) (so y (in_head y ys)) (true_all p ys (λ x there. so x (in_tail y ys x there)))
 
--- a fact of all that a list contains
+-- a fact of all that a list contains, by recursion
+pub each_of : {X : Type 0} (P : X → Type 0) (xs : List X) → ((x : X) → Contains xs x → P x) → AllByRecursion P xs
+each_of P [] so = tt
+each_of P (y ∷ ys) so = (so y (in_head y ys), each_of P ys (λ x there. so x (in_tail y ys x there)))
+
+-- so of all
 pub all_of : {X : Type 0} (P : X → Type 0) (xs : List X) → ((x : X) → Contains xs x → P x) → All P xs
-all_of P xs so = All-from_recursion P xs (of_members P xs so)
-  where
-    of_members : {X : Type 0} (P : X → Type 0) (xs : List X) → ((x : X) → Contains xs x → P x) → AllByRecursion P xs
-    of_members P [] so = tt
-    of_members P (y ∷ ys) so = (so y (in_head y ys), of_members P ys (λ x there. so x (in_tail y ys x there)))
+all_of P xs so = All-from_recursion P xs (each_of P xs so)
 
 -- what a filter keeps is in the list, and passes
 pub of_filter : {X : Type 0} (test : X → Bool) (xs : List X) (x : X) → Contains (filter test xs) x → Contains xs x × (test x ≡ true)

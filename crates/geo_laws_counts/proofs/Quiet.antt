@@ -17,6 +17,11 @@ use Rattle.geo_laws_counts.proofs.Sums.{at_most-under, zero-add}
 use Rattle.geo_laws_counts.proofs.Levels.{grants-same, want_given-at_most, levels-at_most}
 use Rattle.geo_laws_counts.proofs.BareParts.{levels_same, sum-end, sum-left_out}
 
+-- what names a provider names something
+pub attached_somewhere : (o : Option ℕ) (q : ℕ) → names_number o q ≡ true → is_some o ≡ true
+attached_somewhere None q e = cc
+attached_somewhere (Some m) q e = refl
+
 -- a number that passes the test of being another one is another one
 pub differs : (m n : ℕ) → m ≡ n → not (m == n) ≡ true → ⊥
 differs m n e stays = let no : not true ≡ true = sym (ap not (eq-eqb m n e)) ∙ stays in cc
@@ -98,12 +103,8 @@ module _ {C : Type 0} (granted : ℕ → Counts) (t : Topology C) where
       (λ k h q.
       sum-end (want_given granted (have_within granted k t) t) (λ c. names_number c.provider q) t.consumers _
       (λ attached. quiet_within k h (record { number = t.next_consumer; geom = geom; provider = to; spoiled = false })
-      (quiet (is_attached to q attached))))
+      (quiet (attached_somewhere to q attached))))
       (length t.geoms) (omega arith) p
-    where
-      is_attached : (o : Option ℕ) (q : ℕ) → names_number o q ≡ true → is_some o ≡ true
-      is_attached None q e = cc
-      is_attached (Some m) q e = refl
 
 -- a consumer of DEV or TASTE wants what it is granted
 granted_nothing : {C : Type 0} (H : ℕ → Counts) (x : Counts) (t : Topology C) → x ≡ no_counts → (o : Option (Geom C))

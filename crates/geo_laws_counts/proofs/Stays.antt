@@ -18,7 +18,7 @@ use Rattle.geo_laws_counts.proofs.Members.{in_head, in_tail, in_cases, in_nothin
 use Rattle.geo_laws_counts.proofs.LimitFacts.{of_filter}
 use Rattle.geo_laws_counts.proofs.Keeping.{exclusive_keeps, limit_keeps}
 use Rattle.geo_laws_counts.proofs.BareParts.{granted_same, find-end_other, find-kept, new_geom, gone_geom, none_within, sum-end, sum-left_out, want_over-sums, new_provider, gone_provider}
-use Rattle.geo_laws_counts.proofs.Quiet.{differs, quiet_left_out, quiet_attached, quiet_new, granted_wants_nothing}
+use Rattle.geo_laws_counts.proofs.Quiet.{differs, quiet_left_out, quiet_attached, quiet_new, granted_wants_nothing, attached_somewhere}
 
 -- an item of a list that was changed item by item
 in_map : {X Y : Type 0} (f : X → Y) (xs : List X) (y : Y) → Contains (map f xs) y → (x : X) × Contains xs x × (f x ≡ y)
@@ -209,10 +209,6 @@ module _ {C : Type 0} (granted : ℕ → Counts) (t : Topology C) where
             (wants a ∙ ap (want granted t) (sym new)
             ∙ quiet (attached_somewhere to n (ap (λ (x : Consumer). names_number x.provider n) new ∙ inside.1)))
       ])
-    where
-      attached_somewhere : (o : Option ℕ) (n : ℕ) → names_number o n ≡ true → is_some o ≡ true
-      attached_somewhere None n e = cc
-      attached_somewhere (Some m) n e = refl
 
   -- consumers that want nothing go
   pub consumers_went : (keep : Consumer → Bool) → All (λ c. keep c ≡ false → want granted t c ≡ no_counts) t.consumers

@@ -26,6 +26,11 @@ pub add-assoc : (a b c : Counts) → add_counts (add_counts a b) c ≡ add_count
 add-assoc a b c =
     counts-same (add_counts (add_counts a b) c) (add_counts a (add_counts b c)) (omega arith) (omega arith) (omega arith)
 
+-- the parts of a sum may change places
+pub add-move : (a b c : Counts) → add_counts a (add_counts b c) ≡ add_counts b (add_counts a c)
+add-move a b c =
+    counts-same (add_counts a (add_counts b c)) (add_counts b (add_counts a c)) (omega arith) (omega arith) (omega arith)
+
 -- two sums may exchange their parts
 pub add-swap : (a b c d : Counts) → add_counts (add_counts a b) (add_counts c d) ≡ add_counts (add_counts a c) (add_counts b d)
 add-swap a b c d =

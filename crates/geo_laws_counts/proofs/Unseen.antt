@@ -1,6 +1,7 @@
 -- Changes that counts don't see.
 use Rattle.std.specs.Prelude.{◌≡◌, ℕ, ◌+◌, ◌==◌, Bool, true, false, List, [], ◌∷◌, map, if◌then◌else◌}
 use Rattle.std.proofs.Common.{refl, sym, ◌∙◌, ap}
+use Rattle.std.proofs.lemmas.Simd.{map-map}
 use Rattle.geo_base.specs.declared.request.Counts.{Counts}
 use Rattle.geo_model.specs.Words.{change_where}
 use Rattle.geo_model.specs.Topology.{Topology, Geom, Provider, Consumer, set_error, set_size, set_withering, set_marks, set_config, note_started, with_configs}
@@ -17,11 +18,6 @@ map-changed {X = X} {Y = Y} see test change same (x ∷ xs) =
     one : (b : Bool) → see (if b then change x else x) ≡ see x
     one true = same x
     one false = refl
-
--- what is seen after a change of all items
-map-map : {X Y Z : Type 0} (see : Y → Z) (f : X → Y) (xs : List X) → map see (map f xs) ≡ map (λ x. see (f x)) xs
-map-map see f [] = refl
-map-map see f (x ∷ xs) = ap (λ ys. see (f x) ∷ ys) (map-map see f xs)
 
 module _ {C : Type 0} (granted : ℕ → Counts) (t : Topology C) where
   -- an error

@@ -11,12 +11,8 @@ use Rattle.geo_model.specs.Topology.{Topology, Geom, Provider, Consumer, geom_at
 use Rattle.geo_model.specs.Rank.{rank, Ranked}
 use Rattle.geo_model.specs.Demand.{no_counts, sum_counts, want_of_kind, want_given, have_within, have, want}
 use Rattle.geo_model.proofs.DemandLemmas.{map_same, kept_by, find_passes, no_items, all_weaker, rank_within-le, rank_within-positive}
+pub use Rattle.geo_model.proofs.DemandLemmas.{names_some}
 use Rattle.geo_laws_counts.specs.CountWords.{NumbersLead}
-
--- an attached consumer names its provider
-pub names_some : (o : Option ℕ) (p : ℕ) → names_number o p ≡ true → o ≡ Some p
-names_some None p e = cc
-names_some (Some m) p e = ap (λ n. Some n) (eqb-true m p e)
 
 -- the geom that is found has the number that was sought
 pub geom_found : {C : Type 0} (t : Topology C) (n : ℕ) (g : Geom C) → geom_at t n ≡ Some g → g.number ≡ n

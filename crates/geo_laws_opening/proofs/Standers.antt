@@ -5,6 +5,7 @@ use Rattle.std.proofs.Common.{inl, inr, refl, ◌∙◌, ap, arith}
 use Rattle.std.proofs.lemmas.List.Elements.{recursion_from_All, All-from_recursion}
 use Rattle.std.proofs.lemmas.List.Kept.{AllPairs-cons}
 use Rattle.std.proofs.Math.Nat.{mul-mod_right}
+use Rattle.geo_base.proofs.Tests.{pairs_head, pairs_tail}
 use Rattle.geo_model.specs.declared.command.DiskDecl.{DiskDecl}
 use Rattle.geo_model.specs.World.{Plan, HeaderDisk}
 use Rattle.geo_model.specs.Plans.{IsPlan, FactsFit, IsFact, IsDiskDecl, Differ}
@@ -22,14 +23,6 @@ PairsByRecursion R (x ∷ xs) = AllByRecursion (R x) xs × PairsByRecursion R xs
 pub pairs-from_recursion : {X : Type 0} (R : X → X → Type 0) (xs : List X) → PairsByRecursion R xs → AllPairs R xs
 pairs-from_recursion R [] facts = λ i j d less short. absurd (omega (arith, short))
 pairs-from_recursion R (x ∷ xs) facts = AllPairs-cons R x xs (All-from_recursion (R x) xs facts.0) (pairs-from_recursion R xs facts.1)
-
--- what holds of any two holds of any two of the rest
-pairs_tail : {X : Type 0} (R : X → X → Type 0) (x : X) (xs : List X) → AllPairs R (x ∷ xs) → AllPairs R xs
-pairs_tail R x xs facts = λ i j d less short. facts (suc i) (suc j) d (omega (arith, less)) (omega (arith, short))
-
--- and it holds of the first and each of the rest
-pairs_head : {X : Type 0} (R : X → X → Type 0) (x : X) (xs : List X) → AllPairs R (x ∷ xs) → All (R x) xs
-pairs_head R x xs facts = λ k d short. facts zero (suc k) d (omega arith) (omega (arith, short))
 
 -- so what holds of any two in their order holds by recursion
 pub recursion-from_pairs : {X : Type 0} (R : X → X → Type 0) (xs : List X) → AllPairs R xs → PairsByRecursion R xs

@@ -8,8 +8,9 @@ use Rattle.geo_laws_ranks.specs.Edges.{Below, Climbs, AddsEdge, HasEdgesOf, IsPa
 use Rattle.geo_laws_ranks.specs.RankLaws.{AllRanksStay, RanksStay, RanksRise}
 use Rattle.geo_laws_graph.proofs.Members.{find-Contains, Contains-filter, nothing_in}
 use Rattle.std.proofs.lemmas.List.Elements.{All-weaker}
+use Rattle.geo_base.proofs.Tests.{same_tests}
 use Rattle.geo_laws_ranks.proofs.Climbing.{provider_there, attached_geom, ranked-from_climbing, climbs_along, climbs_from, rank-falls}
-use Rattle.geo_laws_ranks.proofs.Paths.{same_bool, reaches-same_edges, reaches-kept, reaches-from_path, path-from_reaches, path-edges}
+use Rattle.geo_laws_ranks.proofs.Paths.{reaches-same_edges, reaches-kept, reaches-from_path, path-from_reaches, path-edges}
 use Rattle.geo_laws_ranks.proofs.AddedEdges.{rank-ways, ranked-fewer, rank-fewer, rank-kept, rank-same_edges, rank-rises, rank-elsewhere, rank-above_edge, rank-mended, old_edge}
 use Rattle.geo_model.specs.Graph.{GeomsLive, ProvidersLive}
 use Rattle.geo_laws_graph.proofs.Living.{if_some_weaker}
@@ -102,7 +103,7 @@ module _ {C : Type 0} (t u : Topology C) where
     -- so the upper end is reached from where it was before
     reached_same : Ranked t → Ranked u → (g : ℕ) → reaches u g a ≡ reaches t g a
     reached_same ranked now g =
-        same_bool (reaches u g a) (reaches t g a)
+        same_tests (reaches u g a) (reaches t g a)
         (λ e. let p = path-from_reaches u g a e in reaches-from_path t ranked g a (former_way g p.over p.is))
         (λ e.
         let p = path-from_reaches t g a e in

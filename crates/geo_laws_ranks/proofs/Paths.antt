@@ -4,6 +4,7 @@ use Rattle.std.specs.List.{list_any}
 use Rattle.std.proofs.Common.{inl, inr, refl, sym, ◌∙◌, arith}
 use Rattle.std.proofs.lemmas.Bool.{eqb-true, eq-eqb, or_cases, or_left, or_right}
 use Rattle.std.proofs.lemmas.List.Folds.{list_any-append}
+use Rattle.geo_base.proofs.Tests.{same_tests}
 use Rattle.geo_model.specs.Topology.{Topology}
 use Rattle.geo_model.specs.Rank.{rank, geoms_under, geoms_reached_within, reaches, Ranked}
 use Rattle.geo_model.proofs.DemandLemmas.{rank_within-le, rank_within-positive}
@@ -119,23 +120,17 @@ reached-edges t u edges (suc k) g h e =
           (any-flat_map (λ x. x == h) (geoms_reached_within k u) (geoms_under u g) o.item under (reached-edges t u edges k o.item h o.fact))
     ]
 
--- two tests that follow from each other
-pub same_bool : (x y : Bool) → (x ≡ true → y ≡ true) → (y ≡ true → x ≡ true) → x ≡ y
-same_bool true y so back = sym (so refl)
-same_bool false true so back = back refl
-same_bool false false so back = refl
-
 module _ {C D : Type 0} (t : Topology C) (u : Topology D) (more : HasEdgesOf u t) (less : HasEdgesOf t u) where
   -- with the same edges and as many geoms the same is reached
   pub reaches-same_edges : length u.geoms ≡ length t.geoms → (g h : ℕ) → reaches u g h ≡ reaches t g h
   reaches-same_edges e g h =
       let same : reached u (length t.geoms) g h ≡ reached t (length t.geoms) g h =
-      same_bool (reached u (length t.geoms) g h) (reached t (length t.geoms) g h) (reached-edges u t less (length t.geoms) g h) (reached-edges t u more (length t.geoms) g h) in
+      same_tests (reached u (length t.geoms) g h) (reached t (length t.geoms) g h) (reached-edges u t less (length t.geoms) g h) (reached-edges t u more (length t.geoms) g h) in
       rw e same
 
   -- in ranked graphs also over however many geoms
   pub reaches-kept : Ranked t → Ranked u → (g h : ℕ) → reaches u g h ≡ reaches t g h
   reaches-kept ranked now g h =
-      same_bool (reaches u g h) (reaches t g h)
+      same_tests (reaches u g h) (reaches t g h)
       (λ e. let p = path-from_reaches u g h e in reaches-from_path t ranked g h (record { over = p.over; is = path-edges u t less g h p.over p.is }))
       (λ e. let p = path-from_reaches t g h e in reaches-from_path u now g h (record { over = p.over; is = path-edges t u more g h p.over p.is }))
