@@ -115,3 +115,6 @@ module _ {C : Type 0} (small large : ℕ → Counts) (grants : AreAtMost small l
       limit_keeps large t small t
       (λ x there. inr (record { provider = x; stands = there; at_most = have-at_most small large grants t x.number }))
       e
+
+-- what `less_is_allowed` says
+pub ruleset less_is_allowed = (exclusive_left, limit_left, exclusive_less, limit_less)

@@ -108,3 +108,6 @@ module _ {C : Type 0} (small large : ℕ → Counts) (grants : AreAtMost small l
 -- grants are at most themselves
 pub grants-same : (granted : ℕ → Counts) → AreAtMost granted granted
 grants-same granted c = at_most-same (granted c)
+
+-- what `counts_follow_demand` says
+pub ruleset counts_follow_demand = (have-at_most, want-at_most, kept-at_most, kept_want-at_most)

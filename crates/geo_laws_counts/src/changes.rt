@@ -19,6 +19,7 @@ pub fn little_is_seen<C>()
 {}
 
 /// Only the grants of the consumers that stand matter.
+#[tactic(auto, using(crate::proofs::Stays::grants_agree))]
 pub fn grants_are_of_consumers<C>()
     ensures { GrantsOfConsumers C }
 {}
