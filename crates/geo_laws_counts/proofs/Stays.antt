@@ -320,3 +320,6 @@ module _ {C : Type 0} (granted other : ℕ → Counts) (t : Topology C) where
         exclusive = λ e. second.exclusive (first.exclusive e);
         limit = λ e. second.limit (first.limit e);
       }
+
+-- what `quiet_consumers_change_nothing` says
+pub ruleset quiet_consumers_change_nothing = (consumer_came, consumer_attached, consumers_went)

@@ -76,3 +76,6 @@ module _ {C : Type 0} (granted : ℕ → Counts) (t : Topology C) where
         withering = x.withering;
         started = x.started;
       }) t.geoms)))
+
+-- what `little_is_seen` says
+pub ruleset little_is_seen = (unseen_error, unseen_size, unseen_withering, unseen_marks, unseen_config, unseen_started)
