@@ -9,9 +9,10 @@ use Rattle.geo_model.specs.Words.{names_number}
 use Rattle.geo_model.specs.Topology.{Topology, Provider, Consumer, provider_at, attached_to, consumers_of}
 use Rattle.geo_model.specs.Rank.{geoms_under}
 use Rattle.geo_model.specs.Demand.{no_counts, add_counts, sum_counts}
-use Rattle.geo_laws_counts.proofs.Sums.{counts-same, zero-add, add-zero, add-assoc, sum-same, sum-add}
+use Rattle.geo_laws_counts.proofs.Sums.{counts-same, zero-add, add-zero, add-assoc, sum-same, sum-add, add-move}
 use Rattle.geo_laws_counts.proofs.LimitFacts.{all_of, of_filter}
 use Rattle.geo_laws_counts.proofs.Upward.{names_some}
+pub use Rattle.geo_laws_counts.proofs.LimitFacts.{each_of}
 use Rattle.geo_laws_demands.specs.WalkWords.{has_number, IsOrder, cap, set_at, hand_at, Flow, gain_without}
 use Rattle.geo_laws_demands.proofs.Reach.{directly_under}
 use Rattle.geo_laws_demands.proofs.Orders.{has-contains, contains-has, not-has, is-under, order_first}
@@ -30,10 +31,6 @@ add-cap a b = counts-same (cap (add_counts a (cap b))) (cap (add_counts a b)) (o
 pub cap-cap : (a : Counts) → cap (cap a) ≡ cap a
 cap-cap a = counts-same (cap (cap a)) (cap a) (omega arith) (omega arith) (omega arith)
 
--- the parts of a sum may change places
-add-move : (a b c : Counts) → add_counts a (add_counts b c) ≡ add_counts b (add_counts a c)
-add-move a b c = counts-same (add_counts a (add_counts b c)) (add_counts b (add_counts a c)) (omega arith) (omega arith) (omega arith)
-
 -- a sum of what was stopped is stopped alike
 pub sum-cap : {X : Type 0} (f : X → Counts) (xs : List X) (a : Counts)
     → cap (add_counts a (sum_counts (map (λ x. cap (f x)) xs))) ≡ cap (add_counts a (sum_counts (map f xs)))
@@ -44,10 +41,6 @@ sum-cap f (x ∷ xs) a =
     ∙ ap cap (add-assoc a (cap (f x)) (sum_counts (map f xs)) ∙ add-move a (cap (f x)) (sum_counts (map f xs)))
     ∙ cap-add (f x) (add_counts a (sum_counts (map f xs)))
     ∙ ap cap (add-move (f x) a (sum_counts (map f xs)))
-
--- a fact of each item, by recursion
-pub each_of : {X : Type 0} (P : X → Type 0) (xs : List X) → ((x : X) → Contains xs x → P x) → AllByRecursion P xs
-each_of P xs so = recursion_from_All P xs (all_of P xs so)
 
 -- a sum of nothing is nothing
 pub sum-none : {X : Type 0} (f : X → Counts) (xs : List X) → ((x : X) → Contains xs x → f x ≡ no_counts) → sum_counts (map f xs) ≡ no_counts

@@ -9,6 +9,7 @@ use Rattle.std.proofs.lemmas.List.Elements.{All-contains, All-weaker, All-push, 
 use Rattle.geo_base.specs.declared.request.Counts.{Counts}
 use Rattle.geo_base.specs.declared.kind.Kind.{Kind}
 use Rattle.geo_base.specs.declared.kind.Kind.TheVariants as kinds
+use Rattle.geo_base.proofs.Tests.{found_in}
 use Rattle.geo_model.specs.Words.{names_number, is_granted_kind}
 use Rattle.geo_model.specs.Topology.{Topology, Geom, Provider, Consumer, geom_at, provider_at, providers_of, providers_under, attached_to, add_consumer, remove_consumer}
 use Rattle.geo_model.specs.Rank.{Ranked}
@@ -16,7 +17,7 @@ use Rattle.geo_model.specs.Opens.{below, below_within, with_grant}
 use Rattle.geo_model.specs.Demand.{no_counts, add_counts, sum_counts, want_of_kind, have, want, is_exclusive, fits_limit}
 use Rattle.geo_laws_counts.specs.CountWords.{IsAtMost, AreAtMost, more_counts, gain_of_kind, NumbersLead, DemandStays, AgreeExcept, HoldsGrants, IsOnlyOne}
 use Rattle.geo_laws_demands.specs.DemandLaws.{StaysAround}
-use Rattle.geo_laws_counts.proofs.Sums.{at_most-same, at_most-zero, add-zero, zero-add, add-assoc, counts-same, sum-same}
+use Rattle.geo_laws_counts.proofs.Sums.{at_most-same, at_most-zero, add-zero, zero-add, add-assoc, counts-same, sum-same, add-move}
 use Rattle.geo_laws_counts.proofs.Levels.{have-at_most, of_each}
 use Rattle.geo_laws_counts.proofs.Members.{in_head, in_tail, in_cases, in_nothing, in_filter, kept_members}
 use Rattle.geo_model.proofs.DemandLemmas.{map_same, all_weaker}
@@ -26,18 +27,6 @@ use Rattle.geo_laws_counts.proofs.LimitFacts.{all_of, of_filter}
 use Rattle.geo_laws_demands.proofs.Reach.{below_self, stays, wants_stay}
 use Rattle.geo_laws_counts.proofs.Keeping.{exclusive_less, limit_less}
 use Rattle.geo_laws_counts.proofs.Stays.{opener_came, opener_went}
-
--- what find gives is in the list
-found_in : {X : Type 0} (test : X → Bool) (xs : List X) (x : X) → find test xs ≡ Some x → Contains xs x × (test x ≡ true)
-found_in test [] x e = cc
-found_in {X = X} test (y ∷ ys) x e = at (test y) refl (found_in test ys x) e
-  where
-    at : (b : Bool) → test y ≡ b → (find test ys ≡ Some x → Contains ys x × (test x ≡ true)) → cond b (Some y) (find test ys) ≡ Some x
-        → Contains (y ∷ ys) x × (test x ≡ true)
-    at true passes rest found =
-        let same : y ≡ x = cc in
-        (subst (Contains (y ∷ ys)) same (in_head y ys), subst (λ z. test z ≡ true) same passes)
-    at false passes rest found = (in_tail y ys x (rest found).0, (rest found).1)
 
 -- functions that agree on what is found give the same
 flat_map-same : {X Y : Type 0} (f g : X → List Y) → ((x : X) → f x ≡ g x) → (xs : List X) → flat_map f xs ≡ flat_map g xs
@@ -190,9 +179,6 @@ sum-split : {X : Type 0} (f : X → Counts) (test out : X → Bool) (xs : List X
 sum-split f test out [] = refl
 sum-split {X = X} f test out (x ∷ xs) = split (out x) (test x) refl (sum-split f test out xs)
   where
-    turn : (a b c : Counts) → add_counts a (add_counts b c) ≡ add_counts b (add_counts a c)
-    turn a b c = counts-same (add_counts a (add_counts b c)) (add_counts b (add_counts a c)) (omega arith) (omega arith) (omega arith)
-
     split : (a b : Bool) → test x ≡ b
         → sum_counts (map f (filter test xs))
         ≡ add_counts (sum_counts (map f (filter test (filter (λ y. not (out y)) xs)))) (sum_counts (map f (filter test (filter out xs))))
@@ -203,7 +189,7 @@ sum-split {X = X} f test out (x ∷ xs) = split (out x) (test x) refl (sum-split
     split true true e rest =
         rw e
         (ap (add_counts (f x)) rest
-        ∙ turn (f x) (sum_counts (map f (filter test (filter (λ y. not (out y)) xs)))) (sum_counts (map f (filter test (filter out xs)))))
+        ∙ add-move (f x) (sum_counts (map f (filter test (filter (λ y. not (out y)) xs)))) (sum_counts (map f (filter test (filter out xs)))))
     split true false e rest = rw e rest
     split false true e rest =
         rw e

@@ -4,6 +4,7 @@ use Rattle.std.specs.List.{cons_option}
 use Rattle.std.specs.Option.{option_map, option_map_or}
 use Rattle.std.proofs.Common.{refl, sym, ◌∙◌, ap, subst, arith, inl, inr, eq-eqb}
 use Rattle.std.proofs.lemmas.Bool.{eqb-true}
+use Rattle.std.proofs.Math.Bool.{or-true}
 use Rattle.geo_model.specs.Topology.{Topology, Provider, Consumer, provider_at, consumers_of, providers_under}
 use Rattle.geo_model.specs.Rank.{rank, geoms_under, Ranked}
 use Rattle.geo_model.specs.Opens.{below, below_within}
@@ -14,11 +15,6 @@ use Rattle.geo_laws_demands.specs.WalkWords.{has_number, IsOrder, order_from}
 use Rattle.geo_laws_demands.proofs.Reach.{under_of, below_self, below_closed}
 
 -- Lists of numbers
-
--- a test is true if its second part is
-or_true : (b : Bool) → (b || true) ≡ true
-or_true true = refl
-or_true false = refl
 
 -- the same over one number more
 has_step : (y : ℕ) (ys : List ℕ) (x : ℕ) → (has_number ys x ≡ true → Contains ys x) → (b : Bool) → (y == x) ≡ b → (b || has_number ys x) ≡ true
@@ -37,7 +33,7 @@ contains-has [] x there = absurd (in_nothing x there)
 contains-has (y ∷ ys) x there =
     elim (in_cases y ys x there) [
       | inl same ↦ ap (λ b. b || has_number ys x) (eq-eqb y x same)
-      | inr rest ↦ ap (λ b. (y == x) || b) (contains-has ys x rest) ∙ or_true (y == x)
+      | inr rest ↦ ap (λ b. (y == x) || b) (contains-has ys x rest) ∙ or-true (y == x)
     ]
 
 -- where it finds none, there is none

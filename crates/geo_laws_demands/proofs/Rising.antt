@@ -3,6 +3,7 @@ use Rattle.std.specs.Prelude.{◌≡◌, ◌≢◌, ◌⊎◌, ℕ, ◌≤◌, �
 use Rattle.std.proofs.Common.{refl, sym, ◌∙◌, ap, subst, arith, inl, inr}
 use Rattle.std.proofs.lemmas.Bool.{eqb-true, eqb-false, and_parts, not-true, false_from_ne_true, cases_eq}
 use Rattle.std.proofs.lemmas.List.Elements.{All-contains, All-map}
+use Rattle.std.proofs.Math.Bool.{and-not_self, not-and_self}
 use Rattle.geo_base.specs.declared.request.Counts.{Counts}
 use Rattle.geo_model.specs.Topology.{Topology, Provider, Consumer, attached_to}
 use Rattle.geo_model.specs.Demand.{have, want, is_exclusive, fits_limit, risen, fallen}
@@ -31,16 +32,6 @@ is_there (x ∷ xs) n =
             | inr away ↦ inr (λ there. elim (in_cases x xs n there) [ inl same ↦ other same | inr rest ↦ away rest ])
           ]
     ]
-
--- no number is zero and is not
-both_tests : (b : Bool) → (b && not b) ≡ false
-both_tests true = refl
-both_tests false = refl
-
--- in either order
-both_tests_back : (b : Bool) → (not b && b) ≡ false
-both_tests_back true = refl
-both_tests_back false = refl
 
 -- a count that is at most one which is zero is zero
 rises_not : (a b : ℕ) → b ≤ a → ((a == 0) && not (b == 0)) ≡ false
@@ -97,7 +88,7 @@ module _ {C : Type 0} (granted : ℕ → Counts) (t : Topology C) (after : ℕ �
         (all_of (λ (x : Provider). Contains ns x.number)
         (filter (λ x. ((have granted t x.number).w == 0) && not ((have after u x.number).w == 0)) t.providers)
         (λ x there.
-        changed_in (λ a b. (a == 0) && not (b == 0)) (λ n. both_tests (n == 0)) x
+        changed_in (λ a b. (a == 0) && not (b == 0)) (λ n. and-not_self (n == 0)) x
         (of_filter (λ y. ((have granted t y.number).w == 0) && not ((have after u y.number).w == 0)) t.providers x there).1))
 
     pub fallen_in : All (Contains ns) (fallen granted t after u)
@@ -107,7 +98,7 @@ module _ {C : Type 0} (granted : ℕ → Counts) (t : Topology C) (after : ℕ �
         (all_of (λ (x : Provider). Contains ns x.number)
         (filter (λ x. not ((have granted t x.number).w == 0) && ((have after u x.number).w == 0)) t.providers)
         (λ x there.
-        changed_in (λ a b. not (a == 0) && (b == 0)) (λ n. both_tests_back (n == 0)) x
+        changed_in (λ a b. not (a == 0) && (b == 0)) (λ n. not-and_self (n == 0)) x
         (of_filter (λ y. not ((have granted t y.number).w == 0) && ((have after u y.number).w == 0)) t.providers x there).1))
 
   -- where only some providers change, it is enough to look at these

@@ -3,6 +3,7 @@ use Rattle.std.specs.Prelude.{◌≡◌, ℕ, ◌==◌, Bool, true, List, [], �
 use Rattle.std.proofs.Common.{inl, inr, refl, sym, ◌∙◌, ap, subst}
 use Rattle.std.proofs.lemmas.Bool.{cases_eq}
 use Rattle.std.proofs.lemmas.List.Elements.{recursion_from_All}
+use Rattle.geo_base.proofs.Tests.{filter_map-same}
 use Rattle.geo_model.specs.Topology.{Topology, Provider, Consumer, provider_at, consumers_of, attached_to, providers_under, add_provider, remove_provider, set_error, set_size, set_marks}
 use Rattle.geo_model.specs.Rank.{geoms_under}
 use Rattle.geo_model.specs.Words.{change_where}
@@ -12,11 +13,6 @@ use Rattle.geo_laws_ranks.proofs.Climbing.{under-from_below, below-from_under}
 use Rattle.geo_laws_graph.proofs.Lists.{changed, changed-keeps, find-changed, filter-changed, filter_map-changed}
 use Rattle.geo_model.specs.Graph.{ProvidersLive}
 use Rattle.geo_laws_graph.proofs.Living.{provider_at-removed, provider_at-gone, not_there, provider_stays}
-
--- two functions that give the same of each item give the same of a list
-filter_map_same : {X Y : Type 0} (f h : X → Option Y) → ((x : X) → f x ≡ h x) → (xs : List X) → filter_map f xs ≡ filter_map h xs
-filter_map_same f h same [] = refl
-filter_map_same f h same (x ∷ xs) = rw (same x, filter_map_same f h same xs) refl
 
 -- what a change keeps is as before, where there is anything
 option_map_twice : {X Y : Type 0} (f : X → X) (h : X → Y) → ((x : X) → h (f x) ≡ h x) → (o : Option X) → option_map h (option_map f o) ≡ option_map h o
@@ -56,7 +52,7 @@ module _ {C : Type 0} (t : Topology C) where
       → ((x : Provider) → (change x).geom ≡ x.geom) → (g : ℕ)
       → geoms_under (record t { providers = change_where (λ x. x.number == p) change t.providers }) g ≡ geoms_under t g
   geoms_under-changed p change number geom g =
-      filter_map_same
+      filter_map-same
       (λ q. option_map (λ (x : Provider). x.geom) (provider_at (record t { providers = change_where (λ x. x.number == p) change t.providers }) q))
       (λ q. option_map (λ (x : Provider). x.geom) (provider_at t q))
       (λ q.
