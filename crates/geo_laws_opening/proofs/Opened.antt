@@ -21,13 +21,9 @@ use Rattle.geo_model.specs.Steady.{Steady, HasItsComponents, WaitsForPlaces}
 use Rattle.geo_model.proofs.DemandLemmas.{all_weaker, kept_by}
 use Rattle.geo_laws_graph.proofs.Members.{Contains-there, All-from_contained, at_contained}
 use Rattle.geo_laws_graph.proofs.Lists.{numbers-from, found_itself}
-use Rattle.geo_laws_opening.proofs.Standing.{Stander, standers, stood, disk_geoms, disk_providers, opening-stood}
+use Rattle.geo_laws_opening.proofs.Standing.{Stander, standers, stood, disk_geoms, disk_providers, opening-stood, nowhere}
 use Rattle.geo_laws_opening.proofs.Standers.{IsStander, AreApart, PairsByRecursion, pairs-from_recursion, standers-stand, standers-apart}
 use Rattle.geo_laws_opening.proofs.Parts.{geoms-rise, providers-rise, IsDiskGeom, geoms-are, IsOfDisk, of_disk-behind, providers-are, providers-above, none-of, geoms-differ, names-differ, IsOffered, offers-are, disk-class, no-withering, each-passes, HasDisk, geoms-have, bare-differs}
-
--- nothing stands at a place of an empty list
-nowhere : {A : Type 0} (k : ℕ) → k < 0 → A
-nowhere k less = absurd (omega (arith, less))
 
 -- geoms 1 and 2
 abbrev dev_geom : Geom Config

@@ -1,5 +1,5 @@
 -- The world once some disks stand: a DISK geom for each, with one provider, which is offered for taste.
-use Rattle.std.specs.Prelude.{◌≡◌, ℕ, ◌+◌, ◌*◌, false, not, List, [], ◌∷◌, ◌++◌, length, fold, filter, zip}
+use Rattle.std.specs.Prelude.{◌≡◌, ℕ, ◌+◌, ◌*◌, false, not, List, [], ◌∷◌, ◌++◌, length, fold, filter, zip, ◌<◌}
 use Rattle.std.specs.List.{enumerate_from}
 use Rattle.std.proofs.Common.{sym, ◌∙◌, ap, arith, append_assoc}
 use Rattle.std.proofs.lemmas.List.{append-nil}
@@ -11,6 +11,10 @@ use Rattle.geo_model.specs.Topology.{Geom, Provider}
 use Rattle.geo_model.specs.World.{World, Config, Disk, Plan}
 use Rattle.geo_model.specs.GeomCommands.{stand}
 use Rattle.geo_model.specs.Opening.{disk_in_size, bare_world, opening}
+
+-- nothing stands at a place of an empty list
+pub nowhere : {A : Type 0} (k : ℕ) → k < 0 → A
+nowhere k less = absurd (omega (arith, less))
 
 -- a disk that stands: its number in the header, what the header says of it, its sector size and its sectors
 abbrev pub Stander : Type 0
