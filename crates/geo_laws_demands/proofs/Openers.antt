@@ -466,3 +466,6 @@ module _ {C : Type 0} (granted after : ℕ → Counts) (t : Topology C) (d : Con
           → sum_counts (map (λ c. more_counts (want without t c) (want granted t c)) (cond b (e ∷ []) [])) ≡ (if b then a else no_counts)
       one_of true a e same = add-zero (more_counts (want without t e) (want granted t e)) ∙ same
       one_of false a e same = refl
+
+-- what `demand_goes` says
+pub ruleset demand_goes = (went_quietly, went_less, went_stays, below_went, went_gains, went_wants)

@@ -85,3 +85,6 @@ pub opened_allowed : {C : Type 0} (granted : ℕ → Counts) (t : Topology C) (a
     → IsSomeAnd (find_provider t name) (λ p. IsAllowed after (with_opener t p) p)
 opened_allowed granted t after name agree e =
     opened_at granted after t agree (find_provider t name) ((open_allowed granted t name (after t.next_consumer)).0 e)
+
+-- what `demands_are_allowed` says
+pub ruleset demands_are_allowed = (allowed, open_allowed, opened_allowed)

@@ -135,3 +135,6 @@ module _ {C : Type 0} (granted : ℕ → Counts) (t : Topology C) (after : ℕ �
           | inl near ↦ All-contains (λ (y : Provider). Contains ns y.number → IsAtMost (have after u y.number) greatest_counts) t.providers x facts stood near
           | inr away ↦ subst (λ a. IsAtMost a greatest_counts) (sym (stay.haves x.number away)) (within_limit granted t e x stood)
         ])
+
+-- what `rises_and_falls_are_among_changes` says
+pub ruleset rises_and_falls_are_among_changes = (risen_none, fallen_none, risen_in, fallen_in)

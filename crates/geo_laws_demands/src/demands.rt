@@ -4,6 +4,7 @@ ghost use Rattle.geo_laws_demands.specs.DemandLaws.{BelowBeginsAtIt, BelowIsClos
 /// Where grants rise, a provider gains the sum of what its consumers gain, and a consumer what its class makes of what its
 /// geom's providers gain: partition tables, labels, concats and stripes add an exclusive count at the first demand above.
 /// Read backwards, where grants fall, they lose as much, and the exclusive count goes with the last demand.
+#[tactic(auto, using(crate::proofs::Gains::have_gains, crate::proofs::Gains::want_gains))]
 pub fn grants_gain<C>()
     ensures providers { ProvidersGain C }
     ensures consumers { ConsumersGain C }
@@ -39,6 +40,7 @@ pub fn demand_comes<C>()
 
 /// A consumer of DEV or TASTE that goes with its grant: no count rises, and only those reached downwards fall, each by the sum of
 /// what its consumers lose.
+#[tactic(auto, using(crate::proofs::Openers::demand_goes))]
 pub fn demand_goes<C>()
     ensures quietly { GoesQuietly C }
     ensures lowers { GoingLowers C }
