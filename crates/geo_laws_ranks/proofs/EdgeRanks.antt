@@ -120,3 +120,6 @@ module _ {C : Type 0} (t u : Topology C) where
       others = rank-mended t u a b added now;
       reached = reached_same ranked now;
     }
+
+-- what `ways_lead_down` says
+pub ruleset ways_lead_down = (reaching-way, reaches-none)

@@ -11,6 +11,7 @@ pub fn ranks_are_determined<C>()
 {}
 
 /// A geom reaches another where there is a way down to it, which ranks make short; what offers nothing isn't reached.
+#[tactic(auto, using(crate::proofs::EdgeRanks::ways_lead_down, crate::proofs::Paths::ways_lead_down))]
 pub fn ways_lead_down<C>()
     ensures reaching { ReachingIsAWay C }
     ensures short { WaysAreShort C }
@@ -26,6 +27,7 @@ pub fn edges_make_ranks<C>()
 {}
 
 /// Only DEV and TASTE may be deeper than the limit.
+#[tactic(auto, using(crate::proofs::Depth::depth))]
 pub fn depth_holds()
     ensures { DepthHolds }
 {}
