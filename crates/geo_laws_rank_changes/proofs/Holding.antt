@@ -298,3 +298,6 @@ sound-ranks = record {
   started = λ t g hold.
       changed_hold t (λ x. x.number == g) (λ x. record x { started = x.started + 1 }) (λ x e. refl) (λ x e. refl) (plain-stay.started t g) hold;
 }
+
+-- what `sound_ranks_stay` says
+pub ruleset sound_ranks_stay = (sound-ranks)

@@ -174,3 +174,9 @@ pub configs-seen : {C D : Type 0} (see : C → D) (t : Topology C) → AllRanksS
 configs-seen see t =
     stays_all t (with_configs see t) (length-map t.geoms (seen_geom see))
     (parts-edges t (with_configs see t) refl refl) (parts-edges (with_configs see t) t refl refl) (λ live. live)
+
+-- what `configs_keep_ranks` says
+pub ruleset configs_keep_ranks = (configs-seen)
+
+-- what `ranks_stay` says
+pub ruleset ranks_stay = (plain-stay, adding-stay, removing-stay)
