@@ -1,8 +1,8 @@
 //! Laws of ranks (geom(4)), for any configuration of a class.
 ghost use Rattle.geo_laws_ranks.specs.RankLaws.{ClimbingIsRanked, DepthHolds, EdgesMakeLoops, EdgesRaiseRanks, FewerEdgesLowerRanks, LevelsAreEnough, OnlyProvidersAreReached, RankIsOneMore, RankIsTheOnly, ReachingIsAWay, SameEdgesKeepRanks, WaysAreShort};
 
-/// A graph has ranks where some number of each geom falls along each edge; then its rank is the one function that is one more
-/// than the highest below, however many levels more are counted.
+/// A graph has ranks where some number of each geom falls along each edge; then its rank is the one function that is
+/// one more than the highest below, however many levels more are counted.
 pub fn ranks_are_determined<C>()
     ensures climbing { ClimbingIsRanked C }
     ensures one_more { RankIsOneMore C }
