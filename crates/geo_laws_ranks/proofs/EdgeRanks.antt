@@ -10,7 +10,7 @@ use Rattle.geo_laws_graph.proofs.Members.{find-Contains, Contains-filter, nothin
 use Rattle.std.proofs.lemmas.List.Elements.{All-weaker}
 use Rattle.geo_base.proofs.Tests.{same_tests}
 use Rattle.geo_laws_ranks.proofs.Climbing.{provider_there, attached_geom, ranked-from_climbing, climbs_along, climbs_from, rank-falls}
-use Rattle.geo_laws_ranks.proofs.Paths.{reaches-same_edges, reaches-kept, reaches-from_path, path-from_reaches, path-edges}
+use Rattle.geo_laws_ranks.proofs.Paths.{reaches-same_edges, reaches-kept, reaches-from_path, path-from_reaches, path-edges, path-ranks}
 use Rattle.geo_laws_ranks.proofs.AddedEdges.{rank-ways, ranked-fewer, rank-fewer, rank-kept, rank-same_edges, rank-rises, rank-elsewhere, rank-above_edge, rank-mended, old_edge}
 use Rattle.geo_model.specs.Graph.{GeomsLive, ProvidersLive}
 use Rattle.geo_laws_graph.proofs.Living.{if_some_weaker}
@@ -134,4 +134,4 @@ module _ {C : Type 0} (t u : Topology C) where
     }
 
 -- what `ways_lead_down` says
-pub ruleset ways_lead_down = (reaching-way, reaches-none)
+pub ruleset ways_lead_down = (reaching-way, path-ranks, reaches-none)

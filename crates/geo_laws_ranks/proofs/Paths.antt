@@ -143,6 +143,3 @@ module _ {C D : Type 0} (t : Topology C) (u : Topology D) (more : HasEdgesOf u t
       reaches-from_path t ranked g h (record { over = p.over; is = path-edges u t less g h p.over p.is }))
       (λ e. let p = path-from_reaches t g h e in
       reaches-from_path u now g h (record { over = p.over; is = path-edges t u more g h p.over p.is }))
-
--- what `ways_lead_down` says
-pub ruleset ways_lead_down = (path-ranks)

@@ -11,7 +11,7 @@ pub fn ranks_are_determined<C>()
 {}
 
 /// A geom reaches another where there is a way down to it, which ranks make short; what offers nothing isn't reached.
-#[tactic(auto, using(crate::proofs::EdgeRanks::ways_lead_down, crate::proofs::Paths::ways_lead_down))]
+#[tactic(auto, using(crate::proofs::EdgeRanks::ways_lead_down))]
 pub fn ways_lead_down<C>()
     ensures reaching { ReachingIsAWay C }
     ensures short { WaysAreShort C }
