@@ -75,7 +75,8 @@ module _ {C : Type 0} (granted : ℕ → Counts) (t : Topology C) (after : ℕ �
           | inl there ↦ there
           | inr away ↦
               absurd
-              (let same : (have after u x.number).w ≡ (have granted t x.number).w = ap (λ (a : Counts). a.w) (stay x.number away) in
+              (let same : (have after u x.number).w ≡ (have granted t x.number).w =
+              ap (λ (a : Counts). a.w) (stay x.number away) in
               let no : true ≡ false =
               sym e ∙ ap (test (have granted t x.number).w) same ∙ never (have granted t x.number).w in
               (cc))
@@ -89,7 +90,8 @@ module _ {C : Type 0} (granted : ℕ → Counts) (t : Topology C) (after : ℕ �
         (filter (λ x. ((have granted t x.number).w == 0) && not ((have after u x.number).w == 0)) t.providers)
         (λ x there.
         changed_in (λ a b. (a == 0) && not (b == 0)) (λ n. and-not_self (n == 0)) x
-        (of_filter (λ y. ((have granted t y.number).w == 0) && not ((have after u y.number).w == 0)) t.providers x there).1))
+        (of_filter (λ y. ((have granted t y.number).w == 0) && not ((have after u y.number).w == 0)) t.providers
+        x there).1))
 
     pub fallen_in : All (Contains ns) (fallen granted t after u)
     fallen_in =
@@ -99,26 +101,34 @@ module _ {C : Type 0} (granted : ℕ → Counts) (t : Topology C) (after : ℕ �
         (filter (λ x. not ((have granted t x.number).w == 0) && ((have after u x.number).w == 0)) t.providers)
         (λ x there.
         changed_in (λ a b. not (a == 0) && (b == 0)) (λ n. not-and_self (n == 0)) x
-        (of_filter (λ y. not ((have granted t y.number).w == 0) && ((have after u y.number).w == 0)) t.providers x there).1))
+        (of_filter (λ y. not ((have granted t y.number).w == 0) && ((have after u y.number).w == 0)) t.providers
+        x there).1))
 
   -- where only some providers change, it is enough to look at these
   module _ (ns : List ℕ) (stay : StaysAround granted t after u ns) (providers : u.providers ≡ t.providers) where
     pub changed_exclusive : is_exclusive granted t ≡ true
-        → All (λ x. Contains ns x.number → NoneInTheWay after u (attached_to u x.number)) t.providers → is_exclusive after u ≡ true
+        → All (λ x. Contains ns x.number → NoneInTheWay after u (attached_to u x.number)) t.providers
+        → is_exclusive after u ≡ true
     changed_exclusive e facts =
         exclusive_from after u
         (λ x a b there first second other.
         let stood : Contains t.providers x = subst (λ xs. Contains xs x) providers there in
         elim (is_there ns x.number) [
           | inl near ↦
-              All-contains (λ (d : Consumer). a.number ≢ d.number → ((want after u a).w ≡ 0) ⊎ ((want after u d).e ≡ 0)) (attached_to u x.number) b
-              (All-contains (λ (c : Consumer). All (λ (d : Consumer). c.number ≢ d.number → ((want after u c).w ≡ 0) ⊎ ((want after u d).e ≡ 0)) (attached_to u x.number)) (attached_to u x.number) a
-              (All-contains (λ (y : Provider). Contains ns y.number → NoneInTheWay after u (attached_to u y.number)) t.providers x facts stood near)
+              All-contains (λ (d : Consumer). a.number ≢ d.number → ((want after u a).w ≡ 0)
+              ⊎ ((want after u d).e ≡ 0)) (attached_to u x.number) b
+              (All-contains (λ (c : Consumer). All (λ (d : Consumer). c.number ≢ d.number
+              → ((want after u c).w ≡ 0) ⊎ ((want after u d).e ≡ 0)) (attached_to u x.number))
+              (attached_to u x.number) a
+              (All-contains (λ (y : Provider). Contains ns y.number
+              → NoneInTheWay after u (attached_to u y.number)) t.providers x facts stood near)
               first)
               second other
           | inr away ↦
-              let one : Contains (attached_to t x.number) a = subst (λ cs. Contains cs a) (stay.attached x.number away) first in
-              let two : Contains (attached_to t x.number) b = subst (λ cs. Contains cs b) (stay.attached x.number away) second in
+              let one : Contains (attached_to t x.number) a =
+              subst (λ cs. Contains cs a) (stay.attached x.number away) first in
+              let two : Contains (attached_to t x.number) b =
+              subst (λ cs. Contains cs b) (stay.attached x.number away) second in
               elim (apart_from granted t e x a b stood one two other) [
                 | inl w ↦ inl (ap (λ (z : Counts). z.w) (stay.wants x.number away a one) ∙ w)
                 | inr z ↦ inr (ap (λ (y : Counts). y.e) (stay.wants x.number away b two) ∙ z)
@@ -126,14 +136,19 @@ module _ {C : Type 0} (granted : ℕ → Counts) (t : Topology C) (after : ℕ �
         ])
 
     pub changed_limit : fits_limit granted t ≡ true
-        → All (λ x. Contains ns x.number → IsAtMost (have after u x.number) greatest_counts) t.providers → fits_limit after u ≡ true
+        → All (λ x. Contains ns x.number → IsAtMost (have after u x.number) greatest_counts) t.providers
+        → fits_limit after u ≡ true
     changed_limit e facts =
         limit_from after u
         (λ x there.
         let stood : Contains t.providers x = subst (λ xs. Contains xs x) providers there in
         elim (is_there ns x.number) [
-          | inl near ↦ All-contains (λ (y : Provider). Contains ns y.number → IsAtMost (have after u y.number) greatest_counts) t.providers x facts stood near
-          | inr away ↦ subst (λ a. IsAtMost a greatest_counts) (sym (stay.haves x.number away)) (within_limit granted t e x stood)
+          | inl near ↦
+              All-contains (λ (y : Provider). Contains ns y.number
+              → IsAtMost (have after u y.number) greatest_counts) t.providers x facts stood near
+          | inr away ↦
+              subst (λ a. IsAtMost a greatest_counts) (sym (stay.haves x.number away))
+              (within_limit granted t e x stood)
         ])
 
 -- what `rises_and_falls_are_among_changes` says
