@@ -33,8 +33,8 @@ pub fn made_geoms_are_ranked()
     ensures { MadeGeomsAreRanked }
 {}
 
-/// An attach is refused as a loop exactly where a geom would reach itself; one that isn't refused keeps the graph without
-/// loops and within the depth.
+/// An attach is refused as a loop exactly where a geom would reach itself; one that isn't refused keeps the graph
+/// without loops and within the depth.
 pub fn attaches_are_ranked<C>()
     ensures refused { LoopsAreRefused C }
     ensures way_back { LoopsAreWaysBack C }
