@@ -1,7 +1,7 @@
 -- In a firm mesh the consumers of an open geom have the counts for each request to one of its providers.
 use Rattle.std.specs.Prelude.{◌≡◌, ℕ, ◌==◌, Bool, true, false, List, [], ◌∷◌, map, Option, Some, None, Contains, IsSome, IsSomeAnd, IsTrue}
 use Rattle.std.proofs.Common.{inl, inr, refl, sym, ◌∙◌, subst, arith}
-use Rattle.std.proofs.lemmas.Bool.{eq-eqb}
+use Rattle.std.proofs.lemmas.Bool.{eq-eqb, false_from_ne_true}
 use Rattle.std.proofs.lemmas.List.Elements.{All-contains}
 use Rattle.geo_base.specs.declared.request.Counts.{Counts}
 use Rattle.geo_base.specs.declared.kind.Kind.{Kind}
@@ -99,11 +99,6 @@ count_up : (granted : ℕ → Counts) (t : Topology Config) (x : Bio) (c d : Con
 count_up granted t x c d more has =
     ((λ read. omega (arith, more.r, has.0 read)), (λ other. omega (arith, more.w, has.1 other)))
 
--- the one of two that a fact denies isn't so
-pub denied : (b : Bool) → (b ≡ true → ⊥) → b ≡ false
-denied true no_way = absurd (no_way refl)
-denied false no_way = refl
-
 module _ (w : World) (firm : Firm w) (x : Bio) (here : Contains w.bios x) (p : Provider)
     (at_target : provider_at w.topology x.target ≡ Some p)
     (g : Geom Config) (of_it : geom_at w.topology p.geom ≡ Some g) (no_disk : disk_of g.config ≡ None) where
@@ -136,7 +131,7 @@ module _ (w : World) (firm : Firm w) (x : Bio) (here : Contains w.bios x) (p : P
 
   -- the geom isn't DEV or TASTE
   not_granted : is_granted_kind g.kind ≡ false
-  not_granted = denied (is_granted_kind g.kind) (λ granted.
+  not_granted = false_from_ne_true (is_granted_kind g.kind) (λ granted.
       let bare : g.config ≡ Nothing = bare_config g.kind g.config granted class.config in
       let first = first_below in
       let is : component g.config first.0.component ≡ Some first.1.number = first.1.is in
@@ -146,7 +141,7 @@ module _ (w : World) (firm : Firm w) (x : Bio) (here : Contains w.bios x) (p : P
 
   -- nor a disk's
   not_disk : is_kind g.kind kinds.Disk ≡ false
-  not_disk = denied (is_kind g.kind kinds.Disk) (λ is.
+  not_disk = false_from_ne_true (is_kind g.kind kinds.Disk) (λ is.
       let some : IsSome (disk_of g.config) = disk_config g.kind g.config is class.config in
       let none : IsSome {T = ℕ} None = rw no_disk at some in
       cc)

@@ -2,6 +2,7 @@
 use Rattle.std.specs.Prelude.{◌≡◌, ℕ, ◌+◌, Bool, true, false, List, [], ◌∷◌, length, map, flat_map, sum, Option, Some, None, Contains, IsSomeAnd, unwrap_or, if◌then◌else◌}
 use Rattle.std.specs.List.{AllByRecursion, enumerate_from}
 use Rattle.std.proofs.Common.{refl, sym, ◌∙◌, ap, subst, arith, length-append}
+use Rattle.std.proofs.lemmas.Simd.{map-map}
 use Rattle.geo_base.specs.declared.errno.Errno.{Errno}
 use Rattle.geo_base.specs.declared.request.BioCmd.{BioCmd}
 use Rattle.geo_base.specs.declared.request.BioCmd.TheVariants as cmds
@@ -16,7 +17,7 @@ use Rattle.geo_model.specs.SoundBios.{ChildShape, shape_of_child, shape_of_piece
 use Rattle.geo_model.specs.Steady.{FitsBio}
 use Rattle.geo_model.specs.Fitting.{Firm}
 use Rattle.geo_laws_graph.proofs.Members.{nothing_in}
-use Rattle.geo_laws_bios.proofs.Items.{seen_map, both_by_recursion}
+use Rattle.geo_laws_bios.proofs.Items.{both_by_recursion}
 use Rattle.geo_laws_bio_pieces.proofs.Pieces.{sum_cons, lengths}
 use Rattle.geo_laws_bios.proofs.Turned.{AreItsPieces}
 
@@ -88,17 +89,17 @@ module _ (y : Bio) (cs : List Bio) (targets : List PieceTarget)
   commands : AllByRecursion (λ (c : Bio). c.cmd ≡ y.cmd) cs
   commands =
       constant (λ (c : Bio). c.cmd) y.cmd cs (enumerate_from 0 targets)
-      (sym (seen_map (λ (s : ChildShape). s.cmd) shape_of_child cs)
+      (sym (map-map (λ (s : ChildShape). s.cmd) shape_of_child cs)
       ∙ ap (λ ss. map (λ (s : ChildShape). s.cmd) ss) shapes
-      ∙ seen_map (λ (s : ChildShape). s.cmd) (λ (item : ℕ × PieceTarget). shape_of_piece y item.0 item.1)
+      ∙ map-map (λ (s : ChildShape). s.cmd) (λ (item : ℕ × PieceTarget). shape_of_piece y item.0 item.1)
       (enumerate_from 0 targets))
 
   -- together they are as long as the pieces
   same_lengths : map (λ (c : Bio). c.len) cs ≡ map (λ (z : PieceTarget). z.piece.span.len) targets
   same_lengths =
-      sym (seen_map (λ (s : ChildShape). s.len) shape_of_child cs)
+      sym (map-map (λ (s : ChildShape). s.len) shape_of_child cs)
       ∙ ap (λ ss. map (λ (s : ChildShape). s.len) ss) shapes
-      ∙ seen_map (λ (s : ChildShape). s.len) (λ (item : ℕ × PieceTarget). shape_of_piece y item.0 item.1)
+      ∙ map-map (λ (s : ChildShape). s.len) (λ (item : ℕ × PieceTarget). shape_of_piece y item.0 item.1)
       (enumerate_from 0 targets)
       ∙ numbered (λ (z : PieceTarget). z.piece.span.len) 0 targets
 

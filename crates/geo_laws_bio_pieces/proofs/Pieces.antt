@@ -5,6 +5,7 @@ use Rattle.std.proofs.Common.{inl, inr, refl, sym, ◌∙◌, ap, subst, arith, 
 use Rattle.std.proofs.lemmas.Bool.{eq-eqb, false_from_ne_true}
 use Rattle.std.proofs.lemmas.List.Elements.{All-contains}
 use Rattle.std.proofs.lemmas.List.Sums.{sum_by-cons}
+use Rattle.std.proofs.lemmas.Simd.{map-map}
 use Rattle.geo_base.specs.declared.request.Counts.{Counts}
 use Rattle.geo_model.specs.declared.span.Piece.{Piece}
 use Rattle.geo_model.specs.Words.{is_read, is_flush, names_number}
@@ -23,7 +24,7 @@ use Rattle.geo_model.proofs.PartitionLemmas.{pieces-follow}
 use Rattle.geo_laws_graph.proofs.Members.{find-Contains, Contains-filter, Contains-map}
 use Rattle.geo_laws_graph.proofs.Numbered.{number_found, each_found}
 use Rattle.geo_laws_bio_pieces.specs.PieceLaws.{FirmMeshesLoseNoPiece}
-use Rattle.geo_laws_bios.proofs.Items.{seen_map, both_by_recursion}
+use Rattle.geo_laws_bios.proofs.Items.{both_by_recursion}
 use Rattle.geo_laws_counts.proofs.Sums.{zero-test, zeros-sum}
 use Rattle.geo_laws_counts.proofs.LimitFacts.{all_true}
 
@@ -363,7 +364,7 @@ module _ (w : World) (firm : Firm w) (x : Bio) (here : Contains w.bios x) where
             follow-sum 0 x.len (pieces g.config p x.offset x.len) follow in
             let same : map (λ (z : PieceTarget). z.piece.span.len) (piece_targets g.config p x) ≡ map
             (λ (s : Piece). s.span.len) (pieces g.config p x.offset x.len) =
-            sym (seen_map (λ (s : Piece). s.span.len) (λ (z : PieceTarget). z.piece) (piece_targets g.config p x))
+            sym (map-map (λ (s : Piece). s.span.len) (λ (z : PieceTarget). z.piece) (piece_targets g.config p x))
             ∙ ap (λ ss. map (λ (s : Piece). s.span.len) ss) no_piece_lost in
             rw same (omega (arith, total))
 

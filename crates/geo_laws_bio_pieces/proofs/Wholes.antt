@@ -19,6 +19,8 @@ use Rattle.geo_model.specs.Place.{Spot, place, pieces, piece_in, window, strip, 
 use Rattle.geo_model.specs.Sound.{fits_kind, IsPlaceInside}
 use Rattle.geo_model.specs.Fitting.{FitsPlace, IsWholeIn}
 use Rattle.geo_model.proofs.DemandLemmas.{map_all}
+use Rattle.geo_model.proofs.PlaceLemmas.{cut_piece}
+use Rattle.geo_model.proofs.RankLemmas.{mapped_by}
 use Rattle.geo_laws_bio_pieces.proofs.Pieces.{Below, below_of, sum_cons}
 
 -- Of numbers
@@ -52,18 +54,6 @@ pub record IsWholePiece (d : ℕ) (z : Piece) : Type 0 where
   pub offset : d ∣ z.span.offset
   pub len : d ∣ z.span.len
 
--- the piece of a range in a stretch
-abbrev cut_piece : ℕ → ℕ → Stretch → Piece
-cut_piece o len s =
-    let from_here = max o s.start in
-    let to_here = min (o + len) (s.start + s.len) in
-    record {
-      child = s.component;
-      span =
-          record { offset = s.offset + (from_here - s.start); len = to_here - from_here };
-      at = from_here - o;
-    }
-
 -- it is of whole sectors
 whole_cut : (d o len : ℕ) (s : Stretch) → d ∣ o → d ∣ len → IsWholeStretch d s → IsWholePiece d (cut_piece o len s)
 whole_cut d o len s at_o of_len whole =
@@ -82,26 +72,11 @@ whole_in d o len s z true e found at_o of_len whole =
     subst (IsWholePiece d) same (whole_cut d o len s at_o of_len whole)
 whole_in d o len s z false e found at_o of_len whole = let bad : None ≡ Some z = rw e at found in absurd cc
 
--- one item more that filter_map gives or passes over
-given_step : {X Y : Type 0} (P : X → Type 0) (Q : Y → Type 0) (h : X → Option Y)
-    → ((x : X) (y : Y) → h x ≡ Some y → P x → Q y)
-    → (x : X) (xs : List X) (o : Option Y) → h x ≡ o → P x → AllByRecursion Q (filter_map h xs)
-    → AllByRecursion Q (filter_map h (x ∷ xs))
-given_step P Q h so x xs None e fact rest = rw e rest
-given_step P Q h so x xs (Some y) e fact rest = rw e (so x y e fact, rest)
-
--- a fact of what filter_map gives
-pub given_all : {X Y : Type 0} (P : X → Type 0) (Q : Y → Type 0) (h : X → Option Y)
-    → ((x : X) (y : Y) → h x ≡ Some y → P x → Q y)
-    → (xs : List X) → AllByRecursion P xs → AllByRecursion Q (filter_map h xs)
-given_all P Q h so [] facts = tt
-given_all P Q h so (x ∷ xs) facts = given_step P Q h so x xs (h x) refl facts.0 (given_all P Q h so xs facts.1)
-
 -- so for all pieces
 whole_pieces : (d o len : ℕ) (ss : List Stretch) → d ∣ o → d ∣ len → AllByRecursion (IsWholeStretch d) ss
     → AllByRecursion (IsWholePiece d) (filter_map (piece_in o len) ss)
 whole_pieces d o len ss at_o of_len whole =
-    given_all (IsWholeStretch d) (IsWholePiece d) (piece_in o len)
+    mapped_by (IsWholeStretch d) (IsWholePiece d) (piece_in o len)
     (λ s z found is. whole_in d o len s z
     (nat_lt (max o s.start) (min (o + len) (s.start + s.len))) refl found at_o of_len is) ss whole
 

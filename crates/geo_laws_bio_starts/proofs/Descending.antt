@@ -20,13 +20,14 @@ use Rattle.geo_model.specs.Sound.{IsOfItsClass, IsMediaSize, IsPlaceInside}
 use Rattle.geo_model.specs.SoundBios.{IsBioInOrder, IsRangeInside, HasCountFor}
 use Rattle.geo_model.specs.Steady.{HasItsComponents}
 use Rattle.geo_model.specs.Fitting.{Firm, FitsPlaces, HasItsSum, IsWholeIn}
+use Rattle.geo_model.proofs.RankLemmas.{mapped_by}
 use Rattle.geo_laws_graph.proofs.Members.{find-Contains, Contains-filter}
 use Rattle.geo_laws_graph.proofs.Numbered.{number_found, any-contained}
 use Rattle.geo_laws_bios.proofs.Apart.{bios_of, firm_with}
 use Rattle.geo_laws_bios.proofs.Items.{both_by_recursion}
 use Rattle.geo_laws_bio_pieces.proofs.Pieces.{Below, IsBetween, LiesBelow, is_open, is_placed, range_of, whole_below, follow, pieces_below, no_piece_lost}
 use Rattle.geo_laws_bio_pieces.proofs.Counted.{counted, first_below}
-use Rattle.geo_laws_bio_pieces.proofs.Wholes.{IsWholePiece, AreWholeSizes, pieces_whole, given_all, sizes_whole, concat_kind}
+use Rattle.geo_laws_bio_pieces.proofs.Wholes.{IsWholePiece, AreWholeSizes, pieces_whole, sizes_whole, concat_kind}
 use Rattle.geo_laws_bio_starts.proofs.Splitting.{GoesDown, parted, parted_hold}
 
 -- a WRITE is no FLUSH
@@ -232,7 +233,7 @@ module _ (w : World) (firm : Firm w) (x : Bio) (here : Contains w.bios x) (p : P
     -- so all of them go down
     pieces_go : AllByRecursion (GoesDown w x) (piece_targets g.config p x)
     pieces_go = rw moves
-        (given_all GoodPiece (GoesDown w x)
+        (mapped_by GoodPiece (GoesDown w x)
         (λ (s : Piece). option_map (λ c. record { consumer = c; piece = s }) (component g.config s.child))
         (λ s z found good. target_goes s z (component g.config s.child) refl found good)
         (pieces g.config p x.offset x.len)

@@ -9,6 +9,7 @@ use Rattle.std.proofs.lemmas.List.Elements.{All-append, All-from_recursion, All-
 use Rattle.std.proofs.lemmas.List.Folds.{list_any-append}
 use Rattle.std.proofs.lemmas.List.Quantifiers.{all_pairs_push}
 use Rattle.std.proofs.lemmas.List.Sums.{length-filter}
+use Rattle.std.proofs.lemmas.Simd.{map-map}
 use Rattle.geo_model.specs.declared.step.Owner.{Owner}
 use Rattle.geo_model.specs.declared.step.Owner.TheVariants as owners
 use Rattle.geo_model.specs.declared.step.Phase.TheVariants as phases
@@ -26,9 +27,10 @@ use Rattle.geo_laws_graph.proofs.Members.{find-Contains, filter-Contains, Contai
 use Rattle.geo_laws_graph.proofs.Numbered.{at-here, at-unchanged}
 use Rattle.geo_laws_bios.specs.BioFrames.{BiosHold}
 use Rattle.geo_laws_bios.specs.BioSteps.{turned}
-use Rattle.geo_laws_bios.proofs.Items.{none_kept, some_weaker, pairs_map, all_changed, all-fewer, seen_map}
+use Rattle.geo_laws_bios.proofs.Items.{none_kept, some_weaker, pairs_map, all_changed, all-fewer}
 use Rattle.geo_laws_bios.proofs.Phases.{not_waiting}
-use Rattle.geo_laws_bios.proofs.Turned.{AreItsPieces, range_turned}
+use Rattle.geo_laws_bios.proofs.Turned.{AreItsPieces, range_turned, ReadsSector}
+use Rattle.geo_laws_bios.proofs.Owners.{parent_stays, owner_stays}
 
 -- Lists
 
@@ -212,21 +214,15 @@ module _ (w : World) (x : Bio) (targets : List PieceTarget) where
 
     -- a parent stays
     parent_kept : (o : Owner) → HasItsParent w o → HasItsParent parted o
-    parent_kept (owners.Line handle line) has = has
-    parent_kept owners.Taste has = has
-    parent_kept (owners.Child parent index) has = waiting_at parent (bio_at w parent) refl has (parent == x.number) refl
+    parent_kept = parent_stays w parted (λ n has. waiting_at n (bio_at w n) refl has (n == x.number) refl)
 
     -- so does an owner
     owner_kept : (z : Bio) (o : Owner) → ComesFromItsOwner w z o → ComesFromItsOwner parted z o
-    owner_kept z (owners.Line handle line) comes = comes
-    owner_kept z owners.Taste comes = comes
-    owner_kept z (owners.Child parent index) comes = comes
+    owner_kept z = owner_stays w parted z z refl refl refl refl refl
 
     -- the one's owner
     owner_waiting : (o : Owner) → ComesFromItsOwner w x o → ComesFromItsOwner parted (wait x) o
-    owner_waiting (owners.Line handle line) comes = comes
-    owner_waiting owners.Taste comes = comes
-    owner_waiting (owners.Child parent index) comes = comes
+    owner_waiting = owner_stays w parted x (wait x) refl refl refl refl refl
 
     -- a bio that names a parent, names one that is Waiting
     names_waiting : (o : Owner) → is_child_of o x.number ≡ true → HasItsParent w o → ⊥
@@ -266,7 +262,7 @@ module _ (w : World) (x : Bio) (targets : List PieceTarget) where
           let shapes : map shape_of_child (children_of parted x.number) ≡ map
           (λ item. shape_of_piece (wait x) item.0 item.1) (enumerate_from 0 (piece_targets g.config p (wait x))) =
           ap (λ (cs : List Bio). map shape_of_child cs) children_here
-          ∙ seen_map shape_of_child (λ (item : ℕ × PieceTarget). piece_child w.topology w.next_bio x item.0 item.1)
+          ∙ map-map shape_of_child (λ (item : ℕ × PieceTarget). piece_child w.topology w.next_bio x item.0 item.1)
           (enumerate_from 0 targets)
           ∙ ap (λ (zs : List PieceTarget). map (λ (item : ℕ × PieceTarget). shape_of_piece (wait x) item.0 item.1)
           (enumerate_from 0 zs)) are in
@@ -406,11 +402,6 @@ module _ (w : World) (x : Bio) (targets : List PieceTarget) where
           ∙ length-changed is_it wait (filter (λ (z : Bio). is_taste_root z.owner) w.bios)
           ∙ length-filter (λ (z : Bio). is_taste_root z.owner) w.bios
 
-      -- the sector that is read
-      abbrev ReadsSector : Bio → Type 0
-      ReadsSector z = IsTrue (is_taste_root z.owner)
-          → IsSomeAnd (provider_at w.topology z.target) (λ q. z.len ≡ q.sector)
-
       -- the number of the bio is given out
       below_next : x.number < w.next_bio
       below_next =
@@ -445,7 +436,7 @@ module _ (w : World) (x : Bio) (targets : List PieceTarget) where
             (kids_any HasItsResult (λ k z up. absurd cc) 0 targets) hold.results;
         read = record {
           one = rw as_many hold.read.one;
-          sector = each_after ReadsSector ReadsSector (λ reads. reads) (λ z e reads. reads)
-              (kids_any ReadsSector (λ k z reads. absurd cc) 0 targets) hold.read.sector;
+          sector = each_after (ReadsSector w) (ReadsSector w) (λ reads. reads) (λ z e reads. reads)
+              (kids_any (ReadsSector w) (λ k z reads. absurd cc) 0 targets) hold.read.sector;
         };
       }

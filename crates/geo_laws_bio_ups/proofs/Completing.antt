@@ -25,7 +25,8 @@ use Rattle.geo_laws_graph.proofs.Spared.{IsSpared, filter-spared, find-spared, a
 use Rattle.geo_laws_bios.specs.BioFrames.{BiosHold}
 use Rattle.geo_laws_bios.specs.BioSteps.{turned}
 use Rattle.geo_laws_bios.proofs.Items.{some_weaker, all_both, pairs_map, all_changed, all-fewer, each_of}
-use Rattle.geo_laws_bios.proofs.Turned.{AreItsPieces, fits_turned, range_turned}
+use Rattle.geo_laws_bios.proofs.Turned.{AreItsPieces, fits_turned, range_turned, ReadsSector}
+use Rattle.geo_laws_bios.proofs.Owners.{owner_stays}
 
 -- a child of one bio isn't one of another
 child_of_one : (o : Owner) (a b : ℕ) → b ≢ a → is_child_of o a ≡ true → is_child_of o b ≡ false
@@ -131,15 +132,11 @@ module _ (w : World) (y : Bio) (result : BioResult) where
 
     -- so does an owner
     owner_kept : (z : Bio) (o : Owner) → ComesFromItsOwner w z o → ComesFromItsOwner completed z o
-    owner_kept z (owners.Line handle line) comes = comes
-    owner_kept z owners.Taste comes = comes
-    owner_kept z (owners.Child parent index) comes = comes
+    owner_kept z = owner_stays w completed z z refl refl refl refl refl
 
     -- the one's owner
     owner_risen : (o : Owner) → ComesFromItsOwner w y o → ComesFromItsOwner completed (risen y) o
-    owner_risen (owners.Line handle line) comes = comes
-    owner_risen owners.Taste comes = comes
-    owner_risen (owners.Child parent index) comes = comes
+    owner_risen = owner_stays w completed y (risen y) refl refl refl refl refl
 
     -- the children of another bio are those that it had, but for the one
     children_kept : (n : ℕ) → n ≢ y.number → children_of completed n ≡ change_where is_it risen (children_of w n)
@@ -228,10 +225,6 @@ module _ (w : World) (y : Bio) (result : BioResult) where
         (filter-spared is_gone (λ (z : Bio). is_taste_root z.owner) w.bios reads_stay)
         ∙ length-filter (λ (z : Bio). is_taste_root z.owner) w.bios
 
-    -- the sector that is read
-    abbrev ReadsSector : Bio → Type 0
-    ReadsSector z = IsTrue (is_taste_root z.owner) → IsSomeAnd (provider_at w.topology z.target) (λ p. z.len ≡ p.sector)
-
     -- the bios are in order afterwards
     pub completed_hold : BiosHold completed
     completed_hold = record {
@@ -254,6 +247,6 @@ module _ (w : World) (y : Bio) (result : BioResult) where
           (λ has up. fits_turned y phases.Up (λ r. Some result) (Some result) fits) (λ z e stays has. has) hold.results;
       read = record {
         one = rw as_many hold.read.one;
-        sector = each_after ReadsSector ReadsSector (λ reads. reads) (λ z e stays reads. reads) hold.read.sector;
+        sector = each_after (ReadsSector w) (ReadsSector w) (λ reads. reads) (λ z e stays reads. reads) hold.read.sector;
       };
     }

@@ -27,6 +27,7 @@ use Rattle.geo_laws_bios.proofs.Apart.{bios_of, firm_with}
 use Rattle.geo_laws_bios.proofs.Phases.{not_waiting}
 use Rattle.geo_laws_bios.proofs.Turned.{MayTurn, AreItsPieces}
 use Rattle.geo_laws_bios.proofs.Turning.{found_there}
+use Rattle.geo_laws_bios.proofs.Owners.{parent_stays, owner_stays}
 
 -- a root is no child
 pub root_no_child : (o : Owner) (n : ℕ) → is_root o ≡ true → is_child_of o n ≡ false
@@ -83,15 +84,11 @@ module _ (w : World) (x : Bio) (hold : BiosHold w) (found : bio_at w x.number �
 
     -- a parent stays
     parent_kept : (o : Owner) → HasItsParent w o → HasItsParent after o
-    parent_kept (owners.Line handle line) has = has
-    parent_kept owners.Taste has = has
-    parent_kept (owners.Child parent index) has = waiting_at parent (parent == x.number) refl has
+    parent_kept = parent_stays w after (λ n has. waiting_at n (n == x.number) refl has)
 
     -- so does an owner
     owner_kept : (y : Bio) (o : Owner) → ComesFromItsOwner w y o → ComesFromItsOwner after y o
-    owner_kept y (owners.Line handle line) comes = comes
-    owner_kept y owners.Taste comes = comes
-    owner_kept y (owners.Child parent index) comes = comes
+    owner_kept y = owner_stays w after y y refl refl refl refl refl
 
     -- the family of each
     pub family_kept : (y : Bio) → IsFamilyInOrder w y → IsFamilyInOrder after y

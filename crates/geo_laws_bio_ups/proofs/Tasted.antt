@@ -3,7 +3,7 @@ use Rattle.std.specs.Prelude.{◌≡◌, ◌⊎◌, ℕ, ◌/◌, ◌<◌, ◌�
 use Rattle.std.specs.List.{list_any}
 use Rattle.std.specs.Option.{option_map_or}
 use Rattle.std.proofs.Common.{inl, inr, refl, sym, ◌∙◌, ap, subst, arith}
-use Rattle.std.proofs.lemmas.Bool.{eq-eqb, eqb-true, not_from_false, not-true, and_right, or_cases, or_left, or_right}
+use Rattle.std.proofs.lemmas.Bool.{eq-eqb, eqb-true, not_from_false, not-true, and_right, or_cases, or_left, or_right, false_from_ne_true}
 use Rattle.std.proofs.lemmas.List.Elements.{All-filter, All-weaker, All-contains, All-contains_itself}
 use Rattle.std.proofs.lemmas.List.Kept.{AllPairs-filter}
 use Rattle.std.proofs.lemmas.List.Sums.{length-filter}
@@ -38,9 +38,9 @@ use Rattle.geo_laws_bios.proofs.Apart.{bios_of, rest_of, firm_of}
 use Rattle.geo_laws_bios.proofs.Items.{none_passes, some_weaker}
 use Rattle.geo_laws_bios.proofs.Phases.{not_waiting}
 use Rattle.geo_laws_bios.proofs.Turning.{found_there}
+use Rattle.geo_laws_bios.proofs.Owners.{parent_stays}
 use Rattle.geo_laws_bio_ups.proofs.Leaving.{family_kept, has_result}
 use Rattle.geo_laws_bio_pieces.specs.PieceLaws.{SourceServes}
-use Rattle.geo_laws_bio_pieces.proofs.Counted.{denied}
 use Rattle.geo_laws_bio_ups.proofs.Serving.{all_serve}
 
 -- Lists
@@ -428,7 +428,7 @@ module _ (w : World) (x : Bio) (s : Taste) (kind : Kind) where
 
     -- what is Waiting stays
     waiting_stays : (z : Bio) → Contains w.bios z → is_waiting z.phase ≡ true → not (is_it z) ≡ true
-    waiting_stays z stands waits = not_from_false (is_it z) (denied (is_it z) (λ e.
+    waiting_stays z stands waits = not_from_false (is_it z) (false_from_ne_true (is_it z) (λ e.
         let itself : bio_at w z.number ≡ Some z =
         found_itself (λ (v : Bio). v.number) w.next_bio w.bios z hold.numbers stands in
         let there : bio_at w x.number ≡ Some z =
@@ -453,9 +453,7 @@ module _ (w : World) (x : Bio) (s : Taste) (kind : Kind) where
 
     -- a parent stays
     parent_kept : (o : Owner) → HasItsParent (without_bio w x.number) o → HasItsParent tasted o
-    parent_kept (owners.Line handle line) has = has
-    parent_kept owners.Taste has = has
-    parent_kept (owners.Child parent index) has = has
+    parent_kept = parent_stays (without_bio w x.number) tasted (λ n has. has)
 
     -- so does an owner
     owner_kept : (z : Bio) (o : Owner) → ComesFromItsOwner w z o → ComesFromItsOwner tasted z o

@@ -16,6 +16,7 @@ pub fn line_ups_stay_firm()
 {}
 
 /// The root of a taste that is Up goes, and the taste has its result.
+#[tactic(auto, using(crate::proofs::Tasted::taste_ups_stay_firm))]
 pub fn taste_ups_stay_firm()
     ensures { TasteUpsStayFirm }
 {}
@@ -31,6 +32,7 @@ pub fn ups_stay_firm()
 {}
 
 /// Start, Take, Deliver and Up leave a firm mesh firm, made by any seat, whether they are enabled or not.
+#[tactic(auto, using(crate::proofs::BioSteps::bio_steps_stay_firm))]
 pub fn bio_steps_stay_firm()
     ensures { BioStepsStayFirm }
 {}

@@ -7,28 +7,14 @@ use Rattle.std.proofs.lemmas.List.Elements.{All-map, All-weaker, All-from_recurs
 use Rattle.geo_model.specs.Words.{change_where}
 use Rattle.geo_model.specs.Graph.{AreNumbers}
 use Rattle.geo_laws_graph.proofs.Numbered.{unique}
+pub use Rattle.geo_laws_counts.proofs.Levels.{of_each as each_of}
+pub use Rattle.geo_laws_counts.proofs.Members.{all_both as both_by_recursion}
 
 -- a fact of what is there that follows from another
 pub some_weaker : {X : Type 0} (P Q : X → Type 0) → ((x : X) → P x → Q x) → (o : Option X) → IsSomeAnd o P
     → IsSomeAnd o Q
 some_weaker P Q so None has = has
 some_weaker P Q so (Some x) has = so x has
-
--- what is seen of a list that is mapped
-pub seen_map : {X Y Z : Type 0} (see : Y → Z) (f : X → Y) (xs : List X) → map see (map f xs) ≡ map (λ x. see (f x)) xs
-seen_map see f [] = refl
-seen_map see f (x ∷ xs) = ap (λ ys. see (f x) ∷ ys) (seen_map see f xs)
-
--- a fact of any item holds of each
-pub each_of : {X : Type 0} (P : X → Type 0) → ((x : X) → P x) → (xs : List X) → AllByRecursion P xs
-each_of P so [] = tt
-each_of P so (x ∷ xs) = (so x, each_of P so xs)
-
--- two facts of each item, item by item
-pub both_by_recursion : {X : Type 0} (P Q : X → Type 0) (xs : List X) → AllByRecursion P xs → AllByRecursion Q xs
-    → AllByRecursion (λ x. P x × Q x) xs
-both_by_recursion P Q [] ps qs = tt
-both_by_recursion P Q (x ∷ xs) ps qs = ((ps.0, qs.0), both_by_recursion P Q xs ps.1 qs.1)
 
 -- two facts of each item
 pub all_both : {X : Type 0} (P Q : X → Type 0) (xs : List X) → All P xs → All Q xs → All (λ x. P x × Q x) xs

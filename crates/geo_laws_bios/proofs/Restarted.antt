@@ -6,6 +6,7 @@ use Rattle.std.specs.Option.{option_map_or}
 use Rattle.std.proofs.Common.{refl, sym, ◌∙◌, ap, subst}
 use Rattle.std.proofs.lemmas.List.{length-map}
 use Rattle.std.proofs.lemmas.List.Elements.{All-map, All-weaker}
+use Rattle.std.proofs.lemmas.Simd.{map-map}
 use Rattle.geo_base.specs.declared.request.Counts.{Counts}
 use Rattle.geo_base.specs.declared.kind.Kind.{Kind}
 use Rattle.geo_base.specs.declared.kind.Kind.TheVariants as kinds
@@ -34,8 +35,9 @@ use Rattle.geo_laws_ranks.specs.RankLaws.{AllRanksStay}
 use Rattle.geo_laws_ranks.proofs.EdgeRanks.{stays_all}
 use Rattle.geo_laws_rank_changes.proofs.KeptEdges.{parts-edges}
 use Rattle.geo_laws_bios.specs.BioFrames.{BiosHold, RestNumbersHold, GraphHolds, SizesHold, TasteHolds, restart, restarted, RestartsStayFirm}
-use Rattle.geo_laws_bios.proofs.Items.{some_weaker, pairs_map, seen_map}
+use Rattle.geo_laws_bios.proofs.Items.{some_weaker, pairs_map}
 use Rattle.geo_laws_bios.proofs.Apart.{bios_of, rest_of, firm_of}
+use Rattle.geo_laws_bios.proofs.Owners.{parent_stays, owner_stays}
 
 -- one item more of what is found after a map
 find_step : {X Y : Type 0} (test : Y → Bool) (f : X → Y) (x : X) (xs : List X) (b : Bool) → test (f x) ≡ b
@@ -167,7 +169,7 @@ module _ (s : Geom Config → ℕ) where
     demand_stays : DemandStays (granted_in w) t (granted_in w) u AnyConsumer
     demand_stays = seen_stays (granted_in w) t u
         (ap (λ gs. record (seen_by_counts t) { geoms = gs })
-        (sym (seen_map (λ (x : Geom Config). (x.number, x.kind)) (restart s) t.geoms)))
+        (sym (map-map (λ (x : Geom Config). (x.number, x.kind)) (restart s) t.geoms)))
 
     -- a geom stands bare
     bare : (n : ℕ) → StandsBare t n → StandsBare u n
@@ -205,7 +207,7 @@ module _ (s : Geom Config → ℕ) where
     numbers_hold : RestNumbersHold w → RestNumbersHold (restarted s w)
     numbers_hold hold = record {
       geoms = subst (λ (ns : List ℕ). AreNumbers ns t.next_geom)
-          (sym (seen_map (λ (x : Geom Config). x.number) (restart s) t.geoms)) hold.geoms;
+          (sym (map-map (λ (x : Geom Config). x.number) (restart s) t.geoms)) hold.geoms;
       providers = hold.providers;
       consumers = hold.consumers;
       handles = hold.handles;
@@ -363,15 +365,11 @@ module _ (s : Geom Config → ℕ) where
 
     -- its parent
     parent_same : (o : Owner) → HasItsParent w o → HasItsParent (restarted s w) o
-    parent_same (owners.Line handle line) has = has
-    parent_same owners.Taste has = has
-    parent_same (owners.Child parent index) has = has
+    parent_same = parent_stays w (restarted s w) (λ n has. has)
 
     -- its owner
     owner_same : (x : Bio) (o : Owner) → ComesFromItsOwner w x o → ComesFromItsOwner (restarted s w) x o
-    owner_same x (owners.Line handle line) comes = comes
-    owner_same x owners.Taste comes = comes
-    owner_same x (owners.Child parent index) comes = comes
+    owner_same x = owner_stays w (restarted s w) x x refl refl refl refl refl
 
     -- disks
     disks_hold : DisksHold w → DisksHold (restarted s w)

@@ -26,6 +26,7 @@ use Rattle.geo_laws_bios.specs.BioFrames.{BiosHold}
 use Rattle.geo_laws_bios.specs.BioSteps.{turned, turn}
 use Rattle.geo_laws_bios.proofs.Items.{some_weaker, pairs_map, none_passes, all-fewer, all_changed, only_one}
 use Rattle.geo_laws_bios.proofs.Apart.{bios_of, firm_with}
+use Rattle.geo_laws_bios.proofs.Owners.{parent_stays, owner_stays}
 
 -- when a bio may be in another phase, with its result changed
 pub record MayTurn (w : World) (x : Bio) (phase : Phase) (result : Option BioResult → Option BioResult) : Type 0 where
@@ -87,6 +88,10 @@ no_two_at busy o d free is at =
     let same : (d == d) ≡ true = eq-eqb d d refl in
     cc
 
+-- the read of a taste is of one sector
+abbrev pub ReadsSector : World → Bio → Type 0
+ReadsSector w y = IsTrue (is_taste_root y.owner) → IsSomeAnd (provider_at w.topology y.target) (λ p. y.len ≡ p.sector)
+
 -- a bio, and where it is the one, changed
 abbrev with_change : (w : World) (x : Bio) (phase : Phase) (result : Option BioResult → Option BioResult) → Bio → Bio
 with_change w x phase result y = if y.number == x.number then turned phase result y else y
@@ -119,15 +124,11 @@ module _ (w : World) (x : Bio) (phase : Phase) (result : Option BioResult → Op
 
   -- an owner is as it was
   owner_kept : (y : Bio) (o : Owner) → ComesFromItsOwner w y o → ComesFromItsOwner after y o
-  owner_kept y (owners.Line handle line) comes = comes
-  owner_kept y owners.Taste comes = comes
-  owner_kept y (owners.Child parent index) comes = comes
+  owner_kept y = owner_stays w after y y refl refl refl refl refl
 
   -- so it is for the one that changes
   owner_turned : (o : Owner) → ComesFromItsOwner w x o → ComesFromItsOwner after (change x) o
-  owner_turned (owners.Line handle line) comes = comes
-  owner_turned owners.Taste comes = comes
-  owner_turned (owners.Child parent index) comes = comes
+  owner_turned = owner_stays w after x (change x) refl refl refl refl refl
 
   -- where the new phase isn't Done, no bio becomes complete
   pub stays_incomplete : is_done phase ≡ false → (n : ℕ) → is_complete w n ≡ false → is_complete after n ≡ false
@@ -159,9 +160,7 @@ module _ (w : World) (x : Bio) (phase : Phase) (result : Option BioResult → Op
 
     -- a parent is as it was
     parent_kept : (o : Owner) → HasItsParent w o → HasItsParent after o
-    parent_kept (owners.Line handle line) has = has
-    parent_kept owners.Taste has = has
-    parent_kept (owners.Child parent index) has = waiting_at parent (parent == x.number) refl has
+    parent_kept = parent_stays w after (λ n has. waiting_at n (n == x.number) refl has)
 
     -- the family of the one that changes
     family_here : IsFamilyInOrder w x → IsFamilyInOrder after (change x)
@@ -272,16 +271,8 @@ module _ (w : World) (x : Bio) (phase : Phase) (result : Option BioResult → Op
         ∙ length-filter (λ (y : Bio). is_taste_root y.owner) w.bios
 
     -- the sector that is read stays
-    sectors : All
-        (λ (y : Bio). IsTrue (is_taste_root y.owner)
-        → IsSomeAnd (provider_at w.topology y.target) (λ p. y.len ≡ p.sector)) after.bios
-    sectors =
-        each_after
-        (λ (y : Bio). IsTrue (is_taste_root y.owner)
-        → IsSomeAnd (provider_at w.topology y.target) (λ p. y.len ≡ p.sector))
-        (λ (y : Bio). IsTrue (is_taste_root y.owner)
-        → IsSomeAnd (provider_at w.topology y.target) (λ p. y.len ≡ p.sector))
-        (λ reads. reads) (λ y e reads. reads) hold.read.sector
+    sectors : All (ReadsSector w) after.bios
+    sectors = each_after (ReadsSector w) (ReadsSector w) (λ reads. reads) (λ y e reads. reads) hold.read.sector
 
     -- the bios are in order afterwards
     pub turns_hold : BiosHold after

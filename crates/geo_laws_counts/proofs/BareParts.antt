@@ -3,7 +3,7 @@ use Rattle.std.specs.Prelude.{◌≡◌, ◌≢◌, ℕ, zero, suc, ◌<◌, ◌
 use Rattle.std.specs.List.{AllByRecursion}
 use Rattle.std.specs.Option.{option_map_or}
 use Rattle.std.proofs.Common.{refl, sym, ◌∙◌, ap, arith, length-append}
-use Rattle.std.proofs.lemmas.Bool.{eqb-true, ne_eqb}
+use Rattle.std.proofs.lemmas.Bool.{eqb-true, ne_eqb, not-false}
 use Rattle.std.proofs.lemmas.List.{append-nil}
 use Rattle.std.proofs.lemmas.List.Elements.{recursion_from_All, filter-append}
 use Rattle.geo_base.specs.declared.kind.Kind.{Kind}
@@ -27,7 +27,8 @@ pub levels_same : {C D : Type 0} (granted other : ℕ → Counts) (t : Topology 
     → (k : ℕ) → k ≤ limit → (p : ℕ) → have_within other k u p ≡ have_within granted k t p
 levels_same granted other t u limit same zero h p = refl
 levels_same granted other t u limit same (suc k) h p =
-    sum-same (want_given other (have_within other k u) u) (want_given other (have_within granted k t) u) (attached_to u p)
+    sum-same (want_given other (have_within other k u) u) (want_given other (have_within granted k t) u)
+    (attached_to u p)
     (of_each (λ c. want_given other (have_within other k u) u c ≡ want_given other (have_within granted k t) u c)
     (λ c.
     want_given-same other (have_within other k u) (have_within granted k t) u c
@@ -39,7 +40,8 @@ levels_same granted other t u limit same (suc k) h p =
 -- Look-ups
 
 -- an item at the end that doesn't pass is never found
-pub find-end_other : {X : Type 0} (test : X → Bool) (xs : List X) (y : X) → test y ≡ false → find test (xs ++ y ∷ []) ≡ find test xs
+pub find-end_other : {X : Type 0} (test : X → Bool) (xs : List X) (y : X) → test y ≡ false
+    → find test (xs ++ y ∷ []) ≡ find test xs
 find-end_other test [] y e = rw e refl
 find-end_other test (x ∷ xs) y e = ap (cond (test x) (Some x)) (find-end_other test xs y e)
 
@@ -59,21 +61,25 @@ pub length-kept : {X : Type 0} (keep : X → Bool) (xs : List X) → length (fil
 length-kept keep [] = omega arith
 length-kept {X = X} keep (x ∷ xs) = kept (keep x) (length-kept keep xs)
   where
-    kept : (b : Bool) → length (filter keep xs) ≤ length xs → length (cond b (x ∷ filter keep xs) (filter keep xs)) ≤ length (x ∷ xs)
+    kept : (b : Bool) → length (filter keep xs) ≤ length xs
+        → length (cond b (x ∷ filter keep xs) (filter keep xs)) ≤ length (x ∷ xs)
     kept true rest = omega arith
     kept false rest = omega arith
 
 -- Grants that agree at all consumers
 
-module _ {C : Type 0} (granted other : ℕ → Counts) (t : Topology C) (agree : All (λ c. granted c.number ≡ other c.number) t.consumers) where
+module _ {C : Type 0} (granted other : ℕ
+    → Counts) (t : Topology C) (agree : All (λ c. granted c.number ≡ other c.number) t.consumers) where
   -- they give the same counts
   pub granted_same : (p : ℕ) → have other t p ≡ have granted t p
   granted_same p =
       levels_same granted other t t (length t.geoms)
       (λ k h q.
-      sum-same (want_given other (have_within granted k t) t) (want_given granted (have_within granted k t) t) (attached_to t q)
+      sum-same (want_given other (have_within granted k t) t) (want_given granted (have_within granted k t) t)
+      (attached_to t q)
       (kept_by (λ (c : Consumer). granted c.number ≡ other c.number)
-      (λ (c : Consumer). want_given other (have_within granted k t) t c ≡ want_given granted (have_within granted k t) t c)
+      (λ (c : Consumer). want_given other (have_within granted k t) t c
+      ≡ want_given granted (have_within granted k t) t c)
       (λ (c : Consumer). names_number c.provider q)
       (λ c e same. want_given-granted other granted (have_within granted k t) t c (sym same))
       t.consumers
@@ -85,27 +91,36 @@ module _ {C : Type 0} (granted other : ℕ → Counts) (t : Topology C) (agree :
 -- where each consumer's geom is the same, each level's sums are
 same_geoms : {C : Type 0} (granted H : ℕ → Counts) (t u : Topology C) (p : ℕ)
     → AllByRecursion (λ c. geom_at u c.geom ≡ geom_at t c.geom) t.consumers
-    → sum_counts (map (λ c. option_map_or (λ g. want_of_kind g.kind (map (λ x. H x.number) (providers_of t g.number)) (granted c.number)) (geom_at u c.geom) no_counts) (attached_to t p))
+    → sum_counts
+    (map (λ c. option_map_or
+    (λ g. want_of_kind g.kind (map (λ x. H x.number) (providers_of t g.number)) (granted c.number))
+    (geom_at u c.geom) no_counts) (attached_to t p))
     ≡ sum_counts (map (want_given granted H t) (attached_to t p))
 same_geoms granted H t u p same =
     sum-same
-    (λ c. option_map_or (λ g. want_of_kind g.kind (map (λ x. H x.number) (providers_of t g.number)) (granted c.number)) (geom_at u c.geom) no_counts)
+    (λ c. option_map_or
+    (λ g. want_of_kind g.kind (map (λ x. H x.number) (providers_of t g.number)) (granted c.number))
+    (geom_at u c.geom) no_counts)
     (want_given granted H t)
     (attached_to t p)
     (kept_by (λ (c : Consumer). geom_at u c.geom ≡ geom_at t c.geom)
     (λ (c : Consumer).
-    option_map_or (λ g. want_of_kind g.kind (map (λ x. H x.number) (providers_of t g.number)) (granted c.number)) (geom_at u c.geom) no_counts
+    option_map_or (λ g. want_of_kind g.kind (map (λ x. H x.number) (providers_of t g.number)) (granted c.number))
+    (geom_at u c.geom) no_counts
     ≡ want_given granted H t c)
     (λ (c : Consumer). names_number c.provider p)
     (λ c e h.
-    ap (λ o. option_map_or (λ g. want_of_kind g.kind (map (λ x. H x.number) (providers_of t g.number)) (granted c.number)) o no_counts) h)
+    ap (λ o. option_map_or
+    (λ g. want_of_kind g.kind (map (λ x. H x.number) (providers_of t g.number)) (granted c.number)) o no_counts) h)
     t.consumers
     same)
 
 module _ {C : Type 0} (granted : ℕ → Counts) (t : Topology C) where
   -- a new geom, which no consumer has
-  module _ (kind : Kind) (name : List ℕ) (config : C) (automatic : Bool) (bare : All (λ c. c.geom ≢ t.next_geom) t.consumers) where
-    new_geom_levels : (k p : ℕ) → have_within granted k (add_geom t kind name config automatic) p ≡ have_within granted k t p
+  module _ (kind : Kind) (name : List ℕ) (config : C) (automatic : Bool)
+      (bare : All (λ c. c.geom ≢ t.next_geom) t.consumers) where
+    new_geom_levels : (k p : ℕ)
+        → have_within granted k (add_geom t kind name config automatic) p ≡ have_within granted k t p
     new_geom_levels k p =
         levels_same granted granted t (add_geom t kind name config automatic) k
         (λ l h q.
@@ -117,7 +132,8 @@ module _ {C : Type 0} (granted : ℕ → Counts) (t : Topology C) where
         (recursion_from_All _ t.consumers bare)))
         k (omega arith) p
 
-    pub new_geom : Ranked t → NumbersLead t → (p : ℕ) → have granted (add_geom t kind name config automatic) p ≡ have granted t p
+    pub new_geom : Ranked t → NumbersLead t → (p : ℕ)
+        → have granted (add_geom t kind name config automatic) p ≡ have granted t p
     new_geom ranked known p =
         let u : Topology C = add_geom t kind name config automatic in
         new_geom_levels (length u.geoms) p
@@ -134,26 +150,25 @@ module _ {C : Type 0} (granted : ℕ → Counts) (t : Topology C) where
         (λ (c : Consumer). geom_at (remove_geom t g) c.geom ≡ geom_at t c.geom)
         (λ c other.
         find-kept (λ x. x.number == c.geom) (λ x. not (x.number == g))
-        (λ x gone. ne_eqb x.number c.geom (λ e. other (sym e ∙ eqb-true x.number g (not_false (x.number == g) gone))))
+        (λ x gone. ne_eqb x.number c.geom (λ e. other (sym e ∙ eqb-true x.number g (not-false (x.number == g) gone))))
         t.geoms)
         t.consumers
         (recursion_from_All _ t.consumers bare)))
         k (omega arith) p
-      where
-        not_false : (b : Bool) → not b ≡ false → b ≡ true
-        not_false true e = refl
-        not_false false e = cc
 
-    pub gone_geom : Ranked (remove_geom t g) → NumbersLead t → (p : ℕ) → have granted (remove_geom t g) p ≡ have granted t p
+    pub gone_geom : Ranked (remove_geom t g) → NumbersLead t → (p : ℕ)
+        → have granted (remove_geom t g) p ≡ have granted t p
     gone_geom ranked known p =
-        sym (enough_levels (remove_geom t g) ranked known granted (length t.geoms) (length-kept (λ x. not (x.number == g)) t.geoms) p)
+        sym (enough_levels (remove_geom t g) ranked known granted (length t.geoms)
+        (length-kept (λ x. not (x.number == g)) t.geoms) p)
         ∙ gone_geom_levels (length t.geoms) p
 
 -- Providers
 
 -- what is wanted, where the sums over each geom's providers are the same
 pub want_over-sums : {C : Type 0} (H : ℕ → Counts) (x : Counts) (t u : Topology C)
-    → ((n : ℕ) → sum_counts (map (λ y. H y.number) (providers_of u n)) ≡ sum_counts (map (λ y. H y.number) (providers_of t n)))
+    → ((n : ℕ) → sum_counts (map (λ y. H y.number) (providers_of u n))
+    ≡ sum_counts (map (λ y. H y.number) (providers_of t n)))
     → (o : Option (Geom C))
     → option_map_or (λ g. want_of_kind g.kind (map (λ p. H p.number) (providers_of u g.number)) x) o no_counts
     ≡ option_map_or (λ g. want_of_kind g.kind (map (λ p. H p.number) (providers_of t g.number)) x) o no_counts
@@ -190,7 +205,8 @@ pub sum-left_out : {X : Type 0} (f : X → Counts) (test keep : X → Bool) (xs 
     → AllByRecursion (λ x. keep x ≡ false → f x ≡ no_counts) xs
     → sum_counts (map f (filter test (filter keep xs))) ≡ sum_counts (map f (filter test xs))
 sum-left_out f test keep [] none = refl
-sum-left_out {X = X} f test keep (x ∷ xs) none = out (keep x) (test x) refl refl none.0 (sum-left_out f test keep xs none.1)
+sum-left_out {X = X} f test keep (x ∷ xs) none =
+    out (keep x) (test x) refl refl none.0 (sum-left_out f test keep xs none.1)
   where
     out : (a b : Bool) → keep x ≡ a → test x ≡ b → (keep x ≡ false → f x ≡ no_counts)
         → sum_counts (map f (filter test (filter keep xs))) ≡ sum_counts (map f (filter test xs))
@@ -198,7 +214,9 @@ sum-left_out {X = X} f test keep (x ∷ xs) none = out (keep x) (test x) refl re
         ≡ sum_counts (map f (cond b (x ∷ filter test xs) (filter test xs)))
     out true true ea eb so rest = rw eb (ap (add_counts (f x)) rest)
     out true false ea eb so rest = rw eb rest
-    out false true ea eb so rest = rest ∙ sym (ap (λ a. add_counts a (sum_counts (map f (filter test xs)))) (so ea) ∙ zero-add (sum_counts (map f (filter test xs))))
+    out false true ea eb so rest =
+        rest ∙ sym (ap (λ a. add_counts a (sum_counts (map f (filter test xs)))) (so ea)
+        ∙ zero-add (sum_counts (map f (filter test xs))))
     out false false ea eb so rest = rest
 
 module _ {C : Type 0} (granted : ℕ → Counts) (t : Topology C) where
@@ -212,11 +230,15 @@ module _ {C : Type 0} (granted : ℕ → Counts) (t : Topology C) where
       rw levels
       (levels_same granted granted t u (length t.geoms)
       (λ k h q.
-      sum-same (want_given granted (have_within granted k t) u) (want_given granted (have_within granted k t) t) (attached_to u q)
-      (of_each (λ c. want_given granted (have_within granted k t) u c ≡ want_given granted (have_within granted k t) t c)
+      sum-same (want_given granted (have_within granted k t) u) (want_given granted (have_within granted k t) t)
+      (attached_to u q)
+      (of_each (λ c. want_given granted (have_within granted k t) u c
+      ≡ want_given granted (have_within granted k t) t c)
       (λ c.
       want_over-sums (have_within granted k t) (granted c.number) t u (sums k) (geom_at u c.geom)
-      ∙ ap (λ o. option_map_or (λ g. want_of_kind g.kind (map (λ x. have_within granted k t x.number) (providers_of t g.number)) (granted c.number)) o no_counts) (geoms c))
+      ∙ ap (λ o. option_map_or
+      (λ g. want_of_kind g.kind (map (λ x. have_within granted k t x.number) (providers_of t g.number))
+      (granted c.number)) o no_counts) (geoms c))
       (attached_to u q))
       ∙ ap (λ cs. sum_counts (map (want_given granted (have_within granted k t) t) cs)) (attached q))
       (length t.geoms) (omega arith) p)
@@ -238,10 +260,6 @@ module _ {C : Type 0} (granted : ℕ → Counts) (t : Topology C) where
       (λ k n.
       sum-left_out (λ y. have_within granted k t y.number) (λ y. y.geom == n) (λ y. not (y.number == g)) t.providers
       (of_each (λ (y : Provider). not (y.number == g) ≡ false → have_within granted k t y.number ≡ no_counts)
-      (λ y gone. rw (eqb-true y.number g (not_false (y.number == g) gone)) (none_within granted t g none k))
+      (λ y gone. rw (eqb-true y.number g (not-false (y.number == g) gone)) (none_within granted t g none k))
       t.providers))
       p
-    where
-      not_false : (b : Bool) → not b ≡ false → b ≡ true
-      not_false true e = refl
-      not_false false e = cc

@@ -29,18 +29,22 @@ module _ {C : Type 0} (granted : ℕ → Counts) (t : Topology C) (ranked : Rank
       (λ x h. from_above x.number h)
       t.providers each)
     where
-      each : AllByRecursion (λ (x : Provider). H x.number ≡ sum_counts (map (want_given granted H t) (attached_to t x.number))) t.providers
-      each = recursion_from_All (λ (x : Provider). H x.number ≡ sum_counts (map (want_given granted H t) (attached_to t x.number))) t.providers sums
+      each : AllByRecursion (λ (x : Provider). H x.number
+          ≡ sum_counts (map (want_given granted H t) (attached_to t x.number))) t.providers
+      each = recursion_from_All (λ (x : Provider). H x.number
+          ≡ sum_counts (map (want_given granted H t) (attached_to t x.number))) t.providers sums
 
       from_above : (p : ℕ) → H p ≡ sum_counts (map (want_given granted H t) (attached_to t p)) → H p ≡ have granted t p
       from_above =
-          upward t ranked known (λ p. H p ≡ sum_counts (map (want_given granted H t) (attached_to t p)) → H p ≡ have granted t p)
+          upward t ranked known (λ p. H p ≡ sum_counts (map (want_given granted H t) (attached_to t p))
+          → H p ≡ have granted t p)
           (λ p above sum.
           sum
           ∙ sum-same (want_given granted H t) (want granted t) (attached_to t p)
           (all_weaker
           (λ (c : Consumer). AllByRecursion
-          (λ (y : Provider). H y.number ≡ sum_counts (map (want_given granted H t) (attached_to t y.number)) → H y.number ≡ have granted t y.number)
+          (λ (y : Provider). H y.number ≡ sum_counts (map (want_given granted H t) (attached_to t y.number))
+          → H y.number ≡ have granted t y.number)
           (providers_of t c.geom))
           (λ (c : Consumer). want_given granted H t c ≡ want granted t c)
           (λ c so.
@@ -48,7 +52,8 @@ module _ {C : Type 0} (granted : ℕ → Counts) (t : Topology C) (ranked : Rank
           (all_weaker
           (λ (y : Provider).
           (H y.number ≡ sum_counts (map (want_given granted H t) (attached_to t y.number)))
-          × (H y.number ≡ sum_counts (map (want_given granted H t) (attached_to t y.number)) → H y.number ≡ have granted t y.number))
+          × (H y.number ≡ sum_counts (map (want_given granted H t) (attached_to t y.number))
+          → H y.number ≡ have granted t y.number))
           (λ (y : Provider). H y.number ≡ have granted t y.number)
           (λ y h. h.1 h.0)
           (providers_of t c.geom)
@@ -77,16 +82,21 @@ want_pair H K x t u n providers same (Some g) (Some h) kinds before after =
     (ap (providers_of u) (after h refl) ∙ providers ∙ ap (providers_of t) (sym (before g refl)))
     ∙ ap (λ haves. want_of_kind g.kind haves x)
     (map_same (λ (p : Provider). K p.number) (λ (p : Provider). H p.number) (providers_of t g.number)
-    (subst (λ m. AllByRecursion (λ (p : Provider). K p.number ≡ H p.number) (providers_of t m)) (sym (before g refl)) same))
+    (subst (λ m. AllByRecursion (λ (p : Provider). K p.number ≡ H p.number) (providers_of t m))
+    (sym (before g refl)) same))
 
 -- a consumer wants the same where its class, its grant and its geom's providers, with their counts, are the same
-pub want_same : {C D : Type 0} (granted : ℕ → Counts) (t : Topology C) (other : ℕ → Counts) (u : Topology D) (c : Consumer)
-    → other c.number ≡ granted c.number → kind_at u c.geom ≡ kind_at t c.geom → providers_of u c.geom ≡ providers_of t c.geom
+pub want_same : {C D : Type 0} (granted : ℕ → Counts) (t : Topology C) (other : ℕ
+    → Counts) (u : Topology D) (c : Consumer)
+    → other c.number ≡ granted c.number → kind_at u c.geom ≡ kind_at t c.geom
+    → providers_of u c.geom ≡ providers_of t c.geom
     → AllByRecursion (λ y. have other u y.number ≡ have granted t y.number) (providers_of t c.geom)
     → want other u c ≡ want granted t c
 want_same {D = D} granted t other u c grant kind providers haves =
     ap
-    (λ x. option_map_or (λ (g : Geom D). want_of_kind g.kind (map (λ y. have other u y.number) (providers_of u g.number)) x) (geom_at u c.geom) no_counts)
+    (λ x. option_map_or
+    (λ (g : Geom D). want_of_kind g.kind (map (λ y. have other u y.number) (providers_of u g.number)) x)
+    (geom_at u c.geom) no_counts)
     grant
     ∙ want_pair (have granted t) (have other u) (granted c.number) t u c.geom providers haves
     (geom_at t c.geom) (geom_at u c.geom) kind
@@ -105,10 +115,12 @@ module _ {C D : Type 0} (granted : ℕ → Counts) (t : Topology C) (other : ℕ
       ∙ sum-same (want other u) (want granted t) (attached_to t p)
       (all_weaker
       (λ (c : Consumer).
-      ((AllByRecursion (λ (y : Provider). Above y.number → have other u y.number ≡ have granted t y.number) (providers_of t c.geom)
+      ((AllByRecursion (λ (y : Provider). Above y.number → have other u y.number ≡ have granted t y.number)
+      (providers_of t c.geom)
       × (other c.number ≡ granted c.number))
       × (kind_at u c.geom ≡ kind_at t c.geom))
-      × ((providers_of u c.geom ≡ providers_of t c.geom) × All (λ (y : Provider). Above y.number) (providers_of t c.geom)))
+      × ((providers_of u c.geom ≡ providers_of t c.geom)
+      × All (λ (y : Provider). Above y.number) (providers_of t c.geom)))
       (λ (c : Consumer). want other u c ≡ want granted t c)
       (λ c h.
       want_same granted t other u c h.0.0.1 h.0.1 h.1.0
@@ -117,24 +129,33 @@ module _ {C D : Type 0} (granted : ℕ → Counts) (t : Topology C) (other : ℕ
       (λ (y : Provider). have other u y.number ≡ have granted t y.number)
       (λ y above. above.0 above.1)
       (providers_of t c.geom)
-      (all_both _ _ (providers_of t c.geom) h.0.0.0 (recursion_from_All (λ (y : Provider). Above y.number) (providers_of t c.geom) h.1.1))))
+      (all_both _ _ (providers_of t c.geom) h.0.0.0
+      (recursion_from_All (λ (y : Provider). Above y.number) (providers_of t c.geom) h.1.1))))
       (attached_to t p)
       (all_both _ _ (attached_to t p)
       (all_both _ _ (attached_to t p)
-      (all_both _ _ (attached_to t p) so (recursion_from_All (λ (c : Consumer). other c.number ≡ granted c.number) (attached_to t p) (same.grants p stands)))
-      (recursion_from_All (λ (c : Consumer). kind_at u c.geom ≡ kind_at t c.geom) (attached_to t p) (same.classes p stands)))
+      (all_both _ _ (attached_to t p) so
+      (recursion_from_All (λ (c : Consumer). other c.number ≡ granted c.number) (attached_to t p)
+      (same.grants p stands)))
+      (recursion_from_All (λ (c : Consumer). kind_at u c.geom ≡ kind_at t c.geom) (attached_to t p)
+      (same.classes p stands)))
       (all_both _ _ (attached_to t p)
-      (recursion_from_All (λ (c : Consumer). providers_of u c.geom ≡ providers_of t c.geom) (attached_to t p) (same.providers p stands))
-      (recursion_from_All (λ (c : Consumer). All (λ (y : Provider). Above y.number) (providers_of t c.geom)) (attached_to t p) (same.above p stands)))))
+      (recursion_from_All (λ (c : Consumer). providers_of u c.geom ≡ providers_of t c.geom) (attached_to t p)
+      (same.providers p stands))
+      (recursion_from_All (λ (c : Consumer). All (λ (y : Provider). Above y.number) (providers_of t c.geom))
+      (attached_to t p) (same.above p stands)))))
       ∙ sym (have_is_sum t ranked known granted p))
 
 -- a sum of nothing
-sum_nothing : {X : Type 0} (f : X → Counts) (xs : List X) → AllByRecursion (λ x. f x ≡ no_counts) xs → sum_counts (map f xs) ≡ no_counts
+sum_nothing : {X : Type 0} (f : X → Counts) (xs : List X) → AllByRecursion (λ x. f x ≡ no_counts) xs
+    → sum_counts (map f xs) ≡ no_counts
 sum_nothing f [] none = refl
-sum_nothing f (x ∷ xs) none = ap (λ a. add_counts a (sum_counts (map f xs))) none.0 ∙ ap (add_counts no_counts) (sum_nothing f xs none.1)
+sum_nothing f (x ∷ xs) none = ap (λ a. add_counts a (sum_counts (map f xs))) none.0
+    ∙ ap (add_counts no_counts) (sum_nothing f xs none.1)
 
 -- where a sum is nothing, so is each part of it
-nothing_summed : {X : Type 0} (f : X → Counts) (xs : List X) → sum_counts (map f xs) ≡ no_counts → AllByRecursion (λ x. f x ≡ no_counts) xs
+nothing_summed : {X : Type 0} (f : X → Counts) (xs : List X) → sum_counts (map f xs) ≡ no_counts
+    → AllByRecursion (λ x. f x ≡ no_counts) xs
 nothing_summed f [] e = tt
 nothing_summed f (x ∷ xs) e =
     let r : (f x).r + (sum_counts (map f xs)).r ≡ 0 = ap (λ (a : Counts). a.r) e in
@@ -144,18 +165,24 @@ nothing_summed f (x ∷ xs) e =
       nothing_summed f xs (counts-same (sum_counts (map f xs)) no_counts (omega arith) (omega arith) (omega arith)),
     )
 
-module _ {C : Type 0} (granted : ℕ → Counts) (t : Topology C) (c : Consumer) (g : Geom C) (found : geom_at t c.geom ≡ Some g)
+module _ {C : Type 0} (granted : ℕ → Counts) (t : Topology C) (c : Consumer) (g : Geom C)
+    (found : geom_at t c.geom ≡ Some g)
     (kind : is_granted_kind g.kind ≡ false) where
   -- what a consumer of a found geom wants
-  want_found : want granted t c ≡ want_of_sum g.kind (sum_counts (map (λ y. have granted t y.number) (providers_of t g.number))) (granted c.number)
+  want_found : want granted t c
+      ≡ want_of_sum g.kind (sum_counts (map (λ y. have granted t y.number) (providers_of t g.number)))
+      (granted c.number)
   want_found =
       ap
-      (λ o. option_map_or (λ (x : Geom C). want_of_kind x.kind (map (λ y. have granted t y.number) (providers_of t x.number)) (granted c.number)) o no_counts)
+      (λ o. option_map_or
+      (λ (x : Geom C). want_of_kind x.kind (map (λ y. have granted t y.number) (providers_of t x.number))
+      (granted c.number)) o no_counts)
       found
       ∙ want-sum g.kind (map (λ y. have granted t y.number) (providers_of t g.number)) (granted c.number)
 
   -- a consumer with no count above wants nothing
-  pub nothing_above : All (λ y. have granted t y.number ≡ no_counts) (providers_of t g.number) → want granted t c ≡ no_counts
+  pub nothing_above : All (λ y. have granted t y.number ≡ no_counts) (providers_of t g.number)
+      → want granted t c ≡ no_counts
   nothing_above none =
       want_found
       ∙ ap (λ s. want_of_sum g.kind s (granted c.number))
@@ -169,4 +196,5 @@ module _ {C : Type 0} (granted : ℕ → Counts) (t : Topology C) (c : Consumer)
   wants_nothing disk none =
       All-from_recursion (λ (y : Provider). have granted t y.number ≡ no_counts) (providers_of t g.number)
       (nothing_summed (λ (y : Provider). have granted t y.number) (providers_of t g.number)
-      (over_nothing g.kind (sum_counts (map (λ y. have granted t y.number) (providers_of t g.number))) (granted c.number) kind disk (sym want_found ∙ none)))
+      (over_nothing g.kind (sum_counts (map (λ y. have granted t y.number) (providers_of t g.number)))
+      (granted c.number) kind disk (sym want_found ∙ none)))

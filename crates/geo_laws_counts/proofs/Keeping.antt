@@ -69,7 +69,8 @@ module _ {C D : Type 0} (granted : ℕ → Counts) (t : Topology C) (other : ℕ
 
 module _ {C : Type 0} (small large : ℕ → Counts) (grants : AreAtMost small large) (t : Topology C) where
   -- less demand, by smaller grants and fewer consumers
-  pub exclusive_left : (keep : Consumer → Bool) → is_exclusive large t ≡ true → is_exclusive small (keep_consumers t keep) ≡ true
+  pub exclusive_left : (keep : Consumer → Bool) → is_exclusive large t ≡ true
+      → is_exclusive small (keep_consumers t keep) ≡ true
   exclusive_left keep e =
       exclusive_keeps large t small (keep_consumers t keep)
       (λ x there a attached.
@@ -87,10 +88,16 @@ module _ {C : Type 0} (small large : ℕ → Counts) (grants : AreAtMost small l
       e
 
   -- nor does a count come above the limit
-  pub limit_left : (keep : Consumer → Bool) → fits_limit large t ≡ true → fits_limit small (keep_consumers t keep) ≡ true
+  pub limit_left : (keep : Consumer → Bool) → fits_limit large t ≡ true
+      → fits_limit small (keep_consumers t keep) ≡ true
   limit_left keep e =
       limit_keeps large t small (keep_consumers t keep)
-      (λ x there. inr (record { provider = x; stands = there; at_most = kept-at_most small large grants t keep x.number }))
+      (λ x there. inr (record {
+        provider = x;
+        stands = there;
+        at_most =
+            kept-at_most small large grants t keep x.number;
+      }))
       e
 
   -- the same with smaller grants alone
@@ -115,3 +122,6 @@ module _ {C : Type 0} (small large : ℕ → Counts) (grants : AreAtMost small l
       limit_keeps large t small t
       (λ x there. inr (record { provider = x; stands = there; at_most = have-at_most small large grants t x.number }))
       e
+
+-- what `less_is_allowed` says
+pub ruleset less_is_allowed = (exclusive_left, limit_left, exclusive_less, limit_less)

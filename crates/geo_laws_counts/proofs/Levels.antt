@@ -19,7 +19,8 @@ of_each P so (x ∷ xs) = (so x, of_each P so xs)
 -- a sum over fewer items, each of which counts for no more
 filtered_cons : {X : Type 0} (f g : X → Counts) (a : X → Bool) (x : X) (xs ys : List X) (b c : Bool) → a x ≡ c
     → IsAtMost (f x) (g x) → IsAtMost (sum_counts (map f (filter a ys))) (sum_counts (map g (filter a xs)))
-    → IsAtMost (sum_counts (map f (filter a (cond b (x ∷ ys) ys)))) (sum_counts (map g (cond c (x ∷ filter a xs) (filter a xs))))
+    → IsAtMost (sum_counts (map f (filter a (cond b (x ∷ ys) ys))))
+    (sum_counts (map g (cond c (x ∷ filter a xs) (filter a xs))))
 filtered_cons f g a x xs ys true true e less rest =
     rw e (at_most-add (f x) (g x) (sum_counts (map f (filter a ys))) (sum_counts (map g (filter a xs))) less rest)
 filtered_cons f g a x xs ys true false e less rest = rw e rest
@@ -45,7 +46,10 @@ want_over-at_most : {C : Type 0} (H K : ℕ → Counts) → AreAtMost H K → (x
     (option_map_or (λ g. want_of_kind g.kind (map (λ p. K p.number) (providers_of t g.number)) y) o no_counts)
 want_over-at_most H K less x y h t None = at_most-same no_counts
 want_over-at_most H K less x y h t (Some g) =
-    rw (want-sum g.kind (map (λ p. H p.number) (providers_of t g.number)) x, want-sum g.kind (map (λ p. K p.number) (providers_of t g.number)) y)
+    rw (
+      want-sum g.kind (map (λ p. H p.number) (providers_of t g.number)) x,
+      want-sum g.kind (map (λ p. K p.number) (providers_of t g.number)) y,
+    )
     (want_of_sum-at_most g.kind _ _ x y
     (sum-at_most (λ (p : Provider). H p.number) (λ (p : Provider). K p.number) (providers_of t g.number)
     (of_each (λ (p : Provider). IsAtMost (H p.number) (K p.number)) (λ p. less p.number) (providers_of t g.number)))
@@ -55,7 +59,8 @@ module _ {C : Type 0} (small large : ℕ → Counts) (grants : AreAtMost small l
   -- a consumer wants no less where each provider above has no less and its grant is no less
   pub want_given-at_most : (H K : ℕ → Counts) → AreAtMost H K → (t : Topology C) (c : Consumer)
       → IsAtMost (want_given small H t c) (want_given large K t c)
-  want_given-at_most H K less t c = want_over-at_most H K less (small c.number) (large c.number) (grants c.number) t (geom_at t c.geom)
+  want_given-at_most H K less t c =
+      want_over-at_most H K less (small c.number) (large c.number) (grants c.number) t (geom_at t c.geom)
 
   -- more levels, more consumers and greater grants never make the counts less
   pub within-at_most : (t : Topology C) (test : Consumer → Bool) (k l : ℕ) → k ≤ l → (p : ℕ)
@@ -72,13 +77,15 @@ module _ {C : Type 0} (small large : ℕ → Counts) (grants : AreAtMost small l
       t.consumers
 
   -- the counts of each provider, and what each consumer wants, where some consumers are left out
-  pub kept-at_most : (t : Topology C) (test : Consumer → Bool) (p : ℕ) → IsAtMost (have small (keep_consumers t test) p) (have large t p)
+  pub kept-at_most : (t : Topology C) (test : Consumer → Bool) (p : ℕ)
+      → IsAtMost (have small (keep_consumers t test) p) (have large t p)
   kept-at_most t test p = within-at_most t test (length t.geoms) (length t.geoms) (omega arith) p
 
   -- and what each consumer wants
   pub kept_want-at_most : (t : Topology C) (test : Consumer → Bool) (c : Consumer)
       → IsAtMost (want small (keep_consumers t test) c) (want large t c)
-  kept_want-at_most t test c = want_given-at_most (have small (keep_consumers t test)) (have large t) (kept-at_most t test) t c
+  kept_want-at_most t test c =
+      want_given-at_most (have small (keep_consumers t test)) (have large t) (kept-at_most t test) t c
 
 -- all consumers kept is the same graph
 filter_all : {X : Type 0} (xs : List X) → filter (λ x. true) xs ≡ xs
@@ -108,3 +115,6 @@ module _ {C : Type 0} (small large : ℕ → Counts) (grants : AreAtMost small l
 -- grants are at most themselves
 pub grants-same : (granted : ℕ → Counts) → AreAtMost granted granted
 grants-same granted c = at_most-same (granted c)
+
+-- what `counts_follow_demand` says
+pub ruleset counts_follow_demand = (have-at_most, want-at_most, kept-at_most, kept_want-at_most)

@@ -26,16 +26,18 @@ true_all p [] so = refl
 true_all p (y ∷ ys) so =
     and_from (p y) (list_all p ys) (so y (in_head y ys)) (true_all p ys (λ x there. so x (in_tail y ys x there)))
 
--- a fact of all that a list contains
+-- a fact of all that a list contains, by recursion
+pub each_of : {X : Type 0} (P : X → Type 0) (xs : List X) → ((x : X) → Contains xs x → P x) → AllByRecursion P xs
+each_of P [] so = tt
+each_of P (y ∷ ys) so = (so y (in_head y ys), each_of P ys (λ x there. so x (in_tail y ys x there)))
+
+-- so of all
 pub all_of : {X : Type 0} (P : X → Type 0) (xs : List X) → ((x : X) → Contains xs x → P x) → All P xs
-all_of P xs so = All-from_recursion P xs (of_members P xs so)
-  where
-    of_members : {X : Type 0} (P : X → Type 0) (xs : List X) → ((x : X) → Contains xs x → P x) → AllByRecursion P xs
-    of_members P [] so = tt
-    of_members P (y ∷ ys) so = (so y (in_head y ys), of_members P ys (λ x there. so x (in_tail y ys x there)))
+all_of P xs so = All-from_recursion P xs (each_of P xs so)
 
 -- what a filter keeps is in the list, and passes
-pub of_filter : {X : Type 0} (test : X → Bool) (xs : List X) (x : X) → Contains (filter test xs) x → Contains xs x × (test x ≡ true)
+pub of_filter : {X : Type 0} (test : X → Bool) (xs : List X) (x : X) → Contains (filter test xs) x
+    → Contains xs x × (test x ≡ true)
 of_filter test xs x there =
     All-contains (λ y. Contains xs y × (test y ≡ true)) (filter test xs) x
     (All-from_recursion (λ y. Contains xs y × (test y ≡ true)) (filter test xs) (kept_members test xs))
@@ -44,11 +46,13 @@ of_filter test xs x there =
 module _ {C : Type 0} (granted : ℕ → Counts) (t : Topology C) where
   -- at each provider none stands in another's way
   abbrev pub Apart : Type 0
-  Apart = (x : Provider) (a b : Consumer) → Contains t.providers x → Contains (attached_to t x.number) a → Contains (attached_to t x.number) b
+  Apart = (x : Provider) (a b : Consumer) → Contains t.providers x → Contains (attached_to t x.number) a
+      → Contains (attached_to t x.number) b
       → a.number ≢ b.number → ((want granted t a).w ≡ 0) ⊎ ((want granted t b).e ≡ 0)
 
   -- what the test of two consumers says
-  pair_apart : (a b : Consumer) → ((a.number == b.number) || (((want granted t a).w == 0) || ((want granted t b).e == 0))) ≡ true
+  pair_apart : (a b : Consumer)
+      → ((a.number == b.number) || (((want granted t a).w == 0) || ((want granted t b).e == 0))) ≡ true
       → a.number ≢ b.number → ((want granted t a).w ≡ 0) ⊎ ((want granted t b).e ≡ 0)
   pair_apart a b e other =
       elim (or_cases (a.number == b.number) (((want granted t a).w == 0) || ((want granted t b).e == 0)) e) [
@@ -69,8 +73,10 @@ module _ {C : Type 0} (granted : ℕ → Counts) (t : Topology C) where
         | inr other ↦
             or_right (a.number == b.number) (((want granted t a).w == 0) || ((want granted t b).e == 0))
             (elim (so other) [
-              | inl w ↦ or_left ((want granted t a).w == 0) ((want granted t b).e == 0) (eq-eqb (want granted t a).w 0 w)
-              | inr x ↦ or_right ((want granted t a).w == 0) ((want granted t b).e == 0) (eq-eqb (want granted t b).e 0 x)
+              | inl w ↦ or_left ((want granted t a).w == 0) ((want granted t b).e == 0)
+                  (eq-eqb (want granted t a).w 0 w)
+              | inr x ↦ or_right ((want granted t a).w == 0) ((want granted t b).e == 0)
+                  (eq-eqb (want granted t b).e 0 x)
             ])
       ]
 
@@ -78,8 +84,11 @@ module _ {C : Type 0} (granted : ℕ → Counts) (t : Topology C) where
   pub apart_from : is_exclusive granted t ≡ true → Apart
   apart_from e x a b there first second other =
       pair_apart a b
-      (all_true (λ d. (a.number == d.number) || (((want granted t a).w == 0) || ((want granted t d).e == 0))) (attached_to t x.number)
-      (all_true (λ c. list_all (λ d. (c.number == d.number) || (((want granted t c).w == 0) || ((want granted t d).e == 0))) (attached_to t x.number))
+      (all_true (λ d. (a.number == d.number) || (((want granted t a).w == 0) || ((want granted t d).e == 0)))
+      (attached_to t x.number)
+      (all_true (λ c.
+      list_all (λ d. (c.number == d.number) || (((want granted t c).w == 0) || ((want granted t d).e == 0)))
+      (attached_to t x.number))
       (attached_to t x.number)
       (all_true (λ y. stand_together granted t (attached_to t y.number)) t.providers e x there)
       a first)
@@ -91,59 +100,81 @@ module _ {C : Type 0} (granted : ℕ → Counts) (t : Topology C) where
   exclusive_from so =
       true_all (λ x. stand_together granted t (attached_to t x.number)) t.providers
       (λ x there.
-      true_all (λ a. list_all (λ b. (a.number == b.number) || (((want granted t a).w == 0) || ((want granted t b).e == 0))) (attached_to t x.number)) (attached_to t x.number)
+      true_all (λ a.
+      list_all (λ b. (a.number == b.number) || (((want granted t a).w == 0) || ((want granted t b).e == 0)))
+      (attached_to t x.number)) (attached_to t x.number)
       (λ a first.
-      true_all (λ b. (a.number == b.number) || (((want granted t a).w == 0) || ((want granted t b).e == 0))) (attached_to t x.number)
+      true_all (λ b. (a.number == b.number) || (((want granted t a).w == 0) || ((want granted t b).e == 0)))
+      (attached_to t x.number)
       (λ b second. pair_true a b (so x a b there first second))))
 
   -- the same as a fact of each provider
-  pub exclusive_means : IsTrue (is_exclusive granted t) ↔ All (λ x. NoneInTheWay granted t (attached_to t x.number)) t.providers
+  pub exclusive_means : IsTrue (is_exclusive granted t)
+      ↔ All (λ x. NoneInTheWay granted t (attached_to t x.number)) t.providers
   exclusive_means = (
     (λ e.
         all_of (λ x. NoneInTheWay granted t (attached_to t x.number)) t.providers
         (λ x there.
-        all_of (λ a. All (λ b. a.number ≢ b.number → ((want granted t a).w ≡ 0) ⊎ ((want granted t b).e ≡ 0)) (attached_to t x.number)) (attached_to t x.number)
+        all_of (λ a. All (λ b. a.number ≢ b.number → ((want granted t a).w ≡ 0) ⊎ ((want granted t b).e ≡ 0))
+        (attached_to t x.number)) (attached_to t x.number)
         (λ a first.
-        all_of (λ b. a.number ≢ b.number → ((want granted t a).w ≡ 0) ⊎ ((want granted t b).e ≡ 0)) (attached_to t x.number)
+        all_of (λ b. a.number ≢ b.number → ((want granted t a).w ≡ 0) ⊎ ((want granted t b).e ≡ 0))
+        (attached_to t x.number)
         (λ b second. apart_from e x a b there first second)))),
     (λ facts.
         exclusive_from
         (λ x a b there first second.
-        All-contains (λ (d : Consumer). a.number ≢ d.number → ((want granted t a).w ≡ 0) ⊎ ((want granted t d).e ≡ 0)) (attached_to t x.number) b
-        (All-contains (λ (c : Consumer). All (λ (d : Consumer). c.number ≢ d.number → ((want granted t c).w ≡ 0) ⊎ ((want granted t d).e ≡ 0)) (attached_to t x.number)) (attached_to t x.number) a
+        All-contains (λ (d : Consumer). a.number ≢ d.number → ((want granted t a).w ≡ 0)
+        ⊎ ((want granted t d).e ≡ 0)) (attached_to t x.number) b
+        (All-contains (λ (c : Consumer). All (λ (d : Consumer). c.number ≢ d.number → ((want granted t c).w ≡ 0)
+        ⊎ ((want granted t d).e ≡ 0)) (attached_to t x.number)) (attached_to t x.number) a
         (All-contains (λ (y : Provider). NoneInTheWay granted t (attached_to t y.number)) t.providers x facts there)
         first)
         second)),
   )
 
   -- the counts of a provider are within the limit
-  limited_from : (a : Counts) → (nat_le a.r 2147483647 && (nat_le a.w 2147483647 && nat_le a.e 2147483647)) ≡ true → IsAtMost a greatest_counts
+  limited_from : (a : Counts) → (nat_le a.r 2147483647 && (nat_le a.w 2147483647 && nat_le a.e 2147483647)) ≡ true
+      → IsAtMost a greatest_counts
   limited_from a e =
       let first = and_parts (nat_le a.r 2147483647) (nat_le a.w 2147483647 && nat_le a.e 2147483647) e in
       let second = and_parts (nat_le a.w 2147483647) (nat_le a.e 2147483647) first.1 in
-      record { r = leb-true a.r 2147483647 first.0; w = leb-true a.w 2147483647 second.0; e = leb-true a.e 2147483647 second.1 }
+      record {
+        r = leb-true a.r 2147483647 first.0;
+        w = leb-true a.w 2147483647 second.0;
+        e =
+            leb-true a.e 2147483647 second.1;
+      }
 
   -- and that the test holds where this does
-  limited_true : (a : Counts) → IsAtMost a greatest_counts → (nat_le a.r 2147483647 && (nat_le a.w 2147483647 && nat_le a.e 2147483647)) ≡ true
+  limited_true : (a : Counts) → IsAtMost a greatest_counts
+      → (nat_le a.r 2147483647 && (nat_le a.w 2147483647 && nat_le a.e 2147483647)) ≡ true
   limited_true a h =
       and_from (nat_le a.r 2147483647) (nat_le a.w 2147483647 && nat_le a.e 2147483647) (le-leb a.r 2147483647 h.r)
       (and_from (nat_le a.w 2147483647) (nat_le a.e 2147483647) (le-leb a.w 2147483647 h.w) (le-leb a.e 2147483647 h.e))
 
   -- the test of the limit gives a fact of each provider
-  pub within_limit : fits_limit granted t ≡ true → (x : Provider) → Contains t.providers x → IsAtMost (have granted t x.number) greatest_counts
+  pub within_limit : fits_limit granted t ≡ true → (x : Provider) → Contains t.providers x
+      → IsAtMost (have granted t x.number) greatest_counts
   within_limit e x there =
       limited_from (have granted t x.number)
-      (all_true (λ y. let a = have granted t y.number in nat_le a.r 2147483647 && (nat_le a.w 2147483647 && nat_le a.e 2147483647)) t.providers e x there)
+      (all_true (λ y. let a = have granted t y.number in
+      nat_le a.r 2147483647 && (nat_le a.w 2147483647 && nat_le a.e 2147483647)) t.providers e x there)
 
   -- and the facts give the test
-  pub limit_from : ((x : Provider) → Contains t.providers x → IsAtMost (have granted t x.number) greatest_counts) → fits_limit granted t ≡ true
+  pub limit_from : ((x : Provider) → Contains t.providers x → IsAtMost (have granted t x.number) greatest_counts)
+      → fits_limit granted t ≡ true
   limit_from so =
-      true_all (λ y. let a = have granted t y.number in nat_le a.r 2147483647 && (nat_le a.w 2147483647 && nat_le a.e 2147483647)) t.providers
+      true_all (λ y. let a = have granted t y.number in
+      nat_le a.r 2147483647 && (nat_le a.w 2147483647 && nat_le a.e 2147483647)) t.providers
       (λ x there. limited_true (have granted t x.number) (so x there))
 
   -- the same as one fact
-  pub limit_means : IsTrue (fits_limit granted t) ↔ All (λ x. IsAtMost (have granted t x.number) greatest_counts) t.providers
+  pub limit_means : IsTrue (fits_limit granted t)
+      ↔ All (λ x. IsAtMost (have granted t x.number) greatest_counts) t.providers
   limit_means = (
     (λ e. all_of (λ x. IsAtMost (have granted t x.number) greatest_counts) t.providers (within_limit e)),
-    (λ facts. limit_from (λ x there. All-contains (λ (y : Provider). IsAtMost (have granted t y.number) greatest_counts) t.providers x facts there)),
+    (λ facts. limit_from
+        (λ x there. All-contains (λ (y : Provider). IsAtMost (have granted t y.number) greatest_counts) t.providers
+        x facts there)),
   )

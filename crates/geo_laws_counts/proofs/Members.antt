@@ -26,7 +26,8 @@ in_cases y xs x h =
     ]
 
 -- a filter keeps what passes
-pub in_filter : {X : Type 0} (test : X → Bool) (xs : List X) (x : X) → Contains xs x → test x ≡ true → Contains (filter test xs) x
+pub in_filter : {X : Type 0} (test : X → Bool) (xs : List X) (x : X) → Contains xs x → test x ≡ true
+    → Contains (filter test xs) x
 in_filter test [] x h passes = h
 in_filter test (y ∷ ys) x h passes =
     elim (in_cases y ys x h) [
@@ -58,7 +59,8 @@ in_filter_map {Y = Y} h (z ∷ zs) x y there e =
 
     head : (o : Option Y) → o ≡ Some y → Contains (cons_option o (filter_map h zs)) y
     head None e = cc
-    head (Some a) same = let one : y ≡ a = cc in subst (λ b. Contains (b ∷ filter_map h zs) y) one (in_head y (filter_map h zs))
+    head (Some a) same = let one : y ≡ a = cc in
+        subst (λ b. Contains (b ∷ filter_map h zs) y) one (in_head y (filter_map h zs))
 
 -- what is in the list of one of the items
 pub in_flat_map : {X Y : Type 0} (f : X → List Y) (xs : List X) (x : X) (y : Y) → Contains xs x → Contains (f x) y
@@ -81,12 +83,14 @@ flat_map_cases f (x ∷ xs) y there =
     ]
 
 -- each item that a filter keeps is in the list, and passes
-pub kept_members : {X : Type 0} (test : X → Bool) (xs : List X) → AllByRecursion (λ x. Contains xs x × (test x ≡ true)) (filter test xs)
+pub kept_members : {X : Type 0} (test : X → Bool) (xs : List X)
+    → AllByRecursion (λ x. Contains xs x × (test x ≡ true)) (filter test xs)
 kept_members test xs =
     kept_by (Contains xs) (λ x. Contains xs x × (test x ≡ true)) test (λ x e there. (there, e)) xs
     (recursion_from_All (Contains xs) xs (All-contains_itself xs))
 
 -- two facts of each item
-pub all_both : {X : Type 0} (P Q : X → Type 0) (xs : List X) → AllByRecursion P xs → AllByRecursion Q xs → AllByRecursion (λ x. P x × Q x) xs
+pub all_both : {X : Type 0} (P Q : X → Type 0) (xs : List X) → AllByRecursion P xs → AllByRecursion Q xs
+    → AllByRecursion (λ x. P x × Q x) xs
 all_both P Q [] p q = tt
 all_both P Q (x ∷ xs) p q = ((p.0, q.0), all_both P Q xs p.1 q.1)

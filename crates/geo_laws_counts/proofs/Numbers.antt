@@ -12,7 +12,8 @@ use Rattle.geo_laws_counts.proofs.LimitFacts.{all_of}
 
 -- the first of rising numbers is below the others, and these rise
 pub first_below : (n : ℕ) (ns : List ℕ) → AllPairs (λ x y. x < y) (n ∷ ns) → (m : ℕ) → Contains ns m → n < m
-first_below n ns pairs m there = subst (λ x. n < x) there.2 (pairs 0 (suc there.0) m (omega arith) (omega (arith, there.1)))
+first_below n ns pairs m there =
+    subst (λ x. n < x) there.2 (pairs 0 (suc there.0) m (omega arith) (omega (arith, there.1)))
 
 -- the rest of rising numbers rise
 pub rest_rise : (n : ℕ) (ns : List ℕ) → AllPairs (λ x y. x < y) (n ∷ ns) → AllPairs (λ x y. x < y) ns
@@ -29,15 +30,18 @@ module _ {X : Type 0} (key : X → ℕ) where
       ]
 
   -- each item is found by its number
-  pub found_of : (xs : List X) → AllPairs (λ m n. m < n) (map key xs) → (x : X) → Contains xs x → find (λ y. key y == key x) xs ≡ Some x
+  pub found_of : (xs : List X) → AllPairs (λ m n. m < n) (map key xs) → (x : X) → Contains xs x
+      → find (λ y. key y == key x) xs ≡ Some x
   found_of [] rise x there = absurd (in_nothing x there)
   found_of (y ∷ ys) rise x there =
       elim (in_cases y ys x there) [
         | inl same ↦
-            ap (λ b. cond b (Some y) (find (λ z. key z == key x) ys)) (eq-eqb (key y) (key x) (ap key same)) ∙ ap (λ z. Some z) same
+            ap (λ b. cond b (Some y) (find (λ z. key z == key x) ys)) (eq-eqb (key y) (key x) (ap key same))
+            ∙ ap (λ z. Some z) same
         | inr rest ↦
             ap (λ b. cond b (Some y) (find (λ z. key z == key x) ys))
-            (ne_eqb (key y) (key x) (λ e. let less : key y < key x = first_below (key y) (map key ys) rise (key x) (key_in ys x rest) in omega arith))
+            (ne_eqb (key y) (key x) (λ e. let less : key y < key x =
+            first_below (key y) (map key ys) rise (key x) (key_in ys x rest) in omega arith))
             ∙ found_of ys (rest_rise (key y) (map key ys) rise) x rest
       ]
 
@@ -50,18 +54,22 @@ module _ {X : Type 0} (key : X → ℕ) where
       ∙ none_left n xs (λ m there. above m (in_tail (key x) (map key xs) m there))
 
   -- no other item has its number
-  pub only_of : (xs : List X) → AllPairs (λ m n. m < n) (map key xs) → (x : X) → Contains xs x → filter (λ y. key y == key x) xs ≡ x ∷ []
+  pub only_of : (xs : List X) → AllPairs (λ m n. m < n) (map key xs) → (x : X) → Contains xs x
+      → filter (λ y. key y == key x) xs ≡ x ∷ []
   only_of [] rise x there = absurd (in_nothing x there)
   only_of (y ∷ ys) rise x there =
       elim (in_cases y ys x there) [
         | inl same ↦
-            ap (λ b. cond b (y ∷ filter (λ z. key z == key x) ys) (filter (λ z. key z == key x) ys)) (eq-eqb (key y) (key x) (ap key same))
+            ap (λ b. cond b (y ∷ filter (λ z. key z == key x) ys) (filter (λ z. key z == key x) ys))
+            (eq-eqb (key y) (key x) (ap key same))
             ∙ ap (λ z. z ∷ filter (λ w. key w == key x) ys) same
             ∙ ap (λ zs. x ∷ zs)
-            (none_left (key x) ys (λ m inside. subst (λ z. key z < m) same (first_below (key y) (map key ys) rise m inside)))
+            (none_left (key x) ys
+            (λ m inside. subst (λ z. key z < m) same (first_below (key y) (map key ys) rise m inside)))
         | inr rest ↦
             ap (λ b. cond b (y ∷ filter (λ z. key z == key x) ys) (filter (λ z. key z == key x) ys))
-            (ne_eqb (key y) (key x) (λ e. let less : key y < key x = first_below (key y) (map key ys) rise (key x) (key_in ys x rest) in omega arith))
+            (ne_eqb (key y) (key x) (λ e. let less : key y < key x =
+            first_below (key y) (map key ys) rise (key x) (key_in ys x rest) in omega arith))
             ∙ only_of ys (rest_rise (key y) (map key ys) rise) x rest
       ]
 
@@ -69,7 +77,8 @@ module _ {X : Type 0} (key : X → ℕ) where
   pub free_of : (xs : List X) (next : ℕ) → All (λ n. n < next) (map key xs) → All (λ x. key x ≢ next) xs
   free_of xs next below =
       all_of (λ x. key x ≢ next) xs
-      (λ x there e. let less : key x < next = All-contains (λ n. n < next) (map key xs) (key x) below (key_in xs x there) in omega arith)
+      (λ x there e. let less : key x < next =
+      All-contains (λ n. n < next) (map key xs) (key x) below (key_in xs x there) in omega arith)
 
 module _ {C : Type 0} (t : Topology C) where
   -- each provider is the one that its number leads to
@@ -77,9 +86,12 @@ module _ {C : Type 0} (t : Topology C) where
   numbers_lead rise =
       recursion_from_All (λ (x : Provider). provider_at t x.number ≡ Some x) t.providers
       (all_of (λ (x : Provider). provider_at t x.number ≡ Some x) t.providers
-      (found_of (λ (x : Provider). x.number) t.providers (AllPairs-from_increasing (map (λ (x : Provider). x.number) t.providers) rise)))
+      (found_of (λ (x : Provider). x.number) t.providers
+      (AllPairs-from_increasing (map (λ (x : Provider). x.number) t.providers) rise)))
 
   -- no other consumer has a consumer's number
-  pub number_is_only : IsStrictlyIncreasing (map (λ x. x.number) t.consumers) → (d : Consumer) → Contains t.consumers d → IsOnlyOne t d
+  pub number_is_only : IsStrictlyIncreasing (map (λ x. x.number) t.consumers) → (d : Consumer)
+      → Contains t.consumers d → IsOnlyOne t d
   number_is_only rise d there =
-      only_of (λ (x : Consumer). x.number) t.consumers (AllPairs-from_increasing (map (λ (x : Consumer). x.number) t.consumers) rise) d there
+      only_of (λ (x : Consumer). x.number) t.consumers
+      (AllPairs-from_increasing (map (λ (x : Consumer). x.number) t.consumers) rise) d there

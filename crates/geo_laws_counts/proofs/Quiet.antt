@@ -17,34 +17,49 @@ use Rattle.geo_laws_counts.proofs.Sums.{at_most-under, zero-add}
 use Rattle.geo_laws_counts.proofs.Levels.{grants-same, want_given-at_most, levels-at_most}
 use Rattle.geo_laws_counts.proofs.BareParts.{levels_same, sum-end, sum-left_out}
 
+-- what names a provider names something
+pub attached_somewhere : (o : Option ℕ) (q : ℕ) → names_number o q ≡ true → is_some o ≡ true
+attached_somewhere None q e = cc
+attached_somewhere (Some m) q e = refl
+
 -- a number that passes the test of being another one is another one
 pub differs : (m n : ℕ) → m ≡ n → not (m == n) ≡ true → ⊥
 differs m n e stays = let no : not true ≡ true = sym (ap not (eq-eqb m n e)) ∙ stays in cc
 
 -- a sum over items that change, where what changes adds nothing before and after
-sum-changed : {X : Type 0} (f : X → Counts) (test chosen : X → Bool) (change : X → X) → ((x : X) → f (change x) ≡ f x) → (xs : List X)
+sum-changed : {X : Type 0} (f : X → Counts) (test chosen : X → Bool) (change : X → X)
+    → ((x : X) → f (change x) ≡ f x) → (xs : List X)
     → AllByRecursion (λ x. chosen x ≡ true → f x ≡ no_counts) xs
     → sum_counts (map f (filter test (change_where chosen change xs))) ≡ sum_counts (map f (filter test xs))
 sum-changed f test chosen change same [] quiet = refl
 sum-changed {X = X} f test chosen change same (x ∷ xs) quiet =
     step (chosen x) refl (sum-changed f test chosen change same xs quiet.1)
   where
-    nothing : (y : X) (b : Bool) → f y ≡ no_counts → sum_counts (map f (cond b (y ∷ filter test (change_where chosen change xs)) (filter test (change_where chosen change xs))))
+    nothing : (y : X) (b : Bool) → f y ≡ no_counts
+        → sum_counts
+        (map f (cond b (y ∷ filter test (change_where chosen change xs))
+        (filter test (change_where chosen change xs))))
         ≡ sum_counts (map f (filter test (change_where chosen change xs)))
-    nothing y true none = ap (λ a. add_counts a (sum_counts (map f (filter test (change_where chosen change xs))))) none ∙ zero-add _
+    nothing y true none =
+        ap (λ a. add_counts a (sum_counts (map f (filter test (change_where chosen change xs))))) none ∙ zero-add _
     nothing y false none = refl
 
-    same_nothing : (y : X) (b : Bool) → f y ≡ no_counts → sum_counts (map f (cond b (y ∷ filter test xs) (filter test xs))) ≡ sum_counts (map f (filter test xs))
+    same_nothing : (y : X) (b : Bool) → f y ≡ no_counts
+        → sum_counts (map f (cond b (y ∷ filter test xs) (filter test xs))) ≡ sum_counts (map f (filter test xs))
     same_nothing y true none = ap (λ a. add_counts a (sum_counts (map f (filter test xs)))) none ∙ zero-add _
     same_nothing y false none = refl
 
-    plain : (b : Bool) → sum_counts (map f (filter test (change_where chosen change xs))) ≡ sum_counts (map f (filter test xs))
-        → sum_counts (map f (cond b (x ∷ filter test (change_where chosen change xs)) (filter test (change_where chosen change xs))))
+    plain : (b : Bool)
+        → sum_counts (map f (filter test (change_where chosen change xs))) ≡ sum_counts (map f (filter test xs))
+        → sum_counts
+        (map f (cond b (x ∷ filter test (change_where chosen change xs))
+        (filter test (change_where chosen change xs))))
         ≡ sum_counts (map f (cond b (x ∷ filter test xs) (filter test xs)))
     plain true more = ap (add_counts (f x)) more
     plain false more = more
 
-    step : (b : Bool) → chosen x ≡ b → sum_counts (map f (filter test (change_where chosen change xs))) ≡ sum_counts (map f (filter test xs))
+    step : (b : Bool) → chosen x ≡ b
+        → sum_counts (map f (filter test (change_where chosen change xs))) ≡ sum_counts (map f (filter test xs))
         → sum_counts (map f (filter test ((if b then change x else x) ∷ change_where chosen change xs)))
         ≡ sum_counts (map f (cond (test x) (x ∷ filter test xs) (filter test xs)))
     step true e more =
@@ -53,7 +68,8 @@ sum-changed {X = X} f test chosen change same (x ∷ xs) quiet =
 
 module _ {C : Type 0} (granted : ℕ → Counts) (t : Topology C) where
   -- what wants nothing wants nothing at any level
-  quiet_within : (k : ℕ) → k < length t.geoms → (c : Consumer) → want granted t c ≡ no_counts → want_given granted (have_within granted k t) t c ≡ no_counts
+  quiet_within : (k : ℕ) → k < length t.geoms → (c : Consumer) → want granted t c ≡ no_counts
+      → want_given granted (have_within granted k t) t c ≡ no_counts
   quiet_within k h c none =
       at_most-under (want_given granted (have_within granted k t) t c) (want granted t c)
       (want_given-at_most granted granted (grants-same granted) (have_within granted k t) (have granted t)
@@ -91,28 +107,28 @@ module _ {C : Type 0} (granted : ℕ → Counts) (t : Topology C) where
 
   -- a consumer that wants nothing, or isn't attached, is new
   pub quiet_new : (geom : ℕ) (to : Option ℕ)
-      → (is_some to ≡ true → want granted t (record { number = t.next_consumer; geom = geom; provider = to; spoiled = false }) ≡ no_counts)
+      → (is_some to ≡ true
+      → want granted t (record { number = t.next_consumer; geom = geom; provider = to; spoiled = false })
+      ≡ no_counts)
       → (p : ℕ) → have granted (add_consumer t geom to) p ≡ have granted t p
   quiet_new geom to quiet p =
       levels_same granted granted t (add_consumer t geom to) (length t.geoms)
       (λ k h q.
       sum-end (want_given granted (have_within granted k t) t) (λ c. names_number c.provider q) t.consumers _
       (λ attached. quiet_within k h (record { number = t.next_consumer; geom = geom; provider = to; spoiled = false })
-      (quiet (is_attached to q attached))))
+      (quiet (attached_somewhere to q attached))))
       (length t.geoms) (omega arith) p
-    where
-      is_attached : (o : Option ℕ) (q : ℕ) → names_number o q ≡ true → is_some o ≡ true
-      is_attached None q e = cc
-      is_attached (Some m) q e = refl
 
 -- a consumer of DEV or TASTE wants what it is granted
 granted_nothing : {C : Type 0} (H : ℕ → Counts) (x : Counts) (t : Topology C) → x ≡ no_counts → (o : Option (Geom C))
     → IsSomeAnd o (λ g. is_granted_kind g.kind ≡ true)
-    → option_map_or (λ g. want_of_kind g.kind (map (λ p. H p.number) (providers_of t g.number)) x) o no_counts ≡ no_counts
+    → option_map_or (λ g. want_of_kind g.kind (map (λ p. H p.number) (providers_of t g.number)) x) o
+    no_counts ≡ no_counts
 granted_nothing H x t none None kind = absurd kind
 granted_nothing H x t none (Some g) kind = of_kind g.kind (map (λ p. H p.number) (providers_of t g.number)) kind none
   where
-    of_kind : (k : Kind) (haves : List Counts) → is_granted_kind k ≡ true → x ≡ no_counts → want_of_kind k haves x ≡ no_counts
+    of_kind : (k : Kind) (haves : List Counts) → is_granted_kind k ≡ true → x ≡ no_counts
+        → want_of_kind k haves x ≡ no_counts
     of_kind kinds.Dev haves kind none = none
     of_kind kinds.Taste haves kind none = none
     of_kind kinds.Disk haves kind none = refl
@@ -124,6 +140,8 @@ granted_nothing H x t none (Some g) kind = of_kind g.kind (map (λ p. H p.number
     of_kind kinds.Stripe haves kind none = cc
 
 -- a consumer of DEV or TASTE without a grant wants nothing
-pub granted_wants_nothing : {C : Type 0} (granted : ℕ → Counts) (t : Topology C) (c : Consumer) → granted c.number ≡ no_counts
+pub granted_wants_nothing : {C : Type 0} (granted : ℕ → Counts) (t : Topology C) (c : Consumer)
+    → granted c.number ≡ no_counts
     → HoldsGrants t c.geom → want granted t c ≡ no_counts
-granted_wants_nothing granted t c none kind = granted_nothing (have granted t) (granted c.number) t none (geom_at t c.geom) kind
+granted_wants_nothing granted t c none kind =
+    granted_nothing (have granted t) (granted c.number) t none (geom_at t c.geom) kind

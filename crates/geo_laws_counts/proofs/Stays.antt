@@ -1,5 +1,5 @@
 -- Changes of one thing that leave all of demand as it is.
-use Rattle.std.specs.Prelude.{◌≡◌, ◌≢◌, ◌⊎◌, ℕ, ◌==◌, Bool, true, false, not, List, [], ◌∷◌, ◌++◌, map, filter, Option, Some, None, is_some, All, Contains, length, if◌then◌else◌}
+use Rattle.std.specs.Prelude.{◌≡◌, ◌≢◌, ◌⊎◌, ℕ, ◌==◌, Bool, true, false, not, List, [], ◌∷◌, ◌++◌, map, filter, Option, Some, is_some, All, Contains, length, if◌then◌else◌}
 use Rattle.std.specs.Option.{option_map_or}
 use Rattle.std.proofs.Common.{refl, sym, ◌∙◌, ap, subst, inl, inr}
 use Rattle.std.proofs.lemmas.Bool.{eqb-true, not-false, ne_eqb}
@@ -18,7 +18,7 @@ use Rattle.geo_laws_counts.proofs.Members.{in_head, in_tail, in_cases, in_nothin
 use Rattle.geo_laws_counts.proofs.LimitFacts.{of_filter}
 use Rattle.geo_laws_counts.proofs.Keeping.{exclusive_keeps, limit_keeps}
 use Rattle.geo_laws_counts.proofs.BareParts.{granted_same, find-end_other, find-kept, new_geom, gone_geom, none_within, sum-end, sum-left_out, want_over-sums, new_provider, gone_provider}
-use Rattle.geo_laws_counts.proofs.Quiet.{differs, quiet_left_out, quiet_attached, quiet_new, granted_wants_nothing}
+use Rattle.geo_laws_counts.proofs.Quiet.{differs, quiet_left_out, quiet_attached, quiet_new, granted_wants_nothing, attached_somewhere}
 
 -- an item of a list that was changed item by item
 in_map : {X Y : Type 0} (f : X → Y) (xs : List X) (y : Y) → Contains (map f xs) y → (x : X) × Contains xs x × (f x ≡ y)
@@ -75,7 +75,8 @@ module _ {C : Type 0} (granted : ℕ → Counts) (t : Topology C) (other : ℕ �
               inr (record {
                 provider = x;
                 stands = stood;
-                at_most = subst (λ b. IsAtMost (have other u x.number) b) (haves x.number) (at_most-same (have other u x.number));
+                at_most = subst (λ b. IsAtMost (have other u x.number) b) (haves x.number)
+                    (at_most-same (have other u x.number));
               })
           | inr none ↦ inl (none_within other u x.number none (length u.geoms))
         ])
@@ -84,10 +85,12 @@ module _ {C : Type 0} (granted : ℕ → Counts) (t : Topology C) (other : ℕ �
 
   -- a want that is the same for the same counts
   pub want_from : ((p : ℕ) → have other u p ≡ have granted t p) → (c : Consumer)
-      → want_given other (have granted t) u c ≡ want_given granted (have granted t) t c → want other u c ≡ want granted t c
+      → want_given other (have granted t) u c ≡ want_given granted (have granted t) t c
+      → want other u c ≡ want granted t c
   want_from haves c same =
       want_given-same other (have other u) (have granted t) u c
-      (of_each (λ (y : Provider). have other u y.number ≡ have granted t y.number) (λ y. haves y.number) (providers_of u c.geom))
+      (of_each (λ (y : Provider). have other u y.number ≡ have granted t y.number) (λ y. haves y.number)
+      (providers_of u c.geom))
       ∙ same
 
 module _ {C : Type 0} (granted : ℕ → Counts) (t : Topology C) where
@@ -97,14 +100,18 @@ module _ {C : Type 0} (granted : ℕ → Counts) (t : Topology C) where
       → DemandStays granted t granted (add_geom t kind name config automatic) (Contains t.consumers)
   geom_came kind name config automatic ranked known bare =
       let u : Topology C = add_geom t kind name config automatic in
-      let haves : (p : ℕ) → have granted u p ≡ have granted t p = new_geom granted t kind name config automatic bare ranked known in
+      let haves : (p : ℕ) → have granted u p ≡ have granted t p =
+      new_geom granted t kind name config automatic bare ranked known in
       let wants : (c : Consumer) → Contains t.consumers c → want granted u c ≡ want granted t c =
       λ c there.
       want_from granted t granted u haves c
       (ap
-      (λ o. option_map_or (λ (g : Geom C). want_of_kind g.kind (map (λ x. have granted t x.number) (providers_of t g.number)) (granted c.number)) o no_counts)
+      (λ o. option_map_or
+      (λ (g : Geom C). want_of_kind g.kind (map (λ x. have granted t x.number) (providers_of t g.number))
+      (granted c.number)) o no_counts)
       (find-end_other (λ x. x.number == c.geom) t.geoms _
-      (ne_eqb t.next_geom c.geom (λ e. All-contains (λ (x : Consumer). x.geom ≢ t.next_geom) t.consumers c bare there (sym e)))))
+      (ne_eqb t.next_geom c.geom (λ e. All-contains (λ (x : Consumer). x.geom ≢ t.next_geom) t.consumers c bare
+      there (sym e)))))
       in
       stays_from granted t granted u (Contains t.consumers) haves wants
       (λ x there. inl there)
@@ -125,11 +132,14 @@ module _ {C : Type 0} (granted : ℕ → Counts) (t : Topology C) where
       λ c there.
       want_from granted t granted u haves c
       (ap
-      (λ o. option_map_or (λ (x : Geom C). want_of_kind x.kind (map (λ y. have granted t y.number) (providers_of t x.number)) (granted c.number)) o no_counts)
+      (λ o. option_map_or
+      (λ (x : Geom C). want_of_kind x.kind (map (λ y. have granted t y.number) (providers_of t x.number))
+      (granted c.number)) o no_counts)
       (find-kept (λ x. x.number == c.geom) (λ x. not (x.number == g))
       (λ x gone.
       ne_eqb x.number c.geom
-      (λ e. All-contains (λ (y : Consumer). y.geom ≢ g) t.consumers c bare there (sym e ∙ eqb-true x.number g (not-false (x.number == g) gone))))
+      (λ e. All-contains (λ (y : Consumer). y.geom ≢ g) t.consumers c bare there (sym e
+      ∙ eqb-true x.number g (not-false (x.number == g) gone))))
       t.geoms))
       in
       stays_from granted t granted u (Contains t.consumers) haves wants
@@ -176,7 +186,8 @@ module _ {C : Type 0} (granted : ℕ → Counts) (t : Topology C) where
       (λ n.
       sum-left_out (λ y. have granted t y.number) (λ y. y.geom == n) (λ y. not (y.number == g)) t.providers
       (of_each (λ (y : Provider). not (y.number == g) ≡ false → have granted t y.number ≡ no_counts)
-      (λ y gone. ap (have granted t) (eqb-true y.number g (not-false (y.number == g) gone)) ∙ none_within granted t g none (length t.geoms))
+      (λ y gone. ap (have granted t) (eqb-true y.number g (not-false (y.number == g) gone))
+      ∙ none_within granted t g none (length t.geoms))
       t.providers))
       (geom_at t c.geom))
       in
@@ -186,17 +197,32 @@ module _ {C : Type 0} (granted : ℕ → Counts) (t : Topology C) where
 
   -- a new consumer that isn't attached, or wants nothing
   pub consumer_came : (geom : ℕ) (to : Option ℕ)
-      → (is_some to ≡ true → want granted t (record { number = t.next_consumer; geom = geom; provider = to; spoiled = false }) ≡ no_counts)
+      → (is_some to ≡ true
+      → want granted t (record { number = t.next_consumer; geom = geom; provider = to; spoiled = false })
+      ≡ no_counts)
       → DemandStays granted t granted (add_consumer t geom to) AnyConsumer
   consumer_came geom to quiet =
       let u : Topology C = add_consumer t geom to in
       let haves : (p : ℕ) → have granted u p ≡ have granted t p = quiet_new granted t geom to quiet in
-      let wants : (c : Consumer) → want granted u c ≡ want granted t c = λ c. want_from granted t granted u haves c refl in
+      let wants : (c : Consumer) → want granted u c ≡ want granted t c =
+      λ c. want_from granted t granted u haves c refl in
       stays_from granted t granted u AnyConsumer haves (λ c any. wants c)
       (λ x there. inl there)
       (λ n a at.
-      let inside = of_filter (λ x. names_number x.provider n) (t.consumers ++ record { number = t.next_consumer; geom = geom; provider = to; spoiled = false } ∷ []) a at in
-      elim (Contains-push_cases t.consumers (record { number = t.next_consumer; geom = geom; provider = to; spoiled = false }) a inside.0) [
+      let inside =
+      of_filter (λ x. names_number x.provider n) (t.consumers ++ record {
+        number = t.next_consumer;
+        geom =
+            geom;
+        provider = to;
+        spoiled = false;
+      } ∷ []) a at in
+      elim (Contains-push_cases t.consumers (record {
+        number = t.next_consumer;
+        geom = geom;
+        provider = to;
+        spoiled = false;
+      }) a inside.0) [
         | inl stood ↦
             inr (record {
               before = a;
@@ -209,10 +235,6 @@ module _ {C : Type 0} (granted : ℕ → Counts) (t : Topology C) where
             (wants a ∙ ap (want granted t) (sym new)
             ∙ quiet (attached_somewhere to n (ap (λ (x : Consumer). names_number x.provider n) new ∙ inside.1)))
       ])
-    where
-      attached_somewhere : (o : Option ℕ) (n : ℕ) → names_number o n ≡ true → is_some o ≡ true
-      attached_somewhere None n e = cc
-      attached_somewhere (Some m) n e = refl
 
   -- consumers that want nothing go
   pub consumers_went : (keep : Consumer → Bool) → All (λ c. keep c ≡ false → want granted t c ≡ no_counts) t.consumers
@@ -220,14 +242,16 @@ module _ {C : Type 0} (granted : ℕ → Counts) (t : Topology C) where
   consumers_went keep quiet =
       let u : Topology C = keep_consumers t keep in
       let haves : (p : ℕ) → have granted u p ≡ have granted t p = quiet_left_out granted t keep quiet in
-      let wants : (c : Consumer) → want granted u c ≡ want granted t c = λ c. want_from granted t granted u haves c refl in
+      let wants : (c : Consumer) → want granted u c ≡ want granted t c =
+      λ c. want_from granted t granted u haves c refl in
       stays_from granted t granted u AnyConsumer haves (λ c any. wants c)
       (λ x there. inl there)
       (λ n a at.
       let inside = of_filter (λ x. names_number x.provider n) (filter keep t.consumers) a at in
       inr (record {
         before = a;
-        attached = in_filter (λ x. names_number x.provider n) t.consumers a (of_filter keep t.consumers a inside.0).0 inside.1;
+        attached = in_filter (λ x. names_number x.provider n) t.consumers a
+            (of_filter keep t.consumers a inside.0).0 inside.1;
         same = refl;
         wanted = wants a;
       }))
@@ -238,40 +262,50 @@ module _ {C : Type 0} (granted : ℕ → Counts) (t : Topology C) where
   consumer_attached c to quiet =
       let u : Topology C = move_consumer t c to in
       let haves : (p : ℕ) → have granted u p ≡ have granted t p = quiet_attached granted t c to quiet in
-      let wants : (x : Consumer) → want granted u x ≡ want granted t x = λ x. want_from granted t granted u haves x refl in
+      let wants : (x : Consumer) → want granted u x ≡ want granted t x =
+      λ x. want_from granted t granted u haves x refl in
       stays_from granted t granted u AnyConsumer haves (λ x any. wants x)
       (λ x there. inl there)
       (λ n a at.
-      let inside = of_filter (λ x. names_number x.provider n) (change_where (λ x. x.number == c) (λ x. record x { provider = to }) t.consumers) a at in
-      let from = in_map (λ (x : Consumer). if x.number == c then record x { provider = to } else x) t.consumers a inside.0 in
+      let inside =
+      of_filter (λ x. names_number x.provider n)
+      (change_where (λ x. x.number == c) (λ x. record x { provider = to }) t.consumers) a at in
+      let from = in_map (λ (x : Consumer). if x.number == c then record x { provider = to } else x) t.consumers
+      a inside.0 in
       was n a from.0 (from.0.number == c) refl from.1 from.2 inside.1 (wants a))
     where
       was : (n : ℕ) (a x : Consumer) (b : Bool) → (x.number == c) ≡ b → Contains t.consumers x
           → (if x.number == c then record x { provider = to } else x) ≡ a → names_number a.provider n ≡ true
           → want granted (move_consumer t c to) a ≡ want granted t a
-          → (want granted (move_consumer t c to) a ≡ no_counts) ⊎ WasAttached granted t granted (move_consumer t c to) n a
+          → (want granted (move_consumer t c to) a ≡ no_counts)
+          ⊎ WasAttached granted t granted (move_consumer t c to) n a
       was n a x true e there made passes same =
           let changed : record x { provider = to } ≡ a = rw e at made in
-          inl (same ∙ ap (want granted t) (sym changed) ∙ All-contains (λ (y : Consumer). y.number ≡ c → want granted t y ≡ no_counts) t.consumers x quiet there (eqb-true x.number c e))
+          inl (same ∙ ap (want granted t) (sym changed)
+          ∙ All-contains (λ (y : Consumer). y.number ≡ c → want granted t y ≡ no_counts) t.consumers x quiet
+          there (eqb-true x.number c e))
       was n a x false e there made passes same =
           let kept : x ≡ a = rw e at made in
           inr (record {
             before = a;
-            attached = in_filter (λ y. names_number y.provider n) t.consumers a (subst (Contains t.consumers) kept there) passes;
+            attached = in_filter (λ y. names_number y.provider n) t.consumers a
+                (subst (Contains t.consumers) kept there) passes;
             same = refl;
             wanted = same;
           })
 
 module _ {C : Type 0} (granted other : ℕ → Counts) (t : Topology C) where
   -- grants that agree at each consumer
-  pub grants_agree : All (λ c. other c.number ≡ granted c.number) t.consumers → DemandStays granted t other t (Contains t.consumers)
+  pub grants_agree : All (λ c. other c.number ≡ granted c.number) t.consumers
+      → DemandStays granted t other t (Contains t.consumers)
   grants_agree agree =
       let haves : (p : ℕ) → have other t p ≡ have granted t p =
       granted_same granted other t (λ k d h. sym (agree k d h)) in
       let wants : (c : Consumer) → Contains t.consumers c → want other t c ≡ want granted t c =
       λ c there.
       want_from granted t other t haves c
-      (want_given-granted other granted (have granted t) t c (All-contains (λ (x : Consumer). other x.number ≡ granted x.number) t.consumers c agree there)) in
+      (want_given-granted other granted (have granted t) t c
+      (All-contains (λ (x : Consumer). other x.number ≡ granted x.number) t.consumers c agree there)) in
       stays_from granted t other t (Contains t.consumers) haves wants
       (λ x there. inl there)
       (λ n a at. inr (record {
@@ -290,7 +324,13 @@ module _ {C : Type 0} (granted other : ℕ → Counts) (t : Topology C) where
       grants_agree (λ k d h. agree _ (free k d h)) in
       let second : DemandStays other t other (add_consumer t geom (Some p)) AnyConsumer =
       consumer_came other t geom (Some p)
-      (λ attached. granted_wants_nothing other t (record { number = t.next_consumer; geom = geom; provider = Some p; spoiled = false }) none kind) in
+      (λ attached.
+      granted_wants_nothing other t (record {
+        number = t.next_consumer;
+        geom = geom;
+        provider = Some p;
+        spoiled = false;
+      }) none kind) in
       record {
         haves = λ q. second.haves q ∙ first.haves q;
         wants = λ c there. second.wants c tt ∙ first.wants c there;
@@ -312,7 +352,8 @@ module _ {C : Type 0} (granted other : ℕ → Counts) (t : Topology C) where
       let same : x.number ≡ c = eqb-true x.number c (not-false (x.number == c) gone) in
       granted_wants_nothing granted t x (ap granted same ∙ none) (so same))
       t.consumers kind) in
-      let second : DemandStays granted (remove_consumer t c) other (remove_consumer t c) (Contains (remove_consumer t c).consumers) =
+      let second : DemandStays granted (remove_consumer t c) other (remove_consumer t c)
+      (Contains (remove_consumer t c).consumers) =
       grants_agree granted other (remove_consumer t c)
       (All-weaker (λ (x : Consumer). (not (x.number == c)) ≡ true) (λ (x : Consumer). other x.number ≡ granted x.number)
       (λ x stays. agree x.number (λ e. differs x.number c e stays))
@@ -324,3 +365,6 @@ module _ {C : Type 0} (granted other : ℕ → Counts) (t : Topology C) where
         exclusive = λ e. second.exclusive (first.exclusive e);
         limit = λ e. second.limit (first.limit e);
       }
+
+-- what `quiet_consumers_change_nothing` says
+pub ruleset quiet_consumers_change_nothing = (consumer_came, consumer_attached, consumers_went)

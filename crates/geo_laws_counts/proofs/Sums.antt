@@ -24,10 +24,18 @@ add-zero a = counts-same (add_counts a no_counts) a (omega arith) (omega arith) 
 -- sums may be grouped otherwise
 pub add-assoc : (a b c : Counts) → add_counts (add_counts a b) c ≡ add_counts a (add_counts b c)
 add-assoc a b c =
-    counts-same (add_counts (add_counts a b) c) (add_counts a (add_counts b c)) (omega arith) (omega arith) (omega arith)
+    counts-same (add_counts (add_counts a b) c) (add_counts a (add_counts b c)) (omega arith) (omega arith)
+    (omega arith)
+
+-- the parts of a sum may change places
+pub add-move : (a b c : Counts) → add_counts a (add_counts b c) ≡ add_counts b (add_counts a c)
+add-move a b c =
+    counts-same (add_counts a (add_counts b c)) (add_counts b (add_counts a c)) (omega arith) (omega arith)
+    (omega arith)
 
 -- two sums may exchange their parts
-pub add-swap : (a b c d : Counts) → add_counts (add_counts a b) (add_counts c d) ≡ add_counts (add_counts a c) (add_counts b d)
+pub add-swap : (a b c d : Counts)
+    → add_counts (add_counts a b) (add_counts c d) ≡ add_counts (add_counts a c) (add_counts b d)
 add-swap a b c d =
     counts-same (add_counts (add_counts a b) (add_counts c d)) (add_counts (add_counts a c) (add_counts b d))
     (omega arith) (omega arith) (omega arith)
@@ -80,7 +88,8 @@ sum-same f g (x ∷ xs) same =
 pub sum-at_most : {X : Type 0} (f g : X → Counts) (xs : List X) → AllByRecursion (λ x. IsAtMost (f x) (g x)) xs
     → IsAtMost (sum_counts (map f xs)) (sum_counts (map g xs))
 sum-at_most f g [] less = at_most-same no_counts
-sum-at_most f g (x ∷ xs) less = at_most-add (f x) (g x) (sum_counts (map f xs)) (sum_counts (map g xs)) less.0 (sum-at_most f g xs less.1)
+sum-at_most f g (x ∷ xs) less =
+    at_most-add (f x) (g x) (sum_counts (map f xs)) (sum_counts (map g xs)) less.0 (sum-at_most f g xs less.1)
 
 -- the sum of sums
 pub sum-add : {X : Type 0} (f g : X → Counts) (xs : List X)
@@ -94,7 +103,8 @@ sum-add f g (x ∷ xs) =
 pub zero-test : (a : Counts) → is_zero a ≡ true → a ≡ no_counts
 zero-test a h = zero_cases a (a.r == 0) (a.w == 0) (a.e == 0) refl refl refl h
   where
-    zero_cases : (a : Counts) (x y z : Bool) → (a.r == 0) ≡ x → (a.w == 0) ≡ y → (a.e == 0) ≡ z → (x && (y && z)) ≡ true → a ≡ no_counts
+    zero_cases : (a : Counts) (x y z : Bool) → (a.r == 0) ≡ x → (a.w == 0) ≡ y → (a.e == 0) ≡ z
+        → (x && (y && z)) ≡ true → a ≡ no_counts
     zero_cases a true true true r w e h =
         counts-same a no_counts (eqb-true a.r 0 r) (eqb-true a.w 0 w) (eqb-true a.e 0 e)
     zero_cases a true true false r w e h = cc
@@ -112,7 +122,8 @@ zero-add_test a b = add_cases a b (is_zero a) (is_zero b) refl refl
     not_zero a true h so = absurd (so (zero-test a h))
     not_zero a false h so = refl
 
-    add_cases : (a b : Counts) (x y : Bool) → is_zero a ≡ x → is_zero b ≡ y → is_zero (add_counts a b) ≡ (is_zero a && is_zero b)
+    add_cases : (a b : Counts) (x y : Bool) → is_zero a ≡ x → is_zero b ≡ y
+        → is_zero (add_counts a b) ≡ (is_zero a && is_zero b)
     add_cases a b true true x y =
         rw (zero-test a x, zero-test b y) refl
     add_cases a b true false x y =
@@ -120,7 +131,13 @@ zero-add_test a b = add_cases a b (is_zero a) (is_zero b) refl refl
         ∙ sym (ap (λ z. is_zero z && is_zero b) (zero-test a x))
     add_cases a b false y x h =
         not_zero (add_counts a b) (is_zero (add_counts a b)) refl
-        (λ none. let za : a ≡ no_counts = zero-at_most a (record { r = omega (arith, ap (λ (c : Counts). c.r) none); w = omega (arith, ap (λ (c : Counts). c.w) none); e = omega (arith, ap (λ (c : Counts). c.e) none) }) in
+        (λ none. let za : a ≡ no_counts =
+        zero-at_most a (record {
+          r = omega (arith, ap (λ (c : Counts). c.r) none);
+          w =
+              omega (arith, ap (λ (c : Counts). c.w) none);
+          e = omega (arith, ap (λ (c : Counts). c.e) none);
+        }) in
         let t : is_zero a ≡ true = rw za refl in let no : true ≡ false = sym t ∙ x in cc)
         ∙ sym (ap (λ c. c && is_zero b) x)
 

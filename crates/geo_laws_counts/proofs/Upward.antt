@@ -1,5 +1,5 @@
 -- Induction along a graph without loops, from above downwards, and that enough levels are enough.
-use Rattle.std.specs.Prelude.{◌≡◌, ℕ, zero, suc, ◌+◌, ◌-◌, ◌<◌, ◌≤◌, ◌==◌, true, [], map, Option, Some, None, IfSome, IsSomeAnd, length}
+use Rattle.std.specs.Prelude.{◌≡◌, ℕ, zero, suc, ◌+◌, ◌-◌, ◌<◌, ◌≤◌, ◌==◌, [], map, Option, Some, None, IfSome, IsSomeAnd, length}
 use Rattle.std.specs.List.{AllByRecursion}
 use Rattle.std.specs.Option.{option_map_or}
 use Rattle.std.proofs.Common.{refl, sym, ◌∙◌, ap, arith}
@@ -11,12 +11,8 @@ use Rattle.geo_model.specs.Topology.{Topology, Geom, Provider, Consumer, geom_at
 use Rattle.geo_model.specs.Rank.{rank, Ranked}
 use Rattle.geo_model.specs.Demand.{no_counts, sum_counts, want_of_kind, want_given, have_within, have, want}
 use Rattle.geo_model.proofs.DemandLemmas.{map_same, kept_by, find_passes, no_items, all_weaker, rank_within-le, rank_within-positive}
+pub use Rattle.geo_model.proofs.DemandLemmas.{names_some}
 use Rattle.geo_laws_counts.specs.CountWords.{NumbersLead}
-
--- an attached consumer names its provider
-pub names_some : (o : Option ℕ) (p : ℕ) → names_number o p ≡ true → o ≡ Some p
-names_some None p e = cc
-names_some (Some m) p e = ap (λ n. Some n) (eqb-true m p e)
 
 -- the geom that is found has the number that was sought
 pub geom_found : {C : Type 0} (t : Topology C) (n : ℕ) (g : Geom C) → geom_at t n ≡ Some g → g.number ≡ n
@@ -36,7 +32,8 @@ want_over-same H K x t n same (Some g) found =
 
 -- the same for any consumer
 pub want_given-same : {C : Type 0} (granted : ℕ → Counts) (H K : ℕ → Counts) (t : Topology C) (c : Consumer)
-    → AllByRecursion (λ y. H y.number ≡ K y.number) (providers_of t c.geom) → want_given granted H t c ≡ want_given granted K t c
+    → AllByRecursion (λ y. H y.number ≡ K y.number) (providers_of t c.geom)
+    → want_given granted H t c ≡ want_given granted K t c
 want_given-same granted H K t c same =
     want_over-same H K (granted c.number) t c.geom same (geom_at t c.geom) (λ g found. geom_found t c.geom g found)
 
@@ -45,11 +42,13 @@ pub want_given-granted : {C : Type 0} (small large : ℕ → Counts) (H : ℕ �
     → small c.number ≡ large c.number → want_given small H t c ≡ want_given large H t c
 want_given-granted small large H t c same =
     ap
-    (λ x. option_map_or (λ g. want_of_kind g.kind (map (λ p. H p.number) (providers_of t g.number)) x) (geom_at t c.geom) no_counts)
+    (λ x. option_map_or (λ g. want_of_kind g.kind (map (λ p. H p.number) (providers_of t g.number)) x)
+    (geom_at t c.geom) no_counts)
     same
 
 -- a level less above
-level_up : {C : Type 0} (t : Topology C) (n k : ℕ) (high : ℕ) (o : Option Provider) → IfSome o (λ x. n ≤ suc k + rank t x.geom)
+level_up : {C : Type 0} (t : Topology C) (n k : ℕ) (high : ℕ) (o : Option Provider)
+    → IfSome o (λ x. n ≤ suc k + rank t x.geom)
     → IsSomeAnd o (λ x. rank t x.geom < high) → n ≤ k + high
 level_up t n k high None least above = absurd above
 level_up t n k high (Some x) least above = omega (arith, least, above)
@@ -94,12 +93,15 @@ module _ {C : Type 0} (t : Topology C) (ranked : Ranked t) (known : NumbersLead 
   -- a fact of a level and a provider, which follows from that of a level less at all that stands directly above
   pub upward_levels : (P : ℕ → ℕ → Type 0)
       → ((p : ℕ) → attached_to t p ≡ [] → P zero p)
-      → ((k p : ℕ) → AllByRecursion (λ c. AllByRecursion (λ y. P k y.number) (providers_of t c.geom)) (attached_to t p) → P (suc k) p)
+      → ((k p : ℕ)
+      → AllByRecursion (λ c. AllByRecursion (λ y. P k y.number) (providers_of t c.geom)) (attached_to t p)
+      → P (suc k) p)
       → (k p : ℕ) → IfSome (provider_at t p) (λ x. length t.geoms + 1 ≤ k + rank t x.geom) → P k p
   upward_levels P none so zero p least =
       none p
       (no_items (attached_to t p)
-      (all_weaker (λ (c : Consumer). IsSomeAnd (provider_at t p) (λ x. rank t x.geom < rank t c.geom)) (λ (c : Consumer). ⊥)
+      (all_weaker (λ (c : Consumer). IsSomeAnd (provider_at t p) (λ x. rank t x.geom < rank t c.geom))
+      (λ (c : Consumer). ⊥)
       (λ c above. top_level t (rank t c.geom) (provider_at t p) (rank_within-le (length t.geoms) t c.geom) least above)
       (attached_to t p)
       (attached-above t ranked p)))
@@ -108,7 +110,8 @@ module _ {C : Type 0} (t : Topology C) (ranked : Ranked t) (known : NumbersLead 
       (all_weaker (λ (c : Consumer). IsSomeAnd (provider_at t p) (λ x. rank t x.geom < rank t c.geom))
       (λ (c : Consumer). AllByRecursion (λ y. P k y.number) (providers_of t c.geom))
       (λ c above.
-      all_weaker (λ (y : Provider). (provider_at t y.number ≡ Some y) × (y.geom ≡ c.geom)) (λ (y : Provider). P k y.number)
+      all_weaker (λ (y : Provider). (provider_at t y.number ≡ Some y) × (y.geom ≡ c.geom))
+      (λ (y : Provider). P k y.number)
       (λ y h.
       let high : length t.geoms + 1 ≤ k + rank t c.geom =
       level_up t (length t.geoms + 1) k (rank t c.geom) (provider_at t p) least above in
@@ -121,7 +124,8 @@ module _ {C : Type 0} (t : Topology C) (ranked : Ranked t) (known : NumbersLead 
 
   -- a fact of each provider, which follows from that of all that stands directly above
   pub upward : (P : ℕ → Type 0)
-      → ((p : ℕ) → AllByRecursion (λ c. AllByRecursion (λ y. P y.number) (providers_of t c.geom)) (attached_to t p) → P p)
+      → ((p : ℕ) → AllByRecursion (λ c. AllByRecursion (λ y. P y.number) (providers_of t c.geom)) (attached_to t p)
+      → P p)
       → (p : ℕ) → P p
   upward P so p =
       upward_levels (λ k q. P q) (λ q none. so q (rw none tt)) (λ k q above. so q above)
@@ -129,17 +133,22 @@ module _ {C : Type 0} (t : Topology C) (ranked : Ranked t) (known : NumbersLead 
 
   module _ (granted : ℕ → Counts) where
     -- from the level on that covers what can stand above a provider, one level more changes nothing
-    pub more_levels : (k : ℕ) → length t.geoms ≤ k → (p : ℕ) → have_within granted k t p ≡ have_within granted (suc k) t p
+    pub more_levels : (k : ℕ) → length t.geoms ≤ k → (p : ℕ)
+        → have_within granted k t p ≡ have_within granted (suc k) t p
     more_levels k enough p =
         upward_levels (λ l q. have_within granted l t q ≡ have_within granted (suc l) t q)
         (λ q none. rw none refl)
         (λ l q above.
         ap sum_counts
-        (map_same (want_given granted (have_within granted l t) t) (want_given granted (have_within granted (suc l) t) t)
+        (map_same (want_given granted (have_within granted l t) t)
+        (want_given granted (have_within granted (suc l) t) t)
         (attached_to t q)
         (all_weaker
-        (λ (c : Consumer). AllByRecursion (λ y. have_within granted l t y.number ≡ have_within granted (suc l) t y.number) (providers_of t c.geom))
-        (λ (c : Consumer). want_given granted (have_within granted l t) t c ≡ want_given granted (have_within granted (suc l) t) t c)
+        (λ (c : Consumer).
+        AllByRecursion (λ y. have_within granted l t y.number ≡ have_within granted (suc l) t y.number)
+        (providers_of t c.geom))
+        (λ (c : Consumer). want_given granted (have_within granted l t) t c
+        ≡ want_given granted (have_within granted (suc l) t) t c)
         (λ c same. want_given-same granted (have_within granted l t) (have_within granted (suc l) t) t c same)
         (attached_to t q) above)))
         k p (least_level t k enough (provider_at t p))

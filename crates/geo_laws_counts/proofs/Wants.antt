@@ -23,7 +23,8 @@ want_of_sum kinds.Nop s granted = s
 want_of_sum _ s granted = exclusive_over (is_zero s) s
 
 -- it is what the consumer of the class wants
-pub want-sum : (kind : Kind) (haves : List Counts) (granted : Counts) → want_of_kind kind haves granted ≡ want_of_sum kind (sum_counts haves) granted
+pub want-sum : (kind : Kind) (haves : List Counts) (granted : Counts)
+    → want_of_kind kind haves granted ≡ want_of_sum kind (sum_counts haves) granted
 unfolding want_of_sum exclusive_over
 want-sum kinds.Dev haves granted = refl
 want-sum kinds.Taste haves granted = refl
@@ -68,30 +69,38 @@ exclusive-gain : (s d : Counts) (x y : Bool)
 unfolding exclusive_over
 exclusive-gain s d true true =
     counts-same (exclusive_over true (add_counts s d))
-    (add_counts (exclusive_over true s) (add_counts d (record { r = 0; w = 0; e = 0 }))) (omega arith) (omega arith) (omega arith)
+    (add_counts (exclusive_over true s) (add_counts d (record { r = 0; w = 0; e = 0 }))) (omega arith)
+    (omega arith) (omega arith)
 exclusive-gain s d true false =
     counts-same (exclusive_over false (add_counts s d))
-    (add_counts (exclusive_over true s) (add_counts d (record { r = 0; w = 0; e = 1 }))) (omega arith) (omega arith) (omega arith)
+    (add_counts (exclusive_over true s) (add_counts d (record { r = 0; w = 0; e = 1 }))) (omega arith)
+    (omega arith) (omega arith)
 exclusive-gain s d false true =
     counts-same (exclusive_over false (add_counts s d))
-    (add_counts (exclusive_over false s) (add_counts d (record { r = 0; w = 0; e = 0 }))) (omega arith) (omega arith) (omega arith)
+    (add_counts (exclusive_over false s) (add_counts d (record { r = 0; w = 0; e = 0 }))) (omega arith)
+    (omega arith) (omega arith)
 exclusive-gain s d false false =
     counts-same (exclusive_over false (add_counts s d))
-    (add_counts (exclusive_over false s) (add_counts d (record { r = 0; w = 0; e = 0 }))) (omega arith) (omega arith) (omega arith)
+    (add_counts (exclusive_over false s) (add_counts d (record { r = 0; w = 0; e = 0 }))) (omega arith)
+    (omega arith) (omega arith)
 
 -- the same for lists of counts
 exclusive_gain_of : (had gains : List Counts)
-    → exclusive_over (is_zero (add_counts (sum_counts had) (sum_counts gains))) (add_counts (sum_counts had) (sum_counts gains))
+    → exclusive_over (is_zero (add_counts (sum_counts had) (sum_counts gains)))
+    (add_counts (sum_counts had) (sum_counts gains))
     ≡ add_counts (exclusive_over (is_zero (sum_counts had)) (sum_counts had))
-    (add_counts (sum_counts gains) (record { r = 0; w = 0; e = (if list_all is_zero had && not (list_all is_zero gains) then 1 else 0) }))
+    (add_counts (sum_counts gains)
+    (record { r = 0; w = 0; e = (if list_all is_zero had && not (list_all is_zero gains) then 1 else 0) }))
 exclusive_gain_of had gains =
     let s : Counts = sum_counts had in
     let d : Counts = sum_counts gains in
     ap (λ b. exclusive_over b (add_counts s d)) (zero-add_test s d)
     ∙ exclusive-gain s d (is_zero s) (is_zero d)
-    ∙ ap (λ b. add_counts (exclusive_over (is_zero s) s) (add_counts d (record { r = 0; w = 0; e = (if b && not (is_zero d) then 1 else 0) })))
+    ∙ ap (λ b. add_counts (exclusive_over (is_zero s) s)
+    (add_counts d (record { r = 0; w = 0; e = (if b && not (is_zero d) then 1 else 0) })))
     (sym (zeros-sum had))
-    ∙ ap (λ b. add_counts (exclusive_over (is_zero s) s) (add_counts d (record { r = 0; w = 0; e = (if list_all is_zero had && not b then 1 else 0) })))
+    ∙ ap (λ b. add_counts (exclusive_over (is_zero s) s)
+    (add_counts d (record { r = 0; w = 0; e = (if list_all is_zero had && not b then 1 else 0) })))
     (sym (zeros-sum gains))
 
 -- what a consumer of the class wants more

@@ -15,15 +15,18 @@ SeenIsAll C D =
 
 -- so not on errors
 abbrev pub ErrorsAreNotSeen : Type 0 → Type 0
-ErrorsAreNotSeen C = (granted : ℕ → Counts) (t : Topology C) (p : ℕ) → DemandStays granted t granted (set_error t p) AnyConsumer
+ErrorsAreNotSeen C = (granted : ℕ → Counts) (t : Topology C) (p : ℕ)
+    → DemandStays granted t granted (set_error t p) AnyConsumer
 
 -- nor on media sizes
 abbrev pub SizesAreNotSeen : Type 0 → Type 0
-SizesAreNotSeen C = (granted : ℕ → Counts) (t : Topology C) (p size : ℕ) → DemandStays granted t granted (set_size t p size) AnyConsumer
+SizesAreNotSeen C = (granted : ℕ → Counts) (t : Topology C) (p size : ℕ)
+    → DemandStays granted t granted (set_size t p size) AnyConsumer
 
 -- nor on withering
 abbrev pub WitheringIsNotSeen : Type 0 → Type 0
-WitheringIsNotSeen C = (granted : ℕ → Counts) (t : Topology C) (g : ℕ) → DemandStays granted t granted (set_withering t g) AnyConsumer
+WitheringIsNotSeen C = (granted : ℕ → Counts) (t : Topology C) (g : ℕ)
+    → DemandStays granted t granted (set_withering t g) AnyConsumer
 
 -- nor on marks
 abbrev pub MarksAreNotSeen : Type 0 → Type 0
@@ -34,16 +37,19 @@ MarksAreNotSeen C =
 -- nor on configurations, of one geom or of all
 abbrev pub ConfigsAreNotSeen : Type 0 → Type 0
 ConfigsAreNotSeen C =
-    (granted : ℕ → Counts) (t : Topology C) (g : ℕ) (config : C) → DemandStays granted t granted (set_config t g config) AnyConsumer
+    (granted : ℕ → Counts) (t : Topology C) (g : ℕ) (config : C)
+    → DemandStays granted t granted (set_config t g config) AnyConsumer
 
 -- all configurations may be seen otherwise
 abbrev pub OtherConfigsAreNotSeen : Type 0 → Type 0 → Type 0
 OtherConfigsAreNotSeen C D =
-    (granted : ℕ → Counts) (t : Topology C) (see : C → D) → DemandStays granted t granted (with_configs see t) AnyConsumer
+    (granted : ℕ → Counts) (t : Topology C) (see : C → D)
+    → DemandStays granted t granted (with_configs see t) AnyConsumer
 
 -- nor on started requests
 abbrev pub StartsAreNotSeen : Type 0 → Type 0
-StartsAreNotSeen C = (granted : ℕ → Counts) (t : Topology C) (g : ℕ) → DemandStays granted t granted (note_started t g) AnyConsumer
+StartsAreNotSeen C = (granted : ℕ → Counts) (t : Topology C) (g : ℕ)
+    → DemandStays granted t granted (note_started t g) AnyConsumer
 
 -- nor on the next numbers
 abbrev pub NextNumbersAreNotSeen : Type 0 → Type 0
@@ -87,7 +93,8 @@ GoneProvidersChangeNothing C =
 -- a new consumer that isn't attached
 abbrev pub NewConsumersChangeNothing : Type 0 → Type 0
 NewConsumersChangeNothing C =
-    (granted : ℕ → Counts) (t : Topology C) (geom : ℕ) → DemandStays granted t granted (add_consumer t geom None) AnyConsumer
+    (granted : ℕ → Counts) (t : Topology C) (geom : ℕ)
+    → DemandStays granted t granted (add_consumer t geom None) AnyConsumer
 
 -- a new consumer that is attached and wants nothing
 abbrev pub QuietConsumersCome : Type 0 → Type 0

@@ -39,7 +39,8 @@ CountsDependOnAbove C D =
 
 -- a provider to which nothing is attached has no counts
 abbrev pub NothingAttached : Type 0 → Type 0
-NothingAttached C = (granted : ℕ → Counts) (t : Topology C) (p : ℕ) → attached_to t p ≡ [] → have granted t p ≡ no_counts
+NothingAttached C = (granted : ℕ → Counts) (t : Topology C) (p : ℕ) → attached_to t p ≡ []
+    → have granted t p ≡ no_counts
 
 -- a consumer of DEV or TASTE wants what it is granted
 abbrev pub GrantsAreWanted : Type 0 → Type 0

@@ -32,10 +32,12 @@ keep_consumers t test = record t { consumers = filter test t.consumers }
 
 -- with the consumer attached to this provider, or to none (g_attach(9), g_detach(9))
 abbrev pub move_consumer : {C : Type 0} → Topology C → ℕ → Option ℕ → Topology C
-move_consumer t c to = record t { consumers = change_where (λ x. x.number == c) (λ x. record x { provider = to }) t.consumers }
+move_consumer t c to =
+    record t { consumers = change_where (λ x. x.number == c) (λ x. record x { provider = to }) t.consumers }
 
--- what a consumer of a class wants more, from what the providers of its geom had, what each has more, and what is granted more:
--- partition tables, labels, concats and stripes add an exclusive count where none of them had a count and now one has
+-- what a consumer of a class wants more, from what the providers of its geom had, what each has more, and what is
+-- granted more: partition tables, labels, concats and stripes add an exclusive count where none of them had a count
+-- and now one has
 abbrev pub gain_of_kind : Kind → List Counts → List Counts → Counts → Counts
 gain_of_kind kinds.Dev had gains grant = grant
 gain_of_kind kinds.Taste had gains grant = grant
@@ -60,8 +62,8 @@ seen_by_counts t = record {
   consumers = map (λ x. (x.number, x.geom, x.provider)) t.consumers;
 }
 
--- from the one state to the other each provider keeps its counts, each consumer of which a fact holds wants what it wanted,
--- and neither exclusiveness nor the limit begins to fail
+-- from the one state to the other each provider keeps its counts, each consumer of which a fact holds wants what it
+-- wanted, and neither exclusiveness nor the limit begins to fail
 pub record DemandStays {C D : Type 0} (granted : ℕ → Counts) (t : Topology C) (other : ℕ → Counts) (u : Topology D)
     (Of : Consumer → Type 0) : Type 0 where
   pub haves : (p : ℕ) → have other u p ≡ have granted t p
@@ -89,8 +91,8 @@ IsOnlyOne t d = filter (λ x. x.number == d.number) t.consumers ≡ d ∷ []
 abbrev pub kind_at : {C : Type 0} → Topology C → ℕ → Option Kind
 kind_at t g = option_map (λ x. x.kind) (geom_at t g)
 
--- a set of providers with all that stands above them, which is the same in both graphs: the consumers attached, their grants,
--- the classes of their geoms and the providers of these
+-- a set of providers with all that stands above them, which is the same in both graphs: the consumers attached, their
+-- grants, the classes of their geoms and the providers of these
 pub record SameAbove {C D : Type 0} (granted : ℕ → Counts) (t : Topology C) (other : ℕ → Counts) (u : Topology D)
     (Above : ℕ → Type 0) : Type 0 where
   pub attached : (p : ℕ) → Above p → attached_to u p ≡ attached_to t p

@@ -42,7 +42,8 @@ NoneInTheWay granted t cs =
 abbrev pub ExclusiveMeans : Type 0 → Type 0
 ExclusiveMeans C =
     (granted : ℕ → Counts) (t : Topology C)
-    → IsTrue (is_exclusive granted t) ↔ All (λ (x : Provider). NoneInTheWay granted t (attached_to t x.number)) t.providers
+    → IsTrue (is_exclusive granted t)
+    ↔ All (λ (x : Provider). NoneInTheWay granted t (attached_to t x.number)) t.providers
 
 -- the greatest counts that a provider may have
 abbrev pub greatest_counts : Counts
@@ -52,7 +53,8 @@ greatest_counts = record { r = 2147483647; w = 2147483647; e = 2147483647 }
 abbrev pub LimitMeans : Type 0 → Type 0
 LimitMeans C =
     (granted : ℕ → Counts) (t : Topology C)
-    → IsTrue (fits_limit granted t) ↔ All (λ (x : Provider). IsAtMost (have granted t x.number) greatest_counts) t.providers
+    → IsTrue (fits_limit granted t)
+    ↔ All (λ (x : Provider). IsAtMost (have granted t x.number) greatest_counts) t.providers
 
 -- Less demand
 

@@ -2,12 +2,14 @@
 ghost use Rattle.geo_laws_counts.specs.ChangeLaws.{ConfigsAreNotSeen, ErrorsAreNotSeen, GoneGeomsChangeNothing, GoneProvidersChangeNothing, GrantsOfConsumers, MarksAreNotSeen, NewConsumersChangeNothing, NewGeomsChangeNothing, NewProvidersChangeNothing, NextNumbersAreNotSeen, OtherConfigsAreNotSeen, QuietConsumersCome, QuietConsumersGo, QuietConsumersMove, SeenIsAll, SizesAreNotSeen, StartsAreNotSeen, WitheringIsNotSeen};
 
 /// Demand depends on numbers, classes and who is attached where, and on nothing else of a graph.
+#[tactic(auto, using(crate::proofs::SeenCounts::seen_stays, crate::proofs::Unseen::unseen_configs))]
 pub fn seen_is_all<C, D>()
     ensures seen { SeenIsAll C D }
     ensures configs { OtherConfigsAreNotSeen C D }
 {}
 
 /// So errors, media sizes, withering, marks, configurations, started requests and the next numbers leave it.
+#[tactic(auto, using(crate::proofs::Unseen::little_is_seen, crate::proofs::SeenCounts::seen_stays))]
 pub fn little_is_seen<C>()
     ensures errors { ErrorsAreNotSeen C }
     ensures sizes { SizesAreNotSeen C }
@@ -19,6 +21,7 @@ pub fn little_is_seen<C>()
 {}
 
 /// Only the grants of the consumers that stand matter.
+#[tactic(auto, using(crate::proofs::Stays::grants_agree))]
 pub fn grants_are_of_consumers<C>()
     ensures { GrantsOfConsumers C }
 {}
@@ -32,6 +35,7 @@ pub fn bare_parts_change_nothing<C>()
 {}
 
 /// Consumers that want nothing come, are attached and detached, and go without any count changing.
+#[tactic(auto, using(crate::proofs::Stays::quiet_consumers_change_nothing))]
 pub fn quiet_consumers_change_nothing<C>()
     ensures unattached { NewConsumersChangeNothing C }
     ensures come { QuietConsumersCome C }

@@ -1,7 +1,9 @@
 //! Laws of the counts of one state.
 ghost use Rattle.geo_laws_counts.specs.CountLaws.{CountersAreCounts, CountsAreSums, CountsDependOnAbove, EnoughLevels, GrantsAreWanted, NextNumbersAreFree, NothingAbove, NothingAttached, RisingNumbersDiffer, RisingNumbersLead, WantsNothing};
 
-/// In a graph without loops the counts of a provider are the sum of what its consumers want, and enough levels are enough.
+/// In a graph without loops the counts of a provider are the sum of what its consumers want, and enough levels are
+/// enough.
+#[tactic(auto, using(crate::proofs::Upward::have_is_sum, crate::proofs::Upward::enough_levels))]
 pub fn counts_are_sums<C>()
     ensures sums { CountsAreSums C }
     ensures levels { EnoughLevels C }
@@ -13,12 +15,14 @@ pub fn counters_are_counts<C>()
 {}
 
 /// Counts depend only on what stands above the provider.
+#[tactic(auto, using(crate::proofs::Counters::same_above))]
 pub fn counts_depend_on_above<C, D>()
     ensures { CountsDependOnAbove C D }
 {}
 
-/// Who wants nothing: a provider with nothing attached has no counts; a consumer of DEV or TASTE wants its grant; another one
-/// wants nothing where nothing above has a count, and but for one of a disk only there.
+/// Who wants nothing: a provider with nothing attached has no counts; a consumer of DEV or TASTE wants its grant;
+/// another one wants nothing where nothing above has a count, and but for one of a disk only there.
+#[tactic(auto, using(crate::proofs::Counters::nothing_above, crate::proofs::Counters::wants_nothing))]
 pub fn nothing_is_wanted<C>()
     ensures attached { NothingAttached C }
     ensures granted { GrantsAreWanted C }
@@ -26,8 +30,8 @@ pub fn nothing_is_wanted<C>()
     ensures only_there { WantsNothing C }
 {}
 
-/// Where numbers rise, as they do in a sound mesh, each leads to its own provider, no two consumers share one, and the next one is
-/// free: what the laws of counts ask of numbers.
+/// Where numbers rise, as they do in a sound mesh, each leads to its own provider, no two consumers share one, and
+/// the next one is free: what the laws of counts ask of numbers.
 pub fn rising_numbers_lead<C>()
     ensures lead { RisingNumbersLead C }
     ensures differ { RisingNumbersDiffer C }

@@ -1,4 +1,5 @@
-//! Laws of access counts: what counts are, which changes leave them, and what more or less demand does to them (g_access(9)).
+//! Laws of access counts: what counts are, which changes leave them, and what more or less demand does to them
+//! (g_access(9)).
 #![tactic(auto)]
 
 pub mod changes;

@@ -2,6 +2,7 @@
 ghost use Rattle.geo_laws_counts.specs.LimitLaws.{CountsFallWithConsumers, CountsRiseWithGrants, ExclusiveMeans, LessStaysExclusive, LessStaysLimited, LimitMeans, SmallerStaysExclusive, SmallerStaysLimited, WantsFallWithConsumers, WantsRiseWithGrants};
 
 /// No count and no want falls where grants rise, and none rises where consumers are left out.
+#[tactic(auto, using(crate::proofs::Levels::counts_follow_demand))]
 pub fn counts_follow_demand<C>()
     ensures counts { CountsRiseWithGrants C }
     ensures wants { WantsRiseWithGrants C }
@@ -16,6 +17,7 @@ pub fn limits_mean<C>()
 {}
 
 /// With less demand neither exclusiveness nor the limit begins to fail.
+#[tactic(auto, using(crate::proofs::Keeping::less_is_allowed))]
 pub fn less_is_allowed<C>()
     ensures fewer_exclusive { LessStaysExclusive C }
     ensures fewer_limited { LessStaysLimited C }

@@ -33,23 +33,35 @@ module _ {C : Type 0} (small large : ℕ → Counts) (grants : AreAtMost small l
       let ys : List Provider = providers_of t g.number in
       let had : List Counts = map (λ (x : Provider). have small t x.number) ys in
       let has : List Counts = map (λ (x : Provider). have large t x.number) ys in
-      let gains : List Counts = map (λ (x : Provider). more_counts (have small t x.number) (have large t x.number)) ys in
+      let gains : List Counts =
+      map (λ (x : Provider). more_counts (have small t x.number) (have large t x.number)) ys in
       let more : Counts = more_counts (small c.number) (large c.number) in
       let after : want large t c ≡ want_of_kind g.kind has (large c.number) =
-      ap (λ o. option_map_or (λ (k : Geom C). want_of_kind k.kind (map (λ (x : Provider). have large t x.number) (providers_of t k.number)) (large c.number)) o no_counts) found in
+      ap (λ o. option_map_or
+      (λ (k : Geom C).
+      want_of_kind k.kind (map (λ (x : Provider). have large t x.number) (providers_of t k.number))
+      (large c.number)) o no_counts) found in
       let before : want small t c ≡ want_of_kind g.kind had (small c.number) =
-      ap (λ o. option_map_or (λ (k : Geom C). want_of_kind k.kind (map (λ (x : Provider). have small t x.number) (providers_of t k.number)) (small c.number)) o no_counts) found in
+      ap (λ o. option_map_or
+      (λ (k : Geom C).
+      want_of_kind k.kind (map (λ (x : Provider). have small t x.number) (providers_of t k.number))
+      (small c.number)) o no_counts) found in
       let sums : sum_counts has ≡ add_counts (sum_counts had) (sum_counts gains) =
-      sum_of_more (λ (x : Provider). have small t x.number) (λ (x : Provider). have large t x.number) (λ x. have-at_most small large grants t x.number) ys in
+      sum_of_more (λ (x : Provider). have small t x.number) (λ (x : Provider). have large t x.number)
+      (λ x. have-at_most small large grants t x.number) ys in
       after ∙ want-sum g.kind has (large c.number)
       ∙ ap (λ s. want_of_sum g.kind s (large c.number)) sums
-      ∙ ap (want_of_sum g.kind (add_counts (sum_counts had) (sum_counts gains))) (sym (add-more (small c.number) (large c.number) (grants c.number)))
+      ∙ ap (want_of_sum g.kind (add_counts (sum_counts had) (sum_counts gains)))
+      (sym (add-more (small c.number) (large c.number) (grants c.number)))
       ∙ want_of_sum-gain g.kind had gains (small c.number) more
-      ∙ ap (λ a. add_counts a (gain_of_kind g.kind had gains more)) (sym (want-sum g.kind had (small c.number)) ∙ sym before)
+      ∙ ap (λ a. add_counts a (gain_of_kind g.kind had gains more)) (sym (want-sum g.kind had (small c.number))
+      ∙ sym before)
 
   -- what a provider has more is the sum of what its consumers want more
   pub have_gains : Ranked t → NumbersLead t → (p : ℕ)
-      → have large t p ≡ add_counts (have small t p) (sum_counts (map (λ c. more_counts (want small t c) (want large t c)) (attached_to t p)))
+      → have large t p
+      ≡ add_counts (have small t p)
+      (sum_counts (map (λ c. more_counts (want small t c) (want large t c)) (attached_to t p)))
   have_gains ranked known p =
       have_is_sum t ranked known large p
       ∙ sum_of_more (want small t) (want large t) (want-at_most small large grants t) (attached_to t p)

@@ -1,27 +1,23 @@
 -- The order of a walk downwards: no geom twice, each before those under it, and just those that are reached.
-use Rattle.std.specs.Prelude.{◌≡◌, ◌⊎◌, ℕ, zero, suc, ◌<◌, ◌≤◌, ◌==◌, Bool, true, false, ◌||◌, List, [], ◌∷◌, fold, filter_map, flat_map, Option, Some, None, Contains, IfSome, IsSomeAnd, length, if◌then◌else◌}
+use Rattle.std.specs.Prelude.{◌≡◌, ◌⊎◌, ℕ, zero, suc, ◌<◌, ◌≤◌, ◌==◌, Bool, true, false, ◌||◌, List, [], ◌∷◌, fold, filter_map, flat_map, Option, Some, None, Contains, IsSomeAnd, length, if◌then◌else◌}
 use Rattle.std.specs.List.{cons_option}
 use Rattle.std.specs.Option.{option_map, option_map_or}
 use Rattle.std.proofs.Common.{refl, sym, ◌∙◌, ap, subst, arith, inl, inr, eq-eqb}
 use Rattle.std.proofs.lemmas.Bool.{eqb-true}
-use Rattle.geo_model.specs.Topology.{Topology, Provider, Consumer, provider_at, consumers_of, providers_under}
+use Rattle.std.proofs.Math.Bool.{or-true}
+use Rattle.geo_model.specs.Topology.{Topology, Provider, provider_at, providers_under}
 use Rattle.geo_model.specs.Rank.{rank, geoms_under, Ranked}
 use Rattle.geo_model.specs.Opens.{below, below_within}
 use Rattle.geo_model.proofs.DemandLemmas.{rank_within-positive}
-use Rattle.geo_laws_counts.proofs.Members.{in_nothing, in_head, in_tail, in_cases, in_filter_map, in_flat_map, flat_map_cases}
-use Rattle.geo_laws_counts.proofs.LimitFacts.{of_filter}
+use Rattle.geo_laws_counts.proofs.Members.{in_nothing, in_head, in_tail, in_cases, in_filter_map, flat_map_cases}
 use Rattle.geo_laws_demands.specs.WalkWords.{has_number, IsOrder, order_from}
-use Rattle.geo_laws_demands.proofs.Reach.{under_of, below_self, below_closed}
+use Rattle.geo_laws_demands.proofs.Reach.{under_of}
 
 -- Lists of numbers
 
--- a test is true if its second part is
-or_true : (b : Bool) → (b || true) ≡ true
-or_true true = refl
-or_true false = refl
-
 -- the same over one number more
-has_step : (y : ℕ) (ys : List ℕ) (x : ℕ) → (has_number ys x ≡ true → Contains ys x) → (b : Bool) → (y == x) ≡ b → (b || has_number ys x) ≡ true
+has_step : (y : ℕ) (ys : List ℕ) (x : ℕ) → (has_number ys x ≡ true → Contains ys x) → (b : Bool) → (y == x) ≡ b
+    → (b || has_number ys x) ≡ true
     → Contains (y ∷ ys) x
 has_step y ys x so true e h = subst (λ z. Contains (y ∷ ys) z) (eqb-true y x e) (in_head y ys)
 has_step y ys x so false e h = in_tail y ys x (so h)
@@ -37,7 +33,7 @@ contains-has [] x there = absurd (in_nothing x there)
 contains-has (y ∷ ys) x there =
     elim (in_cases y ys x there) [
       | inl same ↦ ap (λ b. b || has_number ys x) (eq-eqb y x same)
-      | inr rest ↦ ap (λ b. (y == x) || b) (contains-has ys x rest) ∙ or_true (y == x)
+      | inr rest ↦ ap (λ b. (y == x) || b) (contains-has ys x rest) ∙ or-true (y == x)
     ]
 
 -- where it finds none, there is none
@@ -53,7 +49,8 @@ not-has xs x none = cases (has_number xs x) refl
     cases false e = refl
 
 -- what each step keeps, a fold keeps
-pub fold_keeps : {A B : Type 0} (Q : B → Type 0) (f : B → A → B) (xs : List A) → ((b : B) (x : A) → Contains xs x → Q b → Q (f b x))
+pub fold_keeps : {A B : Type 0} (Q : B → Type 0) (f : B → A → B) (xs : List A)
+    → ((b : B) (x : A) → Contains xs x → Q b → Q (f b x))
     → (b : B) → Q b → Q (fold f b xs)
 fold_keeps Q f [] keeps b q = q
 fold_keeps Q f (x ∷ xs) keeps b q =
@@ -61,7 +58,8 @@ fold_keeps Q f (x ∷ xs) keeps b q =
 
 -- what a step makes and the others keep, a fold has for each item
 pub fold_has : {A B : Type 0} (Q : A → B → Type 0) (f : B → A → B) → ((b : B) (x y : A) → Q x b → Q x (f b y))
-    → (xs : List A) → ((b : B) (x : A) → Contains xs x → Q x (f b x)) → (b : B) (x : A) → Contains xs x → Q x (fold f b xs)
+    → (xs : List A) → ((b : B) (x : A) → Contains xs x → Q x (f b x)) → (b : B) (x : A) → Contains xs x
+    → Q x (fold f b xs)
 fold_has Q f keeps [] makes b x there = absurd (in_nothing x there)
 fold_has Q f keeps (y ∷ ys) makes b x there =
     elim (in_cases y ys x there) [
@@ -74,7 +72,8 @@ fold_has Q f keeps (y ∷ ys) makes b x there =
 -- the same over one item more
 given_step : {X Y : Type 0} (h : X → Option Y) (x : X) (xs : List X) (y : Y)
     → (Contains (filter_map h xs) y → (z : X) × Contains xs z × (h z ≡ Some y))
-    → (o : Option Y) → h x ≡ o → Contains (cons_option o (filter_map h xs)) y → (z : X) × Contains (x ∷ xs) z × (h z ≡ Some y)
+    → (o : Option Y) → h x ≡ o → Contains (cons_option o (filter_map h xs)) y → (z : X) × Contains (x ∷ xs) z
+    × (h z ≡ Some y)
 given_step h x xs y so None e inside = let found = so inside in (found.0, in_tail x xs found.0 found.1, found.2)
 given_step h x xs y so (Some a) e inside =
     elim (in_cases a (filter_map h xs) y inside) [
@@ -97,7 +96,8 @@ pub record Under {C : Type 0} (t : Topology C) (x h : ℕ) : Type 0 where
   pub geom : offer.geom ≡ h
 
 -- a value that a look-up gives
-mapped_some : (o : Option Provider) (h : ℕ) → option_map (λ (x : Provider). x.geom) o ≡ Some h → (x : Provider) × (o ≡ Some x) × (x.geom ≡ h)
+mapped_some : (o : Option Provider) (h : ℕ) → option_map (λ (x : Provider). x.geom) o ≡ Some h
+    → (x : Provider) × (o ≡ Some x) × (x.geom ≡ h)
 mapped_some None h e = absurd (cc)
 mapped_some (Some x) h e = (x, refl, (cc))
 
@@ -105,18 +105,21 @@ module _ {C : Type 0} (t : Topology C) where
   -- what stands on the list of geoms directly under one
   pub under-is : (x h : ℕ) → Contains (geoms_under t x) h → Under t x h
   under-is x h there =
-      let found = filter_map_cases (λ p. option_map (λ (y : Provider). y.geom) (provider_at t p)) (providers_under t x) h there in
+      let found = filter_map_cases (λ p. option_map (λ (y : Provider). y.geom) (provider_at t p))
+      (providers_under t x) h there in
       let offer = mapped_some (provider_at t found.0) h found.2 in
       record { prov = found.0; below = found.1; offer = offer.0; found = offer.1; geom = offer.2 }
 
   -- and what is directly under one stands on the list
-  pub is-under : (x q : ℕ) (y : Provider) → Contains (providers_under t x) q → provider_at t q ≡ Some y → Contains (geoms_under t x) y.geom
+  pub is-under : (x q : ℕ) (y : Provider) → Contains (providers_under t x) q → provider_at t q ≡ Some y
+      → Contains (geoms_under t x) y.geom
   is-under x q y there found =
       in_filter_map (λ p. option_map (λ (z : Provider). z.geom) (provider_at t p)) (providers_under t x) q y.geom there
       (ap (option_map (λ (z : Provider). z.geom)) found)
 
   -- what is directly under a geom of an order is in it
-  pub order_closed : (xs : List ℕ) → IsOrder t xs → (x h : ℕ) → Contains xs x → Contains (geoms_under t x) h → Contains xs h
+  pub order_closed : (xs : List ℕ) → IsOrder t xs → (x h : ℕ) → Contains xs x → Contains (geoms_under t x) h
+      → Contains xs h
   order_closed [] order x h there under = absurd (in_nothing x there)
   order_closed (y ∷ ys) order x h there under =
       elim (in_cases y ys x there) [
@@ -125,7 +128,8 @@ module _ {C : Type 0} (t : Topology C) where
       ]
 
   -- no geom of an order stands over the first
-  pub order_first : (x : ℕ) (xs : List ℕ) → IsOrder t (x ∷ xs) → (g : ℕ) → Contains (x ∷ xs) g → Contains (geoms_under t g) x → ⊥
+  pub order_first : (x : ℕ) (xs : List ℕ) → IsOrder t (x ∷ xs) → (g : ℕ) → Contains (x ∷ xs) g
+      → Contains (geoms_under t g) x → ⊥
   order_first x xs order g there under =
       elim (in_cases x xs g there) [
         | inl same ↦ order.0 (order.1 x (subst (λ z. Contains (geoms_under t z) x) (sym same) under))
@@ -142,16 +146,19 @@ module _ {C : Type 0} (t : Topology C) where
     within_pick false ys zs old new = new
 
     -- holds of all that is put in front of an order
-    pub order_within : (k x : ℕ) (xs : List ℕ) → P x → ((y : ℕ) → Contains xs y → P y) → (y : ℕ) → Contains (order_from k t x xs) y → P y
+    pub order_within : (k x : ℕ) (xs : List ℕ) → P x → ((y : ℕ) → Contains xs y → P y) → (y : ℕ)
+        → Contains (order_from k t x xs) y → P y
     order_within zero x xs here all y there = all y there
     order_within (suc k) x xs here all y there =
-        elim (in_cases x (fold (λ ys h. if has_number ys h then ys else order_from k t h ys) xs (geoms_under t x)) y there) [
+        elim (in_cases x
+        (fold (λ ys h. if has_number ys h then ys else order_from k t h ys) xs (geoms_under t x)) y there) [
           | inl same ↦ subst P same here
           | inr rest ↦
               fold_keeps (λ zs. (z : ℕ) → Contains zs z → P z)
               (λ ys h. if has_number ys h then ys else order_from k t h ys) (geoms_under t x)
               (λ ys h under old.
-              within_pick (has_number ys h) ys (order_from k t h ys) old (order_within k h ys (closed x h here under) old))
+              within_pick (has_number ys h) ys (order_from k t h ys) old
+              (order_within k h ys (closed x h here under) old))
               xs all y rest
         ]
 
@@ -172,33 +179,40 @@ module _ {C : Type 0} (t : Topology C) where
   -- a geom that is put in front is in it
   order_head : (k x : ℕ) (xs : List ℕ) → 1 ≤ k → Contains (order_from k t x xs) x
   order_head zero x xs some = absurd (omega arith)
-  order_head (suc k) x xs some = in_head x (fold (λ ys h. if has_number ys h then ys else order_from k t h ys) xs (geoms_under t x))
+  order_head (suc k) x xs some =
+      in_head x (fold (λ ys h. if has_number ys h then ys else order_from k t h ys) xs (geoms_under t x))
 
   module _ (ranked : Ranked t) where
     -- what is directly under a geom has a smaller rank
     pub under_lower : (x h : ℕ) → Contains (geoms_under t x) h → rank t h < rank t x
     under_lower x h there =
         let under = under-is x h there in
-        let low : IsSomeAnd (provider_at t under.prov) (λ y. rank t y.geom < rank t x) = under_of t ranked x under.prov under.below in
-        subst (λ g. rank t g < rank t x) under.geom (subst (λ o. IsSomeAnd o (λ (y : Provider). rank t y.geom < rank t x)) under.found low)
+        let low : IsSomeAnd (provider_at t under.prov) (λ y. rank t y.geom < rank t x) =
+        under_of t ranked x under.prov under.below in
+        subst (λ g. rank t g < rank t x) under.geom
+        (subst (λ o. IsSomeAnd o (λ (y : Provider). rank t y.geom < rank t x)) under.found low)
 
     -- the list after one geom more is an order
-    order_pick : (b : Bool) (ys zs : List ℕ) → IsOrder t ys → (b ≡ false → IsOrder t zs) → IsOrder t (if b then ys else zs)
+    order_pick : (b : Bool) (ys zs : List ℕ) → IsOrder t ys → (b ≡ false → IsOrder t zs)
+        → IsOrder t (if b then ys else zs)
     order_pick true ys zs old new = old
     order_pick false ys zs old new = new refl
 
     -- a geom is there after it was looked for
-    head_pick : (ys : List ℕ) (k h : ℕ) → 1 ≤ k → (b : Bool) → has_number ys h ≡ b → Contains (if b then ys else order_from k t h ys) h
+    head_pick : (ys : List ℕ) (k h : ℕ) → 1 ≤ k → (b : Bool) → has_number ys h ≡ b
+        → Contains (if b then ys else order_from k t h ys) h
     head_pick ys k h some true e = has-contains ys h e
     head_pick ys k h some false e = order_head k h ys some
 
     -- what was there stays there
-    kept_pick : (k : ℕ) (ys : List ℕ) (x h : ℕ) (b : Bool) → Contains ys x → Contains (if b then ys else order_from k t h ys) x
+    kept_pick : (k : ℕ) (ys : List ℕ) (x h : ℕ) (b : Bool) → Contains ys x
+        → Contains (if b then ys else order_from k t h ys) x
     kept_pick k ys x h true there = there
     kept_pick k ys x h false there = order_keeps k h ys x there
 
     -- what was there, or has a smaller rank than a geom, goes on to what is directly under
-    at_under : (xs : List ℕ) (x : ℕ) → IsOrder t xs → (z g : ℕ) → Contains xs z ⊎ (rank t z < rank t x) → Contains (geoms_under t z) g
+    at_under : (xs : List ℕ) (x : ℕ) → IsOrder t xs → (z g : ℕ) → Contains xs z ⊎ (rank t z < rank t x)
+        → Contains (geoms_under t z) g
         → Contains xs g ⊎ (rank t g < rank t x)
     at_under xs x order z g at under =
         elim at [
@@ -232,7 +246,8 @@ module _ {C : Type 0} (t : Topology C) where
         omega arith
 
     -- with a geom, and all that is reached from it, an order stays one
-    pub order_stays : (k x : ℕ) (xs : List ℕ) → rank t x ≤ k → IsOrder t xs → (Contains xs x → ⊥) → IsOrder t (order_from k t x xs)
+    pub order_stays : (k x : ℕ) (xs : List ℕ) → rank t x ≤ k → IsOrder t xs → (Contains xs x → ⊥)
+        → IsOrder t (order_from k t x xs)
     order_stays zero x xs high order new = order
     order_stays (suc k) x xs high order new = (
       (λ there. elim (lower_than k x xs order x there) [ inl old ↦ new old | inr less ↦ omega arith ]),
@@ -251,10 +266,13 @@ module _ {C : Type 0} (t : Topology C) where
 -- What is reached downwards
 
 module _ {C : Type 0} (t : Topology C) (P : ℕ → Type 0)
-    (down : (y : ℕ) (x : Provider) (q : ℕ) → P y → provider_at t y ≡ Some x → Contains (providers_under t x.geom) q → P q) where
+    (down : (y : ℕ) (x : Provider) (q : ℕ) → P y → provider_at t y ≡ Some x → Contains (providers_under t x.geom) q
+    → P q) where
   -- a fact that goes on to whatever is directly under holds over one level
-  least_over : (k p : ℕ) → P p → ((r : ℕ) → P r → (y : ℕ) → Contains (below_within k t r) y → P y) → (o : Option Provider) → provider_at t p ≡ o
-      → (y : ℕ) → Contains (p ∷ option_map_or (λ x. flat_map (below_within k t) (providers_under t x.geom)) o []) y → P y
+  least_over : (k p : ℕ) → P p → ((r : ℕ) → P r → (y : ℕ) → Contains (below_within k t r) y → P y)
+      → (o : Option Provider) → provider_at t p ≡ o
+      → (y : ℕ) → Contains (p ∷ option_map_or (λ x. flat_map (below_within k t) (providers_under t x.geom)) o []) y
+      → P y
   least_over k p here more None e y inside =
       elim (in_cases p [] y inside) [ inl same ↦ subst P same here | inr none ↦ absurd (in_nothing y none) ]
   least_over k p here more (Some x) e y inside =
@@ -267,7 +285,11 @@ module _ {C : Type 0} (t : Topology C) (P : ℕ → Type 0)
 
   -- and over all levels
   least_within : (k p : ℕ) → P p → (y : ℕ) → Contains (below_within k t p) y → P y
-  least_within zero p here y there = elim (in_cases p [] y there) [ inl same ↦ subst P same here | inr none ↦ absurd (in_nothing y none) ]
+  least_within zero p here y there = elim (in_cases p [] y there) [
+    | inl same ↦
+        subst P same here
+    | inr none ↦ absurd (in_nothing y none)
+  ]
   least_within (suc k) p here y there = least_over k p here (least_within k) (provider_at t p) refl y there
 
   -- so it holds of all that is reached

@@ -34,7 +34,8 @@ directly_under t d q there attached =
 
 module _ {C : Type 0} (t : Topology C) (ranked : Ranked t) where
   -- the providers directly under a geom have geoms of smaller rank
-  pub under-rank : (n : ℕ) → AllByRecursion (λ p. IsSomeAnd (provider_at t p) (λ x. rank t x.geom < rank t n)) (providers_under t n)
+  pub under-rank : (n : ℕ)
+      → AllByRecursion (λ p. IsSomeAnd (provider_at t p) (λ x. rank t x.geom < rank t n)) (providers_under t n)
   under-rank n =
       mapped_by
       (λ (c : Consumer). IfSome c.provider (λ p. IsSomeAnd (provider_at t p) (λ x. rank t x.geom < rank t n)))
@@ -51,7 +52,8 @@ module _ {C : Type 0} (t : Topology C) (ranked : Ranked t) where
       (recursion_from_All _ t.consumers ranked))
 
   -- a provider directly under a geom is found, and its geom has a smaller rank
-  pub under_of : (n p : ℕ) → Contains (providers_under t n) p → IsSomeAnd (provider_at t p) (λ x. rank t x.geom < rank t n)
+  pub under_of : (n p : ℕ) → Contains (providers_under t n) p
+      → IsSomeAnd (provider_at t p) (λ x. rank t x.geom < rank t n)
   under_of n p there =
       All-contains (λ q. IsSomeAnd (provider_at t q) (λ x. rank t x.geom < rank t n)) (providers_under t n) p
       (All-from_recursion _ (providers_under t n) (under-rank n)) there
@@ -73,7 +75,8 @@ module _ {C : Type 0} (t : Topology C) (ranked : Ranked t) where
 
   -- one step further down from what is reached is reached
   reach_over : (k p y q n : ℕ)
-      → ((r : ℕ) → IfSome (provider_at t r) (λ x. rank t x.geom ≤ k + 1) → Contains (below_within k t r) y → Contains (below_within k t r) q)
+      → ((r : ℕ) → IfSome (provider_at t r) (λ x. rank t x.geom ≤ k + 1) → Contains (below_within k t r) y
+      → Contains (below_within k t r) q)
       → Contains (providers_under t n) q → IsSomeAnd (provider_at t y) (λ x. x.geom ≡ n)
       → (o : Option Provider) → provider_at t p ≡ o → IfSome o (λ x. rank t x.geom ≤ suc k + 1)
       → Contains (p ∷ option_map_or (λ x. flat_map (below_within k t) (providers_under t x.geom)) o []) y
@@ -81,7 +84,8 @@ module _ {C : Type 0} (t : Topology C) (ranked : Ranked t) where
   reach_over k p y q n more direct above None e most reached =
       elim (in_cases p [] y reached) [
         | inl same ↦
-            let here : IsSomeAnd (provider_at t p) (λ x. x.geom ≡ n) = subst (λ r. IsSomeAnd (provider_at t r) (λ x. x.geom ≡ n)) (sym same) above in
+            let here : IsSomeAnd (provider_at t p) (λ x. x.geom ≡ n) =
+            subst (λ r. IsSomeAnd (provider_at t r) (λ x. x.geom ≡ n)) (sym same) above in
             absurd (subst (λ o. IsSomeAnd o (λ (x : Provider). x.geom ≡ n)) e here)
         | inr none ↦ absurd (in_nothing y none)
       ]
@@ -89,7 +93,8 @@ module _ {C : Type 0} (t : Topology C) (ranked : Ranked t) where
       in_tail p (flat_map (below_within k t) (providers_under t x.geom)) q
       (elim (in_cases p (flat_map (below_within k t) (providers_under t x.geom)) y reached) [
         | inl same ↦
-            let here : IsSomeAnd (provider_at t p) (λ x. x.geom ≡ n) = subst (λ r. IsSomeAnd (provider_at t r) (λ x. x.geom ≡ n)) (sym same) above in
+            let here : IsSomeAnd (provider_at t p) (λ x. x.geom ≡ n) =
+            subst (λ r. IsSomeAnd (provider_at t r) (λ x. x.geom ≡ n)) (sym same) above in
             let geom : x.geom ≡ n = subst (λ o. IsSomeAnd o (λ (x : Provider). x.geom ≡ n)) e here in
             in_flat_map (below_within k t) (providers_under t x.geom) q q
             (subst (λ g. Contains (providers_under t g) q) (sym geom) direct) (below_self k t q)
@@ -129,14 +134,18 @@ module _ {C : Type 0} (t : Topology C) (ranked : Ranked t) where
       reach_step (length t.geoms) p y q d (lowest (provider_at t p)) there attached above reached
 
 module _ {C : Type 0} (t : Topology C) (ranked : Ranked t) (known : NumbersLead t) (small large : ℕ → Counts) (c p : ℕ)
-    (others : (n : ℕ) → n ≢ c → small n ≡ large n) (place : All (λ d. d.number ≡ c → d.provider ≡ Some p) t.consumers) where
+    (others : (n : ℕ) → n ≢ c
+    → small n ≡ large n) (place : All (λ d. d.number ≡ c → d.provider ≡ Some p) t.consumers) where
   -- a consumer of what is reached neither by grant nor by counts wants what it wanted
   want_stays : (q : ℕ) (d : Consumer) → (Contains (below t p) q → ⊥) → Contains t.consumers d → d.provider ≡ Some q
-      → AllByRecursion (λ y. (Contains (below t p) y.number → ⊥) → have small t y.number ≡ have large t y.number) (providers_of t d.geom)
+      → AllByRecursion (λ y. (Contains (below t p) y.number → ⊥) → have small t y.number ≡ have large t y.number)
+      (providers_of t d.geom)
       → want small t d ≡ want large t d
   want_stays q d away there attached above =
       let other : d.number ≢ c =
-      (λ e. let at : Some p ≡ Some q = sym (All-contains (λ (x : Consumer). x.number ≡ c → x.provider ≡ Some p) t.consumers d place there e) ∙ attached in
+      (λ e. let at : Some p ≡ Some q =
+      sym (All-contains (λ (x : Consumer). x.number ≡ c → x.provider ≡ Some p) t.consumers d place there e)
+      ∙ attached in
       let same : p ≡ q = cc in away (subst (Contains (below t p)) same (below_self (length t.geoms) t p))) in
       let haves : AllByRecursion (λ y. have small t y.number ≡ have large t y.number) (providers_of t d.geom) =
       all_weaker
@@ -159,7 +168,8 @@ module _ {C : Type 0} (t : Topology C) (ranked : Ranked t) (known : NumbersLead 
       (map_same (want small t) (want large t) (attached_to t q)
       (all_weaker
       (λ (d : Consumer). (Contains t.consumers d × (names_number d.provider q ≡ true))
-      × AllByRecursion (λ y. (Contains (below t p) y.number → ⊥) → have small t y.number ≡ have large t y.number) (providers_of t d.geom))
+      × AllByRecursion (λ y. (Contains (below t p) y.number → ⊥) → have small t y.number ≡ have large t y.number)
+      (providers_of t d.geom))
       (λ (d : Consumer). want small t d ≡ want large t d)
       (λ d h. want_stays q d away h.0.0 (names_some d.provider q h.0.1) h.1)
       (attached_to t q)
@@ -167,7 +177,8 @@ module _ {C : Type 0} (t : Topology C) (ranked : Ranked t) (known : NumbersLead 
       ∙ sym (have_is_sum t ranked known large q))
 
   -- and the consumers attached to it want what they wanted
-  pub wants_stay : (q : ℕ) → (Contains (below t p) q → ⊥) → (d : Consumer) → Contains (attached_to t q) d → want small t d ≡ want large t d
+  pub wants_stay : (q : ℕ) → (Contains (below t p) q → ⊥) → (d : Consumer) → Contains (attached_to t q) d
+      → want small t d ≡ want large t d
   wants_stay q away d there =
       let inside = of_filter (λ x. names_number x.provider q) t.consumers d there in
       want_stays q d away inside.0 (names_some d.provider q inside.1)

@@ -15,14 +15,16 @@ use Rattle.geo_laws_counts.proofs.Stays.{grants_agree}
 use Rattle.geo_laws_demands.proofs.Openers.{below_came}
 
 -- no error comes where no test holds
-none_of : (a b c : Bool) → first_error ((a, ENXIO) ∷ (b, EPERM) ∷ (c, EOVERFLOW) ∷ []) ≡ None → (a ≡ false) × (b ≡ false) × (c ≡ false)
+none_of : (a b c : Bool) → first_error ((a, ENXIO) ∷ (b, EPERM) ∷ (c, EOVERFLOW) ∷ []) ≡ None
+    → (a ≡ false) × (b ≡ false) × (c ≡ false)
 none_of true b c e = cc
 none_of false true c e = cc
 none_of false false true e = cc
 none_of false false false e = (refl, refl, refl)
 
 -- and no test holds where none comes
-of_none : (a b c : Bool) → a ≡ false → b ≡ false → c ≡ false → first_error ((a, ENXIO) ∷ (b, EPERM) ∷ (c, EOVERFLOW) ∷ []) ≡ None
+of_none : (a b c : Bool) → a ≡ false → b ≡ false → c ≡ false
+    → first_error ((a, ENXIO) ∷ (b, EPERM) ∷ (c, EOVERFLOW) ∷ []) ≡ None
 of_none a b c ea eb ec = rw (ea, eb, ec) refl
 
 module _ {C : Type 0} (granted : ℕ → Counts) (t : Topology C) where
@@ -31,16 +33,23 @@ module _ {C : Type 0} (granted : ℕ → Counts) (t : Topology C) where
   allowed p = (
     (λ e.
         let tests = none_of (has_error_below t p) (not (is_exclusive granted t)) (not (fits_limit granted t)) e in
-        record { errors = tests.0; exclusive = not-false (is_exclusive granted t) tests.1; limit = not-false (fits_limit granted t) tests.2 }),
+        record {
+          errors = tests.0;
+          exclusive = not-false (is_exclusive granted t) tests.1;
+          limit =
+              not-false (fits_limit granted t) tests.2;
+        }),
     (λ facts.
         of_none (has_error_below t p) (not (is_exclusive granted t)) (not (fits_limit granted t))
-        facts.errors (not_from_true (is_exclusive granted t) facts.exclusive) (not_from_true (fits_limit granted t) facts.limit)),
+        facts.errors (not_from_true (is_exclusive granted t) facts.exclusive)
+        (not_from_true (fits_limit granted t) facts.limit)),
   )
 
 module _ {C : Type 0} (granted : ℕ → Counts) (t : Topology C) where
   -- the same for an open of a found provider
   open_at : (grant : Counts) (o : Option ℕ)
-      → open_refusal_at granted t o grant ≡ None ↔ IsSomeAnd o (λ p. IsAllowed (with_grant granted t.next_consumer grant) (with_opener t p) p)
+      → open_refusal_at granted t o grant ≡ None
+      ↔ IsSomeAnd o (λ p. IsAllowed (with_grant granted t.next_consumer grant) (with_opener t p) p)
   open_at grant None = ((λ e. cc), (λ none. absurd none))
   open_at grant (Some p) = allowed (with_grant granted t.next_consumer grant) (with_opener t p) p
 
@@ -56,7 +65,8 @@ pub errors_came : {C : Type 0} (t : Topology C) (geom p : ℕ) → providers_of 
 errors_came t geom p bare q = ap (list_any (is_errored t)) (below_came t geom (Some p) bare q)
 
 -- grants that agree with those of an open
-agreed_at : (granted after : ℕ → Counts) (c : ℕ) → AgreeExcept c granted after → (n : ℕ) → after n ≡ with_grant granted c (after c) n
+agreed_at : (granted after : ℕ → Counts) (c : ℕ) → AgreeExcept c granted after → (n : ℕ)
+    → after n ≡ with_grant granted c (after c) n
 agreed_at granted after c agree n =
     elim (cases_eq n c) [
       | inl same ↦ rw (eq-eqb n c same) (ap after same)
@@ -71,7 +81,8 @@ allowed_by granted after t agree p facts =
     record { errors = facts.errors; exclusive = stay.exclusive facts.exclusive; limit = stay.limit facts.limit }
 
 -- the same with the opener at a found provider
-opened_at : {C : Type 0} (granted after : ℕ → Counts) (t : Topology C) → AgreeExcept t.next_consumer granted after → (o : Option ℕ)
+opened_at : {C : Type 0} (granted after : ℕ → Counts) (t : Topology C) → AgreeExcept t.next_consumer granted after
+    → (o : Option ℕ)
     → IsSomeAnd o (λ p. IsAllowed (with_grant granted t.next_consumer (after t.next_consumer)) (with_opener t p) p)
     → IsSomeAnd o (λ p. IsAllowed after (with_opener t p) p)
 opened_at granted after t agree None facts = facts
@@ -85,3 +96,6 @@ pub opened_allowed : {C : Type 0} (granted : ℕ → Counts) (t : Topology C) (a
     → IsSomeAnd (find_provider t name) (λ p. IsAllowed after (with_opener t p) p)
 opened_allowed granted t after name agree e =
     opened_at granted after t agree (find_provider t name) ((open_allowed granted t name (after t.next_consumer)).0 e)
+
+-- what `demands_are_allowed` says
+pub ruleset demands_are_allowed = (allowed, open_allowed, opened_allowed)

@@ -3,6 +3,7 @@ use Rattle.std.specs.Prelude.{◌≡◌, ◌≢◌, ◌⊎◌, ℕ, ◌≤◌, �
 use Rattle.std.proofs.Common.{refl, sym, ◌∙◌, ap, subst, arith, inl, inr}
 use Rattle.std.proofs.lemmas.Bool.{eqb-true, eqb-false, and_parts, not-true, false_from_ne_true, cases_eq}
 use Rattle.std.proofs.lemmas.List.Elements.{All-contains, All-map}
+use Rattle.std.proofs.Math.Bool.{and-not_self, not-and_self}
 use Rattle.geo_base.specs.declared.request.Counts.{Counts}
 use Rattle.geo_model.specs.Topology.{Topology, Provider, Consumer, attached_to}
 use Rattle.geo_model.specs.Demand.{have, want, is_exclusive, fits_limit, risen, fallen}
@@ -31,16 +32,6 @@ is_there (x ∷ xs) n =
             | inr away ↦ inr (λ there. elim (in_cases x xs n there) [ inl same ↦ other same | inr rest ↦ away rest ])
           ]
     ]
-
--- no number is zero and is not
-both_tests : (b : Bool) → (b && not b) ≡ false
-both_tests true = refl
-both_tests false = refl
-
--- in either order
-both_tests_back : (b : Bool) → (not b && b) ≡ false
-both_tests_back true = refl
-both_tests_back false = refl
 
 -- a count that is at most one which is zero is zero
 rises_not : (a b : ℕ) → b ≤ a → ((a == 0) && not (b == 0)) ≡ false
@@ -84,7 +75,8 @@ module _ {C : Type 0} (granted : ℕ → Counts) (t : Topology C) (after : ℕ �
           | inl there ↦ there
           | inr away ↦
               absurd
-              (let same : (have after u x.number).w ≡ (have granted t x.number).w = ap (λ (a : Counts). a.w) (stay x.number away) in
+              (let same : (have after u x.number).w ≡ (have granted t x.number).w =
+              ap (λ (a : Counts). a.w) (stay x.number away) in
               let no : true ≡ false =
               sym e ∙ ap (test (have granted t x.number).w) same ∙ never (have granted t x.number).w in
               (cc))
@@ -97,8 +89,9 @@ module _ {C : Type 0} (granted : ℕ → Counts) (t : Topology C) (after : ℕ �
         (all_of (λ (x : Provider). Contains ns x.number)
         (filter (λ x. ((have granted t x.number).w == 0) && not ((have after u x.number).w == 0)) t.providers)
         (λ x there.
-        changed_in (λ a b. (a == 0) && not (b == 0)) (λ n. both_tests (n == 0)) x
-        (of_filter (λ y. ((have granted t y.number).w == 0) && not ((have after u y.number).w == 0)) t.providers x there).1))
+        changed_in (λ a b. (a == 0) && not (b == 0)) (λ n. and-not_self (n == 0)) x
+        (of_filter (λ y. ((have granted t y.number).w == 0) && not ((have after u y.number).w == 0)) t.providers
+        x there).1))
 
     pub fallen_in : All (Contains ns) (fallen granted t after u)
     fallen_in =
@@ -107,27 +100,35 @@ module _ {C : Type 0} (granted : ℕ → Counts) (t : Topology C) (after : ℕ �
         (all_of (λ (x : Provider). Contains ns x.number)
         (filter (λ x. not ((have granted t x.number).w == 0) && ((have after u x.number).w == 0)) t.providers)
         (λ x there.
-        changed_in (λ a b. not (a == 0) && (b == 0)) (λ n. both_tests_back (n == 0)) x
-        (of_filter (λ y. not ((have granted t y.number).w == 0) && ((have after u y.number).w == 0)) t.providers x there).1))
+        changed_in (λ a b. not (a == 0) && (b == 0)) (λ n. not-and_self (n == 0)) x
+        (of_filter (λ y. not ((have granted t y.number).w == 0) && ((have after u y.number).w == 0)) t.providers
+        x there).1))
 
   -- where only some providers change, it is enough to look at these
   module _ (ns : List ℕ) (stay : StaysAround granted t after u ns) (providers : u.providers ≡ t.providers) where
     pub changed_exclusive : is_exclusive granted t ≡ true
-        → All (λ x. Contains ns x.number → NoneInTheWay after u (attached_to u x.number)) t.providers → is_exclusive after u ≡ true
+        → All (λ x. Contains ns x.number → NoneInTheWay after u (attached_to u x.number)) t.providers
+        → is_exclusive after u ≡ true
     changed_exclusive e facts =
         exclusive_from after u
         (λ x a b there first second other.
         let stood : Contains t.providers x = subst (λ xs. Contains xs x) providers there in
         elim (is_there ns x.number) [
           | inl near ↦
-              All-contains (λ (d : Consumer). a.number ≢ d.number → ((want after u a).w ≡ 0) ⊎ ((want after u d).e ≡ 0)) (attached_to u x.number) b
-              (All-contains (λ (c : Consumer). All (λ (d : Consumer). c.number ≢ d.number → ((want after u c).w ≡ 0) ⊎ ((want after u d).e ≡ 0)) (attached_to u x.number)) (attached_to u x.number) a
-              (All-contains (λ (y : Provider). Contains ns y.number → NoneInTheWay after u (attached_to u y.number)) t.providers x facts stood near)
+              All-contains (λ (d : Consumer). a.number ≢ d.number → ((want after u a).w ≡ 0)
+              ⊎ ((want after u d).e ≡ 0)) (attached_to u x.number) b
+              (All-contains (λ (c : Consumer). All (λ (d : Consumer). c.number ≢ d.number
+              → ((want after u c).w ≡ 0) ⊎ ((want after u d).e ≡ 0)) (attached_to u x.number))
+              (attached_to u x.number) a
+              (All-contains (λ (y : Provider). Contains ns y.number
+              → NoneInTheWay after u (attached_to u y.number)) t.providers x facts stood near)
               first)
               second other
           | inr away ↦
-              let one : Contains (attached_to t x.number) a = subst (λ cs. Contains cs a) (stay.attached x.number away) first in
-              let two : Contains (attached_to t x.number) b = subst (λ cs. Contains cs b) (stay.attached x.number away) second in
+              let one : Contains (attached_to t x.number) a =
+              subst (λ cs. Contains cs a) (stay.attached x.number away) first in
+              let two : Contains (attached_to t x.number) b =
+              subst (λ cs. Contains cs b) (stay.attached x.number away) second in
               elim (apart_from granted t e x a b stood one two other) [
                 | inl w ↦ inl (ap (λ (z : Counts). z.w) (stay.wants x.number away a one) ∙ w)
                 | inr z ↦ inr (ap (λ (y : Counts). y.e) (stay.wants x.number away b two) ∙ z)
@@ -135,12 +136,20 @@ module _ {C : Type 0} (granted : ℕ → Counts) (t : Topology C) (after : ℕ �
         ])
 
     pub changed_limit : fits_limit granted t ≡ true
-        → All (λ x. Contains ns x.number → IsAtMost (have after u x.number) greatest_counts) t.providers → fits_limit after u ≡ true
+        → All (λ x. Contains ns x.number → IsAtMost (have after u x.number) greatest_counts) t.providers
+        → fits_limit after u ≡ true
     changed_limit e facts =
         limit_from after u
         (λ x there.
         let stood : Contains t.providers x = subst (λ xs. Contains xs x) providers there in
         elim (is_there ns x.number) [
-          | inl near ↦ All-contains (λ (y : Provider). Contains ns y.number → IsAtMost (have after u y.number) greatest_counts) t.providers x facts stood near
-          | inr away ↦ subst (λ a. IsAtMost a greatest_counts) (sym (stay.haves x.number away)) (within_limit granted t e x stood)
+          | inl near ↦
+              All-contains (λ (y : Provider). Contains ns y.number
+              → IsAtMost (have after u y.number) greatest_counts) t.providers x facts stood near
+          | inr away ↦
+              subst (λ a. IsAtMost a greatest_counts) (sym (stay.haves x.number away))
+              (within_limit granted t e x stood)
         ])
+
+-- what `rises_and_falls_are_among_changes` says
+pub ruleset rises_and_falls_are_among_changes = (risen_none, fallen_none, risen_in, fallen_in)

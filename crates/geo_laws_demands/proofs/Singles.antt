@@ -10,10 +10,14 @@ use Rattle.geo_laws_demands.specs.DemandLaws.{DiffersAt, StaysAround}
 use Rattle.geo_laws_demands.proofs.Reach.{stays, wants_stay}
 
 -- all else stays
-pub differing_stays : {C : Type 0} (granted other : ℕ → Counts) (t : Topology C) (c p : ℕ) → DiffersAt granted other t c p
+pub differing_stays : {C : Type 0} (granted other : ℕ → Counts) (t : Topology C) (c p : ℕ)
+    → DiffersAt granted other t c p
     → Ranked t → NumbersLead t → StaysAround granted t other t (below t p)
 differing_stays granted other t c p differs ranked known = record {
-  haves = λ q away. sym (stays t ranked known granted other c p (λ n apart. sym (differs.agree n apart)) differs.place q away);
+  haves = λ q away.
+      sym (stays t ranked known granted other c p (λ n apart. sym (differs.agree n apart)) differs.place q away);
   attached = λ q away. refl;
-  wants = λ q away d there. sym (wants_stay t ranked known granted other c p (λ n apart. sym (differs.agree n apart)) differs.place q away d there);
+  wants = λ q away d there.
+      sym (wants_stay t ranked known granted other c p (λ n apart. sym (differs.agree n apart)) differs.place q
+      away d there);
 }

@@ -11,7 +11,8 @@ use Rattle.geo_laws_demands.specs.DemandLaws.{Comes, DiffersAt, Goes, StaysAroun
 
 -- A demand that isn't refused
 
--- nothing refuses a demand above the provider: there is no error below, nobody stands in another's way, no count is too great
+-- nothing refuses a demand above the provider: there is no error below, nobody stands in another's way, no count is
+-- too great
 pub record IsAllowed {C : Type 0} (granted : ℕ → Counts) (t : Topology C) (p : ℕ) : Type 0 where
   pub errors : has_error_below t p ≡ false
   pub exclusive : IsTrue (is_exclusive granted t)
@@ -19,7 +20,8 @@ pub record IsAllowed {C : Type 0} (granted : ℕ → Counts) (t : Topology C) (p
 
 -- a demand isn't refused just where it is allowed in the state in which it stands
 abbrev pub GrantsAreAllowed : Type 0 → Type 0
-GrantsAreAllowed C = (granted : ℕ → Counts) (t : Topology C) (p : ℕ) → grant_refusal granted t p ≡ None ↔ IsAllowed granted t p
+GrantsAreAllowed C = (granted : ℕ → Counts) (t : Topology C) (p : ℕ) → grant_refusal granted t p ≡ None
+    ↔ IsAllowed granted t p
 
 -- and so an open, in the state with its consumer and its grant
 abbrev pub OpensAreAllowed : Type 0 → Type 0

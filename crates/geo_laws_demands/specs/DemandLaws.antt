@@ -15,7 +15,8 @@ ProvidersGain C =
     (small large : ℕ → Counts) → AreAtMost small large → (t : Topology C) → Ranked t → NumbersLead t
     → (p : ℕ)
     → have large t p
-    ≡ add_counts (have small t p) (sum_counts (map (λ c. more_counts (want small t c) (want large t c)) (attached_to t p)))
+    ≡ add_counts (have small t p)
+    (sum_counts (map (λ c. more_counts (want small t c) (want large t c)) (attached_to t p)))
 
 -- what a consumer wants more follows from what its geom's providers had and have more, and its grant
 abbrev pub ConsumersGain : Type 0 → Type 0
@@ -33,7 +34,8 @@ ConsumersGain C =
 abbrev pub WantsDependOnCounts : Type 0 → Type 0 → Type 0
 WantsDependOnCounts C D =
     (granted : ℕ → Counts) (t : Topology C) (other : ℕ → Counts) (u : Topology D) (c : Consumer)
-    → other c.number ≡ granted c.number → kind_at u c.geom ≡ kind_at t c.geom → providers_of u c.geom ≡ providers_of t c.geom
+    → other c.number ≡ granted c.number → kind_at u c.geom ≡ kind_at t c.geom
+    → providers_of u c.geom ≡ providers_of t c.geom
     → All (λ y. have other u y.number ≡ have granted t y.number) (providers_of t c.geom)
     → want other u c ≡ want granted t c
 
@@ -55,11 +57,13 @@ pub record DiffersAt {C : Type 0} (granted other : ℕ → Counts) (t : Topology
   pub place : All (λ d. d.number ≡ c → d.provider ≡ Some p) t.consumers
 
 -- each provider that isn't on the list has the counts and the consumers that it had, and these want what they wanted
-pub record StaysAround {C : Type 0} (granted : ℕ → Counts) (t : Topology C) (other : ℕ → Counts) (u : Topology C) (changed : List ℕ)
+pub record StaysAround {C : Type 0} (granted : ℕ → Counts) (t : Topology C) (other : ℕ
+    → Counts) (u : Topology C) (changed : List ℕ)
     : Type 0 where
   pub haves : (q : ℕ) → (Contains changed q → ⊥) → have other u q ≡ have granted t q
   pub attached : (q : ℕ) → (Contains changed q → ⊥) → attached_to u q ≡ attached_to t q
-  pub wants : (q : ℕ) → (Contains changed q → ⊥) → (c : Consumer) → Contains (attached_to t q) c → want other u c ≡ want granted t c
+  pub wants : (q : ℕ) → (Contains changed q → ⊥) → (c : Consumer) → Contains (attached_to t q) c
+      → want other u c ≡ want granted t c
 
 -- another grant changes only what is reached downwards
 abbrev pub GrantsChangeBelow : Type 0 → Type 0
@@ -77,7 +81,8 @@ pub record Comes {C : Type 0} (granted : ℕ → Counts) (t : Topology C) (after
 abbrev pub ComesQuietly : Type 0 → Type 0
 ComesQuietly C =
     (granted : ℕ → Counts) (t : Topology C) (after : ℕ → Counts) (geom p : ℕ) → Comes granted t after geom
-    → after t.next_consumer ≡ no_counts → DemandStays granted t after (add_consumer t geom (Some p)) (Contains t.consumers)
+    → after t.next_consumer ≡ no_counts
+    → DemandStays granted t after (add_consumer t geom (Some p)) (Contains t.consumers)
 
 -- with one no count falls
 abbrev pub ComingRaises : Type 0 → Type 0
@@ -95,7 +100,8 @@ ComingChangesBelow C =
 -- a new consumer of a geom without providers changes nothing below
 abbrev pub ComingKeepsBelow : Type 0 → Type 0
 ComingKeepsBelow C =
-    (t : Topology C) (geom p : ℕ) → providers_of t geom ≡ [] → (q : ℕ) → below (add_consumer t geom (Some p)) q ≡ below t q
+    (t : Topology C) (geom p : ℕ) → providers_of t geom ≡ [] → (q : ℕ)
+    → below (add_consumer t geom (Some p)) q ≡ below t q
 
 -- nor whether an error is below
 abbrev pub ComingKeepsErrors : Type 0 → Type 0
@@ -111,7 +117,8 @@ ComingProvidersGain C =
     → have after (add_consumer t geom (Some p)) q
     ≡ add_counts (have granted t q)
     (add_counts
-    (sum_counts (map (λ c. more_counts (want granted t c) (want after (add_consumer t geom (Some p)) c)) (attached_to t q)))
+    (sum_counts (map (λ c. more_counts (want granted t c) (want after (add_consumer t geom (Some p)) c))
+    (attached_to t q)))
     (if p == q then after t.next_consumer else no_counts))
 
 -- what a consumer gains follows from what its geom's providers had and gain
@@ -123,7 +130,8 @@ ComingConsumersGain C =
     ≡ add_counts (want granted t c)
     (gain_of_kind g.kind
     (map (λ x. have granted t x.number) (providers_of t g.number))
-    (map (λ x. more_counts (have granted t x.number) (have after (add_consumer t geom (Some p)) x.number)) (providers_of t g.number))
+    (map (λ x. more_counts (have granted t x.number) (have after (add_consumer t geom (Some p)) x.number))
+    (providers_of t g.number))
     no_counts)
 
 -- a consumer of DEV or TASTE goes; the other grants stay
@@ -167,7 +175,8 @@ GoingProvidersLose C =
     ≡ add_counts (have after (remove_consumer t d.number) q)
     (add_counts
     (sum_counts
-    (map (λ c. more_counts (want after (remove_consumer t d.number) c) (want granted t c)) (attached_to (remove_consumer t d.number) q)))
+    (map (λ c. more_counts (want after (remove_consumer t d.number) c) (want granted t c))
+    (attached_to (remove_consumer t d.number) q)))
     (if p == q then granted d.number else no_counts))
 
 -- what a consumer loses follows from what its geom's providers keep and lose
@@ -179,5 +188,6 @@ GoingConsumersLose C =
     ≡ add_counts (want after (remove_consumer t d.number) c)
     (gain_of_kind g.kind
     (map (λ x. have after (remove_consumer t d.number) x.number) (providers_of t g.number))
-    (map (λ x. more_counts (have after (remove_consumer t d.number) x.number) (have granted t x.number)) (providers_of t g.number))
+    (map (λ x. more_counts (have after (remove_consumer t d.number) x.number) (have granted t x.number))
+    (providers_of t g.number))
     no_counts)

@@ -19,7 +19,8 @@ IsOrder t (x ∷ xs) = (Contains xs x → ⊥) × ((h : ℕ) → Contains (geoms
 -- with a geom, and over so many levels all that is reached downwards from it, in front of the geoms that are there
 abbrev pub order_from : {C : Type 0} → ℕ → Topology C → ℕ → List ℕ → List ℕ
 order_from zero t x xs = xs
-order_from (suc levels) t x xs = x ∷ fold (λ ys h. if has_number ys h then ys else order_from levels t h ys) xs (geoms_under t x)
+order_from (suc levels) t x xs =
+    x ∷ fold (λ ys h. if has_number ys h then ys else order_from levels t h ys) xs (geoms_under t x)
 
 -- the counts, each at most the greatest number of 32 bits
 abbrev pub cap : Counts → Counts
@@ -34,8 +35,10 @@ abbrev pub hand_at : Counts → (ℕ → Counts) → Consumer → ℕ → Counts
 hand_at gain gains c = option_map_or (λ q. set_at gains q (cap (add_counts (gains q) gain))) c.provider gains
 
 -- what providers and consumers gain by what the provider p gains first; only consumers of the geoms of the list gain
-pub record Flow {C : Type 0} (t : Topology C) (p : ℕ) (first : Counts) (gain : ℕ → Counts) (more : Consumer → Counts) (order : List ℕ) : Type 0 where
-  pub sums : (q : ℕ) → gain q ≡ add_counts (if p == q then first else no_counts) (sum_counts (map more (attached_to t q)))
+pub record Flow {C : Type 0} (t : Topology C) (p : ℕ) (first : Counts) (gain : ℕ → Counts) (more : Consumer
+    → Counts) (order : List ℕ) : Type 0 where
+  pub sums : (q : ℕ)
+      → gain q ≡ add_counts (if p == q then first else no_counts) (sum_counts (map more (attached_to t q)))
   pub around : (c : Consumer) → Contains t.consumers c → (Contains order c.geom → ⊥) → more c ≡ no_counts
 
 -- what a provider has gained so far, while the consumers of these geoms haven't

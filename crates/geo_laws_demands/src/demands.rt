@@ -1,9 +1,11 @@
 //! Laws of a demand that comes or goes at a provider.
 ghost use Rattle.geo_laws_demands.specs.DemandLaws.{BelowBeginsAtIt, BelowIsClosed, ComesQuietly, ComingChangesBelow, ComingConsumersGain, ComingKeepsBelow, ComingKeepsErrors, ComingProvidersGain, ComingRaises, ConsumersGain, GoesQuietly, GoingChangesBelow, GoingConsumersLose, GoingKeepsBelow, GoingLowers, GoingProvidersLose, GrantsChangeBelow, ProvidersGain, WantsDependOnCounts};
 
-/// Where grants rise, a provider gains the sum of what its consumers gain, and a consumer what its class makes of what its
-/// geom's providers gain: partition tables, labels, concats and stripes add an exclusive count at the first demand above.
-/// Read backwards, where grants fall, they lose as much, and the exclusive count goes with the last demand.
+/// Where grants rise, a provider gains the sum of what its consumers gain, and a consumer what its class makes of
+/// what its geom's providers gain: partition tables, labels, concats and stripes add an exclusive count at the first
+/// demand above. Read backwards, where grants fall, they lose as much, and the exclusive count goes with the last
+/// demand.
+#[tactic(auto, using(crate::proofs::Gains::have_gains, crate::proofs::Gains::want_gains))]
 pub fn grants_gain<C>()
     ensures providers { ProvidersGain C }
     ensures consumers { ConsumersGain C }
@@ -25,8 +27,8 @@ pub fn grants_change_below<C>()
     ensures { GrantsChangeBelow C }
 {}
 
-/// A consumer of DEV or TASTE that comes with a grant: no count falls, and only those reached downwards rise, each by the sum of
-/// what its consumers gain.
+/// A consumer of DEV or TASTE that comes with a grant: no count falls, and only those reached downwards rise, each by
+/// the sum of what its consumers gain.
 pub fn demand_comes<C>()
     ensures quietly { ComesQuietly C }
     ensures raises { ComingRaises C }
@@ -37,8 +39,9 @@ pub fn demand_comes<C>()
     ensures consumers { ComingConsumersGain C }
 {}
 
-/// A consumer of DEV or TASTE that goes with its grant: no count rises, and only those reached downwards fall, each by the sum of
-/// what its consumers lose.
+/// A consumer of DEV or TASTE that goes with its grant: no count rises, and only those reached downwards fall, each
+/// by the sum of what its consumers lose.
+#[tactic(auto, using(crate::proofs::Openers::demand_goes))]
 pub fn demand_goes<C>()
     ensures quietly { GoesQuietly C }
     ensures lowers { GoingLowers C }

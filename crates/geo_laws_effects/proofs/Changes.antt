@@ -1,6 +1,7 @@
 -- The changes of one thing by which a graph comes to less.
 use Rattle.std.specs.Prelude.{◌+◌, ◌≡◌, ◌⊎◌, ℕ, ◌==◌, Bool, true, false, List, [], ◌∷◌, length, find, Option, Some, None, Contains, IsSome, MatchOption, option_map, if◌then◌else◌}
 use Rattle.std.proofs.Common.{inl, inr, refl, sym, ◌∙◌, ap, subst}
+use Rattle.geo_base.proofs.Tests.{is_some-map}
 use Rattle.geo_model.specs.Words.{change_where}
 use Rattle.geo_model.specs.Topology.{Topology, Geom, Provider, Consumer, consumer_at, providers_of, consumers_of, set_error, set_withering, set_marks, note_started}
 use Rattle.geo_model.specs.Rank.{rank}
@@ -35,18 +36,13 @@ changed-origin {X} hit change R self new (x ∷ xs) y here =
     by true = new x
     by false = self x
 
--- there is something after a change of it
-map_there : {X : Type 0} (f : X → X) (o : Option X) → IsSome o → IsSome (option_map f o)
-map_there f None there = there
-map_there f (Some x) there = refl
-
 -- what is found is still found where items are changed
 pub changed-there : {X : Type 0} (hit : X → Bool) (change : X → X) (test : X → Bool)
     → ((x : X) → hit x ≡ true → test (change x) ≡ test x)
     → (xs : List X) → IsSome (find test xs) → IsSome (find test (change_where hit change xs))
 changed-there hit change test same xs there =
     subst (λ o. IsSome o) (sym (find-changed hit change test same xs))
-    (map_there (changed hit change) (find test xs) there)
+    (is_some-map (changed hit change) (find test xs) ∙ there)
 
 module _ (w : World) (u : Topology Config) (less : IsLess w u) where
   -- an error at a provider

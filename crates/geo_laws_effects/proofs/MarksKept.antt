@@ -3,7 +3,7 @@ use Rattle.std.specs.Prelude.{◌≡◌, ◌⊎◌, ℕ, ◌==◌, Bool, true, f
 use Rattle.std.specs.List.{AllByRecursion}
 use Rattle.std.specs.Option.{option_map_or}
 use Rattle.std.proofs.Common.{inl, inr, refl, sym, ◌∙◌, ap, subst}
-use Rattle.std.proofs.lemmas.Bool.{eqb-true}
+use Rattle.std.proofs.lemmas.Bool.{eqb-true, or_from}
 use Rattle.std.proofs.lemmas.List.Elements.{All-contains, All-weaker, All-push, All-tail, All-from_recursion}
 use Rattle.geo_base.specs.declared.kind.Kind.{Kind}
 use Rattle.geo_base.specs.declared.kind.Kind.TheVariants as kinds
@@ -25,6 +25,7 @@ use Rattle.geo_laws_effects.specs.EffectLaws.{Lives, QueuesKeepFirm, KillsKeepFi
 use Rattle.geo_laws_less.proofs.Found.{found-with}
 use Rattle.geo_laws_less.proofs.Less.{less-self}
 use Rattle.geo_laws_less.proofs.LessFitting.{less-firm}
+pub use Rattle.geo_laws_less.proofs.LessLooks.{from_false_true as not_set}
 use Rattle.geo_laws_effects.proofs.Changes.{less-marks}
 use Rattle.geo_laws_effects.proofs.Killed.{killed-firm, all_killed-firm}
 
@@ -132,10 +133,6 @@ three_false true true c e = e
 three_false true false c e = refl
 three_false false b c e = refl
 
--- neither is none
-neither : (a b : Bool) → a ≡ false → b ≡ false → (a || b) ≡ false
-neither a b e f = rw (e, f) refl
-
 -- a consumer of DEV isn't to spoil
 not_to_spoil : (w : World) → Firm w → (p : ℕ) (c : Consumer) → c.geom ≡ 1
     → is_to_spoil (granted_in w) w.topology p c ≡ false
@@ -149,7 +146,7 @@ not_to_spoil w firm p c own =
     (option_map_or (λ (x : Geom Config). x.automatic || is_kind x.kind kinds.Taste) (geom_at w.topology c.geom) false)
     (ap (λ (o : Option (Geom Config)). option_map_or (λ (x : Geom Config). x.automatic || is_kind x.kind kinds.Taste)
     o false) g.is
-    ∙ neither g.item.automatic (is_kind g.item.kind kinds.Taste) (made-at w firm c.geom g.item (inl own) g.is) kind)
+    ∙ or_from g.item.automatic (is_kind g.item.kind kinds.Taste) (made-at w firm c.geom g.item (inl own) g.is) kind)
 
 -- the marks of a spoil
 pub spoiled-firm : (w : World) (p : ℕ) → Firm w
@@ -166,10 +163,6 @@ pub announced-firm : (w : World) (p : ℕ) → Lives w p → Firm w
 announced-firm w p lives firm =
     posted-firm (record w { topology = mark_spoiled (granted_in w) w.topology p }) (events.Spoil p) lives
     (spoiled-firm w p firm)
-
--- a mark that is taken isn't set
-pub not_set : {A : Type 0} → false ≡ true → A
-not_set e = absurd (let no : ⊥ = cc in no)
 
 -- the class with TASTE's number is TASTE
 pub taste_kind : (kind : Kind) → is_kind kind kinds.Taste ≡ true → kind ≡ kinds.Taste

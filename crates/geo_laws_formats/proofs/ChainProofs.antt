@@ -2,6 +2,7 @@
 use Rattle.std.specs.Prelude.{◌==◌, nat_lt, is_some, All, AllPairs, if◌then◌else◌}
 use Rattle.std.specs.List.{list_any}
 use Rattle.std.proofs.Common.{◌≡◌, ◌≢◌, ℕ, suc, ◌+◌, ◌<◌, ◌≤◌, Bool, true, false, ◌||◌, List, [], ◌∷◌, ◌++◌, length, Some, None, Ok, refl, sym, ap, ◌∙◌, arith, append_assoc, length-append, inl, inr}
+use Rattle.std.proofs.Math.Bool.{or-true}
 use Rattle.std.proofs.lemmas.Bool.{cases_Bool, eq-eqb, eqb-false, ltb-false, ne_eqb, or_from, or_parts}
 use Rattle.std.proofs.lemmas.List.Elements.{All-cons, All-head, All-nil, All-tail}
 use Rattle.std.proofs.lemmas.List.Folds.{list_any-append}
@@ -13,11 +14,6 @@ use Rattle.geo_model.specs.Records.{entry_start, entry_type, u32_at}
 use Rattle.geo_laws_formats.specs.ChainLaws.{ChainsAreRead, IsTableOf}
 use Rattle.geo_laws_formats.proofs.ChainTests.{link_at, and_link, GoesOn}
 use Rattle.geo_laws_formats.proofs.ChainWalks.{Walk, walk-read, read-walk}
-
--- a test that one more passes
-or_true : (b : Bool) → (b || true) ≡ true
-or_true true = refl
-or_true false = refl
 
 -- what is against a partition: its first sector or its size is 0, or its end is past the media
 abbrev is_out : ℕ → ℕ → ℕ → ℕ → Bool
@@ -93,7 +89,7 @@ module _ (media : ℕ → List ℕ) (n : ℕ) where
   was_read-last links sector =
       list_any-append (λ (l : LinkRead). l.sector == sector) links (link_at media n sector ∷ [])
       ∙ ap (λ b. list_any (λ (l : LinkRead). l.sector == sector) links || (b || false)) (eq-eqb sector sector refl)
-      ∙ or_true (list_any (λ (l : LinkRead). l.sector == sector) links)
+      ∙ or-true (list_any (λ (l : LinkRead). l.sector == sector) links)
 
   goes-apart : (rest : List ℕ) (links : List LinkRead) (sector : ℕ) → GoesOn media n links sector rest
       → AllPairs (λ a b. a ≢ b) (sector ∷ rest)

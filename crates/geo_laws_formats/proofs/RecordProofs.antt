@@ -1,35 +1,22 @@
 -- Records that are declined for their place or their stripe size.
 use Rattle.std.proofs.Common.{◌≡◌, ℕ, ◌%◌, Bool, true, false, not, ◌&&◌, List, [], ◌∷◌, ◌++◌, length, Option, Some, None, Err, refl, ap, ◌∙◌, arith, inl, inr}
+use Rattle.std.proofs.Math.Bool.{and-false}
 use Rattle.std.proofs.lemmas.Bool.{le-leb, lt-leb, lt-ltb, le-ltb, ne_eqb}
 use Rattle.std.specs.Prelude.{nat_le, nat_lt}
 use Rattle.geo_base.specs.declared.decline.DeclineCause.{DeclineCause}
 use Rattle.geo_base.specs.declared.decline.DeclineCause.TheVariants as causes
 use Rattle.geo_model.specs.Words.{first_error, unless}
+use Rattle.geo_model.proofs.RecordLemmas.{append-errors}
 use Rattle.geo_model.specs.Records.{head_tests, concat_magic, concat_tests, stripe_magic, stripe_tests, size_test, is_stripe_size, u16_at, u32_at}
 use Rattle.geo_laws_formats.specs.RecordLaws.{IsNoPlace, IsPlace, IsNoStripeSize, ConcatPlacesAreJudged, StripePlacesAreJudged, StripeSizesAreJudged}
-
--- tests behind tests of which none holds
-row-errors : {E : Type 0} (row : Bool × E) (xs ys : List (Bool × E)) (b : Bool) → row.0 ≡ b
-    → first_error (row ∷ xs) ≡ None
-    → (first_error xs ≡ None → first_error (xs ++ ys) ≡ first_error ys) → first_error (row ∷ xs ++ ys) ≡ first_error ys
-row-errors row xs ys true t e rest = let no : Some row.1 ≡ None = rw t at e in cc
-row-errors row xs ys false t e rest = rw t (rest (rw t at e))
-
-append-errors : {E : Type 0} (xs ys : List (Bool × E)) → first_error xs ≡ None → first_error (xs ++ ys) ≡ first_error ys
-append-errors [] ys e = refl
-append-errors (row ∷ xs) ys e = row-errors row xs ys row.0 refl e (append-errors xs ys)
-
-and_false : (a : Bool) → (a && false) ≡ false
-and_false true = refl
-and_false false = refl
 
 -- the test of a place that is none
 no_place : (place count : ℕ) → IsNoPlace place count
     → (nat_le 1 count && (nat_le count 16 && nat_lt place count)) ≡ false
 no_place place count (inl none) = rw (lt-leb 1 count (omega (arith, none))) refl
-no_place place count (inr (inl many)) = rw (lt-leb count 16 many) (and_false (nat_le 1 count))
+no_place place count (inr (inl many)) = rw (lt-leb count 16 many) (and-false (nat_le 1 count))
 no_place place count (inr (inr outside)) =
-    rw (le-ltb place count outside, and_false (nat_le count 16)) (and_false (nat_le 1 count))
+    rw (le-ltb place count outside, and-false (nat_le count 16)) (and-false (nat_le 1 count))
 
 some_place : (place count : ℕ) → IsPlace place count
     → (nat_le 1 count && (nat_le count 16 && nat_lt place count)) ≡ true
@@ -38,9 +25,9 @@ some_place place count p = rw (le-leb 1 count p.some, le-leb count 16 p.few, lt-
 -- the test of a stripe size that is none
 no_stripe_size : (stripe sector : ℕ) → IsNoStripeSize stripe sector → is_stripe_size stripe sector ≡ false
 no_stripe_size stripe sector (inl none) = rw (lt-leb 1 stripe (omega (arith, none))) refl
-no_stripe_size stripe sector (inr (inl large)) = rw (lt-leb stripe 32768 large) (and_false (nat_le 1 stripe))
+no_stripe_size stripe sector (inr (inl large)) = rw (lt-leb stripe 32768 large) (and-false (nat_le 1 stripe))
 no_stripe_size stripe sector (inr (inr torn)) =
-    rw (ne_eqb (stripe % sector) 0 torn, and_false (nat_le stripe 32768)) (and_false (nat_le 1 stripe))
+    rw (ne_eqb (stripe % sector) 0 torn, and-false (nat_le stripe 32768)) (and-false (nat_le 1 stripe))
 
 -- the first test behind a head in order
 first_behind : (head : List (Bool × DeclineCause)) (b : Bool) (cause : DeclineCause) (rest : List (Bool × DeclineCause))

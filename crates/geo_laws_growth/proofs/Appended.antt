@@ -1,6 +1,7 @@
 -- What an append that isn't refused keeps of ranks and counts.
 use Rattle.std.specs.Prelude.{◌≡◌, ℕ, ◌+◌, Bool, true, false, ◌∷◌, [], length, Option, Some, None, IsSome}
 use Rattle.std.proofs.Common.{refl, sym, ◌∙◌, subst}
+use Rattle.std.proofs.lemmas.Bool.{false_from_ne_true}
 use Rattle.geo_base.specs.declared.errno.Errno.TheVariants.{ENXIO, ELOOP, EDEEP}
 use Rattle.geo_model.specs.Words.{first_error}
 use Rattle.geo_model.specs.Topology.{Topology, Provider, geom_at, provider_at, consumer_at, is_errored, add_consumer, attach, set_config}
@@ -35,11 +36,6 @@ is_there o x e = rw e refl
 not_refused : (a b c : Bool) → a ≡ false → b ≡ false → c ≡ false
     → first_error ((a, ENXIO) ∷ (b, ELOOP) ∷ (c, EDEEP) ∷ []) ≡ None
 not_refused a b c ea eb ec = rw (ea, eb, ec) refl
-
--- a test that fails of all that a list contains fails of each
-fails_of_each : (b : Bool) → (b ≡ true → ⊥) → b ≡ false
-fails_of_each true never = absurd (never refl)
-fails_of_each false never = refl
 
 module _ (w : World) (x : Growing) (q : Provider) where
   -- the graph with the new consumer, not yet attached
@@ -103,7 +99,7 @@ module _ (w : World) (x : Growing) (q : Provider) where
       -- the provider itself carries no error
       no_own_error : is_errored t q.number ≡ false
       no_own_error =
-          fails_of_each (is_errored t q.number)
+          false_from_ne_true (is_errored t q.number)
           (λ bad.
           let some : has_error_below t q.number ≡ true =
           any-contained (is_errored t) (below t q.number) q.number (below_self (length t.geoms) t q.number) bad in

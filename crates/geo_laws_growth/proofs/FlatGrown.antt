@@ -1,7 +1,7 @@
 -- Across an append each offset lies in the end where it lay.
 use Rattle.std.specs.Prelude.{◌≡◌, ◌⊎◌, ℕ, suc, ◌+◌, ◌<◌, ◌==◌, Bool, true, false, ◌&&◌, length, Option, Some, None, All, Contains, IsSome, IsSomeAnd, IsTrue}
 use Rattle.std.proofs.Common.{refl, sym, ◌∙◌, ap, subst, arith, inl, inr}
-use Rattle.std.proofs.lemmas.Bool.{and_from, cases_eq}
+use Rattle.std.proofs.lemmas.Bool.{and_from, cases_eq, false_from_ne_true}
 use Rattle.std.proofs.lemmas.List.Elements.{All-contains}
 use Rattle.geo_model.specs.Words.{◌>>=◌}
 use Rattle.geo_model.specs.Topology.{Geom, Provider, Consumer, geom_at, provider_at, is_errored, is_withering}
@@ -94,15 +94,6 @@ module _ (w : World) (x : Growing) (q : Provider) (found : IsFoundGrowing w.topo
 
 -- What is laid
 
--- a truth value is one of two
-either : (b : Bool) → (b ≡ true) ⊎ (b ≡ false)
-either true = inl refl
-either false = inr refl
-
--- none holds of what a list contains where it holds of none
-none_of_them : {X : Type 0} (test : X → Bool) (x : X) → (test x ≡ true → ⊥) → test x ≡ false
-none_of_them test x never = elim (either (test x)) [ inl holds ↦ absurd (never holds) | inr fails ↦ fails ]
-
 module _ (w : World) (sound : Sound w) (p : ℕ) (clean : has_error_below w.topology p ≡ false) where
   -- a provider that is reached carries no error
   no_error : (r : ℕ) → Contains (below w.topology p) r → (y : Provider) → provider_at w.topology r ≡ Some y
@@ -141,7 +132,7 @@ module _ (w : World) (sound : Sound w) (p : ℕ) (clean : has_error_below w.topo
       (λ here. IsSome (disk_of here.1.config) ⊎ IsPlaced w.topology here.1 here.0)
   laid_with r there y found None of leads = absurd leads
   laid_with r there y found (Some g) of leads =
-      leads (inr (none_of_them (λ (z : Geom Config). z.withering) g (no_withering r there y found g of)))
+      leads (inr (false_from_ne_true g.withering (no_withering r there y found g of)))
 
   -- where it stands
   laid_at : (r : ℕ) → Contains (below w.topology p) r → (o : Option Provider) → provider_at w.topology r ≡ o

@@ -13,7 +13,7 @@ use Rattle.geo_laws_graph.proofs.Numbered.{unique}
 use Rattle.geo_laws_graph.proofs.Spared.{IsUntouched, filter-untouched}
 use Rattle.geo_laws_rank_changes.proofs.RankChanges.{loop-ranked}
 use Rattle.geo_laws_counts.specs.CountWords.{IsAtMost, NumbersLead, IsOnlyOne}
-use Rattle.geo_laws_counts.proofs.Sums.{counts-same, add-assoc, add-zero, zero-add, at_most-zero, sum-at_most}
+use Rattle.geo_laws_counts.proofs.Sums.{counts-same, add-assoc, add-zero, zero-add, at_most-zero, sum-at_most, add-move}
 use Rattle.geo_laws_counts.proofs.Levels.{of_each, want_given-at_most, grants-same}
 use Rattle.geo_laws_counts.proofs.Numbers.{numbers_lead, number_is_only}
 use Rattle.geo_laws_growth.specs.JoinLaws.{Joins, JoinsWithoutLoop, JoiningRaises}
@@ -22,11 +22,6 @@ use Rattle.geo_laws_growth.specs.JoinLaws.{Joins, JoinsWithoutLoop, JoiningRaise
 
 module _ {X : Type 0} (f : X → Counts) (test hit : X → Bool) (change : X → X)
     (same : (x : X) → f (change x) ≡ f x) where
-  -- parts of a sum may change places
-  turn : (a b c : Counts) → add_counts a (add_counts b c) ≡ add_counts b (add_counts a c)
-  turn a b c = counts-same (add_counts a (add_counts b c)) (add_counts b (add_counts a c)) (omega arith) (omega arith)
-      (omega arith)
-
   -- a changed item, which counts now or doesn't
   with_changed : (x : X) (after before gain : List X)
       → sum_counts (map f after) ≡ add_counts (sum_counts (map f before)) (sum_counts (map f gain))
@@ -36,7 +31,7 @@ module _ {X : Type 0} (f : X → Counts) (test hit : X → Bool) (change : X →
   with_changed x after before gain rest true =
       ap (λ a. add_counts a (sum_counts (map f after))) (same x)
       ∙ ap (add_counts (f x)) rest
-      ∙ turn (f x) (sum_counts (map f before)) (sum_counts (map f gain))
+      ∙ add-move (f x) (sum_counts (map f before)) (sum_counts (map f gain))
   with_changed x after before gain rest false = rest
 
   -- an item that stays, which counts or doesn't

@@ -45,34 +45,34 @@ pub record IsMiddleKind (kind : Kind) : Type 0 where
   pub granted : is_granted_kind kind ≡ false
   pub disk : is_kind kind kinds.Disk ≡ false
 
--- a configuration of no class is none
-false_true : {A : Type 0} → false ≡ true → A
-false_true e = absurd (let no : ⊥ = cc in no)
+-- false is never true, so all follows from it
+pub from_false_true : {A : Type 0} → false ≡ true → A
+from_false_true e = absurd (let no : ⊥ = cc in no)
 
 -- the configuration of a disk, of DEV and of TASTE has nothing below
 bare_disk : (config : Config) → fits_kind kinds.Disk config ≡ true → has_below config ≡ false
 bare_disk Nothing e = refl
 bare_disk (Disk disk) e = refl
-bare_disk _ e = false_true e
+bare_disk _ e = from_false_true e
 
 -- so of DEV
 bare_dev : (config : Config) → fits_kind kinds.Dev config ≡ true → has_below config ≡ false
 bare_dev Nothing e = refl
 bare_dev (Disk disk) e = refl
-bare_dev _ e = false_true e
+bare_dev _ e = from_false_true e
 
 -- and of TASTE
 bare_taste : (config : Config) → fits_kind kinds.Taste config ≡ true → has_below config ≡ false
 bare_taste Nothing e = refl
 bare_taste (Disk disk) e = refl
-bare_taste _ e = false_true e
+bare_taste _ e = from_false_true e
 
 -- a geom with something below is of such a class
 pub middle_kind : (kind : Kind) (config : Config) → fits_kind kind config ≡ true → has_below config ≡ true
     → IsMiddleKind kind
-middle_kind kinds.Disk config e has = false_true (sym (bare_disk config e) ∙ has)
-middle_kind kinds.Dev config e has = false_true (sym (bare_dev config e) ∙ has)
-middle_kind kinds.Taste config e has = false_true (sym (bare_taste config e) ∙ has)
+middle_kind kinds.Disk config e has = from_false_true (sym (bare_disk config e) ∙ has)
+middle_kind kinds.Dev config e has = from_false_true (sym (bare_dev config e) ∙ has)
+middle_kind kinds.Taste config e has = from_false_true (sym (bare_taste config e) ∙ has)
 middle_kind kinds.Mbr config e has = record { granted = refl; disk = refl }
 middle_kind kinds.Ebr config e has = record { granted = refl; disk = refl }
 middle_kind kinds.Label config e has = record { granted = refl; disk = refl }

@@ -1,5 +1,5 @@
 -- The opening of a plan is fitting.
-use Rattle.std.specs.Prelude.{◌≡◌, ℕ, zero, suc, ◌<◌, ◌==◌, List, [], ◌∷◌, length, map, zip, All, Some, slice_get}
+use Rattle.std.specs.Prelude.{◌≡◌, ℕ, zero, suc, ◌==◌, List, [], ◌∷◌, length, map, zip, All, Some, slice_get}
 use Rattle.std.specs.List.{AllByRecursion, AllZip, range_with_len}
 use Rattle.std.proofs.Common.{sym, ◌∙◌, subst, arith}
 use Rattle.std.proofs.lemmas.List.Elements.{recursion_from_All, All-from_recursion}
@@ -14,13 +14,9 @@ use Rattle.geo_model.specs.Plans.{IsPlan, FactsFit, IsFact, IsDiskDecl, IsComman
 use Rattle.geo_model.specs.Opening.{disk_in_size, bare_world, opening}
 use Rattle.geo_model.specs.Fitting.{Fitting, IsHeaderDisk, FitsPlaces, HasOneProvider, PlacesHold, HasItsSum}
 use Rattle.geo_model.proofs.DemandLemmas.{all_weaker, kept_by, map_all}
-use Rattle.geo_laws_opening.proofs.Standing.{Stander, standers, stood, disk_geoms, disk_providers, opening-stood}
+use Rattle.geo_laws_opening.proofs.Standing.{Stander, standers, stood, disk_geoms, disk_providers, opening-stood, nowhere}
 use Rattle.geo_laws_opening.proofs.Standers.{sizes_of, standers-stand}
 use Rattle.geo_laws_opening.proofs.Parts.{geoms-are, IsDiskGeom, IsOfDisk, providers-are}
-
--- nothing stands at a place of an empty list
-nowhere : {A : Type 0} (k : ℕ) → k < 0 → A
-nowhere k less = absurd (omega (arith, less))
 
 -- what holds of each item holds of what stands at a place
 at_place : {X : Type 0} (P : X → Type 0) (xs : List X) (k : ℕ) (x : X) → AllByRecursion P xs → slice_get xs k ≡ Some x

@@ -1,5 +1,5 @@
 -- The opening of a plan is sound, and steady.
-use Rattle.std.specs.Prelude.{◌≡◌, ◌⊎◌, ℕ, ◌<◌, ◌==◌, nat_le, true, false, ◌&&◌, List, [], ◌∷◌, map, zip, Some, All, Contains, IsSome, IsTrue, slice_get}
+use Rattle.std.specs.Prelude.{◌≡◌, ◌⊎◌, ℕ, ◌==◌, nat_le, true, false, ◌&&◌, List, [], ◌∷◌, map, zip, Some, All, Contains, IsSome, IsTrue, slice_get}
 use Rattle.std.specs.List.{AllByRecursion}
 use Rattle.std.proofs.Common.{inl, refl, sym, ◌∙◌, ap, subst, arith}
 use Rattle.std.proofs.lemmas.Bool.{eqb-true}
@@ -21,21 +21,34 @@ use Rattle.geo_model.specs.Steady.{Steady, HasItsComponents, WaitsForPlaces}
 use Rattle.geo_model.proofs.DemandLemmas.{all_weaker, kept_by}
 use Rattle.geo_laws_graph.proofs.Members.{Contains-there, All-from_contained, at_contained}
 use Rattle.geo_laws_graph.proofs.Lists.{numbers-from, found_itself}
-use Rattle.geo_laws_opening.proofs.Standing.{Stander, standers, stood, disk_geoms, disk_providers, opening-stood}
+use Rattle.geo_laws_opening.proofs.Standing.{Stander, standers, stood, disk_geoms, disk_providers, opening-stood, nowhere}
 use Rattle.geo_laws_opening.proofs.Standers.{IsStander, AreApart, PairsByRecursion, pairs-from_recursion, standers-stand, standers-apart}
 use Rattle.geo_laws_opening.proofs.Parts.{geoms-rise, providers-rise, IsDiskGeom, geoms-are, IsOfDisk, of_disk-behind, providers-are, providers-above, none-of, geoms-differ, names-differ, IsOffered, offers-are, disk-class, no-withering, each-passes, HasDisk, geoms-have, bare-differs}
 
--- nothing stands at a place of an empty list
-nowhere : {A : Type 0} (k : ℕ) → k < 0 → A
-nowhere k less = absurd (omega (arith, less))
-
 -- geoms 1 and 2
 abbrev dev_geom : Geom Config
-dev_geom = record { number = 1; kind = kinds.Dev; name = dev_name; config = Nothing; automatic = false; withering = false; started = 0 }
+dev_geom = record {
+  number = 1;
+  kind = kinds.Dev;
+  name = dev_name;
+  config = Nothing;
+  automatic = false;
+  withering =
+      false;
+  started = 0;
+}
 
 -- the second of them, TASTE
 abbrev taste_geom : Geom Config
-taste_geom = record { number = 2; kind = kinds.Taste; name = taste_name; config = Nothing; automatic = false; withering = false; started = 0 }
+taste_geom = record {
+  number = 2;
+  kind = kinds.Taste;
+  name = taste_name;
+  config = Nothing;
+  automatic = false;
+  withering = false;
+  started = 0;
+}
 
 module _ (plan : Plan) (facts : List (ℕ × ℕ)) (xs : List Stander) where
   -- the disks of the header, with their sizes
@@ -61,24 +74,40 @@ module _ (plan : Plan) (facts : List (ℕ × ℕ)) (xs : List Stander) where
   -- no geom withers
   none_withers : (g : ℕ) → is_withering t g ≡ false
   none_withers g =
-      no-withering g t.geoms
-      (refl, (refl, all_weaker (IsDiskGeom 3) (λ (x : Geom Config). x.withering ≡ false) (λ x is. is.withering) (disk_geoms 3 xs) geoms_of_disks))
+      no-withering g t.geoms (
+        refl,
+        (
+          refl,
+          all_weaker (IsDiskGeom 3) (λ (x : Geom Config). x.withering ≡ false) (λ x is. is.withering)
+              (disk_geoms 3 xs) geoms_of_disks,
+        ),
+      )
 
   -- so there is no loop, nothing is too deep, and DEV and TASTE stand bare
   ranks : RanksHold t
   ranks = record {
     ranked = λ k d short. nowhere k short;
     not_deep = λ k d short apart other. omega arith;
-    dev = record { stands = refl; no_provider = none-of 3 1 (disk_providers 1 3 xs) (omega arith) (providers-above 1 3 3 xs (omega arith)) };
-    taste = record { stands = refl; no_provider = none-of 3 2 (disk_providers 1 3 xs) (omega arith) (providers-above 1 3 3 xs (omega arith)) };
+    dev = record {
+      stands = refl;
+      no_provider =
+          none-of 3 1 (disk_providers 1 3 xs) (omega arith) (providers-above 1 3 3 xs (omega arith));
+    };
+    taste = record {
+      stands = refl;
+      no_provider =
+          none-of 3 2 (disk_providers 1 3 xs) (omega arith) (providers-above 1 3 3 xs (omega arith));
+    };
   }
 
   -- nothing is open, so all counts are within their limits
   counts : CountsHold w
   counts = record {
-    exclusive = each-passes (λ (x : Provider). stand_together (granted_in w) t (attached_to t x.number)) (λ x. refl) t.providers;
+    exclusive = each-passes (λ (x : Provider). stand_together (granted_in w) t (attached_to t x.number))
+        (λ x. refl) t.providers;
     limited = each-passes
-        (λ (x : Provider). let a = have (granted_in w) t x.number in nat_le a.r 2147483647 && (nat_le a.w 2147483647 && nat_le a.e 2147483647))
+        (λ (x : Provider). let a = have (granted_in w) t x.number in
+        nat_le a.r 2147483647 && (nat_le a.w 2147483647 && nat_le a.e 2147483647))
         (λ x. refl) t.providers;
   }
 
@@ -86,7 +115,8 @@ module _ (plan : Plan) (facts : List (ℕ × ℕ)) (xs : List Stander) where
     -- each provider is of a disk's geom, with the sizes of the disk
     providers_of_disks : AllByRecursion (IsOfDisk disks t.geoms) t.providers
     providers_of_disks =
-        of_disk-behind disks dev_geom (taste_geom ∷ disk_geoms 3 xs) t.providers (of_disk-behind disks taste_geom (disk_geoms 3 xs) t.providers (providers-are disks 1 3 xs stand))
+        of_disk-behind disks dev_geom (taste_geom ∷ disk_geoms 3 xs) t.providers
+        (of_disk-behind disks taste_geom (disk_geoms 3 xs) t.providers (providers-are disks 1 3 xs stand))
 
     -- no two providers have one name, no geom of theirs withers, and their sizes are those of media
     providers : ProvidersHold t
@@ -96,7 +126,8 @@ module _ (plan : Plan) (facts : List (ℕ × ℕ)) (xs : List Stander) where
           (all_weaker (IsOfDisk disks t.geoms) (λ (x : Provider). IsTrue (is_withering t x.geom) → x.errored ≡ true)
           (λ x is h. let bad : false ≡ true = sym (none_withers x.geom) ∙ h in cc) t.providers providers_of_disks);
       sizes = All-from_recursion (λ (x : Provider). IsMediaSize x.size x.sector) t.providers
-          (all_weaker (IsOfDisk disks t.geoms) (λ (x : Provider). IsMediaSize x.size x.sector) (λ x is. is.media) t.providers providers_of_disks);
+          (all_weaker (IsOfDisk disks t.geoms) (λ (x : Provider). IsMediaSize x.size x.sector) (λ x is. is.media)
+          t.providers providers_of_disks);
     }
 
     -- the geoms stand in order of numbers
@@ -118,15 +149,19 @@ module _ (plan : Plan) (facts : List (ℕ × ℕ)) (xs : List Stander) where
     geom_of p is = subst (λ (n : ℕ). geom_at t n ≡ Some is.geom) is.number (geom_found is.geom is.stands)
 
     -- a provider of a disk's geom has the sizes of that disk
-    same_sizes : (x : Geom Config) (h : HasDisk disks x) → Contains t.geoms x → (p : Provider) → IsOfDisk disks t.geoms p → p.geom ≡ x.number
+    same_sizes : (x : Geom Config) (h : HasDisk disks x) → Contains t.geoms x → (p : Provider)
+        → IsOfDisk disks t.geoms p → p.geom ≡ x.number
         → (p.sector ≡ h.disk.sector) × (p.size ≡ h.disk.size)
     same_sizes x h here p is own =
-        let found : geom_at t x.number ≡ Some is.geom = subst (λ (n : ℕ). geom_at t n ≡ Some is.geom) own (geom_of p is) in
+        let found : geom_at t x.number ≡ Some is.geom =
+        subst (λ (n : ℕ). geom_at t n ≡ Some is.geom) own (geom_of p is) in
         let found_too = geom_found x here in
         let same : is.geom ≡ x = cc in
-        let configs : Disk is.place ≡ Disk h.place = sym is.config ∙ ap (λ (g : Geom Config). g.config) same ∙ h.config in
+        let configs : Disk is.place ≡ Disk h.place = sym is.config ∙ ap (λ (g : Geom Config). g.config) same
+        ∙ h.config in
         let places : is.place ≡ h.place = cc in
-        let at : slice_get disks h.place ≡ Some is.disk = subst (λ (n : ℕ). slice_get disks n ≡ Some is.disk) places is.at in
+        let at : slice_get disks h.place ≡ Some is.disk =
+        subst (λ (n : ℕ). slice_get disks n ≡ Some is.disk) places is.at in
         let at_too : slice_get disks h.place ≡ Some h.disk = h.at in
         let disk : is.disk ≡ h.disk = cc in
         (is.sector ∙ ap (λ (d : HeaderDisk). d.sector) disk, is.size ∙ ap (λ (d : HeaderDisk). d.size) disk)
@@ -134,9 +169,12 @@ module _ (plan : Plan) (facts : List (ℕ × ℕ)) (xs : List Stander) where
     -- so have all that the geom offers
     disk_sizes_of : (x : Geom Config) → Contains t.geoms x → HasDisk disks x → HasDiskSizes w x
     disk_sizes_of x here h =
-        let sizes : All (λ (p : Provider). (p.sector ≡ h.disk.sector) × (p.size ≡ h.disk.size)) (providers_of t x.number) =
-        All-from_recursion (λ (p : Provider). (p.sector ≡ h.disk.sector) × (p.size ≡ h.disk.size)) (providers_of t x.number)
-        (kept_by (IsOfDisk disks t.geoms) (λ (p : Provider). (p.sector ≡ h.disk.sector) × (p.size ≡ h.disk.size)) (λ (p : Provider). p.geom == x.number)
+        let sizes : All (λ (p : Provider). (p.sector ≡ h.disk.sector) × (p.size ≡ h.disk.size))
+        (providers_of t x.number) =
+        All-from_recursion (λ (p : Provider). (p.sector ≡ h.disk.sector) × (p.size ≡ h.disk.size))
+        (providers_of t x.number)
+        (kept_by (IsOfDisk disks t.geoms) (λ (p : Provider). (p.sector ≡ h.disk.sector) × (p.size ≡ h.disk.size))
+        (λ (p : Provider). p.geom == x.number)
         (λ p e is. same_sizes x h here p is (eqb-true p.geom x.number e)) t.providers providers_of_disks) in
         let config : x.config ≡ Disk h.place = h.config in
         let at : slice_get disks h.place ≡ Some h.disk = h.at in
@@ -157,14 +195,19 @@ module _ (plan : Plan) (facts : List (ℕ × ℕ)) (xs : List Stander) where
           all_weaker (IsDiskGeom 3) IsOfItsClass disk-class (disk_geoms 3 xs) geoms_of_disks,
         ),
       );
-      one_geom_of_disk = pairs-from_recursion DifferInDisk t.geoms
-          (bare-differs dev_geom refl (taste_geom ∷ disk_geoms 3 xs), (bare-differs taste_geom refl (disk_geoms 3 xs), geoms-differ 3 xs apart));
+      one_geom_of_disk = pairs-from_recursion DifferInDisk t.geoms (
+        bare-differs dev_geom refl (taste_geom ∷ disk_geoms 3 xs),
+        (bare-differs taste_geom refl (disk_geoms 3 xs), geoms-differ 3 xs apart),
+      );
       disk_sizes = All-from_recursion (HasDiskSizes w) t.geoms (
         tt,
         (
           tt,
           All-from_contained (HasDiskSizes w) (disk_geoms 3 xs)
-              (λ x here. disk_sizes_of x (Contains-there dev_geom x (taste_geom ∷ disk_geoms 3 xs) (Contains-there taste_geom x (disk_geoms 3 xs) here)) (at_contained (HasDisk disks) (disk_geoms 3 xs) x (geoms-have disks 3 xs stand) here)),
+              (λ x here. disk_sizes_of x
+              (Contains-there dev_geom x (taste_geom ∷ disk_geoms 3 xs)
+              (Contains-there taste_geom x (disk_geoms 3 xs) here))
+              (at_contained (HasDisk disks) (disk_geoms 3 xs) x (geoms-have disks 3 xs stand) here)),
         ),
       );
     }
@@ -188,15 +231,19 @@ module _ (plan : Plan) (facts : List (ℕ × ℕ)) (xs : List Stander) where
     -- what an event offers is a provider that lives
     offered : (e : Event) → IsOffered t.providers e → IsSome (provider_at t (provider_of_event e))
     offered e is =
-        let found : provider_at t is.provider.number ≡ Some is.provider = found_itself (λ (y : Provider). y.number) t.next_provider t.providers is.provider provider_numbers is.stands in
-        let there : provider_at t (provider_of_event e) ≡ Some is.provider = subst (λ (n : ℕ). provider_at t n ≡ Some is.provider) is.number found in
+        let found : provider_at t is.provider.number ≡ Some is.provider =
+        found_itself (λ (y : Provider). y.number) t.next_provider t.providers is.provider provider_numbers
+        is.stands in
+        let there : provider_at t (provider_of_event e) ≡ Some is.provider =
+        subst (λ (n : ℕ). provider_at t n ≡ Some is.provider) is.number found in
         rw there refl
 
     -- so each event is of a provider that lives, and no taste goes on
     events : EventsHold w
     events = record {
       living = All-from_recursion (λ (e : Event). IsSome (provider_at t (provider_of_event e))) w.events
-          (all_weaker (IsOffered t.providers) (λ (e : Event). IsSome (provider_at t (provider_of_event e))) offered w.events (offers-are 1 3 xs));
+          (all_weaker (IsOffered t.providers) (λ (e : Event). IsSome (provider_at t (provider_of_event e))) offered
+          w.events (offers-are 1 3 xs));
       read_out = ((λ h. h), (λ h. h));
       taste = tt;
     }
@@ -209,7 +256,8 @@ module _ (plan : Plan) (facts : List (ℕ × ℕ)) (xs : List Stander) where
       providers = providers;
       numbers = numbers;
       handles = handles;
-      places = All-from_recursion (LeadsDown w) t.providers (all_weaker (IsOfDisk disks t.geoms) (LeadsDown w) leads_down t.providers providers_of_disks);
+      places = All-from_recursion (LeadsDown w) t.providers
+          (all_weaker (IsOfDisk disks t.geoms) (LeadsDown w) leads_down t.providers providers_of_disks);
       bios = λ k d short. nowhere k short;
       families = λ k d short. nowhere k short;
       disks = record { at_disk = λ k d short. nowhere k short; one_busy = λ i j d less short. nowhere j short };
@@ -222,11 +270,13 @@ module _ (plan : Plan) (facts : List (ℕ × ℕ)) (xs : List Stander) where
 
     -- a disk's geom has no components
     no_components : (x : Geom Config) → IsDiskGeom 3 x → HasItsComponents w x
-    no_components x is = let config : x.config ≡ Disk is.disk = is.config in rw config (λ used k d short. nowhere k short)
+    no_components x is = let config : x.config ≡ Disk is.disk = is.config in
+        rw config (λ used k d short. nowhere k short)
 
     -- and no free places
     no_places : (x : Geom Config) → IsDiskGeom 3 x → WaitsForPlaces w x
-    no_places x is = let config : x.config ≡ Disk is.disk = is.config in rw config (λ free. let bad : false ≡ true = free in absurd (let no_way : ⊥ = cc in no_way))
+    no_places x is = let config : x.config ≡ Disk is.disk = is.config in
+        rw config (λ free. let bad : false ≡ true = free in absurd (let no_way : ⊥ = cc in no_way))
 
     -- the world in which disks stand is steady
     pub stood-steady : Steady w
@@ -235,12 +285,14 @@ module _ (plan : Plan) (facts : List (ℕ × ℕ)) (xs : List Stander) where
         (λ of. refl),
         (
           (λ of. refl),
-          all_weaker (IsDiskGeom 3) (λ (g : Geom Config). (g.number ≡ 1) ⊎ (g.number ≡ 2) → g.automatic ≡ false) (λ x is of. is.automatic) (disk_geoms 3 xs) geoms_of_disks,
+          all_weaker (IsDiskGeom 3) (λ (g : Geom Config). (g.number ≡ 1) ⊎ (g.number ≡ 2)
+              → g.automatic ≡ false) (λ x is of. is.automatic) (disk_geoms 3 xs) geoms_of_disks,
         ),
       );
       parts = record {
         providers = All-from_recursion (λ (p : Provider). IsSome (geom_at t p.geom)) t.providers
-            (all_weaker (IsOfDisk disks t.geoms) (λ (p : Provider). IsSome (geom_at t p.geom)) lives t.providers providers_of_disks);
+            (all_weaker (IsOfDisk disks t.geoms) (λ (p : Provider). IsSome (geom_at t p.geom)) lives t.providers
+            providers_of_disks);
         consumers = λ k d short. nowhere k short;
       };
       attached = λ k d short. nowhere k short;
@@ -264,13 +316,17 @@ module _ (plan : Plan) (facts : List (ℕ × ℕ)) (xs : List Stander) where
     }
 
 -- the opening of each plan is sound
-pub opening-sound : (plan : Plan) (facts : List (ℕ × ℕ)) → IsPlan plan → FactsFit plan facts → Sound (opening plan facts)
+pub opening-sound : (plan : Plan) (facts : List (ℕ × ℕ)) → IsPlan plan → FactsFit plan facts
+    → Sound (opening plan facts)
 opening-sound plan facts is fits =
     subst Sound (sym (opening-stood plan facts))
-    (stood-sound plan facts (standers plan facts) (standers-stand plan facts is fits) (standers-apart plan facts is fits))
+    (stood-sound plan facts (standers plan facts) (standers-stand plan facts is fits)
+    (standers-apart plan facts is fits))
 
 -- and steady
-pub opening-steady : (plan : Plan) (facts : List (ℕ × ℕ)) → IsPlan plan → FactsFit plan facts → Steady (opening plan facts)
+pub opening-steady : (plan : Plan) (facts : List (ℕ × ℕ)) → IsPlan plan → FactsFit plan facts
+    → Steady (opening plan facts)
 opening-steady plan facts is fits =
     subst Steady (sym (opening-stood plan facts))
-    (stood-steady plan facts (standers plan facts) (standers-stand plan facts is fits) (standers-apart plan facts is fits))
+    (stood-steady plan facts (standers plan facts) (standers-stand plan facts is fits)
+    (standers-apart plan facts is fits))

@@ -1,5 +1,5 @@
 -- The world once some disks stand: a DISK geom for each, with one provider, which is offered for taste.
-use Rattle.std.specs.Prelude.{◌≡◌, ℕ, ◌+◌, ◌*◌, false, not, List, [], ◌∷◌, ◌++◌, length, fold, filter, zip}
+use Rattle.std.specs.Prelude.{◌≡◌, ℕ, ◌+◌, ◌*◌, false, not, List, [], ◌∷◌, ◌++◌, length, fold, filter, zip, ◌<◌}
 use Rattle.std.specs.List.{enumerate_from}
 use Rattle.std.proofs.Common.{sym, ◌∙◌, ap, arith, append_assoc}
 use Rattle.std.proofs.lemmas.List.{append-nil}
@@ -12,17 +12,36 @@ use Rattle.geo_model.specs.World.{World, Config, Disk, Plan}
 use Rattle.geo_model.specs.GeomCommands.{stand}
 use Rattle.geo_model.specs.Opening.{disk_in_size, bare_world, opening}
 
+-- nothing stands at a place of an empty list
+pub nowhere : {A : Type 0} (k : ℕ) → k < 0 → A
+nowhere k less = absurd (omega (arith, less))
+
 -- a disk that stands: its number in the header, what the header says of it, its sector size and its sectors
 abbrev pub Stander : Type 0
 Stander = ℕ × (DiskDecl × (ℕ × ℕ))
 
 -- the geom and the provider of a disk
 abbrev pub disk_geom : ℕ → Stander → Geom Config
-disk_geom n x = record { number = n; kind = kinds.Disk; name = x.1.0.name; config = Disk x.0; automatic = false; withering = false; started = 0 }
+disk_geom n x = record {
+  number = n;
+  kind = kinds.Disk;
+  name = x.1.0.name;
+  config = Disk x.0;
+  automatic = false;
+  withering = false;
+  started = 0;
+}
 
 -- the provider of a disk, of its geom and with its sizes
 abbrev pub disk_provider : ℕ → ℕ → Stander → Provider
-disk_provider n g x = record { number = n; geom = g; name = x.1.0.name; size = x.1.1.0 * x.1.1.1; sector = x.1.1.0; errored = false }
+disk_provider n g x = record {
+  number = n;
+  geom = g;
+  name = x.1.0.name;
+  size = x.1.1.0 * x.1.1.1;
+  sector = x.1.1.0;
+  errored = false;
+}
 
 -- the geoms and providers of disks, from a number on, and their offers
 abbrev pub disk_geoms : ℕ → List Stander → List (Geom Config)
@@ -42,7 +61,13 @@ disk_offers n (x ∷ xs) = events.NewProvider n ∷ disk_offers (n + 1) xs
 -- a world with other lists of its graph and its queue
 abbrev with_lists : World → List (Geom Config) → List Provider → ℕ → ℕ → List Event → World
 with_lists w geoms providers next_geom next_provider queue = record w {
-  topology = record w.topology { geoms = geoms; providers = providers; next_geom = next_geom; next_provider = next_provider };
+  topology = record w.topology {
+    geoms = geoms;
+    providers = providers;
+    next_geom = next_geom;
+    next_provider =
+        next_provider;
+  };
   events = queue;
 }
 
@@ -67,7 +92,8 @@ same_lists w gs hs ps qs a b c d es fs g p n m e =
     ∙ ap (λ (x : List Event). with_lists w hs qs b d x) e
 
 -- disks that are set up one after another make the world in which they all stand
-pub stand-all : (xs : List Stander) (w : World) → fold (λ v item. stand v (item.0, disk_in_size item.1)) w xs ≡ stood w xs
+pub stand-all : (xs : List Stander) (w : World)
+    → fold (λ v item. stand v (item.0, disk_in_size item.1)) w xs ≡ stood w xs
 stand-all [] w =
     same_lists w
     w.topology.geoms (w.topology.geoms ++ [])
@@ -75,24 +101,29 @@ stand-all [] w =
     w.topology.next_geom (w.topology.next_geom + 0)
     w.topology.next_provider (w.topology.next_provider + 0)
     w.events (w.events ++ [])
-    (sym (append-nil w.topology.geoms)) (sym (append-nil w.topology.providers)) (omega arith) (omega arith) (sym (append-nil w.events))
+    (sym (append-nil w.topology.geoms)) (sym (append-nil w.topology.providers)) (omega arith) (omega arith)
+    (sym (append-nil w.events))
 stand-all (x ∷ xs) w =
     let one : World = stand w (x.0, disk_in_size x.1) in
     stand-all xs one
     ∙ same_lists w
-    (one.topology.geoms ++ disk_geoms (w.topology.next_geom + 1) xs) (w.topology.geoms ++ disk_geoms w.topology.next_geom (x ∷ xs))
+    (one.topology.geoms ++ disk_geoms (w.topology.next_geom + 1) xs) (w.topology.geoms
+    ++ disk_geoms w.topology.next_geom (x ∷ xs))
     (one.topology.providers ++ disk_providers (w.topology.next_provider + 1) (w.topology.next_geom + 1) xs)
     (w.topology.providers ++ disk_providers w.topology.next_provider w.topology.next_geom (x ∷ xs))
     (w.topology.next_geom + 1 + length xs) (w.topology.next_geom + length (x ∷ xs))
     (w.topology.next_provider + 1 + length xs) (w.topology.next_provider + length (x ∷ xs))
-    (one.events ++ disk_offers (w.topology.next_provider + 1) xs) (w.events ++ disk_offers w.topology.next_provider (x ∷ xs))
-    (append_assoc w.topology.geoms _ _) (append_assoc w.topology.providers _ _) (omega arith) (omega arith) (append_assoc w.events _ _)
+    (one.events ++ disk_offers (w.topology.next_provider + 1) xs) (w.events
+    ++ disk_offers w.topology.next_provider (x ∷ xs))
+    (append_assoc w.topology.geoms _ _) (append_assoc w.topology.providers _ _) (omega arith) (omega arith)
+    (append_assoc w.events _ _)
 
 -- the disks of a plan that stand at its opening, in header order
 abbrev pub standers : Plan → List (ℕ × ℕ) → List Stander
 standers plan facts = filter (λ item. not item.1.0.later) (enumerate_from 0 (zip plan.disks facts))
 
 -- the opening of a plan is the bare world in which its disks stand
-pub opening-stood : (plan : Plan) (facts : List (ℕ × ℕ)) → opening plan facts ≡ stood (bare_world plan facts) (standers plan facts)
+pub opening-stood : (plan : Plan) (facts : List (ℕ × ℕ))
+    → opening plan facts ≡ stood (bare_world plan facts) (standers plan facts)
 unfolding opening
 opening-stood plan facts = stand-all (standers plan facts) (bare_world plan facts)

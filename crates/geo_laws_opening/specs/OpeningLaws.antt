@@ -13,7 +13,8 @@ OpeningsAreSound = (plan : Plan) (facts : List (ℕ × ℕ)) → IsPlan plan →
 
 -- and steady
 abbrev pub OpeningsAreSteady : Type 0
-OpeningsAreSteady = (plan : Plan) (facts : List (ℕ × ℕ)) → IsPlan plan → FactsFit plan facts → Steady (opening plan facts)
+OpeningsAreSteady = (plan : Plan) (facts : List (ℕ × ℕ)) → IsPlan plan → FactsFit plan facts
+    → Steady (opening plan facts)
 
 -- and fitting
 abbrev pub OpeningsAreFitting : Type 0

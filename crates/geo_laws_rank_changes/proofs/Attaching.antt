@@ -15,28 +15,36 @@ use Rattle.geo_model.specs.Graph.{IsInOrder}
 abbrev number_of : Consumer → ℕ
 number_of x = x.number
 
-module _ {C : Type 0} (t : Topology C) (order : IsInOrder t) (c : ℕ) (consumer : Consumer) (stands : consumer_at t c ≡ Some consumer) where
+module _ {C : Type 0} (t : Topology C) (order : IsInOrder t) (c : ℕ) (consumer : Consumer)
+    (stands : consumer_at t c ≡ Some consumer) where
   -- in lists in order only the consumer that is found at a number has it
   only_consumer : (x : Consumer) → Contains t.consumers x → x.number ≡ c → x ≡ consumer
   only_consumer x here same =
-      let found : find (λ (z : Consumer). z.number == x.number) t.consumers ≡ Some x = found_itself number_of t.next_consumer t.consumers x order.consumers here in
-      let found_too : consumer_at t c ≡ Some x = subst (λ (n : ℕ). find (λ (z : Consumer). z.number == n) t.consumers ≡ Some x) same found in
+      let found : find (λ (z : Consumer). z.number == x.number) t.consumers ≡ Some x =
+      found_itself number_of t.next_consumer t.consumers x order.consumers here in
+      let found_too : consumer_at t c ≡ Some x =
+      subst (λ (n : ℕ). find (λ (z : Consumer). z.number == n) t.consumers ≡ Some x) same found in
       cc
 
 module _ {C : Type 0} (t : Topology C) (c p : ℕ) where
   -- the consumer of the number is attached
-  changed_hit : (x : Consumer) → (x.number == c) ≡ true → changed (λ (y : Consumer). y.number == c) (λ y. record y { provider = Some p }) x ≡ record x { provider = Some p }
+  changed_hit : (x : Consumer) → (x.number == c) ≡ true
+      → changed (λ (y : Consumer). y.number == c) (λ y. record y { provider = Some p }) x
+      ≡ record x { provider = Some p }
   changed_hit x e = rw e refl
 
   -- any other is as before
-  changed_miss : (x : Consumer) → (x.number == c) ≡ false → changed (λ (y : Consumer). y.number == c) (λ y. record y { provider = Some p }) x ≡ x
+  changed_miss : (x : Consumer) → (x.number == c) ≡ false
+      → changed (λ (y : Consumer). y.number == c) (λ y. record y { provider = Some p }) x ≡ x
   changed_miss x e = rw e refl
 
   -- the edge of a consumer that isn't this one, in the graph with this one attached
   kept_edge : (g h : ℕ) (b : Below t g h) → (b.consumer.number == c) ≡ false → Below (attach t c p) g h
   kept_edge g h b other = record {
     consumer = b.consumer;
-    stands = subst (Contains (attach t c p).consumers) (changed_miss b.consumer other) (Contains-map (changed (λ (y : Consumer). y.number == c) (λ y. record y { provider = Some p })) t.consumers b.consumer b.stands);
+    stands = subst (Contains (attach t c p).consumers) (changed_miss b.consumer other)
+        (Contains-map (changed (λ (y : Consumer). y.number == c) (λ y. record y { provider = Some p })) t.consumers
+        b.consumer b.stands);
     above = b.above;
     provider = b.provider;
     attached = b.attached;
@@ -47,7 +55,8 @@ module _ {C : Type 0} (t : Topology C) (c p : ℕ) where
     -- a consumer that is attached to nothing makes no edge
     not_attached : (g h : ℕ) (b : Below t g h) → (b.consumer.number == c) ≡ true → ⊥
     not_attached g h b e =
-        let same : b.consumer ≡ can.consumer = only_consumer t order c can.consumer can.stands b.consumer b.stands (eqb-true b.consumer.number c e) in
+        let same : b.consumer ≡ can.consumer =
+        only_consumer t order c can.consumer can.stands b.consumer b.stands (eqb-true b.consumer.number c e) in
         let free : b.consumer.provider ≡ None = ap (λ (x : Consumer). x.provider) same ∙ can.free in
         let none : option_and_then (provider_at t) None ≡ Some b.provider = rw free at b.attached in
         cc
@@ -63,11 +72,15 @@ module _ {C : Type 0} (t : Topology C) (c p : ℕ) where
     -- and there is an edge from its geom down to the provider's
     new_edge : Below (attach t c p) can.consumer.geom can.provider.geom
     new_edge =
-        let number : (can.consumer.number == c) ≡ true = find_passes (λ (x : Consumer). x.number == c) t.consumers can.consumer can.stands in
-        let here : Contains t.consumers can.consumer = find-Contains (λ (x : Consumer). x.number == c) t.consumers can.consumer can.stands in
+        let number : (can.consumer.number == c) ≡ true =
+        find_passes (λ (x : Consumer). x.number == c) t.consumers can.consumer can.stands in
+        let here : Contains t.consumers can.consumer =
+        find-Contains (λ (x : Consumer). x.number == c) t.consumers can.consumer can.stands in
         record {
           consumer = record can.consumer { provider = Some p };
-          stands = subst (Contains (attach t c p).consumers) (changed_hit can.consumer number) (Contains-map (changed (λ (y : Consumer). y.number == c) (λ y. record y { provider = Some p })) t.consumers can.consumer here);
+          stands = subst (Contains (attach t c p).consumers) (changed_hit can.consumer number)
+              (Contains-map (changed (λ (y : Consumer). y.number == c) (λ y. record y { provider = Some p }))
+              t.consumers can.consumer here);
           above = refl;
           provider = can.provider;
           attached = can.offers;
@@ -76,12 +89,14 @@ module _ {C : Type 0} (t : Topology C) (c p : ℕ) where
 
     -- an edge that is there then was there before, or is that one
     only_edge : (g h : ℕ) (b : Below (attach t c p) g h) (x : Consumer) → Contains t.consumers x
-        → changed (λ (y : Consumer). y.number == c) (λ y. record y { provider = Some p }) x ≡ b.consumer → (d : Bool) → (x.number == c) ≡ d
+        → changed (λ (y : Consumer). y.number == c) (λ y. record y { provider = Some p }) x ≡ b.consumer
+        → (d : Bool) → (x.number == c) ≡ d
         → Below t g h ⊎ (g ≡ can.consumer.geom) × (h ≡ can.provider.geom)
     only_edge g h b x here is true e =
         let same : x ≡ can.consumer = only_consumer t order c can.consumer can.stands x here (eqb-true x.number c e) in
         let whole : record x { provider = Some p } ≡ b.consumer = sym (changed_hit x e) ∙ is in
-        let above : b.consumer.geom ≡ can.consumer.geom = sym (ap (λ (y : Consumer). y.geom) whole) ∙ ap (λ (y : Consumer). y.geom) same in
+        let above : b.consumer.geom ≡ can.consumer.geom = sym (ap (λ (y : Consumer). y.geom) whole)
+        ∙ ap (λ (y : Consumer). y.geom) same in
         let to : b.consumer.provider ≡ Some p = sym (ap (λ (y : Consumer). y.provider) whole) in
         let offers : provider_at t p ≡ Some b.provider = rw to at b.attached in
         let offers_too : provider_at t p ≡ Some can.provider = can.offers in
@@ -105,7 +120,8 @@ module _ {C : Type 0} (t : Topology C) (c p : ℕ) where
       old = old_edges;
       new = new_edge;
       only = λ g h b.
-          let o = map-Contains (changed (λ (y : Consumer). y.number == c) (λ y. record y { provider = Some p })) t.consumers b.consumer b.stands in
+          let o = map-Contains (changed (λ (y : Consumer). y.number == c) (λ y. record y { provider = Some p }))
+          t.consumers b.consumer b.stands in
           only_edge g h b o.item o.stands o.fact (o.item.number == c) refl;
     }
 
@@ -138,9 +154,11 @@ module _ {C : Type 0} (t : Topology C) (c : ℕ) where
 
   module _ (order : IsInOrder t) where
     -- the edge of the consumer that goes leads from its geom down to its provider's
-    lost_edge : (at : IsAttached t c) (g h : ℕ) (b : Below t g h) → (b.consumer.number == c) ≡ true → (g ≡ at.consumer.geom) × (h ≡ at.provider.geom)
+    lost_edge : (at : IsAttached t c) (g h : ℕ) (b : Below t g h) → (b.consumer.number == c) ≡ true
+        → (g ≡ at.consumer.geom) × (h ≡ at.provider.geom)
     lost_edge at g h b e =
-        let same : b.consumer ≡ at.consumer = only_consumer t order c at.consumer at.stands b.consumer b.stands (eqb-true b.consumer.number c e) in
+        let same : b.consumer ≡ at.consumer =
+        only_consumer t order c at.consumer at.stands b.consumer b.stands (eqb-true b.consumer.number c e) in
         let above : b.consumer.geom ≡ at.consumer.geom = ap (λ (y : Consumer). y.geom) same in
         let to : b.consumer.provider ≡ Some at.number = ap (λ (y : Consumer). y.provider) same ∙ at.at in
         let offers : provider_at t at.number ≡ Some b.provider = rw to at b.attached in
@@ -173,15 +191,18 @@ module _ {C : Type 0} (t : Topology C) (c : ℕ) where
     }
 
     -- one that is attached to nothing makes none
-    no_edge : (consumer : Consumer) → consumer_at t c ≡ Some consumer → consumer.provider ≡ None → (g h : ℕ) (b : Below t g h) → (b.consumer.number == c) ≡ true → ⊥
+    no_edge : (consumer : Consumer) → consumer_at t c ≡ Some consumer → consumer.provider ≡ None
+        → (g h : ℕ) (b : Below t g h) → (b.consumer.number == c) ≡ true → ⊥
     no_edge consumer stands free g h b e =
-        let same : b.consumer ≡ consumer = only_consumer t order c consumer stands b.consumer b.stands (eqb-true b.consumer.number c e) in
+        let same : b.consumer ≡ consumer =
+        only_consumer t order c consumer stands b.consumer b.stands (eqb-true b.consumer.number c e) in
         let loose : b.consumer.provider ≡ None = ap (λ (x : Consumer). x.provider) same ∙ free in
         let none : option_and_then (provider_at t) None ≡ Some b.provider = rw loose at b.attached in
         cc
 
     -- the removal of one that is attached to nothing takes none away
-    pub loose-edges : (consumer : Consumer) → consumer_at t c ≡ Some consumer → consumer.provider ≡ None → (g h : ℕ) → Below t g h → Below (remove_consumer t c) g h
+    pub loose-edges : (consumer : Consumer) → consumer_at t c ≡ Some consumer → consumer.provider ≡ None
+        → (g h : ℕ) → Below t g h → Below (remove_consumer t c) g h
     loose-edges consumer stands free g h b =
         elim (cases_Bool (b.consumer.number == c)) [
           | inl e ↦ absurd (no_edge consumer stands free g h b e)
@@ -191,11 +212,13 @@ module _ {C : Type 0} (t : Topology C) (c : ℕ) where
     -- a detach takes away the same edge as the removal
     detached_edge : (g h : ℕ) → Below (detach t c) g h → Below (remove_consumer t c) g h
     detached_edge g h b =
-        let o = map-Contains (changed (λ (y : Consumer). y.number == c) (λ y. record y { provider = None })) t.consumers b.consumer b.stands in
+        let o = map-Contains (changed (λ (y : Consumer). y.number == c) (λ y. record y { provider = None }))
+        t.consumers b.consumer b.stands in
         from o.item o.stands o.fact (o.item.number == c) refl
       where
         -- a consumer with an edge isn't the one that is detached
-        from : (x : Consumer) → Contains t.consumers x → changed (λ (y : Consumer). y.number == c) (λ y. record y { provider = None }) x ≡ b.consumer
+        from : (x : Consumer) → Contains t.consumers x
+            → changed (λ (y : Consumer). y.number == c) (λ y. record y { provider = None }) x ≡ b.consumer
             → (d : Bool) → (x.number == c) ≡ d → Below (remove_consumer t c) g h
         from x here is true e =
             let whole : record x { provider = None } ≡ b.consumer = rw e at is in
@@ -218,10 +241,13 @@ module _ {C : Type 0} (t : Topology C) (c : ℕ) where
     remaining_edge g h b =
         let both = filter-Contains (λ (y : Consumer). not (y.number == c)) t.consumers b.consumer b.stands in
         let other : (b.consumer.number == c) ≡ false = not-true (b.consumer.number == c) both.1 in
-        let same : changed (λ (y : Consumer). y.number == c) (λ y. record y { provider = None }) b.consumer ≡ b.consumer = rw other refl in
+        let same : changed (λ (y : Consumer). y.number == c) (λ y. record y { provider = None }) b.consumer
+        ≡ b.consumer = rw other refl in
         record {
           consumer = b.consumer;
-          stands = subst (Contains (detach t c).consumers) same (Contains-map (changed (λ (y : Consumer). y.number == c) (λ y. record y { provider = None })) t.consumers b.consumer both.0);
+          stands = subst (Contains (detach t c).consumers) same
+              (Contains-map (changed (λ (y : Consumer). y.number == c) (λ y. record y { provider = None }))
+              t.consumers b.consumer both.0);
           above = b.above;
           provider = b.provider;
           attached = b.attached;
@@ -280,7 +306,8 @@ module _ {C : Type 0} (t : Topology C) (geom : ℕ) (o : Option ℕ) where
       ]
 
   -- one that is attached adds one
-  pub opened-edge : (p : ℕ) (provider : Provider) → o ≡ Some p → provider_at t p ≡ Some provider → AddsEdge t (add_consumer t geom o) geom provider.geom
+  pub opened-edge : (p : ℕ) (provider : Provider) → o ≡ Some p → provider_at t p ≡ Some provider
+      → AddsEdge t (add_consumer t geom o) geom provider.geom
   opened-edge p provider to offers = record {
     geoms = refl;
     old = added-edges;

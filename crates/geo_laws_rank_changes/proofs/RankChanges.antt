@@ -34,7 +34,8 @@ module _ {C : Type 0} where
         (under-edges (set_size t p size) t (λ g. sym (geoms_under-set_size t p size g)))
         (set_size-providers t p size);
     withering = λ t g.
-        stays_all t (set_withering t g) (length-changed (λ (x : Geom C). x.number == g) (λ x. record x { withering = true }) t.geoms)
+        stays_all t (set_withering t g)
+        (length-changed (λ (x : Geom C). x.number == g) (λ x. record x { withering = true }) t.geoms)
         (parts-edges t (set_withering t g) refl refl) (parts-edges (set_withering t g) t refl refl) (λ live. live);
     marks = λ t test mark.
         stays_all t (set_marks t test mark) refl
@@ -42,10 +43,13 @@ module _ {C : Type 0} where
         (under-edges (set_marks t test mark) t (λ g. sym (geoms_under-set_marks t test mark g)))
         (set_marks-providers t test mark);
     config = λ t g config.
-        stays_all t (set_config t g config) (length-changed (λ (x : Geom C). x.number == g) (λ x. record x { config = config }) t.geoms)
-        (parts-edges t (set_config t g config) refl refl) (parts-edges (set_config t g config) t refl refl) (λ live. live);
+        stays_all t (set_config t g config)
+        (length-changed (λ (x : Geom C). x.number == g) (λ x. record x { config = config }) t.geoms)
+        (parts-edges t (set_config t g config) refl refl) (parts-edges (set_config t g config) t refl refl)
+        (λ live. live);
     started = λ t g.
-        stays_all t (note_started t g) (length-changed (λ (x : Geom C). x.number == g) (λ x. record x { started = x.started + 1 }) t.geoms)
+        stays_all t (note_started t g)
+        (length-changed (λ (x : Geom C). x.number == g) (λ x. record x { started = x.started + 1 }) t.geoms)
         (parts-edges t (note_started t g) refl refl) (parts-edges (note_started t g) t refl refl) (λ live. live);
   }
 
@@ -55,11 +59,13 @@ module _ {C : Type 0} where
     geom = λ t kind name config automatic ranked live.
         stays-same_edges t (add_geom t kind name config automatic) ranked
         (add_geom-geoms t kind name config automatic live) (ranked-live t ranked)
-        (parts-edges t (add_geom t kind name config automatic) refl refl) (parts-edges (add_geom t kind name config automatic) t refl refl);
+        (parts-edges t (add_geom t kind name config automatic) refl refl)
+        (parts-edges (add_geom t kind name config automatic) t refl refl);
     provider = λ t geom name size sector ranked live.
         stays-same_edges t (add_provider t geom name size sector) ranked live
         (add_provider-providers t geom name size sector (ranked-live t ranked))
-        (add_provider-edges t geom name size sector) (before_provider-edges t geom name size sector (ranked-live t ranked));
+        (add_provider-edges t geom name size sector)
+        (before_provider-edges t geom name size sector (ranked-live t ranked));
     consumer = λ t geom ranked live there.
         stays-same_edges t (add_consumer t geom None) ranked
         (add_consumer-geoms t geom None there live) (add_consumer-providers t geom None tt (ranked-live t ranked))
@@ -76,7 +82,8 @@ module _ {C : Type 0} where
         stays-same_edges t (remove_provider t p) ranked live (remove_provider-providers t p none (ranked-live t ranked))
         (remove_provider-edges t p none) (before_removal-edges t p);
     consumer = λ t c x ranked live order found loose.
-        stays-same_edges t (remove_consumer t c) ranked (remove_consumer-geoms t c live) (remove_consumer-providers t c (ranked-live t ranked))
+        stays-same_edges t (remove_consumer t c) ranked (remove_consumer-geoms t c live)
+        (remove_consumer-providers t c (ranked-live t ranked))
         (loose-edges t c order x found loose) (removed-edges t c);
   }
 
@@ -93,8 +100,11 @@ module _ {C : Type 0} (t : Topology C) (c : ℕ) where
         (attach-geoms t c p live) (attach-providers t c p offered (ranked-live t ranked)) none
 
     -- then the ranks rise as by one edge more
-    pub attach-rises : reaches t can.provider.geom can.consumer.geom ≡ false → RanksRise t (attach t c p) can.consumer.geom can.provider.geom
-    attach-rises none = rises-edge t (attach t c p) can.consumer.geom can.provider.geom (attach-edge t c p order can) ranked (attach-ranked none)
+    pub attach-rises : reaches t can.provider.geom can.consumer.geom ≡ false
+        → RanksRise t (attach t c p) can.consumer.geom can.provider.geom
+    attach-rises none =
+        rises-edge t (attach t c p) can.consumer.geom can.provider.geom (attach-edge t c p order can) ranked
+        (attach-ranked none)
 
     -- an attach is refused as a loop just where the provider's geom reaches the consumer's
     loop_is : would_loop t (consumer_at t c) (provider_at t p) ≡ reaches t can.provider.geom can.consumer.geom
@@ -107,7 +117,8 @@ module _ {C : Type 0} (t : Topology C) (c : ℕ) where
     pub loop-ranked : (would_loop t (consumer_at t c) (provider_at t p) ≡ false) ↔ Ranked (attach t c p)
     loop-ranked = (
       (λ e. attach-ranked (sym loop_is ∙ e)),
-      (λ now. loop_is ∙ added-ranked t (attach t c p) can.consumer.geom can.provider.geom (attach-edge t c p order can) now),
+      (λ now. loop_is
+          ∙ added-ranked t (attach t c p) can.consumer.geom can.provider.geom (attach-edge t c p order can) now),
     )
 
     -- that is, exactly where the geom would reach itself
@@ -116,22 +127,27 @@ module _ {C : Type 0} (t : Topology C) (c : ℕ) where
       (λ e. record {
         first = can.provider.geom;
         below = (attach-edge t c p order can).new;
-        back = loop-from_reaches t (attach t c p) can.consumer.geom can.provider.geom (attach-edge t c p order can) (sym loop_is ∙ e);
+        back = loop-from_reaches t (attach t c p) can.consumer.geom can.provider.geom (attach-edge t c p order can)
+            (sym loop_is ∙ e);
       }),
       (λ loop.
           loop_is
           ∙ reaches-from_loop t (attach t c p) can.consumer.geom can.provider.geom (attach-edge t c p order can) ranked
-          (attach-geoms t c p live) (attach-providers t c p offered (ranked-live t ranked)) loop.first loop.below loop.back),
+          (attach-geoms t c p live) (attach-providers t c p offered (ranked-live t ranked)) loop.first
+          loop.below loop.back),
     )
 
     -- an attach that isn't refused
-    pub attach-accepted : attach_refusal t c p ≡ None → RanksRise t (attach t c p) can.consumer.geom can.provider.geom × (is_too_deep (attach t c p) ≡ false)
+    pub attach-accepted : attach_refusal t c p ≡ None
+        → RanksRise t (attach t c p) can.consumer.geom can.provider.geom × (is_too_deep (attach t c p) ≡ false)
     attach-accepted none =
-        let both = no_refusal (is_errored t p) (would_loop t (consumer_at t c) (provider_at t p)) (is_too_deep (attach t c p)) none in
+        let both = no_refusal (is_errored t p) (would_loop t (consumer_at t c) (provider_at t p))
+        (is_too_deep (attach t c p)) none in
         (attach-rises (sym loop_is ∙ both.0), both.1)
       where
         -- without an error there is no loop, and nothing is too deep
-        no_refusal : (x y z : Bool) → first_error ((x, ENXIO) ∷ (y, ELOOP) ∷ (z, EDEEP) ∷ []) ≡ None → (y ≡ false) × (z ≡ false)
+        no_refusal : (x y z : Bool) → first_error ((x, ENXIO) ∷ (y, ELOOP) ∷ (z, EDEEP) ∷ []) ≡ None
+            → (y ≡ false) × (z ≡ false)
         no_refusal true y z e = absurd (let bad : ⊥ = cc in bad)
         no_refusal false true z e = absurd (let bad : ⊥ = cc in bad)
         no_refusal false false true e = absurd (let bad : ⊥ = cc in bad)
@@ -142,35 +158,54 @@ module _ {C : Type 0} (t : Topology C) (c : ℕ) where
     detach_ranked : Ranked (detach t c)
     detach_ranked =
         ranked-fewer t (detach t c) ranked (detach-edge t c order at).old
-        (changed-consumers t (λ x. IsSome (geom_at t x.geom)) (λ x. x.number == c) (λ x. record x { provider = None }) (λ x e fact. fact) live)
-        (changed-consumers t (λ x. IfSome x.provider (λ q. IsSome (provider_at t q))) (λ x. x.number == c) (λ x. record x { provider = None }) (λ x e fact. tt) (ranked-live t ranked))
+        (changed-consumers t (λ x. IsSome (geom_at t x.geom)) (λ x. x.number == c)
+        (λ x. record x { provider = None }) (λ x e fact. fact) live)
+        (changed-consumers t (λ x. IfSome x.provider (λ q. IsSome (provider_at t q))) (λ x. x.number == c)
+        (λ x. record x { provider = None }) (λ x e fact. tt) (ranked-live t ranked))
 
     -- a detach
     pub detach-lowers : Ranked (detach t c) × RanksRise (detach t c) t at.consumer.geom at.provider.geom
-    detach-lowers = (detach_ranked, rises-edge (detach t c) t at.consumer.geom at.provider.geom (detach-edge t c order at) detach_ranked ranked)
+    detach-lowers = (
+      detach_ranked,
+      rises-edge (detach t c) t at.consumer.geom at.provider.geom (detach-edge t c order at)
+          detach_ranked ranked,
+    )
 
     -- and after a removal
     removal_ranked : Ranked (remove_consumer t c)
     removal_ranked =
-        ranked-fewer t (remove_consumer t c) ranked (removed-edges t c) (remove_consumer-geoms t c live) (remove_consumer-providers t c (ranked-live t ranked))
+        ranked-fewer t (remove_consumer t c) ranked (removed-edges t c) (remove_consumer-geoms t c live)
+        (remove_consumer-providers t c (ranked-live t ranked))
 
     -- the removal of an attached consumer
-    pub removal-lowers : Ranked (remove_consumer t c) × RanksRise (remove_consumer t c) t at.consumer.geom at.provider.geom
-    removal-lowers =
-        (removal_ranked, rises-edge (remove_consumer t c) t at.consumer.geom at.provider.geom (removed-edge t c order at) removal_ranked ranked)
+    pub removal-lowers : Ranked (remove_consumer t c)
+        × RanksRise (remove_consumer t c) t at.consumer.geom at.provider.geom
+    removal-lowers = (
+      removal_ranked,
+      rises-edge (remove_consumer t c) t at.consumer.geom at.provider.geom (removed-edge t c order at)
+          removal_ranked ranked,
+    )
 
 -- a new consumer, attached at once
-pub opening-rises : {C : Type 0} (t : Topology C) (geom p : ℕ) (x : Provider) → Ranked t → GeomsLive t → IsSome (geom_at t geom) → provider_at t p ≡ Some x
+pub opening-rises : {C : Type 0} (t : Topology C) (geom p : ℕ) (x : Provider) → Ranked t → GeomsLive t
+    → IsSome (geom_at t geom) → provider_at t p ≡ Some x
     → reaches t x.geom geom ≡ false → RanksRise t (add_consumer t geom (Some p)) geom x.geom
 opening-rises t geom p x ranked live there found none =
     let added = opened-edge t geom (Some p) p x refl found in
     rises-edge t (add_consumer t geom (Some p)) geom x.geom added ranked
     (ranked-added t (add_consumer t geom (Some p)) geom x.geom added ranked
     (add_consumer-geoms t geom (Some p) there live)
-    (add_consumer-providers t geom (Some p) (let is : provider_at t p ≡ Some x = found in rw is refl) (ranked-live t ranked)) none)
+    (add_consumer-providers t geom (Some p) (let is : provider_at t p ≡ Some x = found in
+    rw is refl) (ranked-live t ranked)) none)
 
 -- configurations that are seen otherwise
 pub configs-seen : {C D : Type 0} (see : C → D) (t : Topology C) → AllRanksStay t (with_configs see t)
 configs-seen see t =
     stays_all t (with_configs see t) (length-map t.geoms (seen_geom see))
     (parts-edges t (with_configs see t) refl refl) (parts-edges (with_configs see t) t refl refl) (λ live. live)
+
+-- what `configs_keep_ranks` says
+pub ruleset configs_keep_ranks = (configs-seen)
+
+-- what `ranks_stay` says
+pub ruleset ranks_stay = (plain-stay, adding-stay, removing-stay)

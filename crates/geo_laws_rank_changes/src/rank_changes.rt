@@ -2,6 +2,7 @@
 ghost use Rattle.geo_laws_rank_changes.specs.RankChangeLaws.{AddingKeepsRanks, AttachRaisesRanks, AttachesAreRanked, ConfigsKeepRanks, DetachLowersRanks, LoopsAreRefused, LoopsAreWaysBack, MadeGeomsAreRanked, OpeningRaisesRanks, OpensKeepOtherRanks, PlainChangesKeepRanks, RemovalLowersRanks, RemovingKeepsRanks, SoundRanksStay};
 
 /// What changes no edge keeps the graph without loops and each rank.
+#[tactic(auto, using(crate::proofs::RankChanges::ranks_stay))]
 pub fn ranks_stay<C>()
     ensures plain { PlainChangesKeepRanks C }
     ensures adding { AddingKeepsRanks C }
@@ -9,6 +10,7 @@ pub fn ranks_stay<C>()
 {}
 
 /// Configurations have no part in ranks.
+#[tactic(auto, using(crate::proofs::RankChanges::configs_keep_ranks))]
 pub fn configs_keep_ranks<C, D>()
     ensures { ConfigsKeepRanks C D }
 {}
@@ -31,8 +33,8 @@ pub fn made_geoms_are_ranked()
     ensures { MadeGeomsAreRanked }
 {}
 
-/// An attach is refused as a loop exactly where a geom would reach itself; one that isn't refused keeps the graph without
-/// loops and within the depth.
+/// An attach is refused as a loop exactly where a geom would reach itself; one that isn't refused keeps the graph
+/// without loops and within the depth.
 pub fn attaches_are_ranked<C>()
     ensures refused { LoopsAreRefused C }
     ensures way_back { LoopsAreWaysBack C }
@@ -40,6 +42,7 @@ pub fn attaches_are_ranked<C>()
 {}
 
 /// The changes of one thing that keep the ranks of a sound world.
+#[tactic(auto, using(crate::proofs::Holding::sound_ranks_stay))]
 pub fn sound_ranks_stay()
     ensures { SoundRanksStay }
 {}

@@ -15,7 +15,8 @@ use Rattle.geo_laws_ranks.proofs.Paths.{reached, any-flat_map, reaches-above, re
 use Rattle.geo_model.specs.Graph.{GeomsLive, ProvidersLive}
 
 -- the largest of the values of some, and of others among which each has its like
-largest-among : (f h : ℕ → ℕ) (xs ys : List ℕ) → ((x : ℕ) → Contains xs x → Contains ys x × (f x ≤ h x)) → largest (map f xs) ≤ largest (map h ys)
+largest-among : (f h : ℕ → ℕ) (xs ys : List ℕ) → ((x : ℕ) → Contains xs x → Contains ys x × (f x ≤ h x))
+    → largest (map f xs) ≤ largest (map h ys)
 largest-among f h xs ys so =
     largest-least (largest (map h ys)) (map f xs)
     (λ k c.
@@ -44,7 +45,8 @@ module _ {C D : Type 0} (t : Topology C) (u : Topology D) where
       omega arith
 
   -- and so are the ranks, where there are as many geoms
-  pub rank-same_edges : length u.geoms ≡ length t.geoms → HasEdgesOf u t → HasEdgesOf t u → (g : ℕ) → rank u g ≡ rank t g
+  pub rank-same_edges : length u.geoms ≡ length t.geoms → HasEdgesOf u t → HasEdgesOf t u → (g : ℕ)
+      → rank u g ≡ rank t g
   rank-same_edges e more less g = rw e (rank_within-same_edges more less (length t.geoms) g)
 
   -- a part of the edges of a ranked graph is ranked
@@ -64,7 +66,8 @@ module _ {C D : Type 0} (t : Topology C) (u : Topology D) where
       omega arith
 
 -- the same edges over however many geoms: the graph stays ranked, and each rank stays
-pub rank-kept : {C D : Type 0} (t : Topology C) (u : Topology D) → Ranked t → Ranked u → HasEdgesOf u t → HasEdgesOf t u → (g : ℕ) → rank u g ≡ rank t g
+pub rank-kept : {C D : Type 0} (t : Topology C) (u : Topology D) → Ranked t → Ranked u → HasEdgesOf u t
+    → HasEdgesOf t u → (g : ℕ) → rank u g ≡ rank t g
 rank-kept t u ranked ranked_too more less g =
     let up = rank-fewer t u ranked ranked_too less g in
     let down = rank-fewer u t ranked_too ranked more g in
@@ -75,7 +78,8 @@ module _ {C D : Type 0} (t : Topology C) (u : Topology D) (a b : ℕ) (added : A
   pub rank-rises : (g : ℕ) → rank t g ≤ rank u g
   rank-rises g =
       let e : length u.geoms ≡ length t.geoms = sym added.geoms in
-      let most : rank_within (length t.geoms) t g ≤ rank_within (length t.geoms) u g = rank_within-edges t u added.old (length t.geoms) g in
+      let most : rank_within (length t.geoms) t g ≤ rank_within (length t.geoms) u g =
+      rank_within-edges t u added.old (length t.geoms) g in
       rw e most
 
   -- an edge from a geom other than the upper end was there before
@@ -90,7 +94,8 @@ module _ {C D : Type 0} (t : Topology C) (u : Topology D) (a b : ℕ) (added : A
   elsewhere : (k g : ℕ) → reached t k g a ≡ false → rank_within k u g ≡ rank_within k t g
   elsewhere zero g none = refl
   elsewhere (suc k) g none =
-      let parts = or_parts (g == a) (list_any (λ x. x == a) (flat_map (geoms_reached_within k t) (geoms_under t g))) none in
+      let parts = or_parts (g == a)
+      (list_any (λ x. x == a) (flat_map (geoms_reached_within k t) (geoms_under t g))) none in
       let less = largest-among (rank_within k u) (rank_within k t) (geoms_under u g) (geoms_under t g)
       (λ h c.
       let old = under-from_below t g h (old_edge g h parts.0 (below-from_under u g h c)) in
@@ -114,7 +119,8 @@ module _ {C D : Type 0} (t : Topology C) (u : Topology D) (a b : ℕ) (added : A
   pub rank-elsewhere : (g : ℕ) → reaches t g a ≡ false → rank u g ≡ rank t g
   rank-elsewhere g none =
       let e : length u.geoms ≡ length t.geoms = sym added.geoms in
-      let same : rank_within (length t.geoms) u g ≡ rank_within (length t.geoms) t g = elsewhere (length t.geoms) g none in
+      let same : rank_within (length t.geoms) u g ≡ rank_within (length t.geoms) t g =
+      elsewhere (length t.geoms) g none in
       rw e same
 
   -- a way back up from the lower end makes a loop
@@ -147,7 +153,8 @@ module _ {C D : Type 0} (t : Topology C) (u : Topology D) (a b : ℕ) (added : A
       elim (added.only g h below) [
         | inl old ↦
             let less = rank-falls t ranked g h old in
-            let more = lifted_le (reaches t h a) (reaches t g a) (rank t b + 1) (λ e. reaches-above t ranked g h a old e) in
+            let more = lifted_le (reaches t h a) (reaches t g a) (rank t b + 1)
+            (λ e. reaches-above t ranked g h a old e) in
             omega arith
         | inr ends ↦ rw (ends.0, ends.1, none, reached-itself t (length t.geoms) a) (omega arith)
       ]
@@ -167,7 +174,8 @@ module _ {C D : Type 0} (t : Topology C) (u : Topology D) (a b : ℕ) (added : A
       record { over = p.over; is = path-edges t u added.old b a p.over p.is }
 
   -- where the upper end has a way to itself, the lower end reached it before
-  pub reaches-from_loop : Ranked t → GeomsLive u → ProvidersLive u → (g : ℕ) → Below u a g → Path u g a → reaches t b a ≡ true
+  pub reaches-from_loop : Ranked t → GeomsLive u → ProvidersLive u → (g : ℕ) → Below u a g → Path u g a
+      → reaches t b a ≡ true
   reaches-from_loop ranked geoms providers g first p =
       true_from_ne_false (reaches t b a)
       (λ none.
@@ -193,14 +201,16 @@ module _ {C D : Type 0} (t : Topology C) (u : Topology D) (a b : ℕ) (added : A
       elim (added.only a o.item (below-from_under u a o.item o.stands)) [
         | inl old ↦
             let same = rank-elsewhere o.item (not_back ranked o.item old) in
-            let one = largest-above (map (rank t) (geoms_under t a)) (rank t o.item) (Contains-map (rank t) (geoms_under t a) o.item (under-from_below t a o.item old)) in
+            let one = largest-above (map (rank t) (geoms_under t a)) (rank t o.item)
+            (Contains-map (rank t) (geoms_under t a) o.item (under-from_below t a o.item old)) in
             omega arith
         | inr ends ↦ let same : rank u o.item ≡ rank t b = rw ends.1 lower in omega arith
       ]) in
       let old_most : largest (map (rank t) (geoms_under t a)) ≤ largest (map (rank u) (geoms_under u a)) =
       largest-among (rank t) (rank u) (geoms_under t a) (geoms_under u a)
       (λ h c. (under-from_below u a h (added.old a h (below-from_under t a h c)), rank-rises h)) in
-      let one = largest-above (map (rank u) (geoms_under u a)) (rank u b) (Contains-map (rank u) (geoms_under u a) b new) in
+      let one = largest-above (map (rank u) (geoms_under u a)) (rank u b)
+      (Contains-map (rank u) (geoms_under u a) b new) in
       omega arith
     where
       -- a geom below the upper end doesn't reach back up to it
@@ -230,7 +240,8 @@ module _ {C D : Type 0} (t : Topology C) (u : Topology D) (a b : ℕ) (added : A
       ]
     where
       -- where the first is less, the largest is one of the rest
-      behind : (ns ≡ []) ⊎ Origin (λ k. f k ≡ largest (map f ns)) ns → f n < largest (map f ns) → Origin (λ k. f k ≡ largest (map f (n ∷ ns))) (n ∷ ns)
+      behind : (ns ≡ []) ⊎ Origin (λ k. f k ≡ largest (map f ns)) ns → f n < largest (map f ns)
+          → Origin (λ k. f k ≡ largest (map f (n ∷ ns))) (n ∷ ns)
       behind (inl none) less = let zero_largest : largest (map f ns) ≡ 0 = rw none refl in absurd (omega arith)
       behind (inr o) less =
           let is : f o.item ≡ largest (map f ns) = o.fact in
@@ -245,14 +256,18 @@ module _ {C D : Type 0} (t : Topology C) (u : Topology D) (a b : ℕ) (added : A
             let is : g ≡ a = eqb-true g a same in
             inr (record { way = record { over = []; is = is }; is = rw is (omega arith) })
         | inr other ↦
-            let after : rank u g ≡ 1 + largest (map (rank u) (geoms_under t g)) = rank-mended now g (eqb-false g a other) in
-            highest (one_largest (rank u) (geoms_under t g)) after (λ h less. way_by ranked now k h (omega (arith, less)))
+            let after : rank u g ≡ 1 + largest (map (rank u) (geoms_under t g)) =
+            rank-mended now g (eqb-false g a other) in
+            highest (one_largest (rank u) (geoms_under t g)) after
+            (λ h less. way_by ranked now k h (omega (arith, less)))
       ]
     where
       -- so is a rank that is one more than the highest below
-      highest : (geoms_under t g ≡ []) ⊎ Origin (λ n. rank u n ≡ largest (map (rank u) (geoms_under t g))) (geoms_under t g)
+      highest : (geoms_under t g ≡ [])
+          ⊎ Origin (λ n. rank u n ≡ largest (map (rank u) (geoms_under t g))) (geoms_under t g)
           → rank u g ≡ 1 + largest (map (rank u) (geoms_under t g))
-          → ((h : ℕ) → rank u h < rank u g → (rank u h ≡ rank t h) ⊎ LongWay t u h a) → (rank u g ≡ rank t g) ⊎ LongWay t u g a
+          → ((h : ℕ) → rank u h < rank u g → (rank u h ≡ rank t h) ⊎ LongWay t u h a) → (rank u g ≡ rank t g)
+          ⊎ LongWay t u g a
       highest (inl none) after so =
           let one : rank u g ≡ 1 = after ∙ (rw none refl) in
           let least = rank_within-positive (length t.geoms) t g in
@@ -268,7 +283,11 @@ module _ {C D : Type 0} (t : Topology C) (u : Topology D) (a b : ℕ) (added : A
                 inl (omega arith)
             | inr long ↦
                 let further : rank u o.item ≡ length long.way.over + rank u a = long.is in
-                inr (record { way = record { over = o.item ∷ long.way.over; is = (below, long.way.is) }; is = omega arith })
+                inr (record {
+                  way = record { over = o.item ∷ long.way.over; is = (below, long.way.is) };
+                  is =
+                      omega arith;
+                })
           ]
 
   -- each rank is what it was, or leads over a way to the upper end

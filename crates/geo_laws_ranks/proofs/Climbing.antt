@@ -27,7 +27,8 @@ if_some P o x e fact = rw e at fact
 
 module _ {C : Type 0} (t : Topology C) where
   -- the geom of the provider, under the consumer of an edge
-  pub attached_geom : (o : Option ℕ) (y : Provider) → option_and_then (provider_at t) o ≡ Some y → (p : ℕ) → o ≡ Some p → provider_at t p ≡ Some y
+  pub attached_geom : (o : Option ℕ) (y : Provider) → option_and_then (provider_at t) o ≡ Some y → (p : ℕ)
+      → o ≡ Some p → provider_at t p ≡ Some y
   attached_geom o y e p is = rw is at e
 
   -- a consumer with an edge is attached to a provider of some number
@@ -36,7 +37,8 @@ module _ {C : Type 0} (t : Topology C) where
   provider_there (Some p) y e = record { item = p; is = refl }
 
   -- the geom that the provider's number gives is its geom
-  of_number : (p : ℕ) (y : Provider) (h : ℕ) → provider_at t p ≡ Some y → y.geom ≡ h → option_map (λ (x : Provider). x.geom) (provider_at t p) ≡ Some h
+  of_number : (p : ℕ) (y : Provider) (h : ℕ) → provider_at t p ≡ Some y → y.geom ≡ h
+      → option_map (λ (x : Provider). x.geom) (provider_at t p) ≡ Some h
   of_number p y h e is = rw (e, is) refl
 
   -- what is below a geom is among the geoms under it
@@ -44,13 +46,17 @@ module _ {C : Type 0} (t : Topology C) where
   under-from_below g h b =
       let p = provider_there b.consumer.provider b.provider b.attached in
       let own : (b.consumer.geom == g) ≡ true = eq-eqb b.consumer.geom g b.above in
-      let consumer : Contains (consumers_of t g) b.consumer = Contains-filter (λ (x : Consumer). x.geom == g) t.consumers b.consumer b.stands own in
-      let number : Contains (providers_under t g) p.item = Contains-filter_map (λ (x : Consumer). x.provider) (consumers_of t g) b.consumer p.item consumer p.is in
-      Contains-filter_map (λ q. option_map (λ (x : Provider). x.geom) (provider_at t q)) (providers_under t g) p.item h number
+      let consumer : Contains (consumers_of t g) b.consumer =
+      Contains-filter (λ (x : Consumer). x.geom == g) t.consumers b.consumer b.stands own in
+      let number : Contains (providers_under t g) p.item =
+      Contains-filter_map (λ (x : Consumer). x.provider) (consumers_of t g) b.consumer p.item consumer p.is in
+      Contains-filter_map (λ q. option_map (λ (x : Provider). x.geom) (provider_at t q)) (providers_under t g)
+      p.item h number
       (of_number p.item b.provider h (attached_geom b.consumer.provider b.provider b.attached p.item p.is) b.below)
 
   -- a geom that a provider's number gives is that of the provider
-  geom_is : (p h : ℕ) (y : Provider) → provider_at t p ≡ Some y → option_map (λ (x : Provider). x.geom) (provider_at t p) ≡ Some h → y.geom ≡ h
+  geom_is : (p h : ℕ) (y : Provider) → provider_at t p ≡ Some y
+      → option_map (λ (x : Provider). x.geom) (provider_at t p) ≡ Some h → y.geom ≡ h
   geom_is p h y e is = let same : Some y.geom ≡ Some h = rw e at is in cc
 
   -- and where a geom is given there is a provider
@@ -61,7 +67,9 @@ module _ {C : Type 0} (t : Topology C) where
   -- and what is among the geoms under it is below it
   pub below-from_under : (g h : ℕ) → Contains (geoms_under t g) h → Below t g h
   below-from_under g h c =
-      let number = filter_map-Contains (λ q. option_map (λ (x : Provider). x.geom) (provider_at t q)) (providers_under t g) h c in
+      let number =
+      filter_map-Contains (λ q. option_map (λ (x : Provider). x.geom) (provider_at t q))
+      (providers_under t g) h c in
       let y = some_mapped (provider_at t number.item) h number.fact in
       let consumer = filter_map-Contains (λ (x : Consumer). x.provider) (consumers_of t g) number.item number.stands in
       let own = filter-Contains (λ (x : Consumer). x.geom == g) t.consumers consumer.item consumer.stands in
@@ -78,13 +86,19 @@ module _ {C : Type 0} (t : Topology C) where
   pub climbs_along : (f : ℕ → ℕ) → Climbs t f → (g h : ℕ) → Below t g h → f h < f g
   climbs_along f up g h b =
       let p = provider_there b.consumer.provider b.provider b.attached in
-      let fact = at_contained _ t.consumers b.consumer (recursion_from_All (λ (c : Consumer). IfSome c.provider (λ p. IsSomeAnd (provider_at t p) (λ x. f x.geom < f c.geom))) t.consumers up) b.stands in
-      let one = if_some (λ p. IsSomeAnd (provider_at t p) (λ x. f x.geom < f b.consumer.geom)) b.consumer.provider p.item p.is fact in
-      let less = of_some (λ (x : Provider). f x.geom < f b.consumer.geom) (provider_at t p.item) b.provider (attached_geom b.consumer.provider b.provider b.attached p.item p.is) one in
+      let fact = at_contained _ t.consumers b.consumer
+      (recursion_from_All
+      (λ (c : Consumer). IfSome c.provider (λ p. IsSomeAnd (provider_at t p) (λ x. f x.geom < f c.geom)))
+      t.consumers up) b.stands in
+      let one = if_some (λ p. IsSomeAnd (provider_at t p) (λ x. f x.geom < f b.consumer.geom)) b.consumer.provider
+      p.item p.is fact in
+      let less = of_some (λ (x : Provider). f x.geom < f b.consumer.geom) (provider_at t p.item) b.provider
+      (attached_geom b.consumer.provider b.provider b.attached p.item p.is) one in
       rw (b.below, b.above) at less
 
   -- an attached consumer makes an edge from its geom down to its provider's
-  edge_of : (c : Consumer) → Contains t.consumers c → (p : ℕ) → c.provider ≡ Some p → (y : Provider) → provider_at t p ≡ Some y → Below t c.geom y.geom
+  edge_of : (c : Consumer) → Contains t.consumers c → (p : ℕ) → c.provider ≡ Some p → (y : Provider)
+      → provider_at t p ≡ Some y → Below t c.geom y.geom
   edge_of c here p is y found = record {
     consumer = c;
     stands = here;
@@ -101,26 +115,36 @@ module _ {C : Type 0} (t : Topology C) where
   climbs_at f so c here None e live = rw e tt
   climbs_at f so c here (Some p) e live =
       let y = has (provider_at t p) (rw e at live) in
-      rw e (some_and (λ (x : Provider). f x.geom < f c.geom) (provider_at t p) y.item y.is (so c.geom y.item.geom (edge_of c here p e y.item y.is)))
+      rw e (some_and (λ (x : Provider). f x.geom < f c.geom) (provider_at t p) y.item y.is
+      (so c.geom y.item.geom (edge_of c here p e y.item y.is)))
 
   -- and at all of them
   pub climbs_from : (f : ℕ → ℕ) → ProvidersLive t → ((g h : ℕ) → Below t g h → f h < f g) → Climbs t f
   climbs_from f live so =
-      All-from_recursion (λ (c : Consumer). IfSome c.provider (λ p. IsSomeAnd (provider_at t p) (λ x. f x.geom < f c.geom))) t.consumers
-      (All-from_contained (λ (c : Consumer). IfSome c.provider (λ p. IsSomeAnd (provider_at t p) (λ x. f x.geom < f c.geom))) t.consumers
+      All-from_recursion
+      (λ (c : Consumer).
+      IfSome c.provider (λ p. IsSomeAnd (provider_at t p) (λ x. f x.geom < f c.geom))) t.consumers
+      (All-from_contained
+      (λ (c : Consumer).
+      IfSome c.provider (λ p. IsSomeAnd (provider_at t p) (λ x. f x.geom < f c.geom))) t.consumers
       (λ c here. climbs_at f so c here c.provider refl
       (at_contained (λ (c : Consumer). IfSome c.provider (λ p. IsSome (provider_at t p))) t.consumers c
-      (recursion_from_All (λ (c : Consumer). IfSome c.provider (λ p. IsSome (provider_at t p))) t.consumers live) here)))
+      (recursion_from_All (λ (c : Consumer). IfSome c.provider (λ p. IsSome (provider_at t p))) t.consumers
+      live) here)))
 
   -- a function that falls along each edge falls at each geom under a geom
-  under_falls : (f : ℕ → ℕ) → ((g h : ℕ) → Below t g h → f h < f g) → (g : ℕ) → AllByRecursion (λ h. f h < f g) (geoms_under t g)
+  under_falls : (f : ℕ → ℕ) → ((g h : ℕ) → Below t g h → f h < f g) → (g : ℕ)
+      → AllByRecursion (λ h. f h < f g) (geoms_under t g)
   under_falls f so g = All-from_contained (λ h. f h < f g) (geoms_under t g) (λ h c. so g h (below-from_under g h c))
 
   -- from the level on that covers what is below, one level more changes nothing
-  pub settles : (m : ℕ → ℕ) → ((g h : ℕ) → Below t g h → m h < m g) → (k g : ℕ) → m g ≤ k → rank_within k t g ≡ rank_within (suc k) t g
+  pub settles : (m : ℕ → ℕ) → ((g h : ℕ) → Below t g h → m h < m g) → (k g : ℕ) → m g ≤ k
+      → rank_within k t g ≡ rank_within (suc k) t g
   settles m so zero g low =
       let none : geoms_under t g ≡ [] =
-      no_items (geoms_under t g) (all_weaker (λ h. m h < m g) (λ h. ⊥) (λ h below. omega (arith, below, low)) (geoms_under t g) (under_falls m so g))
+      no_items (geoms_under t g)
+      (all_weaker (λ h. m h < m g) (λ h. ⊥) (λ h below. omega (arith, below, low)) (geoms_under t g)
+      (under_falls m so g))
       in rw none refl
   settles m so (suc k) g low =
       ap (λ ranks. 1 + largest ranks)
@@ -134,7 +158,8 @@ abbrev passing : {X : Type 0} → (X → Bool) → List X → ℕ
 passing test xs = length (filter test xs)
 
 -- one item more, which passes or not
-passing_step : {X : Type 0} (test : X → Bool) (x : X) (xs : List X) (b : Bool) → test x ≡ b → passing test xs ≤ length xs → passing test (x ∷ xs) ≤ length (x ∷ xs)
+passing_step : {X : Type 0} (test : X → Bool) (x : X) (xs : List X) (b : Bool) → test x ≡ b
+    → passing test xs ≤ length xs → passing test (x ∷ xs) ≤ length (x ∷ xs)
 passing_step test x xs true e less = rw e (omega arith)
 passing_step test x xs false e less = rw e (omega arith)
 
@@ -149,7 +174,8 @@ module _ {X : Type 0} (p q : X → Bool) (so : (x : X) → p x ≡ true → q x 
   no_pass x e f = let here : q x ≡ true = so x e in cc
 
   -- one item more, which passes each test or not
-  more_step : (x : X) (xs : List X) (a b : Bool) → p x ≡ a → q x ≡ b → passing p xs ≤ passing q xs → passing p (x ∷ xs) ≤ passing q (x ∷ xs)
+  more_step : (x : X) (xs : List X) (a b : Bool) → p x ≡ a → q x ≡ b → passing p xs ≤ passing q xs
+      → passing p (x ∷ xs) ≤ passing q (x ∷ xs)
   more_step x xs true true e f less = rw (e, f) (omega arith)
   more_step x xs true false e f less = absurd (no_pass x e f)
   more_step x xs false true e f less = rw (e, f) (omega arith)
@@ -161,7 +187,8 @@ module _ {X : Type 0} (p q : X → Bool) (so : (x : X) → p x ≡ true → q x 
   more_pass (x ∷ xs) = more_step x xs (p x) (q x) refl refl (more_pass xs)
 
   -- one item more, where fewer of the rest pass
-  less_step : (x : X) (xs : List X) (a b : Bool) → p x ≡ a → q x ≡ b → passing p xs < passing q xs → passing p (x ∷ xs) < passing q (x ∷ xs)
+  less_step : (x : X) (xs : List X) (a b : Bool) → p x ≡ a → q x ≡ b → passing p xs < passing q xs
+      → passing p (x ∷ xs) < passing q (x ∷ xs)
   less_step x xs true true e f less = rw (e, f) (omega arith)
   less_step x xs true false e f less = absurd (no_pass x e f)
   less_step x xs false true e f less = rw (e, f) (omega arith)
@@ -193,7 +220,8 @@ module _ {C : Type 0} (t : Topology C) (f : ℕ → ℕ) (so : (g h : ℕ) → B
       at_contained (λ (c : Consumer). IsSome (geom_at t c.geom)) t.consumers b.consumer
       (recursion_from_All (λ (c : Consumer). IsSome (geom_at t c.geom)) t.consumers live) b.stands in
       let x = has (geom_at t g) (rw b.above at lives) in
-      let number : x.item.number ≡ g = eqb-true x.item.number g (find_passes (λ (y : Geom C). y.number == g) t.geoms x.item x.is) in
+      let number : x.item.number ≡ g =
+      eqb-true x.item.number g (find_passes (λ (y : Geom C). y.number == g) t.geoms x.item x.is) in
       fewer_pass (λ (x : Geom C). nat_le (f x.number) (f h)) (λ (x : Geom C). nat_le (f x.number) (f g))
       (λ y e. le-leb (f y.number) (f g) (omega (arith, leb-true (f y.number) (f h) e)))
       t.geoms x.item
@@ -215,11 +243,14 @@ module _ {C : Type 0} (t : Topology C) where
   pub one_more-falls : (r : ℕ → ℕ) → IsOneMoreThanBelow t r → (g h : ℕ) → Below t g h → r h < r g
   one_more-falls r is g h b =
       let one : r g ≡ 1 + largest (map r (geoms_under t g)) = is g in
-      let below : r h ≤ largest (map r (geoms_under t g)) = largest-above (map r (geoms_under t g)) (r h) (Contains-map r (geoms_under t g) h (under-from_below t g h b)) in
+      let below : r h ≤ largest (map r (geoms_under t g)) =
+      largest-above (map r (geoms_under t g)) (r h)
+      (Contains-map r (geoms_under t g) h (under-from_below t g h b)) in
       omega arith
 
   -- a graph on which a function climbs is ranked
-  pub ranked-from_climbing : (f : ℕ → ℕ) → GeomsLive t → ProvidersLive t → ((g h : ℕ) → Below t g h → f h < f g) → Ranked t
+  pub ranked-from_climbing : (f : ℕ → ℕ) → GeomsLive t → ProvidersLive t
+      → ((g h : ℕ) → Below t g h → f h < f g) → Ranked t
   ranked-from_climbing f geoms providers so =
       climbs_from t (rank t) providers (one_more-falls (rank t) (ranks_settle t f so geoms))
 

@@ -45,26 +45,31 @@ module _ (t : Topology Config) where
   shallow_from x of e apart other = ltb-false rank_limit (rank t x.number) (rw (not_granted x of apart other) at e)
 
   -- and one within the limit isn't too deep
-  apart_from : (x : Geom Config) (b : Bool) → is_granted_kind x.kind ≡ b → IsOfItsClass x → IsShallow x → is_deep x ≡ false
+  apart_from : (x : Geom Config) (b : Bool) → is_granted_kind x.kind ≡ b → IsOfItsClass x → IsShallow x
+      → is_deep x ≡ false
   apart_from x true e of low = rw e refl
   apart_from x false e of low =
       let both : (is_kind x.kind kinds.Dev || is_kind x.kind kinds.Taste) ≡ false = sym (granted_is x.kind) ∙ e in
       let parts = or_parts (is_kind x.kind kinds.Dev) (is_kind x.kind kinds.Taste) both in
-      let less : rank t x.number ≤ rank_limit = low (eqb-false x.number 1 (sym of.dev ∙ parts.0)) (eqb-false x.number 2 (sym of.taste ∙ parts.1)) in
+      let less : rank t x.number ≤ rank_limit =
+      low (eqb-false x.number 1 (sym of.dev ∙ parts.0)) (eqb-false x.number 2 (sym of.taste ∙ parts.1)) in
       rw (e, le-ltb rank_limit (rank t x.number) less) refl
 
   -- where none is too deep all are within the limit
-  shallow_all : (xs : List (Geom Config)) → AllByRecursion IsOfItsClass xs → list_any is_deep xs ≡ false → AllByRecursion IsShallow xs
+  shallow_all : (xs : List (Geom Config)) → AllByRecursion IsOfItsClass xs → list_any is_deep xs ≡ false
+      → AllByRecursion IsShallow xs
   shallow_all [] of e = tt
   shallow_all (x ∷ xs) of e =
       let parts = or_parts (is_deep x) (list_any is_deep xs) e in
       (shallow_from x of.0 parts.0, shallow_all xs of.1 parts.1)
 
   -- where all are within the limit none is too deep
-  deep_none : (xs : List (Geom Config)) → AllByRecursion IsOfItsClass xs → AllByRecursion IsShallow xs → list_any is_deep xs ≡ false
+  deep_none : (xs : List (Geom Config)) → AllByRecursion IsOfItsClass xs → AllByRecursion IsShallow xs
+      → list_any is_deep xs ≡ false
   deep_none [] of low = refl
   deep_none (x ∷ xs) of low =
-      or_from (is_deep x) (list_any is_deep xs) (apart_from x (is_granted_kind x.kind) refl of.0 low.0) (deep_none xs of.1 low.1)
+      or_from (is_deep x) (list_any is_deep xs) (apart_from x (is_granted_kind x.kind) refl of.0 low.0)
+      (deep_none xs of.1 low.1)
 
   -- only geoms 1 and 2 may be deeper than the limit
   pub depth : All IsOfItsClass t.geoms → (is_too_deep t ≡ false) ↔ All IsShallow t.geoms

@@ -8,8 +8,9 @@ use Rattle.geo_laws_ranks.specs.Edges.{Below, Climbs, AddsEdge, HasEdgesOf, IsPa
 use Rattle.geo_laws_ranks.specs.RankLaws.{AllRanksStay, RanksStay, RanksRise}
 use Rattle.geo_laws_graph.proofs.Members.{find-Contains, Contains-filter, nothing_in}
 use Rattle.std.proofs.lemmas.List.Elements.{All-weaker}
+use Rattle.geo_base.proofs.Tests.{same_tests}
 use Rattle.geo_laws_ranks.proofs.Climbing.{provider_there, attached_geom, ranked-from_climbing, climbs_along, climbs_from, rank-falls}
-use Rattle.geo_laws_ranks.proofs.Paths.{same_bool, reaches-same_edges, reaches-kept, reaches-from_path, path-from_reaches, path-edges}
+use Rattle.geo_laws_ranks.proofs.Paths.{reaches-same_edges, reaches-kept, reaches-from_path, path-from_reaches, path-edges, path-ranks}
 use Rattle.geo_laws_ranks.proofs.AddedEdges.{rank-ways, ranked-fewer, rank-fewer, rank-kept, rank-same_edges, rank-rises, rank-elsewhere, rank-above_edge, rank-mended, old_edge}
 use Rattle.geo_model.specs.Graph.{GeomsLive, ProvidersLive}
 use Rattle.geo_laws_graph.proofs.Living.{if_some_weaker}
@@ -48,10 +49,14 @@ module _ {C : Type 0} (t : Topology C) where
       offers_none : Below t g x → x ≡ h → ⊥
       offers_none b same =
           let p = provider_there t b.consumer.provider b.provider b.attached in
-          let found : provider_at t p.item ≡ Some b.provider = attached_geom t b.consumer.provider b.provider b.attached p.item p.is in
-          let here : Contains t.providers b.provider = find-Contains (λ (y : Provider). y.number == p.item) t.providers b.provider found in
+          let found : provider_at t p.item ≡ Some b.provider =
+          attached_geom t b.consumer.provider b.provider b.attached p.item p.is in
+          let here : Contains t.providers b.provider =
+          find-Contains (λ (y : Provider). y.number == p.item) t.providers b.provider found in
           let of : (b.provider.geom == h) ≡ true = eq-eqb b.provider.geom h (b.below ∙ same) in
-          nothing_in b.provider (subst (λ (ys : List Provider). Contains ys b.provider) none (Contains-filter (λ (y : Provider). y.geom == h) t.providers b.provider here of))
+          nothing_in b.provider
+          (subst (λ (ys : List Provider). Contains ys b.provider) none
+          (Contains-filter (λ (y : Provider). y.geom == h) t.providers b.provider here of))
 
   -- a geom without providers is reached from itself alone
   pub reaches-none : (g h : ℕ) → providers_of t h ≡ [] → g ≢ h → reaches t g h ≡ false
@@ -64,14 +69,16 @@ module _ {C : Type 0} (t : Topology C) where
 
 module _ {C D : Type 0} (t : Topology C) (u : Topology D) where
   -- the same edges over as many geoms
-  pub stays_all : length u.geoms ≡ length t.geoms → HasEdgesOf u t → HasEdgesOf t u → (ProvidersLive t → ProvidersLive u) → AllRanksStay t u
+  pub stays_all : length u.geoms ≡ length t.geoms → HasEdgesOf u t → HasEdgesOf t u
+      → (ProvidersLive t → ProvidersLive u) → AllRanksStay t u
   stays_all e more less live =
       let same : (g : ℕ) → rank u g ≡ rank t g = rank-same_edges t u e more less in
       record {
         same = same;
         reached = reaches-same_edges t u more less e;
         ranked = λ ranked.
-            climbs_from u (rank u) (live (ranked-live t ranked)) (λ g h b. let down = rank-falls t ranked g h (less g h b) in omega (arith, same g, same h));
+            climbs_from u (rank u) (live (ranked-live t ranked)) (λ g h b. let down =
+            rank-falls t ranked g h (less g h b) in omega (arith, same g, same h));
       }
 
 module _ {C : Type 0} (t u : Topology C) where
@@ -79,10 +86,16 @@ module _ {C : Type 0} (t u : Topology C) where
   pub stays-same_edges : Ranked t → GeomsLive u → ProvidersLive u → HasEdgesOf u t → HasEdgesOf t u → RanksStay t u
   stays-same_edges ranked geoms providers more less =
       let now = ranked-fewer t u ranked less geoms providers in
-      record { ranked = now; same = rank-kept t u ranked now more less; reached = reaches-kept t u more less ranked now }
+      record {
+        ranked = now;
+        same = rank-kept t u ranked now more less;
+        reached =
+            reaches-kept t u more less ranked now;
+      }
 
   -- some of the edges: the graph stays ranked, with no greater ranks
-  pub fewer-edges : Ranked t → GeomsLive u → ProvidersLive u → HasEdgesOf t u → Ranked u × ((g : ℕ) → rank u g ≤ rank t g)
+  pub fewer-edges : Ranked t → GeomsLive u → ProvidersLive u → HasEdgesOf t u
+      → Ranked u × ((g : ℕ) → rank u g ≤ rank t g)
   fewer-edges ranked geoms providers less =
       let now = ranked-fewer t u ranked less geoms providers in
       (now, rank-fewer t u ranked now less)
@@ -102,7 +115,7 @@ module _ {C : Type 0} (t u : Topology C) where
     -- so the upper end is reached from where it was before
     reached_same : Ranked t → Ranked u → (g : ℕ) → reaches u g a ≡ reaches t g a
     reached_same ranked now g =
-        same_bool (reaches u g a) (reaches t g a)
+        same_tests (reaches u g a) (reaches t g a)
         (λ e. let p = path-from_reaches u g a e in reaches-from_path t ranked g a (former_way g p.over p.is))
         (λ e.
         let p = path-from_reaches t g a e in
@@ -119,3 +132,6 @@ module _ {C : Type 0} (t u : Topology C) where
       others = rank-mended t u a b added now;
       reached = reached_same ranked now;
     }
+
+-- what `ways_lead_down` says
+pub ruleset ways_lead_down = (reaching-way, path-ranks, reaches-none)

@@ -4,6 +4,7 @@ use Rattle.std.specs.List.{list_any}
 use Rattle.std.proofs.Common.{inl, inr, refl, sym, ◌∙◌, arith}
 use Rattle.std.proofs.lemmas.Bool.{eqb-true, eq-eqb, or_cases, or_left, or_right}
 use Rattle.std.proofs.lemmas.List.Folds.{list_any-append}
+use Rattle.geo_base.proofs.Tests.{same_tests}
 use Rattle.geo_model.specs.Topology.{Topology}
 use Rattle.geo_model.specs.Rank.{rank, geoms_under, geoms_reached_within, reaches, Ranked}
 use Rattle.geo_model.proofs.DemandLemmas.{rank_within-le, rank_within-positive}
@@ -13,7 +14,8 @@ use Rattle.geo_laws_ranks.proofs.Climbing.{under-from_below, below-from_under, r
 
 module _ {X Y : Type 0} (test : Y → Bool) (f : X → List Y) where
   -- one list passes the test, so does all of them
-  pub any-flat_map : (xs : List X) (x : X) → Contains xs x → list_any test (f x) ≡ true → list_any test (flat_map f xs) ≡ true
+  pub any-flat_map : (xs : List X) (x : X) → Contains xs x → list_any test (f x) ≡ true
+      → list_any test (flat_map f xs) ≡ true
   any-flat_map [] x c e = absurd (nothing_in x c)
   any-flat_map (y ∷ xs) x c e =
       list_any-append test (f y) (flat_map f xs)
@@ -26,7 +28,8 @@ module _ {X Y : Type 0} (test : Y → Bool) (f : X → List Y) where
   pub flat_map-any : (xs : List X) → list_any test (flat_map f xs) ≡ true → Origin (λ x. list_any test (f x) ≡ true) xs
   flat_map-any [] e = absurd (let no : ⊥ = cc in no)
   flat_map-any (y ∷ xs) e =
-      elim (or_cases (list_any test (f y)) (list_any test (flat_map f xs)) (sym (list_any-append test (f y) (flat_map f xs)) ∙ e)) [
+      elim (or_cases (list_any test (f y)) (list_any test (flat_map f xs))
+      (sym (list_any-append test (f y) (flat_map f xs)) ∙ e)) [
         | inl first ↦ record { item = y; stands = Contains-here y xs; fact = first }
         | inr rest ↦
             let o = flat_map-any xs rest in
@@ -102,40 +105,41 @@ module _ {C : Type 0} (t : Topology C) where
       omega arith
 
 -- a way stays where the edges stay
-pub path-edges : {C D : Type 0} (t : Topology C) (u : Topology D) → HasEdgesOf u t → (g h : ℕ) (over : List ℕ) → IsPath t g over h → IsPath u g over h
+pub path-edges : {C D : Type 0} (t : Topology C) (u : Topology D) → HasEdgesOf u t → (g h : ℕ) (over : List ℕ)
+    → IsPath t g over h → IsPath u g over h
 path-edges t u edges g h [] is = is
 path-edges t u edges g h (x ∷ over) is = (edges g x is.0, path-edges t u edges x h over is.1)
 
 -- what is reached over so many levels is so where the edges stay
-pub reached-edges : {C D : Type 0} (t : Topology C) (u : Topology D) → HasEdgesOf u t → (k g h : ℕ) → reached t k g h ≡ true → reached u k g h ≡ true
+pub reached-edges : {C D : Type 0} (t : Topology C) (u : Topology D) → HasEdgesOf u t → (k g h : ℕ)
+    → reached t k g h ≡ true → reached u k g h ≡ true
 reached-edges t u edges zero g h e = e
 reached-edges t u edges (suc k) g h e =
     elim (or_cases (g == h) (list_any (λ x. x == h) (flat_map (geoms_reached_within k t) (geoms_under t g))) e) [
-      | inl same ↦ or_left (g == h) (list_any (λ x. x == h) (flat_map (geoms_reached_within k u) (geoms_under u g))) same
+      | inl same ↦
+          or_left (g == h) (list_any (λ x. x == h) (flat_map (geoms_reached_within k u) (geoms_under u g))) same
       | inr rest ↦
           let o = flat_map-any (λ x. x == h) (geoms_reached_within k t) (geoms_under t g) rest in
           let under = under-from_below u g o.item (edges g o.item (below-from_under t g o.item o.stands)) in
           or_right (g == h) (list_any (λ x. x == h) (flat_map (geoms_reached_within k u) (geoms_under u g)))
-          (any-flat_map (λ x. x == h) (geoms_reached_within k u) (geoms_under u g) o.item under (reached-edges t u edges k o.item h o.fact))
+          (any-flat_map (λ x. x == h) (geoms_reached_within k u) (geoms_under u g) o.item under
+          (reached-edges t u edges k o.item h o.fact))
     ]
-
--- two tests that follow from each other
-pub same_bool : (x y : Bool) → (x ≡ true → y ≡ true) → (y ≡ true → x ≡ true) → x ≡ y
-same_bool true y so back = sym (so refl)
-same_bool false true so back = back refl
-same_bool false false so back = refl
 
 module _ {C D : Type 0} (t : Topology C) (u : Topology D) (more : HasEdgesOf u t) (less : HasEdgesOf t u) where
   -- with the same edges and as many geoms the same is reached
   pub reaches-same_edges : length u.geoms ≡ length t.geoms → (g h : ℕ) → reaches u g h ≡ reaches t g h
   reaches-same_edges e g h =
       let same : reached u (length t.geoms) g h ≡ reached t (length t.geoms) g h =
-      same_bool (reached u (length t.geoms) g h) (reached t (length t.geoms) g h) (reached-edges u t less (length t.geoms) g h) (reached-edges t u more (length t.geoms) g h) in
+      same_tests (reached u (length t.geoms) g h) (reached t (length t.geoms) g h)
+      (reached-edges u t less (length t.geoms) g h) (reached-edges t u more (length t.geoms) g h) in
       rw e same
 
   -- in ranked graphs also over however many geoms
   pub reaches-kept : Ranked t → Ranked u → (g h : ℕ) → reaches u g h ≡ reaches t g h
   reaches-kept ranked now g h =
-      same_bool (reaches u g h) (reaches t g h)
-      (λ e. let p = path-from_reaches u g h e in reaches-from_path t ranked g h (record { over = p.over; is = path-edges u t less g h p.over p.is }))
-      (λ e. let p = path-from_reaches t g h e in reaches-from_path u now g h (record { over = p.over; is = path-edges t u more g h p.over p.is }))
+      same_tests (reaches u g h) (reaches t g h)
+      (λ e. let p = path-from_reaches u g h e in
+      reaches-from_path t ranked g h (record { over = p.over; is = path-edges u t less g h p.over p.is }))
+      (λ e. let p = path-from_reaches t g h e in
+      reaches-from_path u now g h (record { over = p.over; is = path-edges t u more g h p.over p.is }))

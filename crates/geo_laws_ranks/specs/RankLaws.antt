@@ -24,7 +24,8 @@ RankIsTheOnly C = (t : Topology C) → Ranked t → (r : ℕ → ℕ) → IsOneM
 
 -- levels past the rank change nothing
 abbrev pub LevelsAreEnough : Type 0 → Type 0
-LevelsAreEnough C = (t : Topology C) → Ranked t → (levels g : ℕ) → rank t g ≤ levels + 1 → rank_within levels t g ≡ rank t g
+LevelsAreEnough C = (t : Topology C) → Ranked t → (levels g : ℕ) → rank t g ≤ levels + 1
+    → rank_within levels t g ≡ rank t g
 
 -- a geom reaches another exactly where there is a way down to it
 abbrev pub ReachingIsAWay : Type 0 → Type 0
@@ -46,9 +47,10 @@ pub record RanksStay {C : Type 0} (t u : Topology C) : Type 0 where
   pub same : (g : ℕ) → rank u g ≡ rank t g
   pub reached : (g h : ℕ) → reaches u g h ≡ reaches t g h
 
--- what one edge more, from a geom down to another, does to the ranks: none falls; those of geoms that don't reach the upper
--- end stay; that of the upper end is the greater of what it was and one more than that of the lower; any other is what it was,
--- or by some way to the upper end as much above that end's; and it is still one more than the highest of those that stood below
+-- what one edge more, from a geom down to another, does to the ranks: none falls; those of geoms that don't reach the
+-- upper end stay; that of the upper end is the greater of what it was and one more than that of the lower; any other
+-- is what it was, or by some way to the upper end as much above that end's; and it is still one more than the highest
+-- of those that stood below
 pub record RanksRise {C : Type 0} (t u : Topology C) (a b : ℕ) : Type 0 where
   pub ranked : Ranked u
   pub rises : (g : ℕ) → rank t g ≤ rank u g
@@ -66,7 +68,8 @@ SameEdgesKeepRanks C =
 -- some of the edges make no greater ranks
 abbrev pub FewerEdgesLowerRanks : Type 0 → Type 0
 FewerEdgesLowerRanks C =
-    (t u : Topology C) → Ranked t → GeomsLive u → ProvidersLive u → HasEdgesOf t u → Ranked u × ((g : ℕ) → rank u g ≤ rank t g)
+    (t u : Topology C) → Ranked t → GeomsLive u → ProvidersLive u → HasEdgesOf t u
+    → Ranked u × ((g : ℕ) → rank u g ≤ rank t g)
 
 -- each rank and what is reached are what they were, ranked or not
 pub record AllRanksStay {C D : Type 0} (t : Topology C) (u : Topology D) : Type 0 where

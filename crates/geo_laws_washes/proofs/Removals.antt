@@ -77,7 +77,7 @@ module _ (w : World) (firm : Firm w) where
   live = steady-parts t firm.steady.parts firm.steady.attached
 
   -- a consumer that stands is found
-  consumer_there : (x : Consumer) → Contains t.consumers x → IsSome (consumer_at t x.number)
+  pub consumer_there : (x : Consumer) → Contains t.consumers x → IsSome (consumer_at t x.number)
   consumer_there x here = some-there (consumer_at t x.number) x
       (found_itself (λ (y : Consumer). y.number) t.next_consumer t.consumers x order.consumers here)
 

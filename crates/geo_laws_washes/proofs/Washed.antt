@@ -33,7 +33,7 @@ use Rattle.geo_laws_less.specs.LessLaws.{IsSpent}
 use Rattle.geo_laws_less.proofs.Less.{less-self}
 use Rattle.geo_laws_less.proofs.LessBios.{bio-stands, no_count}
 use Rattle.geo_laws_less.proofs.LessSteady.{some-passes}
-use Rattle.geo_laws_washes.proofs.Removals.{IsBareGeom, without_provider-firm, without_consumer-firm, without_geom-firm, no_consumer, no_provider, not_upright}
+use Rattle.geo_laws_washes.proofs.Removals.{IsBareGeom, without_provider-firm, without_consumer-firm, without_geom-firm, no_consumer, no_provider, not_upright, consumer_there}
 
 -- what can go: a provider with nothing attached, a consumer that is spent, a geom that is bare
 abbrev pub CanWash : World → WashWork → Type 0
@@ -175,11 +175,6 @@ module _ (w : World) (firm : Firm w) where
   provider_there p here = some-there (provider_at t p.number) p
       (found_itself (λ (z : Provider). z.number) t.next_provider t.providers p firm.sound.numbers.providers here)
 
-  -- so a consumer
-  consumer_there : (c : Consumer) → Contains t.consumers c → IsSome (consumer_at t c.number)
-  consumer_there c here = some-there (consumer_at t c.number) c
-      (found_itself (λ (z : Consumer). z.number) t.next_consumer t.consumers c firm.sound.numbers.consumers here)
-
   -- no bio is from a spent consumer
   no_bio_from : (c : ℕ) (d : Consumer) → consumer_at t c ≡ Some d → IsSpent w d → (x : Bio) → Contains w.bios x
       → x.source ≢ c
@@ -235,7 +230,7 @@ module _ (w : World) (firm : Firm w) where
   pub washed-idle : (work : WashWork) → CanWash w work → FreesIdle w (wash w work)
   unfolding wash
   washed-idle (washes.Provider p) can = record {
-    consumers = λ c here gone. not_gone (consumer_at t c.number) (consumer_there c here) gone;
+    consumers = λ c here gone. not_gone (consumer_at t c.number) (consumer_there w firm c here) gone;
     providers = λ q here gone. provider_idle q here gone (cases_eq q.number p);
     geoms = λ g there gone. not_gone (geom_at t g) there gone;
   }
@@ -266,10 +261,10 @@ module _ (w : World) (firm : Firm w) where
           let spent : IsSpent w d = subst (IsSpent w) one can.fact in
           (all_of (λ x. x.source ≢ d.number) w.bios (no_bio_from d.number d found spent), ap is_zero spent.idle)
       consumer_idle d here gone (inr other) =
-          not_gone (consumer_at t d.number) (consumer_there d here)
+          not_gone (consumer_at t d.number) (consumer_there w firm d here)
           (sym (removed-consumer.others t c d.number other) ∙ gone)
   washed-idle (washes.Geom g) can = record {
-    consumers = λ c here gone. not_gone (consumer_at t c.number) (consumer_there c here) gone;
+    consumers = λ c here gone. not_gone (consumer_at t c.number) (consumer_there w firm c here) gone;
     providers = λ q here gone. not_gone (provider_at t q.number) (provider_there q here) gone;
     geoms = λ h there gone. geom_idle h there gone (cases_eq h g);
   }

@@ -117,3 +117,12 @@ makes-known = refl
 
 pub cost_above-judges : nat_lt judges_of_taste taste_cost ≡ true
 cost_above-judges = refl
+
+-- what `taste_numbers` says
+pub ruleset taste_numbers = (judges-known, makes-known, cost_above-judges)
+
+-- what `worked_labels` says
+pub ruleset worked_labels = (sized-again, plain-accepted, sized-accepted, smaller-declined, larger-declined, version_0-declined, version_3-declined, version_2_zero-size, concat_version_2-declined)
+
+-- what `worked_chains` says
+pub ruleset worked_chains = (two_links-found, row-found, first_without-part, signature-declined, second-declined, loop_to_first-declined, loop_to_itself-declined, far-declined, last_sector-read, long-declined, nothing-declined, part_past-media, part_to-end, asked_on-slice, not_asked_on-disk, not_asked_on_large-sectors, twelfth-name, twelfth-number, second-number, twelfth-place, second-place, no-place)

@@ -82,3 +82,6 @@ first_elsewhere-judged = refl
 pub next_far-unsound : is_sound next_far ≡ false
 unfolding start take_bio deliver up do_event judge_step reap wash_work wash do_command listing go event judge_next reap_next wash_next step is_sound is_steady is_fitting_world digits
 next_far-unsound = refl
+
+-- what `chains_of_tastes` says
+pub ruleset chains_of_tastes = (lawful-holds, lawful-kept, empty_part-unsound, empty_part-judged, long_part-unsound, long_part-judged, late_first-unsound, far_link-unsound, more_reads-unsound, full_chain-unsound, same_sectors-unsound, goes_back-unsound, other_next-unsound, first_elsewhere-unsound, first_elsewhere-judged, next_far-unsound, same_next-sound)

@@ -98,3 +98,6 @@ long_chain-falls = refl
 pub too_long_chain-falls : measure_falls 400 too_long_chain_plan too_long_chain_facts ≡ true
 unfolding start take_bio deliver up do_event judge_step reap wash_work wash do_command listing go event judge_next reap_next wash_next step opening pick run_fixed measure contents digits
 too_long_chain-falls = refl
+
+-- what `grown_laws` says
+pub ruleset grown_laws = (growing-falls, appearing-falls, sized_label-falls, plain_label-falls, logical-falls, looping-falls, refusing-falls, relabelling-falls, growing-results, logical-results, growing-sectors, appearing-sectors, logical-sectors, growing-held, written_through-falls, written_through-sectors, written_through-held, used_slice-falls, kept_above-falls, long_chain-falls, too_long_chain-falls)

@@ -113,3 +113,9 @@ long_chain-report = refl
 pub too_long_chain-report : report_of 400 too_long_chain_plan too_long_chain_facts ≡ too_long_chain_text
 unfolding start take_bio deliver up do_event judge_step reap wash_work wash do_command listing go event judge_next reap_next wash_next step opening pick runs_text mesh_text report run_fixed digits
 too_long_chain-report = refl
+
+-- what `grown_scripts` says
+pub ruleset grown_scripts = (growing-script, appearing-script, sized_label-script, plain_label-script, logical-script, looping-script, refusing-script, relabelling-script, written_through-script, used_slice-script, kept_above-script)
+
+-- what `grown_runs` says
+pub ruleset grown_runs = (growing-report, appearing-report, sized_label-report, plain_label-report, logical-report, looping-report, refusing-report, relabelling-report, written_through-report, used_slice-report, kept_above-report, long_chain-report, too_long_chain-report)

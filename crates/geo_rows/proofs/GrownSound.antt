@@ -185,3 +185,6 @@ too_long_chain-idle = refl
 pub too_long_chain-once : run_answers_once too_long_chain_plan too_long_chain_facts ≡ true
 unfolding start take_bio deliver up do_event judge_step reap wash_work wash do_command listing go event judge_next reap_next wash_next step opening pick run_fixed is_sound digits
 too_long_chain-once = refl
+
+-- what `grown_moments` says
+pub ruleset grown_moments = (growing-sound, appearing-sound, sized_label-sound, plain_label-sound, logical-sound, looping-sound, refusing-sound, relabelling-sound, append_before_up-sound, append_after_up-sound, append_in_read-sound, growing-idle, appearing-idle, sized_label-idle, plain_label-idle, logical-idle, looping-idle, refusing-idle, relabelling-idle, growing-once, appearing-once, sized_label-once, plain_label-once, logical-once, looping-once, refusing-once, relabelling-once, written_through-sound, written_through-idle, written_through-once, used_slice-sound, used_slice-idle, used_slice-once, kept_above-sound, kept_above-idle, kept_above-once, long_chain-sound, long_chain-idle, long_chain-once, too_long_chain-sound, too_long_chain-idle, too_long_chain-once)

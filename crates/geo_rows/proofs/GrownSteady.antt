@@ -80,3 +80,6 @@ long_chain-steady = refl
 pub too_long_chain-steady : run_is_steady too_long_chain_plan too_long_chain_facts ≡ true
 unfolding start take_bio deliver up do_event judge_step reap wash_work wash do_command listing go event judge_next reap_next wash_next step opening pick run_fixed is_steady digits
 too_long_chain-steady = refl
+
+-- what `grown_steadiness` says
+pub ruleset grown_steadiness = (growing-steady, appearing-steady, sized_label-steady, plain_label-steady, logical-steady, looping-steady, refusing-steady, relabelling-steady, append_before_up-steady, append_after_up-steady, append_in_read-steady, written_through-steady, used_slice-steady, kept_above-steady, long_chain-steady, too_long_chain-steady)

@@ -116,3 +116,6 @@ append-too-large-shown = refl
 pub append-largest-shown : refusal_over (chain 1) 1 (λ p. record p { size = 2 ^ 60 - 2048 }) ≡ None
 unfolding start take_bio deliver up do_event judge_step reap wash_work wash do_command listing go event judge_next reap_next wash_next step opening pick mesh_text run_fixed digits
 append-largest-shown = refl
+
+-- what `grown_step_lists` says
+pub ruleset grown_step_lists = (append-once-accepted-shown, append-before-up-shown, read-over-append-shown, append-after-up-shown, size-before-up-shown, size-after-up-shown, held-mesh-shown, append-under-nop-shown, append-over-read-shown, append-before-taste-shown, append-in-taste-shown, append-in-read-shown, append-pulled-shown, append-over-pulled-shown, append-overflow-shown, append-counted-shown, append-deep-shown, append-fits-shown, append-too-large-shown, append-largest-shown)

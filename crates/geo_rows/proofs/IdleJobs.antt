@@ -112,8 +112,8 @@ by_mode call mode plan ending m wrong kept =
     let w : IsWhole ending = whole ending (ends 0 call RunMode plan ending run (λ e. omega (arith, e)) wrong.status) in
     by_plan call plan ending (plan-of call plan ending wrong w run) wrong w run
 
-pub drain-refused : IsRefused LeavesAllToTheDrain
-drain-refused call mode plan ending wrong kept = by_mode call mode plan ending (kept.read_as.mode_is RunMode wrong.words) wrong kept
+pub drain_refused : IsRefused LeavesAllToTheDrain
+drain_refused call mode plan ending wrong kept = by_mode call mode plan ending (kept.read_as.mode_is RunMode wrong.words) wrong kept
 
 -- what lies between a log and itself is that log
 between : (log seen : List Entry) → IsPrefixOf log seen → IsPrefixOf seen log → seen ≡ log
@@ -122,8 +122,8 @@ between log seen behind before =
     let none : length behind.0 ≡ 0 = omega (arith, simp length-append at (ap length same)) in
     behind.1 ∙ ap (λ l. log ++ l) (nil_from_length behind.0 none) ∙ append-nil log
 
-pub event_worker-refused : (opened : World) (plan : Plan) (log : List Entry) → IdlesAtEvent opened plan log → ⊥
-event_worker-refused opened plan log wrong =
+pub event_worker_refused : (opened : World) (plan : Plan) (log : List Entry) → IdlesAtEvent opened plan log → ⊥
+event_worker_refused opened plan log wrong =
     let tried = wrong.idle.at_event in
     let idle : WasIdle opened log (event_seat plan) steps.Event =
     subst (λ l. WasIdle opened l (event_seat plan) steps.Event) (between log tried.seen tried.behind_first tried.before_last) tried.was_idle in

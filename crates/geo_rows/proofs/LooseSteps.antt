@@ -69,3 +69,6 @@ large_link-loose = refl
 pub long_label-loose : is_loose long_label (steps.Go 0) ≡ true
 unfolding start take_bio deliver up do_event judge_step reap wash_work wash do_command listing go event judge_next reap_next wash_next step is_sound is_steady is_fitting_world digits
 long_label-loose = refl
+
+-- what `unfitting_worlds` says
+pub ruleset unfitting_worlds = (crooked_nop-loose, large_component-loose, large_sectors-loose, far_sector-loose, empty_disk-loose, strange_command-loose, two_roots-loose, huge_sector-loose, two_providers-loose, large_concat-loose, tasted_twin-loose, crooked_part-loose, large_link-loose, long_label-loose)

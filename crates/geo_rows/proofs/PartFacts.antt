@@ -87,3 +87,6 @@ slice-named = refl
 
 pub slice-too_long : makes_slice 62 ≡ false
 slice-too_long = refl
+
+-- what `worked_parts` says
+pub ruleset worked_parts = (chain-rank, attach-own, attach-errored, attach-deep, attach-fits, three_way-pieces, three_way-place, label-again, concat-again, stripe-again, place-declined, size-declined, name-declined, magic-declined, far-declined, protective-declined, signature-declined, concat-deep, concat-fits, slice-named, slice-too_long)

@@ -78,3 +78,6 @@ two_users-report = refl
 pub large_users-report : report_of 400 two_users_plan large_users_facts ≡ large_users_text
 unfolding start take_bio deliver up do_event judge_step reap wash_work wash do_command listing go event judge_next reap_next wash_next step opening pick runs_text mesh_text report run_fixed digits
 large_users-report = refl
+
+-- what `worked_runs` says
+pub ruleset worked_runs = (first-report, exclusion-report, boundaries-report, slice-report, hostile_table-report, spoiling-report, pulling-report, joining-report, striping-report, diamond-report, failing_nop-report, assembling-report, labelling-report, two_users-report, large_users-report)

@@ -149,3 +149,6 @@ long_chain-fitting = refl
 pub too_long_chain-fitting : run_is_fitting too_long_chain_plan too_long_chain_facts ≡ true
 unfolding start take_bio deliver up do_event judge_step reap wash_work wash do_command listing go event judge_next reap_next wash_next step opening pick run_fixed is_fitting_world digits
 too_long_chain-fitting = refl
+
+-- what `worked_fitting` says
+pub ruleset worked_fitting = (first-fitting, exclusion-fitting, boundaries-fitting, slice-fitting, hostile_table-fitting, spoiling-fitting, pulling-fitting, joining-fitting, striping-fitting, diamond-fitting, failing_nop-fitting, assembling-fitting, labelling-fitting, two_users-fitting, growing-fitting, appearing-fitting, sized_label-fitting, plain_label-fitting, logical-fitting, looping-fitting, refusing-fitting, relabelling-fitting, pulled_early-fitting, pulled_late-fitting, read_in_reverse-fitting, append_before_up-fitting, append_after_up-fitting, append_in_read-fitting, written_through-fitting, used_slice-fitting, kept_above-fitting, long_chain-fitting, too_long_chain-fitting)

@@ -106,3 +106,6 @@ joining-held = refl
 pub striping-held : same_sectors (held_by_log striping_plan striping_facts 1) (held_by_run striping_plan striping_facts 1) ≡ true
 unfolding start take_bio deliver up do_event judge_step reap wash_work wash do_command listing go event judge_next reap_next wash_next step opening pick measure contents run_fixed digits
 striping-held = refl
+
+-- what `worked_laws` says
+pub ruleset worked_laws = (first-falls, exclusion-falls, boundaries-falls, slice-falls, hostile_table-falls, spoiling-falls, pulling-falls, joining-falls, striping-falls, diamond-falls, failing_nop-falls, assembling-falls, labelling-falls, two_users-falls, joining-results, striping-results, failing_nop-results, pulling-results, joining-sectors, striping-sectors, diamond-sectors, joining-held, striping-held)

@@ -132,3 +132,6 @@ pub reused_number-unsound :
     is_sound (record w { topology = record w.topology { next_geom = 2 } }) ≡ false
 unfolding start take_bio deliver up do_event judge_step reap wash_work wash do_command listing go event judge_next reap_next wash_next step opening pick run_fixed is_sound digits
 reused_number-unsound = refl
+
+-- what `worked_moments` says
+pub ruleset worked_moments = (first-sound, exclusion-sound, boundaries-sound, slice-sound, hostile_table-sound, spoiling-sound, pulling-sound, joining-sound, striping-sound, diamond-sound, failing_nop-sound, assembling-sound, labelling-sound, two_users-sound, pulled_early-sound, pulled_late-sound, read_in_reverse-sound, pulling-idle, pulling-once, assembling-idle, assembling-once, two_users-idle, two_users-once, spoiling-idle, spoiling-once, joining-idle, joining-once, reused_number-unsound)

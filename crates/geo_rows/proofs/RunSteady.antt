@@ -83,3 +83,6 @@ pulled_late-steady = refl
 pub read_in_reverse-steady : steady_along striped_world (made striped_world (by_seat_0 (read_in_reverse striped_world))) ≡ true
 unfolding start take_bio deliver up do_event judge_step reap wash_work wash do_command listing go event judge_next reap_next wash_next step opening pick run_fixed is_steady digits
 read_in_reverse-steady = refl
+
+-- what `worked_steadiness` says
+pub ruleset worked_steadiness = (first-steady, exclusion-steady, boundaries-steady, slice-steady, hostile_table-steady, spoiling-steady, pulling-steady, joining-steady, striping-steady, diamond-steady, failing_nop-steady, assembling-steady, labelling-steady, two_users-steady, pulled_early-steady, pulled_late-steady, read_in_reverse-steady)

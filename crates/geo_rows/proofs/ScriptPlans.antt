@@ -137,3 +137,6 @@ empty-script = refl
 pub empty-report : report_of 1 empty_plan [] ≡ []
 unfolding start take_bio deliver up do_event judge_step reap wash_work wash do_command listing go event judge_next reap_next wash_next step opening pick run_fixed report mesh_text digits
 empty-report = refl
+
+-- what `worked_scripts` says
+pub ruleset worked_scripts = (exclusion-script, boundaries-script, slice-script, hostile_table-script, spoiling-script, pulling-script, joining-script, striping-script, diamond-script, failing_nop-script, assembling-script, labelling-script, two_users-script, first-script, no_counts-fault, equal_neighbours-fault, late_header-fault, same_disk-fault, stranger-fault, two_spaces-fault, zero_in_front-fault, odd_sector-fault, left_over-fault, missing-fault, unknown-fault, first_draws, no_lines-summary, three_lines-summary, empty-script, empty-report)

@@ -83,3 +83,6 @@ nop_first-errors = refl
 pub pulled_first-errors : let w = failing_world (codes "md1") (codes "md0.nop") in errors_met w (second_up_first w) w.next_bio ≡ ENXIO ∷ EIO ∷ []
 unfolding start take_bio deliver up do_event judge_step reap wash_work wash do_command listing go event judge_next reap_next wash_next step opening pick run_fixed digits
 pulled_first-errors = refl
+
+-- what `worked_step_lists` says
+pub ruleset worked_step_lists = (pulled_early-reply, pulled_late-reply, close_while_out-reply, take_of_waiting-found, spoiled-writer, spoiled-reader, read_in_reverse-reply, nop_first-reply, pulled_first-reply, failed_read-reply, failed_read-failures, nop_first-errors, pulled_first-errors)

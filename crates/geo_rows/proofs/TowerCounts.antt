@@ -33,3 +33,6 @@ five_floors-overflow = refl
 pub first_floor-taken : concat_refusal_over (tower_world 1) (floor_name 1) (provider_at (tower_world 1).topology 1) ≡ Some EEXIST
 unfolding start take_bio deliver up do_event judge_step reap wash_work wash do_command listing go event judge_next reap_next wash_next step opening pick run_fixed digits
 first_floor-taken = refl
+
+-- what `worked_towers` says
+pub ruleset worked_towers = (five_floors-counts, five_floors-fits, five_floors-overflow, first_floor-taken)

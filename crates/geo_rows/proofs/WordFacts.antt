@@ -57,3 +57,6 @@ too_many-refused RunMode a = let no : gen_words (codes "1") (codes "4001") ≡ c
 too_many-refused (GenMode s c) a =
     let same : 4001 ≡ c = decimal_injective 4001 c (omega arith) (omega (arith, a.in_range.1)) (large ∙ ap third a.spelled) in
     omega (arith, same, a.in_range.1)
+
+-- what `worked_words` says
+pub ruleset worked_words = (gen-accepted, no_word-refused, two_words-refused, dash-refused, zero_in_front-refused, too_many-refused)

@@ -106,3 +106,6 @@ pub invents_lent_disk-refused : IsRefused InventsLentDisk
 invents_lent_disk-refused call mode plan ending wrong kept =
     let can = was_there call mode plan ending wrong.disk wrong.reports kept wrong.reports.of_shelf in
     can.not_lent wrong.lent
+
+-- what `lost_disks_are_refused` says
+pub ruleset lost_disks_are_refused = (keeps_disk-refused, drops_disk-refused, blames_another-refused, loses_image-refused, invents_disk-refused, invents_lent_disk-refused)

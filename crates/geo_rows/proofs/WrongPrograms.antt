@@ -213,3 +213,6 @@ by_disk call mode plan TooLong s wrong cause = omega (arith, s)
 pub disk_fault-refused : IsRefused AnswersDiskFault
 disk_fault-refused call mode plan ending wrong kept =
     by_disk call mode plan ending (ends 5 call mode plan ending kept (λ e. omega (arith, e)) wrong.status) wrong kept.cause
+
+-- what `constant_answers_are_refused` says
+pub ruleset constant_answers_are_refused = (usage-refused, fault_of_script-refused, read_fault-refused, write_fault-refused, disk_fault-refused, full_without_log-refused, full_at_once-refused, full_too_early-refused, too_long-refused)

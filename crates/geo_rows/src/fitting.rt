@@ -29,6 +29,7 @@ pub fn soundness_is_tested()
 {}
 
 /// Each moment of the runs and of the step lists is fitting.
+#[tactic(auto, using(crate::proofs::RunFitting::worked_fitting))]
 pub fn worked_fitting()
     ensures first_fitting { run_is_fitting first_plan first_facts ≡ true }
     ensures exclusion_fitting { run_is_fitting exclusion_plan exclusion_facts ≡ true }
@@ -66,6 +67,7 @@ pub fn worked_fitting()
 {}
 
 /// Worlds that are sound and steady, aren't fitting, and aren't sound any more after the step.
+#[tactic(auto, using(crate::proofs::LooseSteps::unfitting_worlds))]
 pub fn unfitting_worlds()
     ensures crooked_nop_loose { is_loose crooked_nop (steps.Start 1) ≡ true }
     ensures large_component_loose { is_loose large_component steps.Judge ≡ true }

@@ -16,6 +16,7 @@ ghost use Rattle.geo_rows.specs.WorkedSteady.{run_is_steady, steady_along};
 ghost use Rattle.std.specs.Prelude.{None, Ok, Some, [], codes, true, ◌-◌, ◌^◌, ◌∷◌, ◌≡◌};
 
 /// Each plan, run in the fixed order over memory disks of zeros, gives its report.
+#[tactic(auto, using(crate::proofs::GrownRuns::grown_runs))]
 pub fn grown_runs()
     ensures growing_report { report_of 400 growing_plan growing_facts ≡ growing_text }
     ensures appearing_report { report_of 400 appearing_plan appearing_facts ≡ appearing_text }
@@ -33,6 +34,7 @@ pub fn grown_runs()
 {}
 
 /// Each text is the script of its plan.
+#[tactic(auto, using(crate::proofs::GrownRuns::grown_scripts))]
 pub fn grown_scripts()
     ensures growing_script { script growing_script ≡ Ok growing_plan }
     ensures appearing_script { script appearing_script ≡ Ok appearing_plan }
@@ -48,6 +50,7 @@ pub fn grown_scripts()
 {}
 
 /// Appends while requests and tastes are under way, and appends that are refused.
+#[tactic(auto, using(crate::proofs::GrownStepLists::grown_step_lists))]
 pub fn grown_step_lists()
     ensures append_once_accepted { reply_after held_world (next_of 0 ∷ next_of 1 ∷ []) 8 ≡ Some (replies.Refused EBUSY) }
     ensures append_before_up { reply_after held_world (append_before_up held_world) 8 ≡ Some (replies.Refused EBUSY) }
@@ -72,6 +75,7 @@ pub fn grown_step_lists()
 {}
 
 /// Each moment of these runs is sound, each step frees only what is idle, each request is answered once.
+#[tactic(auto, using(crate::proofs::GrownSound::grown_moments))]
 pub fn grown_moments()
     ensures growing_sound { run_is_sound growing_plan growing_facts ≡ true }
     ensures appearing_sound { run_is_sound appearing_plan appearing_facts ≡ true }
@@ -118,6 +122,7 @@ pub fn grown_moments()
 {}
 
 /// Each moment of these runs is steady, and each step offers for taste only what lives.
+#[tactic(auto, using(crate::proofs::GrownSteady::grown_steadiness))]
 pub fn grown_steadiness()
     ensures growing_steady { run_is_steady growing_plan growing_facts ≡ true }
     ensures appearing_steady { run_is_steady appearing_plan appearing_facts ≡ true }
@@ -138,6 +143,7 @@ pub fn grown_steadiness()
 {}
 
 /// The measure falls along each of these runs; results, sectors and contents are those of the log.
+#[tactic(auto, using(crate::proofs::GrownLaws::grown_laws))]
 pub fn grown_laws()
     ensures growing_falls { measure_falls 400 growing_plan growing_facts ≡ true }
     ensures appearing_falls { measure_falls 400 appearing_plan appearing_facts ≡ true }

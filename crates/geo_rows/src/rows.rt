@@ -30,6 +30,7 @@ ghost use Rattle.geo_model.specs.declared.step.Step.TheVariants as steps;
 ghost use Rattle.std.specs.Prelude.{Err, None, Ok, Some, [], codes, false, replicate, true, ◌++◌, ◌-◌, ◌^◌, ◌∷◌, ◌≡◌};
 
 /// Each plan, run in the fixed order over memory disks of zeros, gives its report.
+#[tactic(auto, using(crate::proofs::RowTexts::worked_runs))]
 pub fn worked_runs()
     ensures first_report { report_of 400 first_plan first_facts ≡ first_text }
     ensures exclusion_report { report_of 400 exclusion_plan exclusion_facts ≡ exclusion_text }
@@ -49,6 +50,7 @@ pub fn worked_runs()
 {}
 
 /// Each text is the script of its plan, or has its fault; and what is made from a number.
+#[tactic(auto, using(crate::proofs::ScriptPlans::worked_scripts))]
 pub fn worked_scripts()
     ensures exclusion_script { script exclusion_script ≡ Ok exclusion_plan }
     ensures boundaries_script { script boundaries_script ≡ Ok boundaries_plan }
@@ -83,6 +85,7 @@ pub fn worked_scripts()
 {}
 
 /// Lists of steps in other orders give these replies.
+#[tactic(auto, using(crate::proofs::StepListReplies::worked_step_lists))]
 pub fn worked_step_lists()
     ensures pulled_early_reply { reply_after sliced_world (pulled_early sliced_world) 9 ≡ Some (replies.Refused ENXIO) }
     ensures pulled_late_reply { reply_after sliced_world (pulled_late sliced_world) 9 ≡ Some (replies.Bytes (fill_of 0)) }
@@ -100,6 +103,7 @@ pub fn worked_step_lists()
 {}
 
 /// Counts double from floor to floor of a tower of concats.
+#[tactic(auto, using(crate::proofs::TowerCounts::worked_towers))]
 pub fn worked_towers()
     ensures five_floors_counts { disk_counts 5 (counts 1 0 0) ≡ counts (2 ^ 5) 0 (2 ^ 6 - 2) }
     ensures five_floors_fits { top_refusal 5 (counts (2 ^ 26 - 1) 0 0) ≡ None }
@@ -108,6 +112,7 @@ pub fn worked_towers()
 {}
 
 /// The measure falls along each run; results, sectors and contents are those of the log.
+#[tactic(auto, using(crate::proofs::RunLaws::worked_laws))]
 pub fn worked_laws()
     ensures first_falls { measure_falls 400 first_plan first_facts ≡ true }
     ensures exclusion_falls { measure_falls 400 exclusion_plan exclusion_facts ≡ true }
@@ -135,6 +140,7 @@ pub fn worked_laws()
 {}
 
 /// Each moment of the runs is sound, each step frees only what is idle, each request is answered once.
+#[tactic(auto, using(crate::proofs::RunSound::worked_moments))]
 pub fn worked_moments()
     ensures first_sound { run_is_sound first_plan first_facts ≡ true }
     ensures exclusion_sound { run_is_sound exclusion_plan exclusion_facts ≡ true }
@@ -167,6 +173,7 @@ pub fn worked_moments()
 {}
 
 /// Attaching, pieces and records.
+#[tactic(auto, using(crate::proofs::PartFacts::worked_parts))]
 pub fn worked_parts()
     ensures chain_rank { rank (chain 32) 34 ≡ 32 }
     ensures attach_own { loose_refusal (chain 1) 2 ≡ Some ELOOP }
@@ -192,6 +199,7 @@ pub fn worked_parts()
 {}
 
 /// Each moment of the runs is steady, and each step offers for taste only what lives.
+#[tactic(auto, using(crate::proofs::RunSteady::worked_steadiness))]
 pub fn worked_steadiness()
     ensures first_steady { run_is_steady first_plan first_facts ≡ true }
     ensures exclusion_steady { run_is_steady exclusion_plan exclusion_facts ≡ true }
@@ -213,6 +221,7 @@ pub fn worked_steadiness()
 {}
 
 /// Words that are accepted, and words that aren't.
+#[tactic(auto, using(crate::proofs::WordFacts::worked_words))]
 pub fn worked_words()
     ensures accepted { Accepts (gen_words (codes "1") (codes "3")) (GenMode 1 3) }
     ensures no_word { AskNothing [] }

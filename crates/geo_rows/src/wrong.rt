@@ -10,6 +10,7 @@ ghost use Rattle.std.specs.Prelude.{List};
 
 /// A program that always answers with one of the statuses 1 to 5, 7 and 8 doesn't keep what a run keeps, whatever it
 /// prints, since each of them has its cause. Want of memory (6) needs none.
+#[tactic(auto, using(crate::proofs::WrongPrograms::constant_answers_are_refused))]
 pub fn constant_answers_are_refused()
     ensures usage { IsRefused AnswersUsage }
     ensures fault_of_script { IsRefused AnswersFaultOfScript }
@@ -23,6 +24,7 @@ pub fn constant_answers_are_refused()
 {}
 
 /// Neither does one that keeps a disk which it could give back, blames another, loses an image, or invents a disk.
+#[tactic(auto, using(crate::proofs::WrongDisks::lost_disks_are_refused))]
 pub fn lost_disks_are_refused()
     ensures keeps_disk { IsRefused KeepsDisk }
     ensures drops_disk { IsRefused DropsDisk }
@@ -33,12 +35,14 @@ pub fn lost_disks_are_refused()
 {}
 
 /// Neither does one that starts no job on the word `run`; and an event worker that doesn't look isn't idle.
+#[tactic(auto, using(crate::proofs::IdleJobs::drain_refused, crate::proofs::IdleJobs::event_worker_refused))]
 pub fn idle_jobs_are_refused()
     ensures drain { IsRefused LeavesAllToTheDrain }
     ensures event_worker { (opened : World) (plan : Plan) (log : List Entry) → IdlesAtEvent opened plan log → ⊥ }
 {}
 
 /// What a run keeps can be kept: by a call of status 0, with a log, over a disk that isn't to stand yet.
+#[tactic(auto, using(crate::proofs::RightCalls::quiet))]
 pub fn a_right_call_keeps_all()
     ensures { KeepsAll quiet_call StepMode later_plan Reported }
 {}

@@ -6,4 +6,5 @@ pub returns-clause-begins : goal.returns-clause-begins
 returns-clause-begins g c t p = below_self (length t.geoms) t p
 
 pub returns-clause-closed : goal.returns-clause-closed
-returns-clause-closed g c t ranked p y q d there attached above reached = below_closed t ranked p y q d there attached above reached
+returns-clause-closed g c t ranked p y q d there attached above reached =
+    below_closed t ranked p y q d there attached above reached

@@ -5,10 +5,12 @@ use Rattle.std.specs.Prelude.{Some}
 use Rattle.geo_laws_demands.proofs.demands.demand_comes.Goals as goal
 
 pub returns-clause-quietly : goal.returns-clause-quietly
-returns-clause-quietly g c granted t after geom p comes none = opener_came granted after t geom p comes.free comes.kind comes.agree none
+returns-clause-quietly g c granted t after geom p comes none =
+    opener_came granted after t geom p comes.free comes.kind comes.agree none
 
 pub returns-clause-raises : goal.returns-clause-raises
-returns-clause-raises g c granted t after geom p comes q = came_more granted after t geom p comes.free comes.kind comes.agree q
+returns-clause-raises g c granted t after geom p comes q =
+    came_more granted after t geom p comes.free comes.kind comes.agree q
 
 pub returns-clause-changes_below : goal.returns-clause-changes_below
 returns-clause-changes_below g c granted t after geom p comes ranked known bare =

@@ -7,5 +7,6 @@ returns g c = record {
   same = λ t u. stays-same_edges t u;
   fewer = λ t u. fewer-edges t u;
   raise = λ t u a b added ranked now. rises-edge t u a b added ranked now;
-  loops = λ t u a b added ranked geoms providers. ((λ none. ranked-added t u a b added ranked geoms providers none), (λ now. added-ranked t u a b added now));
+  loops = λ t u a b added ranked geoms providers.
+      ((λ none. ranked-added t u a b added ranked geoms providers none), (λ now. added-ranked t u a b added now));
 }
