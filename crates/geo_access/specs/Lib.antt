@@ -1,3 +1,4 @@
 pub mod Tries
 pub mod Views
 pub mod Access
+pub mod Join

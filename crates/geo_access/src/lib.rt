@@ -6,6 +6,7 @@ mod access;
 mod counts;
 mod decide;
 mod finish;
+mod joins;
 mod notes;
 mod order;
 mod refusal;
@@ -14,6 +15,7 @@ mod steps;
 mod walk;
 
 pub use access::{allowed, could_grant, grant, release};
+pub use joins::join;
 pub use notes::{next_fallen, next_risen};
-pub use refusal::GrantRefusal;
+pub use refusal::{GrantRefusal, JoinRefusal};
 pub use steps::Steps;
