@@ -39,7 +39,7 @@ use Rattle.geo_access.proofs.Verdict.{After, IsVerdict, refused}
 use Rattle.geo_access.proofs.Decided.{IsTold, consumer_known, new_is, cleared, decided, end}
 
 -- what is found in a list is found in a longer one
-find_left : {X : Type 0} (test : X → Bool) (xs ys : List X) (x : X) → find test xs ≡ Some x → find test (xs ++ ys) ≡ Some x
+pub find_left : {X : Type 0} (test : X → Bool) (xs ys : List X) (x : X) → find test xs ≡ Some x → find test (xs ++ ys) ≡ Some x
 find_left test [] ys x never = absurd (cc)
 find_left {X} test (z ∷ zs) ys x found = by (test z) found (find_left test zs ys x)
   where
@@ -49,7 +49,7 @@ find_left {X} test (z ∷ zs) ys x found = by (test z) found (find_left test zs 
     by false f so = so f
 
 -- where none passes before it, the last is found
-find_last : {X : Type 0} (test : X → Bool) (xs : List X) (y : X) → ((x : X) → Contains xs x → test x ≡ false) → test y ≡ true → find test (xs ++ y ∷ []) ≡ Some y
+pub find_last : {X : Type 0} (test : X → Bool) (xs : List X) (y : X) → ((x : X) → Contains xs x → test x ≡ false) → test y ≡ true → find test (xs ++ y ∷ []) ≡ Some y
 find_last test [] y none passes = ap (λ b. cond b (Some y) None) passes
 find_last test (x ∷ xs) y none passes =
     ap (λ b. cond b (Some x) (find test (xs ++ y ∷ []))) (none x (in_head x xs))

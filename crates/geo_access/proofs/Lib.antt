@@ -22,3 +22,4 @@ pub mod JoinDemand
 pub mod JoinVerdict
 pub mod JoinEnd
 pub mod Joined
+pub mod NewJoiner

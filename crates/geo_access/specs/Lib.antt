@@ -2,3 +2,4 @@ pub mod Tries
 pub mod Views
 pub mod Access
 pub mod Join
+pub mod JoinLaws

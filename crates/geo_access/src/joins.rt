@@ -11,6 +11,7 @@ ghost use Rattle.geo_mesh.specs.Graph.{IsSoundGraph};
 ghost use Rattle.geo_mesh.specs.Refusals.{errno_of};
 ghost use Rattle.geo_access.specs.Access.{IsCounted, IsQuiet, granted_by, consumers_below, noted};
 ghost use Rattle.geo_access.specs.Join.{IsLoose, IsCountedBut, IsPlacedBut, IsJoinRefusal, IsJoinNamed, joined_view, with_have_of, wanted, demand_told, attach_told, errored_of, errored_below, join_answer};
+ghost use Rattle.geo_access.specs.JoinLaws.{NewConsumersMayJoin};
 
 use crate::access::try_out;
 use crate::counts::{NO_COUNTS, Way, Weight, add, made_of};
@@ -30,7 +31,7 @@ use std::sync::ledger::Ledger;
 /// What the model has such a consumer want before it is attached has no bound, so the condition leaves this one out: the
 /// stored counts of all others are kept (`IsCountedBut`), and any other that isn't attached is of a geom without providers
 /// (`IsPlacedBut`). Where all counts are kept a consumer just made meets that, since it has no counts and no request is out
-/// through it.
+/// through it (`new_consumers_may_join`).
 ///
 /// It takes at most one step for each consumer of a geom that is reached downwards, and one for the consumer that joins.
 ///
@@ -176,3 +177,10 @@ fn counts_of<C>(topo: &Topo<C>, geom: GeomId) -> Counts
     }
     sum
 }
+
+/// A consumer just made may join, of whatever geom, where all counts are kept; and afterwards no consumer stands in the
+/// way of `grant` and `release`.
+#[tactic(auto, using(crate::proofs::NewJoiner::new_consumers_may_join))]
+pub fn new_consumers_may_join<C>()
+    ensures { NewConsumersMayJoin C }
+{}

@@ -15,7 +15,7 @@ mod steps;
 mod walk;
 
 pub use access::{allowed, could_grant, grant, release};
-pub use joins::join;
+pub use joins::{join, new_consumers_may_join};
 pub use notes::{next_fallen, next_risen};
 pub use refusal::{GrantRefusal, JoinRefusal};
 pub use steps::Steps;
