@@ -23,3 +23,4 @@ pub mod JoinVerdict
 pub mod JoinEnd
 pub mod Joined
 pub mod NewJoiner
+pub mod Shut

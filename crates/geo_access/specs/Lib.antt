@@ -3,3 +3,4 @@ pub mod Views
 pub mod Access
 pub mod Join
 pub mod JoinLaws
+pub mod ShutLaws

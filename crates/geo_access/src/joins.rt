@@ -11,7 +11,6 @@ ghost use Rattle.geo_mesh.specs.Graph.{IsSoundGraph};
 ghost use Rattle.geo_mesh.specs.Refusals.{errno_of};
 ghost use Rattle.geo_access.specs.Access.{IsCounted, IsQuiet, granted_by, consumers_below, noted};
 ghost use Rattle.geo_access.specs.Join.{IsLoose, IsCountedBut, IsPlacedBut, IsJoinRefusal, IsJoinNamed, joined_view, with_have_of, wanted, demand_told, attach_told, errored_of, errored_below, join_answer};
-ghost use Rattle.geo_access.specs.JoinLaws.{NewConsumersMayJoin};
 
 use crate::access::try_out;
 use crate::counts::{NO_COUNTS, Way, Weight, add, made_of};
@@ -177,10 +176,3 @@ fn counts_of<C>(topo: &Topo<C>, geom: GeomId) -> Counts
     }
     sum
 }
-
-/// A consumer just made may join, of whatever geom, where all counts are kept; and afterwards no consumer stands in the
-/// way of `grant` and `release`.
-#[tactic(auto, using(crate::proofs::NewJoiner::new_consumers_may_join))]
-pub fn new_consumers_may_join<C>()
-    ensures { NewConsumersMayJoin C }
-{}
