@@ -17,7 +17,7 @@ use Rattle.geo_access.specs.Views.{order_of, finish_geom, IsTried, judged, answe
 use Rattle.geo_access.proofs.Trying.{trying}
 use Rattle.geo_access.proofs.Walked.{geoms_below, below_ordered, below_lives, below_covers, tried_order, order_apart}
 use Rattle.geo_access.proofs.Verdict.{IsVerdict}
-use Rattle.geo_access.proofs.Decided.{new_is, cleared, decided, end}
+use Rattle.geo_access.proofs.Decided.{counted_told, new_is, cleared, decided, end}
 use Rattle.geo_access.proofs.Granting.{Holder, granted_after, place, gains, mores, granting, granting_after, answer_refuses, answer_names}
 
 module _ {C : Type 0} (t : TopoView C) (sound : IsSoundGraph t.topology) (counted : IsCounted t) (cons : ℕ) (holder : Holder t.topology cons)
@@ -35,7 +35,7 @@ module _ {C : Type 0} (t : TopoView C) (sound : IsSoundGraph t.topology) (counte
   pub its_graph : new.topology ≡ t.topology
   its_graph =
       ap (λ v. v.topology)
-      (new_is t sound counted (place t sound counted cons holder add) add new o tried cons (granted_after t sound counted cons holder add) t.topology
+      (new_is t sound (counted_told t sound counted) (place t sound counted cons holder add) add new o tried cons (granted_after t sound counted cons holder add) t.topology
       (gains t sound counted cons holder add stored) (mores t sound counted cons holder add stored) (granting_after t sound counted cons holder add stored)
       (granting t sound counted cons holder add stored its_order (below_covers t sound counted.clear (place t sound counted cons holder add) tried.offer tried.found)))
 
@@ -55,13 +55,13 @@ module _ {C : Type 0} (t : TopoView C) (sound : IsSoundGraph t.topology) (counte
   -- the end of the walk leaves the mesh as it was
   pub its_end : fold (finish_geom None) new (order_of new o) ≡ t
   its_end =
-      cleared t sound counted (place t sound counted cons holder add) add new o tried cons (granted_after t sound counted cons holder add) t.topology
+      cleared t sound (counted_told t sound counted) (place t sound counted cons holder add) add new o tried cons (granted_after t sound counted cons holder add) t.topology
       (gains t sound counted cons holder add stored) (mores t sound counted cons holder add stored) (granting_after t sound counted cons holder add stored)
       (granting t sound counted cons holder add stored its_order (below_covers t sound counted.clear (place t sound counted cons holder add) tried.offer tried.found))
 
   -- the mesh after the walk
   abbrev its_mesh : TopoView C
-  its_mesh = trying t (end t sound counted (place t sound counted cons holder add) add new o tried cons (granted_after t sound counted cons holder add) t.topology
+  its_mesh = trying t (end t sound (counted_told t sound counted) (place t sound counted cons holder add) add new o tried cons (granted_after t sound counted cons holder add) t.topology
       (gains t sound counted cons holder add stored) (mores t sound counted cons holder add stored) (granting_after t sound counted cons holder add stored)
       (granting t sound counted cons holder add stored its_order (below_covers t sound counted.clear (place t sound counted cons holder add) tried.offer tried.found))).tries
 
@@ -72,7 +72,7 @@ module _ {C : Type 0} (t : TopoView C) (sound : IsSoundGraph t.topology) (counte
       answer_refuses its_mesh (place t sound counted cons holder add) cons add (granted_by t) (granted_after t sound counted cons holder add) t.topology
       (gains t sound counted cons holder add stored) (mores t sound counted cons holder add stored) (granting_after t sound counted cons holder add stored)
       (judged new (place t sound counted cons holder add) add (order_of new o))
-      (decided t sound counted (place t sound counted cons holder add) add new o tried cons (granted_after t sound counted cons holder add) t.topology
+      (decided t sound (counted_told t sound counted) (place t sound counted cons holder add) add new o tried cons (granted_after t sound counted cons holder add) t.topology
       (gains t sound counted cons holder add stored) (mores t sound counted cons holder add stored) (granting_after t sound counted cons holder add stored)
       (granting t sound counted cons holder add stored its_order (below_covers t sound counted.clear (place t sound counted cons holder add) tried.offer tried.found)))
 
@@ -83,7 +83,7 @@ module _ {C : Type 0} (t : TopoView C) (sound : IsSoundGraph t.topology) (counte
       answer_names its_mesh (place t sound counted cons holder add) cons add (granted_by t) (granted_after t sound counted cons holder add)
       (gains t sound counted cons holder add stored) (mores t sound counted cons holder add stored) (granting_after t sound counted cons holder add stored)
       (judged new (place t sound counted cons holder add) add (order_of new o))
-      (decided t sound counted (place t sound counted cons holder add) add new o tried cons (granted_after t sound counted cons holder add) t.topology
+      (decided t sound (counted_told t sound counted) (place t sound counted cons holder add) add new o tried cons (granted_after t sound counted cons holder add) t.topology
       (gains t sound counted cons holder add stored) (mores t sound counted cons holder add stored) (granting_after t sound counted cons holder add stored)
       (granting t sound counted cons holder add stored its_order (below_covers t sound counted.clear (place t sound counted cons holder add) tried.offer tried.found)))
 
@@ -95,7 +95,7 @@ module _ {C : Type 0} (t : TopoView C) (sound : IsSoundGraph t.topology) (counte
       (gains t sound counted cons holder add stored) (mores t sound counted cons holder add stored) (granting_after t sound counted cons holder add stored) None =
       subst (IsVerdict its_mesh (place t sound counted cons holder add) cons add (granted_by t) (granted_after t sound counted cons holder add) t.topology
       (gains t sound counted cons holder add stored) (mores t sound counted cons holder add stored) (granting_after t sound counted cons holder add stored)) none
-      (decided t sound counted (place t sound counted cons holder add) add new o tried cons (granted_after t sound counted cons holder add) t.topology
+      (decided t sound (counted_told t sound counted) (place t sound counted cons holder add) add new o tried cons (granted_after t sound counted cons holder add) t.topology
       (gains t sound counted cons holder add stored) (mores t sound counted cons holder add stored) (granting_after t sound counted cons holder add stored)
       (granting t sound counted cons holder add stored its_order (below_covers t sound counted.clear (place t sound counted cons holder add) tried.offer tried.found))) in
       (says.1, says.2)

@@ -8,7 +8,8 @@ use Rattle.geo_base.specs.declared.kind.Kind.TheVariants as kinds
 use Rattle.geo_model.specs.Words.{names_number, is_granted_kind}
 use Rattle.geo_model.specs.Topology.{Topology, Geom, Provider, Consumer, geom_at, provider_at, consumer_at, providers_of, attached_to}
 use Rattle.geo_model.specs.Rank.{rank, Ranked}
-use Rattle.geo_model.specs.Opens.{grant_refusal, with_grant, with_opener}
+use Rattle.geo_model.specs.Opens.{has_error_below, grant_refusal, with_grant, with_opener}
+use Rattle.geo_model.specs.Refusals.{IsFirstErrored}
 use Rattle.geo_model.specs.Demand.{add_counts, have, want}
 use Rattle.geo_mesh.specs.Topo.{TopoView}
 use Rattle.geo_mesh.specs.Graph.{IsSoundGraph, IsOffer}
@@ -25,17 +26,20 @@ use Rattle.geo_laws_demands.proofs.Refusing.{errors_came}
 use Rattle.geo_laws_demands.proofs.Raising.{Demands, Covers, coming_demands}
 use Rattle.geo_access.specs.declared.counts.Way.TheVariants.{Rises}
 use Rattle.geo_access.specs.declared.order.Order.{Order}
+use Rattle.geo_access.specs.declared.decide.Refused.{Refused}
+use Rattle.geo_access.specs.declared.decide.Refused.TheVariants.{Named, Writer, Exclusive}
+use Rattle.geo_access.specs.declared.refusal.GrantRefusal.TheVariants.{Enxio, Eperm, Eoverflow}
 use Rattle.geo_access.specs.Tries.{Apart}
-use Rattle.geo_access.specs.Access.{granted_by, IsCounted}
+use Rattle.geo_access.specs.Access.{granted_by}
 use Rattle.geo_access.specs.Views.{order_of, finish_geom, IsTried, judged, errno_of_refused}
 use Rattle.geo_access.proofs.Walking.{found_in}
 use Rattle.geo_access.proofs.Trying.{trying, some_of}
 use Rattle.geo_access.proofs.Walked.{geoms_below, below_ordered, below_lives, below_covers, tried_order, order_apart}
-use Rattle.geo_access.proofs.Verdict.{After, refused}
-use Rattle.geo_access.proofs.Decided.{consumer_known, new_is, cleared, decided, end}
+use Rattle.geo_access.proofs.Verdict.{After, IsVerdict, refused}
+use Rattle.geo_access.proofs.Decided.{IsTold, consumer_known, new_is, cleared, decided, end}
 
 -- what is found in a list is found in a longer one
-find_left : {X : Type 0} (test : X → Bool) (xs ys : List X) (x : X) → find test xs ≡ Some x → find test (xs ++ ys) ≡ Some x
+pub find_left : {X : Type 0} (test : X → Bool) (xs ys : List X) (x : X) → find test xs ≡ Some x → find test (xs ++ ys) ≡ Some x
 find_left test [] ys x never = absurd (cc)
 find_left {X} test (z ∷ zs) ys x found = by (test z) found (find_left test zs ys x)
   where
@@ -45,11 +49,16 @@ find_left {X} test (z ∷ zs) ys x found = by (test z) found (find_left test zs 
     by false f so = so f
 
 -- where none passes before it, the last is found
-find_last : {X : Type 0} (test : X → Bool) (xs : List X) (y : X) → ((x : X) → Contains xs x → test x ≡ false) → test y ≡ true → find test (xs ++ y ∷ []) ≡ Some y
+pub find_last : {X : Type 0} (test : X → Bool) (xs : List X) (y : X) → ((x : X) → Contains xs x → test x ≡ false) → test y ≡ true → find test (xs ++ y ∷ []) ≡ Some y
 find_last test [] y none passes = ap (λ b. cond b (Some y) None) passes
 find_last test (x ∷ xs) y none passes =
     ap (λ b. cond b (Some x) (find test (xs ++ y ∷ []))) (none x (in_head x xs))
     ∙ find_last test xs y (λ z there. none z (in_tail x xs z there)) passes
+
+-- what a refusal says of errors: it names the first, or there is none
+abbrev pub SaysError : {C : Type 0} → Topology C → ℕ → Option Refused → Type 0
+SaysError t p (Some (Named (Enxio q))) = (has_error_below t p ≡ true) × IsFirstErrored t p q
+SaysError t p r = has_error_below t p ≡ false
 
 -- of a geom without providers none stands
 bare_of : (ps : List Provider) (g : ℕ) → ((y : Provider) → Contains ps y → y.geom ≢ g) → filter (λ (y : Provider). y.geom == g) ps ≡ []
@@ -58,7 +67,7 @@ bare_of (y ∷ ys) g none =
     ap (λ b. cond b (y ∷ filter (λ (z : Provider). z.geom == g) ys) (filter (λ (z : Provider). z.geom == g) ys)) (ne_eqb y.geom g (none y (in_head y ys)))
     ∙ bare_of ys g (λ z there. none z (in_tail y ys z there))
 
-module _ {C : Type 0} (t : TopoView C) (sound : IsSoundGraph t.topology) (counted : IsCounted t) (p : ℕ) (y : Provider) (offered : provider_at t.topology p ≡ Some y) (add : Counts) where
+module _ {C : Type 0} (t : TopoView C) (sound : IsSoundGraph t.topology) (told : IsTold t) (p : ℕ) (y : Provider) (offered : provider_at t.topology p ≡ Some y) (add : Counts) where
   -- the graph with the new consumer
   abbrev pub opened : Topology C
   opened = with_opener t.topology p
@@ -193,7 +202,7 @@ module _ {C : Type 0} (t : TopoView C) (sound : IsSoundGraph t.topology) (counte
     opener_wants = wants_grant opened_grants opened newcomer dev_holds ∙ own_grant;
     found = λ c there.
         elim (Contains-push_cases t.topology.consumers newcomer c there) [
-          | inl old ↦ find_left (λ (x : Consumer). x.number == c.number) t.topology.consumers (newcomer ∷ []) c (consumer_known t sound counted c old)
+          | inl old ↦ find_left (λ (x : Consumer). x.number == c.number) t.topology.consumers (newcomer ∷ []) c (consumer_known t sound c old)
           | inr same ↦
               subst (λ d. consumer_at opened d.number ≡ Some d) same
               (find_last (λ (x : Consumer). x.number == t.topology.next_consumer) t.topology.consumers newcomer
@@ -220,33 +229,54 @@ module _ {C : Type 0} (t : TopoView C) (sound : IsSoundGraph t.topology) (counte
   module _ (new : TopoView C) (o : Order) (tried : IsTried t p add Rises new o) where
     -- the geoms below
     abbrev pub open_order : List ℕ
-    open_order = geoms_below t sound counted.clear p tried.offer tried.found
+    open_order = geoms_below t sound told.clear p tried.offer tried.found
 
     pub open_demand : Demands t.topology p add (have (granted_by t) t.topology) opened_gains opened_mores open_order
-    open_demand = opening open_order (below_covers t sound counted.clear p tried.offer tried.found)
+    open_demand = opening open_order (below_covers t sound told.clear p tried.offer tried.found)
 
     pub open_order_is : order_of new o ≡ open_order
-    open_order_is = tried_order t sound counted.clear p add Rises new o tried
+    open_order_is = tried_order t sound told.clear p add Rises new o tried
+
+    -- what the walk comes to
+    pub open_is : new ≡ trying t (end t sound told p add new o tried t.topology.next_consumer opened_grants opened opened_gains opened_mores opening_after open_demand).tries
+    open_is = new_is t sound told p add new o tried t.topology.next_consumer opened_grants opened opened_gains opened_mores opening_after open_demand
 
     -- the geoms of the order live
     pub open_lives : All (λ x. IsSome (geom_at new.topology x)) (order_of new o)
     open_lives =
         subst (λ u. All (λ x. IsSome (geom_at u x)) (order_of new o))
-        (sym (ap (λ v. v.topology) (new_is t sound counted p add new o tried t.topology.next_consumer opened_grants opened opened_gains opened_mores opening_after open_demand)))
+        (sym (ap (λ v. v.topology) open_is))
         (subst (All (λ x. IsSome (geom_at t.topology x))) (sym open_order_is)
-        (all_of (λ x. IsSome (geom_at t.topology x)) open_order (below_lives t sound counted.clear p tried.offer tried.found)))
+        (all_of (λ x. IsSome (geom_at t.topology x)) open_order (below_lives t sound told.clear p tried.offer tried.found)))
 
     -- and differ
     pub open_apart : Apart (order_of new o)
-    open_apart = subst Apart (sym open_order_is) (order_apart t.topology open_order (below_ordered t sound counted.clear p tried.offer tried.found))
+    open_apart = subst Apart (sym open_order_is) (order_apart t.topology open_order (below_ordered t sound told.clear p tried.offer tried.found))
 
     -- the end of the walk leaves the mesh as it was
     pub open_end : fold (finish_geom None) new (order_of new o) ≡ t
-    open_end = cleared t sound counted p add new o tried t.topology.next_consumer opened_grants opened opened_gains opened_mores opening_after open_demand
+    open_end = cleared t sound told p add new o tried t.topology.next_consumer opened_grants opened opened_gains opened_mores opening_after open_demand
 
     -- the judgement is the model's
     pub open_refused : option_map errno_of_refused (judged new p add (order_of new o)) ≡ grant_refusal opened_grants opened p
     open_refused =
-        refused (trying t (end t sound counted p add new o tried t.topology.next_consumer opened_grants opened opened_gains opened_mores opening_after open_demand).tries)
+        refused (trying t (end t sound told p add new o tried t.topology.next_consumer opened_grants opened opened_gains opened_mores opening_after open_demand).tries)
         p t.topology.next_consumer add (granted_by t) opened_grants opened opened_gains opened_mores opening_after (judged new p add (order_of new o))
-        (decided t sound counted p add new o tried t.topology.next_consumer opened_grants opened opened_gains opened_mores opening_after open_demand)
+        (decided t sound told p add new o tried t.topology.next_consumer opened_grants opened opened_gains opened_mores opening_after open_demand)
+
+    -- what it says of errors
+    pub open_errors : SaysError t.topology p (judged new p add (order_of new o))
+    open_errors =
+        by (judged new p add (order_of new o))
+        (decided t sound told p add new o tried t.topology.next_consumer opened_grants opened opened_gains opened_mores opening_after open_demand)
+      where
+        by : (r : Option Refused)
+            → IsVerdict (trying t (end t sound told p add new o tried t.topology.next_consumer opened_grants opened opened_gains opened_mores opening_after open_demand).tries)
+            p t.topology.next_consumer add (granted_by t) opened_grants opened opened_gains opened_mores opening_after r
+            → SaysError t.topology p r
+        by None says = says.0
+        by (Some (Named (Enxio q))) says = says
+        by (Some (Named (Eperm q w e))) says = says.0
+        by (Some (Named (Eoverflow q))) says = says.0
+        by (Some (Writer w)) says = says.0
+        by (Some (Exclusive e)) says = says.0

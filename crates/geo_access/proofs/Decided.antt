@@ -7,14 +7,16 @@ use Rattle.std.proofs.lemmas.Bool.{eqb-true, cases_eq, ne_eqb}
 use Rattle.std.proofs.lemmas.List.Elements.{All-contains}
 use Rattle.std.proofs.lemmas.List.Kept.{AllPairs-from_increasing}
 use Rattle.geo_base.specs.declared.request.Counts.{Counts}
-use Rattle.geo_model.specs.Topology.{Topology, Provider, Consumer, geom_at, provider_at, consumers_of, providers_under}
+use Rattle.geo_model.specs.Words.{names_number}
+use Rattle.geo_model.specs.Topology.{Topology, Provider, Consumer, geom_at, provider_at, consumers_of, providers_under, attached_to}
 use Rattle.geo_model.specs.Opens.{below}
-use Rattle.geo_model.specs.Demand.{no_counts, add_counts, have, want}
+use Rattle.geo_model.specs.Demand.{no_counts, add_counts, have, want, is_exclusive, fits_limit}
 use Rattle.geo_model.proofs.DemandLemmas.{find_passes}
 use Rattle.geo_slots.specs.Slots.{value_at}
 use Rattle.geo_mesh.specs.Topo.{TopoView}
 use Rattle.geo_mesh.specs.Graph.{IsSoundGraph}
 use Rattle.geo_laws_counts.proofs.Members.{in_head, in_tail, in_cases, flat_map_cases}
+use Rattle.geo_laws_counts.proofs.LimitFacts.{of_filter}
 use Rattle.geo_laws_counts.proofs.Numbers.{found_of, first_below, rest_rise}
 use Rattle.geo_laws_demands.specs.WalkWords.{has_number, cap}
 use Rattle.geo_laws_demands.proofs.Reach.{below_self}
@@ -25,7 +27,7 @@ use Rattle.geo_access.specs.declared.counts.Way.{Way}
 use Rattle.geo_access.specs.declared.counts.Way.TheVariants.{Rises}
 use Rattle.geo_access.specs.declared.order.Order.{Order}
 use Rattle.geo_access.specs.Tries.{had, Apart}
-use Rattle.geo_access.specs.Access.{granted_by, IsCounted, consumers_below}
+use Rattle.geo_access.specs.Access.{granted_by, clear_scratches, IsCounted, consumers_below}
 use Rattle.geo_access.specs.Views.{order_of, have_at, want_at, made_at, gain_at, raised, raised_have, finish_geom, IsTried, consumers_over, judged}
 use Rattle.geo_access.proofs.Walking.{found_in}
 use Rattle.geo_access.proofs.Trying.{trying, trying-made, trying-gain}
@@ -124,18 +126,7 @@ over_is t (x ∷ xs) apart =
           | inr other ↦ ne_eqb x n (λ e. other (sym e)) ∙ sym (ne_eqb n x other)
         ]
 
-module _ {C : Type 0} (t : TopoView C) (sound : IsSoundGraph t.topology) (counted : IsCounted t) where
-  -- the stored counts are the model's
-  pub stored_have : (z : Provider) → provider_at t.topology z.number ≡ Some z → have_at t z.number ≡ have (granted_by t) t.topology z.number
-  stored_have z found =
-      ap (λ rows. unwrap_or (value_at rows z.number) no_counts) counted.haves
-      ∙ ap (λ o. unwrap_or o no_counts) (item_at (λ (y : Provider). y.number) (λ (y : Provider). have (granted_by t) t.topology y.number) z.number t.topology.providers z found)
-
-  pub stored_want : (c : Consumer) → find (λ (x : Consumer). x.number == c.number) t.topology.consumers ≡ Some c → want_at t c.number ≡ want (granted_by t) t.topology c
-  stored_want c found =
-      ap (λ rows. unwrap_or (value_at rows c.number) no_counts) counted.wants
-      ∙ ap (λ o. unwrap_or o no_counts) (item_at (λ (x : Consumer). x.number) (λ (x : Consumer). want (granted_by t) t.topology x) c.number t.topology.consumers c found)
-
+module _ {C : Type 0} (t : TopoView C) (sound : IsSoundGraph t.topology) where
   -- each is found by its number
   pub provider_known : (z : Provider) → Contains t.topology.providers z → provider_at t.topology z.number ≡ Some z
   provider_known = found_of (λ (z : Provider). z.number) t.topology.providers (AllPairs-from_increasing (map (λ (z : Provider). z.number) t.topology.providers) sound.orderly.order.providers.0)
@@ -147,21 +138,21 @@ module _ {C : Type 0} (t : TopoView C) (sound : IsSoundGraph t.topology) (counte
   pub provider_stands : (q : ℕ) (z : Provider) → provider_at t.topology q ≡ Some z → Contains t.topology.providers z × (z.number ≡ q)
   provider_stands q z found = (found_in (λ (y : Provider). y.number == q) t.topology.providers z found, eqb-true z.number q (find_passes (λ (y : Provider). y.number == q) t.topology.providers z found))
 
-  module _ (p : ℕ) (add : Counts) (way : Way) (new : TopoView C) (o : Order) (tried : IsTried t p add way new o) where
+  module _ (clear : t.scratches ≡ clear_scratches t.topology) (p : ℕ) (add : Counts) (way : Way) (new : TopoView C) (o : Order) (tried : IsTried t p add way new o) where
     -- the order of the walk
     abbrev walk : List ℕ
-    walk = geoms_below t sound counted.clear p tried.offer tried.found
+    walk = geoms_below t sound clear p tried.offer tried.found
 
     -- so many steps are within the bound
     pub steps_bound : consumers_over t.topology (order_of new o) ≤ consumers_below t.topology p
     steps_bound =
-        let is : order_of new o ≡ walk = tried_order t sound counted.clear p add way new o tried in
+        let is : order_of new o ≡ walk = tried_order t sound clear p add way new o tried in
         subst (λ xs. consumers_over t.topology xs ≤ consumers_below t.topology p) (sym is)
-        (subst (λ n. n ≤ consumers_below t.topology p) (sym (over_is t.topology walk (order_apart t.topology walk (below_ordered t sound counted.clear p tried.offer tried.found))))
+        (subst (λ n. n ≤ consumers_below t.topology p) (sym (over_is t.topology walk (order_apart t.topology walk (below_ordered t sound clear p tried.offer tried.found))))
         (length_weaker (λ (c : Consumer). has_number walk c.geom)
         (λ (c : Consumer). list_any (λ q. option_map_or (λ (y : Provider). y.geom == c.geom) (provider_at t.topology q) false) (below t.topology p)) t.topology.consumers
         (λ c e.
-        let reached = all_reached t sound counted.clear p tried.offer tried.found c.geom (has-contains walk c.geom e) in
+        let reached = all_reached t sound clear p tried.offer tried.found c.geom (has-contains walk c.geom e) in
         some_true (below t.topology p) reached.0 c.geom reached.1 (provider_at t.topology reached.0) refl reached.2)))
       where
         passes : (qs : List ℕ) (q g : ℕ) → Contains qs q → option_map_or (λ (y : Provider). y.geom == g) (provider_at t.topology q) false ≡ true
@@ -174,75 +165,111 @@ module _ {C : Type 0} (t : TopoView C) (sound : IsSoundGraph t.topology) (counte
         some_true qs q g there (Some y) e is =
             passes qs q g there (ap (λ w. option_map_or (λ (x : Provider). x.geom == g) w false) e ∙ eq-eqb y.geom g is)
 
+-- the stored counts are the model's, but perhaps for consumers that aren't attached; none stands in another's way, no count
+-- is too great, and nothing is left to try
+pub record IsTold {C : Type 0} (t : TopoView C) : Type 0 where
+  pub haves : t.haves ≡ map (λ (p : Provider). (p.number, have (granted_by t) t.topology p.number)) t.topology.providers
+  pub wants : (q : ℕ) (c : Consumer) → Contains (attached_to t.topology q) c → want_at t c.number ≡ want (granted_by t) t.topology c
+  pub exclusive : is_exclusive (granted_by t) t.topology ≡ true
+  pub limit : fits_limit (granted_by t) t.topology ≡ true
+  pub clear : t.scratches ≡ clear_scratches t.topology
+
+-- the stored counts of a consumer, where they are the model's
+pub stored_want : {C : Type 0} (t : TopoView C) → IsSoundGraph t.topology → IsCounted t → (q : ℕ) (c : Consumer) → Contains (attached_to t.topology q) c
+    → want_at t c.number ≡ want (granted_by t) t.topology c
+stored_want t sound counted q c at =
+    ap (λ rows. unwrap_or (value_at rows c.number) no_counts) counted.wants
+    ∙ ap (λ o. unwrap_or o no_counts)
+    (item_at (λ (x : Consumer). x.number) (λ (x : Consumer). want (granted_by t) t.topology x) c.number t.topology.consumers c
+    (consumer_known t sound c (of_filter (λ (d : Consumer). names_number d.provider q) t.topology.consumers c at).0))
+
+-- so where all stored counts are
+abbrev pub counted_told : {C : Type 0} (t : TopoView C) → IsSoundGraph t.topology → IsCounted t → IsTold t
+counted_told t sound counted = record {
+  haves = counted.haves;
+  wants = stored_want t sound counted;
+  exclusive = counted.exclusive;
+  limit = counted.limit;
+  clear = counted.clear;
+}
+
+module _ {C : Type 0} (t : TopoView C) (sound : IsSoundGraph t.topology) (told : IsTold t) where
+  -- the stored counts of a provider are the model's
+  pub stored_have : (z : Provider) → provider_at t.topology z.number ≡ Some z → have_at t z.number ≡ have (granted_by t) t.topology z.number
+  stored_have z found =
+      ap (λ rows. unwrap_or (value_at rows z.number) no_counts) told.haves
+      ∙ ap (λ o. unwrap_or o no_counts) (item_at (λ (y : Provider). y.number) (λ (y : Provider). have (granted_by t) t.topology y.number) z.number t.topology.providers z found)
+
   module _ (p : ℕ) (add : Counts) (new : TopoView C) (o : Order) (tried : IsTried t p add Rises new o) where
     -- the order of the walk
     abbrev pub order : List ℕ
-    order = geoms_below t sound counted.clear p tried.offer tried.found
+    order = geoms_below t sound told.clear p tried.offer tried.found
 
     module _ (own : ℕ) (after : ℕ → Counts) (u : Topology C) (gain : ℕ → Counts) (more : Consumer → Counts)
         (ctx : After t.topology p own add (granted_by t) after u gain more)
         (demand : Demands t.topology p add (have (granted_by t) t.topology) gain more order) where
       -- nothing shrinks where counts rise
       pub grows : (z : Provider) → Contains t.topology.providers z → had Rises (have_at t z.number) (cap (gain z.number)) ≡ have (granted_by t) t.topology z.number
-      grows z there = stored_have z (provider_known z there)
+      grows z there = stored_have z (provider_known t sound z there)
 
       -- what the walk comes to
       pub end : Spread t sound Rises p add (have (granted_by t) t.topology) gain more order demand grows order (first_tries tried.offer.geom order p add)
-      end = walked t sound counted.clear p tried.offer tried.found Rises add (have (granted_by t) t.topology) gain more demand grows
+      end = walked t sound told.clear p tried.offer tried.found Rises add (have (granted_by t) t.topology) gain more demand grows
 
       -- the mesh after it
       pub new_is : new ≡ trying t end.tries
-      new_is = tried_view t sound counted.clear p add Rises new o tried ∙ end.is
+      new_is = tried_view t sound told.clear p add Rises new o tried ∙ end.is
 
       -- nothing is left to try once the walk ends without keeping anything
       pub cleared : fold (finish_geom None) new (order_of new o) ≡ t
       cleared =
-          ap (fold (finish_geom None) new) (tried_order t sound counted.clear p add Rises new o tried)
+          ap (fold (finish_geom None) new) (tried_order t sound told.clear p add Rises new o tried)
           ∙ ap (λ v. fold (finish_geom None) v order) new_is
           ∙ clear_whole t
           (λ x. part_apart (λ (y : Provider). y.number) (λ (y : Provider). y.geom == x) t.topology.providers
           (AllPairs-from_increasing (map (λ (z : Provider). z.number) t.topology.providers) sound.orderly.order.providers.0))
-          (λ y z ys zs same. let e : Some y ≡ Some z = sym (provider_known y ys) ∙ ap (provider_at t.topology) same ∙ provider_known z zs in cc)
-          order end.tries counted.clear
+          (λ y z ys zs same. let e : Some y ≡ Some z = sym (provider_known t sound y ys) ∙ ap (provider_at t.topology) same ∙ provider_known t sound z zs in cc)
+          order end.tries told.clear
           (λ n away. end.marks n ∙ link_outside tried.offer.geom order n away)
           (λ n away. end.others n (has_not order n away))
           (λ z there away.
           end.gains z.number
-          ∙ ap cap (outside_gains t.topology p add gain more order (below_ordered t sound counted.clear p tried.offer tried.found) demand.flow tried.offer tried.found
-          (first_geom t sound counted.clear p tried.offer tried.found) z (provider_known z there) (has_not order z.geom away)))
+          ∙ ap cap (outside_gains t.topology p add gain more order (below_ordered t sound told.clear p tried.offer tried.found) demand.flow tried.offer tried.found
+          (first_geom t sound told.clear p tried.offer tried.found) z (provider_known t sound z there) (has_not order z.geom away)))
 
       -- the judgement of the demand
       pub decided : IsVerdict (trying t end.tries) p own add (granted_by t) after u gain more ctx (judged new p add (order_of new o))
       decided =
-          let raises : (c : Consumer) → Contains t.topology.consumers c → raised (trying t end.tries) c ≡ cap (add_counts (want (granted_by t) t.topology c) (more c)) =
-          λ c there.
-          ap (λ a. cap (add_counts a (made_at (trying t end.tries) c.geom))) (stored_want c (consumer_known c there))
+          let raises : (q : ℕ) (c : Consumer) → Contains (attached_to t.topology q) c → raised (trying t end.tries) c ≡ cap (add_counts (want (granted_by t) t.topology c) (more c)) =
+          λ q c at.
+          let there : Contains t.topology.consumers c = (of_filter (λ (d : Consumer). names_number d.provider q) t.topology.consumers c at).0 in
+          ap (λ a. cap (add_counts a (made_at (trying t end.tries) c.geom))) (told.wants q c at)
           ∙ ap (λ a. cap (add_counts (want (granted_by t) t.topology c) a))
           (trying-made t end.tries c.geom (All-contains (λ (d : Consumer). IsSome (geom_at t.topology d.geom)) t.topology.consumers c sound.orderly.parts.geoms there)
           ∙ end.made c there ∙ capped c there (has_number order c.geom) refl)
           ∙ add-cap (want (granted_by t) t.topology c) (more c) in
           let totals : (z : Provider) → Contains t.topology.providers z → raised_have (trying t end.tries) z.number ≡ cap (have after u z.number) =
           λ z there.
-          ap (λ a. cap (add_counts a (gain_at (trying t end.tries) z.number))) (stored_have z (provider_known z there))
+          ap (λ a. cap (add_counts a (gain_at (trying t end.tries) z.number))) (stored_have z (provider_known t sound z there))
           ∙ ap (λ a. cap (add_counts (have (granted_by t) t.topology z.number) a))
-          (trying-gain t end.tries z.number (subst (λ w. IsSome w) (sym (provider_known z there)) refl) ∙ end.gains z.number)
+          (trying-gain t end.tries z.number (subst (λ w. IsSome w) (sym (provider_known t sound z there)) refl) ∙ end.gains z.number)
           ∙ add-cap (have (granted_by t) t.topology z.number) (gain z.number)
           ∙ ap cap (sym (ctx.haves z.number)) in
           subst (IsVerdict (trying t end.tries) p own add (granted_by t) after u gain more ctx)
-          (sym (ap (judged new p add) (tried_order t sound counted.clear p add Rises new o tried) ∙ ap (λ v. judged v p add order) new_is))
+          (sym (ap (judged new p add) (tried_order t sound told.clear p add Rises new o tried) ∙ ap (λ v. judged v p add order) new_is))
           (verdict (trying t end.tries) p own add (granted_by t) after u gain more ctx raises totals
           (λ c there none. let some : 1 ≤ c.number = All-contains (λ (d : Consumer). 1 ≤ d.number) t.topology.consumers c sound.orderly.numbers.consumers there in omega arith)
-          provider_known provider_stands order
-          (λ q near. (reached_touched t sound counted.clear p tried.offer tried.found q near).0)
+          (provider_known t sound) (provider_stands t sound) order
+          (λ q near. (reached_touched t sound told.clear p tried.offer tried.found q near).0)
           (λ q there.
           elim (in_cases p (flat_map (providers_under t.topology) order) q there) [
             | inl same ↦ subst (Contains (below t.topology p)) same (below_self (length t.topology.geoms) t.topology p)
             | inr rest ↦
                 let way = flat_map_cases (providers_under t.topology) order q rest in
-                attached_reached t sound counted.clear p tried.offer tried.found way.0 q (all_reached t sound counted.clear p tried.offer tried.found way.0 way.1) way.2
+                attached_reached t sound told.clear p tried.offer tried.found way.0 q (all_reached t sound told.clear p tried.offer tried.found way.0 way.1) way.2
           ])
-          (λ z there near. below_covers t sound counted.clear p tried.offer tried.found z.number z near (provider_known z there))
-          tried.offer tried.found counted.exclusive counted.limit)
+          (λ z there near. below_covers t sound told.clear p tried.offer tried.found z.number z near (provider_known t sound z there))
+          tried.offer tried.found told.exclusive told.limit)
         where
           capped : (c : Consumer) → Contains t.topology.consumers c → (b : Bool) → has_number order c.geom ≡ b
               → (if b then cap (more c) else no_counts) ≡ cap (more c)

@@ -30,7 +30,7 @@ use Rattle.geo_access.proofs.Trying.{Tries}
 use Rattle.geo_access.proofs.Walked.{below_ordered, below_lives, below_covers, all_reached, first_below, tried_order, order_apart}
 use Rattle.geo_access.proofs.Clearing.{link_outside, outside_gains}
 use Rattle.geo_access.proofs.Verdict.{After}
-use Rattle.geo_access.proofs.Decided.{order, provider_known, provider_stands, new_is, end}
+use Rattle.geo_access.proofs.Decided.{counted_told, order, provider_known, provider_stands, new_is, end}
 use Rattle.geo_access.proofs.Granting.{Holder, granted_after, place, gains, mores, granting, granting_after, one_only, one_number, own_is, grants_rise}
 use Rattle.geo_access.proofs.Keeping.{Cell, kept_cell, Kept, keep_all}
 use Rattle.geo_access.proofs.Granted.{tried_parts, want_of_number, want_number, parts_are, parts_end, part_at_most, capped_is}
@@ -51,7 +51,7 @@ module _ {C : Type 0} (t : TopoView C) (sound : IsSoundGraph t.topology) (counte
   after = granted_after t sound counted cons holder add
 
   abbrev its_order : List ℕ
-  its_order = order t sound counted p add new o tried
+  its_order = order t sound (counted_told t sound counted) p add new o tried
 
   abbrev gain : ℕ → Counts
   gain = gains t sound counted cons holder add stored
@@ -66,7 +66,7 @@ module _ {C : Type 0} (t : TopoView C) (sound : IsSoundGraph t.topology) (counte
   demand = granting t sound counted cons holder add stored its_order (below_covers t sound counted.clear p tried.offer tried.found)
 
   abbrev tries : Tries
-  tries = (end t sound counted p add new o tried cons after t.topology gain more ctx demand).tries
+  tries = (end t sound (counted_told t sound counted) p add new o tried cons after t.topology gain more ctx demand).tries
 
   -- what is kept
   all : Kept t sound Rises its_order (tried_parts t sound counted tries)
@@ -81,7 +81,7 @@ module _ {C : Type 0} (t : TopoView C) (sound : IsSoundGraph t.topology) (counte
   -- what a provider comes to have
   shifted_have : (z : Provider) → Contains t.topology.providers z → shifted Rises (have (granted_by t) t.topology z.number) (tries.gains z.number) ≡ have after t.topology z.number
   shifted_have z there =
-      ap (λ a. cap (add_counts (have (granted_by t) t.topology z.number) a)) ((end t sound counted p add new o tried cons after t.topology gain more ctx demand).gains z.number)
+      ap (λ a. cap (add_counts (have (granted_by t) t.topology z.number) a)) ((end t sound (counted_told t sound counted) p add new o tried cons after t.topology gain more ctx demand).gains z.number)
       ∙ add-cap (have (granted_by t) t.topology z.number) (gain z.number)
       ∙ ap cap (sym (ctx.haves z.number))
       ∙ capped_is (have after t.topology z.number) (have_fits z there)
@@ -92,7 +92,7 @@ module _ {C : Type 0} (t : TopoView C) (sound : IsSoundGraph t.topology) (counte
       sym (ctx.haves z.number
       ∙ ap (add_counts (have (granted_by t) t.topology z.number))
       (outside_gains t.topology p add gain more its_order (below_ordered t sound counted.clear p tried.offer tried.found) demand.flow tried.offer tried.found
-      (first_below t sound counted.clear p tried.offer tried.found) z (provider_known t sound counted z there) (has_not its_order z.geom away))
+      (first_below t sound counted.clear p tried.offer tried.found) z (provider_known t sound z there) (has_not its_order z.geom away))
       ∙ add-zero (have (granted_by t) t.topology z.number))
 
   -- what a consumer of the order comes to want is within the limit
@@ -102,7 +102,7 @@ module _ {C : Type 0} (t : TopoView C) (sound : IsSoundGraph t.topology) (counte
       at : (q : ℕ) → c.provider ≡ Some q → (z : Option Provider) → provider_at t.topology q ≡ z → IsSome z → IsAtMost (want after t.topology c) greatest_counts
       at q attached None found lives = let no : false ≡ true = lives in absurd (cc)
       at q attached (Some z) found lives =
-          let is = provider_stands t sound counted q z found in
+          let is = provider_stands t sound q z found in
           let part : IsAtMost (want after t.topology c) (sum_counts (map (want after t.topology) (attached_to t.topology q))) =
           part_at_most (want after t.topology) (attached_to t.topology q) c
           (in_filter (λ (x : Consumer). names_number x.provider q) t.topology.consumers c there (ap (λ w. names_number w q) attached ∙ eq-eqb q q refl)) in
@@ -123,7 +123,7 @@ module _ {C : Type 0} (t : TopoView C) (sound : IsSoundGraph t.topology) (counte
           offered (Some y) found is bare =
               in_nothing y
               (subst (λ ys. Contains ys y) bare
-              (in_filter (λ (w : Provider). w.geom == c.geom) t.topology.providers y (provider_stands t sound counted _ y found).0 (eq-eqb y.geom c.geom is)))
+              (in_filter (λ (w : Provider). w.geom == c.geom) t.topology.providers y (provider_stands t sound _ y found).0 (eq-eqb y.geom c.geom is)))
 
   -- what a consumer other than the holder comes to want
   other_want : (c : Consumer) → Contains t.topology.consumers c → c.number ≢ cons → want after t.topology c ≡ add_counts (want (granted_by t) t.topology c) (more c)
@@ -139,7 +139,7 @@ module _ {C : Type 0} (t : TopoView C) (sound : IsSoundGraph t.topology) (counte
       (λ inside.
       ap (λ a. cap (add_counts a (tries.made c.geom))) (want_number t sound counted c there)
       ∙ ap (λ a. cap (add_counts (want (granted_by t) t.topology c) a))
-      ((end t sound counted p add new o tried cons after t.topology gain more ctx demand).made c there
+      ((end t sound (counted_told t sound counted) p add new o tried cons after t.topology gain more ctx demand).made c there
       ∙ ap (λ b. if b then cap (more c) else no_counts) inside)
       ∙ add-cap (want (granted_by t) t.topology c) (more c)
       ∙ ap cap (sym (other_want c there other))
@@ -160,7 +160,7 @@ module _ {C : Type 0} (t : TopoView C) (sound : IsSoundGraph t.topology) (counte
   grant_end =
       ap (λ v. with_want v cons add)
       (ap (fold (finish_geom (Some Rises)) new) (tried_order t sound counted.clear p add Rises new o tried)
-      ∙ ap (λ v. fold (finish_geom (Some Rises)) v its_order) (new_is t sound counted p add new o tried cons after t.topology gain more ctx demand ∙ parts_are t sound counted quiet tries)
+      ∙ ap (λ v. fold (finish_geom (Some Rises)) v its_order) (new_is t sound (counted_told t sound counted) p add new o tried cons after t.topology gain more ctx demand ∙ parts_are t sound counted quiet tries)
       ∙ all.is)
       ∙ parts_end t sound counted after cons add all.parts
       (λ z. leaves_zero (have (granted_by t) t.topology z.number) (have after t.topology z.number)) (λ z. false)
@@ -186,9 +186,9 @@ module _ {C : Type 0} (t : TopoView C) (sound : IsSoundGraph t.topology) (counte
       ∙ cell_of (λ (x : Cell). x.gain) (has_number its_order z.geom) z
       ∙ same_both (has_number its_order z.geom) no_counts (tries.gains z.number) no_counts (λ inside. refl)
       (λ away.
-      (end t sound counted p add new o tried cons after t.topology gain more ctx demand).gains z.number
+      (end t sound (counted_told t sound counted) p add new o tried cons after t.topology gain more ctx demand).gains z.number
       ∙ ap cap (outside_gains t.topology p add gain more its_order (below_ordered t sound counted.clear p tried.offer tried.found) demand.flow tried.offer tried.found
-      (first_below t sound counted.clear p tried.offer tried.found) z (provider_known t sound counted z there) (has_not its_order z.geom away))))
+      (first_below t sound counted.clear p tried.offer tried.found) z (provider_known t sound z there) (has_not its_order z.geom away))))
       (λ c there.
       elim (cases_eq c.number cons) [
         | inl same ↦
@@ -201,11 +201,11 @@ module _ {C : Type 0} (t : TopoView C) (sound : IsSoundGraph t.topology) (counte
       (λ n.
       all.marks n
       ∙ same_both (has_number its_order n) 0 (tries.marks n) 0 (λ inside. refl)
-      (λ away. (end t sound counted p add new o tried cons after t.topology gain more ctx demand).marks n ∙ link_outside tried.offer.geom its_order n away))
+      (λ away. (end t sound (counted_told t sound counted) p add new o tried cons after t.topology gain more ctx demand).marks n ∙ link_outside tried.offer.geom its_order n away))
       (λ n.
       all.made n
       ∙ same_both (has_number its_order n) no_counts (tries.made n) no_counts (λ inside. refl)
-      (λ away. (end t sound counted p add new o tried cons after t.topology gain more ctx demand).others n (has_not its_order n away)))
+      (λ away. (end t sound (counted_told t sound counted) p add new o tried cons after t.topology gain more ctx demand).others n (has_not its_order n away)))
       ∙ ap (λ rows. record (granted_view t cons add) { fallen = rows }) (sym quiet.fallen)
     where
       cell_of : {V : Type 0} (see : Cell → V) (b : Bool) (z : Provider)

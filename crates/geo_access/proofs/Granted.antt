@@ -27,14 +27,14 @@ use Rattle.geo_access.proofs.Decided.{item_at, consumer_known}
 use Rattle.geo_access.proofs.Keeping.{Parts, with_parts}
 
 -- rows that a function of numbers tells are those that a function of items tells
-rows_item : {X V : Type 0} (key : X → ℕ) (f : ℕ → V) (h : X → V) (xs : List X) → ((x : X) → Contains xs x → f (key x) ≡ h x)
+pub rows_item : {X V : Type 0} (key : X → ℕ) (f : ℕ → V) (h : X → V) (xs : List X) → ((x : X) → Contains xs x → f (key x) ≡ h x)
     → rows_of key f xs ≡ map (λ x. (key x, h x)) xs
 rows_item {X} {V} key f h xs same =
     map_same (λ x. (key x, f (key x))) (λ x. (key x, h x)) xs
     (each_of (λ (x : X). ◌≡◌ {A = ℕ × V} (key x, f (key x)) (key x, h x)) xs (λ x there. let P : V → ℕ × V = λ v. (key x, v) in ap P (same x there)))
 
 -- the numbers of rows
-numbers_of : {X V : Type 0} (key : X → ℕ) (h : X → V) (xs : List X) → map (λ row. row.0) (map (λ x. let row : ℕ × V = (key x, h x) in row) xs) ≡ map key xs
+pub numbers_of : {X V : Type 0} (key : X → ℕ) (h : X → V) (xs : List X) → map (λ row. row.0) (map (λ x. let row : ℕ × V = (key x, h x) in row) xs) ≡ map key xs
 numbers_of key h [] = refl
 numbers_of key h (x ∷ xs) = ap (λ ns. key x ∷ ns) (numbers_of key h xs)
 
@@ -62,6 +62,48 @@ part_at_most f (y ∷ ys) x there =
 pub capped_is : (a : Counts) → IsAtMost a greatest_counts → cap a ≡ a
 capped_is a most = counts-same (cap a) a (omega (arith, most.r)) (omega (arith, most.w)) (omega (arith, most.e))
 
+-- where the parts of the mesh are told by items, so are its rows, with nothing left to try
+pub parts_rows : {C : Type 0} (t : TopoView C) → t.scratches ≡ clear_scratches t.topology → (counts : Provider → Counts) (wanted : Consumer → Counts)
+    (cons : ℕ) (add : Counts) (f : Parts) (rises falls : Provider → Bool)
+    → ((z : Provider) → Contains t.topology.providers z → (f.cells z.number).have ≡ counts z)
+    → ((z : Provider) → Contains t.topology.providers z → (f.cells z.number).risen ≡ rises z)
+    → ((z : Provider) → Contains t.topology.providers z → (f.cells z.number).fallen ≡ falls z)
+    → ((z : Provider) → Contains t.topology.providers z → (f.cells z.number).gain ≡ no_counts)
+    → ((c : Consumer) → Contains t.topology.consumers c → set_at f.wants cons add c.number ≡ wanted c)
+    → ((n : ℕ) → f.marks n ≡ 0) → ((n : ℕ) → f.made n ≡ no_counts)
+    → with_want (with_parts t f) cons add
+    ≡ record t {
+      haves = map (λ (z : Provider). (z.number, counts z)) t.topology.providers;
+      wants = map (λ (c : Consumer). (c.number, wanted c)) t.topology.consumers;
+      risen = map (λ (z : Provider). (z.number, rises z)) t.topology.providers;
+      fallen = map (λ (z : Provider). (z.number, falls z)) t.topology.providers;
+    }
+parts_rows {C} t clear counts wanted cons add f rises falls haves risens fallens gains wants marks made =
+    let put : List (ℕ × Counts) → List (ℕ × Bool) → List (ℕ × Bool) → List (ℕ × Counts) → Scratches → TopoView C =
+    λ h r l w s. record t { haves = h; risen = r; fallen = l; wants = w; scratches = s } in
+    let h : List (ℕ × Counts) = map (λ (z : Provider). (z.number, counts z)) t.topology.providers in
+    let r : List (ℕ × Bool) = map (λ (z : Provider). (z.number, rises z)) t.topology.providers in
+    let l : List (ℕ × Bool) = map (λ (z : Provider). (z.number, falls z)) t.topology.providers in
+    let w : List (ℕ × Counts) = map (λ (c : Consumer). (c.number, wanted c)) t.topology.consumers in
+    let s : Scratches = (with_parts t f).scratches in
+    ap (λ rows. put rows (with_parts t f).risen (with_parts t f).fallen (with_value (with_parts t f).wants cons add) s)
+    (rows_item (λ (z : Provider). z.number) (λ n. (f.cells n).have) counts t.topology.providers haves)
+    ∙ ap (λ rows. put h rows (with_parts t f).fallen (with_value (with_parts t f).wants cons add) s)
+    (rows_item (λ (z : Provider). z.number) (λ n. (f.cells n).risen) rises t.topology.providers risens)
+    ∙ ap (λ rows. put h r rows (with_value (with_parts t f).wants cons add) s)
+    (rows_item (λ (z : Provider). z.number) (λ n. (f.cells n).fallen) falls t.topology.providers fallens)
+    ∙ ap (λ rows. put h r l rows s)
+    (rows-set (λ (c : Consumer). c.number) f.wants cons add t.topology.consumers
+    ∙ rows_item (λ (c : Consumer). c.number) (set_at f.wants cons add) wanted t.topology.consumers wants)
+    ∙ ap (λ rows. put h r l w (record s { geoms = rows }))
+    (rows-same_on (λ (x : Geom C). x.number) (λ n. record { mark = f.marks n; trial = f.made n }) (λ n. no_scratch) t.topology.geoms
+    (λ x there. let P : ℕ → Scratch = λ m. record { mark = m; trial = f.made x.number } in let Q : Counts → Scratch = λ a. record { mark = 0; trial = a } in
+    ap P (marks x.number) ∙ ap Q (made x.number)))
+    ∙ ap (λ rows. put h r l w (record s { geoms = (clear_scratches t.topology).geoms; providers = rows }))
+    (rows-same_on (λ (z : Provider). z.number) (λ n. record { mark = 0; trial = (f.cells n).gain }) (λ n. no_scratch) t.topology.providers
+    (λ z there. let Q : Counts → Scratch = λ a. record { mark = 0; trial = a } in ap Q (gains z there)))
+    ∙ ap (put h r l w) (ap (λ (u : Scratches). record u { geoms = (clear_scratches t.topology).geoms; providers = (clear_scratches t.topology).providers }) clear ∙ sym clear)
+
 module _ {C : Type 0} (t : TopoView C) (sound : IsSoundGraph t.topology) (counted : IsCounted t) where
   -- what a consumer of a number wants
   abbrev pub want_of_number : ℕ → Counts
@@ -78,7 +120,7 @@ module _ {C : Type 0} (t : TopoView C) (sound : IsSoundGraph t.topology) (counte
 
   -- a consumer's own
   pub want_number : (c : Consumer) → Contains t.topology.consumers c → want_of_number c.number ≡ want (granted_by t) t.topology c
-  want_number c there = ap (λ o. option_map_or (want (granted_by t) t.topology) o no_counts) (consumer_known t sound counted c there)
+  want_number c there = ap (λ o. option_map_or (want (granted_by t) t.topology) o no_counts) (consumer_known t sound c there)
 
   -- a quiet mesh is told by them
   pub parts_are : IsQuiet t → (s : Tries) → trying t s ≡ with_parts t (tried_parts s)
@@ -104,31 +146,7 @@ module _ {C : Type 0} (t : TopoView C) (sound : IsSoundGraph t.topology) (counte
         risen = map (λ (z : Provider). (z.number, rises z)) t.topology.providers;
         fallen = map (λ (z : Provider). (z.number, falls z)) t.topology.providers;
       }
-  parts_end after cons add f rises falls haves risens fallens gains wants marks made =
-      let put : List (ℕ × Counts) → List (ℕ × Bool) → List (ℕ × Bool) → List (ℕ × Counts) → Scratches → TopoView C =
-      λ h r l w s. record t { haves = h; risen = r; fallen = l; wants = w; scratches = s } in
-      let h : List (ℕ × Counts) = map (λ (z : Provider). (z.number, have after t.topology z.number)) t.topology.providers in
-      let r : List (ℕ × Bool) = map (λ (z : Provider). (z.number, rises z)) t.topology.providers in
-      let l : List (ℕ × Bool) = map (λ (z : Provider). (z.number, falls z)) t.topology.providers in
-      let w : List (ℕ × Counts) = map (λ (c : Consumer). (c.number, want after t.topology c)) t.topology.consumers in
-      let s : Scratches = (with_parts t f).scratches in
-      ap (λ rows. put rows (with_parts t f).risen (with_parts t f).fallen (with_value (with_parts t f).wants cons add) s)
-      (rows-same_on (λ (z : Provider). z.number) (λ n. (f.cells n).have) (have after t.topology) t.topology.providers haves)
-      ∙ ap (λ rows. put h rows (with_parts t f).fallen (with_value (with_parts t f).wants cons add) s)
-      (rows_item (λ (z : Provider). z.number) (λ n. (f.cells n).risen) rises t.topology.providers risens)
-      ∙ ap (λ rows. put h r rows (with_value (with_parts t f).wants cons add) s)
-      (rows_item (λ (z : Provider). z.number) (λ n. (f.cells n).fallen) falls t.topology.providers fallens)
-      ∙ ap (λ rows. put h r l rows s)
-      (rows-set (λ (c : Consumer). c.number) f.wants cons add t.topology.consumers
-      ∙ rows_item (λ (c : Consumer). c.number) (set_at f.wants cons add) (want after t.topology) t.topology.consumers wants)
-      ∙ ap (λ rows. put h r l w (record s { geoms = rows }))
-      (rows-same_on (λ (x : Geom C). x.number) (λ n. record { mark = f.marks n; trial = f.made n }) (λ n. no_scratch) t.topology.geoms
-      (λ x there. let P : ℕ → Scratch = λ m. record { mark = m; trial = f.made x.number } in let Q : Counts → Scratch = λ a. record { mark = 0; trial = a } in
-      ap P (marks x.number) ∙ ap Q (made x.number)))
-      ∙ ap (λ rows. put h r l w (record s { geoms = (clear_scratches t.topology).geoms; providers = rows }))
-      (rows-same_on (λ (z : Provider). z.number) (λ n. record { mark = 0; trial = (f.cells n).gain }) (λ n. no_scratch) t.topology.providers
-      (λ z there. let Q : Counts → Scratch = λ a. record { mark = 0; trial = a } in ap Q (gains z there)))
-      ∙ ap (put h r l w) (ap (λ (u : Scratches). record u { geoms = (clear_scratches t.topology).geoms; providers = (clear_scratches t.topology).providers }) counted.clear ∙ sym counted.clear)
+  parts_end after = parts_rows t counted.clear (λ z. have after t.topology z.number) (want after t.topology)
 
   -- The new mesh is counted
 
@@ -145,7 +163,7 @@ module _ {C : Type 0} (t : TopoView C) (sound : IsSoundGraph t.topology) (counte
     -- its grants are the new ones, at each consumer
     new_grants : (c : Consumer) → Contains t.topology.consumers c → granted_by new_mesh c.number ≡ after c.number
     new_grants c there =
-        ap (λ o. option_map_or (λ (x : Consumer). if holds_grants t.topology x.geom then unwrap_or (value_at new_mesh.wants c.number) no_counts else no_counts) o no_counts) (consumer_known t sound counted c there)
+        ap (λ o. option_map_or (λ (x : Consumer). if holds_grants t.topology x.geom then unwrap_or (value_at new_mesh.wants c.number) no_counts else no_counts) o no_counts) (consumer_known t sound c there)
         ∙ by (holds_grants t.topology c.geom) refl
       where
         holds : (o : Option (Geom C)) → option_map_or (λ (x : Geom C). is_granted_kind x.kind) o false ≡ true
@@ -160,14 +178,14 @@ module _ {C : Type 0} (t : TopoView C) (sound : IsSoundGraph t.topology) (counte
 
         by : (b : Bool) → holds_grants t.topology c.geom ≡ b → (if b then unwrap_or (value_at new_mesh.wants c.number) no_counts else no_counts) ≡ after c.number
         by true e =
-            ap (λ o. unwrap_or o no_counts) (item_at (λ (x : Consumer). x.number) (want after t.topology) c.number t.topology.consumers c (consumer_known t sound counted c there))
+            ap (λ o. unwrap_or o no_counts) (item_at (λ (x : Consumer). x.number) (want after t.topology) c.number t.topology.consumers c (consumer_known t sound c there))
             ∙ wants_grant after t.topology c (holds (geom_at t.topology c.geom) e)
         by false e =
             sym (others c.number
             (λ same.
-            let is : one ≡ c = let two : Some one ≡ Some c = sym found ∙ ap (consumer_at t.topology) (sym same) ∙ consumer_known t sound counted c there in cc in
+            let is : one ≡ c = let two : Some one ≡ Some c = sym found ∙ ap (consumer_at t.topology) (sym same) ∙ consumer_known t sound c there in cc in
             not_holds (geom_at t.topology c.geom) e (subst (λ x. HoldsGrants t.topology x.geom) is kind))
-            ∙ ap (λ o. option_map_or (λ (x : Consumer). if holds_grants t.topology x.geom then unwrap_or (value_at t.wants c.number) no_counts else no_counts) o no_counts) (consumer_known t sound counted c there)
+            ∙ ap (λ o. option_map_or (λ (x : Consumer). if holds_grants t.topology x.geom then unwrap_or (value_at t.wants c.number) no_counts else no_counts) o no_counts) (consumer_known t sound c there)
             ∙ ap (λ b. if b then unwrap_or (value_at t.wants c.number) no_counts else no_counts) e)
 
     -- so it is counted

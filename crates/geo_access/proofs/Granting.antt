@@ -43,7 +43,7 @@ pub record Holder {C : Type 0} (t : Topology C) (cons : ℕ) : Type 0 where
   pub place : one.provider ≡ Some (place_of t cons)
 
 -- what is said of what is there
-of_some : {X : Type 0} (P : X → Type 0) (o : Option X) → IsSomeAnd o P → (x : X) × (o ≡ Some x) × P x
+pub of_some : {X : Type 0} (P : X → Type 0) (o : Option X) → IsSomeAnd o P → (x : X) × (o ≡ Some x) × P x
 of_some P None never = absurd never
 of_some P (Some x) fact = (x, refl, fact)
 
@@ -90,7 +90,7 @@ module _ {C : Type 0} (t : TopoView C) (sound : IsSoundGraph t.topology) (counte
   -- a consumer of its number is it
   pub one_only : (c : Consumer) → Contains t.topology.consumers c → c.number ≡ cons → c ≡ holder.one
   one_only c there same =
-      let e : Some c ≡ Some holder.one = sym (consumer_known t sound counted c there) ∙ ap (consumer_at t.topology) same ∙ holder.found in cc
+      let e : Some c ≡ Some holder.one = sym (consumer_known t sound c there) ∙ ap (consumer_at t.topology) same ∙ holder.found in cc
 
   pub one_filtered : filter (λ (x : Consumer). x.number == cons) t.topology.consumers ≡ holder.one ∷ []
   one_filtered =
@@ -184,7 +184,7 @@ module _ {C : Type 0} (t : TopoView C) (sound : IsSoundGraph t.topology) (counte
       opener_at = in_filter (λ (x : Consumer). names_number x.provider place) t.topology.consumers holder.one one_stands (ap (λ o. names_number o place) holder.place ∙ eq-eqb place place refl);
       opener_is = one_number;
       opener_wants = wants_grant granted_after t.topology holder.one holder.kind ∙ ap granted_after one_number ∙ own_is;
-      found = consumer_known t sound counted;
+      found = consumer_known t sound;
       errors = refl;
     }
       where

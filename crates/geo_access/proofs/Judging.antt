@@ -139,7 +139,7 @@ mapped_some f (Some x) n e = (x, refl, (cc))
 -- Sides
 
 -- a count is zero just where it is so stopped
-zero_min : (n : ℕ) → (min n 4294967295 == 0) ≡ (n == 0)
+pub zero_min : (n : ℕ) → (min n 4294967295 == 0) ≡ (n == 0)
 zero_min n =
     elim (cases_eq n 0) [
       | inl none ↦ eq-eqb (min n 4294967295) 0 (omega arith) ∙ sym (eq-eqb n 0 none)
@@ -172,7 +172,7 @@ is_there None = inl refl
 is_there (Some x) = inr (x, refl)
 
 module _ {C : Type 0} (v : TopoView C) (u : Consumer → Counts)
-    (raises : (c : Consumer) → Contains v.topology.consumers c → raised v c ≡ cap (u c)) where
+    (raises : (q : ℕ) (c : Consumer) → Contains (attached_to v.topology q) c → raised v c ≡ cap (u c)) where
   -- a consumer at a provider, other than one, that writes or excludes
   pub record Has (q but : ℕ) (side : Side) (n : ℕ) : Type 0 where
     pub one : Consumer
@@ -183,7 +183,7 @@ module _ {C : Type 0} (v : TopoView C) (u : Consumer → Counts)
 
   -- what a consumer at a provider has once it is raised
   side_at : (q : ℕ) (side : Side) (c : Consumer) → Contains (attached_to v.topology q) c → has_side side (raised v c) ≡ has_side side (u c)
-  side_at q side c at = ap (has_side side) (raises c (of_filter (λ (d : Consumer). names_number d.provider q) v.topology.consumers c at).0) ∙ side-cap side (u c)
+  side_at q side c at = ap (has_side side) (raises q c at) ∙ side-cap side (u c)
 
   -- where one is found
   pub other_some : (q but : ℕ) (side : Side) (n : ℕ) → other v q but side ≡ Some n → Has q but side n

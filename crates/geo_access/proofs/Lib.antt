@@ -17,3 +17,10 @@ pub mod Granted
 pub mod GrantEnd
 pub mod Releasing
 pub mod Noting
+pub mod JoinStart
+pub mod JoinDemand
+pub mod JoinVerdict
+pub mod JoinEnd
+pub mod Joined
+pub mod NewJoiner
+pub mod Shut

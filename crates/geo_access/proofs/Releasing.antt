@@ -33,7 +33,7 @@ use Rattle.geo_access.proofs.Trying.{Tries, trying}
 use Rattle.geo_access.proofs.TryOut.{Spread}
 use Rattle.geo_access.proofs.Walked.{geoms_below, below_ordered, below_lives, below_covers, all_reached, first_below, first_tries, walked, tried_order, tried_view, order_apart}
 use Rattle.geo_access.proofs.Clearing.{link_outside, outside_gains}
-use Rattle.geo_access.proofs.Decided.{provider_known, provider_stands, stored_have}
+use Rattle.geo_access.proofs.Decided.{counted_told, provider_known, provider_stands, stored_have}
 use Rattle.geo_access.proofs.Granting.{Holder, place, numbers_are, one_only, one_number, one_filtered, others_stay, own_is}
 use Rattle.geo_access.proofs.Keeping.{Cell, kept_cell, Kept, keep_all}
 use Rattle.geo_access.proofs.Granted.{tried_parts, want_of_number, want_number, parts_are, parts_end, part_at_most}
@@ -118,7 +118,7 @@ module _ {C : Type 0} (t : TopoView C) (sound : IsSoundGraph t.topology) (counte
     falls_back z there = less_back (have after t.topology z.number) (have (granted_by t) t.topology z.number) (have-at_most after (granted_by t) grants_fall t.topology z.number) (have_fits z there)
 
     shrinks : (z : Provider) → Contains t.topology.providers z → had Falls (have_at t z.number) (cap (loss z.number)) ≡ have after t.topology z.number
-    shrinks z there = ap (more_counts (cap (loss z.number))) (stored_have t sound counted z (provider_known t sound counted z there)) ∙ falls_back z there
+    shrinks z there = ap (more_counts (cap (loss z.number))) (stored_have t sound (counted_told t sound counted) z (provider_known t sound z there)) ∙ falls_back z there
 
     end : Spread t sound Falls p held (have after t.topology) loss losses its_order demand shrinks its_order (first_tries tried.offer.geom its_order p held)
     end = walked t sound counted.clear p tried.offer tried.found Falls held (have after t.topology) loss losses demand shrinks
@@ -153,7 +153,7 @@ module _ {C : Type 0} (t : TopoView C) (sound : IsSoundGraph t.topology) (counte
     outside_none : (z : Provider) → Contains t.topology.providers z → has_number its_order z.geom ≡ false → loss z.number ≡ no_counts
     outside_none z there away =
         outside_gains t.topology p held loss losses its_order (below_ordered t sound counted.clear p tried.offer tried.found) demand.flow tried.offer tried.found
-        (first_below t sound counted.clear p tried.offer tried.found) z (provider_known t sound counted z there) (has_not its_order z.geom away)
+        (first_below t sound counted.clear p tried.offer tried.found) z (provider_known t sound z there) (has_not its_order z.geom away)
 
     outside_have : (z : Provider) → Contains t.topology.providers z → has_number its_order z.geom ≡ false → have (granted_by t) t.topology z.number ≡ have after t.topology z.number
     outside_have z there away =
@@ -169,7 +169,7 @@ module _ {C : Type 0} (t : TopoView C) (sound : IsSoundGraph t.topology) (counte
         at : (q : ℕ) → c.provider ≡ Some q → (z : Option Provider) → provider_at t.topology q ≡ z → IsSome z → IsAtMost (want (granted_by t) t.topology c) greatest_counts
         at q attached None found lives = let no : false ≡ true = lives in absurd (cc)
         at q attached (Some z) found lives =
-            let is = provider_stands t sound counted q z found in
+            let is = provider_stands t sound q z found in
             let part : IsAtMost (want (granted_by t) t.topology c) (sum_counts (map (want (granted_by t) t.topology) (attached_to t.topology q))) =
             part_at_most (want (granted_by t) t.topology) (attached_to t.topology q) c
             (in_filter (λ (x : Consumer). names_number x.provider q) t.topology.consumers c there (ap (λ w. names_number w q) attached ∙ eq-eqb q q refl)) in
@@ -183,7 +183,7 @@ module _ {C : Type 0} (t : TopoView C) (sound : IsSoundGraph t.topology) (counte
         offered q (Some y) found is bare =
             in_nothing y
             (subst (λ ys. Contains ys y) bare
-            (in_filter (λ (w : Provider). w.geom == c.geom) t.topology.providers y (provider_stands t sound counted q y found).0 (eq-eqb y.geom c.geom is)))
+            (in_filter (λ (w : Provider). w.geom == c.geom) t.topology.providers y (provider_stands t sound q y found).0 (eq-eqb y.geom c.geom is)))
 
         by : (w : Option ℕ) → c.provider ≡ w → IfSome w (λ q. IsSome (provider_at t.topology q)) → IsAtMost (want (granted_by t) t.topology c) greatest_counts
         by (Some q) attached lives = at q attached (provider_at t.topology q) refl lives

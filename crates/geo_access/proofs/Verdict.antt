@@ -192,7 +192,7 @@ module _ {C : Type 0} (v : TopoView C) (p own : ℕ) (add : Counts) (granted aft
           (All-contains (λ (y : Provider). NoneInTheWay after u (attached_to u y.number)) u.providers z all there) at) bt apart in
           elim pair [ inl none ↦ absurd (writes none) | inr none ↦ absurd (excludes none) ]
 
-  module _ (raises : (c : Consumer) → Contains v.topology.consumers c → raised v c ≡ cap (add_counts (want granted v.topology c) (more c)))
+  module _ (raises : (q : ℕ) (c : Consumer) → Contains (attached_to v.topology q) c → raised v c ≡ cap (add_counts (want granted v.topology c) (more c)))
       (totals : (z : Provider) → Contains v.topology.providers z → raised_have v z.number ≡ cap (have after u z.number))
       (positive : (c : Consumer) → Contains v.topology.consumers c → c.number ≢ 0)
       (known : (z : Provider) → Contains v.topology.providers z → provider_at v.topology z.number ≡ Some z)

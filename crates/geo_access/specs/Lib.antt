@@ -1,3 +1,6 @@
 pub mod Tries
 pub mod Views
 pub mod Access
+pub mod Join
+pub mod JoinLaws
+pub mod ShutLaws

@@ -141,8 +141,8 @@ fn place_of<C>(topo: &Topo<C>, cons: ConsId) -> ProvId
     topo.consumer(cons).unwrap().prov.unwrap()
 }
 
-// Tries what a demand at the provider makes all below gain. The order of the geoms that were met.
-fn try_out<C, L: Ledger>(
+/// Tries what a demand at the provider makes all below gain. The order of the geoms that were met.
+pub fn try_out<C, L: Ledger>(
     topo: &mut Topo<C>,
     prov: ProvId,
     add: Counts,

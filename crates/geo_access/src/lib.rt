@@ -6,6 +6,8 @@ mod access;
 mod counts;
 mod decide;
 mod finish;
+mod joins;
+mod laws;
 mod notes;
 mod order;
 mod refusal;
@@ -14,6 +16,8 @@ mod steps;
 mod walk;
 
 pub use access::{allowed, could_grant, grant, release};
+pub use joins::join;
+pub use laws::{meshes_stay_shut, new_consumers_may_join, shut_meshes_are_counted};
 pub use notes::{next_fallen, next_risen};
-pub use refusal::GrantRefusal;
+pub use refusal::{GrantRefusal, JoinRefusal};
 pub use steps::Steps;

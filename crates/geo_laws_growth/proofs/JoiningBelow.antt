@@ -139,7 +139,7 @@ module _ {C : Type 0} (t : Topology C) (c p : ℕ) (j : Joins t c p) where
   below_kept = same_below (length t.geoms) p joined_lower
 
   -- no provider of the consumer's geom is reached
-  own_away : AllByRecursion (λ y. IsAway y.number) (providers_of t j.consumer.geom)
+  pub own_away : AllByRecursion (λ y. IsAway y.number) (providers_of t j.consumer.geom)
   own_away =
       all_weaker (λ (y : Provider). Contains (below u p) y.number → ⊥) (λ (y : Provider). IsAway y.number)
       (λ y away reached. away (subst (λ ps. Contains ps y.number) (sym below_kept) reached))

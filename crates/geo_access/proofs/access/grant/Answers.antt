@@ -101,14 +101,14 @@ returns-in-Some-clause-bound g c =
     let holder = holder_is c.args.topo.now.topology c.args.cons c.requires.holder in
     let tried : IsTried c.args.topo.now (place_of c.args.topo.now.topology c.args.cons) c.args.add Rises c.try_out-order.new.topo c.try_out-order.result =
     subst (λ n. IsTried c.args.topo.now n c.args.add Rises c.try_out-order.new.topo c.try_out-order.result) c.place_of-prov.ensures.place c.try_out-order.ensures.tried in
-    omega (arith, c.try_out-order.ensures.steps, steps_bound c.args.topo.now c.place_of-prov.ensures.sound c.requires.counted (place_of c.args.topo.now.topology c.args.cons) c.args.add Rises c.try_out-order.new.topo c.try_out-order.result tried)
+    omega (arith, c.try_out-order.ensures.steps, steps_bound c.args.topo.now c.place_of-prov.ensures.sound c.requires.counted.clear (place_of c.args.topo.now.topology c.args.cons) c.args.add Rises c.try_out-order.new.topo c.try_out-order.result tried)
 
 pub returns-clause-bound : goal.returns-clause-bound
 returns-clause-bound g c =
     let holder = holder_is c.args.topo.now.topology c.args.cons c.requires.holder in
     let tried : IsTried c.args.topo.now (place_of c.args.topo.now.topology c.args.cons) c.args.add Rises c.try_out-order.new.topo c.try_out-order.result =
     subst (λ n. IsTried c.args.topo.now n c.args.add Rises c.try_out-order.new.topo c.try_out-order.result) c.place_of-prov.ensures.place c.try_out-order.ensures.tried in
-    omega (arith, c.try_out-order.ensures.steps, steps_bound c.args.topo.now c.place_of-prov.ensures.sound c.requires.counted (place_of c.args.topo.now.topology c.args.cons) c.args.add Rises c.try_out-order.new.topo c.try_out-order.result tried)
+    omega (arith, c.try_out-order.ensures.steps, steps_bound c.args.topo.now c.place_of-prov.ensures.sound c.requires.counted.clear (place_of c.args.topo.now.topology c.args.cons) c.args.add Rises c.try_out-order.new.topo c.try_out-order.result tried)
 
 pub returns-clause-granted : goal.returns-clause-granted
 returns-clause-granted g c =
