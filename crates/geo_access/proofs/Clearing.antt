@@ -25,17 +25,20 @@ use Rattle.geo_access.proofs.Trying.{rows_of, geom_tries, provider_tries, Tries,
 use Rattle.geo_access.proofs.Tried.{trying-same}
 
 -- functions that agree at the items tell the same rows
-pub rows-same_on : {X V : Type 0} (key : X → ℕ) (f g : ℕ → V) (xs : List X) → ((x : X) → Contains xs x → f (key x) ≡ g (key x)) → rows_of key f xs ≡ rows_of key g xs
+pub rows-same_on : {X V : Type 0} (key : X → ℕ) (f g : ℕ → V) (xs : List X)
+    → ((x : X) → Contains xs x → f (key x) ≡ g (key x)) → rows_of key f xs ≡ rows_of key g xs
 rows-same_on {X} {V} key f g xs same =
     map_same (λ x. (key x, f (key x))) (λ x. (key x, g (key x))) xs
-    (each_of (λ (x : X). ◌≡◌ {A = ℕ × V} (key x, f (key x)) (key x, g (key x))) xs (λ x there. let P : V → ℕ × V = λ v. (key x, v) in ap P (same x there)))
+    (each_of (λ (x : X). ◌≡◌ {A = ℕ × V} (key x, f (key x)) (key x, g (key x))) xs (λ x there. let P : V → ℕ × V =
+    λ v. (key x, v) in ap P (same x there)))
 
 -- each item's value, changed
 abbrev pub sets : {X V : Type 0} → (X → ℕ) → (V → V) → (ℕ → V) → List X → ℕ → V
 sets key change f xs = fold (λ g x. set_at g (key x) (change (g (key x)))) f xs
 
 -- a number of none of the items keeps its value
-pub sets-other : {X V : Type 0} (key : X → ℕ) (change : V → V) (xs : List X) (f : ℕ → V) (n : ℕ) → ((x : X) → Contains xs x → key x ≢ n)
+pub sets-other : {X V : Type 0} (key : X → ℕ) (change : V → V) (xs : List X) (f : ℕ → V) (n : ℕ)
+    → ((x : X) → Contains xs x → key x ≢ n)
     → sets key change f xs n ≡ f n
 sets-other key change [] f n apart = refl
 sets-other key change (x ∷ xs) f n apart =
@@ -43,7 +46,8 @@ sets-other key change (x ∷ xs) f n apart =
     ∙ ap (λ b. if b then change (f (key x)) else f n) (ne_eqb n (key x) (λ e. apart x (in_head x xs) (sym e)))
 
 -- one of an item has the changed value, where items differ
-pub sets-here : {X V : Type 0} (key : X → ℕ) (change : V → V) (xs : List X) (f : ℕ → V) → Apart (map key xs) → (x : X) → Contains xs x
+pub sets-here : {X V : Type 0} (key : X → ℕ) (change : V → V) (xs : List X) (f : ℕ → V) → Apart (map key xs)
+    → (x : X) → Contains xs x
     → sets key change f xs (key x) ≡ change (f (key x))
 sets-here key change [] f apart x there = absurd (in_nothing x there)
 sets-here key change (y ∷ ys) f apart x there =
@@ -73,13 +77,16 @@ link_outside end [] n away = refl
 link_outside end (x ∷ xs) n away =
     elim (cases_eq n x) [
       | inl same ↦ let no : true ≡ false = sym (has_first x xs n same) ∙ away in absurd (cc)
-      | inr other ↦ ap (λ b. if b then head_or end xs else link_in end xs n) (ne_eqb n x other) ∙ link_outside end xs n (sym (has_step x xs n other) ∙ away)
+      | inr other ↦
+          ap (λ b. if b then head_or end xs else link_in end xs n) (ne_eqb n x other)
+          ∙ link_outside end xs n (sym (has_step x xs n other) ∙ away)
     ]
 
 module _ {C : Type 0} (t : TopoView C) where
   -- nothing is left to try at some providers
   clear_providers : (ys : List Provider) (s : Tries)
-      → fold (finish_provider None) (trying t s) ys ≡ trying t (record s { gains = sets (λ (y : Provider). y.number) (λ a. no_counts) s.gains ys })
+      → fold (finish_provider None) (trying t s) ys
+      ≡ trying t (record s { gains = sets (λ (y : Provider). y.number) (λ a. no_counts) s.gains ys })
   clear_providers [] s = refl
   clear_providers (y ∷ ys) s =
       ap (λ v. fold (finish_provider None) v ys) (trying-provider t s y.number no_counts)
@@ -96,24 +103,35 @@ module _ {C : Type 0} (t : TopoView C) where
   clear_geom : (s : Tries) (x : ℕ) → finish_geom None (trying t s) x ≡ trying t (cleared s x)
   clear_geom s x =
       ap (λ v. with_geom_scratch v x no_scratch) (clear_providers (providers_of t.topology x) s)
-      ∙ trying-geom t (record s { gains = sets (λ (y : Provider). y.number) (λ a. no_counts) s.gains (providers_of t.topology x) }) x 0 no_counts
+      ∙ trying-geom t
+      (record s {
+        gains =
+            sets (λ (y : Provider). y.number) (λ a. no_counts) s.gains (providers_of t.topology x);
+      }) x 0 no_counts
 
-  module _ (apart : (x : ℕ) → Apart (map (λ (y : Provider). y.number) (providers_of t.topology x))) (unique : (y z : Provider) → Contains t.topology.providers y → Contains t.topology.providers z → y.number ≡ z.number → y ≡ z) where
+  module _ (apart : (x : ℕ) → Apart (map (λ (y : Provider). y.number) (providers_of t.topology x)))
+      (unique : (y z : Provider) → Contains t.topology.providers y → Contains t.topology.providers z
+      → y.number ≡ z.number → y ≡ z) where
     -- what is tried once the geoms of the list are cleared
     pub record Cleared (xs : List ℕ) (s : Tries) : Type 0 where
       pub tries : Tries
       pub is : fold (finish_geom None) (trying t s) xs ≡ trying t tries
       pub marks : (n : ℕ) → tries.marks n ≡ (if has_number xs n then 0 else s.marks n)
       pub made : (n : ℕ) → tries.made n ≡ (if has_number xs n then no_counts else s.made n)
-      pub gains : (z : Provider) → Contains t.topology.providers z → tries.gains z.number ≡ (if has_number xs z.geom then no_counts else s.gains z.number)
+      pub gains : (z : Provider) → Contains t.topology.providers z
+          → tries.gains z.number ≡ (if has_number xs z.geom then no_counts else s.gains z.number)
 
     -- over one geom more
-    value_step : {V : Type 0} (x : ℕ) (xs : List ℕ) (n : ℕ) (none old mid new : V) → new ≡ (if has_number xs n then none else mid)
+    value_step : {V : Type 0} (x : ℕ) (xs : List ℕ) (n : ℕ) (none old mid new : V)
+        → new ≡ (if has_number xs n then none else mid)
         → (n ≡ x → mid ≡ none) → (n ≢ x → mid ≡ old) → new ≡ (if has_number (x ∷ xs) n then none else old)
     value_step x xs n none old mid new so here away =
         elim (cases_eq n x) [
-          | inl same ↦ so ∙ both (has_number xs n) (here same) ∙ sym (ap (λ b. if b then none else old) (has_first x xs n same))
-          | inr other ↦ so ∙ ap (λ m. if has_number xs n then none else m) (away other) ∙ sym (ap (λ b. if b then none else old) (has_step x xs n other))
+          | inl same ↦
+              so ∙ both (has_number xs n) (here same) ∙ sym (ap (λ b. if b then none else old) (has_first x xs n same))
+          | inr other ↦
+              so ∙ ap (λ m. if has_number xs n then none else m) (away other)
+              ∙ sym (ap (λ b. if b then none else old) (has_step x xs n other))
         ]
       where
         both : (b : Bool) → mid ≡ none → (if b then none else mid) ≡ none
@@ -121,12 +139,14 @@ module _ {C : Type 0} (t : TopoView C) where
         both false e = e
 
     -- the gains at one provider once a geom is cleared
-    gain_here : (s : Tries) (x : ℕ) (z : Provider) → Contains t.topology.providers z → z.geom ≡ x → (cleared s x).gains z.number ≡ no_counts
+    gain_here : (s : Tries) (x : ℕ) (z : Provider) → Contains t.topology.providers z → z.geom ≡ x
+        → (cleared s x).gains z.number ≡ no_counts
     gain_here s x z there same =
         sets-here (λ (y : Provider). y.number) (λ a. no_counts) (providers_of t.topology x) s.gains (apart x) z
         (in_filter (λ (y : Provider). y.geom == x) t.topology.providers z there (eq-eqb z.geom x same))
 
-    gain_other : (s : Tries) (x : ℕ) (z : Provider) → Contains t.topology.providers z → z.geom ≢ x → (cleared s x).gains z.number ≡ s.gains z.number
+    gain_other : (s : Tries) (x : ℕ) (z : Provider) → Contains t.topology.providers z → z.geom ≢ x
+        → (cleared s x).gains z.number ≡ s.gains z.number
     gain_other s x z there other =
         sets-other (λ (y : Provider). y.number) (λ a. no_counts) (providers_of t.topology x) s.gains z.number
         (λ y inside e.
@@ -142,19 +162,24 @@ module _ {C : Type 0} (t : TopoView C) where
           is = ap (λ v. fold (finish_geom None) v xs) (clear_geom s x) ∙ rest.is;
           marks = λ n.
               value_step x xs n 0 (s.marks n) (set_at s.marks x 0 n) (rest.tries.marks n) (rest.marks n)
-              (λ same. ap (λ b. if b then 0 else s.marks n) (eq-eqb n x same)) (λ other. ap (λ b. if b then 0 else s.marks n) (ne_eqb n x other));
+              (λ same. ap (λ b. if b then 0 else s.marks n) (eq-eqb n x same))
+              (λ other. ap (λ b. if b then 0 else s.marks n) (ne_eqb n x other));
           made = λ n.
               value_step x xs n no_counts (s.made n) (set_at s.made x no_counts n) (rest.tries.made n) (rest.made n)
-              (λ same. ap (λ b. if b then no_counts else s.made n) (eq-eqb n x same)) (λ other. ap (λ b. if b then no_counts else s.made n) (ne_eqb n x other));
+              (λ same. ap (λ b. if b then no_counts else s.made n) (eq-eqb n x same))
+              (λ other. ap (λ b. if b then no_counts else s.made n) (ne_eqb n x other));
           gains = λ z there.
-              value_step x xs z.geom no_counts (s.gains z.number) ((cleared s x).gains z.number) (rest.tries.gains z.number) (rest.gains z there)
+              value_step x xs z.geom no_counts (s.gains z.number) ((cleared s x).gains z.number)
+              (rest.tries.gains z.number) (rest.gains z there)
               (λ same. gain_here s x z there same) (λ other. gain_other s x z there other);
         }
 
     -- where only these geoms and their providers were tried, the mesh is as before
     pub clear_whole : (xs : List ℕ) (s : Tries) → t.scratches ≡ clear_scratches t.topology
-        → ((n : ℕ) → has_number xs n ≡ false → s.marks n ≡ 0) → ((n : ℕ) → has_number xs n ≡ false → s.made n ≡ no_counts)
-        → ((z : Provider) → Contains t.topology.providers z → has_number xs z.geom ≡ false → s.gains z.number ≡ no_counts)
+        → ((n : ℕ) → has_number xs n ≡ false → s.marks n ≡ 0)
+        → ((n : ℕ) → has_number xs n ≡ false → s.made n ≡ no_counts)
+        → ((z : Provider) → Contains t.topology.providers z → has_number xs z.geom ≡ false
+        → s.gains z.number ≡ no_counts)
         → fold (finish_geom None) (trying t s) xs ≡ t
     clear_whole xs s clear marks made gains =
         let all : Cleared xs s = clear_all xs s in
@@ -162,8 +187,15 @@ module _ {C : Type 0} (t : TopoView C) where
         ∙ trying-same t all.tries (record no_tries { gains = all.tries.gains })
         (λ n. all.marks n ∙ none (has_number xs n) 0 (s.marks n) (marks n))
         (λ n. all.made n ∙ none (has_number xs n) no_counts (s.made n) (made n)) (λ n. refl)
-        ∙ ap (λ rows. record t { scratches = record t.scratches { geoms = rows_of (λ (x : Geom C). x.number) (geom_tries no_tries) t.topology.geoms; providers = rows } })
-        (rows-same_on (λ (y : Provider). y.number) (provider_tries (record no_tries { gains = all.tries.gains })) (provider_tries no_tries) t.topology.providers
+        ∙ ap (λ rows. record t {
+          scratches =
+              record t.scratches {
+                geoms = rows_of (λ (x : Geom C). x.number) (geom_tries no_tries) t.topology.geoms;
+                providers = rows;
+              };
+        })
+        (rows-same_on (λ (y : Provider). y.number) (provider_tries (record no_tries { gains = all.tries.gains }))
+        (provider_tries no_tries) t.topology.providers
         (λ z there.
         let P : Counts → Scratch = λ a. record { mark = 0; trial = a } in
         ap P (all.gains z there ∙ none (has_number xs z.geom) no_counts (s.gains z.number) (gains z there))))
@@ -174,7 +206,8 @@ module _ {C : Type 0} (t : TopoView C) where
         none false zero old so = so refl
 
 -- a provider of a geom outside an order gains nothing
-pub outside_gains : {C : Type 0} (t : Topology C) (p : ℕ) (first : Counts) (gain : ℕ → Counts) (more : Consumer → Counts) (order : List ℕ) → IsOrder t order
+pub outside_gains : {C : Type 0} (t : Topology C) (p : ℕ) (first : Counts) (gain : ℕ → Counts) (more : Consumer
+    → Counts) (order : List ℕ) → IsOrder t order
     → Flow t p first gain more order → (y : Provider) → provider_at t p ≡ Some y → Contains order y.geom
     → (z : Provider) → provider_at t z.number ≡ Some z → (Contains order z.geom → ⊥) → gain z.number ≡ no_counts
 outside_gains t p first gain more order ordered flow y found inside z there away =
@@ -191,5 +224,6 @@ outside_gains t p first gain more order ordered flow y found inside z there away
     flow.around c stands.0
     (λ above.
     away (order_closed t order ordered c.geom z.geom above
-    (is-under t c.geom z.number z (directly_under t c z.number stands.0 (names_some c.provider z.number stands.1)) there)))))
+    (is-under t c.geom z.number z
+    (directly_under t c z.number stands.0 (names_some c.provider z.number stands.1)) there)))))
     ∙ zero-add no_counts

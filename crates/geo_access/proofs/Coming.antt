@@ -39,7 +39,8 @@ use Rattle.geo_access.proofs.Verdict.{After, IsVerdict, refused}
 use Rattle.geo_access.proofs.Decided.{IsTold, consumer_known, new_is, cleared, decided, end}
 
 -- what is found in a list is found in a longer one
-pub find_left : {X : Type 0} (test : X → Bool) (xs ys : List X) (x : X) → find test xs ≡ Some x → find test (xs ++ ys) ≡ Some x
+pub find_left : {X : Type 0} (test : X → Bool) (xs ys : List X) (x : X) → find test xs ≡ Some x
+    → find test (xs ++ ys) ≡ Some x
 find_left test [] ys x never = absurd (cc)
 find_left {X} test (z ∷ zs) ys x found = by (test z) found (find_left test zs ys x)
   where
@@ -49,7 +50,8 @@ find_left {X} test (z ∷ zs) ys x found = by (test z) found (find_left test zs 
     by false f so = so f
 
 -- where none passes before it, the last is found
-pub find_last : {X : Type 0} (test : X → Bool) (xs : List X) (y : X) → ((x : X) → Contains xs x → test x ≡ false) → test y ≡ true → find test (xs ++ y ∷ []) ≡ Some y
+pub find_last : {X : Type 0} (test : X → Bool) (xs : List X) (y : X) → ((x : X) → Contains xs x → test x ≡ false)
+    → test y ≡ true → find test (xs ++ y ∷ []) ≡ Some y
 find_last test [] y none passes = ap (λ b. cond b (Some y) None) passes
 find_last test (x ∷ xs) y none passes =
     ap (λ b. cond b (Some x) (find test (xs ++ y ∷ []))) (none x (in_head x xs))
@@ -61,13 +63,16 @@ SaysError t p (Some (Named (Enxio q))) = (has_error_below t p ≡ true) × IsFir
 SaysError t p r = has_error_below t p ≡ false
 
 -- of a geom without providers none stands
-bare_of : (ps : List Provider) (g : ℕ) → ((y : Provider) → Contains ps y → y.geom ≢ g) → filter (λ (y : Provider). y.geom == g) ps ≡ []
+bare_of : (ps : List Provider) (g : ℕ) → ((y : Provider) → Contains ps y → y.geom ≢ g)
+    → filter (λ (y : Provider). y.geom == g) ps ≡ []
 bare_of [] g none = refl
 bare_of (y ∷ ys) g none =
-    ap (λ b. cond b (y ∷ filter (λ (z : Provider). z.geom == g) ys) (filter (λ (z : Provider). z.geom == g) ys)) (ne_eqb y.geom g (none y (in_head y ys)))
+    ap (λ b. cond b (y ∷ filter (λ (z : Provider). z.geom == g) ys) (filter (λ (z : Provider). z.geom == g) ys))
+    (ne_eqb y.geom g (none y (in_head y ys)))
     ∙ bare_of ys g (λ z there. none z (in_tail y ys z there))
 
-module _ {C : Type 0} (t : TopoView C) (sound : IsSoundGraph t.topology) (told : IsTold t) (p : ℕ) (y : Provider) (offered : provider_at t.topology p ≡ Some y) (add : Counts) where
+module _ {C : Type 0} (t : TopoView C) (sound : IsSoundGraph t.topology) (told : IsTold t) (p : ℕ) (y : Provider)
+    (offered : provider_at t.topology p ≡ Some y) (add : Counts) where
   -- the graph with the new consumer
   abbrev pub opened : Topology C
   opened = with_opener t.topology p
@@ -82,19 +87,23 @@ module _ {C : Type 0} (t : TopoView C) (sound : IsSoundGraph t.topology) (told :
 
   -- no consumer has its number
   pub newcomer_free : All (λ (c : Consumer). c.number ≢ t.topology.next_consumer) t.topology.consumers
-  newcomer_free = free_of (λ (c : Consumer). c.number) t.topology.consumers t.topology.next_consumer sound.orderly.order.consumers.1
+  newcomer_free =
+      free_of (λ (c : Consumer). c.number) t.topology.consumers t.topology.next_consumer sound.orderly.order.consumers.1
 
   -- DEV holds grants
   pub dev_holds : HoldsGrants t.topology 1
   dev_holds = by (geom_at t.topology 1) sound.orderly.first.dev
     where
-      by : (o : Option (Geom C)) → IsSomeAnd o (λ (x : Geom C). x.kind ≡ kinds.Dev) → IsSomeAnd o (λ (x : Geom C). is_granted_kind x.kind ≡ true)
+      by : (o : Option (Geom C)) → IsSomeAnd o (λ (x : Geom C). x.kind ≡ kinds.Dev)
+          → IsSomeAnd o (λ (x : Geom C). is_granted_kind x.kind ≡ true)
       by None never = absurd never
       by (Some g) dev = ap is_granted_kind dev
 
   -- it has no provider
   pub dev_bare : providers_of t.topology 1 ≡ []
-  dev_bare = bare_of t.topology.providers 1 (λ z there. (All-contains (λ (w : Provider). IsOffer w) t.topology.providers z sound.orderly.offers there).not_dev)
+  dev_bare = bare_of t.topology.providers 1
+      (λ z there. (All-contains (λ (w : Provider). IsOffer w) t.topology.providers z sound.orderly.offers
+      there).not_dev)
 
   -- so a consumer of DEV comes
   pub comes : Comes (granted_by t) t.topology opened_grants 1
@@ -105,7 +114,8 @@ module _ {C : Type 0} (t : TopoView C) (sound : IsSoundGraph t.topology) (told :
   }
 
   pub own_grant : opened_grants t.topology.next_consumer ≡ add
-  own_grant = ap (λ b. if b then add else granted_by t t.topology.next_consumer) (eq-eqb t.topology.next_consumer t.topology.next_consumer refl)
+  own_grant = ap (λ b. if b then add else granted_by t t.topology.next_consumer)
+      (eq-eqb t.topology.next_consumer t.topology.next_consumer refl)
 
   -- numbers lead to providers
   pub opened_known : NumbersLead t.topology
@@ -119,26 +129,41 @@ module _ {C : Type 0} (t : TopoView C) (sound : IsSoundGraph t.topology) (told :
   tall_most : (g : ℕ) → rank t.topology g ≤ tall g
   tall_most g = by (g == 1) refl
     where
-      by : (b : Bool) → (g == 1) ≡ b → rank t.topology g ≤ (if b then suc (max (rank t.topology 1) (rank t.topology y.geom)) else rank t.topology g)
-      by true e = let same : rank t.topology g ≡ rank t.topology 1 = ap (rank t.topology) (eqb-true g 1 e) in omega arith
+      by : (b : Bool) → (g == 1) ≡ b
+          → rank t.topology g
+          ≤ (if b then suc (max (rank t.topology 1) (rank t.topology y.geom)) else rank t.topology g)
+      by true e = let same : rank t.topology g ≡ rank t.topology 1 =
+          ap (rank t.topology) (eqb-true g 1 e) in omega arith
       by false e = omega arith
 
   -- the geom of a provider is as tall as its rank
   tall_offer : (q : ℕ) (z : Provider) → provider_at t.topology q ≡ Some z → tall z.geom ≡ rank t.topology z.geom
   tall_offer q z found =
       ap (λ b. if b then suc (max (rank t.topology 1) (rank t.topology y.geom)) else rank t.topology z.geom)
-      (ne_eqb z.geom 1 (All-contains (λ (w : Provider). IsOffer w) t.topology.providers z sound.orderly.offers (found_in (λ (w : Provider). w.number == q) t.topology.providers z found)).not_dev)
+      (ne_eqb z.geom 1 (All-contains (λ (w : Provider). IsOffer w) t.topology.providers z sound.orderly.offers
+      (found_in (λ (w : Provider). w.number == q) t.topology.providers z found)).not_dev)
 
   -- one edge climbs
-  climbs_old : (c : Consumer) → Contains t.topology.consumers c → IfSome c.provider (λ q. IsSomeAnd (provider_at t.topology q) (λ z. tall z.geom < tall c.geom))
-  climbs_old c there = by c.provider (All-contains (λ (d : Consumer). IfSome d.provider (λ q. IsSomeAnd (provider_at t.topology q) (λ z. rank t.topology z.geom < rank t.topology d.geom))) t.topology.consumers c sound.ranked there)
+  climbs_old : (c : Consumer) → Contains t.topology.consumers c
+      → IfSome c.provider (λ q. IsSomeAnd (provider_at t.topology q) (λ z. tall z.geom < tall c.geom))
+  climbs_old c there =
+      by c.provider
+      (All-contains
+      (λ (d : Consumer).
+      IfSome d.provider
+      (λ q. IsSomeAnd (provider_at t.topology q) (λ z. rank t.topology z.geom
+      < rank t.topology d.geom))) t.topology.consumers c sound.ranked there)
     where
-      over : (q : ℕ) (o : Option Provider) → provider_at t.topology q ≡ o → IsSomeAnd o (λ (z : Provider). rank t.topology z.geom < rank t.topology c.geom)
+      over : (q : ℕ) (o : Option Provider) → provider_at t.topology q ≡ o
+          → IsSomeAnd o (λ (z : Provider). rank t.topology z.geom < rank t.topology c.geom)
           → IsSomeAnd o (λ (z : Provider). tall z.geom < tall c.geom)
       over q None found less = less
-      over q (Some z) found less = let same : tall z.geom ≡ rank t.topology z.geom = tall_offer q z found in let most : rank t.topology c.geom ≤ tall c.geom = tall_most c.geom in omega arith
+      over q (Some z) found less = let same : tall z.geom ≡ rank t.topology z.geom = tall_offer q z found in
+          let most : rank t.topology c.geom ≤ tall c.geom = tall_most c.geom in omega arith
 
-      by : (o : Option ℕ) → IfSome o (λ q. IsSomeAnd (provider_at t.topology q) (λ (z : Provider). rank t.topology z.geom < rank t.topology c.geom))
+      by : (o : Option ℕ)
+          → IfSome o (λ q. IsSomeAnd (provider_at t.topology q) (λ (z : Provider). rank t.topology z.geom
+          < rank t.topology c.geom))
           → IfSome o (λ q. IsSomeAnd (provider_at t.topology q) (λ (z : Provider). tall z.geom < tall c.geom))
       by None less = less
       by (Some q) less = over q (provider_at t.topology q) refl less
@@ -147,13 +172,18 @@ module _ {C : Type 0} (t : TopoView C) (sound : IsSoundGraph t.topology) (told :
   pub opened_ranked : Ranked opened
   opened_ranked =
       climbing-ranked opened tall
-      (All-push (λ (c : Consumer). IfSome c.provider (λ q. IsSomeAnd (provider_at t.topology q) (λ z. tall z.geom < tall c.geom))) t.topology.consumers newcomer
-      (all_of (λ (c : Consumer). IfSome c.provider (λ q. IsSomeAnd (provider_at t.topology q) (λ z. tall z.geom < tall c.geom))) t.topology.consumers climbs_old)
+      (All-push (λ (c : Consumer).
+      IfSome c.provider (λ q. IsSomeAnd (provider_at t.topology q) (λ z. tall z.geom < tall c.geom)))
+      t.topology.consumers newcomer
+      (all_of (λ (c : Consumer).
+      IfSome c.provider (λ q. IsSomeAnd (provider_at t.topology q) (λ z. tall z.geom < tall c.geom)))
+      t.topology.consumers climbs_old)
       (subst (λ o. IsSomeAnd o (λ (z : Provider). tall z.geom < tall 1)) (sym offered)
       (let same : tall y.geom ≡ rank t.topology y.geom = tall_offer p y offered in
       let high : tall 1 ≡ suc (max (rank t.topology 1) (rank t.topology y.geom)) = refl in
       omega arith)))
-      (All-push (λ (c : Consumer). IsSome (geom_at t.topology c.geom)) t.topology.consumers newcomer sound.orderly.parts.geoms dev_there)
+      (All-push (λ (c : Consumer). IsSome (geom_at t.topology c.geom)) t.topology.consumers newcomer
+      sound.orderly.parts.geoms dev_there)
     where
       by : (o : Option (Geom C)) → IsSomeAnd o (λ (x : Geom C). is_granted_kind x.kind ≡ true) → IsSome o
       by None never = absurd never
@@ -169,60 +199,88 @@ module _ {C : Type 0} (t : TopoView C) (sound : IsSoundGraph t.topology) (told :
   abbrev pub opened_mores : Consumer → Counts
   opened_mores c = more_counts (want (granted_by t) t.topology c) (want opened_grants opened c)
 
-  pub opening : (order : List ℕ) → Covers t.topology p order → Demands t.topology p add (have (granted_by t) t.topology) opened_gains opened_mores order
+  pub opening : (order : List ℕ) → Covers t.topology p order
+      → Demands t.topology p add (have (granted_by t) t.topology) opened_gains opened_mores order
   opening order covers =
       subst (λ a. Demands t.topology p a (have (granted_by t) t.topology) opened_gains opened_mores order) own_grant
-      (coming_demands t.topology opened_known (granted_by t) opened_grants 1 p comes opened_ranked dev_bare order covers)
+      (coming_demands t.topology opened_known (granted_by t) opened_grants 1 p comes opened_ranked dev_bare
+      order covers)
 
   -- a consumer that stood wants what it wanted and gains
-  old_wants : (c : Consumer) → Contains t.topology.consumers c → want opened_grants opened c ≡ add_counts (want (granted_by t) t.topology c) (opened_mores c)
+  old_wants : (c : Consumer) → Contains t.topology.consumers c
+      → want opened_grants opened c ≡ add_counts (want (granted_by t) t.topology c) (opened_mores c)
   old_wants c there =
-      let g = some_of (geom_at t.topology c.geom) (All-contains (λ (d : Consumer). IsSome (geom_at t.topology d.geom)) t.topology.consumers c sound.orderly.parts.geoms there) in
-      let e = came_wants (granted_by t) opened_grants t.topology 1 p comes.free comes.kind comes.agree c g.0 there g.1 in
-      e ∙ ap (add_counts (want (granted_by t) t.topology c)) (sym (ap (more_counts (want (granted_by t) t.topology c)) e ∙ more-add (want (granted_by t) t.topology c) _))
+      let g = some_of (geom_at t.topology c.geom)
+      (All-contains (λ (d : Consumer). IsSome (geom_at t.topology d.geom)) t.topology.consumers c
+      sound.orderly.parts.geoms there) in
+      let e = came_wants (granted_by t) opened_grants t.topology 1 p comes.free comes.kind comes.agree c g.0
+      there g.1 in
+      e ∙ ap (add_counts (want (granted_by t) t.topology c))
+      (sym (ap (more_counts (want (granted_by t) t.topology c)) e ∙ more-add (want (granted_by t) t.topology c) _))
 
   -- its number isn't the newcomer's
   old_number : (c : Consumer) → Contains t.topology.consumers c → c.number ≢ t.topology.next_consumer
-  old_number c there = All-contains (λ (d : Consumer). d.number ≢ t.topology.next_consumer) t.topology.consumers c newcomer_free there
+  old_number c there =
+      All-contains (λ (d : Consumer). d.number ≢ t.topology.next_consumer) t.topology.consumers c newcomer_free there
 
   -- how the state with it stands to the one without
-  pub opening_after : After t.topology p t.topology.next_consumer add (granted_by t) opened_grants opened opened_gains opened_mores
+  pub opening_after : After t.topology p t.topology.next_consumer add (granted_by t) opened_grants opened
+      opened_gains opened_mores
   opening_after = record {
     providers = refl;
-    stays = came_stays (granted_by t) opened_grants t.topology 1 p comes.free comes.kind comes.agree opened_ranked opened_known dev_bare;
-    haves = λ q. sym (add-more (have (granted_by t) t.topology q) (have opened_grants opened q) (came_more (granted_by t) opened_grants t.topology 1 p comes.free comes.kind comes.agree q));
+    stays = came_stays (granted_by t) opened_grants t.topology 1 p comes.free comes.kind comes.agree opened_ranked
+        opened_known dev_bare;
+    haves = λ q.
+        sym (add-more (have (granted_by t) t.topology q) (have opened_grants opened q)
+        (came_more (granted_by t) opened_grants t.topology 1 p comes.free comes.kind comes.agree q));
     sums = λ q. have_is_sum opened opened_ranked opened_known opened_grants q;
     each = each_of_them;
     old = λ q c at.
         let inside = of_filter (λ (x : Consumer). names_number x.provider q) t.topology.consumers c at in
-        inr (in_filter (λ (x : Consumer). names_number x.provider q) opened.consumers c (Contains-append_left t.topology.consumers (newcomer ∷ []) c inside.0) inside.1, old_number c inside.0, old_wants c inside.0);
+        inr (
+          in_filter (λ (x : Consumer). names_number x.provider q) opened.consumers c
+              (Contains-append_left t.topology.consumers (newcomer ∷ []) c inside.0) inside.1,
+          old_number c inside.0,
+          old_wants c inside.0,
+        );
     opener = newcomer;
-    opener_at = in_filter (λ (x : Consumer). names_number x.provider p) opened.consumers newcomer (Contains-push t.topology.consumers newcomer) (eq-eqb p p refl);
+    opener_at = in_filter (λ (x : Consumer). names_number x.provider p) opened.consumers newcomer
+        (Contains-push t.topology.consumers newcomer) (eq-eqb p p refl);
     opener_is = refl;
     opener_wants = wants_grant opened_grants opened newcomer dev_holds ∙ own_grant;
     found = λ c there.
         elim (Contains-push_cases t.topology.consumers newcomer c there) [
-          | inl old ↦ find_left (λ (x : Consumer). x.number == c.number) t.topology.consumers (newcomer ∷ []) c (consumer_known t sound c old)
+          | inl old ↦ find_left (λ (x : Consumer). x.number == c.number) t.topology.consumers (newcomer ∷ []) c
+              (consumer_known t sound c old)
           | inr same ↦
               subst (λ d. consumer_at opened d.number ≡ Some d) same
               (find_last (λ (x : Consumer). x.number == t.topology.next_consumer) t.topology.consumers newcomer
-              (λ x inside. ne_eqb x.number t.topology.next_consumer (old_number x inside)) (eq-eqb t.topology.next_consumer t.topology.next_consumer refl))
+              (λ x inside. ne_eqb x.number t.topology.next_consumer (old_number x inside))
+              (eq-eqb t.topology.next_consumer t.topology.next_consumer refl))
         ];
     errors = errors_came t.topology 1 p dev_bare p;
   }
     where
       each_of_them : (q : ℕ) (c : Consumer) → Contains (attached_to opened q) c
           → ((c.number ≡ t.topology.next_consumer) × (p ≡ q) × (want opened_grants opened c ≡ add))
-          ⊎ (Contains (attached_to t.topology q) c × (c.number ≢ t.topology.next_consumer) × (want opened_grants opened c ≡ add_counts (want (granted_by t) t.topology c) (opened_mores c)))
+          ⊎ (Contains (attached_to t.topology q) c × (c.number ≢ t.topology.next_consumer)
+          × (want opened_grants opened c ≡ add_counts (want (granted_by t) t.topology c) (opened_mores c)))
       each_of_them q c at =
           let inside = of_filter (λ (x : Consumer). names_number x.provider q) opened.consumers c at in
           elim (Contains-push_cases t.topology.consumers newcomer c inside.0) [
-            | inl old ↦ inr (in_filter (λ (x : Consumer). names_number x.provider q) t.topology.consumers c old inside.1, old_number c old, old_wants c old)
+            | inl old ↦ inr (
+              in_filter (λ (x : Consumer). names_number x.provider q) t.topology.consumers c old
+                  inside.1,
+              old_number c old,
+              old_wants c old,
+            )
             | inr same ↦
                 inl (
                   ap (λ (x : Consumer). x.number) (sym same),
-                  (let e : Some p ≡ Some q = ap (λ (x : Consumer). x.provider) same ∙ names_some c.provider q inside.1 in cc),
-                  ap (want opened_grants opened) (sym same) ∙ wants_grant opened_grants opened newcomer dev_holds ∙ own_grant,
+                  (let e : Some p ≡ Some q = ap (λ (x : Consumer). x.provider) same
+                      ∙ names_some c.provider q inside.1 in cc),
+                  ap (want opened_grants opened) (sym same) ∙ wants_grant opened_grants opened newcomer dev_holds
+                      ∙ own_grant,
                 )
           ]
 
@@ -238,8 +296,11 @@ module _ {C : Type 0} (t : TopoView C) (sound : IsSoundGraph t.topology) (told :
     open_order_is = tried_order t sound told.clear p add Rises new o tried
 
     -- what the walk comes to
-    pub open_is : new ≡ trying t (end t sound told p add new o tried t.topology.next_consumer opened_grants opened opened_gains opened_mores opening_after open_demand).tries
-    open_is = new_is t sound told p add new o tried t.topology.next_consumer opened_grants opened opened_gains opened_mores opening_after open_demand
+    pub open_is : new
+        ≡ trying t (end t sound told p add new o tried t.topology.next_consumer opened_grants opened opened_gains
+        opened_mores opening_after open_demand).tries
+    open_is = new_is t sound told p add new o tried t.topology.next_consumer opened_grants opened opened_gains
+        opened_mores opening_after open_demand
 
     -- the geoms of the order live
     pub open_lives : All (λ x. IsSome (geom_at new.topology x)) (order_of new o)
@@ -247,31 +308,41 @@ module _ {C : Type 0} (t : TopoView C) (sound : IsSoundGraph t.topology) (told :
         subst (λ u. All (λ x. IsSome (geom_at u x)) (order_of new o))
         (sym (ap (λ v. v.topology) open_is))
         (subst (All (λ x. IsSome (geom_at t.topology x))) (sym open_order_is)
-        (all_of (λ x. IsSome (geom_at t.topology x)) open_order (below_lives t sound told.clear p tried.offer tried.found)))
+        (all_of (λ x. IsSome (geom_at t.topology x)) open_order
+        (below_lives t sound told.clear p tried.offer tried.found)))
 
     -- and differ
     pub open_apart : Apart (order_of new o)
-    open_apart = subst Apart (sym open_order_is) (order_apart t.topology open_order (below_ordered t sound told.clear p tried.offer tried.found))
+    open_apart =
+        subst Apart (sym open_order_is)
+        (order_apart t.topology open_order (below_ordered t sound told.clear p tried.offer tried.found))
 
     -- the end of the walk leaves the mesh as it was
     pub open_end : fold (finish_geom None) new (order_of new o) ≡ t
-    open_end = cleared t sound told p add new o tried t.topology.next_consumer opened_grants opened opened_gains opened_mores opening_after open_demand
+    open_end = cleared t sound told p add new o tried t.topology.next_consumer opened_grants opened opened_gains
+        opened_mores opening_after open_demand
 
     -- the judgement is the model's
-    pub open_refused : option_map errno_of_refused (judged new p add (order_of new o)) ≡ grant_refusal opened_grants opened p
+    pub open_refused : option_map errno_of_refused (judged new p add (order_of new o))
+        ≡ grant_refusal opened_grants opened p
     open_refused =
-        refused (trying t (end t sound told p add new o tried t.topology.next_consumer opened_grants opened opened_gains opened_mores opening_after open_demand).tries)
-        p t.topology.next_consumer add (granted_by t) opened_grants opened opened_gains opened_mores opening_after (judged new p add (order_of new o))
-        (decided t sound told p add new o tried t.topology.next_consumer opened_grants opened opened_gains opened_mores opening_after open_demand)
+        refused (trying t (end t sound told p add new o tried t.topology.next_consumer opened_grants opened
+        opened_gains opened_mores opening_after open_demand).tries)
+        p t.topology.next_consumer add (granted_by t) opened_grants opened opened_gains opened_mores opening_after
+        (judged new p add (order_of new o))
+        (decided t sound told p add new o tried t.topology.next_consumer opened_grants opened opened_gains
+        opened_mores opening_after open_demand)
 
     -- what it says of errors
     pub open_errors : SaysError t.topology p (judged new p add (order_of new o))
     open_errors =
         by (judged new p add (order_of new o))
-        (decided t sound told p add new o tried t.topology.next_consumer opened_grants opened opened_gains opened_mores opening_after open_demand)
+        (decided t sound told p add new o tried t.topology.next_consumer opened_grants opened opened_gains
+        opened_mores opening_after open_demand)
       where
         by : (r : Option Refused)
-            → IsVerdict (trying t (end t sound told p add new o tried t.topology.next_consumer opened_grants opened opened_gains opened_mores opening_after open_demand).tries)
+            → IsVerdict (trying t (end t sound told p add new o tried t.topology.next_consumer opened_grants opened
+            opened_gains opened_mores opening_after open_demand).tries)
             p t.topology.next_consumer add (granted_by t) opened_grants opened opened_gains opened_mores opening_after r
             → SaysError t.topology p r
         by None says = says.0

@@ -40,22 +40,27 @@ use Rattle.geo_access.proofs.Verdict.{After, IsVerdict, verdict, any_true}
 item_step : {X V : Type 0} (key : X → ℕ) (f : X → V) (n : ℕ) (x y : X) (xs : List X)
     → (find (λ z. key z == n) xs ≡ Some y → value_at (map (λ z. (key z, f z)) xs) n ≡ Some (f y))
     → (b : Bool) → cond b (Some x) (find (λ z. key z == n) xs) ≡ Some y
-    → option_map {T = ℕ × V} (λ row. row.1) (cond b (Some (key x, f x)) (find (λ row. row.0 == n) (map (λ z. (key z, f z)) xs))) ≡ Some (f y)
+    → option_map {T =
+    ℕ × V} (λ row. row.1) (cond b (Some (key x, f x)) (find (λ row. row.0 == n) (map (λ z. (key z, f z)) xs)))
+    ≡ Some (f y)
 item_step key f n x y xs so true found = let same : x ≡ y = cc in ap (λ z. Some (f z)) same
 item_step key f n x y xs so false found = so found
 
 -- the row of an item that is found
-pub item_at : {X V : Type 0} (key : X → ℕ) (f : X → V) (n : ℕ) (xs : List X) (y : X) → find (λ z. key z == n) xs ≡ Some y
+pub item_at : {X V : Type 0} (key : X → ℕ) (f : X → V) (n : ℕ) (xs : List X) (y : X)
+    → find (λ z. key z == n) xs ≡ Some y
     → value_at (map (λ z. (key z, f z)) xs) n ≡ Some (f y)
 item_at key f n [] y never = absurd (cc)
 item_at key f n (x ∷ xs) y found = item_step key f n x y xs (item_at key f n xs y) (key x == n) found
 
 -- a number of a part is one of the whole
-part_number : {X : Type 0} (key : X → ℕ) (keep : X → Bool) (xs : List X) (m : ℕ) → Contains (map key (filter keep xs)) m → Contains (map key xs) m
+part_number : {X : Type 0} (key : X → ℕ) (keep : X → Bool) (xs : List X) (m : ℕ)
+    → Contains (map key (filter keep xs)) m → Contains (map key xs) m
 part_number key keep [] m there = there
 part_number {X} key keep (x ∷ xs) m there = by (keep x) there (part_number key keep xs m)
   where
-    by : (b : Bool) → Contains (map key (cond b (x ∷ filter keep xs) (filter keep xs))) m → (Contains (map key (filter keep xs)) m → Contains (map key xs) m)
+    by : (b : Bool) → Contains (map key (cond b (x ∷ filter keep xs) (filter keep xs))) m
+        → (Contains (map key (filter keep xs)) m → Contains (map key xs) m)
         → Contains (map key (x ∷ xs)) m
     by true inside so =
         elim (in_cases (key x) (map key (filter keep xs)) m inside) [
@@ -65,19 +70,22 @@ part_number {X} key keep (x ∷ xs) m there = by (keep x) there (part_number key
     by false inside so = in_tail (key x) (map key xs) m (so inside)
 
 -- numbers of a part of a rising list differ
-pub part_apart : {X : Type 0} (key : X → ℕ) (keep : X → Bool) (xs : List X) → AllPairs (λ m n. m < n) (map key xs) → Apart (map key (filter keep xs))
+pub part_apart : {X : Type 0} (key : X → ℕ) (keep : X → Bool) (xs : List X) → AllPairs (λ m n. m < n) (map key xs)
+    → Apart (map key (filter keep xs))
 part_apart key keep [] rise = tt
 part_apart {X} key keep (x ∷ xs) rise = by (keep x) (part_apart key keep xs (rest_rise (key x) (map key xs) rise))
   where
     by : (b : Bool) → Apart (map key (filter keep xs)) → Apart (map key (cond b (x ∷ filter keep xs) (filter keep xs)))
     by true so = (
-      (λ there. let less : key x < key x = first_below (key x) (map key xs) rise (key x) (part_number key keep xs (key x) there) in omega arith),
+      (λ there. let less : key x < key x =
+          first_below (key x) (map key xs) rise (key x) (part_number key keep xs (key x) there) in omega arith),
       so,
     )
     by false so = so
 
 -- no more pass a stronger test
-length_weaker : {X : Type 0} (a b : X → Bool) (xs : List X) → ((x : X) → a x ≡ true → b x ≡ true) → length (filter a xs) ≤ length (filter b xs)
+length_weaker : {X : Type 0} (a b : X → Bool) (xs : List X) → ((x : X) → a x ≡ true → b x ≡ true)
+    → length (filter a xs) ≤ length (filter b xs)
 length_weaker a b [] so = omega arith
 length_weaker {X} a b (x ∷ xs) so = by (a x) (b x) refl refl (length_weaker a b xs so)
   where
@@ -89,20 +97,24 @@ length_weaker {X} a b (x ∷ xs) so = by (a x) (b x) refl refl (length_weaker a 
     by false false ea eb rest = rest
 
 -- so many pass the one test or the other, where none passes both
-length_either : {X : Type 0} (a b c : X → Bool) (xs : List X) → ((x : X) → c x ≡ (a x || b x)) → ((x : X) → a x ≡ true → b x ≡ false)
+length_either : {X : Type 0} (a b c : X → Bool) (xs : List X) → ((x : X) → c x ≡ (a x || b x))
+    → ((x : X) → a x ≡ true → b x ≡ false)
     → length (filter c xs) ≡ length (filter a xs) + length (filter b xs)
 length_either a b c [] is apart = refl
 length_either {X} a b c (x ∷ xs) is apart = by (a x) (b x) (c x) refl refl refl (length_either a b c xs is apart)
   where
-    by : (p q r : Bool) → a x ≡ p → b x ≡ q → c x ≡ r → length (filter c xs) ≡ length (filter a xs) + length (filter b xs)
+    by : (p q r : Bool) → a x ≡ p → b x ≡ q → c x ≡ r
+        → length (filter c xs) ≡ length (filter a xs) + length (filter b xs)
         → length (cond r (x ∷ filter c xs) (filter c xs))
         ≡ length (cond p (x ∷ filter a xs) (filter a xs)) + length (cond q (x ∷ filter b xs) (filter b xs))
     by true true r ea eb ec rest = let no : true ≡ false = sym eb ∙ apart x ea in absurd (cc)
     by true false true ea eb ec rest = omega arith
     by true false false ea eb ec rest = let no : false ≡ true = sym ec ∙ is x ∙ ap (λ z. z || b x) ea in absurd (cc)
     by false true true ea eb ec rest = omega arith
-    by false true false ea eb ec rest = let no : false ≡ true = sym ec ∙ is x ∙ ap (λ z. z || b x) ea ∙ eb in absurd (cc)
-    by false false true ea eb ec rest = let no : true ≡ false = sym ec ∙ is x ∙ ap (λ z. z || b x) ea ∙ eb in absurd (cc)
+    by false true false ea eb ec rest = let no : false ≡ true = sym ec ∙ is x ∙ ap (λ z. z || b x) ea
+        ∙ eb in absurd (cc)
+    by false false true ea eb ec rest = let no : true ≡ false = sym ec ∙ is x ∙ ap (λ z. z || b x) ea
+        ∙ eb in absurd (cc)
     by false false false ea eb ec rest = rest
 
 -- none passes the test that fails
@@ -111,11 +123,13 @@ length_none [] = refl
 length_none (x ∷ xs) = length_none xs
 
 -- the consumers of the geoms of an order are those whose geom is in it
-over_is : {C : Type 0} (t : Topology C) (xs : List ℕ) → Apart xs → consumers_over t xs ≡ length (filter (λ (c : Consumer). has_number xs c.geom) t.consumers)
+over_is : {C : Type 0} (t : Topology C) (xs : List ℕ) → Apart xs
+    → consumers_over t xs ≡ length (filter (λ (c : Consumer). has_number xs c.geom) t.consumers)
 over_is t [] apart = sym (length_none t.consumers)
 over_is t (x ∷ xs) apart =
     ap (λ n. length (consumers_of t x) + n) (over_is t xs apart.1)
-    ∙ sym (length_either (λ (c : Consumer). c.geom == x) (λ (c : Consumer). has_number xs c.geom) (λ (c : Consumer). has_number (x ∷ xs) c.geom) t.consumers
+    ∙ sym (length_either (λ (c : Consumer). c.geom == x) (λ (c : Consumer). has_number xs c.geom)
+    (λ (c : Consumer). has_number (x ∷ xs) c.geom) t.consumers
     (λ c. ap (λ b. b || has_number xs c.geom) (flips c.geom))
     (λ c e. not-has xs c.geom (λ there. apart.0 (subst (Contains xs) (eqb-true c.geom x e) there))))
   where
@@ -129,16 +143,28 @@ over_is t (x ∷ xs) apart =
 module _ {C : Type 0} (t : TopoView C) (sound : IsSoundGraph t.topology) where
   -- each is found by its number
   pub provider_known : (z : Provider) → Contains t.topology.providers z → provider_at t.topology z.number ≡ Some z
-  provider_known = found_of (λ (z : Provider). z.number) t.topology.providers (AllPairs-from_increasing (map (λ (z : Provider). z.number) t.topology.providers) sound.orderly.order.providers.0)
+  provider_known =
+      found_of (λ (z : Provider). z.number) t.topology.providers
+      (AllPairs-from_increasing (map (λ (z : Provider). z.number) t.topology.providers)
+      sound.orderly.order.providers.0)
 
-  pub consumer_known : (c : Consumer) → Contains t.topology.consumers c → find (λ (x : Consumer). x.number == c.number) t.topology.consumers ≡ Some c
-  consumer_known = found_of (λ (x : Consumer). x.number) t.topology.consumers (AllPairs-from_increasing (map (λ (x : Consumer). x.number) t.topology.consumers) sound.orderly.order.consumers.0)
+  pub consumer_known : (c : Consumer) → Contains t.topology.consumers c
+      → find (λ (x : Consumer). x.number == c.number) t.topology.consumers ≡ Some c
+  consumer_known =
+      found_of (λ (x : Consumer). x.number) t.topology.consumers
+      (AllPairs-from_increasing (map (λ (x : Consumer). x.number) t.topology.consumers)
+      sound.orderly.order.consumers.0)
 
   -- what is found stands
-  pub provider_stands : (q : ℕ) (z : Provider) → provider_at t.topology q ≡ Some z → Contains t.topology.providers z × (z.number ≡ q)
-  provider_stands q z found = (found_in (λ (y : Provider). y.number == q) t.topology.providers z found, eqb-true z.number q (find_passes (λ (y : Provider). y.number == q) t.topology.providers z found))
+  pub provider_stands : (q : ℕ) (z : Provider) → provider_at t.topology q ≡ Some z
+      → Contains t.topology.providers z × (z.number ≡ q)
+  provider_stands q z found = (
+    found_in (λ (y : Provider). y.number == q) t.topology.providers z found,
+    eqb-true z.number q (find_passes (λ (y : Provider). y.number == q) t.topology.providers z found),
+  )
 
-  module _ (clear : t.scratches ≡ clear_scratches t.topology) (p : ℕ) (add : Counts) (way : Way) (new : TopoView C) (o : Order) (tried : IsTried t p add way new o) where
+  module _ (clear : t.scratches ≡ clear_scratches t.topology) (p : ℕ) (add : Counts) (way : Way) (new : TopoView C)
+      (o : Order) (tried : IsTried t p add way new o) where
     -- the order of the walk
     abbrev walk : List ℕ
     walk = geoms_below t sound clear p tried.offer tried.found
@@ -148,39 +174,49 @@ module _ {C : Type 0} (t : TopoView C) (sound : IsSoundGraph t.topology) where
     steps_bound =
         let is : order_of new o ≡ walk = tried_order t sound clear p add way new o tried in
         subst (λ xs. consumers_over t.topology xs ≤ consumers_below t.topology p) (sym is)
-        (subst (λ n. n ≤ consumers_below t.topology p) (sym (over_is t.topology walk (order_apart t.topology walk (below_ordered t sound clear p tried.offer tried.found))))
+        (subst (λ n. n ≤ consumers_below t.topology p)
+        (sym (over_is t.topology walk
+        (order_apart t.topology walk (below_ordered t sound clear p tried.offer tried.found))))
         (length_weaker (λ (c : Consumer). has_number walk c.geom)
-        (λ (c : Consumer). list_any (λ q. option_map_or (λ (y : Provider). y.geom == c.geom) (provider_at t.topology q) false) (below t.topology p)) t.topology.consumers
+        (λ (c : Consumer).
+        list_any (λ q. option_map_or (λ (y : Provider). y.geom == c.geom) (provider_at t.topology q) false)
+        (below t.topology p)) t.topology.consumers
         (λ c e.
         let reached = all_reached t sound clear p tried.offer tried.found c.geom (has-contains walk c.geom e) in
         some_true (below t.topology p) reached.0 c.geom reached.1 (provider_at t.topology reached.0) refl reached.2)))
       where
-        passes : (qs : List ℕ) (q g : ℕ) → Contains qs q → option_map_or (λ (y : Provider). y.geom == g) (provider_at t.topology q) false ≡ true
+        passes : (qs : List ℕ) (q g : ℕ) → Contains qs q
+            → option_map_or (λ (y : Provider). y.geom == g) (provider_at t.topology q) false ≡ true
             → list_any (λ r. option_map_or (λ (y : Provider). y.geom == g) (provider_at t.topology r) false) qs ≡ true
-        passes qs q g there e = any_true (λ r. option_map_or (λ (y : Provider). y.geom == g) (provider_at t.topology r) false) qs q there e
+        passes qs q g there e =
+            any_true (λ r. option_map_or (λ (y : Provider). y.geom == g) (provider_at t.topology r) false) qs q there e
 
-        some_true : (qs : List ℕ) (q g : ℕ) → Contains qs q → (z : Option Provider) → provider_at t.topology q ≡ z → IsSomeAnd z (λ (y : Provider). y.geom ≡ g)
+        some_true : (qs : List ℕ) (q g : ℕ) → Contains qs q → (z : Option Provider) → provider_at t.topology q ≡ z
+            → IsSomeAnd z (λ (y : Provider). y.geom ≡ g)
             → list_any (λ r. option_map_or (λ (y : Provider). y.geom == g) (provider_at t.topology r) false) qs ≡ true
         some_true qs q g there None e never = absurd never
         some_true qs q g there (Some y) e is =
             passes qs q g there (ap (λ w. option_map_or (λ (x : Provider). x.geom == g) w false) e ∙ eq-eqb y.geom g is)
 
--- the stored counts are the model's, but perhaps for consumers that aren't attached; none stands in another's way, no count
--- is too great, and nothing is left to try
+-- the stored counts are the model's, but perhaps for consumers that aren't attached; none stands in another's way, no
+-- count is too great, and nothing is left to try
 pub record IsTold {C : Type 0} (t : TopoView C) : Type 0 where
   pub haves : t.haves ≡ map (λ (p : Provider). (p.number, have (granted_by t) t.topology p.number)) t.topology.providers
-  pub wants : (q : ℕ) (c : Consumer) → Contains (attached_to t.topology q) c → want_at t c.number ≡ want (granted_by t) t.topology c
+  pub wants : (q : ℕ) (c : Consumer) → Contains (attached_to t.topology q) c
+      → want_at t c.number ≡ want (granted_by t) t.topology c
   pub exclusive : is_exclusive (granted_by t) t.topology ≡ true
   pub limit : fits_limit (granted_by t) t.topology ≡ true
   pub clear : t.scratches ≡ clear_scratches t.topology
 
 -- the stored counts of a consumer, where they are the model's
-pub stored_want : {C : Type 0} (t : TopoView C) → IsSoundGraph t.topology → IsCounted t → (q : ℕ) (c : Consumer) → Contains (attached_to t.topology q) c
+pub stored_want : {C : Type 0} (t : TopoView C) → IsSoundGraph t.topology → IsCounted t → (q : ℕ) (c : Consumer)
+    → Contains (attached_to t.topology q) c
     → want_at t c.number ≡ want (granted_by t) t.topology c
 stored_want t sound counted q c at =
     ap (λ rows. unwrap_or (value_at rows c.number) no_counts) counted.wants
     ∙ ap (λ o. unwrap_or o no_counts)
-    (item_at (λ (x : Consumer). x.number) (λ (x : Consumer). want (granted_by t) t.topology x) c.number t.topology.consumers c
+    (item_at (λ (x : Consumer). x.number) (λ (x : Consumer). want (granted_by t) t.topology x) c.number
+    t.topology.consumers c
     (consumer_known t sound c (of_filter (λ (d : Consumer). names_number d.provider q) t.topology.consumers c at).0))
 
 -- so where all stored counts are
@@ -195,10 +231,13 @@ counted_told t sound counted = record {
 
 module _ {C : Type 0} (t : TopoView C) (sound : IsSoundGraph t.topology) (told : IsTold t) where
   -- the stored counts of a provider are the model's
-  pub stored_have : (z : Provider) → provider_at t.topology z.number ≡ Some z → have_at t z.number ≡ have (granted_by t) t.topology z.number
+  pub stored_have : (z : Provider) → provider_at t.topology z.number ≡ Some z
+      → have_at t z.number ≡ have (granted_by t) t.topology z.number
   stored_have z found =
       ap (λ rows. unwrap_or (value_at rows z.number) no_counts) told.haves
-      ∙ ap (λ o. unwrap_or o no_counts) (item_at (λ (y : Provider). y.number) (λ (y : Provider). have (granted_by t) t.topology y.number) z.number t.topology.providers z found)
+      ∙ ap (λ o. unwrap_or o no_counts)
+      (item_at (λ (y : Provider). y.number) (λ (y : Provider). have (granted_by t) t.topology y.number)
+      z.number t.topology.providers z found)
 
   module _ (p : ℕ) (add : Counts) (new : TopoView C) (o : Order) (tried : IsTried t p add Rises new o) where
     -- the order of the walk
@@ -209,12 +248,15 @@ module _ {C : Type 0} (t : TopoView C) (sound : IsSoundGraph t.topology) (told :
         (ctx : After t.topology p own add (granted_by t) after u gain more)
         (demand : Demands t.topology p add (have (granted_by t) t.topology) gain more order) where
       -- nothing shrinks where counts rise
-      pub grows : (z : Provider) → Contains t.topology.providers z → had Rises (have_at t z.number) (cap (gain z.number)) ≡ have (granted_by t) t.topology z.number
+      pub grows : (z : Provider) → Contains t.topology.providers z
+          → had Rises (have_at t z.number) (cap (gain z.number)) ≡ have (granted_by t) t.topology z.number
       grows z there = stored_have z (provider_known t sound z there)
 
       -- what the walk comes to
-      pub end : Spread t sound Rises p add (have (granted_by t) t.topology) gain more order demand grows order (first_tries tried.offer.geom order p add)
-      end = walked t sound told.clear p tried.offer tried.found Rises add (have (granted_by t) t.topology) gain more demand grows
+      pub end : Spread t sound Rises p add (have (granted_by t) t.topology) gain more order demand grows order
+          (first_tries tried.offer.geom order p add)
+      end = walked t sound told.clear p tried.offer tried.found Rises add (have (granted_by t) t.topology) gain
+          more demand grows
 
       -- the mesh after it
       pub new_is : new ≡ trying t end.tries
@@ -227,38 +269,53 @@ module _ {C : Type 0} (t : TopoView C) (sound : IsSoundGraph t.topology) (told :
           ∙ ap (λ v. fold (finish_geom None) v order) new_is
           ∙ clear_whole t
           (λ x. part_apart (λ (y : Provider). y.number) (λ (y : Provider). y.geom == x) t.topology.providers
-          (AllPairs-from_increasing (map (λ (z : Provider). z.number) t.topology.providers) sound.orderly.order.providers.0))
-          (λ y z ys zs same. let e : Some y ≡ Some z = sym (provider_known t sound y ys) ∙ ap (provider_at t.topology) same ∙ provider_known t sound z zs in cc)
+          (AllPairs-from_increasing (map (λ (z : Provider). z.number) t.topology.providers)
+          sound.orderly.order.providers.0))
+          (λ y z ys zs same. let e : Some y ≡ Some z = sym (provider_known t sound y ys)
+          ∙ ap (provider_at t.topology) same ∙ provider_known t sound z zs in cc)
           order end.tries told.clear
           (λ n away. end.marks n ∙ link_outside tried.offer.geom order n away)
           (λ n away. end.others n (has_not order n away))
           (λ z there away.
           end.gains z.number
-          ∙ ap cap (outside_gains t.topology p add gain more order (below_ordered t sound told.clear p tried.offer tried.found) demand.flow tried.offer tried.found
-          (first_geom t sound told.clear p tried.offer tried.found) z (provider_known t sound z there) (has_not order z.geom away)))
+          ∙ ap cap (outside_gains t.topology p add gain more order
+          (below_ordered t sound told.clear p tried.offer tried.found) demand.flow tried.offer tried.found
+          (first_geom t sound told.clear p tried.offer tried.found) z (provider_known t sound z there)
+          (has_not order z.geom away)))
 
       -- the judgement of the demand
-      pub decided : IsVerdict (trying t end.tries) p own add (granted_by t) after u gain more ctx (judged new p add (order_of new o))
+      pub decided : IsVerdict (trying t end.tries) p own add (granted_by t) after u gain more ctx
+          (judged new p add (order_of new o))
       decided =
-          let raises : (q : ℕ) (c : Consumer) → Contains (attached_to t.topology q) c → raised (trying t end.tries) c ≡ cap (add_counts (want (granted_by t) t.topology c) (more c)) =
+          let raises : (q : ℕ) (c : Consumer) → Contains (attached_to t.topology q) c
+          → raised (trying t end.tries) c ≡ cap (add_counts (want (granted_by t) t.topology c) (more c)) =
           λ q c at.
-          let there : Contains t.topology.consumers c = (of_filter (λ (d : Consumer). names_number d.provider q) t.topology.consumers c at).0 in
+          let there : Contains t.topology.consumers c =
+          (of_filter (λ (d : Consumer). names_number d.provider q) t.topology.consumers c at).0 in
           ap (λ a. cap (add_counts a (made_at (trying t end.tries) c.geom))) (told.wants q c at)
           ∙ ap (λ a. cap (add_counts (want (granted_by t) t.topology c) a))
-          (trying-made t end.tries c.geom (All-contains (λ (d : Consumer). IsSome (geom_at t.topology d.geom)) t.topology.consumers c sound.orderly.parts.geoms there)
+          (trying-made t end.tries c.geom
+          (All-contains (λ (d : Consumer). IsSome (geom_at t.topology d.geom)) t.topology.consumers c
+          sound.orderly.parts.geoms there)
           ∙ end.made c there ∙ capped c there (has_number order c.geom) refl)
           ∙ add-cap (want (granted_by t) t.topology c) (more c) in
-          let totals : (z : Provider) → Contains t.topology.providers z → raised_have (trying t end.tries) z.number ≡ cap (have after u z.number) =
+          let totals : (z : Provider) → Contains t.topology.providers z
+          → raised_have (trying t end.tries) z.number ≡ cap (have after u z.number) =
           λ z there.
-          ap (λ a. cap (add_counts a (gain_at (trying t end.tries) z.number))) (stored_have z (provider_known t sound z there))
+          ap (λ a. cap (add_counts a (gain_at (trying t end.tries) z.number)))
+          (stored_have z (provider_known t sound z there))
           ∙ ap (λ a. cap (add_counts (have (granted_by t) t.topology z.number) a))
-          (trying-gain t end.tries z.number (subst (λ w. IsSome w) (sym (provider_known t sound z there)) refl) ∙ end.gains z.number)
+          (trying-gain t end.tries z.number (subst (λ w. IsSome w) (sym (provider_known t sound z there)) refl)
+          ∙ end.gains z.number)
           ∙ add-cap (have (granted_by t) t.topology z.number) (gain z.number)
           ∙ ap cap (sym (ctx.haves z.number)) in
           subst (IsVerdict (trying t end.tries) p own add (granted_by t) after u gain more ctx)
-          (sym (ap (judged new p add) (tried_order t sound told.clear p add Rises new o tried) ∙ ap (λ v. judged v p add order) new_is))
+          (sym (ap (judged new p add) (tried_order t sound told.clear p add Rises new o tried)
+          ∙ ap (λ v. judged v p add order) new_is))
           (verdict (trying t end.tries) p own add (granted_by t) after u gain more ctx raises totals
-          (λ c there none. let some : 1 ≤ c.number = All-contains (λ (d : Consumer). 1 ≤ d.number) t.topology.consumers c sound.orderly.numbers.consumers there in omega arith)
+          (λ c there none. let some : 1 ≤ c.number =
+          All-contains (λ (d : Consumer). 1 ≤ d.number) t.topology.consumers c sound.orderly.numbers.consumers
+          there in omega arith)
           (provider_known t sound) (provider_stands t sound) order
           (λ q near. (reached_touched t sound told.clear p tried.offer tried.found q near).0)
           (λ q there.
@@ -266,9 +323,11 @@ module _ {C : Type 0} (t : TopoView C) (sound : IsSoundGraph t.topology) (told :
             | inl same ↦ subst (Contains (below t.topology p)) same (below_self (length t.topology.geoms) t.topology p)
             | inr rest ↦
                 let way = flat_map_cases (providers_under t.topology) order q rest in
-                attached_reached t sound told.clear p tried.offer tried.found way.0 q (all_reached t sound told.clear p tried.offer tried.found way.0 way.1) way.2
+                attached_reached t sound told.clear p tried.offer tried.found way.0 q
+                (all_reached t sound told.clear p tried.offer tried.found way.0 way.1) way.2
           ])
-          (λ z there near. below_covers t sound told.clear p tried.offer tried.found z.number z near (provider_known t sound z there))
+          (λ z there near. below_covers t sound told.clear p tried.offer tried.found z.number z near
+          (provider_known t sound z there))
           tried.offer tried.found told.exclusive told.limit)
         where
           capped : (c : Consumer) → Contains t.topology.consumers c → (b : Bool) → has_number order c.geom ≡ b

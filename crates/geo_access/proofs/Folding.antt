@@ -25,24 +25,29 @@ module _ {X B : Type 0} (number : X → ℕ) (f : B → X → B) (xs : List X) w
   fold_begin b = ap (fold f b) (WalksMeetAll.begin walks-meet number xs)
 
   -- after one item more
-  pub fold_more : (from_number id : ℕ) (x : X) (b new total : B) → left_from number from_number xs ≡ x ∷ left_from number (id + 1) xs → new ≡ f b x
+  pub fold_more : (from_number id : ℕ) (x : X) (b new total : B)
+      → left_from number from_number xs ≡ x ∷ left_from number (id + 1) xs → new ≡ f b x
       → fold f b (left_from number from_number xs) ≡ total → fold f new (left_from number (id + 1) xs) ≡ total
   fold_more from_number id x b new total left step done =
       ap (λ z. fold f z (left_from number (id + 1) xs)) step ∙ sym (ap (fold f b) left) ∙ done
 
   -- at the end
-  pub fold_end : (from_number : ℕ) (b total : B) → left_from number from_number xs ≡ [] → fold f b (left_from number from_number xs) ≡ total → b ≡ total
+  pub fold_end : (from_number : ℕ) (b total : B) → left_from number from_number xs ≡ []
+      → fold f b (left_from number from_number xs) ≡ total → b ≡ total
   fold_end from_number b total left done = sym (ap (fold f b) left) ∙ done
 
 -- so many are left
 pub count_more : {X : Type 0} (number : X → ℕ) (xs : List X) (from_number id : ℕ) (x : X) (steps new total : ℕ)
-    → left_from number from_number xs ≡ x ∷ left_from number (id + 1) xs → new ≡ steps + 1 → steps + length (left_from number from_number xs) ≡ total
+    → left_from number from_number xs ≡ x ∷ left_from number (id + 1) xs → new ≡ steps + 1
+    → steps + length (left_from number from_number xs) ≡ total
     → new + length (left_from number (id + 1) xs) ≡ total
 count_more number xs from_number id x steps new total left step done =
-    let one : length (left_from number from_number xs) ≡ suc (length (left_from number (id + 1) xs)) = ap length left in omega arith
+    let one : length (left_from number from_number xs) ≡ suc (length (left_from number (id + 1) xs)) =
+    ap length left in omega arith
 
 -- and none at the end
-pub count_end : {X : Type 0} (number : X → ℕ) (xs : List X) (from_number steps total : ℕ) → left_from number from_number xs ≡ []
+pub count_end : {X : Type 0} (number : X → ℕ) (xs : List X) (from_number steps total : ℕ)
+    → left_from number from_number xs ≡ []
     → steps + length (left_from number from_number xs) ≡ total → steps ≡ total
 count_end number xs from_number steps total left done =
     let none : length (left_from number from_number xs) ≡ 0 = ap length left in omega arith
@@ -53,20 +58,24 @@ module _ {X Y : Type 0} (number : X → ℕ) (f : X → Option Y) (xs : List X) 
   some_begin = ap (first_some f) (WalksMeetAll.begin walks-meet number xs)
 
   -- after an item for which nothing is given
-  pub some_more : (from_number id : ℕ) (x : X) (total : Option Y) → left_from number from_number xs ≡ x ∷ left_from number (id + 1) xs → f x ≡ None
+  pub some_more : (from_number id : ℕ) (x : X) (total : Option Y)
+      → left_from number from_number xs ≡ x ∷ left_from number (id + 1) xs → f x ≡ None
       → first_some f (left_from number from_number xs) ≡ total → first_some f (left_from number (id + 1) xs) ≡ total
   some_more from_number id x total left none done =
-      sym (ap (λ o. option_or o (first_some f (left_from number (id + 1) xs))) none) ∙ sym (ap (first_some f) left) ∙ done
+      sym (ap (λ o. option_or o (first_some f (left_from number (id + 1) xs))) none)
+      ∙ sym (ap (first_some f) left) ∙ done
 
   -- at an item for which something is given
-  pub some_here : (from_number id : ℕ) (x : X) (total o : Option Y) → left_from number from_number xs ≡ x ∷ left_from number (id + 1) xs → f x ≡ o → IsSome o
+  pub some_here : (from_number id : ℕ) (x : X) (total o : Option Y)
+      → left_from number from_number xs ≡ x ∷ left_from number (id + 1) xs → f x ≡ o → IsSome o
       → first_some f (left_from number from_number xs) ≡ total → o ≡ total
   some_here from_number id x total None left is never done = let no : false ≡ true = never in absurd (cc)
   some_here from_number id x total (Some y) left is some done =
       sym (ap (λ o. option_or o (first_some f (left_from number (id + 1) xs))) is) ∙ sym (ap (first_some f) left) ∙ done
 
   -- at the end
-  pub some_end : (from_number : ℕ) (total : Option Y) → left_from number from_number xs ≡ [] → first_some f (left_from number from_number xs) ≡ total → None ≡ total
+  pub some_end : (from_number : ℕ) (total : Option Y) → left_from number from_number xs ≡ []
+      → first_some f (left_from number from_number xs) ≡ total → None ≡ total
   some_end from_number total left done = sym (ap (first_some f) left) ∙ done
 
 module _ {X : Type 0} (number : X → ℕ) (test : X → Bool) (xs : List X) where
@@ -75,14 +84,17 @@ module _ {X : Type 0} (number : X → ℕ) (test : X → Bool) (xs : List X) whe
   found_begin = ap (λ ys. option_map number (find test ys)) (WalksMeetAll.begin walks-meet number xs)
 
   -- after an item that doesn't pass
-  pub found_more : (from_number id : ℕ) (x : X) (total : Option ℕ) → left_from number from_number xs ≡ x ∷ left_from number (id + 1) xs → test x ≡ false
-      → option_map number (find test (left_from number from_number xs)) ≡ total → option_map number (find test (left_from number (id + 1) xs)) ≡ total
+  pub found_more : (from_number id : ℕ) (x : X) (total : Option ℕ)
+      → left_from number from_number xs ≡ x ∷ left_from number (id + 1) xs → test x ≡ false
+      → option_map number (find test (left_from number from_number xs)) ≡ total
+      → option_map number (find test (left_from number (id + 1) xs)) ≡ total
   found_more from_number id x total left fails done =
       sym (ap (λ b. option_map number (cond b (Some x) (find test (left_from number (id + 1) xs)))) fails)
       ∙ sym (ap (λ ys. option_map number (find test ys)) left) ∙ done
 
   -- at one that passes
-  pub found_here : (from_number id : ℕ) (x : X) (total : Option ℕ) → left_from number from_number xs ≡ x ∷ left_from number (id + 1) xs → test x ≡ true
+  pub found_here : (from_number id : ℕ) (x : X) (total : Option ℕ)
+      → left_from number from_number xs ≡ x ∷ left_from number (id + 1) xs → test x ≡ true
       → option_map number (find test (left_from number from_number xs)) ≡ total → Some (number x) ≡ total
   found_here from_number id x total left passes done =
       sym (ap (λ b. option_map number (cond b (Some x) (find test (left_from number (id + 1) xs)))) passes)
@@ -100,7 +112,8 @@ module _ {C X : Type 0} (number : X → ℕ) (parts : Topology C → List X) (f 
   -- after one part more
   pub view_more : (from_number id : ℕ) (x : X) (v new total : TopoView C)
       → left_from number from_number (parts v.topology) ≡ x ∷ left_from number (id + 1) (parts v.topology) → new ≡ f v x
-      → fold f v (left_from number from_number (parts v.topology)) ≡ total → fold f new (left_from number (id + 1) (parts new.topology)) ≡ total
+      → fold f v (left_from number from_number (parts v.topology)) ≡ total
+      → fold f new (left_from number (id + 1) (parts new.topology)) ≡ total
   view_more from_number id x v new total left step done =
       ap (λ u. fold f new (left_from number (id + 1) (parts u))) (ap (λ (u : TopoView C). u.topology) step ∙ graph v x)
       ∙ fold_more number f (parts v.topology) from_number id x v new total left step done
@@ -113,15 +126,18 @@ module _ {C X : Type 0} (number : X → ℕ) (parts : Topology C → List X) (f 
 -- Orders
 
 -- links that agree along the way are the same
-pub links_same : (next other : ℕ → ℕ) (n x : ℕ) → ((y : ℕ) → Contains (links next n x) y → other y ≡ next y) → links other n x ≡ links next n x
+pub links_same : (next other : ℕ → ℕ) (n x : ℕ) → ((y : ℕ) → Contains (links next n x) y → other y ≡ next y)
+    → links other n x ≡ links next n x
 links_same next other zero x same = refl
 links_same next other (suc n) x same =
     ap (λ y. x ∷ links other n y) (same x (in_head x (links next n (next x))))
-    ∙ ap (λ ys. x ∷ ys) (links_same next other n (next x) (λ y there. same y (in_tail x (links next n (next x)) y there)))
+    ∙ ap (λ ys. x ∷ ys)
+    (links_same next other n (next x) (λ y there. same y (in_tail x (links next n (next x)) y there)))
 
 module _ {C : Type 0} (f : TopoView C → ℕ → TopoView C) where
   -- after one geom more, whose step leaves the marks of the rest
-  pub order_more : (v new total : TopoView C) (o rest : Order) (x : ℕ) → order_of v o ≡ x ∷ order_of v rest → new ≡ f v x
+  pub order_more : (v new total : TopoView C) (o rest : Order) (x : ℕ) → order_of v o ≡ x ∷ order_of v rest
+      → new ≡ f v x
       → ((y : ℕ) → Contains (order_of v rest) y → mark_at (f v x) y ≡ mark_at v y)
       → fold f v (order_of v o) ≡ total → fold f new (order_of new rest) ≡ total
   order_more v new total o rest x next step marks done =
@@ -138,14 +154,17 @@ module _ {C : Type 0} (f : TopoView C → ℕ → TopoView C) where
 -- What the steps leave
 
 -- another number keeps its value
-pub value-other : {V : Type 0} (rows : List (ℕ × V)) (n m : ℕ) (v : V) → m ≢ n → value_at (with_value rows n v) m ≡ value_at rows m
+pub value-other : {V : Type 0} (rows : List (ℕ × V)) (n m : ℕ) (v : V) → m ≢ n
+    → value_at (with_value rows n v) m ≡ value_at rows m
 value-other [] n m v apart = refl
 value-other (row ∷ rows) n m v apart = other_step row rows n m v apart (value-other rows n m v apart) (row.0 == n) refl
   where
-    other_step : {V : Type 0} (row : ℕ × V) (rows : List (ℕ × V)) (n m : ℕ) (v : V) → m ≢ n → value_at (with_value rows n v) m ≡ value_at rows m
+    other_step : {V : Type 0} (row : ℕ × V) (rows : List (ℕ × V)) (n m : ℕ) (v : V) → m ≢ n
+        → value_at (with_value rows n v) m ≡ value_at rows m
         → (b : Bool) → (row.0 == n) ≡ b → value_at (cond b (n, v) row ∷ with_value rows n v) m ≡ value_at (row ∷ rows) m
     other_step row rows n m v apart so true e =
-        ap (λ b. option_map (λ r. r.1) (cond b (Some (n, v)) (find (λ r. r.0 == m) (with_value rows n v)))) (ne_eqb n m (λ same. apart (sym same)))
+        ap (λ b. option_map (λ r. r.1) (cond b (Some (n, v)) (find (λ r. r.0 == m) (with_value rows n v))))
+        (ne_eqb n m (λ same. apart (sym same)))
         ∙ so
         ∙ sym (ap (λ b. option_map (λ r. r.1) (cond b (Some row) (find (λ r. r.0 == m) rows)))
         (ne_eqb row.0 m (λ same. apart (sym same ∙ eqb-true row.0 n e))))
@@ -159,7 +178,8 @@ value-other (row ∷ rows) n m v apart = other_step row rows n m v apart (value-
 
 module _ {C : Type 0} where
   -- handing down leaves all but the providers' scratch
-  pub hand_leaves : {V : Type 0} (see : TopoView C → V) → ((v : TopoView C) (q : ℕ) (s : Scratch) → see (with_provider_scratch v q s) ≡ see v)
+  pub hand_leaves : {V : Type 0} (see : TopoView C → V)
+      → ((v : TopoView C) (q : ℕ) (s : Scratch) → see (with_provider_scratch v q s) ≡ see v)
       → (gain : Counts) (v : TopoView C) (c : Consumer) → see (hand gain v c) ≡ see v
   hand_leaves see leaves gain v c = by (c.provider)
     where
@@ -168,17 +188,20 @@ module _ {C : Type 0} where
       by (Some q) = leaves v q _
 
   -- so over all of a geom's consumers
-  pub hands_leave : {V : Type 0} (see : TopoView C → V) → ((v : TopoView C) (q : ℕ) (s : Scratch) → see (with_provider_scratch v q s) ≡ see v)
+  pub hands_leave : {V : Type 0} (see : TopoView C → V)
+      → ((v : TopoView C) (q : ℕ) (s : Scratch) → see (with_provider_scratch v q s) ≡ see v)
       → (gain : Counts) (cs : List Consumer) (v : TopoView C) → see (fold (hand gain) v cs) ≡ see v
   hands_leave see leaves gain [] v = refl
-  hands_leave see leaves gain (c ∷ cs) v = hands_leave see leaves gain cs (hand gain v c) ∙ hand_leaves see leaves gain v c
+  hands_leave see leaves gain (c ∷ cs) v = hands_leave see leaves gain cs (hand gain v c)
+      ∙ hand_leaves see leaves gain v c
 
   -- the graph stays
   pub hand_graph : (gain : Counts) (v : TopoView C) (c : Consumer) → (hand gain v c).topology ≡ v.topology
   hand_graph = hand_leaves (λ v. v.topology) (λ v q s. refl)
 
   -- and each geom's scratch
-  pub hands_geoms : (gain : Counts) (cs : List Consumer) (v : TopoView C) → (fold (hand gain) v cs).scratches.geoms ≡ v.scratches.geoms
+  pub hands_geoms : (gain : Counts) (cs : List Consumer) (v : TopoView C)
+      → (fold (hand gain) v cs).scratches.geoms ≡ v.scratches.geoms
   hands_geoms = hands_leave (λ v. v.scratches.geoms) (λ v q s. refl)
 
 module _ {X A B : Type 0} (number : X → ℕ) (given : X → Option A) (f : B → A → B) (xs : List X) where
@@ -187,14 +210,17 @@ module _ {X A B : Type 0} (number : X → ℕ) (given : X → Option A) (f : B �
   given_begin b = ap (λ ys. fold f b (filter_map given ys)) (WalksMeetAll.begin walks-meet number xs)
 
   -- over an item that gives something, or nothing
-  given_over : (o : Option A) (b : B) (items : List A) → fold f (option_map_or (f b) o b) items ≡ fold f b (cons_option o items)
+  given_over : (o : Option A) (b : B) (items : List A)
+      → fold f (option_map_or (f b) o b) items ≡ fold f b (cons_option o items)
   given_over None b items = refl
   given_over (Some a) b items = refl
 
   -- after one item more
-  pub given_more : (from_number id : ℕ) (x : X) (b new total : B) → left_from number from_number xs ≡ x ∷ left_from number (id + 1) xs
+  pub given_more : (from_number id : ℕ) (x : X) (b new total : B)
+      → left_from number from_number xs ≡ x ∷ left_from number (id + 1) xs
       → new ≡ option_map_or (f b) (given x) b
-      → fold f b (filter_map given (left_from number from_number xs)) ≡ total → fold f new (filter_map given (left_from number (id + 1) xs)) ≡ total
+      → fold f b (filter_map given (left_from number from_number xs)) ≡ total
+      → fold f new (filter_map given (left_from number (id + 1) xs)) ≡ total
   given_more from_number id x b new total left step done =
       ap (λ z. fold f z (filter_map given (left_from number (id + 1) xs))) step
       ∙ given_over (given x) b (filter_map given (left_from number (id + 1) xs))
@@ -206,15 +232,21 @@ module _ {X A B : Type 0} (number : X → ℕ) (given : X → Option A) (f : B �
   given_end from_number b total left done = sym (ap (λ ys. fold f b (filter_map given ys)) left) ∙ done
 
 -- what a set value is at its own number
-pub value-here : {V : Type 0} (rows : List (ℕ × V)) (n : ℕ) (v : V) → value_at (with_value rows n v) n ≡ option_map (λ w. v) (value_at rows n)
+pub value-here : {V : Type 0} (rows : List (ℕ × V)) (n : ℕ) (v : V)
+    → value_at (with_value rows n v) n ≡ option_map (λ w. v) (value_at rows n)
 value-here [] n v = refl
 value-here (row ∷ rows) n v = here_step row rows n v (value-here rows n v) (row.0 == n) refl
   where
-    here_step : {V : Type 0} (row : ℕ × V) (rows : List (ℕ × V)) (n : ℕ) (v : V) → value_at (with_value rows n v) n ≡ option_map (λ w. v) (value_at rows n)
+    here_step : {V : Type 0} (row : ℕ × V) (rows : List (ℕ × V)) (n : ℕ) (v : V)
+        → value_at (with_value rows n v) n ≡ option_map (λ w. v) (value_at rows n)
         → (b : Bool) → (row.0 == n) ≡ b
-        → value_at (cond b (n, v) row ∷ with_value rows n v) n ≡ option_map (λ (w : V). v) (option_map (λ r. r.1) (cond b (Some row) (find (λ r. r.0 == n) rows)))
-    here_step row rows n v so true e = ap (λ b. option_map (λ r. r.1) (cond b (Some (n, v)) (find (λ r. r.0 == n) (with_value rows n v)))) (eq-eqb n n refl)
-    here_step row rows n v so false e = ap (λ b. option_map (λ r. r.1) (cond b (Some row) (find (λ r. r.0 == n) (with_value rows n v)))) e ∙ so
+        → value_at (cond b (n, v) row ∷ with_value rows n v) n
+        ≡ option_map (λ (w : V). v) (option_map (λ r. r.1) (cond b (Some row) (find (λ r. r.0 == n) rows)))
+    here_step row rows n v so true e =
+        ap (λ b. option_map (λ r. r.1) (cond b (Some (n, v)) (find (λ r. r.0 == n) (with_value rows n v))))
+        (eq-eqb n n refl)
+    here_step row rows n v so false e =
+        ap (λ b. option_map (λ r. r.1) (cond b (Some row) (find (λ r. r.0 == n) (with_value rows n v)))) e ∙ so
 
 -- nothing is there where nothing is
 pub none_of_some : {X : Type 0} (o : Option X) → is_some o ≡ false → o ≡ None
@@ -223,19 +255,28 @@ none_of_some (Some x) e = absurd (cc)
 
 module _ {C : Type 0} where
   -- another count for its consumers leaves a geom's mark
-  pub mark_kept : (v : TopoView C) (x : ℕ) (m : Counts) (y : ℕ) → mark_at (with_geom_scratch v x (record { mark = mark_at v x; trial = m })) y ≡ mark_at v y
+  pub mark_kept : (v : TopoView C) (x : ℕ) (m : Counts) (y : ℕ)
+      → mark_at (with_geom_scratch v x (record { mark = mark_at v x; trial = m })) y ≡ mark_at v y
   mark_kept v x m y =
       elim (cases_eq y x) [
         | inl same ↦
-            ap (λ z. option_map_or (λ (s : Scratch). s.mark) (value_at (with_value v.scratches.geoms x (record { mark = mark_at v x; trial = m })) z) 0) same
-            ∙ ap (λ o. option_map_or (λ (s : Scratch). s.mark) o 0) (value-here v.scratches.geoms x (record { mark = mark_at v x; trial = m }))
+            ap (λ z. option_map_or (λ (s : Scratch). s.mark)
+            (value_at (with_value v.scratches.geoms x (record { mark = mark_at v x; trial = m })) z) 0) same
+            ∙ ap (λ o. option_map_or (λ (s : Scratch). s.mark) o 0)
+            (value-here v.scratches.geoms x (record { mark = mark_at v x; trial = m }))
             ∙ stays (value_at v.scratches.geoms x)
             ∙ sym (ap (mark_at v) same)
-        | inr other ↦ ap (λ o. option_map_or (λ (s : Scratch). s.mark) o 0) (value-other v.scratches.geoms x y (record { mark = mark_at v x; trial = m }) other)
+        | inr other ↦
+            ap (λ o. option_map_or (λ (s : Scratch). s.mark) o 0)
+            (value-other v.scratches.geoms x y (record { mark = mark_at v x; trial = m }) other)
       ]
     where
       stays : (o : Option Scratch)
-          → option_map_or (λ (s : Scratch). s.mark) (option_map (λ (w : Scratch). record { mark = option_map_or (λ (s : Scratch). s.mark) o 0; trial = m }) o) 0
+          → option_map_or (λ (s : Scratch). s.mark)
+          (option_map (λ (w : Scratch). record {
+            mark = option_map_or (λ (s : Scratch). s.mark) o 0;
+            trial = m;
+          }) o) 0
           ≡ option_map_or (λ (s : Scratch). s.mark) o 0
       stays None = refl
       stays (Some s) = refl
@@ -244,34 +285,43 @@ module _ {C : Type 0} where
   pub spread_marks : (way : Way) (v : TopoView C) (x y : ℕ) → mark_at (spread_from way v x) y ≡ mark_at v y
   spread_marks way v x y =
       ap (λ rows. option_map_or (λ (s : Scratch). s.mark) (value_at rows y) 0)
-      (hands_geoms (gain_of v way x) (consumers_of v.topology x) (with_geom_scratch v x (record { mark = mark_at v x; trial = gain_of v way x })))
+      (hands_geoms (gain_of v way x) (consumers_of v.topology x)
+      (with_geom_scratch v x (record { mark = mark_at v x; trial = gain_of v way x })))
       ∙ mark_kept v x (gain_of v way x) y
 
   -- the end of a walk at a provider leaves all geoms' scratch
-  finish_leaves : (keep : Option Way) (v : TopoView C) (y : Provider) → (finish_provider keep v y).scratches.geoms ≡ v.scratches.geoms
+  finish_leaves : (keep : Option Way) (v : TopoView C) (y : Provider)
+      → (finish_provider keep v y).scratches.geoms ≡ v.scratches.geoms
   finish_leaves None v y = refl
   finish_leaves (Some Rises) v y = refl
   finish_leaves (Some Falls) v y = refl
 
   -- so over some providers
-  finishes_leave : (keep : Option Way) (ys : List Provider) (v : TopoView C) → (fold (finish_provider keep) v ys).scratches.geoms ≡ v.scratches.geoms
+  finishes_leave : (keep : Option Way) (ys : List Provider) (v : TopoView C)
+      → (fold (finish_provider keep) v ys).scratches.geoms ≡ v.scratches.geoms
   finishes_leave keep [] v = refl
   finishes_leave keep (y ∷ ys) v = finishes_leave keep ys (finish_provider keep v y) ∙ finish_leaves keep v y
 
   -- and so do the consumers' counts
-  wants_leave : (way : Way) (gain : Counts) (cs : List Consumer) (v : TopoView C) → (fold (raise_want way gain) v cs).scratches ≡ v.scratches
+  wants_leave : (way : Way) (gain : Counts) (cs : List Consumer) (v : TopoView C)
+      → (fold (raise_want way gain) v cs).scratches ≡ v.scratches
   wants_leave way gain [] v = refl
   wants_leave way gain (c ∷ cs) v = wants_leave way gain cs (raise_want way gain v c)
 
   -- with a way or without
-  raised_leave : (keep : Option Way) (v : TopoView C) (x : ℕ) → (raise_wants keep v x).scratches.geoms ≡ v.scratches.geoms
+  raised_leave : (keep : Option Way) (v : TopoView C) (x : ℕ)
+      → (raise_wants keep v x).scratches.geoms ≡ v.scratches.geoms
   raised_leave None v x = refl
-  raised_leave (Some way) v x = ap (λ (s : Rattle.geo_mesh.specs.Topo.Scratches). s.geoms) (wants_leave way (made_at v x) (consumers_of v.topology x) v)
+  raised_leave (Some way) v x =
+      ap (λ (s : Rattle.geo_mesh.specs.Topo.Scratches). s.geoms)
+      (wants_leave way (made_at v x) (consumers_of v.topology x) v)
 
   -- the end of a walk at a geom leaves the marks of the others
-  pub finish_marks : (keep : Option Way) (v : TopoView C) (x y : ℕ) → y ≢ x → mark_at (finish_geom keep v x) y ≡ mark_at v y
+  pub finish_marks : (keep : Option Way) (v : TopoView C) (x y : ℕ) → y ≢ x
+      → mark_at (finish_geom keep v x) y ≡ mark_at v y
   finish_marks keep v x y other =
       ap (λ o. option_map_or (λ (s : Scratch). s.mark) o 0)
-      (value-other (fold (finish_provider keep) (raise_wants keep v x) (providers_of v.topology x)).scratches.geoms x y no_scratch other)
+      (value-other (fold (finish_provider keep) (raise_wants keep v x) (providers_of v.topology x)).scratches.geoms
+      x y no_scratch other)
       ∙ ap (λ rows. option_map_or (λ (s : Scratch). s.mark) (value_at rows y) 0)
       (finishes_leave keep (providers_of v.topology x) (raise_wants keep v x) ∙ raised_leave keep v x)

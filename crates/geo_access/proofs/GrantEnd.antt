@@ -36,11 +36,13 @@ use Rattle.geo_access.proofs.Keeping.{Cell, kept_cell, Kept, keep_all}
 use Rattle.geo_access.proofs.Granted.{tried_parts, want_of_number, want_number, parts_are, parts_end, part_at_most, capped_is}
 
 -- a choice between the same
-pub same_both : {V : Type 0} (b : Bool) (x y z : V) → (b ≡ true → x ≡ z) → (b ≡ false → y ≡ z) → (if b then x else y) ≡ z
+pub same_both : {V : Type 0} (b : Bool) (x y z : V) → (b ≡ true → x ≡ z) → (b ≡ false → y ≡ z)
+    → (if b then x else y) ≡ z
 same_both true x y z here away = here refl
 same_both false x y z here away = away refl
 
-module _ {C : Type 0} (t : TopoView C) (sound : IsSoundGraph t.topology) (counted : IsCounted t) (quiet : IsQuiet t) (placed : IsPlaced t.topology) (cons : ℕ) (holder : Holder t.topology cons)
+module _ {C : Type 0} (t : TopoView C) (sound : IsSoundGraph t.topology) (counted : IsCounted t)
+    (quiet : IsQuiet t) (placed : IsPlaced t.topology) (cons : ℕ) (holder : Holder t.topology cons)
     (add : Counts) (stored : value_at t.wants cons ≡ Some no_counts) (new : TopoView C) (o : Order)
     (tried : IsTried t (place t sound counted cons holder add) add Rises new o)
     (limit : fits_limit (granted_after t sound counted cons holder add) t.topology ≡ true) where
@@ -63,83 +65,117 @@ module _ {C : Type 0} (t : TopoView C) (sound : IsSoundGraph t.topology) (counte
   ctx = granting_after t sound counted cons holder add stored
 
   demand : Demands t.topology p add (have (granted_by t) t.topology) gain more its_order
-  demand = granting t sound counted cons holder add stored its_order (below_covers t sound counted.clear p tried.offer tried.found)
+  demand = granting t sound counted cons holder add stored its_order
+      (below_covers t sound counted.clear p tried.offer tried.found)
 
   abbrev tries : Tries
-  tries = (end t sound (counted_told t sound counted) p add new o tried cons after t.topology gain more ctx demand).tries
+  tries = (end t sound (counted_told t sound counted) p add new o tried cons after t.topology gain more ctx
+      demand).tries
 
   -- what is kept
   all : Kept t sound Rises its_order (tried_parts t sound counted tries)
   all =
       keep_all t sound Rises its_order (tried_parts t sound counted tries)
-      (order_apart t.topology its_order (below_ordered t sound counted.clear p tried.offer tried.found)) (below_lives t sound counted.clear p tried.offer tried.found)
+      (order_apart t.topology its_order (below_ordered t sound counted.clear p tried.offer tried.found))
+      (below_lives t sound counted.clear p tried.offer tried.found)
 
   -- new counts of providers are within the limit
-  have_fits : (z : Provider) → Contains t.topology.providers z → IsAtMost (have after t.topology z.number) greatest_counts
+  have_fits : (z : Provider) → Contains t.topology.providers z
+      → IsAtMost (have after t.topology z.number) greatest_counts
   have_fits z there = within_limit after t.topology limit z there
 
   -- what a provider comes to have
-  shifted_have : (z : Provider) → Contains t.topology.providers z → shifted Rises (have (granted_by t) t.topology z.number) (tries.gains z.number) ≡ have after t.topology z.number
+  shifted_have : (z : Provider) → Contains t.topology.providers z
+      → shifted Rises (have (granted_by t) t.topology z.number) (tries.gains z.number) ≡ have after t.topology z.number
   shifted_have z there =
-      ap (λ a. cap (add_counts (have (granted_by t) t.topology z.number) a)) ((end t sound (counted_told t sound counted) p add new o tried cons after t.topology gain more ctx demand).gains z.number)
+      ap (λ a. cap (add_counts (have (granted_by t) t.topology z.number) a))
+      ((end t sound (counted_told t sound counted) p add new o tried cons after t.topology gain more ctx
+      demand).gains z.number)
       ∙ add-cap (have (granted_by t) t.topology z.number) (gain z.number)
       ∙ ap cap (sym (ctx.haves z.number))
       ∙ capped_is (have after t.topology z.number) (have_fits z there)
 
   -- one outside the order keeps its counts
-  outside_have : (z : Provider) → Contains t.topology.providers z → has_number its_order z.geom ≡ false → have (granted_by t) t.topology z.number ≡ have after t.topology z.number
+  outside_have : (z : Provider) → Contains t.topology.providers z → has_number its_order z.geom ≡ false
+      → have (granted_by t) t.topology z.number ≡ have after t.topology z.number
   outside_have z there away =
       sym (ctx.haves z.number
       ∙ ap (add_counts (have (granted_by t) t.topology z.number))
-      (outside_gains t.topology p add gain more its_order (below_ordered t sound counted.clear p tried.offer tried.found) demand.flow tried.offer tried.found
-      (first_below t sound counted.clear p tried.offer tried.found) z (provider_known t sound z there) (has_not its_order z.geom away))
+      (outside_gains t.topology p add gain more its_order
+      (below_ordered t sound counted.clear p tried.offer tried.found) demand.flow tried.offer tried.found
+      (first_below t sound counted.clear p tried.offer tried.found) z (provider_known t sound z there)
+      (has_not its_order z.geom away))
       ∙ add-zero (have (granted_by t) t.topology z.number))
 
   -- what a consumer of the order comes to want is within the limit
-  want_fits : (c : Consumer) → Contains t.topology.consumers c → has_number its_order c.geom ≡ true → IsAtMost (want after t.topology c) greatest_counts
-  want_fits c there inside = by c.provider refl (All-contains (λ (d : Consumer). IfSome d.provider (λ q. IsSome (provider_at t.topology q))) t.topology.consumers c sound.orderly.parts.providers there)
+  want_fits : (c : Consumer) → Contains t.topology.consumers c → has_number its_order c.geom ≡ true
+      → IsAtMost (want after t.topology c) greatest_counts
+  want_fits c there inside =
+      by c.provider refl
+      (All-contains (λ (d : Consumer). IfSome d.provider (λ q. IsSome (provider_at t.topology q)))
+      t.topology.consumers c sound.orderly.parts.providers there)
     where
-      at : (q : ℕ) → c.provider ≡ Some q → (z : Option Provider) → provider_at t.topology q ≡ z → IsSome z → IsAtMost (want after t.topology c) greatest_counts
+      at : (q : ℕ) → c.provider ≡ Some q → (z : Option Provider) → provider_at t.topology q ≡ z → IsSome z
+          → IsAtMost (want after t.topology c) greatest_counts
       at q attached None found lives = let no : false ≡ true = lives in absurd (cc)
       at q attached (Some z) found lives =
           let is = provider_stands t sound q z found in
-          let part : IsAtMost (want after t.topology c) (sum_counts (map (want after t.topology) (attached_to t.topology q))) =
+          let part : IsAtMost (want after t.topology c)
+          (sum_counts (map (want after t.topology) (attached_to t.topology q))) =
           part_at_most (want after t.topology) (attached_to t.topology q) c
-          (in_filter (λ (x : Consumer). names_number x.provider q) t.topology.consumers c there (ap (λ w. names_number w q) attached ∙ eq-eqb q q refl)) in
+          (in_filter (λ (x : Consumer). names_number x.provider q) t.topology.consumers c there
+          (ap (λ w. names_number w q) attached ∙ eq-eqb q q refl)) in
           at_most-trans (want after t.topology c) (have after t.topology q) greatest_counts
           (subst (IsAtMost (want after t.topology c)) (sym (ctx.sums q)) part)
           (subst (λ n. IsAtMost (have after t.topology n) greatest_counts) is.1 (have_fits z is.0))
 
-      by : (w : Option ℕ) → c.provider ≡ w → IfSome w (λ q. IsSome (provider_at t.topology q)) → IsAtMost (want after t.topology c) greatest_counts
+      by : (w : Option ℕ) → c.provider ≡ w → IfSome w (λ q. IsSome (provider_at t.topology q))
+          → IsAtMost (want after t.topology c) greatest_counts
       by (Some q) attached lives = at q attached (provider_at t.topology q) refl lives
       by None loose lives =
-          let bare : providers_of t.topology c.geom ≡ [] = All-contains (λ (d : Consumer). d.provider ≡ None → providers_of t.topology d.geom ≡ []) t.topology.consumers c placed there loose in
-          let reached = all_reached t sound counted.clear p tried.offer tried.found c.geom (has-contains its_order c.geom inside) in
+          let bare : providers_of t.topology c.geom ≡ [] =
+          All-contains (λ (d : Consumer). d.provider ≡ None → providers_of t.topology d.geom ≡ [])
+          t.topology.consumers c placed there loose in
+          let reached =
+          all_reached t sound counted.clear p tried.offer tried.found c.geom
+          (has-contains its_order c.geom inside) in
           absurd (offered (provider_at t.topology reached.0) refl reached.2 bare)
         where
-          offered : (z : Option Provider) → provider_at t.topology (all_reached t sound counted.clear p tried.offer tried.found c.geom (has-contains its_order c.geom inside)).0 ≡ z
+          offered : (z : Option Provider)
+              → provider_at t.topology
+              (all_reached t sound counted.clear p tried.offer tried.found c.geom
+              (has-contains its_order c.geom inside)).0 ≡ z
               → IsSomeAnd z (λ (y : Provider). y.geom ≡ c.geom) → providers_of t.topology c.geom ≡ [] → ⊥
           offered None found never bare = never
           offered (Some y) found is bare =
               in_nothing y
               (subst (λ ys. Contains ys y) bare
-              (in_filter (λ (w : Provider). w.geom == c.geom) t.topology.providers y (provider_stands t sound _ y found).0 (eq-eqb y.geom c.geom is)))
+              (in_filter (λ (w : Provider). w.geom == c.geom) t.topology.providers y
+              (provider_stands t sound _ y found).0 (eq-eqb y.geom c.geom is)))
 
   -- what a consumer other than the holder comes to want
-  other_want : (c : Consumer) → Contains t.topology.consumers c → c.number ≢ cons → want after t.topology c ≡ add_counts (want (granted_by t) t.topology c) (more c)
+  other_want : (c : Consumer) → Contains t.topology.consumers c → c.number ≢ cons
+      → want after t.topology c ≡ add_counts (want (granted_by t) t.topology c) (more c)
   other_want c there other =
       sym (add-more (want (granted_by t) t.topology c) (want after t.topology c)
       (want-at_most (granted_by t) after (grants_rise t sound counted cons holder add stored) t.topology c))
-      ∙ sym (ap (λ b. add_counts (want (granted_by t) t.topology c) (if b then no_counts else more_counts (want (granted_by t) t.topology c) (want after t.topology c))) (ne_eqb c.number cons other))
+      ∙ sym (ap (λ b.
+      add_counts (want (granted_by t) t.topology c)
+      (if b then no_counts else more_counts (want (granted_by t) t.topology c) (want after t.topology c)))
+      (ne_eqb c.number cons other))
 
-  kept_want : (c : Consumer) → Contains t.topology.consumers c → c.number ≢ cons → all.parts.wants c.number ≡ want after t.topology c
+  kept_want : (c : Consumer) → Contains t.topology.consumers c → c.number ≢ cons
+      → all.parts.wants c.number ≡ want after t.topology c
   kept_want c there other =
       all.wants c there
-      ∙ same_both (has_number its_order c.geom) (shifted Rises (want_of_number t sound counted c.number) (tries.made c.geom)) (want_of_number t sound counted c.number) (want after t.topology c)
+      ∙ same_both (has_number its_order c.geom)
+      (shifted Rises (want_of_number t sound counted c.number) (tries.made c.geom))
+      (want_of_number t sound counted c.number) (want after t.topology c)
       (λ inside.
       ap (λ a. cap (add_counts a (tries.made c.geom))) (want_number t sound counted c there)
       ∙ ap (λ a. cap (add_counts (want (granted_by t) t.topology c) a))
-      ((end t sound (counted_told t sound counted) p add new o tried cons after t.topology gain more ctx demand).made c there
+      ((end t sound (counted_told t sound counted) p add new o tried cons after t.topology gain more ctx
+      demand).made c there
       ∙ ap (λ b. if b then cap (more c) else no_counts) inside)
       ∙ add-cap (want (granted_by t) t.topology c) (more c)
       ∙ ap cap (sym (other_want c there other))
@@ -160,23 +196,29 @@ module _ {C : Type 0} (t : TopoView C) (sound : IsSoundGraph t.topology) (counte
   grant_end =
       ap (λ v. with_want v cons add)
       (ap (fold (finish_geom (Some Rises)) new) (tried_order t sound counted.clear p add Rises new o tried)
-      ∙ ap (λ v. fold (finish_geom (Some Rises)) v its_order) (new_is t sound (counted_told t sound counted) p add new o tried cons after t.topology gain more ctx demand ∙ parts_are t sound counted quiet tries)
+      ∙ ap (λ v. fold (finish_geom (Some Rises)) v its_order)
+      (new_is t sound (counted_told t sound counted) p add new o tried cons after t.topology gain more ctx
+      demand ∙ parts_are t sound counted quiet tries)
       ∙ all.is)
       ∙ parts_end t sound counted after cons add all.parts
       (λ z. leaves_zero (have (granted_by t) t.topology z.number) (have after t.topology z.number)) (λ z. false)
       (λ z there.
       ap (λ (x : Cell). x.have) (all.cells z there)
       ∙ cell_of (λ (x : Cell). x.have) (has_number its_order z.geom) z
-      ∙ same_both (has_number its_order z.geom) (shifted Rises (have (granted_by t) t.topology z.number) (tries.gains z.number)) (have (granted_by t) t.topology z.number) (have after t.topology z.number)
+      ∙ same_both (has_number its_order z.geom)
+      (shifted Rises (have (granted_by t) t.topology z.number) (tries.gains z.number))
+      (have (granted_by t) t.topology z.number) (have after t.topology z.number)
       (λ inside. shifted_have z there) (λ away. outside_have z there away))
       (λ z there.
       ap (λ (x : Cell). x.risen) (all.cells z there)
       ∙ cell_of (λ (x : Cell). x.risen) (has_number its_order z.geom) z
       ∙ same_both (has_number its_order z.geom)
-      (leaves_zero (have (granted_by t) t.topology z.number) (shifted Rises (have (granted_by t) t.topology z.number) (tries.gains z.number))) false
+      (leaves_zero (have (granted_by t) t.topology z.number)
+      (shifted Rises (have (granted_by t) t.topology z.number) (tries.gains z.number))) false
       (leaves_zero (have (granted_by t) t.topology z.number) (have after t.topology z.number))
       (λ inside. ap (leaves_zero (have (granted_by t) t.topology z.number)) (shifted_have z there))
-      (λ away. sym (ap (leaves_zero (have (granted_by t) t.topology z.number)) (sym (outside_have z there away)) ∙ stays_zero ((have (granted_by t) t.topology z.number).w == 0))))
+      (λ away. sym (ap (leaves_zero (have (granted_by t) t.topology z.number)) (sym (outside_have z there away))
+      ∙ stays_zero ((have (granted_by t) t.topology z.number).w == 0))))
       (λ z there.
       ap (λ (x : Cell). x.fallen) (all.cells z there)
       ∙ cell_of (λ (x : Cell). x.fallen) (has_number its_order z.geom) z
@@ -186,9 +228,12 @@ module _ {C : Type 0} (t : TopoView C) (sound : IsSoundGraph t.topology) (counte
       ∙ cell_of (λ (x : Cell). x.gain) (has_number its_order z.geom) z
       ∙ same_both (has_number its_order z.geom) no_counts (tries.gains z.number) no_counts (λ inside. refl)
       (λ away.
-      (end t sound (counted_told t sound counted) p add new o tried cons after t.topology gain more ctx demand).gains z.number
-      ∙ ap cap (outside_gains t.topology p add gain more its_order (below_ordered t sound counted.clear p tried.offer tried.found) demand.flow tried.offer tried.found
-      (first_below t sound counted.clear p tried.offer tried.found) z (provider_known t sound z there) (has_not its_order z.geom away))))
+      (end t sound (counted_told t sound counted) p add new o tried cons after t.topology gain more ctx
+      demand).gains z.number
+      ∙ ap cap (outside_gains t.topology p add gain more its_order
+      (below_ordered t sound counted.clear p tried.offer tried.found) demand.flow tried.offer tried.found
+      (first_below t sound counted.clear p tried.offer tried.found) z (provider_known t sound z there)
+      (has_not its_order z.geom away))))
       (λ c there.
       elim (cases_eq c.number cons) [
         | inl same ↦
@@ -196,20 +241,25 @@ module _ {C : Type 0} (t : TopoView C) (sound : IsSoundGraph t.topology) (counte
             ∙ sym (ap (want after t.topology) (one_only t sound counted cons holder add c there same)
             ∙ wants_grant after t.topology holder.one holder.kind
             ∙ ap after (one_number t sound counted cons holder add) ∙ own_is t sound counted cons holder add)
-        | inr other ↦ ap (λ b. if b then add else all.parts.wants c.number) (ne_eqb c.number cons other) ∙ kept_want c there other
+        | inr other ↦
+            ap (λ b. if b then add else all.parts.wants c.number) (ne_eqb c.number cons other) ∙ kept_want c there other
       ])
       (λ n.
       all.marks n
       ∙ same_both (has_number its_order n) 0 (tries.marks n) 0 (λ inside. refl)
-      (λ away. (end t sound (counted_told t sound counted) p add new o tried cons after t.topology gain more ctx demand).marks n ∙ link_outside tried.offer.geom its_order n away))
+      (λ away. (end t sound (counted_told t sound counted) p add new o tried cons after t.topology gain more ctx
+      demand).marks n ∙ link_outside tried.offer.geom its_order n away))
       (λ n.
       all.made n
       ∙ same_both (has_number its_order n) no_counts (tries.made n) no_counts (λ inside. refl)
-      (λ away. (end t sound (counted_told t sound counted) p add new o tried cons after t.topology gain more ctx demand).others n (has_not its_order n away)))
+      (λ away. (end t sound (counted_told t sound counted) p add new o tried cons after t.topology gain more ctx
+      demand).others n (has_not its_order n away)))
       ∙ ap (λ rows. record (granted_view t cons add) { fallen = rows }) (sym quiet.fallen)
     where
       cell_of : {V : Type 0} (see : Cell → V) (b : Bool) (z : Provider)
-          → see (if b then kept_cell Rises ((tried_parts t sound counted tries).cells z.number) else (tried_parts t sound counted tries).cells z.number)
-          ≡ (if b then see (kept_cell Rises ((tried_parts t sound counted tries).cells z.number)) else see ((tried_parts t sound counted tries).cells z.number))
+          → see (if b then kept_cell Rises ((tried_parts t sound counted tries).cells z.number) else
+          (tried_parts t sound counted tries).cells z.number)
+          ≡ (if b then see (kept_cell Rises ((tried_parts t sound counted tries).cells z.number)) else see
+          ((tried_parts t sound counted tries).cells z.number))
       cell_of see true z = refl
       cell_of see false z = refl

@@ -28,9 +28,12 @@ use Rattle.geo_laws_growth.proofs.JoiningGains.{joining_gains}
 use Rattle.geo_access.proofs.Verdict.{After}
 
 -- a list in which nothing changes is the same
-pub change_none : {X : Type 0} (test : X → Bool) (change : X → X) (xs : List X) → AllByRecursion (λ x. test x ≡ true → change x ≡ x) xs → map (λ x. if test x then change x else x) xs ≡ xs
+pub change_none : {X : Type 0} (test : X → Bool) (change : X → X) (xs : List X)
+    → AllByRecursion (λ x. test x ≡ true → change x ≡ x) xs → map (λ x. if test x then change x else x) xs ≡ xs
 change_none test change [] same = refl
-change_none {X} test change (x ∷ xs) same = ap (λ ys. (if test x then change x else x) ∷ ys) (change_none test change xs same.1) ∙ ap (λ y. y ∷ xs) (by (test x) same.0)
+change_none {X} test change (x ∷ xs) same =
+    ap (λ ys. (if test x then change x else x) ∷ ys) (change_none test change xs same.1)
+    ∙ ap (λ y. y ∷ xs) (by (test x) same.0)
   where
     by : (b : Bool) → (b ≡ true → change x ≡ x) → (if b then change x else x) ≡ x
     by true so = so refl
@@ -40,22 +43,35 @@ change_none {X} test change (x ∷ xs) same = ap (λ ys. (if test x then change 
 change_twice : {X : Type 0} (test : X → Bool) (f g : X → X) → ((x : X) → test (f x) ≡ test x) → (xs : List X)
     → change_where test g (change_where test f xs) ≡ change_where test (λ x. g (f x)) xs
 change_twice test f g same [] = refl
-change_twice {X} test f g same (x ∷ xs) = ap (λ ys. (if test (if test x then f x else x) then g (if test x then f x else x) else (if test x then f x else x)) ∷ ys) (change_twice test f g same xs) ∙ ap (λ y. y ∷ change_where test (λ z. g (f z)) xs) (by (test x) refl)
+change_twice {X} test f g same (x ∷ xs) =
+    ap (λ ys. (if test (if test x then f x else x) then g (if test x then f x else x) else
+    (if test x then f x else x)) ∷ ys) (change_twice test f g same xs)
+    ∙ ap (λ y. y ∷ change_where test (λ z. g (f z)) xs) (by (test x) refl)
   where
-    by : (b : Bool) → test x ≡ b → (if test (if b then f x else x) then g (if b then f x else x) else (if b then f x else x)) ≡ (if b then g (f x) else x)
+    by : (b : Bool) → test x ≡ b
+        → (if test (if b then f x else x) then g (if b then f x else x) else (if b then f x else x))
+        ≡ (if b then g (f x) else x)
     by true e = ap (λ c. if c then g (f x) else f x) (same x ∙ e)
     by false e = ap (λ c. if c then g x else x) e
 
 -- a consumer that wasn't attached is detached again
-pub detached_again : {C : Type 0} (t : Topology C) (c p : ℕ) (x : Consumer) → IsInOrder t → consumer_at t c ≡ Some x → x.provider ≡ None → detach (attach t c p) c ≡ t
+pub detached_again : {C : Type 0} (t : Topology C) (c p : ℕ) (x : Consumer) → IsInOrder t
+    → consumer_at t c ≡ Some x → x.provider ≡ None → detach (attach t c p) c ≡ t
 detached_again t c p x order found free =
     ap (λ cs. record t { consumers = cs })
-    (change_twice (λ (y : Consumer). y.number == c) (λ y. record y { provider = Some p }) (λ y. record y { provider = None }) (λ y. refl) t.consumers
-    ∙ change_none (λ (y : Consumer). y.number == c) (λ y. record y { provider = None }) t.consumers (each t.consumers (unique (λ (y : Consumer). y.number) t.next_consumer c t.consumers x order.consumers found)))
+    (change_twice (λ (y : Consumer). y.number == c) (λ y. record y { provider = Some p })
+    (λ y. record y { provider = None }) (λ y. refl) t.consumers
+    ∙ change_none (λ (y : Consumer). y.number == c) (λ y. record y { provider = None }) t.consumers
+    (each t.consumers (unique (λ (y : Consumer). y.number) t.next_consumer c t.consumers x order.consumers found)))
   where
-    each : (cs : List Consumer) → AllByRecursion (λ (y : Consumer). (y.number == c) ≡ true → y ≡ x) cs → AllByRecursion (λ (y : Consumer). (y.number == c) ≡ true → (record y { provider = None }) ≡ y) cs
+    each : (cs : List Consumer) → AllByRecursion (λ (y : Consumer). (y.number == c) ≡ true → y ≡ x) cs
+        → AllByRecursion (λ (y : Consumer). (y.number == c) ≡ true → (record y { provider = None }) ≡ y) cs
     each [] all = tt
-    each (y ∷ ys) all = ((λ e. let none : y.provider ≡ None = ap (λ (z : Consumer). z.provider) (all.0 e) ∙ free in ap (λ o. record y { provider = o }) (sym none)), each ys all.1)
+    each (y ∷ ys) all = (
+      (λ e. let none : y.provider ≡ None = ap (λ (z : Consumer). z.provider) (all.0 e) ∙ free in
+          ap (λ o. record y { provider = o }) (sym none)),
+      each ys all.1,
+    )
 
 module _ {C : Type 0} (granted : ℕ → Counts) (t : Topology C) (c p : ℕ) (j : Joins t c p) where
   -- the graph with it
@@ -78,7 +94,9 @@ module _ {C : Type 0} (granted : ℕ → Counts) (t : Topology C) (c p : ℕ) (j
   join_mores d = more_counts (want granted t d) (want granted joined d)
 
   -- each gains the sum of what stands above gains, and p what the consumer wants
-  join_sums : (q : ℕ) → join_gains q ≡ add_counts (if p == q then joined_want else no_counts) (sum_counts (map join_mores (attached_to t q)))
+  join_sums : (q : ℕ)
+      → join_gains q
+      ≡ add_counts (if p == q then joined_want else no_counts) (sum_counts (map join_mores (attached_to t q)))
   join_sums q =
       let first : Counts = if p == q then joined_want else no_counts in
       let sum : Counts = sum_counts (map join_mores (attached_to t q)) in
@@ -87,19 +105,22 @@ module _ {C : Type 0} (granted : ℕ → Counts) (t : Topology C) (c p : ℕ) (j
       ∙ counts-same (add_counts sum first) (add_counts first sum) (omega arith) (omega arith) (omega arith)
 
   -- so it is a demand
-  pub join_demands : (order : List ℕ) → Covers t p order → Demands t p joined_want (have granted t) join_gains join_mores order
+  pub join_demands : (order : List ℕ) → Covers t p order
+      → Demands t p joined_want (have granted t) join_gains join_mores order
   join_demands order covers = record {
     flow = record {
       sums = join_sums;
       around = λ d there away.
           more-same (want granted t d) (want granted joined d)
           (JoiningChangesBelow.wants joining_changes_below granted t c p j d
-          (all_of (λ (y : Provider). Contains (below t p) y.number → ⊥) (providers_of t d.geom) (outside t (joined_known t c p j) p order covers d.geom away)));
+          (all_of (λ (y : Provider). Contains (below t p) y.number
+          → ⊥) (providers_of t d.geom) (outside t (joined_known t c p j) p order covers d.geom away)));
     };
     makes = λ d g there found.
         ap (more_counts (want granted t d)) (JoiningGains.consumers joining_gains granted t c p j d g found)
         ∙ more-add (want granted t d)
-        (gain_of_kind g.kind (map (λ y. have granted t y.number) (providers_of t g.number)) (map (λ y. join_gains y.number) (providers_of t g.number)) no_counts);
+        (gain_of_kind g.kind (map (λ y. have granted t y.number) (providers_of t g.number))
+        (map (λ y. join_gains y.number) (providers_of t g.number)) no_counts);
   }
 
   -- How the graph with it stands to the one without
@@ -120,17 +141,20 @@ module _ {C : Type 0} (granted : ℕ → Counts) (t : Topology C) (c p : ℕ) (j
   its_only : (d : Consumer) → Contains t.consumers d → d.number ≡ c → d ≡ j.consumer
   its_only d there same =
       at_contained (λ (y : Consumer). (y.number == c) ≡ true → y ≡ j.consumer) t.consumers d
-      (unique (λ (y : Consumer). y.number) t.next_consumer c t.consumers j.consumer j.order.consumers j.stands) there (eq-eqb d.number c same)
+      (unique (λ (y : Consumer). y.number) t.next_consumer c t.consumers j.consumer j.order.consumers j.stands)
+      there (eq-eqb d.number c same)
 
   put_it : put j.consumer ≡ joiner
   put_it = ap (λ b. if b then joiner else j.consumer) (eq-eqb j.consumer.number c (its_number t c p j))
 
   -- another consumer stands in both
   pub other_stays : (d : Consumer) → Contains t.consumers d → d.number ≢ c → Contains joined.consumers d
-  other_stays d there other = subst (Contains joined.consumers) (put_other d other) (Contains-map put t.consumers d there)
+  other_stays d there other =
+      subst (Contains joined.consumers) (put_other d other) (Contains-map put t.consumers d there)
 
   -- a consumer of the new graph is it, or another one that stood
-  pub joined_cases : (d : Consumer) → Contains joined.consumers d → (d ≡ joiner) ⊎ (Contains t.consumers d × (d.number ≢ c))
+  pub joined_cases : (d : Consumer) → Contains joined.consumers d
+      → (d ≡ joiner) ⊎ (Contains t.consumers d × (d.number ≢ c))
   joined_cases d there =
       let from_one : Origin (λ y. put y ≡ d) t.consumers = map-Contains put t.consumers d there in
       elim (cases_eq from_one.item.number c) [
@@ -141,7 +165,8 @@ module _ {C : Type 0} (granted : ℕ → Counts) (t : Topology C) (c p : ℕ) (j
       ]
 
   -- none that was attached is it
-  pub was_other : (q : ℕ) (d : Consumer) → Contains (attached_to t q) d → Contains t.consumers d × (d.number ≢ c) × (names_number d.provider q ≡ true)
+  pub was_other : (q : ℕ) (d : Consumer) → Contains (attached_to t q) d → Contains t.consumers d × (d.number ≢ c)
+      × (names_number d.provider q ≡ true)
   was_other q d at =
       let inside = of_filter (λ (x : Consumer). names_number x.provider q) t.consumers d at in (
         inside.0,
@@ -154,42 +179,58 @@ module _ {C : Type 0} (granted : ℕ → Counts) (t : Topology C) (c p : ℕ) (j
 
   -- a consumer that stood wants what it wanted and gains
   pub old_want : (d : Consumer) → want granted joined d ≡ add_counts (want granted t d) (join_mores d)
-  old_want d = sym (add-more (want granted t d) (want granted joined d) (JoiningRaises.wants joining_raises granted t c p j d))
+  old_want d =
+      sym (add-more (want granted t d) (want granted joined d) (JoiningRaises.wants joining_raises granted t c p j d))
 
   -- how the graph with it stands to the one without
   pub join_after : After t p c joined_want granted granted joined join_gains join_mores
   join_after = record {
     providers = refl;
     stays = JoiningChangesBelow.around joining_changes_below granted t c p j;
-    haves = λ q. sym (add-more (have granted t q) (have granted joined q) (JoiningRaises.counts joining_raises granted t c p j q));
+    haves = λ q.
+        sym (add-more (have granted t q) (have granted joined q)
+        (JoiningRaises.counts joining_raises granted t c p j q));
     sums = λ q. have_is_sum joined j.after (joined_known t c p j) granted q;
     each = each_of_them;
     old = λ q d at.
         let is = was_other q d at in
-        inr (in_filter (λ (x : Consumer). names_number x.provider q) joined.consumers d (other_stays d is.0 is.1) is.2, is.1, old_want d);
+        inr (
+          in_filter (λ (x : Consumer). names_number x.provider q) joined.consumers d (other_stays d is.0 is.1)
+              is.2,
+          is.1,
+          old_want d,
+        );
     opener = joiner;
     opener_at =
         in_filter (λ (x : Consumer). names_number x.provider p) joined.consumers joiner
-        (subst (Contains joined.consumers) put_it (Contains-map put t.consumers j.consumer (it_stands t c p j))) (eq-eqb p p refl);
+        (subst (Contains joined.consumers) put_it (Contains-map put t.consumers j.consumer (it_stands t c p j)))
+        (eq-eqb p p refl);
     opener_is = its_number t c p j;
     opener_wants = refl;
     found =
         found_of (λ (x : Consumer). x.number) joined.consumers
-        (AllPairs-from_increasing (map (λ (x : Consumer). x.number) joined.consumers) (AttachedIsFound.order attached-found t c p j.order).consumers.0);
+        (AllPairs-from_increasing (map (λ (x : Consumer). x.number) joined.consumers)
+        (AttachedIsFound.order attached-found t c p j.order).consumers.0);
     errors = JoiningKeepsBelow.errors joining_keeps_below t c p j;
   }
     where
       each_of_them : (q : ℕ) (d : Consumer) → Contains (attached_to joined q) d
           → ((d.number ≡ c) × (p ≡ q) × (want granted joined d ≡ joined_want))
-          ⊎ (Contains (attached_to t q) d × (d.number ≢ c) × (want granted joined d ≡ add_counts (want granted t d) (join_mores d)))
+          ⊎ (Contains (attached_to t q) d × (d.number ≢ c)
+          × (want granted joined d ≡ add_counts (want granted t d) (join_mores d)))
       each_of_them q d at =
           let inside = of_filter (λ (x : Consumer). names_number x.provider q) joined.consumers d at in
           elim (joined_cases d inside.0) [
             | inl same ↦
                 inl (
                   ap (λ (x : Consumer). x.number) same ∙ its_number t c p j,
-                  (let e : Some p ≡ Some q = ap (λ (x : Consumer). x.provider) (sym same) ∙ names_some d.provider q inside.1 in cc),
+                  (let e : Some p ≡ Some q = ap (λ (x : Consumer). x.provider) (sym same)
+                      ∙ names_some d.provider q inside.1 in cc),
                   ap (want granted joined) same,
                 )
-            | inr old ↦ inr (in_filter (λ (x : Consumer). names_number x.provider q) t.consumers d old.0 inside.1, old.1, old_want d)
+            | inr old ↦ inr (
+              in_filter (λ (x : Consumer). names_number x.provider q) t.consumers d old.0 inside.1,
+              old.1,
+              old_want d,
+            )
           ]

@@ -47,10 +47,12 @@ give_stopped : {C : Type 0} (a : Counts) (v : TopoView C) (p : ℕ) → give (ca
 give_stopped a v p = ap (λ b. with_provider_scratch v p (record { mark = 0; trial = b })) (add-cap (gain_at v p) a)
 
 -- so what is tried with it is tried with the whole
-pub tried_whole : {C : Type 0} (t : TopoView C) (p : ℕ) (a b : Counts) (way : Way) (new : TopoView C) (o : Order) → a ≡ cap b → IsTried t p a way new o → IsTried t p b way new o
+pub tried_whole : {C : Type 0} (t : TopoView C) (p : ℕ) (a b : Counts) (way : Way) (new : TopoView C) (o : Order)
+    → a ≡ cap b → IsTried t p a way new o → IsTried t p b way new o
 tried_whole {C} t p a b way new o is tried =
     let same : give a (gathered_from t tried.offer.geom).view p ≡ give b (gathered_from t tried.offer.geom).view p =
-    ap (λ x. give x (gathered_from t tried.offer.geom).view p) is ∙ give_stopped b (gathered_from t tried.offer.geom).view p in
+    ap (λ x. give x (gathered_from t tried.offer.geom).view p) is
+    ∙ give_stopped b (gathered_from t tried.offer.geom).view p in
     record {
       offer = tried.offer;
       found = tried.found;
@@ -60,14 +62,18 @@ tried_whole {C} t p a b way new o is tried =
     }
 
 -- and is judged alike
-pub judged_whole : {C : Type 0} (v : TopoView C) (p : ℕ) (a b : Counts) (xs : List ℕ) → a ≡ cap b → judged v p a xs ≡ judged v p b xs
+pub judged_whole : {C : Type 0} (v : TopoView C) (p : ℕ) (a b : Counts) (xs : List ℕ) → a ≡ cap b
+    → judged v p a xs ≡ judged v p b xs
 judged_whole v p a b xs is =
     let errors : Option Refused = option_map (λ q. Named (Enxio q)) (first_errored v p xs) in
-    let faults : Option Refused = option_map (λ r. Named r) (option_or (first_some (fault_in v Exclusion) xs) (first_some (fault_in v Limit) xs)) in
+    let faults : Option Refused =
+    option_map (λ r. Named r)
+    (option_or (first_some (fault_in v Exclusion) xs) (first_some (fault_in v Limit) xs)) in
     let judge : Bool → Bool → Option Refused = λ w e.
     option_or errors
     (option_or
-    (option_or (if w then None else option_map (λ c. Exclusive c) (other v p 0 Excludes)) (if e then None else option_map (λ c. Writer c) (other v p 0 Writes)))
+    (option_or (if w then None else option_map (λ c. Exclusive c) (other v p 0 Excludes))
+    (if e then None else option_map (λ c. Writer c) (other v p 0 Writes)))
     faults) in
     ap (λ (x : Counts). judge (x.w == 0) (x.e == 0)) is
     ∙ ap (λ w. judge w ((cap b).e == 0)) (zero_min b.w)
@@ -80,20 +86,26 @@ abbrev attach_tests : Bool → Bool → Bool → Option Errno
 attach_tests errored loop deep = first_error ((errored, ENXIO) ∷ (loop, ELOOP) ∷ (deep, EDEEP) ∷ [])
 
 abbrev join_tests : Bool → Bool → Bool → Bool → Bool → Option Errno
-join_tests below loop deep exclusive limit = first_error ((below, ENXIO) ∷ (loop, ELOOP) ∷ (deep, EDEEP) ∷ (not exclusive, EPERM) ∷ (not limit, EOVERFLOW) ∷ [])
+join_tests below loop deep exclusive limit =
+    first_error ((below, ENXIO) ∷ (loop, ELOOP) ∷ (deep, EDEEP) ∷ (not exclusive, EPERM) ∷ (not limit, EOVERFLOW) ∷ [])
 
 -- what refuses an attach at a provider without an error refuses a join, where there is no error below
 attach_first : (p : ℕ) (loop deep exclusive limit : Bool) (e : Errno) → attach_tests false loop deep ≡ Some e
     → join_tests false loop deep exclusive limit ≡ Some (errno_of_join (attach_told e p))
-attach_first p true deep exclusive limit e is = let same : ELOOP ≡ e = cc in ap (λ x. Some (errno_of_join (attach_told x p))) same
-attach_first p false true exclusive limit e is = let same : EDEEP ≡ e = cc in ap (λ x. Some (errno_of_join (attach_told x p))) same
+attach_first p true deep exclusive limit e is = let same : ELOOP ≡ e = cc in
+    ap (λ x. Some (errno_of_join (attach_told x p))) same
+attach_first p false true exclusive limit e is = let same : EDEEP ≡ e = cc in
+    ap (λ x. Some (errno_of_join (attach_told x p))) same
 attach_first p false false exclusive limit e is = absurd (cc)
 
 -- and names nothing
-attach_names : {C : Type 0} (granted : ℕ → Counts) (t : Topology C) (c p : ℕ) (loop deep : Bool) (e : Errno) → attach_tests false loop deep ≡ Some e
+attach_names : {C : Type 0} (granted : ℕ → Counts) (t : Topology C) (c p : ℕ) (loop deep : Bool) (e : Errno)
+    → attach_tests false loop deep ≡ Some e
     → IsJoinNamed granted t c p (Err (attach_told e p))
-attach_names granted t c p true deep e is = let same : ELOOP ≡ e = cc in subst (λ x. IsJoinNamed granted t c p (Err (attach_told x p))) same tt
-attach_names granted t c p false true e is = let same : EDEEP ≡ e = cc in subst (λ x. IsJoinNamed granted t c p (Err (attach_told x p))) same tt
+attach_names granted t c p true deep e is = let same : ELOOP ≡ e = cc in
+    subst (λ x. IsJoinNamed granted t c p (Err (attach_told x p))) same tt
+attach_names granted t c p false true e is = let same : EDEEP ≡ e = cc in
+    subst (λ x. IsJoinNamed granted t c p (Err (attach_told x p))) same tt
 attach_names granted t c p false false e is = absurd (cc)
 
 -- where nothing does, neither test holds
@@ -109,16 +121,20 @@ sound_here t p none = by (is_errored t p) refl
   where
     by : (b : Bool) → is_errored t p ≡ b → b ≡ false
     by false e = refl
-    by true e = let no : true ≡ false = sym (any_true (is_errored t) (below t p) p (below_self (length t.geoms) t p) e) ∙ none in absurd (cc)
+    by true e = let no : true ≡ false =
+        sym (any_true (is_errored t) (below t p) p (below_self (length t.geoms) t p) e) ∙ none in absurd (cc)
 
 module _ {C : Type 0} (t : Topology C) (c p : ℕ) (granted : ℕ → Counts) where
   -- what a join is told, from its tests
-  tests_are : (below loop deep exclusive limit : Bool) → has_error_below t p ≡ below → would_loop t (consumer_at t c) (provider_at t p) ≡ loop → is_too_deep (attach t c p) ≡ deep
+  tests_are : (below loop deep exclusive limit : Bool) → has_error_below t p ≡ below
+      → would_loop t (consumer_at t c) (provider_at t p) ≡ loop → is_too_deep (attach t c p) ≡ deep
       → is_exclusive granted (attach t c p) ≡ exclusive → fits_limit granted (attach t c p) ≡ limit
       → join_refusal granted t c p ≡ join_tests below loop deep exclusive limit
   tests_are below loop deep exclusive limit eb el ed ex ef =
-      ap (λ b. join_tests b (would_loop t (consumer_at t c) (provider_at t p)) (is_too_deep (attach t c p)) (is_exclusive granted (attach t c p)) (fits_limit granted (attach t c p))) eb
-      ∙ ap (λ b. join_tests below b (is_too_deep (attach t c p)) (is_exclusive granted (attach t c p)) (fits_limit granted (attach t c p))) el
+      ap (λ b. join_tests b (would_loop t (consumer_at t c) (provider_at t p)) (is_too_deep (attach t c p))
+      (is_exclusive granted (attach t c p)) (fits_limit granted (attach t c p))) eb
+      ∙ ap (λ b. join_tests below b (is_too_deep (attach t c p)) (is_exclusive granted (attach t c p))
+      (fits_limit granted (attach t c p))) el
       ∙ ap (λ b. join_tests below loop b (is_exclusive granted (attach t c p)) (fits_limit granted (attach t c p))) ed
       ∙ ap (λ b. join_tests below loop deep b (fits_limit granted (attach t c p))) ex
       ∙ ap (join_tests below loop deep exclusive) ef
@@ -128,43 +144,58 @@ module _ {C : Type 0} (t : Topology C) (c p : ℕ) (granted : ℕ → Counts) wh
   IsRight r = IsJoinRefusal r (join_refusal granted t c p) × IsJoinNamed granted t c p r
 
   -- where the attach is refused
-  right_attach : (e : Errno) → has_error_below t p ≡ false → attach_refusal t c p ≡ Some e → IsRight (Err (attach_told e p))
+  right_attach : (e : Errno) → has_error_below t p ≡ false → attach_refusal t c p ≡ Some e
+      → IsRight (Err (attach_told e p))
   right_attach e none refused =
-      let tests : attach_tests false (would_loop t (consumer_at t c) (provider_at t p)) (is_too_deep (attach t c p)) ≡ Some e =
-      sym (ap (λ b. attach_tests b (would_loop t (consumer_at t c) (provider_at t p)) (is_too_deep (attach t c p))) (sound_here t p none)) ∙ refused in (
-        tests_are false (would_loop t (consumer_at t c) (provider_at t p)) (is_too_deep (attach t c p)) (is_exclusive granted (attach t c p)) (fits_limit granted (attach t c p)) none refl refl refl refl
-            ∙ attach_first p (would_loop t (consumer_at t c) (provider_at t p)) (is_too_deep (attach t c p)) (is_exclusive granted (attach t c p)) (fits_limit granted (attach t c p)) e tests,
-        attach_names granted t c p (would_loop t (consumer_at t c) (provider_at t p)) (is_too_deep (attach t c p)) e tests,
+      let tests : attach_tests false (would_loop t (consumer_at t c) (provider_at t p))
+      (is_too_deep (attach t c p)) ≡ Some e =
+      sym (ap (λ b. attach_tests b (would_loop t (consumer_at t c) (provider_at t p)) (is_too_deep (attach t c p)))
+      (sound_here t p none)) ∙ refused in (
+        tests_are false (would_loop t (consumer_at t c) (provider_at t p)) (is_too_deep (attach t c p))
+            (is_exclusive granted (attach t c p)) (fits_limit granted (attach t c p)) none refl refl refl refl
+            ∙ attach_first p (would_loop t (consumer_at t c) (provider_at t p)) (is_too_deep (attach t c p))
+            (is_exclusive granted (attach t c p)) (fits_limit granted (attach t c p)) e tests,
+        attach_names granted t c p (would_loop t (consumer_at t c) (provider_at t p))
+            (is_too_deep (attach t c p)) e tests,
       )
 
   -- where nothing refuses the attach: the tests that are left
   abbrev IsPassed : Type 0
-  IsPassed = (has_error_below t p ≡ false) × (would_loop t (consumer_at t c) (provider_at t p) ≡ false) × (is_too_deep (attach t c p) ≡ false)
+  IsPassed = (has_error_below t p ≡ false) × (would_loop t (consumer_at t c) (provider_at t p) ≡ false)
+      × (is_too_deep (attach t c p) ≡ false)
 
   -- what is told then, from what the counts say
-  tests_left : IsPassed → (exclusive limit : Bool) → is_exclusive granted (attach t c p) ≡ exclusive → fits_limit granted (attach t c p) ≡ limit
+  tests_left : IsPassed → (exclusive limit : Bool) → is_exclusive granted (attach t c p) ≡ exclusive
+      → fits_limit granted (attach t c p) ≡ limit
       → join_refusal granted t c p ≡ join_tests false false false exclusive limit
   tests_left passed exclusive limit ex ef = tests_are false false false exclusive limit passed.0 passed.1 passed.2 ex ef
 
   module _ (v : TopoView C) (add : Counts) (gain : ℕ → Counts) (more : Consumer → Counts)
       (ctx : After v.topology p c add granted granted (attach t c p) gain more) where
     -- the answer to a demand that is judged so
-    right_demand : IsPassed → (r : Option Refused) → IsVerdict v p c add granted granted (attach t c p) gain more ctx r → SaysError t p r
+    right_demand : IsPassed → (r : Option Refused)
+        → IsVerdict v p c add granted granted (attach t c p) gain more ctx r → SaysError t p r
         → errored_below r ≡ None → IsRight (demand_answer (answer_of r c p))
     right_demand passed None says errors none = (tests_left passed true true says.1 says.2, tt)
     right_demand passed (Some (Named (Enxio q))) says errors none = absurd (cc)
-    right_demand passed (Some (Named (Eperm q w e))) says errors none = (tests_left passed false (fits_limit granted (attach t c p)) says.1 refl, says.2)
-    right_demand passed (Some (Named (Eoverflow q))) says errors none = (tests_left passed true false says.1 says.2, says.3)
-    right_demand passed (Some (Writer w)) says errors none = (tests_left passed false (fits_limit granted (attach t c p)) says.1 refl, says.2)
-    right_demand passed (Some (Exclusive e)) says errors none = (tests_left passed false (fits_limit granted (attach t c p)) says.1 refl, says.2)
+    right_demand passed (Some (Named (Eperm q w e))) says errors none =
+        (tests_left passed false (fits_limit granted (attach t c p)) says.1 refl, says.2)
+    right_demand passed (Some (Named (Eoverflow q))) says errors none =
+        (tests_left passed true false says.1 says.2, says.3)
+    right_demand passed (Some (Writer w)) says errors none =
+        (tests_left passed false (fits_limit granted (attach t c p)) says.1 refl, says.2)
+    right_demand passed (Some (Exclusive e)) says errors none =
+        (tests_left passed false (fits_limit granted (attach t c p)) says.1 refl, says.2)
 
   -- an error is named, or there is none
-  right_error : (r : Option Refused) → SaysError t p r → (o : Option ℕ) → errored_below r ≡ o → (rest : Result (Unit {0}) JoinRefusal)
+  right_error : (r : Option Refused) → SaysError t p r → (o : Option ℕ) → errored_below r ≡ o
+      → (rest : Result (Unit {0}) JoinRefusal)
       → (has_error_below t p ≡ false → errored_below r ≡ None → IsRight rest) → IsRight (error_answer o rest)
   right_error (Some (Named (Enxio q))) errors None e rest so = absurd (cc)
   right_error (Some (Named (Enxio q))) errors (Some n) e rest so =
       let same : q ≡ n = cc in (
-        tests_are true (would_loop t (consumer_at t c) (provider_at t p)) (is_too_deep (attach t c p)) (is_exclusive granted (attach t c p)) (fits_limit granted (attach t c p)) errors.0 refl refl refl refl,
+        tests_are true (would_loop t (consumer_at t c) (provider_at t p)) (is_too_deep (attach t c p))
+            (is_exclusive granted (attach t c p)) (fits_limit granted (attach t c p)) errors.0 refl refl refl refl,
         subst (IsFirstErrored t p) same errors.1,
       )
   right_error None errors None e rest so = so errors e
@@ -179,15 +210,18 @@ module _ {C : Type 0} (t : Topology C) (c p : ℕ) (granted : ℕ → Counts) wh
   right_error (Some (Exclusive x)) errors (Some n) e rest so = absurd (cc)
 
   -- a refused attach, or none
-  right_attached : has_error_below t p ≡ false → (o : Option Errno) → attach_refusal t c p ≡ o → (rest : Result (Unit {0}) JoinRefusal)
+  right_attached : has_error_below t p ≡ false → (o : Option Errno) → attach_refusal t c p ≡ o
+      → (rest : Result (Unit {0}) JoinRefusal)
       → (IsPassed → IsRight rest) → IsRight (attach_answer o p rest)
   right_attached none None refused rest so =
-      let tests = attach_passed (is_errored t p) (would_loop t (consumer_at t c) (provider_at t p)) (is_too_deep (attach t c p)) refused in
+      let tests = attach_passed (is_errored t p) (would_loop t (consumer_at t c) (provider_at t p))
+      (is_too_deep (attach t c p)) refused in
       so (none, tests.0, tests.1)
   right_attached none (Some e) refused rest so = right_attach e none refused
 
 -- an answer that is Ok
-pub passed_all : (r : Option Refused) (o : Option Errno) (c p : ℕ) → IsOk (join_answer r o c p) → (r ≡ None) × (o ≡ None)
+pub passed_all : (r : Option Refused) (o : Option Errno) (c p : ℕ) → IsOk (join_answer r o c p)
+    → (r ≡ None) × (o ≡ None)
 passed_all None None c p ok = (refl, refl)
 passed_all None (Some e) c p ok = absurd (cc)
 passed_all (Some (Named (Enxio q))) o c p ok = absurd (cc)
@@ -200,10 +234,12 @@ passed_all (Some (Writer w)) (Some e) c p ok = absurd (cc)
 passed_all (Some (Exclusive x)) None c p ok = absurd (cc)
 passed_all (Some (Exclusive x)) (Some e) c p ok = absurd (cc)
 
-module _ {C : Type 0} (t : TopoView C) (sound : IsSoundGraph t.topology) (cons : ℕ) (counted : IsCountedBut t cons) (loose : Loose t cons)
+module _ {C : Type 0} (t : TopoView C) (sound : IsSoundGraph t.topology) (cons : ℕ) (counted : IsCountedBut t cons)
+    (loose : Loose t cons)
     (p : ℕ) (offer : Provider) (offered : provider_at t.topology p ≡ Some offer) where
   -- where its geom wouldn't reach itself, it joins
-  abbrev pub joins_of : would_loop t.topology (consumer_at t.topology cons) (provider_at t.topology p) ≡ false → Joins t.topology cons p
+  abbrev pub joins_of : would_loop t.topology (consumer_at t.topology cons) (provider_at t.topology p) ≡ false
+      → Joins t.topology cons p
   joins_of around = record {
     consumer = loose.one;
     stands = loose.found;
@@ -217,7 +253,8 @@ module _ {C : Type 0} (t : TopoView C) (sound : IsSoundGraph t.topology) (cons :
         sound.ranked sound.orderly.parts.geoms sound.orderly.order around);
   }
 
-  module _ (add : Counts) (is : add ≡ cap (want (granted_by t) t.topology loose.one)) (new : TopoView C) (o : Order) (tried : IsTried t p add Rises new o) where
+  module _ (add : Counts) (is : add ≡ cap (want (granted_by t) t.topology loose.one)) (new : TopoView C)
+      (o : Order) (tried : IsTried t p add Rises new o) where
     -- the judgement of the walk
     abbrev pub its_judgement : Option Refused
     its_judgement = judged new p add (order_of new o)
@@ -229,7 +266,8 @@ module _ {C : Type 0} (t : TopoView C) (sound : IsSoundGraph t.topology) (cons :
 
       -- is what was tried, not stopped
       pub add_whole : add ≡ cap whole
-      add_whole = is ∙ ap (λ c. cap (want (granted_by t) t.topology c)) (sym one) ∙ ap cap (sym (joined_want_is (granted_by t) t.topology cons p j))
+      add_whole = is ∙ ap (λ c. cap (want (granted_by t) t.topology c)) (sym one)
+          ∙ ap cap (sym (joined_want_is (granted_by t) t.topology cons p j))
 
       -- so that was tried
       pub whole_tried : IsTried t p whole Rises new o
@@ -243,49 +281,70 @@ module _ {C : Type 0} (t : TopoView C) (sound : IsSoundGraph t.topology) (cons :
           (join_gains (granted_by t) t.topology cons p j) (join_mores (granted_by t) t.topology cons p j)
       its_after = join_after (granted_by t) t.topology cons p j
 
-      pub its_demand : Demands t.topology p whole (have (granted_by t) t.topology) (join_gains (granted_by t) t.topology cons p j) (join_mores (granted_by t) t.topology cons p j) join_order
-      its_demand = join_demands (granted_by t) t.topology cons p j join_order (below_covers t sound counted.clear p whole_tried.offer whole_tried.found)
+      pub its_demand : Demands t.topology p whole (have (granted_by t) t.topology)
+          (join_gains (granted_by t) t.topology cons p j) (join_mores (granted_by t) t.topology cons p j) join_order
+      its_demand =
+          join_demands (granted_by t) t.topology cons p j join_order
+          (below_covers t sound counted.clear p whole_tried.offer whole_tried.found)
 
       -- what the walk comes to
       abbrev pub its_tries : Tries
-      its_tries = (end t sound (but_told t sound cons counted loose) p whole new o whole_tried cons (granted_by t) (attach t.topology cons p)
-          (join_gains (granted_by t) t.topology cons p j) (join_mores (granted_by t) t.topology cons p j) its_after its_demand).tries
+      its_tries = (end t sound (but_told t sound cons counted loose) p whole new o whole_tried cons (granted_by t)
+          (attach t.topology cons p)
+          (join_gains (granted_by t) t.topology cons p j) (join_mores (granted_by t) t.topology cons p j) its_after
+          its_demand).tries
 
-      pub its_verdict : IsVerdict (trying t its_tries) p cons whole (granted_by t) (granted_by t) (attach t.topology cons p)
-          (join_gains (granted_by t) t.topology cons p j) (join_mores (granted_by t) t.topology cons p j) its_after its_judgement
+      pub its_verdict : IsVerdict (trying t its_tries) p cons whole (granted_by t) (granted_by t)
+          (attach t.topology cons p)
+          (join_gains (granted_by t) t.topology cons p j) (join_mores (granted_by t) t.topology cons p j) its_after
+          its_judgement
       its_verdict =
           subst
           (IsVerdict (trying t its_tries) p cons whole (granted_by t) (granted_by t) (attach t.topology cons p)
           (join_gains (granted_by t) t.topology cons p j) (join_mores (granted_by t) t.topology cons p j) its_after)
           (sym (judged_whole new p add whole (order_of new o) add_whole))
-          (decided t sound (but_told t sound cons counted loose) p whole new o whole_tried cons (granted_by t) (attach t.topology cons p)
-          (join_gains (granted_by t) t.topology cons p j) (join_mores (granted_by t) t.topology cons p j) its_after its_demand)
+          (decided t sound (but_told t sound cons counted loose) p whole new o whole_tried cons (granted_by t)
+          (attach t.topology cons p)
+          (join_gains (granted_by t) t.topology cons p j) (join_mores (granted_by t) t.topology cons p j)
+          its_after its_demand)
 
     -- what it is told is right
-    pub told_right : IsRight t.topology cons p (granted_by t) (join_answer its_judgement (attach_refusal t.topology cons p) cons p)
+    pub told_right : IsRight t.topology cons p (granted_by t)
+        (join_answer its_judgement (attach_refusal t.topology cons p) cons p)
     told_right =
-        let errors : SaysError t.topology p its_judgement = open_errors t sound (but_told t sound cons counted loose) p offer offered add new o tried in
+        let errors : SaysError t.topology p its_judgement =
+        open_errors t sound (but_told t sound cons counted loose) p offer offered add new o tried in
         let demand : Result (Unit {0}) JoinRefusal = demand_answer (answer_of its_judgement cons p) in
-        right_error t.topology cons p (granted_by t) its_judgement errors (errored_below its_judgement) refl (attach_answer (attach_refusal t.topology cons p) p demand)
+        right_error t.topology cons p (granted_by t) its_judgement errors (errored_below its_judgement) refl
+        (attach_answer (attach_refusal t.topology cons p) p demand)
         (λ none no_error.
         right_attached t.topology cons p (granted_by t) none (attach_refusal t.topology cons p) refl demand
         (λ passed.
         let j : Joins t.topology cons p = joins_of passed.1 in
-        right_demand t.topology cons p (granted_by t) (trying t (its_tries j refl)) (whole j refl) (join_gains (granted_by t) t.topology cons p j) (join_mores (granted_by t) t.topology cons p j)
+        right_demand t.topology cons p (granted_by t) (trying t (its_tries j refl)) (whole j refl)
+        (join_gains (granted_by t) t.topology cons p j) (join_mores (granted_by t) t.topology cons p j)
         (its_after j refl) passed its_judgement (its_verdict j refl) errors no_error))
 
     -- where nothing refuses the attach, its geom wouldn't reach itself
-    pub around_free : attach_refusal t.topology cons p ≡ None → would_loop t.topology (consumer_at t.topology cons) (provider_at t.topology p) ≡ false
+    pub around_free : attach_refusal t.topology cons p ≡ None
+        → would_loop t.topology (consumer_at t.topology cons) (provider_at t.topology p) ≡ false
     around_free none =
-        (attach_passed (is_errored t.topology p) (would_loop t.topology (consumer_at t.topology cons) (provider_at t.topology p)) (is_too_deep (attach t.topology cons p)) none).0
+        (attach_passed (is_errored t.topology p)
+        (would_loop t.topology (consumer_at t.topology cons) (provider_at t.topology p))
+        (is_too_deep (attach t.topology cons p)) none).0
 
     -- and where nothing refuses the demand, none stands in another's way and no count is too great
     pub join_fits : (j : Joins t.topology cons p) → (one : j.consumer ≡ loose.one) → its_judgement ≡ None
-        → (is_exclusive (granted_by t) (attach t.topology cons p) ≡ true) × (fits_limit (granted_by t) (attach t.topology cons p) ≡ true)
+        → (is_exclusive (granted_by t) (attach t.topology cons p) ≡ true)
+        × (fits_limit (granted_by t) (attach t.topology cons p) ≡ true)
     join_fits j one none =
-        let says : IsVerdict (trying t (its_tries j one)) p cons (whole j one) (granted_by t) (granted_by t) (attach t.topology cons p)
-        (join_gains (granted_by t) t.topology cons p j) (join_mores (granted_by t) t.topology cons p j) (its_after j one) None =
+        let says : IsVerdict (trying t (its_tries j one)) p cons (whole j one) (granted_by t) (granted_by t)
+        (attach t.topology cons p)
+        (join_gains (granted_by t) t.topology cons p j) (join_mores (granted_by t) t.topology cons p j)
+        (its_after j one) None =
         subst
-        (IsVerdict (trying t (its_tries j one)) p cons (whole j one) (granted_by t) (granted_by t) (attach t.topology cons p)
-        (join_gains (granted_by t) t.topology cons p j) (join_mores (granted_by t) t.topology cons p j) (its_after j one)) none (its_verdict j one) in
+        (IsVerdict (trying t (its_tries j one)) p cons (whole j one) (granted_by t) (granted_by t)
+        (attach t.topology cons p)
+        (join_gains (granted_by t) t.topology cons p j) (join_mores (granted_by t) t.topology cons p j)
+        (its_after j one)) none (its_verdict j one) in
         (says.1, says.2)

@@ -28,19 +28,29 @@ IsLeastOf t S (Some b) = S b × (errored_at t b ≡ true) × ((z : ℕ) → S z 
 
 module _ {C : Type 0} (v : TopoView C) where
   -- with one number more
-  least_one : (S : ℕ → Type 0) (q : ℕ) (best : Option ℕ) → IsLeastOf v.topology S best → (e : Bool) → errored_at v.topology q ≡ e
+  least_one : (S : ℕ → Type 0) (q : ℕ) (best : Option ℕ) → IsLeastOf v.topology S best → (e : Bool)
+      → errored_at v.topology q ≡ e
       → IsLeastOf v.topology (λ z. S z ⊎ (z ≡ q)) (if e then Some (smaller best q) else best)
   least_one S q None least false is = λ z among.
       elim among [ inl old ↦ least z old | inr same ↦ ap (errored_at v.topology) same ∙ is ]
   least_one S q (Some b) least false is = (
     inl least.0,
     least.1,
-    (λ z among err. elim among [ inl old ↦ least.2 z old err | inr same ↦ let no : true ≡ false = sym err ∙ ap (errored_at v.topology) same ∙ is in absurd (cc) ]),
+    (λ z among err. elim among [
+      | inl old ↦
+          least.2 z old err
+      | inr same ↦
+          let no : true ≡ false = sym err ∙ ap (errored_at v.topology) same ∙ is in absurd (cc)
+    ]),
   )
   least_one S q None least true is = (
     inr refl,
     is,
-    (λ z among err. elim among [ inl old ↦ let no : true ≡ false = sym err ∙ least z old in absurd (cc) | inr same ↦ omega arith ]),
+    (λ z among err. elim among [
+      | inl old ↦
+          let no : true ≡ false = sym err ∙ least z old in absurd (cc)
+      | inr same ↦ omega arith
+    ]),
   )
   least_one S q (Some b) least true is =
       elim (cases_lt b q) [
@@ -48,13 +58,21 @@ module _ {C : Type 0} (v : TopoView C) where
             let lower : min b q ≡ b = omega arith in (
               subst (λ n. S n ⊎ (n ≡ q)) (sym lower) (inl least.0),
               ap (errored_at v.topology) lower ∙ least.1,
-              (λ z among err. elim among [ inl old ↦ let less : b ≤ z = least.2 z old err in omega arith | inr same ↦ omega arith ]),
+              (λ z among err. elim among [
+                | inl old ↦
+                    let less : b ≤ z = least.2 z old err in omega arith
+                | inr same ↦ omega arith
+              ]),
             )
         | inr high ↦
             let lower : min b q ≡ q = omega arith in (
               subst (λ n. S n ⊎ (n ≡ q)) (sym lower) (inr refl),
               ap (errored_at v.topology) lower ∙ is,
-              (λ z among err. elim among [ inl old ↦ let less : b ≤ z = least.2 z old err in omega arith | inr same ↦ omega arith ]),
+              (λ z among err. elim among [
+                | inl old ↦
+                    let less : b ≤ z = least.2 z old err in omega arith
+                | inr same ↦ omega arith
+              ]),
             )
       ]
 
@@ -65,7 +83,15 @@ module _ {C : Type 0} (v : TopoView C) where
     where
       widen : (o : Option ℕ) → IsLeastOf v.topology S o → IsLeastOf v.topology (λ z. S z ⊎ Contains [] z) o
       widen None all = λ z among. elim among [ inl old ↦ all z old | inr none ↦ absurd (in_nothing z none) ]
-      widen (Some b) all = (inl all.0, all.1, (λ z among err. elim among [ inl old ↦ all.2 z old err | inr none ↦ absurd (in_nothing z none) ]))
+      widen (Some b) all = (
+        inl all.0,
+        all.1,
+        (λ z among err. elim among [
+          | inl old ↦
+              all.2 z old err
+          | inr none ↦ absurd (in_nothing z none)
+        ]),
+      )
   least_all (q ∷ qs) S best least =
       widen (fold (lesser v) (lesser v best q) qs)
       (least_all qs (λ z. S z ⊎ (z ≡ q)) (lesser v best q) (least_one S q best least (errored_at v.topology q) refl))
@@ -73,7 +99,8 @@ module _ {C : Type 0} (v : TopoView C) where
       into : (z : ℕ) → (S z ⊎ (z ≡ q)) ⊎ Contains qs z → S z ⊎ Contains (q ∷ qs) z
       into z among =
           elim among [
-            | inl first ↦ elim first [ inl old ↦ inl old | inr same ↦ inr (subst (Contains (q ∷ qs)) (sym same) (in_head q qs)) ]
+            | inl first ↦
+                elim first [ inl old ↦ inl old | inr same ↦ inr (subst (Contains (q ∷ qs)) (sym same) (in_head q qs)) ]
             | inr rest ↦ inr (in_tail q qs z rest)
           ]
 
@@ -84,55 +111,77 @@ module _ {C : Type 0} (v : TopoView C) where
             | inr there ↦ elim (in_cases q qs z there) [ inl same ↦ inl (inr (sym same)) | inr rest ↦ inr rest ]
           ]
 
-      widen : (o : Option ℕ) → IsLeastOf v.topology (λ z. (S z ⊎ (z ≡ q)) ⊎ Contains qs z) o → IsLeastOf v.topology (λ z. S z ⊎ Contains (q ∷ qs) z) o
+      widen : (o : Option ℕ) → IsLeastOf v.topology (λ z. (S z ⊎ (z ≡ q)) ⊎ Contains qs z) o
+          → IsLeastOf v.topology (λ z. S z ⊎ Contains (q ∷ qs) z) o
       widen None all = λ z among. all z (back z among)
       widen (Some b) all = (into b all.0, all.1, (λ z among err. all.2 z (back z among) err))
 
   -- a fold over the lists of some items is one over their lists in a row
-  fold_flat : (f : Option ℕ → ℕ → Option ℕ) (g : ℕ → List ℕ) (xs : List ℕ) (best : Option ℕ) → fold (λ b x. fold f b (g x)) best xs ≡ fold f best (flat_map g xs)
+  fold_flat : (f : Option ℕ → ℕ → Option ℕ) (g : ℕ → List ℕ) (xs : List ℕ) (best : Option ℕ)
+      → fold (λ b x. fold f b (g x)) best xs ≡ fold f best (flat_map g xs)
   fold_flat f g [] best = refl
   fold_flat f g (x ∷ xs) best = fold_flat f g xs (fold f best (g x)) ∙ sym (fold-append f best (g x) (flat_map g xs))
 
   -- the smallest with an error among the provider and what is under the geoms
-  pub errored_is : (p : ℕ) (xs : List ℕ) → IsLeastOf v.topology (λ z. Contains (p ∷ flat_map (providers_under v.topology) xs) z) (first_errored v p xs)
+  pub errored_is : (p : ℕ) (xs : List ℕ)
+      → IsLeastOf v.topology (λ z. Contains (p ∷ flat_map (providers_under v.topology) xs) z) (first_errored v p xs)
   errored_is p xs =
       widen (first_errored v p xs)
       (subst (IsLeastOf v.topology (λ z. ⊥ ⊎ Contains (p ∷ flat_map (providers_under v.topology) xs) z))
       (sym (fold_flat (lesser v) (providers_under v.topology) xs (lesser v None p)))
       (least_all (p ∷ flat_map (providers_under v.topology) xs) (λ z. ⊥) None (λ z none. absurd none)))
     where
-      widen : (o : Option ℕ) → IsLeastOf v.topology (λ z. ⊥ ⊎ Contains (p ∷ flat_map (providers_under v.topology) xs) z) o
+      widen : (o : Option ℕ)
+          → IsLeastOf v.topology (λ z. ⊥ ⊎ Contains (p ∷ flat_map (providers_under v.topology) xs) z) o
           → IsLeastOf v.topology (λ z. Contains (p ∷ flat_map (providers_under v.topology) xs) z) o
       widen None all = λ z there. all z (inr there)
-      widen (Some b) all = (elim all.0 [ inl none ↦ absurd none | inr there ↦ there ], all.1, (λ z there err. all.2 z (inr there) err))
+      widen (Some b) all = (
+        elim all.0 [
+          | inl none ↦
+              absurd none
+          | inr there ↦ there
+        ],
+        all.1,
+        (λ z there err. all.2 z (inr there) err),
+      )
 
 -- Look-ups
 
 -- an item that is found is there and passes
-find_some : {X : Type 0} (test : X → Bool) (xs : List X) (x : X) → find test xs ≡ Some x → Contains xs x × (test x ≡ true)
+find_some : {X : Type 0} (test : X → Bool) (xs : List X) (x : X) → find test xs ≡ Some x
+    → Contains xs x × (test x ≡ true)
 find_some test [] x never = absurd (cc)
 find_some test (y ∷ ys) x found = step (test y) refl found (find_some test ys x)
   where
-    step : (b : Bool) → test y ≡ b → cond b (Some y) (find test ys) ≡ Some x → (find test ys ≡ Some x → Contains ys x × (test x ≡ true))
+    step : (b : Bool) → test y ≡ b → cond b (Some y) (find test ys) ≡ Some x
+        → (find test ys ≡ Some x → Contains ys x × (test x ≡ true))
         → Contains (y ∷ ys) x × (test x ≡ true)
-    step true e h so = let same : y ≡ x = cc in (subst (Contains (y ∷ ys)) same (in_head y ys), subst (λ z. test z ≡ true) same e)
+    step true e h so = let same : y ≡ x = cc in
+        (subst (Contains (y ∷ ys)) same (in_head y ys), subst (λ z. test z ≡ true) same e)
     step false e h so = let rest = so h in (in_tail y ys x rest.0, rest.1)
 
 -- where none is found none passes
-find_none : {X : Type 0} (test : X → Bool) (xs : List X) → find test xs ≡ None → (x : X) → Contains xs x → test x ≡ false
+find_none : {X : Type 0} (test : X → Bool) (xs : List X) → find test xs ≡ None → (x : X) → Contains xs x
+    → test x ≡ false
 find_none test [] none x there = absurd (in_nothing x there)
 find_none test (y ∷ ys) none x there = step (test y) refl none (λ h rest. find_none test ys h x rest)
   where
-    step : (b : Bool) → test y ≡ b → cond b (Some y) (find test ys) ≡ None → (find test ys ≡ None → Contains ys x → test x ≡ false) → test x ≡ false
+    step : (b : Bool) → test y ≡ b → cond b (Some y) (find test ys) ≡ None
+        → (find test ys ≡ None → Contains ys x → test x ≡ false) → test x ≡ false
     step true e h so = absurd (cc)
-    step false e h so = elim (in_cases y ys x there) [ inl same ↦ subst (λ z. test z ≡ false) same e | inr rest ↦ so h rest ]
+    step false e h so = elim (in_cases y ys x there) [
+      | inl same ↦
+          subst (λ z. test z ≡ false) same e
+      | inr rest ↦ so h rest
+    ]
 
 -- a mapped option is there where the option is
 mapped_none : {X : Type 0} (f : X → ℕ) (o : Option X) → option_map f o ≡ None → o ≡ None
 mapped_none f None e = refl
 mapped_none f (Some x) e = absurd (cc)
 
-mapped_some : {X : Type 0} (f : X → ℕ) (o : Option X) (n : ℕ) → option_map f o ≡ Some n → (x : X) × (o ≡ Some x) × (f x ≡ n)
+mapped_some : {X : Type 0} (f : X → ℕ) (o : Option X) (n : ℕ) → option_map f o ≡ Some n
+    → (x : X) × (o ≡ Some x) × (f x ≡ n)
 mapped_some f None n e = absurd (cc)
 mapped_some f (Some x) n e = (x, refl, (cc))
 
@@ -182,7 +231,8 @@ module _ {C : Type 0} (v : TopoView C) (u : Consumer → Counts)
     pub has : has_side side (u one) ≡ true
 
   -- what a consumer at a provider has once it is raised
-  side_at : (q : ℕ) (side : Side) (c : Consumer) → Contains (attached_to v.topology q) c → has_side side (raised v c) ≡ has_side side (u c)
+  side_at : (q : ℕ) (side : Side) (c : Consumer) → Contains (attached_to v.topology q) c
+      → has_side side (raised v c) ≡ has_side side (u c)
   side_at q side c at = ap (has_side side) (raises q c at) ∙ side-cap side (u c)
 
   -- where one is found
@@ -201,13 +251,15 @@ module _ {C : Type 0} (v : TopoView C) (u : Consumer → Counts)
       }
 
   -- where none is found
-  pub other_none : (q but : ℕ) (side : Side) → other v q but side ≡ None → (c : Consumer) → Contains (attached_to v.topology q) c → c.number ≢ but
+  pub other_none : (q but : ℕ) (side : Side) → other v q but side ≡ None → (c : Consumer)
+      → Contains (attached_to v.topology q) c → c.number ≢ but
       → has_side side (u c) ≡ false
   other_none q but side none c at apart =
       let test : Consumer → Bool = λ d. not (d.number == but) && has_side side (raised v d) in
       sym (side_at q side c at)
       ∙ second_false (not (c.number == but)) (has_side side (raised v c))
-      (find_none test (attached_to v.topology q) (mapped_none (λ (d : Consumer). d.number) (find test (attached_to v.topology q)) none) c at)
+      (find_none test (attached_to v.topology q)
+      (mapped_none (λ (d : Consumer). d.number) (find test (attached_to v.topology q)) none) c at)
       (ap not (ne_eqb c.number but apart))
 
   -- two different consumers at a provider stand in each other's way
@@ -238,7 +290,8 @@ module _ {C : Type 0} (v : TopoView C) (u : Consumer → Counts)
 
   -- no two do
   abbrev pub NoClash : ℕ → Type 0
-  NoClash q = (a b : Consumer) → Contains (attached_to v.topology q) a → Contains (attached_to v.topology q) b → a.number ≢ b.number
+  NoClash q = (a b : Consumer) → Contains (attached_to v.topology q) a → Contains (attached_to v.topology q) b
+      → a.number ≢ b.number
       → (has_side Writes (u a) ≡ false) ⊎ (has_side Excludes (u b) ≡ false)
 
   -- what the look for a second pair says
@@ -247,7 +300,8 @@ module _ {C : Type 0} (v : TopoView C) (u : Consumer → Counts)
   Says q (Some ab) = Clash q ab.0 ab.1
 
   -- the last look
-  third_says : (positive : (c : Consumer) → Contains v.topology.consumers c → c.number ≢ 0) (q n m : ℕ) → Has q 0 Writes n → other v q n Excludes ≡ None → Has q n Writes m
+  third_says : (positive : (c : Consumer) → Contains v.topology.consumers c → c.number ≢ 0) (q n m : ℕ)
+      → Has q 0 Writes n → other v q n Excludes ≡ None → Has q n Writes m
       → (o : Option ℕ) → other v q m Excludes ≡ o → Says q (option_map (λ b. (m, b)) o)
   third_says positive q n m first none second None e = λ a b at bt apart.
       elim (cases_eq b.number n) [
@@ -257,14 +311,17 @@ module _ {C : Type 0} (v : TopoView C) (u : Consumer → Counts)
   third_says positive q n m first none second (Some b) e = clash_of q m b n second (other_some q m Excludes b e)
 
   -- where the first writer isn't of the pair
-  second_says : (positive : (c : Consumer) → Contains v.topology.consumers c → c.number ≢ 0) (q n : ℕ) → Has q 0 Writes n → other v q n Excludes ≡ None
-      → (o : Option ℕ) → other v q n Writes ≡ o → Says q (option_and_then (λ a. option_map (λ b. (a, b)) (other v q a Excludes)) o)
+  second_says : (positive : (c : Consumer) → Contains v.topology.consumers c → c.number ≢ 0) (q n : ℕ)
+      → Has q 0 Writes n → other v q n Excludes ≡ None
+      → (o : Option ℕ) → other v q n Writes ≡ o
+      → Says q (option_and_then (λ a. option_map (λ b. (a, b)) (other v q a Excludes)) o)
   second_says positive q n first none None e = λ a b at bt apart.
       elim (cases_eq b.number n) [
         | inl same ↦ inl (other_none q n Writes e a at (λ is. apart (is ∙ sym same)))
         | inr other ↦ inr (other_none q n Excludes none b bt other)
       ]
-  second_says positive q n first none (Some m) e = third_says positive q n m first none (other_some q n Writes m e) (other v q m Excludes) refl
+  second_says positive q n first none (Some m) e =
+      third_says positive q n m first none (other_some q n Writes m e) (other v q m Excludes) refl
 
   -- where a first writer is found
   first_says : (positive : (c : Consumer) → Contains v.topology.consumers c → c.number ≢ 0) (q n : ℕ) → Has q 0 Writes n
@@ -273,32 +330,39 @@ module _ {C : Type 0} (v : TopoView C) (u : Consumer → Counts)
   first_says positive q n first (Some b) e = clash_of q n b 0 first (other_some q n Excludes b e)
 
   -- what the look for a pair says
-  pair_step : (positive : (c : Consumer) → Contains v.topology.consumers c → c.number ≢ 0) (q : ℕ) → (o : Option ℕ) → other v q 0 Writes ≡ o
+  pair_step : (positive : (c : Consumer) → Contains v.topology.consumers c → c.number ≢ 0) (q : ℕ) → (o : Option ℕ)
+      → other v q 0 Writes ≡ o
       → Says q (option_and_then (λ a. pair_with v q a (other v q a Excludes)) o)
   pair_step positive q None e = λ a b at bt apart.
-      inl (other_none q 0 Writes e a at (positive a (of_filter (λ (d : Consumer). names_number d.provider q) v.topology.consumers a at).0))
+      inl (other_none q 0 Writes e a at
+      (positive a (of_filter (λ (d : Consumer). names_number d.provider q) v.topology.consumers a at).0))
   pair_step positive q (Some n) e = first_says positive q n (other_some q 0 Writes n e) (other v q n Excludes) refl
 
-  pub pair_says : (positive : (c : Consumer) → Contains v.topology.consumers c → c.number ≢ 0) (q : ℕ) → Says q (pair_at v q)
+  pub pair_says : (positive : (c : Consumer) → Contains v.topology.consumers c → c.number ≢ 0) (q : ℕ)
+      → Says q (pair_at v q)
   pair_says positive q = pair_step positive q (other v q 0 Writes) refl
 
 -- The first of some that says something
 
 -- where nothing is said of any
-pub first_none : {X Y : Type 0} (f : X → Option Y) (xs : List X) → first_some f xs ≡ None → (x : X) → Contains xs x → f x ≡ None
+pub first_none : {X Y : Type 0} (f : X → Option Y) (xs : List X) → first_some f xs ≡ None → (x : X) → Contains xs x
+    → f x ≡ None
 first_none {X} {Y} f [] none x there = absurd (in_nothing x there)
 first_none {X} {Y} f (y ∷ ys) none x there = step (f y) refl none (λ h rest. first_none f ys h x rest)
   where
-    step : (o : Option Y) → f y ≡ o → option_or o (first_some f ys) ≡ None → (first_some f ys ≡ None → Contains ys x → f x ≡ None) → f x ≡ None
+    step : (o : Option Y) → f y ≡ o → option_or o (first_some f ys) ≡ None
+        → (first_some f ys ≡ None → Contains ys x → f x ≡ None) → f x ≡ None
     step None e h so = elim (in_cases y ys x there) [ inl same ↦ subst (λ z. f z ≡ None) same e | inr rest ↦ so h rest ]
     step (Some z) e h so = absurd (cc)
 
 -- where something is, it is said of one of them
-pub first_of : {X Y : Type 0} (f : X → Option Y) (xs : List X) (r : Y) → first_some f xs ≡ Some r → (x : X) × Contains xs x × (f x ≡ Some r)
+pub first_of : {X Y : Type 0} (f : X → Option Y) (xs : List X) (r : Y) → first_some f xs ≡ Some r
+    → (x : X) × Contains xs x × (f x ≡ Some r)
 first_of f [] r never = absurd (cc)
 first_of {X} {Y} f (y ∷ ys) r found = step (f y) refl found (first_of f ys r)
   where
-    step : (o : Option Y) → f y ≡ o → option_or o (first_some f ys) ≡ Some r → (first_some f ys ≡ Some r → (x : X) × Contains ys x × (f x ≡ Some r))
+    step : (o : Option Y) → f y ≡ o → option_or o (first_some f ys) ≡ Some r
+        → (first_some f ys ≡ Some r → (x : X) × Contains ys x × (f x ≡ Some r))
         → (x : X) × Contains (y ∷ ys) x × (f x ≡ Some r)
     step None e h so = let rest = so h in (rest.0, in_tail y ys rest.0 rest.1, rest.2)
     step (Some z) e h so = (y, in_head y ys, e ∙ h)

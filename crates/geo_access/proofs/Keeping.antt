@@ -63,7 +63,8 @@ module _ {C : Type 0} (t : TopoView C) where
     wants = rows_of (λ (c : Consumer). c.number) f.wants t.topology.consumers;
     scratches = record t.scratches {
       geoms = rows_of (λ (x : Geom C). x.number) (λ n. record { mark = f.marks n; trial = f.made n }) t.topology.geoms;
-      providers = rows_of (λ (y : Provider). y.number) (λ n. record { mark = 0; trial = (f.cells n).gain }) t.topology.providers;
+      providers = rows_of (λ (y : Provider). y.number) (λ n. record { mark = 0; trial = (f.cells n).gain })
+          t.topology.providers;
     };
   }
 
@@ -73,7 +74,8 @@ module _ {C : Type 0} (t : TopoView C) where
       ≡ rows_of (λ (y : Provider). y.number) (λ m. see (set_at cells n c m)) t.topology.providers
   cell_row see cells n c =
       rows-set (λ (y : Provider). y.number) (λ m. see (cells m)) n (see c) t.topology.providers
-      ∙ rows-same (λ (y : Provider). y.number) (set_at (λ m. see (cells m)) n (see c)) (λ m. see (set_at cells n c m)) t.topology.providers (λ m. set_through see cells n c m)
+      ∙ rows-same (λ (y : Provider). y.number) (set_at (λ m. see (cells m)) n (see c))
+      (λ m. see (set_at cells n c m)) t.topology.providers (λ m. set_through see cells n c m)
 
   -- with other rows for the providers
   abbrev rows_put : Parts → List (ℕ × Counts) → List (ℕ × Bool) → List (ℕ × Bool) → List (ℕ × Scratch) → TopoView C
@@ -86,37 +88,51 @@ module _ {C : Type 0} (t : TopoView C) where
 
   -- the rows of one cell that is set
   cell_put : (f : Parts) (n : ℕ) (c : Cell) → c.gain ≡ no_counts
-      → rows_put f (with_value (with_parts f).haves n c.have) (with_value (with_parts f).risen n c.risen) (with_value (with_parts f).fallen n c.fallen)
+      → rows_put f (with_value (with_parts f).haves n c.have) (with_value (with_parts f).risen n c.risen)
+      (with_value (with_parts f).fallen n c.fallen)
       (with_value (with_parts f).scratches.providers n no_scratch)
       ≡ with_parts (record f { cells = set_at f.cells n c })
   cell_put f n c none =
       let last : Scratch = no_scratch in
-      ap (λ rows. rows_put f rows (with_value (with_parts f).risen n c.risen) (with_value (with_parts f).fallen n c.fallen) (with_value (with_parts f).scratches.providers n no_scratch))
+      ap (λ rows. rows_put f rows (with_value (with_parts f).risen n c.risen)
+      (with_value (with_parts f).fallen n c.fallen) (with_value (with_parts f).scratches.providers n no_scratch))
       (cell_row (λ (x : Cell). x.have) f.cells n c)
-      ∙ ap (λ rows. rows_put f (with_parts (record f { cells = set_at f.cells n c })).haves rows (with_value (with_parts f).fallen n c.fallen) (with_value (with_parts f).scratches.providers n no_scratch))
+      ∙ ap (λ rows. rows_put f (with_parts (record f { cells = set_at f.cells n c })).haves rows
+      (with_value (with_parts f).fallen n c.fallen) (with_value (with_parts f).scratches.providers n no_scratch))
       (cell_row (λ (x : Cell). x.risen) f.cells n c)
-      ∙ ap (λ rows. rows_put f (with_parts (record f { cells = set_at f.cells n c })).haves (with_parts (record f { cells = set_at f.cells n c })).risen rows (with_value (with_parts f).scratches.providers n no_scratch))
+      ∙ ap (λ rows. rows_put f (with_parts (record f { cells = set_at f.cells n c })).haves
+      (with_parts (record f { cells = set_at f.cells n c })).risen rows
+      (with_value (with_parts f).scratches.providers n no_scratch))
       (cell_row (λ (x : Cell). x.fallen) f.cells n c)
-      ∙ ap (λ rows. rows_put f (with_parts (record f { cells = set_at f.cells n c })).haves (with_parts (record f { cells = set_at f.cells n c })).risen (with_parts (record f { cells = set_at f.cells n c })).fallen rows)
+      ∙ ap (λ rows. rows_put f (with_parts (record f { cells = set_at f.cells n c })).haves
+      (with_parts (record f { cells = set_at f.cells n c })).risen
+      (with_parts (record f { cells = set_at f.cells n c })).fallen rows)
       (ap (λ a. with_value (with_parts f).scratches.providers n (record { mark = 0; trial = a })) (sym none)
       ∙ cell_row (λ (x : Cell). record { mark = 0; trial = x.gain }) f.cells n c)
 
   -- the look-ups of a provider's counts
-  have_is : (f : Parts) (y : Provider) → provider_at t.topology y.number ≡ Some y → have_at (with_parts f) y.number ≡ (f.cells y.number).have
-  have_is f y found = ap (λ o. unwrap_or o no_counts) (rows-at (λ (z : Provider). z.number) (λ n. (f.cells n).have) y.number t.topology.providers y found)
+  have_is : (f : Parts) (y : Provider) → provider_at t.topology y.number ≡ Some y
+      → have_at (with_parts f) y.number ≡ (f.cells y.number).have
+  have_is f y found =
+      ap (λ o. unwrap_or o no_counts)
+      (rows-at (λ (z : Provider). z.number) (λ n. (f.cells n).have) y.number t.topology.providers y found)
 
-  gain_is : (f : Parts) (y : Provider) → provider_at t.topology y.number ≡ Some y → gain_at (with_parts f) y.number ≡ (f.cells y.number).gain
+  gain_is : (f : Parts) (y : Provider) → provider_at t.topology y.number ≡ Some y
+      → gain_at (with_parts f) y.number ≡ (f.cells y.number).gain
   gain_is f y found =
       ap (λ o. option_map_or (λ (z : Scratch). z.trial) o no_counts)
-      (rows-at (λ (z : Provider). z.number) (λ n. record { mark = 0; trial = (f.cells n).gain }) y.number t.topology.providers y found)
+      (rows-at (λ (z : Provider). z.number) (λ n. record { mark = 0; trial = (f.cells n).gain }) y.number
+      t.topology.providers y found)
 
   -- what is gained at a provider is kept
   keep_provider : (way : Way) (f : Parts) (y : Provider) → provider_at t.topology y.number ≡ Some y
-      → finish_provider (Some way) (with_parts f) y ≡ with_parts (record f { cells = set_at f.cells y.number (kept_cell way (f.cells y.number)) })
+      → finish_provider (Some way) (with_parts f) y
+      ≡ with_parts (record f { cells = set_at f.cells y.number (kept_cell way (f.cells y.number)) })
   keep_provider Rises f y found =
       let n : ℕ = y.number in
       let put : Counts → Counts → TopoView C = λ h a.
-      rows_put f (with_value (with_parts f).haves n (shifted Rises h a)) (with_value (with_parts f).risen n ((h.w == 0) && not ((shifted Rises h a).w == 0)))
+      rows_put f (with_value (with_parts f).haves n (shifted Rises h a))
+      (with_value (with_parts f).risen n ((h.w == 0) && not ((shifted Rises h a).w == 0)))
       (with_value (with_parts f).fallen n false) (with_value (with_parts f).scratches.providers n no_scratch) in
       ap (λ h. put h (gain_at (with_parts f) n)) (have_is f y found) ∙ ap (put (f.cells n).have) (gain_is f y found)
       ∙ cell_put f n (kept_cell Rises (f.cells n)) refl
@@ -124,41 +140,56 @@ module _ {C : Type 0} (t : TopoView C) where
       let n : ℕ = y.number in
       let put : Counts → Counts → TopoView C = λ h a.
       rows_put f (with_value (with_parts f).haves n (shifted Falls h a)) (with_value (with_parts f).risen n false)
-      (with_value (with_parts f).fallen n (not (h.w == 0) && ((shifted Falls h a).w == 0))) (with_value (with_parts f).scratches.providers n no_scratch) in
+      (with_value (with_parts f).fallen n (not (h.w == 0) && ((shifted Falls h a).w == 0)))
+      (with_value (with_parts f).scratches.providers n no_scratch) in
       ap (λ h. put h (gain_at (with_parts f) n)) (have_is f y found) ∙ ap (put (f.cells n).have) (gain_is f y found)
       ∙ cell_put f n (kept_cell Falls (f.cells n)) refl
 
   -- at some providers
-  keep_providers : (way : Way) (ys : List Provider) (f : Parts) → ((y : Provider) → Contains ys y → provider_at t.topology y.number ≡ Some y)
-      → fold (finish_provider (Some way)) (with_parts f) ys ≡ with_parts (record f { cells = sets (λ (y : Provider). y.number) (kept_cell way) f.cells ys })
+  keep_providers : (way : Way) (ys : List Provider) (f : Parts)
+      → ((y : Provider) → Contains ys y → provider_at t.topology y.number ≡ Some y)
+      → fold (finish_provider (Some way)) (with_parts f) ys
+      ≡ with_parts (record f { cells = sets (λ (y : Provider). y.number) (kept_cell way) f.cells ys })
   keep_providers way [] f found = refl
   keep_providers way (y ∷ ys) f found =
       ap (λ v. fold (finish_provider (Some way)) v ys) (keep_provider way f y (found y (in_head y ys)))
-      ∙ keep_providers way ys (record f { cells = set_at f.cells y.number (kept_cell way (f.cells y.number)) }) (λ z there. found z (in_tail y ys z there))
+      ∙ keep_providers way ys (record f { cells = set_at f.cells y.number (kept_cell way (f.cells y.number)) })
+      (λ z there. found z (in_tail y ys z there))
 
   -- what a consumer gains is kept
   keep_want : (way : Way) (m : Counts) (f : Parts) (c : Consumer) → consumer_at t.topology c.number ≡ Some c
-      → raise_want way m (with_parts f) c ≡ with_parts (record f { wants = set_at f.wants c.number (shifted way (f.wants c.number) m) })
+      → raise_want way m (with_parts f) c
+      ≡ with_parts (record f { wants = set_at f.wants c.number (shifted way (f.wants c.number) m) })
   keep_want way m f c found =
       ap (λ w. with_want (with_parts f) c.number (shifted way w m))
-      (ap (λ o. unwrap_or o no_counts) (rows-at (λ (d : Consumer). d.number) f.wants c.number t.topology.consumers c found))
-      ∙ ap (λ rows. record (with_parts f) { wants = rows }) (rows-set (λ (d : Consumer). d.number) f.wants c.number (shifted way (f.wants c.number) m) t.topology.consumers)
+      (ap (λ o. unwrap_or o no_counts)
+      (rows-at (λ (d : Consumer). d.number) f.wants c.number t.topology.consumers c found))
+      ∙ ap (λ rows. record (with_parts f) { wants = rows })
+      (rows-set (λ (d : Consumer). d.number) f.wants c.number (shifted way (f.wants c.number) m)
+      t.topology.consumers)
 
   -- by some consumers
-  keep_wants : (way : Way) (m : Counts) (cs : List Consumer) (f : Parts) → ((c : Consumer) → Contains cs c → consumer_at t.topology c.number ≡ Some c)
-      → fold (raise_want way m) (with_parts f) cs ≡ with_parts (record f { wants = sets (λ (c : Consumer). c.number) (λ w. shifted way w m) f.wants cs })
+  keep_wants : (way : Way) (m : Counts) (cs : List Consumer) (f : Parts)
+      → ((c : Consumer) → Contains cs c → consumer_at t.topology c.number ≡ Some c)
+      → fold (raise_want way m) (with_parts f) cs
+      ≡ with_parts (record f { wants = sets (λ (c : Consumer). c.number) (λ w. shifted way w m) f.wants cs })
   keep_wants way m [] f found = refl
   keep_wants way m (c ∷ cs) f found =
       ap (λ v. fold (raise_want way m) v cs) (keep_want way m f c (found c (in_head c cs)))
-      ∙ keep_wants way m cs (record f { wants = set_at f.wants c.number (shifted way (f.wants c.number) m) }) (λ d there. found d (in_tail c cs d there))
+      ∙ keep_wants way m cs (record f { wants = set_at f.wants c.number (shifted way (f.wants c.number) m) })
+      (λ d there. found d (in_tail c cs d there))
 
   -- nothing is left to try at a geom
-  keep_mark : (f : Parts) (x : ℕ) → with_geom_scratch (with_parts f) x no_scratch ≡ with_parts (record f { marks = set_at f.marks x 0; made = set_at f.made x no_counts })
+  keep_mark : (f : Parts) (x : ℕ)
+      → with_geom_scratch (with_parts f) x no_scratch
+      ≡ with_parts (record f { marks = set_at f.marks x 0; made = set_at f.made x no_counts })
   keep_mark f x =
       ap (λ rows. record (with_parts f) { scratches = record (with_parts f).scratches { geoms = rows } })
-      (rows-set (λ (y : Geom C). y.number) (λ n. record { mark = f.marks n; trial = f.made n }) x no_scratch t.topology.geoms
+      (rows-set (λ (y : Geom C). y.number) (λ n. record { mark = f.marks n; trial = f.made n }) x no_scratch
+      t.topology.geoms
       ∙ rows-same (λ (y : Geom C). y.number) (set_at (λ n. record { mark = f.marks n; trial = f.made n }) x no_scratch)
-      (λ n. record { mark = set_at f.marks x 0 n; trial = set_at f.made x no_counts n }) t.topology.geoms (λ n. both (n == x) n))
+      (λ n. record { mark = set_at f.marks x 0 n; trial = set_at f.made x no_counts n }) t.topology.geoms
+      (λ n. both (n == x) n))
     where
       both : (b : Bool) (n : ℕ)
           → ◌≡◌ {A = Scratch} (if b then no_scratch else record { mark = f.marks n; trial = f.made n })
@@ -177,40 +208,67 @@ module _ {C : Type 0} (t : TopoView C) where
 
   module _ (sound : IsSoundGraph t.topology) where
     provider_known : (z : Provider) → Contains t.topology.providers z → provider_at t.topology z.number ≡ Some z
-    provider_known = found_of (λ (z : Provider). z.number) t.topology.providers (AllPairs-from_increasing (map (λ (z : Provider). z.number) t.topology.providers) sound.orderly.order.providers.0)
+    provider_known =
+        found_of (λ (z : Provider). z.number) t.topology.providers
+        (AllPairs-from_increasing (map (λ (z : Provider). z.number) t.topology.providers)
+        sound.orderly.order.providers.0)
 
     consumer_known : (c : Consumer) → Contains t.topology.consumers c → consumer_at t.topology c.number ≡ Some c
-    consumer_known = found_of (λ (c : Consumer). c.number) t.topology.consumers (AllPairs-from_increasing (map (λ (c : Consumer). c.number) t.topology.consumers) sound.orderly.order.consumers.0)
+    consumer_known =
+        found_of (λ (c : Consumer). c.number) t.topology.consumers
+        (AllPairs-from_increasing (map (λ (c : Consumer). c.number) t.topology.consumers)
+        sound.orderly.order.consumers.0)
 
     -- with what its consumers gain
     keep_geom_wants : (way : Way) (f : Parts) (x : ℕ) (m : Counts) → made_at (with_parts f) x ≡ m
         → finish_geom (Some way) (with_parts f) x
-        ≡ with_geom_scratch (fold (finish_provider (Some way)) (fold (raise_want way m) (with_parts f) (consumers_of t.topology x)) (providers_of t.topology x)) x no_scratch
+        ≡ with_geom_scratch
+        (fold (finish_provider (Some way)) (fold (raise_want way m) (with_parts f) (consumers_of t.topology x))
+        (providers_of t.topology x)) x no_scratch
     keep_geom_wants way f x m same =
-        ap (λ a. with_geom_scratch (fold (finish_provider (Some way)) (fold (raise_want way a) (with_parts f) (consumers_of t.topology x)) (providers_of t.topology x)) x no_scratch) same
+        ap (λ a. with_geom_scratch
+        (fold (finish_provider (Some way)) (fold (raise_want way a) (with_parts f) (consumers_of t.topology x))
+        (providers_of t.topology x)) x no_scratch) same
 
     -- what is kept at a geom
-    keep_geom : (way : Way) (f : Parts) (x : ℕ) → IsSome (geom_at t.topology x) → finish_geom (Some way) (with_parts f) x ≡ with_parts (passed way f x)
+    keep_geom : (way : Way) (f : Parts) (x : ℕ) → IsSome (geom_at t.topology x)
+        → finish_geom (Some way) (with_parts f) x ≡ with_parts (passed way f x)
     keep_geom way f x lives =
         let g = some_of (geom_at t.topology x) lives in
-        let wanted : Parts = record f { wants = sets (λ (c : Consumer). c.number) (λ w. shifted way w (f.made x)) f.wants (consumers_of t.topology x) } in
+        let wanted : Parts =
+        record f {
+          wants =
+              sets (λ (c : Consumer). c.number) (λ w. shifted way w (f.made x)) f.wants
+              (consumers_of t.topology x);
+        } in
         let same : made_at (with_parts f) x ≡ f.made x =
-        ap (λ o. option_map_or (λ (z : Scratch). z.trial) o no_counts) (rows-at (λ (y : Geom C). y.number) (λ n. record { mark = f.marks n; trial = f.made n }) x t.topology.geoms g.0 g.1) in
+        ap (λ o. option_map_or (λ (z : Scratch). z.trial) o no_counts)
+        (rows-at (λ (y : Geom C). y.number) (λ n. record { mark = f.marks n; trial = f.made n }) x
+        t.topology.geoms g.0 g.1) in
         let first : finish_geom (Some way) (with_parts f) x
-        ≡ with_geom_scratch (fold (finish_provider (Some way)) (fold (raise_want way (f.made x)) (with_parts f) (consumers_of t.topology x)) (providers_of t.topology x)) x no_scratch =
+        ≡ with_geom_scratch
+        (fold (finish_provider (Some way))
+        (fold (raise_want way (f.made x)) (with_parts f) (consumers_of t.topology x))
+        (providers_of t.topology x)) x no_scratch =
         keep_geom_wants way f x (f.made x) same in
         first
         ∙ ap (λ v. with_geom_scratch (fold (finish_provider (Some way)) v (providers_of t.topology x)) x no_scratch)
-        (keep_wants way (f.made x) (consumers_of t.topology x) f (λ c there. consumer_known c (of_filter (λ (d : Consumer). d.geom == x) t.topology.consumers c there).0))
+        (keep_wants way (f.made x) (consumers_of t.topology x) f
+        (λ c there. consumer_known c (of_filter (λ (d : Consumer). d.geom == x) t.topology.consumers c there).0))
         ∙ ap (λ v. with_geom_scratch v x no_scratch)
-        (keep_providers way (providers_of t.topology x) wanted (λ y there. provider_known y (of_filter (λ (z : Provider). z.geom == x) t.topology.providers y there).0))
-        ∙ keep_mark (record wanted { cells = sets (λ (y : Provider). y.number) (kept_cell way) f.cells (providers_of t.topology x) }) x
+        (keep_providers way (providers_of t.topology x) wanted
+        (λ y there. provider_known y (of_filter (λ (z : Provider). z.geom == x) t.topology.providers y there).0))
+        ∙ keep_mark (record wanted {
+          cells =
+              sets (λ (y : Provider). y.number) (kept_cell way) f.cells (providers_of t.topology x);
+        }) x
 
     -- Over an order
 
     -- over one geom more
     keep_step : {V : Type 0} (x : ℕ) (xs : List ℕ) (n : ℕ) (change : V → V) (old mid new : V)
-        → (n ≡ x → has_number xs n ≡ false) → new ≡ (if has_number xs n then change mid else mid) → (n ≡ x → mid ≡ change old) → (n ≢ x → mid ≡ old)
+        → (n ≡ x → has_number xs n ≡ false) → new ≡ (if has_number xs n then change mid else mid)
+        → (n ≡ x → mid ≡ change old) → (n ≢ x → mid ≡ old)
         → new ≡ (if has_number (x ∷ xs) n then change old else old)
     keep_step x xs n change old mid new apart so here away =
         elim (cases_eq n x) [
@@ -223,34 +281,45 @@ module _ {C : Type 0} (t : TopoView C) where
         ]
 
     -- the parts of a provider once a geom is passed
-    cell_here : (way : Way) (f : Parts) (x : ℕ) (z : Provider) → Contains t.topology.providers z → z.geom ≡ x → (passed way f x).cells z.number ≡ kept_cell way (f.cells z.number)
+    cell_here : (way : Way) (f : Parts) (x : ℕ) (z : Provider) → Contains t.topology.providers z → z.geom ≡ x
+        → (passed way f x).cells z.number ≡ kept_cell way (f.cells z.number)
     cell_here way f x z there same =
         sets-here (λ (y : Provider). y.number) (kept_cell way) (providers_of t.topology x) f.cells
-        (part_apart (λ (y : Provider). y.number) (λ (y : Provider). y.geom == x) t.topology.providers (AllPairs-from_increasing (map (λ (y : Provider). y.number) t.topology.providers) sound.orderly.order.providers.0)) z
+        (part_apart (λ (y : Provider). y.number) (λ (y : Provider). y.geom == x) t.topology.providers
+        (AllPairs-from_increasing (map (λ (y : Provider). y.number) t.topology.providers)
+        sound.orderly.order.providers.0)) z
         (in_filter (λ (y : Provider). y.geom == x) t.topology.providers z there (eq-eqb z.geom x same))
 
-    cell_other : (way : Way) (f : Parts) (x : ℕ) (z : Provider) → Contains t.topology.providers z → z.geom ≢ x → (passed way f x).cells z.number ≡ f.cells z.number
+    cell_other : (way : Way) (f : Parts) (x : ℕ) (z : Provider) → Contains t.topology.providers z → z.geom ≢ x
+        → (passed way f x).cells z.number ≡ f.cells z.number
     cell_other way f x z there other =
         sets-other (λ (y : Provider). y.number) (kept_cell way) (providers_of t.topology x) f.cells z.number
         (λ y inside e.
         let is = of_filter (λ (w : Provider). w.geom == x) t.topology.providers y inside in
-        let same : Some y ≡ Some z = sym (provider_known y is.0) ∙ ap (provider_at t.topology) e ∙ provider_known z there in
+        let same : Some y ≡ Some z = sym (provider_known y is.0) ∙ ap (provider_at t.topology) e
+        ∙ provider_known z there in
         let one : y ≡ z = cc in
         other (ap (λ (w : Provider). w.geom) (sym one) ∙ eqb-true y.geom x is.1))
 
     -- and what a consumer wants
-    want_here : (way : Way) (f : Parts) (x : ℕ) (c : Consumer) → Contains t.topology.consumers c → c.geom ≡ x → (passed way f x).wants c.number ≡ shifted way (f.wants c.number) (f.made x)
+    want_here : (way : Way) (f : Parts) (x : ℕ) (c : Consumer) → Contains t.topology.consumers c → c.geom ≡ x
+        → (passed way f x).wants c.number ≡ shifted way (f.wants c.number) (f.made x)
     want_here way f x c there same =
         sets-here (λ (d : Consumer). d.number) (λ w. shifted way w (f.made x)) (consumers_of t.topology x) f.wants
-        (part_apart (λ (d : Consumer). d.number) (λ (d : Consumer). d.geom == x) t.topology.consumers (AllPairs-from_increasing (map (λ (d : Consumer). d.number) t.topology.consumers) sound.orderly.order.consumers.0)) c
+        (part_apart (λ (d : Consumer). d.number) (λ (d : Consumer). d.geom == x) t.topology.consumers
+        (AllPairs-from_increasing (map (λ (d : Consumer). d.number) t.topology.consumers)
+        sound.orderly.order.consumers.0)) c
         (in_filter (λ (d : Consumer). d.geom == x) t.topology.consumers c there (eq-eqb c.geom x same))
 
-    want_other : (way : Way) (f : Parts) (x : ℕ) (c : Consumer) → Contains t.topology.consumers c → c.geom ≢ x → (passed way f x).wants c.number ≡ f.wants c.number
+    want_other : (way : Way) (f : Parts) (x : ℕ) (c : Consumer) → Contains t.topology.consumers c → c.geom ≢ x
+        → (passed way f x).wants c.number ≡ f.wants c.number
     want_other way f x c there other =
-        sets-other (λ (d : Consumer). d.number) (λ w. shifted way w (f.made x)) (consumers_of t.topology x) f.wants c.number
+        sets-other (λ (d : Consumer). d.number) (λ w. shifted way w (f.made x)) (consumers_of t.topology x)
+        f.wants c.number
         (λ d inside e.
         let is = of_filter (λ (w : Consumer). w.geom == x) t.topology.consumers d inside in
-        let same : Some d ≡ Some c = sym (consumer_known d is.0) ∙ ap (consumer_at t.topology) e ∙ consumer_known c there in
+        let same : Some d ≡ Some c = sym (consumer_known d is.0) ∙ ap (consumer_at t.topology) e
+        ∙ consumer_known c there in
         let one : d ≡ c = cc in
         other (ap (λ (w : Consumer). w.geom) (sym one) ∙ eqb-true d.geom x is.1))
 
@@ -260,16 +329,21 @@ module _ {C : Type 0} (t : TopoView C) where
       pub is : fold (finish_geom (Some way)) (with_parts f) xs ≡ with_parts parts
       pub marks : (n : ℕ) → parts.marks n ≡ (if has_number xs n then 0 else f.marks n)
       pub made : (n : ℕ) → parts.made n ≡ (if has_number xs n then no_counts else f.made n)
-      pub cells : (z : Provider) → Contains t.topology.providers z → parts.cells z.number ≡ (if has_number xs z.geom then kept_cell way (f.cells z.number) else f.cells z.number)
-      pub wants : (c : Consumer) → Contains t.topology.consumers c → parts.wants c.number ≡ (if has_number xs c.geom then shifted way (f.wants c.number) (f.made c.geom) else f.wants c.number)
+      pub cells : (z : Provider) → Contains t.topology.providers z
+          → parts.cells z.number ≡ (if has_number xs z.geom then kept_cell way (f.cells z.number) else f.cells z.number)
+      pub wants : (c : Consumer) → Contains t.topology.consumers c
+          → parts.wants c.number
+          ≡ (if has_number xs c.geom then shifted way (f.wants c.number) (f.made c.geom) else f.wants c.number)
 
     -- what a mark comes to
-    mark_step : {V : Type 0} (x : ℕ) (xs : List ℕ) (n : ℕ) (none old new : V) → new ≡ (if has_number xs n then none else (if n == x then none else old))
+    mark_step : {V : Type 0} (x : ℕ) (xs : List ℕ) (n : ℕ) (none old new : V)
+        → new ≡ (if has_number xs n then none else (if n == x then none else old))
         → new ≡ (if has_number (x ∷ xs) n then none else old)
     mark_step x xs n none old new so =
         elim (cases_eq n x) [
           | inl is ↦
-              so ∙ ap (λ b. if has_number xs n then none else (if b then none else old)) (eq-eqb n x is) ∙ both (has_number xs n)
+              so ∙ ap (λ b. if has_number xs n then none else (if b then none else old)) (eq-eqb n x is)
+              ∙ both (has_number xs n)
               ∙ sym (ap (λ b. if b then none else old) (has_first x xs n is))
           | inr other ↦
               so ∙ ap (λ b. if has_number xs n then none else (if b then none else old)) (ne_eqb n x other)
@@ -281,33 +355,56 @@ module _ {C : Type 0} (t : TopoView C) where
         both false = refl
 
     -- what a want comes to
-    wants_step : (way : Way) (x : ℕ) (xs : List ℕ) (f : Parts) (c : Consumer) → Contains t.topology.consumers c → (c.geom ≡ x → has_number xs c.geom ≡ false) → (new : Counts)
-        → new ≡ (if has_number xs c.geom then shifted way ((passed way f x).wants c.number) (set_at f.made x no_counts c.geom) else (passed way f x).wants c.number)
-        → new ≡ (if has_number (x ∷ xs) c.geom then shifted way (f.wants c.number) (f.made c.geom) else f.wants c.number)
+    wants_step : (way : Way) (x : ℕ) (xs : List ℕ) (f : Parts) (c : Consumer) → Contains t.topology.consumers c
+        → (c.geom ≡ x → has_number xs c.geom ≡ false) → (new : Counts)
+        → new ≡ (if has_number xs c.geom then shifted way ((passed way f x).wants c.number)
+        (set_at f.made x no_counts c.geom) else (passed way f x).wants c.number)
+        → new ≡ (if has_number (x ∷ xs) c.geom then shifted way (f.wants c.number) (f.made c.geom) else
+        f.wants c.number)
     wants_step way x xs f c there apart new so =
         elim (cases_eq c.geom x) [
           | inl is ↦
-              so ∙ ap (λ b. if b then shifted way ((passed way f x).wants c.number) (set_at f.made x no_counts c.geom) else (passed way f x).wants c.number) (apart is)
+              so ∙ ap (λ b.
+              if b then shifted way ((passed way f x).wants c.number) (set_at f.made x no_counts c.geom) else
+              (passed way f x).wants c.number) (apart is)
               ∙ want_here way f x c there is ∙ ap (λ n. shifted way (f.wants c.number) (f.made n)) (sym is)
-              ∙ sym (ap (λ b. if b then shifted way (f.wants c.number) (f.made c.geom) else f.wants c.number) (has_first x xs c.geom is))
+              ∙ sym (ap (λ b. if b then shifted way (f.wants c.number) (f.made c.geom) else f.wants c.number)
+              (has_first x xs c.geom is))
           | inr other ↦
-              so ∙ ap (λ w. if has_number xs c.geom then shifted way w (set_at f.made x no_counts c.geom) else w) (want_other way f x c there other)
-              ∙ ap (λ b. if has_number xs c.geom then shifted way (f.wants c.number) (if b then no_counts else f.made c.geom) else f.wants c.number) (ne_eqb c.geom x other)
-              ∙ sym (ap (λ b. if b then shifted way (f.wants c.number) (f.made c.geom) else f.wants c.number) (has_step x xs c.geom other))
+              so ∙ ap (λ w. if has_number xs c.geom then shifted way w (set_at f.made x no_counts c.geom) else w)
+              (want_other way f x c there other)
+              ∙ ap (λ b. if has_number xs c.geom then shifted way (f.wants c.number)
+              (if b then no_counts else f.made c.geom) else f.wants c.number) (ne_eqb c.geom x other)
+              ∙ sym (ap (λ b. if b then shifted way (f.wants c.number) (f.made c.geom) else f.wants c.number)
+              (has_step x xs c.geom other))
         ]
 
-    pub keep_all : (way : Way) (xs : List ℕ) (f : Parts) → Apart xs → ((x : ℕ) → Contains xs x → IsSome (geom_at t.topology x)) → Kept way xs f
-    keep_all way [] f apart lives = record { parts = f; is = refl; marks = λ n. refl; made = λ n. refl; cells = λ z there. refl; wants = λ c there. refl }
+    pub keep_all : (way : Way) (xs : List ℕ) (f : Parts) → Apart xs
+        → ((x : ℕ) → Contains xs x → IsSome (geom_at t.topology x)) → Kept way xs f
+    keep_all way [] f apart lives =
+        record {
+          parts = f;
+          is = refl;
+          marks = λ n. refl;
+          made = λ n. refl;
+          cells = λ z there. refl;
+          wants =
+              λ c there. refl;
+        }
     keep_all way (x ∷ xs) f apart lives =
-        let rest : Kept way xs (passed way f x) = keep_all way xs (passed way f x) apart.1 (λ y there. lives y (in_tail x xs y there)) in
-        let gone : (n : ℕ) → n ≡ x → has_number xs n ≡ false = λ n is. not-has xs n (λ there. apart.0 (subst (Contains xs) is there)) in
+        let rest : Kept way xs (passed way f x) =
+        keep_all way xs (passed way f x) apart.1 (λ y there. lives y (in_tail x xs y there)) in
+        let gone : (n : ℕ) → n ≡ x → has_number xs n ≡ false =
+        λ n is. not-has xs n (λ there. apart.0 (subst (Contains xs) is there)) in
         record {
           parts = rest.parts;
           is = ap (λ v. fold (finish_geom (Some way)) v xs) (keep_geom way f x (lives x (in_head x xs))) ∙ rest.is;
           marks = λ n. mark_step x xs n 0 (f.marks n) (rest.parts.marks n) (rest.marks n);
           made = λ n. mark_step x xs n no_counts (f.made n) (rest.parts.made n) (rest.made n);
           cells = λ z there.
-              keep_step x xs z.geom (kept_cell way) (f.cells z.number) ((passed way f x).cells z.number) (rest.parts.cells z.number) (gone z.geom) (rest.cells z there)
+              keep_step x xs z.geom (kept_cell way) (f.cells z.number) ((passed way f x).cells z.number)
+              (rest.parts.cells z.number) (gone z.geom) (rest.cells z there)
               (λ is. cell_here way f x z there is) (λ other. cell_other way f x z there other);
-          wants = λ c there. wants_step way x xs f c there (gone c.geom) (rest.parts.wants c.number) (rest.wants c there);
+          wants = λ c there. wants_step way x xs f c there (gone c.geom) (rest.parts.wants c.number)
+              (rest.wants c there);
         }

@@ -28,11 +28,13 @@ use Rattle.geo_access.proofs.Decided.{item_at, consumer_known}
 use Rattle.geo_access.proofs.Coming.{find_left, find_last}
 
 -- where none passes, the last is found
-find_behind : {X : Type 0} (test : X → Bool) (xs : List X) (y : X) → find test xs ≡ None → test y ≡ true → find test (xs ++ y ∷ []) ≡ Some y
+find_behind : {X : Type 0} (test : X → Bool) (xs : List X) (y : X) → find test xs ≡ None → test y ≡ true
+    → find test (xs ++ y ∷ []) ≡ Some y
 find_behind test [] y none passes = ap (λ b. if b then Some y else None) passes
 find_behind {X} test (x ∷ xs) y none passes = by (test x) none (λ rest. find_behind test xs y rest passes)
   where
-    by : (b : Bool) → (if b then Some x else find test xs) ≡ None → (find test xs ≡ None → find test (xs ++ y ∷ []) ≡ Some y)
+    by : (b : Bool) → (if b then Some x else find test xs) ≡ None
+        → (find test xs ≡ None → find test (xs ++ y ∷ []) ≡ Some y)
         → (if b then Some x else find test (xs ++ y ∷ [])) ≡ Some y
     by true never so = absurd (cc)
     by false rest so = so rest
@@ -61,20 +63,25 @@ module _ {C : Type 0} (t : TopoView C) (geom : ℕ) where
     -- another consumer has another number
     old_number : (c : Consumer) → Contains t.topology.consumers c → c.number ≢ n
     old_number c there =
-        All-contains (λ (d : Consumer). d.number ≢ n) t.topology.consumers c (free_of (λ (d : Consumer). d.number) t.topology.consumers n sound.orderly.order.consumers.1) there
+        All-contains (λ (d : Consumer). d.number ≢ n) t.topology.consumers c
+        (free_of (λ (d : Consumer). d.number) t.topology.consumers n sound.orderly.order.consumers.1) there
 
     -- it is found
     comer_found : consumer_at u n ≡ Some comer
-    comer_found = find_last (λ (x : Consumer). x.number == n) t.topology.consumers comer (λ x there. ne_eqb x.number n (old_number x there)) (eq-eqb n n refl)
+    comer_found =
+        find_last (λ (x : Consumer). x.number == n) t.topology.consumers comer
+        (λ x there. ne_eqb x.number n (old_number x there)) (eq-eqb n n refl)
 
     -- no consumer had its number
     comer_new : consumer_at t.topology n ≡ None
     comer_new = none_of t.topology.consumers (λ x there. ne_eqb x.number n (old_number x there))
       where
-        none_of : (xs : List Consumer) → ((x : Consumer) → Contains xs x → (x.number == n) ≡ false) → find (λ (x : Consumer). x.number == n) xs ≡ None
+        none_of : (xs : List Consumer) → ((x : Consumer) → Contains xs x → (x.number == n) ≡ false)
+            → find (λ (x : Consumer). x.number == n) xs ≡ None
         none_of [] so = refl
         none_of (x ∷ xs) so =
-            ap (λ b. if b then Some x else find (λ (y : Consumer). y.number == n) xs) (so x (in_head x xs)) ∙ none_of xs (λ y there. so y (in_tail x xs y there))
+            ap (λ b. if b then Some x else find (λ (y : Consumer). y.number == n) xs) (so x (in_head x xs))
+            ∙ none_of xs (λ y there. so y (in_tail x xs y there))
 
     module _ (counted : IsCounted t) (room : Room) where
       -- what a consumer wanted, but nothing for it
@@ -83,7 +90,8 @@ module _ {C : Type 0} (t : TopoView C) (geom : ℕ) where
 
       -- a consumer that stood wants that
       held_old : (c : Consumer) → Contains t.topology.consumers c → held c ≡ want (granted_by t) t.topology c
-      held_old c there = ap (λ b. if b then no_counts else want (granted_by t) t.topology c) (ne_eqb c.number n (old_number c there))
+      held_old c there =
+          ap (λ b. if b then no_counts else want (granted_by t) t.topology c) (ne_eqb c.number n (old_number c there))
 
       held_comer : held comer ≡ no_counts
       held_comer = ap (λ b. if b then no_counts else want (granted_by t) t.topology comer) (eq-eqb n n refl)
@@ -98,7 +106,8 @@ module _ {C : Type 0} (t : TopoView C) (geom : ℕ) where
           ap (λ rows. rows ++ (n, no_counts) ∷ [])
           (counted.wants
           ∙ map_same (λ (c : Consumer). (c.number, want (granted_by t) t.topology c)) row t.topology.consumers
-          (each_of (λ (c : Consumer). ◌≡◌ {A = ℕ × Counts} (c.number, want (granted_by t) t.topology c) (row c)) t.topology.consumers
+          (each_of (λ (c : Consumer). ◌≡◌ {A = ℕ × Counts} (c.number, want (granted_by t) t.topology c) (row c))
+          t.topology.consumers
           (λ c there. let Q : Counts → ℕ × Counts = λ a. (c.number, a) in ap Q (sym (held_old c there)))))
           ∙ ap P (sym held_comer)
           ∙ sym (map-append row t.topology.consumers (comer ∷ []))
@@ -108,26 +117,41 @@ module _ {C : Type 0} (t : TopoView C) (geom : ℕ) where
       same_grants c there =
           elim (Contains-push_cases t.topology.consumers comer c there) [
             | inl old ↦
-                let found : consumer_at u c.number ≡ Some c = find_left (λ (x : Consumer). x.number == c.number) t.topology.consumers (comer ∷ []) c (consumer_known t sound c old) in
+                let found : consumer_at u c.number ≡ Some c =
+                find_left (λ (x : Consumer). x.number == c.number) t.topology.consumers (comer ∷ []) c
+                (consumer_known t sound c old) in
                 at c found
                 ∙ ap (λ a. if holds_grants t.topology c.geom then a else no_counts) (held_old c old)
-                ∙ sym (ap (λ o. option_map_or (λ (x : Consumer). if holds_grants t.topology x.geom then unwrap_or (value_at t.wants c.number) no_counts else no_counts) o no_counts) (consumer_known t sound c old)
+                ∙ sym (ap (λ o.
+                option_map_or
+                (λ (x : Consumer).
+                if holds_grants t.topology x.geom then unwrap_or (value_at t.wants c.number) no_counts
+                else no_counts) o no_counts) (consumer_known t sound c old)
                 ∙ ap (λ o. if holds_grants t.topology c.geom then unwrap_or o no_counts else no_counts)
                 (ap (λ rows. value_at rows c.number) counted.wants
-                ∙ item_at (λ (x : Consumer). x.number) (want (granted_by t) t.topology) c.number t.topology.consumers c (consumer_known t sound c old)))
+                ∙ item_at (λ (x : Consumer). x.number) (want (granted_by t) t.topology) c.number
+                t.topology.consumers c (consumer_known t sound c old)))
             | inr same ↦
                 subst (λ d. granted_by (mesh room) d.number ≡ granted_by t d.number) same
                 (at comer comer_found
                 ∙ ap (λ a. if holds_grants t.topology geom then a else no_counts) held_comer
                 ∙ either (holds_grants t.topology geom)
-                ∙ sym (ap (λ o. option_map_or (λ (x : Consumer). if holds_grants t.topology x.geom then unwrap_or (value_at t.wants n) no_counts else no_counts) o no_counts) comer_new))
+                ∙ sym (ap (λ o.
+                option_map_or
+                (λ (x : Consumer). if holds_grants t.topology x.geom then unwrap_or (value_at t.wants n)
+                no_counts else no_counts) o no_counts) comer_new))
           ]
         where
-          at : (d : Consumer) → consumer_at u d.number ≡ Some d → granted_by (mesh room) d.number ≡ (if holds_grants t.topology d.geom then held d else no_counts)
+          at : (d : Consumer) → consumer_at u d.number ≡ Some d
+              → granted_by (mesh room) d.number ≡ (if holds_grants t.topology d.geom then held d else no_counts)
           at d found =
-              ap (λ o. option_map_or (λ (x : Consumer). if holds_grants t.topology x.geom then unwrap_or (value_at (mesh room).wants d.number) no_counts else no_counts) o no_counts) found
+              ap (λ o. option_map_or
+              (λ (x : Consumer).
+              if holds_grants t.topology x.geom then unwrap_or (value_at (mesh room).wants d.number)
+              no_counts else no_counts) o no_counts) found
               ∙ ap (λ o. if holds_grants t.topology d.geom then unwrap_or o no_counts else no_counts)
-              (ap (λ rows. value_at rows d.number) wants_rows ∙ item_at (λ (x : Consumer). x.number) held d.number u.consumers d found)
+              (ap (λ rows. value_at rows d.number) wants_rows
+              ∙ item_at (λ (x : Consumer). x.number) held d.number u.consumers d found)
 
           either : (b : Bool) → (if b then no_counts else no_counts) ≡ no_counts
           either true = refl
@@ -136,20 +160,31 @@ module _ {C : Type 0} (t : TopoView C) (geom : ℕ) where
       -- so the mesh is counted, but for it
       comer_counted : IsCountedBut (mesh room) n
       comer_counted =
-          let first : DemandStays (granted_by t) t.topology (granted_by t) u AnyConsumer = consumer_came (granted_by t) t.topology geom None (λ attached. absurd (cc)) in
+          let first : DemandStays (granted_by t) t.topology (granted_by t) u AnyConsumer =
+          consumer_came (granted_by t) t.topology geom None (λ attached. absurd (cc)) in
           let second : DemandStays (granted_by t) u (granted_by (mesh room)) u (Contains u.consumers) =
-          grants_agree (granted_by t) (granted_by (mesh room)) u (all_of (λ (c : Consumer). granted_by (mesh room) c.number ≡ granted_by t c.number) u.consumers same_grants) in
+          grants_agree (granted_by t) (granted_by (mesh room)) u
+          (all_of (λ (c : Consumer). granted_by (mesh room) c.number ≡ granted_by t c.number) u.consumers
+          same_grants) in
           record {
             kinds = counted.kinds;
             haves =
                 counted.haves
-                ∙ rows-same_on (λ (z : Provider). z.number) (have (granted_by t) t.topology) (have (granted_by (mesh room)) u) t.topology.providers
+                ∙ rows-same_on (λ (z : Provider). z.number) (have (granted_by t) t.topology)
+                (have (granted_by (mesh room)) u) t.topology.providers
                 (λ z there. sym (second.haves z.number ∙ first.haves z.number));
             wants =
                 wants_rows
-                ∙ map_same row (λ (c : Consumer). (c.number, (if c.number == n then no_counts else want (granted_by (mesh room)) u c))) u.consumers
+                ∙ map_same row
+                (λ (c : Consumer).
+                (c.number, (if c.number == n then no_counts else want (granted_by (mesh room)) u c)))
+                u.consumers
                 (each_of
-                (λ (c : Consumer). ◌≡◌ {A = ℕ × Counts} (row c) (c.number, (if c.number == n then no_counts else want (granted_by (mesh room)) u c))) u.consumers
+                (λ (c : Consumer).
+                ◌≡◌ {A = ℕ × Counts} (row c) (
+                  c.number,
+                  (if c.number == n then no_counts else want (granted_by (mesh room)) u c),
+                )) u.consumers
                 (λ c there.
                 let Q : Counts → ℕ × Counts = λ a. (c.number, (if c.number == n then no_counts else a)) in
                 ap Q (sym (second.wants c there ∙ first.wants c tt))));
@@ -158,9 +193,13 @@ module _ {C : Type 0} (t : TopoView C) (geom : ℕ) where
             risen = counted.risen;
             fallen = counted.fallen;
             clear =
-                ap (λ (s : Rattle.geo_mesh.specs.Topo.Scratches). record s { consumers = s.consumers ++ (n, no_scratch) ∷ [] }) counted.clear
+                ap (λ (s : Rattle.geo_mesh.specs.Topo.Scratches). record s {
+                  consumers =
+                      s.consumers ++ (n, no_scratch) ∷ [];
+                }) counted.clear
                 ∙ ap (λ rows. record (clear_scratches t.topology) { consumers = rows })
-                (sym (map-append (λ (c : Consumer). let r : ℕ × Scratch = (c.number, no_scratch) in r) t.topology.consumers (comer ∷ [])));
+                (sym (map-append (λ (c : Consumer). let r : ℕ × Scratch = (c.number, no_scratch) in
+                r) t.topology.consumers (comer ∷ [])));
           }
 
     -- it is attached to nothing
@@ -169,40 +208,57 @@ module _ {C : Type 0} (t : TopoView C) (geom : ℕ) where
       free = subst (λ o. IsSomeAnd o (λ (x : Consumer). x.provider ≡ None)) (sym comer_found) refl;
       idle =
           ap (option_map {T = ℕ × ℕ} (λ r. r.1))
-          (find_behind (λ (r : ℕ × ℕ). r.0 == n) t.active (n, 0) (seen_none (λ (r : ℕ × ℕ). r.1) (find (λ (r : ℕ × ℕ). r.0 == n) t.active) none) (eq-eqb n n refl));
+          (find_behind (λ (r : ℕ × ℕ). r.0 == n) t.active (n, 0)
+          (seen_none (λ (r : ℕ × ℕ). r.1) (find (λ (r : ℕ × ℕ). r.0 == n) t.active) none) (eq-eqb n n refl));
     }
 
 -- so a new consumer may join
 pub new_consumers_may_join : {C : Type 0} → NewConsumersMayJoin C
 new_consumers_may_join = record {
-  counted = λ t new geom sound is counted. subst (λ v. IsCountedBut v t.topology.next_consumer) (sym is) (comer_counted t geom sound counted new.room);
+  counted = λ t new geom sound is counted. subst (λ v. IsCountedBut v t.topology.next_consumer) (sym is)
+      (comer_counted t geom sound counted new.room);
   quiet = λ t new geom is quiet. subst IsQuiet (sym is) (record { risen = quiet.risen; fallen = quiet.fallen });
   placed = λ t new geom is placed.
       subst (λ v. IsPlacedBut v.topology t.topology.next_consumer) (sym is)
-      (All-push (λ (c : Consumer). c.number ≢ t.topology.next_consumer → c.provider ≡ None → filter (λ (y : Provider). y.geom == c.geom) t.topology.providers ≡ [])
+      (All-push (λ (c : Consumer). c.number ≢ t.topology.next_consumer → c.provider ≡ None
+      → filter (λ (y : Provider). y.geom == c.geom) t.topology.providers ≡ [])
       t.topology.consumers (comer t geom)
-      (all_of (λ (c : Consumer). c.number ≢ t.topology.next_consumer → c.provider ≡ None → filter (λ (y : Provider). y.geom == c.geom) t.topology.providers ≡ []) t.topology.consumers
-      (λ c there other. All-contains (λ (d : Consumer). d.provider ≡ None → filter (λ (y : Provider). y.geom == d.geom) t.topology.providers ≡ []) t.topology.consumers c placed there))
+      (all_of (λ (c : Consumer). c.number ≢ t.topology.next_consumer → c.provider ≡ None
+      → filter (λ (y : Provider). y.geom == c.geom) t.topology.providers ≡ []) t.topology.consumers
+      (λ c there other. All-contains (λ (d : Consumer). d.provider ≡ None
+      → filter (λ (y : Provider). y.geom == d.geom) t.topology.providers ≡ []) t.topology.consumers c placed there))
       (λ other. absurd (other refl)));
-  loose = λ t new geom sound is none. subst (λ v. IsLoose v t.topology.next_consumer) (sym is) (comer_loose t geom sound none new.room);
+  loose = λ t new geom sound is none.
+      subst (λ v. IsLoose v t.topology.next_consumer) (sym is) (comer_loose t geom sound none new.room);
   joined = λ t cons prov placed.
-      all_of (λ (c : Consumer). c.provider ≡ None → filter (λ (y : Provider). y.geom == c.geom) t.providers ≡ []) (attach t cons prov).consumers
+      all_of (λ (c : Consumer). c.provider ≡ None → filter (λ (y : Provider). y.geom == c.geom) t.providers ≡ [])
+      (attach t cons prov).consumers
       (λ c there.
-      let from_one : Origin (λ (y : Consumer). (if y.number == cons then record y { provider = Some prov } else y) ≡ c) t.consumers =
-      map-Contains (λ (y : Consumer). if y.number == cons then record y { provider = Some prov } else y) t.consumers c there in
+      let from_one : Origin (λ (y : Consumer). (if y.number == cons then record y { provider = Some prov } else y)
+      ≡ c) t.consumers =
+      map-Contains (λ (y : Consumer). if y.number == cons then record y { provider = Some prov } else y)
+      t.consumers c there in
       was t cons prov placed from_one.item from_one.stands c from_one.fact);
 }
   where
-    was : {C : Type 0} (t : Topology C) (cons prov : ℕ) → IsPlacedBut t cons → (y : Consumer) → Contains t.consumers y → (c : Consumer)
-        → (if y.number == cons then record y { provider = Some prov } else y) ≡ c → c.provider ≡ None → filter (λ (z : Provider). z.geom == c.geom) t.providers ≡ []
+    was : {C : Type 0} (t : Topology C) (cons prov : ℕ) → IsPlacedBut t cons → (y : Consumer)
+        → Contains t.consumers y → (c : Consumer)
+        → (if y.number == cons then record y { provider = Some prov } else y) ≡ c → c.provider ≡ None
+        → filter (λ (z : Provider). z.geom == c.geom) t.providers ≡ []
     was t cons prov placed y there c is free =
         elim (cases_eq y.number cons) [
           | inl same ↦
-              let e : Some prov ≡ None = ap (λ (x : Consumer). x.provider) (sym (ap (λ b. if b then record y { provider = Some prov } else y) (eq-eqb y.number cons same)) ∙ is) ∙ free in
+              let e : Some prov ≡ None =
+              ap (λ (x : Consumer). x.provider)
+              (sym (ap (λ b. if b then record y { provider = Some prov } else y)
+              (eq-eqb y.number cons same)) ∙ is) ∙ free in
               absurd (cc)
           | inr other ↦
-              let e : y ≡ c = sym (ap (λ b. if b then record y { provider = Some prov } else y) (ne_eqb y.number cons other)) ∙ is in
+              let e : y ≡ c =
+              sym (ap (λ b. if b then record y { provider = Some prov } else y) (ne_eqb y.number cons other))
+              ∙ is in
               subst (λ (x : Consumer). filter (λ (z : Provider). z.geom == x.geom) t.providers ≡ []) e
-              (All-contains (λ (d : Consumer). d.number ≢ cons → d.provider ≡ None → filter (λ (z : Provider). z.geom == d.geom) t.providers ≡ []) t.consumers y placed there other
+              (All-contains (λ (d : Consumer). d.number ≢ cons → d.provider ≡ None
+              → filter (λ (z : Provider). z.geom == d.geom) t.providers ≡ []) t.consumers y placed there other
               (ap (λ (x : Consumer). x.provider) e ∙ free))
         ]

@@ -12,7 +12,8 @@ one_key : (row : ℕ × Bool) (n : ℕ) (v b : Bool) → (row.0 == n) ≡ b → 
 one_key row n v true e = rw e (sym (eqb-true row.0 n e))
 one_key row n v false e = rw e refl
 
-pub keys_stay : (rows : List (ℕ × Bool)) (n : ℕ) (v : Bool) → map (λ row. row.0) (with_value rows n v) ≡ map (λ row. row.0) rows
+pub keys_stay : (rows : List (ℕ × Bool)) (n : ℕ) (v : Bool)
+    → map (λ row. row.0) (with_value rows n v) ≡ map (λ row. row.0) rows
 keys_stay [] n v = refl
 keys_stay (row ∷ rows) n v =
     ap (λ k. k ∷ map (λ (x : ℕ × Bool). x.0) (with_value rows n v)) (one_key row n v (row.0 == n) refl)
@@ -25,7 +26,8 @@ there xs n x true e some = rw e refl
 there xs n x false e some = rw e some
 
 -- a number that is noted is one of a provider, where notes and providers have the same numbers
-noted_step : (row : ℕ × Bool) (rows : List (ℕ × Bool)) (x : Provider) (xs : List Provider) (p : ℕ) (b : Bool) → row.1 ≡ b
+noted_step : (row : ℕ × Bool) (rows : List (ℕ × Bool)) (x : Provider) (xs : List Provider) (p : ℕ) (b : Bool)
+    → row.1 ≡ b
     → row.0 ≡ x.number → first_noted (row ∷ rows) ≡ Some p
     → (first_noted rows ≡ Some p → IsSome (find (λ (y : Provider). y.number == p) xs))
     → IsSome (find (λ (y : Provider). y.number == p) (x ∷ xs))
@@ -49,14 +51,17 @@ noted_there (row ∷ rows) (x ∷ xs) p same found =
 
 module _ {C : Type 0} where
   -- the provider with the least note lives
-  pub risen_lives : (t : TopoView C) (p : ℕ) → IsCounted t → first_noted t.risen ≡ Some p → IsSome (provider_at t.topology p)
+  pub risen_lives : (t : TopoView C) (p : ℕ) → IsCounted t → first_noted t.risen ≡ Some p
+      → IsSome (provider_at t.topology p)
   risen_lives t p counted found = noted_there t.risen t.topology.providers p counted.risen found
 
-  pub fallen_lives : (t : TopoView C) (p : ℕ) → IsCounted t → first_noted t.fallen ≡ Some p → IsSome (provider_at t.topology p)
+  pub fallen_lives : (t : TopoView C) (p : ℕ) → IsCounted t → first_noted t.fallen ≡ Some p
+      → IsSome (provider_at t.topology p)
   fallen_lives t p counted found = noted_there t.fallen t.topology.providers p counted.fallen found
 
   -- other notes leave the stored counts
-  pub notes_counted : (t : TopoView C) (p : ℕ) (risen fallen : Bool) → IsCounted t → IsCounted (with_notes t p risen fallen)
+  pub notes_counted : (t : TopoView C) (p : ℕ) (risen fallen : Bool) → IsCounted t
+      → IsCounted (with_notes t p risen fallen)
   notes_counted t p risen fallen counted = record {
     kinds = counted.kinds;
     haves = counted.haves;

@@ -42,13 +42,15 @@ use Rattle.geo_access.proofs.GrantEnd.{same_both}
 -- what is left of what was, less what the smaller has less
 less_back : (a b : Counts) → IsAtMost a b → IsAtMost b greatest_counts → more_counts (cap (more_counts a b)) b ≡ a
 less_back a b less most =
-    counts-same (more_counts (cap (more_counts a b)) b) a (omega (arith, less.r, most.r)) (omega (arith, less.w, most.w)) (omega (arith, less.e, most.e))
+    counts-same (more_counts (cap (more_counts a b)) b) a (omega (arith, less.r, most.r))
+    (omega (arith, less.w, most.w)) (omega (arith, less.e, most.e))
 
 -- where nothing is less it is the same
 none_less : (a b : Counts) → IsAtMost a b → more_counts a b ≡ no_counts → b ≡ a
 none_less a b less none = sym (add-more a b less) ∙ ap (add_counts a) none ∙ add-zero a
 
-module _ {C : Type 0} (t : TopoView C) (sound : IsSoundGraph t.topology) (counted : IsCounted t) (cons : ℕ) (holder : Holder t.topology cons)
+module _ {C : Type 0} (t : TopoView C) (sound : IsSoundGraph t.topology) (counted : IsCounted t) (cons : ℕ)
+    (holder : Holder t.topology cons)
     (held : Counts) (stored : value_at t.wants cons ≡ Some held) where
   -- the provider to which it is attached
   abbrev pub p : ℕ
@@ -61,11 +63,15 @@ module _ {C : Type 0} (t : TopoView C) (sound : IsSoundGraph t.topology) (counte
   -- what it was granted
   held_is : granted_by t cons ≡ held
   held_is =
-      ap (λ o. option_map_or (λ (x : Consumer). if holds_grants t.topology x.geom then unwrap_or (value_at t.wants cons) no_counts else no_counts) o no_counts) holder.found
-      ∙ ap (λ b. if b then unwrap_or (value_at t.wants cons) no_counts else no_counts) (holds (geom_at t.topology holder.one.geom) holder.kind)
+      ap (λ o. option_map_or
+      (λ (x : Consumer). if holds_grants t.topology x.geom then unwrap_or (value_at t.wants cons) no_counts
+      else no_counts) o no_counts) holder.found
+      ∙ ap (λ b. if b then unwrap_or (value_at t.wants cons) no_counts else no_counts)
+      (holds (geom_at t.topology holder.one.geom) holder.kind)
       ∙ ap (λ o. unwrap_or o no_counts) stored
     where
-      holds : (o : Option (Geom C)) → IsSomeAnd o (λ (x : Geom C). is_granted_kind x.kind ≡ true) → option_map_or (λ (x : Geom C). is_granted_kind x.kind) o false ≡ true
+      holds : (o : Option (Geom C)) → IsSomeAnd o (λ (x : Geom C). is_granted_kind x.kind ≡ true)
+          → option_map_or (λ (x : Geom C). is_granted_kind x.kind) o false ≡ true
       holds None never = absurd never
       holds (Some g) fact = fact
 
@@ -83,12 +89,15 @@ module _ {C : Type 0} (t : TopoView C) (sound : IsSoundGraph t.topology) (counte
     agree = λ n other. sym (others_stay t sound counted cons holder no_counts n other);
     place =
         all_of (λ (c : Consumer). c.number ≡ cons → c.provider ≡ Some p) t.topology.consumers
-        (λ c there same. ap (λ (x : Consumer). x.provider) (one_only t sound counted cons holder no_counts c there same) ∙ holder.place);
+        (λ c there same.
+        ap (λ (x : Consumer). x.provider) (one_only t sound counted cons holder no_counts c there same)
+        ∙ holder.place);
   }
 
   first_is : more_counts (after cons) (granted_by t cons) ≡ held
   first_is =
-      ap (λ a. more_counts a (granted_by t cons)) (own_is t sound counted cons holder no_counts) ∙ ap (more_counts no_counts) held_is
+      ap (λ a. more_counts a (granted_by t cons)) (own_is t sound counted cons holder no_counts)
+      ∙ ap (more_counts no_counts) held_is
       ∙ counts-same (more_counts no_counts held) held (omega arith) (omega arith) (omega arith)
 
   -- what providers and consumers lose
@@ -96,32 +105,45 @@ module _ {C : Type 0} (t : TopoView C) (sound : IsSoundGraph t.topology) (counte
   loss q = more_counts (have after t.topology q) (have (granted_by t) t.topology q)
 
   abbrev pub losses : Consumer → Counts
-  losses x = if x.number == cons then no_counts else more_counts (want after t.topology x) (want (granted_by t) t.topology x)
+  losses x = if x.number == cons then no_counts else more_counts (want after t.topology x)
+      (want (granted_by t) t.topology x)
 
-  module _ (quiet : IsQuiet t) (placed : IsPlaced t.topology) (new : TopoView C) (o : Order) (tried : IsTried t p held Falls new o) where
+  module _ (quiet : IsQuiet t) (placed : IsPlaced t.topology) (new : TopoView C) (o : Order)
+      (tried : IsTried t p held Falls new o) where
     abbrev pub its_order : List ℕ
     its_order = geoms_below t sound counted.clear p tried.offer tried.found
 
     demand : Demands t.topology p held (have after t.topology) loss losses its_order
     demand =
         subst (λ a. Demands t.topology p a (have after t.topology) loss losses its_order) first_is
-        (grant_demands t.topology sound.ranked (numbers_are t sound counted cons holder no_counts) after (granted_by t) grants_fall cons p holder.one one_falls
-        (one_filtered t sound counted cons holder no_counts) holder.place (one_number t sound counted cons holder no_counts) holder.kind its_order
+        (grant_demands t.topology sound.ranked (numbers_are t sound counted cons holder no_counts) after
+        (granted_by t) grants_fall cons p holder.one one_falls
+        (one_filtered t sound counted cons holder no_counts) holder.place
+        (one_number t sound counted cons holder no_counts) holder.kind its_order
         (below_covers t sound counted.clear p tried.offer tried.found))
 
     -- old counts of providers are within the limit
-    have_fits : (z : Provider) → Contains t.topology.providers z → IsAtMost (have (granted_by t) t.topology z.number) greatest_counts
+    have_fits : (z : Provider) → Contains t.topology.providers z
+        → IsAtMost (have (granted_by t) t.topology z.number) greatest_counts
     have_fits z there = within_limit (granted_by t) t.topology counted.limit z there
 
     -- what a provider comes to have
-    falls_back : (z : Provider) → Contains t.topology.providers z → more_counts (cap (loss z.number)) (have (granted_by t) t.topology z.number) ≡ have after t.topology z.number
-    falls_back z there = less_back (have after t.topology z.number) (have (granted_by t) t.topology z.number) (have-at_most after (granted_by t) grants_fall t.topology z.number) (have_fits z there)
+    falls_back : (z : Provider) → Contains t.topology.providers z
+        → more_counts (cap (loss z.number)) (have (granted_by t) t.topology z.number) ≡ have after t.topology z.number
+    falls_back z there =
+        less_back (have after t.topology z.number) (have (granted_by t) t.topology z.number)
+        (have-at_most after (granted_by t) grants_fall t.topology z.number) (have_fits z there)
 
-    shrinks : (z : Provider) → Contains t.topology.providers z → had Falls (have_at t z.number) (cap (loss z.number)) ≡ have after t.topology z.number
-    shrinks z there = ap (more_counts (cap (loss z.number))) (stored_have t sound (counted_told t sound counted) z (provider_known t sound z there)) ∙ falls_back z there
+    shrinks : (z : Provider) → Contains t.topology.providers z
+        → had Falls (have_at t z.number) (cap (loss z.number)) ≡ have after t.topology z.number
+    shrinks z there =
+        ap (more_counts (cap (loss z.number)))
+        (stored_have t sound (counted_told t sound counted) z (provider_known t sound z there)) ∙ falls_back z there
 
-    end : Spread t sound Falls p held (have after t.topology) loss losses its_order demand shrinks its_order (first_tries tried.offer.geom its_order p held)
-    end = walked t sound counted.clear p tried.offer tried.found Falls held (have after t.topology) loss losses demand shrinks
+    end : Spread t sound Falls p held (have after t.topology) loss losses its_order demand shrinks its_order
+        (first_tries tried.offer.geom its_order p held)
+    end = walked t sound counted.clear p tried.offer tried.found Falls held (have after t.topology) loss losses
+        demand shrinks
 
     abbrev tries : Tries
     tries = end.tries
@@ -137,44 +159,65 @@ module _ {C : Type 0} (t : TopoView C) (sound : IsSoundGraph t.topology) (counte
     release_lives =
         subst (λ u. All (λ x. IsSome (geom_at u x)) (order_of new o)) (sym (ap (λ v. v.topology) new_is))
         (subst (All (λ x. IsSome (geom_at t.topology x))) (sym release_order)
-        (all_of (λ x. IsSome (geom_at t.topology x)) its_order (below_lives t sound counted.clear p tried.offer tried.found)))
+        (all_of (λ x. IsSome (geom_at t.topology x)) its_order
+        (below_lives t sound counted.clear p tried.offer tried.found)))
 
     -- and differ
     pub release_apart : Apart (order_of new o)
-    release_apart = subst Apart (sym release_order) (order_apart t.topology its_order (below_ordered t sound counted.clear p tried.offer tried.found))
+    release_apart =
+        subst Apart (sym release_order)
+        (order_apart t.topology its_order (below_ordered t sound counted.clear p tried.offer tried.found))
 
     -- what is kept
     all : Kept t sound Falls its_order (tried_parts t sound counted tries)
     all =
         keep_all t sound Falls its_order (tried_parts t sound counted tries)
-        (order_apart t.topology its_order (below_ordered t sound counted.clear p tried.offer tried.found)) (below_lives t sound counted.clear p tried.offer tried.found)
+        (order_apart t.topology its_order (below_ordered t sound counted.clear p tried.offer tried.found))
+        (below_lives t sound counted.clear p tried.offer tried.found)
 
     -- one outside the order loses nothing
-    outside_none : (z : Provider) → Contains t.topology.providers z → has_number its_order z.geom ≡ false → loss z.number ≡ no_counts
+    outside_none : (z : Provider) → Contains t.topology.providers z → has_number its_order z.geom ≡ false
+        → loss z.number ≡ no_counts
     outside_none z there away =
-        outside_gains t.topology p held loss losses its_order (below_ordered t sound counted.clear p tried.offer tried.found) demand.flow tried.offer tried.found
-        (first_below t sound counted.clear p tried.offer tried.found) z (provider_known t sound z there) (has_not its_order z.geom away)
+        outside_gains t.topology p held loss losses its_order
+        (below_ordered t sound counted.clear p tried.offer tried.found) demand.flow tried.offer tried.found
+        (first_below t sound counted.clear p tried.offer tried.found) z (provider_known t sound z there)
+        (has_not its_order z.geom away)
 
-    outside_have : (z : Provider) → Contains t.topology.providers z → has_number its_order z.geom ≡ false → have (granted_by t) t.topology z.number ≡ have after t.topology z.number
+    outside_have : (z : Provider) → Contains t.topology.providers z → has_number its_order z.geom ≡ false
+        → have (granted_by t) t.topology z.number ≡ have after t.topology z.number
     outside_have z there away =
-        none_less (have after t.topology z.number) (have (granted_by t) t.topology z.number) (have-at_most after (granted_by t) grants_fall t.topology z.number) (outside_none z there away)
+        none_less (have after t.topology z.number) (have (granted_by t) t.topology z.number)
+        (have-at_most after (granted_by t) grants_fall t.topology z.number) (outside_none z there away)
 
-    shifted_have : (z : Provider) → Contains t.topology.providers z → shifted Falls (have (granted_by t) t.topology z.number) (tries.gains z.number) ≡ have after t.topology z.number
-    shifted_have z there = ap (λ a. more_counts a (have (granted_by t) t.topology z.number)) (end.gains z.number) ∙ falls_back z there
+    shifted_have : (z : Provider) → Contains t.topology.providers z
+        → shifted Falls (have (granted_by t) t.topology z.number) (tries.gains z.number)
+        ≡ have after t.topology z.number
+    shifted_have z there = ap (λ a. more_counts a (have (granted_by t) t.topology z.number)) (end.gains z.number)
+        ∙ falls_back z there
 
     -- what a consumer of the order wanted is within the limit
-    want_fits : (c : Consumer) → Contains t.topology.consumers c → has_number its_order c.geom ≡ true → IsAtMost (want (granted_by t) t.topology c) greatest_counts
-    want_fits c there inside = by c.provider refl (All-contains (λ (d : Consumer). IfSome d.provider (λ q. IsSome (provider_at t.topology q))) t.topology.consumers c sound.orderly.parts.providers there)
+    want_fits : (c : Consumer) → Contains t.topology.consumers c → has_number its_order c.geom ≡ true
+        → IsAtMost (want (granted_by t) t.topology c) greatest_counts
+    want_fits c there inside =
+        by c.provider refl
+        (All-contains (λ (d : Consumer). IfSome d.provider (λ q. IsSome (provider_at t.topology q)))
+        t.topology.consumers c sound.orderly.parts.providers there)
       where
-        at : (q : ℕ) → c.provider ≡ Some q → (z : Option Provider) → provider_at t.topology q ≡ z → IsSome z → IsAtMost (want (granted_by t) t.topology c) greatest_counts
+        at : (q : ℕ) → c.provider ≡ Some q → (z : Option Provider) → provider_at t.topology q ≡ z → IsSome z
+            → IsAtMost (want (granted_by t) t.topology c) greatest_counts
         at q attached None found lives = let no : false ≡ true = lives in absurd (cc)
         at q attached (Some z) found lives =
             let is = provider_stands t sound q z found in
-            let part : IsAtMost (want (granted_by t) t.topology c) (sum_counts (map (want (granted_by t) t.topology) (attached_to t.topology q))) =
+            let part : IsAtMost (want (granted_by t) t.topology c)
+            (sum_counts (map (want (granted_by t) t.topology) (attached_to t.topology q))) =
             part_at_most (want (granted_by t) t.topology) (attached_to t.topology q) c
-            (in_filter (λ (x : Consumer). names_number x.provider q) t.topology.consumers c there (ap (λ w. names_number w q) attached ∙ eq-eqb q q refl)) in
+            (in_filter (λ (x : Consumer). names_number x.provider q) t.topology.consumers c there
+            (ap (λ w. names_number w q) attached ∙ eq-eqb q q refl)) in
             at_most-trans (want (granted_by t) t.topology c) (have (granted_by t) t.topology q) greatest_counts
-            (subst (IsAtMost (want (granted_by t) t.topology c)) (sym (have_is_sum t.topology sound.ranked (numbers_are t sound counted cons holder no_counts) (granted_by t) q)) part)
+            (subst (IsAtMost (want (granted_by t) t.topology c))
+            (sym (have_is_sum t.topology sound.ranked (numbers_are t sound counted cons holder no_counts)
+            (granted_by t) q)) part)
             (subst (λ n. IsAtMost (have (granted_by t) t.topology n) greatest_counts) is.1 (have_fits z is.0))
 
         offered : (q : ℕ) (z : Option Provider) → provider_at t.topology q ≡ z
@@ -183,30 +226,43 @@ module _ {C : Type 0} (t : TopoView C) (sound : IsSoundGraph t.topology) (counte
         offered q (Some y) found is bare =
             in_nothing y
             (subst (λ ys. Contains ys y) bare
-            (in_filter (λ (w : Provider). w.geom == c.geom) t.topology.providers y (provider_stands t sound q y found).0 (eq-eqb y.geom c.geom is)))
+            (in_filter (λ (w : Provider). w.geom == c.geom) t.topology.providers y
+            (provider_stands t sound q y found).0 (eq-eqb y.geom c.geom is)))
 
-        by : (w : Option ℕ) → c.provider ≡ w → IfSome w (λ q. IsSome (provider_at t.topology q)) → IsAtMost (want (granted_by t) t.topology c) greatest_counts
+        by : (w : Option ℕ) → c.provider ≡ w → IfSome w (λ q. IsSome (provider_at t.topology q))
+            → IsAtMost (want (granted_by t) t.topology c) greatest_counts
         by (Some q) attached lives = at q attached (provider_at t.topology q) refl lives
         by None loose lives =
-            let bare : providers_of t.topology c.geom ≡ [] = All-contains (λ (d : Consumer). d.provider ≡ None → providers_of t.topology d.geom ≡ []) t.topology.consumers c placed there loose in
-            let reached = all_reached t sound counted.clear p tried.offer tried.found c.geom (has-contains its_order c.geom inside) in
+            let bare : providers_of t.topology c.geom ≡ [] =
+            All-contains (λ (d : Consumer). d.provider ≡ None → providers_of t.topology d.geom ≡ [])
+            t.topology.consumers c placed there loose in
+            let reached =
+            all_reached t sound counted.clear p tried.offer tried.found c.geom
+            (has-contains its_order c.geom inside) in
             absurd (offered reached.0 (provider_at t.topology reached.0) refl reached.2 bare)
 
     -- what a consumer other than the holder comes to want
-    kept_want : (c : Consumer) → Contains t.topology.consumers c → c.number ≢ cons → all.parts.wants c.number ≡ want after t.topology c
+    kept_want : (c : Consumer) → Contains t.topology.consumers c → c.number ≢ cons
+        → all.parts.wants c.number ≡ want after t.topology c
     kept_want c there other =
-        let less : IsAtMost (want after t.topology c) (want (granted_by t) t.topology c) = want-at_most after (granted_by t) grants_fall t.topology c in
+        let less : IsAtMost (want after t.topology c) (want (granted_by t) t.topology c) =
+        want-at_most after (granted_by t) grants_fall t.topology c in
         let lost : losses c ≡ more_counts (want after t.topology c) (want (granted_by t) t.topology c) =
-        ap (λ b. if b then no_counts else more_counts (want after t.topology c) (want (granted_by t) t.topology c)) (ne_eqb c.number cons other) in
+        ap (λ b. if b then no_counts else more_counts (want after t.topology c) (want (granted_by t) t.topology c))
+        (ne_eqb c.number cons other) in
         all.wants c there
-        ∙ same_both (has_number its_order c.geom) (shifted Falls (want_of_number t sound counted c.number) (tries.made c.geom)) (want_of_number t sound counted c.number) (want after t.topology c)
+        ∙ same_both (has_number its_order c.geom)
+        (shifted Falls (want_of_number t sound counted c.number) (tries.made c.geom))
+        (want_of_number t sound counted c.number) (want after t.topology c)
         (λ inside.
         ap (λ a. more_counts (tries.made c.geom) a) (want_number t sound counted c there)
-        ∙ ap (λ a. more_counts a (want (granted_by t) t.topology c)) (end.made c there ∙ ap (λ b. if b then cap (losses c) else no_counts) inside ∙ ap cap lost)
+        ∙ ap (λ a. more_counts a (want (granted_by t) t.topology c)) (end.made c there
+        ∙ ap (λ b. if b then cap (losses c) else no_counts) inside ∙ ap cap lost)
         ∙ less_back (want after t.topology c) (want (granted_by t) t.topology c) less (want_fits c there inside))
         (λ away.
         want_number t sound counted c there
-        ∙ none_less (want after t.topology c) (want (granted_by t) t.topology c) less (sym lost ∙ demand.flow.around c there (has_not its_order c.geom away)))
+        ∙ none_less (want after t.topology c) (want (granted_by t) t.topology c) less (sym lost
+        ∙ demand.flow.around c there (has_not its_order c.geom away)))
 
     -- a count that stays comes to no zero
     stays_zero : (b : Bool) → (not b && b) ≡ false
@@ -214,13 +270,16 @@ module _ {C : Type 0} (t : TopoView C) (sound : IsSoundGraph t.topology) (counte
     stays_zero false = refl
 
     cell_of : {V : Type 0} (see : Cell → V) (b : Bool) (z : Provider)
-        → see (if b then kept_cell Falls ((tried_parts t sound counted tries).cells z.number) else (tried_parts t sound counted tries).cells z.number)
-        ≡ (if b then see (kept_cell Falls ((tried_parts t sound counted tries).cells z.number)) else see ((tried_parts t sound counted tries).cells z.number))
+        → see (if b then kept_cell Falls ((tried_parts t sound counted tries).cells z.number) else
+        (tried_parts t sound counted tries).cells z.number)
+        ≡ (if b then see (kept_cell Falls ((tried_parts t sound counted tries).cells z.number)) else see
+        ((tried_parts t sound counted tries).cells z.number))
     cell_of see true z = refl
     cell_of see false z = refl
 
     -- the end of the walk, without the holder's counts
-    pub release_end : with_want (fold (finish_geom (Some Falls)) new (order_of new o)) cons no_counts ≡ released_view t cons
+    pub release_end : with_want (fold (finish_geom (Some Falls)) new (order_of new o)) cons no_counts
+        ≡ released_view t cons
     release_end =
         ap (λ v. with_want v cons no_counts)
         (ap (fold (finish_geom (Some Falls)) new) release_order
@@ -231,7 +290,9 @@ module _ {C : Type 0} (t : TopoView C) (sound : IsSoundGraph t.topology) (counte
         (λ z there.
         ap (λ (x : Cell). x.have) (all.cells z there)
         ∙ cell_of (λ (x : Cell). x.have) (has_number its_order z.geom) z
-        ∙ same_both (has_number its_order z.geom) (shifted Falls (have (granted_by t) t.topology z.number) (tries.gains z.number)) (have (granted_by t) t.topology z.number) (have after t.topology z.number)
+        ∙ same_both (has_number its_order z.geom)
+        (shifted Falls (have (granted_by t) t.topology z.number) (tries.gains z.number))
+        (have (granted_by t) t.topology z.number) (have after t.topology z.number)
         (λ inside. shifted_have z there) (λ away. outside_have z there away))
         (λ z there.
         ap (λ (x : Cell). x.risen) (all.cells z there)
@@ -241,10 +302,13 @@ module _ {C : Type 0} (t : TopoView C) (sound : IsSoundGraph t.topology) (counte
         ap (λ (x : Cell). x.fallen) (all.cells z there)
         ∙ cell_of (λ (x : Cell). x.fallen) (has_number its_order z.geom) z
         ∙ same_both (has_number its_order z.geom)
-        (comes_to_zero (have (granted_by t) t.topology z.number) (shifted Falls (have (granted_by t) t.topology z.number) (tries.gains z.number))) false
+        (comes_to_zero (have (granted_by t) t.topology z.number)
+        (shifted Falls (have (granted_by t) t.topology z.number) (tries.gains z.number))) false
         (comes_to_zero (have (granted_by t) t.topology z.number) (have after t.topology z.number))
         (λ inside. ap (comes_to_zero (have (granted_by t) t.topology z.number)) (shifted_have z there))
-        (λ away. sym (ap (comes_to_zero (have (granted_by t) t.topology z.number)) (sym (outside_have z there away)) ∙ stays_zero ((have (granted_by t) t.topology z.number).w == 0))))
+        (λ away. sym
+        (ap (comes_to_zero (have (granted_by t) t.topology z.number)) (sym (outside_have z there away))
+        ∙ stays_zero ((have (granted_by t) t.topology z.number).w == 0))))
         (λ z there.
         ap (λ (x : Cell). x.gain) (all.cells z there)
         ∙ cell_of (λ (x : Cell). x.gain) (has_number its_order z.geom) z
@@ -256,9 +320,16 @@ module _ {C : Type 0} (t : TopoView C) (sound : IsSoundGraph t.topology) (counte
               ap (λ b. if b then no_counts else all.parts.wants c.number) (eq-eqb c.number cons same)
               ∙ sym (ap (want after t.topology) (one_only t sound counted cons holder no_counts c there same)
               ∙ wants_grant after t.topology holder.one holder.kind
-              ∙ ap after (one_number t sound counted cons holder no_counts) ∙ own_is t sound counted cons holder no_counts)
-          | inr other ↦ ap (λ b. if b then no_counts else all.parts.wants c.number) (ne_eqb c.number cons other) ∙ kept_want c there other
+              ∙ ap after (one_number t sound counted cons holder no_counts)
+              ∙ own_is t sound counted cons holder no_counts)
+          | inr other ↦
+              ap (λ b. if b then no_counts else all.parts.wants c.number) (ne_eqb c.number cons other)
+              ∙ kept_want c there other
         ])
-        (λ n. all.marks n ∙ same_both (has_number its_order n) 0 (tries.marks n) 0 (λ inside. refl) (λ away. end.marks n ∙ link_outside tried.offer.geom its_order n away))
-        (λ n. all.made n ∙ same_both (has_number its_order n) no_counts (tries.made n) no_counts (λ inside. refl) (λ away. end.others n (has_not its_order n away)))
+        (λ n. all.marks n
+        ∙ same_both (has_number its_order n) 0 (tries.marks n) 0 (λ inside. refl) (λ away. end.marks n
+        ∙ link_outside tried.offer.geom its_order n away))
+        (λ n. all.made n
+        ∙ same_both (has_number its_order n) no_counts (tries.made n) no_counts (λ inside. refl)
+        (λ away. end.others n (has_not its_order n away)))
         ∙ ap (λ rows. record (released_view t cons) { risen = rows }) (sym quiet.risen)

@@ -29,19 +29,23 @@ use Rattle.geo_access.proofs.Granted.{numbers_of}
 -- Counts
 
 -- counts that are none are zero
-all_zero : (f : Provider → Counts) (ys : List Provider) → ((y : Provider) → f y ≡ no_counts) → list_all is_zero (map f ys) ≡ true
+all_zero : (f : Provider → Counts) (ys : List Provider) → ((y : Provider) → f y ≡ no_counts)
+    → list_all is_zero (map f ys) ≡ true
 all_zero f [] none = refl
 all_zero f (y ∷ ys) none = ap (λ a. is_zero a && list_all is_zero (map f ys)) (none y) ∙ all_zero f ys none
 
 -- no exclusive count is added to them
 none_added : (f : Provider → Counts) (ys : List Provider) → ((y : Provider) → f y ≡ no_counts)
-    → add_counts (sum_counts (map f ys)) (record { r = 0; w = 0; e = (if not (list_all is_zero (map f ys)) then 1 else 0) }) ≡ no_counts
+    → add_counts (sum_counts (map f ys))
+    (record { r = 0; w = 0; e = (if not (list_all is_zero (map f ys)) then 1 else 0) }) ≡ no_counts
 none_added f ys none =
-    ap (λ a. add_counts a (record { r = 0; w = 0; e = (if not (list_all is_zero (map f ys)) then 1 else 0) })) (sum-none f ys (λ y there. none y))
+    ap (λ a. add_counts a (record { r = 0; w = 0; e = (if not (list_all is_zero (map f ys)) then 1 else 0) }))
+    (sum-none f ys (λ y there. none y))
     ∙ ap (λ b. add_counts no_counts (record { r = 0; w = 0; e = (if not b then 1 else 0) })) (all_zero f ys none)
 
 -- a consumer of any class wants nothing where no provider has a count, and nothing was granted to it
-nothing_wanted : (kind : Kind) (f : Provider → Counts) (ys : List Provider) (grant : Counts) → ((y : Provider) → f y ≡ no_counts) → grant ≡ no_counts
+nothing_wanted : (kind : Kind) (f : Provider → Counts) (ys : List Provider) (grant : Counts)
+    → ((y : Provider) → f y ≡ no_counts) → grant ≡ no_counts
     → want_of_kind kind (map f ys) grant ≡ no_counts
 nothing_wanted kinds.Dev f ys grant none given = given
 nothing_wanted kinds.Taste f ys grant none given = given
@@ -54,12 +58,15 @@ nothing_wanted kinds.Concat f ys grant none given = none_added f ys none
 nothing_wanted kinds.Stripe f ys grant none given = none_added f ys none
 
 -- what is found among rows of one value is that value
-one_value : {X V : Type 0} (key : X → ℕ) (v : V) (n : ℕ) (xs : List X) → unwrap_or (value_at (map (λ x. let row : ℕ × V = (key x, v) in row) xs) n) v ≡ v
+one_value : {X V : Type 0} (key : X → ℕ) (v : V) (n : ℕ) (xs : List X)
+    → unwrap_or (value_at (map (λ x. let row : ℕ × V = (key x, v) in row) xs) n) v ≡ v
 one_value key v n [] = refl
 one_value {X} {V} key v n (x ∷ xs) = by (key x == n) (one_value key v n xs)
   where
     by : (b : Bool) → unwrap_or (value_at (map (λ y. let row : ℕ × V = (key y, v) in row) xs) n) v ≡ v
-        → unwrap_or (option_map (λ (row : ℕ × V). row.1) (if b then Some (key x, v) else find (λ (row : ℕ × V). row.0 == n) (map (λ y. let row : ℕ × V = (key y, v) in row) xs))) v ≡ v
+        → unwrap_or (option_map (λ (row : ℕ × V). row.1)
+        (if b then Some (key x, v) else find (λ (row : ℕ × V). row.0 == n)
+        (map (λ y. let row : ℕ × V = (key y, v) in row) xs))) v ≡ v
     by true so = refl
     by false so = so
 
@@ -69,29 +76,40 @@ module _ {C : Type 0} (t : TopoView C) (shut : IsShut t) where
   no_grant n = by (consumer_at t.topology n)
     where
       stored : unwrap_or (value_at t.wants n) no_counts ≡ no_counts
-      stored = ap (λ rows. unwrap_or (value_at rows n) no_counts) shut.wants ∙ one_value (λ (c : Consumer). c.number) no_counts n t.topology.consumers
+      stored = ap (λ rows. unwrap_or (value_at rows n) no_counts) shut.wants
+          ∙ one_value (λ (c : Consumer). c.number) no_counts n t.topology.consumers
 
       held : (b : Bool) → (if b then unwrap_or (value_at t.wants n) no_counts else no_counts) ≡ no_counts
       held true = stored
       held false = refl
 
-      by : (o : Option Consumer) → option_map_or (λ (x : Consumer). if holds_grants t.topology x.geom then unwrap_or (value_at t.wants n) no_counts else no_counts) o no_counts ≡ no_counts
+      by : (o : Option Consumer)
+          → option_map_or (λ (x : Consumer). if holds_grants t.topology x.geom then unwrap_or (value_at t.wants n)
+          no_counts else no_counts) o no_counts ≡ no_counts
       by None = refl
       by (Some c) = held (holds_grants t.topology c.geom)
 
   -- so nothing is wanted where no provider has a count
-  wants_none : (H : ℕ → Counts) → ((n : ℕ) → H n ≡ no_counts) → (c : Consumer) → want_given (granted_by t) H t.topology c ≡ no_counts
+  wants_none : (H : ℕ → Counts) → ((n : ℕ) → H n ≡ no_counts) → (c : Consumer)
+      → want_given (granted_by t) H t.topology c ≡ no_counts
   wants_none H none c = by (geom_at t.topology c.geom)
     where
-      by : (o : Option (Geom C)) → option_map_or (λ (g : Geom C). want_of_kind g.kind (map (λ (x : Provider). H x.number) (providers_of t.topology g.number)) (granted_by t c.number)) o no_counts ≡ no_counts
+      by : (o : Option (Geom C))
+          → option_map_or
+          (λ (g : Geom C).
+          want_of_kind g.kind (map (λ (x : Provider). H x.number) (providers_of t.topology g.number))
+          (granted_by t c.number)) o no_counts ≡ no_counts
       by None = refl
-      by (Some g) = nothing_wanted g.kind (λ (x : Provider). H x.number) (providers_of t.topology g.number) (granted_by t c.number) (λ y. none y.number) (no_grant c.number)
+      by (Some g) =
+          nothing_wanted g.kind (λ (x : Provider). H x.number) (providers_of t.topology g.number)
+          (granted_by t c.number) (λ y. none y.number) (no_grant c.number)
 
   -- and no provider has one
   haves_none : (k q : ℕ) → have_within (granted_by t) k t.topology q ≡ no_counts
   haves_none zero q = refl
   haves_none (suc k) q =
-      sum-none (want_given (granted_by t) (have_within (granted_by t) k t.topology) t.topology) (attached_to t.topology q)
+      sum-none (want_given (granted_by t) (have_within (granted_by t) k t.topology) t.topology)
+      (attached_to t.topology q)
       (λ c there. wants_none (have_within (granted_by t) k t.topology) (haves_none k) c)
 
   no_have : (q : ℕ) → have (granted_by t) t.topology q ≡ no_counts
@@ -106,29 +124,42 @@ module _ {C : Type 0} (t : TopoView C) (shut : IsShut t) where
     kinds = shut.kinds;
     haves =
         shut.haves
-        ∙ map_same (λ (p : Provider). (p.number, no_counts)) (λ (p : Provider). (p.number, have (granted_by t) t.topology p.number)) t.topology.providers
-        (each_of (λ (p : Provider). ◌≡◌ {A = ℕ × Counts} (p.number, no_counts) (p.number, have (granted_by t) t.topology p.number)) t.topology.providers
+        ∙ map_same (λ (p : Provider). (p.number, no_counts))
+        (λ (p : Provider). (p.number, have (granted_by t) t.topology p.number)) t.topology.providers
+        (each_of (λ (p : Provider).
+        ◌≡◌ {A = ℕ × Counts} (p.number, no_counts) (p.number, have (granted_by t) t.topology p.number))
+        t.topology.providers
         (λ p there. let Q : Counts → ℕ × Counts = λ a. (p.number, a) in ap Q (sym (no_have p.number))));
     wants =
         shut.wants
-        ∙ map_same (λ (c : Consumer). (c.number, no_counts)) (λ (c : Consumer). (c.number, want (granted_by t) t.topology c)) t.topology.consumers
-        (each_of (λ (c : Consumer). ◌≡◌ {A = ℕ × Counts} (c.number, no_counts) (c.number, want (granted_by t) t.topology c)) t.topology.consumers
+        ∙ map_same (λ (c : Consumer). (c.number, no_counts))
+        (λ (c : Consumer). (c.number, want (granted_by t) t.topology c)) t.topology.consumers
+        (each_of (λ (c : Consumer).
+        ◌≡◌ {A = ℕ × Counts} (c.number, no_counts) (c.number, want (granted_by t) t.topology c))
+        t.topology.consumers
         (λ c there. let Q : Counts → ℕ × Counts = λ a. (c.number, a) in ap Q (sym (no_want c))));
     exclusive =
         (exclusive_means (granted_by t) t.topology).1
-        (all_of (λ (z : Provider). NoneInTheWay (granted_by t) t.topology (attached_to t.topology z.number)) t.topology.providers
+        (all_of (λ (z : Provider). NoneInTheWay (granted_by t) t.topology (attached_to t.topology z.number))
+        t.topology.providers
         (λ z there.
-        all_of (λ (a : Consumer). All (λ (b : Consumer). a.number ≢ b.number → ((want (granted_by t) t.topology a).w ≡ 0) ⊎ ((want (granted_by t) t.topology b).e ≡ 0)) (attached_to t.topology z.number))
+        all_of (λ (a : Consumer). All (λ (b : Consumer). a.number ≢ b.number
+        → ((want (granted_by t) t.topology a).w ≡ 0) ⊎ ((want (granted_by t) t.topology b).e ≡ 0))
+        (attached_to t.topology z.number))
         (attached_to t.topology z.number)
         (λ a at.
-        all_of (λ (b : Consumer). a.number ≢ b.number → ((want (granted_by t) t.topology a).w ≡ 0) ⊎ ((want (granted_by t) t.topology b).e ≡ 0)) (attached_to t.topology z.number)
+        all_of (λ (b : Consumer). a.number ≢ b.number → ((want (granted_by t) t.topology a).w ≡ 0)
+        ⊎ ((want (granted_by t) t.topology b).e ≡ 0)) (attached_to t.topology z.number)
         (λ b bt apart. inl (ap (λ (x : Counts). x.w) (no_want a))))));
     limit =
         (limit_means (granted_by t) t.topology).1
-        (all_of (λ (z : Provider). IsAtMost (have (granted_by t) t.topology z.number) greatest_counts) t.topology.providers
+        (all_of (λ (z : Provider). IsAtMost (have (granted_by t) t.topology z.number) greatest_counts)
+        t.topology.providers
         (λ z there. subst (λ a. IsAtMost a greatest_counts) (sym (no_have z.number)) (at_most-zero greatest_counts)));
-    risen = ap (map (λ row. row.0)) shut.risen ∙ numbers_of (λ (p : Provider). p.number) (λ (p : Provider). false) t.topology.providers;
-    fallen = ap (map (λ row. row.0)) shut.fallen ∙ numbers_of (λ (p : Provider). p.number) (λ (p : Provider). false) t.topology.providers;
+    risen = ap (map (λ row. row.0)) shut.risen
+        ∙ numbers_of (λ (p : Provider). p.number) (λ (p : Provider). false) t.topology.providers;
+    fallen = ap (map (λ row. row.0)) shut.fallen
+        ∙ numbers_of (λ (p : Provider). p.number) (λ (p : Provider). false) t.topology.providers;
     clear = shut.clear;
   }
 
@@ -142,17 +173,28 @@ shut_meshes_are_counted = record {
 -- Changes
 
 -- a row more
-row_more : {X V : Type 0} (row : X → ℕ × V) (xs : List X) (x : X) (rows : List (ℕ × V)) → rows ≡ map row xs → rows ++ row x ∷ [] ≡ map row (xs ++ x ∷ [])
+row_more : {X V : Type 0} (row : X → ℕ × V) (xs : List X) (x : X) (rows : List (ℕ × V)) → rows ≡ map row xs
+    → rows ++ row x ∷ [] ≡ map row (xs ++ x ∷ [])
 row_more row xs x rows is = ap (λ rs. rs ++ row x ∷ []) is ∙ sym (map-append row xs (x ∷ []))
 
 module _ {C : Type 0} (t : TopoView C) (shut : IsShut t) (room : Room) where
   -- with a geom of another class
-  geom_shut : (kind : Kind) (name : List ℕ) (config : C) (automatic : Bool) → is_granted_kind kind ≡ false → IsShut (record (with_geom t kind name config automatic) { room = room })
+  geom_shut : (kind : Kind) (name : List ℕ) (config : C) (automatic : Bool) → is_granted_kind kind ≡ false
+      → IsShut (record (with_geom t kind name config automatic) { room = room })
   geom_shut kind name config automatic other =
-      let made : Geom C = record { number = t.topology.next_geom; kind = kind; name = name; config = config; automatic = automatic; withering = false; started = 0 } in
+      let made : Geom C = record {
+        number = t.topology.next_geom;
+        kind = kind;
+        name = name;
+        config = config;
+        automatic = automatic;
+        withering = false;
+        started = 0;
+      } in
       record {
         kinds =
-            All-push (λ (g : Geom C). is_granted_kind g.kind ≡ true → (g.number ≡ 1) ⊎ (g.number ≡ 2)) t.topology.geoms made shut.kinds
+            All-push (λ (g : Geom C). is_granted_kind g.kind ≡ true
+            → (g.number ≡ 1) ⊎ (g.number ≡ 2)) t.topology.geoms made shut.kinds
             (λ granted. let no : true ≡ false = sym granted ∙ other in absurd (cc));
         haves = shut.haves;
         wants = shut.wants;
@@ -161,60 +203,93 @@ module _ {C : Type 0} (t : TopoView C) (shut : IsShut t) (room : Room) where
         clear =
             ap (λ (s : Scratches). record s { geoms = s.geoms ++ (t.topology.next_geom, no_scratch) ∷ [] }) shut.clear
             ∙ ap (λ rows. record (clear_scratches t.topology) { geoms = rows })
-            (row_more (λ (g : Geom C). let r : ℕ × Scratch = (g.number, no_scratch) in r) t.topology.geoms made (clear_scratches t.topology).geoms refl);
+            (row_more (λ (g : Geom C). let r : ℕ × Scratch = (g.number, no_scratch) in
+            r) t.topology.geoms made (clear_scratches t.topology).geoms refl);
       }
 
   -- with a provider
-  provider_shut : (geom : ℕ) (name : List ℕ) (size sector : ℕ) → IsShut (record (with_provider t geom name size sector) { room = room })
+  provider_shut : (geom : ℕ) (name : List ℕ) (size sector : ℕ)
+      → IsShut (record (with_provider t geom name size sector) { room = room })
   provider_shut geom name size sector =
-      let made : Provider = record { number = t.topology.next_provider; geom = geom; name = name; size = size; sector = sector; errored = false } in
+      let made : Provider = record {
+        number = t.topology.next_provider;
+        geom = geom;
+        name = name;
+        size = size;
+        sector = sector;
+        errored = false;
+      } in
       record {
         kinds = shut.kinds;
-        haves = row_more (λ (p : Provider). let r : ℕ × Counts = (p.number, no_counts) in r) t.topology.providers made t.haves shut.haves;
+        haves = row_more (λ (p : Provider). let r : ℕ × Counts = (p.number, no_counts) in
+            r) t.topology.providers made t.haves shut.haves;
         wants = shut.wants;
-        risen = row_more (λ (p : Provider). let r : ℕ × Bool = (p.number, false) in r) t.topology.providers made t.risen shut.risen;
-        fallen = row_more (λ (p : Provider). let r : ℕ × Bool = (p.number, false) in r) t.topology.providers made t.fallen shut.fallen;
+        risen = row_more (λ (p : Provider). let r : ℕ × Bool = (p.number, false) in
+            r) t.topology.providers made t.risen shut.risen;
+        fallen = row_more (λ (p : Provider). let r : ℕ × Bool = (p.number, false) in
+            r) t.topology.providers made t.fallen shut.fallen;
         clear =
-            ap (λ (s : Scratches). record s { providers = s.providers ++ (t.topology.next_provider, no_scratch) ∷ [] }) shut.clear
+            ap (λ (s : Scratches). record s {
+              providers = s.providers ++ (t.topology.next_provider, no_scratch)
+                  ∷ [];
+            }) shut.clear
             ∙ ap (λ rows. record (clear_scratches t.topology) { providers = rows })
-            (row_more (λ (p : Provider). let r : ℕ × Scratch = (p.number, no_scratch) in r) t.topology.providers made (clear_scratches t.topology).providers refl);
+            (row_more (λ (p : Provider). let r : ℕ × Scratch = (p.number, no_scratch) in
+            r) t.topology.providers made (clear_scratches t.topology).providers refl);
       }
 
   -- with a consumer
   consumer_shut : (geom : ℕ) → IsShut (record (with_consumer t geom) { room = room })
   consumer_shut geom =
-      let made : Consumer = record { number = t.topology.next_consumer; geom = geom; provider = None; spoiled = false } in
+      let made : Consumer =
+      record { number = t.topology.next_consumer; geom = geom; provider = None; spoiled = false } in
       record {
         kinds = shut.kinds;
         haves = shut.haves;
-        wants = row_more (λ (c : Consumer). let r : ℕ × Counts = (c.number, no_counts) in r) t.topology.consumers made t.wants shut.wants;
+        wants = row_more (λ (c : Consumer). let r : ℕ × Counts = (c.number, no_counts) in
+            r) t.topology.consumers made t.wants shut.wants;
         risen = shut.risen;
         fallen = shut.fallen;
         clear =
-            ap (λ (s : Scratches). record s { consumers = s.consumers ++ (t.topology.next_consumer, no_scratch) ∷ [] }) shut.clear
+            ap (λ (s : Scratches). record s {
+              consumers = s.consumers ++ (t.topology.next_consumer, no_scratch)
+                  ∷ [];
+            }) shut.clear
             ∙ ap (λ rows. record (clear_scratches t.topology) { consumers = rows })
-            (row_more (λ (c : Consumer). let r : ℕ × Scratch = (c.number, no_scratch) in r) t.topology.consumers made (clear_scratches t.topology).consumers refl);
+            (row_more (λ (c : Consumer). let r : ℕ × Scratch = (c.number, no_scratch) in
+            r) t.topology.consumers made (clear_scratches t.topology).consumers refl);
       }
 
 -- with a consumer attached
-attached_shut : {C : Type 0} (t : TopoView C) (cons prov : ℕ) → IsShut t → IsShut (with_topology t (attach t.topology cons prov))
+attached_shut : {C : Type 0} (t : TopoView C) (cons prov : ℕ) → IsShut t
+    → IsShut (with_topology t (attach t.topology cons prov))
 attached_shut t cons prov shut = record {
   kinds = shut.kinds;
   haves = shut.haves;
   wants =
       shut.wants
-      ∙ sym (map-changed (λ (c : Consumer). c.number == cons) (λ c. record c { provider = Some prov }) (λ (c : Consumer). let r : ℕ × Counts = (c.number, no_counts) in r) (λ c e. refl) t.topology.consumers);
+      ∙ sym (map-changed (λ (c : Consumer). c.number == cons) (λ c. record c { provider = Some prov })
+      (λ (c : Consumer). let r : ℕ × Counts = (c.number, no_counts) in r) (λ c e. refl) t.topology.consumers);
   risen = shut.risen;
   fallen = shut.fallen;
   clear =
       shut.clear
       ∙ ap (λ rows. record (clear_scratches t.topology) { consumers = rows })
-      (sym (map-changed (λ (c : Consumer). c.number == cons) (λ c. record c { provider = Some prov }) (λ (c : Consumer). let r : ℕ × Scratch = (c.number, no_scratch) in r) (λ c e. refl) t.topology.consumers));
+      (sym (map-changed (λ (c : Consumer). c.number == cons) (λ c. record c { provider = Some prov })
+      (λ (c : Consumer). let r : ℕ × Scratch = (c.number, no_scratch) in r) (λ c e. refl) t.topology.consumers));
 }
 
 -- one of the first geoms
 abbrev made_first : {C : Type 0} → ℕ → Kind → List ℕ → C → Geom C
-made_first n kind name config = record { number = n; kind = kind; name = name; config = config; automatic = false; withering = false; started = 0 }
+made_first n kind name config = record {
+  number = n;
+  kind = kind;
+  name = name;
+  config = config;
+  automatic = false;
+  withering = false;
+  started = 0;
+}
 
 -- in the first mesh nothing is open
 first_shut : {C : Type 0} (dev taste : C) (room : Room) → IsShut (first_mesh dev taste room)
@@ -224,7 +299,8 @@ first_shut {C} dev taste room =
       kinds =
           all_of (λ (g : Geom C). is_granted_kind g.kind ≡ true → (g.number ≡ 1) ⊎ (g.number ≡ 2)) t.topology.geoms
           (λ g there granted.
-          elim (in_cases (made_first 1 kinds.Dev (codes "dev") dev) (made_first 2 kinds.Taste (codes "taste") taste ∷ []) g there) [
+          elim (in_cases (made_first 1 kinds.Dev (codes "dev") dev) (made_first 2 kinds.Taste (codes "taste") taste
+          ∷ []) g there) [
             | inl same ↦ inl (ap (λ (x : Geom C). x.number) (sym same))
             | inr rest ↦
                 elim (in_cases (made_first 2 kinds.Taste (codes "taste") taste) [] g rest) [
@@ -243,8 +319,10 @@ first_shut {C} dev taste room =
 pub meshes_stay_shut : {C : Type 0} → MeshesStayShut C
 meshes_stay_shut = record {
   first = first_shut;
-  geom = λ t new kind name config automatic other is shut. subst IsShut (sym is) (geom_shut t shut new.room kind name config automatic other);
-  provider = λ t new geom name size sector is shut. subst IsShut (sym is) (provider_shut t shut new.room geom name size sector);
+  geom = λ t new kind name config automatic other is shut.
+      subst IsShut (sym is) (geom_shut t shut new.room kind name config automatic other);
+  provider = λ t new geom name size sector is shut.
+      subst IsShut (sym is) (provider_shut t shut new.room geom name size sector);
   consumer = λ t new geom is shut. subst IsShut (sym is) (consumer_shut t shut new.room geom);
   attached = λ t cons prov shut. attached_shut t cons prov shut;
 }

@@ -39,18 +39,22 @@ any_contains : (xs : List ℕ) (q : ℕ) → list_any (eqb q) xs ≡ true → Co
 any_contains [] q never = absurd (cc)
 any_contains (x ∷ xs) q found = step (eqb q x) refl found (any_contains xs q)
   where
-    step : (b : Bool) → eqb q x ≡ b → (b || list_any (eqb q) xs) ≡ true → (list_any (eqb q) xs ≡ true → Contains xs q) → Contains (x ∷ xs) q
+    step : (b : Bool) → eqb q x ≡ b → (b || list_any (eqb q) xs) ≡ true
+        → (list_any (eqb q) xs ≡ true → Contains xs q) → Contains (x ∷ xs) q
     step true e h so = subst (Contains (x ∷ xs)) (sym (eqb-true q x e)) (in_head x xs)
     step false e h so = in_tail x xs q (so h)
 
 -- what a fold of steps that leave each mark leaves
-spreads_mark : {C : Type 0} (way : Way) (xs : List ℕ) (v : TopoView C) (y : ℕ) → mark_at (fold (spread_from way) v xs) y ≡ mark_at v y
+spreads_mark : {C : Type 0} (way : Way) (xs : List ℕ) (v : TopoView C) (y : ℕ)
+    → mark_at (fold (spread_from way) v xs) y ≡ mark_at v y
 spreads_mark way [] v y = refl
 spreads_mark way (x ∷ xs) v y = spreads_mark way xs (spread_from way v x) y ∙ spread_marks way v x y
 
 -- so the order stays
-pub spreads_order : {C : Type 0} (way : Way) (xs : List ℕ) (v : TopoView C) (o : Order) → order_of (fold (spread_from way) v xs) o ≡ order_of v o
-spreads_order way xs v o = links_same (mark_at v) (mark_at (fold (spread_from way) v xs)) o.count o.head (λ y there. spreads_mark way xs v y)
+pub spreads_order : {C : Type 0} (way : Way) (xs : List ℕ) (v : TopoView C) (o : Order)
+    → order_of (fold (spread_from way) v xs) o ≡ order_of v o
+spreads_order way xs v o =
+    links_same (mark_at v) (mark_at (fold (spread_from way) v xs)) o.count o.head (λ y there. spreads_mark way xs v y)
 
 module _ {C : Type 0} (t : TopoView C) (sound : IsSoundGraph t.topology) where
   -- The order
@@ -60,24 +64,30 @@ module _ {C : Type 0} (t : TopoView C) (sound : IsSoundGraph t.topology) where
   lives_known x lives =
       let g = some_of (geom_at t.topology x) lives in
       subst (λ n. n < t.topology.next_geom) (geom_found t.topology x g.0 g.1)
-      (All-contains (λ n. n < t.topology.next_geom) (map (λ (y : Geom C). y.number) t.topology.geoms) g.0.number sound.orderly.order.geoms.1
-      (key_in (λ (y : Geom C). y.number) t.topology.geoms g.0 (found_in (λ (y : Geom C). y.number == x) t.topology.geoms g.0 g.1)))
+      (All-contains (λ n. n < t.topology.next_geom) (map (λ (y : Geom C). y.number) t.topology.geoms) g.0.number
+      sound.orderly.order.geoms.1
+      (key_in (λ (y : Geom C). y.number) t.topology.geoms g.0
+      (found_in (λ (y : Geom C). y.number == x) t.topology.geoms g.0 g.1)))
 
   -- there are few enough geoms in an order
-  pub order_fits : (xs : List ℕ) → IsOrder t.topology xs → ((y : ℕ) → Contains xs y → IsSome (geom_at t.topology y)) → min (length xs) (2 ^ 64 - 1) ≡ length xs
+  pub order_fits : (xs : List ℕ) → IsOrder t.topology xs
+      → ((y : ℕ) → Contains xs y → IsSome (geom_at t.topology y)) → min (length xs) (2 ^ 64 - 1) ≡ length xs
   order_fits xs order all =
       let few : length xs ≤ t.topology.next_geom =
-      length-le_from_distinct_below xs t.topology.next_geom (order_distinct t.topology xs order) (λ q found. lives_known q (all q (any_contains xs q found))) in
+      length-le_from_distinct_below xs t.topology.next_geom (order_distinct t.topology xs order)
+      (λ q found. lives_known q (all q (any_contains xs q found))) in
       let fits : t.topology.next_geom < 2 ^ 64 = sound.orderly.numbers.next_geom.fits in
       omega arith
 
   -- the order that stands in the marks
-  pub order_at : (end : ℕ) (xs : List ℕ) (s : Tries) → IsOrder t.topology xs → ((y : ℕ) → Contains xs y → IsSome (geom_at t.topology y))
+  pub order_at : (end : ℕ) (xs : List ℕ) (s : Tries) → IsOrder t.topology xs
+      → ((y : ℕ) → Contains xs y → IsSome (geom_at t.topology y))
       → ((n : ℕ) → s.marks n ≡ link_in end xs n) → order_of (trying t s) (kept_order end xs) ≡ xs
   order_at end xs s order all marks =
       ap (λ n. links (mark_at (trying t s)) n (head_or end xs)) (order_fits xs order all)
       ∙ links_same (link_in end xs) (mark_at (trying t s)) (length xs) (head_or end xs)
-      (λ y there. trying-mark t s y (all y (subst (λ ys. Contains ys y) (links_order t.topology end xs order) there)) ∙ marks y)
+      (λ y there. trying-mark t s y
+      (all y (subst (λ ys. Contains ys y) (links_order t.topology end xs order) there)) ∙ marks y)
       ∙ links_order t.topology end xs order
 
   -- What is handed down
@@ -89,14 +99,18 @@ module _ {C : Type 0} (t : TopoView C) (sound : IsSoundGraph t.topology) where
     where
       by : (o : Option ℕ) → IfSome o (λ q. IsSome (provider_at t.topology q))
           → option_map_or (give m (trying t s)) o (trying t s)
-          ≡ trying t (record s { gains = option_map_or (λ q. set_at s.gains q (cap (add_counts (s.gains q) m))) o s.gains })
+          ≡ trying t (record s {
+            gains =
+                option_map_or (λ q. set_at s.gains q (cap (add_counts (s.gains q) m))) o s.gains;
+          })
       by None there = refl
       by (Some q) there =
           trying-provider t s q (cap (add_counts (gain_at (trying t s) q) m))
           ∙ ap (λ a. trying t (record s { gains = set_at s.gains q (cap (add_counts a m)) })) (trying-gain t s q there)
 
   -- by some consumers
-  pub hand_all : (m : Counts) (cs : List Consumer) (s : Tries) → ((c : Consumer) → Contains cs c → IfSome c.provider (λ q. IsSome (provider_at t.topology q)))
+  pub hand_all : (m : Counts) (cs : List Consumer) (s : Tries)
+      → ((c : Consumer) → Contains cs c → IfSome c.provider (λ q. IsSome (provider_at t.topology q)))
       → fold (hand m) (trying t s) cs ≡ trying t (record s { gains = fold (hand_at m) s.gains cs })
   hand_all m [] s lives = refl
   hand_all m (c ∷ cs) s lives =
@@ -104,19 +118,32 @@ module _ {C : Type 0} (t : TopoView C) (sound : IsSoundGraph t.topology) where
       ∙ hand_all m cs (record s { gains = hand_at m s.gains c }) (λ d there. lives d (in_tail c cs d there))
 
   -- the providers to which a geom's consumers are attached live
-  pub places_live : (x : ℕ) (c : Consumer) → Contains (consumers_of t.topology x) c → IfSome c.provider (λ q. IsSome (provider_at t.topology q))
+  pub places_live : (x : ℕ) (c : Consumer) → Contains (consumers_of t.topology x) c
+      → IfSome c.provider (λ q. IsSome (provider_at t.topology q))
   places_live x c there =
-      All-contains (λ (d : Consumer). IfSome d.provider (λ q. IsSome (provider_at t.topology q))) t.topology.consumers c sound.orderly.parts.providers
+      All-contains (λ (d : Consumer). IfSome d.provider (λ q. IsSome (provider_at t.topology q)))
+      t.topology.consumers c sound.orderly.parts.providers
       (of_filter (λ (d : Consumer). d.geom == x) t.topology.consumers c there).0
 
   -- from one geom
-  pub spread_one : (way : Way) (s : Tries) (x : ℕ) (m : Counts) → IsSome (geom_at t.topology x) → gain_of (trying t s) way x ≡ m
-      → spread_from way (trying t s) x ≡ trying t (record s { made = set_at s.made x m; gains = fold (hand_at m) s.gains (consumers_of t.topology x) })
+  pub spread_one : (way : Way) (s : Tries) (x : ℕ) (m : Counts) → IsSome (geom_at t.topology x)
+      → gain_of (trying t s) way x ≡ m
+      → spread_from way (trying t s) x
+      ≡ trying t (record s {
+        made = set_at s.made x m;
+        gains =
+            fold (hand_at m) s.gains (consumers_of t.topology x);
+      })
   spread_one way s x m lives is =
-      ap (λ a. fold (hand a) (Rattle.geo_mesh.specs.Topo.with_geom_scratch (trying t s) x (record { mark = mark_at (trying t s) x; trial = a })) (consumers_of t.topology x)) is
+      ap (λ a. fold (hand a)
+      (Rattle.geo_mesh.specs.Topo.with_geom_scratch (trying t s) x (record {
+        mark = mark_at (trying t s) x;
+        trial = a;
+      })) (consumers_of t.topology x)) is
       ∙ ap (λ v. fold (hand m) v (consumers_of t.topology x))
       (trying-geom t s x (mark_at (trying t s) x) m
-      ∙ trying-same t (record s { marks = set_at s.marks x (mark_at (trying t s) x); made = set_at s.made x m }) (record s { made = set_at s.made x m })
+      ∙ trying-same t (record s { marks = set_at s.marks x (mark_at (trying t s) x); made = set_at s.made x m })
+      (record s { made = set_at s.made x m })
       (λ n. kept n (n == x) refl) (λ n. refl) (λ n. refl))
       ∙ hand_all m (consumers_of t.topology x) (record s { made = set_at s.made x m }) (places_live x)
     where
@@ -125,19 +152,25 @@ module _ {C : Type 0} (t : TopoView C) (sound : IsSoundGraph t.topology) where
       kept n false e = refl
 
   -- a provider of a geom is found
-  pub offers_found : (x : ℕ) (y : Provider) → Contains (providers_of t.topology x) y → provider_at t.topology y.number ≡ Some y
+  pub offers_found : (x : ℕ) (y : Provider) → Contains (providers_of t.topology x) y
+      → provider_at t.topology y.number ≡ Some y
   offers_found x y there =
-      found_of (λ (z : Provider). z.number) t.topology.providers (AllPairs-from_increasing (map (λ (z : Provider). z.number) t.topology.providers) sound.orderly.order.providers.0) y
+      found_of (λ (z : Provider). z.number) t.topology.providers
+      (AllPairs-from_increasing (map (λ (z : Provider). z.number) t.topology.providers)
+      sound.orderly.order.providers.0) y
       (of_filter (λ (z : Provider). z.geom == x) t.topology.providers y there).0
 
   module _ (way : Way) (p : ℕ) (first : Counts) (small gain : ℕ → Counts) (more : Consumer → Counts) (order : List ℕ)
       (demand : Demands t.topology p first small gain more order)
-      (shrinks : (y : Provider) → Contains t.topology.providers y → had way (have_at t y.number) (cap (gain y.number)) ≡ small y.number) where
+      (shrinks : (y : Provider) → Contains t.topology.providers y
+      → had way (have_at t y.number) (cap (gain y.number)) ≡ small y.number) where
     -- what a geom of the order gains, where all above have handed down
-    gain_is : (s : Tries) (x : ℕ) (rest : List ℕ) (g : Geom C) → IsOrder t.topology (x ∷ rest) → geom_at t.topology x ≡ Some g
+    gain_is : (s : Tries) (x : ℕ) (rest : List ℕ) (g : Geom C) → IsOrder t.topology (x ∷ rest)
+        → geom_at t.topology x ≡ Some g
         → ((q : ℕ) → s.gains q ≡ gain_without t.topology p first more (x ∷ rest) q)
         → gain_of (trying t s) way x
-        ≡ cap (gain_of_kind g.kind (map (λ y. small y.number) (providers_of t.topology g.number)) (map (λ y. gain y.number) (providers_of t.topology g.number)) no_counts)
+        ≡ cap (gain_of_kind g.kind (map (λ y. small y.number) (providers_of t.topology g.number))
+        (map (λ y. gain y.number) (providers_of t.topology g.number)) no_counts)
     gain_is s x rest g ordered found now =
         let ys : List Provider = providers_of t.topology x in
         let at : (y : Provider) → Contains ys y → gain_at (trying t s) y.number ≡ cap (gain y.number) =
@@ -146,14 +179,21 @@ module _ {C : Type 0} (t : TopoView C) (sound : IsSoundGraph t.topology) where
         ∙ flow_first t.topology p first gain more order demand.flow x rest ordered y (offers_found x y there)
         (eqb-true y.geom x (of_filter (λ (z : Provider). z.geom == x) t.topology.providers y there).1) in
         let kind : Weight → Counts = λ w. made_of g.kind w in
-        ap (λ o. option_map_or (λ (h : Geom C). made_of h.kind (fold (weigh (trying t s) way) (record { sum = no_counts; quiet = true }) ys)) o no_counts) found
+        ap (λ o. option_map_or
+        (λ (h : Geom C).
+        made_of h.kind (fold (weigh (trying t s) way) (record { sum = no_counts; quiet = true }) ys)) o
+        no_counts) found
         ∙ ap kind
         (weigh_is (trying t s) way gain small ys at
-        (λ y there. ap (had way (have_at t y.number)) (at y there) ∙ shrinks y (of_filter (λ (z : Provider). z.geom == x) t.topology.providers y there).0)
+        (λ y there. ap (had way (have_at t y.number)) (at y there)
+        ∙ shrinks y (of_filter (λ (z : Provider). z.geom == x) t.topology.providers y there).0)
         no_counts true)
-        ∙ ap (λ a. kind (record { sum = cap a; quiet = list_all is_zero (map (λ (y : Provider). small y.number) ys) })) (zero-add (sum_counts (map (λ (y : Provider). gain y.number) ys)))
+        ∙ ap (λ a. kind
+        (record { sum = cap a; quiet = list_all is_zero (map (λ (y : Provider). small y.number) ys) }))
+        (zero-add (sum_counts (map (λ (y : Provider). gain y.number) ys)))
         ∙ made_gain g.kind (map (λ y. small y.number) ys) (map (λ y. gain y.number) ys)
-        ∙ ap (λ n. cap (gain_of_kind g.kind (map (λ (y : Provider). small y.number) (providers_of t.topology n)) (map (λ (y : Provider). gain y.number) (providers_of t.topology n)) no_counts))
+        ∙ ap (λ n. cap (gain_of_kind g.kind (map (λ (y : Provider). small y.number) (providers_of t.topology n))
+        (map (λ (y : Provider). gain y.number) (providers_of t.topology n)) no_counts))
         (sym (geom_found t.topology x g found))
 
     -- what the walk over an order comes to
@@ -162,29 +202,36 @@ module _ {C : Type 0} (t : TopoView C) (sound : IsSoundGraph t.topology) where
       pub is : fold (spread_from way) (trying t s) xs ≡ trying t tries
       pub marks : (n : ℕ) → tries.marks n ≡ s.marks n
       pub gains : (q : ℕ) → tries.gains q ≡ cap (gain q)
-      pub made : (c : Consumer) → Contains t.topology.consumers c → tries.made c.geom ≡ (if has_number xs c.geom then cap (more c) else s.made c.geom)
+      pub made : (c : Consumer) → Contains t.topology.consumers c
+          → tries.made c.geom ≡ (if has_number xs c.geom then cap (more c) else s.made c.geom)
       pub others : (n : ℕ) → (Contains xs n → ⊥) → tries.made n ≡ s.made n
 
     -- over one geom more
-    made_step : (x : ℕ) (xs : List ℕ) (m μ : Counts) (old new : ℕ → Counts) (c : Consumer) → (Contains xs x → ⊥) → m ≡ cap μ → (c.geom ≡ x → more c ≡ μ)
+    made_step : (x : ℕ) (xs : List ℕ) (m μ : Counts) (old new : ℕ → Counts) (c : Consumer) → (Contains xs x → ⊥)
+        → m ≡ cap μ → (c.geom ≡ x → more c ≡ μ)
         → new c.geom ≡ (if has_number xs c.geom then cap (more c) else set_at old x m c.geom)
         → new c.geom ≡ (if (x == c.geom) || has_number xs c.geom then cap (more c) else old c.geom)
     made_step x xs m μ old new c apart is makes so =
         elim (cases_eq c.geom x) [
           | inl same ↦
               so
-              ∙ ap (λ b. if b then cap (more c) else set_at old x m c.geom) (not-has xs c.geom (λ there. apart (subst (Contains xs) same there)))
+              ∙ ap (λ b. if b then cap (more c) else set_at old x m c.geom)
+              (not-has xs c.geom (λ there. apart (subst (Contains xs) same there)))
               ∙ ap (λ b. if b then m else old c.geom) (eq-eqb c.geom x same)
               ∙ is ∙ sym (ap cap (makes same))
-              ∙ sym (ap (λ b. if b || has_number xs c.geom then cap (more c) else old c.geom) (eq-eqb x c.geom (sym same)))
+              ∙ sym (ap (λ b. if b || has_number xs c.geom then cap (more c) else old c.geom)
+              (eq-eqb x c.geom (sym same)))
           | inr other ↦
               so
-              ∙ ap (λ b. if has_number xs c.geom then cap (more c) else (if b then m else old c.geom)) (ne_eqb c.geom x other)
-              ∙ sym (ap (λ b. if b || has_number xs c.geom then cap (more c) else old c.geom) (ne_eqb x c.geom (λ e. other (sym e))))
+              ∙ ap (λ b. if has_number xs c.geom then cap (more c) else (if b then m else old c.geom))
+              (ne_eqb c.geom x other)
+              ∙ sym (ap (λ b. if b || has_number xs c.geom then cap (more c) else old c.geom)
+              (ne_eqb x c.geom (λ e. other (sym e))))
         ]
 
     -- what it comes to
-    pub spread_all : (xs : List ℕ) (s : Tries) → IsOrder t.topology xs → ((y : ℕ) → Contains xs y → IsSome (geom_at t.topology y))
+    pub spread_all : (xs : List ℕ) (s : Tries) → IsOrder t.topology xs
+        → ((y : ℕ) → Contains xs y → IsSome (geom_at t.topology y))
         → ((q : ℕ) → s.gains q ≡ gain_without t.topology p first more xs q) → Spread xs s
     spread_all [] s ordered all now = record {
       tries = s;
@@ -196,12 +243,15 @@ module _ {C : Type 0} (t : TopoView C) (sound : IsSoundGraph t.topology) where
     }
     spread_all (x ∷ xs) s ordered all now =
         let g = some_of (geom_at t.topology x) (all x (in_head x xs)) in
-        let μ : Counts = gain_of_kind g.0.kind (map (λ y. small y.number) (providers_of t.topology g.0.number)) (map (λ y. gain y.number) (providers_of t.topology g.0.number)) no_counts in
+        let μ : Counts =
+        gain_of_kind g.0.kind (map (λ y. small y.number) (providers_of t.topology g.0.number))
+        (map (λ y. gain y.number) (providers_of t.topology g.0.number)) no_counts in
         let m : Counts = gain_of (trying t s) way x in
         let is : m ≡ cap μ = gain_is s x xs g.0 ordered g.1 now in
         let makes : (c : Consumer) → Contains t.topology.consumers c → c.geom ≡ x → more c ≡ μ =
         λ c there same. demand.makes c g.0 there (ap (geom_at t.topology) same ∙ g.1) in
-        let next : Tries = record s { made = set_at s.made x m; gains = fold (hand_at m) s.gains (consumers_of t.topology x) } in
+        let next : Tries =
+        record s { made = set_at s.made x m; gains = fold (hand_at m) s.gains (consumers_of t.topology x) } in
         let rest : Spread xs next =
         spread_all xs next ordered.2 (λ y there. all y (in_tail x xs y there))
         (flow_step t.topology p first more x xs m μ s.gains now is makes ordered.0) in
@@ -210,30 +260,41 @@ module _ {C : Type 0} (t : TopoView C) (sound : IsSoundGraph t.topology) where
           is = ap (λ v. fold (spread_from way) v xs) (spread_one way s x m (all x (in_head x xs)) refl) ∙ rest.is;
           marks = rest.marks;
           gains = rest.gains;
-          made = λ c there. made_step x xs m μ s.made rest.tries.made c ordered.0 is (makes c there) (rest.made c there);
+          made = λ c there. made_step x xs m μ s.made rest.tries.made c ordered.0 is (makes c there)
+              (rest.made c there);
           others = λ n away.
               rest.others n (λ there. away (in_tail x xs n there))
-              ∙ ap (λ b. if b then m else s.made n) (ne_eqb n x (λ same. away (subst (Contains (x ∷ xs)) (sym same) (in_head x xs))));
+              ∙ ap (λ b. if b then m else s.made n)
+              (ne_eqb n x (λ same. away (subst (Contains (x ∷ xs)) (sym same) (in_head x xs))));
         }
 
   -- From a mesh in which nothing is tried
 
-  module _ (clear : t.scratches ≡ clear_scratches t.topology) (x : ℕ) (lives : IsSome (geom_at t.topology x)) (positive : 1 ≤ x) where
+  module _ (clear : t.scratches ≡ clear_scratches t.topology) (x : ℕ) (lives : IsSome (geom_at t.topology x))
+      (positive : 1 ≤ x) where
     -- the geoms below, each before those below it
     abbrev pub the_order : List ℕ
     the_order = order_from (rank t.topology x) t.topology x []
 
     -- they are in order
     pub the_order_is : IsOrder t.topology the_order
-    the_order_is = order_stays t.topology sound.ranked (rank t.topology x) x [] (omega arith) tt (λ there. in_nothing x there)
+    the_order_is =
+        order_stays t.topology sound.ranked (rank t.topology x) x [] (omega arith) tt (λ there. in_nothing x there)
 
     -- and live
     pub the_order_lives : (y : ℕ) → Contains the_order y → IsSome (geom_at t.topology y)
-    the_order_lives = order_within t.topology (λ y. IsSome (geom_at t.topology y)) (under_lives t sound x positive) (rank t.topology x) x [] lives (λ y there. absurd (in_nothing y there))
+    the_order_lives =
+        order_within t.topology (λ y. IsSome (geom_at t.topology y)) (under_lives t sound x positive)
+        (rank t.topology x) x [] lives (λ y there. absurd (in_nothing y there))
 
     -- what is gathered
-    pub gathered_is : gathered_from t x ≡ record { view = trying t (order_tries x the_order); order = kept_order x the_order }
+    pub gathered_is : gathered_from t x ≡ record {
+      view = trying t (order_tries x the_order);
+      order =
+          kept_order x the_order;
+    }
     gathered_is =
-        let P : TopoView C → Gathered C = λ v. visit (rank t.topology x) x (record { view = v; order = record { head = x; count = 0 } }) in
+        let P : TopoView C → Gathered C =
+        λ v. visit (rank t.topology x) x (record { view = v; order = record { head = x; count = 0 } }) in
         ap P (sym (trying-none t clear))
         ∙ visit_is t sound x positive (rank t.topology x) x [] lives (λ y there. absurd (in_nothing y there))

@@ -41,21 +41,25 @@ rows-set key f n v (x ∷ xs) =
     ∙ ap (λ rows. (key x, set_at f n v (key x)) ∷ rows) (rows-set key f n v xs)
 
 -- functions that agree tell the same rows
-pub rows-same : {X V : Type 0} (key : X → ℕ) (f g : ℕ → V) (xs : List X) → ((n : ℕ) → f n ≡ g n) → rows_of key f xs ≡ rows_of key g xs
+pub rows-same : {X V : Type 0} (key : X → ℕ) (f g : ℕ → V) (xs : List X) → ((n : ℕ) → f n ≡ g n)
+    → rows_of key f xs ≡ rows_of key g xs
 rows-same {X} {V} key f g xs same =
     map_same (λ x. (key x, f (key x))) (λ x. (key x, g (key x))) xs
-    (of_each (λ (x : X). ◌≡◌ {A = ℕ × V} (key x, f (key x)) (key x, g (key x))) (λ x. let P : V → ℕ × V = λ v. (key x, v) in ap P (same (key x))) xs)
+    (of_each (λ (x : X). ◌≡◌ {A = ℕ × V} (key x, f (key x)) (key x, g (key x))) (λ x. let P : V → ℕ × V =
+    λ v. (key x, v) in ap P (same (key x))) xs)
 
 -- the same over one row more
 at_step : {X V : Type 0} (key : X → ℕ) (f : ℕ → V) (n : ℕ) (x : X) (xs : List X) (y : X)
     → (find (λ z. key z == n) xs ≡ Some y → value_at (rows_of key f xs) n ≡ Some (f n))
     → (b : Bool) → (key x == n) ≡ b → cond b (Some x) (find (λ z. key z == n) xs) ≡ Some y
-    → option_map (λ row. row.1) (cond b (Some (key x, f (key x))) (find (λ row. row.0 == n) (rows_of key f xs))) ≡ Some (f n)
+    → option_map (λ row. row.1) (cond b (Some (key x, f (key x))) (find (λ row. row.0 == n) (rows_of key f xs)))
+    ≡ Some (f n)
 at_step key f n x xs y so true e found = ap (λ m. Some (f m)) (eqb-true (key x) n e)
 at_step key f n x xs y so false e found = so found
 
 -- where an item is found, its row is
-pub rows-at : {X V : Type 0} (key : X → ℕ) (f : ℕ → V) (n : ℕ) (xs : List X) (y : X) → find (λ z. key z == n) xs ≡ Some y
+pub rows-at : {X V : Type 0} (key : X → ℕ) (f : ℕ → V) (n : ℕ) (xs : List X) (y : X)
+    → find (λ z. key z == n) xs ≡ Some y
     → value_at (rows_of key f xs) n ≡ Some (f n)
 rows-at key f n [] y never = absurd (cc)
 rows-at key f n (x ∷ xs) y found = at_step key f n x xs y (rows-at key f n xs y) (key x == n) refl found
@@ -80,7 +84,8 @@ abbrev pub no_tries : Tries
 no_tries = record { marks = λ n. 0; made = λ n. no_counts; gains = λ n. no_counts }
 
 -- a value that holds at the one place or else at the other
-pub set_through : {V W : Type 0} (s : V → W) (f : ℕ → V) (x : ℕ) (v : V) (n : ℕ) → set_at (λ m. s (f m)) x (s v) n ≡ s (set_at f x v n)
+pub set_through : {V W : Type 0} (s : V → W) (f : ℕ → V) (x : ℕ) (v : V) (n : ℕ)
+    → set_at (λ m. s (f m)) x (s v) n ≡ s (set_at f x v n)
 set_through s f x v n = by (n == x)
   where
     by : (b : Bool) → (if b then s v else s (f n)) ≡ s (if b then v else f n)
@@ -104,28 +109,35 @@ module _ {C : Type 0} where
 
   -- a mesh in which nothing is tried
   pub trying-none : (t : TopoView C) → t.scratches ≡ clear_scratches t.topology → trying t no_tries ≡ t
-  trying-none t clear = ap (λ u. record t { scratches = u }) (ap (λ (u : Rattle.geo_mesh.specs.Topo.Scratches). record u {
-    geoms = rows_of (λ (x : Geom C). x.number) (geom_tries no_tries) t.topology.geoms;
-    providers = rows_of (λ (y : Provider). y.number) (provider_tries no_tries) t.topology.providers;
-  }) clear ∙ sym clear)
+  trying-none t clear =
+      ap (λ u. record t { scratches = u }) (ap (λ (u : Rattle.geo_mesh.specs.Topo.Scratches). record u {
+        geoms = rows_of (λ (x : Geom C). x.number) (geom_tries no_tries) t.topology.geoms;
+        providers = rows_of (λ (y : Provider). y.number) (provider_tries no_tries) t.topology.providers;
+      }) clear ∙ sym clear)
 
   -- look-ups
-  pub trying-mark : (t : TopoView C) (s : Tries) (x : ℕ) → IsSome (geom_at t.topology x) → mark_at (trying t s) x ≡ s.marks x
+  pub trying-mark : (t : TopoView C) (s : Tries) (x : ℕ) → IsSome (geom_at t.topology x)
+      → mark_at (trying t s) x ≡ s.marks x
   trying-mark t s x lives =
       let g = some_of (geom_at t.topology x) lives in
-      ap (λ o. option_map_or (λ (z : Scratch). z.mark) o 0) (rows-at (λ (y : Geom C). y.number) (geom_tries s) x t.topology.geoms g.0 g.1)
+      ap (λ o. option_map_or (λ (z : Scratch). z.mark) o 0)
+      (rows-at (λ (y : Geom C). y.number) (geom_tries s) x t.topology.geoms g.0 g.1)
 
   -- what the consumers of a geom gain
-  pub trying-made : (t : TopoView C) (s : Tries) (x : ℕ) → IsSome (geom_at t.topology x) → made_at (trying t s) x ≡ s.made x
+  pub trying-made : (t : TopoView C) (s : Tries) (x : ℕ) → IsSome (geom_at t.topology x)
+      → made_at (trying t s) x ≡ s.made x
   trying-made t s x lives =
       let g = some_of (geom_at t.topology x) lives in
-      ap (λ o. option_map_or (λ (z : Scratch). z.trial) o no_counts) (rows-at (λ (y : Geom C). y.number) (geom_tries s) x t.topology.geoms g.0 g.1)
+      ap (λ o. option_map_or (λ (z : Scratch). z.trial) o no_counts)
+      (rows-at (λ (y : Geom C). y.number) (geom_tries s) x t.topology.geoms g.0 g.1)
 
   -- what a provider gains
-  pub trying-gain : (t : TopoView C) (s : Tries) (q : ℕ) → IsSome (provider_at t.topology q) → gain_at (trying t s) q ≡ s.gains q
+  pub trying-gain : (t : TopoView C) (s : Tries) (q : ℕ) → IsSome (provider_at t.topology q)
+      → gain_at (trying t s) q ≡ s.gains q
   trying-gain t s q lives =
       let y = some_of (provider_at t.topology q) lives in
-      ap (λ o. option_map_or (λ (z : Scratch). z.trial) o no_counts) (rows-at (λ (z : Provider). z.number) (provider_tries s) q t.topology.providers y.0 y.1)
+      ap (λ o. option_map_or (λ (z : Scratch). z.trial) o no_counts)
+      (rows-at (λ (z : Provider). z.number) (provider_tries s) q t.topology.providers y.0 y.1)
 
   -- a geom's scratch that is set
   pub trying-geom : (t : TopoView C) (s : Tries) (x mark : ℕ) (gain : Counts)
@@ -146,10 +158,12 @@ module _ {C : Type 0} where
 
   -- a provider's scratch that is set
   pub trying-provider : (t : TopoView C) (s : Tries) (q : ℕ) (gain : Counts)
-      → with_provider_scratch (trying t s) q (record { mark = 0; trial = gain }) ≡ trying t (record s { gains = set_at s.gains q gain })
+      → with_provider_scratch (trying t s) q (record { mark = 0; trial = gain })
+      ≡ trying t (record s { gains = set_at s.gains q gain })
   trying-provider t s q gain =
       ap (λ rows. record (trying t s) { scratches = record (trying t s).scratches { providers = rows } })
-      (rows-set (λ (y : Provider). y.number) (provider_tries s) q (record { mark = 0; trial = gain }) t.topology.providers
+      (rows-set (λ (y : Provider). y.number) (provider_tries s) q (record { mark = 0; trial = gain })
+      t.topology.providers
       ∙ rows-same (λ (y : Provider). y.number) (set_at (provider_tries s) q (record { mark = 0; trial = gain }))
       (provider_tries (record s { gains = set_at s.gains q gain })) t.topology.providers
       (λ n. both (n == q) n))
@@ -181,10 +195,12 @@ abbrev pub order_tries : ℕ → List ℕ → Tries
 order_tries end xs = record no_tries { marks = link_in end xs }
 
 -- the same over one geom more
-zero_step : (end x : ℕ) (xs : List ℕ) (h : ℕ) → 1 ≤ head_or end xs → (link_in end xs h == 0) ≡ not (has_number xs h) → (b : Bool) → (h == x) ≡ b
+zero_step : (end x : ℕ) (xs : List ℕ) (h : ℕ) → 1 ≤ head_or end xs
+    → (link_in end xs h == 0) ≡ not (has_number xs h) → (b : Bool) → (h == x) ≡ b
     → ((if b then head_or end xs else link_in end xs h) == 0) ≡ not ((x == h) || has_number xs h)
 zero_step end x xs h some so true e =
-    ne_eqb (head_or end xs) 0 (λ none. omega arith) ∙ sym (ap (λ b. not (b || has_number xs h)) (eq-eqb x h (sym (eqb-true h x e))))
+    ne_eqb (head_or end xs) 0 (λ none. omega arith)
+    ∙ sym (ap (λ b. not (b || has_number xs h)) (eq-eqb x h (sym (eqb-true h x e))))
 zero_step end x xs h some so false e =
     so ∙ sym (ap (λ b. not (b || has_number xs h)) (apart (x == h) refl))
   where
@@ -193,25 +209,30 @@ zero_step end x xs h some so false e =
     apart false other = refl
 
 -- a geom isn't marked just where it isn't in the order
-pub link_zero : (end : ℕ) (xs : List ℕ) (h : ℕ) → 1 ≤ end → ((y : ℕ) → Contains xs y → 1 ≤ y) → (link_in end xs h == 0) ≡ not (has_number xs h)
+pub link_zero : (end : ℕ) (xs : List ℕ) (h : ℕ) → 1 ≤ end → ((y : ℕ) → Contains xs y → 1 ≤ y)
+    → (link_in end xs h == 0) ≡ not (has_number xs h)
 link_zero end [] h some each = refl
 link_zero end (x ∷ xs) h some each =
-    zero_step end x xs h (first xs (λ y there. each y (in_tail x xs y there))) (link_zero end xs h some (λ y there. each y (in_tail x xs y there))) (h == x) refl
+    zero_step end x xs h (first xs (λ y there. each y (in_tail x xs y there)))
+    (link_zero end xs h some (λ y there. each y (in_tail x xs y there))) (h == x) refl
   where
     first : (ys : List ℕ) → ((y : ℕ) → Contains ys y → 1 ≤ y) → 1 ≤ head_or end ys
     first [] positive = some
     first (y ∷ ys) positive = positive y (in_head y ys)
 
 -- the marks lead through the order
-pub links_order : {C : Type 0} (t : Topology C) (end : ℕ) (xs : List ℕ) → IsOrder t xs → links (link_in end xs) (length xs) (head_or end xs) ≡ xs
+pub links_order : {C : Type 0} (t : Topology C) (end : ℕ) (xs : List ℕ) → IsOrder t xs
+    → links (link_in end xs) (length xs) (head_or end xs) ≡ xs
 links_order t end [] order = refl
 links_order t end (x ∷ xs) order =
     ap (λ ys. x ∷ ys)
-    (ap (links (link_in end (x ∷ xs)) (length xs)) (ap (λ b. if b then head_or end xs else link_in end xs x) (eq-eqb x x refl))
+    (ap (links (link_in end (x ∷ xs)) (length xs))
+    (ap (λ b. if b then head_or end xs else link_in end xs x) (eq-eqb x x refl))
     ∙ links_same (link_in end xs) (link_in end (x ∷ xs)) (length xs) (head_or end xs)
     (λ y there.
     ap (λ b. if b then head_or end xs else link_in end xs y)
-    (ne_eqb y x (λ same. order.0 (subst (Contains xs) same (subst (λ ys. Contains ys y) (links_order t end xs order.2) there)))))
+    (ne_eqb y x (λ same.
+    order.0 (subst (Contains xs) same (subst (λ ys. Contains ys y) (links_order t end xs order.2) there)))))
     ∙ links_order t end xs order.2)
 
 -- the geoms of an order differ

@@ -30,14 +30,16 @@ use Rattle.geo_access.proofs.TryOut.{the_order_is, the_order_lives, gathered_is,
 
 -- the tries before any geom has handed down
 abbrev pub first_tries : ℕ → List ℕ → ℕ → Counts → Tries
-first_tries x xs p add = record (order_tries x xs) { gains = set_at (λ n. no_counts) p (cap (add_counts no_counts add)) }
+first_tries x xs p add =
+    record (order_tries x xs) { gains = set_at (λ n. no_counts) p (cap (add_counts no_counts add)) }
 
 -- an order has no geom twice
 pub order_apart : {C : Type 0} (t : Topology C) (xs : List ℕ) → IsOrder t xs → Apart xs
 order_apart t [] order = tt
 order_apart t (x ∷ xs) order = (order.0, order_apart t xs order.2)
 
-module _ {C : Type 0} (t : TopoView C) (sound : IsSoundGraph t.topology) (clear : t.scratches ≡ clear_scratches t.topology)
+module _ {C : Type 0} (t : TopoView C) (sound : IsSoundGraph t.topology) (clear : t.scratches
+    ≡ clear_scratches t.topology)
     (p : ℕ) (y : Provider) (found : provider_at t.topology p ≡ Some y) where
   -- the geom lives
   pub place_lives : IsSome (geom_at t.topology y.geom)
@@ -64,11 +66,15 @@ module _ {C : Type 0} (t : TopoView C) (sound : IsSoundGraph t.topology) (clear 
     where
       head : (k : ℕ) → 1 ≤ k → Contains (order_from k t.topology y.geom []) y.geom
       head zero some = absurd (omega arith)
-      head (suc k) some = in_head y.geom (fold (λ ys h. if has_number ys h then ys else order_from k t.topology h ys) [] (geoms_under t.topology y.geom))
+      head (suc k) some =
+          in_head y.geom (fold (λ ys h. if has_number ys h then ys else order_from k t.topology h ys) []
+          (geoms_under t.topology y.geom))
 
-  -- each provider that is reached is p or one to which a consumer of these geoms is attached, and its geom is among them
+  -- each provider that is reached is p or one to which a consumer of these geoms is attached, and its geom is among
+  -- them
   abbrev pub IsTouched : ℕ → Type 0
-  IsTouched q = Contains (p ∷ flat_map (providers_under t.topology) geoms_below) q × ((z : Provider) → provider_at t.topology q ≡ Some z → Contains geoms_below z.geom)
+  IsTouched q = Contains (p ∷ flat_map (providers_under t.topology) geoms_below) q
+      × ((z : Provider) → provider_at t.topology q ≡ Some z → Contains geoms_below z.geom)
 
   pub reached_touched : (q : ℕ) → Contains (below t.topology p) q → IsTouched q
   reached_touched =
@@ -76,11 +82,13 @@ module _ {C : Type 0} (t : TopoView C) (sound : IsSoundGraph t.topology) (clear 
       (λ u x q touched at under. (
         in_tail p (flat_map (providers_under t.topology) geoms_below) q
             (in_flat_map (providers_under t.topology) geoms_below x.geom q (touched.1 x at) under),
-        (λ z there. order_closed t.topology geoms_below below_ordered x.geom z.geom (touched.1 x at) (is-under t.topology x.geom q z under there)),
+        (λ z there. order_closed t.topology geoms_below below_ordered x.geom z.geom (touched.1 x at)
+            (is-under t.topology x.geom q z under there)),
       ))
       p (
         in_head p (flat_map (providers_under t.topology) geoms_below),
-        (λ z there. let same : y ≡ z = let e : Some y ≡ Some z = sym found ∙ there in cc in subst (λ w. Contains geoms_below w.geom) same first_below),
+        (λ z there. let same : y ≡ z = let e : Some y ≡ Some z = sym found ∙ there in cc in
+            subst (λ w. Contains geoms_below w.geom) same first_below),
       )
 
   -- so the order covers what is reached
@@ -92,38 +100,53 @@ module _ {C : Type 0} (t : TopoView C) (sound : IsSoundGraph t.topology) (clear 
   HasReached x = (q : ℕ) × Contains (below t.topology p) q × IsSomeAnd (provider_at t.topology q) (λ z. z.geom ≡ x)
 
   -- a consumer of such a geom is attached to what is reached
-  pub attached_reached : (x q : ℕ) → HasReached x → Contains (providers_under t.topology x) q → Contains (below t.topology p) q
+  pub attached_reached : (x q : ℕ) → HasReached x → Contains (providers_under t.topology x) q
+      → Contains (below t.topology p) q
   attached_reached x q has under =
       let d = filter_map_cases (λ (c : Consumer). c.provider) (consumers_of t.topology x) q under in
       let inside = of_filter (λ (c : Consumer). c.geom == x) t.topology.consumers d.0 d.1 in
       below_closed t.topology sound.ranked p has.0 q d.0 inside.0 d.2
-      (subst (λ n. IsSomeAnd (provider_at t.topology has.0) (λ z. z.geom ≡ n)) (sym (eqb-true d.0.geom x inside.1)) has.2) has.1
+      (subst (λ n. IsSomeAnd (provider_at t.topology has.0) (λ z. z.geom ≡ n)) (sym (eqb-true d.0.geom x inside.1))
+      has.2) has.1
 
   pub all_reached : (x : ℕ) → Contains geoms_below x → HasReached x
   all_reached =
       order_within t.topology HasReached
       (λ x h has under.
-      let at = under-is t.topology x h under in
-      (at.prov, attached_reached x at.prov has at.below, subst (λ o. IsSomeAnd o (λ (z : Provider). z.geom ≡ h)) (sym at.found) at.geom))
-      (rank t.topology y.geom) y.geom []
-      (p, below_self (length t.topology.geoms) t.topology p, subst (λ o. IsSomeAnd o (λ (z : Provider). z.geom ≡ y.geom)) (sym found) refl)
+      let at = under-is t.topology x h under in (
+        at.prov,
+        attached_reached x at.prov has at.below,
+        subst (λ o. IsSomeAnd o (λ (z : Provider). z.geom ≡ h)) (sym at.found) at.geom,
+      ))
+      (rank t.topology y.geom) y.geom [] (
+        p,
+        below_self (length t.topology.geoms) t.topology p,
+        subst (λ o. IsSomeAnd o (λ (z : Provider). z.geom ≡ y.geom)) (sym found) refl,
+      )
       (λ x there. absurd (in_nothing x there))
 
   -- What was tried
 
   -- the mesh before any geom has handed down
-  pub given_is : (add : Counts) → give add (gathered_from t y.geom).view p ≡ trying t (first_tries y.geom geoms_below p add)
+  pub given_is : (add : Counts)
+      → give add (gathered_from t y.geom).view p ≡ trying t (first_tries y.geom geoms_below p add)
   given_is add =
       ap (λ (s : Gathered C). give add s.view p) (gathered_is t sound clear y.geom place_lives place_positive)
-      ∙ trying-provider t (order_tries y.geom geoms_below) p (cap (add_counts (gain_at (trying t (order_tries y.geom geoms_below)) p) add))
-      ∙ ap (λ a. trying t (record (order_tries y.geom geoms_below) { gains = set_at (λ n. no_counts) p (cap (add_counts a add)) }))
+      ∙ trying-provider t (order_tries y.geom geoms_below) p
+      (cap (add_counts (gain_at (trying t (order_tries y.geom geoms_below)) p) add))
+      ∙ ap (λ a. trying t (record (order_tries y.geom geoms_below) {
+        gains =
+            set_at (λ n. no_counts) p (cap (add_counts a add));
+      }))
       (trying-gain t (order_tries y.geom geoms_below) p (subst (λ o. IsSome o) (sym found) refl))
 
   -- the order that stands in it
-  pub given_order : (add : Counts) → order_of (give add (gathered_from t y.geom).view p) (gathered_from t y.geom).order ≡ geoms_below
+  pub given_order : (add : Counts)
+      → order_of (give add (gathered_from t y.geom).view p) (gathered_from t y.geom).order ≡ geoms_below
   given_order add =
       ap (λ v. order_of v (gathered_from t y.geom).order) (given_is add)
-      ∙ ap (λ (s : Gathered C). order_of (trying t (first_tries y.geom geoms_below p add)) s.order) (gathered_is t sound clear y.geom place_lives place_positive)
+      ∙ ap (λ (s : Gathered C). order_of (trying t (first_tries y.geom geoms_below p add)) s.order)
+      (gathered_is t sound clear y.geom place_lives place_positive)
       ∙ order_at t sound y.geom geoms_below (first_tries y.geom geoms_below p add) below_ordered below_lives (λ n. refl)
 
   -- its graph is the mesh's
@@ -132,9 +155,11 @@ module _ {C : Type 0} (t : TopoView C) (sound : IsSoundGraph t.topology) (clear 
 
   module _ (way : Way) (add : Counts) (small gain : ℕ → Counts) (more : Consumer → Counts)
       (demand : Demands t.topology p add small gain more geoms_below)
-      (shrinks : (z : Provider) → Contains t.topology.providers z → had way (have_at t z.number) (cap (gain z.number)) ≡ small z.number) where
+      (shrinks : (z : Provider) → Contains t.topology.providers z
+      → had way (have_at t z.number) (cap (gain z.number)) ≡ small z.number) where
     -- at first only p has gained
-    first_gains : (q : ℕ) → (first_tries y.geom geoms_below p add).gains q ≡ gain_without t.topology p add more geoms_below q
+    first_gains : (q : ℕ)
+        → (first_tries y.geom geoms_below p add).gains q ≡ gain_without t.topology p add more geoms_below q
     first_gains q =
         set_at-value (λ n. no_counts) p (cap (add_counts no_counts add)) q (p == q) refl
         ∙ by (p == q)
@@ -145,11 +170,14 @@ module _ {C : Type 0} (t : TopoView C) (sound : IsSoundGraph t.topology) (clear 
         by false = refl
 
     -- what the walk comes to
-    pub walked : Spread t sound way p add small gain more geoms_below demand shrinks geoms_below (first_tries y.geom geoms_below p add)
-    walked = spread_all t sound way p add small gain more geoms_below demand shrinks geoms_below (first_tries y.geom geoms_below p add) below_ordered below_lives first_gains
+    pub walked : Spread t sound way p add small gain more geoms_below demand shrinks geoms_below
+        (first_tries y.geom geoms_below p add)
+    walked = spread_all t sound way p add small gain more geoms_below demand shrinks geoms_below
+        (first_tries y.geom geoms_below p add) below_ordered below_lives first_gains
 
 -- the mesh after a demand was tried
-module _ {C : Type 0} (t : TopoView C) (sound : IsSoundGraph t.topology) (clear : t.scratches ≡ clear_scratches t.topology)
+module _ {C : Type 0} (t : TopoView C) (sound : IsSoundGraph t.topology) (clear : t.scratches
+    ≡ clear_scratches t.topology)
     (p : ℕ) (add : Counts) (way : Way) (new : TopoView C) (o : Order) (tried : IsTried t p add way new o) where
   -- the order that stands in it
   pub tried_order : order_of new o ≡ geoms_below t sound clear p tried.offer tried.found
@@ -158,8 +186,13 @@ module _ {C : Type 0} (t : TopoView C) (sound : IsSoundGraph t.topology) (clear 
       ∙ given_order t sound clear p tried.offer tried.found add
 
   -- it is the walk over that order
-  pub tried_view : new ≡ fold (spread_from way) (trying t (first_tries tried.offer.geom (geoms_below t sound clear p tried.offer tried.found) p add)) (geoms_below t sound clear p tried.offer tried.found)
+  pub tried_view : new
+      ≡ fold (spread_from way)
+      (trying t (first_tries tried.offer.geom (geoms_below t sound clear p tried.offer tried.found) p add))
+      (geoms_below t sound clear p tried.offer tried.found)
   tried_view =
       tried.view
-      ∙ ap (fold (spread_from way) (give add (gathered_from t tried.offer.geom).view p)) (sym tried.orders ∙ tried_order)
-      ∙ ap (λ v. fold (spread_from way) v (geoms_below t sound clear p tried.offer tried.found)) (given_is t sound clear p tried.offer tried.found add)
+      ∙ ap (fold (spread_from way) (give add (gathered_from t tried.offer.geom).view p)) (sym tried.orders
+      ∙ tried_order)
+      ∙ ap (λ v. fold (spread_from way) v (geoms_below t sound clear p tried.offer tried.found))
+      (given_is t sound clear p tried.offer tried.found add)

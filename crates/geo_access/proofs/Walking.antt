@@ -18,7 +18,8 @@ use Rattle.geo_laws_counts.proofs.Numbers.{found_of}
 use Rattle.geo_access.specs.Views.{IsNextConsumer, IsNextProvider, links}
 
 -- the same over one item more
-found_step : {X : Type 0} (test : X → Bool) (y : X) (ys : List X) (x : X) → (find test ys ≡ Some x → Contains ys x) → (b : Bool)
+found_step : {X : Type 0} (test : X → Bool) (y : X) (ys : List X) (x : X) → (find test ys ≡ Some x → Contains ys x)
+    → (b : Bool)
     → cond b (Some y) (find test ys) ≡ Some x → Contains (y ∷ ys) x
 found_step test y ys x so true found = let same : y ≡ x = cc in subst (Contains (y ∷ ys)) same (in_head y ys)
 found_step test y ys x so false found = in_tail y ys x (so found)
@@ -37,15 +38,20 @@ pub record IsNextItem {X : Type 0} (number : X → ℕ) (xs part : List X) (next
   pub known : n < next
 
 -- it is found by its number
-pub next_item : {X : Type 0} (number : X → ℕ) (keep : X → Bool) (xs : List X) (next from_number n : ℕ) → AreNumbers (map number xs) next
+pub next_item : {X : Type 0} (number : X → ℕ) (keep : X → Bool) (xs : List X) (next from_number n : ℕ)
+    → AreNumbers (map number xs) next
     → option_map number (find (λ y. nat_le from_number (number y)) (filter keep xs)) ≡ Some n
     → IsNextItem number xs (filter keep xs) next from_number n
 next_item number keep xs next from_number n order first =
     let step : IsStep number (filter keep xs) next from_number n =
-    WalksMeetAll.step walks-meet number (filter keep xs) next from_number n (WalksMeetAll.part walks-meet number keep xs next order) first in
+    WalksMeetAll.step walks-meet number (filter keep xs) next from_number n
+    (WalksMeetAll.part walks-meet number keep xs next order) first in
     let left : Contains (left_from number from_number (filter keep xs)) step.item =
-    subst (λ ys. Contains ys step.item) (sym step.left) (in_head step.item (left_from number (n + 1) (filter keep xs))) in
-    let inside = of_filter keep xs step.item (of_filter (λ y. nat_le from_number (number y)) (filter keep xs) step.item left).0 in
+    subst (λ ys. Contains ys step.item) (sym step.left)
+    (in_head step.item (left_from number (n + 1) (filter keep xs))) in
+    let inside =
+    of_filter keep xs step.item
+    (of_filter (λ y. nat_le from_number (number y)) (filter keep xs) step.item left).0 in
     record {
       item = step.item;
       found =
@@ -57,29 +63,38 @@ next_item number keep xs next from_number n order first =
     }
 
 -- nothing is left where nothing comes next
-pub consumers_end : (xs : List Consumer) (from_number : ℕ) → option_map (λ (y : Consumer). y.number) (find (λ y. nat_le from_number y.number) xs) ≡ None
+pub consumers_end : (xs : List Consumer) (from_number : ℕ)
+    → option_map (λ (y : Consumer). y.number) (find (λ y. nat_le from_number y.number) xs) ≡ None
     → left_from (λ (y : Consumer). y.number) from_number xs ≡ []
 consumers_end xs from_number none = WalksMeetAll.rest walks-meet (λ (y : Consumer). y.number) xs from_number none
 
 -- the same for providers
-pub providers_end : (xs : List Provider) (from_number : ℕ) → option_map (λ (y : Provider). y.number) (find (λ y. nat_le from_number y.number) xs) ≡ None
+pub providers_end : (xs : List Provider) (from_number : ℕ)
+    → option_map (λ (y : Provider). y.number) (find (λ y. nat_le from_number y.number) xs) ≡ None
     → left_from (λ (y : Provider). y.number) from_number xs ≡ []
 providers_end xs from_number none = WalksMeetAll.rest walks-meet (λ (y : Provider). y.number) xs from_number none
 
 module _ {C : Type 0} (t : Topology C) (sound : IsSoundGraph t) where
   -- the next consumer of a walk, as the look-up gives it
   pub consumer_next : (keep : Consumer → Bool) (from_number n : ℕ) (x : ConsRec)
-      → option_map (λ (y : Consumer). y.number) (find (λ y. nat_le from_number y.number) (filter keep t.consumers)) ≡ Some n
+      → option_map (λ (y : Consumer). y.number) (find (λ y. nat_le from_number y.number) (filter keep t.consumers))
+      ≡ Some n
       → consumer_at t n ≡ Some (consumer_seen n x)
       → IsNextConsumer t (filter keep t.consumers) from_number n x
   consumer_next keep from_number n x first found =
-      let next = next_item (λ (y : Consumer). y.number) keep t.consumers t.next_consumer from_number n sound.orderly.order.consumers first in
-      let same : next.item ≡ consumer_seen n x = let e : Some next.item ≡ Some (consumer_seen n x) = sym next.found ∙ found in cc in
+      let next = next_item (λ (y : Consumer). y.number) keep t.consumers t.next_consumer from_number n
+      sound.orderly.order.consumers first in
+      let same : next.item ≡ consumer_seen n x = let e : Some next.item ≡ Some (consumer_seen n x) =
+      sym next.found ∙ found in cc in
       record {
         left = next.left ∙ ap (λ y. y ∷ left_from (λ (z : Consumer). z.number) (n + 1) (filter keep t.consumers)) same;
         lives = found;
-        geom = All-contains (λ (c : Consumer). IsSome (geom_at t c.geom)) t.consumers (consumer_seen n x) sound.orderly.parts.geoms (found_in (λ (c : Consumer). c.number == n) t.consumers (consumer_seen n x) found);
-        place = All-contains (λ (c : Consumer). IfSome c.provider (λ p. IsSome (provider_at t p))) t.consumers (consumer_seen n x) sound.orderly.parts.providers (found_in (λ (c : Consumer). c.number == n) t.consumers (consumer_seen n x) found);
+        geom = All-contains (λ (c : Consumer). IsSome (geom_at t c.geom)) t.consumers (consumer_seen n x)
+            sound.orderly.parts.geoms
+            (found_in (λ (c : Consumer). c.number == n) t.consumers (consumer_seen n x) found);
+        place = All-contains (λ (c : Consumer). IfSome c.provider (λ p. IsSome (provider_at t p))) t.consumers
+            (consumer_seen n x) sound.orderly.parts.providers
+            (found_in (λ (c : Consumer). c.number == n) t.consumers (consumer_seen n x) found);
         past = next.past;
         known = next.known;
         fits = sound.orderly.numbers.next_consumer.fits;
@@ -87,20 +102,25 @@ module _ {C : Type 0} (t : Topology C) (sound : IsSoundGraph t) where
 
   -- and there is one
   pub consumer_some : (keep : Consumer → Bool) (from_number n : ℕ)
-      → option_map (λ (y : Consumer). y.number) (find (λ y. nat_le from_number y.number) (filter keep t.consumers)) ≡ Some n
+      → option_map (λ (y : Consumer). y.number) (find (λ y. nat_le from_number y.number) (filter keep t.consumers))
+      ≡ Some n
       → consumer_at t n ≡ None → ⊥
   consumer_some keep from_number n first none =
-      let next = next_item (λ (y : Consumer). y.number) keep t.consumers t.next_consumer from_number n sound.orderly.order.consumers first in
+      let next = next_item (λ (y : Consumer). y.number) keep t.consumers t.next_consumer from_number n
+      sound.orderly.order.consumers first in
       let e : None ≡ Some next.item = sym none ∙ next.found in cc
 
   -- the same for providers
   pub provider_next : (keep : Provider → Bool) (from_number n : ℕ) (x : ProvRec)
-      → option_map (λ (y : Provider). y.number) (find (λ y. nat_le from_number y.number) (filter keep t.providers)) ≡ Some n
+      → option_map (λ (y : Provider). y.number) (find (λ y. nat_le from_number y.number) (filter keep t.providers))
+      ≡ Some n
       → provider_at t n ≡ Some (provider_seen n x)
       → IsNextProvider t (filter keep t.providers) from_number n x
   provider_next keep from_number n x first found =
-      let next = next_item (λ (y : Provider). y.number) keep t.providers t.next_provider from_number n sound.orderly.order.providers first in
-      let same : next.item ≡ provider_seen n x = let e : Some next.item ≡ Some (provider_seen n x) = sym next.found ∙ found in cc in
+      let next = next_item (λ (y : Provider). y.number) keep t.providers t.next_provider from_number n
+      sound.orderly.order.providers first in
+      let same : next.item ≡ provider_seen n x = let e : Some next.item ≡ Some (provider_seen n x) =
+      sym next.found ∙ found in cc in
       record {
         left = next.left ∙ ap (λ y. y ∷ left_from (λ (z : Provider). z.number) (n + 1) (filter keep t.providers)) same;
         lives = found;
@@ -111,16 +131,20 @@ module _ {C : Type 0} (t : Topology C) (sound : IsSoundGraph t) where
 
   -- and there is one
   pub provider_some : (keep : Provider → Bool) (from_number n : ℕ)
-      → option_map (λ (y : Provider). y.number) (find (λ y. nat_le from_number y.number) (filter keep t.providers)) ≡ Some n
+      → option_map (λ (y : Provider). y.number) (find (λ y. nat_le from_number y.number) (filter keep t.providers))
+      ≡ Some n
       → provider_at t n ≡ None → ⊥
   provider_some keep from_number n first none =
-      let next = next_item (λ (y : Provider). y.number) keep t.providers t.next_provider from_number n sound.orderly.order.providers first in
+      let next = next_item (λ (y : Provider). y.number) keep t.providers t.next_provider from_number n
+      sound.orderly.order.providers first in
       let e : None ≡ Some next.item = sym none ∙ next.found in cc
 
 -- the geom of a provider lives
-pub offerer_lives : {C : Type 0} (t : Topology C) → IsSoundGraph t → (p : ℕ) (x : Provider) → provider_at t p ≡ Some x → IsSome (geom_at t x.geom)
+pub offerer_lives : {C : Type 0} (t : Topology C) → IsSoundGraph t → (p : ℕ) (x : Provider)
+    → provider_at t p ≡ Some x → IsSome (geom_at t x.geom)
 offerer_lives t sound p x found =
-    All-contains (λ (y : Provider). IsSome (geom_at t y.geom)) t.providers x sound.orderly.parts.offerers (found_in (λ (y : Provider). y.number == p) t.providers x found)
+    All-contains (λ (y : Provider). IsSome (geom_at t y.geom)) t.providers x sound.orderly.parts.offerers
+    (found_in (λ (y : Provider). y.number == p) t.providers x found)
 
 -- what holds of all of some links holds of the first
 pub first_link : (P : ℕ → Type 0) (next : ℕ → ℕ) (n x : ℕ) → (n ≡ 0 → ⊥) → All P (links next n x) → P x

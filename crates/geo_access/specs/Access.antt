@@ -1,4 +1,5 @@
--- The running access counts as contracts see them (g_access(9)): what holds of them at each call, and what a call does and answers.
+-- The running access counts as contracts see them (g_access(9)): what holds of them at each call, and what a call
+-- does and answers.
 use Rattle.std.specs.Prelude.{◌≡◌, ◌⊎◌, ℕ, ◌==◌, Bool, true, false, not, ◌&&◌, List, [], map, filter, Option, Some, None, Result, Ok, Err, IsSome, IsSomeAnd, IsTrue, All, unwrap_or, length, find, if◌then◌else◌}
 use Rattle.std.specs.List.{list_any}
 use Rattle.std.specs.Option.{option_map, option_map_or}
@@ -64,11 +65,12 @@ module _ {C : Type 0} where
     pub risen : t.risen ≡ map (λ (p : Provider). (p.number, false)) t.topology.providers
     pub fallen : t.fallen ≡ map (λ (p : Provider). (p.number, false)) t.topology.providers
 
-  -- the stored counts are those that the model sums up from the grants, none stands in another's way, and no count is too
-  -- great; only the first two geoms are of DEV or TASTE, each provider has its notes, and nothing is left to try
+  -- the stored counts are those that the model sums up from the grants, none stands in another's way, and no count is
+  -- too great; only the first two geoms are of DEV or TASTE, each provider has its notes, and nothing is left to try
   pub record IsCounted (t : TopoView C) : Type 0 where
     pub kinds : All (λ g. is_granted_kind g.kind ≡ true → (g.number ≡ 1) ⊎ (g.number ≡ 2)) t.topology.geoms
-    pub haves : t.haves ≡ map (λ (p : Provider). (p.number, have (granted_by t) t.topology p.number)) t.topology.providers
+    pub haves : t.haves ≡ map (λ (p : Provider). (p.number, have (granted_by t) t.topology p.number))
+        t.topology.providers
     pub wants : t.wants ≡ map (λ (c : Consumer). (c.number, want (granted_by t) t.topology c)) t.topology.consumers
     pub exclusive : IsTrue (is_exclusive (granted_by t) t.topology)
     pub limit : IsTrue (fits_limit (granted_by t) t.topology)
@@ -101,7 +103,9 @@ module _ {C : Type 0} where
   granted_view t c add =
       let after : ℕ → Counts = with_grant (granted_by t) c add in
       record (counted_view t after) {
-        risen = map (λ (p : Provider). (p.number, leaves_zero (have (granted_by t) t.topology p.number) (have after t.topology p.number))) t.topology.providers;
+        risen = map (λ (p : Provider).
+            (p.number, leaves_zero (have (granted_by t) t.topology p.number) (have after t.topology p.number)))
+            t.topology.providers;
       }
 
   -- without a consumer's grant, and a note at each provider whose write count came to zero
@@ -109,7 +113,12 @@ module _ {C : Type 0} where
   released_view t c =
       let after : ℕ → Counts = with_grant (granted_by t) c no_counts in
       record (counted_view t after) {
-        fallen = map (λ (p : Provider). (p.number, comes_to_zero (have (granted_by t) t.topology p.number) (have after t.topology p.number))) t.topology.providers;
+        fallen = map
+            (λ (p : Provider). (
+              p.number,
+              comes_to_zero (have (granted_by t) t.topology p.number)
+                  (have after t.topology p.number),
+            )) t.topology.providers;
       }
 
   -- how many consumers belong to the geom of a provider that is reached downwards from one
@@ -117,11 +126,13 @@ module _ {C : Type 0} where
   consumers_below t p =
       length
       (filter
-      (λ (c : Consumer). list_any (λ q. option_map_or (λ (y : Provider). y.geom == c.geom) (provider_at t q) false) (below t p))
+      (λ (c : Consumer). list_any (λ q. option_map_or (λ (y : Provider). y.geom == c.geom) (provider_at t q) false)
+      (below t p))
       t.consumers)
 
-  -- what a refusal names, where these are the grants once the demand stands: of the providers reached downwards that carry an
-  -- error the one with the smallest number; a writer and another consumer with an exclusive count; a provider past the limit
+  -- what a refusal names, where these are the grants once the demand stands: of the providers reached downwards that
+  -- carry an error the one with the smallest number; a writer and another consumer with an exclusive count; a
+  -- provider past the limit
   abbrev pub IsNamed : (ℕ → Counts) → Topology C → ℕ → Result (Unit {0}) GrantRefusal → Type 0
   IsNamed after t p (Ok _) = Unit {0}
   IsNamed after t p (Err (Enxio q)) = IsFirstErrored t p q

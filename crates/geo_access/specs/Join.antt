@@ -46,8 +46,11 @@ module _ {C : Type 0} where
   -- two geoms are of DEV or TASTE, each provider has its notes, and nothing is left to try
   pub record IsCountedBut (t : TopoView C) (cons : ℕ) : Type 0 where
     pub kinds : All (λ g. is_granted_kind g.kind ≡ true → (g.number ≡ 1) ⊎ (g.number ≡ 2)) t.topology.geoms
-    pub haves : t.haves ≡ map (λ (p : Provider). (p.number, have (granted_by t) t.topology p.number)) t.topology.providers
-    pub wants : t.wants ≡ map (λ (c : Consumer). (c.number, (if c.number == cons then no_counts else want (granted_by t) t.topology c))) t.topology.consumers
+    pub haves : t.haves ≡ map (λ (p : Provider). (p.number, have (granted_by t) t.topology p.number))
+        t.topology.providers
+    pub wants : t.wants
+        ≡ map (λ (c : Consumer).
+        (c.number, (if c.number == cons then no_counts else want (granted_by t) t.topology c))) t.topology.consumers
     pub exclusive : IsTrue (is_exclusive (granted_by t) t.topology)
     pub limit : IsTrue (fits_limit (granted_by t) t.topology)
     pub risen : map (λ row. row.0) t.risen ≡ map (λ (p : Provider). p.number) t.topology.providers
@@ -56,7 +59,9 @@ module _ {C : Type 0} where
 
   -- a consumer, other than this one, that isn't attached is of a geom without providers
   abbrev pub IsPlacedBut : Topology C → ℕ → Type 0
-  IsPlacedBut t cons = All (λ c. c.number ≢ cons → c.provider ≡ None → filter (λ (y : Provider). y.geom == c.geom) t.providers ≡ []) t.consumers
+  IsPlacedBut t cons =
+      All (λ c. c.number ≢ cons → c.provider ≡ None
+      → filter (λ (y : Provider). y.geom == c.geom) t.providers ≡ []) t.consumers
 
   -- with the consumer attached, the counts that the same grants make then, and a note at each provider whose write
   -- count left zero
@@ -64,7 +69,11 @@ module _ {C : Type 0} where
   joined_view t cons prov =
       let joined : TopoView C = with_topology t (attach t.topology cons prov) in
       record (counted_view joined (granted_by t)) {
-        risen = map (λ (p : Provider). (p.number, leaves_zero (have (granted_by t) t.topology p.number) (have (granted_by t) joined.topology p.number))) t.topology.providers;
+        risen = map (λ (p : Provider). (
+          p.number,
+          leaves_zero (have (granted_by t) t.topology p.number)
+              (have (granted_by t) joined.topology p.number),
+        )) t.topology.providers;
       }
 
   -- what a refusal names: of the providers reached downwards that carry an error the one with the smallest number; with
@@ -74,7 +83,8 @@ module _ {C : Type 0} where
   IsJoinNamed granted t cons prov (Err (Enxio q)) = IsFirstErrored t prov q
   IsJoinNamed granted t cons prov (Err Eloop) = Unit {0}
   IsJoinNamed granted t cons prov (Err Edeep) = Unit {0}
-  IsJoinNamed granted t cons prov (Err (Eperm q writer exclusive)) = StandAgainst granted (attach t cons prov) q writer exclusive
+  IsJoinNamed granted t cons prov (Err (Eperm q writer exclusive)) =
+      StandAgainst granted (attach t cons prov) q writer exclusive
   IsJoinNamed granted t cons prov (Err (Eoverflow q)) = IsOverLimit granted (attach t cons prov) q
 
   -- What is tried

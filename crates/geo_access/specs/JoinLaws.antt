@@ -11,7 +11,8 @@ use Rattle.geo_access.specs.Join.{IsCountedBut, IsLoose, IsPlacedBut}
 -- request is out through a number not yet given, a new consumer of any geom may join; and once it has joined, each
 -- consumer that isn't attached is of a geom without providers
 pub record NewConsumersMayJoin (C : Type 0) : Type 0 where
-  pub counted : (t new : TopoView C) (geom : ℕ) → IsSoundGraph t.topology → IsButForRoom new (with_consumer t geom) → IsCounted t
+  pub counted : (t new : TopoView C) (geom : ℕ) → IsSoundGraph t.topology → IsButForRoom new (with_consumer t geom)
+      → IsCounted t
       → IsCountedBut new t.topology.next_consumer
   pub quiet : (t new : TopoView C) (geom : ℕ) → IsButForRoom new (with_consumer t geom) → IsQuiet t → IsQuiet new
   pub placed : (t new : TopoView C) (geom : ℕ) → IsButForRoom new (with_consumer t geom) → IsPlaced t.topology

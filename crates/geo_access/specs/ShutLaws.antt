@@ -8,8 +8,8 @@ use Rattle.geo_mesh.specs.Topo.{TopoView, Room, first_mesh, with_geom, with_prov
 use Rattle.geo_access.specs.Access.{clear_scratches, IsCounted, IsQuiet}
 
 module _ {C : Type 0} where
-  -- no provider and no consumer has a count, no note is set, only the first two geoms are of DEV or TASTE, and nothing is
-  -- left to try
+  -- no provider and no consumer has a count, no note is set, only the first two geoms are of DEV or TASTE, and
+  -- nothing is left to try
   pub record IsShut (t : TopoView C) : Type 0 where
     pub kinds : All (λ g. is_granted_kind g.kind ≡ true → (g.number ≡ 1) ⊎ (g.number ≡ 2)) t.topology.geoms
     pub haves : t.haves ≡ map (λ (p : Provider). (p.number, no_counts)) t.topology.providers
@@ -23,13 +23,15 @@ pub record ShutMeshesAreCounted (C : Type 0) : Type 0 where
   pub counted : (t : TopoView C) → IsShut t → IsCounted t
   pub quiet : (t : TopoView C) → IsShut t → IsQuiet t
 
--- the first mesh is one, and it stays one where a geom of another class, a provider or a consumer is made, or a consumer is
--- attached
+-- the first mesh is one, and it stays one where a geom of another class, a provider or a consumer is made, or a
+-- consumer is attached
 pub record MeshesStayShut (C : Type 0) : Type 0 where
   pub first : (dev taste : C) (room : Room) → IsShut (first_mesh dev taste room)
-  pub geom : (t new : TopoView C) (kind : Kind) (name : List ℕ) (config : C) (automatic : Bool) → is_granted_kind kind ≡ false
+  pub geom : (t new : TopoView C) (kind : Kind) (name : List ℕ) (config : C) (automatic : Bool)
+      → is_granted_kind kind ≡ false
       → IsButForRoom new (with_geom t kind name config automatic) → IsShut t → IsShut new
-  pub provider : (t new : TopoView C) (geom : ℕ) (name : List ℕ) (size sector : ℕ) → IsButForRoom new (with_provider t geom name size sector)
+  pub provider : (t new : TopoView C) (geom : ℕ) (name : List ℕ) (size sector : ℕ)
+      → IsButForRoom new (with_provider t geom name size sector)
       → IsShut t → IsShut new
   pub consumer : (t new : TopoView C) (geom : ℕ) → IsButForRoom new (with_consumer t geom) → IsShut t → IsShut new
   pub attached : (t : TopoView C) (cons prov : ℕ) → IsShut t → IsShut (with_topology t (attach t.topology cons prov))

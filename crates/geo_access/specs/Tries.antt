@@ -34,7 +34,8 @@ abbrev pub made_of : Kind → Weight → Counts
 made_of kinds.Disk weight = no_counts
 made_of kinds.Dev weight = no_counts
 made_of kinds.Taste weight = no_counts
-made_of kind weight = cap (add_counts weight.sum (exclusive_where (adds_exclusive kind && (weight.quiet && not (is_zero weight.sum)))))
+made_of kind weight =
+    cap (add_counts weight.sum (exclusive_where (adds_exclusive kind && (weight.quiet && not (is_zero weight.sum)))))
 
 -- no number comes twice
 abbrev pub Apart : List ℕ → Type 0

@@ -1,5 +1,5 @@
--- What the walks do to a mesh, step by step. Scratch has the walk's state: a geom's mark is the next geom of the order, and its
--- counts are what each of its consumers gains; a provider's counts are what it gains.
+-- What the walks do to a mesh, step by step. Scratch has the walk's state: a geom's mark is the next geom of the
+-- order, and its counts are what each of its consumers gains; a provider's counts are what it gains.
 use Rattle.std.specs.Prelude.{◌≡◌, ℕ, zero, suc, ◌+◌, ◌-◌, ◌==◌, ◌<◌, ◌≤◌, ◌^◌, min, Bool, true, false, not, ◌&&◌, ◌||◌, List, [], ◌∷◌, length, fold, find, Option, Some, None, Result, Ok, Err, IsSome, IfSome, unwrap_or, option_map, if◌then◌else◌}
 use Rattle.std.specs.Option.{option_map_or, option_and_then, option_or}
 use Rattle.geo_base.specs.declared.request.Counts.{Counts}
@@ -31,7 +31,8 @@ use Rattle.geo_laws_demands.specs.WalkWords.{cap}
 use Rattle.geo_access.specs.Tries.{is_over, had, shifted, made_of}
 
 -- a walk over some consumers of the graph comes to this one next
-pub record IsNextConsumer {C : Type 0} (t : Topology C) (xs : List Consumer) (from_number id : ℕ) (x : ConsRec) : Type 0 where
+pub record IsNextConsumer {C : Type 0} (t : Topology C) (xs : List Consumer) (from_number id : ℕ)
+    (x : ConsRec) : Type 0 where
   pub left : left_from (λ y. y.number) from_number xs ≡ consumer_seen id x ∷ left_from (λ y. y.number) (id + 1) xs
   pub lives : consumer_at t id ≡ Some (consumer_seen id x)
   pub geom : IsSome (geom_at t x.geom)
@@ -41,7 +42,8 @@ pub record IsNextConsumer {C : Type 0} (t : Topology C) (xs : List Consumer) (fr
   pub fits : t.next_consumer < 2 ^ 64
 
 -- a walk over some providers of the graph comes to this one next
-pub record IsNextProvider {C : Type 0} (t : Topology C) (xs : List Provider) (from_number id : ℕ) (x : ProvRec) : Type 0 where
+pub record IsNextProvider {C : Type 0} (t : Topology C) (xs : List Provider) (from_number id : ℕ)
+    (x : ProvRec) : Type 0 where
   pub left : left_from (λ y. y.number) from_number xs ≡ provider_seen id x ∷ left_from (λ y. y.number) (id + 1) xs
   pub lives : provider_at t id ≡ Some (provider_seen id x)
   pub past : from_number ≤ id
@@ -121,7 +123,8 @@ module _ {C : Type 0} where
   -- the geom of the provider to which a consumer is attached, if it isn't in the order
   abbrev pub fresh_under : TopoView C → Consumer → Option ℕ
   fresh_under v c =
-      option_and_then (λ q. option_and_then (λ y. if mark_at v y.geom == 0 then Some y.geom else None) (provider_at v.topology q)) c.provider
+      option_and_then (λ q. option_and_then (λ y. if mark_at v y.geom == 0 then Some y.geom else None)
+      (provider_at v.topology q)) c.provider
 
   -- with a geom and all that is reached downwards from it, over so many levels
   abbrev pub visit : ℕ → ℕ → Gathered C → Gathered C
@@ -173,21 +176,26 @@ module _ {C : Type 0} where
 
   -- the order of the geoms that are reached downwards from one, and the mesh in which it stands
   abbrev pub gathered_from : TopoView C → ℕ → Gathered C
-  gathered_from t geom = visit (rank t.topology geom) geom (record { view = t; order = record { head = geom; count = 0 } })
+  gathered_from t geom =
+      visit (rank t.topology geom) geom (record { view = t; order = record { head = geom; count = 0 } })
 
   -- the mesh after a demand at a provider is tried, and the order of the geoms below
   pub record IsTried (t : TopoView C) (p : ℕ) (add : Counts) (way : Way) (new : TopoView C) (o : Order) : Type 0 where
     pub offer : Provider
     pub found : provider_at t.topology p ≡ Some offer
     pub order : o ≡ (gathered_from t offer.geom).order
-    pub view : new ≡ fold (spread_from way) (give add (gathered_from t offer.geom).view p) (order_of (give add (gathered_from t offer.geom).view p) o)
+    pub view : new
+        ≡ fold (spread_from way) (give add (gathered_from t offer.geom).view p)
+        (order_of (give add (gathered_from t offer.geom).view p) o)
     pub orders : order_of new o ≡ order_of (give add (gathered_from t offer.geom).view p) o
 
   -- What refuses
 
   -- of two providers the one with an error, and of two such the smaller
   abbrev pub lesser : TopoView C → Option ℕ → ℕ → Option ℕ
-  lesser v best q = if option_map_or (λ (y : Provider). y.errored) (provider_at v.topology q) false then Some (smaller best q) else best
+  lesser v best q =
+      if option_map_or (λ (y : Provider). y.errored) (provider_at v.topology q) false then Some
+      (smaller best q) else best
 
   -- what a consumer wants once it has what it gains
   abbrev pub raised : TopoView C → Consumer → Counts
@@ -201,7 +209,8 @@ module _ {C : Type 0} where
 
   -- a writer that stands beside another's exclusive count, where the first writer doesn't
   abbrev pub second_pair : TopoView C → ℕ → ℕ → Option (ℕ × ℕ)
-  second_pair v q first = option_and_then (λ a. option_map (λ b. (a, b)) (other v q a Excludes)) (other v q first Writes)
+  second_pair v q first =
+      option_and_then (λ a. option_map (λ b. (a, b)) (other v q a Excludes)) (other v q first Writes)
 
   abbrev pub pair_with : TopoView C → ℕ → ℕ → Option ℕ → Option (ℕ × ℕ)
   pair_with v q a None = second_pair v q a
@@ -265,7 +274,8 @@ module _ {C : Type 0} where
 
   -- with all that, where it is kept, and nothing left to try at the provider
   abbrev pub finish_provider : Option Way → TopoView C → Provider → TopoView C
-  finish_provider keep v y = with_provider_scratch (option_map_or (λ way. raise_have way v y.number) keep v) y.number no_scratch
+  finish_provider keep v y =
+      with_provider_scratch (option_map_or (λ way. raise_have way v y.number) keep v) y.number no_scratch
 
   -- with all that at the consumers and providers of a geom
   abbrev pub raise_wants : Option Way → TopoView C → ℕ → TopoView C

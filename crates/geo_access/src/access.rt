@@ -20,14 +20,14 @@ use geo_base::{ConsId, Counts, Errno, ProvId};
 use geo_mesh::Topo;
 use std::sync::ledger::Ledger;
 
-/// Whether a consumer of DEV or TASTE, which is attached and holds nothing, may hold these counts (g_access(9)). It takes at most
-/// one step for each consumer of a geom that is reached downwards.
+/// Whether a consumer of DEV or TASTE, which is attached and holds nothing, may hold these counts (g_access(9)). It
+/// takes at most one step for each consumer of a geom that is reached downwards.
 ///
 /// # Errors
 ///
-/// `Enxio` where a provider that is reached downwards carries an error: the one with the smallest number. Else `Eperm` where at
-/// some provider a writer would stand beside another's exclusive count. Else `Eoverflow` where a count of a provider would be
-/// above 2,147,483,647.
+/// `Enxio` where a provider that is reached downwards carries an error: the one with the smallest number. Else
+/// `Eperm` where at some provider a writer would stand beside another's exclusive count. Else `Eoverflow` where a
+/// count of a provider would be above 2,147,483,647.
 pub fn allowed<C, L: Ledger>(
     topo: &mut Topo<C>,
     cons: ConsId,
@@ -39,8 +39,11 @@ pub fn allowed<C, L: Ledger>(
     requires nothing { value_at topo.old.wants cons ≡ Some no_counts }
     requires some { is_zero add ≡ false }
     ensures same { topo.new ≡ topo.old }
-    ensures answer { IsRefusal result (grant_refusal (with_grant (granted_by topo.old) cons add) topo.old.topology (place_of topo.old.topology cons)) }
-    ensures named { IsNamed (with_grant (granted_by topo.old) cons add) topo.old.topology (place_of topo.old.topology cons) result }
+    ensures answer { IsRefusal result
+        (grant_refusal (with_grant (granted_by topo.old) cons add) topo.old.topology
+        (place_of topo.old.topology cons)) }
+    ensures named { IsNamed (with_grant (granted_by topo.old) cons add) topo.old.topology
+        (place_of topo.old.topology cons) result }
     ensures bound { steps.new ≤ steps.old + consumers_below topo.old.topology (place_of topo.old.topology cons) }
 {
     let prov = place_of(topo, cons);
@@ -50,8 +53,9 @@ pub fn allowed<C, L: Ledger>(
     answer(refused, cons, prov)
 }
 
-/// The consumer of DEV or TASTE, which is attached and holds nothing, holds these counts from now on, unless something refuses
-/// it, as `allowed` says. Then nothing changed. Providers whose write count left zero are noted, and none may be noted before.
+/// The consumer of DEV or TASTE, which is attached and holds nothing, holds these counts from now on, unless
+/// something refuses it, as `allowed` says. Then nothing changed. Providers whose write count left zero are noted,
+/// and none may be noted before.
 ///
 /// # Errors
 ///
@@ -71,9 +75,13 @@ pub fn grant<C, L: Ledger>(
     ensures granted { OnOk result (topo.new ≡ granted_view topo.old cons add) }
     ensures same { OnErr result (topo.new ≡ topo.old) }
     ensures counted { IsCounted topo.new }
-    ensures risen { OnOk result (noted topo.new.risen ≡ risen (granted_by topo.old) topo.old.topology (with_grant (granted_by topo.old) cons add) topo.old.topology) }
-    ensures answer { IsRefusal result (grant_refusal (with_grant (granted_by topo.old) cons add) topo.old.topology (place_of topo.old.topology cons)) }
-    ensures named { IsNamed (with_grant (granted_by topo.old) cons add) topo.old.topology (place_of topo.old.topology cons) result }
+    ensures risen { OnOk result (noted topo.new.risen
+        ≡ risen (granted_by topo.old) topo.old.topology (with_grant (granted_by topo.old) cons add) topo.old.topology) }
+    ensures answer { IsRefusal result
+        (grant_refusal (with_grant (granted_by topo.old) cons add) topo.old.topology
+        (place_of topo.old.topology cons)) }
+    ensures named { IsNamed (with_grant (granted_by topo.old) cons add) topo.old.topology
+        (place_of topo.old.topology cons) result }
     ensures bound { steps.new ≤ steps.old + consumers_below topo.old.topology (place_of topo.old.topology cons) }
 {
     let prov = place_of(topo, cons);
@@ -87,8 +95,8 @@ pub fn grant<C, L: Ledger>(
     Ok(())
 }
 
-/// The consumer of DEV or TASTE, which is attached, holds nothing from now on. Providers whose write count came to zero are
-/// noted, and none may be noted before.
+/// The consumer of DEV or TASTE, which is attached, holds nothing from now on. Providers whose write count came to
+/// zero are noted, and none may be noted before.
 pub fn release<C, L: Ledger>(topo: &mut Topo<C>, cons: ConsId, steps: &mut Steps<L>)
     requires counted { IsCounted topo.old }
     requires quiet { IsQuiet topo.old }
@@ -96,7 +104,9 @@ pub fn release<C, L: Ledger>(topo: &mut Topo<C>, cons: ConsId, steps: &mut Steps
     requires holder { IsHolder topo.old.topology cons }
     ensures released { topo.new ≡ released_view topo.old cons }
     ensures counted { IsCounted topo.new }
-    ensures fallen { noted topo.new.fallen ≡ fallen (granted_by topo.old) topo.old.topology (with_grant (granted_by topo.old) cons no_counts) topo.old.topology }
+    ensures fallen { noted topo.new.fallen
+        ≡ fallen (granted_by topo.old) topo.old.topology (with_grant (granted_by topo.old) cons no_counts)
+        topo.old.topology }
     ensures bound { steps.new ≤ steps.old + consumers_below topo.old.topology (place_of topo.old.topology cons) }
 {
     let prov = place_of(topo, cons);
@@ -120,7 +130,9 @@ pub fn could_grant<C, L: Ledger>(
     requires counted { IsCounted topo.old }
     requires lives { IsSome (provider_at topo.old.topology prov) }
     ensures same { topo.new ≡ topo.old }
-    ensures answer { result ≡ unless (grant_refusal (with_grant (granted_by topo.old) topo.old.topology.next_consumer add) (with_opener topo.old.topology prov) prov) tt }
+    ensures answer { result
+        ≡ unless (grant_refusal (with_grant (granted_by topo.old) topo.old.topology.next_consumer add)
+        (with_opener topo.old.topology prov) prov) tt }
     ensures bound { steps.new ≤ steps.old + consumers_below topo.old.topology prov }
 {
     let order = try_out(topo, prov, add, Way::Rises, steps);

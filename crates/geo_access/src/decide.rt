@@ -21,7 +21,8 @@ pub enum Side {
     Excludes,
 }
 
-/// What a provider is asked for: whether a writer stands beside another's exclusive count, or whether a count is too great.
+/// What a provider is asked for: whether a writer stands beside another's exclusive count, or whether a count is too
+/// great.
 #[derive(Clone, Copy, Debug, PartialEq, Eq)]
 pub enum Asked {
     Exclusion,
@@ -132,7 +133,8 @@ pub fn errno(why: Refused) -> Errno
 // Of the provider and those to which consumers of the order's geoms are attached, the smallest that carries an error.
 fn first_errored<C>(topo: &Topo<C>, prov: ProvId, order: Order) -> Option<ProvId>
     requires { All (λ x. IsSome (geom_at topo.now.topology x)) (order_of topo.now order) }
-    ensures { result ≡ fold (λ best x. fold (lesser topo.now) best (providers_under topo.now.topology x)) (lesser topo.now None prov) (order_of topo.now order) }
+    ensures { result ≡ fold (λ best x. fold (lesser topo.now) best (providers_under topo.now.topology x))
+        (lesser topo.now None prov) (order_of topo.now order) }
 {
     let mut best = lesser(topo, None, prov);
     let mut rest = order;

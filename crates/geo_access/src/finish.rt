@@ -19,8 +19,8 @@ const NO_SCRATCH: Scratch = Scratch {
     trial: NO_COUNTS,
 };
 
-/// Ends the walk: with a way, what the geoms' consumers and providers gain or lose comes into their counts, and write counts that
-/// left zero or came to it are noted.
+/// Ends the walk: with a way, what the geoms' consumers and providers gain or lose comes into their counts, and write
+/// counts that left zero or came to it are noted.
 pub fn finish<C>(topo: &mut Topo<C>, order: Order, keep: Option<Way>)
     requires lives { All (λ x. IsSome (geom_at topo.old.topology x)) (order_of topo.old order) }
     requires apart { Apart (order_of topo.old order) }
@@ -74,7 +74,8 @@ fn finish_providers<C>(topo: &mut Topo<C>, geom: GeomId, keep: Option<Way>)
 fn finish_provider<C>(topo: &mut Topo<C>, prov: ProvId, have: Counts, keep: Option<Way>)
     requires lives { IsSome (provider_at topo.old.topology prov) }
     requires have { have ≡ have_at topo.old prov }
-    ensures { topo.new ≡ with_provider_scratch (option_map_or (λ way. raise_have way topo.old prov) keep topo.old) prov no_scratch }
+    ensures { topo.new ≡ with_provider_scratch (option_map_or (λ way. raise_have way topo.old prov) keep topo.old)
+        prov no_scratch }
 {
     if let Some(way) = keep {
         raise_have(topo, prov, way, have);

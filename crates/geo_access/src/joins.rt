@@ -23,21 +23,23 @@ use geo_base::{ConsId, Counts, GeomId, ProvId};
 use geo_mesh::{AttachRefusal, Topo};
 use std::sync::ledger::Ledger;
 
-/// Attaches the consumer, which is attached to nothing and holds nothing, to the provider, and what is open above its geom
-/// is demanded downwards from the provider, unless something refuses that. Then nothing changed. Afterwards all counts are
-/// those of the new graph, and providers whose write count left zero are noted; none may be noted before.
+/// Attaches the consumer, which is attached to nothing and holds nothing, to the provider, and what is open above its
+/// geom is demanded downwards from the provider, unless something refuses that. Then nothing changed. Afterwards all
+/// counts are those of the new graph, and providers whose write count left zero are noted; none may be noted before.
 ///
-/// What the model has such a consumer want before it is attached has no bound, so the condition leaves this one out: the
-/// stored counts of all others are kept (`IsCountedBut`), and any other that isn't attached is of a geom without providers
-/// (`IsPlacedBut`). Where all counts are kept a consumer just made meets that, since it has no counts and no request is out
-/// through it (`new_consumers_may_join`).
+/// What the model has such a consumer want before it is attached has no bound, so the condition leaves this one out:
+/// the stored counts of all others are kept (`IsCountedBut`), and any other that isn't attached is of a geom without
+/// providers (`IsPlacedBut`). Where all counts are kept a consumer just made meets that, since it has no counts and
+/// no request is out through it (`new_consumers_may_join`).
 ///
-/// It takes at most one step for each consumer of a geom that is reached downwards, and one for the consumer that joins.
+/// It takes at most one step for each consumer of a geom that is reached downwards, and one for the consumer that
+/// joins.
 ///
 /// # Errors
 ///
-/// `Enxio` where a provider that is reached downwards carries an error: the one with the smallest number. Else `Eloop`
-/// where the consumer's geom would reach itself, else `Edeep` where a geom other than DEV and TASTE would get a rank above
+/// `Enxio` where a provider that is reached downwards carries an error: the one with the smallest number. Else
+/// `Eloop` where the consumer's geom would reach itself, else `Edeep` where a geom other than DEV and TASTE would get
+/// a rank above
 /// 32. Else `Eperm` where at some provider a writer would stand beside another's exclusive count. Else `Eoverflow` where a
 /// count of a provider would be above 2,147,483,647.
 pub fn join<C, L: Ledger>(
@@ -54,7 +56,8 @@ pub fn join<C, L: Ledger>(
     ensures joined { OnOk result (topo.new ≡ joined_view topo.old cons prov) }
     ensures same { OnErr result (topo.new ≡ topo.old) }
     ensures counted { OnOk result (IsCounted topo.new) }
-    ensures risen { OnOk result (noted topo.new.risen ≡ risen (granted_by topo.old) topo.old.topology (granted_by topo.old) topo.new.topology) }
+    ensures risen { OnOk result (noted topo.new.risen
+        ≡ risen (granted_by topo.old) topo.old.topology (granted_by topo.old) topo.new.topology) }
     ensures answer { IsJoinRefusal result (join_refusal (granted_by topo.old) topo.old.topology cons prov) }
     ensures named { IsJoinNamed (granted_by topo.old) topo.old.topology cons prov result }
     ensures bound { steps.new ≤ steps.old + (consumers_below topo.old.topology prov + 1) }
@@ -72,7 +75,8 @@ pub fn join<C, L: Ledger>(
     Ok(())
 }
 
-// Attaches the consumer, unless something refuses it: an error below, what an attach answers, or what refuses the demand.
+// Attaches the consumer, unless something refuses it: an error below, what an attach answers, or what refuses the
+// demand.
 fn admit<C>(
     topo: &mut Topo<C>,
     cons: ConsId,

@@ -1,5 +1,5 @@
-//! The running access counts of g_access(9): what a demand at a provider does to the counts of all that stands below it, and
-//! what refuses it.
+//! The running access counts of g_access(9): what a demand at a provider does to the counts of all that stands below
+//! it, and what refuses it.
 #![tactic(auto)]
 
 mod access;

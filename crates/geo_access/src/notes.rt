@@ -18,7 +18,8 @@ pub fn next_risen<C>(topo: &mut Topo<C>) -> Option<ProvId>
     Some(prov)
 }
 
-/// The smallest number of a provider whose write count is noted to have come to zero. The note is dropped; all else stays.
+/// The smallest number of a provider whose write count is noted to have come to zero. The note is dropped; all else
+/// stays.
 pub fn next_fallen<C>(topo: &mut Topo<C>) -> Option<ProvId>
     requires { IsCounted topo.old }
     ensures first { result ≡ first_noted topo.old.fallen }

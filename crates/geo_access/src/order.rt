@@ -1,4 +1,5 @@
-//! The order of a walk: each geom that is reached downwards from one, before those below it. It stands in the marks of the geoms.
+//! The order of a walk: each geom that is reached downwards from one, before those below it. It stands in the marks
+//! of the geoms.
 ghost use Rattle.std.specs.Prelude.{◌≡◌, ℕ, ◌+◌, ◌≤◌, ◌<◌, ◌^◌, [], ◌∷◌, All, IsSome, IfSome, MatchOption};
 ghost use Rattle.geo_model.specs.Topology.{geom_at};
 ghost use Rattle.geo_model.specs.Rank.{rank};
@@ -20,7 +21,8 @@ pub struct Order {
 /// Takes the first geom of the order.
 pub fn take<C>(topo: &Topo<C>, order: &mut Order) -> Option<GeomId>
     requires { All (λ x. IsSome (geom_at topo.now.topology x)) (order_of topo.now order.old) }
-    ensures next { MatchOption result (order_of topo.now order.old ≡ []) (λ x. order_of topo.now order.old ≡ x ∷ order_of topo.now order.new) }
+    ensures next { MatchOption result (order_of topo.now order.old ≡ []) (λ x. order_of topo.now order.old
+        ≡ x ∷ order_of topo.now order.new) }
     ensures lives { IfSome result (λ x. IsSome (geom_at topo.now.topology x)) }
     ensures fewer { IfSome result (λ x. order.new.count + 1 ≡ order.old.count) }
 {
@@ -36,7 +38,9 @@ pub fn take<C>(topo: &Topo<C>, order: &mut Order) -> Option<GeomId>
 /// Puts the geom, and what is reached downwards from it, in front of the order, but for what is in it.
 pub fn gather<C>(topo: &mut Topo<C>, geom: GeomId, order: &mut Order)
     requires { IsSome (geom_at topo.old.topology geom) }
-    ensures gathered { (levels : ℕ) → rank topo.old.topology geom ≤ levels → record { view = topo.new; order = order.new } ≡ visit levels geom (record { view = topo.old; order = order.old }) }
+    ensures gathered { (levels : ℕ) → rank topo.old.topology geom ≤ levels
+        → record { view = topo.new; order = order.new }
+        ≡ visit levels geom (record { view = topo.old; order = order.old }) }
     ensures graph { topo.new.topology ≡ topo.old.topology }
 {
     let mut from = 0;
@@ -52,7 +56,8 @@ pub fn gather<C>(topo: &mut Topo<C>, geom: GeomId, order: &mut Order)
 // Puts the geom in front of the order.
 fn put<C>(topo: &mut Topo<C>, geom: GeomId, order: &mut Order)
     requires { IsSome (geom_at topo.old.topology geom) }
-    ensures { record { view = topo.new; order = order.new } ≡ put_geom geom (record { view = topo.old; order = order.old }) }
+    ensures { record { view = topo.new; order = order.new }
+        ≡ put_geom geom (record { view = topo.old; order = order.old }) }
 {
     let scratch = Scratch {
         mark: order.head,

@@ -49,7 +49,8 @@ fn gain_of<C>(topo: &Topo<C>, geom: GeomId, way: Way) -> Counts
 
 // What the providers of the geom gain together, and whether none has a count without it.
 fn weight_of<C>(topo: &Topo<C>, geom: GeomId, way: Way) -> Weight
-    ensures { result ≡ fold (weigh topo.now way) (record { sum = no_counts; quiet = true }) (providers_of topo.now.topology geom) }
+    ensures { result
+        ≡ fold (weigh topo.now way) (record { sum = no_counts; quiet = true }) (providers_of topo.now.topology geom) }
 {
     let mut weight = Weight {
         sum: NO_COUNTS,

@@ -11,7 +11,8 @@ use geo_mesh::{ConsRec, ProvRec, Topo};
 
 /// The first consumer of the geom from a number on.
 pub fn consumer_of<C>(topo: &Topo<C>, geom: GeomId, from: u64) -> Option<(ConsId, ConsRec)>
-    ensures next { MatchOption result (left_from (λ y. y.number) from (consumers_of topo.now.topology geom) ≡ []) (λ m. IsNextConsumer topo.now.topology (consumers_of topo.now.topology geom) from m.0 m.1) }
+    ensures next { MatchOption result (left_from (λ y. y.number) from (consumers_of topo.now.topology geom) ≡ [])
+        (λ m. IsNextConsumer topo.now.topology (consumers_of topo.now.topology geom) from m.0 m.1) }
     ensures sound { IsSoundGraph topo.now.topology }
     ensures want { MatchOption result (Unit {0}) (λ m. want_at topo.now m.0 ≡ m.1.want) }
 {
@@ -22,7 +23,8 @@ pub fn consumer_of<C>(topo: &Topo<C>, geom: GeomId, from: u64) -> Option<(ConsId
 
 /// The first consumer attached to the provider from a number on.
 pub fn consumer_at<C>(topo: &Topo<C>, prov: ProvId, from: u64) -> Option<(ConsId, ConsRec)>
-    ensures next { MatchOption result (left_from (λ y. y.number) from (attached_to topo.now.topology prov) ≡ []) (λ m. IsNextConsumer topo.now.topology (attached_to topo.now.topology prov) from m.0 m.1) }
+    ensures next { MatchOption result (left_from (λ y. y.number) from (attached_to topo.now.topology prov) ≡ [])
+        (λ m. IsNextConsumer topo.now.topology (attached_to topo.now.topology prov) from m.0 m.1) }
     ensures sound { IsSoundGraph topo.now.topology }
     ensures want { MatchOption result (Unit {0}) (λ m. want_at topo.now m.0 ≡ m.1.want) }
 {
@@ -33,7 +35,8 @@ pub fn consumer_at<C>(topo: &Topo<C>, prov: ProvId, from: u64) -> Option<(ConsId
 
 /// The first provider of the geom from a number on.
 pub fn provider_of<C>(topo: &Topo<C>, geom: GeomId, from: u64) -> Option<(ProvId, ProvRec)>
-    ensures next { MatchOption result (left_from (λ y. y.number) from (providers_of topo.now.topology geom) ≡ []) (λ m. IsNextProvider topo.now.topology (providers_of topo.now.topology geom) from m.0 m.1) }
+    ensures next { MatchOption result (left_from (λ y. y.number) from (providers_of topo.now.topology geom) ≡ [])
+        (λ m. IsNextProvider topo.now.topology (providers_of topo.now.topology geom) from m.0 m.1) }
     ensures sound { IsSoundGraph topo.now.topology }
     ensures have { MatchOption result (Unit {0}) (λ m. have_at topo.now m.0 ≡ m.1.have) }
 {

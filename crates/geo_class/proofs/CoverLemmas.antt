@@ -22,7 +22,8 @@ slice-end (Some s) size some before = omega (arith, some, before)
 slice-end None size some before = tt
 
 part-end : (part : Option EbrPart) (size : ℕ) → 1 ≤ size
-    → IsSomeAnd (option_map (λ (s : EbrPart). at_first (s.first * 512 + (size - 1))) part) (λ spot. spot.offset < 2 ^ 60)
+    → IsSomeAnd (option_map (λ (s : EbrPart). at_first (s.first * 512 + (size - 1))) part)
+    (λ spot. spot.offset < 2 ^ 60)
     → IfSome part (λ s. s.first * 512 + size ≤ 2 ^ 60)
 part-end (Some s) size some before = omega (arith, some, before)
 part-end None size some before = tt

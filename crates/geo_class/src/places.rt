@@ -94,7 +94,11 @@ impl Places {
     ) -> Result<Places, NoMemory>
         requires { place < length self.now.consumers }
         ensures { IfOk result (λ p. p
-            ≡ record { consumers = slice_set self.now.consumers place (Some consumer); sizes = slice_set self.now.sizes place size }) }
+            ≡ record {
+              consumers = slice_set self.now.consumers place (Some consumer);
+              sizes =
+                  slice_set self.now.sizes place size;
+            }) }
     {
         let mut filled = Vec::from_slice(alloc, &self.filled)?;
         let mut cells = Vec::from_slice(alloc, &self.cells)?;

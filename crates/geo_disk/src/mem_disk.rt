@@ -32,8 +32,7 @@ impl Model for MemDisk {
       sector = d.sector;
       sectors = sectors_of d.sector d.bytes;
       fails = d.fails;
-      calls =
-          d.calls;
+      calls = d.calls;
       faults = d.faults;
       part = d.part;
     } };
@@ -78,8 +77,7 @@ impl MemDisk {
           sector = sector;
           sectors = sectors_of sector bytes;
           fails = fails;
-          calls =
-              calls;
+          calls = calls;
           faults = faults;
           part = part;
         } }

@@ -171,8 +171,7 @@ module _ (w : World) (firm : Firm w) (x : Bio) (here : Contains w.bios x) (p : P
         record {
           r = omega (arith, low.r, high.r);
           w = omega (arith, low.w, high.w);
-          e =
-              omega (arith, low.e, high.e);
+          e = omega (arith, low.e, high.e);
         } in
         subst (λ (n : ℕ). IsAtMost (have granted t n) (want granted t c)) number (rw geom through)
 
@@ -196,8 +195,7 @@ module _ (w : World) (firm : Firm w) (x : Bio) (here : Contains w.bios x) (p : P
         (record {
           r = omega (arith, lower.r, high.r);
           w = omega (arith, lower.w, high.w);
-          e =
-              omega (arith, lower.e, high.e);
+          e = omega (arith, lower.e, high.e);
         }) has
 
   -- a consumer of it has the count for the request, by the request's source

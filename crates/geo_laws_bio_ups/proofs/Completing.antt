@@ -247,6 +247,7 @@ module _ (w : World) (y : Bio) (result : BioResult) where
           (λ has up. fits_turned y phases.Up (λ r. Some result) (Some result) fits) (λ z e stays has. has) hold.results;
       read = record {
         one = rw as_many hold.read.one;
-        sector = each_after (ReadsSector w) (ReadsSector w) (λ reads. reads) (λ z e stays reads. reads) hold.read.sector;
+        sector = each_after (ReadsSector w) (ReadsSector w) (λ reads. reads) (λ z e stays reads. reads)
+            hold.read.sector;
       };
     }

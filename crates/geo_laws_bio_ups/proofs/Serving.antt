@@ -47,8 +47,7 @@ from_pieces w y (c ∷ cs) k (z ∷ zs) shapes go =
         target = z;
         goes = go.0;
         source = ap (λ (s : ChildShape). s.source) head;
-        cmd =
-            ap (λ (s : ChildShape). s.cmd) head;
+        cmd = ap (λ (s : ChildShape). s.cmd) head;
       },
       from_pieces w y cs (k + 1) zs tail go.1,
     )

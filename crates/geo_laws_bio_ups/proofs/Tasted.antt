@@ -273,8 +273,7 @@ module _ (w : World) (x : Bio) (s : Taste) (kind : Kind) where
           parts = out.parts;
           sector = tt;
           zero = out.zero;
-          inside =
-              out.inside;
+          inside = out.inside;
           near = out.near;
           apart = out.apart;
           new = out.new;
@@ -469,8 +468,7 @@ module _ (w : World) (x : Bio) (s : Taste) (kind : Kind) where
         record {
           parent = parent_kept z.owner without.parent;
           pieces = without.pieces;
-          not_complete =
-              without.not_complete;
+          not_complete = without.not_complete;
           root = without.root;
         }
 

@@ -75,8 +75,7 @@ range_turned x phase result p inside moves =
       some_byte = range.some_byte;
       not_long = range.not_long;
       offset_whole = range.offset_whole;
-      len_whole =
-          range.len_whole;
+      len_whole = range.len_whole;
       inside = range.inside;
     }
 

@@ -213,8 +213,7 @@ module _ (w : World) (firm : Firm w) where
     close_idle d d_here dev names false idle line =
         rw (names, idle) (announces_keep.closed w (record w {
           topology = remove_consumer t d.number;
-          handles =
-              others;
+          handles = others;
         })
         (without-firm w firm d d_here dev others (others_released d names) idle))
 

@@ -95,8 +95,7 @@ module _ {C : Type 0} (small large : ℕ → Counts) (grants : AreAtMost small l
       (λ x there. inr (record {
         provider = x;
         stands = there;
-        at_most =
-            kept-at_most small large grants t keep x.number;
+        at_most = kept-at_most small large grants t keep x.number;
       }))
       e
 

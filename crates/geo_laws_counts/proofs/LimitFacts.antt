@@ -142,8 +142,7 @@ module _ {C : Type 0} (granted : ℕ → Counts) (t : Topology C) where
       record {
         r = leb-true a.r 2147483647 first.0;
         w = leb-true a.w 2147483647 second.0;
-        e =
-            leb-true a.e 2147483647 second.1;
+        e = leb-true a.e 2147483647 second.1;
       }
 
   -- and that the test holds where this does

@@ -212,8 +212,7 @@ module _ {C : Type 0} (granted : ℕ → Counts) (t : Topology C) where
       let inside =
       of_filter (λ x. names_number x.provider n) (t.consumers ++ record {
         number = t.next_consumer;
-        geom =
-            geom;
+        geom = geom;
         provider = to;
         spoiled = false;
       } ∷ []) a at in

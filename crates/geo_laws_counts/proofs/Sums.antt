@@ -134,8 +134,7 @@ zero-add_test a b = add_cases a b (is_zero a) (is_zero b) refl refl
         (λ none. let za : a ≡ no_counts =
         zero-at_most a (record {
           r = omega (arith, ap (λ (c : Counts). c.r) none);
-          w =
-              omega (arith, ap (λ (c : Counts). c.w) none);
+          w = omega (arith, ap (λ (c : Counts). c.w) none);
           e = omega (arith, ap (λ (c : Counts). c.e) none);
         }) in
         let t : is_zero a ≡ true = rw za refl in let no : true ≡ false = sym t ∙ x in cc)

@@ -36,8 +36,7 @@ module _ {C : Type 0} (granted : ℕ → Counts) (t : Topology C) where
         record {
           errors = tests.0;
           exclusive = not-false (is_exclusive granted t) tests.1;
-          limit =
-              not-false (fits_limit granted t) tests.2;
+          limit = not-false (fits_limit granted t) tests.2;
         }),
     (λ facts.
         of_none (has_error_below t p) (not (is_exclusive granted t)) (not (fits_limit granted t))

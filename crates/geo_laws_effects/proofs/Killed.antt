@@ -96,8 +96,7 @@ module _ (w : World) (firm : Firm w) (c : ℕ) where
   family x is = record {
     parent = its_parent x.owner is.parent;
     pieces = is.pieces;
-    not_complete =
-        is.not_complete;
+    not_complete = is.not_complete;
     root = is.root;
   }
 
@@ -157,8 +156,7 @@ module _ (w : World) (firm : Firm w) (c : ℕ) where
       events = record {
         living = firm.sound.events.living;
         read_out = firm.sound.events.read_out;
-        taste =
-            tastes w.taste firm.sound.events.taste;
+        taste = tastes w.taste firm.sound.events.taste;
       };
     };
     steady = record {

@@ -1,6 +1,5 @@
 -- Errors, and geoms that wither: a firm world stays firm. Between the first error and the last the record doesn't
--- hold, so what a
--- fold of orphans keeps is stated apart.
+-- hold, so what a fold of orphans keeps is stated apart.
 use Rattle.std.specs.Prelude.{◌≡◌, ◌≢◌, ℕ, ◌==◌, Bool, true, false, not, ◌&&◌, List, [], ◌∷◌, map, filter, fold, All, Contains, IsSome, IsTrue, if◌then◌else◌}
 use Rattle.std.specs.List.{AllByRecursion, list_any}
 use Rattle.std.proofs.Common.{inl, inr, refl, sym, ◌∙◌, ap, subst}
@@ -201,8 +200,7 @@ module _ (w : World) (g : ℕ) (firm : Firm w) where
   withered-firm not_dev not_taste =
       let so = fold-orphans w orphans begun orphans_live (record {
         less = less-withering w w.topology (less-self w firm) g (not_dev, not_taste);
-        living =
-            firm.sound.events.living;
+        living = firm.sound.events.living;
       }) in
       less-firm w (wither (queued_of w) g).topology firm so.less (wither (queued_of w) g).events
       (all_of (λ (x : Provider). IsTrue (is_withering (wither (queued_of w) g).topology x.geom) → x.errored ≡ true)

@@ -54,8 +54,7 @@ pub record ErrorsKeepFirm : Type 0 where
       → Firm (with_queued w (wither_unless_withering (queued_of w) g))
 
 -- what follows a change of write counts: an offer, offers at some providers, spoils at some that live, and so after
--- an open
--- and after a close
+-- an open and after a close
 pub record AnnouncesKeepFirm : Type 0 where
   pub offered : (w : World) (p : ℕ) → Firm w → Firm (with_queued w (offer_again (queued_of w) p))
   pub fallen : (w : World) (ps : List ℕ) → Firm w → Firm (with_queued w (announce_fallen ps (queued_of w)))

@@ -105,8 +105,7 @@ pub record GrownIsFound : Type 0 where
         number = w.topology.next_consumer;
         geom = x.geom.number;
         provider = Some q.number;
-        spoiled =
-            false;
+        spoiled = false;
       })
   pub other_consumers : (w : World) (x : Growing) (q : Provider) (n : ℕ) → n ≢ w.topology.next_consumer
       → consumer_at (grown w x q) n ≡ consumer_at w.topology n

@@ -253,16 +253,14 @@ module _ (w : World) (firm : Firm w) where
         (All-map (λ (x : Handle). x.consumer ≢ Some d.number)
         (λ x. if names_number x.consumer d.number then record x { consumer = None } else x) w.handles
         (all_of (λ (x : Handle). (if names_number x.consumer d.number then record x {
-          consumer =
-              None;
+          consumer = None;
         } else x).consumer
         ≢ Some d.number) w.handles (λ x x_here. lacks x (names_number x.consumer d.number) refl))) idle
       where
         -- no handle has it
         lacks : (x : Handle) (b : Bool) → names_number x.consumer d.number ≡ b
             → (if names_number x.consumer d.number then record x {
-              consumer =
-                  None;
+              consumer = None;
             } else x).consumer ≢ Some d.number
         lacks x true e = rw e (λ has. absurd (let bad : ⊥ = cc in bad))
         lacks x false e = rw e (λ has.

@@ -67,7 +67,8 @@ named_in : (n sector : ℕ) (bytes : List ℕ) → IfSome (named_part n sector b
 named_in n sector bytes =
     let first : ℕ = u32_at bytes (entry_start 0 + 8) in
     let count : ℕ = u32_at bytes (entry_start 0 + 12) in
-    part_by n (sector + first) count (entry_type bytes 0 == 0) (first == 0) (count == 0) (nat_lt n (sector + first + count))
+    part_by n (sector + first) count (entry_type bytes 0 == 0) (first == 0) (count == 0)
+    (nat_lt n (sector + first + count))
     (eqb-false count 0) (ltb-false n (sector + first + count))
 
 -- Links
@@ -79,7 +80,8 @@ record FollowsOn (n : ℕ) (c : Chain) (bytes : List ℕ) (sector : ℕ) : Type 
 
 module _ (n : ℕ) (c : Chain) (bytes : List ℕ) (sector : ℕ) where
   -- by whether the link leads on
-  by_on : (b : Bool) → leads_on bytes ≡ b → first_error (link_tests n (with_link n c bytes) bytes) ≡ None → (shape : Shape)
+  by_on : (b : Bool) → leads_on bytes ≡ b → first_error (link_tests n (with_link n c bytes) bytes) ≡ None
+      → (shape : Shape)
       → (if b then More (next_link bytes) else Accept shape) ≡ More sector → FollowsOn n c bytes sector
   by_on true on none shape e = record {
     next = (let same : next_link bytes ≡ sector = cc in same);
@@ -100,7 +102,8 @@ pub more_links : (n made sector : ℕ) (c : Chain) (bytes : List ℕ) (got : Bio
 more_links n made sector c bytes got hold e =
     let on = by_cause n c bytes sector (first_error (link_tests n (with_link n c bytes) bytes)) refl e in
     let l : LinkRead = record { sector = c.next; part = named_part n c.next bytes } in
-    let fresh = or_parts (next_link bytes == 0) (list_any (λ (x : LinkRead). x.sector == next_link bytes) (c.links ++ l ∷ []))
+    let fresh = or_parts (next_link bytes == 0)
+    (list_any (λ (x : LinkRead). x.sector == next_link bytes) (c.links ++ l ∷ []))
     on.leads.fresh in
     let longer : length (c.links ++ l ∷ []) ≡ length c.links + 1 = length-append c.links (l ∷ []) in
     let few : length (c.links ++ l ∷ []) < 32 = on.leads.few in

@@ -104,7 +104,8 @@ module _ (w : World) (firm : Firm w) (s : Taste) (is : w.taste ≡ Some s)
     -- so was how far the class was asked
     was_asked : IsAskedInOrder t p s.asked
     was_asked = at-found (provider_at t s.provider) (λ p. IsAskedInOrder t p s.asked) p found
-        (subst (λ (o : Option Taste). IfSome o (λ s. IfSome (provider_at t s.provider) (λ p. IsAskedInOrder t p s.asked)))
+        (subst (λ (o : Option Taste).
+        IfSome o (λ s. IfSome (provider_at t s.provider) (λ p. IsAskedInOrder t p s.asked)))
         is firm.fitting.asked)
 
     -- a fact of the provider
@@ -149,10 +150,12 @@ module _ (w : World) (firm : Firm w) (s : Taste) (is : w.taste ≡ Some s)
     made_kept kind bytes c shape asks going verdict (Some made) makes =
         class_ends (with_queued w made)
         (accepts_stay.accept w s p kind bytes shape made firm
-        (record { taste = is; asked = asks; going = going; found = found; verdict = verdict; makes = makes })) is s.classes
+        (record { taste = is; asked = asks; going = going; found = found; verdict = verdict; makes = makes }))
+        is s.classes
 
     -- the next link of a chain is known
-    more_kept : (kind : Kind) (got : BioResult) (c : Chain) (sector : ℕ) → s.asked ≡ ReadBack kind got → kind ≡ kinds.Ebr
+    more_kept : (kind : Kind) (got : BioResult) (c : Chain) (sector : ℕ) → s.asked ≡ ReadBack kind got
+        → kind ≡ kinds.Ebr
         → GoesOnTo n s.reads sector c
         → Firm (with_taste w (asking s s.classes (NextSector kind sector) s.reads c))
     more_kept kind got c sector asks ebr goes =
@@ -263,7 +266,8 @@ module _ (w : World) (firm : Firm w) (s : Taste) (is : w.taste ≡ Some s)
         → Kept
         (if b
         then end_class g q (asking s rest NoClass 0 no_links) Next
-        else option_map_or (λ sector. read_sector g q (asking s rest NoClass 0 no_links) kind sector) (taste_where kind f)
+        else option_map_or (λ sector. read_sector g q (asking s rest NoClass 0 no_links) kind sector)
+        (taste_where kind f)
         (end_class g q (asking s rest NoClass 0 no_links) Next))
     attached_kept kind rest true = class_ends w firm is rest
     attached_kept kind rest false = where_kept kind rest (taste_where kind f) refl

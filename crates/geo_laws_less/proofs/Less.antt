@@ -110,8 +110,7 @@ same_tasting t u e (Some s) is =
     record {
       consumer = is.consumer;
       alone = ap (filter (λ (x : Consumer). x.geom == 2)) e ∙ is.alone;
-      number =
-          is.number;
+      number = is.number;
       attached = is.attached;
     }
 

@@ -87,8 +87,7 @@ module _ (w : World) (u : Topology Config) (firm : Firm w) (less : IsLess w u) w
               some_byte = r.some_byte;
               not_long = r.not_long;
               offset_whole = r.offset_whole;
-              len_whole =
-                  r.len_whole;
+              len_whole = r.len_whole;
               inside = r.inside;
             }));
         bytes = old.bytes;

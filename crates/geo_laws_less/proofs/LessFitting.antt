@@ -208,8 +208,7 @@ module _ (w : World) (u : Topology Config) (firm : Firm w) (less : IsLess w u) w
   }
 
   -- a firm world with a graph that has come to less is firm, where providers of geoms that wither carry errors, no
-  -- consumer of DEV
-  -- is marked, and the events are of providers that live
+  -- consumer of DEV is marked, and the events are of providers that live
   pub less-firm : (queue : List Event) → All (λ x. IsTrue (is_withering u x.geom) → x.errored ≡ true) u.providers
       → All (λ c. c.spoiled ≡ false) (consumers_of u 1) → All (λ e. IsSome (provider_at u (provider_of_event e))) queue
       → Firm (remade w u queue)

@@ -1,6 +1,6 @@
 -- A graph that has come to less: some parts are gone, more is in error or withers, marks are others, and nothing else
--- is new. With
--- such a graph a firm world stays firm: one that is sound, steady and fitting (g_event(9), g_wither_geom(9)).
+-- is new. With such a graph a firm world stays firm: one that is sound, steady and fitting (g_event(9),
+-- g_wither_geom(9)).
 use Rattle.std.specs.Prelude.{◌≡◌, ◌⊎◌, ℕ, ◌≤◌, true, false, List, length, Some, Contains, IsSome, IsTrue, All}
 use Rattle.geo_model.specs.declared.step.Event.{Event}
 use Rattle.geo_model.specs.Topology.{Topology, Geom, Provider, Consumer, geom_at, provider_at, consumer_at, providers_of, consumers_of, is_withering}
@@ -41,8 +41,7 @@ pub record IsSpent (w : World) (x : Consumer) : Type 0 where
   pub idle : want (granted_in w) w.topology x ≡ no_counts
 
 -- the graph of a world that has come to less: it is in order, and what its parts name lives; each part was there
--- before; ranks
--- and counts are no greater; and the consumers that are gone were spent
+-- before; ranks and counts are no greater; and the consumers that are gone were spent
 pub record IsLess (w : World) (u : Topology Config) : Type 0 where
   pub order : IsInOrder u
   pub ranks : RanksHold u
@@ -57,9 +56,8 @@ pub record IsLess (w : World) (u : Topology Config) : Type 0 where
   pub tasting : HasTasteConsumer (record w { topology = u })
 
 -- a firm world's graph has come to less by nothing; and with a graph that has come to less a firm world is firm,
--- where each
--- provider of a geom that withers carries an error, no consumer of DEV is marked, and the events are of providers
--- that live
+-- where each provider of a geom that withers carries an error, no consumer of DEV is marked, and the events are of
+-- providers that live
 pub record LessIsFirm : Type 0 where
   pub itself : (w : World) → Firm w → IsLess w w.topology
   pub firm : (w : World) (u : Topology Config) (queue : List Event) → Firm w → IsLess w u

@@ -33,8 +33,7 @@ dev_geom = record {
   name = dev_name;
   config = Nothing;
   automatic = false;
-  withering =
-      false;
+  withering = false;
   started = 0;
 }
 

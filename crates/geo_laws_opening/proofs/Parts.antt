@@ -56,8 +56,7 @@ disk_geom_above low n x less is =
       disk = is.disk;
       config = is.config;
       kind = is.kind;
-      withering =
-          is.withering;
+      withering = is.withering;
       automatic = is.automatic;
     }
 

@@ -65,8 +65,7 @@ with_lists w geoms providers next_geom next_provider queue = record w {
     geoms = geoms;
     providers = providers;
     next_geom = next_geom;
-    next_provider =
-        next_provider;
+    next_provider = next_provider;
   };
   events = queue;
 }

@@ -164,8 +164,7 @@ over_bare n g [] u bare = bare
 over_bare n g (p ∷ ps) u bare =
     over_bare n g ps (add_consumer u n (Some p.number)) (record {
       stands = bare.stands;
-      no_provider =
-          bare.no_provider;
+      no_provider = bare.no_provider;
     })
 
 -- so the geoms are as before

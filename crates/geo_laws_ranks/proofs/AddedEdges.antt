@@ -285,8 +285,7 @@ module _ {C D : Type 0} (t : Topology C) (u : Topology D) (a b : ℕ) (added : A
                 let further : rank u o.item ≡ length long.way.over + rank u a = long.is in
                 inr (record {
                   way = record { over = o.item ∷ long.way.over; is = (below, long.way.is) };
-                  is =
-                      omega arith;
+                  is = omega arith;
                 })
           ]
 

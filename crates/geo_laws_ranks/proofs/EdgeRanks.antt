@@ -89,8 +89,7 @@ module _ {C : Type 0} (t u : Topology C) where
       record {
         ranked = now;
         same = rank-kept t u ranked now more less;
-        reached =
-            reaches-kept t u more less ranked now;
+        reached = reaches-kept t u more less ranked now;
       }
 
   -- some of the edges: the graph stays ranked, with no greater ranks

@@ -351,5 +351,6 @@ module _ (w : World) (firm : Firm w) (s : Taste) (is : w.taste ≡ Some s) (none
 
   -- the consumer is named by its number
   pub abort-firm : Firm (abort_taste w s)
-  abort-firm = subst (λ n. Firm (record w { topology = remove_consumer t n; taste = None })) (tasting w firm s is).number
+  abort-firm =
+      subst (λ n. Firm (record w { topology = remove_consumer t n; taste = None })) (tasting w firm s is).number
       ended-firm

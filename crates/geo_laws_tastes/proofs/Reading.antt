@@ -64,7 +64,8 @@ module _ (w : World) (firm : Firm w) (s : Taste) (p : Provider) (granted : IsGra
   -- Grants
 
   -- the grant of the taste, by whether its consumer asks
-  grant_by : (b : Bool) (c : ℕ) → (s.consumer == c) ≡ b → taste_grant (Some later) c ≡ (if b then one_read else no_counts)
+  grant_by : (b : Bool) (c : ℕ) → (s.consumer == c) ≡ b
+      → taste_grant (Some later) c ≡ (if b then one_read else no_counts)
   grant_by true c e = rw e refl
   grant_by false c e = rw e refl
 
@@ -76,7 +77,8 @@ module _ (w : World) (firm : Firm w) (s : Taste) (p : Provider) (granted : IsGra
   -- it has one read
   its_grant : granted_in v s.consumer ≡ one_read
   its_grant =
-      ap (λ (o : Option Handle). option_map_or (λ (h : Handle). h.grant) o (taste_grant (Some later) s.consumer)) no_handle
+      ap (λ (o : Option Handle).
+      option_map_or (λ (h : Handle). h.grant) o (taste_grant (Some later) s.consumer)) no_handle
       ∙ grant_by true s.consumer (eq-eqb s.consumer s.consumer refl)
 
   -- before it had none

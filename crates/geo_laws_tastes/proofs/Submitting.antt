@@ -151,13 +151,14 @@ module _ (w : World) (firm : Firm w) (s : Taste) (p : Provider) (granted : IsGra
   -- the read is in order
   own_order : IsBioInOrder v x
   own_order = record {
-    source = some-with (consumer_at t s.consumer) (λ c. (c.provider ≡ Some s.provider) × HasCountFor v x c) d found_source (
-      (tasting w firm s granted.taste).attached,
-      subst (λ (a : Counts). (IsTrue true → 0 < a.r) × (true ≡ false → 0 < a.w)) (sym wants) (
-        (λ reads. omega arith),
-        (λ no. absurd (let bad : ⊥ = cc in bad)),
-      ),
-    );
+    source = some-with (consumer_at t s.consumer) (λ c. (c.provider ≡ Some s.provider) × HasCountFor v x c) d
+        found_source (
+          (tasting w firm s granted.taste).attached,
+          subst (λ (a : Counts). (IsTrue true → 0 < a.r) × (true ≡ false → 0 < a.w)) (sym wants) (
+            (λ reads. omega arith),
+            (λ no. absurd (let bad : ⊥ = cc in bad)),
+          ),
+        );
     target = some-with (provider_at t s.provider) (λ q. false ≡ false → IsRangeInside x q) p granted.found
         (λ e. record {
           some_byte = range.some;

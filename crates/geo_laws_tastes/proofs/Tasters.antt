@@ -124,5 +124,6 @@ module _ (w : World) (firm : Firm w) where
     -- it is granted what the taste is
     pub taster_grant : granted_in w taster.number ≡ taste_grant (Some s) taster.number
     taster_grant =
-        ap (λ (o : Option Handle). option_map_or (λ (h : Handle). h.grant) o (taste_grant w.taste taster.number)) none_has
+        ap (λ (o : Option Handle).
+        option_map_or (λ (h : Handle). h.grant) o (taste_grant w.taste taster.number)) none_has
         ∙ ap (λ (o : Option Taste). taste_grant o taster.number) is

@@ -36,7 +36,8 @@ pub record IsGranted (w : World) (s : Taste) (p : Provider) : Type 0 where
 pub record TastesStayFirm : Type 0 where
   pub goes_on : (w : World) (s : Taste) (classes : List Kind) (asked : Asked) (reads : ℕ) (chain : Chain)
       → w.taste ≡ Some s → is_read_out s.asked ≡ false → is_read_out asked ≡ false
-      → IsAsking w (asking s classes asked reads chain) → Firm w → Firm (with_taste w (asking s classes asked reads chain))
+      → IsAsking w (asking s classes asked reads chain) → Firm w
+      → Firm (with_taste w (asking s classes asked reads chain))
   pub reads : (w : World) (s : Taste) (p : Provider) (classes : List Kind) (kind : Kind) (reads : ℕ) (chain : Chain)
       (sector : ℕ) → IsGranted w s p → sector < p.size / p.sector
       → IsAsking w (asking s classes (ReadOut kind) reads chain) → Firm w

@@ -166,8 +166,7 @@ module _ (w : World) (firm : Firm w) where
     tasting_stays (Some s) is = record {
       consumer = is.consumer;
       alone = taste_stays ∙ is.alone;
-      number =
-          is.number;
+      number = is.number;
       attached = is.attached;
     }
 
@@ -259,8 +258,7 @@ module _ (w : World) (firm : Firm w) where
         record {
           haves = went.haves;
           wants = λ c any. wants went.haves c (cases_eq c.geom g);
-          exclusive =
-              went.exclusive;
+          exclusive = went.exclusive;
           limit = went.limit;
         }
       where

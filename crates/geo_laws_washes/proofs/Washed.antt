@@ -307,8 +307,7 @@ idle_spent w c firm here withers idle =
         geom = x.0;
         found = x.1;
         withering = x.2;
-        idle =
-            zero-test (want (granted_in w) w.topology c) idle;
+        idle = zero-test (want (granted_in w) w.topology c) idle;
       };
     }
 

@@ -21,8 +21,7 @@ pub record FreesIdle (before after : World) : Type 0 where
   pub geoms : (g : ℕ) → IsSome (geom_at before.topology g) → geom_at after.topology g ≡ None → Free before g
 
 -- a provider with nothing attached goes, with its events; a consumer of a geom that withers, which holds no count; a
--- geom that
--- is free; and what a wash finds, which was closed, detached and idle
+-- geom that is free; and what a wash finds, which was closed, detached and idle
 pub record WashesKeepFirm : Type 0 where
   pub provider : (w : World) (p : ℕ) → attached_to w.topology p ≡ [] → Firm w → Firm (wash w (washes.Provider p))
   pub consumer : (w : World) (c : Consumer) → Contains w.topology.consumers c → IsTrue (is_withering w.topology c.geom)

@@ -20,8 +20,7 @@ cut_piece o len s = record {
   child = s.component;
   span = record {
     offset = s.offset + (max o s.start - s.start);
-    len =
-        min (o + len) (s.start + s.len) - max o s.start;
+    len = min (o + len) (s.start + s.len) - max o s.start;
   };
   at = max o s.start - o;
 }

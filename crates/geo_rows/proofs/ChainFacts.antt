@@ -21,7 +21,8 @@ two_links-found = refl
 pub row-found : chain_table (links_in_row 32) 63 ≡ Ok (table parts_in_row 0)
 row-found = refl
 
-pub first_without-part : chain_table (media_of ((0, link 0 0 0 5 10) ∷ (10, link 165 1 3 0 0) ∷ [])) 63 ≡ Ok (table (None ∷ part 11 3 ∷ []) 30)
+pub first_without-part : chain_table (media_of ((0, link 0 0 0 5 10) ∷ (10, link 165 1 3 0 0) ∷ [])) 63
+    ≡ Ok (table (None ∷ part 11 3 ∷ []) 30)
 first_without-part = refl
 
 pub signature-declined : chain_table (media_of []) 63 ≡ Err declines.Signature
@@ -82,7 +83,8 @@ second-place = refl
 pub no-place : place ebr_in_row (codes "md0s1l33") 0 ≡ None
 no-place = refl
 
-pub sized-again : label_record (label_sector 512 (record { name = codes "vol"; size = Some 3584 })) ≡ Ok (record { name = codes "vol"; size = Some 3584 })
+pub sized-again : label_record (label_sector 512 (record { name = codes "vol"; size = Some 3584 }))
+    ≡ Ok (record { name = codes "vol"; size = Some 3584 })
 sized-again = refl
 
 pub plain-accepted : said_of_label None ≡ Accept (Named (record { name = codes "vol"; size = None }))
@@ -122,7 +124,40 @@ cost_above-judges = refl
 pub ruleset taste_numbers = (judges-known, makes-known, cost_above-judges)
 
 -- what `worked_labels` says
-pub ruleset worked_labels = (sized-again, plain-accepted, sized-accepted, smaller-declined, larger-declined, version_0-declined, version_3-declined, version_2_zero-size, concat_version_2-declined)
+pub ruleset worked_labels = (
+  sized-again,
+  plain-accepted,
+  sized-accepted,
+  smaller-declined,
+  larger-declined,
+  version_0-declined,
+  version_3-declined,
+  version_2_zero-size,
+  concat_version_2-declined,
+)
 
 -- what `worked_chains` says
-pub ruleset worked_chains = (two_links-found, row-found, first_without-part, signature-declined, second-declined, loop_to_first-declined, loop_to_itself-declined, far-declined, last_sector-read, long-declined, nothing-declined, part_past-media, part_to-end, asked_on-slice, not_asked_on-disk, not_asked_on_large-sectors, twelfth-name, twelfth-number, second-number, twelfth-place, second-place, no-place)
+pub ruleset worked_chains = (
+  two_links-found,
+  row-found,
+  first_without-part,
+  signature-declined,
+  second-declined,
+  loop_to_first-declined,
+  loop_to_itself-declined,
+  far-declined,
+  last_sector-read,
+  long-declined,
+  nothing-declined,
+  part_past-media,
+  part_to-end,
+  asked_on-slice,
+  not_asked_on-disk,
+  not_asked_on_large-sectors,
+  twelfth-name,
+  twelfth-number,
+  second-number,
+  twelfth-place,
+  second-place,
+  no-place,
+)

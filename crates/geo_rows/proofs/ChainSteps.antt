@@ -16,72 +16,108 @@ use Rattle.geo_model.specs.Listing.{listing}
 use Rattle.geo_model.specs.Step.{go, event, judge_next, reap_next, wash_next, step}
 
 pub lawful-holds : holds_all lawful_chain ≡ true
-unfolding start take_bio deliver up do_event judge_step reap wash_work wash do_command listing go event judge_next reap_next wash_next step is_sound is_steady is_fitting_world digits
+unfolding start take_bio deliver up do_event judge_step reap wash_work wash do_command listing go event judge_next
+    reap_next wash_next step is_sound is_steady is_fitting_world digits
 lawful-holds = refl
 
 pub lawful-kept : judged_unsound lawful_chain ≡ false
-unfolding start take_bio deliver up do_event judge_step reap wash_work wash do_command listing go event judge_next reap_next wash_next step is_sound is_steady is_fitting_world digits
+unfolding start take_bio deliver up do_event judge_step reap wash_work wash do_command listing go event judge_next
+    reap_next wash_next step is_sound is_steady is_fitting_world digits
 lawful-kept = refl
 
 pub empty_part-unsound : is_sound (back_after (read_link 0 1 0)) ≡ false
-unfolding start take_bio deliver up do_event judge_step reap wash_work wash do_command listing go event judge_next reap_next wash_next step is_sound is_steady is_fitting_world digits
+unfolding start take_bio deliver up do_event judge_step reap wash_work wash do_command listing go event judge_next
+    reap_next wash_next step is_sound is_steady is_fitting_world digits
 empty_part-unsound = refl
 
 pub empty_part-judged : judged_unsound (back_after (read_link 0 1 0)) ≡ true
-unfolding start take_bio deliver up do_event judge_step reap wash_work wash do_command listing go event judge_next reap_next wash_next step is_sound is_steady is_fitting_world digits
+unfolding start take_bio deliver up do_event judge_step reap wash_work wash do_command listing go event judge_next
+    reap_next wash_next step is_sound is_steady is_fitting_world digits
 empty_part-judged = refl
 
 pub long_part-unsound : is_sound (back_after (read_link 0 1 63)) ≡ false
-unfolding start take_bio deliver up do_event judge_step reap wash_work wash do_command listing go event judge_next reap_next wash_next step is_sound is_steady is_fitting_world digits
+unfolding start take_bio deliver up do_event judge_step reap wash_work wash do_command listing go event judge_next
+    reap_next wash_next step is_sound is_steady is_fitting_world digits
 long_part-unsound = refl
 
 pub long_part-judged : judged_unsound (back_after (read_link 0 1 63)) ≡ true
-unfolding start take_bio deliver up do_event judge_step reap wash_work wash do_command listing go event judge_next reap_next wash_next step is_sound is_steady is_fitting_world digits
+unfolding start take_bio deliver up do_event judge_step reap wash_work wash do_command listing go event judge_next
+    reap_next wash_next step is_sound is_steady is_fitting_world digits
 long_part-judged = refl
 
 pub late_first-unsound : is_sound (back_after (read_link 1 2 4)) ≡ false
-unfolding start take_bio deliver up do_event judge_step reap wash_work wash do_command listing go event judge_next reap_next wash_next step is_sound is_steady is_fitting_world digits
+unfolding start take_bio deliver up do_event judge_step reap wash_work wash do_command listing go event judge_next
+    reap_next wash_next step is_sound is_steady is_fitting_world digits
 late_first-unsound = refl
 
-pub far_link-unsound : is_sound (chain_world last_back 3 (chain_of (read_link 0 1 4 ∷ read_link 63 1 4 ∷ []) 10)) ≡ false
-unfolding start take_bio deliver up do_event judge_step reap wash_work wash do_command listing go event judge_next reap_next wash_next step is_sound is_steady is_fitting_world digits
+pub far_link-unsound : is_sound (chain_world last_back 3 (chain_of (read_link 0 1 4 ∷ read_link 63 1 4 ∷ []) 10))
+    ≡ false
+unfolding start take_bio deliver up do_event judge_step reap wash_work wash do_command listing go event judge_next
+    reap_next wash_next step is_sound is_steady is_fitting_world digits
 far_link-unsound = refl
 
 pub more_reads-unsound : is_sound (chain_world last_back 3 (chain_of (read_link 0 1 4 ∷ []) 10)) ≡ false
-unfolding start take_bio deliver up do_event judge_step reap wash_work wash do_command listing go event judge_next reap_next wash_next step is_sound is_steady is_fitting_world digits
+unfolding start take_bio deliver up do_event judge_step reap wash_work wash do_command listing go event judge_next
+    reap_next wash_next step is_sound is_steady is_fitting_world digits
 more_reads-unsound = refl
 
 pub full_chain-unsound : is_sound (chain_world last_back 33 full_chain) ≡ false
-unfolding start take_bio deliver up do_event judge_step reap wash_work wash do_command listing go event judge_next reap_next wash_next step is_sound is_steady is_fitting_world digits
+unfolding start take_bio deliver up do_event judge_step reap wash_work wash do_command listing go event judge_next
+    reap_next wash_next step is_sound is_steady is_fitting_world digits
 full_chain-unsound = refl
 
 pub same_sectors-unsound : is_sound same_sectors_read ≡ false
-unfolding start take_bio deliver up do_event judge_step reap wash_work wash do_command listing go event judge_next reap_next wash_next step is_sound is_steady is_fitting_world digits
+unfolding start take_bio deliver up do_event judge_step reap wash_work wash do_command listing go event judge_next
+    reap_next wash_next step is_sound is_steady is_fitting_world digits
 same_sectors-unsound = refl
 
 pub goes_back-unsound : is_sound goes_back ≡ false
-unfolding start take_bio deliver up do_event judge_step reap wash_work wash do_command listing go event judge_next reap_next wash_next step is_sound is_steady is_fitting_world digits
+unfolding start take_bio deliver up do_event judge_step reap wash_work wash do_command listing go event judge_next
+    reap_next wash_next step is_sound is_steady is_fitting_world digits
 goes_back-unsound = refl
 
 pub other_next-unsound : is_sound other_next ≡ false
-unfolding start take_bio deliver up do_event judge_step reap wash_work wash do_command listing go event judge_next reap_next wash_next step is_sound is_steady is_fitting_world digits
+unfolding start take_bio deliver up do_event judge_step reap wash_work wash do_command listing go event judge_next
+    reap_next wash_next step is_sound is_steady is_fitting_world digits
 other_next-unsound = refl
 
 pub same_next-sound : is_sound (chain_world (NextSector kinds.Ebr 10) 1 (chain_of (read_link 0 1 4 ∷ []) 10)) ≡ true
-unfolding start take_bio deliver up do_event judge_step reap wash_work wash do_command listing go event judge_next reap_next wash_next step is_sound is_steady is_fitting_world digits
+unfolding start take_bio deliver up do_event judge_step reap wash_work wash do_command listing go event judge_next
+    reap_next wash_next step is_sound is_steady is_fitting_world digits
 same_next-sound = refl
 
 pub first_elsewhere-unsound : is_sound first_elsewhere ≡ false
-unfolding start take_bio deliver up do_event judge_step reap wash_work wash do_command listing go event judge_next reap_next wash_next step is_sound is_steady is_fitting_world digits
+unfolding start take_bio deliver up do_event judge_step reap wash_work wash do_command listing go event judge_next
+    reap_next wash_next step is_sound is_steady is_fitting_world digits
 first_elsewhere-unsound = refl
 
 pub first_elsewhere-judged : judged_unsound first_elsewhere ≡ true
-unfolding start take_bio deliver up do_event judge_step reap wash_work wash do_command listing go event judge_next reap_next wash_next step is_sound is_steady is_fitting_world digits
+unfolding start take_bio deliver up do_event judge_step reap wash_work wash do_command listing go event judge_next
+    reap_next wash_next step is_sound is_steady is_fitting_world digits
 first_elsewhere-judged = refl
 
 pub next_far-unsound : is_sound next_far ≡ false
-unfolding start take_bio deliver up do_event judge_step reap wash_work wash do_command listing go event judge_next reap_next wash_next step is_sound is_steady is_fitting_world digits
+unfolding start take_bio deliver up do_event judge_step reap wash_work wash do_command listing go event judge_next
+    reap_next wash_next step is_sound is_steady is_fitting_world digits
 next_far-unsound = refl
 
 -- what `chains_of_tastes` says
-pub ruleset chains_of_tastes = (lawful-holds, lawful-kept, empty_part-unsound, empty_part-judged, long_part-unsound, long_part-judged, late_first-unsound, far_link-unsound, more_reads-unsound, full_chain-unsound, same_sectors-unsound, goes_back-unsound, other_next-unsound, first_elsewhere-unsound, first_elsewhere-judged, next_far-unsound, same_next-sound)
+pub ruleset chains_of_tastes = (
+  lawful-holds,
+  lawful-kept,
+  empty_part-unsound,
+  empty_part-judged,
+  long_part-unsound,
+  long_part-judged,
+  late_first-unsound,
+  far_link-unsound,
+  more_reads-unsound,
+  full_chain-unsound,
+  same_sectors-unsound,
+  goes_back-unsound,
+  other_next-unsound,
+  first_elsewhere-unsound,
+  first_elsewhere-judged,
+  next_far-unsound,
+  same_next-sound,
+)

@@ -29,7 +29,8 @@ use Rattle.geo_rows.specs.WorkedFitting.{is_sector_size, is_header_disk, is_whol
 -- Classes
 
 -- a test of a class that passes for that class alone
-pub kind_is : (k : Kind) (c : Kind) → IsTrue (is_kind c c) → (is_kind k c ≡ true → k ≡ c) → Decides (is_kind k c) (k ≡ c)
+pub kind_is : (k : Kind) (c : Kind) → IsTrue (is_kind c c) → (is_kind k c ≡ true → k ≡ c)
+    → Decides (is_kind k c) (k ≡ c)
 kind_is k c same told = (told, λ e. subst (λ x. is_kind x c ≡ true) (sym e) same)
 
 -- what isn't true isn't so
@@ -70,7 +71,8 @@ is_concat k = kind_is k kinds.Concat refl (concat_told k)
 sector_size : (n : ℕ) → Decides (is_sector_size n) (IsSectorSize n)
 sector_size n = Decides-or (n == 512) (n == 4096) (Decides-eqb n 512) (Decides-eqb n 4096)
 
-pub media_size : (size sector : ℕ) → Decides (nat_le 1 size && ((size % sector == 0) && nat_le size (2 ^ 60))) (IsMediaSize size sector)
+pub media_size : (size sector : ℕ)
+    → Decides (nat_le 1 size && ((size % sector == 0) && nat_le size (2 ^ 60))) (IsMediaSize size sector)
 media_size size sector =
     Decides-like _
     (λ h. record { positive = h.0; whole = h.1.0; limited = h.1.1 })
@@ -104,7 +106,8 @@ below t c =
 -- Places
 
 -- a place and its size, and all places of a geom
-one_place : (t : Topology Config) (g : ℕ) (place : Option ℕ) (size : ℕ) → Decides (fits_place t g place size) (FitsPlace t g place size)
+one_place : (t : Topology Config) (g : ℕ) (place : Option ℕ) (size : ℕ)
+    → Decides (fits_place t g place size) (FitsPlace t g place size)
 one_place t g place size =
     if_there (option_and_then (consumer_at t) place) _ _ (λ c.
     under (c.geom == g) _ (Decides-eqb c.geom g)
@@ -112,11 +115,14 @@ one_place t g place size =
     Decides-and (nat_le size q.size) (size % q.sector == 0) (at_most size q.size) (Decides-eqb (size % q.sector) 0))))
 
 places : (t : Topology Config) (g : Geom Config) → Decides (fits_places t g) (FitsPlaces t g)
-places t g = beside (fits_place t g.number) (FitsPlace t g.number) (one_place t g.number) (places_of g.config) (sizes_of g.config)
+places t g =
+    beside (fits_place t g.number) (FitsPlace t g.number) (one_place t g.number) (places_of g.config)
+    (sizes_of g.config)
 
 -- one provider, its size, and places that differ
 one_provider : (t : Topology Config) (g : Geom Config) → Decides (has_one_provider t g) (HasOneProvider t g)
-one_provider t g = under (is_kind g.kind kinds.Concat) _ (is_concat g.kind) (at_most (length (providers_of t g.number)) 1)
+one_provider t g =
+    under (is_kind g.kind kinds.Concat) _ (is_concat g.kind) (at_most (length (providers_of t g.number)) 1)
 
 its_sum : (t : Topology Config) (g : Geom Config) → Decides (has_its_sum t g) (HasItsSum t g)
 its_sum t g =
@@ -143,10 +149,12 @@ one_sector p (results.Failed e) = always
 asks : (t : Topology Config) (p : Provider) (kind : Kind) → Decides (asks_there t p kind) (AsksThere t p kind)
 asks t p kind = (λ e. e, λ e. e)
 
-asked_in_order : (t : Topology Config) (p : Provider) (asked : Asked) → Decides (is_asked_in_order t p asked) (IsAskedInOrder t p asked)
+asked_in_order : (t : Topology Config) (p : Provider) (asked : Asked)
+    → Decides (is_asked_in_order t p asked) (IsAskedInOrder t p asked)
 asked_in_order t p NoClass = always
 asked_in_order t p (NextSector kind sector) =
-    Decides-and (asks_there t p kind) (nat_lt sector (p.size / p.sector)) (asks t p kind) (Decides-ltb sector (p.size / p.sector))
+    Decides-and (asks_there t p kind) (nat_lt sector (p.size / p.sector)) (asks t p kind)
+    (Decides-ltb sector (p.size / p.sector))
 asked_in_order t p (ReadOut kind) = asks t p kind
 asked_in_order t p (ReadBack kind got) =
     Decides-and (asks_there t p kind) (is_one_sector p got) (asks t p kind) (one_sector p got)
@@ -213,7 +221,8 @@ stripe_size n =
 
 named_class : (k : Kind) → Decides (is_named_class k) (IsNamedClass k)
 named_class k =
-    Decides-or (adds_exclusive k) (is_kind k kinds.Nop) (itself (adds_exclusive k)) (kind_is k kinds.Nop refl (nop_told k))
+    Decides-or (adds_exclusive k) (is_kind k kinds.Nop) (itself (adds_exclusive k))
+    (kind_is k kinds.Nop refl (nop_told k))
 
 short : (n : List ℕ) → Decides (is_short_name n) (IsTrue (is_short_name n))
 short n = itself (is_short_name n)
@@ -244,7 +253,8 @@ formed (commands.Destroy kind geom) = Decides-and _ _ (named_class kind) (long g
 formed (commands.Label h name) = Decides-and _ _ (short h) (short name)
 formed (commands.Relabel h name) = Decides-and _ _ (short h) (short name)
 formed (commands.MarkConcat h name id place count) = three _ _ _ (short h) (short name) (mark id place count)
-formed (commands.MarkStripe h name id place count stripe) = four _ _ _ _ (short h) (short name) (mark id place count) (stripe_size stripe)
+formed (commands.MarkStripe h name id place count stripe) =
+    four _ _ _ _ (short h) (short name) (mark id place count) (stripe_size stripe)
 formed commands.Mesh = always
 
 -- All of it
@@ -265,7 +275,10 @@ fitting_tested w =
       read = h.1.1.1.1.1.1.1.1.0;
       commands = h.1.1.1.1.1.1.1.1.1.0;
     })
-    (λ h. (h.disks, (h.sectors, (h.wholes, (h.places, (h.one, (h.apart, (h.sums, (h.asked, (h.read, (h.commands, tt)))))))))))
+    (λ h. (
+      h.disks,
+      (h.sectors, (h.wholes, (h.places, (h.one, (h.apart, (h.sums, (h.asked, (h.read, (h.commands, tt))))))))),
+    ))
     (Decides-and _ _ (each _ _ header_disk w.disks)
     (Decides-and _ _ (each _ _ (λ p. sector_size p.sector) w.topology.providers)
     (Decides-and _ _ (each _ _ (below w.topology) w.topology.consumers)

@@ -19,35 +19,43 @@ use Rattle.geo_model.specs.Report.{mesh_text, report}
 use Rattle.geo_rows.specs.FixedRuns.{run_fixed}
 
 pub growing-report : report_of 400 growing_plan growing_facts ≡ growing_text
-unfolding start take_bio deliver up do_event judge_step reap wash_work wash do_command listing go event judge_next reap_next wash_next step opening pick runs_text mesh_text report run_fixed digits
+unfolding start take_bio deliver up do_event judge_step reap wash_work wash do_command listing go event judge_next
+    reap_next wash_next step opening pick runs_text mesh_text report run_fixed digits
 growing-report = refl
 
 pub appearing-report : report_of 400 appearing_plan appearing_facts ≡ appearing_text
-unfolding start take_bio deliver up do_event judge_step reap wash_work wash do_command listing go event judge_next reap_next wash_next step opening pick runs_text mesh_text report run_fixed digits
+unfolding start take_bio deliver up do_event judge_step reap wash_work wash do_command listing go event judge_next
+    reap_next wash_next step opening pick runs_text mesh_text report run_fixed digits
 appearing-report = refl
 
 pub sized_label-report : report_of 400 sized_label_plan sized_label_facts ≡ sized_label_text
-unfolding start take_bio deliver up do_event judge_step reap wash_work wash do_command listing go event judge_next reap_next wash_next step opening pick runs_text mesh_text report run_fixed digits
+unfolding start take_bio deliver up do_event judge_step reap wash_work wash do_command listing go event judge_next
+    reap_next wash_next step opening pick runs_text mesh_text report run_fixed digits
 sized_label-report = refl
 
 pub plain_label-report : report_of 400 plain_label_plan plain_label_facts ≡ plain_label_text
-unfolding start take_bio deliver up do_event judge_step reap wash_work wash do_command listing go event judge_next reap_next wash_next step opening pick runs_text mesh_text report run_fixed digits
+unfolding start take_bio deliver up do_event judge_step reap wash_work wash do_command listing go event judge_next
+    reap_next wash_next step opening pick runs_text mesh_text report run_fixed digits
 plain_label-report = refl
 
 pub logical-report : report_of 400 logical_plan logical_facts ≡ logical_text
-unfolding start take_bio deliver up do_event judge_step reap wash_work wash do_command listing go event judge_next reap_next wash_next step opening pick runs_text mesh_text report run_fixed digits
+unfolding start take_bio deliver up do_event judge_step reap wash_work wash do_command listing go event judge_next
+    reap_next wash_next step opening pick runs_text mesh_text report run_fixed digits
 logical-report = refl
 
 pub looping-report : report_of 400 looping_plan looping_facts ≡ looping_text
-unfolding start take_bio deliver up do_event judge_step reap wash_work wash do_command listing go event judge_next reap_next wash_next step opening pick runs_text mesh_text report run_fixed digits
+unfolding start take_bio deliver up do_event judge_step reap wash_work wash do_command listing go event judge_next
+    reap_next wash_next step opening pick runs_text mesh_text report run_fixed digits
 looping-report = refl
 
 pub refusing-report : report_of 400 refusing_plan refusing_facts ≡ refusing_text
-unfolding start take_bio deliver up do_event judge_step reap wash_work wash do_command listing go event judge_next reap_next wash_next step opening pick runs_text mesh_text report run_fixed digits
+unfolding start take_bio deliver up do_event judge_step reap wash_work wash do_command listing go event judge_next
+    reap_next wash_next step opening pick runs_text mesh_text report run_fixed digits
 refusing-report = refl
 
 pub relabelling-report : report_of 400 relabelling_plan relabelling_facts ≡ relabelling_text
-unfolding start take_bio deliver up do_event judge_step reap wash_work wash do_command listing go event judge_next reap_next wash_next step opening pick runs_text mesh_text report run_fixed digits
+unfolding start take_bio deliver up do_event judge_step reap wash_work wash do_command listing go event judge_next
+    reap_next wash_next step opening pick runs_text mesh_text report run_fixed digits
 relabelling-report = refl
 
 pub growing-script : script growing_script ≡ Ok growing_plan
@@ -83,7 +91,8 @@ unfolding script
 relabelling-script = refl
 
 pub written_through-report : report_of 400 written_through_plan written_through_facts ≡ written_through_text
-unfolding start take_bio deliver up do_event judge_step reap wash_work wash do_command listing go event judge_next reap_next wash_next step opening pick runs_text mesh_text report run_fixed digits
+unfolding start take_bio deliver up do_event judge_step reap wash_work wash do_command listing go event judge_next
+    reap_next wash_next step opening pick runs_text mesh_text report run_fixed digits
 written_through-report = refl
 
 pub written_through-script : script written_through_script ≡ Ok written_through_plan
@@ -91,7 +100,8 @@ unfolding script
 written_through-script = refl
 
 pub used_slice-report : report_of 400 used_slice_plan used_slice_facts ≡ used_slice_text
-unfolding start take_bio deliver up do_event judge_step reap wash_work wash do_command listing go event judge_next reap_next wash_next step opening pick runs_text mesh_text report run_fixed digits
+unfolding start take_bio deliver up do_event judge_step reap wash_work wash do_command listing go event judge_next
+    reap_next wash_next step opening pick runs_text mesh_text report run_fixed digits
 used_slice-report = refl
 
 pub used_slice-script : script used_slice_script ≡ Ok used_slice_plan
@@ -99,7 +109,8 @@ unfolding script
 used_slice-script = refl
 
 pub kept_above-report : report_of 400 kept_above_plan kept_above_facts ≡ kept_above_text
-unfolding start take_bio deliver up do_event judge_step reap wash_work wash do_command listing go event judge_next reap_next wash_next step opening pick runs_text mesh_text report run_fixed digits
+unfolding start take_bio deliver up do_event judge_step reap wash_work wash do_command listing go event judge_next
+    reap_next wash_next step opening pick runs_text mesh_text report run_fixed digits
 kept_above-report = refl
 
 pub kept_above-script : script kept_above_script ≡ Ok kept_above_plan
@@ -107,15 +118,43 @@ unfolding script
 kept_above-script = refl
 
 pub long_chain-report : report_of 400 long_chain_plan long_chain_facts ≡ long_chain_text
-unfolding start take_bio deliver up do_event judge_step reap wash_work wash do_command listing go event judge_next reap_next wash_next step opening pick runs_text mesh_text report run_fixed digits
+unfolding start take_bio deliver up do_event judge_step reap wash_work wash do_command listing go event judge_next
+    reap_next wash_next step opening pick runs_text mesh_text report run_fixed digits
 long_chain-report = refl
 
 pub too_long_chain-report : report_of 400 too_long_chain_plan too_long_chain_facts ≡ too_long_chain_text
-unfolding start take_bio deliver up do_event judge_step reap wash_work wash do_command listing go event judge_next reap_next wash_next step opening pick runs_text mesh_text report run_fixed digits
+unfolding start take_bio deliver up do_event judge_step reap wash_work wash do_command listing go event judge_next
+    reap_next wash_next step opening pick runs_text mesh_text report run_fixed digits
 too_long_chain-report = refl
 
 -- what `grown_scripts` says
-pub ruleset grown_scripts = (growing-script, appearing-script, sized_label-script, plain_label-script, logical-script, looping-script, refusing-script, relabelling-script, written_through-script, used_slice-script, kept_above-script)
+pub ruleset grown_scripts = (
+  growing-script,
+  appearing-script,
+  sized_label-script,
+  plain_label-script,
+  logical-script,
+  looping-script,
+  refusing-script,
+  relabelling-script,
+  written_through-script,
+  used_slice-script,
+  kept_above-script,
+)
 
 -- what `grown_runs` says
-pub ruleset grown_runs = (growing-report, appearing-report, sized_label-report, plain_label-report, logical-report, looping-report, refusing-report, relabelling-report, written_through-report, used_slice-report, kept_above-report, long_chain-report, too_long_chain-report)
+pub ruleset grown_runs = (
+  growing-report,
+  appearing-report,
+  sized_label-report,
+  plain_label-report,
+  logical-report,
+  looping-report,
+  refusing-report,
+  relabelling-report,
+  written_through-report,
+  used_slice-report,
+  kept_above-report,
+  long_chain-report,
+  too_long_chain-report,
+)

@@ -20,7 +20,12 @@ use Rattle.geo_rows.proofs.WrongPrograms.{ends}
 
 -- one disk that stands at the opening
 abbrev one_disk_plan : Plan
-one_disk_plan = record { disks = record { kind = Ram; name = codes "md0"; sector = 512; sectors = 4; later = false } ∷ []; actors = []; commands = [] }
+one_disk_plan =
+    record {
+      disks = record { kind = Ram; name = codes "md0"; sector = 512; sectors = 4; later = false } ∷ [];
+      actors = [];
+      commands = [];
+    }
 
 script-is : script (codes "ram md0 512 4") ≡ Ok one_disk_plan
 unfolding script
@@ -82,7 +87,8 @@ by_log : (ending : Ending) (log : Option (List Entry)) → IsWhole ending → Is
     → IfSome log (FollowsMode RunMode one_disk_plan (opening one_disk_plan ((512, 4) ∷ [])) ending) → ⊥
 by_log ending None w some zero order = let e : false ≡ true = some in let no : ⊥ = cc in no
 by_log ending (Some log) w some zero order =
-    by_jobs order.threads order.rest (subst (λ l. All (λ e. e.seat ≡ 0) l) order.parts zero) order.jobs.own_kind (order.idle w)
+    by_jobs order.threads order.rest (subst (λ l. All (λ e. e.seat ≡ 0) l) order.parts zero) order.jobs.own_kind
+    (order.idle w)
 
 by_plan : (call : Call) (plan : Plan) (ending : Ending) → plan ≡ one_disk_plan → LeavesAllToTheDrain call
     → IsWhole ending
@@ -92,7 +98,8 @@ by_plan call plan ending p wrong w kept =
     let order : IfSome call.log (FollowsMode RunMode one_disk_plan (opening one_disk_plan call.facts) ending) =
     subst (λ x. IfSome call.log (FollowsMode RunMode x (opening x call.facts) ending)) p kept.order in
     let fixed : IfSome call.log (FollowsMode RunMode one_disk_plan (opening one_disk_plan ((512, 4) ∷ [])) ending) =
-    subst (λ f. IfSome call.log (FollowsMode RunMode one_disk_plan (opening one_disk_plan f) ending)) wrong.facts order in
+    subst (λ f. IfSome call.log (FollowsMode RunMode one_disk_plan (opening one_disk_plan f) ending))
+    wrong.facts order in
     by_log ending call.log w some wrong.seats fixed
 
 read_whole : (call : Call) (plan : Plan) (ending : Ending) → IsWhole ending → KeepsAll call RunMode plan ending
@@ -102,7 +109,8 @@ read_whole call plan ending w kept = (kept.is_opened (logged ending call.log w k
 plan-of : (call : Call) (plan : Plan) (ending : Ending) → LeavesAllToTheDrain call → IsWhole ending
     → KeepsAll call RunMode plan ending → plan ≡ one_disk_plan
 plan-of call plan ending wrong w kept =
-    let good : script call.text ≡ Ok one_disk_plan = subst (λ t. script t ≡ Ok one_disk_plan) (sym wrong.text) script-is in
+    let good : script call.text ≡ Ok one_disk_plan =
+    subst (λ t. script t ≡ Ok one_disk_plan) (sym wrong.text) script-is in
     sym (kept.read_as.plan_is (read_whole call plan ending w kept) one_disk_plan good)
 
 by_mode : (call : Call) (mode : Mode) (plan : Plan) (ending : Ending) → RunMode ≡ mode → LeavesAllToTheDrain call
@@ -113,7 +121,8 @@ by_mode call mode plan ending m wrong kept =
     by_plan call plan ending (plan-of call plan ending wrong w run) wrong w run
 
 pub drain_refused : IsRefused LeavesAllToTheDrain
-drain_refused call mode plan ending wrong kept = by_mode call mode plan ending (kept.read_as.mode_is RunMode wrong.words) wrong kept
+drain_refused call mode plan ending wrong kept =
+    by_mode call mode plan ending (kept.read_as.mode_is RunMode wrong.words) wrong kept
 
 -- what lies between a log and itself is that log
 between : (log seen : List Entry) → IsPrefixOf log seen → IsPrefixOf seen log → seen ≡ log
@@ -126,6 +135,7 @@ pub event_worker_refused : (opened : World) (plan : Plan) (log : List Entry) →
 event_worker_refused opened plan log wrong =
     let tried = wrong.idle.at_event in
     let idle : WasIdle opened log (event_seat plan) steps.Event =
-    subst (λ l. WasIdle opened l (event_seat plan) steps.Event) (between log tried.seen tried.behind_first tried.before_last) tried.was_idle in
+    subst (λ l. WasIdle opened l (event_seat plan) steps.Event)
+    (between log tried.seen tried.behind_first tried.before_last) tried.was_idle in
     let both : true ≡ false = sym wrong.is_due ∙ idle in
     let no : ⊥ = cc in no

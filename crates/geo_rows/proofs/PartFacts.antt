@@ -36,7 +36,8 @@ pub three_way-place : place three_way (codes "stripe/s") 2600 ≡ Some (spot 2 5
 three_way-place = refl
 
 -- what is written is read again
-pub label-again : label_record (label_sector 512 (record { name = codes "vol"; size = None })) ≡ Ok (record { name = codes "vol"; size = None })
+pub label-again : label_record (label_sector 512 (record { name = codes "vol"; size = None }))
+    ≡ Ok (record { name = codes "vol"; size = None })
 label-again = refl
 
 pub concat-again :
@@ -45,19 +46,23 @@ pub concat-again :
 concat-again = refl
 
 pub stripe-again :
-    stripe_record (stripe_sector 4096 (record { name = codes "fast"; id = 4294967295; place = 15; count = 16; stripe = 4096 }))
+    stripe_record
+    (stripe_sector 4096 (record { name = codes "fast"; id = 4294967295; place = 15; count = 16; stripe = 4096 }))
     ≡ Ok (record { name = codes "fast"; id = 4294967295; place = 15; count = 16; stripe = 4096 })
 stripe-again = refl
 
 -- each cause of a decline
-pub place-declined : concat_record (concat_sector 512 (record { name = codes "v"; id = 7; place = 2; count = 2 })) ≡ Err declines.Place
+pub place-declined : concat_record (concat_sector 512 (record { name = codes "v"; id = 7; place = 2; count = 2 }))
+    ≡ Err declines.Place
 place-declined = refl
 
 pub size-declined :
-    stripe_record (stripe_sector 512 (record { name = codes "v"; id = 7; place = 0; count = 1; stripe = 513 })) ≡ Err declines.Size
+    stripe_record (stripe_sector 512 (record { name = codes "v"; id = 7; place = 0; count = 1; stripe = 513 }))
+    ≡ Err declines.Size
 size-declined = refl
 
-pub name-declined : label_record (label_sector 512 (record { name = codes "a" ++ 0 ∷ codes "b"; size = None })) ≡ Err declines.BadName
+pub name-declined : label_record (label_sector 512 (record { name = codes "a" ++ 0 ∷ codes "b"; size = None }))
+    ≡ Err declines.BadName
 name-declined = refl
 
 pub magic-declined : label_record (replicate 512 0) ≡ Err declines.Magic
@@ -89,4 +94,26 @@ pub slice-too_long : makes_slice 62 ≡ false
 slice-too_long = refl
 
 -- what `worked_parts` says
-pub ruleset worked_parts = (chain-rank, attach-own, attach-errored, attach-deep, attach-fits, three_way-pieces, three_way-place, label-again, concat-again, stripe-again, place-declined, size-declined, name-declined, magic-declined, far-declined, protective-declined, signature-declined, concat-deep, concat-fits, slice-named, slice-too_long)
+pub ruleset worked_parts = (
+  chain-rank,
+  attach-own,
+  attach-errored,
+  attach-deep,
+  attach-fits,
+  three_way-pieces,
+  three_way-place,
+  label-again,
+  concat-again,
+  stripe-again,
+  place-declined,
+  size-declined,
+  name-declined,
+  magic-declined,
+  far-declined,
+  protective-declined,
+  signature-declined,
+  concat-deep,
+  concat-fits,
+  slice-named,
+  slice-too_long,
+)

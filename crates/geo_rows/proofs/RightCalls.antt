@@ -26,7 +26,8 @@ use Rattle.geo_rows.specs.RightCalls.{quiet_call, later_plan, later_text, silent
 step-only : (m : Mode) → Accepts (codes "step" ∷ []) m → m ≡ StepMode
 step-only StepMode a = refl
 step-only RunMode a = absurd (let e : words_for StepMode ≡ words_for RunMode = a.spelled in let no : ⊥ = cc in no)
-step-only (GenMode s n) a = absurd (let e : words_for StepMode ≡ words_for (GenMode s n) = a.spelled in let no : ⊥ = cc in no)
+step-only (GenMode s n) a =
+    absurd (let e : words_for StepMode ≡ words_for (GenMode s n) = a.spelled in let no : ⊥ = cc in no)
 
 accepts : Accepts (codes "step" ∷ []) StepMode
 accepts = record { spelled = refl; in_range = tt }
@@ -94,22 +95,62 @@ nothing-printed = refl
 there : IsThere silent_shelf (record { kind = Shelf; name = codes "d"; sector = 512; sectors = 0; later = true })
 there of_shelf = record { not_lent = λ lent. omega (arith, lent.1); image = tt }
 
-told : HasToldSize silent_shelf (record { kind = Shelf; name = codes "d"; sector = 512; sectors = 0; later = true }, (512, 1000))
+told : HasToldSize silent_shelf (
+  record {
+    kind = Shelf;
+    name = codes "d";
+    sector = 512;
+    sectors = 0;
+    later = true;
+  },
+  (512, 1000),
+)
 told of_shelf = tt
 
 opened : IsOpened quiet_call StepMode later_plan
 opened = record {
-  parsed = record { accepted = accepts; read = record { few = omega arith; ended = refl; none_left = tt }; script = later-script };
-  there = one (IsThere silent_shelf) (record { kind = Shelf; name = codes "d"; sector = 512; sectors = 0; later = true }) there;
+  parsed = record {
+    accepted = accepts;
+    read = record { few = omega arith; ended = refl; none_left = tt };
+    script = later-script;
+  };
+  there = one (IsThere silent_shelf) (record {
+    kind = Shelf;
+    name = codes "d";
+    sector = 512;
+    sectors = 0;
+    later = true;
+  }) there;
   facts_fit = facts-fit;
-  told_sizes = one (HasToldSize silent_shelf) (record { kind = Shelf; name = codes "d"; sector = 512; sectors = 0; later = true }, (512, 1000)) told;
+  told_sizes =
+      one (HasToldSize silent_shelf) (
+        record {
+          kind = Shelf;
+          name = codes "d";
+          sector = 512;
+          sectors = 0;
+          later = true;
+        },
+        (512, 1000),
+      ) told;
 }
 
-kept : IsDiskKept silent_shelf silent_shelf [] (record { number = 0; decl = record { kind = Shelf; name = codes "d"; sector = 512; sectors = 0; later = true } }) Shelf
+kept : IsDiskKept silent_shelf silent_shelf []
+    (record {
+      number = 0;
+      decl =
+          record { kind = Shelf; name = codes "d"; sector = 512; sectors = 0; later = true };
+    }) Shelf
 kept not_back = record { failures = omega arith; bytes = tt; reads = tt }
 
 kept_disks : DisksAreKept later_plan silent_shelf silent_shelf []
-kept_disks = one (λ d. IsDiskKept silent_shelf silent_shelf [] d d.decl.kind) (record { number = 0; decl = record { kind = Shelf; name = codes "d"; sector = 512; sectors = 0; later = true } }) kept
+kept_disks =
+    one (λ d. IsDiskKept silent_shelf silent_shelf [] d d.decl.kind)
+    (record {
+      number = 0;
+      decl =
+          record { kind = Shelf; name = codes "d"; sector = 512; sectors = 0; later = true };
+    }) kept
 
 fitting : Fits (opening later_plan ((512, 1000) ∷ [])) []
 unfolding opening
@@ -125,7 +166,10 @@ quiet = record {
   };
   bytes = record { gave = refl; had_left = tt; took = refl };
   cause = (refl, refl);
-  prints = record { cut_off = λ e. absurd (omega (arith, e)); whole = λ _. record { status = refl; written = sym nothing-printed } };
+  prints = record {
+    cut_off = λ e. absurd (omega (arith, e));
+    whole = λ _. record { status = refl; written = sym nothing-printed };
+  };
   has_log = refl;
   is_opened = λ _. opened;
   history = history;
@@ -142,5 +186,12 @@ quiet = record {
   };
   images = tt;
   images_stand = λ name not_kept. tt;
-  outside = record { source = λ e. elim e [ inl x ↦ absurd x | inr x ↦ absurd x ]; shelf = λ e. elim e [ inl x ↦ absurd x | inr x ↦ absurd x ] };
+  outside = record {
+    source = λ e. elim e [
+      | inl x ↦
+          absurd x
+      | inr x ↦ absurd x
+    ];
+    shelf = λ e. elim e [ inl x ↦ absurd x | inr x ↦ absurd x ];
+  };
 }

@@ -19,136 +19,204 @@ use Rattle.geo_model.specs.Order.{pick}
 use Rattle.geo_rows.specs.FixedRuns.{run_fixed}
 
 pub first-fitting : run_is_fitting first_plan first_facts ≡ true
-unfolding start take_bio deliver up do_event judge_step reap wash_work wash do_command listing go event judge_next reap_next wash_next step opening pick run_fixed is_fitting_world digits
+unfolding start take_bio deliver up do_event judge_step reap wash_work wash do_command listing go event judge_next
+    reap_next wash_next step opening pick run_fixed is_fitting_world digits
 first-fitting = refl
 
 pub exclusion-fitting : run_is_fitting exclusion_plan exclusion_facts ≡ true
-unfolding start take_bio deliver up do_event judge_step reap wash_work wash do_command listing go event judge_next reap_next wash_next step opening pick run_fixed is_fitting_world digits
+unfolding start take_bio deliver up do_event judge_step reap wash_work wash do_command listing go event judge_next
+    reap_next wash_next step opening pick run_fixed is_fitting_world digits
 exclusion-fitting = refl
 
 pub boundaries-fitting : run_is_fitting boundaries_plan boundaries_facts ≡ true
-unfolding start take_bio deliver up do_event judge_step reap wash_work wash do_command listing go event judge_next reap_next wash_next step opening pick run_fixed is_fitting_world digits
+unfolding start take_bio deliver up do_event judge_step reap wash_work wash do_command listing go event judge_next
+    reap_next wash_next step opening pick run_fixed is_fitting_world digits
 boundaries-fitting = refl
 
 pub slice-fitting : run_is_fitting slice_plan slice_facts ≡ true
-unfolding start take_bio deliver up do_event judge_step reap wash_work wash do_command listing go event judge_next reap_next wash_next step opening pick run_fixed is_fitting_world digits
+unfolding start take_bio deliver up do_event judge_step reap wash_work wash do_command listing go event judge_next
+    reap_next wash_next step opening pick run_fixed is_fitting_world digits
 slice-fitting = refl
 
 pub hostile_table-fitting : run_is_fitting hostile_table_plan hostile_table_facts ≡ true
-unfolding start take_bio deliver up do_event judge_step reap wash_work wash do_command listing go event judge_next reap_next wash_next step opening pick run_fixed is_fitting_world digits
+unfolding start take_bio deliver up do_event judge_step reap wash_work wash do_command listing go event judge_next
+    reap_next wash_next step opening pick run_fixed is_fitting_world digits
 hostile_table-fitting = refl
 
 pub spoiling-fitting : run_is_fitting spoiling_plan spoiling_facts ≡ true
-unfolding start take_bio deliver up do_event judge_step reap wash_work wash do_command listing go event judge_next reap_next wash_next step opening pick run_fixed is_fitting_world digits
+unfolding start take_bio deliver up do_event judge_step reap wash_work wash do_command listing go event judge_next
+    reap_next wash_next step opening pick run_fixed is_fitting_world digits
 spoiling-fitting = refl
 
 pub pulling-fitting : run_is_fitting pulling_plan pulling_facts ≡ true
-unfolding start take_bio deliver up do_event judge_step reap wash_work wash do_command listing go event judge_next reap_next wash_next step opening pick run_fixed is_fitting_world digits
+unfolding start take_bio deliver up do_event judge_step reap wash_work wash do_command listing go event judge_next
+    reap_next wash_next step opening pick run_fixed is_fitting_world digits
 pulling-fitting = refl
 
 pub joining-fitting : run_is_fitting joining_plan joining_facts ≡ true
-unfolding start take_bio deliver up do_event judge_step reap wash_work wash do_command listing go event judge_next reap_next wash_next step opening pick run_fixed is_fitting_world digits
+unfolding start take_bio deliver up do_event judge_step reap wash_work wash do_command listing go event judge_next
+    reap_next wash_next step opening pick run_fixed is_fitting_world digits
 joining-fitting = refl
 
 pub striping-fitting : run_is_fitting striping_plan striping_facts ≡ true
-unfolding start take_bio deliver up do_event judge_step reap wash_work wash do_command listing go event judge_next reap_next wash_next step opening pick run_fixed is_fitting_world digits
+unfolding start take_bio deliver up do_event judge_step reap wash_work wash do_command listing go event judge_next
+    reap_next wash_next step opening pick run_fixed is_fitting_world digits
 striping-fitting = refl
 
 pub diamond-fitting : run_is_fitting diamond_plan diamond_facts ≡ true
-unfolding start take_bio deliver up do_event judge_step reap wash_work wash do_command listing go event judge_next reap_next wash_next step opening pick run_fixed is_fitting_world digits
+unfolding start take_bio deliver up do_event judge_step reap wash_work wash do_command listing go event judge_next
+    reap_next wash_next step opening pick run_fixed is_fitting_world digits
 diamond-fitting = refl
 
 pub failing_nop-fitting : run_is_fitting failing_nop_plan failing_nop_facts ≡ true
-unfolding start take_bio deliver up do_event judge_step reap wash_work wash do_command listing go event judge_next reap_next wash_next step opening pick run_fixed is_fitting_world digits
+unfolding start take_bio deliver up do_event judge_step reap wash_work wash do_command listing go event judge_next
+    reap_next wash_next step opening pick run_fixed is_fitting_world digits
 failing_nop-fitting = refl
 
 pub assembling-fitting : run_is_fitting assembling_plan assembling_facts ≡ true
-unfolding start take_bio deliver up do_event judge_step reap wash_work wash do_command listing go event judge_next reap_next wash_next step opening pick run_fixed is_fitting_world digits
+unfolding start take_bio deliver up do_event judge_step reap wash_work wash do_command listing go event judge_next
+    reap_next wash_next step opening pick run_fixed is_fitting_world digits
 assembling-fitting = refl
 
 pub labelling-fitting : run_is_fitting labelling_plan labelling_facts ≡ true
-unfolding start take_bio deliver up do_event judge_step reap wash_work wash do_command listing go event judge_next reap_next wash_next step opening pick run_fixed is_fitting_world digits
+unfolding start take_bio deliver up do_event judge_step reap wash_work wash do_command listing go event judge_next
+    reap_next wash_next step opening pick run_fixed is_fitting_world digits
 labelling-fitting = refl
 
 pub two_users-fitting : run_is_fitting two_users_plan two_users_facts ≡ true
-unfolding start take_bio deliver up do_event judge_step reap wash_work wash do_command listing go event judge_next reap_next wash_next step opening pick run_fixed is_fitting_world digits
+unfolding start take_bio deliver up do_event judge_step reap wash_work wash do_command listing go event judge_next
+    reap_next wash_next step opening pick run_fixed is_fitting_world digits
 two_users-fitting = refl
 
 pub growing-fitting : run_is_fitting growing_plan growing_facts ≡ true
-unfolding start take_bio deliver up do_event judge_step reap wash_work wash do_command listing go event judge_next reap_next wash_next step opening pick run_fixed is_fitting_world digits
+unfolding start take_bio deliver up do_event judge_step reap wash_work wash do_command listing go event judge_next
+    reap_next wash_next step opening pick run_fixed is_fitting_world digits
 growing-fitting = refl
 
 pub appearing-fitting : run_is_fitting appearing_plan appearing_facts ≡ true
-unfolding start take_bio deliver up do_event judge_step reap wash_work wash do_command listing go event judge_next reap_next wash_next step opening pick run_fixed is_fitting_world digits
+unfolding start take_bio deliver up do_event judge_step reap wash_work wash do_command listing go event judge_next
+    reap_next wash_next step opening pick run_fixed is_fitting_world digits
 appearing-fitting = refl
 
 pub sized_label-fitting : run_is_fitting sized_label_plan sized_label_facts ≡ true
-unfolding start take_bio deliver up do_event judge_step reap wash_work wash do_command listing go event judge_next reap_next wash_next step opening pick run_fixed is_fitting_world digits
+unfolding start take_bio deliver up do_event judge_step reap wash_work wash do_command listing go event judge_next
+    reap_next wash_next step opening pick run_fixed is_fitting_world digits
 sized_label-fitting = refl
 
 pub plain_label-fitting : run_is_fitting plain_label_plan plain_label_facts ≡ true
-unfolding start take_bio deliver up do_event judge_step reap wash_work wash do_command listing go event judge_next reap_next wash_next step opening pick run_fixed is_fitting_world digits
+unfolding start take_bio deliver up do_event judge_step reap wash_work wash do_command listing go event judge_next
+    reap_next wash_next step opening pick run_fixed is_fitting_world digits
 plain_label-fitting = refl
 
 pub logical-fitting : run_is_fitting logical_plan logical_facts ≡ true
-unfolding start take_bio deliver up do_event judge_step reap wash_work wash do_command listing go event judge_next reap_next wash_next step opening pick run_fixed is_fitting_world digits
+unfolding start take_bio deliver up do_event judge_step reap wash_work wash do_command listing go event judge_next
+    reap_next wash_next step opening pick run_fixed is_fitting_world digits
 logical-fitting = refl
 
 pub looping-fitting : run_is_fitting looping_plan looping_facts ≡ true
-unfolding start take_bio deliver up do_event judge_step reap wash_work wash do_command listing go event judge_next reap_next wash_next step opening pick run_fixed is_fitting_world digits
+unfolding start take_bio deliver up do_event judge_step reap wash_work wash do_command listing go event judge_next
+    reap_next wash_next step opening pick run_fixed is_fitting_world digits
 looping-fitting = refl
 
 pub refusing-fitting : run_is_fitting refusing_plan refusing_facts ≡ true
-unfolding start take_bio deliver up do_event judge_step reap wash_work wash do_command listing go event judge_next reap_next wash_next step opening pick run_fixed is_fitting_world digits
+unfolding start take_bio deliver up do_event judge_step reap wash_work wash do_command listing go event judge_next
+    reap_next wash_next step opening pick run_fixed is_fitting_world digits
 refusing-fitting = refl
 
 pub relabelling-fitting : run_is_fitting relabelling_plan relabelling_facts ≡ true
-unfolding start take_bio deliver up do_event judge_step reap wash_work wash do_command listing go event judge_next reap_next wash_next step opening pick run_fixed is_fitting_world digits
+unfolding start take_bio deliver up do_event judge_step reap wash_work wash do_command listing go event judge_next
+    reap_next wash_next step opening pick run_fixed is_fitting_world digits
 relabelling-fitting = refl
 
 pub pulled_early-fitting : fitting_along sliced_world (log_of sliced_world (pulled_early sliced_world)) ≡ true
-unfolding start take_bio deliver up do_event judge_step reap wash_work wash do_command listing go event judge_next reap_next wash_next step opening pick run_fixed is_fitting_world digits
+unfolding start take_bio deliver up do_event judge_step reap wash_work wash do_command listing go event judge_next
+    reap_next wash_next step opening pick run_fixed is_fitting_world digits
 pulled_early-fitting = refl
 
 pub pulled_late-fitting : fitting_along sliced_world (log_of sliced_world (pulled_late sliced_world)) ≡ true
-unfolding start take_bio deliver up do_event judge_step reap wash_work wash do_command listing go event judge_next reap_next wash_next step opening pick run_fixed is_fitting_world digits
+unfolding start take_bio deliver up do_event judge_step reap wash_work wash do_command listing go event judge_next
+    reap_next wash_next step opening pick run_fixed is_fitting_world digits
 pulled_late-fitting = refl
 
 pub read_in_reverse-fitting : fitting_along striped_world (log_of striped_world (read_in_reverse striped_world)) ≡ true
-unfolding start take_bio deliver up do_event judge_step reap wash_work wash do_command listing go event judge_next reap_next wash_next step opening pick run_fixed is_fitting_world digits
+unfolding start take_bio deliver up do_event judge_step reap wash_work wash do_command listing go event judge_next
+    reap_next wash_next step opening pick run_fixed is_fitting_world digits
 read_in_reverse-fitting = refl
 
 pub append_before_up-fitting : fitting_along held_world (log_of held_world (append_before_up held_world)) ≡ true
-unfolding start take_bio deliver up do_event judge_step reap wash_work wash do_command listing go event judge_next reap_next wash_next step opening pick run_fixed is_fitting_world digits
+unfolding start take_bio deliver up do_event judge_step reap wash_work wash do_command listing go event judge_next
+    reap_next wash_next step opening pick run_fixed is_fitting_world digits
 append_before_up-fitting = refl
 
 pub append_after_up-fitting : fitting_along held_world (log_of held_world (append_after_up held_world)) ≡ true
-unfolding start take_bio deliver up do_event judge_step reap wash_work wash do_command listing go event judge_next reap_next wash_next step opening pick run_fixed is_fitting_world digits
+unfolding start take_bio deliver up do_event judge_step reap wash_work wash do_command listing go event judge_next
+    reap_next wash_next step opening pick run_fixed is_fitting_world digits
 append_after_up-fitting = refl
 
-pub append_in_read-fitting : fitting_along new_world (log_of new_world (next_of 0 ∷ steps.Event ∷ steps.Judge ∷ next_of 1 ∷ [])) ≡ true
-unfolding start take_bio deliver up do_event judge_step reap wash_work wash do_command listing go event judge_next reap_next wash_next step opening pick run_fixed is_fitting_world digits
+pub append_in_read-fitting : fitting_along new_world
+    (log_of new_world (next_of 0 ∷ steps.Event ∷ steps.Judge ∷ next_of 1 ∷ [])) ≡ true
+unfolding start take_bio deliver up do_event judge_step reap wash_work wash do_command listing go event judge_next
+    reap_next wash_next step opening pick run_fixed is_fitting_world digits
 append_in_read-fitting = refl
 
 pub written_through-fitting : run_is_fitting written_through_plan written_through_facts ≡ true
-unfolding start take_bio deliver up do_event judge_step reap wash_work wash do_command listing go event judge_next reap_next wash_next step opening pick run_fixed is_fitting_world digits
+unfolding start take_bio deliver up do_event judge_step reap wash_work wash do_command listing go event judge_next
+    reap_next wash_next step opening pick run_fixed is_fitting_world digits
 written_through-fitting = refl
 
 pub used_slice-fitting : run_is_fitting used_slice_plan used_slice_facts ≡ true
-unfolding start take_bio deliver up do_event judge_step reap wash_work wash do_command listing go event judge_next reap_next wash_next step opening pick run_fixed is_fitting_world digits
+unfolding start take_bio deliver up do_event judge_step reap wash_work wash do_command listing go event judge_next
+    reap_next wash_next step opening pick run_fixed is_fitting_world digits
 used_slice-fitting = refl
 
 pub kept_above-fitting : run_is_fitting kept_above_plan kept_above_facts ≡ true
-unfolding start take_bio deliver up do_event judge_step reap wash_work wash do_command listing go event judge_next reap_next wash_next step opening pick run_fixed is_fitting_world digits
+unfolding start take_bio deliver up do_event judge_step reap wash_work wash do_command listing go event judge_next
+    reap_next wash_next step opening pick run_fixed is_fitting_world digits
 kept_above-fitting = refl
 
 pub long_chain-fitting : run_is_fitting long_chain_plan long_chain_facts ≡ true
-unfolding start take_bio deliver up do_event judge_step reap wash_work wash do_command listing go event judge_next reap_next wash_next step opening pick run_fixed is_fitting_world digits
+unfolding start take_bio deliver up do_event judge_step reap wash_work wash do_command listing go event judge_next
+    reap_next wash_next step opening pick run_fixed is_fitting_world digits
 long_chain-fitting = refl
 
 pub too_long_chain-fitting : run_is_fitting too_long_chain_plan too_long_chain_facts ≡ true
-unfolding start take_bio deliver up do_event judge_step reap wash_work wash do_command listing go event judge_next reap_next wash_next step opening pick run_fixed is_fitting_world digits
+unfolding start take_bio deliver up do_event judge_step reap wash_work wash do_command listing go event judge_next
+    reap_next wash_next step opening pick run_fixed is_fitting_world digits
 too_long_chain-fitting = refl
 
 -- what `worked_fitting` says
-pub ruleset worked_fitting = (first-fitting, exclusion-fitting, boundaries-fitting, slice-fitting, hostile_table-fitting, spoiling-fitting, pulling-fitting, joining-fitting, striping-fitting, diamond-fitting, failing_nop-fitting, assembling-fitting, labelling-fitting, two_users-fitting, growing-fitting, appearing-fitting, sized_label-fitting, plain_label-fitting, logical-fitting, looping-fitting, refusing-fitting, relabelling-fitting, pulled_early-fitting, pulled_late-fitting, read_in_reverse-fitting, append_before_up-fitting, append_after_up-fitting, append_in_read-fitting, written_through-fitting, used_slice-fitting, kept_above-fitting, long_chain-fitting, too_long_chain-fitting)
+pub ruleset worked_fitting = (
+  first-fitting,
+  exclusion-fitting,
+  boundaries-fitting,
+  slice-fitting,
+  hostile_table-fitting,
+  spoiling-fitting,
+  pulling-fitting,
+  joining-fitting,
+  striping-fitting,
+  diamond-fitting,
+  failing_nop-fitting,
+  assembling-fitting,
+  labelling-fitting,
+  two_users-fitting,
+  growing-fitting,
+  appearing-fitting,
+  sized_label-fitting,
+  plain_label-fitting,
+  logical-fitting,
+  looping-fitting,
+  refusing-fitting,
+  relabelling-fitting,
+  pulled_early-fitting,
+  pulled_late-fitting,
+  read_in_reverse-fitting,
+  append_before_up-fitting,
+  append_after_up-fitting,
+  append_in_read-fitting,
+  written_through-fitting,
+  used_slice-fitting,
+  kept_above-fitting,
+  long_chain-fitting,
+  too_long_chain-fitting,
+)

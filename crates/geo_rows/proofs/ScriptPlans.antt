@@ -122,11 +122,13 @@ pub first_draws : draws 9 1 ≡ 16838 ∷ 5758 ∷ 10113 ∷ 17515 ∷ 31051 ∷
 first_draws = refl
 
 pub no_lines-summary : generated_summary 400 1 0 ≡ no_lines_summary
-unfolding start take_bio deliver up do_event judge_step reap wash_work wash do_command listing go event judge_next reap_next wash_next step opening pick run_fixed script generated summary digits
+unfolding start take_bio deliver up do_event judge_step reap wash_work wash do_command listing go event judge_next
+    reap_next wash_next step opening pick run_fixed script generated summary digits
 no_lines-summary = refl
 
 pub three_lines-summary : generated_summary 400 1 3 ≡ three_lines_summary
-unfolding start take_bio deliver up do_event judge_step reap wash_work wash do_command listing go event judge_next reap_next wash_next step opening pick run_fixed script generated summary digits
+unfolding start take_bio deliver up do_event judge_step reap wash_work wash do_command listing go event judge_next
+    reap_next wash_next step opening pick run_fixed script generated summary digits
 three_lines-summary = refl
 
 -- the empty text is a script, and its report is empty
@@ -135,8 +137,40 @@ unfolding script
 empty-script = refl
 
 pub empty-report : report_of 1 empty_plan [] ≡ []
-unfolding start take_bio deliver up do_event judge_step reap wash_work wash do_command listing go event judge_next reap_next wash_next step opening pick run_fixed report mesh_text digits
+unfolding start take_bio deliver up do_event judge_step reap wash_work wash do_command listing go event judge_next
+    reap_next wash_next step opening pick run_fixed report mesh_text digits
 empty-report = refl
 
 -- what `worked_scripts` says
-pub ruleset worked_scripts = (exclusion-script, boundaries-script, slice-script, hostile_table-script, spoiling-script, pulling-script, joining-script, striping-script, diamond-script, failing_nop-script, assembling-script, labelling-script, two_users-script, first-script, no_counts-fault, equal_neighbours-fault, late_header-fault, same_disk-fault, stranger-fault, two_spaces-fault, zero_in_front-fault, odd_sector-fault, left_over-fault, missing-fault, unknown-fault, first_draws, no_lines-summary, three_lines-summary, empty-script, empty-report)
+pub ruleset worked_scripts = (
+  exclusion-script,
+  boundaries-script,
+  slice-script,
+  hostile_table-script,
+  spoiling-script,
+  pulling-script,
+  joining-script,
+  striping-script,
+  diamond-script,
+  failing_nop-script,
+  assembling-script,
+  labelling-script,
+  two_users-script,
+  first-script,
+  no_counts-fault,
+  equal_neighbours-fault,
+  late_header-fault,
+  same_disk-fault,
+  stranger-fault,
+  two_spaces-fault,
+  zero_in_front-fault,
+  odd_sector-fault,
+  left_over-fault,
+  missing-fault,
+  unknown-fault,
+  first_draws,
+  no_lines-summary,
+  three_lines-summary,
+  empty-script,
+  empty-report,
+)

@@ -67,7 +67,8 @@ both_ways false true = (λ e. absurd (true≢false (sym e)), λ h. h.1 refl)
 both_ways false false = (λ e. (λ h. h, λ h. h), λ h. refl)
 
 -- a fact of a number that is named
-of_named : (o : Option ℕ) (test : ℕ → Bool) (P : ℕ → Type 0) → ((d : ℕ) → Decides (test d) (P d)) → Decides (none_or o test) ((d : ℕ) → o ≡ Some d → P d)
+of_named : (o : Option ℕ) (test : ℕ → Bool) (P : ℕ → Type 0) → ((d : ℕ) → Decides (test d) (P d))
+    → Decides (none_or o test) ((d : ℕ) → o ≡ Some d → P d)
 of_named None test P one = (λ e d no. absurd (true≢false (ap (λ o. is_some o) (sym no))), λ h. refl)
 of_named (Some x) test P one = (λ e d told. subst P (same_Some x d told) ((one x).0 e), λ h. (one x).1 (h x refl))
 
@@ -162,7 +163,10 @@ all_numbers w =
       one_geom_of_disk = h.1.1.1.1.1.1.0;
       disk_sizes = h.1.1.1.1.1.1.1.0;
     })
-    (λ h. (h.geoms, (h.providers, (h.consumers, (h.handles, (h.bios, (h.classes, (h.one_geom_of_disk, (h.disk_sizes, tt)))))))))
+    (λ h. (
+      h.geoms,
+      (h.providers, (h.consumers, (h.handles, (h.bios, (h.classes, (h.one_geom_of_disk, (h.disk_sizes, tt))))))),
+    ))
     (Decides-and _ _ (numbers _ _)
     (Decides-and _ _ (numbers _ _)
     (Decides-and _ _ (numbers _ _)
@@ -175,14 +179,19 @@ all_numbers w =
 -- Handles and the taste's consumer
 
 -- a consumer of DEV, and the consumer of a handle
-handle_consumer : (w : World) (c : Consumer) → Decides (is_some c.provider && (count_by (λ h. names_number h.consumer c.number) w.handles == 1)) (IsHandleConsumer w c)
+handle_consumer : (w : World) (c : Consumer)
+    → Decides (is_some c.provider && (count_by (λ h. names_number h.consumer c.number) w.handles == 1))
+    (IsHandleConsumer w c)
 handle_consumer w c =
     Decides-like _
     (λ h. record { attached = h.0; one_handle = h.1 })
     (λ h. (h.attached, h.one_handle))
-    (Decides-and _ _ (itself (is_some c.provider)) (Decides-eqb (count_by (λ h. names_number h.consumer c.number) w.handles) 1))
+    (Decides-and _ _ (itself (is_some c.provider))
+    (Decides-eqb (count_by (λ h. names_number h.consumer c.number) w.handles) 1))
 
-consumer_of : (w : World) (dead : Bool) (o : Option ℕ) → Decides (option_map_or (λ c. some_and (consumer_at w.topology c) (λ x. x.geom == 1)) o dead) (MatchOption o (dead ≡ true) (λ c. IsSomeAnd (consumer_at w.topology c) (λ x. x.geom ≡ 1)))
+consumer_of : (w : World) (dead : Bool) (o : Option ℕ)
+    → Decides (option_map_or (λ c. some_and (consumer_at w.topology c) (λ x. x.geom == 1)) o dead)
+    (MatchOption o (dead ≡ true) (λ c. IsSomeAnd (consumer_at w.topology c) (λ x. x.geom ≡ 1)))
 consumer_of w dead None = itself dead
 consumer_of w dead (Some c) = there_and (consumer_at w.topology c) _ _ (λ x. Decides-eqb x.geom 1)
 
@@ -200,15 +209,19 @@ rest_of [] = []
 rest_of (x ∷ xs) = xs
 
 -- the consumers of TASTE, one list of them after another
-taste_consumer : (t : Topology Config) (xs : List Consumer) (s : Option Taste) → consumers_of t 2 ≡ xs → Decides (has_taste_consumer xs s) (MatchOption s (consumers_of t 2 ≡ []) (IsTasting t))
+taste_consumer : (t : Topology Config) (xs : List Consumer) (s : Option Taste) → consumers_of t 2 ≡ xs
+    → Decides (has_taste_consumer xs s) (MatchOption s (consumers_of t 2 ≡ []) (IsTasting t))
 taste_consumer t [] None it = (λ e. it, λ h. refl)
 taste_consumer t (c ∷ []) None same = (λ e. absurd (true≢false (sym e)), λ h. absurd (not_longer c [] (sym same ∙ h)))
-taste_consumer t (c ∷ d ∷ cs) None same = (λ e. absurd (true≢false (sym e)), λ h. absurd (not_longer c (d ∷ cs) (sym same ∙ h)))
-taste_consumer t [] (Some s) same = (λ e. absurd (true≢false (sym e)), λ h. absurd (not_longer h.consumer [] (sym h.alone ∙ same)))
+taste_consumer t (c ∷ d ∷ cs) None same =
+    (λ e. absurd (true≢false (sym e)), λ h. absurd (not_longer c (d ∷ cs) (sym same ∙ h)))
+taste_consumer t [] (Some s) same =
+    (λ e. absurd (true≢false (sym e)), λ h. absurd (not_longer h.consumer [] (sym h.alone ∙ same)))
 taste_consumer t (c ∷ []) (Some s) same =
     Decides-like _
     (λ h. record { consumer = c; alone = same; number = h.0; attached = h.1 })
-    (λ h. let it : c ≡ h.consumer = ap (head_of c) (sym same ∙ h.alone) in (ap (λ x. x.number) it ∙ h.number, ap (λ x. x.provider) it ∙ h.attached))
+    (λ h. let it : c ≡ h.consumer = ap (head_of c) (sym same ∙ h.alone) in
+    (ap (λ x. x.number) it ∙ h.number, ap (λ x. x.provider) it ∙ h.attached))
     (Decides-and _ _ (Decides-eqb c.number s.consumer) (named c.provider s.provider))
 taste_consumer t (c ∷ d ∷ cs) (Some s) same =
     (λ e. absurd (true≢false (sym e)), λ h. absurd (not_longer d cs (ap (λ ys. rest_of ys) (sym same ∙ h.alone))))
@@ -229,7 +242,13 @@ handles w =
 range_inside : (x : Bio) (p : Provider) → Decides (is_range_inside x p) (IsRangeInside x p)
 range_inside x p =
     Decides-like _
-    (λ h. record { some_byte = h.0; not_long = h.1.0; offset_whole = h.1.1.0; len_whole = h.1.1.1.0; inside = h.1.1.1.1.0 })
+    (λ h. record {
+      some_byte = h.0;
+      not_long = h.1.0;
+      offset_whole = h.1.1.0;
+      len_whole = h.1.1.1.0;
+      inside = h.1.1.1.1.0;
+    })
     (λ h. (h.some_byte, (h.not_long, (h.offset_whole, (h.len_whole, (h.inside, tt))))))
     (Decides-and _ _ (at_most 1 x.len)
     (Decides-and _ _ (at_most x.len request_limit)
@@ -249,7 +268,8 @@ bio_in_order w x =
     (λ h. record { source = h.0; target = h.1.0; bytes = h.1.1.0 })
     (λ h. (h.source, (h.target, (h.bytes, tt))))
     (Decides-and _ _
-    (there_and (consumer_at w.topology x.source) _ _ (λ c. Decides-and _ _ (named c.provider x.target) (count_for w x c)))
+    (there_and (consumer_at w.topology x.source) _ _
+    (λ c. Decides-and _ _ (named c.provider x.target) (count_for w x c)))
     (Decides-and _ _
     (there_and (provider_at w.topology x.target) _ _ (λ p. unless_true (is_flush x.cmd) _ (range_inside x p)))
     (Decides-and _ _
@@ -291,14 +311,22 @@ abbrev shape_of : BioCmd → ℕ → ℕ → ℕ → ℕ → List ℕ → ChildS
 shape_of c i s o l b = record { cmd = c; index = i; source = s; offset = o; len = l; bytes = b }
 
 -- equal parts make equal shapes, and back
-one_shape : (c d : BioCmd) (i j s u o p l m : ℕ) (b a : List ℕ) → c ≡ d → i ≡ j → s ≡ u → o ≡ p → l ≡ m → b ≡ a → shape_of c i s o l b ≡ shape_of d j u p m a
+one_shape : (c d : BioCmd) (i j s u o p l m : ℕ) (b a : List ℕ) → c ≡ d → i ≡ j → s ≡ u → o ≡ p → l ≡ m → b ≡ a
+    → shape_of c i s o l b ≡ shape_of d j u p m a
 one_shape c d i j s u o p l m b a e1 e2 e3 e4 e5 e6 = cc
 
 shape : (a b : ChildShape) → Decides (same_shape a b) (a ≡ b)
 shape a b =
     Decides-like _
-    (λ h. one_shape a.cmd b.cmd a.index b.index a.source b.source a.offset b.offset a.len b.len a.bytes b.bytes h.0 h.1.0 h.1.1.0 h.1.1.1.0 h.1.1.1.1.0 h.1.1.1.1.1.0)
-    (λ e. (ap (λ x. x.cmd) e, (ap (λ x. x.index) e, (ap (λ x. x.source) e, (ap (λ x. x.offset) e, (ap (λ x. x.len) e, (ap (λ x. x.bytes) e, tt)))))))
+    (λ h. one_shape a.cmd b.cmd a.index b.index a.source b.source a.offset b.offset a.len b.len a.bytes b.bytes h.0
+    h.1.0 h.1.1.0 h.1.1.1.0 h.1.1.1.1.0 h.1.1.1.1.1.0)
+    (λ e. (
+      ap (λ x. x.cmd) e,
+      (
+        ap (λ x. x.index) e,
+        (ap (λ x. x.source) e, (ap (λ x. x.offset) e, (ap (λ x. x.len) e, (ap (λ x. x.bytes) e, tt)))),
+      ),
+    ))
     (Decides-and _ _ (one_cmd a.cmd b.cmd)
     (Decides-and _ _ (Decides-eqb a.index b.index)
     (Decides-and _ _ (Decides-eqb a.source b.source)
@@ -321,11 +349,17 @@ shapes (x ∷ xs) (y ∷ ys) =
     (Decides-and _ _ (shape x y) (shapes xs ys))
 
 -- a value and what hangs on it, as nested look-ups
-there_with : (p : Provider) (o : Option (Geom Config)) (test : Provider × Geom Config → Bool) (P : Provider → Geom Config → Type 0) → ((q : Provider) (g : Geom Config) → Decides (test (q, g)) (P q g)) → Decides (some_and (o >>= λ g. Some (p, g)) test) (IsSomeAnd o (λ g. P p g))
+there_with : (p : Provider) (o : Option (Geom Config)) (test : Provider × Geom Config → Bool) (P : Provider
+    → Geom Config → Type 0) → ((q : Provider) (g : Geom Config) → Decides (test (q, g)) (P q g))
+    → Decides (some_and (o >>= λ g. Some (p, g)) test) (IsSomeAnd o (λ g. P p g))
 there_with p None test P one = (λ e. no_kind e, λ h. absurd h)
 there_with p (Some g) test P one = one p g
 
-there_both : (o : Option Provider) (geom : Provider → Option (Geom Config)) (test : Provider × Geom Config → Bool) (P : Provider → Geom Config → Type 0) → ((q : Provider) (g : Geom Config) → Decides (test (q, g)) (P q g)) → Decides (some_and (o >>= λ x. (geom x >>= λ g. Some (x, g))) test) (IsSomeAnd o (λ p. IsSomeAnd (geom p) (λ g. P p g)))
+there_both : (o : Option Provider) (geom : Provider → Option (Geom Config)) (test : Provider × Geom Config
+    → Bool) (P : Provider → Geom Config → Type 0)
+    → ((q : Provider) (g : Geom Config) → Decides (test (q, g)) (P q g))
+    → Decides (some_and (o >>= λ x. (geom x >>= λ g. Some (x, g))) test)
+    (IsSomeAnd o (λ p. IsSomeAnd (geom p) (λ g. P p g)))
 there_both None geom test P one = (λ e. no_kind e, λ h. absurd h)
 there_both (Some p) geom test P one = there_with p (geom p) test P one
 
@@ -362,7 +396,8 @@ disks w =
     (λ h. (h.at_disk, h.one_busy))
     (Decides-and _ _
     (each _ _ (λ x.
-    under (is_sent x.phase || is_busy x.phase) _ (itself (is_sent x.phase || is_busy x.phase)) (itself (is_some (disk_of_bio w x))))
+    under (is_sent x.phase || is_busy x.phase) _ (itself (is_sent x.phase || is_busy x.phase))
+    (itself (is_some (disk_of_bio w x))))
     w.bios)
     (pairs _ _ (one_busy w) w.bios))
 
@@ -393,7 +428,8 @@ part_of n s =
     (λ h. (h.some, h.inside))
     (Decides-and _ _ (at_most 1 s.count) (at_most (s.first + s.count) n))
 
-one_chain : (n : ℕ) (asked : Asked) (made : ℕ) (c : Chain) → Decides (chain_holds n asked made c) (ChainHolds n asked made c)
+one_chain : (n : ℕ) (asked : Asked) (made : ℕ) (c : Chain)
+    → Decides (chain_holds n asked made c) (ChainHolds n asked made c)
 one_chain n asked made c =
     Decides-like _
     (λ h. record {
@@ -465,13 +501,15 @@ events w =
     (λ h. record { living = h.0; read_out = h.1.0; taste = h.1.1.0 })
     (λ h. (h.living, (h.read_out, (h.taste, tt))))
     (Decides-and _ _ (each _ _ (λ e. itself (is_some (provider_at w.topology (provider_of_event e)))) w.events)
-    (Decides-and _ _ (both_ways (list_any (λ x. is_taste_root x.owner) w.bios) (some_and w.taste (λ s. is_read_out s.asked)))
+    (Decides-and _ _
+    (both_ways (list_any (λ x. is_taste_root x.owner) w.bios) (some_and w.taste (λ s. is_read_out s.asked)))
     (Decides-and _ _ (if_there w.taste _ _ (taste w)) always)))
 
 -- Places: each beginning of a sector is an offset
 
 -- a place is inside the provider below
-placed_there : (t : Topology Config) (g : Geom Config) (p : Provider) (spot : Spot) → Decides (is_place_inside t g p spot) (IsPlaceInside t g p spot)
+placed_there : (t : Topology Config) (g : Geom Config) (p : Provider) (spot : Spot)
+    → Decides (is_place_inside t g p spot) (IsPlaceInside t g p spot)
 placed_there t g p spot =
     there_and (option_and_then (consumer_at t) (component g.config spot.component)) _ _ (λ c.
     Decides-and _ _ (Decides-eqb c.geom g.number)
@@ -493,7 +531,8 @@ some_sector size (suc s) k lt = omega arith
 -- what is placed is placed at the beginning of each sector
 all_begin : (t : Topology Config) (g : Geom Config) (p : Provider) → IsPlaced t g p → is_placed t g p ≡ true
 all_begin t g p h =
-    (each _ _ (λ k. there_and (place g.config p.name (k * p.sector)) _ _ (placed_there t g p)) (range_with_len 0 (p.size / p.sector))).1
+    (each _ _ (λ k. there_and (place g.config p.name (k * p.sector)) _ _ (placed_there t g p))
+    (range_with_len 0 (p.size / p.sector))).1
     (λ i d lt.
     let below : i < p.size / p.sector = subst (λ n. i < n) (length-range_with_len 0 (p.size / p.sector)) lt in
     let it : get_or (range_with_len 0 (p.size / p.sector)) i d ≡ i =
@@ -508,25 +547,33 @@ either false b (inl e) = no_kind e
 either false b (inr e) = e
 
 -- a way down, as a test
-down : (t : Topology Config) (p : Provider) (g : Geom Config) → IsSome (disk_of g.config) ⊎ IsPlaced t g p → (is_some (disk_of g.config) || is_placed t g p) ≡ true
+down : (t : Topology Config) (p : Provider) (g : Geom Config) → IsSome (disk_of g.config) ⊎ IsPlaced t g p
+    → (is_some (disk_of g.config) || is_placed t g p) ≡ true
 down t p g (inl e) = either (is_some (disk_of g.config)) (is_placed t g p) (inl e)
 down t p g (inr h) = either (is_some (disk_of g.config)) (is_placed t g p) (inr (all_begin t g p h))
 
 -- one of the ways down, where the provider is open or its geom stands
-leads : (t : Topology Config) (p : Provider) (g : Geom Config) (closed withers : Bool) → ((closed ≡ false) ⊎ (withers ≡ false) → IsSome (disk_of g.config) ⊎ IsPlaced t g p) → ((closed && withers) || (is_some (disk_of g.config) || is_placed t g p)) ≡ true
+leads : (t : Topology Config) (p : Provider) (g : Geom Config) (closed withers : Bool)
+    → ((closed ≡ false) ⊎ (withers ≡ false) → IsSome (disk_of g.config) ⊎ IsPlaced t g p)
+    → ((closed && withers) || (is_some (disk_of g.config) || is_placed t g p)) ≡ true
 leads t p g true true h = refl
 leads t p g false withers h = down t p g (h (inl refl))
 leads t p g true false h = down t p g (h (inr refl))
 
 -- the same where the geom is looked up
-leads_there : (w : World) (p : Provider) (o : Option (Geom Config)) → IsSomeAnd o (λ g. (is_zero (have (granted_in w) w.topology p.number) ≡ false) ⊎ (g.withering ≡ false) → IsSome (disk_of g.config) ⊎ IsPlaced w.topology g p) → some_and o (λ g. (is_zero (have (granted_in w) w.topology p.number) && g.withering) || (is_some (disk_of g.config) || is_placed w.topology g p)) ≡ true
+leads_there : (w : World) (p : Provider) (o : Option (Geom Config))
+    → IsSomeAnd o (λ g. (is_zero (have (granted_in w) w.topology p.number) ≡ false) ⊎ (g.withering ≡ false)
+    → IsSome (disk_of g.config) ⊎ IsPlaced w.topology g p)
+    → some_and o (λ g. (is_zero (have (granted_in w) w.topology p.number) && g.withering)
+    || (is_some (disk_of g.config) || is_placed w.topology g p)) ≡ true
 leads_there w p None h = absurd h
 leads_there w p (Some g) h = leads w.topology p g (is_zero (have (granted_in w) w.topology p.number)) g.withering h
 
 -- each provider's way down
 all_lead : (w : World) (ps : List Provider) → All (LeadsDown w) ps → list_all (leads_down w) ps ≡ true
 all_lead w ps h =
-    list_all-from_AllPass (leads_down w) ps (λ i d lt. let one = h i d lt in leads_there w (get_or ps i d) (geom_at w.topology (get_or ps i d).geom) one)
+    list_all-from_AllPass (leads_down w) ps (λ i d lt. let one = h i d lt in
+    leads_there w (get_or ps i d) (geom_at w.topology (get_or ps i d).geom) one)
 
 -- All of it
 

@@ -79,7 +79,8 @@ from_owner w x (owners.Line handle line) =
     there_and (find (λ h. h.number == handle) w.handles) _ _ (λ h. named h.consumer x.source)
 from_owner w x owners.Taste =
     there_and w.taste _ _ (λ s.
-    Decides-and (s.consumer == x.source) (s.provider == x.target) (Decides-eqb s.consumer x.source) (Decides-eqb s.provider x.target))
+    Decides-and (s.consumer == x.source) (s.provider == x.target) (Decides-eqb s.consumer x.source)
+    (Decides-eqb s.provider x.target))
 from_owner w x (owners.Child parent index) = Decides-ltb parent x.number
 
 -- a result is one that the bio can have

@@ -28,28 +28,34 @@ under true b d k = (λ e p. k.0 e, λ h. k.1 (h (d.0 refl)))
 under false b d k = (λ e p. absurd (true≢false (sym (d.1 p))), λ h. refl)
 
 -- a fact of each item
-pub each : {A : Type 0} → (test : A → Bool) → (P : A → Type 0) → ((x : A) → Decides (test x) (P x)) → (xs : List A) → Decides (list_all test xs) (All P xs)
+pub each : {A : Type 0} → (test : A → Bool) → (P : A → Type 0) → ((x : A) → Decides (test x) (P x)) → (xs : List A)
+    → Decides (list_all test xs) (All P xs)
 each test P one xs = Decides-by_and test P (list_all test) one refl (λ x xs. refl) xs
 
 -- a fact of a value, if there is one
-pub if_there : {A : Type 0} → (o : Option A) → (test : A → Bool) → (P : A → Type 0) → ((x : A) → Decides (test x) (P x)) → Decides (none_or o test) (IfSome o P)
+pub if_there : {A : Type 0} → (o : Option A) → (test : A → Bool) → (P : A → Type 0)
+    → ((x : A) → Decides (test x) (P x)) → Decides (none_or o test) (IfSome o P)
 if_there None test P one = always
 if_there (Some x) test P one = one x
 
 -- there is a value, and a fact of it
-pub there_and : {A : Type 0} → (o : Option A) → (test : A → Bool) → (P : A → Type 0) → ((x : A) → Decides (test x) (P x)) → Decides (some_and o test) (IsSomeAnd o P)
+pub there_and : {A : Type 0} → (o : Option A) → (test : A → Bool) → (P : A → Type 0)
+    → ((x : A) → Decides (test x) (P x)) → Decides (some_and o test) (IsSomeAnd o P)
 there_and None test P one = (λ e. absurd (true≢false (sym e)), λ h. absurd h)
 there_and (Some x) test P one = one x
 
 -- a fact of each two items, place by place
-pub beside : {A B : Type 0} → (test : A → B → Bool) → (P : A → B → Type 0) → ((x : A) (y : B) → Decides (test x y) (P x y)) → (xs : List A) (ys : List B) → Decides (all_beside test xs ys) (AllZip P xs ys)
+pub beside : {A B : Type 0} → (test : A → B → Bool) → (P : A → B → Type 0)
+    → ((x : A) (y : B) → Decides (test x y) (P x y)) → (xs : List A) (ys : List B)
+    → Decides (all_beside test xs ys) (AllZip P xs ys)
 beside test P one [] [] = always
 beside test P one [] (y ∷ ys) = (λ e. absurd (true≢false (sym e)), λ h. absurd h)
 beside test P one (x ∷ xs) [] = (λ e. absurd (true≢false (sym e)), λ h. absurd h)
 beside test P one (x ∷ xs) (y ∷ ys) = Decides-and (test x y) (all_beside test xs ys) (one x y) (beside test P one xs ys)
 
 -- a fact of each two items, in order
-pub pairs : {A : Type 0} → (test : A → A → Bool) → (P : A → A → Type 0) → ((x y : A) → Decides (test x y) (P x y)) → (xs : List A) → Decides (all_pairs test xs) (AllPairs P xs)
+pub pairs : {A : Type 0} → (test : A → A → Bool) → (P : A → A → Type 0) → ((x y : A) → Decides (test x y) (P x y))
+    → (xs : List A) → Decides (all_pairs test xs) (AllPairs P xs)
 pairs test P one [] = (λ e i j d lt below. absurd (omega arith), λ h. refl)
 pairs test P one (x ∷ xs) =
     Decides-like (list_all (test x) xs && all_pairs test xs)
@@ -58,14 +64,16 @@ pairs test P one (x ∷ xs) =
     (Decides-and (list_all (test x) xs) (all_pairs test xs) (each (test x) (P x) (one x) xs) (pairs test P one xs))
 
 -- three facts, and four
-pub three : {A B C : Type 0} → (a b c : Bool) → Decides a A → Decides b B → Decides c C → Decides (a && b && c) (A × B × C)
+pub three : {A B C : Type 0} → (a b c : Bool) → Decides a A → Decides b B → Decides c C
+    → Decides (a && b && c) (A × B × C)
 three a b c da db dc =
     Decides-like (a && b && c)
     (λ h. (h.0.0, h.0.1, h.1))
     (λ h. ((h.0, h.1), h.2))
     (Decides-and (a && b) c (Decides-and a b da db) dc)
 
-pub four : {A B C D : Type 0} → (a b c d : Bool) → Decides a A → Decides b B → Decides c C → Decides d D → Decides (a && b && c && d) (A × B × C × D)
+pub four : {A B C D : Type 0} → (a b c d : Bool) → Decides a A → Decides b B → Decides c C → Decides d D
+    → Decides (a && b && c && d) (A × B × C × D)
 four a b c d da db dc dd =
     Decides-like (a && b && c && d)
     (λ h. (h.0.0, h.0.1, h.0.2, h.1))

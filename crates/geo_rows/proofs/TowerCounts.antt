@@ -18,20 +18,25 @@ use Rattle.geo_model.specs.Order.{pick}
 use Rattle.geo_rows.specs.FixedRuns.{run_fixed}
 
 pub five_floors-counts : disk_counts 5 (counts 1 0 0) ≡ counts (2 ^ 5) 0 (2 ^ 6 - 2)
-unfolding start take_bio deliver up do_event judge_step reap wash_work wash do_command listing go event judge_next reap_next wash_next step opening pick run_fixed digits
+unfolding start take_bio deliver up do_event judge_step reap wash_work wash do_command listing go event judge_next
+    reap_next wash_next step opening pick run_fixed digits
 five_floors-counts = refl
 
 pub five_floors-fits : top_refusal 5 (counts (2 ^ 26 - 1) 0 0) ≡ None
-unfolding start take_bio deliver up do_event judge_step reap wash_work wash do_command listing go event judge_next reap_next wash_next step opening pick run_fixed digits
+unfolding start take_bio deliver up do_event judge_step reap wash_work wash do_command listing go event judge_next
+    reap_next wash_next step opening pick run_fixed digits
 five_floors-fits = refl
 
 pub five_floors-overflow : top_refusal 5 (counts (2 ^ 26) 0 0) ≡ Some EOVERFLOW
-unfolding start take_bio deliver up do_event judge_step reap wash_work wash do_command listing go event judge_next reap_next wash_next step opening pick run_fixed digits
+unfolding start take_bio deliver up do_event judge_step reap wash_work wash do_command listing go event judge_next
+    reap_next wash_next step opening pick run_fixed digits
 five_floors-overflow = refl
 
 -- a name that is there already
-pub first_floor-taken : concat_refusal_over (tower_world 1) (floor_name 1) (provider_at (tower_world 1).topology 1) ≡ Some EEXIST
-unfolding start take_bio deliver up do_event judge_step reap wash_work wash do_command listing go event judge_next reap_next wash_next step opening pick run_fixed digits
+pub first_floor-taken : concat_refusal_over (tower_world 1) (floor_name 1) (provider_at (tower_world 1).topology 1)
+    ≡ Some EEXIST
+unfolding start take_bio deliver up do_event judge_step reap wash_work wash do_command listing go event judge_next
+    reap_next wash_next step opening pick run_fixed digits
 first_floor-taken = refl
 
 -- what `worked_towers` says

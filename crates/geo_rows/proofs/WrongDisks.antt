@@ -36,14 +36,17 @@ other_letter : (a b : ℕ) (x y : List ℕ) → a ∷ x ≡ b ∷ y → a ≢ b 
 other_letter a b x y e differ = let same : a ≡ b = cc in differ same
 
 same_end : (a b : List ℕ) → codes "shelf fault " ++ a ++ end_line ≡ codes "shelf fault " ++ b ++ end_line → a ≡ b
-same_end a b e = append_cancel_left (codes "shelf fault ") a b (append_cancel_right (codes "shelf fault " ++ a) (codes "shelf fault " ++ b) end_line e)
+same_end a b e =
+    append_cancel_left (codes "shelf fault ") a b
+    (append_cancel_right (codes "shelf fault " ++ a) (codes "shelf fault " ++ b) end_line e)
 
 by_blame : (call : Call) (mode : Mode) (plan : Plan) (ending : Ending) (text : List ℕ) → status_of ending ≡ 5
     → BlamesAnotherDisk call
     → CauseOf call mode plan ending → call.written ≡ due_text text ending → ⊥
 by_blame call mode plan Reported text s wrong cause e = omega (arith, s)
 by_blame call mode plan (ReportedButFault name) text s wrong cause e =
-    let first : IsSomeAnd (find (λ d. is_shelf d.kind && list_any (same_name d.name) []) plan.disks) (λ d. d.name ≡ name) =
+    let first : IsSomeAnd (find (λ d. is_shelf d.kind && list_any (same_name d.name) []) plan.disks)
+    (λ d. d.name ≡ name) =
     rw wrong.all_back at cause.1 in
     rw (no_first plan.disks) at first
 by_blame call mode plan BadWords text s wrong cause e = omega (arith, s)
@@ -68,7 +71,8 @@ blames_another-refused call mode plan ending wrong kept =
 
 pub loses_image-refused : IsRefused LosesImage
 loses_image-refused call mode plan ending wrong kept =
-    let stand : WhereTold call.before.shelf call.after.shelf wrong.name KeepsLength = kept.images_stand wrong.name wrong.not_kept in
+    let stand : WhereTold call.before.shelf call.after.shelf wrong.name KeepsLength =
+    kept.images_stand wrong.name wrong.not_kept in
     rw (wrong.told_before, wrong.told_after, wrong.there, wrong.gone) at stand
 
 by_report : (call : Call) (ending : Ending) → status_of ending ≡ 0 → HasLog ending call.log → IsSome call.log
@@ -88,11 +92,13 @@ by_report call TooLong s has = absurd (omega (arith, s))
 was_there : (call : Call) (mode : Mode) (plan : Plan) (ending : Ending) (disk : DiskDecl) → ReportsDisk call disk
     → KeepsAll call mode plan ending → IsThere call.before.shelf disk
 was_there call mode plan ending disk wrong kept =
-    let has_log = by_report call ending (ends 0 call mode plan ending kept (λ e. omega (arith, e)) wrong.status) kept.has_log in
+    let has_log =
+    by_report call ending (ends 0 call mode plan ending kept (λ e. omega (arith, e)) wrong.status) kept.has_log in
     let opened : IsOpened call mode plan = kept.is_opened has_log in
     let as_step : StepMode ≡ mode = kept.read_as.mode_is StepMode wrong.words in
     let read : IsScript (script_of mode call.text) plan = opened.parsed.script in
-    let good : IsScript (script_of StepMode call.text) plan = subst (λ m. IsScript (script_of m call.text) plan) (sym as_step) read in
+    let good : IsScript (script_of StepMode call.text) plan =
+    subst (λ m. IsScript (script_of m call.text) plan) (sym as_step) read in
     let disks : plan.disks ≡ disk ∷ wrong.rest = wrong.text plan good in
     let there : All (IsThere call.before.shelf) (disk ∷ wrong.rest) = rw disks at opened.there in
     there 0 disk (omega arith)
@@ -108,4 +114,11 @@ invents_lent_disk-refused call mode plan ending wrong kept =
     can.not_lent wrong.lent
 
 -- what `lost_disks_are_refused` says
-pub ruleset lost_disks_are_refused = (keeps_disk-refused, drops_disk-refused, blames_another-refused, loses_image-refused, invents_disk-refused, invents_lent_disk-refused)
+pub ruleset lost_disks_are_refused = (
+  keeps_disk-refused,
+  drops_disk-refused,
+  blames_another-refused,
+  loses_image-refused,
+  invents_disk-refused,
+  invents_lent_disk-refused,
+)

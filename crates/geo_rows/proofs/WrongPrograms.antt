@@ -42,7 +42,8 @@ by_usage call mode plan TooLong s words cause = omega (arith, s)
 
 pub usage-refused : IsRefused AnswersUsage
 usage-refused call mode plan ending wrong kept =
-    by_usage call mode plan ending (ends 1 call mode plan ending kept (λ e. omega (arith, e)) wrong.0) wrong.1 kept.cause
+    by_usage call mode plan ending (ends 1 call mode plan ending kept (λ e. omega (arith, e)) wrong.0)
+    wrong.1 kept.cause
 
 by_fault : (call : Call) (mode : Mode) (plan : Plan) (ending : Ending) (p : Plan) → status_of ending ≡ 2
     → IsScript call.text p
@@ -63,7 +64,8 @@ by_fault call mode plan TooLong p s good cause = omega (arith, s)
 
 pub fault_of_script-refused : IsRefused AnswersFaultOfScript
 fault_of_script-refused call mode plan ending wrong kept =
-    by_fault call mode plan ending wrong.1.0 (ends 2 call mode plan ending kept (λ e. omega (arith, e)) wrong.0) wrong.1.1 kept.cause
+    by_fault call mode plan ending wrong.1.0 (ends 2 call mode plan ending kept (λ e. omega (arith, e)) wrong.0)
+    wrong.1.1 kept.cause
 
 by_read : (call : Call) (mode : Mode) (plan : Plan) (ending : Ending) → status_of ending ≡ 3
     → (Rose call.before.source.faults call.after.source.faults → ⊥) → CauseOf call mode plan ending → ⊥
@@ -161,14 +163,16 @@ by_length call mode plan TooLong s short cause = omega (arith, short, cause.1)
 
 pub too_long-refused : IsRefused AnswersTooLong
 too_long-refused call mode plan ending wrong kept =
-    by_length call mode plan ending (ends 8 call mode plan ending kept (λ e. omega (arith, e)) wrong.0) wrong.1 kept.cause
+    by_length call mode plan ending (ends 8 call mode plan ending kept (λ e. omega (arith, e)) wrong.0)
+    wrong.1 kept.cause
 
 -- taking the disks stopped at a disk of the plan
 stopped_at : (P : DiskDecl → Type 0) (plan : Plan) (front back : List DiskDecl) (disk : DiskDecl)
     → plan.disks ≡ front ++ disk ∷ back → All P plan.disks → P disk
 stopped_at P plan front back disk is all =
     let here : All P (front ++ disk ∷ back) = subst (All P) is all in
-    subst P (get_or-append_seam front disk back disk) (here (length front) disk (omega (arith, length-append front (disk ∷ back))))
+    subst P (get_or-append_seam front disk back disk)
+    (here (length front) disk (omega (arith, length-append front (disk ∷ back))))
 
 there_or_missing : (image : Option (List ℕ)) (P : List ℕ → Type 0) → IsSomeAnd image P → image ≡ None → ⊥
 there_or_missing None P has none = has
@@ -212,7 +216,18 @@ by_disk call mode plan TooLong s wrong cause = omega (arith, s)
 
 pub disk_fault-refused : IsRefused AnswersDiskFault
 disk_fault-refused call mode plan ending wrong kept =
-    by_disk call mode plan ending (ends 5 call mode plan ending kept (λ e. omega (arith, e)) wrong.status) wrong kept.cause
+    by_disk call mode plan ending (ends 5 call mode plan ending kept (λ e. omega (arith, e)) wrong.status)
+    wrong kept.cause
 
 -- what `constant_answers_are_refused` says
-pub ruleset constant_answers_are_refused = (usage-refused, fault_of_script-refused, read_fault-refused, write_fault-refused, disk_fault-refused, full_without_log-refused, full_at_once-refused, full_too_early-refused, too_long-refused)
+pub ruleset constant_answers_are_refused = (
+  usage-refused,
+  fault_of_script-refused,
+  read_fault-refused,
+  write_fault-refused,
+  disk_fault-refused,
+  full_without_log-refused,
+  full_at_once-refused,
+  full_too_early-refused,
+  too_long-refused,
+)

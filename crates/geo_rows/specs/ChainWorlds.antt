@@ -27,7 +27,8 @@ chain_world asked reads c =
     tasting
     (world (topology
     (disk_geom 3 (codes "md0") 0
-    ∷ geom 4 kinds.Mbr (codes "md0") (Mbr (Some 1) (Some (record { first = 1; count = 63 }) ∷ None ∷ None ∷ None ∷ [])) true ∷ [])
+    ∷ geom 4 kinds.Mbr (codes "md0")
+    (Mbr (Some 1) (Some (record { first = 1; count = 63 }) ∷ None ∷ None ∷ None ∷ [])) true ∷ [])
     (provider 1 3 (codes "md0") 32768 512 ∷ provider 2 4 (codes "md0s1") 32256 512 ∷ [])
     (consumer 1 4 1 ∷ []))
     (header_disk (codes "md0") 512 32768 ∷ []))

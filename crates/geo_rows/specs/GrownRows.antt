@@ -116,7 +116,8 @@ appearing_text = text_of
     ∷ codes "  consumer concat/c r1w0e1"
     ∷ [])
 
--- a label that says a size is found on the slice on which it was written, and not on the disk that ends with the same sector
+-- a label that says a size is found on the slice on which it was written, and not on the disk that ends with the same
+-- sector
 abbrev pub sized_label_plan : Plan
 sized_label_plan = record {
   disks = ram (codes "md0") 8 ∷ [];

@@ -131,4 +131,5 @@ refusal_in w p = append_refusal_of w (growing_concat w.topology (codes "c")) p
 
 abbrev pub refusal_over : Topology Config → ℕ → (Provider → Provider) → Option Errno
 refusal_over t p change =
-    refusal_in (record (opening idle_plan ((512, 4) ∷ [])) { topology = with_concat t }) (option_map change (provider_at t p))
+    refusal_in (record (opening idle_plan ((512, 4) ∷ [])) { topology = with_concat t })
+    (option_map change (provider_at t p))

@@ -150,7 +150,8 @@ large_component =
     (two_disks_with (geom 5 kinds.Concat (codes "v") (Concat (Some 7) (Some 1 ∷ None ∷ []) (4096 ∷ 0 ∷ [])) true) []
     (consumer 1 5 1 ∷ []))
     2 []
-    (ReadBack kinds.Concat (results.Bytes (concat_sector 512 (record { name = codes "v"; id = 7; place = 1; count = 2 }))))
+    (ReadBack kinds.Concat
+    (results.Bytes (concat_sector 512 (record { name = codes "v"; id = 7; place = 1; count = 2 }))))
 
 -- a partition table is judged on a disk of large sectors
 abbrev pub large_sectors : World
@@ -193,7 +194,14 @@ huge_sector =
     (header_disk (codes "md0") 65536 131072 ∷ []))
     1 (kinds.Label ∷ []) NoClass
     in record w {
-      taste = Some (record { provider = 1; consumer = 8; classes = kinds.Label ∷ []; asked = NoClass; reads = 0; chain = no_links });
+      taste = Some (record {
+        provider = 1;
+        consumer = 8;
+        classes = kinds.Label ∷ [];
+        asked = NoClass;
+        reads = 0;
+        chain = no_links;
+      });
     }
 
 -- a concat with two providers: a flush waits at the second while the first grows
@@ -204,7 +212,8 @@ two_providers = record (commanded (two_disks_with
     (consumer 1 5 1 ∷ consumer 2 1 4 ∷ []))
     (commands.Append (codes "v") (codes "md1"))) {
       handles = handle 2 (counts 1 1 0) ∷ [];
-      bios = bio 1 cmds.Flush 0 2 4 (owners.Line 1 3) phases.Waiting ∷ bio 2 cmds.Flush 0 1 1 (owners.Child 1 0) phases.Sent ∷ [];
+      bios = bio 1 cmds.Flush 0 2 4 (owners.Line 1 3) phases.Waiting
+          ∷ bio 2 cmds.Flush 0 1 1 (owners.Child 1 0) phases.Sent ∷ [];
     }
 
 -- a concat keeps a larger size than its component has, and grows
@@ -265,7 +274,8 @@ crooked_part = record (world (topology
 abbrev pub large_link : World
 large_link =
     tasting
-    (world (topology (disk_geom 3 (codes "md0") 0 ∷ []) (provider 1 3 (codes "md0") 16384 4096 ∷ []) []) (large_disk ∷ []))
+    (world (topology (disk_geom 3 (codes "md0") 0 ∷ []) (provider 1 3 (codes "md0") 16384 4096 ∷ []) [])
+    (large_disk ∷ []))
     1 [] (ReadBack kinds.Ebr (results.Bytes (link 165 1 1 0 0)))
 
 -- a writer labels by a name that is longer than a sector has room for

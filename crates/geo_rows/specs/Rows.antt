@@ -152,7 +152,9 @@ slice_plan = record {
   actors = codes "a" ∷ [];
   commands =
       command 3 0 (commands.Open (codes "h") (codes "md0") (counts 1 1 0))
-      ∷ command 4 0 (commands.Write (codes "h") 0 (bytes_of ((0, 450) ∷ (165, 1) ∷ (0, 3) ∷ (1, 1) ∷ (0, 3) ∷ (7, 1) ∷ (0, 51) ∷ (85, 1) ∷ (170, 1) ∷ [])))
+      ∷ command 4 0
+      (commands.Write (codes "h") 0
+      (bytes_of ((0, 450) ∷ (165, 1) ∷ (0, 3) ∷ (1, 1) ∷ (0, 3) ∷ (7, 1) ∷ (0, 51) ∷ (85, 1) ∷ (170, 1) ∷ [])))
       ∷ command 5 0 (commands.Close (codes "h"))
       ∷ command 6 0 (commands.Settle)
       ∷ command 7 0 (commands.Open (codes "p") (codes "md0s1") (counts 1 0 0))
@@ -185,7 +187,11 @@ hostile_table_plan = record {
   actors = codes "a" ∷ [];
   commands =
       command 3 0 (commands.Open (codes "h") (codes "md0") (counts 1 1 0))
-      ∷ command 4 0 (commands.Write (codes "h") 0 (bytes_of ((0, 450) ∷ (165, 1) ∷ (0, 3) ∷ (8, 1) ∷ (0, 3) ∷ (56, 1) ∷ (0, 7) ∷ (165, 1) ∷ (0, 3) ∷ (8, 1) ∷ (0, 3) ∷ (57, 1) ∷ (0, 7) ∷ (165, 1) ∷ (0, 7) ∷ (4, 1) ∷ (0, 7) ∷ (165, 1) ∷ (0, 3) ∷ (10, 1) ∷ (0, 3) ∷ (4, 1) ∷ (0, 3) ∷ (85, 1) ∷ (170, 1) ∷ [])))
+      ∷ command 4 0
+      (commands.Write (codes "h") 0
+      (bytes_of ((0, 450) ∷ (165, 1) ∷ (0, 3) ∷ (8, 1) ∷ (0, 3) ∷ (56, 1) ∷ (0, 7) ∷ (165, 1) ∷ (0, 3)
+      ∷ (8, 1) ∷ (0, 3) ∷ (57, 1) ∷ (0, 7) ∷ (165, 1) ∷ (0, 7) ∷ (4, 1) ∷ (0, 7) ∷ (165, 1) ∷ (0, 3)
+      ∷ (10, 1) ∷ (0, 3) ∷ (4, 1) ∷ (0, 3) ∷ (85, 1) ∷ (170, 1) ∷ [])))
       ∷ command 5 0 (commands.Close (codes "h"))
       ∷ [];
 }
@@ -213,7 +219,9 @@ spoiling_plan = record {
   actors = codes "a" ∷ [];
   commands =
       command 3 0 (commands.Open (codes "h") (codes "md0") (counts 0 1 0))
-      ∷ command 4 0 (commands.Write (codes "h") 0 (bytes_of ((0, 450) ∷ (165, 1) ∷ (0, 3) ∷ (1, 1) ∷ (0, 3) ∷ (7, 1) ∷ (0, 51) ∷ (85, 1) ∷ (170, 1) ∷ [])))
+      ∷ command 4 0
+      (commands.Write (codes "h") 0
+      (bytes_of ((0, 450) ∷ (165, 1) ∷ (0, 3) ∷ (1, 1) ∷ (0, 3) ∷ (7, 1) ∷ (0, 51) ∷ (85, 1) ∷ (170, 1) ∷ [])))
       ∷ command 5 0 (commands.Close (codes "h"))
       ∷ command 6 0 (commands.Open (codes "p") (codes "md0s1") (counts 1 0 0))
       ∷ command 7 0 (commands.Open (codes "h") (codes "md0") (counts 0 1 0))
@@ -256,7 +264,9 @@ pulling_plan = record {
   actors = codes "a" ∷ codes "b" ∷ [];
   commands =
       command 4 0 (commands.Open (codes "h") (codes "md0") (counts 1 1 0))
-      ∷ command 5 0 (commands.Write (codes "h") 0 (bytes_of ((0, 450) ∷ (165, 1) ∷ (0, 3) ∷ (1, 1) ∷ (0, 3) ∷ (7, 1) ∷ (0, 51) ∷ (85, 1) ∷ (170, 1) ∷ [])))
+      ∷ command 5 0
+      (commands.Write (codes "h") 0
+      (bytes_of ((0, 450) ∷ (165, 1) ∷ (0, 3) ∷ (1, 1) ∷ (0, 3) ∷ (7, 1) ∷ (0, 51) ∷ (85, 1) ∷ (170, 1) ∷ [])))
       ∷ command 6 0 (commands.Close (codes "h"))
       ∷ command 7 0 (commands.Settle)
       ∷ command 8 0 (commands.Open (codes "p") (codes "md0s1") (counts 1 0 0))
@@ -331,7 +341,9 @@ striping_plan = record {
   commands =
       command 5 0 (commands.Stripe (codes "s") 512 (codes "md0" ∷ codes "md1" ∷ codes "md2" ∷ []))
       ∷ command 6 0 (commands.Open (codes "h") (codes "stripe/s") (counts 1 1 0))
-      ∷ command 7 0 (commands.Write (codes "h") 0 (bytes_of ((0, 512) ∷ (1, 512) ∷ (2, 512) ∷ (3, 512) ∷ (4, 512) ∷ (5, 512) ∷ (6, 512) ∷ [])))
+      ∷ command 7 0
+      (commands.Write (codes "h") 0
+      (bytes_of ((0, 512) ∷ (1, 512) ∷ (2, 512) ∷ (3, 512) ∷ (4, 512) ∷ (5, 512) ∷ (6, 512) ∷ [])))
       ∷ command 8 0 (commands.Read (codes "h") 0 3584)
       ∷ command 9 0 (commands.Close (codes "h"))
       ∷ command 10 0 (commands.Open (codes "k") (codes "md0") (counts 1 0 0))
@@ -371,7 +383,9 @@ diamond_plan = record {
   actors = codes "a" ∷ [];
   commands =
       command 3 0 (commands.Open (codes "h") (codes "md0") (counts 1 1 0))
-      ∷ command 4 0 (commands.Write (codes "h") 0 (bytes_of ((0, 450) ∷ (165, 1) ∷ (0, 3) ∷ (1, 1) ∷ (0, 3) ∷ (7, 1) ∷ (0, 51) ∷ (85, 1) ∷ (170, 1) ∷ [])))
+      ∷ command 4 0
+      (commands.Write (codes "h") 0
+      (bytes_of ((0, 450) ∷ (165, 1) ∷ (0, 3) ∷ (1, 1) ∷ (0, 3) ∷ (7, 1) ∷ (0, 51) ∷ (85, 1) ∷ (170, 1) ∷ [])))
       ∷ command 5 0 (commands.Close (codes "h"))
       ∷ command 6 0 (commands.Concat (codes "d") (codes "md0s1" ∷ codes "md0" ∷ []))
       ∷ command 7 0 (commands.Open (codes "w") (codes "concat/d") (counts 0 1 0))

@@ -23,7 +23,8 @@ under_name (suc k) = concat_name (floor_name (suc k))
 -- the commands that build so many floors, the lowest first
 abbrev pub floors : ℕ → List LineCommand
 floors zero = []
-floors (suc k) = floors k ++ command (k + 3) 0 (commands.Concat (floor_name (suc k)) (under_name k ∷ under_name k ∷ [])) ∷ []
+floors (suc k) =
+    floors k ++ command (k + 3) 0 (commands.Concat (floor_name (suc k)) (under_name k ∷ under_name k ∷ [])) ∷ []
 
 abbrev pub tower_plan : ℕ → Plan
 tower_plan k = record { disks = ram (codes "md0") 4 ∷ []; actors = codes "a" ∷ []; commands = floors k }

@@ -94,7 +94,8 @@ has_its_sum t g =
 
 -- whether the places of a geom name different consumers, and are at most sixteen
 abbrev pub places_hold : Geom Config → Bool
-places_hold g = all_pairs (λ a b. not (a == b)) (components g.config) && nat_le (length (places_of g.config)) component_limit
+places_hold g = all_pairs (λ a b. not (a == b)) (components g.config)
+    && nat_le (length (places_of g.config)) component_limit
 
 -- whether the words of a command have their forms
 
@@ -168,8 +169,10 @@ TestsFitting = (w : World) → Decides (is_fitting_world w) (Fitting w)
 
 -- whether each world of a log is fitting
 abbrev pub fitting_along : World → List Entry → Bool
-fitting_along opened log = list_all (λ m. is_fitting_world m.before) (moments opened log) && is_fitting_world (replay opened log)
+fitting_along opened log = list_all (λ m. is_fitting_world m.before) (moments opened log)
+    && is_fitting_world (replay opened log)
 
 -- whether each world of the run of a plan is
 abbrev pub run_is_fitting : Plan → List (ℕ × ℕ) → Bool
-run_is_fitting plan facts = fitting_along (opening plan facts) (run_fixed 400 (opening plan facts) (zero_devices facts)).log
+run_is_fitting plan facts =
+    fitting_along (opening plan facts) (run_fixed 400 (opening plan facts) (zero_devices facts)).log

@@ -62,7 +62,8 @@ frees_only_idle before e =
     let after = after_entry before e in
     list_all (λ c. is_some (consumer_at after.topology c.number) || goes_idle before e c) before.topology.consumers
     && (list_all (λ p.
-    is_some (provider_at after.topology p.number) || (length (attached_to before.topology p.number) == 0)) before.topology.providers
+    is_some (provider_at after.topology p.number) || (length (attached_to before.topology p.number) == 0))
+    before.topology.providers
     && list_all (λ g. is_some (geom_at after.topology g.number) || goes_free before g.number) before.topology.geoms)
 
 -- the bios that a log accepts

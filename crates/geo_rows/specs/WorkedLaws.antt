@@ -54,7 +54,8 @@ replies_given plan facts = map (λ x. Some x.1) (filter_map ended_in (run_of pla
 
 abbrev pub replies_by_log : Plan → List (ℕ × ℕ) → List (Option Reply)
 replies_by_log plan facts =
-    map (λ x. option_map reply_of_result (result_of (history_of plan facts) x.0)) (filter_map ended_in (run_of plan facts).log)
+    map (λ x. option_map reply_of_result (result_of (history_of plan facts) x.0))
+    (filter_map ended_in (run_of plan facts).log)
 
 -- the sectors to which a bio went, and those of its flat map in the world of its acceptance
 abbrev pub sectors_gone : Plan → List (ℕ × ℕ) → ℕ → List (Option DiskSector)
@@ -67,7 +68,8 @@ accepted_by w (outcomes.Accepted line b) = option_map_or (λ x. (w, x) ∷ []) (
 accepted_by w _ = []
 
 abbrev pub acceptances : Plan → List (ℕ × ℕ) → List (World × Bio)
-acceptances plan facts = flat_map (λ m. accepted_by (after_entry m.before m.entry) m.entry.outcome) (history_of plan facts)
+acceptances plan facts =
+    flat_map (λ m. accepted_by (after_entry m.before m.entry) m.entry.outcome) (history_of plan facts)
 
 abbrev pub sectors_of_range : World × Bio → List (Option DiskSector)
 sectors_of_range item =

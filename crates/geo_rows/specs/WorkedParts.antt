@@ -15,7 +15,8 @@ use Rattle.geo_model.specs.GeomCommands.{joined_tests, concat_config}
 use Rattle.geo_model.specs.Opening.{first_topology, opening}
 use Rattle.geo_rows.specs.Rows.{idle_plan}
 
--- a chain of geoms: the first has a provider alone, each next one also a consumer at the one before; geom k has number k + 2
+-- a chain of geoms: the first has a provider alone, each next one also a consumer at the one before; geom k has
+-- number k + 2
 abbrev pub below_next : ℕ → Option ℕ
 below_next (suc (suc p)) = Some (suc p)
 below_next _ = None
@@ -47,7 +48,14 @@ abbrev pub three_way : Config
 three_way = Stripe None 512 (Some 1 ∷ Some 2 ∷ Some 3 ∷ []) (2048 ∷ 2048 ∷ 2048 ∷ [])
 
 abbrev pub three_way_provider : Provider
-three_way_provider = record { number = 1; geom = 3; name = codes "stripe/s"; size = 6144; sector = 512; errored = false }
+three_way_provider = record {
+  number = 1;
+  geom = 3;
+  name = codes "stripe/s";
+  size = 6144;
+  sector = 512;
+  errored = false;
+}
 
 abbrev pub piece : ℕ → ℕ → ℕ → ℕ → Piece
 piece child offset len place = record { child = child; span = record { offset = offset; len = len }; at = place }

@@ -1,5 +1,5 @@
--- The facts of Sound as tests, so that they can be computed at each moment of the worked runs. Offsets of a provider are
--- tried at the beginning of each sector.
+-- The facts of Sound as tests, so that they can be computed at each moment of the worked runs. Offsets of a provider
+-- are tried at the beginning of each sector.
 use Rattle.std.specs.Prelude.{◌≡◌, All, ℕ, ◌+◌, ◌*◌, ◌/◌, ◌%◌, ◌^◌, ◌==◌, nat_lt, nat_le, Bool, true, false, not, ◌&&◌, ◌||◌, List, [], ◌∷◌, ◌++◌, length, map, count_by, Option, Some, None, is_some, slice_get, option_and_then, bytes_eq}
 use Rattle.std.specs.List.{list_all, list_any, enumerate_from, range_with_len}
 use Rattle.std.specs.Option.{option_map_or}
@@ -52,7 +52,8 @@ stands_bare t g = some_and (geom_at t g) (λ x. not x.withering) && (length (pro
 
 abbrev pub ranks_hold : Topology Config → Bool
 ranks_hold t = all_hold
-    (list_all (λ c. none_or c.provider (λ p. some_and (provider_at t p) (λ x. nat_lt (rank t x.geom) (rank t c.geom)))) t.consumers
+    (list_all (λ c.
+    none_or c.provider (λ p. some_and (provider_at t p) (λ x. nat_lt (rank t x.geom) (rank t c.geom)))) t.consumers
     ∷ list_all (λ x. (x.number == 1) || ((x.number == 2) || nat_le (rank t x.number) rank_limit)) t.geoms
     ∷ stands_bare t 1
     ∷ stands_bare t 2
@@ -108,7 +109,8 @@ handles_hold w = all_hold
     (list_all
     (λ c. is_some c.provider && (count_by (λ h. names_number h.consumer c.number) w.handles == 1))
     (consumers_of w.topology 1)
-    ∷ list_all (λ h. option_map_or (λ c. some_and (consumer_at w.topology c) (λ x. x.geom == 1)) h.consumer h.dead) w.handles
+    ∷ list_all (λ h. option_map_or (λ c. some_and (consumer_at w.topology c) (λ x. x.geom == 1)) h.consumer
+    h.dead) w.handles
     ∷ has_taste_consumer (consumers_of w.topology 2) w.taste
     ∷ [])
 
@@ -266,7 +268,8 @@ is_sound w = all_hold
 -- a sound world passes the test, and a world that does is sound where the way down from each offset leads on, also from
 -- those inside a sector
 abbrev pub TestsSound : Type 0
-TestsSound = (w : World) → (is_sound w ≡ true → All (LeadsDown w) w.topology.providers → Sound w) × (Sound w → is_sound w ≡ true)
+TestsSound = (w : World) → (is_sound w ≡ true → All (LeadsDown w) w.topology.providers → Sound w)
+    × (Sound w → is_sound w ≡ true)
 
 -- whether each world of a log is sound
 abbrev pub sound_along : World → List Entry → Bool

@@ -80,9 +80,11 @@ offers_only_living before after =
 -- whether each world of a log is steady, and each step offers only what lives
 abbrev pub steady_along : World → List Entry → Bool
 steady_along opened log =
-    list_all (λ m. is_steady m.before && offers_only_living m.before (after_entry m.before m.entry)) (moments opened log)
+    list_all (λ m. is_steady m.before && offers_only_living m.before (after_entry m.before m.entry))
+    (moments opened log)
     && is_steady (replay opened log)
 
 -- whether the run of a plan is
 abbrev pub run_is_steady : Plan → List (ℕ × ℕ) → Bool
-run_is_steady plan facts = steady_along (opening plan facts) (run_fixed 400 (opening plan facts) (zero_devices facts)).log
+run_is_steady plan facts =
+    steady_along (opening plan facts) (run_fixed 400 (opening plan facts) (zero_devices facts)).log

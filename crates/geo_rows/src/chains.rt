@@ -22,7 +22,8 @@ ghost use Rattle.std.specs.Prelude.{Err, None, Ok, Some, [], codes, false, nat_l
 pub fn worked_chains()
     ensures two_links_found { chain_table (two_links 0 0) 63 ≡ Ok (table (part 1 4 ∷ part 11 3 ∷ []) 30) }
     ensures row_found { chain_table (links_in_row 32) 63 ≡ Ok (table parts_in_row 0) }
-    ensures first_without_part { chain_table (media_of ((0, link 0 0 0 5 10) ∷ (10, link 165 1 3 0 0) ∷ [])) 63 ≡ Ok (table (None ∷ part 11 3 ∷ []) 30) }
+    ensures first_without_part { chain_table (media_of ((0, link 0 0 0 5 10) ∷ (10, link 165 1 3 0 0) ∷ [])) 63
+        ≡ Ok (table (None ∷ part 11 3 ∷ []) 30) }
     ensures signature_declined { chain_table (media_of []) 63 ≡ Err declines.Signature }
     ensures second_declined { chain_table (two_links 131 20) 63 ≡ Err declines.Second }
     ensures loop_to_first_declined { chain_table (two_links 5 0) 63 ≡ Err declines.Loop }
@@ -35,7 +36,10 @@ pub fn worked_chains()
     ensures part_to_end { chain_table (media_of ((0, link 165 1 62 0 0) ∷ [])) 63 ≡ Ok (table (part 1 62 ∷ []) 31) }
     ensures asked_on_slice { taste_where kinds.Ebr (record eight_sectors { kind = kinds.Mbr }) ≡ Some 0 }
     ensures not_asked_on_disk { taste_where kinds.Ebr eight_sectors ≡ None }
-    ensures not_asked_on_large_sectors { taste_where kinds.Ebr (record eight_sectors { kind = kinds.Mbr; sector = 4096 }) ≡ None }
+    ensures not_asked_on_large_sectors { taste_where kinds.Ebr (record eight_sectors {
+      kind = kinds.Mbr;
+      sector = 4096;
+    }) ≡ None }
     ensures twelfth_name { logical_name (codes "md0s1") 11 ≡ codes "md0s1l12" }
     ensures twelfth_number { end_number (codes "l12") ≡ 12 }
     ensures second_number { end_number (codes "md0s1l2") ≡ 2 }
@@ -47,15 +51,19 @@ pub fn worked_chains()
 /// What is read of labels, and what LABEL says to them.
 #[tactic(auto, using(crate::proofs::ChainFacts::worked_labels))]
 pub fn worked_labels()
-    ensures sized_again { label_record (label_sector 512 (record { name = codes "vol"; size = Some 3584 })) ≡ Ok (record { name = codes "vol"; size = Some 3584 }) }
+    ensures sized_again { label_record (label_sector 512 (record { name = codes "vol"; size = Some 3584 }))
+        ≡ Ok (record { name = codes "vol"; size = Some 3584 }) }
     ensures plain_accepted { said_of_label None ≡ Accept (Named (record { name = codes "vol"; size = None })) }
-    ensures sized_accepted { said_of_label (Some 4096) ≡ Accept (Named (record { name = codes "vol"; size = Some 4096 })) }
+    ensures sized_accepted { said_of_label (Some 4096)
+        ≡ Accept (Named (record { name = codes "vol"; size = Some 4096 })) }
     ensures smaller_declined { said_of_label (Some 3584) ≡ Decline declines.Media }
     ensures larger_declined { said_of_label (Some 4608) ≡ Decline declines.Media }
     ensures version_0_declined { label_record (label_of_version 0) ≡ Err declines.Version }
     ensures version_3_declined { label_record (label_of_version 3) ≡ Err declines.Version }
-    ensures version_2_zero_size { label_record (label_of_version 2) ≡ Ok (record { name = codes "vol"; size = Some 0 }) }
-    ensures concat_version_2_declined { concat_record (padded 512 (concat_magic ++ to_le_bytes w32 2)) ≡ Err declines.Version }
+    ensures version_2_zero_size { label_record (label_of_version 2)
+        ≡ Ok (record { name = codes "vol"; size = Some 0 }) }
+    ensures concat_version_2_declined { concat_record (padded 512 (concat_magic ++ to_le_bytes w32 2))
+        ≡ Err declines.Version }
 {}
 
 /// The Judge steps that a taste can make, and the providers.
@@ -76,7 +84,8 @@ pub fn chains_of_tastes()
     ensures long_part_unsound { is_sound (back_after (read_link 0 1 63)) ≡ false }
     ensures long_part_judged { judged_unsound (back_after (read_link 0 1 63)) ≡ true }
     ensures late_first_unsound { is_sound (back_after (read_link 1 2 4)) ≡ false }
-    ensures far_link_unsound { is_sound (chain_world last_back 3 (chain_of (read_link 0 1 4 ∷ read_link 63 1 4 ∷ []) 10)) ≡ false }
+    ensures far_link_unsound { is_sound
+        (chain_world last_back 3 (chain_of (read_link 0 1 4 ∷ read_link 63 1 4 ∷ []) 10)) ≡ false }
     ensures more_reads_unsound { is_sound (chain_world last_back 3 (chain_of (read_link 0 1 4 ∷ []) 10)) ≡ false }
     ensures full_chain_unsound { is_sound (chain_world last_back 33 full_chain) ≡ false }
     ensures same_sectors_unsound { is_sound same_sectors_read ≡ false }
@@ -85,5 +94,6 @@ pub fn chains_of_tastes()
     ensures first_elsewhere_unsound { is_sound first_elsewhere ≡ false }
     ensures first_elsewhere_judged { judged_unsound first_elsewhere ≡ true }
     ensures next_far_unsound { is_sound next_far ≡ false }
-    ensures same_next_sound { is_sound (chain_world (NextSector kinds.Ebr 10) 1 (chain_of (read_link 0 1 4 ∷ []) 10)) ≡ true }
+    ensures same_next_sound { is_sound
+        (chain_world (NextSector kinds.Ebr 10) 1 (chain_of (read_link 0 1 4 ∷ []) 10)) ≡ true }
 {}

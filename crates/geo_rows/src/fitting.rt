@@ -60,10 +60,13 @@ pub fn worked_fitting()
     ensures written_through_fitting { run_is_fitting written_through_plan written_through_facts ≡ true }
     ensures pulled_early_fitting { fitting_along sliced_world (log_of sliced_world (pulled_early sliced_world)) ≡ true }
     ensures pulled_late_fitting { fitting_along sliced_world (log_of sliced_world (pulled_late sliced_world)) ≡ true }
-    ensures read_in_reverse_fitting { fitting_along striped_world (log_of striped_world (read_in_reverse striped_world)) ≡ true }
-    ensures append_before_up_fitting { fitting_along held_world (log_of held_world (append_before_up held_world)) ≡ true }
+    ensures read_in_reverse_fitting { fitting_along striped_world
+        (log_of striped_world (read_in_reverse striped_world)) ≡ true }
+    ensures append_before_up_fitting { fitting_along held_world (log_of held_world (append_before_up held_world))
+        ≡ true }
     ensures append_after_up_fitting { fitting_along held_world (log_of held_world (append_after_up held_world)) ≡ true }
-    ensures append_in_read_fitting { fitting_along new_world (log_of new_world (next_of 0 ∷ steps.Event ∷ steps.Judge ∷ next_of 1 ∷ [])) ≡ true }
+    ensures append_in_read_fitting { fitting_along new_world
+        (log_of new_world (next_of 0 ∷ steps.Event ∷ steps.Judge ∷ next_of 1 ∷ [])) ≡ true }
 {}
 
 /// Worlds that are sound and steady, aren't fitting, and aren't sound any more after the step.

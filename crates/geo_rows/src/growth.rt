@@ -52,21 +52,30 @@ pub fn grown_scripts()
 /// Appends while requests and tastes are under way, and appends that are refused.
 #[tactic(auto, using(crate::proofs::GrownStepLists::grown_step_lists))]
 pub fn grown_step_lists()
-    ensures append_once_accepted { reply_after held_world (next_of 0 ∷ next_of 1 ∷ []) 8 ≡ Some (replies.Refused EBUSY) }
+    ensures append_once_accepted { reply_after held_world (next_of 0 ∷ next_of 1 ∷ []) 8
+        ≡ Some (replies.Refused EBUSY) }
     ensures append_before_up { reply_after held_world (append_before_up held_world) 8 ≡ Some (replies.Refused EBUSY) }
-    ensures read_over_append { reply_after held_world (append_before_up held_world) 7 ≡ Some (replies.Bytes (fill_of 0)) }
+    ensures read_over_append { reply_after held_world (append_before_up held_world) 7
+        ≡ Some (replies.Bytes (fill_of 0)) }
     ensures append_after_up { reply_after held_world (append_after_up held_world) 8 ≡ Some replies.Ok }
     ensures size_before_up { size_after held_world (append_before_up held_world) (codes "concat/c") ≡ Some 4096 }
     ensures size_after_up { size_after held_world (append_after_up held_world) (codes "concat/c") ≡ Some 6144 }
     ensures held_mesh { mesh_after held_world (next_of 0 ∷ next_of 1 ∷ []) two_disks ≡ held_mesh }
-    ensures append_under_nop { let w = around_world (codes "concat/c.nop") in reply_after w (next_of 0 ∷ next_of 1 ∷ []) 8 ≡ Some (replies.Refused EBUSY) }
-    ensures append_over_read { let w = around_world (codes "md0") in reply_after w (next_of 0 ∷ next_of 1 ∷ []) 8 ≡ Some replies.Ok }
+    ensures append_under_nop { let w = around_world (codes "concat/c.nop") in
+        reply_after w (next_of 0 ∷ next_of 1 ∷ []) 8 ≡ Some (replies.Refused EBUSY) }
+    ensures append_over_read { let w = around_world (codes "md0") in reply_after w (next_of 0 ∷ next_of 1 ∷ []) 8
+        ≡ Some replies.Ok }
     ensures append_before_taste { reply_after new_world (next_of 0 ∷ next_of 1 ∷ []) 8 ≡ Some replies.Ok }
-    ensures append_in_taste { reply_after new_world (next_of 0 ∷ steps.Event ∷ next_of 1 ∷ []) 8 ≡ Some (replies.Refused EBUSY) }
-    ensures append_in_read { reply_after new_world (next_of 0 ∷ steps.Event ∷ steps.Judge ∷ next_of 1 ∷ []) 8 ≡ Some (replies.Refused EBUSY) }
-    ensures append_pulled { let w = pulled_world (codes "md1") in reply_after w (next_of 0 ∷ next_of 1 ∷ []) 8 ≡ Some (replies.Refused ENXIO) }
-    ensures append_over_pulled { let w = pulled_world (codes "md1.nop") in reply_after w (next_of 0 ∷ next_of 1 ∷ []) 8 ≡ Some (replies.Refused ENXIO) }
-    ensures append_overflow { reply_after (counted_world 2147483647) (next_of 1 ∷ []) 8 ≡ Some (replies.Refused EOVERFLOW) }
+    ensures append_in_taste { reply_after new_world (next_of 0 ∷ steps.Event ∷ next_of 1 ∷ []) 8
+        ≡ Some (replies.Refused EBUSY) }
+    ensures append_in_read { reply_after new_world (next_of 0 ∷ steps.Event ∷ steps.Judge ∷ next_of 1 ∷ []) 8
+        ≡ Some (replies.Refused EBUSY) }
+    ensures append_pulled { let w = pulled_world (codes "md1") in reply_after w (next_of 0 ∷ next_of 1 ∷ []) 8
+        ≡ Some (replies.Refused ENXIO) }
+    ensures append_over_pulled { let w = pulled_world (codes "md1.nop") in
+        reply_after w (next_of 0 ∷ next_of 1 ∷ []) 8 ≡ Some (replies.Refused ENXIO) }
+    ensures append_overflow { reply_after (counted_world 2147483647) (next_of 1 ∷ []) 8
+        ≡ Some (replies.Refused EOVERFLOW) }
     ensures append_counted { reply_after (counted_world 2147483646) (next_of 1 ∷ []) 8 ≡ Some replies.Ok }
     ensures append_deep { refusal_over (chain 32) 32 (λ p. p) ≡ Some EDEEP }
     ensures append_fits { refusal_over (chain 31) 31 (λ p. p) ≡ None }
@@ -92,7 +101,8 @@ pub fn grown_moments()
     ensures written_through_sound { run_is_sound written_through_plan written_through_facts ≡ true }
     ensures append_before_up_sound { sound_along held_world (log_of held_world (append_before_up held_world)) ≡ true }
     ensures append_after_up_sound { sound_along held_world (log_of held_world (append_after_up held_world)) ≡ true }
-    ensures append_in_read_sound { sound_along new_world (log_of new_world (next_of 0 ∷ steps.Event ∷ steps.Judge ∷ next_of 1 ∷ [])) ≡ true }
+    ensures append_in_read_sound { sound_along new_world
+        (log_of new_world (next_of 0 ∷ steps.Event ∷ steps.Judge ∷ next_of 1 ∷ [])) ≡ true }
     ensures growing_idle { run_frees_idle growing_plan growing_facts ≡ true }
     ensures appearing_idle { run_frees_idle appearing_plan appearing_facts ≡ true }
     ensures sized_label_idle { run_frees_idle sized_label_plan sized_label_facts ≡ true }
@@ -139,7 +149,8 @@ pub fn grown_steadiness()
     ensures written_through_steady { run_is_steady written_through_plan written_through_facts ≡ true }
     ensures append_before_up_steady { steady_along held_world (log_of held_world (append_before_up held_world)) ≡ true }
     ensures append_after_up_steady { steady_along held_world (log_of held_world (append_after_up held_world)) ≡ true }
-    ensures append_in_read_steady { steady_along new_world (log_of new_world (next_of 0 ∷ steps.Event ∷ steps.Judge ∷ next_of 1 ∷ [])) ≡ true }
+    ensures append_in_read_steady { steady_along new_world
+        (log_of new_world (next_of 0 ∷ steps.Event ∷ steps.Judge ∷ next_of 1 ∷ [])) ≡ true }
 {}
 
 /// The measure falls along each of these runs; results, sectors and contents are those of the log.
@@ -161,9 +172,12 @@ pub fn grown_laws()
     ensures growing_results { replies_by_log growing_plan growing_facts ≡ replies_given growing_plan growing_facts }
     ensures logical_results { replies_by_log logical_plan logical_facts ≡ replies_given logical_plan logical_facts }
     ensures growing_sectors { all_gone growing_plan growing_facts ≡ all_due growing_plan growing_facts }
-    ensures written_through_sectors { all_gone written_through_plan written_through_facts ≡ all_due written_through_plan written_through_facts }
+    ensures written_through_sectors { all_gone written_through_plan written_through_facts
+        ≡ all_due written_through_plan written_through_facts }
     ensures appearing_sectors { all_gone appearing_plan appearing_facts ≡ all_due appearing_plan appearing_facts }
     ensures logical_sectors { all_gone logical_plan logical_facts ≡ all_due logical_plan logical_facts }
-    ensures growing_held { same_sectors (held_by_log growing_plan growing_facts 2) (held_by_run growing_plan growing_facts 2) ≡ true }
-    ensures written_through_held { same_sectors (held_by_log written_through_plan written_through_facts 1) (held_by_run written_through_plan written_through_facts 1) ≡ true }
+    ensures growing_held { same_sectors (held_by_log growing_plan growing_facts 2)
+        (held_by_run growing_plan growing_facts 2) ≡ true }
+    ensures written_through_held { same_sectors (held_by_log written_through_plan written_through_facts 1)
+        (held_by_run written_through_plan written_through_facts 1) ≡ true }
 {}

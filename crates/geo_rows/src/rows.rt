@@ -88,18 +88,28 @@ pub fn worked_scripts()
 #[tactic(auto, using(crate::proofs::StepListReplies::worked_step_lists))]
 pub fn worked_step_lists()
     ensures pulled_early_reply { reply_after sliced_world (pulled_early sliced_world) 9 ≡ Some (replies.Refused ENXIO) }
-    ensures pulled_late_reply { reply_after sliced_world (pulled_late sliced_world) 9 ≡ Some (replies.Bytes (fill_of 0)) }
-    ensures close_while_out_reply { reply_after sliced_world (next_of 0 ∷ next_of 0 ∷ []) 10 ≡ Some (replies.Refused EBUSY) }
-    ensures take_of_waiting_found { let w = sliced_world in step (replay w (made w (by_seat_0 (next_of 0 ∷ steps.Start w.next_bio ∷ [])))) 0 (steps.Take 0 w.next_bio) ≡ Err (found.InPhase phases.Waiting) }
+    ensures pulled_late_reply { reply_after sliced_world (pulled_late sliced_world) 9
+        ≡ Some (replies.Bytes (fill_of 0)) }
+    ensures close_while_out_reply { reply_after sliced_world (next_of 0 ∷ next_of 0 ∷ []) 10
+        ≡ Some (replies.Refused EBUSY) }
+    ensures take_of_waiting_found { let w = sliced_world in
+        step (replay w (made w (by_seat_0 (next_of 0 ∷ steps.Start w.next_bio ∷ [])))) 0 (steps.Take 0 w.next_bio)
+        ≡ Err (found.InPhase phases.Waiting) }
     ensures spoiled_writer { reply_after spoiled_world (next_of 0 ∷ next_of 1 ∷ []) 10 ≡ Some replies.Ok }
     ensures spoiled_reader { reply_after spoiled_world (next_of 0 ∷ next_of 1 ∷ []) 14 ≡ Some (replies.Refused EPERM) }
-    ensures read_in_reverse_reply { reply_after striped_world (read_in_reverse striped_world) 7 ≡ Some (replies.Bytes (bytes_of ((0, 512) ∷ (1, 512) ∷ (2, 512) ∷ (3, 512) ∷ (4, 512) ∷ (5, 512) ∷ (6, 512) ∷ []))) }
-    ensures nop_first_reply { let w = failing_world (codes "md0.nop") (codes "md1") in reply_after w (second_up_first w) 8 ≡ Some (replies.Refused EIO) }
-    ensures pulled_first_reply { let w = failing_world (codes "md1") (codes "md0.nop") in reply_after w (second_up_first w) 8 ≡ Some (replies.Refused ENXIO) }
+    ensures read_in_reverse_reply { reply_after striped_world (read_in_reverse striped_world) 7
+        ≡ Some (replies.Bytes
+        (bytes_of ((0, 512) ∷ (1, 512) ∷ (2, 512) ∷ (3, 512) ∷ (4, 512) ∷ (5, 512) ∷ (6, 512) ∷ []))) }
+    ensures nop_first_reply { let w = failing_world (codes "md0.nop") (codes "md1") in
+        reply_after w (second_up_first w) 8 ≡ Some (replies.Refused EIO) }
+    ensures pulled_first_reply { let w = failing_world (codes "md1") (codes "md0.nop") in
+        reply_after w (second_up_first w) 8 ≡ Some (replies.Refused ENXIO) }
     ensures failed_read_reply { reply_after opened_world (failed_read opened_world) 4 ≡ Some (replies.Refused EIO) }
     ensures failed_read_failures { failures_of (log_of opened_world (failed_read opened_world)) 0 ≡ 1 }
-    ensures nop_first_errors { let w = failing_world (codes "md0.nop") (codes "md1") in errors_met w (second_up_first w) w.next_bio ≡ EIO ∷ ENXIO ∷ [] }
-    ensures pulled_first_errors { let w = failing_world (codes "md1") (codes "md0.nop") in errors_met w (second_up_first w) w.next_bio ≡ ENXIO ∷ EIO ∷ [] }
+    ensures nop_first_errors { let w = failing_world (codes "md0.nop") (codes "md1") in
+        errors_met w (second_up_first w) w.next_bio ≡ EIO ∷ ENXIO ∷ [] }
+    ensures pulled_first_errors { let w = failing_world (codes "md1") (codes "md0.nop") in
+        errors_met w (second_up_first w) w.next_bio ≡ ENXIO ∷ EIO ∷ [] }
 {}
 
 /// Counts double from floor to floor of a tower of concats.
@@ -108,7 +118,8 @@ pub fn worked_towers()
     ensures five_floors_counts { disk_counts 5 (counts 1 0 0) ≡ counts (2 ^ 5) 0 (2 ^ 6 - 2) }
     ensures five_floors_fits { top_refusal 5 (counts (2 ^ 26 - 1) 0 0) ≡ None }
     ensures five_floors_overflow { top_refusal 5 (counts (2 ^ 26) 0 0) ≡ Some EOVERFLOW }
-    ensures first_floor_taken { concat_refusal_over (tower_world 1) (floor_name 1) (provider_at (tower_world 1).topology 1) ≡ Some EEXIST }
+    ensures first_floor_taken { concat_refusal_over (tower_world 1) (floor_name 1)
+        (provider_at (tower_world 1).topology 1) ≡ Some EEXIST }
 {}
 
 /// The measure falls along each run; results, sectors and contents are those of the log.
@@ -129,14 +140,18 @@ pub fn worked_laws()
     ensures labelling_falls { measure_falls 400 labelling_plan labelling_facts ≡ true }
     ensures two_users_falls { measure_falls 400 two_users_plan two_users_facts ≡ true }
     ensures joining_results { replies_by_log joining_plan joining_facts ≡ replies_given joining_plan joining_facts }
-    ensures striping_results { replies_by_log striping_plan striping_facts ≡ replies_given striping_plan striping_facts }
-    ensures failing_nop_results { replies_by_log failing_nop_plan failing_nop_facts ≡ replies_given failing_nop_plan failing_nop_facts }
+    ensures striping_results { replies_by_log striping_plan striping_facts
+        ≡ replies_given striping_plan striping_facts }
+    ensures failing_nop_results { replies_by_log failing_nop_plan failing_nop_facts
+        ≡ replies_given failing_nop_plan failing_nop_facts }
     ensures pulling_results { replies_by_log pulling_plan pulling_facts ≡ replies_given pulling_plan pulling_facts }
     ensures joining_sectors { all_gone joining_plan joining_facts ≡ all_due joining_plan joining_facts }
     ensures striping_sectors { all_gone striping_plan striping_facts ≡ all_due striping_plan striping_facts }
     ensures diamond_sectors { all_gone diamond_plan diamond_facts ≡ all_due diamond_plan diamond_facts }
-    ensures joining_held { same_sectors (held_by_log joining_plan joining_facts 1) (held_by_run joining_plan joining_facts 1) ≡ true }
-    ensures striping_held { same_sectors (held_by_log striping_plan striping_facts 1) (held_by_run striping_plan striping_facts 1) ≡ true }
+    ensures joining_held { same_sectors (held_by_log joining_plan joining_facts 1)
+        (held_by_run joining_plan joining_facts 1) ≡ true }
+    ensures striping_held { same_sectors (held_by_log striping_plan striping_facts 1)
+        (held_by_run striping_plan striping_facts 1) ≡ true }
 {}
 
 /// Each moment of the runs is sound, each step frees only what is idle, each request is answered once.
@@ -156,9 +171,12 @@ pub fn worked_moments()
     ensures assembling_sound { run_is_sound assembling_plan assembling_facts ≡ true }
     ensures labelling_sound { run_is_sound labelling_plan labelling_facts ≡ true }
     ensures two_users_sound { run_is_sound two_users_plan two_users_facts ≡ true }
-    ensures pulled_early_sound { sound_along sliced_world (made sliced_world (by_seat_0 (pulled_early sliced_world))) ≡ true }
-    ensures pulled_late_sound { sound_along sliced_world (made sliced_world (by_seat_0 (pulled_late sliced_world))) ≡ true }
-    ensures read_in_reverse_sound { sound_along striped_world (made striped_world (by_seat_0 (read_in_reverse striped_world))) ≡ true }
+    ensures pulled_early_sound { sound_along sliced_world
+        (made sliced_world (by_seat_0 (pulled_early sliced_world))) ≡ true }
+    ensures pulled_late_sound { sound_along sliced_world (made sliced_world (by_seat_0 (pulled_late sliced_world)))
+        ≡ true }
+    ensures read_in_reverse_sound { sound_along striped_world
+        (made striped_world (by_seat_0 (read_in_reverse striped_world))) ≡ true }
     ensures pulling_idle { run_frees_idle pulling_plan pulling_facts ≡ true }
     ensures pulling_once { run_answers_once pulling_plan pulling_facts ≡ true }
     ensures assembling_idle { run_frees_idle assembling_plan assembling_facts ≡ true }
@@ -169,7 +187,8 @@ pub fn worked_moments()
     ensures spoiling_once { run_answers_once spoiling_plan spoiling_facts ≡ true }
     ensures joining_idle { run_frees_idle joining_plan joining_facts ≡ true }
     ensures joining_once { run_answers_once joining_plan joining_facts ≡ true }
-    ensures reused_number_unsound { let w : World = opening first_plan first_facts in is_sound (record w { topology = record w.topology { next_geom = 2 } }) ≡ false }
+    ensures reused_number_unsound { let w : World = opening first_plan first_facts in
+        is_sound (record w { topology = record w.topology { next_geom = 2 } }) ≡ false }
 {}
 
 /// Attaching, pieces and records.
@@ -180,17 +199,34 @@ pub fn worked_parts()
     ensures attach_errored { loose_refusal (set_error (chain 1) 1) 1 ≡ Some ENXIO }
     ensures attach_deep { loose_refusal (chain 32) 32 ≡ Some EDEEP }
     ensures attach_fits { loose_refusal (chain 31) 31 ≡ None }
-    ensures three_way_pieces { pieces three_way three_way_provider 0 3584 ≡ piece 0 0 512 0 ∷ piece 1 0 512 512 ∷ piece 2 0 512 1024 ∷ piece 0 512 512 1536 ∷ piece 1 512 512 2048 ∷ piece 2 512 512 2560 ∷ piece 0 1024 512 3072 ∷ [] }
+    ensures three_way_pieces { pieces three_way three_way_provider 0 3584 ≡ piece 0 0 512 0 ∷ piece 1 0 512 512
+        ∷ piece 2 0 512 1024 ∷ piece 0 512 512 1536 ∷ piece 1 512 512 2048 ∷ piece 2 512 512 2560
+        ∷ piece 0 1024 512 3072 ∷ [] }
     ensures three_way_place { place three_way (codes "stripe/s") 2600 ≡ Some (spot 2 552) }
-    ensures label_again { label_record (label_sector 512 (record { name = codes "vol"; size = None })) ≡ Ok (record { name = codes "vol"; size = None }) }
-    ensures concat_again { concat_record (concat_sector 512 (record { name = codes "v"; id = 7; place = 1; count = 2 })) ≡ Ok (record { name = codes "v"; id = 7; place = 1; count = 2 }) }
-    ensures stripe_again { stripe_record (stripe_sector 4096 (record { name = codes "fast"; id = 4294967295; place = 15; count = 16; stripe = 4096 })) ≡ Ok (record { name = codes "fast"; id = 4294967295; place = 15; count = 16; stripe = 4096 }) }
-    ensures place_declined { concat_record (concat_sector 512 (record { name = codes "v"; id = 7; place = 2; count = 2 })) ≡ Err declines.Place }
-    ensures size_declined { stripe_record (stripe_sector 512 (record { name = codes "v"; id = 7; place = 0; count = 1; stripe = 513 })) ≡ Err declines.Size }
-    ensures name_declined { label_record (label_sector 512 (record { name = codes "a" ++ 0 ∷ codes "b"; size = None })) ≡ Err declines.BadName }
+    ensures label_again { label_record (label_sector 512 (record { name = codes "vol"; size = None }))
+        ≡ Ok (record { name = codes "vol"; size = None }) }
+    ensures concat_again { concat_record
+        (concat_sector 512 (record { name = codes "v"; id = 7; place = 1; count = 2 }))
+        ≡ Ok (record { name = codes "v"; id = 7; place = 1; count = 2 }) }
+    ensures stripe_again { stripe_record
+        (stripe_sector 4096 (record {
+          name = codes "fast";
+          id = 4294967295;
+          place = 15;
+          count = 16;
+          stripe = 4096;
+        })) ≡ Ok (record { name = codes "fast"; id = 4294967295; place = 15; count = 16; stripe = 4096 }) }
+    ensures place_declined { concat_record
+        (concat_sector 512 (record { name = codes "v"; id = 7; place = 2; count = 2 })) ≡ Err declines.Place }
+    ensures size_declined { stripe_record
+        (stripe_sector 512 (record { name = codes "v"; id = 7; place = 0; count = 1; stripe = 513 }))
+        ≡ Err declines.Size }
+    ensures name_declined { label_record
+        (label_sector 512 (record { name = codes "a" ++ 0 ∷ codes "b"; size = None })) ≡ Err declines.BadName }
     ensures magic_declined { label_record (replicate 512 0) ≡ Err declines.Magic }
     ensures far_declined { mbr_table (one_entry 165 (replicate 8 255)) 64 ≡ Err declines.Nothing }
-    ensures protective_declined { mbr_table (one_entry 238 (1 ∷ 0 ∷ 0 ∷ 0 ∷ 1 ∷ 0 ∷ 0 ∷ 0 ∷ [])) 64 ≡ Err declines.Protective }
+    ensures protective_declined { mbr_table (one_entry 238 (1 ∷ 0 ∷ 0 ∷ 0 ∷ 1 ∷ 0 ∷ 0 ∷ 0 ∷ [])) 64
+        ≡ Err declines.Protective }
     ensures signature_declined { mbr_table (replicate 512 0) 64 ≡ Err declines.Signature }
     ensures concat_deep { concat_refusal (chain 32) (codes "c32") 32 ≡ Some EDEEP }
     ensures concat_fits { concat_refusal (chain 31) (codes "c31") 31 ≡ None }
@@ -215,9 +251,12 @@ pub fn worked_steadiness()
     ensures assembling_steady { run_is_steady assembling_plan assembling_facts ≡ true }
     ensures labelling_steady { run_is_steady labelling_plan labelling_facts ≡ true }
     ensures two_users_steady { run_is_steady two_users_plan two_users_facts ≡ true }
-    ensures pulled_early_steady { steady_along sliced_world (made sliced_world (by_seat_0 (pulled_early sliced_world))) ≡ true }
-    ensures pulled_late_steady { steady_along sliced_world (made sliced_world (by_seat_0 (pulled_late sliced_world))) ≡ true }
-    ensures read_in_reverse_steady { steady_along striped_world (made striped_world (by_seat_0 (read_in_reverse striped_world))) ≡ true }
+    ensures pulled_early_steady { steady_along sliced_world
+        (made sliced_world (by_seat_0 (pulled_early sliced_world))) ≡ true }
+    ensures pulled_late_steady { steady_along sliced_world
+        (made sliced_world (by_seat_0 (pulled_late sliced_world))) ≡ true }
+    ensures read_in_reverse_steady { steady_along striped_world
+        (made striped_world (by_seat_0 (read_in_reverse striped_world))) ≡ true }
 {}
 
 /// Words that are accepted, and words that aren't.

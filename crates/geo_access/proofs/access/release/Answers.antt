@@ -19,7 +19,8 @@ pub try_out-order-requires : goal.try_out-order-requires
 try_out-order-requires g c = record {
   lives =
       rw c.place_of-prov.ensures.place
-      (holder_lives c.args.topo.now.topology c.place_of-prov.ensures.sound c.args.cons (holder_is c.args.topo.now.topology c.args.cons c.requires.holder));
+      (holder_lives c.args.topo.now.topology c.place_of-prov.ensures.sound c.args.cons
+      (holder_is c.args.topo.now.topology c.args.cons c.requires.holder));
   clear = c.requires.counted.clear;
 }
 
@@ -28,29 +29,41 @@ finish-requires-clause-lives g c =
     let holder = holder_is c.args.topo.now.topology c.args.cons c.requires.holder in
     let stored : value_at c.args.topo.now.wants c.args.cons ≡ Some c.unwrap.result.now.want =
     c.consumer.ensures.want ∙ ap (λ o. option_map (λ x. x.want) (option_copied o)) c.unwrap.ensures in
-    let tried : IsTried c.args.topo.now (place_of c.args.topo.now.topology c.args.cons) c.unwrap.result.now.want Falls c.try_out-order.new.topo c.try_out-order.result =
-    subst (λ n. IsTried c.args.topo.now n c.unwrap.result.now.want Falls c.try_out-order.new.topo c.try_out-order.result) c.place_of-prov.ensures.place c.try_out-order.ensures.tried in
-    release_lives c.args.topo.now c.place_of-prov.ensures.sound c.requires.counted c.args.cons holder c.unwrap.result.now.want stored c.requires.quiet c.requires.placed c.try_out-order.new.topo c.try_out-order.result tried
+    let tried : IsTried c.args.topo.now (place_of c.args.topo.now.topology c.args.cons) c.unwrap.result.now.want
+    Falls c.try_out-order.new.topo c.try_out-order.result =
+    subst (λ n. IsTried c.args.topo.now n c.unwrap.result.now.want Falls c.try_out-order.new.topo
+    c.try_out-order.result) c.place_of-prov.ensures.place c.try_out-order.ensures.tried in
+    release_lives c.args.topo.now c.place_of-prov.ensures.sound c.requires.counted c.args.cons holder
+    c.unwrap.result.now.want stored c.requires.quiet c.requires.placed c.try_out-order.new.topo
+    c.try_out-order.result tried
 
 pub finish-requires-clause-apart : goal.finish-requires-clause-apart
 finish-requires-clause-apart g c =
     let holder = holder_is c.args.topo.now.topology c.args.cons c.requires.holder in
     let stored : value_at c.args.topo.now.wants c.args.cons ≡ Some c.unwrap.result.now.want =
     c.consumer.ensures.want ∙ ap (λ o. option_map (λ x. x.want) (option_copied o)) c.unwrap.ensures in
-    let tried : IsTried c.args.topo.now (place_of c.args.topo.now.topology c.args.cons) c.unwrap.result.now.want Falls c.try_out-order.new.topo c.try_out-order.result =
-    subst (λ n. IsTried c.args.topo.now n c.unwrap.result.now.want Falls c.try_out-order.new.topo c.try_out-order.result) c.place_of-prov.ensures.place c.try_out-order.ensures.tried in
-    release_apart c.args.topo.now c.place_of-prov.ensures.sound c.requires.counted c.args.cons holder c.unwrap.result.now.want stored c.requires.quiet c.requires.placed c.try_out-order.new.topo c.try_out-order.result tried
+    let tried : IsTried c.args.topo.now (place_of c.args.topo.now.topology c.args.cons) c.unwrap.result.now.want
+    Falls c.try_out-order.new.topo c.try_out-order.result =
+    subst (λ n. IsTried c.args.topo.now n c.unwrap.result.now.want Falls c.try_out-order.new.topo
+    c.try_out-order.result) c.place_of-prov.ensures.place c.try_out-order.ensures.tried in
+    release_apart c.args.topo.now c.place_of-prov.ensures.sound c.requires.counted c.args.cons holder
+    c.unwrap.result.now.want stored c.requires.quiet c.requires.placed c.try_out-order.new.topo
+    c.try_out-order.result tried
 
 pub set_want-requires : goal.set_want-requires
 set_want-requires g c =
     let holder = holder_is c.args.topo.now.topology c.args.cons c.requires.holder in
     let stored : value_at c.args.topo.now.wants c.args.cons ≡ Some c.unwrap.result.now.want =
     c.consumer.ensures.want ∙ ap (λ o. option_map (λ x. x.want) (option_copied o)) c.unwrap.ensures in
-    let tried : IsTried c.args.topo.now (place_of c.args.topo.now.topology c.args.cons) c.unwrap.result.now.want Falls c.try_out-order.new.topo c.try_out-order.result =
-    subst (λ n. IsTried c.args.topo.now n c.unwrap.result.now.want Falls c.try_out-order.new.topo c.try_out-order.result) c.place_of-prov.ensures.place c.try_out-order.ensures.tried in
+    let tried : IsTried c.args.topo.now (place_of c.args.topo.now.topology c.args.cons) c.unwrap.result.now.want
+    Falls c.try_out-order.new.topo c.try_out-order.result =
+    subst (λ n. IsTried c.args.topo.now n c.unwrap.result.now.want Falls c.try_out-order.new.topo
+    c.try_out-order.result) c.place_of-prov.ensures.place c.try_out-order.ensures.tried in
     let is : with_want c.finish.new.topo c.args.cons no_counts ≡ released_view c.args.topo.now c.args.cons =
     ap (λ v. with_want v c.args.cons no_counts) c.finish.ensures
-    ∙ release_end c.args.topo.now c.place_of-prov.ensures.sound c.requires.counted c.args.cons holder c.unwrap.result.now.want stored c.requires.quiet c.requires.placed c.try_out-order.new.topo c.try_out-order.result tried in
+    ∙ release_end c.args.topo.now c.place_of-prov.ensures.sound c.requires.counted c.args.cons holder
+    c.unwrap.result.now.want stored c.requires.quiet c.requires.placed c.try_out-order.new.topo
+    c.try_out-order.result tried in
     let lives : IsSome (consumer_at c.args.topo.now.topology c.args.cons) = rw holder.found refl in
     subst (λ (v : TopoView g.row.C.Denot). IsSome (consumer_at v.topology c.args.cons)) (sym is) lives
 
@@ -59,48 +72,75 @@ returns-clause-released g c =
     let holder = holder_is c.args.topo.now.topology c.args.cons c.requires.holder in
     let stored : value_at c.args.topo.now.wants c.args.cons ≡ Some c.unwrap.result.now.want =
     c.consumer.ensures.want ∙ ap (λ o. option_map (λ x. x.want) (option_copied o)) c.unwrap.ensures in
-    let tried : IsTried c.args.topo.now (place_of c.args.topo.now.topology c.args.cons) c.unwrap.result.now.want Falls c.try_out-order.new.topo c.try_out-order.result =
-    subst (λ n. IsTried c.args.topo.now n c.unwrap.result.now.want Falls c.try_out-order.new.topo c.try_out-order.result) c.place_of-prov.ensures.place c.try_out-order.ensures.tried in
+    let tried : IsTried c.args.topo.now (place_of c.args.topo.now.topology c.args.cons) c.unwrap.result.now.want
+    Falls c.try_out-order.new.topo c.try_out-order.result =
+    subst (λ n. IsTried c.args.topo.now n c.unwrap.result.now.want Falls c.try_out-order.new.topo
+    c.try_out-order.result) c.place_of-prov.ensures.place c.try_out-order.ensures.tried in
     c.set_want.ensures ∙ ap (λ v. with_want v c.args.cons no_counts) c.finish.ensures
-    ∙ release_end c.args.topo.now c.place_of-prov.ensures.sound c.requires.counted c.args.cons holder c.unwrap.result.now.want stored c.requires.quiet c.requires.placed c.try_out-order.new.topo c.try_out-order.result tried
+    ∙ release_end c.args.topo.now c.place_of-prov.ensures.sound c.requires.counted c.args.cons holder
+    c.unwrap.result.now.want stored c.requires.quiet c.requires.placed c.try_out-order.new.topo
+    c.try_out-order.result tried
 
 pub returns-clause-counted : goal.returns-clause-counted
 returns-clause-counted g c =
     let holder = holder_is c.args.topo.now.topology c.args.cons c.requires.holder in
     let stored : value_at c.args.topo.now.wants c.args.cons ≡ Some c.unwrap.result.now.want =
     c.consumer.ensures.want ∙ ap (λ o. option_map (λ x. x.want) (option_copied o)) c.unwrap.ensures in
-    let tried : IsTried c.args.topo.now (place_of c.args.topo.now.topology c.args.cons) c.unwrap.result.now.want Falls c.try_out-order.new.topo c.try_out-order.result =
-    subst (λ n. IsTried c.args.topo.now n c.unwrap.result.now.want Falls c.try_out-order.new.topo c.try_out-order.result) c.place_of-prov.ensures.place c.try_out-order.ensures.tried in
+    let tried : IsTried c.args.topo.now (place_of c.args.topo.now.topology c.args.cons) c.unwrap.result.now.want
+    Falls c.try_out-order.new.topo c.try_out-order.result =
+    subst (λ n. IsTried c.args.topo.now n c.unwrap.result.now.want Falls c.try_out-order.new.topo
+    c.try_out-order.result) c.place_of-prov.ensures.place c.try_out-order.ensures.tried in
     let is : c.set_want.new.self ≡ released_view c.args.topo.now c.args.cons =
     c.set_want.ensures ∙ ap (λ v. with_want v c.args.cons no_counts) c.finish.ensures
-    ∙ release_end c.args.topo.now c.place_of-prov.ensures.sound c.requires.counted c.args.cons holder c.unwrap.result.now.want stored c.requires.quiet c.requires.placed c.try_out-order.new.topo c.try_out-order.result tried in
-    let fall = grants_fall c.args.topo.now c.place_of-prov.ensures.sound c.requires.counted c.args.cons holder c.unwrap.result.now.want stored in
+    ∙ release_end c.args.topo.now c.place_of-prov.ensures.sound c.requires.counted c.args.cons holder
+    c.unwrap.result.now.want stored c.requires.quiet c.requires.placed c.try_out-order.new.topo
+    c.try_out-order.result tried in
+    let fall = grants_fall c.args.topo.now c.place_of-prov.ensures.sound c.requires.counted c.args.cons holder
+    c.unwrap.result.now.want stored in
     subst IsCounted
     (sym (is ∙ ap (λ rows. record (released_view c.args.topo.now c.args.cons) { risen = rows }) c.requires.quiet.risen))
-    (new_counted c.args.topo.now c.place_of-prov.ensures.sound c.requires.counted c.args.cons holder.one holder.found holder.kind no_counts
-    (with_grant (granted_by c.args.topo.now) c.args.cons no_counts) (others_stay c.args.topo.now c.place_of-prov.ensures.sound c.requires.counted c.args.cons holder no_counts)
+    (new_counted c.args.topo.now c.place_of-prov.ensures.sound c.requires.counted c.args.cons holder.one
+    holder.found holder.kind no_counts
+    (with_grant (granted_by c.args.topo.now) c.args.cons no_counts)
+    (others_stay c.args.topo.now c.place_of-prov.ensures.sound c.requires.counted c.args.cons holder no_counts)
     (λ z. false)
-    (λ z. comes_to_zero (have (granted_by c.args.topo.now) c.args.topo.now.topology z.number) (have (with_grant (granted_by c.args.topo.now) c.args.cons no_counts) c.args.topo.now.topology z.number))
-    (exclusive_less (with_grant (granted_by c.args.topo.now) c.args.cons no_counts) (granted_by c.args.topo.now) fall c.args.topo.now.topology c.requires.counted.exclusive)
-    (limit_less (with_grant (granted_by c.args.topo.now) c.args.cons no_counts) (granted_by c.args.topo.now) fall c.args.topo.now.topology c.requires.counted.limit))
+    (λ z. comes_to_zero (have (granted_by c.args.topo.now) c.args.topo.now.topology z.number)
+    (have (with_grant (granted_by c.args.topo.now) c.args.cons no_counts) c.args.topo.now.topology z.number))
+    (exclusive_less (with_grant (granted_by c.args.topo.now) c.args.cons no_counts) (granted_by c.args.topo.now)
+    fall c.args.topo.now.topology c.requires.counted.exclusive)
+    (limit_less (with_grant (granted_by c.args.topo.now) c.args.cons no_counts) (granted_by c.args.topo.now) fall
+    c.args.topo.now.topology c.requires.counted.limit))
 
 pub returns-clause-fallen : goal.returns-clause-fallen
 returns-clause-fallen g c =
     let holder = holder_is c.args.topo.now.topology c.args.cons c.requires.holder in
     let stored : value_at c.args.topo.now.wants c.args.cons ≡ Some c.unwrap.result.now.want =
     c.consumer.ensures.want ∙ ap (λ o. option_map (λ x. x.want) (option_copied o)) c.unwrap.ensures in
-    let tried : IsTried c.args.topo.now (place_of c.args.topo.now.topology c.args.cons) c.unwrap.result.now.want Falls c.try_out-order.new.topo c.try_out-order.result =
-    subst (λ n. IsTried c.args.topo.now n c.unwrap.result.now.want Falls c.try_out-order.new.topo c.try_out-order.result) c.place_of-prov.ensures.place c.try_out-order.ensures.tried in
+    let tried : IsTried c.args.topo.now (place_of c.args.topo.now.topology c.args.cons) c.unwrap.result.now.want
+    Falls c.try_out-order.new.topo c.try_out-order.result =
+    subst (λ n. IsTried c.args.topo.now n c.unwrap.result.now.want Falls c.try_out-order.new.topo
+    c.try_out-order.result) c.place_of-prov.ensures.place c.try_out-order.ensures.tried in
     let is : c.set_want.new.self ≡ released_view c.args.topo.now c.args.cons =
     c.set_want.ensures ∙ ap (λ v. with_want v c.args.cons no_counts) c.finish.ensures
-    ∙ release_end c.args.topo.now c.place_of-prov.ensures.sound c.requires.counted c.args.cons holder c.unwrap.result.now.want stored c.requires.quiet c.requires.placed c.try_out-order.new.topo c.try_out-order.result tried in
+    ∙ release_end c.args.topo.now c.place_of-prov.ensures.sound c.requires.counted c.args.cons holder
+    c.unwrap.result.now.want stored c.requires.quiet c.requires.placed c.try_out-order.new.topo
+    c.try_out-order.result tried in
     ap (λ (v : TopoView g.row.C.Denot). noted v.fallen) is
     ∙ noted_is (λ (z : Provider). z.number)
-    (λ (z : Provider). comes_to_zero (have (granted_by c.args.topo.now) c.args.topo.now.topology z.number) (have (with_grant (granted_by c.args.topo.now) c.args.cons no_counts) c.args.topo.now.topology z.number))
+    (λ (z : Provider). comes_to_zero (have (granted_by c.args.topo.now) c.args.topo.now.topology z.number)
+    (have (with_grant (granted_by c.args.topo.now) c.args.cons no_counts) c.args.topo.now.topology z.number))
     c.args.topo.now.topology.providers
 
 pub returns-clause-bound : goal.returns-clause-bound
 returns-clause-bound g c =
-    let tried : IsTried c.args.topo.now (place_of c.args.topo.now.topology c.args.cons) c.unwrap.result.now.want Falls c.try_out-order.new.topo c.try_out-order.result =
-    subst (λ n. IsTried c.args.topo.now n c.unwrap.result.now.want Falls c.try_out-order.new.topo c.try_out-order.result) c.place_of-prov.ensures.place c.try_out-order.ensures.tried in
-    omega (arith, c.try_out-order.ensures.steps, steps_bound c.args.topo.now c.place_of-prov.ensures.sound c.requires.counted.clear (place_of c.args.topo.now.topology c.args.cons) c.unwrap.result.now.want Falls c.try_out-order.new.topo c.try_out-order.result tried)
+    let tried : IsTried c.args.topo.now (place_of c.args.topo.now.topology c.args.cons) c.unwrap.result.now.want
+    Falls c.try_out-order.new.topo c.try_out-order.result =
+    subst (λ n. IsTried c.args.topo.now n c.unwrap.result.now.want Falls c.try_out-order.new.topo
+    c.try_out-order.result) c.place_of-prov.ensures.place c.try_out-order.ensures.tried in
+    omega (
+      arith,
+      c.try_out-order.ensures.steps,
+      steps_bound c.args.topo.now c.place_of-prov.ensures.sound c.requires.counted.clear
+          (place_of c.args.topo.now.topology c.args.cons) c.unwrap.result.now.want Falls c.try_out-order.new.topo
+          c.try_out-order.result tried,
+    )

@@ -14,7 +14,8 @@ use Rattle.geo_access.proofs.access.try_out.Goals as goal
 
 pub gather-requires : goal.gather-requires
 gather-requires g c =
-    offerer_lives c.args.topo.now.topology c.provider.ensures.sound c.args.prov (provider_seen c.args.prov c.unwrap.result.now)
+    offerer_lives c.args.topo.now.topology c.provider.ensures.sound c.args.prov
+    (provider_seen c.args.prov c.unwrap.result.now)
     (c.provider.ensures.provider ∙ ap (λ o. option_map (provider_seen c.args.prov) (option_copied o)) c.unwrap.ensures)
 
 pub spread-requires : goal.spread-requires
@@ -22,21 +23,29 @@ spread-requires g c =
     let y : Provider = provider_seen c.args.prov c.unwrap.result.now in
     let found : provider_at c.args.topo.now.topology c.args.prov ≡ Some y =
     c.provider.ensures.provider ∙ ap (λ o. option_map (provider_seen c.args.prov) (option_copied o)) c.unwrap.ensures in
-    let made : ◌≡◌ {A = Gathered g.row.C.Denot} (record { view = c.gather.new.topo; order = c.gather.new.order }) (gathered_from c.args.topo.now y.geom) =
+    let made : ◌≡◌ {A = Gathered g.row.C.Denot} (record { view = c.gather.new.topo; order = c.gather.new.order })
+    (gathered_from c.args.topo.now y.geom) =
     c.gather.ensures.gathered (rank c.args.topo.now.topology y.geom) (omega arith)
-    ∙ ap (λ n. visit (rank c.args.topo.now.topology y.geom) y.geom (record { view = c.args.topo.now; order = record { head = n; count = 0 } })) c.number.ensures in
+    ∙ ap (λ n. visit (rank c.args.topo.now.topology y.geom) y.geom (record {
+      view = c.args.topo.now;
+      order =
+          record { head = n; count = 0 };
+    })) c.number.ensures in
     let order : c.gather.new.order ≡ (gathered_from c.args.topo.now y.geom).order = ap (λ s. s.order) made in
     let given : c.give.new.topo ≡ give c.args.add (gathered_from c.args.topo.now y.geom).view c.args.prov =
     c.give.ensures ∙ ap (λ (s : Gathered g.row.C.Denot). give c.args.add s.view c.args.prov) made in
-    let at : order_of c.give.new.topo c.gather.new.order ≡ geoms_below c.args.topo.now c.provider.ensures.sound c.requires.clear c.args.prov y found =
+    let at : order_of c.give.new.topo c.gather.new.order
+    ≡ geoms_below c.args.topo.now c.provider.ensures.sound c.requires.clear c.args.prov y found =
     ap (λ v. order_of v c.gather.new.order) given
     ∙ ap (order_of (give c.args.add (gathered_from c.args.topo.now y.geom).view c.args.prov)) order
     ∙ given_order c.args.topo.now c.provider.ensures.sound c.requires.clear c.args.prov y found c.args.add in
     let graph : c.give.new.topo.topology ≡ c.args.topo.now.topology =
-    ap (λ (v : TopoView g.row.C.Denot). v.topology) given ∙ given_graph c.args.topo.now c.provider.ensures.sound c.requires.clear c.args.prov y found c.args.add in
+    ap (λ (v : TopoView g.row.C.Denot). v.topology) given
+    ∙ given_graph c.args.topo.now c.provider.ensures.sound c.requires.clear c.args.prov y found c.args.add in
     subst (λ u. All (λ x. IsSome (geom_at u x)) (order_of c.give.new.topo c.gather.new.order)) (sym graph)
     (subst (All (λ x. IsSome (geom_at c.args.topo.now.topology x))) (sym at)
-    (all_of (λ x. IsSome (geom_at c.args.topo.now.topology x)) (geoms_below c.args.topo.now c.provider.ensures.sound c.requires.clear c.args.prov y found)
+    (all_of (λ x. IsSome (geom_at c.args.topo.now.topology x))
+    (geoms_below c.args.topo.now c.provider.ensures.sound c.requires.clear c.args.prov y found)
     (below_lives c.args.topo.now c.provider.ensures.sound c.requires.clear c.args.prov y found)))
 
 pub returns-clause-tried : goal.returns-clause-tried
@@ -44,18 +53,25 @@ returns-clause-tried g c =
     let y : Provider = provider_seen c.args.prov c.unwrap.result.now in
     let found : provider_at c.args.topo.now.topology c.args.prov ≡ Some y =
     c.provider.ensures.provider ∙ ap (λ o. option_map (provider_seen c.args.prov) (option_copied o)) c.unwrap.ensures in
-    let made : ◌≡◌ {A = Gathered g.row.C.Denot} (record { view = c.gather.new.topo; order = c.gather.new.order }) (gathered_from c.args.topo.now y.geom) =
+    let made : ◌≡◌ {A = Gathered g.row.C.Denot} (record { view = c.gather.new.topo; order = c.gather.new.order })
+    (gathered_from c.args.topo.now y.geom) =
     c.gather.ensures.gathered (rank c.args.topo.now.topology y.geom) (omega arith)
-    ∙ ap (λ n. visit (rank c.args.topo.now.topology y.geom) y.geom (record { view = c.args.topo.now; order = record { head = n; count = 0 } })) c.number.ensures in
+    ∙ ap (λ n. visit (rank c.args.topo.now.topology y.geom) y.geom (record {
+      view = c.args.topo.now;
+      order =
+          record { head = n; count = 0 };
+    })) c.number.ensures in
     let order : c.gather.new.order ≡ (gathered_from c.args.topo.now y.geom).order = ap (λ s. s.order) made in
     let given : c.give.new.topo ≡ give c.args.add (gathered_from c.args.topo.now y.geom).view c.args.prov =
     c.give.ensures ∙ ap (λ (s : Gathered g.row.C.Denot). give c.args.add s.view c.args.prov) made in
-    let at : order_of c.give.new.topo c.gather.new.order ≡ geoms_below c.args.topo.now c.provider.ensures.sound c.requires.clear c.args.prov y found =
+    let at : order_of c.give.new.topo c.gather.new.order
+    ≡ geoms_below c.args.topo.now c.provider.ensures.sound c.requires.clear c.args.prov y found =
     ap (λ v. order_of v c.gather.new.order) given
     ∙ ap (order_of (give c.args.add (gathered_from c.args.topo.now y.geom).view c.args.prov)) order
     ∙ given_order c.args.topo.now c.provider.ensures.sound c.requires.clear c.args.prov y found c.args.add in
     let graph : c.give.new.topo.topology ≡ c.args.topo.now.topology =
-    ap (λ (v : TopoView g.row.C.Denot). v.topology) given ∙ given_graph c.args.topo.now c.provider.ensures.sound c.requires.clear c.args.prov y found c.args.add in
+    ap (λ (v : TopoView g.row.C.Denot). v.topology) given
+    ∙ given_graph c.args.topo.now c.provider.ensures.sound c.requires.clear c.args.prov y found c.args.add in
     record {
       offer = y;
       found = found;
@@ -72,18 +88,25 @@ returns-clause-steps g c =
     let y : Provider = provider_seen c.args.prov c.unwrap.result.now in
     let found : provider_at c.args.topo.now.topology c.args.prov ≡ Some y =
     c.provider.ensures.provider ∙ ap (λ o. option_map (provider_seen c.args.prov) (option_copied o)) c.unwrap.ensures in
-    let made : ◌≡◌ {A = Gathered g.row.C.Denot} (record { view = c.gather.new.topo; order = c.gather.new.order }) (gathered_from c.args.topo.now y.geom) =
+    let made : ◌≡◌ {A = Gathered g.row.C.Denot} (record { view = c.gather.new.topo; order = c.gather.new.order })
+    (gathered_from c.args.topo.now y.geom) =
     c.gather.ensures.gathered (rank c.args.topo.now.topology y.geom) (omega arith)
-    ∙ ap (λ n. visit (rank c.args.topo.now.topology y.geom) y.geom (record { view = c.args.topo.now; order = record { head = n; count = 0 } })) c.number.ensures in
+    ∙ ap (λ n. visit (rank c.args.topo.now.topology y.geom) y.geom (record {
+      view = c.args.topo.now;
+      order =
+          record { head = n; count = 0 };
+    })) c.number.ensures in
     let order : c.gather.new.order ≡ (gathered_from c.args.topo.now y.geom).order = ap (λ s. s.order) made in
     let given : c.give.new.topo ≡ give c.args.add (gathered_from c.args.topo.now y.geom).view c.args.prov =
     c.give.ensures ∙ ap (λ (s : Gathered g.row.C.Denot). give c.args.add s.view c.args.prov) made in
-    let at : order_of c.give.new.topo c.gather.new.order ≡ geoms_below c.args.topo.now c.provider.ensures.sound c.requires.clear c.args.prov y found =
+    let at : order_of c.give.new.topo c.gather.new.order
+    ≡ geoms_below c.args.topo.now c.provider.ensures.sound c.requires.clear c.args.prov y found =
     ap (λ v. order_of v c.gather.new.order) given
     ∙ ap (order_of (give c.args.add (gathered_from c.args.topo.now y.geom).view c.args.prov)) order
     ∙ given_order c.args.topo.now c.provider.ensures.sound c.requires.clear c.args.prov y found c.args.add in
     let graph : c.give.new.topo.topology ≡ c.args.topo.now.topology =
-    ap (λ (v : TopoView g.row.C.Denot). v.topology) given ∙ given_graph c.args.topo.now c.provider.ensures.sound c.requires.clear c.args.prov y found c.args.add in
+    ap (λ (v : TopoView g.row.C.Denot). v.topology) given
+    ∙ given_graph c.args.topo.now c.provider.ensures.sound c.requires.clear c.args.prov y found c.args.add in
     c.spread.ensures.steps
     ∙ ap (λ u. c.args.steps.now + consumers_over u (order_of c.give.new.topo c.gather.new.order)) graph
     ∙ ap (λ xs. c.args.steps.now + consumers_over c.args.topo.now.topology xs)

@@ -7,7 +7,8 @@ use Rattle.geo_access.proofs.decide.errored_under.Given as goal
 
 abbrev pub invariant-loop-id : goal.invariant-loop-id
 invariant-loop-id g l =
-    fold (lesser l.topo) l.best (filter_map (λ x. x.provider) (left_from (λ y. y.number) l.from (consumers_of l.topo.topology l.geom)))
+    fold (lesser l.topo) l.best
+    (filter_map (λ x. x.provider) (left_from (λ y. y.number) l.from (consumers_of l.topo.topology l.geom)))
     ≡ fold (lesser l.topo) l.fn.start (providers_under l.topo.topology l.geom)
 
 abbrev pub decreases-loop-id : goal.decreases-loop-id

@@ -5,11 +5,15 @@ use Rattle.geo_access.proofs.Folding.{some_begin, some_more, none_of_some}
 use Rattle.geo_access.proofs.decide.fault_in.Goals as goal
 
 pub loop-id-init : goal.loop-id-init
-loop-id-init g c = some_begin (λ (y : Provider). y.number) (λ (y : Provider). fault_at c.args.topo.now c.args.asked y.number) (providers_of c.args.topo.now.topology c.args.geom)
+loop-id-init g c =
+    some_begin (λ (y : Provider). y.number) (λ (y : Provider). fault_at c.args.topo.now c.args.asked y.number)
+    (providers_of c.args.topo.now.topology c.args.geom)
 
 pub loop-id-preserved : goal.loop-id-preserved
 loop-id-preserved g c =
     rw c.number-from.ensures
-    (some_more (λ (y : Provider). y.number) (λ (y : Provider). fault_at c.args.topo.now c.args.asked y.number) (providers_of c.args.topo.now.topology c.args.geom)
+    (some_more (λ (y : Provider). y.number) (λ (y : Provider). fault_at c.args.topo.now c.args.asked y.number)
+    (providers_of c.args.topo.now.topology c.args.geom)
     _ _ _ (fault_in c.args.topo.now c.args.asked c.args.geom) c.in-Some.ensures.next.left
-    (sym c.fault_at-fault.ensures ∙ none_of_some c.fault_at-fault.result (sym c.is_some.ensures ∙ c.if-is_some.false)) c.loop-id.invariant)
+    (sym c.fault_at-fault.ensures
+    ∙ none_of_some c.fault_at-fault.result (sym c.is_some.ensures ∙ c.if-is_some.false)) c.loop-id.invariant)

@@ -6,7 +6,8 @@ use Rattle.geo_access.proofs.decide.fault_in.Given as goal
 
 abbrev pub invariant-loop-id : goal.invariant-loop-id
 invariant-loop-id g l =
-    first_some (λ y. fault_at l.topo l.asked y.number) (left_from (λ y. y.number) l.from (providers_of l.topo.topology l.geom))
+    first_some (λ y. fault_at l.topo l.asked y.number)
+    (left_from (λ y. y.number) l.from (providers_of l.topo.topology l.geom))
     ≡ fault_in l.topo l.asked l.geom
 
 abbrev pub decreases-loop-id : goal.decreases-loop-id

@@ -9,11 +9,14 @@ use Rattle.geo_access.proofs.decide.first_fault.Goals as goal
 pub loop-geom-preserved : goal.loop-geom-preserved
 loop-geom-preserved g c = record {
   lives =
-      All-rest (λ x. IsSome (geom_at c.args.topo.now.topology x)) c.in-Some.geom (order_of c.args.topo.now c.take.new.order) (order_of c.args.topo.now c.loop-geom.rest)
+      All-rest (λ x. IsSome (geom_at c.args.topo.now.topology x)) c.in-Some.geom
+      (order_of c.args.topo.now c.take.new.order) (order_of c.args.topo.now c.loop-geom.rest)
       c.in-Some.ensures.next c.loop-geom.invariant.lives;
   first =
-      sym (ap (λ o. option_or o (first_some (fault_in c.args.topo.now c.args.asked) (order_of c.args.topo.now c.take.new.order)))
-      (sym c.fault_in-fault.ensures ∙ none_of_some c.fault_in-fault.result (sym c.is_some.ensures ∙ c.if-is_some.false)))
+      sym (ap (λ o.
+      option_or o (first_some (fault_in c.args.topo.now c.args.asked) (order_of c.args.topo.now c.take.new.order)))
+      (sym c.fault_in-fault.ensures
+      ∙ none_of_some c.fault_in-fault.result (sym c.is_some.ensures ∙ c.if-is_some.false)))
       ∙ sym (ap (first_some (fault_in c.args.topo.now c.args.asked)) c.in-Some.ensures.next)
       ∙ c.loop-geom.invariant.first;
 }

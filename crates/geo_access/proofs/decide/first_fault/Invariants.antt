@@ -6,7 +6,8 @@ use Rattle.geo_access.proofs.decide.first_fault.Given as goal
 abbrev pub invariant-loop-geom : goal.invariant-loop-geom
 invariant-loop-geom g l = record {
   lives : All (λ x. IsSome (geom_at l.topo.topology x)) (order_of l.topo l.rest);
-  first : first_some (fault_in l.topo l.asked) (order_of l.topo l.rest) ≡ first_some (fault_in l.topo l.asked) (order_of l.topo l.fn.order);
+  first : first_some (fault_in l.topo l.asked) (order_of l.topo l.rest)
+      ≡ first_some (fault_in l.topo l.asked) (order_of l.topo l.fn.order);
 }
 
 abbrev pub decreases-loop-geom : goal.decreases-loop-geom

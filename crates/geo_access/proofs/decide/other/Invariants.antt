@@ -8,7 +8,8 @@ use Rattle.geo_access.proofs.decide.other.Given as goal
 abbrev pub invariant-loop-id : goal.invariant-loop-id
 invariant-loop-id g l =
     option_map (λ (c : Consumer). c.number)
-    (find (λ c. not (c.number == l.but) && has_side l.side (raised l.topo c)) (left_from (λ y. y.number) l.from (attached_to l.topo.topology l.prov)))
+    (find (λ c. not (c.number == l.but) && has_side l.side (raised l.topo c))
+    (left_from (λ y. y.number) l.from (attached_to l.topo.topology l.prov)))
     ≡ other l.topo l.prov l.but l.side
 
 abbrev pub decreases-loop-id : goal.decreases-loop-id

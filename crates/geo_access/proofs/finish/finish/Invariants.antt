@@ -8,7 +8,8 @@ abbrev pub invariant-loop-geom : goal.invariant-loop-geom
 invariant-loop-geom g l = record {
   lives : All (λ x. IsSome (geom_at l.topo.topology x)) (order_of l.topo l.rest);
   apart : Apart (order_of l.topo l.rest);
-  finished : fold (finish_geom l.keep) l.topo (order_of l.topo l.rest) ≡ fold (finish_geom l.keep) l.initial.topo (order_of l.initial.topo l.fn.order);
+  finished : fold (finish_geom l.keep) l.topo (order_of l.topo l.rest)
+      ≡ fold (finish_geom l.keep) l.initial.topo (order_of l.initial.topo l.fn.order);
 }
 
 abbrev pub decreases-loop-geom : goal.decreases-loop-geom

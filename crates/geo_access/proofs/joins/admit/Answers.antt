@@ -11,19 +11,28 @@ use Rattle.geo_access.proofs.joins.admit.Goals as goal
 pub detach-requires-clause-lives : goal.detach-requires-clause-lives
 detach-requires-clause-lives g c =
     let loose = loose_is c.args.topo.now c.args.cons c.requires.loose in
-    subst (λ (v : TopoView g.row.C.Denot). IsSome (consumer_at v.topology c.args.cons)) (sym c.in_default-attach.ensures.attached)
-    (subst (λ o. IsSome o) (sym (AttachedIsFound.here attached-found c.args.topo.now.topology c.args.cons c.args.prov loose.one loose.found)) refl)
+    subst (λ (v : TopoView g.row.C.Denot). IsSome (consumer_at v.topology c.args.cons))
+    (sym c.in_default-attach.ensures.attached)
+    (subst (λ o. IsSome o)
+    (sym (AttachedIsFound.here attached-found c.args.topo.now.topology c.args.cons c.args.prov loose.one
+    loose.found)) refl)
 
 pub detach-requires-clause-attached : goal.detach-requires-clause-attached
 detach-requires-clause-attached g c =
     let loose = loose_is c.args.topo.now c.args.cons c.requires.loose in
-    subst (λ (v : TopoView g.row.C.Denot). IfSome (consumer_at v.topology c.args.cons) (λ (x : Consumer). IsSome x.provider)) (sym c.in_default-attach.ensures.attached)
-    (subst (λ o. IfSome o (λ (x : Consumer). IsSome x.provider)) (sym (AttachedIsFound.here attached-found c.args.topo.now.topology c.args.cons c.args.prov loose.one loose.found)) refl)
+    subst (λ (v : TopoView g.row.C.Denot).
+    IfSome (consumer_at v.topology c.args.cons) (λ (x : Consumer). IsSome x.provider))
+    (sym c.in_default-attach.ensures.attached)
+    (subst (λ o. IfSome o (λ (x : Consumer). IsSome x.provider))
+    (sym (AttachedIsFound.here attached-found c.args.topo.now.topology c.args.cons c.args.prov loose.one
+    loose.found)) refl)
 
 pub returns-in-Err-answer-clause-same : goal.returns-in-Err-answer-clause-same
 returns-in-Err-answer-clause-same g c =
     let loose = loose_is c.args.topo.now c.args.cons c.requires.loose in
     c.detach.ensures
-    ∙ ap (λ (v : TopoView g.row.C.Denot). with_topology v (detach v.topology c.args.cons)) c.in_default-attach.ensures.attached
+    ∙ ap (λ (v : TopoView g.row.C.Denot). with_topology v (detach v.topology c.args.cons))
+    c.in_default-attach.ensures.attached
     ∙ ap (with_topology c.args.topo.now)
-    (detached_again c.args.topo.now.topology c.args.cons c.args.prov loose.one c.requires.sound.orderly.order loose.found loose.free)
+    (detached_again c.args.topo.now.topology c.args.cons c.args.prov loose.one c.requires.sound.orderly.order
+    loose.found loose.free)

@@ -6,4 +6,5 @@ use Rattle.geo_access.proofs.joins.counts_of.Goals as goal
 
 pub loop-id-init : goal.loop-id-init
 loop-id-init g c =
-    fold_begin (λ (y : Provider). y.number) (with_have_of c.args.topo.now) (providers_of c.args.topo.now.topology c.args.geom) no_counts
+    fold_begin (λ (y : Provider). y.number) (with_have_of c.args.topo.now)
+    (providers_of c.args.topo.now.topology c.args.geom) no_counts

@@ -20,9 +20,11 @@ loop-id-init g t c = record {
 pub gather-requires : goal.gather-requires
 gather-requires g t c κs within =
     let less : rank c.loop-id.topo.topology c.in-Some-fresh_under.under < rank c.loop-id.topo.topology c.args.geom =
-    fresh_lower c.loop-id.topo c.args.geom _ _ _ c.in-Some-fresh_under.under c.consumer_of.ensures.sound c.in-Some.ensures.next.left
+    fresh_lower c.loop-id.topo c.args.geom _ _ _ c.in-Some-fresh_under.under c.consumer_of.ensures.sound
+    c.in-Some.ensures.next.left
     (sym c.fresh_under.ensures.fresh ∙ c.in-Some-fresh_under.is) in
-    let same : rank c.loop-id.topo.topology c.args.geom ≡ rank c.args.topo.now.topology c.args.geom = ap (λ u. rank u c.args.geom) c.loop-id.invariant.graph in
+    let same : rank c.loop-id.topo.topology c.args.geom ≡ rank c.args.topo.now.topology c.args.geom =
+    ap (λ u. rank u c.args.geom) c.loop-id.invariant.graph in
     (omega (arith, c.decreases), ((λ a there. within a there), c.in-Some-fresh_under.ensures.lives))
 
 pub loop-id-preserved : goal.loop-id-preserved
@@ -35,32 +37,48 @@ loop-id-preserved g t c =
     record {
       graph = graph ∙ c.loop-id.invariant.graph;
       gathered = λ levels high.
-          let there : rank c.loop-id.topo.topology c.args.geom ≤ suc levels = subst (λ u. rank u c.args.geom ≤ suc levels) graph high in
+          let there : rank c.loop-id.topo.topology c.args.geom ≤ suc levels =
+          subst (λ u. rank u c.args.geom ≤ suc levels) graph high in
           rw c.number-from.ensures
           (elim c.match-fresh_under.branch [
             | in-Some-fresh_under w ↦
-                let less : rank c.loop-id.topo.topology w.in-Some-fresh_under.under < rank c.loop-id.topo.topology c.args.geom =
-                fresh_lower c.loop-id.topo c.args.geom _ _ _ w.in-Some-fresh_under.under c.consumer_of.ensures.sound c.in-Some.ensures.next.left
+                let less : rank c.loop-id.topo.topology w.in-Some-fresh_under.under
+                < rank c.loop-id.topo.topology c.args.geom =
+                fresh_lower c.loop-id.topo c.args.geom _ _ _ w.in-Some-fresh_under.under
+                c.consumer_of.ensures.sound c.in-Some.ensures.next.left
                 (sym c.fresh_under.ensures.fresh ∙ w.in-Some-fresh_under.is) in
-                gather_more levels c.loop-id.topo c.loop-id.order c.match-fresh_under.topo c.match-fresh_under.order c.args.geom _ _ _
-                (fold (visit_under levels) (record { view = c.args.topo.now; order = c.args.order.now }) (consumers_of c.args.topo.now.topology c.args.geom))
+                gather_more levels c.loop-id.topo c.loop-id.order c.match-fresh_under.topo
+                c.match-fresh_under.order c.args.geom _ _ _
+                (fold (visit_under levels) (record { view = c.args.topo.now; order = c.args.order.now })
+                (consumers_of c.args.topo.now.topology c.args.geom))
                 c.in-Some.ensures.next.left graph
-                (gathered_same c.match-fresh_under.topo w.gather.new.topo c.match-fresh_under.order w.gather.new.order w.topo-is w.order-is
-                ∙ visit_adds levels c.loop-id.topo c.loop-id.order (consumer_seen c.in-Some.id-1-given.0.0.0 c.in-Some.id-1-given.0.0.1) w.in-Some-fresh_under.under (record { view = w.gather.new.topo; order = w.gather.new.order })
-                (sym c.fresh_under.ensures.fresh ∙ w.in-Some-fresh_under.is) (w.gather.ensures.gathered levels (omega arith)))
+                (gathered_same c.match-fresh_under.topo w.gather.new.topo c.match-fresh_under.order
+                w.gather.new.order w.topo-is w.order-is
+                ∙ visit_adds levels c.loop-id.topo c.loop-id.order
+                (consumer_seen c.in-Some.id-1-given.0.0.0 c.in-Some.id-1-given.0.0.1)
+                w.in-Some-fresh_under.under (record { view = w.gather.new.topo; order = w.gather.new.order })
+                (sym c.fresh_under.ensures.fresh ∙ w.in-Some-fresh_under.is)
+                (w.gather.ensures.gathered levels (omega arith)))
                 (c.loop-id.invariant.gathered levels there)
             | in_default-fresh_under w ↦
-                gather_more levels c.loop-id.topo c.loop-id.order c.match-fresh_under.topo c.match-fresh_under.order c.args.geom _ _ _
-                (fold (visit_under levels) (record { view = c.args.topo.now; order = c.args.order.now }) (consumers_of c.args.topo.now.topology c.args.geom))
+                gather_more levels c.loop-id.topo c.loop-id.order c.match-fresh_under.topo
+                c.match-fresh_under.order c.args.geom _ _ _
+                (fold (visit_under levels) (record { view = c.args.topo.now; order = c.args.order.now })
+                (consumers_of c.args.topo.now.topology c.args.geom))
                 c.in-Some.ensures.next.left graph
-                (gathered_same c.match-fresh_under.topo c.loop-id.topo c.match-fresh_under.order c.loop-id.order w.topo-is w.order-is
-                ∙ visit_skips levels c.loop-id.topo c.loop-id.order (consumer_seen c.in-Some.id-1-given.0.0.0 c.in-Some.id-1-given.0.0.1) (sym c.fresh_under.ensures.fresh ∙ w.in_default-fresh_under.is))
+                (gathered_same c.match-fresh_under.topo c.loop-id.topo c.match-fresh_under.order c.loop-id.order
+                w.topo-is w.order-is
+                ∙ visit_skips levels c.loop-id.topo c.loop-id.order
+                (consumer_seen c.in-Some.id-1-given.0.0.0 c.in-Some.id-1-given.0.0.1)
+                (sym c.fresh_under.ensures.fresh ∙ w.in_default-fresh_under.is))
                 (c.loop-id.invariant.gathered levels there)
           ]);
     }
 
 pub returns-clause-gathered : goal.returns-clause-gathered
 returns-clause-gathered g t c levels high =
-    gather_whole levels c.args.geom (record { view = c.args.topo.now; order = c.args.order.now }) c.loop-id.topo c.loop-id.order c.loop-id.from
+    gather_whole levels c.args.geom (record { view = c.args.topo.now; order = c.args.order.now }) c.loop-id.topo
+    c.loop-id.order c.loop-id.from
     (record { view = c.put.new.topo; order = c.put.new.order }) high c.in_default.ensures.next
-    (λ k h. c.loop-id.invariant.gathered k (subst (λ u. rank u c.args.geom ≤ suc k) (sym c.loop-id.invariant.graph) h)) c.put.ensures
+    (λ k h. c.loop-id.invariant.gathered k
+    (subst (λ u. rank u c.args.geom ≤ suc k) (sym c.loop-id.invariant.graph) h)) c.put.ensures

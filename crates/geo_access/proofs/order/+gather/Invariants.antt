@@ -12,8 +12,10 @@ abbrev pub invariant-loop-id : goal.invariant-loop-id
 invariant-loop-id g l = record {
   graph : l.topo.topology ≡ l.initial.topo.topology;
   gathered : (levels : ℕ) → rank l.topo.topology l.geom ≤ suc levels
-      → fold (visit_under levels) (record { view = l.topo; order = l.order }) (left_from (λ y. y.number) l.from (consumers_of l.topo.topology l.geom))
-      ≡ fold (visit_under levels) (record { view = l.initial.topo; order = l.initial.order }) (consumers_of l.initial.topo.topology l.geom);
+      → fold (visit_under levels) (record { view = l.topo; order = l.order })
+      (left_from (λ y. y.number) l.from (consumers_of l.topo.topology l.geom))
+      ≡ fold (visit_under levels) (record { view = l.initial.topo; order = l.initial.order })
+      (consumers_of l.initial.topo.topology l.geom);
 }
 
 abbrev pub decreases-loop-id : goal.decreases-loop-id

@@ -10,6 +10,8 @@ use Rattle.geo_access.proofs.spread.hand_down.Goals as goal
 pub loop-id-init : goal.loop-id-init
 loop-id-init g c = record {
   graph = refl;
-  handed = fold_begin (λ (y : Consumer). y.number) (hand c.args.gain) (consumers_of c.args.topo.now.topology c.args.geom) c.args.topo.now;
-  steps = ap (λ ys. c.args.steps.now + length ys) (WalksMeetAll.begin walks-meet (λ (y : Consumer). y.number) (consumers_of c.args.topo.now.topology c.args.geom));
+  handed = fold_begin (λ (y : Consumer). y.number) (hand c.args.gain)
+      (consumers_of c.args.topo.now.topology c.args.geom) c.args.topo.now;
+  steps = ap (λ ys. c.args.steps.now + length ys)
+      (WalksMeetAll.begin walks-meet (λ (y : Consumer). y.number) (consumers_of c.args.topo.now.topology c.args.geom));
 }

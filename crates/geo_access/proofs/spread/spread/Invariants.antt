@@ -7,8 +7,10 @@ abbrev pub invariant-loop-geom : goal.invariant-loop-geom
 invariant-loop-geom g l = record {
   graph : l.topo.topology ≡ l.initial.topo.topology;
   lives : All (λ x. IsSome (geom_at l.topo.topology x)) (order_of l.topo l.rest);
-  spread : fold (spread_from l.way) l.topo (order_of l.topo l.rest) ≡ fold (spread_from l.way) l.initial.topo (order_of l.initial.topo l.fn.order);
-  steps : l.steps + consumers_over l.topo.topology (order_of l.topo l.rest) ≡ l.initial.steps + consumers_over l.initial.topo.topology (order_of l.initial.topo l.fn.order);
+  spread : fold (spread_from l.way) l.topo (order_of l.topo l.rest)
+      ≡ fold (spread_from l.way) l.initial.topo (order_of l.initial.topo l.fn.order);
+  steps : l.steps + consumers_over l.topo.topology (order_of l.topo l.rest)
+      ≡ l.initial.steps + consumers_over l.initial.topo.topology (order_of l.initial.topo l.fn.order);
 }
 
 abbrev pub decreases-loop-geom : goal.decreases-loop-geom

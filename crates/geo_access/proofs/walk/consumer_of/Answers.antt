@@ -5,15 +5,19 @@ use Rattle.geo_access.proofs.Walking.{consumers_end, consumer_next, consumer_som
 use Rattle.geo_access.proofs.walk.consumer_of.Goals as goal
 
 pub returns-in_err-id-clause-next : goal.returns-in_err-id-clause-next
-returns-in_err-id-clause-next g c = rw c.from_residual.ensures (consumers_end (consumers_of c.args.topo.now.topology c.args.geom) c.args.from (sym c.in_err-id.ensures.first))
+returns-in_err-id-clause-next g c =
+    rw c.from_residual.ensures (consumers_end (consumers_of c.args.topo.now.topology c.args.geom) c.args.from
+    (sym c.in_err-id.ensures.first))
 
 pub returns-in_err-cons-clause-next : goal.returns-in_err-cons-clause-next
 returns-in_err-cons-clause-next g c =
     absurd
-    (consumer_some c.args.topo.now.topology c.consumer.ensures.sound (λ x. x.geom == c.args.geom) c.args.from c.in_ok-id.id
+    (consumer_some c.args.topo.now.topology c.consumer.ensures.sound (λ x. x.geom == c.args.geom) c.args.from
+    c.in_ok-id.id
     (sym c.in_ok-id.ensures.first) c.in_err-cons.ensures.consumer)
 
 pub returns-clause-next : goal.returns-clause-next
 returns-clause-next g c =
-    consumer_next c.args.topo.now.topology c.consumer.ensures.sound (λ x. x.geom == c.args.geom) c.args.from c.in_ok-id.id c.in_ok-cons.cons.now
+    consumer_next c.args.topo.now.topology c.consumer.ensures.sound (λ x. x.geom == c.args.geom) c.args.from
+    c.in_ok-id.id c.in_ok-cons.cons.now
     (sym c.in_ok-id.ensures.first) c.in_ok-cons.ensures.consumer

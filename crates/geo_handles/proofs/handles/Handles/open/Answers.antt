@@ -26,12 +26,20 @@ invariant_of-self c =
       live = c.self.inside.inside.live + 1;
     })
     c.self.invariant
-    (record { actor = c.args.actor; name = c.args.name.now; consumer = Some c.args.consumer; grant = c.args.grant; dead = false })
+    (record {
+      actor = c.args.actor;
+      name = c.args.name.now;
+      consumer = Some c.args.consumer;
+      grant = c.args.grant;
+      dead = false;
+    })
     c.args.consumer refl
-    (named-free c.self.inside.inside c.self.invariant c.args.actor c.args.name.now (rw (← c.self.view_is) at c.requires.free))
+    (named-free c.self.inside.inside c.self.invariant c.args.actor c.args.name.now
+    (rw (← c.self.view_is) at c.requires.free))
     (held-free c.self.inside.inside c.self.invariant c.args.consumer (rw (← c.self.view_is) at c.requires.nobodys))
     c.insert-number.ensures.inserted
     (λ q. rw (← c.insert-number.ensures.number) (names.0 q))
     (λ q. rw (← c.insert-number.ensures.number, ← c.number.ensures) (consumers.0 q))
-    (ap (λ v. v.parents) c.add_child.ensures.added) (ap (λ v. v.children) c.add_child.ensures.added) (ap (λ v. v.next_child) c.add_child.ensures.added)
+    (ap (λ v. v.parents) c.add_child.ensures.added) (ap (λ v. v.children) c.add_child.ensures.added)
+    (ap (λ v. v.next_child) c.add_child.ensures.added)
     refl
