@@ -10,7 +10,7 @@ use Rattle.geo_model.specs.History.{next_command}
 use Rattle.geo_model.specs.Laws.{world_by}
 use Rattle.geo_model.specs.Fitting.{Firm}
 
--- whether a command makes or ends no geom: it is one of a handle, or it only answers
+-- whether a command is one of a handle, or only answers; the others make geoms, or let them grow or end
 abbrev pub is_of_handles : Command → Bool
 is_of_handles (commands.Insert disk) = false
 is_of_handles (commands.Pull disk) = false
