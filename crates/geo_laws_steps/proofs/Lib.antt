@@ -1,0 +1,5 @@
+pub mod Gone
+pub mod Stepped
+pub mod Logs
+pub mod AnsweredAppends
+pub mod AnsweredLogs
