@@ -55,6 +55,13 @@ impl Chain {
         }
     }
 
+    /// The same chain, on a provider with so many sectors.
+    pub fn set_sectors(&mut self, sectors: u64)
+        ensures { self.new ≡ record self.old { sectors = sectors } }
+    {
+        self.sectors = sectors;
+    }
+
     /// What the sector of the next link says, whose 512 bytes these are: `More` with the sector of the link after it,
     /// `Whole` where the chain ends with it, or `Declined` with the first cause: `Signature` without 0x55, 0xAA at its
     /// end, `Second` where its second entry is of another type than 0, 0x05 and 0x0F, `Loop` where that leads to sector

@@ -275,6 +275,7 @@ module _ (w : World) (x : Bio) (s : Taste) (kind : Kind) where
           zero = out.zero;
           inside =
               out.inside;
+          near = out.near;
           apart = out.apart;
           new = out.new;
         })

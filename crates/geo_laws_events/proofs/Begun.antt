@@ -54,7 +54,7 @@ use Rattle.geo_laws_effects.proofs.Announced.{spoil-firm, orphan-firm, resize-fi
 use Rattle.geo_laws_effects.proofs.MarksKept.{queues_keep, stands-at, class-at, not_set, taste_kind}
 
 -- a geom of TASTE has no configuration
-taste_nothing : (config : Config) → fits_kind kinds.Taste config ≡ true → config ≡ Nothing
+pub taste_nothing : (config : Config) → fits_kind kinds.Taste config ≡ true → config ≡ Nothing
 taste_nothing Nothing e = refl
 taste_nothing (Disk disk) e = not_set e
 taste_nothing (Mbr below slices) e = not_set e

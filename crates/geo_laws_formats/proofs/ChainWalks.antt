@@ -39,7 +39,7 @@ module _ (media : ℕ → List ℕ) (n : ℕ) where
       (was_read (and_link media n links sector) (next_link (media sector))) (nat_le n (next_link (media sector)))
       (nat_le link_limit (length (and_link media n links sector))) (has_part (and_link media n links sector))) is
 
-  leads-to : (links : List LinkRead) (sector : ℕ) → leads_on (media sector) ≡ true → against links sector ≡ None
+  pub leads-to : (links : List LinkRead) (sector : ℕ) → leads_on (media sector) ≡ true → against links sector ≡ None
       → LeadsTo media n links sector (next_link (media sector))
   leads-to links sector is none =
       let parts = cause_of-on (has_signature (media sector)) (is_link_type (entry_type (media sector) 1))

@@ -3,7 +3,7 @@ use Rattle.std.specs.Fmt.{digits}
 use Rattle.std.specs.Prelude.{◌≡◌, true, false, refl, [], ◌∷◌}
 use Rattle.geo_base.specs.declared.kind.Kind.TheVariants as kinds
 use Rattle.geo_model.specs.World.{NextSector}
-use Rattle.geo_rows.specs.ChainWorlds.{back_after, chain_of, chain_world, full_chain, goes_back, holds_all, judged_unsound, last_back, lawful_chain, other_next, read_link, same_sectors_read}
+use Rattle.geo_rows.specs.ChainWorlds.{back_after, chain_of, chain_world, first_elsewhere, full_chain, goes_back, holds_all, judged_unsound, last_back, lawful_chain, next_far, other_next, read_link, same_sectors_read}
 use Rattle.geo_rows.specs.WorkedSound.{is_sound}
 use Rattle.geo_rows.specs.WorkedFitting.{is_fitting_world}
 use Rattle.geo_rows.specs.WorkedSteady.{is_steady}
@@ -70,3 +70,15 @@ other_next-unsound = refl
 pub same_next-sound : is_sound (chain_world (NextSector kinds.Ebr 10) 1 (chain_of (read_link 0 1 4 ∷ []) 10)) ≡ true
 unfolding start take_bio deliver up do_event judge_step reap wash_work wash do_command listing go event judge_next reap_next wash_next step is_sound is_steady is_fitting_world digits
 same_next-sound = refl
+
+pub first_elsewhere-unsound : is_sound first_elsewhere ≡ false
+unfolding start take_bio deliver up do_event judge_step reap wash_work wash do_command listing go event judge_next reap_next wash_next step is_sound is_steady is_fitting_world digits
+first_elsewhere-unsound = refl
+
+pub first_elsewhere-judged : judged_unsound first_elsewhere ≡ true
+unfolding start take_bio deliver up do_event judge_step reap wash_work wash do_command listing go event judge_next reap_next wash_next step is_sound is_steady is_fitting_world digits
+first_elsewhere-judged = refl
+
+pub next_far-unsound : is_sound next_far ≡ false
+unfolding start take_bio deliver up do_event judge_step reap wash_work wash do_command listing go event judge_next reap_next wash_next step is_sound is_steady is_fitting_world digits
+next_far-unsound = refl

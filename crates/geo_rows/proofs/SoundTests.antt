@@ -1,5 +1,5 @@
 -- The tests of Sound say what Sound says, but for offsets inside a sector.
-use Rattle.std.specs.Prelude.{◌≡◌, ◌⊎◌, ◌↔◌, ◌≤◌, ◌<◌, ℕ, zero, suc, ◌+◌, ◌*◌, ◌/◌, ◌%◌, ◌==◌, nat_lt, Bool, true, false, not, ◌&&◌, ◌||◌, List, [], ◌∷◌, length, map, count_by, Option, Some, None, IsSome, IsSomeAnd, MatchOption, IsTrue, All, is_some, slice_get, option_and_then}
+use Rattle.std.specs.Prelude.{◌≡◌, ◌⊎◌, ◌↔◌, ◌≤◌, ◌<◌, ℕ, zero, suc, ◌+◌, ◌*◌, ◌/◌, ◌%◌, ◌==◌, nat_lt, Bool, true, false, not, ◌&&◌, ◌||◌, List, [], ◌∷◌, ◌++◌, length, map, count_by, Option, Some, None, IsSome, IsSomeAnd, MatchOption, IsTrue, All, is_some, slice_get, option_and_then}
 use Rattle.std.specs.Bool.{Decides}
 use Rattle.std.specs.List.{list_all, list_any, range_with_len}
 use Rattle.std.specs.List.Sorted.{IsStrictlyIncreasing}
@@ -403,18 +403,20 @@ one_chain n asked made c =
       sector = h.1.1.1.0;
       zero = h.1.1.1.1.0;
       inside = h.1.1.1.1.1.0;
-      apart = h.1.1.1.1.1.1.0;
-      new = h.1.1.1.1.1.1.1.0;
+      near = h.1.1.1.1.1.1.0;
+      apart = h.1.1.1.1.1.1.1.0;
+      new = h.1.1.1.1.1.1.1.1.0;
     })
-    (λ h. (h.reads, (h.few, (h.parts, (h.sector, (h.zero, (h.inside, (h.apart, (h.new, tt)))))))))
+    (λ h. (h.reads, (h.few, (h.parts, (h.sector, (h.zero, (h.inside, (h.near, (h.apart, (h.new, tt))))))))))
     (Decides-and _ _ (Decides-eqb made (length c.links + reads_out asked))
     (Decides-and _ _ (Decides-ltb (length c.links) link_limit)
     (Decides-and _ _ (each _ _ (λ l. if_there l.part _ _ (part_of n)) c.links)
     (Decides-and _ _ (next asked c.next)
-    (Decides-and _ _ (from_zero (map (λ l. l.sector) c.links))
+    (Decides-and _ _ (from_zero (map (λ l. l.sector) c.links ++ c.next ∷ []))
     (Decides-and _ _ (each _ _ (λ l. Decides-ltb l.sector n) c.links)
+    (Decides-and _ _ (Decides-ltb c.next n)
     (Decides-and _ _ (pairs _ _ (λ a b. Decides-not _ (Decides-eqb a b)) (map (λ l. l.sector) c.links))
-    (Decides-and _ _ (each _ _ (λ l. Decides-not _ (Decides-eqb l.sector c.next)) c.links) always))))))))
+    (Decides-and _ _ (each _ _ (λ l. Decides-not _ (Decides-eqb l.sector c.next)) c.links) always)))))))))
 
 -- the test tells the class
 ebr_told : (k : Kind) → is_kind k kinds.Ebr ≡ true → k ≡ kinds.Ebr

@@ -69,3 +69,10 @@ goes_back = chain_world last_back 2 (chain_of (read_link 0 1 4 ∷ []) 0)
 -- another sector is known as next than the chain's
 abbrev pub other_next : World
 other_next = chain_world (NextSector kinds.Ebr 11) 1 (chain_of (read_link 0 1 4 ∷ []) 10)
+
+-- the first link is back, which was read at another sector than 0; the next link isn't a sector of the slice
+abbrev pub first_elsewhere : World
+first_elsewhere = chain_world (ReadBack kinds.Ebr (results.Bytes (link 165 1 4 5 10))) 1 (chain_of [] 7)
+
+abbrev pub next_far : World
+next_far = chain_world last_back 2 (chain_of (read_link 0 1 4 ∷ []) 63)

@@ -1,6 +1,6 @@
 -- The facts of Sound as tests, so that they can be computed at each moment of the worked runs. Offsets of a provider are
 -- tried at the beginning of each sector.
-use Rattle.std.specs.Prelude.{◌≡◌, All, ℕ, ◌+◌, ◌*◌, ◌/◌, ◌%◌, ◌^◌, ◌==◌, nat_lt, nat_le, Bool, true, false, not, ◌&&◌, ◌||◌, List, [], ◌∷◌, length, map, count_by, Option, Some, None, is_some, slice_get, option_and_then, bytes_eq}
+use Rattle.std.specs.Prelude.{◌≡◌, All, ℕ, ◌+◌, ◌*◌, ◌/◌, ◌%◌, ◌^◌, ◌==◌, nat_lt, nat_le, Bool, true, false, not, ◌&&◌, ◌||◌, List, [], ◌∷◌, ◌++◌, length, map, count_by, Option, Some, None, is_some, slice_get, option_and_then, bytes_eq}
 use Rattle.std.specs.List.{list_all, list_any, enumerate_from, range_with_len}
 use Rattle.std.specs.Option.{option_map_or}
 use Rattle.geo_base.specs.declared.kind.Kind.TheVariants as kinds
@@ -221,8 +221,9 @@ chain_holds n asked made c = all_hold
     ∷ nat_lt (length c.links) link_limit
     ∷ list_all (λ l. none_or l.part (is_part_of n)) c.links
     ∷ is_next asked c.next
-    ∷ begins_at_zero (map (λ l. l.sector) c.links)
+    ∷ begins_at_zero (map (λ l. l.sector) c.links ++ c.next ∷ [])
     ∷ list_all (λ l. nat_lt l.sector n) c.links
+    ∷ nat_lt c.next n
     ∷ all_pairs (λ a b. not (a == b)) (map (λ l. l.sector) c.links)
     ∷ list_all (λ l. not (l.sector == c.next)) c.links
     ∷ [])

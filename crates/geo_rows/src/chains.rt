@@ -12,7 +12,7 @@ ghost use Rattle.geo_model.specs.Records.{concat_magic, concat_record, label_rec
 ghost use Rattle.geo_rows.specs.WorkedChains.{bare_link, ebr_in_row, eight_sectors, label_of_version, link, links_in_row, media_of, part, parts_in_row, said_of_label, table, two_links};
 ghost use Rattle.geo_rows.specs.WorkedParts.{spot};
 ghost use Rattle.geo_model.specs.World.{NextSector};
-ghost use Rattle.geo_rows.specs.ChainWorlds.{back_after, chain_of, chain_world, full_chain, goes_back, holds_all, judged_unsound, last_back, lawful_chain, other_next, read_link, same_sectors_read};
+ghost use Rattle.geo_rows.specs.ChainWorlds.{back_after, chain_of, chain_world, first_elsewhere, full_chain, goes_back, holds_all, judged_unsound, last_back, lawful_chain, next_far, other_next, read_link, same_sectors_read};
 ghost use Rattle.geo_rows.specs.WorkedSound.{is_sound};
 ghost use Rattle.std.specs.Int.{to_le_bytes, w32};
 ghost use Rattle.std.specs.Prelude.{Err, None, Ok, Some, [], codes, false, nat_lt, true, ◌*◌, ◌+◌, ◌++◌, ◌∷◌, ◌≡◌};
@@ -78,5 +78,8 @@ pub fn chains_of_tastes()
     ensures same_sectors_unsound { is_sound same_sectors_read ≡ false }
     ensures goes_back_unsound { is_sound goes_back ≡ false }
     ensures other_next_unsound { is_sound other_next ≡ false }
+    ensures first_elsewhere_unsound { is_sound first_elsewhere ≡ false }
+    ensures first_elsewhere_judged { judged_unsound first_elsewhere ≡ true }
+    ensures next_far_unsound { is_sound next_far ≡ false }
     ensures same_next_sound { is_sound (chain_world (NextSector kinds.Ebr 10) 1 (chain_of (read_link 0 1 4 ∷ []) 10)) ≡ true }
 {}

@@ -1,4 +1,4 @@
-use Rattle.geo_rows.proofs.ChainSteps.{lawful-holds, lawful-kept, empty_part-unsound, empty_part-judged, long_part-unsound, long_part-judged, late_first-unsound, far_link-unsound, more_reads-unsound, full_chain-unsound, same_sectors-unsound, goes_back-unsound, other_next-unsound, same_next-sound}
+use Rattle.geo_rows.proofs.ChainSteps.{lawful-holds, lawful-kept, empty_part-unsound, empty_part-judged, long_part-unsound, long_part-judged, late_first-unsound, far_link-unsound, more_reads-unsound, full_chain-unsound, same_sectors-unsound, goes_back-unsound, other_next-unsound, first_elsewhere-unsound, first_elsewhere-judged, next_far-unsound, same_next-sound}
 use Rattle.geo_rows.proofs.chains.chains_of_tastes.Goals as goal
 
 pub returns-clause-lawful_holds : goal.returns-clause-lawful_holds
@@ -39,6 +39,15 @@ returns-clause-goes_back_unsound c = goes_back-unsound
 
 pub returns-clause-other_next_unsound : goal.returns-clause-other_next_unsound
 returns-clause-other_next_unsound c = other_next-unsound
+
+pub returns-clause-first_elsewhere_unsound : goal.returns-clause-first_elsewhere_unsound
+returns-clause-first_elsewhere_unsound c = first_elsewhere-unsound
+
+pub returns-clause-first_elsewhere_judged : goal.returns-clause-first_elsewhere_judged
+returns-clause-first_elsewhere_judged c = first_elsewhere-judged
+
+pub returns-clause-next_far_unsound : goal.returns-clause-next_far_unsound
+returns-clause-next_far_unsound c = next_far-unsound
 
 pub returns-clause-same_next_sound : goal.returns-clause-same_next_sound
 returns-clause-same_next_sound c = same_next-sound

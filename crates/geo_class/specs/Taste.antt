@@ -1,0 +1,61 @@
+-- A taste under way, and what the model sees in it.
+use Rattle.std.specs.Prelude.{ℕ, List, [], ◌∷◌, Option, Some, None}
+use Rattle.std.specs.Option.{option_map, option_map_or}
+use Rattle.geo_base.specs.declared.kind.Kind.{Kind}
+use Rattle.geo_base.specs.declared.request.Counts.{Counts}
+use Rattle.geo_model.specs.Chain.{no_links, with_link}
+use Rattle.geo_model.specs.declared.class.Facts.{Facts}
+use Rattle.geo_model.specs.declared.class.Verdict.{Verdict}
+use Rattle.geo_model.specs.declared.class.Verdict.TheVariants.{Decline, More, Accept}
+use Rattle.geo_model.specs.declared.step.BioResult.TheVariants.{Bytes}
+use Rattle.geo_model.specs.World.{Asked, NoClass, NextSector, ReadOut, ReadBack, Taste}
+use Rattle.geo_model.specs.Tasting.{with_read, verdict_on}
+use Rattle.geo_class.specs.declared.taste.Asked.{Asked as AskedKept}
+use Rattle.geo_class.specs.declared.taste.Asked.TheVariants as kept
+
+-- how far a class has been asked
+abbrev pub asked_of : AskedKept → Asked
+asked_of kept.NoClass = NoClass
+asked_of (kept.NextSector kind sector) = NextSector kind sector
+asked_of (kept.ReadOut kind) = ReadOut kind
+asked_of (kept.ReadBack kind got) = ReadBack kind got
+
+-- the taste when it is done with a class
+abbrev pub ended : Taste → Taste
+ended s = record s { asked = NoClass; reads = 0; chain = no_links }
+
+-- the taste with the next class taken off those that are left
+abbrev pub with_next : Taste → List Kind → Taste
+with_next s [] = s
+with_next s (kind ∷ rest) = record (ended s) { classes = rest }
+
+-- the class that is asked, with the bytes of the sector that is back
+abbrev pub sector_back : Asked → Option (Kind × List ℕ)
+sector_back (ReadBack kind (Bytes bytes)) = Some (kind, bytes)
+sector_back _ = None
+
+-- the taste after a verdict of EBR on a link: with that link where another one is wanted
+abbrev pub with_link_of : Taste → Facts → List ℕ → Verdict → Taste
+with_link_of s f bytes (More sector) = record s { chain = with_link f.sectors s.chain bytes }
+with_link_of s f bytes (Decline cause) = s
+with_link_of s f bytes (Accept shape) = s
+
+module _ (granted : ℕ → Counts) where
+  -- what the class that is asked says to the sector that is back, if one is
+  abbrev pub verdict_back : Taste → Facts → Option Verdict
+  verdict_back s f = option_map (λ x. verdict_on granted s x.0 x.1 f) (sector_back s.asked)
+
+  -- the taste after a verdict of a class on these bytes
+  abbrev pub after_verdict : Taste → Kind → List ℕ → Facts → Verdict → Taste
+  after_verdict s kind bytes f (More sector) =
+      record (with_read granted s kind bytes f) { asked = NextSector kind sector }
+  after_verdict s kind bytes f (Decline cause) = ended s
+  after_verdict s kind bytes f (Accept shape) = ended s
+
+  -- the taste after the verdict on the sector that is back; where none is back the class is done with
+  abbrev pub after_back : Taste → Facts → Taste
+  after_back s f =
+      option_map_or
+      (λ x. after_verdict s x.0 x.1 f (verdict_on granted s x.0 x.1 f))
+      (sector_back s.asked)
+      (ended s)

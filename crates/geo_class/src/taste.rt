@@ -1,0 +1,268 @@
+//! A taste under way (geom(4)).
+ghost use Rattle.std.specs.Prelude.{◌≡◌, ◌+◌, ◌^◌, ◌<◌, ◌≤◌, ℕ, length, slice_get, IfSome};
+ghost use Rattle.geo_base.specs.declared.kind.Kind.TheVariants as kinds;
+ghost use Rattle.geo_base.specs.declared.request.Counts.{Counts as CountsValue};
+ghost use Rattle.geo_model.specs.Bios.{read_back};
+ghost use Rattle.geo_model.specs.Chain.{feed, no_links};
+ghost use Rattle.geo_model.specs.Events.{tasting_classes};
+ghost use Rattle.geo_model.specs.Tasting.{verdict_on};
+ghost use Rattle.geo_model.specs.World.{NoClass, ReadOut, NextSector, is_read_out};
+ghost use Rattle.geo_ebr.specs.ChainView.{chain_after, verdict_of};
+ghost use Rattle.geo_class.specs.Taste.{after_back, after_verdict, asked_of, ended, sector_back, verdict_back, with_link_of, with_next};
+
+use crate::verdict::judge;
+use geo_base::{Block, ConsId, Kind, ProvId};
+use geo_ebr::{Chain, Link};
+use geo_model::{BioResult, Facts, Shape, Verdict};
+use std::marker::Model;
+
+/// The classes that a taste asks, in this order.
+const CLASSES: [Kind; 5] = [
+    Kind::Mbr,
+    Kind::Ebr,
+    Kind::Label,
+    Kind::Concat,
+    Kind::Stripe,
+];
+
+/// How far a class has been asked.
+#[derive(Debug, Drop)]
+pub enum Asked {
+    NoClass,
+    NextSector { kind: Kind, sector: u64 },
+    ReadOut { kind: Kind },
+    ReadBack { kind: Kind, got: BioResult },
+}
+
+/// A taste of a provider: the classes that are left, the one that is asked, the reads made for it, and the chain
+/// that EBR has read. Contracts see the model's taste.
+#[derive(Debug, Drop)]
+pub struct Taste {
+    provider: ProvId,
+    consumer: ConsId,
+    passed: usize,
+    asked: Asked,
+    reads: u64,
+    chain: Chain,
+}
+
+impl Model for Taste {
+    ghost use Rattle.std.specs.Prelude.{◌≤◌, drop};
+    ghost use Rattle.geo_model.specs.Events.{tasting_classes};
+    ghost use Rattle.geo_model.specs.World.{Taste as TasteValue};
+    ghost use Rattle.geo_class.specs.Taste.{asked_of};
+
+    ghost Value = { TasteValue };
+
+    ghost view = { λ t. record {
+      provider = t.provider;
+      consumer = t.consumer;
+      classes = drop t.passed tasting_classes;
+      asked = asked_of t.asked;
+      reads = t.reads;
+      chain = t.chain.chain;
+    } };
+
+    ghost invariant = { λ t. t.passed ≤ 5 };
+}
+
+/// An answer of a chain as a verdict of the class.
+fn verdict_of(link: Link) -> Verdict
+    ensures { result ≡ verdict_of link }
+{
+    match link {
+        Link::More(sector) => Verdict::More(sector),
+        Link::Declined(cause) => Verdict::Decline(cause),
+        Link::Whole(table) => Verdict::Accept(Shape::Logical(table)),
+    }
+}
+
+/// What EBR says to the bytes of the next link, together with the links that were read.
+fn judge_chain(chain: &mut Chain, sector: &[u8], facts: &Facts) -> Verdict
+    requires { 512 ≤ length sector.now }
+    ensures verdict { result ≡ feed facts.now.sectors chain.old.chain sector.now }
+    ensures chain { chain.new ≡ chain_after (record chain.old { sectors = facts.now.sectors }) sector.now result }
+{
+    chain.set_sectors(facts.sectors);
+    verdict_of(chain.feed(sector))
+}
+
+impl Taste {
+    /// A taste of the provider to which TASTE's consumer is attached. No class was asked yet.
+    pub fn new(provider: ProvId, consumer: ConsId) -> Taste
+        ensures { result ≡ record {
+          provider = provider;
+          consumer = consumer;
+          classes = tasting_classes;
+          asked = NoClass;
+          reads = 0;
+          chain = no_links;
+        } }
+    {
+        Taste {
+            provider,
+            consumer,
+            passed: 0,
+            asked: Asked::NoClass,
+            reads: 0,
+            chain: Chain::new(0),
+        }
+    }
+
+    /// The provider that is tasted.
+    pub fn provider(&self) -> ProvId
+        ensures { result ≡ self.now.provider }
+    {
+        self.provider
+    }
+
+    /// The consumer of TASTE that is attached to it.
+    pub fn consumer(&self) -> ConsId
+        ensures { result ≡ self.now.consumer }
+    {
+        self.consumer
+    }
+
+    /// How far a class has been asked.
+    pub fn asked(&self) -> &Asked
+        ensures { asked_of result.now ≡ self.now.asked }
+    {
+        &self.asked
+    }
+
+    /// How many reads were made for the class that is asked.
+    pub fn reads(&self) -> u64
+        ensures { result ≡ self.now.reads }
+    {
+        self.reads
+    }
+
+    /// Whether its read is out.
+    pub fn read_out(&self) -> bool
+        ensures { result ≡ is_read_out self.now.asked }
+    {
+        matches!(&self.asked, Asked::ReadOut { .. })
+    }
+
+    /// Takes the next class off those that are left. None where none is left, and all stays.
+    pub fn next_class(&mut self) -> Option<Kind>
+        ensures next { result ≡ slice_get self.old.classes 0 }
+        ensures rest { self.new ≡ with_next self.old self.old.classes }
+    {
+        let next = CLASSES.get(self.passed).copied();
+        if next.is_some() {
+            self.passed += 1;
+            self.end_class();
+        }
+        next
+    }
+
+    /// The class that is asked is done with.
+    pub fn end_class(&mut self)
+        ensures { self.new ≡ ended self.old }
+    {
+        self.asked = Asked::NoClass;
+        self.reads = 0;
+        self.chain = Chain::new(0);
+    }
+
+    /// The read of a sector for a class is out.
+    pub fn note_read(&mut self, kind: Kind)
+        requires { self.old.reads < 2 ^ 63 }
+        ensures { self.new ≡ record self.old { asked = ReadOut kind; reads = self.old.reads + 1 } }
+    {
+        self.asked = Asked::ReadOut { kind };
+        self.reads += 1;
+    }
+
+    /// The read that is out is back with this result. Where none is out all stays.
+    pub fn take_back(&mut self, got: BioResult)
+        ensures { self.new ≡ record self.old { asked = read_back got self.old.asked } }
+    {
+        if let Asked::ReadOut { kind } = &self.asked {
+            let kind = *kind;
+            self.asked = Asked::ReadBack { kind, got };
+        }
+    }
+
+    /// What a class says to the bytes of a sector. The class is done with, unless it wants another sector.
+    fn judge_sector(&mut self, kind: Kind, sector: &[u8], facts: &Facts) -> Verdict
+        requires { 512 ≤ length sector.now }
+        ensures verdict { (granted : ℕ → CountsValue)
+            → result ≡ verdict_on granted self.old kind sector.now facts.now }
+        ensures taste { (granted : ℕ → CountsValue)
+            → self.new ≡ after_verdict granted self.old kind sector.now facts.now result }
+    {
+        match kind {
+            Kind::Ebr => self.judge_link(sector, facts),
+            _ => {
+                self.end_class();
+                judge(kind, sector, facts)
+            }
+        }
+    }
+
+    /// What EBR says to the bytes of the next link. The link is kept where another one is wanted.
+    fn read_link(&mut self, sector: &[u8], facts: &Facts) -> Verdict
+        requires { 512 ≤ length sector.now }
+        ensures verdict { result ≡ feed facts.now.sectors self.old.chain sector.now }
+        ensures taste { self.new ≡ with_link_of self.old facts.now sector.now result }
+    {
+        judge_chain(&mut self.chain, sector, facts)
+    }
+
+    /// A class wants a sector next.
+    fn want_next(&mut self, kind: Kind, sector: u64)
+        ensures { self.new ≡ record self.old { asked = NextSector kind sector } }
+    {
+        self.asked = Asked::NextSector { kind, sector };
+    }
+
+    /// What EBR says to the bytes of the next link. The class is done with, unless it wants another link.
+    fn judge_link(&mut self, sector: &[u8], facts: &Facts) -> Verdict
+        requires { 512 ≤ length sector.now }
+        ensures verdict { result ≡ feed facts.now.sectors self.old.chain sector.now }
+        ensures taste { (granted : ℕ → CountsValue)
+            → self.new ≡ after_verdict granted self.old kinds.Ebr sector.now facts.now result }
+    {
+        let verdict = self.read_link(sector, facts);
+        match &verdict {
+            Verdict::More(next) => self.want_next(Kind::Ebr, *next),
+            Verdict::Decline(_) => self.end_class(),
+            Verdict::Accept(_) => self.end_class(),
+        }
+        verdict
+    }
+
+    /// Takes the sector that is back, with the class that asked for it. None where none is back, and all stays.
+    fn take_sector(&mut self) -> Option<(Kind, Block)>
+        ensures sector { result ≡ sector_back self.old.asked }
+        ensures taste { self.new ≡ record self.old { asked = NoClass } }
+    {
+        match std::mem::replace(&mut self.asked, Asked::NoClass) {
+            Asked::ReadBack {
+                kind,
+                got: BioResult::Bytes(block),
+            } => Some((kind, block)),
+            _ => None,
+        }
+    }
+
+    /// What the class that is asked says to the sector that is back, where the tasted provider has these facts.
+    /// None where the read failed, or none is back. The class is done with, unless it wants another sector.
+    pub fn judge_back(&mut self, facts: &Facts) -> Option<Verdict>
+        requires { IfSome (sector_back self.old.asked) (λ x. 512 ≤ length x.1) }
+        ensures verdict { (granted : ℕ → CountsValue)
+            → result ≡ verdict_back granted self.old facts.now }
+        ensures taste { (granted : ℕ → CountsValue)
+            → self.new ≡ after_back granted self.old facts.now }
+    {
+        match self.take_sector() {
+            Some((kind, block)) => Some(self.judge_sector(kind, block.bytes(), facts)),
+            None => {
+                self.end_class();
+                None
+            }
+        }
+    }
+}

@@ -1,0 +1,12 @@
+use Rattle.std.proofs.Common.{refl, sym, ◌∙◌, ap}
+use Rattle.std.specs.Option.{option_map}
+use Rattle.geo_slots.proofs.RowLemmas.{find-items}
+use Rattle.geo_handles.specs.Handles.{handle_seen}
+use Rattle.geo_handles.specs.Inside.{handle_row}
+use Rattle.geo_handles.proofs.handles.Handles.get.Goals as goal
+
+pub returns : goal.returns
+returns c =
+    rw (← c.self.view_is)
+    (find-items handle_row (λ h. h.number) (λ row. refl) c.args.id c.self.inside.inside.table.rows
+    ∙ ap (option_map (handle_seen c.args.id)) (sym (rw c.number.ensures at c.get.ensures.value)))

@@ -1,0 +1,55 @@
+use Rattle.std.specs.Prelude.{Some, None}
+use Rattle.std.proofs.Common.{refl}
+use Rattle.geo_handles.proofs.NumberLemmas.{value_at-set, with_value-twice, ready-set}
+use Rattle.geo_handles.proofs.InsideLemmas.{inside-noted, noted-there}
+use Rattle.geo_handles.proofs.handles.Handles.set_ready.Goals as goal
+
+pub link-requires-clause-free : goal.link-requires-clause-free
+link-requires-clause-free c =
+    rw (c.unlink.ensures, c.number-number.ensures)
+    (value_at-set c.args.id None c.self.inside.inside.ready.children
+    (noted-there c.self.inside.inside c.self.invariant c.args.id (rw (← c.self.view_is) at c.requires)))
+
+pub invariant_of-self : goal.invariant_of-self
+invariant_of-self c =
+    inside-noted c.self.inside.inside
+    (record {
+      names = c.self.inside.inside.names;
+      consumers = c.self.inside.inside.consumers;
+      table = c.self.inside.inside.table;
+      ready = c.link.new.self;
+      live = c.self.inside.inside.live;
+    })
+    c.self.invariant refl refl refl refl c.args.id (Some 1)
+    (noted-there c.self.inside.inside c.self.invariant c.args.id (rw (← c.self.view_is) at c.requires))
+    (rw (c.link.ensures, c.unlink.ensures, c.number-number.ensures, with_value-twice c.args.id None (Some 1) c.self.inside.inside.ready.children) refl)
+
+pub invariant_of-self-else-ready : goal.invariant_of-self-else-ready
+invariant_of-self-else-ready c =
+    inside-noted c.self.inside.inside
+    (record {
+      names = c.self.inside.inside.names;
+      consumers = c.self.inside.inside.consumers;
+      table = c.self.inside.inside.table;
+      ready = c.unlink.new.self;
+      live = c.self.inside.inside.live;
+    })
+    c.self.invariant refl refl refl refl c.args.id None
+    (noted-there c.self.inside.inside c.self.invariant c.args.id (rw (← c.self.view_is) at c.requires))
+    (rw (c.unlink.ensures, c.number-number.ensures) refl)
+
+pub returns-then-ready : goal.returns-then-ready
+returns-then-ready c =
+    rw (
+      ← c.self.view_is,
+      c.link.ensures,
+      c.unlink.ensures,
+      c.number-number.ensures,
+      with_value-twice c.args.id None (Some 1) c.self.inside.inside.ready.children,
+      ready-set c.args.id (Some 1) c.self.inside.inside.ready.children,
+      c.if-ready.true,
+    ) refl
+
+pub returns-else-ready : goal.returns-else-ready
+returns-else-ready c =
+    rw (← c.self.view_is, c.unlink.ensures, c.number-number.ensures, ready-set c.args.id None c.self.inside.inside.ready.children, c.if-ready.false) refl

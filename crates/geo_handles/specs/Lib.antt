@@ -1,0 +1,4 @@
+pub mod Keys
+pub mod Handles
+pub mod Inside
+pub mod HandleLaws

@@ -1,0 +1,4 @@
+pub mod Filled
+pub mod Finished
+pub mod MadeFree
+pub mod Placed

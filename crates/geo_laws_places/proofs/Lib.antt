@@ -1,0 +1,3 @@
+pub mod Assembled
+pub mod OpenAssembly
+pub mod PlaceTaken
