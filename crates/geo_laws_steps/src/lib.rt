@@ -3,7 +3,7 @@
 #![tactic(auto)]
 
 ghost use Rattle.geo_model.specs.History.{AppendsAreAnswered, LegalAndSound, OpensAreAnswered};
-ghost use Rattle.geo_model.specs.Laws.{LegalLogsStayFitting, LegalLogsStaySteady, OfEachLegalLog, StepsStayFirm};
+ghost use Rattle.geo_model.specs.Laws.{LegalLogsStayFitting, LegalLogsStaySteady, NoPieceIsLost, OfEachLegalLog, StepsStayFirm};
 ghost use Rattle.geo_laws_steps.specs.CommandLaws.{CommandsStayFirm};
 
 /// A firm mesh stays firm with each command of a plan, and with each Go.
@@ -31,4 +31,10 @@ pub fn legal_logs_stay_firm()
 pub fn opens_and_appends_are_answered()
     ensures opens { OfEachLegalLog OpensAreAnswered }
     ensures appends { OfEachLegalLog AppendsAreAnswered }
+{}
+
+/// Where a legal log leads, each piece of a request that can start has a consumer through which it goes down.
+#[tactic(auto, using(crate::proofs::KeptPieces::no_piece_is_lost))]
+pub fn no_piece_is_lost()
+    ensures { NoPieceIsLost }
 {}
