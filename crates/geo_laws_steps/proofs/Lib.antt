@@ -1,0 +1,6 @@
+pub mod Gone
+pub mod Stepped
+pub mod Logs
+pub mod KeptPieces
+pub mod AnsweredAppends
+pub mod AnsweredLogs

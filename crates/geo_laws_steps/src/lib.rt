@@ -1,0 +1,40 @@
+//! Laws of each step and of each legal log: a mesh stays sound, steady and fitting, opens and appends are answered by
+//! what the mesh forbids (geom(4), g_access(9)).
+#![tactic(auto)]
+
+ghost use Rattle.geo_model.specs.History.{AppendsAreAnswered, LegalAndSound, OpensAreAnswered};
+ghost use Rattle.geo_model.specs.Laws.{LegalLogsStayFitting, LegalLogsStaySteady, NoPieceIsLost, OfEachLegalLog, StepsStayFirm};
+ghost use Rattle.geo_laws_steps.specs.CommandLaws.{CommandsStayFirm};
+
+/// A firm mesh stays firm with each command of a plan, and with each Go.
+#[tactic(auto, using(crate::proofs::Gone::commands_stay_firm))]
+pub fn commands_stay_firm()
+    ensures { CommandsStayFirm }
+{}
+
+/// Each of the nine steps leaves a firm mesh firm, by any seat, whether it is enabled or not.
+#[tactic(auto, using(crate::proofs::Stepped::steps_stay_firm))]
+pub fn steps_stay_firm()
+    ensures { StepsStayFirm }
+{}
+
+/// After every prefix of a legal log the mesh is sound, steady and fitting.
+#[tactic(auto, using(crate::proofs::Logs::legal_logs_stay_sound, crate::proofs::Logs::legal_logs_stay_steady, crate::proofs::Logs::legal_logs_stay_fitting))]
+pub fn legal_logs_stay_firm()
+    ensures sound { OfEachLegalLog LegalAndSound }
+    ensures steady { LegalLogsStaySteady }
+    ensures fitting { LegalLogsStayFitting }
+{}
+
+/// In each legal log an open under a free handle name, and an append, is answered by what the mesh forbids.
+#[tactic(auto, using(crate::proofs::AnsweredLogs::opens_are_answered, crate::proofs::AnsweredLogs::appends_are_answered))]
+pub fn opens_and_appends_are_answered()
+    ensures opens { OfEachLegalLog OpensAreAnswered }
+    ensures appends { OfEachLegalLog AppendsAreAnswered }
+{}
+
+/// Where a legal log leads, each piece of a request that can start has a consumer through which it goes down.
+#[tactic(auto, using(crate::proofs::KeptPieces::no_piece_is_lost))]
+pub fn no_piece_is_lost()
+    ensures { NoPieceIsLost }
+{}
