@@ -12,12 +12,19 @@ record FoundBoth (t : Topology Config) (n : ℕ) (p : Provider) (g : Geom Config
   pub provider : provider_at t n ≡ Some p
   pub geom : geom_at t p.geom ≡ Some g
 
+-- the pair, and the provider with its geom
+abbrev paired : Provider → Geom Config → Option (Provider × Geom Config)
+paired q h = Some (q, h)
+
+abbrev with_geom_of : Topology Config → Provider → Option (Provider × Geom Config)
+with_geom_of t q = option_and_then (paired q) (geom_at t q.geom)
+
 found_both : (t : Topology Config) (n : ℕ) (p : Provider) (g : Geom Config)
     → provider_with_geom t n ≡ Some (p, g) → FoundBoth t n p g
 found_both t n p g is = by (provider_at t n) refl is
   where
     geom_by : (q : Provider) → provider_at t n ≡ Some q → (o : Option (Geom Config)) → geom_at t q.geom ≡ o
-        → option_and_then (λ h. Some (q, h)) o ≡ Some (p, g) → FoundBoth t n p g
+        → option_and_then (paired q) o ≡ Some (p, g) → FoundBoth t n p g
     geom_by q at None of e = absurd (let bad : ⊥ = cc in bad)
     geom_by q at (Some h) of e =
         let one : q ≡ p = cc in
@@ -28,7 +35,7 @@ found_both t n p g is = by (provider_at t n) refl is
         }
 
     by : (o : Option Provider) → provider_at t n ≡ o
-        → option_and_then (λ q. option_and_then (λ h. Some (q, h)) (geom_at t q.geom)) o ≡ Some (p, g) → FoundBoth t n p g
+        → option_and_then (with_geom_of t) o ≡ Some (p, g) → FoundBoth t n p g
     by None at e = absurd (let bad : ⊥ = cc in bad)
     by (Some q) at e = geom_by q at (geom_at t q.geom) refl e
 

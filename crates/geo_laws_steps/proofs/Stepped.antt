@@ -6,7 +6,7 @@ use Rattle.geo_model.specs.World.{World}
 use Rattle.geo_model.specs.Fitting.{Firm}
 use Rattle.geo_model.specs.Laws.{world_by, StepsStayFirm}
 use Rattle.geo_laws_bio_ups.proofs.BioSteps.{bio_steps_stay_firm}
-use Rattle.geo_laws_events.proofs.Begun.{event_steps_keep}
+use Rattle.geo_laws_events.proofs.Begun.{event_step_keeps}
 use Rattle.geo_laws_washes.proofs.Washed.{wash_step_keeps}
 use Rattle.geo_laws_closes.proofs.Reaped.{reaps_stay_firm}
 use Rattle.geo_laws_judges.proofs.Judging.{judges_stay_firm}
@@ -15,7 +15,7 @@ use Rattle.geo_laws_steps.proofs.Gone.{commands_stay_firm}
 -- each step
 pub steps_stay_firm : StepsStayFirm
 steps_stay_firm w seat (steps.Go actor) firm = commands_stay_firm.gone w seat actor firm
-steps_stay_firm w seat steps.Event firm = event_steps_keep.step w seat firm
+steps_stay_firm w seat steps.Event firm = event_step_keeps.step w seat firm
 steps_stay_firm w seat steps.Judge firm = judges_stay_firm.step w seat firm
 steps_stay_firm w seat steps.Reap firm = reaps_stay_firm.step w seat firm
 steps_stay_firm w seat steps.Wash firm = wash_step_keeps.firm w seat firm

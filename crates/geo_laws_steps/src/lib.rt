@@ -13,13 +13,11 @@ pub fn commands_stay_firm()
 {}
 
 /// Each of the nine steps leaves a firm mesh firm, by any seat, whether it is enabled or not.
-#[tactic(auto, using(crate::proofs::Stepped::steps_stay_firm))]
 pub fn steps_stay_firm()
     ensures { StepsStayFirm }
 {}
 
 /// After every prefix of a legal log the mesh is sound, steady and fitting.
-#[tactic(auto, using(crate::proofs::Logs::legal_logs_stay_sound, crate::proofs::Logs::legal_logs_stay_steady, crate::proofs::Logs::legal_logs_stay_fitting))]
 pub fn legal_logs_stay_firm()
     ensures sound { OfEachLegalLog LegalAndSound }
     ensures steady { LegalLogsStaySteady }
@@ -27,14 +25,12 @@ pub fn legal_logs_stay_firm()
 {}
 
 /// In each legal log an open under a free handle name, and an append, is answered by what the mesh forbids.
-#[tactic(auto, using(crate::proofs::AnsweredLogs::opens_are_answered, crate::proofs::AnsweredLogs::appends_are_answered))]
 pub fn opens_and_appends_are_answered()
     ensures opens { OfEachLegalLog OpensAreAnswered }
     ensures appends { OfEachLegalLog AppendsAreAnswered }
 {}
 
 /// Where a legal log leads, each piece of a request that can start has a consumer through which it goes down.
-#[tactic(auto, using(crate::proofs::KeptPieces::no_piece_is_lost))]
 pub fn no_piece_is_lost()
     ensures { NoPieceIsLost }
 {}
