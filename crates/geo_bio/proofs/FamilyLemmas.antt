@@ -84,7 +84,8 @@ all_in-family p (row ∷ rows) = step row.1.owner (all_in-family p rows)
             (cond b (Some (record {
               number = row.0;
               place = index;
-              done = is_done row.1.phase;
+              done =
+                  is_done row.1.phase;
             })) None) (family rows p))
         by_parent true = ap (λ b. is_done row.1.phase && b) rest
         by_parent false = rest
@@ -333,6 +334,7 @@ module _ (rows : List (ℕ × Bio)) (next n p k : ℕ) (x y : Bio) (t : IsTable 
   pub table_counted : IsTable counted_rows next
   table_counted = record {
     rising = IsRising-with_value p (counted y) 1 done_rows next rising_done;
-    families = families;
+    families =
+        families;
     parents = parents;
   }

@@ -55,5 +55,6 @@ family_told rows next n t (Some x) found =
     record {
       stand = f.same_places x.first_child 0 s.follow;
       all = sym s.count ∙ sym f.same_length;
-      done = sym s.finished ∙ sym f.same_count;
+      done =
+          sym s.finished ∙ sym f.same_count;
     }

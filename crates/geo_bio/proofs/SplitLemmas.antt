@@ -24,7 +24,8 @@ pub with_all-numbered : {T : Type 0} → (s : SlotsView T) (xs : List T)
     → with_all s xs ≡ record {
       rows = s.rows ++ numbered s.next xs;
       next = s.next + length xs;
-      spare = s.spare - length xs;
+      spare =
+          s.spare - length xs;
     }
 with_all-numbered s [] =
     let next : s.next ≡ s.next + 0 = omega arith in
@@ -104,7 +105,8 @@ new_child p x k n (piece ∷ pieces) (target ∷ targets) m y found =
           record {
             index = k;
             owner = ap (λ (z : Bio). z.owner) (sym y_is);
-            idle = ap (λ (z : Bio). is_waiting z.phase) (sym y_is);
+            idle =
+                ap (λ (z : Bio). is_waiting z.phase) (sym y_is);
           }
       | inr other ↦ new_child p x (k + 1) (n + 1) pieces targets m y (rw (ne_eqb n m other) at found)
     ]

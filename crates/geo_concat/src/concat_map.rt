@@ -34,7 +34,8 @@ impl Model for ConcatMap {
 
     ghost inverse = { λ map. record {
       cells = map.sizes ++ replicate (16 - length map.sizes) 0;
-      count = length map.sizes;
+      count =
+          length map.sizes;
       sector = map.sector;
     } };
 

@@ -59,7 +59,8 @@ step-quiet w seat (steps.Start b) free q =
     start_of-keeps w NoneBusy (bio_at w b) (record {
       same = q;
       sent = λ n. sent-quiet w n q;
-      ended = λ n result. ended-quiet w n result q;
+      ended =
+          λ n result. ended-quiet w n result q;
     })
 step-quiet w seat (steps.Take disk b) free q = absurd free
 step-quiet w seat (steps.Deliver b got) free q =

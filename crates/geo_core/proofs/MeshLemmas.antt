@@ -37,7 +37,8 @@ stand-fresh w disk d f = record {
   handles = f.handles;
   bios = f.bios;
   consumers = f.consumers;
-  consumer = f.consumer;
+  consumer =
+      f.consumer;
   handle = f.handle;
   bio = f.bio;
 }
@@ -48,7 +49,8 @@ with_disk-fresh w d f = record {
   handles = f.handles;
   bios = f.bios;
   consumers = f.consumers;
-  consumer = f.consumer;
+  consumer =
+      f.consumer;
   handle = f.handle;
   bio = f.bio;
 }

@@ -30,7 +30,8 @@ near-same w = record {
   consumer = omega arith;
   handle = omega arith;
   bio = omega arith;
-  attached = omega arith;
+  attached =
+      omega arith;
 }
 
 without-short : {X : Type 0} (p : X → Bool) (xs : List X) → length (without p xs) ≤ length xs
@@ -112,7 +113,8 @@ step-near w seat s =
       starting = record {
         same = near-same w;
         sent = λ n. alike w _ refl refl refl refl;
-        ended = λ n result. alike w _ refl refl refl refl;
+        ended =
+            λ n result. alike w _ refl refl refl refl;
       };
       gone = λ n. alike w _ refl refl refl refl;
     })

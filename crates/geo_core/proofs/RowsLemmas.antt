@@ -104,6 +104,7 @@ place_nowhere p (x ∷ xs) e =
           record {
             found = rw miss k.found;
             changed = λ f. rw miss (ap (λ l. x ∷ l) (k.changed f));
-            removed = rw miss (ap (λ l. x ∷ l) k.removed);
+            removed =
+                rw miss (ap (λ l. x ∷ l) k.removed);
           }
     ]

@@ -185,7 +185,8 @@ step-sound w seat s sound =
       starting = record {
         same = sound;
         sent = λ n. phase-sound w n _ sound;
-        ended = λ n result. result-sound w n result sound;
+        ended =
+            λ n result. result-sound w n result sound;
       };
       gone = λ n. gone-sound w n sound;
     })

@@ -24,7 +24,8 @@ impl Model for Plan {
     ghost invariant = { λ p. IsPlan (record {
       disks = p.disks.items;
       actors = p.actors.items;
-      commands = p.commands.items;
+      commands =
+          p.commands.items;
     }) };
 }
 

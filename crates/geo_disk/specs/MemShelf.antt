@@ -55,7 +55,8 @@ kept_slot name disk = record {
   name = name;
   bytes = joined_sectors disk.sectors;
   fails = disk.fails;
-  calls = disk.calls;
+  calls =
+      disk.calls;
   part = disk.part;
 }
 

@@ -32,7 +32,8 @@ impl Model for MemDisk {
       sector = d.sector;
       sectors = sectors_of d.sector d.bytes;
       fails = d.fails;
-      calls = d.calls;
+      calls =
+          d.calls;
       faults = d.faults;
       part = d.part;
     } };
@@ -77,7 +78,8 @@ impl MemDisk {
           sector = sector;
           sectors = sectors_of sector bytes;
           fails = fails;
-          calls = calls;
+          calls =
+              calls;
           faults = faults;
           part = part;
         } }

@@ -89,7 +89,8 @@ impl Family {
     pub fn reserve(&mut self, parents: u64, children: u64) -> Result<(), NoMemory>
         ensures same { self.new ≡ record self.old {
           parent_room = self.new.parent_room;
-          child_room = self.new.child_room;
+          child_room =
+              self.new.child_room;
         } }
         ensures parents { OnOk result (parents ≤ self.new.parent_room) }
         ensures children { OnOk result (children ≤ self.new.child_room) }
@@ -122,7 +123,8 @@ impl Family {
         ensures added { self.new
             ≡ record self.old {
               children = self.old.children ++ (self.old.next_child, None) ∷ [];
-              next_child = self.old.next_child + 1;
+              next_child =
+                  self.old.next_child + 1;
               child_room = self.old.child_room - 1;
             } }
         ensures rising { IsRising 1 self.old.children self.old.next_child }

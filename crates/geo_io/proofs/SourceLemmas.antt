@@ -69,7 +69,8 @@ GivesAtMost-more a b c x room limit g t h =
     record {
       bytes = x ++ t.bytes;
       few = rw (length-append x t.bytes) (omega (arith, t.few));
-      gives = Gives-more a b c x t.bytes g t.gives;
+      gives =
+          Gives-more a b c x t.bytes g t.gives;
     }
 
 -- what a range to the end is

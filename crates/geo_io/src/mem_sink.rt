@@ -33,7 +33,8 @@ impl Model for MemSink {
       room = s.room;
       piece = s.piece;
       fails = s.fails;
-      calls = s.calls;
+      calls =
+          s.calls;
       faults = s.faults;
     } };
 

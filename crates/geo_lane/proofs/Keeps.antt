@@ -44,7 +44,8 @@ opening_knows : (j : ℕ) (v : View) → get_elem? (opening_view ∷ []) j ≡ s
 opening_knows zero v e = subst (λ (z : View). Knows [] [] 1 (λ _. 0) 0 z) (some-injective opening_view v e)
     record {
       own = λ _. record { is = refl; owned = refl; below = omega arith };
-      ended = λ _ k d under. absurd (omega arith);
+      ended =
+          λ _ k d under. absurd (omega arith);
       first = λ _ _. (refl, refl);
     }
 opening_knows (suc j) v e = absurd (some-ne-none v (sym e))
@@ -57,7 +58,8 @@ opens = record {
   owner = λ _. 0;
   each_view = opening_knows;
   numbered = λ n. tt;
-  unmade = λ n _. refl;
+  unmade =
+      λ n _. refl;
 }
 
 -- what a pass can tell, from the rule
@@ -204,7 +206,8 @@ forks id v live zeroth items views r at =
     record {
       is = l.is;
       owned = owned_old r.owner r.made ends n (λ e. omega arith) ∙ l.owned;
-      below = omega arith;
+      below =
+          omega arith;
     } in record {
       taken = r.taken;
       made = r.made + 1;

@@ -30,7 +30,8 @@ impl Model for LanePass {
       lane = p.pass.table_id;
       sender = p.sender;
       split = p.split;
-      put = (known p.pass).put;
+      put =
+          (known p.pass).put;
       taken = (known p.pass).taken;
       ended = (known p.pass).ended;
     } };

@@ -97,7 +97,8 @@ module _ {L B E : Type 0} (start : L → B) (log : L → List E) (lawful : B →
                 start = o.start;
                 seen = o.seen;
                 law = o.law;
-                turn = λ t. true_not_false (sym (o.turn t).0 ∙ is);
+                turn =
+                    λ t. true_not_false (sym (o.turn t).0 ∙ is);
                 claims = o.claims;
               });
           unmade = r.unmade;
@@ -395,7 +396,8 @@ module _ {L B E : Type 0} (start : L → B) (log : L → List E) (lawful : B →
               start = λ b e. absurd (cc e);
               seen = (r.h, refl);
               law = λ b e. absurd (cc e);
-              turn = λ y. true_not_false (sym y);
+              turn =
+                  λ y. true_not_false (sym y);
               claims = λ i q g. absurd (some-ne-none q (sym g));
             }
             (λ j d ne e. ⊎_elim
@@ -425,7 +427,8 @@ module _ {L B E : Type 0} (start : L → B) (log : L → List E) (lawful : B →
               seen = o.seen;
               law = o.law;
               turn = o.turn;
-              claims = λ i q g. kept j d.made q ne (o.claims i q g);
+              claims =
+                  λ i q g. kept j d.made q ne (o.claims i q g);
             })
             (at_set s.views id j both d e));
         unmade = r.unmade;
@@ -446,7 +449,8 @@ module _ {L B E : Type 0} (start : L → B) (log : L → List E) (lawful : B →
               prefix = prefix_self [];
               owned = refl;
               below = omega arith;
-              count = λ _. refl;
+              count =
+                  λ _. refl;
             };
       }
   first_knows law (suc j) d e = absurd (some-ne-none d (sym e))

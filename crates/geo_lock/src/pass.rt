@@ -30,7 +30,8 @@ impl<L: Logged> Model for Pass<L> {
       yard = p.seat.table_id;
       start = p.seat.me.0.start;
       number = p.number;
-      seen = p.seat.me.0.seen;
+      seen =
+          p.seat.me.0.seen;
       own = own_of p.seat.me.0.claims;
       made = p.made;
     } };

@@ -20,7 +20,8 @@ cut_piece o len s = record {
   child = s.component;
   span = record {
     offset = s.offset + (max o s.start - s.start);
-    len = min (o + len) (s.start + s.len) - max o s.start;
+    len =
+        min (o + len) (s.start + s.len) - max o s.start;
   };
   at = max o s.start - o;
 }

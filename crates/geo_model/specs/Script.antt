@@ -30,7 +30,8 @@ ram_words ws = do
     name = name.0;
     sector = sector.0;
     sectors = sectors.0;
-    later = later.0;
+    later =
+        later.0;
   }) later.1
 
 abbrev pub disk_words : Words → Result DiskDecl Cause

@@ -135,7 +135,8 @@ add_geom t kind name config automatic = record t {
     kind = kind;
     name = name;
     config = config;
-    automatic = automatic;
+    automatic =
+        automatic;
     withering = false;
     started = 0;
   } ∷ [];
@@ -150,7 +151,8 @@ add_provider t geom name size sector = record t {
     geom = geom;
     name = name;
     size = size;
-    sector = sector;
+    sector =
+        sector;
     errored = false;
   } ∷ [];
   next_provider = t.next_provider + 1;
@@ -163,7 +165,8 @@ add_consumer t geom provider = record t {
     number = t.next_consumer;
     geom = geom;
     provider = provider;
-    spoiled = false;
+    spoiled =
+        false;
   } ∷ [];
   next_consumer = t.next_consumer + 1;
 }

@@ -112,7 +112,8 @@ pub EndsRun-text : (call : Call) (text : List ℕ) →
 EndsRun-text call text read ends = record {
   ending = ends.ending;
   cause = of_run ends.ending ends.cause;
-  writes = ends.writes;
+  writes =
+      ends.writes;
 }
   where
     of_run : (e : Ending) → HasTextCause e text call.ended

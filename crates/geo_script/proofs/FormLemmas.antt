@@ -77,7 +77,8 @@ is_first (word ∷ words) name rest e = into (is_name word) refl e
         let same : word ≡ name = ap word_in e in
         record {
           stands = ap (λ w. w ∷ words) same ∙ ap (λ ws. name ∷ ws) (ap rest_in e);
-          named = ap is_name (sym same) ∙ t;
+          named =
+              ap is_name (sym same) ∙ t;
         }
 
 -- names within a number, by the first of them

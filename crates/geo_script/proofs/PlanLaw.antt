@@ -119,7 +119,8 @@ with_actor n plan name is short other no_word few =
         few_actors = few-push plan.actors name few;
         actors = All-push IsActor plan.actors name is.plan.actors (record {
           short = short;
-          no_header_word = ap not no_word;
+          no_header_word =
+              ap not no_word;
         });
         actor_names = names_push plan.actors name is.plan.actor_names
             (All-weaker (λ x. same_name name x ≡ false) (λ x. Differ x name) (λ x e. differ_back x name e)

@@ -26,5 +26,6 @@ returns c =
     rw (← c.self.view_is, after) (λ i. record {
       bios = bios i;
       next = c.self.inside.bios.next;
-      spare = c.self.inside.bios.spare;
+      spare =
+          c.self.inside.bios.spare;
     })

@@ -43,7 +43,8 @@ returns-clause-written c =
       sector = c.self.inside.sector;
       sectors = sectors;
       fails = c.self.inside.fails;
-      calls = c.self.inside.calls;
+      calls =
+          c.self.inside.calls;
       faults = c.self.inside.faults;
       part = c.self.inside.part;
     })

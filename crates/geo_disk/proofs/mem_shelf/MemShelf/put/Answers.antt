@@ -15,7 +15,8 @@ returns-clause-put c =
     rw c.in_ok-push.ensures.items
     (after_put c.self.inside.slots.items c.self.inside.lending.lent (record {
       name = c.args.name.now;
-      bytes = c.args.bytes;
+      bytes =
+          c.args.bytes;
       fails = c.args.fails;
       calls = 0;
       part = 0;

@@ -31,7 +31,8 @@ returns-in-Some g c =
       (λ i. read_of (ghost_name_of c.get_mut.result)
           (λ w. record {
             rows = (rows w ∙ ap (λ v. with_value v.rows c.args.number w) c.self.view_is) i;
-            next = (c.self.view_is i).next;
+            next =
+                (c.self.view_is i).next;
             spare = (c.self.view_is i).spare;
           }) (c.self.view_is i)),
       record {

@@ -30,7 +30,8 @@ returns-clause-inserted g c =
     rw (← c.self.view_is) (λ i. record {
       rows = rows i;
       next = c.self.inside.next + 1;
-      spare = c.self.inside.spare - 1;
+      spare =
+          c.self.inside.spare - 1;
     })
 
 pub returns-clause-rising : goal.returns-clause-rising
