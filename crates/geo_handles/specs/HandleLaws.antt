@@ -17,17 +17,23 @@ noted test handles = map (λ h. (h.number, test h)) handles
 -- first of them is the one that is reaped next
 pub record HandlesAreOfWorld (w : World) : Type 0 where
   pub finds : (actor : ℕ) (name : List ℕ) → named_handle w.handles actor name ≡ handle_of w actor name
-  pub grants : (c : ℕ) → option_map_or (λ h. h.grant) (holding_handle w.handles c) (taste_grant w.taste c) ≡ granted_in w c
-  pub opens : (v : HandlesView) → v.handles ≡ w.handles → v.next ≡ w.next_handle → (actor : ℕ) (name : List ℕ) (p : ℕ) (grant : Counts)
-      → (with_opened v actor name w.topology.next_consumer grant).handles ≡ (with_handle w actor name p grant).handles
+  pub grants : (c : ℕ)
+      → option_map_or (λ h. h.grant) (holding_handle w.handles c) (taste_grant w.taste c) ≡ granted_in w c
+  pub opens : (v : HandlesView) → v.handles ≡ w.handles → v.next ≡ w.next_handle
+      → (actor : ℕ) (name : List ℕ) (p : ℕ) (grant : Counts)
+      → (with_opened v actor name w.topology.next_consumer grant).handles
+      ≡ (with_handle w actor name p grant).handles
   pub kills : (c : ℕ) → record w { handles = killed w.handles c } ≡ kill_handle w c
   pub reaps : (c : ℕ) → released w.handles c ≡ (reap_consumer w c).handles
   pub closes : (h : Handle) → closed w.handles h.number ≡ (without_handle w h).handles
-  pub first : (ready : List (ℕ × Bool)) → ready ≡ noted (is_to_reap w) w.handles → first_ready ready ≡ option_map (λ h. h.number) (reap_work w)
+  pub first : (ready : List (ℕ × Bool)) → ready ≡ noted (is_to_reap w) w.handles
+      → first_ready ready ≡ option_map (λ h. h.number) (reap_work w)
 
 -- where the notes are what a test says, they are so after a handle came that doesn't pass it, after one was closed,
 -- and after one was noted otherwise
 pub record NotesFollow (test : Handle → Bool) (handles : List Handle) : Type 0 where
-  pub opens : (h : Handle) → test h ≡ false → noted test handles ++ (h.number, false) ∷ [] ≡ noted test (handles ++ h ∷ [])
+  pub opens : (h : Handle) → test h ≡ false
+      → noted test handles ++ (h.number, false) ∷ [] ≡ noted test (handles ++ h ∷ [])
   pub closes : (n : ℕ) → without (noted test handles) n ≡ noted test (closed handles n)
-  pub notes : (n : ℕ) (b : Bool) → with_value (noted test handles) n b ≡ noted (λ h. if h.number == n then b else test h) handles
+  pub notes : (n : ℕ) (b : Bool)
+      → with_value (noted test handles) n b ≡ noted (λ h. if h.number == n then b else test h) handles

@@ -36,7 +36,13 @@ room_of n = min (min (spare n.names) (spare n.consumers)) (min n.table.spare n.r
 
 -- what contracts see
 abbrev pub handles_of : Inside → HandlesView
-handles_of n = record { handles = map handle_row n.table.rows; next = n.table.next; ready = map ready_row n.ready.children; room = room_of n }
+handles_of n =
+    record {
+      handles = map handle_row n.table.rows;
+      next = n.table.next;
+      ready = map ready_row n.ready.children;
+      room = room_of n;
+    }
 
 -- both maps find what the table has, the children are numbered as the handles are, and the handles are counted
 pub record IsInside (n : Inside) : Type 0 where

@@ -100,7 +100,8 @@ impl Handles {
     /// The handle of the actor with the name.
     pub fn by_name(&self, actor: u32, name: &Name) -> Option<HandleId>
         ensures number { result ≡ option_map (λ h. h.number) (named_handle self.now.handles actor name.now) }
-        ensures handle { option_and_then (handle_at self.now.handles) result ≡ named_handle self.now.handles actor name.now }
+        ensures handle { option_and_then (handle_at self.now.handles) result
+            ≡ named_handle self.now.handles actor name.now }
     {
         parts::number_named(&self.inside.names, actor, name)
     }
@@ -108,7 +109,8 @@ impl Handles {
     /// The handle of a consumer. No other handle has the consumer.
     pub fn of_consumer(&self, consumer: ConsId) -> Option<HandleId>
         ensures number { result ≡ option_map (λ h. h.number) (holding_handle self.now.handles consumer) }
-        ensures handle { option_and_then (handle_at self.now.handles) result ≡ holding_handle self.now.handles consumer }
+        ensures handle { option_and_then (handle_at self.now.handles) result
+            ≡ holding_handle self.now.handles consumer }
         ensures alone { HoldsAlone self.now.handles consumer result }
     {
         parts::number_held(&self.inside.consumers, consumer)
@@ -120,7 +122,8 @@ impl Handles {
         requires free { named_handle self.old.handles actor name.now ≡ None }
         requires nobodys { holding_handle self.old.handles consumer ≡ None }
         ensures number { result ≡ self.old.next }
-        ensures opened { self.new ≡ record (with_opened self.old actor name.now consumer grant) { room = self.new.room } }
+        ensures opened { self.new
+            ≡ record (with_opened self.old actor name.now consumer grant) { room = self.new.room } }
         ensures room { self.old.room ≤ self.new.room + 1 }
     {
         let number = self.inside.table.insert(HandleRec {
@@ -149,7 +152,10 @@ impl Handles {
 
     /// The handle of the consumer, if there is one, has none from then on.
     pub fn release(&mut self, consumer: ConsId)
-        ensures released { self.new ≡ record self.old { handles = released self.old.handles consumer; room = self.new.room } }
+        ensures released { self.new ≡ record self.old {
+          handles = released self.old.handles consumer;
+          room = self.new.room;
+        } }
         ensures room { self.old.room ≤ self.new.room }
     {
         if let Some(id) = parts::number_held(&self.inside.consumers, consumer) {
@@ -160,7 +166,11 @@ impl Handles {
 
     /// Takes a handle away, if there is one. Its number isn't used again.
     pub fn remove(&mut self, id: HandleId)
-        ensures removed { self.new ≡ record self.old { handles = closed self.old.handles id; ready = without self.old.ready id; room = self.new.room } }
+        ensures removed { self.new ≡ record self.old {
+          handles = closed self.old.handles id;
+          ready = without self.old.ready id;
+          room = self.new.room;
+        } }
         ensures room { self.old.room ≤ self.new.room }
     {
         let number = id.number();

@@ -21,4 +21,5 @@ returns-clause-handle c =
     (held-all c.self.inside.inside c.self.invariant c.args.consumer))
 
 pub returns-clause-alone : goal.returns-clause-alone
-returns-clause-alone c = rw (← c.self.view_is, c.number_held.ensures) (held-alone c.self.inside.inside c.self.invariant c.args.consumer)
+returns-clause-alone c =
+    rw (← c.self.view_is, c.number_held.ensures) (held-alone c.self.inside.inside c.self.invariant c.args.consumer)

@@ -27,7 +27,8 @@ invariant_of-self-in_default c =
       ready = c.remove_child.new.self;
       live = c.self.inside.inside.live;
     })
-    c.self.invariant c.number-number.result (sym c.in_default.ensures.value) c.remove.ensures.removed refl refl c.remove_child.ensures refl
+    c.self.invariant c.number-number.result (sym c.in_default.ensures.value) c.remove.ensures.removed refl refl
+    c.remove_child.ensures refl
 
 pub returns-in-Some-clause-removed : goal.returns-in-Some-clause-removed
 returns-in-Some-clause-removed c =

@@ -22,7 +22,13 @@ invariant_of-self c =
     })
     c.self.invariant refl refl refl refl c.args.id (Some 1)
     (noted-there c.self.inside.inside c.self.invariant c.args.id (rw (← c.self.view_is) at c.requires))
-    (rw (c.link.ensures, c.unlink.ensures, c.number-number.ensures, with_value-twice c.args.id None (Some 1) c.self.inside.inside.ready.children) refl)
+    (rw (
+      c.link.ensures,
+      c.unlink.ensures,
+      c.number-number.ensures,
+      with_value-twice c.args.id None (Some 1)
+          c.self.inside.inside.ready.children,
+    ) refl)
 
 pub invariant_of-self-else-ready : goal.invariant_of-self-else-ready
 invariant_of-self-else-ready c =
@@ -52,4 +58,11 @@ returns-then-ready c =
 
 pub returns-else-ready : goal.returns-else-ready
 returns-else-ready c =
-    rw (← c.self.view_is, c.unlink.ensures, c.number-number.ensures, ready-set c.args.id None c.self.inside.inside.ready.children, c.if-ready.false) refl
+    rw (
+      ← c.self.view_is,
+      c.unlink.ensures,
+      c.number-number.ensures,
+      ready-set c.args.id None
+          c.self.inside.inside.ready.children,
+      c.if-ready.false,
+    ) refl
