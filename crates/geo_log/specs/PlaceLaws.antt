@@ -10,7 +10,9 @@ use Rattle.geo_log.specs.Places.{delivered, delivered_at}
 
 -- a place has the same bytes when more entries came
 abbrev pub PlacesStay : Type 0
-PlacesStay = (log more : List Entry) (place : ℕ) → place < length log → delivered_at (log ++ more) place ≡ delivered_at log place
+PlacesStay =
+    (log more : List Entry) (place : ℕ) → place < length log
+    → delivered_at (log ++ more) place ≡ delivered_at log place
 
 -- the place of an entry is the number of those before it
 abbrev pub DeliveredHasPlace : Type 0
@@ -19,5 +21,7 @@ DeliveredHasPlace = (log more : List Entry) (e : Entry) → delivered_at (log ++
 -- the result of a bio that names the place of a Deliver's bytes is what the model gives it
 abbrev pub DeliveredIsResult : Type 0
 DeliveredIsResult =
-    (log more : List Entry) (e : Entry) (bio : ℕ) (bytes : List ℕ) → e.step ≡ steps.Deliver bio (devices.Bytes bytes)
-    → resolved (delivered_at (log ++ e ∷ more)) (Some (held.AtPlace (length log))) ≡ result_of_device (devices.Bytes bytes)
+    (log more : List Entry) (e : Entry) (bio : ℕ) (bytes : List ℕ)
+    → e.step ≡ steps.Deliver bio (devices.Bytes bytes)
+    → resolved (delivered_at (log ++ e ∷ more)) (Some (held.AtPlace (length log)))
+    ≡ result_of_device (devices.Bytes bytes)

@@ -46,7 +46,10 @@ impl DiskFacts {
     /// One more disk, of this sector size in bytes and these sectors, in room that was made. It takes no memory.
     pub fn push(&mut self, sector: u32, sectors: u64)
         requires { 1 ≤ self.old.spare }
-        ensures { self.new ≡ record { items = self.old.items ++ (sector, sectors) ∷ []; spare = self.old.spare - 1 } }
+        ensures { self.new ≡ record {
+          items = self.old.items ++ (sector, sectors) ∷ [];
+          spare = self.old.spare - 1;
+        } }
     {
         self.pairs.push_reserved((sector, sectors));
     }

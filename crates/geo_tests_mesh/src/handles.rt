@@ -56,7 +56,8 @@ fn note(handles: &mut Handles, id: u64) {
     }
 }
 
-// Three handles, of which the last and then the second can be reaped. The first of them, before and after it is reaped.
+// Three handles, of which the last and then the second can be reaped. The first of these two, before and after it is
+// reaped.
 fn two_to_reap(handles: &mut Handles) -> Result<[Option<HandleId>; 2], Fail> {
     for consumer in 1..4u64 {
         opened(handles, consumer as u32, &name(b"h")?, consumer)?;
