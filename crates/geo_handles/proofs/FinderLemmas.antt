@@ -1,7 +1,7 @@
 -- What finds numbers by their keys, after a change of one number.
 use Rattle.std.specs.Prelude.{◌≡◌, ℕ, ◌==◌, ◌&&◌, Bool, true, false, Option, Some, None, if◌then◌else◌}
 use Rattle.std.proofs.Common.{refl, sym, ◌∙◌, ap, inl, inr}
-use Rattle.std.proofs.lemmas.Bool.{cases_eq, eq-eqb, ne_eqb, eqb-true}
+use Rattle.std.proofs.lemmas.Bool.{cases_eq, eq-eqb, ne_eqb, eqb-true, and_parts}
 use Rattle.geo_model.specs.Words.{names_number, same_name}
 use Rattle.geo_names.proofs.Rows.{same_is, is_same}
 use Rattle.geo_handles.specs.declared.key.Key.{Key}
@@ -18,23 +18,19 @@ pub record IsTest {K : Type 0} (test : Option K → K → Bool) : Type 0 where
 pub consumers-test : IsTest names_number
 consumers-test = record { none = λ k. refl; is = λ j k e. eqb-true j k e; self = λ k. eq-eqb k k refl }
 
--- where both hold, each does
-both_true : (a b : Bool) → (a && b) ≡ true → (a ≡ true) × (b ≡ true)
-both_true true b e = (refl, e)
-both_true false b e = absurd (cc)
-
 -- the same key is one of the same actor and the same name
 same_key_is : (j k : Key) → same_key j k ≡ true → j ≡ k
 same_key_is j k e =
-    let parts = both_true (j.actor == k.actor) (same_name j.name k.name) e in
+    let parts = and_parts (j.actor == k.actor) (same_name j.name k.name) e in
     λ i. record { actor = eqb-true j.actor k.actor parts.0 i; name = same_is j.name k.name parts.1 i }
 
 -- keys are actors with names
 pub keys-test : IsTest is_key
-keys-test = record { none = λ k. refl; is = same_key_is; self = λ k. rw (eq-eqb k.actor k.actor refl) (is_same k.name) }
+keys-test =
+    record { none = λ k. refl; is = same_key_is; self = λ k. rw (eq-eqb k.actor k.actor refl) (is_same k.name) }
 
-module _ {K : Type 0} (test : Option K → K → Bool) (is : IsTest test) (f : ℕ → Option K) (at : K
-    → Option ℕ) (finder : IsFinder f at) where
+module _ {K : Type 0} (test : Option K → K → Bool) (is : IsTest test) (f : ℕ → Option K) (at : K → Option ℕ)
+    (finder : IsFinder f at) where
   -- a number passes the test of a key just where it is found by the key
   pub finds : (k : K) (n : ℕ) → test (f n) k ≡ is_at (at k) n
   finds k n = by (f n) refl (at k) refl
@@ -55,8 +51,8 @@ module _ {K : Type 0} (test : Option K → K → Bool) (is : IsTest test) (f : �
       by : (x : Option K) → f n ≡ x → (o : Option ℕ) → at k ≡ o → test x k ≡ is_at o n
       by None e None d = is.none k
       by None e (Some m) d =
-          is.none k ∙ sym (ne_eqb n m (λ same. let never : None ≡ Some k =
-          sym e ∙ ap f same ∙ finder.found k m d in cc))
+          is.none k ∙ sym (ne_eqb n m (λ same. let never : None ≡ Some k = sym e ∙ ap f same
+          ∙ finder.found k m d in cc))
       by (Some j) e o d = tested j e o d (test (Some j) k) refl
 
   -- the same numbers are found by the same keys
@@ -98,8 +94,8 @@ module _ {K : Type 0} (test : Option K → K → Bool) (is : IsTest test) (f : �
               later q m was false t = update q ∙ rw t was
 
     -- a number loses the key that it may have
-    pub finder-drop : (o : Option K) → f n ≡ o → f′ n ≡ None
-        → ((q : K) → at′ q ≡ (if test o q then None else at q)) → IsFinder f′ at′
+    pub finder-drop : (o : Option K) → f n ≡ o → f′ n ≡ None → ((q : K) → at′ q ≡ (if test o q then None else at q))
+        → IsFinder f′ at′
     finder-drop o had gone update = record { found = λ q m e. found_at q m (test o q) refl e; back = back_at } where
       found_at : (q : K) (m : ℕ) (b : Bool) → test o q ≡ b → at′ q ≡ Some m → f′ m ≡ Some q
       found_at q m true t e = let never : None ≡ Some m = (let u = update q in rw (u, t) at e) in absurd cc
@@ -117,11 +113,11 @@ module _ {K : Type 0} (test : Option K → K → Bool) (is : IsTest test) (f : �
             | inr other ↦ later q m other (finder.back q m (sym (others m other) ∙ e)) o refl (test o q) refl
           ]
         where
-          later : (q : K) (m : ℕ) → (m ≡ n → ⊥) → at q ≡ Some m → (x : Option K) → o ≡ x → (b : Bool)
-              → test o q ≡ b → at′ q ≡ Some m
+          later : (q : K) (m : ℕ) → (m ≡ n → ⊥) → at q ≡ Some m → (x : Option K) → o ≡ x → (b : Bool) → test o q ≡ b
+              → at′ q ≡ Some m
           later q m other was x d false t = update q ∙ rw t was
-          later q m other was None d true t = let never : false ≡ true =
-              sym (is.none q) ∙ ap (λ y. test y q) (sym d) ∙ t in absurd cc
+          later q m other was None d true t =
+              let never : false ≡ true = sym (is.none q) ∙ ap (λ y. test y q) (sym d) ∙ t in absurd cc
           later q m other was (Some j) d true t =
               let key : j ≡ q = is.is j q (ap (λ y. test y q) (sym d) ∙ t) in
               let here : at q ≡ Some n = finder.back q n (had ∙ d ∙ ap (λ x. Some x) key) in

@@ -57,7 +57,8 @@ module _ (test : Handle → Bool) where
 -- the notes follow each change
 pub notes_follow : (test : Handle → Bool) (handles : List Handle) → NotesFollow test handles
 notes_follow test handles = record {
-  opens = λ h fails. sym (map-append (λ (h : Handle). (h.number, test h)) handles (h ∷ [])
+  opens =
+      λ h fails. sym (map-append (λ (h : Handle). (h.number, test h)) handles (h ∷ [])
       ∙ ap (λ b. noted test handles ++ (h.number, b) ∷ []) fails);
   closes = λ n. notes_without test n handles;
   notes = λ n b. notes_with test n b handles;

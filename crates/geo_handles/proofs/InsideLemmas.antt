@@ -3,6 +3,7 @@ use Rattle.std.specs.Prelude.{◌≡◌, ℕ, suc, ◌+◌, ◌-◌, ◌==◌, �
 use Rattle.std.specs.List.{AllByRecursion}
 use Rattle.std.specs.Option.{option_and_then, is_some}
 use Rattle.std.proofs.Common.{refl, sym, ◌∙◌, ap, inl, inr, arith, length-append, subst}
+use Rattle.std.proofs.lemmas.List.{length-map}
 use Rattle.std.proofs.lemmas.Bool.{cases_eq}
 use Rattle.geo_model.specs.Words.{same_name, names_number, change_where}
 use Rattle.geo_model.specs.World.{Handle}
@@ -10,7 +11,7 @@ use Rattle.geo_slots.specs.Slots.{SlotsView, IsRising, value_at, with_insert, wi
 use Rattle.geo_slots.proofs.RowLemmas.{IsRising-push, IsRising-without, IsRising-with_value, value_at_next, find-items, filter-items, without_absent}
 use Rattle.geo_family.specs.Family.{is_parent}
 use Rattle.geo_names.proofs.Rows.{value_at-last, value_at-other, value_at-without, value_at-gone}
-use Rattle.geo_names.proofs.Texts.{something}
+use Rattle.geo_base.proofs.Tests.{some_of}
 use Rattle.geo_handles.specs.declared.key.Key.{Key}
 use Rattle.geo_handles.specs.declared.records.HandleRec.{HandleRec}
 use Rattle.geo_handles.specs.declared.handles.Inside.{Inside}
@@ -22,24 +23,24 @@ use Rattle.geo_handles.proofs.RowLemmas.{all-rows, all-items, length-without, Is
 use Rattle.geo_handles.proofs.NumberLemmas.{value_at-set, value_at-kept}
 
 -- a number that has a key has a value
-keyed : {K : Type 0} (key : HandleRec → Option K) (k : K) (o : Option HandleRec)
-    → option_and_then key o ≡ Some k → IsSome o
+keyed : {K : Type 0} (key : HandleRec → Option K) (k : K) (o : Option HandleRec) → option_and_then key o ≡ Some k
+    → IsSome o
 keyed key k None e = let never : None ≡ Some k = e in absurd cc
 keyed key k (Some v) e = refl
 
 -- a change of the value that a number may have, where it has one
 pub changed : (old new : SlotsView HandleRec) (k : ℕ) (change : HandleRec → HandleRec) (x : HandleRec)
     → value_at old.rows k ≡ Some x
-    → MatchOption (value_at old.rows k) (new ≡ old) (λ y. new
-    ≡ record old { rows = with_value old.rows k (change y) })
+    → MatchOption (value_at old.rows k) (new ≡ old)
+    (λ y. new ≡ record old { rows = with_value old.rows k (change y) })
     → new ≡ record old { rows = with_value old.rows k (change x) }
 changed old new k change x at so =
     subst (λ o. MatchOption o (new ≡ old) (λ y. new ≡ record old { rows = with_value old.rows k (change y) })) at so
 
 -- Look-ups
 
-module _ (rows : List (ℕ × HandleRec)) (test : Handle
-    → Bool) (o : Option ℕ) (all : AllByRecursion (IsOf handle_row test o) rows) where
+module _ (rows : List (ℕ × HandleRec)) (test : Handle → Bool) (o : Option ℕ)
+    (all : AllByRecursion (IsOf handle_row test o) rows) where
   -- the number that a map has is that of the handle that the test finds
   pub found-number : ((n : ℕ) → o ≡ Some n → IsSome (value_at rows n))
       → o ≡ option_map (λ h. h.number) (find test (map handle_row rows))
@@ -50,7 +51,7 @@ module _ (rows : List (ℕ × HandleRec)) (test : Handle
           → option_map (λ (h : Handle). h.number)
           (option_and_then (λ n. option_map (λ v. handle_row (n, v)) (value_at rows n)) o) ≡ o
       seen None there = refl
-      seen (Some n) there = let v = something (value_at rows n) (there n refl) in rw v.1 refl
+      seen (Some n) there = let v = some_of (value_at rows n) (there n refl) in rw v.1 refl
 
   -- and under it the handle stands
   pub found-handle : option_and_then (handle_at (map handle_row rows)) o ≡ find test (map handle_row rows)
@@ -65,15 +66,15 @@ module _ (rows : List (ℕ × HandleRec)) (test : Handle
 module _ (n : Inside) (is : IsInside n) where
   -- the map of names has the number of just the handle of the actor with the name
   pub named-all : (actor : ℕ) (name : List ℕ)
-      → AllByRecursion
-      (IsOf handle_row (λ h. (h.actor == actor) && same_name h.name name)
+      → AllByRecursion (IsOf handle_row (λ h. (h.actor == actor) && same_name h.name name)
       (number_of_key n.names (key_named actor name))) n.table.rows
   named-all actor name =
       all-rows (IsOf handle_row (λ h. (h.actor == actor) && same_name h.name name)
       (number_of_key n.names (key_named actor name))) 1 n.table.next n.table.rows is.rising
       (λ k v at.
       sym (ap (λ o. is_key (option_and_then name_key o) (key_named actor name)) at)
-      ∙ finds is_key keys-test (key_at name_key n.table.rows) (number_of_key n.names) is.named (key_named actor name) k)
+      ∙ finds is_key keys-test (key_at name_key n.table.rows) (number_of_key n.names) is.named
+      (key_named actor name) k)
 
   -- a name's number has a value
   pub named-there : (actor : ℕ) (name : List ℕ) (k : ℕ) → number_of_key n.names (key_named actor name) ≡ Some k
@@ -129,7 +130,8 @@ module _ (n : Inside) (is : IsInside n) where
       (held-all c) (held-there c)) free
 
   -- a handle that stands has a number among the children
-  pub noted-there : (k : ℕ) → IsSome (handle_at (map handle_row n.table.rows) k) → IsSome (value_at n.ready.children k)
+  pub noted-there : (k : ℕ) → IsSome (handle_at (map handle_row n.table.rows) k)
+      → IsSome (value_at n.ready.children k)
   noted-there k stands =
       is.alike k ∙ seen (value_at n.table.rows k)
       (sym (ap is_some (find-items handle_row (λ h. h.number) (λ row. refl) k n.table.rows)) ∙ stands)
@@ -179,8 +181,7 @@ module _ (n m : Inside) (is : IsInside n) where
   pub inside-opened : (x : HandleRec) (c : ℕ) → x.consumer ≡ Some c
       → number_of_key n.names (key_named x.actor x.name) ≡ None → number_of_consumer n.consumers c ≡ None
       → m.table ≡ with_insert n.table x
-      → ((q : Key)
-      → number_of_key m.names q
+      → ((q : Key) → number_of_key m.names q
       ≡ (if same_key (key_named x.actor x.name) q then Some n.table.next else number_of_key n.names q))
       → ((q : ℕ) → number_of_consumer m.consumers q
       ≡ (if c == q then Some n.table.next else number_of_consumer n.consumers q))
@@ -205,14 +206,16 @@ module _ (n m : Inside) (is : IsInside n) where
         (ap (option_and_then consumer_key) fresh)
         (ap (option_and_then consumer_key) there ∙ holds) consumers);
     stands = rw parents is.stands;
-    alike = λ k. rw (
-      children,
-      table,
-      pushed n.ready.children n.ready.next_child None k,
-      pushed n.table.rows n.table.next x k,
-      is.alike k,
-      is.next,
-    ) refl;
+    alike =
+        λ k. rw (
+          children,
+          table,
+          pushed n.ready.children n.ready.next_child None k,
+          pushed n.table.rows
+              n.table.next x k,
+          is.alike k,
+          is.next,
+        ) refl;
     next = rw (next, table) (ap (λ k. k + 1) is.next);
     live = rw (live, table) (omega (arith, is.live, length-append n.table.rows ((n.table.next, x) ∷ [])));
   }
@@ -230,8 +233,8 @@ module _ (n m : Inside) (is : IsInside n) where
   -- without a handle, whose name and consumer have no number any more
   pub inside-removed : (k : ℕ) (x : HandleRec) → value_at n.table.rows k ≡ Some x
       → m.table ≡ record n.table { rows = without n.table.rows k }
-      → ((q : Key)
-      → number_of_key m.names q ≡ (if same_key (key_named x.actor x.name) q then None else number_of_key n.names q))
+      → ((q : Key) → number_of_key m.names q
+      ≡ (if same_key (key_named x.actor x.name) q then None else number_of_key n.names q))
       → ((q : ℕ) → number_of_consumer m.consumers q
       ≡ (if names_number x.consumer q then None else number_of_consumer n.consumers q))
       → m.ready ≡ record n.ready { children = without n.ready.children k } → m.live ≡ n.live - 1 → IsInside m
@@ -246,8 +249,8 @@ module _ (n m : Inside) (is : IsInside n) where
         (ap (option_and_then name_key) (value_at-gone k n.table.rows)) names);
     held =
         rw table
-        (finder-drop names_number consumers-test (key_at consumer_key n.table.rows)
-        (number_of_consumer n.consumers) is.held k (key_at consumer_key (without n.table.rows k))
+        (finder-drop names_number consumers-test (key_at consumer_key n.table.rows) (number_of_consumer n.consumers)
+        is.held k (key_at consumer_key (without n.table.rows k))
         (number_of_consumer m.consumers)
         (λ j other. ap (option_and_then consumer_key) (value_at-without k j n.table.rows other)) x.consumer
         (ap (option_and_then consumer_key) at)
@@ -276,8 +279,8 @@ module _ (n m : Inside) (is : IsInside n) where
       same = without_absent k n.table.rows absent
 
   -- with another value under a number, which has the same name
-  module _ (k : ℕ) (x w : HandleRec) (at : value_at n.table.rows k ≡ Some x) (table : m.table
-      ≡ record n.table { rows = with_value n.table.rows k w }) where
+  module _ (k : ℕ) (x w : HandleRec) (at : value_at n.table.rows k ≡ Some x)
+      (table : m.table ≡ record n.table { rows = with_value n.table.rows k w }) where
     here : value_at (with_value n.table.rows k w) k ≡ Some w
     here = value_at-set k w n.table.rows (ap is_some at)
 
@@ -299,9 +302,8 @@ module _ (n m : Inside) (is : IsInside n) where
         (key_at name_key (with_value n.table.rows k w)) (number_of_key m.names)
         (kept name_key same) (λ q. ap (λ f. number_of_key f q) names)
 
-    length_set : (rows : List (ℕ × HandleRec)) → length (with_value rows k w) ≡ length rows
-    length_set [] = refl
-    length_set (row ∷ rows) = ap suc (length_set rows)
+    length_set : length (with_value n.table.rows k w) ≡ length n.table.rows
+    length_set = length-map n.table.rows (λ row. if row.0 == k then (k, w) else row)
 
     -- and the same consumer
     pub inside-marked : m.names ≡ n.names → m.consumers ≡ n.consumers → m.ready ≡ n.ready → m.live ≡ n.live
@@ -318,7 +320,7 @@ module _ (n m : Inside) (is : IsInside n) where
       stands = rw ready is.stands;
       alike = λ j. rw (ready, table) (alike_set j);
       next = rw (ready, table) is.next;
-      live = rw (live, table) (is.live ∙ sym (length_set n.table.rows));
+      live = rw (live, table) (is.live ∙ sym length_set);
     }
 
     -- and no consumer, where the one that it had has no number any more
@@ -340,7 +342,7 @@ module _ (n m : Inside) (is : IsInside n) where
       stands = rw ready is.stands;
       alike = λ j. rw (ready, table) (alike_set j);
       next = rw (ready, table) is.next;
-      live = rw (live, table) (is.live ∙ sym (length_set n.table.rows));
+      live = rw (live, table) (is.live ∙ sym length_set);
     }
 
   -- with other room
@@ -350,7 +352,8 @@ module _ (n m : Inside) (is : IsInside n) where
       → m.ready ≡ record n.ready { parent_room = m.ready.parent_room; child_room = m.ready.child_room }
       → m.live ≡ n.live → IsInside m
   inside-reserved names consumers table ready live = record {
-    rising = subst (λ rows. IsRising 1 rows m.table.next) (sym rows)
+    rising =
+        subst (λ rows. IsRising 1 rows m.table.next) (sym rows)
         (subst (λ k. IsRising 1 n.table.rows k) (sym (ap (λ t. t.next) table)) is.rising);
     named =
         finder-same is_key keys-test (key_at name_key n.table.rows) (number_of_key n.names) is.named
@@ -361,7 +364,8 @@ module _ (n m : Inside) (is : IsInside n) where
         is.held (key_at consumer_key m.table.rows) (number_of_consumer m.consumers)
         (λ k. ap (λ r. key_at consumer_key r k) rows) consumers;
     stands = ap (λ p. is_parent p 1) (ap (λ f. f.parents) ready) ∙ is.stands;
-    alike = λ k. ap (λ ch. is_some (value_at ch k)) (ap (λ f. f.children) ready) ∙ is.alike k
+    alike =
+        λ k. ap (λ ch. is_some (value_at ch k)) (ap (λ f. f.children) ready) ∙ is.alike k
         ∙ sym (ap (λ r. is_some (value_at r k)) rows);
     next = ap (λ f. f.next_child) ready ∙ is.next ∙ sym (ap (λ t. t.next) table);
     live = live ∙ is.live ∙ sym (ap length rows);
@@ -394,15 +398,16 @@ rows-closed k rows = sym (filter-items handle_row (λ h. h.number) (λ row. refl
 module _ (n : Inside) (is : IsInside n) (c : ℕ) where
   -- a change where the consumer has no number changes nothing
   pub held-none : (change : Handle → Handle) → number_of_consumer n.consumers c ≡ None
-      → change_where (λ h. names_number h.consumer c) change (map handle_row n.table.rows) ≡ map handle_row n.table.rows
+      → change_where (λ h. names_number h.consumer c) change (map handle_row n.table.rows)
+      ≡ map handle_row n.table.rows
   held-none change none =
       change-none handle_row (λ h. names_number h.consumer c) change n.table.rows
       (subst (λ o. AllByRecursion (IsOf handle_row (λ h. names_number h.consumer c) o) n.table.rows) none
       (held-all n is c))
 
   -- else it is a change of the value under that number
-  pub held-change : (change : Handle → Handle) (k : ℕ) (x w : HandleRec)
-      → number_of_consumer n.consumers c ≡ Some k → value_at n.table.rows k ≡ Some x
+  pub held-change : (change : Handle → Handle) (k : ℕ) (x w : HandleRec) → number_of_consumer n.consumers c ≡ Some k
+      → value_at n.table.rows k ≡ Some x
       → change (handle_row (k, x)) ≡ handle_row (k, w)
       → change_where (λ h. names_number h.consumer c) change (map handle_row n.table.rows)
       ≡ map handle_row (with_value n.table.rows k w)

@@ -25,14 +25,15 @@ module _ {T : Type 0} where
   pub value_at-kept : (n m : ℕ) (w : T) (rows : List (ℕ × T)) → (m ≡ n → ⊥)
       → value_at (with_value rows n w) m ≡ value_at rows m
   value_at-kept n m w [] other = refl
-  value_at-kept n m w (row ∷ rows) other = at (row.0 == n) refl (row.0 == m) refl (value_at-kept n m w rows other) where
-    at : (b : Bool) → (row.0 == n) ≡ b → (d : Bool) → (row.0 == m) ≡ d
-        → value_at (with_value rows n w) m ≡ value_at rows m
-        → value_at (with_value (row ∷ rows) n w) m ≡ value_at (row ∷ rows) m
-    at true e true k rest = absurd (other (sym (eqb-true row.0 m k) ∙ eqb-true row.0 n e))
-    at true e false k rest = rw (e, k, ne_eqb n m (λ same. other (sym same))) rest
-    at false e true k rest = rw (e, k) refl
-    at false e false k rest = rw (e, k) rest
+  value_at-kept n m w (row ∷ rows) other =
+      at (row.0 == n) refl (row.0 == m) refl (value_at-kept n m w rows other) where
+        at : (b : Bool) → (row.0 == n) ≡ b → (d : Bool) → (row.0 == m) ≡ d
+            → value_at (with_value rows n w) m ≡ value_at rows m
+            → value_at (with_value (row ∷ rows) n w) m ≡ value_at (row ∷ rows) m
+        at true e true k rest = absurd (other (sym (eqb-true row.0 m k) ∙ eqb-true row.0 n e))
+        at true e false k rest = rw (e, k, ne_eqb n m (λ same. other (sym same))) rest
+        at false e true k rest = rw (e, k) refl
+        at false e false k rest = rw (e, k) rest
 
   -- of two values under a number the second stays
   pub with_value-twice : (n : ℕ) (v w : T) (rows : List (ℕ × T))
@@ -45,8 +46,8 @@ module _ {T : Type 0} where
     at false e rest = rw (e, e, rest) refl
 
 -- one number more, which isn't noted
-pub ready-push : (rows : List (ℕ × Option ℕ)) (n : ℕ) → map ready_row (rows ++ (n, None) ∷ []) ≡ map ready_row rows
-    ++ (n, false) ∷ []
+pub ready-push : (rows : List (ℕ × Option ℕ)) (n : ℕ)
+    → map ready_row (rows ++ (n, None) ∷ []) ≡ map ready_row rows ++ (n, false) ∷ []
 ready-push rows n = map-append ready_row rows ((n, None) ∷ [])
 
 -- one number less
@@ -69,7 +70,8 @@ ready-set n o (row ∷ rows) = at (row.0 == n) refl (ready-set n o rows) where
 pub first-ready : (rows : List (ℕ × Option ℕ)) → first_child rows 1 0 ≡ first_ready (map ready_row rows)
 first-ready [] = refl
 first-ready (row ∷ rows) = at (names row.1 1) refl (le-leb 0 row.0 (omega arith)) (first-ready rows) where
-  at : (b : Bool) → names row.1 1 ≡ b → nat_le 0 row.0 ≡ true → first_child rows 1 0 ≡ first_ready (map ready_row rows)
+  at : (b : Bool) → names row.1 1 ≡ b → nat_le 0 row.0 ≡ true
+      → first_child rows 1 0 ≡ first_ready (map ready_row rows)
       → first_child (row ∷ rows) 1 0 ≡ first_ready (map ready_row (row ∷ rows))
   at true e le rest = rw (le, e) refl
   at false e le rest = rw (le, e) rest

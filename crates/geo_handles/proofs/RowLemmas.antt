@@ -6,7 +6,7 @@ use Rattle.std.proofs.Common.{refl, sym, ◌∙◌, ap, inl, inr, arith}
 use Rattle.std.proofs.lemmas.Bool.{cases_eq, eq-eqb, ne_eqb}
 use Rattle.geo_model.specs.Words.{change_where}
 use Rattle.geo_slots.specs.Slots.{IsRising, value_at, with_value, without}
-use Rattle.geo_slots.proofs.RowLemmas.{value_at_below}
+use Rattle.geo_slots.proofs.RowLemmas.{value_at_below, without_below}
 use Rattle.geo_handles.specs.Handles.{is_at}
 
 module _ {T : Type 0} where
@@ -16,7 +16,8 @@ module _ {T : Type 0} where
   all-rows P low high [] rising each = tt
   all-rows P low high (row ∷ rows) rising each = (
     each row.0 row.1 (rw (eq-eqb row.0 row.0 refl) refl),
-    all-rows P (row.0 + 1) high rows rising.1 (λ n v at. each n v (rw (ne_eqb row.0 n (λ same. apart n v same at)) at)),
+    all-rows P (row.0 + 1) high rows rising.1
+        (λ n v at. each n v (rw (ne_eqb row.0 n (λ same. apart n v same at)) at)),
   )
     where
       apart : (n : ℕ) (v : T) → row.0 ≡ n → value_at rows n ≡ Some v → ⊥
@@ -27,8 +28,8 @@ module _ {T : Type 0} where
   -- there are no more rows than numbers
   pub rows-few : (low high : ℕ) (rows : List (ℕ × T)) → IsRising low rows high → low + length rows ≤ high
   rows-few low high [] rising = omega (arith, rising)
-  rows-few low high (row ∷ rows) rising = let rest = rows-few (row.0 + 1) high rows rising.1 in
-      omega (arith, rising.0, rest)
+  rows-few low high (row ∷ rows) rising =
+      let rest = rows-few (row.0 + 1) high rows rising.1 in omega (arith, rising.0, rest)
 
   -- without a number that has a value there is one row less
   pub length-without : (n : ℕ) (v : T) (low high : ℕ) (rows : List (ℕ × T)) → IsRising low rows high
@@ -37,18 +38,12 @@ module _ {T : Type 0} where
   length-without n v low high (row ∷ rows) rising at =
       elim (cases_eq row.0 n) [
         | inl same ↦
-            let kept = stay (row.0 + 1) rows rising.1 (omega (arith, same)) in
+            let kept = without_below n (row.0 + 1) rows high rising.1 (omega (arith, same)) in
             rw (eq-eqb row.0 n same, kept) (omega arith)
         | inr other ↦
             let rest = length-without n v (row.0 + 1) high rows rising.1 (rw (ne_eqb row.0 n other) at at) in
             rw (ne_eqb row.0 n other) (omega (arith, rest))
       ]
-    where
-      stay : (low : ℕ) (rows : List (ℕ × T)) → IsRising low rows high → n + 1 ≤ low → without rows n ≡ rows
-      stay low [] rising below = refl
-      stay low (row ∷ rows) rising below =
-          rw (ne_eqb row.0 n (λ same. omega (arith, same, rising.0)))
-          (ap (λ xs. row ∷ xs) (stay (row.0 + 1) rows rising.1 (omega (arith, rising.0))))
 
 -- what holds of the item of each row holds of each item
 pub all-items : {T X : Type 0} (item : ℕ × T → X) (P : X → Type 0) (rows : List (ℕ × T))

@@ -21,7 +21,8 @@ pub record HandlesAreOfWorld (w : World) : Type 0 where
       → option_map_or (λ h. h.grant) (holding_handle w.handles c) (taste_grant w.taste c) ≡ granted_in w c
   pub opens : (v : HandlesView) → v.handles ≡ w.handles → v.next ≡ w.next_handle
       → (actor : ℕ) (name : List ℕ) (p : ℕ) (grant : Counts)
-      → (with_opened v actor name w.topology.next_consumer grant).handles ≡ (with_handle w actor name p grant).handles
+      → (with_opened v actor name w.topology.next_consumer grant).handles
+      ≡ (with_handle w actor name p grant).handles
   pub kills : (c : ℕ) → record w { handles = killed w.handles c } ≡ kill_handle w c
   pub reaps : (c : ℕ) → released w.handles c ≡ (reap_consumer w c).handles
   pub closes : (h : Handle) → closed w.handles h.number ≡ (without_handle w h).handles

@@ -20,14 +20,8 @@ no_handles room = record { handles = []; next = 1; ready = []; room = room }
 
 -- the handle that stands under a number
 abbrev pub handle_seen : ℕ → HandleRec → Handle
-handle_seen n x = record {
-  number = n;
-  actor = x.actor;
-  name = x.name;
-  consumer = x.consumer;
-  grant = x.grant;
-  dead = x.dead;
-}
+handle_seen n x =
+    record { number = n; actor = x.actor; name = x.name; consumer = x.consumer; grant = x.grant; dead = x.dead }
 
 -- the handle of a number
 abbrev pub handle_at : List Handle → ℕ → Option Handle
@@ -53,14 +47,15 @@ HoldsAlone handles c o = AllByRecursion (λ h. names_number h.consumer c ≡ is_
 -- with the next handle, of this actor, name, consumer and grant, which isn't dead and can't be reaped
 abbrev pub with_opened : HandlesView → ℕ → List ℕ → ℕ → Counts → HandlesView
 with_opened v actor name c grant = record v {
-  handles = v.handles ++ record {
-    number = v.next;
-    actor = actor;
-    name = name;
-    consumer = Some c;
-    grant = grant;
-    dead = false;
-  } ∷ [];
+  handles =
+      v.handles ++ record {
+        number = v.next;
+        actor = actor;
+        name = name;
+        consumer = Some c;
+        grant = grant;
+        dead = false;
+      } ∷ [];
   next = v.next + 1;
   ready = v.ready ++ (v.next, false) ∷ [];
 }

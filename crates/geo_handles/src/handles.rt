@@ -122,10 +122,8 @@ impl Handles {
         requires free { named_handle self.old.handles actor name.now ≡ None }
         requires nobodys { holding_handle self.old.handles consumer ≡ None }
         ensures number { result ≡ self.old.next }
-        ensures opened { self.new ≡ record (with_opened self.old actor name.now consumer grant) {
-          room =
-              self.new.room;
-        } }
+        ensures opened { self.new
+            ≡ record (with_opened self.old actor name.now consumer grant) { room = self.new.room } }
         ensures room { self.old.room ≤ self.new.room + 1 }
     {
         let number = self.inside.table.insert(HandleRec {
@@ -156,8 +154,7 @@ impl Handles {
     pub fn release(&mut self, consumer: ConsId)
         ensures released { self.new ≡ record self.old {
           handles = released self.old.handles consumer;
-          room =
-              self.new.room;
+          room = self.new.room;
         } }
         ensures room { self.old.room ≤ self.new.room }
     {
@@ -171,8 +168,7 @@ impl Handles {
     pub fn remove(&mut self, id: HandleId)
         ensures removed { self.new ≡ record self.old {
           handles = closed self.old.handles id;
-          ready =
-              without self.old.ready id;
+          ready = without self.old.ready id;
           room = self.new.room;
         } }
         ensures room { self.old.room ≤ self.new.room }

@@ -32,8 +32,7 @@ pub fn number_held(consumers: &HashMap<u64, u64>, consumer: ConsId) -> Option<Ha
 
 /// The name of an actor is nobody's from then on.
 pub fn forget_name(names: &mut HashMap<Key, u64>, actor: u32, name: &Name)
-    ensures finds { (q : Key)
-        → number_of_key names.new q
+    ensures finds { (q : Key) → number_of_key names.new q
         ≡ (if same_key (key_named actor name.now) q then None else number_of_key names.old q) }
     ensures spare { spare names.old ≤ spare names.new }
 {
@@ -43,8 +42,7 @@ pub fn forget_name(names: &mut HashMap<Key, u64>, actor: u32, name: &Name)
 
 /// The consumer, if there is one, is nobody's from then on.
 pub fn forget_consumer(consumers: &mut HashMap<u64, u64>, consumer: Option<ConsId>)
-    ensures finds { (c : ℕ)
-        → number_of_consumer consumers.new c
+    ensures finds { (c : ℕ) → number_of_consumer consumers.new c
         ≡ (if names_number consumer c then None else number_of_consumer consumers.old c) }
     ensures spare { spare consumers.old ≤ spare consumers.new }
 {

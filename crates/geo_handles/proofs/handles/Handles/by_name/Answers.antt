@@ -9,7 +9,8 @@ pub returns-clause-number : goal.returns-clause-number
 returns-clause-number c =
     rw (← c.self.view_is)
     (c.number_named.ensures
-    ∙ found-number c.self.inside.inside.table.rows (λ h. (h.actor == c.args.actor) && same_name h.name c.args.name.now)
+    ∙ found-number c.self.inside.inside.table.rows
+    (λ h. (h.actor == c.args.actor) && same_name h.name c.args.name.now)
     (number_of_key c.self.inside.inside.names (key_named c.args.actor c.args.name.now))
     (named-all c.self.inside.inside c.self.invariant c.args.actor c.args.name.now)
     (named-there c.self.inside.inside c.self.invariant c.args.actor c.args.name.now))
@@ -17,6 +18,7 @@ returns-clause-number c =
 pub returns-clause-handle : goal.returns-clause-handle
 returns-clause-handle c =
     rw (← c.self.view_is, c.number_named.ensures)
-    (found-handle c.self.inside.inside.table.rows (λ h. (h.actor == c.args.actor) && same_name h.name c.args.name.now)
+    (found-handle c.self.inside.inside.table.rows
+    (λ h. (h.actor == c.args.actor) && same_name h.name c.args.name.now)
     (number_of_key c.self.inside.inside.names (key_named c.args.actor c.args.name.now))
     (named-all c.self.inside.inside c.self.invariant c.args.actor c.args.name.now))

@@ -3,5 +3,5 @@ use Rattle.geo_handles.proofs.NumberLemmas.{first-ready}
 use Rattle.geo_handles.proofs.handles.Handles.first_ready.Goals as goal
 
 pub returns : goal.returns
-returns c = rw (← c.self.view_is, ← first-ready c.self.inside.inside.ready.children, ← c.first_from.ensures)
-    (search rules)
+returns c =
+    rw (← c.self.view_is, ← first-ready c.self.inside.inside.ready.children, ← c.first_from.ensures) (search rules)

@@ -1,5 +1,5 @@
 use Rattle.std.proofs.Common.{◌≡◌, Some, None, sym, refl}
-use Rattle.geo_names.proofs.Texts.{something}
+use Rattle.geo_base.proofs.Tests.{some_of}
 use Rattle.geo_handles.specs.Keys.{number_of_consumer}
 use Rattle.geo_handles.specs.Inside.{reaped_one}
 use Rattle.geo_handles.proofs.InsideLemmas.{changed, held-there, held-by, held-none, held-change, inside-reaped}
@@ -7,9 +7,9 @@ use Rattle.geo_handles.proofs.handles.Handles.release.Goals as goal
 
 pub invariant_of-self : goal.invariant_of-self
 invariant_of-self c =
-    let has : number_of_consumer c.self.inside.inside.consumers c.args.consumer ≡ Some c.in-Some.id =
-    sym c.in-Some.ensures in
-    let x = something _ (held-there c.self.inside.inside c.self.invariant c.args.consumer c.in-Some.id has) in
+    let has : number_of_consumer c.self.inside.inside.consumers c.args.consumer
+    ≡ Some c.in-Some.id = sym c.in-Some.ensures in
+    let x = some_of _ (held-there c.self.inside.inside c.self.invariant c.args.consumer c.in-Some.id has) in
     let table = changed c.self.inside.inside.table c.drop_consumer.new.table c.in-Some.id reaped_one x.0 x.1
     (rw c.number.ensures at c.drop_consumer.ensures) in
     inside-reaped c.self.inside.inside
@@ -27,9 +27,9 @@ invariant_of-self c =
 
 pub returns-in-Some-clause-released : goal.returns-in-Some-clause-released
 returns-in-Some-clause-released c =
-    let has : number_of_consumer c.self.inside.inside.consumers c.args.consumer ≡ Some c.in-Some.id =
-    sym c.in-Some.ensures in
-    let x = something _ (held-there c.self.inside.inside c.self.invariant c.args.consumer c.in-Some.id has) in
+    let has : number_of_consumer c.self.inside.inside.consumers c.args.consumer
+    ≡ Some c.in-Some.id = sym c.in-Some.ensures in
+    let x = some_of _ (held-there c.self.inside.inside c.self.invariant c.args.consumer c.in-Some.id has) in
     let table = changed c.self.inside.inside.table c.drop_consumer.new.table c.in-Some.id reaped_one x.0 x.1
     (rw c.number.ensures at c.drop_consumer.ensures) in
     rw (

@@ -12,7 +12,8 @@ invariant_of-self-in_err-reserve-3 c =
       ready = c.self.inside.inside.ready;
       live = c.self.inside.inside.live;
     })
-    c.self.invariant c.reserve.ensures.entries.2 c.reserve-2.ensures.entries.2 c.reserve-3.ensures.values_stay refl refl
+    c.self.invariant c.reserve.ensures.entries.2 c.reserve-2.ensures.entries.2 c.reserve-3.ensures.values_stay refl
+    refl
 
 pub invariant_of-self-in_err-reserve-4 : goal.invariant_of-self-in_err-reserve-4
 invariant_of-self-in_err-reserve-4 c =

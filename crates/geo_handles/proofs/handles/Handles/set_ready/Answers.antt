@@ -26,7 +26,8 @@ invariant_of-self c =
       c.link.ensures,
       c.unlink.ensures,
       c.number-number.ensures,
-      with_value-twice c.args.id None (Some 1) c.self.inside.inside.ready.children,
+      with_value-twice c.args.id None (Some 1)
+          c.self.inside.inside.ready.children,
     ) refl)
 
 pub invariant_of-self-else-ready : goal.invariant_of-self-else-ready
@@ -61,6 +62,7 @@ returns-else-ready c =
       ← c.self.view_is,
       c.unlink.ensures,
       c.number-number.ensures,
-      ready-set c.args.id None c.self.inside.inside.ready.children,
+      ready-set c.args.id None
+          c.self.inside.inside.ready.children,
       c.if-ready.false,
     ) refl
