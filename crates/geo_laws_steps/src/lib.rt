@@ -1,9 +1,9 @@
 //! Laws of each step and of each legal log: a mesh stays sound, steady and fitting, opens and appends are answered by
-//! what the mesh forbids (geom(4), g_access(9)).
+//! what the mesh forbids, no piece is lost, and only what is idle is freed (geom(4), g_access(9), g_bio(9)).
 #![tactic(auto)]
 
-ghost use Rattle.geo_model.specs.History.{AppendsAreAnswered, LegalAndSound, OpensAreAnswered};
-ghost use Rattle.geo_model.specs.Laws.{LegalLogsStayFitting, LegalLogsStaySteady, NoPieceIsLost, OfEachLegalLog, StepsStayFirm};
+ghost use Rattle.geo_model.specs.History.{AlwaysFreesOnlyIdle, AppendsAreAnswered, LegalAndSound, OpensAreAnswered};
+ghost use Rattle.geo_model.specs.Laws.{LegalLogsOfferOnlyLiving, LegalLogsStayFitting, LegalLogsStaySteady, NoPieceIsLost, OfEachLegalLog, StepsStayFirm};
 ghost use Rattle.geo_laws_steps.specs.CommandLaws.{CommandsStayFirm};
 
 /// A firm mesh stays firm with each command of a plan, and with each Go.
@@ -33,4 +33,10 @@ pub fn opens_and_appends_are_answered()
 /// Where a legal log leads, each piece of a request that can start has a consumer through which it goes down.
 pub fn no_piece_is_lost()
     ensures { NoPieceIsLost }
+{}
+
+/// In each legal log a step destroys only what was closed, detached and idle, and offers for taste only what lives.
+pub fn legal_logs_free_only_idle()
+    ensures freed { OfEachLegalLog AlwaysFreesOnlyIdle }
+    ensures offered { LegalLogsOfferOnlyLiving }
 {}

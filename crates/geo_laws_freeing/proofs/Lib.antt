@@ -1,0 +1,4 @@
+pub mod Ends
+pub mod OfHandles
+pub mod Frees
+pub mod Offers

@@ -1,0 +1,10 @@
+pub mod Quiet
+pub mod Offers
+pub mod Bios
+pub mod Events
+pub mod Geoms
+pub mod Accepts
+pub mod Judges
+pub mod Washes
+pub mod Frees
+pub mod Steps
