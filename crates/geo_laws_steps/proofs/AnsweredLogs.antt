@@ -18,6 +18,7 @@ pub record MadeSo (w : World) (e : Entry) : Type 0 where
   pub after : World
   pub is : step w e.seat e.step ≡ Ok (after, e.outcome)
 
+-- an entry that is made has its answer
 made-so : (w : World) (e : Entry) (r : Answer) → step w e.seat e.step ≡ r
     → IsOkAnd r (λ made. made.1 ≡ e.outcome) → MadeSo w e
 made-so w e (Ok made) is same = record { after = made.0; is = is ∙ ap (λ o. Ok (made.0, o)) same }

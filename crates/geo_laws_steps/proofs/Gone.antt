@@ -52,6 +52,7 @@ done-firm w line actor c is firm =
 each_stays : EachStaysFirm (λ c. true)
 each_stays = record { done = λ w line actor c passes is firm. done-firm w line actor c is firm }
 
+-- whatever command is next
 passes_all : (o : Option LineCommand) → IfSome o (λ c. true ≡ true)
 passes_all None = tt
 passes_all (Some c) = refl
@@ -60,5 +61,6 @@ passes_all (Some c) = refl
 pub commands_stay_firm : CommandsStayFirm
 commands_stay_firm = record {
   done = done-firm;
-  gone = λ w seat actor firm. goes_stay_firm.any (λ c. true) each_stays w seat actor (passes_all (next_command w actor)) firm;
+  gone = λ w seat actor firm.
+      goes_stay_firm.any (λ c. true) each_stays w seat actor (passes_all (next_command w actor)) firm;
 }

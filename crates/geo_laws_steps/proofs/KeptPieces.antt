@@ -27,6 +27,7 @@ with_geom_of t q = geom_at t q.geom >>= paired q
 same_pair : (x y : Provider × Geom Config) → Some x ≡ Some y → x ≡ y
 same_pair x y e = same_Some x y e
 
+-- so it is where the two are found together
 found_both : (t : Topology Config) (n : ℕ) (p : Provider) (g : Geom Config)
     → provider_with_geom t n ≡ Some (p, g) → FoundBoth t n p g
 found_both t n p g is = by (provider_at t n) refl is
