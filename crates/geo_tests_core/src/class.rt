@@ -1,0 +1,195 @@
+//! What no clause says: sectors from outside are taken, and there is memory.
+ghost use Rattle.std.specs.Prelude.{◌≡◌, ◌≤◌, [], ◌∷◌, None, Some, length, IfOk};
+ghost use Rattle.geo_model.specs.World.{Concat};
+
+use geo_base::{Block, ConsId, DeclineCause, Kind, Name, ProvId};
+use geo_class::{Asked, Config, Facts, Media, Shape, Taste, Verdict, judge, taste_where};
+use geo_concat::ConcatRecord;
+use geo_model::BioResult;
+use geo_range::Span;
+use std::process::Abort;
+use std::test::Fail;
+
+/// Of a provider of a disk, or of a slice, with so many sectors of 512 bytes.
+fn facts_of(kind: Kind, sectors: u64) -> Facts {
+    Facts {
+        kind,
+        sector: 512,
+        sectors,
+    }
+}
+
+/// A table or a link with an entry of this type, first sector and number of sectors at each of two places.
+fn table_of(entries: [(u8, u32, u32); 2]) -> [u8; 512] {
+    let mut sector = [0u8; 512];
+    let (kind, first, count) = entries[0];
+    sector[450] = kind;
+    sector[454..458].copy_from_slice(&first.to_le_bytes());
+    sector[458..462].copy_from_slice(&count.to_le_bytes());
+    let (kind, first, count) = entries[1];
+    sector[466] = kind;
+    sector[470..474].copy_from_slice(&first.to_le_bytes());
+    sector[474..478].copy_from_slice(&count.to_le_bytes());
+    sector[510] = 0x55;
+    sector[511] = 0xAA;
+    sector
+}
+
+/// A label of version 2 of the volume `vol`, whose media has 3,584 bytes.
+fn sized_label() -> [u8; 512] {
+    let mut sector = [0u8; 512];
+    sector[..23].copy_from_slice(b"RGEOM::LABEL\0\0\0\0\x02\0\0\0vol");
+    sector[37] = 0x0E;
+    sector
+}
+
+#[test]
+fn a_slice_of_a_table(rt: HostRuntime) {
+    let facts = facts_of(Kind::Disk, 64);
+    assert_eq!(rt; taste_where(Kind::Mbr, &facts), Some(0));
+    assert_eq!(rt; taste_where(Kind::Ebr, &facts), None);
+    let sector = table_of([(5, 1, 63), (0, 0, 0)]);
+    let Verdict::Accept(Shape::Slices(table)) = judge(Kind::Mbr, &sector, &facts) else {
+        panic!(rt; "no table")
+    };
+    assert!(rt; table.slices[1].is_none());
+    let config = Config::mbr(Some(ConsId::new(7)), table.slices);
+    assert_eq!(rt; config.component(0), Some(ConsId::new(7)));
+    assert_eq!(rt; config.component(1), None);
+    assert_eq!(rt; config.disk_of(), None);
+}
+
+#[test]
+fn a_label_of_its_media_alone(rt: HostRuntime) {
+    let facts = facts_of(Kind::Disk, 7);
+    assert_eq!(rt; taste_where(Kind::Label, &facts), Some(6));
+    let Verdict::Accept(Shape::Named(found)) = judge(Kind::Label, &sized_label(), &facts) else {
+        panic!(rt; "no label")
+    };
+    assert_eq!(rt; found.name.bytes(), b"vol".as_slice());
+    let longer = facts_of(Kind::Disk, 8);
+    let Verdict::Decline(cause) = judge(Kind::Label, &sized_label(), &longer) else {
+        panic!(rt; "another media")
+    };
+    assert_eq!(rt; cause, DeclineCause::Media);
+}
+
+/// A taste with the sector of a link back for EBR.
+fn with_link(rt: &impl Abort, taste: &mut Taste, bytes: Block, facts: &Facts) -> Verdict
+    requires { 512 ≤ length bytes }
+{
+    assert!(rt; taste.reads() < 33);
+    taste.note_read(Kind::Ebr);
+    assert!(rt; taste.read_out());
+    taste.take_back(BioResult::Bytes(bytes));
+    let Some(verdict) = taste.judge_back(facts) else {
+        panic!(rt; "no sector")
+    };
+    verdict
+}
+
+#[test]
+fn a_chain_of_two_links(rt: HostRuntime) -> Result<(), Fail> {
+    let facts = facts_of(Kind::Mbr, 63);
+    let mut taste = Taste::new(ProvId::new(2), ConsId::new(5));
+    assert_eq!(rt;
+        (taste.provider(), taste.consumer()),
+        (ProvId::new(2), ConsId::new(5))
+    );
+    assert_eq!(rt; taste.next_class(), Some(Kind::Mbr));
+    assert_eq!(rt; taste.next_class(), Some(Kind::Ebr));
+    let first = Block::from_slice(rt.alloc(), &table_of([(0xA5, 1, 4), (5, 10, 5)]))?;
+    let Verdict::More(next) = with_link(&rt, &mut taste, first, &facts) else {
+        panic!(rt; "no more")
+    };
+    assert_eq!(rt; (next, taste.reads()), (10, 1));
+    assert!(rt; matches!(taste.asked(), Asked::NextSector { .. }));
+    let last = Block::from_slice(rt.alloc(), &table_of([(0xA5, 1, 3), (0, 0, 0)]))?;
+    let Verdict::Accept(Shape::Logical(table)) = with_link(&rt, &mut taste, last, &facts) else {
+        panic!(rt; "no chain")
+    };
+    let Some(part) = table.parts[1] else {
+        panic!(rt; "no partition")
+    };
+    assert_eq!(rt; (part.first, part.count), (11, 3));
+    assert_eq!(rt; taste.next_class(), Some(Kind::Label));
+    Ok(())
+}
+
+#[test]
+fn the_first_place_of_two(rt: HostRuntime) -> Result<(), Fail> {
+    let found = ConcatRecord {
+        name: Name::new(b"v")?,
+        id: 7,
+        place: 0,
+        count: 2,
+    };
+    let empty = Config::empty_concat(rt.alloc(), &found)?;
+    assert!(rt; empty.is_free(0));
+    let Some(half) = empty.filled(rt.alloc(), 0, ConsId::new(3), 1536, 512)? else {
+        panic!(rt; "no place")
+    };
+    assert!(rt; half.is_same_assembly(&empty));
+    assert!(rt; !half.is_whole());
+    assert_eq!(rt; half.component(0), Some(ConsId::new(3)));
+    assert_eq!(rt; half.components(rt.alloc())?.len(), 1);
+    Ok(())
+}
+
+/// A concat of 1,536 and 2,560 bytes, as a command makes it.
+fn concat_of(rt: &HostRuntime) -> Result<Config, Fail>
+    ensures { IfOk result (λ config. config ≡ Concat None (Some 3 ∷ Some 4 ∷ []) (1536 ∷ 2560 ∷ [])) }
+{
+    let consumers = vec![in rt.alloc(); Some(ConsId::new(3)), Some(ConsId::new(4))]?;
+    let sizes = vec![in rt.alloc(); 1536, 2560]?;
+    Ok(Config::concat(None, consumers, sizes, 512))
+}
+
+#[test]
+fn a_range_over_both_components(rt: HostRuntime) -> Result<(), Fail> {
+    let config = concat_of(&rt)?;
+    assert_eq!(rt; config.joined_size(), Some(4096));
+    let media = Media {
+        name: Name::new(b"concat/v")?,
+        size: 4096,
+        sector: 512,
+    };
+    let span = Span {
+        offset: 1024,
+        len: 2048,
+    };
+    let list = config.split(rt.alloc(), &media, span)?;
+    let items = list.items();
+    assert_eq!(rt; items.len(), 2);
+    let Some(second) = items.get(1) else {
+        panic!(rt; "one piece")
+    };
+    assert_eq!(rt; (second.child, second.span.len), (1, 1536));
+    let consumers = config.consumers(rt.alloc(), items)?;
+    assert_eq!(rt; consumers.get(1).copied(), Some(ConsId::new(4)));
+    assert_eq!(rt; config.flush(rt.alloc())?.items().len(), 2);
+    let grown = config.with_place(rt.alloc(), ConsId::new(5), 512, 512)?;
+    assert_eq!(rt; grown.joined_size(), Some(4608));
+    Ok(())
+}
+
+#[test]
+fn a_range_of_a_window(rt: HostRuntime) -> Result<(), Fail> {
+    let config = Config::nop(Some(ConsId::new(3)), 1024, 3);
+    assert_eq!(rt; config.fail(), Some(3));
+    let media = Media {
+        name: Name::new(b"md0.nop")?,
+        size: 2048,
+        sector: 512,
+    };
+    let span = Span {
+        offset: 512,
+        len: 512,
+    };
+    let list = config.split(rt.alloc(), &media, span)?;
+    let Some(piece) = list.items().first() else {
+        panic!(rt; "no piece")
+    };
+    assert_eq!(rt; piece.span.offset, 1536);
+    Ok(())
+}

@@ -1,0 +1,7 @@
+//! Tests of the core's parts: access counts over the mesh, and classes.
+#![tactic(auto)]
+
+#[cfg(test)]
+mod access;
+#[cfg(test)]
+mod class;
