@@ -1,6 +1,6 @@
 -- What else holds at every moment of sizes and sectors, of concats and their places, of the taste's read, and of the
 -- commands that are left. Soundness and steadiness alone aren't kept by each step.
-use Rattle.std.specs.Prelude.{◌≡◌, ◌≢◌, ℕ, ◌/◌, ◌%◌, ◌<◌, ◌≤◌, List, [], length, count_by, Option, Some, IsSome, IsSomeAnd, IfSome, IsTrue, All, AllPairs, ⊤, option_and_then}
+use Rattle.std.specs.Prelude.{◌≡◌, ◌≢◌, ◌⊎◌, ℕ, ◌/◌, ◌%◌, ◌<◌, ◌≤◌, List, [], length, count_by, Option, Some, IsSome, IsSomeAnd, IfSome, IsTrue, All, AllPairs, ⊤, option_and_then}
 use Rattle.std.specs.List.{AllZip}
 use Rattle.geo_base.specs.Sectors.{IsSectorSize}
 use Rattle.geo_base.specs.declared.kind.Kind.{Kind}
@@ -85,9 +85,11 @@ pub record PlacesHold (g : Geom Config) : Type 0 where
   pub apart : AllPairs (λ a b. a ≢ b) (components g.config)
   pub few : length (places_of g.config) ≤ component_limit
 
--- the provider of a CONCAT is as long as its components were together when they joined
+-- the provider of a CONCAT or STRIPE is as long as its components, as they were when they joined, make it
 abbrev pub HasItsSum : Topology Config → Geom Config → Type 0
-HasItsSum t g = g.kind ≡ kinds.Concat → All (λ p. p.size ≡ joined_size g.config) (providers_of t g.number)
+HasItsSum t g =
+    (g.kind ≡ kinds.Concat) ⊎ (g.kind ≡ kinds.Stripe)
+    → All (λ p. p.size ≡ joined_size g.config) (providers_of t g.number)
 
 -- all of it
 pub record Fitting (w : World) : Type 0 where
