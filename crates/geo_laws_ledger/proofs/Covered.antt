@@ -1,0 +1,77 @@
+-- What covers a bio in one world covers it in another in which its provider has the same map.
+use Rattle.std.specs.Prelude.{◌≡◌, ℕ, ◌==◌, Bool, true, false, not, List, [], ◌∷◌, map, find, Option, Some, None, IsTrue, IsSomeAnd, option_map}
+use Rattle.std.proofs.Common.{refl, sym, ◌∙◌, ap}
+use Rattle.std.proofs.lemmas.Bool.{eqb-true}
+use Rattle.geo_model.specs.Words.{is_flush}
+use Rattle.geo_model.specs.Topology.{Topology, Provider, provider_at}
+use Rattle.geo_model.specs.World.{World, Config, Bio}
+use Rattle.geo_model.specs.Place.{flat, ends}
+use Rattle.geo_model.specs.Results.{Leaf, CoversRange, CoversEnds, sector_offsets, sectors_of_request}
+use Rattle.geo_laws_ledger.specs.Covering.{CoversBy, CoversThere, SameMap, sizes_at}
+
+-- what a test finds passes it
+pub found_passes : {X : Type 0} (test : X → Bool) (xs : List X) (x : X) → find test xs ≡ Some x → test x ≡ true
+found_passes test [] x found = absurd (let bad : ⊥ = cc in bad)
+found_passes test (y ∷ ys) x found = by (test y) refl (found_passes test ys x) found
+  where
+    by : (b : Bool) → test y ≡ b → (find test ys ≡ Some x → test x ≡ true) → find test (y ∷ ys) ≡ Some x → test x ≡ true
+    by true passes rest found =
+        let here : Some y ≡ Some x = rw passes at found in
+        let same : y ≡ x = cc in
+        ap test (sym same) ∙ passes
+    by false passes rest found = rest (rw passes at found)
+
+-- a provider that is found by a number has it
+pub number_of_found : (t : Topology Config) (n : ℕ) (p : Provider) → provider_at t n ≡ Some p → p.number ≡ n
+number_of_found t n p found = eqb-true p.number n (found_passes (λ x. x.number == n) t.providers p found)
+
+-- with the same sectors and the same map a range that was covered is covered
+covered_at : (w v : World) (x : Bio) (p q : Provider) (found : List Leaf) → SameMap w.topology v.topology x.target
+    → p.number ≡ x.target → q.number ≡ x.target → q.sector ≡ p.sector → CoversBy w x p found → CoversBy v x q found
+covered_at w v x p q found same its_number number sector covers = record {
+  range = λ moves.
+      let old : CoversRange w x p found = covers.range moves in
+      record {
+        sectors =
+            old.sectors
+            ∙ ap (λ n. map (flat w.topology n) (sector_offsets p.sector x.offset x.len)) its_number
+            ∙ maps_alike (flat w.topology x.target) (flat v.topology x.target) (λ o. sym (same.sectors o))
+            (sector_offsets p.sector x.offset x.len)
+            ∙ ap (λ s. map (flat v.topology x.target) (sector_offsets s x.offset x.len)) (sym sector)
+            ∙ ap (λ n. map (flat v.topology n) (sector_offsets q.sector x.offset x.len)) (sym number);
+        commands = old.commands;
+        bytes = old.bytes;
+      };
+  flush = λ flushes.
+      let old : CoversEnds w x p found = covers.flush flushes in
+      record {
+        disks = old.disks ∙ ap (λ n. ends w.topology n) its_number ∙ sym same.disks
+            ∙ ap (λ n. ends v.topology n) (sym number);
+        commands = old.commands;
+      };
+}
+  where
+    maps_alike : {X Y : Type 0} (f g : X → Y) → ((x : X) → f x ≡ g x) → (xs : List X) → map f xs ≡ map g xs
+    maps_alike f g alike [] = refl
+    maps_alike f g alike (x ∷ xs) = rw (alike x, maps_alike f g alike xs) refl
+
+-- so it is at the provider of the bio
+pub covers_stay : (w v : World) (x : Bio) (found : List Leaf) → SameMap w.topology v.topology x.target
+    → CoversThere w x found → CoversThere v x found
+covers_stay w v x found same covers =
+    by (provider_at w.topology x.target) refl (provider_at v.topology x.target) refl same.sizes covers
+  where
+    by : (o : Option Provider) → provider_at w.topology x.target ≡ o
+        → (k : Option Provider) → provider_at v.topology x.target ≡ k
+        → option_map {U = ℕ × ℕ} (λ (y : Provider). (y.sector, y.size)) k
+        ≡ option_map {U = ℕ × ℕ} (λ (y : Provider). (y.sector, y.size)) o
+        → IsSomeAnd o (λ p. CoversBy w x p found) → IsSomeAnd k (λ p. CoversBy v x p found)
+    by None is k are sizes covers = absurd covers
+    by (Some p) is None are sizes covers = absurd (let bad : ⊥ = cc in bad)
+    by (Some p) is (Some q) are sizes covers =
+        let both : (q.sector, q.size) ≡ (p.sector, p.size) = pair_of (q.sector, q.size) (p.sector, p.size) sizes in
+        covered_at w v x p q found same (number_of_found w.topology x.target p is)
+        (number_of_found v.topology x.target q are) (ap (λ (y : ℕ × ℕ). y.0) both) covers
+      where
+        pair_of : (a b : ℕ × ℕ) → Some a ≡ Some b → a ≡ b
+        pair_of a b e = cc

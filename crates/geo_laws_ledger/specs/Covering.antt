@@ -1,0 +1,26 @@
+-- When leaves cover a bio, and when two graphs map a provider alike (g_bio(9)).
+use Rattle.std.specs.Prelude.{◌≡◌, ℕ, not, List, Option, IsTrue, IsSomeAnd, option_map}
+use Rattle.geo_model.specs.Words.{is_flush}
+use Rattle.geo_model.specs.Topology.{Topology, Provider, provider_at}
+use Rattle.geo_model.specs.World.{World, Config, Bio}
+use Rattle.geo_model.specs.Place.{flat, ends}
+use Rattle.geo_model.specs.Results.{Leaf, CoversRange, CoversEnds}
+
+-- leaves went exactly over the range of a bio, or a FLUSH to each disk below
+pub record CoversBy (w : World) (x : Bio) (p : Provider) (found : List Leaf) : Type 0 where
+  pub range : IsTrue (not (is_flush x.cmd)) → CoversRange w x p found
+  pub flush : IsTrue (is_flush x.cmd) → CoversEnds w x p found
+
+-- so they did at the provider of the bio
+abbrev pub CoversThere : World → Bio → List Leaf → Type 0
+CoversThere w x found = IsSomeAnd (provider_at w.topology x.target) (λ p. CoversBy w x p found)
+
+-- the sector size of a provider and its media size
+abbrev pub sizes_at : Topology Config → ℕ → Option (ℕ × ℕ)
+sizes_at t p = option_map {U = ℕ × ℕ} (λ x. (x.sector, x.size)) (provider_at t p)
+
+-- a provider has the same sizes and the same map in two graphs
+pub record SameMap (t u : Topology Config) (p : ℕ) : Type 0 where
+  pub sizes : sizes_at u p ≡ sizes_at t p
+  pub sectors : (o : ℕ) → flat u p o ≡ flat t p o
+  pub disks : ends u p ≡ ends t p
