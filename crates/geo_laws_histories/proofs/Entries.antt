@@ -1,11 +1,11 @@
 -- What holds of each moment holds at each entry.
-use Rattle.std.specs.Prelude.{◌≡◌, List, [], ◌∷◌, ◌++◌, All}
+use Rattle.std.specs.Prelude.{List, [], ◌∷◌, ◌++◌, All}
 use Rattle.std.specs.List.{AllByRecursion}
 use Rattle.std.proofs.Common.{subst}
 use Rattle.std.proofs.lemmas.List.Elements.{recursion_from_All}
 use Rattle.geo_model.specs.declared.step.Entry.{Entry}
 use Rattle.geo_model.specs.World.{World}
-use Rattle.geo_model.specs.Log.{Moment, moments, after_entry, replay}
+use Rattle.geo_model.specs.Log.{moments, after_entry, replay}
 use Rattle.geo_model.specs.History.{AtEachEntry}
 
 -- at the entry that an earlier log leads to

@@ -1,14 +1,13 @@
 -- The result and the leaves of a finished bio stay, whatever is done later.
 use Rattle.std.specs.Prelude.{◌≡◌, ℕ, zero, suc, ◌+◌, List, [], ◌∷◌, ◌++◌, length, map, flat_map, Option, Some, None, IsSome, option_map}
 use Rattle.std.specs.List.{range_with_len}
-use Rattle.std.specs.Option.{option_map_or, option_to_list}
+use Rattle.std.specs.Option.{option_to_list}
 use Rattle.std.proofs.Common.{refl, sym, ◌∙◌, ap}
 use Rattle.std.proofs.Math.Nat.{suc-add}
 use Rattle.std.proofs.lemmas.List.{length-append}
 use Rattle.geo_base.specs.declared.request.BioCmd.{BioCmd}
 use Rattle.geo_model.specs.declared.step.BioResult.{BioResult}
 use Rattle.geo_model.specs.declared.step.DeviceResult.{DeviceResult}
-use Rattle.geo_model.specs.declared.step.Entry.{Entry}
 use Rattle.geo_model.specs.declared.step.Outcome.{Outcome}
 use Rattle.geo_model.specs.declared.step.Outcome.TheVariants as outcomes
 use Rattle.geo_model.specs.declared.step.Request.{Request}
@@ -16,7 +15,7 @@ use Rattle.geo_model.specs.Words.{◌>>=◌}
 use Rattle.geo_model.specs.World.{World}
 use Rattle.geo_model.specs.Bios.{joined_result, result_of_device}
 use Rattle.geo_model.specs.Log.{Moment}
-use Rattle.geo_model.specs.Results.{Leaf, start_moment, request_of, device_answer_of, entries_of, queued_leaf, leaves_by, leaves_within, leaves, all_there, cmd_before, children_in, result_by, result_within, result_of}
+use Rattle.geo_model.specs.Results.{Leaf, start_moment, request_of, device_answer_of, entries_of, queued_leaf, leaves_by, leaves_within, all_there, cmd_before, children_in, result_by, result_within}
 use Rattle.geo_laws_histories.specs.Histories.{AreTaken, ResultsStay, LeavesStay, HistoriesKeep}
 use Rattle.geo_laws_histories.proofs.Looks.{start_stays, request_stays, answer_stays}
 

@@ -1,3 +1,5 @@
 pub mod Looks
 pub mod Finished
 pub mod Entries
+pub mod CommandArrivals
+pub mod Arrivals

@@ -1,11 +1,10 @@
 -- Look-ups in a history that goes on.
-use Rattle.std.specs.Prelude.{◌≡◌, ℕ, Bool, true, false, List, [], ◌∷◌, ◌++◌, map, find, Option, Some, None, IsSome, option_and_then}
+use Rattle.std.specs.Prelude.{◌≡◌, ℕ, Bool, List, ◌++◌, find, Option, Some, None, option_and_then}
 use Rattle.std.specs.Option.{option_or}
-use Rattle.std.proofs.Common.{refl, sym, ◌∙◌, ap}
+use Rattle.std.proofs.Common.{refl, ◌∙◌, ap}
 use Rattle.std.proofs.lemmas.List.{map-append}
 use Rattle.std.proofs.lemmas.List.Folds.{find-append}
 use Rattle.geo_model.specs.declared.step.DeviceResult.{DeviceResult}
-use Rattle.geo_model.specs.declared.step.Entry.{Entry}
 use Rattle.geo_model.specs.declared.step.Request.{Request}
 use Rattle.geo_model.specs.Log.{Moment}
 use Rattle.geo_model.specs.Results.{start_moment, request_of, request_in, device_answer_of, device_answer_in, entries_of, is_start_of, is_take_of, is_deliver_of}

@@ -1,5 +1,5 @@
 -- Histories that go on: which steps name a bio, and what stays of what the log told of it (g_bio(9)).
-use Rattle.std.specs.Prelude.{◌≡◌, ℕ, ◌||◌, Bool, false, List, ◌++◌, Option, Some, IsSome, All}
+use Rattle.std.specs.Prelude.{◌≡◌, ℕ, ◌||◌, Bool, false, List, ◌++◌, Some, IsSome, All}
 use Rattle.geo_model.specs.declared.step.BioResult.{BioResult}
 use Rattle.geo_model.specs.declared.step.Step.{Step}
 use Rattle.geo_model.specs.Log.{Moment}
