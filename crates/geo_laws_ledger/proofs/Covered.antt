@@ -1,29 +1,16 @@
 -- What covers a bio in one world covers it in another in which its provider has the same map.
-use Rattle.std.specs.Prelude.{◌≡◌, ℕ, ◌==◌, Bool, true, false, not, List, [], ◌∷◌, map, find, Option, Some, None, IsTrue, IsSomeAnd, option_map}
+use Rattle.std.specs.Prelude.{◌≡◌, ℕ, List, [], ◌∷◌, map, Option, Some, None, IsSomeAnd, option_map}
 use Rattle.std.proofs.Common.{refl, sym, ◌∙◌, ap}
-use Rattle.std.proofs.lemmas.Bool.{eqb-true}
-use Rattle.geo_model.specs.Words.{is_flush}
+use Rattle.geo_laws_graph.proofs.Numbered.{number_found}
 use Rattle.geo_model.specs.Topology.{Topology, Provider, provider_at}
 use Rattle.geo_model.specs.World.{World, Config, Bio}
 use Rattle.geo_model.specs.Place.{flat, ends}
-use Rattle.geo_model.specs.Results.{Leaf, CoversRange, CoversEnds, sector_offsets, sectors_of_request}
-use Rattle.geo_laws_ledger.specs.Covering.{CoversBy, CoversThere, SameMap, sizes_at}
-
--- what a test finds passes it
-pub found_passes : {X : Type 0} (test : X → Bool) (xs : List X) (x : X) → find test xs ≡ Some x → test x ≡ true
-found_passes test [] x found = absurd (let bad : ⊥ = cc in bad)
-found_passes test (y ∷ ys) x found = by (test y) refl (found_passes test ys x) found
-  where
-    by : (b : Bool) → test y ≡ b → (find test ys ≡ Some x → test x ≡ true) → find test (y ∷ ys) ≡ Some x → test x ≡ true
-    by true passes rest found =
-        let here : Some y ≡ Some x = rw passes at found in
-        let same : y ≡ x = cc in
-        ap test (sym same) ∙ passes
-    by false passes rest found = rest (rw passes at found)
+use Rattle.geo_model.specs.Results.{Leaf, CoversRange, CoversEnds, sector_offsets}
+use Rattle.geo_laws_ledger.specs.Covering.{CoversBy, CoversThere, SameMap}
 
 -- a provider that is found by a number has it
 pub number_of_found : (t : Topology Config) (n : ℕ) (p : Provider) → provider_at t n ≡ Some p → p.number ≡ n
-number_of_found t n p found = eqb-true p.number n (found_passes (λ x. x.number == n) t.providers p found)
+number_of_found t n p found = number_found (λ (x : Provider). x.number) t.providers n p found
 
 -- with the same sectors and the same map a range that was covered is covered
 covered_at : (w v : World) (x : Bio) (p q : Provider) (found : List Leaf) → SameMap w.topology v.topology x.target

@@ -1,2 +1,4 @@
 pub mod Covered
 pub mod Logged
+pub mod Accounted
+pub mod Quiet

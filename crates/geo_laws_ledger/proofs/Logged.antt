@@ -1,6 +1,6 @@
 -- What the history tells of a bio stays, where a step names another or none.
-use Rattle.std.specs.Prelude.{◌≡◌, ℕ, ◌||◌, ◌&&◌, Bool, true, false, List, [], ◌∷◌, ◌++◌, map, Option, Some, None, IsSomeAnd, IsSome, All}
-use Rattle.std.proofs.Common.{refl, sym, ◌∙◌, ap}
+use Rattle.std.specs.Prelude.{◌≡◌, ℕ, ◌||◌, ◌&&◌, Bool, true, false, List, [], ◌∷◌, ◌++◌, map, Option, Some, None, IsSomeAnd}
+use Rattle.std.proofs.Common.{refl, ◌∙◌, ap}
 use Rattle.std.proofs.lemmas.List.Elements.{All-append, All-from_recursion}
 use Rattle.geo_model.specs.declared.step.BioResult.{BioResult}
 use Rattle.geo_model.specs.declared.step.DeviceResult.{DeviceResult}
@@ -11,13 +11,13 @@ use Rattle.geo_model.specs.declared.step.Request.{Request}
 use Rattle.geo_model.specs.declared.step.Step.{Step}
 use Rattle.geo_model.specs.World.{World, Bio, children_of}
 use Rattle.geo_model.specs.Log.{Moment}
-use Rattle.geo_model.specs.Results.{Leaf, start_moment, request_of, entries_of, result_of, leaves, is_start_of, is_take_of, is_deliver_of, is_up_of}
-use Rattle.geo_model.specs.History.{IsSuccess, is_reply_to, is_reply}
+use Rattle.geo_model.specs.Results.{Leaf, start_moment, request_of, entries_of, leaves, is_start_of, is_take_of, is_deliver_of, is_up_of}
+use Rattle.geo_model.specs.History.{is_reply_to, is_reply}
 use Rattle.geo_laws_histories.specs.Histories.{names_bio, Never, AreTaken}
 use Rattle.geo_laws_histories.proofs.Looks.{start_stays, request_stays}
 use Rattle.geo_laws_histories.proofs.Finished.{finished_stay}
 use Rattle.geo_laws_ledger.specs.Covering.{CoversThere, SameMap}
-use Rattle.geo_laws_ledger.specs.Ledger.{IsLogged, SoFar, WasQueued, WasSplit, WasAsked, HasResult, NotStarted, NotTaken, NotDelivered}
+use Rattle.geo_laws_ledger.specs.Ledger.{IsLogged, SoFar, WasQueued, WasAsked, HasResult}
 use Rattle.geo_laws_ledger.proofs.Covered.{covers_stay}
 
 -- the parts of a test that nothing passes

@@ -1,5 +1,5 @@
 -- When leaves cover a bio, and when two graphs map a provider alike (g_bio(9)).
-use Rattle.std.specs.Prelude.{◌≡◌, ℕ, not, List, Option, IsTrue, IsSomeAnd, option_map}
+use Rattle.std.specs.Prelude.{◌≡◌, ℕ, not, List, Option, IsTrue, IsSomeAnd, All, option_map}
 use Rattle.geo_model.specs.Words.{is_flush}
 use Rattle.geo_model.specs.Topology.{Topology, Provider, provider_at}
 use Rattle.geo_model.specs.World.{World, Config, Bio}
@@ -24,3 +24,7 @@ pub record SameMap (t u : Topology Config) (p : ℕ) : Type 0 where
   pub sizes : sizes_at u p ≡ sizes_at t p
   pub sectors : (o : ℕ) → flat u p o ≡ flat t p o
   pub disks : ends u p ≡ ends t p
+
+-- so for the provider of each bio that stands
+abbrev pub SameMaps : World → World → Type 0
+SameMaps w v = All (λ x. SameMap w.topology v.topology x.target) w.bios

@@ -1,5 +1,5 @@
 -- The ledger of requests: what ties a history to the world that it leads to, bio by bio (g_bio(9)).
-use Rattle.std.specs.Prelude.{◌≡◌, ℕ, ◌<◌, ◌≤◌, false, List, count_by, ◌∷◌, [], map, Some, IsSomeAnd, MatchOption, All, ⊤}
+use Rattle.std.specs.Prelude.{◌≡◌, ℕ, ◌<◌, ◌≤◌, false, List, count_by, ◌∷◌, [], map, Some, IsSomeAnd, MatchOption, All}
 use Rattle.std.specs.List.{range_with_len}
 use Rattle.geo_model.specs.declared.step.BioResult.{BioResult}
 use Rattle.geo_model.specs.declared.step.DeviceResult.{DeviceResult}
@@ -7,10 +7,9 @@ use Rattle.geo_model.specs.declared.step.Outcome.TheVariants as outcomes
 use Rattle.geo_model.specs.declared.step.Owner.TheVariants as owners
 use Rattle.geo_model.specs.declared.step.Phase.{Phase}
 use Rattle.geo_model.specs.declared.step.Phase.TheVariants as phases
-use Rattle.geo_model.specs.declared.step.Request.{Request}
 use Rattle.geo_model.specs.World.{World, Bio, bio_at, children_of}
 use Rattle.geo_model.specs.Log.{Moment, after_entry}
-use Rattle.geo_model.specs.Results.{Leaf, cmd_before, entries_of, is_deliver_of, is_start_of, is_take_of, leaves, request_of, result_of, start_moment}
+use Rattle.geo_model.specs.Results.{cmd_before, entries_of, is_deliver_of, is_start_of, is_take_of, leaves, request_of, result_of, start_moment}
 use Rattle.geo_model.specs.History.{Acceptance, CompletesOnce, IsSuccess, is_reply_to}
 use Rattle.geo_laws_histories.specs.Histories.{names_bio, Never, AreTaken}
 use Rattle.geo_laws_ledger.specs.Covering.{CoversThere, SameMap}
