@@ -2,3 +2,4 @@ pub mod Covered
 pub mod Logged
 pub mod Accounted
 pub mod Quiet
+pub mod Turning
