@@ -6,6 +6,7 @@ use Rattle.geo_model.specs.declared.step.Entry.{Entry}
 use Rattle.geo_model.specs.declared.step.Outcome.{Outcome}
 use Rattle.geo_model.specs.declared.step.Owner.{Owner}
 use Rattle.geo_model.specs.declared.step.Owner.TheVariants as owners
+use Rattle.geo_model.specs.declared.step.Phase.TheVariants as phases
 use Rattle.geo_model.specs.declared.step.Step.{Step}
 use Rattle.geo_model.specs.World.{World, Bio, bio_at, children_of, is_child_of, is_root}
 use Rattle.geo_model.specs.Step.{step}
@@ -94,6 +95,20 @@ accounted_quietly h m w v a taken maps none more same was = record {
         (All-contains (λ (y : Bio). SameMap w.topology v.topology y.target) w.bios x maps
         (find-Contains (λ (y : Bio). y.number == a.bio) w.bios x is)) way
 
+-- a bio that is Down and was never named is logged
+pub new_bio_logged : (h : List Moment) (w : World) (y : Bio) → y.phase ≡ phases.Down → Never (names_bio y.number) h
+    → IsLogged h w y
+new_bio_logged h w y down never = record {
+  unreplied = weaker (λ m e. no_reply y.number m e);
+  so_far = subst (SoFar h w y) (sym down)
+      (weaker (λ m e. (unnamed y.number m.entry.step e).start),
+      weaker (λ m e. (unnamed y.number m.entry.step e).take),
+      weaker (λ m e. (unnamed y.number m.entry.step e).deliver));
+}
+  where
+    weaker : {Q : Moment → Type 0} → ((m : Moment) → names_bio y.number m.entry.step ≡ false → Q m) → All Q h
+    weaker {Q} so = all_members (λ m. names_bio y.number m.entry.step ≡ false) Q h (λ m here e. so m e) never
+
 module _ (h : List Moment) (w v : World) (seat : ℕ) (s : Step) (o : Outcome) (ledger : Ledger h w)
     (are : AreNumbers (map (λ (x : Bio). x.number) w.bios) w.next_bio) (none : NamesNone s)
     (made : step w seat s ≡ Ok (v, o)) (maps : SameMaps w v) where
@@ -165,20 +180,8 @@ module _ (h : List Moment) (w v : World) (seat : ℕ) (s : Step) (o : Outcome) (
   -- the bio that arrived is Down, and nothing was said of it
   logged_new : (y : Bio) → BioArrives w v y → IsLogged (h ++ this ∷ []) v y
   logged_new y come =
-      let never : Never (names_bio y.number) (h ++ this ∷ []) =
-      fresh_quietly h this w.next_bio w.next_bio (omega arith) none ledger.fresh y.number
-      (omega (arith, come.number)) in
-      record {
-        unreplied = weaker (λ m. names_bio y.number m.entry.step ≡ false) (λ m. is_reply_to y.number m.entry ≡ false)
-            (λ m e. no_reply y.number m e) never;
-        so_far = subst (SoFar (h ++ this ∷ []) v y) (sym come.phase)
-            (weaker _ _ (λ m e. (unnamed y.number m.entry.step e).start) never,
-            weaker _ _ (λ m e. (unnamed y.number m.entry.step e).take) never,
-            weaker _ _ (λ m e. (unnamed y.number m.entry.step e).deliver) never);
-      }
-    where
-      weaker : (P Q : Moment → Type 0) → ((m : Moment) → P m → Q m) → All P (h ++ this ∷ []) → All Q (h ++ this ∷ [])
-      weaker P Q so all = all_members P Q (h ++ this ∷ []) (λ m here p. so m p) all
+      new_bio_logged (h ++ this ∷ []) v y come.phase
+      (fresh_quietly h this w.next_bio w.next_bio (omega arith) none ledger.fresh y.number (omega (arith, come.number)))
 
   -- the acceptance of the bio that arrived
   accounted_new : (y : Bio) → BioArrives w v y → AcceptsIt o y → AcceptsAreAccounted (h ++ this ∷ []) v this

@@ -1,0 +1,1 @@
+-- A Start keeps the ledger: the bio goes back with an error, is sent to its disk, or is split.
