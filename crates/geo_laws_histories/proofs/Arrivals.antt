@@ -25,7 +25,7 @@ use Rattle.geo_laws_histories.specs.Arrivals.{BiosStay, StayOrArrive, BiosStayOr
 use Rattle.geo_laws_histories.proofs.CommandArrivals.{Made, command_made, same_bios}
 
 -- an answer that is ok
-abbrev okay : World × Outcome → Answer
+abbrev pub okay : World × Outcome → Answer
 okay made = Ok made
 
 -- what is known of what was made is known of the answer's world and outcome
