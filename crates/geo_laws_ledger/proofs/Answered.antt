@@ -1,19 +1,12 @@
 -- The step that names a bio at last is the one that the history tells: its Start, its Take, its Deliver.
-use Rattle.std.specs.Prelude.{◌≡◌, ℕ, ◌==◌, suc, ◌+◌, Bool, true, false, List, [], ◌∷◌, ◌++◌, length, map, find, Option, Some, None, option_and_then, option_map, All}
+use Rattle.std.specs.Prelude.{◌≡◌, ℕ, suc, Bool, true, false, List, [], ◌∷◌, ◌++◌, length, map, find, Some, None, option_and_then}
 use Rattle.std.specs.List.{AllByRecursion}
 use Rattle.std.proofs.Common.{refl, sym, ◌∙◌, ap}
 use Rattle.std.proofs.Math.Numerals.{suc-eq-add-one}
-use Rattle.std.proofs.lemmas.Bool.{eq-eqb}
 use Rattle.std.proofs.lemmas.List.{length-append}
-use Rattle.std.proofs.lemmas.List.Elements.{recursion_from_All, All-map}
-use Rattle.geo_model.specs.declared.step.BioResult.{BioResult}
-use Rattle.geo_model.specs.declared.step.DeviceResult.{DeviceResult}
+use Rattle.std.proofs.lemmas.List.Elements.{recursion_from_All}
 use Rattle.geo_model.specs.declared.step.Entry.{Entry}
-use Rattle.geo_model.specs.declared.step.Request.{Request}
 use Rattle.geo_model.specs.declared.step.Step.{Step}
-use Rattle.geo_model.specs.declared.step.Outcome.TheVariants as outcomes
-use Rattle.geo_model.specs.Words.{◌>>=◌}
-use Rattle.geo_model.specs.World.{World}
 use Rattle.geo_model.specs.Log.{Moment}
 use Rattle.geo_model.specs.Results.{start_moment, request_of, request_in, device_answer_of, device_answer_in, entries_of, is_start_of, is_take_of, is_deliver_of, result_of, result_within, result_by, children_in, leaves, leaves_within, leaves_by}
 use Rattle.geo_laws_graph.proofs.Numbered.{find-pushed_hit}

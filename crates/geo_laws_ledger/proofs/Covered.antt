@@ -1,12 +1,14 @@
 -- What covers a bio in one world covers it in another in which its provider has the same map.
-use Rattle.std.specs.Prelude.{◌≡◌, ℕ, List, [], ◌∷◌, map, Option, Some, None, IsSomeAnd, option_map}
-use Rattle.std.proofs.Common.{refl, sym, ◌∙◌, ap}
+use Rattle.std.specs.Prelude.{◌≡◌, ℕ, List, [], ◌∷◌, map, Option, Some, None, not, IsTrue, All, IsSomeAnd, option_map}
+use Rattle.std.proofs.Common.{refl, sym, ◌∙◌, ap, subst}
+use Rattle.geo_model.specs.Words.{is_flush, is_write, same_cmd}
 use Rattle.geo_laws_graph.proofs.Numbered.{number_found}
 use Rattle.geo_model.specs.Topology.{Topology, Provider, provider_at}
 use Rattle.geo_model.specs.World.{World, Config, Bio}
 use Rattle.geo_model.specs.Place.{flat, ends}
 use Rattle.geo_model.specs.Results.{Leaf, CoversRange, CoversEnds, sector_offsets}
 use Rattle.geo_laws_ledger.specs.Covering.{CoversBy, CoversThere, SameMap}
+use Rattle.geo_laws_ledger.specs.Ledger.{IsSameRequest}
 
 -- a provider that is found by a number has it
 pub number_of_found : (t : Topology Config) (n : ℕ) (p : Provider) → provider_at t n ≡ Some p → p.number ≡ n
@@ -62,3 +64,32 @@ covers_stay w v x found same covers =
       where
         pair_of : (a b : ℕ × ℕ) → Some a ≡ Some b → a ≡ b
         pair_of a b e = cc
+
+-- what covers a bio covers it however far it has come
+pub covers_request : (w : World) (x y : Bio) (found : List Leaf) → IsSameRequest x y → CoversThere w x found
+    → CoversThere w y found
+covers_request w x y found same covers =
+    subst (λ n. IsSomeAnd (provider_at w.topology n) (λ p. CoversBy w y p found)) (sym same.target)
+    (by (provider_at w.topology x.target) covers)
+  where
+    by : (o : Option Provider) → IsSomeAnd o (λ p. CoversBy w x p found) → IsSomeAnd o (λ p. CoversBy w y p found)
+    by None some = some
+    by (Some p) some = record {
+      range = λ moves.
+          let old : CoversRange w x p found = some.range (subst (λ c. IsTrue (not (is_flush c))) same.cmd moves) in
+          record {
+            sectors = old.sectors
+                ∙ ap (λ n. map (flat w.topology p.number) (sector_offsets p.sector n x.len)) (sym same.offset)
+                ∙ ap (λ n. map (flat w.topology p.number) (sector_offsets p.sector y.offset n)) (sym same.len);
+            commands = subst (λ c. All (λ (leaf : Leaf). IsTrue (same_cmd leaf.request.cmd c)) found) (sym same.cmd)
+                old.commands;
+            bytes = λ writes. old.bytes (subst (λ c. IsTrue (is_write c)) same.cmd writes) ∙ sym same.bytes;
+          };
+      flush = λ flushes.
+          let old : CoversEnds w x p found = some.flush (subst (λ c. IsTrue (is_flush c)) same.cmd flushes) in
+          record {
+            disks = old.disks;
+            commands = subst (λ c. All (λ (leaf : Leaf). IsTrue (same_cmd leaf.request.cmd c)) found) (sym same.cmd)
+                old.commands;
+          };
+    }

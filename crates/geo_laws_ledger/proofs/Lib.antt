@@ -5,3 +5,5 @@ pub mod Quiet
 pub mod Turning
 pub mod Answered
 pub mod Starts
+pub mod AtDisk
+pub mod Takes

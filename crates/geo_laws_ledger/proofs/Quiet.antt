@@ -12,7 +12,7 @@ use Rattle.geo_model.specs.World.{World, Bio, bio_at, children_of, is_child_of, 
 use Rattle.geo_model.specs.Step.{step}
 use Rattle.geo_model.specs.Log.{Moment, after_entry, world_after}
 use Rattle.geo_model.specs.Results.{device_answer_of, device_answer_in, request_of, entries_of, is_deliver_of}
-use Rattle.geo_model.specs.History.{Acceptance, is_reply_to}
+use Rattle.geo_model.specs.History.{Acceptance}
 use Rattle.geo_model.specs.Graph.{AreNumbers}
 use Rattle.geo_laws_graph.proofs.Living.{all_members}
 use Rattle.geo_laws_graph.proofs.Members.{find-Contains, has}

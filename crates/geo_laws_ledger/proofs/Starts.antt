@@ -1,9 +1,9 @@
 -- A Start keeps the ledger: the bio goes back with an error, is sent to its disk, or is split.
-use Rattle.std.specs.Prelude.{◌≡◌, ◌≢◌, ℕ, zero, suc, ◌+◌, ◌<◌, ◌≤◌, ◌==◌, Bool, true, false, List, [], ◌∷◌, ◌++◌, length, map, filter, find, Option, Some, None, Ok, Err, IsTrue, IsSomeAnd, All, Contains, option_map, unwrap_or, if◌then◌else◌, ⊤}
+use Rattle.std.specs.Prelude.{◌≡◌, ◌≢◌, ℕ, suc, ◌+◌, ◌≤◌, ◌==◌, Bool, true, false, List, [], ◌∷◌, ◌++◌, length, map, filter, Option, Some, None, Ok, Err, IsTrue, IsSomeAnd, All, option_map, if◌then◌else◌, ⊤}
 use Rattle.std.specs.List.{AllByRecursion, enumerate_from, range_with_len}
 use Rattle.std.proofs.Common.{refl, sym, ◌∙◌, ap, subst, arith, append-nil}
 use Rattle.std.proofs.lemmas.Bool.{eq-eqb, ne_eqb}
-use Rattle.std.proofs.lemmas.List.Elements.{All-append, All-contains, All-from_recursion, recursion_from_All, filter-append}
+use Rattle.std.proofs.lemmas.List.Elements.{All-append, All-from_recursion, recursion_from_All, filter-append}
 use Rattle.geo_base.specs.declared.errno.Errno.{Errno}
 use Rattle.geo_base.specs.declared.errno.Errno.TheVariants.{ENXIO, EIO}
 use Rattle.geo_model.specs.declared.step.BioResult.{BioResult}
@@ -15,31 +15,28 @@ use Rattle.geo_model.specs.declared.step.Owner.{Owner}
 use Rattle.geo_model.specs.declared.step.Owner.TheVariants as owners
 use Rattle.geo_model.specs.declared.step.Phase.{Phase}
 use Rattle.geo_model.specs.declared.step.Phase.TheVariants as phases
-use Rattle.geo_model.specs.declared.step.Step.{Step}
 use Rattle.geo_model.specs.declared.step.Step.TheVariants as steps
 use Rattle.geo_model.specs.Topology.{Topology, Geom, Provider, is_errored, provider_with_geom, note_started}
 use Rattle.geo_model.specs.World.{World, Config, Nothing, Disk, Mbr, Ebr, Label, Concat, Stripe, Nop, Bio, bio_at, change_number, children_of, is_child_of, is_down, is_waiting}
 use Rattle.geo_model.specs.SoundBios.{IsFamilyInOrder, HasItsParent}
-use Rattle.geo_model.specs.Bios.{Way, Bounces, Fails, Sends, Splits, Passes, PieceTarget, piece_child, piece_children, piece_targets, is_hit, start, start_by, way_at, way_of, up_with}
-use Rattle.geo_model.specs.Step.{Answer, start_of, step}
+use Rattle.geo_model.specs.Bios.{Way, Bounces, Fails, Sends, Splits, Passes, PieceTarget, piece_child, is_hit, start, start_by, way_at, way_of, up_with}
+use Rattle.geo_model.specs.Step.{start_of, step}
 use Rattle.geo_model.specs.Log.{Moment}
-use Rattle.geo_model.specs.Results.{bounce_errno, bounced_result, cmd_before, entries_of, is_deliver_of, is_start_of, is_take_of, result_of, start_moment}
+use Rattle.geo_model.specs.Results.{bounce_errno, is_deliver_of, is_take_of, start_moment}
 use Rattle.geo_model.specs.Graph.{AreNumbers}
-use Rattle.geo_model.specs.History.{IsSuccess, is_reply_to}
+use Rattle.geo_model.specs.History.{is_reply_to}
 use Rattle.geo_model.proofs.WayLemmas.{starts_in_parts}
 use Rattle.geo_laws_graph.proofs.Living.{all_members}
-use Rattle.geo_laws_graph.proofs.Members.{find-Contains}
 use Rattle.geo_laws_graph.proofs.Numbered.{number_found}
 use Rattle.geo_laws_graph.proofs.Lists.{filter-changed}
 use Rattle.geo_laws_bios.proofs.Items.{none_kept}
-use Rattle.geo_laws_histories.specs.Histories.{names_bio, Never, AreTaken}
-use Rattle.geo_laws_histories.specs.Arrivals.{AcceptsNone}
-use Rattle.geo_laws_ledger.specs.Covering.{CoversThere, SameMap, SameMaps}
-use Rattle.geo_laws_ledger.specs.Ledger.{Ledger, IsLogged, IsSameRequest, SoFar, HasResult, WasQueued, WasSplit}
+use Rattle.geo_laws_histories.specs.Histories.{names_bio, AreTaken}
+use Rattle.geo_laws_ledger.specs.Covering.{SameMaps}
+use Rattle.geo_laws_ledger.specs.Ledger.{Ledger, IsLogged, SoFar}
 use Rattle.geo_laws_ledger.proofs.Logged.{never_so}
 use Rattle.geo_laws_ledger.proofs.Quiet.{moment_of, taken_quietly}
 use Rattle.geo_laws_histories.proofs.Arrivals.{okay}
-use Rattle.geo_laws_ledger.proofs.Turning.{KeepsRequest, IsNewChild, Turns, turned_keeps}
+use Rattle.geo_laws_ledger.proofs.Turning.{KeepsRequest, IsNewChild, turned_keeps}
 use Rattle.geo_laws_ledger.proofs.Answered.{started_now, result_at}
 
 -- with a Start more that isn't the Up of a bio no reply to it is told
@@ -54,17 +51,17 @@ start_names : (b n : ℕ) → n ≢ b → names_bio n (steps.Start b) ≡ false
 start_names b n apart = rw (ne_eqb b n (λ same. apart (sym same))) refl
 
 -- what a bio becomes by its Start keeps its request
-keeps_up : (r : BioResult) → KeepsRequest (up_with r)
+pub keeps_up : (r : BioResult) → KeepsRequest (up_with r)
 keeps_up r = record {
   number = λ y. refl;
   owner = λ y. refl;
   request = λ y. record { cmd = refl; offset = refl; len = refl; bytes = refl; target = refl };
 }
 
-abbrev in_phase : Phase → Bio → Bio
+abbrev pub in_phase : Phase → Bio → Bio
 in_phase p y = record y { phase = p }
 
-keeps_phase : (p : Phase) → KeepsRequest (in_phase p)
+pub keeps_phase : (p : Phase) → KeepsRequest (in_phase p)
 keeps_phase p = record {
   number = λ y. refl;
   owner = λ y. refl;

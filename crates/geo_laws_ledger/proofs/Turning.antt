@@ -1,33 +1,29 @@
 -- A step that turns one bio, and may give it children, keeps the ledger, where the history tells what the bio then is.
-use Rattle.std.specs.Prelude.{◌≡◌, ◌≢◌, ℕ, ◌+◌, ◌<◌, ◌≤◌, ◌==◌, Bool, true, false, List, [], ◌∷◌, ◌++◌, length, map, filter, find, Option, Some, None, Ok, MatchOption, All, Contains}
+use Rattle.std.specs.Prelude.{◌≡◌, ◌≢◌, ℕ, ◌<◌, ◌≤◌, ◌==◌, Bool, true, false, List, [], ◌∷◌, ◌++◌, map, filter, find, Option, Some, None, MatchOption, All, Contains}
 use Rattle.std.specs.Option.{option_or}
 use Rattle.std.proofs.Common.{refl, sym, ◌∙◌, ap, append-nil, subst, arith}
 use Rattle.std.proofs.lemmas.Bool.{eq-eqb, eqb-true, both_ways, ne_eqb}
 use Rattle.std.proofs.lemmas.List.Elements.{All-append, All-contains, All-from_recursion, filter-append, recursion_from_All}
 use Rattle.std.proofs.lemmas.List.Folds.{find-append}
 use Rattle.geo_model.specs.declared.step.Outcome.{Outcome}
-use Rattle.geo_model.specs.declared.step.Outcome.TheVariants as outcomes
 use Rattle.geo_model.specs.declared.step.Owner.TheVariants as owners
 use Rattle.geo_model.specs.declared.step.Phase.TheVariants as phases
 use Rattle.geo_model.specs.declared.step.Step.{Step}
-use Rattle.geo_model.specs.Words.{change_where}
 use Rattle.geo_model.specs.World.{World, Bio, bio_at, change_number, children_of, is_child_of}
-use Rattle.geo_model.specs.Step.{step}
 use Rattle.geo_model.specs.Log.{Moment, after_entry}
-use Rattle.geo_model.specs.Results.{is_up_of}
-use Rattle.geo_model.specs.History.{Acceptance, is_reply_to}
+use Rattle.geo_model.specs.History.{Acceptance}
 use Rattle.geo_model.specs.Graph.{AreNumbers}
 use Rattle.geo_laws_graph.proofs.Lists.{filter-changed, found_nowhere, map-changed}
 use Rattle.geo_laws_graph.proofs.Living.{all_members}
 use Rattle.geo_laws_graph.proofs.Members.{Contains-map, find-Contains}
-use Rattle.geo_laws_graph.proofs.Numbered.{at-here, at-unchanged, number_found}
+use Rattle.geo_laws_graph.proofs.Numbered.{at-here, at-unchanged}
 use Rattle.geo_laws_bios.proofs.Items.{all_changed, none_kept}
-use Rattle.geo_laws_histories.specs.Histories.{names_bio, Never, AreTaken}
+use Rattle.geo_laws_histories.specs.Histories.{names_bio, AreTaken}
 use Rattle.geo_laws_histories.specs.Arrivals.{AcceptsNone}
 use Rattle.geo_laws_ledger.specs.Covering.{SameMap, SameMaps}
 use Rattle.geo_laws_ledger.specs.Ledger.{Ledger, IsLogged, IsAccounted, AcceptsAreAccounted, IsOnItsWay, IsCompleted, IsSameRequest}
 use Rattle.geo_laws_ledger.proofs.Logged.{never_so, logged_stays}
-use Rattle.geo_laws_ledger.proofs.Accounted.{completed_stays, on_its_way_stays}
+use Rattle.geo_laws_ledger.proofs.Accounted.{on_its_way_stays}
 use Rattle.geo_laws_ledger.proofs.Quiet.{moment_of, accounted_quietly, new_bio_logged}
 
 -- what a change of a bio keeps: number, owner and request
