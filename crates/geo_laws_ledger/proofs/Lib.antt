@@ -7,3 +7,4 @@ pub mod Answered
 pub mod Starts
 pub mod AtDisk
 pub mod Takes
+pub mod Roots
