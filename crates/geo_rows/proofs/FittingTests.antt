@@ -1,5 +1,5 @@
 -- The tests of Fitting say what Fitting says.
-use Rattle.std.specs.Prelude.{◌≡◌, ◌≢◌, ℕ, ◌<◌, ◌%◌, ◌/◌, ◌^◌, ◌==◌, nat_lt, nat_le, true, false, not, ◌&&◌, List, length, count_by, Option, IsTrue, option_and_then}
+use Rattle.std.specs.Prelude.{◌≡◌, ◌≢◌, ℕ, ◌<◌, ◌%◌, ◌/◌, ◌^◌, ◌==◌, nat_lt, nat_le, true, false, not, ◌&&◌, ◌||◌, List, length, count_by, Option, IsTrue, option_and_then}
 use Rattle.std.specs.Bool.{Decides}
 use Rattle.std.proofs.Common.{refl, sym, subst}
 use Rattle.std.proofs.lemmas.Bool.{true≢false}
