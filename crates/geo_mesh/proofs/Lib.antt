@@ -6,6 +6,7 @@ pub mod Orderly
 pub mod FirstGraph
 pub mod IndexLemmas
 pub mod NoteLemmas
+pub mod NamedLemmas
 pub mod MeshLemmas
 pub mod NameLemmas
 pub mod IdLemmas

@@ -31,6 +31,7 @@ use Rattle.geo_mesh.proofs.RankMesh as ranks
 -- what index, names and ranks read of a geom's cell is as it was
 pub record KeepsGeom {C : Type 0} (v w : GeomCell C) : Type 0 where
   pub kind : w.geom.kind ≡ v.geom.kind
+  pub name : w.geom.name ≡ v.geom.name
   pub rank : w.rank ≡ v.rank
 
 -- what index, names and ranks read of a provider's cell is as it was, and its sizes are those of a provider if they
@@ -131,7 +132,7 @@ module _ {C : Type 0} (t : Tables C) (whole : IsWhole t) where
       → w.geom.withering ≡ v.geom.withering → IsWhole (with_geom_cell t n w)
   whole-geom_cell n v w rising at keeps stays =
       whole-geom_noted n v w t.notes rising at keeps
-      (notes-geom_kept t.notes t.geoms t.edges.providers n v w rising at stays whole.tables.notes)
+      (notes-geom_kept t.notes t.geoms t.edges.providers n v w rising at stays keeps.name whole.tables.notes)
 
   -- another cell of a provider that keeps what is read of it keeps the whole
   pub whole-provider_noted : (n : ℕ) (v w : ProvCell) (notes : Notes)

@@ -1,5 +1,5 @@
 -- What a mesh keeps as a whole, where a part comes or goes, and where a consumer is attached or detached.
-use Rattle.std.specs.Prelude.{◌≡◌, ◌≢◌, ℕ, ◌+◌, ◌-◌, ◌<◌, ◌^◌, true, false, [], Option, Some, None, find, map, IsSome, IfSome}
+use Rattle.std.specs.Prelude.{◌≡◌, ◌≢◌, ℕ, ◌+◌, ◌-◌, ◌<◌, ◌≤◌, ◌^◌, true, false, [], Option, Some, None, find, map, IsSome, IfSome}
 use Rattle.std.proofs.Common.{sym, ◌∙◌, ap, subst}
 use Rattle.geo_slots.specs.Slots.{SlotsView, IsRising, value_at, without, with_insert}
 use Rattle.geo_model.specs.Topology.{geom_at, provider_at, consumer_at, providers_of, consumers_of, attached_to}
@@ -10,6 +10,7 @@ use Rattle.geo_mesh.specs.declared.index.Index.{Index}
 use Rattle.geo_mesh.specs.declared.names.Names.{Names}
 use Rattle.geo_mesh.specs.declared.tables.Edges.{Edges}
 use Rattle.geo_mesh.specs.declared.tables.Tables.{Tables}
+use Rattle.geo_names.specs.Names.{NamesView, with_name}
 use Rattle.geo_mesh.specs.Topo.{is_provider_size}
 use Rattle.geo_mesh.specs.Graph.{IsOrderly}
 use Rattle.geo_mesh.specs.Cells.{graph, provider_row, put_consumer}
@@ -32,17 +33,18 @@ beside_index gs edges live i are = record { count = are.count; standing = are.st
 
 module _ {C : Type 0} (t : Tables C) (whole : IsWhole t) where
   -- with a new geom, of rank 1
-  pub whole-new_geom : (v : GeomCell C) → v.geom.withering ≡ false → v.geom.started ≡ 0 → v.rank ≡ 1
+  pub whole-new_geom : (v : GeomCell C) (m : NamesView) → v.geom.withering ≡ false → v.geom.started ≡ 0 → v.rank ≡ 1
       → IsRising 1 t.geoms.rows t.geoms.next
       → t.live < 4294967294 → t.geoms.next + 1 < 2 ^ 64
+      → m ≡ record (with_name t.notes.named v.geom.name) { room = m.room } → t.notes.named.room ≤ m.room + 1
       → IsWhole (record t {
         geoms = with_insert t.geoms v;
         edges = record t.edges { index = with_geom_index t.edges.index };
         live = t.live + 1;
-        notes = record t.notes { withering = with_mark t.notes.withering };
+        notes = record t.notes { withering = with_mark t.notes.withering; named = m };
       })
-  whole-new_geom v stays none rank rising few fits = record {
-    tables = mesh-geom t whole.tables v stays none few;
+  whole-new_geom v m stays none rank rising few fits added room = record {
+    tables = mesh-geom t whole.tables v m stays none few added room;
     ranks =
         beside_index (with_insert t.geoms v) t.edges (t.live + 1) (with_geom_index t.edges.index)
         (ranks.mesh-new_geom t.geoms t.edges t.live whole.ranks (t.geoms.next + 1) (t.geoms.spare - 1) v rank
@@ -108,18 +110,19 @@ module _ {C : Type 0} (t : Tables C) (whole : IsWhole t) where
   }
 
   -- without a geom that has neither provider nor consumer
-  pub whole-without_geom : (n : ℕ) (v : GeomCell C) → IsRising 1 t.geoms.rows t.geoms.next
+  pub whole-without_geom : (n : ℕ) (v : GeomCell C) (m : NamesView) → IsRising 1 t.geoms.rows t.geoms.next
       → value_at t.geoms.rows n ≡ Some v → n ≢ 1 → n ≢ 2
       → providers_of (graph t) n ≡ [] → consumers_of (graph t) n ≡ []
+      → m ≡ record t.notes.named { rows = without t.notes.named.rows n; room = m.room } → t.notes.named.room ≤ m.room
       → IsWhole (record t {
         geoms = record t.geoms { rows = without t.geoms.rows n };
         edges = record t.edges { index = without_geom_index t.edges.index n };
         live = t.live - 1;
-        notes = record t.notes { withering = without_mark t.notes.withering n };
+        notes = record t.notes { withering = without_mark t.notes.withering n; named = m };
       })
-  whole-without_geom n v rising at not_dev not_taste no_provider no_consumer = record {
-    tables = mesh-without_geom t whole.tables n (t.live - 1)
-        (count_falls t.geoms n t.live v rising (sym at) whole.tables.count);
+  whole-without_geom n v m rising at not_dev not_taste no_provider no_consumer removed room = record {
+    tables = mesh-without_geom t whole.tables n (t.live - 1) m
+        (count_falls t.geoms n t.live v rising (sym at) whole.tables.count) removed room;
     ranks =
         beside_index (record t.geoms { rows = without t.geoms.rows n }) t.edges (t.live - 1)
         (without_geom_index t.edges.index n)
@@ -196,14 +199,14 @@ module _ {C : Type 0} (t : Tables C) (whole : IsWhole t) where
         → IsWhole (record t {
           geoms = ns;
           edges = record (put_consumer t.edges n (record v { consumer = record v.consumer { prov = Some p } }))
-              { index = attached_index t.edges.index n p };
+              { index = attached_index t.edges.index n p v.consumer.geom };
         })
     whole-attached p are lives =
         let edges : Edges = put_consumer t.edges n (record v { consumer = record v.consumer { prov = Some p } }) in
-        let after : Tables C = record t { edges = record edges { index = attached_index t.edges.index n p } } in
+        let after : Tables C = record t { edges = record edges { index = attached_index t.edges.index n p v.consumer.geom } } in
         record {
           tables = mesh-bare after (mesh-attached t whole.tables n p v rising at) ns same;
-          ranks = beside_index ns edges t.live (attached_index t.edges.index n p) are;
+          ranks = beside_index ns edges t.live (attached_index t.edges.index n p v.consumer.geom) are;
           graph =
               subst (λ g. IsOrderly g)
               (sym (ap (λ v. v.topology) (ranks.view-bare after ns same ∙ attach-view t n p v rising at)))
