@@ -59,7 +59,7 @@ map-filter_number number n (x ∷ xs) =
     ]
 
 -- rows without a number, by what is seen
-pub map-filter_row : {X : Type 0} (number : X → ℕ) (value : X → Option ℕ) (n : ℕ) (xs : List X)
+pub map-filter_row : {X Y : Type 0} (number : X → ℕ) (value : X → Y) (n : ℕ) (xs : List X)
     → without (map (λ x. (number x, value x)) xs) n
     ≡ map (λ x. (number x, value x)) (filter (λ x. not (number x == n)) xs)
 map-filter_row number value n [] = refl
@@ -135,9 +135,9 @@ none-above geom = at (geom == 1) refl where
   at false e = rw e refl
 
 -- DEV's consumers are under no provider, another's under the one to which it is attached
-names-above : (x : Consumer) (p : ℕ)
-    → names (unless_dev x.geom x.provider) p ≡ (names_number x.provider p && not (x.geom == 1))
-names-above x p = at x.provider (x.geom == 1) where
+pub names-above : (geom : ℕ) (prov : Option ℕ) (p : ℕ)
+    → names (unless_dev geom prov) p ≡ (names_number prov p && not (geom == 1))
+names-above geom prov p = at prov (geom == 1) where
   at : (o : Option ℕ) (b : Bool) → names (if b then None else o) p ≡ (names_number o p && not b)
   at None true = refl
   at None false = refl
@@ -223,7 +223,7 @@ module _ {C : Type 0} (t : Topology C) (i : Index) (h : IsIndexed t i) where
   above_first prov n =
       ap (λ xs. first_child xs prov n) h.above.children
       ∙ first_child-map (λ (x : Consumer). x.number) (λ x. unless_dev x.geom x.provider) prov
-      (λ x. names_number x.provider prov && not (x.geom == 1)) (λ x. names-above x prov) n t.consumers
+      (λ x. names_number x.provider prov && not (x.geom == 1)) (λ x. names-above x.geom x.provider prov) n t.consumers
       ∙ ap (λ (xs : List Consumer). first_consumer xs n)
       (filter-both (λ x. names_number x.provider prov) (λ x. not (x.geom == 1)) t.consumers)
 
@@ -273,7 +273,7 @@ module _ {C : Type 0} (t : Topology C) (i : Index) (h : IsIndexed t i) where
   above_none prov none =
       ap (λ xs. has_child xs prov) h.above.children
       ∙ childless-map (λ (x : Consumer). x.number) (λ x. unless_dev x.geom x.provider) prov
-      (λ x. names_number x.provider prov && not (x.geom == 1)) (λ x. names-above x prov) t.consumers
+      (λ x. names_number x.provider prov && not (x.geom == 1)) (λ x. names-above x.geom x.provider prov) t.consumers
       (filter-both (λ x. names_number x.provider prov) (λ x. not (x.geom == 1)) t.consumers
       ∙ ap (λ (xs : List Consumer). filter (λ x. not (x.geom == 1)) xs) none)
 

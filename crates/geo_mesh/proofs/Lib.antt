@@ -9,8 +9,7 @@ pub mod NoteLemmas
 pub mod NamedLemmas
 pub mod MeshLemmas
 pub mod NameLemmas
-pub mod IdLemmas
-pub mod AlikeLemmas
+pub mod NamesKept
 pub mod RankHeights
 pub mod RankMend
 pub mod RankRows

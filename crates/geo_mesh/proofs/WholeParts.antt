@@ -15,7 +15,7 @@ use Rattle.geo_mesh.specs.Topo.{is_provider_size}
 use Rattle.geo_mesh.specs.Graph.{IsOrderly}
 use Rattle.geo_mesh.specs.Cells.{graph, provider_row, put_consumer}
 use Rattle.geo_mesh.specs.Index.{with_geom_index, with_provider_index, with_consumer_index, without_geom_index, without_provider_index, without_consumer_index, attached_index, detached_index}
-use Rattle.geo_mesh.specs.Names.{AreIds, HaveNameRoom, AddsName, RemovesName, is_sound_named}
+use Rattle.geo_mesh.specs.Names.{HaveNameRoom, AddsName, RemovesName, is_sound_named}
 use Rattle.geo_mesh.specs.Ranks.{HaveRanks, bare, stored}
 use Rattle.geo_mesh.specs.Whole.{IsWhole}
 use Rattle.geo_mesh.proofs.RankFirst.{footing-none}
@@ -56,7 +56,7 @@ module _ {C : Type 0} (t : Tables C) (whole : IsWhole t) where
 
   -- with a new provider of a geom other than the first two, of a name that no other has without an error
   pub whole-new_provider : (v : ProvCell) (m : Names) → v.provider.errored ≡ false → v.provider.risen ≡ false
-      → v.provider.fallen ≡ false → AreIds m
+      → v.provider.fallen ≡ false
       → find (is_sound_named v.provider.name) (map provider_row t.edges.providers.rows) ≡ None
       → AddsName t.names m v.provider.name t.edges.providers.next
       → HaveNameRoom (t.edges.providers.spare - 1) m → IsSome (geom_at (graph t) v.provider.geom)
@@ -70,8 +70,8 @@ module _ {C : Type 0} (t : Tables C) (whole : IsWhole t) where
         names = m;
         notes = record t.notes { risen = with_mark t.notes.risen; fallen = with_mark t.notes.fallen };
       })
-  whole-new_provider v m sound risen fallen ids free adds name_room lives not_dev not_taste sizes fits = record {
-    tables = mesh-provider t whole.tables v sound risen fallen m ids free adds name_room;
+  whole-new_provider v m sound risen fallen free adds name_room lives not_dev not_taste sizes fits = record {
+    tables = mesh-provider t whole.tables v sound risen fallen m free adds name_room;
     ranks =
         beside_index t.geoms (record t.edges { providers = with_insert t.edges.providers v }) t.live
         (with_provider_index t.edges.index v.provider.geom)
@@ -136,7 +136,7 @@ module _ {C : Type 0} (t : Tables C) (whole : IsWhole t) where
   -- without a provider to which nothing is attached
   pub whole-without_provider : (n : ℕ) (v : ProvCell) (m : Names)
       → IsRising 1 t.edges.providers.rows t.edges.providers.next
-      → value_at t.edges.providers.rows n ≡ Some v → AreIds m
+      → value_at t.edges.providers.rows n ≡ Some v
       → RemovesName t.names m v.provider.name n v.provider.errored
       → HaveNameRoom t.edges.providers.spare m → attached_to (graph t) n ≡ []
       → IsWhole (record t {
@@ -147,8 +147,8 @@ module _ {C : Type 0} (t : Tables C) (whole : IsWhole t) where
         names = m;
         notes = record t.notes { risen = without_mark t.notes.risen n; fallen = without_mark t.notes.fallen n };
       })
-  whole-without_provider n v m rising at ids removes name_room none = record {
-    tables = mesh-without_provider t whole.tables n v rising at m ids removes name_room;
+  whole-without_provider n v m rising at removes name_room none = record {
+    tables = mesh-without_provider t whole.tables n v rising at m removes name_room;
     ranks =
         beside_index t.geoms
         (record t.edges { providers = record t.edges.providers { rows = without t.edges.providers.rows n } }) t.live

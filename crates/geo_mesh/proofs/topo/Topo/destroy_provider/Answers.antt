@@ -31,7 +31,7 @@ invariant_of-self g c =
     )
     (whole-without_provider c.self.inside.tables c.self.invariant c.number.result c.in-Some.cell
     c.remove-in-Some.new.self c.in-Some.ensures.rising
-    (sym c.in-Some.ensures.value) c.remove-in-Some.ensures.ids
+    (sym c.in-Some.ensures.value)
     (subst (λ k. RemovesName c.self.inside.tables.names c.remove-in-Some.new.self c.in-Some.cell.provider.name k
     c.in-Some.cell.provider.errored)
     (c.number-in-Some.ensures ∙ sym c.number.ensures) c.remove-in-Some.ensures.removed)

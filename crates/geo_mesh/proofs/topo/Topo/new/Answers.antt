@@ -41,8 +41,7 @@ invariant_of-result g c =
               above_parents = omega arith;
               above_children = omega arith;
             };
-            names_are = c.new-3.ensures.names;
-            names_ids = c.new-3.ensures.ids;
+            names_are = c.new-3.ensures;
             names_room = search rules;
             notes = record {
               risen = ap (λ m. m.rows) c.in_ok-notes.ensures.risen;
