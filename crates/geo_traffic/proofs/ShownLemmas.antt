@@ -1,6 +1,6 @@
 -- What is found among the bios of a world, and what becomes of them, is what is of the table's.
 use Rattle.std.proofs.Common.{◌≡◌, ℕ, List, [], ◌∷◌, ◌++◌, map, filter, find, count_by, length, cond, ◌+◌, ◌==◌, Bool, true, false, Option, Some, None, sym, refl, ap, ◌∙◌, suc}
-use Rattle.std.specs.List.{list_any, list_all}
+use Rattle.std.specs.List.{list_any, list_all, AllByRecursion}
 use Rattle.std.specs.Option.{option_map}
 use Rattle.std.proofs.lemmas.List.{map-append}
 use Rattle.std.proofs.lemmas.List.Folds.{list_all-map}
@@ -49,17 +49,23 @@ module _ {X Y : Type 0} (f : X → Y) where
   length-of_map [] = refl
   length-of_map (x ∷ xs) = ap suc (length-of_map xs)
 
-  -- a change goes through a map, where it does at each value of the number
+  -- a change goes through a map, where it does at each value that is changed
   pub changed-map : (hit : X → Bool) (also : Y → Bool) (change : X → X) (other : Y → Y)
-      → ((x : X) → also (f x) ≡ hit x) → ((x : X) → hit x ≡ true → f (change x) ≡ other (f x)) → (xs : List X)
+      → ((x : X) → also (f x) ≡ hit x) → (xs : List X)
+      → AllByRecursion (λ x. hit x ≡ true → f (change x) ≡ other (f x)) xs
       → map f (map (λ x. cond (hit x) (change x) x) xs) ≡ map (λ y. cond (also y) (other y) y) (map f xs)
-  changed-map hit also change other same goes [] = refl
-  changed-map hit also change other same goes (x ∷ xs) =
-      (λ i. one (hit x) refl i ∷ changed-map hit also change other same goes xs i)
+  changed-map hit also change other same [] goes = refl
+  changed-map hit also change other same (x ∷ xs) goes =
+      (λ i. one (hit x) refl i ∷ changed-map hit also change other same xs goes.1 i)
     where
       one : (b : Bool) → hit x ≡ b → f (cond (hit x) (change x) x) ≡ cond (also (f x)) (other (f x)) (f x)
-      one true e = rw (same x, e) (goes x e)
+      one true e = rw (same x, e) (goes.0 e)
       one false e = rw (same x, e) refl
+
+-- what holds of all values holds of each item
+pub of_each : {X : Type 0} (P : X → Type 0) → ((x : X) → P x) → (xs : List X) → AllByRecursion P xs
+of_each P holds [] = tt
+of_each P holds (x ∷ xs) = (holds x, of_each P holds xs)
 
 module _ (log : ℕ → Option (List ℕ)) where
   -- the first number in a phase
@@ -75,10 +81,11 @@ module _ (log : ℕ → Option (List ℕ)) where
 
   -- a change of the bio of a number
   pub change_shown : (b : ℕ) (f : BioOf Held → BioOf Held) (g : Bio → Bio)
-      → ((x : BioOf Held) → (x.number == b) ≡ true → shown_bio log (f x) ≡ g (shown_bio log x))
+      → ((x : BioOf Held) → shown_bio log (f x) ≡ g (shown_bio log x))
       → (bios : List (BioOf Held)) → shown log (change_number b f bios) ≡ change_number b g (shown log bios)
   change_shown b f g goes bios =
-      changed-map (shown_bio log) (λ x. x.number == b) (λ x. x.number == b) f g (λ x. refl) goes bios
+      changed-map (shown_bio log) (λ x. x.number == b) (λ x. x.number == b) f g (λ x. refl) bios
+      (of_each _ (λ x e. goes x) bios)
 
   pub shown_are_found : (bios : List (BioOf Held)) → ShownAreFound log bios
   shown_are_found bios = record {
@@ -95,7 +102,7 @@ module _ (log : ℕ → Option (List ℕ)) where
   pub shown_change : (bios : List (BioOf Held)) → ShownChanges log bios
   shown_change bios = record {
     appends = λ more. map-append (shown_bio log) bios more;
-    moves = λ b phase. change_shown b _ _ (λ x e. refl) bios;
-    ends = λ b h. change_shown b _ _ (λ x e. refl) bios;
-    changes = λ b f g goes. change_shown b f g (λ x e. goes x) bios;
+    moves = λ b phase. change_shown b _ _ (λ x. refl) bios;
+    ends = λ b h. change_shown b _ _ (λ x. refl) bios;
+    changes = λ b f g goes. change_shown b f g goes bios;
   }
