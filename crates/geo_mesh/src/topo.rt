@@ -291,6 +291,14 @@ impl<C> Topo<C> {
             .map(ConsId::new)
     }
 
+    /// The number that the next consumer gets.
+    pub fn coming_consumer(&self) -> ConsId
+        ensures number { result ≡ self.now.topology.next_consumer }
+        ensures sound { IsSoundGraph self.now.topology }
+    {
+        ConsId::new(self.tables.edges.consumers.next_number())
+    }
+
     /// The least number of a provider of the geom that isn't below a number.
     pub fn provider_of(&self, geom: GeomId, from: u64) -> Option<ProvId>
         ensures first { result ≡ first_provider (providers_of self.now.topology geom) from }
