@@ -38,10 +38,9 @@ use std::sync::ledger::Ledger;
 /// # Errors
 ///
 /// `Enxio` where a provider that is reached downwards carries an error: the one with the smallest number. Else
-/// `Eloop` where the consumer's geom would reach itself, else `Edeep` where a geom other than DEV and TASTE would get
-/// a rank above
-/// 32. Else `Eperm` where at some provider a writer would stand beside another's exclusive count. Else `Eoverflow` where a
-/// count of a provider would be above 2,147,483,647.
+/// `Eloop` where the consumer's geom would reach itself, else `Edeep` where the rank of a geom other than DEV and
+/// TASTE would be above 32. Else `Eperm` where at some provider a writer would stand beside another's exclusive
+/// count. Else `Eoverflow` where a count of a provider would be above 2,147,483,647.
 pub fn join<C, L: Ledger>(
     topo: &mut Topo<C>,
     cons: ConsId,

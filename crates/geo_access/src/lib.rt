@@ -21,3 +21,5 @@ pub use laws::{meshes_stay_shut, new_consumers_may_join, shut_meshes_are_counted
 pub use notes::{next_fallen, next_risen};
 pub use refusal::{GrantRefusal, JoinRefusal};
 pub use steps::Steps;
+pub use counts::is_zero;
+pub use walk::{consumer_at, consumer_of, provider_of};

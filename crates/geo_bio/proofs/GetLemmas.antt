@@ -1,14 +1,19 @@
 -- What a look-up tells of the children of a bio.
-use Rattle.std.proofs.Common.{◌≡◌, ℕ, suc, ◌+◌, List, [], ◌∷◌, map, length, cond, true, Option, Some, None, sym, refl, ap, ◌∙◌, IfSome}
+use Rattle.std.proofs.Common.{◌≡◌, ℕ, suc, ◌+◌, List, [], ◌∷◌, map, length, cond, true, false, Option, Some, None, sym, refl, ap, ◌∙◌, IfSome}
 use Rattle.std.proofs.lemmas.Bool.{MatchBool-at_true}
 use Rattle.std.proofs.lemmas.List.Sums.{sum_by-cons}
 use Rattle.std.specs.Prelude.{count_by}
 use Rattle.geo_model.specs.World.{BioOf, is_done, is_waiting, children_among}
+use Rattle.geo_model.specs.declared.step.Owner.{Owner}
 use Rattle.geo_model.specs.declared.step.Owner.TheVariants as owners
+use Rattle.std.specs.Option.{option_map, option_map_or}
 use Rattle.geo_slots.specs.Slots.{value_at}
 use Rattle.geo_bio.specs.declared.bio.Bio.{Bio}
 use Rattle.geo_bio.specs.declared.bio.Held.{Held}
 use Rattle.geo_bio.specs.Rows.{seen_row, Child, family, FollowFrom, StandFrom, IsTable, KnowsChildren}
+use Rattle.geo_bio.specs.BioTable.{HasParent}
+use Rattle.geo_bio.specs.Rows.{seen}
+use Rattle.geo_bio.proofs.TableLemmas.{bio_among-rows}
 use Rattle.geo_bio.proofs.CompleteLemmas.{standing, kid, stranger}
 
 -- the family of a bio among what contracts see
@@ -58,3 +63,16 @@ family_told rows next n t (Some x) found =
       done =
           sym s.finished ∙ sym f.same_count;
     }
+
+-- the parent of a child waits
+pub parent_told : (rows : List (ℕ × Bio)) (next n : ℕ) → IsTable rows next → (o : Option Bio) → o ≡ value_at rows n
+    → IfSome o (λ x. HasParent (map seen_row rows) x.owner)
+parent_told rows next n t None found = tt
+parent_told rows next n t (Some x) found = at x.owner refl where
+  at : (owner : Owner) → x.owner ≡ owner → HasParent (map seen_row rows) owner
+  at (owners.Line handle line) is = tt
+  at owners.Taste is = tt
+  at (owners.Child parent index) is =
+      let w = t.parents n x parent index (sym found) is in
+      ap (λ o. option_map_or (λ (y : BioOf Held). is_waiting y.phase) o false) (bio_among-rows rows parent
+      ∙ ap (option_map (seen parent)) w.1) ∙ w.2

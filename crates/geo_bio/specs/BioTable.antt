@@ -1,12 +1,14 @@
 -- The table of bios, as contracts see it.
-use Rattle.std.specs.Prelude.{ℕ, ◌≤◌, ◌==◌, nat_le, Bool, false, List, All, map, Option, Some, None, find, if◌then◌else◌}
+use Rattle.std.specs.Prelude.{ℕ, ◌≤◌, ◌==◌, nat_le, Bool, false, IsTrue, ⊤, List, All, map, Option, Some, None, find, if◌then◌else◌}
 use Rattle.std.specs.Option.{option_map, option_map_or}
 use Rattle.geo_base.specs.declared.request.BioCmd.{BioCmd}
 use Rattle.geo_base.specs.declared.errno.Errno.{Errno}
 use Rattle.geo_model.specs.declared.step.Phase.{Phase}
 use Rattle.geo_model.specs.declared.step.Phase.TheVariants as phases
+use Rattle.geo_model.specs.declared.step.Owner.{Owner}
+use Rattle.geo_model.specs.declared.step.Owner.TheVariants as owners
 use Rattle.geo_model.specs.Graph.{AreNumbers}
-use Rattle.geo_model.specs.World.{BioOf}
+use Rattle.geo_model.specs.World.{BioOf, is_waiting}
 use Rattle.geo_model.specs.Words.{is_read}
 use Rattle.geo_bio.specs.declared.bio.Held.{Held}
 use Rattle.geo_bio.specs.declared.bio.Held.TheVariants as held
@@ -30,6 +32,11 @@ bio_among bios bio = find (λ x. x.number == bio) bios
 -- whether the bio of a number is there, in a phase that passes
 abbrev pub has_phase : {R : Type 0} → (Phase → Bool) → List (BioOf R) → ℕ → Bool
 has_phase test bios bio = option_map_or (λ x. test x.phase) (bio_among bios bio) false
+
+-- the parent of a child is there, and waits for it
+abbrev pub HasParent : {R : Type 0} → List (BioOf R) → Owner → Type 0
+HasParent bios (owners.Child parent index) = IsTrue (has_phase is_waiting bios parent)
+HasParent bios owner = ⊤
 
 -- the first bio that isn't below a number
 abbrev pub first_bio : {R : Type 0} → List (BioOf R) → ℕ → Option ℕ

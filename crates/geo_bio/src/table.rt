@@ -4,7 +4,7 @@ ghost use Rattle.std.specs.Option.{option_map};
 ghost use Rattle.geo_model.specs.Bios.{new_bio, up_with};
 ghost use Rattle.geo_model.specs.World.{change_number, children_among, is_down, is_sent, is_busy, is_up, is_waiting, is_root};
 ghost use Rattle.geo_model.specs.Words.{is_write};
-ghost use Rattle.geo_bio.specs.BioTable.{AreInOrder, bio_among, has_phase, first_bio, with_phase, delivered, delivered_result};
+ghost use Rattle.geo_bio.specs.BioTable.{AreInOrder, HasParent, bio_among, has_phase, first_bio, with_phase, delivered, delivered_result};
 ghost use Rattle.geo_slots.specs.Slots.{value_at};
 ghost use Rattle.geo_bio.specs.Rows.{seen, KnowsChildren};
 ghost use Rattle.geo_bio.specs.Split.{split_into};
@@ -67,12 +67,15 @@ impl BioTable {
     }
 
     /// The bio of a number. One that waits tells the number of its first child, how many children it has, and how many
-    /// of them are done. The numbers of the bios count from 1, rise, and are below the next one.
+    /// of them are done; the parent of a child waits. The numbers of the bios count from 1, rise, and are below the next
+    /// one.
     pub fn get(&self, bio: BioId) -> Option<&Bio>
         ensures found { option_map (seen bio) (option_copied result) ≡ bio_among self.now.bios bio }
         ensures family { IfSome (option_copied result) (λ x.
             IsTrue (is_waiting x.phase) → KnowsChildren bio (children_among self.now.bios bio) x) }
+        ensures parent { IfSome (option_copied result) (λ x. HasParent self.now.bios x.owner) }
         ensures in_order { AreInOrder self.now }
+        ensures bound { self.now.next < 2 ^ 64 }
     {
         self.bios.get(bio.number())
     }
@@ -131,7 +134,8 @@ impl BioTable {
 
     /// A bio is split into children, one for each piece, in piece order, and waits for them. The first child's number
     /// is answered; the others have the numbers that follow. The children take of the room what there is, and where
-    /// memory is wanting the room is no less than it was.
+    /// memory is wanting the room is no less than it was. 2^32 pieces or more, and numbers that are used up, are
+    /// answered as want of memory.
     pub fn start(
         &mut self,
         alloc: Global,
@@ -141,7 +145,6 @@ impl BioTable {
     ) -> Result<BioId, NoMemory>
         requires down { IsTrue (has_phase is_down self.old.bios bio) }
         requires some { 1 ≤ length pieces.now.items }
-        requires few { length pieces.now.items < 2 ^ 32 }
         requires same_number { length targets.now.items ≡ length pieces.now.items }
         ensures first { IfOk result (λ first. first ≡ self.old.next) }
         ensures split { IfSome (bio_among self.old.bios bio) (λ x. OnOk result
@@ -153,9 +156,13 @@ impl BioTable {
         ensures next_stays { OnErr result (self.new.next ≡ self.old.next) }
         ensures room_stays { OnErr result (self.old.spare ≤ self.new.spare) }
     {
+        let items = pieces.items();
+        if items.len() > u32::MAX as usize {
+            return Err(NoMemory);
+        }
         let number = bio.number();
         let children = match self.bios.get(number) {
-            Some(parent) => make_children(alloc, bio, parent, pieces.items(), targets.items())?,
+            Some(parent) => make_children(alloc, bio, parent, items, targets.items())?,
             None => unreachable!(),
         };
         self.bios.reserve(children.len() as u64)?;

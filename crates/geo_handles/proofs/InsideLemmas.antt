@@ -1,5 +1,5 @@
 -- What stands behind handles: what is found, and what a change leaves.
-use Rattle.std.specs.Prelude.{◌≡◌, ℕ, suc, ◌+◌, ◌-◌, ◌==◌, ◌&&◌, ◌||◌, Bool, true, false, List, [], ◌∷◌, ◌++◌, length, Option, Some, None, IsSome, map, find, option_map, if◌then◌else◌, MatchOption}
+use Rattle.std.specs.Prelude.{◌≡◌, ℕ, ◌+◌, ◌-◌, ◌==◌, ◌&&◌, ◌||◌, Bool, true, false, List, [], ◌∷◌, ◌++◌, length, Option, Some, None, IsSome, map, find, option_map, if◌then◌else◌, MatchOption}
 use Rattle.std.specs.List.{AllByRecursion}
 use Rattle.std.specs.Option.{option_and_then, is_some}
 use Rattle.std.proofs.Common.{refl, sym, ◌∙◌, ap, inl, inr, arith, length-append, subst}
@@ -8,9 +8,8 @@ use Rattle.std.proofs.lemmas.Bool.{cases_eq}
 use Rattle.geo_model.specs.Words.{same_name, names_number, change_where}
 use Rattle.geo_model.specs.World.{Handle}
 use Rattle.geo_slots.specs.Slots.{SlotsView, IsRising, value_at, with_insert, with_value, without}
-use Rattle.geo_slots.proofs.RowLemmas.{IsRising-push, IsRising-without, IsRising-with_value, value_at_next, find-items, filter-items, without_absent}
+use Rattle.geo_slots.proofs.RowLemmas.{IsRising-push, IsRising-without, IsRising-with_value, value_at_next, find-items, filter-items, without_absent, value_at-set, value_at-kept, value_at-last, value_at-other, value_at-without, value_at-gone}
 use Rattle.geo_family.specs.Family.{is_parent}
-use Rattle.geo_names.proofs.Rows.{value_at-last, value_at-other, value_at-without, value_at-gone}
 use Rattle.geo_base.proofs.Tests.{some_of}
 use Rattle.geo_handles.specs.declared.key.Key.{Key}
 use Rattle.geo_handles.specs.declared.records.HandleRec.{HandleRec}
@@ -20,7 +19,6 @@ use Rattle.geo_handles.specs.Handles.{handle_at, named_handle, holding_handle, c
 use Rattle.geo_handles.specs.Inside.{handle_row, key_at, IsInside}
 use Rattle.geo_handles.proofs.FinderLemmas.{keys-test, consumers-test, finds, finder-same, finder-add, finder-drop}
 use Rattle.geo_handles.proofs.RowLemmas.{all-rows, all-items, length-without, IsOf, find-one, change-none, change-one}
-use Rattle.geo_handles.proofs.NumberLemmas.{value_at-set, value_at-kept}
 
 -- a number that has a key has a value
 keyed : {K : Type 0} (key : HandleRec → Option K) (k : K) (o : Option HandleRec) → option_and_then key o ≡ Some k

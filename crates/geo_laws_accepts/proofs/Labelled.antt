@@ -1,6 +1,6 @@
 -- A label: a geom over the tasted provider, with a provider that is one sector smaller.
 use Rattle.std.specs.Prelude.{◌≡◌, ◌≢◌, ℕ, ◌-◌, ◌^◌, ◌<◌, ◌≤◌, true, false, List, [], ◌∷◌, Some, IsSome}
-use Rattle.std.proofs.Common.{inr, refl, subst, arith}
+use Rattle.std.proofs.Common.{inl, inr, refl, subst, arith}
 use Rattle.std.proofs.lemmas.List.Elements.{All-from_recursion}
 use Rattle.std.proofs.lemmas.Nat.Gcd.{dvd_of_mod-eq-zero, mod-eq-zero_of_dvd, dvd_refl}
 use Rattle.std.proofs.Math.Nat.{dvd-sub}
@@ -98,6 +98,11 @@ module _ (w : World) (s : Taste) (p : Provider) (bytes : List ℕ) (record_of : 
     names = pairs-from_recursion (λ (x y : NewSlice). same_name x.name y.name ≡ false) (slice ∷ []) (tt, tt);
     partial = λ some. false_true some;
     one = λ concat. absurd (let no : ⊥ = cc in no);
+    sums = λ joined.
+        elim joined [
+          | inl concat ↦ absurd (let no : ⊥ = cc in no)
+          | inr stripe ↦ absurd (let no : ⊥ = cc in no)
+        ];
   }
 
   -- and the mesh with it is firm

@@ -246,6 +246,11 @@ module _ (w : World) (s : Taste) (p : Provider) (bytes : List ℕ) (table : EbrT
         0 table.parts (omega arith));
     partial = λ some. false_true some;
     one = λ concat. absurd (let no : ⊥ = cc in no);
+    sums = λ joined.
+        elim joined [
+          | inl concat ↦ absurd (let no : ⊥ = cc in no)
+          | inr stripe ↦ absurd (let no : ⊥ = cc in no)
+        ];
   }
 
   -- and the mesh with them is firm

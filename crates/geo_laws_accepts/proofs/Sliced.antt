@@ -209,6 +209,11 @@ module _ (w : World) (s : Taste) (p : Provider) (bytes : List ℕ) (table : MbrT
         (λ i less. slice-tells p.name i) 0 table.slices (omega arith));
     partial = λ some. false_true some;
     one = λ concat. absurd (let no : ⊥ = cc in no);
+    sums = λ joined.
+        elim joined [
+          | inl concat ↦ absurd (let no : ⊥ = cc in no)
+          | inr stripe ↦ absurd (let no : ⊥ = cc in no)
+        ];
   }
 
   -- and the mesh with them is firm

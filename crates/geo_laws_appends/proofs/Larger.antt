@@ -151,7 +151,7 @@ module _ (w : World) (x : Growing) (q : Provider) (firm : Firm w) (is : IsStandi
   summed : x.provider.size ≡ sum before.sizes
   summed =
       All-contains (λ (y : Provider). y.size ≡ joined_size x.geom.config) (providers_of t n) x.provider
-      (All-contains (HasItsSum t) t.geoms x.geom firm.fitting.sums (geom_here w x firm is) is.kind)
+      (All-contains (HasItsSum t) t.geoms x.geom firm.fitting.sums (geom_here w x firm is) (inl is.kind))
       (provider_own w x firm is)
       ∙ ap joined_size before.is
 
@@ -423,7 +423,7 @@ module _ (w : World) (x : Growing) (q : Provider) (firm : Firm w) (is : IsStandi
           old_apart m e.item e.is));
       few = few_places;
     };
-    sums = λ concat. all_of (λ (y : Provider). y.size ≡ joined_size config) (providers_of u n) (λ y here.
+    sums = λ joined. all_of (λ (y : Provider). y.size ≡ joined_size config) (providers_of u n) (λ y here.
         let kept = filter-Contains (λ (z : Provider). z.geom == n) u.providers y here in
         elim (provider_cases y kept.0) [
           | inl old ↦ absurd (old.1 (eqb-true y.geom n kept.1))

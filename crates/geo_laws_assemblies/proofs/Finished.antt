@@ -229,7 +229,7 @@ module _ (w : World) (g : Geom Config) (name : List ℕ) (sector : ℕ) (firm : 
     places = fits_places;
     one = λ concat. let all : length (providers_of u n) ≡ 1 = ap length own in omega arith;
     apart = All-contains PlacesHold t.geoms g firm.fitting.apart here;
-    sums = λ concat.
+    sums = λ joined.
         subst (All (λ (x : Provider). x.size ≡ size)) (sym own)
         (All-from_recursion (λ (x : Provider). x.size ≡ size) (new ∷ []) (refl, tt));
   }

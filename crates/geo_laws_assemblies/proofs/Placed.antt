@@ -270,7 +270,8 @@ module _ (w : World) (p : Provider) (m : Member) (count : ℕ) (made : QueuedTop
     offers = All-nil (CanOffer w m.empty [] 512);
     names = pairs-from_recursion (λ (x y : NewSlice). same_name x.name y.name ≡ false) [] tt;
     partial = λ some. refl;
-    one = λ concat. (omega arith, All-nil (λ (x : NewSlice). x.size ≡ joined_size m.empty));
+    one = λ concat. omega arith;
+    sums = λ joined. All-nil (λ (x : NewSlice). x.size ≡ joined_size m.empty);
   }
 
   -- the world with it

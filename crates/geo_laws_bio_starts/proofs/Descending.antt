@@ -116,7 +116,7 @@ module _ (w : World) (firm : Firm w) (x : Bio) (here : Contains w.bios x) (p : P
       let sum_fact : HasItsSum t g = All-contains (HasItsSum t) t.geoms g firm.fitting.sums g_stands in
       let total : p.size ≡ joined_size g.config =
       All-contains (λ (v : Provider). v.size ≡ joined_size g.config) (providers_of t g.number) p
-      (sum_fact kind) p_offered in
+      (sum_fact (inl kind)) p_offered in
       let size : p.size ≡ sum sizes = total ∙ ap joined_size is in
       sizes_whole t g p 0 places sizes (rw is at fits)
       (λ i. subst (λ (n : ℕ). component g.config n ≡ option_flatten (slice_get places i))

@@ -34,6 +34,7 @@ kept-some false n sector first count part kept = elim (cases_Bool (is_out n sect
 ]
 
 module _ (media : ℕ → List ℕ) (n : ℕ) where
+  -- where a link has a partition, there is a sector
   named-some : (sector : ℕ) → is_some (named_part n sector (media sector)) ≡ true → 0 < n
   named-some sector kept =
       let first : ℕ = u32_at (media sector) (entry_start 0 + 8) in
@@ -51,12 +52,14 @@ module _ (media : ℕ → List ℕ) (n : ℕ) where
 
   -- A walk's sectors are a chain
 
+  -- each link of a walk leads to the next, and the last one leads on no more
   goes-leads : (rest : List ℕ) (links : List LinkRead) (sector : ℕ) → GoesOn media n links sector rest
       → LeadOn media (sector ∷ rest)
   goes-leads [] links sector goes = goes.at
   goes-leads (next ∷ rest) links sector goes =
       (goes.0.at, goes.0.leads, goes-leads rest (and_link media n links sector) next goes.1)
 
+  -- a walk goes to sectors of the media alone
   goes-inside : (rest : List ℕ) (links : List LinkRead) (sector : ℕ) → GoesOn media n links sector rest
       → All (λ s. s < n) rest
   goes-inside [] links sector goes = All-nil (λ s. s < n)
@@ -84,6 +87,7 @@ module _ (media : ℕ → List ℕ) (n : ℕ) where
       ∙ ap (λ b. b || list_any (λ (l : LinkRead). l.sector == x) (link_at media n next ∷ [])) read in
       All-cons (λ s. x ≢ s) next rest here (goes-past x rest (and_link media n links sector) next still goes.1)
 
+  -- the sector of the last link that was read was read
   was_read-last : (links : List LinkRead) (sector : ℕ)
       → list_any (λ (l : LinkRead). l.sector == sector) (and_link media n links sector) ≡ true
   was_read-last links sector =
@@ -91,6 +95,7 @@ module _ (media : ℕ → List ℕ) (n : ℕ) where
       ∙ ap (λ b. list_any (λ (l : LinkRead). l.sector == sector) links || (b || false)) (eq-eqb sector sector refl)
       ∙ or-true (list_any (λ (l : LinkRead). l.sector == sector) links)
 
+  -- a walk is at no sector twice
   goes-apart : (rest : List ℕ) (links : List LinkRead) (sector : ℕ) → GoesOn media n links sector rest
       → AllPairs (λ a b. a ≢ b) (sector ∷ rest)
   goes-apart [] links sector goes = λ i j d lt within. absurd (omega (arith, lt, within))
@@ -99,6 +104,7 @@ module _ (media : ℕ → List ℕ) (n : ℕ) where
       (goes-past sector (next ∷ rest) links sector (was_read-last links sector) goes)
       (goes-apart rest (and_link media n links sector) next goes.1)
 
+  -- a walk has at most 32 links
   goes-few : (rest : List ℕ) (links : List LinkRead) (sector : ℕ) → length links + 1 ≤ 32
       → GoesOn media n links sector rest
       → length links + 1 + length rest ≤ 32
@@ -111,6 +117,7 @@ module _ (media : ℕ → List ℕ) (n : ℕ) where
       goes-few rest (and_link media n links sector) next (omega (arith, few)) goes.1 in
       omega (arith, more, so)
 
+  -- some link of a walk has a partition
   goes-kept : (rest : List ℕ) (links : List LinkRead) (sector : ℕ) → GoesOn media n links sector rest
       → has_part (links ++ links_at media n (sector ∷ rest)) ≡ true
   goes-kept [] links sector goes = goes.kept
@@ -118,6 +125,7 @@ module _ (media : ℕ → List ℕ) (n : ℕ) where
       ap has_part (sym (append_assoc links (link_at media n sector ∷ []) (links_at media n (next ∷ rest))))
       ∙ goes-kept rest (and_link media n links sector) next goes.1
 
+  -- the sectors of a walk from sector 0 are a chain
   to_chain : (rest : List ℕ) → GoesOn media n [] 0 rest → IsChain media n (0 ∷ rest)
   to_chain rest goes =
       let kept : has_part (links_at media n (0 ∷ rest)) ≡ true = goes-kept rest [] 0 goes in
@@ -142,6 +150,7 @@ module _ (media : ℕ → List ℕ) (n : ℕ) where
       ∙ or_from (list_any (λ (l : LinkRead). l.sector == s) links) ((sector == s) || false) parts.1
       (or_from (sector == s) false (ne_eqb sector s other) refl))
 
+  -- sectors that lead on, are of the media, apart, unread and few, one of them with a partition, are a walk
   goes-from : (rest : List ℕ) (links : List LinkRead) (sector : ℕ) → LeadOn media (sector ∷ rest)
       → All (λ s. s < n) rest
       → All (λ s. was_read (and_link media n links sector) s ≡ false) rest → AllPairs (λ a b. a ≢ b) rest
@@ -174,6 +183,7 @@ module _ (media : ℕ → List ℕ) (n : ℕ) where
       or_from (s == 0) ((sector == s) || false) (ne_eqb s 0 (λ e. other (zero ∙ sym e)))
       (or_from (sector == s) false (ne_eqb sector s other) refl)
 
+  -- the sectors of a chain are a walk
   from_chain : (sector : ℕ) (rest : List ℕ) → IsChain media n (sector ∷ rest) → GoesOn media n [] sector rest
   from_chain sector rest chain =
       goes-from rest [] sector chain.leads (All-tail (λ s. s < n) sector rest chain.inside)
@@ -197,6 +207,7 @@ module _ (media : ℕ → List ℕ) (n : ℕ) where
       let walk : Walk media n [] 0 table = walk-read media n 32 [] 0 table read in
       record { sectors = 0 ∷ walk.rest; chain = to_chain walk.rest walk.goes; same = walk.same }
 
+-- a table is read from a media exactly where its links make a chain that gives it
 pub chains_are_read : ChainsAreRead
 chains_are_read media n table = (
   read-chain media n table,

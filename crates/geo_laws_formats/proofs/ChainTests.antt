@@ -14,7 +14,7 @@ cause_of signed second on back far long kept =
     ((not signed, causes.Signature) ∷ (not second, causes.Second) ∷ (on && back, causes.Loop) ∷ (on && far, causes.Far)
     ∷ (on && long, causes.Long) ∷ (not on && not kept, causes.Nothing) ∷ [])
 
--- what holds of a link that leads on, and of the last one
+-- what holds of a link that leads on and is not declined
 pub cause_of-on : (signed second back far long kept : Bool) → cause_of signed second true back far long kept ≡ None
     → (signed ≡ true) × (second ≡ true) × (back ≡ false) × (far ≡ false) × (long ≡ false)
 cause_of-on false second back far long kept none = let no : ⊥ = cc in absurd no
@@ -24,6 +24,7 @@ cause_of-on true true false true long kept none = let no : ⊥ = cc in absurd no
 cause_of-on true true false false true kept none = let no : ⊥ = cc in absurd no
 cause_of-on true true false false false kept none = (refl, refl, refl, refl, refl)
 
+-- what holds of a last link that is not declined
 pub cause_of-end : (signed second back far long kept : Bool) → cause_of signed second false back far long kept ≡ None
     → (signed ≡ true) × (second ≡ true) × (kept ≡ true)
 cause_of-end false second back far long kept none = let no : ⊥ = cc in absurd no

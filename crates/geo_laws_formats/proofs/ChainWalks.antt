@@ -39,6 +39,7 @@ module _ (media : ℕ → List ℕ) (n : ℕ) where
       (was_read (and_link media n links sector) (next_link (media sector))) (nat_le n (next_link (media sector)))
       (nat_le link_limit (length (and_link media n links sector))) (has_part (and_link media n links sector))) is
 
+  -- a link that leads on, and that nothing is against, leads to one that may follow it
   pub leads-to : (links : List LinkRead) (sector : ℕ) → leads_on (media sector) ≡ true → against links sector ≡ None
       → LeadsTo media n links sector (next_link (media sector))
   leads-to links sector is none =
@@ -54,6 +55,7 @@ module _ (media : ℕ → List ℕ) (n : ℕ) where
         few = leb-false link_limit (length (and_link media n links sector)) parts.4;
       }
 
+  -- a link that leads on no more, and that nothing is against, is a last one
   ends-at : (links : List LinkRead) (sector : ℕ) → leads_on (media sector) ≡ false → against links sector ≡ None
       → EndsAt media n links sector
   ends-at links sector is none =
@@ -63,7 +65,7 @@ module _ (media : ℕ → List ℕ) (n : ℕ) where
       (sym (against-is links sector false is) ∙ none) in
       record { at = record { signature = parts.0; second = parts.1; leads = is }; kept = parts.2 }
 
-  -- nothing is against them
+  -- nothing is against a link that leads to one that may follow it
   none-leads : (links : List LinkRead) (sector next : ℕ) → LeadsTo media n links sector next
       → against links sector ≡ None
   none-leads links sector next l =
@@ -74,6 +76,7 @@ module _ (media : ℕ → List ℕ) (n : ℕ) where
       lt-leb link_limit (length (and_link media n links sector)) l.few in
       against-is links sector true l.at.leads ∙ (rw (l.at.signature, l.at.second, fresh, near, few) refl)
 
+  -- nothing is against a last link
   none-ends : (links : List LinkRead) (sector : ℕ) → EndsAt media n links sector → against links sector ≡ None
   none-ends links sector e =
       against-is links sector false e.at.leads ∙ (rw (e.at.signature, e.at.second, e.kept) refl)
@@ -83,16 +86,18 @@ module _ (media : ℕ → List ℕ) (n : ℕ) where
   reads k links sector cause =
       read_on (chain_within k media n) (longer links sector) (chain_verdict (longer links sector) (media sector) cause)
 
+  -- behind a link that leads on, the next one is read
   reads-on : (k : ℕ) (links : List LinkRead) (sector : ℕ) → leads_on (media sector) ≡ true
       → reads k links sector None
       ≡ chain_within k media n (at (and_link media n links sector) (next_link (media sector)))
   reads-on k links sector is = rw is refl
 
+  -- behind a last link, the table is that of all links
   reads-end : (k : ℕ) (links : List LinkRead) (sector : ℕ) → leads_on (media sector) ≡ false
       → reads k links sector None ≡ Ok (table_of (and_link media n links sector))
   reads-end k links sector is = rw is refl
 
-  -- what is read is a walk
+  -- a table that is read behind a link that nothing is against is that of a walk
   walk-none : (k : ℕ) (links : List LinkRead) (sector : ℕ) (table : EbrTable) (on : Bool)
       → ((more : List LinkRead) (next : ℕ) → chain_within k media n (at more next) ≡ Ok table
       → Walk media n more next table)
@@ -112,6 +117,7 @@ module _ (media : ℕ → List ℕ) (n : ℕ) where
       let same : Ok (table_of (and_link media n links sector)) ≡ Ok table = sym (reads-end k links sector is) ∙ read in
       record { rest = []; goes = ends-at links sector is none; same = cc }
 
+  -- a table that is read is that of a walk, whatever is against the link
   walk-step : (k : ℕ) (links : List LinkRead) (sector : ℕ) (table : EbrTable) (cause : Option DeclineCause)
       → ((more : List LinkRead) (next : ℕ) → chain_within k media n (at more next) ≡ Ok table
       → Walk media n more next table)
@@ -120,13 +126,14 @@ module _ (media : ℕ → List ℕ) (n : ℕ) where
   walk-step k links sector table None rest is read =
       walk-none k links sector table (leads_on (media sector)) rest refl is read
 
+  -- a table that is read is that of a walk
   pub walk-read : (k : ℕ) (links : List LinkRead) (sector : ℕ) (table : EbrTable)
       → chain_within k media n (at links sector) ≡ Ok table → Walk media n links sector table
   walk-read zero links sector table read = let no : ⊥ = cc in absurd no
   walk-read (suc k) links sector table read =
       walk-step k links sector table (against links sector) (λ more next. walk-read k more next table) refl read
 
-  -- and a walk is read
+  -- the table of a walk is read
   pub read-walk : (rest : List ℕ) (k : ℕ) (links : List LinkRead) (sector : ℕ) → GoesOn media n links sector rest
       → length rest < k
       → chain_within k media n (at links sector) ≡ Ok (table_of (links ++ links_at media n (sector ∷ rest)))

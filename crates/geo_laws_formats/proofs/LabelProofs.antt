@@ -9,6 +9,7 @@ use Rattle.geo_model.specs.Acceptance.{label_verdict}
 use Rattle.geo_model.proofs.RecordLemmas.{label-read}
 use Rattle.geo_laws_formats.specs.LabelLaws.{LabelsAreJudged, VersionsMakeTheSame, new_label, old_label}
 
+-- a label of version 1 is accepted, one of version 2 exactly where its media size is the provider's
 pub labels_are_judged : LabelsAreJudged
 labels_are_judged sector name media f short fits = record {
   old = ap (label_verdict f) (label-read sector (old_label name) short tt);
@@ -22,5 +23,6 @@ labels_are_judged sector name media f short fits = record {
       (ne_eqb media (f.sectors * f.sector) e);
 }
 
+-- what is made of a label is the same for both versions
 pub versions_make_the_same : VersionsMakeTheSame
 versions_make_the_same q p name media = refl

@@ -18,6 +18,7 @@ no_place place count (inr (inl many)) = rw (lt-leb count 16 many) (and-false (na
 no_place place count (inr (inr outside)) =
     rw (le-ltb place count outside, and-false (nat_le count 16)) (and-false (nat_le 1 count))
 
+-- the test of a place that is one
 some_place : (place count : ℕ) → IsPlace place count
     → (nat_le 1 count && (nat_le count 16 && nat_lt place count)) ≡ true
 some_place place count p = rw (le-leb 1 count p.some, le-leb count 16 p.few, lt-ltb place count p.inside) refl
@@ -45,12 +46,14 @@ second_behind head a b cause other none holds fails =
 unless-some : {A E : Type 0} (error : Option E) (value : A) (e : E) → error ≡ Some e → unless error value ≡ Err e
 unless-some error value e some = ap (λ o. unless o value) some
 
+-- a record of a concatenation whose place is none is declined for its place
 pub concat_places_are_judged : ConcatPlacesAreJudged
 concat_places_are_judged bytes head bad =
     unless-some (first_error (concat_tests bytes)) _ causes.Place
     (first_behind (head_tests concat_magic 1 bytes) _ causes.Place [] head
     (no_place (u16_at bytes 40) (u16_at bytes 42) bad))
 
+-- a record of a stripe whose place is none is declined for its place
 pub stripe_places_are_judged : StripePlacesAreJudged
 stripe_places_are_judged bytes head bad =
     unless-some (first_error (stripe_tests bytes)) _ causes.Place
@@ -58,6 +61,7 @@ stripe_places_are_judged bytes head bad =
     head
     (no_place (u16_at bytes 40) (u16_at bytes 42) bad))
 
+-- a record of a stripe whose place is one, and whose stripe size is none, is declined for its size
 pub stripe_sizes_are_judged : StripeSizesAreJudged
 stripe_sizes_are_judged bytes head place bad =
     unless-some (first_error (stripe_tests bytes)) _ causes.Size

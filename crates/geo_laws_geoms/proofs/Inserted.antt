@@ -99,6 +99,11 @@ module _ (w : World) (item : ℕ × HeaderDisk) (firm : Firm w) (is : IsNumbered
     names = pairs-from_recursion (λ (x y : NewSlice). same_name x.name y.name ≡ false) (slice ∷ []) (tt, tt);
     partial = λ some. false_true some;
     one = λ concat. absurd (let no : ⊥ = cc in no);
+    sums = λ joined.
+        elim joined [
+          | inl concat ↦ absurd (let no : ⊥ = cc in no)
+          | inr stripe ↦ absurd (let no : ⊥ = cc in no)
+        ];
   }
 
   -- and the disk stands

@@ -208,11 +208,10 @@ module _ (w : World) (firm : Firm w) (ps : List Provider)
     names = pairs-from_recursion (λ (x y : NewSlice). same_name x.name y.name ≡ false)
         (record { name = concat_name name; size = joined_size concat } ∷ []) (tt, tt);
     partial = λ free. false_true (sym (none-free (range_with_len n (length ps))) ∙ free);
-    one = λ kind. (
-      omega arith,
-      All-from_recursion (λ (x : NewSlice). x.size ≡ joined_size concat)
-          (record { name = concat_name name; size = joined_size concat } ∷ []) (refl, tt),
-    );
+    one = λ kind. omega arith;
+    sums = λ joined.
+        All-from_recursion (λ (x : NewSlice). x.size ≡ joined_size concat)
+        (record { name = concat_name name; size = joined_size concat } ∷ []) (refl, tt);
   }
 
   -- Stripes
@@ -282,6 +281,9 @@ module _ (w : World) (firm : Firm w) (ps : List Provider)
           (record { name = stripe_name name; size = joined_size striped } ∷ []) (tt, tt);
       partial = λ free. false_true (sym (none-free (range_with_len n (length ps))) ∙ free);
       one = λ kind. absurd (let no : ⊥ = cc in no);
+      sums = λ joined.
+          All-from_recursion (λ (x : NewSlice). x.size ≡ joined_size striped)
+          (record { name = stripe_name name; size = joined_size striped } ∷ []) (refl, tt);
     }
 
 -- as many as were named are no more than there may be

@@ -1,6 +1,6 @@
 -- A nop: a geom over one provider, with a provider for its window; or the command is refused.
 use Rattle.std.specs.Prelude.{◌≡◌, ◌≢◌, ℕ, ◌+◌, ◌<◌, ◌≤◌, ◌%◌, ◌^◌, ◌==◌, nat_lt, false, not, ◌||◌, List, [], ◌∷◌, Option, Some, None, IsSome}
-use Rattle.std.proofs.Common.{inr, refl, sym, ◌∙◌, subst, arith}
+use Rattle.std.proofs.Common.{inl, inr, refl, sym, ◌∙◌, subst, arith}
 use Rattle.std.proofs.lemmas.Bool.{or_parts, not-false, ltb-false, eqb-true, eq-eqb}
 use Rattle.std.proofs.lemmas.List.Elements.{All-contains, All-from_recursion}
 use Rattle.geo_base.specs.Name.{is_name}
@@ -118,6 +118,11 @@ module _ (w : World) (firm : Firm w) (p : Provider) (name : List ℕ) (offset si
     names = pairs-from_recursion (λ (x y : NewSlice). same_name x.name y.name ≡ false) (slice ∷ []) (tt, tt);
     partial = λ some. false_true some;
     one = λ concat. absurd (let no : ⊥ = cc in no);
+    sums = λ joined.
+        elim joined [
+          | inl concat ↦ absurd (let no : ⊥ = cc in no)
+          | inr stripe ↦ absurd (let no : ⊥ = cc in no)
+        ];
   }
 
   -- and it stands

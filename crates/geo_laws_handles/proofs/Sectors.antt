@@ -26,13 +26,15 @@ name-length name short =
     let parts = and_parts (nat_le 1 (length name) && nat_le (length name) 16) (list_all is_word_byte name) short in
     leb-true (length name) 16 (and_parts (nat_le 1 (length name)) (nat_le (length name) 16) parts.0).1
 
--- the bytes of numbers
+-- a number of 16 bits is written in two bytes
 bytes_2 : (n : ℕ) → length (to_le_bytes w16 n) ≡ 2
 bytes_2 n = refl
 
+-- a number of 32 bits is written in four bytes
 bytes_4 : (n : ℕ) → length (to_le_bytes w32 n) ≡ 4
 bytes_4 n = refl
 
+-- a number of 64 bits is written in eight bytes
 bytes_8 : (n : ℕ) → length (to_le_bytes w64 n) ≡ 8
 bytes_8 n = refl
 

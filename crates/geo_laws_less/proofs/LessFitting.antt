@@ -1,5 +1,5 @@
 -- A graph that has come to less is fitting, and a firm world with it is firm.
-use Rattle.std.specs.Prelude.{◌≡◌, ℕ, ◌<◌, ◌≤◌, ◌/◌, ◌%◌, true, false, List, length, Option, Some, None, All, Contains, IsSome, IsSomeAnd, IfSome, IsTrue, option_and_then}
+use Rattle.std.specs.Prelude.{◌≡◌, ◌⊎◌, ℕ, ◌<◌, ◌≤◌, ◌/◌, ◌%◌, true, false, List, length, Option, Some, None, All, Contains, IsSome, IsSomeAnd, IfSome, IsTrue, option_and_then}
 use Rattle.std.specs.Option.{option_map_or}
 use Rattle.std.proofs.Common.{sym, ◌∙◌, ap, subst, arith}
 use Rattle.std.proofs.lemmas.List.Elements.{All-contains}
@@ -145,10 +145,11 @@ module _ (w : World) (u : Topology Config) (firm : Firm w) (less : IsLess w u) w
 
   -- and its provider is as long as it was
   has_sum : (y : Geom Config) → Contains u.geoms y → HasItsSum u y
-  has_sum y here concat =
+  has_sum y here joined =
       let o = less.geoms y here in
       let old = All-contains (HasItsSum w.topology) w.topology.geoms o.item firm.fitting.sums o.stands
-      (sym (ap (λ (z : Geom Config). z.kind) o.fact.same) ∙ concat) in
+      (subst (λ (k : Kind). (k ≡ kinds.Concat) ⊎ (k ≡ kinds.Stripe))
+      (ap (λ (z : Geom Config). z.kind) o.fact.same) joined) in
       all_of (λ p. p.size ≡ joined_size y.config) (providers_of u y.number) (λ p own.
       let q = of_geom w u firm less y.number p own in
       ap (λ (z : Provider). z.size) q.fact.same

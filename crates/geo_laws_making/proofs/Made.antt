@@ -430,12 +430,12 @@ module _ (w : World) (kind : Kind) (name : List ℕ) (config : Config) (automati
     partial = λ free.
         nil_from_length (providers_of u n) (own_number ∙ ap length (can.partial free));
     places = fits_places;
-    one = λ concat. let few : length slices ≤ 1 = (can.one concat).0 in let all = own_number in omega arith;
+    one = λ concat. let few : length slices ≤ 1 = can.one concat in let all = own_number in omega arith;
     apart = record { apart = can.apart; few = can.few };
-    sums = λ concat.
+    sums = λ joined.
         all_of (λ (p : Provider). p.size ≡ joined_size config) (providers_of u n) (λ p here.
         let o = own_provider p here in
-        o.size ∙ All-contains (λ (x : NewSlice). x.size ≡ joined_size config) slices o.slice (can.one concat).1
+        o.size ∙ All-contains (λ (x : NewSlice). x.size ≡ joined_size config) slices o.slice (can.sums joined)
         o.here);
   }
 

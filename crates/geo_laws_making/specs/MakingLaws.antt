@@ -81,7 +81,8 @@ pub record CanMake (w : World) (kind : Kind) (config : Config) (ps : List Provid
   pub offers : All (CanOffer w config ps sector) slices
   pub names : AllPairs (λ x y. same_name x.name y.name ≡ false) slices
   pub partial : IsTrue (list_any is_none (places_of config)) → slices ≡ []
-  pub one : kind ≡ kinds.Concat → (length slices ≤ 1) × All (λ x. x.size ≡ joined_size config) slices
+  pub one : kind ≡ kinds.Concat → length slices ≤ 1
+  pub sums : (kind ≡ kinds.Concat) ⊎ (kind ≡ kinds.Stripe) → All (λ x. x.size ≡ joined_size config) slices
 
 -- a geom that can be made leaves a firm world firm
 pub record MakesKeepFirm : Type 0 where

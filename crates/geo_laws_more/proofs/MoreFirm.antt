@@ -287,7 +287,8 @@ module _ (w : World) (u : Topology Config) (g : Geom Config) (firm : Firm w) (mo
     sums = all_of (HasItsSum u) u.geoms (λ y here.
         elim (more.geoms y here) [
           | inl old ↦
-              subst (λ (ps : List Provider). y.kind ≡ kinds.Concat → All (λ p. p.size ≡ joined_size y.config) ps)
+              subst (λ (ps : List Provider). (y.kind ≡ kinds.Concat) ⊎ (y.kind ≡ kinds.Stripe)
+              → All (λ p. p.size ≡ joined_size y.config) ps)
               (sym (more.others y.number old.1)) (All-contains (HasItsSum t) t.geoms y firm.fitting.sums old.0)
           | inr same ↦ subst (HasItsSum u) (sym same) more.fits.sums
         ]);

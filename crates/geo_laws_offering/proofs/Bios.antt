@@ -1,7 +1,6 @@
 -- The steps of bios: the graph changes at most in a geom's count of started requests, and nothing is posted.
-use Rattle.std.specs.Prelude.{◌≡◌, ℕ, ◌+◌, Bool, true, false, List, Option, Some, None, Ok, Err, option_map, if◌then◌else◌}
+use Rattle.std.specs.Prelude.{◌≡◌, ℕ, ◌+◌, Bool, true, false, Option, Some, None, Ok, Err, if◌then◌else◌}
 use Rattle.std.specs.Option.{option_map_or}
-use Rattle.std.proofs.Common.{refl}
 use Rattle.geo_base.specs.declared.errno.Errno.TheVariants.{EIO, ENXIO}
 use Rattle.geo_model.specs.declared.step.DeviceResult.{DeviceResult}
 use Rattle.geo_model.specs.declared.step.Found.{Found}
@@ -15,7 +14,7 @@ use Rattle.geo_model.specs.declared.step.Step.TheVariants as steps
 use Rattle.geo_model.specs.Topology.{Geom, Provider, is_errored, note_started, provider_with_geom}
 use Rattle.geo_model.specs.World.{World, Config, Nothing, Disk, Mbr, Ebr, Label, Concat, Stripe, Nop, Bio, bio_at, change_bio, is_down, is_up}
 use Rattle.geo_model.specs.WorldEvents.{queued_of}
-use Rattle.geo_model.specs.Bios.{piece_targets, is_hit, bounce, split_bio, start_at_nop, start_at, start_found, start, take_bio, deliver, is_complete, complete_parent, up_to, up}
+use Rattle.geo_model.specs.Bios.{piece_targets, is_hit, bounce, split_bio, start_at, start_found, start, take_bio, deliver, is_complete, complete_parent, up_to, up}
 use Rattle.geo_model.specs.Step.{unless_found, start_of, take_found, take_of, deliver_found, deliver_of, up_of, step}
 use Rattle.geo_model.specs.Log.{world_after}
 use Rattle.geo_model.specs.Laws.{world_by}

@@ -1,5 +1,5 @@
 -- An event destroys nothing, and what it offers for taste lives.
-use Rattle.std.specs.Prelude.{◌≡◌, ℕ, ◌≤◌, Bool, true, false, List, [], ◌∷◌, length, filter, Some, Ok, Err, is_some, count_by, if◌then◌else◌}
+use Rattle.std.specs.Prelude.{◌≡◌, ℕ, ◌≤◌, Bool, true, false, List, [], ◌∷◌, length, filter, Some, Err, is_some, count_by, if◌then◌else◌}
 use Rattle.std.proofs.Common.{refl, sym, subst, arith}
 use Rattle.std.proofs.lemmas.List.Sums.{length-filter}
 use Rattle.geo_model.specs.declared.step.Event.{Event}
@@ -8,7 +8,7 @@ use Rattle.geo_model.specs.declared.step.Found.TheVariants as refusals
 use Rattle.geo_model.specs.declared.step.Step.TheVariants as steps
 use Rattle.geo_model.specs.Topology.{add_consumer}
 use Rattle.geo_model.specs.World.{World, Config, granted_in}
-use Rattle.geo_model.specs.Events.{QueuedTopology, is_not_tasted, spoil, orphan, resize}
+use Rattle.geo_model.specs.Events.{QueuedTopology, is_not_tasted, spoil, orphan}
 use Rattle.geo_model.specs.WorldEvents.{queued_of, begin_taste, do_event}
 use Rattle.geo_model.specs.Step.{event_of, event, step}
 use Rattle.geo_model.specs.Log.{world_after}

@@ -1,5 +1,5 @@
 -- A step after which each part is still there destroys nothing.
-use Rattle.std.specs.Prelude.{◌≡◌, ℕ, Bool, true, false, Some, None, Contains, IsSome, is_some}
+use Rattle.std.specs.Prelude.{◌≡◌, false, Some, None, Contains, is_some}
 use Rattle.std.proofs.Common.{ap}
 use Rattle.geo_model.specs.declared.step.Entry.{Entry}
 use Rattle.geo_model.specs.Topology.{Topology, Provider, Consumer, geom_at, provider_at, consumer_at}

@@ -1,5 +1,5 @@
 -- The commands of geoms destroy nothing, and what they offer for taste lives.
-use Rattle.std.specs.Prelude.{◌≡◌, ℕ, ◌+◌, ◌==◌, true, false, not, ◌&&◌, List, [], ◌∷◌, length, find, Option, Some, None, IfSome, IsSomeAnd, option_and_then, slice_get}
+use Rattle.std.specs.Prelude.{◌≡◌, ℕ, ◌+◌, true, false, not, ◌&&◌, List, [], ◌∷◌, length, find, Option, Some, None, IfSome, option_and_then, slice_get}
 use Rattle.std.proofs.Common.{refl}
 use Rattle.geo_base.specs.declared.errno.Errno.{Errno}
 use Rattle.geo_base.specs.declared.errno.Errno.TheVariants.{ENXIO}
@@ -12,14 +12,14 @@ use Rattle.geo_model.specs.declared.step.Event.TheVariants as events
 use Rattle.geo_model.specs.declared.step.Step.TheVariants as steps
 use Rattle.geo_model.specs.Words.{first_error}
 use Rattle.geo_model.specs.Names.{nop_name, concat_name, stripe_name}
-use Rattle.geo_model.specs.Topology.{Topology, Geom, Provider, geom_at, find_provider, add_geom, add_consumer, set_config, set_size}
+use Rattle.geo_model.specs.Topology.{Topology, Geom, Provider, add_geom, add_consumer, set_config}
 use Rattle.geo_model.specs.Demand.{risen}
 use Rattle.geo_model.specs.World.{World, Config, Disk, HeaderDisk, granted_in}
 use Rattle.geo_model.specs.Events.{QueuedTopology, post, offer, wither, announce_risen}
-use Rattle.geo_model.specs.WorldEvents.{queued_of, with_queued, after_open}
+use Rattle.geo_model.specs.WorldEvents.{queued_of, with_queued}
 use Rattle.geo_model.specs.Acceptance.{add_place, joined_size}
 use Rattle.geo_model.specs.HandleCommands.{answer, without_number}
-use Rattle.geo_model.specs.GeomCommands.{header_disk, is_geom_of_disk, insert_tests, stand, do_insert, wither_found, do_pull, build, with_geom_at, nop_tests, nop_config, do_nop, found_providers, concat_config, stripe_config, joined_tests, is_invalid_stripe, sector_of, with_made, do_concat, do_stripe, destroy_tests, do_destroy, found_provider, named_geom}
+use Rattle.geo_model.specs.GeomCommands.{header_disk, is_geom_of_disk, insert_tests, stand, do_insert, wither_found, do_pull, with_geom_at, nop_tests, nop_config, do_nop, found_providers, concat_config, stripe_config, joined_tests, is_invalid_stripe, sector_of, with_made, do_concat, do_stripe, destroy_tests, do_destroy, found_provider, named_geom}
 use Rattle.geo_model.specs.Append.{Growing, growing_concat, append_tests, component_refusal, with_component, appended, append_joined, append_tested, do_append}
 use Rattle.geo_model.specs.Commands.{do_command}
 use Rattle.geo_model.specs.Graph.{IsInOrder}

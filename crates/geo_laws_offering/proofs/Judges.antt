@@ -22,7 +22,7 @@ use Rattle.geo_model.specs.Events.{QueuedTopology}
 use Rattle.geo_model.specs.WorldEvents.{queued_of}
 use Rattle.geo_model.specs.Acceptance.{taste_where, accept}
 use Rattle.geo_model.specs.Chain.{no_links}
-use Rattle.geo_model.specs.Tasting.{Judging, facts_of, is_attached_class, is_ended, end_class, end_taste, read_sector, follow, with_read, verdict_on, take_result, ask_class, next_class, go_on, taste_step, abort_taste, judged_world, judge_step}
+use Rattle.geo_model.specs.Tasting.{Judging, facts_of, is_attached_class, is_ended, end_class, end_taste, read_sector, follow, with_read, verdict_on, take_result, next_class, go_on, taste_step, abort_taste, judged_world, judge_step}
 use Rattle.geo_model.specs.Graph.{IsInOrder}
 use Rattle.geo_model.specs.Step.{taste_bio, judge_of, judge_next, step}
 use Rattle.geo_model.specs.Log.{world_after}

@@ -2,12 +2,12 @@
 use Rattle.std.specs.Prelude.{◌≡◌, ◌≢◌, ◌⊎◌, ℕ, ◌<◌, ◌==◌, Bool, true, false, ◌&&◌, ◌||◌, List, [], ◌∷◌, map, fold, Option, Some, None, IsSomeAnd, count_by, option_and_then, if◌then◌else◌}
 use Rattle.std.specs.List.{AllByRecursion, list_any}
 use Rattle.std.specs.Option.{option_map_or}
-use Rattle.std.proofs.Common.{inl, inr, refl, sym, ◌∙◌, ap, subst, arith}
+use Rattle.std.proofs.Common.{inl, inr, refl, sym, ◌∙◌, subst, arith}
 use Rattle.std.proofs.lemmas.Bool.{ne_eqb, cases_eq, or_parts}
 use Rattle.geo_base.specs.declared.kind.Kind.{Kind}
 use Rattle.geo_base.specs.declared.request.Counts.{Counts}
 use Rattle.geo_model.specs.declared.step.Event.TheVariants as events
-use Rattle.geo_model.specs.Topology.{Topology, Geom, Provider, Consumer, geom_at, provider_at, geom_of_provider, attached_to, is_errored, add_geom, add_provider, add_consumer}
+use Rattle.geo_model.specs.Topology.{Topology, Geom, Provider, geom_at, geom_of_provider, attached_to, is_errored, add_geom, add_provider, add_consumer}
 use Rattle.geo_model.specs.World.{Config}
 use Rattle.geo_model.specs.Events.{QueuedTopology, post, offer, offer_again, resize, outgrow_consumer}
 use Rattle.geo_model.specs.Acceptance.{NewSlice}

@@ -1,5 +1,5 @@
 -- Changes by which each part of a graph stays: the effects that offer nothing for taste.
-use Rattle.std.specs.Prelude.{◌≡◌, ℕ, ◌+◌, ◌<◌, ◌==◌, Bool, true, false, not, List, [], ◌∷◌, ◌++◌, length, map, filter, find, fold, Option, Some, None, count_by, option_map, if◌then◌else◌}
+use Rattle.std.specs.Prelude.{◌≡◌, ℕ, ◌+◌, ◌==◌, Bool, true, false, not, List, [], ◌∷◌, ◌++◌, length, map, filter, find, fold, Option, Some, None, count_by, option_map, if◌then◌else◌}
 use Rattle.std.proofs.Common.{refl, sym, ◌∙◌, ap, arith}
 use Rattle.std.proofs.lemmas.List.Sums.{length-filter}
 use Rattle.geo_base.specs.declared.kind.Kind.{Kind}

@@ -1,7 +1,7 @@
 -- A wash and the end of a taste offer nothing for taste.
-use Rattle.std.specs.Prelude.{◌≡◌, ℕ, ◌≤◌, Bool, not, ◌==◌, List, length, filter, Option, Some, None, Ok, Err, count_by}
+use Rattle.std.specs.Prelude.{ℕ, ◌≤◌, Bool, not, ◌==◌, List, length, filter, Option, Some, None, Ok, Err, count_by}
 use Rattle.std.specs.Option.{option_map_or}
-use Rattle.std.proofs.Common.{refl, ap, subst, sym, arith}
+use Rattle.std.proofs.Common.{ap, subst, sym, arith}
 use Rattle.std.proofs.lemmas.List.Sums.{length-filter, count_by-le-length}
 use Rattle.geo_model.specs.declared.step.Event.{Event}
 use Rattle.geo_model.specs.declared.step.Found.TheVariants as refusals

@@ -1,7 +1,7 @@
 -- The opening of a plan is fitting.
-use Rattle.std.specs.Prelude.{◌≡◌, ℕ, zero, suc, ◌==◌, List, [], ◌∷◌, length, map, zip, All, Some, slice_get}
+use Rattle.std.specs.Prelude.{◌≡◌, ◌⊎◌, ℕ, zero, suc, ◌==◌, List, [], ◌∷◌, length, map, zip, All, Some, slice_get}
 use Rattle.std.specs.List.{AllByRecursion, AllZip, range_with_len}
-use Rattle.std.proofs.Common.{sym, ◌∙◌, subst, arith}
+use Rattle.std.proofs.Common.{inl, inr, sym, ◌∙◌, subst, arith}
 use Rattle.std.proofs.lemmas.List.Elements.{recursion_from_All, All-from_recursion}
 use Rattle.geo_base.specs.Sectors.{IsSectorSize}
 use Rattle.geo_base.specs.declared.kind.Kind.{Kind}
@@ -53,7 +53,12 @@ actor_commands plan is actors =
 no_concat : (k : Kind) → k ≡ kinds.Disk → k ≡ kinds.Concat → ⊥
 no_concat k disk concat = let bad : kinds.Disk ≡ kinds.Concat = sym disk ∙ concat in cc
 
--- what is asked of a geom that has no places and isn't a concat
+-- nor a stripe
+no_joined : (k : Kind) → k ≡ kinds.Disk → (k ≡ kinds.Concat) ⊎ (k ≡ kinds.Stripe) → ⊥
+no_joined k disk (inl concat) = no_concat k disk concat
+no_joined k disk (inr stripe) = let bad : kinds.Disk ≡ kinds.Stripe = sym disk ∙ stripe in cc
+
+-- what is asked of a geom that has no places and is neither a concat nor a stripe
 pub record IsBare (t : Topology Config) (g : Geom Config) : Type 0 where
   pub places : FitsPlaces t g
   pub one : HasOneProvider t g
@@ -67,7 +72,7 @@ bare_disk t g is =
       places = rw config tt;
       one = λ concat. absurd (no_concat g.kind is.kind concat);
       apart = record { apart = rw config (λ i j d less short. nowhere j short); few = rw config (omega arith) };
-      sum = λ concat. absurd (no_concat g.kind is.kind concat);
+      sum = λ joined. absurd (no_joined g.kind is.kind joined);
     }
 
 module _ (plan : Plan) (facts : List (ℕ × ℕ)) (is : IsPlan plan) (fits : FactsFit plan facts) where
@@ -88,7 +93,7 @@ module _ (plan : Plan) (facts : List (ℕ × ℕ)) (is : IsPlan plan) (fits : Fa
   sector_of p of = subst IsSectorSize (sym of.sector)
       (at_place IsHeaderDisk w.disks of.place of.disk disks_fit of.at).sector
 
-  -- DEV, TASTE and the geoms of disks have no places, and none is a concat
+  -- DEV, TASTE and the geoms of disks have no places, and none is a concat or a stripe
   bare_geoms : AllByRecursion (IsBare w.topology) w.topology.geoms
   bare_geoms = (
     record {
@@ -96,7 +101,10 @@ module _ (plan : Plan) (facts : List (ℕ × ℕ)) (is : IsPlan plan) (fits : Fa
       one = λ concat. absurd cc;
       apart =
           record { apart = λ i j d less short. nowhere j short; few = omega arith };
-      sum = λ concat. absurd cc;
+      sum = λ joined. absurd (elim joined [
+        | inl concat ↦ (let no : ⊥ = cc in no)
+        | inr stripe ↦ (let no : ⊥ = cc in no)
+      ]);
     },
     (
       record {
@@ -104,7 +112,10 @@ module _ (plan : Plan) (facts : List (ℕ × ℕ)) (is : IsPlan plan) (fits : Fa
         one = λ concat. absurd cc;
         apart =
             record { apart = λ i j d less short. nowhere j short; few = omega arith };
-        sum = λ concat. absurd cc;
+        sum = λ joined. absurd (elim joined [
+          | inl concat ↦ (let no : ⊥ = cc in no)
+          | inr stripe ↦ (let no : ⊥ = cc in no)
+        ]);
       },
       all_weaker (IsDiskGeom 3) (IsBare w.topology) (bare_disk w.topology) (disk_geoms 3 xs) (geoms-are 3 xs),
     ),

@@ -347,7 +347,7 @@ module _ (w : World) (p : Provider) (g : Geom Config) (k : ℕ) (firm : Firm w) 
     places = fits_places;
     one = λ concat. let none : length (providers_of t n) ≡ 0 = ap length waits.offers_none in omega arith;
     apart = places_hold;
-    sums = λ concat.
+    sums = λ joined.
         subst (All (λ (x : Provider). x.size ≡ joined_size filled)) (sym waits.offers_none)
         (All-nil (λ (x : Provider). x.size ≡ joined_size filled));
   }

@@ -19,7 +19,7 @@ use Rattle.geo_mesh.specs.Graph.{IsSoundGraph}
 use Rattle.geo_mesh.specs.Names.{OneEach, is_sound_named}
 use Rattle.geo_mesh.specs.Ranks.{HaveRanks, HaveDevAndTaste, below, rank_from, stored}
 use Rattle.geo_mesh.specs.Whole.{IsWhole}
-use Rattle.geo_mesh.proofs.NameLemmas.{same_is, is_same}
+use Rattle.geo_names.proofs.Rows.{same_is, is_same}
 use Rattle.geo_mesh.proofs.RankFirst.{first-two, rank_from-local}
 use Rattle.geo_mesh.proofs.RankMesh.{under-graph, rank_from-rank, mesh-low}
 

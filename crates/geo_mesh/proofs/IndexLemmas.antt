@@ -1,8 +1,9 @@
 -- The index after each change of the graph.
 use Rattle.std.proofs.Common.{◌≡◌, ℕ, ◌+◌, ◌==◌, List, [], ◌∷◌, map, Bool, true, false, Some, None, Option, sym, refl, ap, ◌∙◌, subst, inl, inr, not, filter, find, IsSome}
-use Rattle.std.proofs.lemmas.Bool.{cases_eq, eq-eqb, ne_eqb}
+use Rattle.std.proofs.lemmas.Bool.{cases_eq, eq-eqb, ne_eqb, eqb-true}
 use Rattle.std.proofs.lemmas.List.{map-append}
-use Rattle.std.specs.Prelude.{nat_le, IsSomeAnd}
+use Rattle.std.proofs.Math.Bool.{and-false, and-true}
+use Rattle.std.specs.Prelude.{◌++◌, nat_le, IsSomeAnd, if◌then◌else◌}
 use Rattle.std.specs.Option.{option_map}
 use Rattle.geo_base.specs.declared.kind.Kind.{Kind}
 use Rattle.geo_model.specs.Words.{change_where, names_number}
@@ -13,7 +14,7 @@ use Rattle.geo_mesh.specs.declared.index.Index.{Index}
 use Rattle.std.specs.Prelude.{◌&&◌}
 use Rattle.geo_mesh.specs.Rows.{first_row}
 use Rattle.geo_mesh.specs.Topo.{first_provider, first_consumer}
-use Rattle.geo_mesh.specs.Index.{IsIndexed, with_rooms, with_geom_index, with_provider_index, with_consumer_index, without_geom_index, without_provider_index, without_consumer_index, attached_index, detached_index, geom_numbers}
+use Rattle.geo_mesh.specs.Index.{IsFamilyOf, IsIndexed, unless_dev, consumers_above, provider_numbers, with_rooms, with_geom_index, with_provider_index, with_consumer_index, without_geom_index, without_provider_index, without_consumer_index, attached_index, detached_index, geom_numbers}
 
 module _ {X Y : Type 0} (seen : X → Y) (test : X → Bool) (change : X → X) (same : (x : X)
     → seen (change x) ≡ seen x) where
@@ -58,7 +59,7 @@ map-filter_number number n (x ∷ xs) =
     ]
 
 -- rows without a number, by what is seen
-pub map-filter_row : {X : Type 0} (number : X → ℕ) (value : X → Option ℕ) (n : ℕ) (xs : List X)
+pub map-filter_row : {X Y : Type 0} (number : X → ℕ) (value : X → Y) (n : ℕ) (xs : List X)
     → without (map (λ x. (number x, value x)) xs) n
     ≡ map (λ x. (number x, value x)) (filter (λ x. not (number x == n)) xs)
 map-filter_row number value n [] = refl
@@ -126,6 +127,73 @@ pub names-same : (o : Option ℕ) (p : ℕ) → names o p ≡ names_number o p
 names-same None p = refl
 names-same (Some q) p = refl
 
+-- nothing is nothing, whoever's consumer it is
+none-above : (geom : ℕ) → unless_dev geom None ≡ None
+none-above geom = at (geom == 1) refl where
+  at : (b : Bool) → (geom == 1) ≡ b → unless_dev geom None ≡ None
+  at true e = rw e refl
+  at false e = rw e refl
+
+-- DEV's consumers are under no provider, another's under the one to which it is attached
+pub names-above : (geom : ℕ) (prov : Option ℕ) (p : ℕ)
+    → names (unless_dev geom prov) p ≡ (names_number prov p && not (geom == 1))
+names-above geom prov p = at prov (geom == 1) where
+  at : (o : Option ℕ) (b : Bool) → names (if b then None else o) p ≡ (names_number o p && not b)
+  at None true = refl
+  at None false = refl
+  at (Some q) true = sym (and-false (q == p))
+  at (Some q) false = sym (and-true (q == p))
+
+-- those that pass both tests are those that pass the one among those that pass the other
+pub filter-both : {X : Type 0} (one two : X → Bool) (xs : List X)
+    → filter (λ x. one x && two x) xs ≡ filter two (filter one xs)
+filter-both one two [] = refl
+filter-both one two (x ∷ xs) = at (one x) refl (two x) refl (filter-both one two xs) where
+  at : (a : Bool) → one x ≡ a → (b : Bool) → two x ≡ b
+      → filter (λ y. one y && two y) xs ≡ filter two (filter one xs)
+      → filter (λ y. one y && two y) (x ∷ xs) ≡ filter two (filter one (x ∷ xs))
+  at true e true f rest = rw (e, f, rest) refl
+  at true e false f rest = rw (e, f, rest) refl
+  at false e b f rest = rw (e, rest) refl
+
+-- each consumer of the number is the geom's
+abbrev pub OnlyOf : ℕ → ℕ → List Consumer → Type 0
+OnlyOf cons geom [] = Unit {0}
+OnlyOf cons geom (x ∷ xs) = ((x.number == cons) ≡ true → x.geom ≡ geom) × OnlyOf cons geom xs
+
+-- where DEV's consumer is attached, those above stay
+above-by_dev : (cons prov geom : ℕ) → (geom == 1) ≡ true → (xs : List Consumer) → OnlyOf cons geom xs
+    → consumers_above (change_where (λ x. x.number == cons) (λ x. record x { provider = Some prov }) xs)
+    ≡ consumers_above xs
+above-by_dev cons prov geom dev [] only = refl
+above-by_dev cons prov geom dev (x ∷ xs) only =
+    at (x.number == cons) refl only.0 (above-by_dev cons prov geom dev xs only.1) where
+      at : (b : Bool) → (x.number == cons) ≡ b → ((x.number == cons) ≡ true → x.geom ≡ geom)
+          → consumers_above (change_where (λ y. y.number == cons) (λ y. record y { provider = Some prov }) xs)
+          ≡ consumers_above xs
+          → consumers_above (change_where (λ y. y.number == cons) (λ y. record y { provider = Some prov }) (x ∷ xs))
+          ≡ consumers_above (x ∷ xs)
+      at true e is rest = rw (e, is e, dev, rest) refl
+      at false e is rest = rw (e, rest) refl
+
+-- where another's consumer is attached, it comes above the provider
+above-by_other : (cons prov geom : ℕ) → (geom == 1) ≡ false → (xs : List Consumer) → OnlyOf cons geom xs
+    → with_value (consumers_above xs) cons (Some prov)
+    ≡ consumers_above (change_where (λ x. x.number == cons) (λ x. record x { provider = Some prov }) xs)
+above-by_other cons prov geom other [] only = refl
+above-by_other cons prov geom other (x ∷ xs) only =
+    at (x.number == cons) refl only.0 (above-by_other cons prov geom other xs only.1) where
+      at : (b : Bool) → (x.number == cons) ≡ b → ((x.number == cons) ≡ true → x.geom ≡ geom)
+          → with_value (consumers_above xs) cons (Some prov)
+          ≡ consumers_above (change_where (λ y. y.number == cons) (λ y. record y { provider = Some prov }) xs)
+          → with_value (consumers_above (x ∷ xs)) cons (Some prov)
+          ≡ consumers_above (change_where (λ y. y.number == cons) (λ y. record y { provider = Some prov }) (x ∷ xs))
+      at true e is rest =
+          let same : cons ≡ x.number = sym (eqb-true x.number cons e) in
+          rw (e, is e, other, rest) (ap (λ n. (n, Some prov)
+          ∷ consumers_above (change_where (λ y. y.number == cons) (λ y. record y { provider = Some prov }) xs)) same)
+      at false e is rest = rw (e, rest) refl
+
 module _ {C : Type 0} (t : Topology C) (i : Index) (h : IsIndexed t i) where
   -- the look-ups
   pub offered_first : (geom n : ℕ) → first_child i.offered.children geom n ≡ first_provider (providers_of t geom) n
@@ -148,6 +216,17 @@ module _ {C : Type 0} (t : Topology C) (i : Index) (h : IsIndexed t i) where
       ∙ first_child-map (λ (x : Consumer). x.number) (λ x. x.provider) prov (λ x. names_number x.provider prov)
       (λ x. names-same x.provider prov) n t.consumers
 
+  -- the first consumer attached to a provider that isn't DEV's, from a number on
+  pub above_first : (prov n : ℕ)
+      → first_child i.above.children prov n
+      ≡ first_consumer (filter (λ x. not (x.geom == 1)) (attached_to t prov)) n
+  above_first prov n =
+      ap (λ xs. first_child xs prov n) h.above.children
+      ∙ first_child-map (λ (x : Consumer). x.number) (λ x. unless_dev x.geom x.provider) prov
+      (λ x. names_number x.provider prov && not (x.geom == 1)) (λ x. names-above x.geom x.provider prov) n t.consumers
+      ∙ ap (λ (xs : List Consumer). first_consumer xs n)
+      (filter-both (λ x. names_number x.provider prov) (λ x. not (x.geom == 1)) t.consumers)
+
   -- who stands, and who has nobody
   pub offered_parent : (geom : ℕ) → IsSome (geom_at t geom) → is_parent i.offered.parents geom ≡ true
   offered_parent geom lives = ap (λ xs. is_parent xs geom) h.offered.parents
@@ -161,6 +240,11 @@ module _ {C : Type 0} (t : Topology C) (i : Index) (h : IsIndexed t i) where
   -- a provider that is there is a parent of consumers that are attached
   pub attached_parent : (prov : ℕ) → IsSome (provider_at t prov) → is_parent i.attached.parents prov ≡ true
   attached_parent prov lives = ap (λ xs. is_parent xs prov) h.attached.parents
+      ∙ found_parent (λ (x : Provider). x.number) prov t.providers lives
+
+  -- and of those that aren't DEV's
+  pub above_parent : (prov : ℕ) → IsSome (provider_at t prov) → is_parent i.above.parents prov ≡ true
+  above_parent prov lives = ap (λ xs. is_parent xs prov) h.above.parents
       ∙ found_parent (λ (x : Provider). x.number) prov t.providers lives
 
   -- a geom without providers has no child among them
@@ -184,6 +268,15 @@ module _ {C : Type 0} (t : Topology C) (i : Index) (h : IsIndexed t i) where
       ∙ childless-map (λ (x : Consumer). x.number) (λ x. x.provider) prov (λ x. names_number x.provider prov)
       (λ x. names-same x.provider prov) t.consumers none
 
+  -- nor has it one that isn't DEV's
+  pub above_none : (prov : ℕ) → attached_to t prov ≡ [] → has_child i.above.children prov ≡ false
+  above_none prov none =
+      ap (λ xs. has_child xs prov) h.above.children
+      ∙ childless-map (λ (x : Consumer). x.number) (λ x. unless_dev x.geom x.provider) prov
+      (λ x. names_number x.provider prov && not (x.geom == 1)) (λ x. names-above x.geom x.provider prov) t.consumers
+      (filter-both (λ x. names_number x.provider prov) (λ x. not (x.geom == 1)) t.consumers
+      ∙ ap (λ (xs : List Consumer). filter (λ x. not (x.geom == 1)) xs) none)
+
   -- a consumer that is attached to nothing has no parent there
   pub attached_free : (cons : ℕ) → IsSomeAnd (consumer_at t cons) (λ x. x.provider ≡ None)
       → value_at i.attached.children cons ≡ Some None
@@ -196,6 +289,19 @@ module _ {C : Type 0} (t : Topology C) (i : Index) (h : IsIndexed t i) where
           → option_map (λ (x : Consumer). x.provider) o ≡ Some None
       no_provider None never = absurd never
       no_provider (Some x) none = ap (λ p. Some p) none
+
+  -- nor among those that aren't DEV's
+  pub above_free : (cons : ℕ) → IsSomeAnd (consumer_at t cons) (λ x. x.provider ≡ None)
+      → value_at i.above.children cons ≡ Some None
+  above_free cons free =
+      ap (λ xs. value_at xs cons) h.above.children
+      ∙ value_at-map (λ (x : Consumer). x.number) (λ x. unless_dev x.geom x.provider) cons t.consumers
+      ∙ no_provider (consumer_at t cons) free
+    where
+      no_provider : (o : Option Consumer) → IsSomeAnd o (λ x. x.provider ≡ None)
+          → option_map (λ (x : Consumer). unless_dev x.geom x.provider) o ≡ Some None
+      no_provider None never = absurd never
+      no_provider (Some x) none = ap (λ p. Some (unless_dev x.geom p)) none ∙ ap (λ p. Some p) (none-above x.geom)
 
   -- room changes nothing
   pub indexed-rooms : (j : Index) → j ≡ with_rooms i j → IsIndexed t j
@@ -221,6 +327,13 @@ module _ {C : Type 0} (t : Topology C) (i : Index) (h : IsIndexed t i) where
               children = h.attached.children;
               next_parent = h.attached.next_parent;
               next_child = h.attached.next_child;
+            };
+        above =
+            record {
+              parents = h.above.parents;
+              children = h.above.children;
+              next_parent = h.above.next_parent;
+              next_child = h.above.next_child;
             };
       })
 
@@ -255,6 +368,7 @@ module _ {C : Type 0} (t : Topology C) (i : Index) (h : IsIndexed t i) where
           next_child = h.owned.next_child;
         };
         attached = h.attached;
+        above = h.above;
       }
 
   -- the index with a new provider is that of the graph with it
@@ -287,6 +401,14 @@ module _ {C : Type 0} (t : Topology C) (i : Index) (h : IsIndexed t i) where
           next_parent = ap (λ n. n + 1) h.attached.next_parent;
           next_child = h.attached.next_child;
         };
+        above = record {
+          parents =
+              rw (h.above.parents, h.above.next_parent)
+              (sym (map-append (λ (x : Provider). x.number) t.providers (x ∷ [])));
+          children = h.above.children;
+          next_parent = ap (λ n. n + 1) h.above.next_parent;
+          next_child = h.above.next_child;
+        };
       }
 
   -- the index with a new consumer is that of the graph with it
@@ -311,6 +433,15 @@ module _ {C : Type 0} (t : Topology C) (i : Index) (h : IsIndexed t i) where
           next_parent = h.attached.next_parent;
           next_child = ap (λ n. n + 1) h.attached.next_child;
         };
+        above = record {
+          parents = h.above.parents;
+          children =
+              rw (h.above.children, h.above.next_child)
+              (sym (map-append (λ (x : Consumer). (x.number, unless_dev x.geom x.provider)) t.consumers (x ∷ [])
+              ∙ ap (λ o. consumers_above t.consumers ++ (t.next_consumer, o) ∷ []) (none-above geom)));
+          next_parent = h.above.next_parent;
+          next_child = ap (λ n. n + 1) h.above.next_child;
+        };
       }
 
   -- the index without a geom is that of the graph without it
@@ -329,6 +460,7 @@ module _ {C : Type 0} (t : Topology C) (i : Index) (h : IsIndexed t i) where
       next_child = h.owned.next_child;
     };
     attached = h.attached;
+    above = h.above;
   }
 
   -- the index without a provider is that of the graph without it
@@ -348,6 +480,13 @@ module _ {C : Type 0} (t : Topology C) (i : Index) (h : IsIndexed t i) where
       children = h.attached.children;
       next_parent = h.attached.next_parent;
       next_child = h.attached.next_child;
+    };
+    above = record {
+      parents =
+          rw h.above.parents (map-filter_number (λ (x : Provider). x.number) prov t.providers);
+      children = h.above.children;
+      next_parent = h.above.next_parent;
+      next_child = h.above.next_child;
     };
   }
 
@@ -369,11 +508,39 @@ module _ {C : Type 0} (t : Topology C) (i : Index) (h : IsIndexed t i) where
       next_parent = h.attached.next_parent;
       next_child = h.attached.next_child;
     };
+    above = record {
+      parents = h.above.parents;
+      children =
+          rw h.above.children
+          (map-filter_row (λ (x : Consumer). x.number) (λ x. unless_dev x.geom x.provider) cons t.consumers);
+      next_parent = h.above.next_parent;
+      next_child = h.above.next_child;
+    };
+  }
+
+  -- those above, where a consumer of a geom is attached
+  above-attached : (cons prov geom : ℕ) (b : Bool) → (geom == 1) ≡ b → OnlyOf cons geom t.consumers
+      → IsFamilyOf (record i.above {
+        children = if b then i.above.children else with_value i.above.children cons (Some prov);
+      }) (provider_numbers t.providers)
+      (consumers_above (attach t cons prov).consumers) t.next_provider t.next_consumer
+  above-attached cons prov geom true e only = record {
+    parents = h.above.parents;
+    children = h.above.children ∙ sym (above-by_dev cons prov geom e t.consumers only);
+    next_parent = h.above.next_parent;
+    next_child = h.above.next_child;
+  }
+  above-attached cons prov geom false e only = record {
+    parents = h.above.parents;
+    children = rw h.above.children (above-by_other cons prov geom e t.consumers only);
+    next_parent = h.above.next_parent;
+    next_child = h.above.next_child;
   }
 
   -- the index with a consumer attached is that of the graph with it attached
-  pub indexed-attach : (cons prov : ℕ) → IsIndexed (attach t cons prov) (attached_index i cons prov)
-  indexed-attach cons prov = record {
+  pub indexed-attach : (cons prov geom : ℕ) → OnlyOf cons geom t.consumers
+      → IsIndexed (attach t cons prov) (attached_index i cons prov geom)
+  indexed-attach cons prov geom only = record {
     offered = h.offered;
     owned = record {
       parents = h.owned.parents;
@@ -393,6 +560,7 @@ module _ {C : Type 0} (t : Topology C) (i : Index) (h : IsIndexed t i) where
       next_parent = h.attached.next_parent;
       next_child = h.attached.next_child;
     };
+    above = above-attached cons prov geom (geom == 1) refl only;
   }
 
   -- the index with a consumer detached is that of the graph with it detached
@@ -417,6 +585,15 @@ module _ {C : Type 0} (t : Topology C) (i : Index) (h : IsIndexed t i) where
       next_parent = h.attached.next_parent;
       next_child = h.attached.next_child;
     };
+    above = record {
+      parents = h.above.parents;
+      children =
+          rw h.above.children
+          (map-change_number (λ (x : Consumer). x.number) (λ x. unless_dev x.geom x.provider)
+          (λ x. record x { provider = None }) cons None (λ x. refl) (λ x. none-above x.geom) t.consumers);
+      next_parent = h.above.next_parent;
+      next_child = h.above.next_child;
+    };
   }
 
   -- a change of a provider that keeps its number and its geom leaves the index
@@ -439,6 +616,13 @@ module _ {C : Type 0} (t : Topology C) (i : Index) (h : IsIndexed t i) where
       children = h.attached.children;
       next_parent = h.attached.next_parent;
       next_child = h.attached.next_child;
+    };
+    above = record {
+      parents = h.above.parents
+          ∙ sym (map-change_where (λ (x : Provider). x.number) (λ x. x.number == prov) change number t.providers);
+      children = h.above.children;
+      next_parent = h.above.next_parent;
+      next_child = h.above.next_child;
     };
   }
 
@@ -463,6 +647,14 @@ module _ {C : Type 0} (t : Topology C) (i : Index) (h : IsIndexed t i) where
       next_parent = h.attached.next_parent;
       next_child = h.attached.next_child;
     };
+    above = record {
+      parents = h.above.parents;
+      children = h.above.children
+          ∙ sym (map-change_where (λ (x : Consumer). (x.number, unless_dev x.geom x.provider)) test
+          (λ x. record x { spoiled = marked }) (λ x. refl) t.consumers);
+      next_parent = h.above.next_parent;
+      next_child = h.above.next_child;
+    };
   }
 
   -- a change of a geom that keeps its number leaves the index
@@ -485,6 +677,7 @@ module _ {C : Type 0} (t : Topology C) (i : Index) (h : IsIndexed t i) where
           next_child = h.owned.next_child;
         };
         attached = h.attached;
+        above = h.above;
       }
 
 -- the first child of a parent is the first row whose value passes

@@ -6,10 +6,10 @@ pub mod Orderly
 pub mod FirstGraph
 pub mod IndexLemmas
 pub mod NoteLemmas
+pub mod NamedLemmas
 pub mod MeshLemmas
 pub mod NameLemmas
-pub mod IdLemmas
-pub mod AlikeLemmas
+pub mod NamesKept
 pub mod RankHeights
 pub mod RankMend
 pub mod RankRows

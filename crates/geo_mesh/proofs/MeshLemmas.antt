@@ -16,13 +16,14 @@ use Rattle.geo_mesh.specs.declared.tables.Tables.{Tables}
 use Rattle.geo_mesh.specs.Cells.{IsCount, graph, graph_of, geom_row, provider_row, consumer_row, put_consumer}
 use Rattle.geo_mesh.specs.Rows.{row_with}
 use Rattle.geo_mesh.specs.Index.{IsIndexed, HaveRoom, with_geom_index, with_provider_index, with_consumer_index, without_geom_index, without_provider_index, without_consumer_index, attached_index, detached_index}
+use Rattle.geo_names.specs.Names.{NamesView, with_name}
 use Rattle.geo_mesh.specs.Mesh.{IsMesh}
-use Rattle.geo_mesh.specs.Names.{AreNames, AreIds, HaveNameRoom, SameNames, AddsName, RetiresName, RemovesName, is_sound_named, id_of}
+use Rattle.geo_mesh.specs.Names.{AreNames, HaveNameRoom, SameNames, AddsName, RetiresName, RemovesName, is_sound_named}
 use Rattle.geo_mesh.specs.Ranks.{kind_of, kinds, bare}
-use Rattle.geo_mesh.proofs.RowLemmas.{only_value, map-without}
+use Rattle.geo_mesh.proofs.RowLemmas.{OnlyValue, only_value, map-without}
 use Rattle.geo_mesh.proofs.NameLemmas.{only_provider}
-use Rattle.geo_mesh.proofs.AlikeLemmas.{names-added, names-marked, names-removed}
-use Rattle.geo_mesh.proofs.IndexLemmas.{indexed-add_geom, indexed-add_provider, indexed-add_consumer, indexed-remove_geom, indexed-remove_provider, indexed-remove_consumer, indexed-attach, indexed-detach}
+use Rattle.geo_mesh.proofs.NamesKept.{names-added, names-marked, names-removed}
+use Rattle.geo_mesh.proofs.IndexLemmas.{OnlyOf, indexed-add_geom, indexed-add_provider, indexed-add_consumer, indexed-remove_geom, indexed-remove_provider, indexed-remove_consumer, indexed-attach, indexed-detach}
 use Rattle.geo_mesh.proofs.NoteLemmas.{with_mark, without_mark, notes-provider, notes-geom, notes-without_geom, notes-without_provider, notes-bare}
 use Rattle.geo_mesh.proofs.RankRows.{kinds-bare}
 use Rattle.geo_mesh.proofs.RankMesh.{view-bare}
@@ -37,21 +38,28 @@ room_for a b c d e f g p q i one two most_g most_p most_q = record {
   owned_parents = omega (arith, one.owned_parents, two.owned_parents, most_g);
   owned_children = omega (arith, one.owned_children, two.owned_children, most_q);
   attached_parents = omega (arith, one.attached_parents, two.attached_parents, most_p);
+  above_parents = omega (arith, one.above_parents, two.above_parents, most_p);
   attached_children = omega (arith, one.attached_children, two.attached_children, most_q);
+  above_children = omega (arith, one.above_children, two.above_children, most_q);
 }
 
 -- room for names, for what there was room for, and for more of it
 pub name_room_for : (a b p : ℕ) (m : Names) → HaveNameRoom a m → HaveNameRoom b m → p ≤ max a b → HaveNameRoom p m
 name_room_for a b p m one two most = record {
   in_sound = omega (arith, one.in_sound, two.in_sound, most);
-  in_ids = omega (arith, one.in_ids, two.in_ids, most);
-  in_parents = omega (arith, one.in_parents, two.in_parents, most);
-  in_children = omega (arith, one.in_children, two.in_children, most);
+  in_all = omega (arith, one.in_all, two.in_all, most);
 }
+
+-- each consumer of the number of the one cell is of its geom
+pub only_of : (n : ℕ) (v : ConsCell) (rows : List (ℕ × ConsCell)) → OnlyValue n v rows
+    → OnlyOf n v.consumer.geom (map consumer_row rows)
+only_of n v [] only = tt
+only_of n v (row ∷ rows) only =
+    ((λ here. ap (λ (r : ℕ × ConsCell). r.1.consumer.geom) (only.0 here)), only_of n v rows only.1)
 
 -- names that aren't touched
 pub untouched : (m : Names) → SameNames m m
-untouched m = record { sound = λ q. refl; ids = λ q. refl; alike = refl }
+untouched m = record { sound = λ q. refl; all = refl }
 
 -- one geom more
 pub count_rises : {C : Type 0} (rows : List (ℕ × GeomCell C)) (row : ℕ × GeomCell C) (live : ℕ)
@@ -70,7 +78,7 @@ module _ {C : Type 0} (t : Tables C) (mesh : IsMesh t) where
 
   -- with a new provider
   pub mesh-provider : (v : ProvCell) → v.provider.errored ≡ false → v.provider.risen ≡ false
-      → v.provider.fallen ≡ false → (m : Names) → AreIds m
+      → v.provider.fallen ≡ false → (m : Names)
       → find (is_sound_named v.provider.name) (map provider_row t.edges.providers.rows) ≡ None
       → AddsName t.names m v.provider.name t.edges.providers.next → HaveNameRoom (t.edges.providers.spare - 1) m
       → IsMesh (record t {
@@ -81,14 +89,13 @@ module _ {C : Type 0} (t : Tables C) (mesh : IsMesh t) where
         names = m;
         notes = record t.notes { risen = with_mark t.notes.risen; fallen = with_mark t.notes.fallen };
       })
-  mesh-provider v sound risen fallen m ids free adds name_room = record {
+  mesh-provider v sound risen fallen m free adds name_room = record {
     notes = notes-provider t.notes t.geoms t.edges.providers v mesh.notes risen fallen;
     names_are =
         subst (λ xs. AreNames xs (t.edges.providers.next + 1) m)
         (sym (map-append provider_row t.edges.providers.rows ((t.edges.providers.next, v) ∷ [])))
         (names-added (map provider_row t.edges.providers.rows) t.edges.providers.next t.names m mesh.names_are
         (provider_row (t.edges.providers.next, v)) sound refl free adds);
-    names_ids = ids;
     names_room = name_room;
     count = mesh.count;
     indexed =
@@ -101,7 +108,9 @@ module _ {C : Type 0} (t : Tables C) (mesh : IsMesh t) where
       owned_parents = mesh.room.owned_parents;
       owned_children = mesh.room.owned_children;
       attached_parents = omega (arith, mesh.room.attached_parents);
+      above_parents = omega (arith, mesh.room.above_parents);
       attached_children = mesh.room.attached_children;
+      above_children = mesh.room.above_children;
     };
   }
 
@@ -124,7 +133,6 @@ module _ {C : Type 0} (t : Tables C) (mesh : IsMesh t) where
   mesh-consumer v free clean = record {
     notes = mesh.notes;
     names_are = mesh.names_are;
-    names_ids = mesh.names_ids;
     names_room = mesh.names_room;
     count = mesh.count;
     indexed =
@@ -136,7 +144,9 @@ module _ {C : Type 0} (t : Tables C) (mesh : IsMesh t) where
       owned_parents = mesh.room.owned_parents;
       owned_children = omega (arith, mesh.room.owned_children);
       attached_parents = mesh.room.attached_parents;
+      above_parents = mesh.room.above_parents;
       attached_children = omega (arith, mesh.room.attached_children);
+      above_children = omega (arith, mesh.room.above_children);
     };
   }
 
@@ -147,17 +157,17 @@ module _ {C : Type 0} (t : Tables C) (mesh : IsMesh t) where
   graph-geom v stays none = rw (map-append geom_row t.geoms.rows ((t.geoms.next, v) ∷ []), stays, none) refl
 
   -- with a new geom
-  pub mesh-geom : (v : GeomCell C) → v.geom.withering ≡ false → v.geom.started ≡ 0 → t.live < 4294967294
-      → IsMesh (record t {
+  pub mesh-geom : (v : GeomCell C) (m : NamesView) → v.geom.withering ≡ false → v.geom.started ≡ 0
+      → t.live < 4294967294 → m ≡ record (with_name t.notes.named v.geom.name) { room = m.room }
+      → t.notes.named.room ≤ m.room + 1 → IsMesh (record t {
         geoms = with_insert t.geoms v;
         edges = record t.edges { index = with_geom_index t.edges.index };
         live = t.live + 1;
-        notes = record t.notes { withering = with_mark t.notes.withering };
+        notes = record t.notes { withering = with_mark t.notes.withering; named = m };
       })
-  mesh-geom v stays none few = record {
-    notes = notes-geom t.notes t.geoms t.edges.providers v mesh.notes stays;
+  mesh-geom v m stays none few added room = record {
+    notes = notes-geom t.notes t.geoms t.edges.providers v m mesh.notes stays added room;
     names_are = mesh.names_are;
-    names_ids = mesh.names_ids;
     names_room = mesh.names_room;
     count = count_rises t.geoms.rows (t.geoms.next, v) t.live mesh.count few;
     indexed =
@@ -169,7 +179,9 @@ module _ {C : Type 0} (t : Tables C) (mesh : IsMesh t) where
       owned_parents = omega (arith, mesh.room.owned_parents);
       owned_children = mesh.room.owned_children;
       attached_parents = mesh.room.attached_parents;
+      above_parents = mesh.room.above_parents;
       attached_children = mesh.room.attached_children;
+      above_children = mesh.room.above_children;
     };
   }
 
@@ -179,17 +191,17 @@ module _ {C : Type 0} (t : Tables C) (mesh : IsMesh t) where
   found_provider k v at = provider_at-view t.geoms t.edges k ∙ ap (option_map (λ w. provider_row (k, w))) at
 
   -- without a geom
-  pub mesh-without_geom : (k less : ℕ) → IsCount (length (without t.geoms.rows k)) less
-      → IsMesh (record t {
+  pub mesh-without_geom : (k less : ℕ) (m : NamesView) → IsCount (length (without t.geoms.rows k)) less
+      → m ≡ record t.notes.named { rows = without t.notes.named.rows k; room = m.room }
+      → t.notes.named.room ≤ m.room → IsMesh (record t {
         geoms = record t.geoms { rows = without t.geoms.rows k };
         edges = record t.edges { index = without_geom_index t.edges.index k };
         live = less;
-        notes = record t.notes { withering = without_mark t.notes.withering k };
+        notes = record t.notes { withering = without_mark t.notes.withering k; named = m };
       })
-  mesh-without_geom k less count = record {
-    notes = notes-without_geom t.notes t.geoms t.edges.providers k mesh.notes;
+  mesh-without_geom k less m count removed room = record {
+    notes = notes-without_geom t.notes t.geoms t.edges.providers k m mesh.notes removed room;
     names_are = mesh.names_are;
-    names_ids = mesh.names_ids;
     names_room = mesh.names_room;
     count = count;
     indexed =
@@ -202,7 +214,7 @@ module _ {C : Type 0} (t : Tables C) (mesh : IsMesh t) where
   -- without a provider
   pub mesh-without_provider : (k : ℕ) (v : ProvCell) → IsRising 1 t.edges.providers.rows t.edges.providers.next
       → value_at t.edges.providers.rows k ≡ Some v
-      → (m : Names) → AreIds m → RemovesName t.names m v.provider.name k v.provider.errored
+      → (m : Names) → RemovesName t.names m v.provider.name k v.provider.errored
       → HaveNameRoom t.edges.providers.spare m
       → IsMesh (record t {
         edges = record t.edges {
@@ -212,7 +224,7 @@ module _ {C : Type 0} (t : Tables C) (mesh : IsMesh t) where
         names = m;
         notes = record t.notes { risen = without_mark t.notes.risen k; fallen = without_mark t.notes.fallen k };
       })
-  mesh-without_provider k v rising at m ids removes name_room = record {
+  mesh-without_provider k v rising at m removes name_room = record {
     notes = notes-without_provider t.notes t.geoms t.edges.providers k mesh.notes;
     names_are =
         subst (λ xs. AreNames xs t.edges.providers.next m)
@@ -222,7 +234,6 @@ module _ {C : Type 0} (t : Tables C) (mesh : IsMesh t) where
         (only_provider k v t.edges.providers.rows
         (only_value k 1 t.edges.providers.next v t.edges.providers.rows rising at)) (found_provider k v at)
         removes.sound removes);
-    names_ids = ids;
     names_room = name_room;
     count = mesh.count;
     indexed =
@@ -243,7 +254,6 @@ module _ {C : Type 0} (t : Tables C) (mesh : IsMesh t) where
   mesh-without_consumer k = record {
     notes = mesh.notes;
     names_are = mesh.names_are;
-    names_ids = mesh.names_ids;
     names_room = mesh.names_room;
     count = mesh.count;
     indexed =
@@ -258,18 +268,18 @@ module _ {C : Type 0} (t : Tables C) (mesh : IsMesh t) where
       → value_at t.edges.consumers.rows k ≡ Some v
       → IsMesh (record t {
         edges = record (put_consumer t.edges k (record v { consumer = record v.consumer { prov = Some p } }))
-            { index = attached_index t.edges.index k p };
+            { index = attached_index t.edges.index k p v.consumer.geom };
       })
   mesh-attached k p v rising at = record {
     notes = mesh.notes;
     names_are = mesh.names_are;
-    names_ids = mesh.names_ids;
     names_room = mesh.names_room;
     count = mesh.count;
     indexed =
-        subst (λ g. IsIndexed g (attached_index t.edges.index k p))
+        subst (λ g. IsIndexed g (attached_index t.edges.index k p v.consumer.geom))
         (sym (ap (λ v. v.topology) (attach-view t k p v rising at)))
-        (indexed-attach (graph t) t.edges.index mesh.indexed k p);
+        (indexed-attach (graph t) t.edges.index mesh.indexed k p v.consumer.geom
+        (only_of k v t.edges.consumers.rows (only_value k 1 t.edges.consumers.next v t.edges.consumers.rows rising at)));
     room = mesh.room;
   }
 
@@ -283,7 +293,6 @@ module _ {C : Type 0} (t : Tables C) (mesh : IsMesh t) where
   mesh-detached k v rising at = record {
     notes = mesh.notes;
     names_are = mesh.names_are;
-    names_ids = mesh.names_ids;
     names_room = mesh.names_room;
     count = mesh.count;
     indexed =
@@ -304,20 +313,7 @@ module _ {C : Type 0} (t : Tables C) (mesh : IsMesh t) where
       (provider_row (k, v))
       (only_provider k v t.edges.providers.rows
       (only_value k 1 t.edges.providers.next v t.edges.providers.rows rising at)) (found_provider k v at)
-      retires.sound retires.ids retires.alike
-
-  -- the numbers of the names stay where an error is set
-  pub ids-errored : (name : List ℕ) (errored : Bool) (m : Names) → RetiresName t.names m name errored → AreIds m
-  ids-errored name errored m retires =
-      let same : (q : List ℕ) → id_of m q ≡ id_of t.names q =
-      λ q. ap (λ k. id_of (record t.names { ids = k }) q) retires.ids in
-      record {
-        stand = λ q j is. subst (λ v. is_parent v.parents j ≡ true) (sym retires.alike)
-            (mesh.names_ids.stand q j (sym (same q) ∙ is));
-        below = λ q j is.
-            subst (λ v. j < v.next_parent) (sym retires.alike) (mesh.names_ids.below q j (sym (same q) ∙ is));
-        apart = λ a b j is_a is_b. mesh.names_ids.apart a b j (sym (same a) ∙ is_a) (sym (same b) ∙ is_b);
-      }
+      retires.sound retires.all
 
   -- other ranks in the cells leave the tables as they are
   pub mesh-bare : (ns : _) → bare ns ≡ bare t.geoms → IsMesh (record t { geoms = ns })
@@ -334,6 +330,5 @@ module _ {C : Type 0} (t : Tables C) (mesh : IsMesh t) where
         room = subst (λ k. HaveRoom k t.edges.providers.spare t.edges.consumers.spare t.edges.index)
             (sym spare) mesh.room;
         names_are = mesh.names_are;
-        names_ids = mesh.names_ids;
         names_room = mesh.names_room;
       }

@@ -1,6 +1,6 @@
 -- Names after each change of the providers.
 use Rattle.std.proofs.Common.{◌≡◌, ℕ, ◌==◌, List, [], ◌∷◌, ◌++◌, map, Bool, true, false, Some, None, Option, sym, refl, ap, ◌∙◌, subst, inl, inr, not, filter, filter_map, find}
-use Rattle.std.proofs.lemmas.Bool.{cases_eq, eq-eqb, ne_eqb, eqb-true, and_parts, not-true}
+use Rattle.std.proofs.lemmas.Bool.{cases_eq, eq-eqb, ne_eqb, and_parts, not-true}
 use Rattle.std.specs.Prelude.{if◌then◌else◌}
 use Rattle.std.specs.Option.{option_or}
 use Rattle.geo_model.specs.Words.{change_where, same_name}
@@ -8,20 +8,8 @@ use Rattle.geo_model.specs.Topology.{Provider}
 use Rattle.geo_mesh.specs.declared.records.ProvCell.{ProvCell}
 use Rattle.geo_mesh.specs.Cells.{provider_row}
 use Rattle.geo_mesh.specs.Names.{is_sound_named, OneEach}
+use Rattle.geo_names.proofs.Rows.{same_is, is_same}
 use Rattle.geo_mesh.proofs.RowLemmas.{OnlyValue}
-
--- the same bytes are the same name
-pub same_is : (a b : List ℕ) → same_name a b ≡ true → a ≡ b
-same_is [] [] e = refl
-same_is [] (y ∷ ys) e = absurd (cc)
-same_is (x ∷ xs) [] e = absurd (cc)
-same_is (x ∷ xs) (y ∷ ys) e =
-    let parts = and_parts (x == y) (same_name xs ys) e in λ i. eqb-true x y parts.0 i ∷ same_is xs ys parts.1 i
-
--- and a name is the same as itself
-pub is_same : (a : List ℕ) → same_name a a ≡ true
-is_same [] = refl
-is_same (x ∷ xs) = rw (eq-eqb x x refl) (is_same xs)
 
 -- each provider of the number is this one
 abbrev pub OnlyProvider : ℕ → Provider → List Provider → Type 0

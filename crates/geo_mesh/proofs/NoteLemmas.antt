@@ -12,7 +12,8 @@ use Rattle.geo_mesh.specs.Rows.{row_with, rows_with}
 use Rattle.geo_mesh.specs.Marks.{MarksView, first_marked}
 use Rattle.geo_mesh.specs.Cells.{risen_of, fallen_of, geom_row}
 use Rattle.geo_mesh.specs.Topo.{first_geom}
-use Rattle.geo_mesh.specs.Notes.{withering_of, HaveNoteRoom, IsSameNotes, AreNotes}
+use Rattle.geo_names.specs.Names.{NamesView, with_name}
+use Rattle.geo_mesh.specs.Notes.{withering_of, name_of, HaveNoteRoom, IsSameNotes, AreNotes}
 use Rattle.geo_mesh.specs.Ranks.{bare, rest_of}
 use Rattle.geo_mesh.proofs.RowLemmas.{OnlyValue, only_value, map-with_value_same, rows_with-with_value, map-without}
 
@@ -45,17 +46,21 @@ module _ {C : Type 0} (n : Notes) (gs : SlotsView (GeomCell C)) (ps : SlotsView 
     risen_next = ap (λ k. k + 1) are.risen_next;
     fallen_next = ap (λ k. k + 1) are.fallen_next;
     withering_next = are.withering_next;
+    named = are.named;
+    named_next = are.named_next;
     room = record {
       risen = omega (arith, are.room.risen);
       fallen = omega (arith, are.room.fallen);
       withering = are.room.withering;
+      named = are.room.named;
     };
   }
 
-  -- with a new geom, which doesn't wither
-  pub notes-geom : (v : GeomCell C) → AreNotes n gs ps → v.geom.withering ≡ false
-      → AreNotes (record n { withering = with_mark n.withering }) (with_insert gs v) ps
-  notes-geom v are stays = record {
+  -- with a new geom, which doesn't wither, and its name
+  pub notes-geom : (v : GeomCell C) (m : NamesView) → AreNotes n gs ps → v.geom.withering ≡ false
+      → m ≡ record (with_name n.named v.geom.name) { room = m.room } → n.named.room ≤ m.room + 1
+      → AreNotes (record n { withering = with_mark n.withering; named = m }) (with_insert gs v) ps
+  notes-geom v m are stays added room = record {
     risen = are.risen;
     fallen = are.fallen;
     withering =
@@ -65,13 +70,23 @@ module _ {C : Type 0} (n : Notes) (gs : SlotsView (GeomCell C)) (ps : SlotsView 
     risen_next = are.risen_next;
     fallen_next = are.fallen_next;
     withering_next = ap (λ k. k + 1) are.withering_next;
-    room = record { risen = are.room.risen; fallen = are.room.fallen; withering = omega (arith, are.room.withering) };
+    named = ap (λ k. k.rows) added
+        ∙ (rw (are.named, are.named_next) (sym (map-append (row_with (name_of {C = C})) gs.rows ((gs.next, v) ∷ []))));
+    named_next = ap (λ k. k.next) added ∙ ap (λ k. k + 1) are.named_next;
+    room = record {
+      risen = are.room.risen;
+      fallen = are.room.fallen;
+      withering = omega (arith, are.room.withering);
+      named = omega (arith, are.room.named, room);
+    };
   }
 
-  -- without a geom
-  pub notes-without_geom : (k : ℕ) → AreNotes n gs ps
-      → AreNotes (record n { withering = without_mark n.withering k }) (record gs { rows = without gs.rows k }) ps
-  notes-without_geom k are = record {
+  -- without a geom and its name
+  pub notes-without_geom : (k : ℕ) (m : NamesView) → AreNotes n gs ps
+      → m ≡ record n.named { rows = without n.named.rows k; room = m.room } → n.named.room ≤ m.room
+      → AreNotes (record n { withering = without_mark n.withering k; named = m })
+      (record gs { rows = without gs.rows k }) ps
+  notes-without_geom k m are removed room = record {
     risen = are.risen;
     fallen = are.fallen;
     withering = rw are.withering
@@ -79,7 +94,16 @@ module _ {C : Type 0} (n : Notes) (gs : SlotsView (GeomCell C)) (ps : SlotsView 
     risen_next = are.risen_next;
     fallen_next = are.fallen_next;
     withering_next = are.withering_next;
-    room = record { risen = are.room.risen; fallen = are.room.fallen; withering = are.room.withering };
+    named = ap (λ k. k.rows) removed
+        ∙ (rw are.named
+        (sym (map-without (row_with (name_of {C = C})) k (λ (row : ℕ × List ℕ). row.0 == k) (λ row. refl) gs.rows)));
+    named_next = ap (λ k. k.next) removed ∙ are.named_next;
+    room = record {
+      risen = are.room.risen;
+      fallen = are.room.fallen;
+      withering = are.room.withering;
+      named = omega (arith, are.room.named, room);
+    };
   }
 
   -- without a provider
@@ -95,7 +119,14 @@ module _ {C : Type 0} (n : Notes) (gs : SlotsView (GeomCell C)) (ps : SlotsView 
     risen_next = are.risen_next;
     fallen_next = are.fallen_next;
     withering_next = are.withering_next;
-    room = record { risen = are.room.risen; fallen = are.room.fallen; withering = are.room.withering };
+    named = are.named;
+    named_next = are.named_next;
+    room = record {
+      risen = are.room.risen;
+      fallen = are.room.fallen;
+      withering = are.room.withering;
+      named = are.room.named;
+    };
   }
 
   -- with another cell of a provider, which may be noted otherwise
@@ -112,7 +143,14 @@ module _ {C : Type 0} (n : Notes) (gs : SlotsView (GeomCell C)) (ps : SlotsView 
     risen_next = are.risen_next;
     fallen_next = are.fallen_next;
     withering_next = are.withering_next;
-    room = record { risen = are.room.risen; fallen = are.room.fallen; withering = are.room.withering };
+    named = are.named;
+    named_next = are.named_next;
+    room = record {
+      risen = are.room.risen;
+      fallen = are.room.fallen;
+      withering = are.room.withering;
+      named = are.room.named;
+    };
   }
 
   -- with another cell of a provider that is noted as before
@@ -131,28 +169,47 @@ module _ {C : Type 0} (n : Notes) (gs : SlotsView (GeomCell C)) (ps : SlotsView 
         risen_next = are.risen_next;
         fallen_next = are.fallen_next;
         withering_next = are.withering_next;
+        named = are.named;
+        named_next = are.named_next;
         room = are.room;
       }
 
-  -- with another cell of a geom, which may wither or not
-  pub notes-withering : (k : ℕ) (w : GeomCell C) → AreNotes n gs ps
+  -- a geom's cell of the same name keeps the names
+  named_kept : (k : ℕ) (v w : GeomCell C) → IsRising 1 gs.rows gs.next → value_at gs.rows k ≡ Some v
+      → w.geom.name ≡ v.geom.name → AreNotes n gs ps
+      → n.named.rows ≡ rows_with (name_of {C = C}) (with_value gs.rows k w)
+  named_kept k v w rising at same are =
+      are.named
+      ∙ sym (map-with_value_same (row_with (name_of {C = C})) k v w (ap (λ (b : List ℕ). (k, b)) same) gs.rows
+      (only_value k 1 gs.next v gs.rows rising at))
+
+  -- with another cell of a geom, of the same name, which may wither or not
+  pub notes-withering : (k : ℕ) (v w : GeomCell C) → IsRising 1 gs.rows gs.next → value_at gs.rows k ≡ Some v
+      → w.geom.name ≡ v.geom.name → AreNotes n gs ps
       → AreNotes (record n { withering = set_mark n.withering k w.geom.withering })
       (record gs { rows = with_value gs.rows k w }) ps
-  notes-withering k w are = record {
+  notes-withering k v w rising at same are = record {
     risen = are.risen;
     fallen = are.fallen;
     withering = rw are.withering (sym (rows_with-with_value (withering_of {C = C}) k w gs.rows));
     risen_next = are.risen_next;
     fallen_next = are.fallen_next;
     withering_next = are.withering_next;
-    room = record { risen = are.room.risen; fallen = are.room.fallen; withering = are.room.withering };
+    named = named_kept k v w rising at same are;
+    named_next = are.named_next;
+    room = record {
+      risen = are.room.risen;
+      fallen = are.room.fallen;
+      withering = are.room.withering;
+      named = are.room.named;
+    };
   }
 
-  -- with another cell of a geom that withers as before
+  -- with another cell of a geom of the same name that withers as before
   pub notes-geom_kept : (k : ℕ) (v w : GeomCell C) → IsRising 1 gs.rows gs.next → value_at gs.rows k ≡ Some v
-      → w.geom.withering ≡ v.geom.withering
+      → w.geom.withering ≡ v.geom.withering → w.geom.name ≡ v.geom.name
       → AreNotes n gs ps → AreNotes n (record gs { rows = with_value gs.rows k w }) ps
-  notes-geom_kept k v w rising at stays are =
+  notes-geom_kept k v w rising at stays same are =
       let is : OnlyValue k v gs.rows = only_value k 1 gs.next v gs.rows rising at in
       record {
         risen = are.risen;
@@ -163,6 +220,8 @@ module _ {C : Type 0} (n : Notes) (gs : SlotsView (GeomCell C)) (ps : SlotsView 
         risen_next = are.risen_next;
         fallen_next = are.fallen_next;
         withering_next = are.withering_next;
+        named = named_kept k v w rising at same are;
+        named_next = are.named_next;
         room = are.room;
       }
 
@@ -173,6 +232,13 @@ withering_rest : {C : Type 0} (rows : List (ℕ × GeomCell C))
 withering_rest [] = refl
 withering_rest {C} (row ∷ rows) = ap (λ xs. (row.0, row.1.geom.withering) ∷ xs) (withering_rest {C = C} rows)
 
+-- the names of geoms are seen without the ranks
+names_rest : {C : Type 0} (rows : List (ℕ × GeomCell C))
+    → rows_with (name_of {C = C}) rows
+    ≡ rows_with (λ (x : GeomRec C × Scratch). x.0.name) (rows_with (rest_of {C = C}) rows)
+names_rest [] = refl
+names_rest {C} (row ∷ rows) = ap (λ xs. (row.0, row.1.geom.name) ∷ xs) (names_rest {C = C} rows)
+
 -- other ranks in the cells leave the notes
 pub notes-bare : {C : Type 0} (n : Notes) (gs ns : SlotsView (GeomCell C)) (ps : SlotsView ProvCell)
     → bare ns ≡ bare gs → AreNotes n gs ps → AreNotes n ns ps
@@ -181,6 +247,10 @@ notes-bare {C} n gs ns ps same are =
     withering_rest ns.rows
     ∙ ap (λ (s : SlotsView (GeomRec C × Scratch)). rows_with (λ (x : GeomRec C × Scratch). x.0.withering) s.rows) same
     ∙ sym (withering_rest gs.rows) in
+    let names : rows_with (name_of {C = C}) ns.rows ≡ rows_with (name_of {C = C}) gs.rows =
+    names_rest ns.rows
+    ∙ ap (λ (s : SlotsView (GeomRec C × Scratch)). rows_with (λ (x : GeomRec C × Scratch). x.0.name) s.rows) same
+    ∙ sym (names_rest gs.rows) in
     let next : ns.next ≡ gs.next = ap (λ (s : SlotsView (GeomRec C × Scratch)). s.next) same in
     let spare : ns.spare ≡ gs.spare = ap (λ (s : SlotsView (GeomRec C × Scratch)). s.spare) same in
     record {
@@ -190,10 +260,13 @@ notes-bare {C} n gs ns ps same are =
       risen_next = are.risen_next;
       fallen_next = are.fallen_next;
       withering_next = are.withering_next ∙ sym next;
+      named = are.named ∙ sym names;
+      named_next = are.named_next ∙ sym next;
       room = record {
         risen = are.room.risen;
         fallen = are.room.fallen;
         withering = subst (λ k. k ≤ n.withering.room) (sym spare) are.room.withering;
+        named = subst (λ k. k ≤ n.named.room) (sym spare) are.room.named;
       };
     }
 
@@ -208,6 +281,8 @@ notes-reserved n m gs ps g p same room are = record {
   risen_next = ap (λ k. k.next) same.risen ∙ are.risen_next;
   fallen_next = ap (λ k. k.next) same.fallen ∙ are.fallen_next;
   withering_next = ap (λ k. k.next) same.withering ∙ are.withering_next;
+  named = ap (λ k. k.rows) same.named ∙ are.named;
+  named_next = ap (λ k. k.next) same.named ∙ are.named_next;
   room = room;
 }
 
@@ -218,6 +293,7 @@ note_room_for a b d e g p n one two most_g most_p = record {
   risen = omega (arith, one.risen, two.risen, most_p);
   fallen = omega (arith, one.fallen, two.fallen, most_p);
   withering = omega (arith, one.withering, two.withering, most_g);
+  named = omega (arith, one.named, two.named, most_g);
 }
 
 module _ {C : Type 0} (from_number : ℕ) where

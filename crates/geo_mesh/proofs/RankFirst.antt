@@ -1,9 +1,9 @@
 -- The first two geoms, on whose ranks no geom stands: the ranks of all geoms from those that stand in the cells.
-use Rattle.std.specs.Prelude.{◌≡◌, ◌≢◌, ◌⊎◌, ℕ, ◌+◌, ◌≤◌, ◌==◌, Bool, true, false, ◌||◌, List, [], ◌∷◌, Option, Some, None, IsSome, IsSomeAnd, map, filter, filter_map, length, if◌then◌else◌}
+use Rattle.std.specs.Prelude.{◌≡◌, ◌≢◌, ◌⊎◌, ℕ, ◌+◌, ◌≤◌, ◌==◌, Bool, true, false, not, ◌&&◌, ◌||◌, List, [], ◌∷◌, Option, Some, None, IsSome, IsSomeAnd, map, filter, filter_map, length, if◌then◌else◌}
 use Rattle.std.specs.List.{AllByRecursion}
 use Rattle.std.specs.Option.{option_map}
 use Rattle.std.proofs.Common.{refl, sym, ap, ◌∙◌, subst, inl, inr, arith}
-use Rattle.std.proofs.lemmas.Bool.{cases_Bool, eqb-true, eq-eqb, ne_eqb}
+use Rattle.std.proofs.lemmas.Bool.{cases_Bool, eqb-true, eq-eqb, ne_eqb, and_parts, or_parts}
 use Rattle.std.proofs.lemmas.List.Elements.{recursion_from_All}
 use Rattle.std.proofs.Math.Bool.{or-false}
 use Rattle.geo_base.specs.declared.kind.Kind.{Kind}
@@ -26,7 +26,7 @@ use Rattle.geo_mesh.specs.Mending.{IsAmong, StandsAbove, above}
 use Rattle.std.specs.Prelude.{All}
 use Rattle.geo_model.specs.Graph.{AreNumbers}
 use Rattle.geo_mesh.specs.Index.{IsIndexed}
-use Rattle.geo_mesh.specs.Ranks.{IsKin, is_dev_or_taste, footing, ranked_link_of, links_of, ranked_links, links, offers, ranked_below, below, rank_from, is_high, is_attached, owner, user, bare, kind_of, owner_of, HaveDevAndTaste}
+use Rattle.geo_mesh.specs.Ranks.{IsKin, is_dev_or_taste, footing, ranked_link_of, links_of, ranked_links, links, offers, ranked_below, below, rank_from, is_high, is_attached, is_above, owner, user, bare, kind_of, owner_of, HaveDevAndTaste}
 use Rattle.geo_mesh.proofs.RowLemmas.{value_at-rows_with}
 use Rattle.geo_mesh.proofs.RankMend.{largest-same}
 use Rattle.geo_mesh.proofs.RankHeights.{local-few}
@@ -140,6 +140,31 @@ module _ (edges : Edges) where
         at (Some v) there =
             rw (footing-some v.consumer.geom p v.consumer.prov
             (names_some (footing v.consumer.geom v.consumer.prov) p there)).1 (eq-eqb p p refl)
+
+  -- so it is one of those that aren't DEV's
+  pub attached-above : (p c : ℕ) → passes (is_attached p) (value_at (ranked_links edges).rows c) ≡ true
+      → passes (is_above p) (value_at (links edges).rows c) ≡ true
+  attached-above p c there =
+      rw (value_at-rows_with links_of c edges.consumers.rows)
+      (at (value_at edges.consumers.rows c)
+      (rw (value_at-rows_with ranked_link_of c edges.consumers.rows) at there)) where
+        at : (o : Option ConsCell) → passes (is_attached p) (option_map ranked_link_of o) ≡ true
+            → passes (is_above p) (option_map links_of o) ≡ true
+        at None there = absurd (cc)
+        at (Some v) there =
+            let stands = footing-some v.consumer.geom p v.consumer.prov
+            (names_some (footing v.consumer.geom v.consumer.prov) p there) in
+            let not_dev : (v.consumer.geom == 1) ≡ false =
+            (or_parts (v.consumer.geom == 1) (v.consumer.geom == 2) stands.0).0 in
+            rw (stands.1, not_dev) (ap (λ b. b && true) (eq-eqb p p refl))
+
+  -- those that aren't DEV's are among all that are attached
+  pub above-linked : (p c : ℕ) → passes (is_above p) (value_at (links edges).rows c) ≡ true
+      → passes (is_attached p) (value_at (links edges).rows c) ≡ true
+  above-linked p c there = at (value_at (links edges).rows c) there where
+    at : (o : Option (ℕ × Option ℕ)) → passes (is_above p) o ≡ true → passes (is_attached p) o ≡ true
+    at None there = there
+    at (Some e) there = (and_parts (names_number e.1 p) (not (e.0 == 1)) there).0
 
   -- the rank of a later geom stands on a provider to which its consumer is attached
   pub attached-ranked : (p c : ℕ) → is_dev_or_taste (user edges c) ≡ false
@@ -413,7 +438,7 @@ module _ {C : Type 0} (gs : SlotsView (GeomCell C)) (edges : Edges) (orderly : I
   kin-of indexed = record {
     offered = indexed.offered.children;
     owned = indexed.owned.children;
-    attached = indexed.attached.children;
+    above = indexed.above.children;
     providers_rise =
         rows-rise provider_row (λ (x : Provider). x.number) (λ row. refl) edges.providers.next
         orderly.numbers.next_provider.some edges.providers.rows

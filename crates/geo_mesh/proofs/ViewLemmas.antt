@@ -7,8 +7,9 @@ use Rattle.std.proofs.lemmas.Bool.{eqb-true, ne_eqb}
 use Rattle.std.proofs.Math.Bool.{or-false}
 use Rattle.geo_mesh.specs.Cells.{IsCount, geom_row, provider_row, consumer_row, have_of, risen_of, fallen_of, want_of, active_of, geom_scratch_of, provider_scratch_of, consumer_scratch_of, graph_of, graph, view_of, put_consumer, with_geom_cell, with_provider_cell, with_consumer_cell}
 use Rattle.geo_mesh.specs.declared.names.Names.{Names}
-use Rattle.geo_mesh.specs.Names.{AreNames, AreIds, sound_of, newest_of, is_sound_named}
-use Rattle.geo_mesh.proofs.AlikeLemmas.{newest-names}
+use Rattle.geo_names.specs.Names.{last_named}
+use Rattle.geo_mesh.specs.Names.{AreNames, sound_of, is_sound_named}
+use Rattle.geo_mesh.proofs.NamesKept.{newest-names}
 use Rattle.std.proofs.lemmas.List.{map-append, length-map}
 use Rattle.geo_model.specs.Words.{same_name}
 use Rattle.geo_base.specs.declared.request.Counts.{Counts}
@@ -397,15 +398,15 @@ option_map-or f (Some x) p = refl
 module _ {C : Type 0} (t : Tables C) where
   -- the provider of a name, by the rows
   pub find-names : (n : Names) → AreNames (map provider_row t.edges.providers.rows) t.edges.providers.next n
-      → AreIds n → (name : List ℕ) → find_provider (graph t) name ≡ option_or (sound_of n name) (newest_of n name)
-  find-names n are ids name =
+      → (name : List ℕ) → find_provider (graph t) name ≡ option_or (sound_of n name) (last_named n.all.rows name)
+  find-names n are name =
       rw (
         option_map-or (λ (x : Provider). x.number)
             (find (is_sound_named name) (map provider_row t.edges.providers.rows))
             (last_or None
             (filter (λ (x : Provider). same_name x.name name) (map provider_row t.edges.providers.rows))),
         are.sound name,
-        newest-names (map provider_row t.edges.providers.rows) t.edges.providers.next n are ids name,
+        newest-names (map provider_row t.edges.providers.rows) t.edges.providers.next n are name,
       ) refl
 
   -- a new consumer, in room that was kept

@@ -21,16 +21,16 @@ use Rattle.geo_mesh.specs.Ranks.{footing}
 use Rattle.geo_mesh.specs.Whole.{IsWhole, IsRoomier}
 use Rattle.geo_mesh.proofs.RowLemmas.{only_value, map-with_value}
 use Rattle.geo_mesh.proofs.IndexLemmas.{indexed-rooms, indexed-geom, indexed-provider, indexed-set_marks}
-use Rattle.geo_mesh.proofs.IdLemmas.{ids-same}
-use Rattle.geo_mesh.proofs.AlikeLemmas.{names-same, names-changed}
+use Rattle.geo_mesh.proofs.NamesKept.{names-same, names-changed}
 use Rattle.geo_mesh.proofs.ViewLemmas.{count-with_value, set_error-view}
 use Rattle.geo_mesh.proofs.Orderly.{orderly-geom, orderly-provider, orderly-set_marks}
-use Rattle.geo_mesh.proofs.MeshLemmas.{found_provider, names-errored, ids-errored}
+use Rattle.geo_mesh.proofs.MeshLemmas.{found_provider, names-errored}
 use Rattle.geo_mesh.proofs.RankMesh as ranks
 
 -- what index, names and ranks read of a geom's cell is as it was
 pub record KeepsGeom {C : Type 0} (v w : GeomCell C) : Type 0 where
   pub kind : w.geom.kind ≡ v.geom.kind
+  pub name : w.geom.name ≡ v.geom.name
   pub rank : w.rank ≡ v.rank
 
 -- what index, names and ranks read of a provider's cell is as it was, and its sizes are those of a provider if they
@@ -79,7 +79,6 @@ module _ {C : Type 0} (t : Tables C) (whole : IsWhole t) where
           room = room;
           names_are = names-same (map provider_row t.edges.providers.rows) t.edges.providers.next t.names u.names
               whole.tables.names_are is.names;
-          names_ids = ids-same t.names u.names whole.tables.names_ids is.names;
           names_room = name_room;
           notes = notes-reserved t.notes u.notes t.geoms t.edges.providers u.geoms.spare u.edges.providers.spare
               is.notes note_room whole.tables.notes;
@@ -116,7 +115,6 @@ module _ {C : Type 0} (t : Tables C) (whole : IsWhole t) where
               (indexed-geom (graph t) t.edges.index whole.tables.indexed n change (λ x. refl));
           room = whole.tables.room;
           names_are = whole.tables.names_are;
-          names_ids = whole.tables.names_ids;
           names_room = whole.tables.names_room;
           notes = are;
         };
@@ -131,7 +129,7 @@ module _ {C : Type 0} (t : Tables C) (whole : IsWhole t) where
       → w.geom.withering ≡ v.geom.withering → IsWhole (with_geom_cell t n w)
   whole-geom_cell n v w rising at keeps stays =
       whole-geom_noted n v w t.notes rising at keeps
-      (notes-geom_kept t.notes t.geoms t.edges.providers n v w rising at stays whole.tables.notes)
+      (notes-geom_kept t.notes t.geoms t.edges.providers n v w rising at stays keeps.name whole.tables.notes)
 
   -- another cell of a provider that keeps what is read of it keeps the whole
   pub whole-provider_noted : (n : ℕ) (v w : ProvCell) (notes : Notes)
@@ -162,7 +160,6 @@ module _ {C : Type 0} (t : Tables C) (whole : IsWhole t) where
               subst (λ xs. AreNames xs t.edges.providers.next t.names) (sym same)
               (names-changed (graph t).providers t.edges.providers.next t.names t.names whole.tables.names_are n
               change (λ x. refl) (λ x. refl) (λ x. refl));
-          names_ids = whole.tables.names_ids;
           names_room = whole.tables.names_room;
           notes = are;
         };
@@ -209,7 +206,6 @@ module _ {C : Type 0} (t : Tables C) (whole : IsWhole t) where
               (indexed-set_marks (graph t) t.edges.index whole.tables.indexed (λ x. x.number == n) w.consumer.spoiled);
           room = whole.tables.room;
           names_are = whole.tables.names_are;
-          names_ids = whole.tables.names_ids;
           names_room = whole.tables.names_room;
           notes = whole.tables.notes;
         };
@@ -240,7 +236,6 @@ module _ {C : Type 0} (t : Tables C) (whole : IsWhole t) where
           names_are =
               subst (λ g. AreNames g.providers t.edges.providers.next m) (sym changed)
               (names-errored t whole.tables n v rising at m retires);
-          names_ids = ids-errored t whole.tables v.provider.name v.provider.errored m retires;
           names_room = name_room;
           notes = notes-provider_kept t.notes t.geoms t.edges.providers n v w rising at refl refl whole.tables.notes;
         };

@@ -1,5 +1,5 @@
 -- What a mesh keeps as a whole, where a part comes or goes, and where a consumer is attached or detached.
-use Rattle.std.specs.Prelude.{◌≡◌, ◌≢◌, ℕ, ◌+◌, ◌-◌, ◌<◌, ◌^◌, true, false, [], Option, Some, None, find, map, IsSome, IfSome}
+use Rattle.std.specs.Prelude.{◌≡◌, ◌≢◌, ℕ, ◌+◌, ◌-◌, ◌<◌, ◌≤◌, ◌^◌, true, false, [], Option, Some, None, find, map, IsSome, IfSome}
 use Rattle.std.proofs.Common.{sym, ◌∙◌, ap, subst}
 use Rattle.geo_slots.specs.Slots.{SlotsView, IsRising, value_at, without, with_insert}
 use Rattle.geo_model.specs.Topology.{geom_at, provider_at, consumer_at, providers_of, consumers_of, attached_to}
@@ -10,11 +10,12 @@ use Rattle.geo_mesh.specs.declared.index.Index.{Index}
 use Rattle.geo_mesh.specs.declared.names.Names.{Names}
 use Rattle.geo_mesh.specs.declared.tables.Edges.{Edges}
 use Rattle.geo_mesh.specs.declared.tables.Tables.{Tables}
+use Rattle.geo_names.specs.Names.{NamesView, with_name}
 use Rattle.geo_mesh.specs.Topo.{is_provider_size}
 use Rattle.geo_mesh.specs.Graph.{IsOrderly}
 use Rattle.geo_mesh.specs.Cells.{graph, provider_row, put_consumer}
 use Rattle.geo_mesh.specs.Index.{with_geom_index, with_provider_index, with_consumer_index, without_geom_index, without_provider_index, without_consumer_index, attached_index, detached_index}
-use Rattle.geo_mesh.specs.Names.{AreIds, HaveNameRoom, AddsName, RemovesName, is_sound_named}
+use Rattle.geo_mesh.specs.Names.{HaveNameRoom, AddsName, RemovesName, is_sound_named}
 use Rattle.geo_mesh.specs.Ranks.{HaveRanks, bare, stored}
 use Rattle.geo_mesh.specs.Whole.{IsWhole}
 use Rattle.geo_mesh.proofs.RankFirst.{footing-none}
@@ -32,17 +33,18 @@ beside_index gs edges live i are = record { count = are.count; standing = are.st
 
 module _ {C : Type 0} (t : Tables C) (whole : IsWhole t) where
   -- with a new geom, of rank 1
-  pub whole-new_geom : (v : GeomCell C) → v.geom.withering ≡ false → v.geom.started ≡ 0 → v.rank ≡ 1
+  pub whole-new_geom : (v : GeomCell C) (m : NamesView) → v.geom.withering ≡ false → v.geom.started ≡ 0 → v.rank ≡ 1
       → IsRising 1 t.geoms.rows t.geoms.next
       → t.live < 4294967294 → t.geoms.next + 1 < 2 ^ 64
+      → m ≡ record (with_name t.notes.named v.geom.name) { room = m.room } → t.notes.named.room ≤ m.room + 1
       → IsWhole (record t {
         geoms = with_insert t.geoms v;
         edges = record t.edges { index = with_geom_index t.edges.index };
         live = t.live + 1;
-        notes = record t.notes { withering = with_mark t.notes.withering };
+        notes = record t.notes { withering = with_mark t.notes.withering; named = m };
       })
-  whole-new_geom v stays none rank rising few fits = record {
-    tables = mesh-geom t whole.tables v stays none few;
+  whole-new_geom v m stays none rank rising few fits added room = record {
+    tables = mesh-geom t whole.tables v m stays none few added room;
     ranks =
         beside_index (with_insert t.geoms v) t.edges (t.live + 1) (with_geom_index t.edges.index)
         (ranks.mesh-new_geom t.geoms t.edges t.live whole.ranks (t.geoms.next + 1) (t.geoms.spare - 1) v rank
@@ -54,7 +56,7 @@ module _ {C : Type 0} (t : Tables C) (whole : IsWhole t) where
 
   -- with a new provider of a geom other than the first two, of a name that no other has without an error
   pub whole-new_provider : (v : ProvCell) (m : Names) → v.provider.errored ≡ false → v.provider.risen ≡ false
-      → v.provider.fallen ≡ false → AreIds m
+      → v.provider.fallen ≡ false
       → find (is_sound_named v.provider.name) (map provider_row t.edges.providers.rows) ≡ None
       → AddsName t.names m v.provider.name t.edges.providers.next
       → HaveNameRoom (t.edges.providers.spare - 1) m → IsSome (geom_at (graph t) v.provider.geom)
@@ -68,8 +70,8 @@ module _ {C : Type 0} (t : Tables C) (whole : IsWhole t) where
         names = m;
         notes = record t.notes { risen = with_mark t.notes.risen; fallen = with_mark t.notes.fallen };
       })
-  whole-new_provider v m sound risen fallen ids free adds name_room lives not_dev not_taste sizes fits = record {
-    tables = mesh-provider t whole.tables v sound risen fallen m ids free adds name_room;
+  whole-new_provider v m sound risen fallen free adds name_room lives not_dev not_taste sizes fits = record {
+    tables = mesh-provider t whole.tables v sound risen fallen m free adds name_room;
     ranks =
         beside_index t.geoms (record t.edges { providers = with_insert t.edges.providers v }) t.live
         (with_provider_index t.edges.index v.provider.geom)
@@ -108,18 +110,19 @@ module _ {C : Type 0} (t : Tables C) (whole : IsWhole t) where
   }
 
   -- without a geom that has neither provider nor consumer
-  pub whole-without_geom : (n : ℕ) (v : GeomCell C) → IsRising 1 t.geoms.rows t.geoms.next
+  pub whole-without_geom : (n : ℕ) (v : GeomCell C) (m : NamesView) → IsRising 1 t.geoms.rows t.geoms.next
       → value_at t.geoms.rows n ≡ Some v → n ≢ 1 → n ≢ 2
       → providers_of (graph t) n ≡ [] → consumers_of (graph t) n ≡ []
+      → m ≡ record t.notes.named { rows = without t.notes.named.rows n; room = m.room } → t.notes.named.room ≤ m.room
       → IsWhole (record t {
         geoms = record t.geoms { rows = without t.geoms.rows n };
         edges = record t.edges { index = without_geom_index t.edges.index n };
         live = t.live - 1;
-        notes = record t.notes { withering = without_mark t.notes.withering n };
+        notes = record t.notes { withering = without_mark t.notes.withering n; named = m };
       })
-  whole-without_geom n v rising at not_dev not_taste no_provider no_consumer = record {
-    tables = mesh-without_geom t whole.tables n (t.live - 1)
-        (count_falls t.geoms n t.live v rising (sym at) whole.tables.count);
+  whole-without_geom n v m rising at not_dev not_taste no_provider no_consumer removed room = record {
+    tables = mesh-without_geom t whole.tables n (t.live - 1) m
+        (count_falls t.geoms n t.live v rising (sym at) whole.tables.count) removed room;
     ranks =
         beside_index (record t.geoms { rows = without t.geoms.rows n }) t.edges (t.live - 1)
         (without_geom_index t.edges.index n)
@@ -133,7 +136,7 @@ module _ {C : Type 0} (t : Tables C) (whole : IsWhole t) where
   -- without a provider to which nothing is attached
   pub whole-without_provider : (n : ℕ) (v : ProvCell) (m : Names)
       → IsRising 1 t.edges.providers.rows t.edges.providers.next
-      → value_at t.edges.providers.rows n ≡ Some v → AreIds m
+      → value_at t.edges.providers.rows n ≡ Some v
       → RemovesName t.names m v.provider.name n v.provider.errored
       → HaveNameRoom t.edges.providers.spare m → attached_to (graph t) n ≡ []
       → IsWhole (record t {
@@ -144,8 +147,8 @@ module _ {C : Type 0} (t : Tables C) (whole : IsWhole t) where
         names = m;
         notes = record t.notes { risen = without_mark t.notes.risen n; fallen = without_mark t.notes.fallen n };
       })
-  whole-without_provider n v m rising at ids removes name_room none = record {
-    tables = mesh-without_provider t whole.tables n v rising at m ids removes name_room;
+  whole-without_provider n v m rising at removes name_room none = record {
+    tables = mesh-without_provider t whole.tables n v rising at m removes name_room;
     ranks =
         beside_index t.geoms
         (record t.edges { providers = record t.edges.providers { rows = without t.edges.providers.rows n } }) t.live
@@ -196,14 +199,14 @@ module _ {C : Type 0} (t : Tables C) (whole : IsWhole t) where
         → IsWhole (record t {
           geoms = ns;
           edges = record (put_consumer t.edges n (record v { consumer = record v.consumer { prov = Some p } }))
-              { index = attached_index t.edges.index n p };
+              { index = attached_index t.edges.index n p v.consumer.geom };
         })
     whole-attached p are lives =
         let edges : Edges = put_consumer t.edges n (record v { consumer = record v.consumer { prov = Some p } }) in
-        let after : Tables C = record t { edges = record edges { index = attached_index t.edges.index n p } } in
+        let after : Tables C = record t { edges = record edges { index = attached_index t.edges.index n p v.consumer.geom } } in
         record {
           tables = mesh-bare after (mesh-attached t whole.tables n p v rising at) ns same;
-          ranks = beside_index ns edges t.live (attached_index t.edges.index n p) are;
+          ranks = beside_index ns edges t.live (attached_index t.edges.index n p v.consumer.geom) are;
           graph =
               subst (λ g. IsOrderly g)
               (sym (ap (λ v. v.topology) (ranks.view-bare after ns same ∙ attach-view t n p v rising at)))

@@ -5,6 +5,7 @@ pub mod Topo
 pub mod Graph
 pub mod Cells
 pub mod Notes
+pub mod Named
 pub mod Refusals
 pub mod Index
 pub mod Mesh

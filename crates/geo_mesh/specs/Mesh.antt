@@ -2,7 +2,7 @@
 use Rattle.std.specs.Prelude.{length, map}
 use Rattle.geo_mesh.specs.declared.tables.Tables.{Tables}
 use Rattle.geo_mesh.specs.Cells.{IsCount, graph, provider_row}
-use Rattle.geo_mesh.specs.Names.{AreNames, AreIds, HaveNameRoom}
+use Rattle.geo_mesh.specs.Names.{AreNames, HaveNameRoom}
 use Rattle.geo_mesh.specs.Notes.{AreNotes}
 use Rattle.geo_mesh.specs.Index.{IsIndexed, HaveRoom}
 
@@ -13,6 +13,5 @@ pub record IsMesh {C : Type 0} (t : Tables C) : Type 0 where
   pub indexed : IsIndexed (graph t) t.edges.index
   pub room : HaveRoom t.geoms.spare t.edges.providers.spare t.edges.consumers.spare t.edges.index
   pub names_are : AreNames (map provider_row t.edges.providers.rows) t.edges.providers.next t.names
-  pub names_ids : AreIds t.names
   pub notes : AreNotes t.notes t.geoms t.edges.providers
   pub names_room : HaveNameRoom t.edges.providers.spare t.names

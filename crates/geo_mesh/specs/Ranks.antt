@@ -13,7 +13,7 @@ use Rattle.geo_mesh.specs.declared.records.ConsCell.{ConsCell}
 use Rattle.geo_mesh.specs.declared.tables.Edges.{Edges}
 use Rattle.geo_mesh.specs.Rows.{rows_with, passes}
 use Rattle.geo_mesh.specs.Cells.{IsCount, provider_row, consumer_row}
-use Rattle.geo_mesh.specs.Index.{provider_geoms, consumer_geoms, consumer_providers}
+use Rattle.geo_mesh.specs.Index.{provider_geoms, consumer_geoms, consumers_above}
 use Rattle.geo_mesh.specs.declared.records.AttachRefusal.{AttachRefusal}
 use Rattle.geo_mesh.specs.declared.records.AttachRefusal.TheVariants.{Enxio, Eloop, Edeep}
 use Rattle.geo_mesh.specs.Mending.{IsAmong, Climbs, StandsAbove, IsJoinable, AreLocal, above, height}
@@ -138,6 +138,10 @@ is_offered g o = o == g
 abbrev pub is_attached : ℕ → ℕ × Option ℕ → Bool
 is_attached p e = names_number e.1 p
 
+-- whether the consumer is attached to the provider and isn't DEV's
+abbrev pub is_above : ℕ → ℕ × Option ℕ → Bool
+is_above p e = names_number e.1 p && not (e.0 == 1)
+
 -- whether the consumer is the geom's
 abbrev pub belongs : ℕ → ℕ × Option ℕ → Bool
 belongs g e = e.0 == g
@@ -178,12 +182,12 @@ abbrev pub FirstIs : {T : Type 0} → (T → Bool) → SlotsView T → ℕ → O
 FirstIs test s at None = (m : ℕ) → passes test (value_at s.rows m) ≡ true → m < at
 FirstIs test s at (Some n) = IsFirst test s.rows s.next at n
 
--- the index tells whose each provider and each consumer is, and where each consumer is attached; the numbers rise,
--- and the next ones fit
+-- the index tells whose each provider and each consumer is, and where each consumer other than DEV's is attached; the
+-- numbers rise, and the next ones fit
 pub record IsKin (edges : Edges) : Type 0 where
   pub offered : edges.index.offered.children ≡ provider_geoms (map provider_row edges.providers.rows)
   pub owned : edges.index.owned.children ≡ consumer_geoms (map consumer_row edges.consumers.rows)
-  pub attached : edges.index.attached.children ≡ consumer_providers (map consumer_row edges.consumers.rows)
+  pub above : edges.index.above.children ≡ consumers_above (map consumer_row edges.consumers.rows)
   pub providers_rise : IsRising 1 edges.providers.rows edges.providers.next
   pub providers_few : edges.providers.next < 2 ^ 64
   pub consumers_rise : IsRising 1 edges.consumers.rows edges.consumers.next

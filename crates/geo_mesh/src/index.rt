@@ -8,14 +8,18 @@ use geo_base::NoMemory;
 use geo_family::Family;
 use std::alloc::Global;
 
-/// The providers under their geoms, the consumers under their geoms, and the consumers under the providers to which
-/// they are attached.
+/// The providers under their geoms, the consumers under their geoms, the consumers under the providers to which they
+/// are attached, and of these once more those that aren't DEV's: one provider may carry a thousand handles.
 #[derive(Drop)]
 pub struct Index {
     pub offered: Family,
     pub owned: Family,
     pub attached: Family,
+    pub above: Family,
 }
+
+// The geom of class DEV.
+const DEV: u64 = 1;
 
 impl Index {
     /// No geom. It takes no memory yet.
@@ -26,6 +30,7 @@ impl Index {
             offered: Family::new(alloc),
             owned: Family::new(alloc),
             attached: Family::new(alloc),
+            above: Family::new(alloc),
         }
     }
 
@@ -39,6 +44,7 @@ impl Index {
         self.offered.reserve(geoms, providers)?;
         self.owned.reserve(geoms, consumers)?;
         self.attached.reserve(providers, consumers)?;
+        self.above.reserve(providers, consumers)?;
         Ok(())
     }
 
@@ -59,6 +65,7 @@ impl Index {
     {
         self.offered.add_child_of(geom);
         self.attached.add_parent();
+        self.above.add_parent();
     }
 
     /// A new consumer of the geom, of the next number, attached to nothing.
@@ -69,6 +76,7 @@ impl Index {
     {
         self.owned.add_child_of(geom);
         self.attached.add_child();
+        self.above.add_child();
     }
 
     /// Without a geom that has neither provider nor consumer.
@@ -83,11 +91,13 @@ impl Index {
 
     /// Without a provider to which nothing is attached.
     pub fn remove_provider(&mut self, prov: u64)
-        requires { has_child self.old.attached.children prov ≡ false }
+        requires none { has_child self.old.attached.children prov ≡ false }
+        requires none_above { has_child self.old.above.children prov ≡ false }
         ensures { self.new ≡ without_provider_index self.old prov }
     {
         self.offered.remove_child(prov);
         self.attached.remove_parent(prov);
+        self.above.remove_parent(prov);
     }
 
     /// Without a consumer.
@@ -96,15 +106,21 @@ impl Index {
     {
         self.owned.remove_child(cons);
         self.attached.remove_child(cons);
+        self.above.remove_child(cons);
     }
 
-    /// The consumer, attached to nothing, is attached to the provider.
-    pub fn attach(&mut self, cons: u64, prov: u64)
+    /// The consumer of the geom, attached to nothing, is attached to the provider.
+    pub fn attach(&mut self, cons: u64, prov: u64, geom: u64)
         requires free { value_at self.old.attached.children cons ≡ Some None }
         requires provider { is_parent self.old.attached.parents prov ≡ true }
-        ensures { self.new ≡ attached_index self.old cons prov }
+        requires free_above { value_at self.old.above.children cons ≡ Some None }
+        requires provider_above { is_parent self.old.above.parents prov ≡ true }
+        ensures { self.new ≡ attached_index self.old cons prov geom }
     {
         self.attached.link(cons, prov);
+        if geom != DEV {
+            self.above.link(cons, prov);
+        }
     }
 
     /// The consumer is attached to nothing.
@@ -112,5 +128,6 @@ impl Index {
         ensures { self.new ≡ detached_index self.old cons }
     {
         self.attached.unlink(cons);
+        self.above.unlink(cons);
     }
 }

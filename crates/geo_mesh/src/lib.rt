@@ -3,6 +3,7 @@
 
 mod index;
 mod marks;
+mod named;
 mod names;
 mod ranks;
 mod records;

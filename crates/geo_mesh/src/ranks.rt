@@ -4,7 +4,7 @@ ghost use Rattle.geo_model.specs.Words.{largest, is_granted_kind};
 ghost use Rattle.geo_slots.specs.Slots.{IsRising, value_at};
 ghost use Rattle.geo_mesh.specs.Rows.{passes};
 ghost use Rattle.geo_mesh.specs.Mending.{AreEnough, AreLocal, IsLow, Lifted, Lowered, IsJoinable};
-ghost use Rattle.geo_mesh.specs.Ranks.{IsKin, kinds, bare, offers, ranked_links, links, stored, ranked_below, below, owner, user, is_dev_or_taste, is_offered, is_attached, belongs, is_high, rank_under, rank_from, FirstIs, EachUser, highest_raise, IsRefusedFor, IsWalkable, IsAdmitted};
+ghost use Rattle.geo_mesh.specs.Ranks.{IsKin, kinds, bare, offers, ranked_links, links, stored, ranked_below, below, owner, user, is_dev_or_taste, is_offered, is_attached, is_above, belongs, is_high, rank_under, rank_from, FirstIs, EachUser, highest_raise, IsRefusedFor, IsWalkable, IsAdmitted};
 
 use crate::records::{AttachRefusal, GeomCell};
 use crate::tables::{Edges, cell_mut};
@@ -40,13 +40,14 @@ pub fn is_dev_or_taste(geom: u64) -> bool
     geom == 1 || geom == 2
 }
 
-// The first consumer of a geom other than the first two that is attached to a provider, from a number on.
+// The first consumer of a geom other than the first two that is attached to a provider, from a number on. DEV's aren't
+// met, however many handles are open; TASTE's only while a taste is under way.
 fn ranked_consumer(edges: &Edges, prov: u64, from: u64) -> Option<u64>
     requires { IsKin edges.now }
     ensures { FirstIs (is_attached prov) (ranked_links edges.now) from result }
 {
     let mut at = from;
-    while let Some(cons) = attached_consumer(edges, prov, at) {
+    while let Some(cons) = consumer_above(edges, prov, at) {
         if !is_dev_or_taste(user(edges, cons)) {
             return Some(cons);
         }
@@ -55,12 +56,12 @@ fn ranked_consumer(edges: &Edges, prov: u64, from: u64) -> Option<u64>
     None
 }
 
-// The first consumer that is attached to a provider, from a number on.
-fn attached_consumer(edges: &Edges, prov: u64, from: u64) -> Option<u64>
+// The first consumer of a geom other than DEV that is attached to a provider, from a number on.
+fn consumer_above(edges: &Edges, prov: u64, from: u64) -> Option<u64>
     requires { IsKin edges.now }
-    ensures { FirstIs (is_attached prov) (links edges.now) from result }
+    ensures { FirstIs (is_above prov) (links edges.now) from result }
 {
-    edges.index.attached.first_from(prov, from)
+    edges.index.above.first_from(prov, from)
 }
 
 // The first consumer of a geom from a number on.

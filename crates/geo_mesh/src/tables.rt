@@ -12,7 +12,7 @@ use crate::index::Index;
 use crate::marks::Marks;
 use crate::names::Names;
 use crate::records::{ConsCell, GeomCell, ProvCell};
-use geo_base::{ConsId, GeomId, NoMemory, ProvId};
+use geo_base::{ConsId, GeomId, Name, NoMemory, ProvId};
 use geo_slots::Slots;
 use std::alloc::Global;
 
@@ -25,16 +25,17 @@ pub struct Edges {
 }
 
 /// The providers whose write count is noted to have left zero, those for which it is noted to have reached zero, and
-/// the geoms that wither: each carries a mark among all.
+/// the geoms that wither: each carries a mark among all. And the geoms under their names.
 #[derive(Drop)]
 pub struct Notes {
     pub risen: Marks,
     pub fallen: Marks,
     pub withering: Marks,
+    pub named: geo_names::Names,
 }
 
 /// Geoms with their providers and consumers, how many geoms there are, and what finds a provider by its name, a noted
-/// provider and a withering geom. There are fewer geoms than 2^32, so that a rank fits its type.
+/// provider, a withering geom and a geom by its name. There are fewer geoms than 2^32, so that a rank fits its type.
 #[derive(Drop)]
 pub struct Tables<C> {
     pub geoms: Slots<GeomCell<C>>,
@@ -55,6 +56,7 @@ impl Notes {
         self.risen.reserve(providers)?;
         self.fallen.reserve(providers)?;
         self.withering.reserve(geoms)?;
+        self.named.reserve(geoms)?;
         Ok(())
     }
 }
@@ -140,9 +142,9 @@ impl<C> Tables<C> {
     }
 }
 
-/// The notes of two geoms that don't wither, and of no provider.
-pub fn first_notes(alloc: Global) -> Result<Notes, NoMemory>
-    ensures { IfOk result AreFirstNotes }
+/// The notes of two geoms of these names that don't wither, and of no provider.
+pub fn first_notes(alloc: Global, first: &Name, second: &Name) -> Result<Notes, NoMemory>
+    ensures { IfOk result (AreFirstNotes first.now second.now) }
 {
     let risen = Marks::new(alloc)?;
     let fallen = Marks::new(alloc)?;
@@ -150,10 +152,15 @@ pub fn first_notes(alloc: Global) -> Result<Notes, NoMemory>
     withering.reserve(2)?;
     withering.add();
     withering.add();
+    let mut named = geo_names::Names::new(alloc);
+    named.reserve(2)?;
+    let _ = named.add(first);
+    let _ = named.add(second);
     Ok(Notes {
         risen,
         fallen,
         withering,
+        named,
     })
 }
 

@@ -2,6 +2,7 @@
 ghost use Rattle.std.specs.Prelude.{◌≡◌, ◌≢◌, ◌≤◌, ◌<◌, ◌^◌, ◌+◌, ◌-◌, ◌==◌, [], true, false, Some, IsSome, IsOk, IfSome, IfOk, OnErr, OnOk, option_map, option_copied, length, not, ◌&&◌, nat_lt, IsSomeAnd, None, find, filter};
 ghost use Rattle.geo_base.specs.Name.{is_name};
 ghost use Rattle.geo_model.specs.Topology.{geom_at, provider_at, consumer_at, providers_of, consumers_of, attached_to, find_provider, is_name_taken, is_withering, set_error, set_size, set_withering, set_marks, set_config, note_started, attach, is_errored, detach};
+ghost use Rattle.geo_model.specs.Words.{is_kind, same_name};
 ghost use Rattle.geo_model.specs.Rank.{rank, attach_refusal};
 ghost use Rattle.geo_slots.specs.Slots.{value_at};
 ghost use Rattle.geo_mesh.specs.Topo.{first_mesh, with_geom, with_provider, with_consumer, without_geom, without_provider, without_consumer, with_topology, with_want, with_have, with_notes, with_active, with_geom_scratch, with_provider_scratch, with_consumer_scratch, first_geom, first_consumer, first_provider, is_provider_size, no_counts, IsButForRoom};
@@ -11,11 +12,11 @@ ghost use Rattle.geo_mesh.specs.Cells.{geom_seen, provider_seen, consumer_seen, 
 
 use crate::index::Index;
 use crate::names::Names;
-use crate::ranks;
 use crate::records::{
     AttachRefusal, ConsCell, ConsRec, GeomCell, GeomRec, ProvCell, ProvRec, Scratch,
 };
 use crate::tables::{self, Edges, Tables};
+use crate::{named, ranks};
 use geo_base::{ConsId, Counts, GeomId, Kind, Name, NoMemory, ProvId};
 use geo_slots::Slots;
 use std::alloc::Global;
@@ -61,11 +62,13 @@ impl<C: Drop> Topo<C> {
         let mut index = Index::new(alloc);
         geoms.reserve(2)?;
         index.reserve(2, 0, 0)?;
-        geoms.insert(new_cell(Kind::Dev, fixed_name(b"dev"), dev, false));
+        let first = fixed_name(b"dev");
+        let second = fixed_name(b"taste");
+        geoms.insert(new_cell(Kind::Dev, first, dev, false));
         index.add_geom();
-        geoms.insert(new_cell(Kind::Taste, fixed_name(b"taste"), taste, false));
+        geoms.insert(new_cell(Kind::Taste, second, taste, false));
         index.add_geom();
-        let notes = tables::first_notes(alloc)?;
+        let notes = tables::first_notes(alloc, &first, &second)?;
         let edges = Edges {
             providers: Slots::new(alloc),
             consumers: Slots::new(alloc),
@@ -107,6 +110,7 @@ impl<C: Drop> Topo<C> {
             .insert(new_cell(kind, name, config, automatic));
         self.tables.edges.index.add_geom();
         self.tables.notes.withering.add();
+        let _ = self.tables.notes.named.add(&name);
         self.tables.live += 1;
         Ok(GeomId::new(number))
     }
@@ -121,10 +125,14 @@ impl<C: Drop> Topo<C> {
         ensures room { self.old.room.geoms ≤ self.new.room.geoms }
         ensures other_room { self.new.room ≡ record self.old.room { geoms = self.new.room.geoms } }
     {
-        if let Some(_cell) = self.tables.geoms.remove(geom.number()) {
+        if let Some(cell) = self.tables.geoms.remove(geom.number()) {
             self.tables.live -= 1;
             self.tables.edges.index.remove_geom(geom.number());
             self.tables.notes.withering.remove(geom.number());
+            self.tables
+                .notes
+                .named
+                .remove(&cell.geom.name, geom.number());
         }
     }
 }
@@ -283,6 +291,14 @@ impl<C> Topo<C> {
             .map(ConsId::new)
     }
 
+    /// The number that the next consumer gets.
+    pub fn coming_consumer(&self) -> ConsId
+        ensures number { result ≡ self.now.topology.next_consumer }
+        ensures sound { IsSoundGraph self.now.topology }
+    {
+        ConsId::new(self.tables.edges.consumers.next_number())
+    }
+
     /// The least number of a provider of the geom that isn't below a number.
     pub fn provider_of(&self, geom: GeomId, from: u64) -> Option<ProvId>
         ensures first { result ≡ first_provider (providers_of self.now.topology geom) from }
@@ -322,6 +338,21 @@ impl<C> Topo<C> {
             .map(ConsId::new)
     }
 
+    /// The least number, of the consumers attached to the provider that aren't DEV's, that isn't below a number. Those
+    /// of DEV, one for each handle, cost nothing.
+    pub fn above(&self, prov: ProvId, from: u64) -> Option<ConsId>
+        ensures first { result
+            ≡ first_consumer (filter (λ c. not (c.geom == 1)) (attached_to self.now.topology prov)) from }
+        ensures sound { IsSoundGraph self.now.topology }
+    {
+        self.tables
+            .edges
+            .index
+            .above
+            .first_from(prov.number(), from)
+            .map(ConsId::new)
+    }
+
     /// The least number of a withering geom that isn't below a number.
     pub fn next_withering(&self, from: u64) -> Option<GeomId>
         ensures first { result ≡ first_geom (filter (λ x. x.withering) self.now.topology.geoms) from }
@@ -332,6 +363,23 @@ impl<C> Topo<C> {
             .withering
             .first_from(from)
             .map(GeomId::new)
+    }
+
+    /// The least number of a geom of the class and of the name that isn't below a number; withering ones count too.
+    pub fn next_named(&self, kind: Kind, name: &Name, from: u64) -> Option<GeomId>
+        ensures first { result
+            ≡ first_geom (filter (λ g. is_kind g.kind kind && same_name g.name name.now) self.now.topology.geoms)
+            from }
+        ensures sound { IsSoundGraph self.now.topology }
+    {
+        named::first_of(
+            &self.tables.geoms,
+            &self.tables.notes.named,
+            kind,
+            name,
+            from,
+        )
+        .map(GeomId::new)
     }
 
     /// The least provider whose write count is noted to have left zero.
@@ -452,7 +500,10 @@ impl<C> Topo<C> {
             return Err(refusal);
         }
         self.tables.consumer_mut(cons).consumer.prov = Some(prov);
-        self.tables.edges.index.attach(cons.number(), prov.number());
+        self.tables
+            .edges
+            .index
+            .attach(cons.number(), prov.number(), upper);
         Ok(())
     }
 

@@ -6,14 +6,14 @@ use Rattle.std.proofs.Common.{refl, sym, ◌∙◌, ap, subst, inl, inr, arith}
 use Rattle.std.proofs.lemmas.Bool.{cases_eq, eq-eqb, ne_eqb}
 use Rattle.std.proofs.lemmas.List.{map-append}
 use Rattle.geo_slots.specs.Slots.{IsRising, value_at, without, with_insert}
-use Rattle.geo_slots.proofs.RowLemmas.{value_at_next}
+use Rattle.geo_slots.proofs.RowLemmas.{value_at_next, value_at-behind, value_at-last, value_at-other, value_at-without, value_at-gone}
 use Rattle.geo_family.specs.Family.{names, has_child, first_child, last_child}
 use Rattle.geo_base.proofs.Tests.{some_of, is_some-map}
 use Rattle.geo_model.specs.Words.{same_name}
 use Rattle.geo_names.specs.declared.names.Inside.{Inside}
 use Rattle.geo_names.specs.Names.{first_named, last_named}
 use Rattle.geo_names.specs.Inside.{id_of, text_or, text_of, rows_of, rows_inside, IsUnder, IsInside}
-use Rattle.geo_names.proofs.Rows.{same_is, is_same, value_at-behind, value_at-last, value_at-other, value_at-without, value_at-gone, numbers-without}
+use Rattle.geo_names.proofs.Rows.{same_is, is_same, numbers-without}
 
 module _ (n : Inside) (is : IsInside n) (name : List ℕ) where
   -- the name of a number's id, if it is this one, is this name

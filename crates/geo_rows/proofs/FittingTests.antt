@@ -1,5 +1,5 @@
 -- The tests of Fitting say what Fitting says.
-use Rattle.std.specs.Prelude.{◌≡◌, ◌≢◌, ℕ, ◌<◌, ◌%◌, ◌/◌, ◌^◌, ◌==◌, nat_lt, nat_le, true, false, not, ◌&&◌, List, length, count_by, Option, IsTrue, option_and_then}
+use Rattle.std.specs.Prelude.{◌≡◌, ◌≢◌, ℕ, ◌<◌, ◌%◌, ◌/◌, ◌^◌, ◌==◌, nat_lt, nat_le, true, false, not, ◌&&◌, ◌||◌, List, length, count_by, Option, IsTrue, option_and_then}
 use Rattle.std.specs.Bool.{Decides}
 use Rattle.std.proofs.Common.{refl, sym, subst}
 use Rattle.std.proofs.lemmas.Bool.{true≢false}
@@ -61,9 +61,25 @@ nop_told kinds.Concat e = no_kind e
 nop_told kinds.Stripe e = no_kind e
 nop_told kinds.Nop e = refl
 
+-- the test tells the class
+stripe_told : (k : Kind) → is_kind k kinds.Stripe ≡ true → k ≡ kinds.Stripe
+stripe_told kinds.Disk e = no_kind e
+stripe_told kinds.Dev e = no_kind e
+stripe_told kinds.Taste e = no_kind e
+stripe_told kinds.Mbr e = no_kind e
+stripe_told kinds.Ebr e = no_kind e
+stripe_told kinds.Label e = no_kind e
+stripe_told kinds.Concat e = no_kind e
+stripe_told kinds.Stripe e = refl
+stripe_told kinds.Nop e = no_kind e
+
 -- the class is CONCAT
 is_concat : (k : Kind) → Decides (is_kind k kinds.Concat) (k ≡ kinds.Concat)
 is_concat k = kind_is k kinds.Concat refl (concat_told k)
+
+-- the class is STRIPE
+is_striped : (k : Kind) → Decides (is_kind k kinds.Stripe) (k ≡ kinds.Stripe)
+is_striped k = kind_is k kinds.Stripe refl (stripe_told k)
 
 -- Sizes and sectors
 
@@ -126,7 +142,8 @@ one_provider t g =
 
 its_sum : (t : Topology Config) (g : Geom Config) → Decides (has_its_sum t g) (HasItsSum t g)
 its_sum t g =
-    under (is_kind g.kind kinds.Concat) _ (is_concat g.kind)
+    under (is_kind g.kind kinds.Concat || is_kind g.kind kinds.Stripe) _
+    (Decides-or (is_kind g.kind kinds.Concat) (is_kind g.kind kinds.Stripe) (is_concat g.kind) (is_striped g.kind))
     (each _ _ (λ p. Decides-eqb p.size (joined_size g.config)) (providers_of t g.number))
 
 held_places : (g : Geom Config) → Decides (places_hold g) (PlacesHold g)

@@ -5,7 +5,7 @@ use Rattle.geo_model.specs.declared.step.Step.TheVariants as steps
 use Rattle.geo_rows.specs.WorkedFitting.{is_fitting_world}
 use Rattle.geo_rows.specs.WorkedSound.{is_sound}
 use Rattle.geo_rows.specs.WorkedSteady.{is_steady}
-use Rattle.geo_rows.specs.LooseWorlds.{crooked_nop, empty_disk, far_sector, huge_sector, is_loose, large_component, large_concat, large_sectors, strange_command, two_providers, two_roots, tasted_twin, crooked_part, large_link, long_label}
+use Rattle.geo_rows.specs.LooseWorlds.{crooked_nop, empty_disk, far_sector, huge_sector, is_loose, is_unfit, large_component, large_concat, large_sectors, short_stripe, strange_command, two_providers, two_roots, tasted_twin, crooked_part, large_link, long_label}
 use Rattle.geo_model.specs.Bios.{start, take_bio, deliver, up}
 use Rattle.geo_model.specs.WorldEvents.{do_event}
 use Rattle.geo_model.specs.Tasting.{judge_step}
@@ -84,6 +84,10 @@ unfolding start take_bio deliver up do_event judge_step reap wash_work wash do_c
     reap_next wash_next step is_sound is_steady is_fitting_world digits
 long_label-loose = refl
 
+pub short_stripe-unfit : is_unfit short_stripe ≡ true
+unfolding is_sound is_steady is_fitting_world digits
+short_stripe-unfit = refl
+
 -- what `unfitting_worlds` says
 pub ruleset unfitting_worlds = (
   crooked_nop-loose,
@@ -100,4 +104,5 @@ pub ruleset unfitting_worlds = (
   crooked_part-loose,
   large_link-loose,
   long_label-loose,
+  short_stripe-unfit,
 )

@@ -15,7 +15,7 @@ use Rattle.geo_model.specs.declared.step.Phase.TheVariants as phases
 use Rattle.geo_model.specs.declared.step.Step.{Step}
 use Rattle.geo_model.specs.Chain.{no_links}
 use Rattle.geo_model.specs.Topology.{Topology, Geom, Provider, Consumer}
-use Rattle.geo_model.specs.World.{World, Config, Disk, Ebr, Concat, Nop, Handle, Bio, Asked, NoClass, NextSector, ReadOut, ReadBack, HeaderDisk}
+use Rattle.geo_model.specs.World.{World, Config, Disk, Ebr, Concat, Stripe, Nop, Handle, Bio, Asked, NoClass, NextSector, ReadOut, ReadBack, HeaderDisk}
 use Rattle.geo_model.specs.Opening.{first_topology}
 use Rattle.geo_model.specs.Records.{concat_sector}
 use Rattle.geo_model.specs.Step.{Answer, step}
@@ -33,6 +33,10 @@ breaks_by (Err found) = false
 -- whether the world is sound and steady, isn't fitting, and isn't sound after the step
 abbrev pub is_loose : World → Step → Bool
 is_loose w s = is_sound w && (is_steady w && (not (is_fitting_world w) && breaks_by (step w 0 s)))
+
+-- whether the world is sound and steady, and isn't fitting
+abbrev pub is_unfit : World → Bool
+is_unfit w = is_sound w && (is_steady w && not (is_fitting_world w))
 
 -- Parts of such worlds
 
@@ -224,6 +228,14 @@ large_concat =
     (provider 3 5 (codes "concat/v") 2048 512 ∷ [])
     (consumer 1 5 1 ∷ []))
     (commands.Append (codes "v") (codes "md1"))
+
+-- a stripe whose provider is shorter than its components make it: what counts its strips by the size loses some
+abbrev pub short_stripe : World
+short_stripe =
+    two_disks_with
+    (geom 5 kinds.Stripe (codes "v") (Stripe None 512 (Some 1 ∷ Some 2 ∷ []) (2048 ∷ 2048 ∷ [])) false)
+    (provider 3 5 (codes "stripe/v") 2048 512 ∷ [])
+    (consumer 1 5 1 ∷ consumer 2 5 2 ∷ [])
 
 -- two providers again: a taste of the second is under way while the first grows by the top of a tower of nops
 abbrev pub nop_at : ℕ → Geom Config

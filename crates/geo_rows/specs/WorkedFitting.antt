@@ -84,13 +84,15 @@ taste_read_holds w =
     (λ x. not (is_taste_root x.owner) || some_and (provider_at w.topology x.target) (λ p. x.len == p.sector))
     w.bios
 
--- whether a CONCAT has at most one provider, as long as its components were together
+-- whether a CONCAT has at most one provider
 abbrev pub has_one_provider : Topology Config → Geom Config → Bool
 has_one_provider t g = not (is_kind g.kind kinds.Concat) || nat_le (length (providers_of t g.number)) 1
 
+-- whether the provider of a CONCAT or STRIPE is as long as its components make it
 abbrev pub has_its_sum : Topology Config → Geom Config → Bool
 has_its_sum t g =
-    not (is_kind g.kind kinds.Concat) || list_all (λ p. p.size == joined_size g.config) (providers_of t g.number)
+    not (is_kind g.kind kinds.Concat || is_kind g.kind kinds.Stripe)
+    || list_all (λ p. p.size == joined_size g.config) (providers_of t g.number)
 
 -- whether the places of a geom name different consumers, and are at most sixteen
 abbrev pub places_hold : Geom Config → Bool

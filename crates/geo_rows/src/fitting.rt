@@ -4,7 +4,7 @@ ghost use Rattle.geo_rows.specs.Rows.{first_plan, first_facts, exclusion_plan, e
 ghost use Rattle.geo_rows.specs.GrownRows.{growing_plan, growing_facts, appearing_plan, appearing_facts, sized_label_plan, sized_label_facts, plain_label_plan, plain_label_facts, logical_plan, logical_facts, looping_plan, looping_facts, refusing_plan, refusing_facts, relabelling_plan, relabelling_facts, written_through_plan, written_through_facts, used_slice_plan, used_slice_facts, kept_above_plan, kept_above_facts, long_chain_plan, long_chain_facts, too_long_chain_plan, too_long_chain_facts};
 ghost use Rattle.geo_rows.specs.GrownSteps.{append_after_up, append_before_up, held_world, new_world};
 ghost use Rattle.geo_rows.specs.StepLists.{go as next_of, log_of, pulled_early, pulled_late, read_in_reverse, sliced_world, striped_world};
-ghost use Rattle.geo_rows.specs.LooseWorlds.{crooked_nop, empty_disk, far_sector, huge_sector, is_loose, large_component, large_concat, large_sectors, strange_command, two_providers, two_roots, tasted_twin, crooked_part, large_link, long_label};
+ghost use Rattle.geo_rows.specs.LooseWorlds.{crooked_nop, empty_disk, far_sector, huge_sector, is_loose, is_unfit, large_component, large_concat, large_sectors, short_stripe, strange_command, two_providers, two_roots, tasted_twin, crooked_part, large_link, long_label};
 ghost use Rattle.geo_rows.specs.WorkedFitting.{TestsFitting, fitting_along, run_is_fitting};
 ghost use Rattle.geo_rows.specs.WorkedSound.{TestsSound};
 ghost use Rattle.geo_rows.specs.WorkedSteady.{TestsSteady};
@@ -69,7 +69,8 @@ pub fn worked_fitting()
         (log_of new_world (next_of 0 ∷ steps.Event ∷ steps.Judge ∷ next_of 1 ∷ [])) ≡ true }
 {}
 
-/// Worlds that are sound and steady, aren't fitting, and aren't sound any more after the step.
+/// Worlds that are sound and steady, aren't fitting, and aren't sound any more after the step; and a stripe whose
+/// provider has another size than its components make it.
 #[tactic(auto, using(crate::proofs::LooseSteps::unfitting_worlds))]
 pub fn unfitting_worlds()
     ensures crooked_nop_loose { is_loose crooked_nop (steps.Start 1) ≡ true }
@@ -86,4 +87,5 @@ pub fn unfitting_worlds()
     ensures large_link_loose { is_loose large_link steps.Judge ≡ true }
     ensures crooked_part_loose { is_loose crooked_part (steps.Start 1) ≡ true }
     ensures tasted_twin_loose { is_loose tasted_twin (steps.Go 0) ≡ true }
+    ensures short_stripe_unfit { is_unfit short_stripe ≡ true }
 {}

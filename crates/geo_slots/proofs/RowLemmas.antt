@@ -1,7 +1,7 @@
 -- The rows of a table, for this crate and those above it: their numbers rise, and a look-up, a change and a removal
 -- go through a map of the rows.
-use Rattle.std.proofs.Common.{◌≡◌, ℕ, ◌+◌, ◌<◌, ◌≤◌, List, [], ◌∷◌, ◌++◌, map, ◌==◌, not, Some, None, IsSome, sym, refl, ap, ◌∙◌, subst, inl, inr, arith, filter, find}
-use Rattle.std.proofs.lemmas.Bool.{cases_eq, cases_lt, eq-eqb, ne_eqb, le-leb, lt-leb}
+use Rattle.std.proofs.Common.{◌≡◌, ℕ, ◌+◌, ◌<◌, ◌≤◌, Bool, true, false, List, [], ◌∷◌, ◌++◌, map, ◌==◌, not, Some, None, IsSome, sym, refl, ap, ◌∙◌, subst, inl, inr, arith, filter, find}
+use Rattle.std.proofs.lemmas.Bool.{cases_eq, cases_lt, eq-eqb, ne_eqb, eqb-true, le-leb, lt-leb}
 use Rattle.std.proofs.lemmas.Option.{same_Some}
 use Rattle.std.specs.Prelude.{if◌then◌else◌}
 use Rattle.std.specs.Option.{option_map}
@@ -112,6 +112,97 @@ module _ {T : Type 0} where
             let here : row.0 ≡ m = same_Some _ _ (rw (le-leb n row.0 from) at found) in
             record { from = omega (arith, here); below = omega (arith, here); stands = rw (eq-eqb row.0 m here) refl }
       ]
+
+-- Values under numbers after a change of one row, behind one row more, and without a number
+
+module _ {T : Type 0} where
+  -- the value that is put under a number is there
+  pub value_at-set : (n : ℕ) (w : T) (rows : List (ℕ × T)) → IsSome (value_at rows n)
+      → value_at (with_value rows n w) n ≡ Some w
+  value_at-set n w [] there = absurd cc
+  value_at-set n w (row ∷ rows) there = at (row.0 == n) refl there (λ later. value_at-set n w rows later) where
+    at : (b : Bool) → (row.0 == n) ≡ b → IsSome (value_at (row ∷ rows) n)
+        → (IsSome (value_at rows n) → value_at (with_value rows n w) n ≡ Some w)
+        → value_at (with_value (row ∷ rows) n w) n ≡ Some w
+    at true e there later = rw (e, eq-eqb n n refl) refl
+    at false e there later = rw (e, e) (later (rw e at there))
+
+  -- the values under the other numbers stay
+  pub value_at-kept : (n m : ℕ) (w : T) (rows : List (ℕ × T)) → (m ≡ n → ⊥)
+      → value_at (with_value rows n w) m ≡ value_at rows m
+  value_at-kept n m w [] other = refl
+  value_at-kept n m w (row ∷ rows) other =
+      at (row.0 == n) refl (row.0 == m) refl (value_at-kept n m w rows other) where
+        at : (b : Bool) → (row.0 == n) ≡ b → (d : Bool) → (row.0 == m) ≡ d
+            → value_at (with_value rows n w) m ≡ value_at rows m
+            → value_at (with_value (row ∷ rows) n w) m ≡ value_at (row ∷ rows) m
+        at true e true k rest = absurd (other (sym (eqb-true row.0 m k) ∙ eqb-true row.0 n e))
+        at true e false k rest = rw (e, k, ne_eqb n m (λ same. other (sym same))) rest
+        at false e true k rest = rw (e, k) refl
+        at false e false k rest = rw (e, k) rest
+
+  -- of two values under a number the second stays
+  pub with_value-twice : (n : ℕ) (v w : T) (rows : List (ℕ × T))
+      → with_value (with_value rows n v) n w ≡ with_value rows n w
+  with_value-twice n v w [] = refl
+  with_value-twice n v w (row ∷ rows) = at (row.0 == n) refl (with_value-twice n v w rows) where
+    at : (b : Bool) → (row.0 == n) ≡ b → with_value (with_value rows n v) n w ≡ with_value rows n w
+        → with_value (with_value (row ∷ rows) n v) n w ≡ with_value (row ∷ rows) n w
+    at true e rest = rw (e, eq-eqb n n refl, rest) refl
+    at false e rest = rw (e, e, rest) refl
+
+  -- the value under a number once a row stands behind
+  pub value_at-behind : (n m : ℕ) (v : T) (rows : List (ℕ × T)) → IsSome (value_at rows m)
+      → value_at (rows ++ (n, v) ∷ []) m ≡ value_at rows m
+  value_at-behind n m v [] there = absurd cc
+  value_at-behind n m v (row ∷ rows) there = at (row.0 == m) refl there (λ e. value_at-behind n m v rows e) where
+    at : (b : Bool) → (row.0 == m) ≡ b → IsSome (value_at (row ∷ rows) m)
+        → (IsSome (value_at rows m) → value_at (rows ++ (n, v) ∷ []) m ≡ value_at rows m)
+        → value_at ((row ∷ rows) ++ (n, v) ∷ []) m ≡ value_at (row ∷ rows) m
+    at true e there so = rw e refl
+    at false e there so = rw e (so (rw e at there))
+
+  -- the value of the row behind, where none had its number
+  pub value_at-last : (n : ℕ) (v : T) (rows : List (ℕ × T)) → value_at rows n ≡ None
+      → value_at (rows ++ (n, v) ∷ []) n ≡ Some v
+  value_at-last n v [] none = rw (eq-eqb n n refl) refl
+  value_at-last n v (row ∷ rows) none = at (row.0 == n) refl none (λ e. value_at-last n v rows e) where
+    at : (b : Bool) → (row.0 == n) ≡ b → value_at (row ∷ rows) n ≡ None
+        → (value_at rows n ≡ None → value_at (rows ++ (n, v) ∷ []) n ≡ Some v)
+        → value_at ((row ∷ rows) ++ (n, v) ∷ []) n ≡ Some v
+    at true e none so = let never : Some row.1 ≡ None = rw e at none in absurd cc
+    at false e none so = rw e (so (rw e at none))
+
+  -- another number's value once a row stands behind
+  pub value_at-other : (n m : ℕ) (v : T) (rows : List (ℕ × T)) → (n ≡ m → ⊥)
+      → value_at (rows ++ (n, v) ∷ []) m ≡ value_at rows m
+  value_at-other n m v [] other = rw (ne_eqb n m other) refl
+  value_at-other n m v (row ∷ rows) other = at (row.0 == m) refl (value_at-other n m v rows other) where
+    at : (b : Bool) → (row.0 == m) ≡ b → value_at (rows ++ (n, v) ∷ []) m ≡ value_at rows m
+        → value_at ((row ∷ rows) ++ (n, v) ∷ []) m ≡ value_at (row ∷ rows) m
+    at true e rest = rw e refl
+    at false e rest = rw e rest
+
+  -- the value under a number once another was taken away
+  pub value_at-without : (n m : ℕ) (rows : List (ℕ × T)) → (m ≡ n → ⊥) → value_at (without rows n) m ≡ value_at rows m
+  value_at-without n m [] other = refl
+  value_at-without n m (row ∷ rows) other =
+      at (row.0 == n) refl (row.0 == m) refl (value_at-without n m rows other) where
+        at : (b : Bool) → (row.0 == n) ≡ b → (d : Bool) → (row.0 == m) ≡ d
+            → value_at (without rows n) m ≡ value_at rows m
+            → value_at (without (row ∷ rows) n) m ≡ value_at (row ∷ rows) m
+        at true e true k rest = absurd (other (sym (eqb-true row.0 m k) ∙ eqb-true row.0 n e))
+        at true e false k rest = rw (e, k) rest
+        at false e true k rest = rw (e, k) refl
+        at false e false k rest = rw (e, k) rest
+
+  -- no value is left under the number that was taken away
+  pub value_at-gone : (n : ℕ) (rows : List (ℕ × T)) → value_at (without rows n) n ≡ None
+  value_at-gone n [] = refl
+  value_at-gone n (row ∷ rows) = at (row.0 == n) refl (value_at-gone n rows) where
+    at : (b : Bool) → (row.0 == n) ≡ b → value_at (without rows n) n ≡ None → value_at (without (row ∷ rows) n) n ≡ None
+    at true e rest = rw e rest
+    at false e rest = rw (e, e) rest
 
 -- A list that is made of the rows, where each item has its row's number, as the lists of a topology are
 

@@ -88,6 +88,13 @@ impl<T> Slots<T> {
         first_keyed(&self.index, number)
     }
 
+    /// The number that the next value gets.
+    pub fn next_number(&self) -> u64
+        ensures { result ≡ self.now.next }
+    {
+        self.next
+    }
+
     /// Makes room for `count` values, so that as many inserts take no memory. Where memory is wanting the values
     /// stay, and the room is no less than it was.
     pub fn reserve(&mut self, count: u64) -> Result<(), NoMemory>

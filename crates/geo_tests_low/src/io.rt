@@ -1,38 +1,70 @@
+ghost use Rattle.std.specs.Prelude.{◌<◌};
+
 use geo_base::{Block, Calls};
 use geo_io::{
     Failed, MemSink, MemSource, ReadRefusal, Sink, Source, StdSink, StdSource, read_all, write_out,
 };
+use std::alloc::Global;
+use std::process::Abort;
 use std::test::Fail;
+
+/// A source in memory, which gives so many bytes at a time, and of which these calls fail.
+fn source_of(alloc: Global, text: &[u8], piece: u32, fails: &[u64]) -> Result<MemSource, Fail>
+    requires { 0 < piece }
+{
+    let bytes = Block::from_slice(alloc, text)?;
+    Ok(MemSource::new(bytes, piece, Calls::of(alloc, fails)?))
+}
+
+/// What becomes of reading five bytes at the most.
+fn refusal_of(alloc: Global, source: &mut MemSource) -> Option<ReadRefusal> {
+    read_all(alloc, source, 5).err()
+}
 
 #[test]
 fn a_source_in_memory_is_read_whole(rt: HostRuntime) -> Result<(), Fail> {
-    let alloc = rt.alloc();
-    let bytes = Block::from_slice(alloc, b"hello")?;
-    let mut source = MemSource::new(bytes, 2, Calls::of(alloc, &[])?);
-    let all = read_all(alloc, &mut source, 5)?;
+    let mut source = source_of(rt.alloc(), b"hello", 2, &[])?;
+    let all = read_all(rt.alloc(), &mut source, 5)?;
     assert_eq!(rt; all.bytes(), b"hello".as_slice());
-    let bytes = Block::from_slice(alloc, b"hello!")?;
-    let mut long = MemSource::new(bytes, 4, Calls::of(alloc, &[])?);
-    let refused = read_all(alloc, &mut long, 5).err();
-    assert_eq!(rt; refused, Some(ReadRefusal::TooLong));
     Ok(())
 }
 
 #[test]
-fn a_failing_call_in_mid_stream_is_told(rt: HostRuntime) -> Result<(), Fail> {
-    let alloc = rt.alloc();
-    let bytes = Block::from_slice(alloc, b"hello")?;
-    let mut source = MemSource::new(bytes, 2, Calls::of(alloc, &[2])?);
-    let refused = read_all(alloc, &mut source, 5).err();
-    assert_eq!(rt; refused, Some(ReadRefusal::ReadFault));
+fn a_source_that_is_too_long_is_refused(rt: HostRuntime) -> Result<(), Fail> {
+    let mut long = source_of(rt.alloc(), b"hello!", 4, &[])?;
+    assert_eq!(rt;
+        refusal_of(rt.alloc(), &mut long),
+        Some(ReadRefusal::TooLong)
+    );
+    Ok(())
+}
+
+#[test]
+fn a_failing_read_in_mid_stream_is_told(rt: HostRuntime) -> Result<(), Fail> {
+    let mut source = source_of(rt.alloc(), b"hello", 2, &[2])?;
+    assert_eq!(rt;
+        refusal_of(rt.alloc(), &mut source),
+        Some(ReadRefusal::ReadFault)
+    );
     // The failed call took nothing, so the next goes on behind the first.
-    let rest = read_all(alloc, &mut source, 5)?;
+    let rest = read_all(rt.alloc(), &mut source, 5)?;
     assert_eq!(rt; rest.bytes(), b"llo".as_slice());
-    let mut sink = MemSink::new(alloc, 9, 3, Calls::of(alloc, &[2])?)?;
-    let fault = write_out(&mut sink, b"hello").err();
-    assert!(rt; fault.is_some_and(|f| f.written == 3));
-    let again = write_out(&mut sink, b"hello, hello").err();
-    assert!(rt; again.is_some_and(|f| f.written == 6));
+    Ok(())
+}
+
+/// How many bytes were written before a write failed.
+fn written_at_fault(rt: &impl Abort, sink: &mut MemSink, bytes: &[u8]) -> u64 {
+    let Err(fault) = write_out(sink, bytes) else {
+        panic!(rt; "no fault")
+    };
+    fault.written
+}
+
+#[test]
+fn a_failing_write_in_mid_stream_is_told(rt: HostRuntime) -> Result<(), Fail> {
+    let mut sink = MemSink::new(rt.alloc(), 9, 3, Calls::of(rt.alloc(), &[2])?)?;
+    assert_eq!(rt; written_at_fault(&rt, &mut sink, b"hello"), 3);
+    assert_eq!(rt; written_at_fault(&rt, &mut sink, b"hello, hello"), 6);
     assert_eq!(rt; sink.written(), b"helhello,".as_slice());
     Ok(())
 }

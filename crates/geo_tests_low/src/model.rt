@@ -3,31 +3,45 @@ use geo_model::{
     BioResult, ConsLine, ConsLines, GeomLine, MeshList, NameList, Outcome, ProvLine, ProvLines,
     Reply, Request,
 };
+use std::alloc::Global;
+use std::process::Abort;
 use std::test::Fail;
 
-fn provider(name: Name) -> ProvLine {
-    ProvLine {
+/// The name of everything here.
+fn md0(rt: &impl Abort) -> Name {
+    let Ok(name) = Name::new(b"md0") else {
+        panic!(rt; "a name")
+    };
+    name
+}
+
+/// A line of one provider.
+fn providers(alloc: Global, name: Name) -> Result<ProvLines, Fail> {
+    let mut lines = ProvLines::new(alloc);
+    lines.push(ProvLine {
         name,
         size: 2048,
         sector: 512,
         counts: Counts { r: 1, w: 0, e: 0 },
         errored: false,
-    }
+    })?;
+    Ok(lines)
 }
 
-#[test]
-fn lists_of_lines_are_kept_and_copied(rt: HostRuntime) -> Result<(), Fail> {
-    let alloc = rt.alloc();
-    let Ok(name) = Name::new(b"md0") else {
-        panic!(rt; "a name")
-    };
-    let mut providers = ProvLines::new(alloc);
-    providers.push(provider(name))?;
-    let mut consumers = ConsLines::new(alloc);
-    consumers.push(ConsLine {
+/// A line of one consumer.
+fn consumers(alloc: Global, name: Name) -> Result<ConsLines, Fail> {
+    let mut lines = ConsLines::new(alloc);
+    lines.push(ConsLine {
         prov: name,
         counts: Counts { r: 0, w: 1, e: 0 },
     })?;
+    Ok(lines)
+}
+
+/// A listing of one geom with a provider and a consumer.
+fn listing(alloc: Global, name: Name) -> Result<MeshList, Fail> {
+    let providers = providers(alloc, name)?;
+    let consumers = consumers(alloc, name)?;
     let mut mesh = MeshList::new(alloc);
     mesh.push(GeomLine {
         kind: Kind::Nop,
@@ -37,46 +51,100 @@ fn lists_of_lines_are_kept_and_copied(rt: HostRuntime) -> Result<(), Fail> {
         providers,
         consumers,
     })?;
-    let again = mesh.copy(alloc)?;
-    assert_eq!(rt; again.items().len(), 1);
-    assert_eq!(rt; again.items()[0].name.bytes(), b"md0".as_slice());
-    assert_eq!(rt; again.items()[0].providers.items()[0].size, 2048);
-    assert_eq!(rt; again.items()[0].consumers.items()[0].counts.w, 1);
+    Ok(mesh)
+}
+
+/// A listing is of that geom.
+fn assert_listed(rt: &impl Abort, mesh: &MeshList) {
+    let [line] = mesh.items() else {
+        panic!(rt; "one geom")
+    };
+    assert_eq!(rt; line.name.bytes(), b"md0".as_slice());
+    let [provider] = line.providers.items() else {
+        panic!(rt; "one provider")
+    };
+    assert_eq!(rt; provider.size, 2048);
+    let [consumer] = line.consumers.items() else {
+        panic!(rt; "one consumer")
+    };
+    assert_eq!(rt; consumer.counts.w, 1);
+}
+
+#[test]
+fn lists_of_lines_are_kept_and_copied(rt: HostRuntime) -> Result<(), Fail> {
+    let mesh = listing(rt.alloc(), md0(&rt))?;
+    let again = mesh.copy(rt.alloc())?;
+    assert_listed(&rt, &again);
     Ok(())
 }
 
 #[test]
-fn names_and_replies_are_copied(rt: HostRuntime) -> Result<(), Fail> {
-    let alloc = rt.alloc();
-    let Ok(name) = Name::new(b"md0") else {
-        panic!(rt; "a name")
-    };
-    let mut names = Vec::new(alloc);
-    names.push(name)?;
-    let names = NameList::from_vec(names).copy(alloc)?;
+fn names_are_copied(rt: HostRuntime) -> Result<(), Fail> {
+    let mut names = Vec::new(rt.alloc());
+    names.push(md0(&rt))?;
+    let names = NameList::from_vec(names).copy(rt.alloc())?;
     assert_eq!(rt; names.items().len(), 1);
     assert_eq!(rt; names.into_vec()[0].bytes(), b"md0".as_slice());
+    Ok(())
+}
+
+/// The copy of the outcome that asks a disk to write these bytes.
+fn asked(alloc: Global, bytes: Block) -> Result<Outcome, Fail> {
     let request = Request {
         disk: 1,
         cmd: BioCmd::Write,
         first: 2,
         count: 1,
-        bytes: Block::from_slice(alloc, b"ab")?,
+        bytes,
     };
-    let Outcome::Asked(asked) = Outcome::Asked(request).copy(alloc)? else {
+    Ok(Outcome::Asked(request).copy(alloc)?)
+}
+
+/// The outcome asks for these bytes.
+fn assert_asked(rt: &impl Abort, outcome: &Outcome, bytes: &[u8]) {
+    let Outcome::Asked(request) = outcome else {
         panic!(rt; "the same outcome")
     };
-    assert_eq!(rt; asked.bytes.bytes(), b"ab".as_slice());
-    let Reply::Bytes(bytes) = Reply::Bytes(asked.bytes).copy(alloc)? else {
+    assert_eq!(rt; request.bytes.bytes(), bytes);
+}
+
+#[test]
+fn a_request_is_copied(rt: HostRuntime) -> Result<(), Fail> {
+    let outcome = asked(rt.alloc(), Block::from_slice(rt.alloc(), b"ab")?)?;
+    assert_asked(&rt, &outcome, b"ab");
+    Ok(())
+}
+
+/// The reply is of these bytes.
+fn assert_replied(rt: &impl Abort, reply: &Reply, bytes: &[u8]) {
+    let Reply::Bytes(block) = reply else {
         panic!(rt; "the same reply")
     };
-    let BioResult::Bytes(bytes) = BioResult::Bytes(bytes).copy(alloc)? else {
+    assert_eq!(rt; block.bytes(), bytes);
+}
+
+#[test]
+fn a_reply_is_copied(rt: HostRuntime) -> Result<(), Fail> {
+    let reply = Reply::Bytes(Block::from_slice(rt.alloc(), b"ab")?);
+    let again = reply.copy(rt.alloc())?;
+    assert_replied(&rt, &again, b"ab");
+    Ok(())
+}
+
+/// A bio ended with these bytes.
+fn assert_ended(rt: &impl Abort, ended: &BioResult, bytes: &[u8]) {
+    let BioResult::Bytes(block) = ended else {
         panic!(rt; "the same result")
     };
-    assert_eq!(rt; bytes.bytes(), b"ab".as_slice());
-    let BioResult::Failed(errno) = BioResult::Failed(Errno::EIO).copy(alloc)? else {
-        panic!(rt; "the same error")
-    };
-    assert_eq!(rt; errno, Errno::EIO);
+    assert_eq!(rt; block.bytes(), bytes);
+}
+
+#[test]
+fn results_are_copied(rt: HostRuntime) -> Result<(), Fail> {
+    let result = BioResult::Bytes(Block::from_slice(rt.alloc(), b"ab")?);
+    let again = result.copy(rt.alloc())?;
+    assert_ended(&rt, &again, b"ab");
+    let failed = BioResult::Failed(Errno::EIO).copy(rt.alloc())?;
+    assert!(rt; matches!(failed, BioResult::Failed(Errno::EIO)));
     Ok(())
 }

@@ -2,20 +2,22 @@ use Rattle.std.proofs.Common.{◌≡◌, ◌⊎◌, ℕ, ◌+◌, ◌<◌, ◌�
 use Rattle.std.proofs.lemmas.Bool.{cases_eq, leb-true, leb-false}
 use Rattle.geo_slots.specs.Slots.{value_at}
 use Rattle.geo_mesh.specs.Rows.{passes}
-use Rattle.geo_mesh.specs.Ranks.{ranked_links, links, user, is_dev_or_taste, is_attached, IsFirst}
-use Rattle.geo_mesh.proofs.RankFirst.{attached-later, attached-linked, attached-ranked}
+use Rattle.geo_mesh.specs.Ranks.{ranked_links, links, user, is_dev_or_taste, is_attached, is_above, IsFirst}
+use Rattle.geo_mesh.proofs.RankFirst.{attached-later, attached-above, above-linked, attached-ranked}
 use Rattle.geo_mesh.proofs.ranks.ranked_consumer.Goals as goal
 
 pub returns-then-not-is_dev_or_taste : goal.returns-then-not-is_dev_or_taste
 returns-then-not-is_dev_or_taste c =
-    let first : IsFirst (is_attached c.args.prov) (links c.args.edges.now).rows c.args.edges.now.consumers.next
+    let first : IsFirst (is_above c.args.prov) (links c.args.edges.now).rows c.args.edges.now.consumers.next
     c.loop-cons.at c.in-Some.cons = c.in-Some.ensures in
     let later : is_dev_or_taste (user c.args.edges.now c.in-Some.cons) ≡ false =
     subst (λ x. is_dev_or_taste x ≡ false) c.user.ensures (sym c.is_dev_or_taste.ensures
     ∙ c.if-not-is_dev_or_taste.true) in
     record {
       past = omega (arith, first.past, c.loop-cons.invariant.past);
-      passing = attached-ranked c.args.edges.now c.args.prov c.in-Some.cons later first.passing;
+      passing =
+          attached-ranked c.args.edges.now c.args.prov c.in-Some.cons later
+          (above-linked c.args.edges.now c.args.prov c.in-Some.cons first.passing);
       least = λ m from_here there. pick m from_here there (nat_le c.loop-cons.at m) refl;
       known = first.known;
       bound = first.bound;
@@ -25,13 +27,13 @@ returns-then-not-is_dev_or_taste c =
         → passes (is_attached c.args.prov) (value_at (ranked_links c.args.edges.now).rows m) ≡ true → (b : Bool)
         → nat_le c.loop-cons.at m ≡ b → c.in-Some.cons ≤ m
     pick m from_here there true e =
-        c.in-Some.ensures.least m (leb-true c.loop-cons.at m e) (attached-linked c.args.edges.now c.args.prov m there)
+        c.in-Some.ensures.least m (leb-true c.loop-cons.at m e) (attached-above c.args.edges.now c.args.prov m there)
     pick m from_here there false e =
         absurd (c.loop-cons.invariant.none m from_here (leb-false c.loop-cons.at m e) there)
 
 pub loop-cons-preserved : goal.loop-cons-preserved
 loop-cons-preserved c =
-    let first : IsFirst (is_attached c.args.prov) (links c.args.edges.now).rows c.args.edges.now.consumers.next
+    let first : IsFirst (is_above c.args.prov) (links c.args.edges.now).rows c.args.edges.now.consumers.next
     c.loop-cons.at c.in-Some.cons = c.in-Some.ensures in
     record {
       past = omega (arith, first.past, c.loop-cons.invariant.past);
@@ -55,7 +57,7 @@ loop-cons-preserved c =
         absurd (omega (
           arith,
           c.in-Some.ensures.least m (leb-true c.loop-cons.at m e)
-              (attached-linked c.args.edges.now c.args.prov m there),
+              (attached-above c.args.edges.now c.args.prov m there),
           differs,
         ))
     pick m from_here low there (inr differs) false e =
@@ -66,6 +68,6 @@ returns c = λ m there. pick m there (nat_le c.args.from m) refl where
   pick : (m : ℕ) → passes (is_attached c.args.prov) (value_at (ranked_links c.args.edges.now).rows m) ≡ true
       → (b : Bool) → nat_le c.args.from m ≡ b → m < c.args.from
   pick m there true e =
-      let before : m < c.loop-cons.at = c.in_default.ensures m (attached-linked c.args.edges.now c.args.prov m there) in
+      let before : m < c.loop-cons.at = c.in_default.ensures m (attached-above c.args.edges.now c.args.prov m there) in
       absurd (c.loop-cons.invariant.none m (leb-true c.args.from m e) before there)
   pick m there false e = leb-false c.args.from m e

@@ -2,9 +2,9 @@ use Rattle.std.proofs.Common.{◌≡◌, true, sym, ap, subst, ◌∙◌, IfSome
 use Rattle.std.specs.Option.{option_map, option_copied}
 use Rattle.geo_model.specs.World.{is_waiting, children_among}
 use Rattle.geo_slots.specs.Slots.{value_at}
-use Rattle.geo_bio.specs.BioTable.{BioTableView, AreInOrder, bio_among}
+use Rattle.geo_bio.specs.BioTable.{BioTableView, AreInOrder, HasParent, bio_among}
 use Rattle.geo_bio.specs.Rows.{seen, KnowsChildren}
-use Rattle.geo_bio.proofs.GetLemmas.{family_told}
+use Rattle.geo_bio.proofs.GetLemmas.{family_told, parent_told}
 use Rattle.geo_bio.proofs.OrderLemmas.{in_order}
 use Rattle.geo_bio.proofs.TableLemmas.{bio_among-rows}
 use Rattle.geo_bio.proofs.table.BioTable.get.Goals as goal
@@ -22,6 +22,14 @@ returns-clause-family c =
     (option_copied c.get.result) found in
     subst (λ (v : BioTableView). IfSome (option_copied c.get.result) (λ x. is_waiting x.phase ≡ true
     → KnowsChildren c.args.bio (children_among v.bios c.args.bio) x)) c.self.view_is told
+
+pub returns-clause-parent : goal.returns-clause-parent
+returns-clause-parent c =
+    let found = c.get.ensures.value ∙ ap (value_at c.self.inside.bios.rows) c.number.ensures in
+    let told = parent_told c.self.inside.bios.rows c.self.inside.bios.next c.args.bio c.self.invariant
+    (option_copied c.get.result) found in
+    subst (λ (v : BioTableView). IfSome (option_copied c.get.result) (λ x. HasParent v.bios x.owner)) c.self.view_is
+    told
 
 pub returns-clause-in_order : goal.returns-clause-in_order
 returns-clause-in_order c =

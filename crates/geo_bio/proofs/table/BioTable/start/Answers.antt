@@ -21,14 +21,14 @@ pub split_bio-requires : goal.split_bio-requires
 split_bio-requires c =
     let children = c.in_ok-children-in-Some.ensures in
     let count = ap length children
-    ∙ ap length (λ i. children_for c.args.bio c.in-Some.parent.now 0 (c.items.ensures i)
-    (c.items-in-Some.ensures i))
+    ∙ ap length (λ i. children_for c.args.bio c.in-Some.parent.now 0 (c.items-items.ensures i)
+    (c.items.ensures i))
     ∙ length-children_for c.args.bio c.in-Some.parent.now 0 c.args.pieces.now.items
     c.args.targets.now.items c.requires.same_number in
     let long = c.in_ok-children-in-Some.children.ok in
     record {
       some = omega (arith, count, long, c.requires.some);
-      few = omega (arith, count, long, c.requires.few);
+      few = omega (arith, count, long, ap length c.items-items.ensures, c.if-items.false);
       room = omega (arith, c.in_ok-reserve.ensures.room, c.len.ensures);
     }
 
@@ -41,9 +41,10 @@ invariant_of-self-2 c =
     same_Some _ _ (sym (ap option_copied c.in-Some.is) ∙ c.get.ensures.value
     ∙ ap (value_at c.self.inside.bios.rows) c.number-number.ensures ∙ x.1) in
     let children_are = c.in_ok-children-in-Some.ensures
-    ∙ (λ i. children_for c.args.bio c.in-Some.parent.now 0 (c.items.ensures i) (c.items-in-Some.ensures i)) in
+    ∙ (λ i. children_for c.args.bio c.in-Some.parent.now 0 (c.items-items.ensures i) (c.items.ensures i)) in
     let split = is_split _ _ c.args.bio x.0 c.args.pieces.now.items c.args.targets.now.items c.self.invariant x.1
-    facts.0 facts.1 c.requires.same_number c.requires.few c.reserve.new.self c.split_bio.new.bios _
+    facts.0 facts.1 c.requires.same_number
+    (omega (arith, ap length c.items-items.ensures, c.if-items.false)) c.reserve.new.self c.split_bio.new.bios _
     c.in-Some.parent.now c.in_ok-children-in-Some.children.items c.reserve.ensures.values_stay parent_is
     children_are (rw c.number-number.ensures at c.split_bio.ensures.rows) c.split_bio.ensures.next in
     split.table
@@ -62,9 +63,10 @@ returns-clause-split c =
     same_Some _ _ (sym (ap option_copied c.in-Some.is) ∙ c.get.ensures.value
     ∙ ap (value_at c.self.inside.bios.rows) c.number-number.ensures ∙ x.1) in
     let children_are = c.in_ok-children-in-Some.ensures
-    ∙ (λ i. children_for c.args.bio c.in-Some.parent.now 0 (c.items.ensures i) (c.items-in-Some.ensures i)) in
+    ∙ (λ i. children_for c.args.bio c.in-Some.parent.now 0 (c.items-items.ensures i) (c.items.ensures i)) in
     let split = is_split _ _ c.args.bio x.0 c.args.pieces.now.items c.args.targets.now.items c.self.invariant x.1
-    facts.0 facts.1 c.requires.same_number c.requires.few c.reserve.new.self c.split_bio.new.bios _
+    facts.0 facts.1 c.requires.same_number
+    (omega (arith, ap length c.items-items.ensures, c.if-items.false)) c.reserve.new.self c.split_bio.new.bios _
     c.in-Some.parent.now c.in_ok-children-in-Some.children.items c.reserve.ensures.values_stay parent_is
     children_are (rw c.number-number.ensures at c.split_bio.ensures.rows) c.split_bio.ensures.next in
     rw (← c.self.view_is, bio_among-rows c.self.inside.bios.rows c.args.bio, x.1) split.seen_rows
@@ -78,9 +80,10 @@ returns-clause-next c =
     same_Some _ _ (sym (ap option_copied c.in-Some.is) ∙ c.get.ensures.value
     ∙ ap (value_at c.self.inside.bios.rows) c.number-number.ensures ∙ x.1) in
     let children_are = c.in_ok-children-in-Some.ensures
-    ∙ (λ i. children_for c.args.bio c.in-Some.parent.now 0 (c.items.ensures i) (c.items-in-Some.ensures i)) in
+    ∙ (λ i. children_for c.args.bio c.in-Some.parent.now 0 (c.items-items.ensures i) (c.items.ensures i)) in
     let split = is_split _ _ c.args.bio x.0 c.args.pieces.now.items c.args.targets.now.items c.self.invariant x.1
-    facts.0 facts.1 c.requires.same_number c.requires.few c.reserve.new.self c.split_bio.new.bios _
+    facts.0 facts.1 c.requires.same_number
+    (omega (arith, ap length c.items-items.ensures, c.if-items.false)) c.reserve.new.self c.split_bio.new.bios _
     c.in-Some.parent.now c.in_ok-children-in-Some.children.items c.reserve.ensures.values_stay parent_is
     children_are (rw c.number-number.ensures at c.split_bio.ensures.rows) c.split_bio.ensures.next in
     split.grows ∙ ap (λ v. v.next + length c.args.pieces.now.items) c.self.view_is
@@ -89,8 +92,8 @@ pub returns-clause-room : goal.returns-clause-room
 returns-clause-room c =
     let children = c.in_ok-children-in-Some.ensures in
     let count = ap length children
-    ∙ ap length (λ i. children_for c.args.bio c.in-Some.parent.now 0 (c.items.ensures i)
-    (c.items-in-Some.ensures i))
+    ∙ ap length (λ i. children_for c.args.bio c.in-Some.parent.now 0 (c.items-items.ensures i)
+    (c.items.ensures i))
     ∙ length-children_for c.args.bio c.in-Some.parent.now 0 c.args.pieces.now.items
     c.args.targets.now.items c.requires.same_number in
     let asked = c.len.ensures ∙ c.in_ok-children-in-Some.children.ok.0 ∙ count in

@@ -1,6 +1,7 @@
 use Rattle.std.specs.Prelude.{Some, None}
 use Rattle.std.proofs.Common.{refl}
-use Rattle.geo_handles.proofs.NumberLemmas.{value_at-set, with_value-twice, ready-set}
+use Rattle.geo_slots.proofs.RowLemmas.{value_at-set, with_value-twice}
+use Rattle.geo_handles.proofs.NumberLemmas.{ready-set}
 use Rattle.geo_handles.proofs.InsideLemmas.{inside-noted, noted-there}
 use Rattle.geo_handles.proofs.handles.Handles.set_ready.Goals as goal
 

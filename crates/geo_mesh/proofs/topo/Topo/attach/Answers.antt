@@ -3,7 +3,7 @@ use Rattle.geo_slots.specs.Slots.{value_at}
 use Rattle.geo_model.specs.Topology.{is_errored}
 use Rattle.geo_mesh.specs.Cells.{graph, put_consumer}
 use Rattle.geo_mesh.specs.Ranks.{HaveDevAndTaste, IsAdmitted, IsRefusedFor, offers, ranked_below, stored, owner, is_dev_or_taste}
-use Rattle.geo_mesh.proofs.IndexLemmas.{attached_free, attached_parent}
+use Rattle.geo_mesh.proofs.IndexLemmas.{attached_free, attached_parent, above_free, above_parent}
 use Rattle.geo_mesh.proofs.RankFirst.{first-two, kin-of}
 use Rattle.geo_mesh.proofs.RankMesh.{view-bare, mesh-walkable}
 use Rattle.geo_mesh.proofs.RankSwitch.{free-cell, free-at, user-cell, user-stands, provider-offered, admitted-mesh, admitted-free, on-refused}
@@ -47,6 +47,18 @@ attach-requires-clause-provider g c =
     (attached_parent (graph c.self.inside.tables) c.self.inside.tables.edges.index c.self.invariant.tables.indexed
     c.args.prov (rw (← c.self.view_is) at c.requires.provider))
 
+pub attach-requires-clause-free_above : goal.attach-requires-clause-free_above
+attach-requires-clause-free_above g c =
+    rw c.number-3.ensures
+    (above_free (graph c.self.inside.tables) c.self.inside.tables.edges.index c.self.invariant.tables.indexed
+    c.args.cons (rw (← c.self.view_is) at c.requires.consumer))
+
+pub attach-requires-clause-provider_above : goal.attach-requires-clause-provider_above
+attach-requires-clause-provider_above g c =
+    rw c.number-4.ensures
+    (above_parent (graph c.self.inside.tables) c.self.inside.tables.edges.index c.self.invariant.tables.indexed
+    c.args.prov (rw (← c.self.view_is) at c.requires.provider))
+
 pub invariant_of-self : goal.invariant_of-self
 invariant_of-self g c =
     whole-kept c.self.inside.tables c.self.invariant c.admit.new.geoms c.admit.ensures.same c.in-Err.ensures.kept
@@ -72,7 +84,7 @@ invariant_of-self-2 g c =
     (owner c.self.inside.tables.edges c.args.prov) (stored c.self.inside.tables.geoms)
     (stored c.admit.new.geoms) =
     rw (← upper, ← under) c.in_default.ensures.admitted in
-    rw (c.attach.ensures, c.number-3.ensures, c.number-4.ensures)
+    rw (c.attach.ensures, c.number-3.ensures, c.number-4.ensures, upper)
     (whole-attached c.self.inside.tables c.self.invariant c.args.cons c.consumer_mut.result.now
     c.consumer_mut.ensures.rising c.consumer_mut.ensures.cell c.admit.new.geoms c.admit.ensures.same c.args.prov
     (admitted-mesh c.self.inside.tables.geoms c.self.inside.tables.edges c.self.inside.tables.live

@@ -1,4 +1,5 @@
-use Rattle.std.proofs.Common.{◌-◌, sym}
+use Rattle.std.proofs.Common.{◌≡◌, ◌-◌, sym, subst, ◌∙◌}
+use Rattle.geo_slots.specs.Slots.{without}
 use Rattle.geo_slots.proofs.RowLemmas.{without_absent}
 use Rattle.geo_mesh.specs.Cells.{graph}
 use Rattle.geo_mesh.proofs.IndexLemmas.{offered_none, owned_none}
@@ -28,11 +29,13 @@ invariant_of-self g c =
       ← c.number.ensures,
       c.remove.ensures.removed,
     )
-    (whole-without_geom c.self.inside.tables c.self.invariant c.number.result c.in-Some._cell
+    (whole-without_geom c.self.inside.tables c.self.invariant c.number.result c.in-Some.cell c.remove-in-Some-2.new.self
     c.in-Some.ensures.rising (sym c.in-Some.ensures.value)
     (rw (← c.number.ensures) at c.requires.not_dev) (rw (← c.number.ensures) at c.requires.not_taste)
     (rw (← c.self.view_is, ← c.number.ensures) at c.requires.no_provider)
-    (rw (← c.self.view_is, ← c.number.ensures) at c.requires.no_consumer))
+    (rw (← c.self.view_is, ← c.number.ensures) at c.requires.no_consumer)
+    (subst (λ k. c.remove-in-Some-2.new.self ≡ record c.self.inside.tables.notes.named { rows = without c.self.inside.tables.notes.named.rows k; room = c.remove-in-Some-2.new.self.room }) (c.number-in-Some-3.ensures ∙ sym c.number.ensures) c.remove-in-Some-2.ensures.removed)
+    c.remove-in-Some-2.ensures.room)
 
 pub invariant_of-self-in_default : goal.invariant_of-self-in_default
 invariant_of-self-in_default g c =

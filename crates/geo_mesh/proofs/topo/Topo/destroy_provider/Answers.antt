@@ -2,14 +2,19 @@ use Rattle.std.proofs.Common.{sym, subst, ◌∙◌}
 use Rattle.geo_slots.proofs.RowLemmas.{without_absent}
 use Rattle.geo_mesh.specs.Cells.{graph}
 use Rattle.geo_mesh.specs.Names.{RemovesName}
-use Rattle.geo_mesh.proofs.IndexLemmas.{attached_none}
+use Rattle.geo_mesh.proofs.IndexLemmas.{attached_none, above_none}
 use Rattle.geo_mesh.proofs.ViewLemmas.{without_provider-view}
 use Rattle.geo_mesh.proofs.WholeParts.{whole-without_provider}
 use Rattle.geo_mesh.proofs.topo.Topo.destroy_provider.Goals as goal
 
-pub remove_provider-requires : goal.remove_provider-requires
-remove_provider-requires g c =
+pub remove_provider-requires-clause-none : goal.remove_provider-requires-clause-none
+remove_provider-requires-clause-none g c =
     attached_none (graph c.self.inside.tables) c.self.inside.tables.edges.index c.self.invariant.tables.indexed
+    c.number-in-Some-2.result (rw (← c.self.view_is, ← c.number-in-Some-2.ensures) at c.requires)
+
+pub remove_provider-requires-clause-none_above : goal.remove_provider-requires-clause-none_above
+remove_provider-requires-clause-none_above g c =
+    above_none (graph c.self.inside.tables) c.self.inside.tables.edges.index c.self.invariant.tables.indexed
     c.number-in-Some-2.result (rw (← c.self.view_is, ← c.number-in-Some-2.ensures) at c.requires)
 
 pub invariant_of-self : goal.invariant_of-self
@@ -26,7 +31,7 @@ invariant_of-self g c =
     )
     (whole-without_provider c.self.inside.tables c.self.invariant c.number.result c.in-Some.cell
     c.remove-in-Some.new.self c.in-Some.ensures.rising
-    (sym c.in-Some.ensures.value) c.remove-in-Some.ensures.ids
+    (sym c.in-Some.ensures.value)
     (subst (λ k. RemovesName c.self.inside.tables.names c.remove-in-Some.new.self c.in-Some.cell.provider.name k
     c.in-Some.cell.provider.errored)
     (c.number-in-Some.ensures ∙ sym c.number.ensures) c.remove-in-Some.ensures.removed)

@@ -8,7 +8,7 @@ returns-in-Some g c =
       ← c.self.view_is,
       c.new.ensures,
       find-names c.self.inside.tables c.self.inside.tables.names c.self.invariant.tables.names_are
-          c.self.invariant.tables.names_ids c.args.name.now,
+          c.args.name.now,
       ← c.in-Some.ensures,
     ) refl
 
@@ -17,7 +17,7 @@ returns-in-None g c =
     rw (
       ← c.self.view_is,
       find-names c.self.inside.tables c.self.inside.tables.names c.self.invariant.tables.names_are
-          c.self.invariant.tables.names_ids c.args.name.now,
+          c.args.name.now,
       ← c.in-None.ensures,
       ← c.newest.ensures,
     ) (search rules)

@@ -10,8 +10,8 @@ invariant_of-result g c =
       c.insert.ensures.inserted,
       c.new_cell-2.ensures,
       c.new_cell.ensures,
-      c.fixed_name-2.ensures,
-      c.fixed_name.ensures,
+      c.fixed_name-second.ensures,
+      c.fixed_name-first.ensures,
       c.reserve.ensures.values_stay,
       c.new-geoms.ensures,
       c.new.ensures,
@@ -29,6 +29,7 @@ invariant_of-result g c =
               offered = record { parents = refl; children = refl; next_parent = refl; next_child = refl };
               owned = record { parents = refl; children = refl; next_parent = refl; next_child = refl };
               attached = record { parents = refl; children = refl; next_parent = refl; next_child = refl };
+              above = record { parents = refl; children = refl; next_parent = refl; next_child = refl };
             };
             room = record {
               offered_parents = omega arith;
@@ -37,18 +38,28 @@ invariant_of-result g c =
               owned_children = omega arith;
               attached_parents = omega arith;
               attached_children = omega arith;
+              above_parents = omega arith;
+              above_children = omega arith;
             };
-            names_are = c.new-3.ensures.names;
-            names_ids = c.new-3.ensures.ids;
+            names_are = c.new-3.ensures;
             names_room = search rules;
             notes = record {
               risen = ap (λ m. m.rows) c.in_ok-notes.ensures.risen;
               fallen = ap (λ m. m.rows) c.in_ok-notes.ensures.fallen;
               withering = ap (λ m. m.rows) c.in_ok-notes.ensures.withering;
+              named =
+                  rw (c.fixed_name-second.ensures, c.fixed_name-first.ensures) at
+                  (ap (λ m. m.rows) c.in_ok-notes.ensures.named);
               risen_next = ap (λ m. m.next) c.in_ok-notes.ensures.risen;
               fallen_next = ap (λ m. m.next) c.in_ok-notes.ensures.fallen;
               withering_next = ap (λ m. m.next) c.in_ok-notes.ensures.withering;
-              room = record { risen = omega arith; fallen = omega arith; withering = omega (arith, few) };
+              named_next = ap (λ m. m.next) c.in_ok-notes.ensures.named;
+              room = record {
+                risen = omega arith;
+                fallen = omega arith;
+                withering = omega (arith, few);
+                named = omega (arith, few);
+              };
             };
           };
       ranks =

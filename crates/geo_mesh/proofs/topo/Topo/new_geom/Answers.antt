@@ -23,6 +23,7 @@ pub invariant_of-self-2 : goal.invariant_of-self-2
 invariant_of-self-2 g c =
     rw (c.insert-number.ensures.inserted, c.add_geom.ensures, c.add.ensures, c.new_cell.ensures)
     (whole-new_geom c.reserve.new.self c.reserve.ensures.whole
-    (made_cell c.args.kind c.args.name c.args.config c.args.automatic) refl refl refl
+    (made_cell c.args.kind c.args.name c.args.config c.args.automatic) c.add-2.new.self refl refl refl
     c.insert-number.ensures.rising (omega (arith, c.reserve.ensures.same.live, c.if-self-ge-MOST_GEOMS.false))
-    (rw c.insert-number.ensures.inserted at c.insert-number.ensures.bound))
+    (rw c.insert-number.ensures.inserted at c.insert-number.ensures.bound)
+    c.add-2.ensures.added c.add-2.ensures.room)

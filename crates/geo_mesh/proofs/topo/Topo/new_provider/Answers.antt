@@ -45,7 +45,7 @@ invariant_of-self-2 g c =
     (subst (λ g. is_name_taken g c.args.name ≡ false) (sym graph_is) c.requires.free) in
     rw (c.insert-number.ensures.inserted, c.add_provider.ensures, c.add-2.ensures, c.add-3.ensures, c.number.ensures)
     (whole-new_provider c.reserve.new.self c.reserve.ensures.whole _ c.add.new.self refl refl refl
-    c.add.ensures.ids free
+    free
     (subst (λ k. AddsName c.reserve.new.self.names c.add.new.self c.args.name k) c.insert-number.ensures.number
     c.add.ensures.added)
     (c.add.ensures.room _ c.reserve.ensures.whole.tables.names_room)

@@ -16,4 +16,4 @@ pub invariant_of-self : goal.invariant_of-self
 invariant_of-self g c =
     whole-geom_cell c.self.inside.tables c.self.invariant c.args.geom c.geom_mut.result.now _
     c.geom_mut.ensures.rising c.geom_mut.ensures.cell
-    (record { kind = refl; rank = refl }) refl
+    (record { kind = refl; name = refl; rank = refl }) refl

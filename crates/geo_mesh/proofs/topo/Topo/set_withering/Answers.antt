@@ -30,8 +30,8 @@ invariant_of-self g c =
     (whole-geom_noted c.self.inside.tables c.self.invariant c.args.geom c.geom_mut.result.now
     (record c.geom_mut.result.now { geom = record c.geom_mut.result.now.geom { withering = true } }) _
     c.geom_mut.ensures.rising c.geom_mut.ensures.cell
-    (record { kind = refl; rank = refl })
+    (record { kind = refl; name = refl; rank = refl })
     (notes-withering c.self.inside.tables.notes c.self.inside.tables.geoms c.self.inside.tables.edges.providers
-    c.args.geom (record c.geom_mut.result.now {
+    c.args.geom c.geom_mut.result.now (record c.geom_mut.result.now {
       geom = record c.geom_mut.result.now.geom { withering = true };
-    }) c.self.invariant.tables.notes))
+    }) c.geom_mut.ensures.rising c.geom_mut.ensures.cell refl c.self.invariant.tables.notes))

@@ -26,4 +26,4 @@ invariant_of-self g c =
     rw c.replace.ensures.after
     (whole-geom_cell c.self.inside.tables c.self.invariant c.args.geom c.geom_mut-cell.result.now _
     c.geom_mut-cell.ensures.rising c.geom_mut-cell.ensures.cell
-    (record { kind = refl; rank = refl }) refl)
+    (record { kind = refl; name = refl; rank = refl }) refl)

@@ -1,0 +1,4 @@
+pub mod Traffic
+pub mod Cursors
+pub mod Shown
+pub mod ShownLaws
