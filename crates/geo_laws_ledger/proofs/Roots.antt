@@ -19,6 +19,7 @@ use Rattle.geo_model.specs.Log.{Moment, after_entry}
 use Rattle.geo_model.specs.Results.{Covers, Leaf, entries_of, leaves, result_of}
 use Rattle.geo_model.specs.Graph.{AreNumbers}
 use Rattle.geo_model.specs.History.{Acceptance, CoversFrom, IsSuccess, is_reply_to}
+use Rattle.geo_model.proofs.DemandLemmas.{all_weaker}
 use Rattle.geo_laws_graph.proofs.Living.{all_members}
 use Rattle.geo_laws_graph.proofs.Members.{Contains-cases, Contains-map, find-Contains, nothing_in}
 use Rattle.geo_laws_graph.proofs.Numbered.{at-gone, at-kept, number_found, unique}
