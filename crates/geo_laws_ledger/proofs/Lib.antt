@@ -8,3 +8,4 @@ pub mod Starts
 pub mod AtDisk
 pub mod Takes
 pub mod Roots
+pub mod Replies
