@@ -19,7 +19,8 @@ use Rattle.geo_model.specs.Bios.{disk_at, disk_of_bio, request_of_bio, sector_of
 use Rattle.geo_model.specs.SoundBios.{IsBioInOrder, IsRangeInside}
 use Rattle.geo_model.specs.Results.{Leaf, sector_offsets, sectors_of_request}
 use Rattle.geo_laws_graph.proofs.Members.{find-Contains}
-use Rattle.geo_laws_ledger.specs.Covering.{CoversBy, CoversThere}
+use Rattle.geo_laws_maps.specs.Covers.{CoversBy}
+use Rattle.geo_laws_ledger.specs.Covering.{CoversThere}
 use Rattle.geo_laws_ledger.proofs.Covered.{number_of_found}
 
 -- a provider of a disk, with its geom

@@ -24,7 +24,8 @@ use Rattle.geo_laws_graph.proofs.Numbered.{filter-pushed_hit, number_found}
 use Rattle.geo_laws_bios.proofs.Items.{none_kept}
 use Rattle.geo_laws_histories.proofs.Looks.{entries_of_both}
 use Rattle.geo_laws_histories.proofs.Finished.{finished_stay}
-use Rattle.geo_laws_ledger.specs.Covering.{CoversBy, CoversThere, SameMap, SameMaps}
+use Rattle.geo_laws_maps.specs.Covers.{CoversBy}
+use Rattle.geo_laws_ledger.specs.Covering.{CoversThere, SameMap, SameMaps}
 use Rattle.geo_laws_ledger.specs.Ledger.{HasResult, IsCompleted, IsLogged, IsOnItsWay, IsSameRequest, Ledger}
 use Rattle.geo_laws_ledger.proofs.Covered.{covers_request, covers_stay}
 use Rattle.geo_laws_ledger.proofs.Quiet.{moment_of}

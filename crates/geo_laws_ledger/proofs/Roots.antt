@@ -29,7 +29,8 @@ use Rattle.geo_laws_histories.specs.Histories.{names_bio}
 use Rattle.geo_laws_histories.specs.Arrivals.{AcceptsNone}
 use Rattle.geo_laws_histories.proofs.Looks.{entries_of_both}
 use Rattle.geo_laws_histories.proofs.Finished.{finished_stay}
-use Rattle.geo_laws_ledger.specs.Covering.{CoversBy, CoversThere, SameMap, SameMaps}
+use Rattle.geo_laws_maps.specs.Covers.{CoversBy}
+use Rattle.geo_laws_ledger.specs.Covering.{CoversThere, SameMap, SameMaps}
 use Rattle.geo_laws_ledger.specs.Ledger.{HasResult, IsAccounted, IsCompleted, IsLogged, IsOnItsWay, IsSameRequest, Ledger, AcceptsAreAccounted}
 use Rattle.geo_laws_ledger.proofs.Covered.{covers_request, covers_stay}
 use Rattle.geo_laws_ledger.proofs.Logged.{GoesOn, logged_stays, never_so, result_stays}

@@ -4,14 +4,10 @@ use Rattle.geo_model.specs.Words.{is_flush}
 use Rattle.geo_model.specs.Topology.{Topology, Provider, provider_at}
 use Rattle.geo_model.specs.World.{World, Config, Bio}
 use Rattle.geo_model.specs.Place.{flat, ends}
-use Rattle.geo_model.specs.Results.{Leaf, CoversRange, CoversEnds}
+use Rattle.geo_model.specs.Results.{Leaf}
+use Rattle.geo_laws_maps.specs.Covers.{CoversBy}
 
--- leaves went exactly over the range of a bio, or a FLUSH to each disk below
-pub record CoversBy (w : World) (x : Bio) (p : Provider) (found : List Leaf) : Type 0 where
-  pub range : IsTrue (not (is_flush x.cmd)) → CoversRange w x p found
-  pub flush : IsTrue (is_flush x.cmd) → CoversEnds w x p found
-
--- so they did at the provider of the bio
+-- leaves went exactly over the range of a bio, at its provider
 abbrev pub CoversThere : World → Bio → List Leaf → Type 0
 CoversThere w x found = IsSomeAnd (provider_at w.topology x.target) (λ p. CoversBy w x p found)
 
