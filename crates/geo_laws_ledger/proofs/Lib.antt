@@ -9,3 +9,5 @@ pub mod AtDisk
 pub mod Takes
 pub mod Roots
 pub mod Replies
+pub mod Gathered
+pub mod Gathers
