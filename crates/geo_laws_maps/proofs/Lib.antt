@@ -1,0 +1,5 @@
+pub mod Opened
+pub mod MapSteps
+pub mod Levels
+pub mod SectorOffsets
+pub mod JoinedCovers
