@@ -1,6 +1,7 @@
 -- Classes that judge one sector.
-use Rattle.std.proofs.Common.{◌≡◌, ℕ, ◌*◌, Bool, List, Result, Ok, Err, true, false, refl}
-use Rattle.std.specs.Prelude.{if◌then◌else◌}
+use Rattle.std.proofs.Common.{◌≡◌, ℕ, ◌*◌, Bool, List, Option, Some, Result, Ok, Err, true, false, refl, sym, ap, ◌∙◌}
+use Rattle.std.specs.Option.{option_map, option_map_or}
+use Rattle.std.specs.Prelude.{unwrap_or, if◌then◌else◌}
 use Rattle.geo_base.specs.declared.decline.DeclineCause.{DeclineCause}
 use Rattle.geo_base.specs.declared.decline.DeclineCause.TheVariants as causes
 use Rattle.geo_base.specs.declared.kind.Kind.{Kind}
@@ -15,8 +16,10 @@ use Rattle.geo_model.specs.declared.class.Verdict.TheVariants.{Decline, More, Ac
 use Rattle.geo_model.specs.Acceptance.{is_other_size, judge, label_verdict, verdict_of}
 use Rattle.geo_model.specs.Records.{mbr_table, label_record, concat_record, stripe_record}
 use Rattle.geo_model.specs.Tasting.{verdict_on}
-use Rattle.geo_model.specs.World.{Asked, Taste}
-use Rattle.geo_class.specs.Taste.{after_verdict, ended}
+use Rattle.geo_model.specs.Chain.{Chain}
+use Rattle.geo_model.specs.declared.step.BioResult.TheVariants.{Bytes, Done, Failed}
+use Rattle.geo_model.specs.World.{Asked, NoClass, NextSector, ReadOut, ReadBack, Taste}
+use Rattle.geo_class.specs.Taste.{after_back, after_verdict, chain_with, ended, sector_back, settled, verdict_back, verdict_with, weighed}
 
 module _ (granted : ℕ → Counts) (s : Taste) (kind : Kind) (bytes : List ℕ) (f : Facts) where
   after-found : {A : Type 0} (shape : A → Shape) (found : Result A DeclineCause)
@@ -70,3 +73,92 @@ pub after-moved : (granted : ℕ → Counts) (s : Taste) (asked : Asked) (kind :
 after-moved granted s asked kind bytes f (More sector) = wanting-moved granted s asked kind bytes f sector
 after-moved granted s asked kind bytes f (Decline cause) = refl
 after-moved granted s asked kind bytes f (Accept shape) = refl
+
+-- a verdict needs of the taste the chain alone
+verdict-chain : (granted : ℕ → Counts) (s : Taste) (kind : Kind) (bytes : List ℕ) (f : Facts)
+    → verdict_with s.chain kind bytes f ≡ verdict_on granted s kind bytes f
+verdict-chain granted s kinds.Ebr bytes f = refl
+verdict-chain granted s _ bytes f = refl
+
+-- each class but EBR judges one sector, and has no chain
+pub with-judge : (c : Chain) (kind : Kind) (bytes : List ℕ) (f : Facts) → (kind ≡ kinds.Ebr → ⊥)
+    → judge kind bytes f ≡ verdict_with c kind bytes f
+with-judge c kinds.Ebr bytes f other = absurd (other refl)
+with-judge c _ bytes f other = refl
+
+pub chain-stays : (c : Chain) (kind : Kind) (bytes : List ℕ) (f : Facts) (v : Verdict) → (kind ≡ kinds.Ebr → ⊥)
+    → c ≡ chain_with c kind bytes f v
+chain-stays c kinds.Ebr bytes f v other = absurd (other refl)
+chain-stays c kinds.Disk bytes f v other = refl
+chain-stays c kinds.Dev bytes f v other = refl
+chain-stays c kinds.Taste bytes f v other = refl
+chain-stays c kinds.Mbr bytes f v other = refl
+chain-stays c kinds.Label bytes f v other = refl
+chain-stays c kinds.Concat bytes f v other = refl
+chain-stays c kinds.Stripe bytes f v other = refl
+chain-stays c kinds.Nop bytes f v other = refl
+
+-- an accepted sector leaves the chain
+chain-accepted : (c : Chain) (kind : Kind) (bytes : List ℕ) (f : Facts) (shape : Shape)
+    → chain_with c kind bytes f (Accept shape) ≡ c
+chain-accepted c kinds.Disk bytes f shape = refl
+chain-accepted c kinds.Dev bytes f shape = refl
+chain-accepted c kinds.Taste bytes f shape = refl
+chain-accepted c kinds.Mbr bytes f shape = refl
+chain-accepted c kinds.Ebr bytes f shape = refl
+chain-accepted c kinds.Label bytes f shape = refl
+chain-accepted c kinds.Concat bytes f shape = refl
+chain-accepted c kinds.Stripe bytes f shape = refl
+chain-accepted c kinds.Nop bytes f shape = refl
+
+-- where more is wanted, the taste is the one after the verdict
+more-chain : (granted : ℕ → Counts) (s : Taste) (kind : Kind) (bytes : List ℕ) (f : Facts) (sector : ℕ)
+    → record s { asked = NextSector kind sector; chain = chain_with s.chain kind bytes f (More sector) }
+    ≡ after_verdict granted s kind bytes f (More sector)
+more-chain granted s kinds.Disk bytes f sector = refl
+more-chain granted s kinds.Dev bytes f sector = refl
+more-chain granted s kinds.Taste bytes f sector = refl
+more-chain granted s kinds.Mbr bytes f sector = refl
+more-chain granted s kinds.Ebr bytes f sector = refl
+more-chain granted s kinds.Label bytes f sector = refl
+more-chain granted s kinds.Concat bytes f sector = refl
+more-chain granted s kinds.Stripe bytes f sector = refl
+more-chain granted s kinds.Nop bytes f sector = refl
+
+-- a sector that is back was asked for
+back-is : (a : Asked) (kind : Kind) (bytes : List ℕ) → sector_back a ≡ Some (kind, bytes)
+    → a ≡ ReadBack kind (Bytes bytes)
+back-is NoClass kind bytes never = absurd (cc)
+back-is (NextSector k n) kind bytes never = absurd (cc)
+back-is (ReadOut k) kind bytes never = absurd (cc)
+back-is (ReadBack k (Bytes b)) kind bytes is =
+    ap (λ (x : Kind × List ℕ). ReadBack x.0 (Bytes x.1)) (ap (λ o. unwrap_or o (k, b)) is)
+back-is (ReadBack k Done) kind bytes never = absurd (cc)
+back-is (ReadBack k (Failed e)) kind bytes never = absurd (cc)
+
+module _ (granted : ℕ → Counts) (s : Taste) (kind : Kind) (bytes : List ℕ) (f : Facts)
+    (is : sector_back s.asked ≡ Some (kind, bytes)) where
+  -- what the class says
+  pub weighed-verdict : Some (verdict_with s.chain kind bytes f) ≡ verdict_back granted s f
+  weighed-verdict =
+      ap (λ v. Some v) (verdict-chain granted s kind bytes f)
+      ∙ sym (ap (option_map (λ (x : Kind × List ℕ). verdict_on granted s x.0 x.1 f)) is)
+
+  -- the taste after the verdict
+  back-after : (v : Verdict) → v ≡ verdict_with s.chain kind bytes f
+      → after_verdict granted s kind bytes f v ≡ after_back granted s f
+  back-after v same =
+      ap (after_verdict granted s kind bytes f) (same ∙ verdict-chain granted s kind bytes f)
+      ∙ sym (ap (λ o. option_map_or
+      (λ (x : Kind × List ℕ). after_verdict granted s x.0 x.1 f (verdict_on granted s x.0 x.1 f)) o (ended s)) is)
+
+  -- and what the taste is
+  pub weighed-taste : (v : Verdict) → v ≡ verdict_with s.chain kind bytes f
+      → settled (record s { asked = NoClass; chain = chain_with s.chain kind bytes f v }) kind bytes v
+      ≡ weighed granted s f (Some v)
+  weighed-taste (More sector) same = more-chain granted s kind bytes f sector ∙ back-after (More sector) same
+  weighed-taste (Decline cause) same = back-after (Decline cause) same
+  weighed-taste (Accept shape) same =
+      ap (λ c. record s { asked = ReadBack kind (Bytes bytes); chain = c })
+      (chain-accepted s.chain kind bytes f shape)
+      ∙ ap (λ a. record s { asked = a }) (sym (back-is s.asked kind bytes is))

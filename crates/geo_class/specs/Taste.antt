@@ -3,7 +3,9 @@ use Rattle.std.specs.Prelude.{ℕ, List, [], ◌∷◌, Option, Some, None}
 use Rattle.std.specs.Option.{option_map, option_map_or}
 use Rattle.geo_base.specs.declared.kind.Kind.{Kind}
 use Rattle.geo_base.specs.declared.request.Counts.{Counts}
-use Rattle.geo_model.specs.Chain.{no_links, with_link}
+use Rattle.geo_base.specs.declared.kind.Kind.TheVariants as kinds
+use Rattle.geo_model.specs.Acceptance.{judge}
+use Rattle.geo_model.specs.Chain.{Chain, no_links, with_link, feed}
 use Rattle.geo_model.specs.declared.class.Facts.{Facts}
 use Rattle.geo_model.specs.declared.class.Verdict.{Verdict}
 use Rattle.geo_model.specs.declared.class.Verdict.TheVariants.{Decline, More, Accept}
@@ -40,6 +42,22 @@ with_link_of s f bytes (More sector) = record s { chain = with_link f.sectors s.
 with_link_of s f bytes (Decline cause) = s
 with_link_of s f bytes (Accept shape) = s
 
+-- what a class says to the bytes of a sector, where EBR has read this chain
+abbrev pub verdict_with : Chain → Kind → List ℕ → Facts → Verdict
+verdict_with c kinds.Ebr bytes f = feed f.sectors c bytes
+verdict_with c kind bytes f = judge kind bytes f
+
+-- the chain after that verdict: EBR keeps the link where another one is wanted
+abbrev pub chain_with : Chain → Kind → List ℕ → Facts → Verdict → Chain
+chain_with c kinds.Ebr bytes f (More sector) = with_link f.sectors c bytes
+chain_with c kind bytes f verdict = c
+
+-- the taste once a verdict on the bytes of a sector is known: a sector that is accepted is kept
+abbrev pub settled : Taste → Kind → List ℕ → Verdict → Taste
+settled s kind bytes (More sector) = record s { asked = NextSector kind sector }
+settled s kind bytes (Decline cause) = ended s
+settled s kind bytes (Accept shape) = record s { asked = ReadBack kind (Bytes bytes) }
+
 module _ (granted : ℕ → Counts) where
   -- what the class that is asked says to the sector that is back, if one is
   abbrev pub verdict_back : Taste → Facts → Option Verdict
@@ -59,3 +77,8 @@ module _ (granted : ℕ → Counts) where
       (λ x. after_verdict s x.0 x.1 f (verdict_on granted s x.0 x.1 f))
       (sector_back s.asked)
       (ended s)
+
+  -- the taste once that verdict is known, where an accepted sector is kept
+  abbrev pub weighed : Taste → Facts → Option Verdict → Taste
+  weighed s f (Some (Accept shape)) = s
+  weighed s f verdict = after_back s f

@@ -6,9 +6,10 @@ ghost use Rattle.geo_model.specs.Bios.{read_back};
 ghost use Rattle.geo_model.specs.Chain.{feed, no_links};
 ghost use Rattle.geo_model.specs.Events.{tasting_classes};
 ghost use Rattle.geo_model.specs.Tasting.{verdict_on};
-ghost use Rattle.geo_model.specs.World.{NoClass, ReadOut, NextSector, is_read_out};
+ghost use Rattle.geo_model.specs.World.{NoClass, ReadBack, ReadOut, NextSector, is_read_out};
+ghost use Rattle.geo_model.specs.declared.step.BioResult.TheVariants.{Bytes as BytesValue};
 ghost use Rattle.geo_ebr.specs.ChainView.{chain_after, verdict_of};
-ghost use Rattle.geo_class.specs.Taste.{after_back, after_verdict, asked_of, ended, sector_back, verdict_back, with_link_of, with_next};
+ghost use Rattle.geo_class.specs.Taste.{after_back, after_verdict, asked_of, chain_with, ended, sector_back, settled, verdict_back, verdict_with, weighed, with_link_of, with_next};
 
 use crate::verdict::judge;
 use geo_base::{Block, ConsId, Kind, ProvId};
@@ -85,6 +86,19 @@ fn judge_chain(chain: &mut Chain, sector: &[u8], facts: &Facts) -> Verdict
 {
     chain.set_sectors(facts.sectors);
     verdict_of(chain.feed(sector))
+}
+
+/// What a class says to the bytes of a sector; EBR says it together with the links that were read, and keeps the link
+/// where another one is wanted.
+fn weigh(chain: &mut Chain, kind: Kind, sector: &[u8], facts: &Facts) -> Verdict
+    requires { 512 ≤ length sector.now }
+    ensures verdict { result ≡ verdict_with chain.old.chain kind sector.now facts.now }
+    ensures chain { chain.new.chain ≡ chain_with chain.old.chain kind sector.now facts.now result }
+{
+    match kind {
+        Kind::Ebr => judge_chain(chain, sector, facts),
+        _ => judge(kind, sector, facts),
+    }
 }
 
 impl Taste {
@@ -264,5 +278,54 @@ impl Taste {
                 None
             }
         }
+    }
+
+    /// What a class says to the bytes of a sector; EBR keeps the link where another one is wanted, and else all stays.
+    fn weigh(&mut self, kind: Kind, sector: &[u8], facts: &Facts) -> Verdict
+        requires { 512 ≤ length sector.now }
+        ensures verdict { result ≡ verdict_with self.old.chain kind sector.now facts.now }
+        ensures taste { self.new
+            ≡ record self.old { chain = chain_with self.old.chain kind sector.now facts.now result } }
+    {
+        weigh(&mut self.chain, kind, sector, facts)
+    }
+
+    /// A class has this sector back.
+    fn put_back(&mut self, kind: Kind, sector: Block)
+        ensures { self.new ≡ record self.old { asked = ReadBack kind (BytesValue sector) } }
+    {
+        self.asked = Asked::ReadBack {
+            kind,
+            got: BioResult::Bytes(sector),
+        };
+    }
+
+    /// A verdict on a sector is known: where it is accepted it is kept.
+    fn settle(&mut self, kind: Kind, sector: Block, verdict: &Verdict)
+        ensures { self.new ≡ settled self.old kind sector verdict.now }
+    {
+        match verdict {
+            Verdict::More(next) => self.want_next(kind, *next),
+            Verdict::Decline(_) => self.end_class(),
+            Verdict::Accept(_) => self.put_back(kind, sector),
+        }
+    }
+
+    /// As `judge_back`, but where the class accepts the sector the taste stays as it is, and the class is done with only
+    /// at `end_class`: so what it found can be made, and nothing is forgotten where that fails.
+    pub fn weigh_back(&mut self, facts: &Facts) -> Option<Verdict>
+        requires { IfSome (sector_back self.old.asked) (λ x. 512 ≤ length x.1) }
+        ensures verdict { (granted : ℕ → CountsValue)
+            → result ≡ verdict_back granted self.old facts.now }
+        ensures taste { (granted : ℕ → CountsValue)
+            → self.new ≡ weighed granted self.old facts.now result }
+    {
+        let Some((kind, block)) = self.take_sector() else {
+            self.end_class();
+            return None;
+        };
+        let verdict = self.weigh(kind, block.bytes(), facts);
+        self.settle(kind, block, &verdict);
+        Some(verdict)
     }
 }

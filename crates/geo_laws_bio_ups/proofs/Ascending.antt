@@ -39,19 +39,19 @@ module _ (w : World) (firm : Firm w) (x y : Bio) (index : ℕ) (found : bio_at w
   hold = bios_of w firm
 
   -- the world in which the child is Done
-  abbrev gathered : World
+  abbrev pub gathered : World
   gathered = turn w x phases.Done (λ r. r)
 
   -- whether a bio is the child
-  abbrev is_it : Bio → Bool
+  abbrev pub is_it : Bio → Bool
   is_it c = c.number == x.number
 
   -- how it is changed
-  abbrev ended_one : Bio → Bio
+  abbrev pub ended_one : Bio → Bio
   ended_one = turned phases.Done (λ r. r)
 
   -- the children of the parent
-  abbrev cs : List Bio
+  abbrev pub cs : List Bio
   cs = children_of w y.number
 
   -- the child is one of them
@@ -89,7 +89,7 @@ module _ (w : World) (firm : Firm w) (x y : Bio) (index : ℕ) (found : bio_at w
   over_by c false e same done = or_right (is_up c.phase) (is_done c.phase) (rw e at done)
 
   -- each child of the parent
-  over : (c : Bio) → Contains cs c → (is_up c.phase || is_done c.phase) ≡ true
+  pub over : (c : Bio) → Contains cs c → (is_up c.phase || is_done c.phase) ≡ true
   over c here =
       let stands = filter-Contains (λ (v : Bio). is_child_of v.owner y.number) w.bios c here in
       over_by c (is_it c) refl (at_contained (λ (v : Bio). is_it v ≡ true → v ≡ x) w.bios c only stands.0)
@@ -112,13 +112,13 @@ module _ (w : World) (firm : Firm w) (x y : Bio) (index : ℕ) (found : bio_at w
   family = All-contains (IsFamilyInOrder w) w.bios y hold.families y_stands
 
   -- what the children came to is what they come to then
-  same_results : child_results gathered y.number ≡ map got cs
+  pub same_results : child_results gathered y.number ≡ map got cs
   same_results =
       ap (λ (vs : List Bio). map got vs) (children_kept w x phases.Done (λ r. r) y.number)
       ∙ map-changed is_it ended_one got (λ c e. refl) cs
 
   -- the result of the parent
-  abbrev result : BioResult
+  abbrev pub result : BioResult
   result = joined_result y.cmd (child_results gathered y.number)
 
   -- it fits
@@ -130,7 +130,7 @@ module _ (w : World) (firm : Firm w) (x y : Bio) (index : ℕ) (found : bio_at w
       results_there (family.pieces waits))
 
   -- the bios then are those without the children, the parent Up
-  same_bios : (complete_parent gathered y).bios ≡ (completed w y result).bios
+  pub same_bios : (complete_parent gathered y).bios ≡ (completed w y result).bios
   same_bios =
       let goes : not (is_child_of x.owner y.number) ≡ false = rw is_child refl in
       filter-changed (λ (v : Bio). v.number == y.number) (turned phases.Up (λ r. Some result))
@@ -151,7 +151,7 @@ module _ (w : World) (firm : Firm w) (x y : Bio) (index : ℕ) (found : bio_at w
       (completed_hold w y result hold there own none_waits fits))
 
   -- the parent isn't the child
-  apart : y.number ≢ x.number
+  pub apart : y.number ≢ x.number
   apart same =
       let here : bio_at w x.number ≡ Some y = subst (λ (n : ℕ). bio_at w n ≡ Some y) same there in
       let one : y ≡ x = cc in
@@ -160,7 +160,7 @@ module _ (w : World) (firm : Firm w) (x y : Bio) (index : ℕ) (found : bio_at w
       cc
 
   -- the parent is found as it was
-  found_then : bio_at gathered y.number ≡ Some y
+  pub found_then : bio_at gathered y.number ≡ Some y
   found_then = at-unchanged (λ (v : Bio). v.number) ended_one (λ v. refl) x.number y.number apart w.bios ∙ there
 
   -- so the last child goes up

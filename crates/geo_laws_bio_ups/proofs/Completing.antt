@@ -58,11 +58,11 @@ module _ (w : World) (y : Bio) (result : BioResult) where
   staying = filter (λ z. not (is_gone z)) w.bios
 
   -- whether a bio is it
-  abbrev is_it : Bio → Bool
+  abbrev pub is_it : Bio → Bool
   is_it z = z.number == y.number
 
   -- how it is changed
-  abbrev risen : Bio → Bio
+  abbrev pub risen : Bio → Bio
   risen = turned phases.Up (λ r. Some result)
 
   -- the world in which it is Up with a result, and has no children

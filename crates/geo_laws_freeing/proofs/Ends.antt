@@ -15,11 +15,10 @@ use Rattle.geo_model.specs.SoundBios.{IsBioInOrder, HasCountFor}
 use Rattle.geo_model.specs.Fitting.{Firm}
 use Rattle.geo_laws_graph.proofs.Found.{removed-consumer}
 use Rattle.geo_laws_counts.proofs.LimitFacts.{all_of}
-use Rattle.geo_laws_counts.proofs.Quiet.{granted_wants_nothing}
 use Rattle.geo_laws_less.proofs.Found.{found-with, one-found}
 use Rattle.geo_laws_less.proofs.LessBios.{no_count}
-use Rattle.geo_laws_tastes.proofs.Asking.{none_granted}
-use Rattle.geo_laws_tastes.proofs.Tasters.{tasting, taster, taster_found, taster_holds, taster_grant}
+use Rattle.geo_laws_tastes.proofs.Ending.{wants_none}
+use Rattle.geo_laws_tastes.proofs.Tasters.{tasting, taster, taster_found}
 use Rattle.geo_laws_offering.proofs.Frees.{consumer-found, provider-found}
 
 module _ (w : World) (firm : Firm w) (s : Taste) (is : w.taste ≡ Some s) (none : is_read_out s.asked ≡ false) where
@@ -31,11 +30,6 @@ module _ (w : World) (firm : Firm w) (s : Taste) (is : w.taste ≡ Some s) (none
   abbrev d : Consumer
   d = taster w firm s is
 
-  -- it wants nothing
-  wants_none : want (granted_in w) t d ≡ no_counts
-  wants_none = granted_wants_nothing (granted_in w) t d (taster_grant w firm s is ∙ none_granted s d.number none)
-      (taster_holds w firm s is)
-
   -- no bio is from it
   no_bio_from : (x : Bio) → Contains w.bios x → x.source ≢ d.number
   no_bio_from x here same =
@@ -44,7 +38,7 @@ module _ (w : World) (firm : Firm w) (s : Taste) (is : w.taste ≡ Some s) (none
       let there : consumer_at t d.number ≡ Some c.item = subst (λ n. consumer_at t n ≡ Some c.item) same c.is in
       let one : d ≡ c.item = one-found (consumer_at t d.number) d c.item (taster_found w firm s is) there in
       let idle : want (granted_in w) t c.item ≡ no_counts =
-      subst (λ z. want (granted_in w) t z ≡ no_counts) one wants_none in
+      subst (λ z. want (granted_in w) t z ≡ no_counts) one (wants_none w firm s is none) in
       no_count (is_read x.cmd) (want (granted_in w) t c.item).r (want (granted_in w) t c.item).w
       (ap (λ a. a.r) idle) (ap (λ a. a.w) idle) c.fact.1
 
@@ -60,7 +54,7 @@ module _ (w : World) (firm : Firm w) (s : Taste) (is : w.taste ≡ Some s) (none
         let one : d ≡ c = one-found (consumer_at t d.number) d c (taster_found w firm s is) there in
         subst (GoesIdle w e) one (record {
           no_bio = all_of (λ (x : Bio). x.source ≢ d.number) w.bios no_bio_from;
-          closed = inl (ap is_zero wants_none);
+          closed = inl (ap is_zero (wants_none w firm s is none));
         })
     consumer-idle c here gone (inr apart) =
         let found : consumer_at t c.number ≡ Some c = consumer-found w firm c here in

@@ -1,5 +1,5 @@
 -- What a close, a reap and each other command of a handle destroy was closed and idle.
-use Rattle.std.specs.Prelude.{◌≡◌, ◌≢◌, ◌⊎◌, ℕ, ◌==◌, Bool, true, false, not, ◌||◌, List, [], ◌∷◌, find, Option, Some, None, All, Contains, is_some, option_map, if◌then◌else◌}
+use Rattle.std.specs.Prelude.{◌≡◌, ◌≢◌, ◌⊎◌, ℕ, ◌==◌, Bool, true, false, not, ◌||◌, List, [], ◌∷◌, find, Option, Some, None, All, Contains, is_some, if◌then◌else◌}
 use Rattle.std.specs.Option.{option_map_or}
 use Rattle.std.proofs.Common.{inl, inr, refl, sym, ◌∙◌, ap, subst}
 use Rattle.std.proofs.lemmas.Bool.{eq-eqb, cases_eq}
@@ -19,10 +19,12 @@ use Rattle.geo_model.specs.Log.{after_entry}
 use Rattle.geo_model.specs.History.{GoesIdle, FreesOnlyIdle}
 use Rattle.geo_model.specs.Fitting.{Firm}
 use Rattle.geo_laws_graph.proofs.Members.{filter-Contains}
-use Rattle.geo_laws_graph.proofs.Lists.{changed, find-changed, found_itself}
+use Rattle.geo_laws_graph.proofs.Lists.{changed, find-changed}
 use Rattle.geo_laws_graph.proofs.Found.{removed-consumer}
-use Rattle.geo_laws_graph.proofs.Living.{found-before, sound-order}
+use Rattle.geo_laws_graph.proofs.Living.{found-before}
 use Rattle.geo_laws_counts.proofs.LimitFacts.{all_of}
+use Rattle.geo_laws_offering.proofs.Quiet.{none-before}
+use Rattle.geo_laws_offering.proofs.Frees.{consumer-found, provider-found}
 use Rattle.geo_laws_closes.proofs.Released.{AreReleased, no_source}
 use Rattle.geo_laws_closes.proofs.Closed.{others, others_released, has_dev, one_holder}
 use Rattle.geo_laws_closes.proofs.Reaped.{after, after_released}
@@ -43,11 +45,6 @@ offers-keep (p ∷ ps) q =
     offers-keep ps (offer_again q p)
     ∙ either-keeps (is_errored q.topology p || option_map_or (λ (g : Geom Config). g.withering)
     (geom_of_provider q.topology p) true) q (post q (events.NewProvider p)) refl
-
--- what is nothing after a change was nothing
-none-before : {X Y : Type 0} (f : X → Y) (o : Option X) → option_map f o ≡ None → o ≡ None
-none-before f None e = refl
-none-before f (Some x) e = absurd (let bad : ⊥ = cc in bad)
 
 -- from the one graph to the other geoms and providers stay, and what isn't found wasn't
 pub record Keeps (t u : Topology Config) : Type 0 where
@@ -88,25 +85,13 @@ module _ (w : World) (firm : Firm w) where
   abbrev t : Topology Config
   t = w.topology
 
-  -- a consumer that stands is found
-  consumer-found : (c : Consumer) → Contains t.consumers c → consumer_at t c.number ≡ Some c
-  consumer-found c here =
-      found_itself (λ (x : Consumer). x.number) t.next_consumer t.consumers c
-      (sound-order w firm.sound.numbers).consumers here
-
-  -- so is a provider
-  provider-found : (p : Provider) → Contains t.providers p → provider_at t p.number ≡ Some p
-  provider-found p here =
-      found_itself (λ (x : Provider). x.number) t.next_provider t.providers p
-      (sound-order w firm.sound.numbers).providers here
-
   -- where the graph keeps its parts, nothing goes
   pub nothing-goes : (after : World) (Lost : Consumer → Type 0) → Keeps t after.topology → LosesOnly w after Lost
   nothing-goes after Lost keeps = record {
     geoms = keeps.geoms;
     providers = keeps.providers;
     consumers = λ c here gone.
-        let found : consumer_at t c.number ≡ Some c = consumer-found c here in
+        let found : consumer_at t c.number ≡ Some c = consumer-found w firm c here in
         let not_found : consumer_at t c.number ≡ None = keeps.consumers c.number gone in
         absurd (let bad : ⊥ = cc in bad);
   }
@@ -124,7 +109,7 @@ module _ (w : World) (firm : Firm w) where
   frees-idle e loses = record {
     consumers = loses.consumers;
     providers = λ p here gone.
-        let found : provider_at t p.number ≡ Some p = provider-found p here in
+        let found : provider_at t p.number ≡ Some p = provider-found w firm p here in
         let not_found : provider_at t p.number ≡ None =
         subst (λ (ps : List Provider). find (λ (x : Provider). x.number == p.number) ps ≡ None)
         loses.providers gone in
@@ -149,7 +134,7 @@ module _ (w : World) (firm : Firm w) where
         geoms = marked.geoms;
         providers = marked.providers;
         consumers = λ c here gone.
-            let found : consumer_at t c.number ≡ Some c = consumer-found c here in
+            let found : consumer_at t c.number ≡ Some c = consumer-found w firm c here in
             let still = found-before (λ (x : Consumer). x.number == c.number) t.consumers
             (record { number = t.next_consumer; geom = 1; provider = Some p; spoiled = false } ∷ []) c found in
             let not_found = marked.consumers c.number gone in
@@ -183,9 +168,9 @@ module _ (w : World) (firm : Firm w) where
             → (c.number ≡ d.number) ⊎ (c.number ≢ d.number)
             → IsLetGo w (after_close w (record w { topology = remove_consumer t d.number; handles = hs })) h c
         by c c_here gone (inl same) =
-            let found : consumer_at t c.number ≡ Some c = consumer-found c c_here in
+            let found : consumer_at t c.number ≡ Some c = consumer-found w firm c c_here in
             let there : consumer_at t c.number ≡ Some d =
-            subst (λ n. consumer_at t n ≡ Some d) (sym same) (consumer-found d d_here) in
+            subst (λ n. consumer_at t n ≡ Some d) (sym same) (consumer-found w firm d d_here) in
             let one : d ≡ c = cc in
             subst (IsLetGo w (after_close w (record w { topology = remove_consumer t d.number; handles = hs })) h)
             one
@@ -197,7 +182,7 @@ module _ (w : World) (firm : Firm w) where
               none_after = none;
             })
         by c c_here gone (inr apart) =
-            let found : consumer_at t c.number ≡ Some c = consumer-found c c_here in
+            let found : consumer_at t c.number ≡ Some c = consumer-found w firm c c_here in
             let same = removed-consumer.others t d.number c.number apart in
             absurd (let bad : ⊥ = cc in bad)
 

@@ -1,9 +1,8 @@
 -- What a close, a reap and each other command of a handle offer for taste lives.
-use Rattle.std.specs.Prelude.{◌≡◌, ℕ, ◌<◌, ◌==◌, nat_lt, Bool, true, false, ◌||◌, List, [], ◌∷◌, ◌++◌, length, count_by, Option, Some, None, Ok, Err, IfSome, IsSomeAnd, is_some, option_and_then, slice_get, if◌then◌else◌}
+use Rattle.std.specs.Prelude.{◌≡◌, ℕ, ◌<◌, ◌==◌, nat_lt, Bool, true, false, ◌||◌, List, [], ◌∷◌, length, count_by, Option, Some, None, Ok, Err, IfSome, IsSomeAnd, is_some, option_and_then, slice_get, if◌then◌else◌}
 use Rattle.std.specs.Option.{option_map_or}
 use Rattle.std.proofs.Common.{refl, sym, ◌∙◌, ap, subst, arith}
 use Rattle.std.proofs.lemmas.Bool.{eqb-true, or_parts, ltb-true, ltb-false}
-use Rattle.std.proofs.lemmas.List.Sums.{length-filter}
 use Rattle.geo_base.specs.declared.errno.Errno.{Errno}
 use Rattle.geo_base.specs.declared.request.BioCmd.TheVariants as cmds
 use Rattle.geo_base.specs.declared.request.Counts.{Counts}
@@ -33,7 +32,8 @@ use Rattle.geo_model.specs.Log.{world_after}
 use Rattle.geo_model.specs.History.{first_command, next_command}
 use Rattle.geo_model.specs.Laws.{world_by}
 use Rattle.geo_model.specs.Steady.{is_offer_of, OffersOnlyLiving}
-use Rattle.geo_laws_graph.proofs.Numbered.{filter-pushed}
+use Rattle.geo_laws_offering.proofs.Quiet.{not-counted}
+use Rattle.geo_laws_offering.proofs.Offers.{stands-by}
 use Rattle.geo_laws_handles.specs.CommandLaws.{is_of_handles}
 use Rattle.geo_laws_handle_facts.specs.FactLaws.{HandlesOfferLiving}
 use Rattle.geo_laws_handle_facts.proofs.Freed.{offers-keep, either-keeps}
@@ -41,20 +41,6 @@ use Rattle.geo_laws_handle_facts.proofs.Freed.{offers-keep, either-keeps}
 -- a provider without an error, of a geom that stands and doesn't wither
 abbrev IsLiving : Topology Config → ℕ → Type 0
 IsLiving t p = (is_errored t p ≡ false) × IsSomeAnd (geom_of_provider t p) (λ g. g.withering ≡ false)
-
--- a geom that is found and doesn't wither
-stands-by : (o : Option (Geom Config)) → option_map_or (λ g. g.withering) o true ≡ false
-    → IsSomeAnd o (λ g. g.withering ≡ false)
-stands-by None e = absurd (let bad : ⊥ = cc in bad)
-stands-by (Some g) e = e
-
--- an event that isn't such an offer isn't counted
-not-counted : (p : ℕ) (queue : List Event) (e : Event) → is_offer_of p e ≡ false
-    → count_by (is_offer_of p) (queue ++ e ∷ []) ≡ count_by (is_offer_of p) queue
-not-counted p queue e other =
-    sym (length-filter (is_offer_of p) (queue ++ e ∷ []))
-    ∙ ap (λ (es : List Event). length es) (filter-pushed (is_offer_of p) queue e other)
-    ∙ length-filter (is_offer_of p) queue
 
 -- spoils offer nothing
 spoils-count : (granted : ℕ → Counts) (p : ℕ) (ps : List ℕ) (q : QueuedTopology Config)

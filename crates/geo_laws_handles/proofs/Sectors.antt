@@ -1,24 +1,15 @@
 -- Records with short names fill a sector.
-use Rattle.std.specs.Prelude.{◌≡◌, ℕ, ◌-◌, ◌≤◌, nat_le, ◌&&◌, List, ◌++◌, length, replicate, Option, Some, None}
+use Rattle.std.specs.Prelude.{◌≡◌, ℕ, ◌≤◌, nat_le, ◌&&◌, List, ◌++◌, length, Option, Some, None}
 use Rattle.std.specs.Int.{w16, w32, w64, to_le_bytes}
 use Rattle.std.specs.List.{list_all}
 use Rattle.std.proofs.Common.{inl, inr, refl, arith, length-append}
 use Rattle.std.proofs.lemmas.Bool.{and_parts, leb-true}
-use Rattle.std.proofs.lemmas.List.{length-replicate}
 use Rattle.geo_base.specs.Name.{is_word_byte}
 use Rattle.geo_base.specs.Sectors.{IsSectorSize}
 use Rattle.geo_model.specs.Plans.{IsShortName}
 use Rattle.geo_model.specs.Records.{padded, record_head, label_magic, label_head, concat_magic, stripe_magic}
+use Rattle.geo_model.proofs.RecordLemmas.{length-padded}
 use Rattle.geo_laws_handles.specs.RequestLaws.{RecordsFillSectors}
-
--- padded bytes are as many as they are to be
-padded-length : (n : ℕ) (bytes : List ℕ) → length bytes ≤ n → length (padded n bytes) ≡ n
-padded-length n bytes few =
-    omega (
-      arith,
-      length-append bytes (replicate (n - length bytes) 0),
-      length-replicate {A = ℕ} (n - length bytes) 0,
-    )
 
 -- a short name has at most 16 bytes
 name-length : (name : List ℕ) → IsShortName name → length name ≤ 16
@@ -47,7 +38,7 @@ head-length magic version name long short =
       length-append magic (to_le_bytes w32 version ++ padded 16 name),
       length-append (to_le_bytes w32 version) (padded 16 name),
       bytes_4 version,
-      padded-length 16 name (name-length name short),
+      length-padded 16 name (name-length name short),
     )
 
 -- a sector size is one of two
@@ -105,15 +96,15 @@ stripe-length name id place count stripe short =
 pub records_fill_sectors : RecordsFillSectors
 records_fill_sectors = record {
   label = λ size x is short.
-      padded-length size (label_head x.name x.size)
+      length-padded size (label_head x.name x.size)
       (let few = label-length x.name x.size short in let enough = sector-by size is in omega arith);
   concat = λ size x is short.
-      padded-length size
+      length-padded size
       (record_head concat_magic 1 x.name
       ++ (to_le_bytes w32 x.id ++ (to_le_bytes w16 x.place ++ to_le_bytes w16 x.count)))
       (let few = concat-length x.name x.id x.place x.count short in let enough = sector-by size is in omega arith);
   stripe = λ size x is short.
-      padded-length size
+      length-padded size
       (record_head stripe_magic 1 x.name
       ++ (to_le_bytes w32 x.id
       ++ (to_le_bytes w16 x.place ++ (to_le_bytes w16 x.count ++ to_le_bytes w32 x.stripe))))

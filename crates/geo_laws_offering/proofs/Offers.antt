@@ -124,7 +124,7 @@ offered-adds q g name size sector order upright =
     offer-adds q g sector q name size order upright (quiet-adds q q (quiet-same q))
 
 -- a geom that is found and doesn't wither
-stands-by : (o : Option (Geom Config)) → option_map_or (λ g. g.withering) o true ≡ false
+pub stands-by : (o : Option (Geom Config)) → option_map_or (λ g. g.withering) o true ≡ false
     → IsSomeAnd o (λ g. g.withering ≡ false)
 stands-by None e = absurd (let bad : ⊥ = cc in bad)
 stands-by (Some g) e = e

@@ -17,7 +17,7 @@ use Rattle.geo_laws_graph.proofs.Numbered.{filter-pushed}
 use Rattle.geo_laws_offering.specs.OfferingLaws.{StaysThere, OnlyAdds}
 
 -- what is nothing after a change was nothing
-none-before : {X Y : Type 0} (f : X → Y) (o : Option X) → option_map f o ≡ None → o ≡ None
+pub none-before : {X Y : Type 0} (f : X → Y) (o : Option X) → option_map f o ≡ None → o ≡ None
 none-before f None e = refl
 none-before f (Some x) e = absurd (let bad : ⊥ = cc in bad)
 

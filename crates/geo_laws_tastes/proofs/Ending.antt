@@ -1,16 +1,16 @@
 -- A taste of which no read is out ends: its consumer goes, and a firm world stays firm.
-use Rattle.std.specs.Prelude.{◌≡◌, ◌≢◌, ◌⊎◌, ◌↔◌, ℕ, ◌<◌, ◌≤◌, ◌==◌, ◌%◌, Bool, true, false, not, ◌&&◌, List, [], ◌∷◌, filter, find, Option, Some, None, All, Contains, IsSome, IsSomeAnd, IfSome, IsTrue, MatchOption, option_and_then}
-use Rattle.std.specs.List.{list_any, AllByRecursion}
+use Rattle.std.specs.Prelude.{◌≡◌, ◌≢◌, ◌⊎◌, ℕ, ◌<◌, ◌≤◌, ◌==◌, ◌%◌, true, false, not, [], filter, find, Option, Some, None, All, Contains, IsSome, IsSomeAnd, IfSome, IsTrue, MatchOption, option_and_then}
+use Rattle.std.specs.List.{list_any}
 use Rattle.std.specs.Option.{option_map_or}
 use Rattle.std.proofs.Common.{inl, inr, refl, sym, ◌∙◌, ap, subst, arith}
 use Rattle.std.proofs.lemmas.Bool.{eq-eqb, eqb-true, ne_eqb, cases_eq}
-use Rattle.std.proofs.lemmas.List.Elements.{All-contains, All-weaker, All-filter}
+use Rattle.std.proofs.lemmas.List.Elements.{All-weaker, All-filter}
 use Rattle.geo_base.specs.declared.request.Counts.{Counts}
 use Rattle.geo_model.specs.declared.step.Owner.{Owner}
 use Rattle.geo_model.specs.declared.step.Owner.TheVariants as owners
 use Rattle.geo_model.specs.Words.{names_number, is_read}
 use Rattle.geo_model.specs.Topology.{Topology, Geom, Provider, Consumer, geom_at, provider_at, consumer_at, providers_of, consumers_of, remove_consumer}
-use Rattle.geo_model.specs.Demand.{have, want, is_zero, is_exclusive, fits_limit, no_counts}
+use Rattle.geo_model.specs.Demand.{have, want, is_zero, no_counts}
 use Rattle.geo_model.specs.Place.{Spot, place, component, components, disk_of}
 use Rattle.geo_model.specs.Acceptance.{places_of}
 use Rattle.geo_model.specs.World.{World, Config, Handle, Taste, Bio, granted_in, taste_grant, is_read_out, is_taste_root}
@@ -28,16 +28,11 @@ use Rattle.geo_laws_rank_changes.proofs.Holding.{sound-ranks}
 use Rattle.geo_laws_counts.specs.CountWords.{DemandStays}
 use Rattle.geo_laws_counts.proofs.Quiet.{granted_wants_nothing}
 use Rattle.geo_laws_demands.proofs.Openers.{went_quietly}
-use Rattle.geo_laws_less.proofs.Found.{found-with, some-with, if-found, at-found, one-found, all_zip-weaker}
+use Rattle.geo_laws_less.proofs.Found.{found-with, some-with, if-found, at-found, one-found, all_zip-weaker, keeps_all}
 use Rattle.geo_laws_less.proofs.LessBios.{no_count}
 use Rattle.geo_laws_effects.proofs.Killed.{grants-same}
 use Rattle.geo_laws_tastes.proofs.Asking.{none_granted}
-use Rattle.geo_laws_tastes.proofs.Tasters.{order, live, taste_config, not_of_taste, tasting, taster, taster_here, taster_geom, taster_found, taster_only, taster_holds, taster_grant}
-
--- a test that all items pass keeps them all
-keeps_all : {X : Type 0} (test : X → Bool) (xs : List X) → AllByRecursion (λ x. test x ≡ true) xs → filter test xs ≡ xs
-keeps_all test [] facts = refl
-keeps_all test (x ∷ xs) facts = rw (facts.0, keeps_all test xs facts.1) refl
+use Rattle.geo_laws_tastes.proofs.Tasters.{order, live, taste_config, not_of_taste, tasting, taster, taster_geom, taster_found, taster_only, taster_holds, taster_grant}
 
 module _ (w : World) (firm : Firm w) (s : Taste) (is : w.taste ≡ Some s) (none : is_read_out s.asked ≡ false) where
   -- the graph before
@@ -65,7 +60,7 @@ module _ (w : World) (firm : Firm w) (s : Taste) (is : w.taste ≡ Some s) (none
       (sym (none_granted s c none) ∙ sym (ap (λ (o : Option Taste). taste_grant o c) is))
 
   -- the consumer wants nothing
-  wants_none : want (granted_in w) t d ≡ no_counts
+  pub wants_none : want (granted_in w) t d ≡ no_counts
   wants_none = granted_wants_nothing (granted_in w) t d (taster_grant w firm s is ∙ none_granted s d.number none)
       (taster_holds w firm s is)
 

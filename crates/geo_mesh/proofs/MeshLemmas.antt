@@ -1,10 +1,9 @@
 -- What the tables, the count and the index of a mesh keep, after each call.
-use Rattle.std.proofs.Common.{◌≡◌, ℕ, ◌+◌, ◌-◌, ◌≤◌, ◌<◌, ◌==◌, List, [], ◌∷◌, ◌++◌, map, false, true, find, Some, None, sym, refl, ap, ◌∙◌, subst, arith, Bool, length-append}
+use Rattle.std.proofs.Common.{◌≡◌, ℕ, ◌+◌, ◌-◌, ◌≤◌, ◌<◌, ◌==◌, List, [], ◌∷◌, ◌++◌, map, false, true, find, Some, None, sym, refl, ap, ◌∙◌, subst, arith, length-append}
 use Rattle.std.specs.Prelude.{max, length}
 use Rattle.std.specs.Option.{option_map}
 use Rattle.std.proofs.lemmas.List.{map-append, length-map}
 use Rattle.geo_slots.specs.Slots.{IsRising, value_at, without, with_insert}
-use Rattle.geo_family.specs.Family.{is_parent}
 use Rattle.geo_model.specs.Words.{change_where}
 use Rattle.geo_model.specs.Topology.{Provider, provider_at, add_geom, add_provider, add_consumer}
 use Rattle.geo_mesh.specs.declared.records.GeomCell.{GeomCell}

@@ -1,0 +1,33 @@
+use Rattle.std.proofs.Common.{Some, sym, ap, ◌∙◌}
+use Rattle.geo_model.specs.World.{Taste}
+use Rattle.geo_class.specs.Taste.{chain_with, settled, verdict_with}
+use Rattle.geo_class.proofs.TasteLemmas.{weighed-verdict, weighed-taste}
+use Rattle.geo_class.proofs.taste.Taste.weigh_back.Goals as goal
+
+pub returns-clause-verdict : goal.returns-clause-verdict
+returns-clause-verdict c granted =
+    ap (λ v. Some v)
+    (c.weigh-verdict.ensures.verdict
+    ∙ ap (λ b. verdict_with c.take_sector.new.self.chain c.in-Some.kind b c.args.facts.now) c.bytes.ensures
+    ∙ ap (λ (s : Taste). verdict_with s.chain c.in-Some.kind c.in-Some.block c.args.facts.now)
+    c.take_sector.ensures.taste)
+    ∙ weighed-verdict granted c.args.self.now c.in-Some.kind c.in-Some.block c.args.facts.now
+    (sym c.in-Some.ensures.sector)
+
+pub returns-clause-taste : goal.returns-clause-taste
+returns-clause-taste c granted =
+    c.settle.ensures
+    ∙ ap (λ s. settled s c.in-Some.kind c.in-Some.block c.weigh-verdict.result)
+    (c.weigh-verdict.ensures.taste
+    ∙ ap (λ b. record c.take_sector.new.self {
+      chain = chain_with c.take_sector.new.self.chain c.in-Some.kind b c.args.facts.now c.weigh-verdict.result;
+    }) c.bytes.ensures
+    ∙ ap (λ (s : Taste). record s {
+      chain = chain_with s.chain c.in-Some.kind c.in-Some.block c.args.facts.now c.weigh-verdict.result;
+    }) c.take_sector.ensures.taste)
+    ∙ weighed-taste granted c.args.self.now c.in-Some.kind c.in-Some.block c.args.facts.now
+    (sym c.in-Some.ensures.sector) c.weigh-verdict.result
+    (c.weigh-verdict.ensures.verdict
+    ∙ ap (λ b. verdict_with c.take_sector.new.self.chain c.in-Some.kind b c.args.facts.now) c.bytes.ensures
+    ∙ ap (λ (s : Taste). verdict_with s.chain c.in-Some.kind c.in-Some.block c.args.facts.now)
+    c.take_sector.ensures.taste)
