@@ -1,23 +1,21 @@
 -- The result of a Waiting bio whose children are all back, and what it covers.
-use Rattle.std.specs.Prelude.{◌≡◌, ℕ, zero, suc, ◌+◌, Bool, true, false, List, [], ◌∷◌, ◌++◌, length, map, flat_map, Option, Some, None, IsSomeAnd, All, Contains, IsTrue, unwrap_or}
-use Rattle.std.specs.List.{AllByRecursion, range_with_len}
+use Rattle.std.specs.Prelude.{◌≡◌, ℕ, ◌+◌, List, [], ◌∷◌, ◌++◌, length, map, flat_map, Option, Some, None, All, unwrap_or}
+use Rattle.std.specs.List.{AllByRecursion}
 use Rattle.std.proofs.Common.{refl, sym, ◌∙◌, ap, subst, arith}
 use Rattle.std.proofs.lemmas.List.Elements.{All-from_recursion, recursion_from_All}
 use Rattle.geo_base.specs.declared.errno.Errno.{Errno}
 use Rattle.geo_base.specs.declared.request.BioCmd.{BioCmd}
 use Rattle.geo_model.specs.declared.step.BioResult.{BioResult}
 use Rattle.geo_model.specs.declared.step.BioResult.TheVariants as results
-use Rattle.geo_model.specs.declared.step.Outcome.TheVariants as outcomes
-use Rattle.geo_model.specs.Words.{◌>>=◌, is_read}
+use Rattle.geo_model.specs.Words.{◌>>=◌}
 use Rattle.geo_model.specs.World.{World, Bio, children_of}
 use Rattle.geo_model.specs.Bios.{first_failure, joined_result}
 use Rattle.geo_model.specs.Log.{Moment}
-use Rattle.geo_model.specs.Results.{Leaf, all_there, children_in, entries_of, leaves, leaves_by, leaves_within, result_by, result_of, result_within, start_moment}
+use Rattle.geo_model.specs.Results.{all_there, leaves, leaves_within, result_of, result_within, start_moment}
 use Rattle.geo_model.specs.History.{IsSuccess}
 use Rattle.geo_laws_histories.specs.Histories.{AreTaken}
 use Rattle.geo_laws_histories.proofs.Finished.{leaves_within_stay, within_stays}
 use Rattle.geo_laws_histories.proofs.Looks.{start_stays}
-use Rattle.geo_laws_maps.specs.Covers.{CoversBy}
 use Rattle.geo_laws_ledger.specs.Covering.{CoversThere}
 use Rattle.geo_laws_ledger.specs.Ledger.{HasResult, WasSplit}
 use Rattle.geo_laws_ledger.proofs.Answered.{leaves_at, result_at}

@@ -1,5 +1,5 @@
 -- The Up of a child keeps the ledger: it is Done, and the last one brings up its parent with the joined result.
-use Rattle.std.specs.Prelude.{◌≡◌, ◌≢◌, ℕ, ◌+◌, ◌<◌, ◌≤◌, ◌==◌, ◌&&◌, ◌||◌, Bool, true, false, not, List, [], ◌∷◌, ◌++◌, map, flat_map, filter, find, Option, Some, None, option_map, MatchOption, IsSomeAnd, All, Contains, IsTrue}
+use Rattle.std.specs.Prelude.{◌≡◌, ◌≢◌, ℕ, ◌<◌, ◌≤◌, ◌==◌, ◌&&◌, ◌||◌, Bool, true, false, not, List, [], ◌∷◌, ◌++◌, map, filter, find, Option, Some, None, option_map, MatchOption, IsSomeAnd, All, Contains}
 use Rattle.std.specs.List.{AllByRecursion}
 use Rattle.std.proofs.Common.{refl, sym, ◌∙◌, ap, append-nil, subst, arith}
 use Rattle.std.proofs.lemmas.Bool.{both_ways, eq-eqb, eqb-true, ne_eqb, not-true, or_left}
@@ -14,10 +14,9 @@ use Rattle.geo_model.specs.declared.step.Phase.TheVariants as phases
 use Rattle.geo_model.specs.declared.step.Step.TheVariants as steps
 use Rattle.geo_model.specs.World.{World, Bio, bio_at, change_number, children_of, is_child_of, is_done, is_up, is_waiting}
 use Rattle.geo_model.specs.Bios.{complete_parent, is_complete, joined_result}
-use Rattle.geo_model.specs.SoundBios.{IsFamilyInOrder}
 use Rattle.geo_model.specs.Steady.{ComesFromItsOwner}
 use Rattle.geo_model.specs.Log.{Moment, after_entry}
-use Rattle.geo_model.specs.Results.{entries_of, leaves, result_of}
+use Rattle.geo_model.specs.Results.{leaves}
 use Rattle.geo_model.specs.Fitting.{Firm}
 use Rattle.geo_model.specs.History.{Acceptance, IsSuccess, is_reply, is_reply_to}
 use Rattle.geo_model.proofs.DemandLemmas.{all_weaker}
@@ -29,20 +28,20 @@ use Rattle.geo_laws_graph.proofs.Spared.{IsSpared, filter-spared, find-spared}
 use Rattle.geo_laws_bios.specs.BioSteps.{turn}
 use Rattle.geo_laws_bios.proofs.Items.{all_both, all_changed, none_passes}
 use Rattle.geo_laws_bio_ups.proofs.Ascending.{apart, gathered, over, result, same_bios, same_results}
-use Rattle.geo_laws_bio_ups.proofs.Completing.{completed, not_own_child, risen}
+use Rattle.geo_laws_bio_ups.proofs.Completing.{not_own_child, risen}
 use Rattle.geo_laws_bio_pieces.proofs.Joined.{got}
 use Rattle.geo_laws_maps.proofs.JoinedCovers.{joined_covers}
 use Rattle.geo_laws_histories.specs.Histories.{names_bio}
 use Rattle.geo_laws_histories.specs.Arrivals.{AcceptsNone}
 use Rattle.geo_laws_histories.proofs.Finished.{finished_stay}
 use Rattle.geo_laws_ledger.specs.Covering.{CoversThere, SameMap, SameMaps}
-use Rattle.geo_laws_ledger.specs.Ledger.{AcceptsAreAccounted, HasResult, IsAccounted, IsCompleted, IsLogged, IsOnItsWay, IsSameRequest, Ledger, SoFar, WasSplit}
+use Rattle.geo_laws_ledger.specs.Ledger.{AcceptsAreAccounted, HasResult, IsAccounted, IsCompleted, IsLogged, IsOnItsWay, Ledger, SoFar, WasSplit}
 use Rattle.geo_laws_ledger.proofs.Covered.{covers_request, covers_stay}
 use Rattle.geo_laws_ledger.proofs.Logged.{logged_stays, never_so}
 use Rattle.geo_laws_ledger.proofs.Accounted.{completed_stays, on_its_way_stays}
-use Rattle.geo_laws_ledger.proofs.Quiet.{accounted_quietly, moment_of, taken_quietly}
-use Rattle.geo_laws_ledger.proofs.Turning.{IsNewChild, Turns, turned_keeps}
-use Rattle.geo_laws_ledger.proofs.Starts.{in_phase, keeps_phase, keeps_up}
+use Rattle.geo_laws_ledger.proofs.Quiet.{moment_of, taken_quietly}
+use Rattle.geo_laws_ledger.proofs.Turning.{IsNewChild, turned_keeps}
+use Rattle.geo_laws_ledger.proofs.Starts.{in_phase, keeps_phase}
 use Rattle.geo_laws_ledger.proofs.Roots.{up_names_it}
 use Rattle.geo_laws_ledger.proofs.Gathered.{IsBack, children_cover, joined_now, leaves_now}
 

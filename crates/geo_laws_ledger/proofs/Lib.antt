@@ -11,3 +11,5 @@ pub mod Roots
 pub mod Replies
 pub mod Gathered
 pub mod Gathers
+pub mod Ups
+pub mod Stepped

@@ -1,13 +1,11 @@
 -- The reply to an accepted bio is its first, to its line, and its result, which if successful covers it.
-use Rattle.std.specs.Prelude.{◌≡◌, ◌≢◌, ℕ, ◌+◌, ◌≤◌, ◌==◌, ◌&&◌, Bool, true, false, not, List, [], ◌∷◌, ◌++◌, length, map, filter, count_by, Option, Some, None, IsSomeAnd, All, Contains, IsTrue, unwrap_or}
-use Rattle.std.specs.List.{list_any}
+use Rattle.std.specs.Prelude.{◌≡◌, ℕ, true, false, List, [], ◌∷◌, ◌++◌, length, count_by, Option, Some, None, IsSomeAnd, Contains}
 use Rattle.std.proofs.Common.{inl, inr, refl, sym, ◌∙◌, ap, subst, arith}
 use Rattle.std.proofs.lemmas.Bool.{both_ways, eq-eqb}
-use Rattle.std.proofs.lemmas.List.Elements.{All-contains, All-map, Contains-append_cases, recursion_from_All}
+use Rattle.std.proofs.lemmas.List.Elements.{All-contains, All-map, Contains-append_cases}
 use Rattle.std.proofs.lemmas.List.Sums.{length-filter}
 use Rattle.geo_model.specs.declared.step.BioResult.{BioResult}
 use Rattle.geo_model.specs.declared.step.Entry.{Entry}
-use Rattle.geo_model.specs.declared.step.Outcome.{Outcome}
 use Rattle.geo_model.specs.declared.step.Outcome.TheVariants as outcomes
 use Rattle.geo_model.specs.declared.step.Owner.TheVariants as owners
 use Rattle.geo_model.specs.declared.step.Reply.{Reply}
@@ -16,20 +14,19 @@ use Rattle.geo_model.specs.Topology.{Provider, provider_at}
 use Rattle.geo_model.specs.World.{World, Bio, bio_at}
 use Rattle.geo_model.specs.Bios.{reply_of_result}
 use Rattle.geo_model.specs.Log.{Moment}
-use Rattle.geo_model.specs.Results.{Covers, CoversEnds, CoversRange, Leaf, entries_of, is_up_of, leaves, result_of}
-use Rattle.geo_model.specs.Graph.{AreNumbers}
-use Rattle.geo_model.specs.History.{Acceptance, CoversFrom, IsSuccess, RepliesWithResult, is_reply, is_reply_to}
+use Rattle.geo_model.specs.Results.{Covers, CoversEnds, CoversRange, Leaf, entries_of, leaves, result_of}
+use Rattle.geo_model.specs.History.{Acceptance, CoversFrom, IsSuccess, RepliesWithResult, is_reply_to}
 use Rattle.geo_laws_graph.proofs.Members.{All-from_contained, Contains-cases, nothing_in}
 use Rattle.geo_laws_graph.proofs.Numbered.{filter-pushed_hit, number_found}
 use Rattle.geo_laws_bios.proofs.Items.{none_kept}
 use Rattle.geo_laws_histories.proofs.Looks.{entries_of_both}
 use Rattle.geo_laws_histories.proofs.Finished.{finished_stay}
 use Rattle.geo_laws_maps.specs.Covers.{CoversBy}
-use Rattle.geo_laws_ledger.specs.Covering.{CoversThere, SameMap, SameMaps}
+use Rattle.geo_laws_ledger.specs.Covering.{CoversThere}
 use Rattle.geo_laws_ledger.specs.Ledger.{HasResult, IsCompleted, IsLogged, IsOnItsWay, IsSameRequest, Ledger}
 use Rattle.geo_laws_ledger.proofs.Covered.{covers_request, covers_stay}
 use Rattle.geo_laws_ledger.proofs.Quiet.{moment_of}
-use Rattle.geo_laws_ledger.proofs.Roots.{Leaves, leaves_keep, same_map_back, same_request_back}
+use Rattle.geo_laws_ledger.proofs.Roots.{same_map_back, same_request_back}
 
 -- of what a bio covers in the world of now, from the world of its acceptance
 pub covers_then : (h : List Moment) (w : World) (a : Acceptance) (x : Bio) (found : List Leaf) → x.number ≡ a.bio

@@ -1,40 +1,26 @@
 -- The Up of a root keeps the ledger: an accepted bio that goes is complete by it.
-use Rattle.std.specs.Prelude.{◌≡◌, ◌≢◌, ℕ, ◌+◌, ◌<◌, ◌≤◌, ◌==◌, ◌&&◌, Bool, true, false, not, List, [], ◌∷◌, ◌++◌, map, filter, find, count_by, Option, Some, None, Ok, Err, MatchOption, IsSomeAnd, All, Contains, IsTrue, unwrap_or, if◌then◌else◌}
-use Rattle.std.specs.List.{AllByRecursion, list_any}
-use Rattle.std.proofs.Common.{inl, inr, refl, sym, ◌∙◌, ap, subst, arith}
+use Rattle.std.specs.Prelude.{◌≡◌, ◌≢◌, ℕ, ◌<◌, ◌≤◌, ◌==◌, Bool, true, false, not, List, [], ◌∷◌, ◌++◌, map, filter, find, Some, None, MatchOption, All, Contains}
+use Rattle.std.specs.List.{AllByRecursion}
+use Rattle.std.proofs.Common.{refl, sym, ◌∙◌, ap, subst, arith}
 use Rattle.std.proofs.lemmas.Bool.{both_ways, eq-eqb, eqb-true, ne_eqb}
-use Rattle.std.proofs.lemmas.List.Elements.{All-append, All-contains, All-from_recursion, Contains-append_cases, recursion_from_All}
-use Rattle.geo_model.specs.declared.step.BioResult.{BioResult}
-use Rattle.geo_model.specs.declared.step.Entry.{Entry}
+use Rattle.std.proofs.lemmas.List.Elements.{All-append, All-contains, All-from_recursion, recursion_from_All}
 use Rattle.geo_model.specs.declared.step.Outcome.{Outcome}
-use Rattle.geo_model.specs.declared.step.Outcome.TheVariants as outcomes
-use Rattle.geo_model.specs.declared.step.Owner.TheVariants as owners
-use Rattle.geo_model.specs.declared.step.Phase.TheVariants as phases
-use Rattle.geo_model.specs.declared.step.Reply.{Reply}
 use Rattle.geo_model.specs.declared.step.Step.TheVariants as steps
-use Rattle.geo_model.specs.Topology.{Provider, provider_at}
 use Rattle.geo_model.specs.World.{World, Bio, bio_at, children_of, is_child_of, is_root}
-use Rattle.geo_model.specs.Bios.{reply_of_result}
 use Rattle.geo_model.specs.Log.{Moment, after_entry}
-use Rattle.geo_model.specs.Results.{Covers, Leaf, entries_of, leaves, result_of}
 use Rattle.geo_model.specs.Graph.{AreNumbers}
-use Rattle.geo_model.specs.History.{Acceptance, CoversFrom, IsSuccess, is_reply_to}
+use Rattle.geo_model.specs.History.{Acceptance}
 use Rattle.geo_model.proofs.DemandLemmas.{all_weaker}
 use Rattle.geo_laws_graph.proofs.Living.{all_members}
-use Rattle.geo_laws_graph.proofs.Members.{Contains-cases, Contains-map, find-Contains, nothing_in}
-use Rattle.geo_laws_graph.proofs.Numbered.{at-gone, at-kept, number_found, unique}
+use Rattle.geo_laws_graph.proofs.Members.{Contains-map, find-Contains}
+use Rattle.geo_laws_graph.proofs.Numbered.{at-gone, at-kept, unique}
 use Rattle.geo_laws_graph.proofs.Spared.{IsSpared, filter-spared}
 use Rattle.geo_laws_bio_ups.proofs.Leaving.{root_no_child}
 use Rattle.geo_laws_histories.specs.Histories.{names_bio}
 use Rattle.geo_laws_histories.specs.Arrivals.{AcceptsNone}
-use Rattle.geo_laws_histories.proofs.Looks.{entries_of_both}
-use Rattle.geo_laws_histories.proofs.Finished.{finished_stay}
-use Rattle.geo_laws_maps.specs.Covers.{CoversBy}
-use Rattle.geo_laws_ledger.specs.Covering.{CoversThere, SameMap, SameMaps}
-use Rattle.geo_laws_ledger.specs.Ledger.{HasResult, IsAccounted, IsCompleted, IsLogged, IsOnItsWay, IsSameRequest, Ledger, AcceptsAreAccounted}
-use Rattle.geo_laws_ledger.proofs.Covered.{covers_request, covers_stay}
-use Rattle.geo_laws_ledger.proofs.Logged.{GoesOn, logged_stays, never_so, result_stays}
-use Rattle.geo_laws_ledger.proofs.Accounted.{count_past, replies_stay}
+use Rattle.geo_laws_ledger.specs.Covering.{SameMap, SameMaps}
+use Rattle.geo_laws_ledger.specs.Ledger.{IsAccounted, IsCompleted, IsLogged, IsOnItsWay, IsSameRequest, Ledger, AcceptsAreAccounted}
+use Rattle.geo_laws_ledger.proofs.Logged.{logged_stays, never_so}
 use Rattle.geo_laws_ledger.proofs.Quiet.{accounted_quietly, moment_of, taken_quietly}
 
 -- a step that takes a root away: it is the Up of that bio, and accepts nothing

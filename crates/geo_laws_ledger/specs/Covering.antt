@@ -1,7 +1,6 @@
 -- When leaves cover a bio, and when two graphs map a provider alike (g_bio(9)).
-use Rattle.std.specs.Prelude.{◌≡◌, ℕ, not, List, Option, IsTrue, IsSomeAnd, All, option_map}
-use Rattle.geo_model.specs.Words.{is_flush}
-use Rattle.geo_model.specs.Topology.{Topology, Provider, provider_at}
+use Rattle.std.specs.Prelude.{◌≡◌, ℕ, List, Option, IsSomeAnd, All, option_map}
+use Rattle.geo_model.specs.Topology.{Topology, provider_at}
 use Rattle.geo_model.specs.World.{World, Config, Bio}
 use Rattle.geo_model.specs.Place.{flat, ends}
 use Rattle.geo_model.specs.Results.{Leaf}

@@ -1,18 +1,22 @@
 -- The ledger of requests: what ties a history to the world that it leads to, bio by bio (g_bio(9)).
-use Rattle.std.specs.Prelude.{◌≡◌, ℕ, ◌<◌, ◌≤◌, false, List, count_by, ◌∷◌, [], map, Some, IsSomeAnd, MatchOption, All}
+use Rattle.std.specs.Prelude.{◌++◌, Ok, ◌≡◌, ℕ, ◌<◌, ◌≤◌, false, List, count_by, ◌∷◌, [], map, Some, IsSomeAnd, MatchOption, All}
 use Rattle.std.specs.List.{range_with_len}
 use Rattle.geo_model.specs.declared.step.BioResult.{BioResult}
 use Rattle.geo_model.specs.declared.step.DeviceResult.{DeviceResult}
+use Rattle.geo_model.specs.declared.step.Outcome.{Outcome}
 use Rattle.geo_model.specs.declared.step.Outcome.TheVariants as outcomes
 use Rattle.geo_model.specs.declared.step.Owner.TheVariants as owners
 use Rattle.geo_model.specs.declared.step.Phase.{Phase}
 use Rattle.geo_model.specs.declared.step.Phase.TheVariants as phases
 use Rattle.geo_model.specs.World.{World, Bio, bio_at, children_of}
+use Rattle.geo_model.specs.declared.step.Step.{Step}
+use Rattle.geo_model.specs.Fitting.{Firm}
+use Rattle.geo_model.specs.Step.{step}
 use Rattle.geo_model.specs.Log.{Moment, after_entry}
 use Rattle.geo_model.specs.Results.{cmd_before, entries_of, is_deliver_of, is_start_of, is_take_of, leaves, request_of, result_of, start_moment}
 use Rattle.geo_model.specs.History.{Acceptance, CompletesOnce, IsSuccess, is_reply_to}
 use Rattle.geo_laws_histories.specs.Histories.{names_bio, Never, AreTaken}
-use Rattle.geo_laws_ledger.specs.Covering.{CoversThere, SameMap}
+use Rattle.geo_laws_ledger.specs.Covering.{CoversThere, SameMap, SameMaps}
 
 -- the bio has no Start, no Take, no Deliver so far
 abbrev pub NotStarted : List Moment → ℕ → Type 0
@@ -105,3 +109,10 @@ pub record Ledger (history : List Moment) (w : World) : Type 0 where
   pub taken : AreTaken history
   pub live : All (IsLogged history w) w.bios
   pub accepted : All (AcceptsAreAccounted history w) history
+
+-- each enabled step of a firm mesh keeps the ledger, where the provider of each bio keeps its map
+abbrev pub StepsKeepLedger : Type 0
+StepsKeepLedger =
+    (history : List Moment) (w v : World) (seat : ℕ) (s : Step) (o : Outcome)
+    → Ledger history w → Firm w → SameMaps w v → step w seat s ≡ Ok (v, o)
+    → Ledger (history ++ record { before = w; entry = record { seat = seat; step = s; outcome = o } } ∷ []) v
