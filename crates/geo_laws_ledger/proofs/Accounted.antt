@@ -21,7 +21,7 @@ use Rattle.geo_laws_graph.proofs.Numbered.{any-pushed, filter-pushed, number_fou
 use Rattle.geo_laws_histories.specs.Histories.{names_bio, AreTaken}
 use Rattle.geo_laws_histories.proofs.Looks.{entries_of_both}
 use Rattle.geo_laws_histories.proofs.Finished.{finished_stay}
-use Rattle.geo_laws_ledger.specs.Covering.{SameMap}
+use Rattle.geo_laws_way.specs.WayLaws.{SameMap}
 use Rattle.geo_laws_ledger.specs.Ledger.{IsSameRequest, IsOnItsWay, IsCompleted}
 use Rattle.geo_laws_ledger.proofs.Logged.{unnamed, no_reply}
 

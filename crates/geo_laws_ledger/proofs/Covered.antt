@@ -8,7 +8,8 @@ use Rattle.geo_model.specs.World.{World, Config, Bio}
 use Rattle.geo_model.specs.Place.{flat, ends}
 use Rattle.geo_model.specs.Results.{Leaf, CoversRange, CoversEnds, sector_offsets}
 use Rattle.geo_laws_maps.specs.Covers.{CoversBy}
-use Rattle.geo_laws_ledger.specs.Covering.{CoversThere, SameMap}
+use Rattle.geo_laws_way.specs.WayLaws.{SameMap}
+use Rattle.geo_laws_ledger.specs.Covering.{CoversThere}
 use Rattle.geo_laws_ledger.specs.Ledger.{IsSameRequest}
 
 -- a provider that is found by a number has it

@@ -34,7 +34,8 @@ use Rattle.geo_laws_maps.proofs.JoinedCovers.{joined_covers}
 use Rattle.geo_laws_histories.specs.Histories.{names_bio}
 use Rattle.geo_laws_histories.specs.Arrivals.{AcceptsNone}
 use Rattle.geo_laws_histories.proofs.Finished.{finished_stay}
-use Rattle.geo_laws_ledger.specs.Covering.{CoversThere, SameMap, SameMaps}
+use Rattle.geo_laws_way.specs.WayLaws.{SameMap}
+use Rattle.geo_laws_ledger.specs.Covering.{CoversThere, SameMaps}
 use Rattle.geo_laws_ledger.specs.Ledger.{AcceptsAreAccounted, HasResult, IsAccounted, IsCompleted, IsLogged, IsOnItsWay, Ledger, SoFar, WasSplit}
 use Rattle.geo_laws_ledger.proofs.Covered.{covers_request, covers_stay}
 use Rattle.geo_laws_ledger.proofs.Logged.{logged_stays, never_so}

@@ -16,7 +16,8 @@ use Rattle.geo_model.specs.History.{is_reply_to, is_reply}
 use Rattle.geo_laws_histories.specs.Histories.{names_bio, Never, AreTaken}
 use Rattle.geo_laws_histories.proofs.Looks.{start_stays, request_stays}
 use Rattle.geo_laws_histories.proofs.Finished.{finished_stay}
-use Rattle.geo_laws_ledger.specs.Covering.{CoversThere, SameMap}
+use Rattle.geo_laws_way.specs.WayLaws.{SameMap}
+use Rattle.geo_laws_ledger.specs.Covering.{CoversThere}
 use Rattle.geo_laws_ledger.specs.Ledger.{IsLogged, SoFar, WasQueued, WasAsked, HasResult}
 use Rattle.geo_laws_ledger.proofs.Covered.{covers_stay}
 

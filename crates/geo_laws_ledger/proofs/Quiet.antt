@@ -20,7 +20,8 @@ use Rattle.geo_laws_graph.proofs.Numbered.{at-new, at-others, filter-pushed, fin
 use Rattle.geo_laws_histories.specs.Histories.{names_bio, Never, AreTaken}
 use Rattle.geo_laws_histories.specs.Arrivals.{BiosStay, BioArrives, AcceptsNone, AcceptsIt, StayOrArrive}
 use Rattle.geo_laws_histories.proofs.Looks.{request_stays, entries_of_both}
-use Rattle.geo_laws_ledger.specs.Covering.{SameMap, SameMaps}
+use Rattle.geo_laws_way.specs.WayLaws.{SameMap}
+use Rattle.geo_laws_ledger.specs.Covering.{SameMaps}
 use Rattle.geo_laws_ledger.specs.Ledger.{Ledger, IsLogged, IsAccounted, AcceptsAreAccounted, IsOnItsWay, IsCompleted, IsSameRequest, SoFar}
 use Rattle.geo_laws_ledger.proofs.Logged.{unnamed, never_so, no_reply, logged_stays}
 use Rattle.geo_laws_ledger.proofs.Accounted.{completed_stays, on_its_way_stays}

@@ -18,7 +18,8 @@ use Rattle.geo_laws_graph.proofs.Spared.{IsSpared, filter-spared}
 use Rattle.geo_laws_bio_ups.proofs.Leaving.{root_no_child}
 use Rattle.geo_laws_histories.specs.Histories.{names_bio}
 use Rattle.geo_laws_histories.specs.Arrivals.{AcceptsNone}
-use Rattle.geo_laws_ledger.specs.Covering.{SameMap, SameMaps}
+use Rattle.geo_laws_way.specs.WayLaws.{SameMap}
+use Rattle.geo_laws_ledger.specs.Covering.{SameMaps}
 use Rattle.geo_laws_ledger.specs.Ledger.{IsAccounted, IsCompleted, IsLogged, IsOnItsWay, IsSameRequest, Ledger, AcceptsAreAccounted}
 use Rattle.geo_laws_ledger.proofs.Logged.{logged_stays, never_so}
 use Rattle.geo_laws_ledger.proofs.Quiet.{accounted_quietly, moment_of, taken_quietly}

@@ -25,7 +25,8 @@ use Rattle.geo_laws_graph.proofs.Numbered.{number_found}
 use Rattle.geo_laws_bios.proofs.Phases.{CanTake, can_take, can_deliver}
 use Rattle.geo_laws_histories.specs.Histories.{AreTaken}
 use Rattle.geo_laws_histories.proofs.Looks.{request_stays, start_stays}
-use Rattle.geo_laws_ledger.specs.Covering.{CoversThere, SameMap, SameMaps}
+use Rattle.geo_laws_way.specs.WayLaws.{SameMap}
+use Rattle.geo_laws_ledger.specs.Covering.{CoversThere, SameMaps}
 use Rattle.geo_laws_ledger.specs.Ledger.{HasResult, Ledger, IsLogged, SoFar, WasAsked}
 use Rattle.geo_laws_ledger.proofs.Covered.{covers_request, covers_stay}
 use Rattle.geo_laws_ledger.proofs.Logged.{never_so, queued_stays}
@@ -36,14 +37,14 @@ use Rattle.geo_laws_ledger.proofs.AtDisk.{take_covers}
 use Rattle.geo_laws_ledger.proofs.Starts.{keeps_up, keeps_phase, in_phase}
 
 -- a bio that is to be taken, with what was made
-record TakesIt (w v : World) (seat disk b : ℕ) (o : Outcome) : Type 0 where
-  bio : Bio
-  found : bio_at w b ≡ Some bio
-  can : CanTake w disk bio
-  made : (v, o) ≡ take_bio w seat disk bio
+pub record TakesIt (w v : World) (seat disk b : ℕ) (o : Outcome) : Type 0 where
+  pub bio : Bio
+  pub found : bio_at w b ≡ Some bio
+  pub can : CanTake w disk bio
+  pub made : (v, o) ≡ take_bio w seat disk bio
 
 -- an enabled Take names a bio that can be taken
-takes_it : (w v : World) (seat disk b : ℕ) (o : Outcome) → step w seat (steps.Take disk b) ≡ Ok (v, o)
+pub takes_it : (w v : World) (seat disk b : ℕ) (o : Outcome) → step w seat (steps.Take disk b) ≡ Ok (v, o)
     → TakesIt w v seat disk b o
 unfolding step
 takes_it w v seat disk b o e = by (bio_at w b) refl e
@@ -63,7 +64,7 @@ takes_it w v seat disk b o e = by (bio_at w b) refl e
     by (Some x) is e = at x is (take_found w disk x) refl e
 
 -- a phase that is Sent, or Busy
-phase_sent : (p : Phase) → is_sent p ≡ true → p ≡ phases.Sent
+pub phase_sent : (p : Phase) → is_sent p ≡ true → p ≡ phases.Sent
 phase_sent phases.Down e = absurd (let bad : ⊥ = cc in bad)
 phase_sent phases.Sent e = refl
 phase_sent (phases.Busy seat) e = absurd (let bad : ⊥ = cc in bad)

@@ -20,7 +20,8 @@ use Rattle.geo_laws_graph.proofs.Numbered.{at-here, at-unchanged}
 use Rattle.geo_laws_bios.proofs.Items.{all_changed, none_kept}
 use Rattle.geo_laws_histories.specs.Histories.{names_bio, AreTaken}
 use Rattle.geo_laws_histories.specs.Arrivals.{AcceptsNone}
-use Rattle.geo_laws_ledger.specs.Covering.{SameMap, SameMaps}
+use Rattle.geo_laws_way.specs.WayLaws.{SameMap}
+use Rattle.geo_laws_ledger.specs.Covering.{SameMaps}
 use Rattle.geo_laws_ledger.specs.Ledger.{Ledger, IsLogged, IsAccounted, AcceptsAreAccounted, IsOnItsWay, IsCompleted, IsSameRequest}
 use Rattle.geo_laws_ledger.proofs.Logged.{never_so, logged_stays}
 use Rattle.geo_laws_ledger.proofs.Accounted.{on_its_way_stays}

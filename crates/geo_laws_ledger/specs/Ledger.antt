@@ -16,7 +16,8 @@ use Rattle.geo_model.specs.Log.{Moment, after_entry}
 use Rattle.geo_model.specs.Results.{cmd_before, entries_of, is_deliver_of, is_start_of, is_take_of, leaves, request_of, result_of, start_moment}
 use Rattle.geo_model.specs.History.{Acceptance, CompletesOnce, IsSuccess, is_reply_to}
 use Rattle.geo_laws_histories.specs.Histories.{names_bio, Never, AreTaken}
-use Rattle.geo_laws_ledger.specs.Covering.{CoversThere, SameMap, SameMaps}
+use Rattle.geo_laws_way.specs.WayLaws.{SameMap}
+use Rattle.geo_laws_ledger.specs.Covering.{CoversThere, SameMaps}
 
 -- the bio has no Start, no Take, no Deliver so far
 abbrev pub NotStarted : List Moment → ℕ → Type 0
