@@ -215,7 +215,7 @@ module _ (test : Phase → Bool) where
   down_counted (y ∷ ys) all e =
       let rest = down_counted ys all.1 e in
       let head = sum_by-cons (λ (z : BioOf Held). cond (test z.phase) 1 0) y ys in
-      let one : cond (test y.phase) 1 0 ≡ 1 = rw (all.0, e) refl in
+      let one : cond {A = ℕ} (test y.phase) 1 0 ≡ 1 = rw (all.0, e) refl in
       omega (arith, rest, head, one)
 
   pub down_found : (y : BioOf Held) (ys : List (BioOf Held)) → y.phase ≡ phases.Down → test phases.Down ≡ true
@@ -228,7 +228,7 @@ module _ (test : Phase → Bool) where
   none_counted_down (y ∷ ys) all e =
       let rest = none_counted_down ys all.1 e in
       let head = sum_by-cons (λ (z : BioOf Held). cond (test z.phase) 1 0) y ys in
-      let one : cond (test y.phase) 1 0 ≡ 0 = rw (all.0, e) refl in
+      let one : cond {A = ℕ} (test y.phase) 1 0 ≡ 0 = rw (all.0, e) refl in
       omega (arith, rest, head, one)
 
   pub none_found_down : (more : List (BioOf Held)) → AllByRecursion (λ y. y.phase ≡ phases.Down) more

@@ -165,6 +165,7 @@ impl Traffic {
         ensures had_room { 1 ≤ self.old.spare → IsOk result }
     {
         let bio = self.bios.submit(cmd, span, bytes, from, to, owner)?;
+        // A look-up says that there are fewer bios than numbers.
         let _ = self.bios.get(bio);
         self.down = with_last(self.down, bio.number(), 1);
         self.live += 1;
@@ -197,6 +198,7 @@ impl Traffic {
     {
         let down = without_one(self.down, &self.bios, Due::Start, bio);
         let first = self.bios.start(alloc, bio, pieces, targets)?;
+        // A look-up says that there are fewer bios than numbers.
         let _ = self.bios.get(bio);
         let count = pieces.items().len() as u64;
         self.down = with_last(down, first.number(), count);
@@ -211,7 +213,6 @@ impl Traffic {
     {
         self.down = without_one(self.down, &self.bios, Due::Start, bio);
         self.bios.bounce(bio, errno);
-        let _ = self.bios.get(bio);
         self.up = with_one(self.up, bio.number());
     }
 
@@ -222,7 +223,6 @@ impl Traffic {
     {
         self.down = without_one(self.down, &self.bios, Due::Start, bio);
         self.bios.send(bio);
-        let _ = self.bios.get(bio);
         self.sent = with_one(self.sent, bio.number());
     }
 
@@ -233,7 +233,6 @@ impl Traffic {
     {
         self.sent = without_one(self.sent, &self.bios, Due::Take, bio);
         self.bios.take(bio, seat);
-        let _ = self.bios.get(bio);
         self.busy += 1;
     }
 
@@ -242,8 +241,9 @@ impl Traffic {
         requires { IsTrue (has_phase is_busy self.old.bios bio) }
         ensures { self.new ≡ record self.old { bios = change_number bio (delivered place errno) self.old.bios } }
     {
-        self.bios.deliver(bio, place, errno);
+        // A look-up says that the bios stand in order.
         let _ = self.bios.get(bio);
+        self.bios.deliver(bio, place, errno);
         self.busy -= 1;
         self.up = with_one(self.up, bio.number());
     }

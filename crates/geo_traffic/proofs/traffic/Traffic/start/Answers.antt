@@ -1,0 +1,40 @@
+use Rattle.std.proofs.Common.{◌≡◌, ◌∙◌, ◌+◌, ◌-◌, ◌<◌, ◌++◌, ◌∷◌, [], List, true, length, sym, ap, refl, subst, arith}
+use Rattle.geo_model.specs.Bios.{up_with, new_bio}
+use Rattle.geo_model.specs.World.{BioOf, change_number, is_down, is_sent, is_busy, is_up}
+use Rattle.geo_model.specs.declared.step.Phase.TheVariants as phases
+use Rattle.geo_bio.specs.declared.bio.Held.{Held}
+use Rattle.geo_bio.specs.declared.bio.Held.TheVariants as held
+use Rattle.geo_bio.specs.BioTable.{BioTableView, bio_among, has_phase, with_phase, delivered}
+use Rattle.geo_traffic.specs.Cursors.{IsCounted, with_one, with_last}
+use Rattle.geo_traffic.proofs.OrderLemmas.{table_rises, fewer_than_next, bio_in}
+use Rattle.geo_traffic.proofs.CursorLemmas.{room_for_one}
+use Rattle.std.proofs.Common.{IfSome, OnOk}
+use Rattle.std.proofs.lemmas.List.{length-append}
+use Rattle.std.proofs.lemmas.List.Sums.{count_by-le-length}
+use Rattle.geo_bio.specs.Split.{split_into}
+use Rattle.geo_traffic.proofs.CursorLemmas.{count_left, length_moved}
+use Rattle.geo_traffic.proofs.CountLemmas.{down_is, from_down_waiting, down_come, split_down, split_length, split_first}
+use Rattle.geo_traffic.proofs.traffic.Traffic.start.Goals as goal
+
+pub with_last-self-inside-requires : goal.with_last-self-inside-requires
+with_last-self-inside-requires c = ?
+
+pub overflow_add-self : goal.overflow_add-self
+overflow_add-self c = ?
+
+pub invariant_of-self-2 : goal.invariant_of-self-2
+invariant_of-self-2 c =
+    let now = c.self.inside in
+    let x = bio_in is_down now.bios.bios c.args.bio
+    (subst (λ (v : BioTableView). has_phase is_down v.bios c.args.bio ≡ true) (sym c.self.view_is) c.requires.down) in
+    let children = split_into now.bios.next x.0 0 c.args.pieces.now.items c.args.targets.now.items in
+    let waits = from_down_waiting now.bios.bios c.args.bio x.0 (table_rises now.bios c.without_one-down.ensures.in_order)
+    x.1 now.down now.sent now.up now.busy now.live c.self.invariant (with_phase phases.Waiting) refl
+    c.without_one-down.result (down_is x.0.phase x.2) refl c.without_one-down.ensures.cursor in
+    let counted = down_come (change_number c.args.bio (with_phase phases.Waiting) now.bios.bios) children
+    c.without_one-down.result now.sent now.up now.busy now.live now.bios.next (length c.args.pieces.now.items) waits
+    (split_down now.bios.next x.0 0 c.args.pieces.now.items c.args.targets.now.items)
+    (split_length now.bios.next x.0 0 c.args.pieces.now.items c.args.targets.now.items c.requires.same_number)
+    (split_first now.bios.next x.0 c.args.pieces.now.items c.args.targets.now.items c.requires.same_number
+    c.requires.some) in
+    ?
