@@ -5,3 +5,4 @@ pub mod OrderLemmas
 pub mod PhaseLemmas
 pub mod CursorLemmas
 pub mod CountLemmas
+pub mod RiseLemmas

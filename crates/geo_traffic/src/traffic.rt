@@ -313,7 +313,8 @@ fn count_children(bios: &BioTable, parent: BioId) -> u32
 
 // How many children wait for the parent that a bio has, if it is a child.
 fn family_size(bios: &BioTable, bio: BioId) -> u32
-    ensures { IfSome (bio_among bios.now.bios bio) (λ x. result ≡ family_size bios.now.bios x.owner) }
+    ensures size { IfSome (bio_among bios.now.bios bio) (λ x. result ≡ family_size bios.now.bios x.owner) }
+    ensures parent { IfSome (bio_among bios.now.bios bio) (λ x. HasParent bios.now.bios x.owner) }
 {
     match bios.get(bio) {
         Some(found) => match found.owner {
