@@ -1,25 +1,22 @@
 -- What is kept beside the bios stays so when a bio comes, or comes to another phase.
-use Rattle.std.proofs.Common.{◌≡◌, ◌≢◌, ℕ, ◌+◌, ◌-◌, ◌<◌, ◌≤◌, ◌^◌, ◌==◌, List, [], ◌∷◌, ◌++◌, length, map, filter, find, cond, Bool, true, false, Option, Some, None, sym, refl, ap, ◌∙◌, subst, arith, option_map}
+use Rattle.std.proofs.Common.{◌≡◌, ℕ, ◌+◌, ◌-◌, ◌≤◌, List, [], ◌∷◌, ◌++◌, length, find, cond, Bool, true, false, Option, Some, None, sym, refl, ap, ◌∙◌, arith, option_map}
 use Rattle.std.specs.List.{AllByRecursion}
 use Rattle.std.specs.Option.{option_map_or, option_or}
 use Rattle.std.proofs.lemmas.List.{length-append}
 use Rattle.std.proofs.lemmas.List.Folds.{find-append}
-use Rattle.std.proofs.lemmas.List.Sums.{sum_by-append, sum_by-cons, count_by-le-length}
-use Rattle.geo_base.specs.declared.errno.Errno.{Errno}
+use Rattle.std.proofs.lemmas.List.Sums.{sum_by-append, sum_by-cons}
 use Rattle.geo_model.specs.declared.span.Piece.{Piece}
 use Rattle.geo_model.specs.declared.step.Phase.{Phase}
 use Rattle.geo_model.specs.declared.step.Phase.TheVariants as phases
 use Rattle.geo_model.specs.World.{BioOf, change_number, is_down, is_sent, is_busy, is_up}
-use Rattle.geo_model.specs.Bios.{up_with}
 use Rattle.geo_bio.specs.declared.bio.Held.{Held}
-use Rattle.geo_bio.specs.declared.bio.Held.TheVariants as held
-use Rattle.geo_bio.specs.BioTable.{bio_among, with_phase, delivered}
+use Rattle.geo_bio.specs.BioTable.{bio_among}
 use Rattle.geo_bio.specs.Split.{split_into}
 use Rattle.geo_traffic.specs.declared.cursor.Cursor.{Cursor}
 use Rattle.geo_traffic.specs.Traffic.{first_in, count_in}
 use Rattle.geo_traffic.specs.Cursors.{others, IsCursor, with_one, with_last, IsCounted}
 use Rattle.geo_traffic.proofs.OrderLemmas.{Rising, stands_at}
-use Rattle.geo_traffic.proofs.CursorLemmas.{stays, left, entered, count_stays, count_comes, count_goes, length_moved, room_for_one}
+use Rattle.geo_traffic.proofs.CursorLemmas.{stays, left, entered, count_stays, count_comes, count_goes, length_moved}
 
 -- the phases that tests name
 pub down_is : (p : Phase) → is_down p ≡ true → p ≡ phases.Down

@@ -1,5 +1,5 @@
 -- What becomes of a cursor when a bio leaves its phase, and when one comes.
-use Rattle.std.proofs.Common.{◌≡◌, ◌≢◌, ℕ, ◌+◌, ◌-◌, ◌<◌, ◌≤◌, ◌==◌, nat_le, min, ◌&&◌, List, [], ◌∷◌, ◌++◌, length, map, filter, find, not, cond, Bool, true, false, Option, Some, None, sym, refl, ap, ◌∙◌, subst, arith, option_map}
+use Rattle.std.proofs.Common.{◌≡◌, ◌≢◌, ℕ, ◌+◌, ◌-◌, ◌<◌, ◌≤◌, ◌==◌, nat_le, min, ◌&&◌, List, [], ◌∷◌, length, find, not, cond, Bool, true, false, Option, Some, None, sym, refl, ap, ◌∙◌, subst, arith, option_map}
 use Rattle.std.specs.List.{AllByRecursion}
 use Rattle.std.specs.Option.{option_map_or, option_eq}
 use Rattle.std.proofs.lemmas.Bool.{eqb-true, eq-eqb, ne_eqb, le-leb, lt-leb, leb-true, leb-false}
@@ -8,8 +8,7 @@ use Rattle.std.proofs.lemmas.List.Sums.{count_by-le-length}
 use Rattle.geo_model.specs.declared.step.Phase.{Phase}
 use Rattle.geo_model.specs.World.{BioOf, change_number}
 use Rattle.geo_bio.specs.declared.bio.Held.{Held}
-use Rattle.geo_bio.specs.BioTable.{BioTableView, AreInOrder, bio_among, has_phase, first_bio}
-use Rattle.geo_laws_graph.proofs.Finding.{found_fact}
+use Rattle.geo_bio.specs.BioTable.{bio_among, has_phase, first_bio}
 use Rattle.geo_laws_graph.proofs.Lists.{length-changed}
 use Rattle.geo_traffic.specs.declared.cursor.Cursor.{Cursor}
 use Rattle.geo_traffic.specs.Traffic.{first_in, count_in}
@@ -95,11 +94,10 @@ module _ (test : Phase → Bool) where
       behind : low ≤ b → (ys : List (BioOf Held)) → AllByRecursion (λ y. b < y.number) ys
           → AllByRecursion (λ y. from_on (b + 1) y ≡ from_on low y) ys
       behind under [] all = tt
-      behind under (y ∷ ys) all =
-          (
-            rw (le-leb (b + 1) y.number (omega (arith, all.0)), le-leb low y.number (omega (arith, under, all.0))) refl,
-            behind under ys all.1,
-          )
+      behind under (y ∷ ys) all = (
+        rw (le-leb (b + 1) y.number (omega (arith, all.0)), le-leb low y.number (omega (arith, under, all.0))) refl,
+        behind under ys all.1,
+      )
 
       at : (d : Bool) → nat_le low x.number ≡ d
           → (first_bio xs low ≡ Some b → has_phase test xs b ≡ false

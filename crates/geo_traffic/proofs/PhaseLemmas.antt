@@ -1,5 +1,5 @@
 -- What is counted and found in a phase, where one bio stands among others.
-use Rattle.std.proofs.Common.{◌≡◌, ◌≢◌, ℕ, zero, suc, ◌+◌, ◌<◌, ◌≤◌, ◌==◌, nat_le, min, ◌&&◌, List, [], ◌∷◌, ◌++◌, length, map, filter, find, count_by, not, cond, Bool, true, false, Option, Some, None, sym, refl, ap, ◌∙◌, subst, arith, option_map}
+use Rattle.std.proofs.Common.{◌≡◌, ◌≢◌, ℕ, ◌+◌, ◌<◌, nat_le, min, ◌&&◌, List, [], ◌∷◌, ◌++◌, find, cond, Bool, true, false, Option, Some, None, sym, refl, ap, ◌∙◌, arith, option_map}
 use Rattle.std.specs.List.{AllByRecursion}
 use Rattle.std.specs.Option.{option_map_or, option_or}
 use Rattle.std.proofs.lemmas.Bool.{le-leb, lt-leb}

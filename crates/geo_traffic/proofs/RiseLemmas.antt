@@ -1,7 +1,6 @@
 -- What is kept beside the bios stays so when a bio goes up.
-use Rattle.std.proofs.Common.{◌≡◌, ◌≢◌, ℕ, ◌+◌, ◌-◌, ◌<◌, ◌≤◌, ◌==◌, List, [], ◌∷◌, ◌++◌, length, map, filter, find, count_by, not, cond, Bool, true, false, Option, Some, None, sym, refl, ap, ◌∙◌, subst, arith, option_map}
-use Rattle.std.specs.List.{AllByRecursion, list_all}
-use Rattle.std.specs.Option.{option_map_or}
+use Rattle.std.proofs.Common.{◌≡◌, ◌≢◌, ℕ, ◌+◌, ◌-◌, ◌<◌, ◌≤◌, ◌==◌, List, [], ◌∷◌, ◌++◌, length, filter, count_by, not, cond, Bool, true, false, Option, Some, sym, refl, ap, ◌∙◌, subst, arith, option_map}
+use Rattle.std.specs.List.{AllByRecursion}
 use Rattle.std.proofs.lemmas.Bool.{and_parts}
 use Rattle.std.proofs.lemmas.List.Filters.{length-filter_both}
 use Rattle.std.proofs.lemmas.List.Sums.{length-filter, sum_by-cons}
@@ -12,7 +11,6 @@ use Rattle.geo_model.specs.declared.step.Phase.TheVariants as phases
 use Rattle.geo_model.specs.World.{BioOf, change_number, children_among, is_child_of, is_down, is_sent, is_busy, is_up, is_waiting, is_done}
 use Rattle.geo_model.specs.Bios.{up_with}
 use Rattle.geo_bio.specs.declared.bio.Held.{Held}
-use Rattle.geo_bio.specs.declared.bio.Risen.{Risen}
 use Rattle.geo_bio.specs.declared.bio.Risen.TheVariants as risen
 use Rattle.geo_bio.specs.BioTable.{HasParent, bio_among, with_phase}
 use Rattle.geo_bio.specs.Up.{gathered, are_in, completed, after_up, told_of_up}
@@ -20,7 +18,7 @@ use Rattle.geo_laws_graph.proofs.Lists.{all-changed}
 use Rattle.geo_laws_graph.proofs.Numbered.{at-unchanged}
 use Rattle.geo_laws_graph.proofs.Spared.{find-spared, filter-spared}
 use Rattle.geo_traffic.specs.declared.cursor.Cursor.{Cursor}
-use Rattle.geo_traffic.specs.Traffic.{count_in, first_in}
+use Rattle.geo_traffic.specs.Traffic.{count_in}
 use Rattle.geo_traffic.specs.Cursors.{others, IsCursor, with_one, up_after, family_size, gone_by, IsCounted}
 use Rattle.geo_traffic.proofs.OrderLemmas.{Rising, StandsAt, stands_at, change_is, bio_in}
 use Rattle.geo_traffic.proofs.CursorLemmas.{others_cursor, count_others, length_others}
@@ -56,14 +54,13 @@ module _ (n : ℕ) (g : BioOf Held → BioOf Held) (same : (y : BioOf Held) → 
   -- so the numbers still rise
   pub rising_moved : (bios : List (BioOf Held)) → Rising bios → Rising (change_number n g bios)
   rising_moved [] rising = tt
-  rising_moved (x ∷ xs) rising =
-      (
-        subst (λ m. AllByRecursion (λ (y : BioOf Held). m < y.number) (change_number n g xs))
+  rising_moved (x ∷ xs) rising = (
+    subst (λ m. AllByRecursion (λ (y : BioOf Held). m < y.number) (change_number n g xs))
         (sym (number_stays x (x.number == n)))
         (all-changed (λ (y : BioOf Held). y.number == n) g (λ (y : BioOf Held). x.number < y.number)
         (λ y e less. subst (λ m. x.number < m) (sym (same y)) less) xs rising.0),
-        rising_moved xs rising.1,
-      )
+    rising_moved xs rising.1,
+  )
 
 -- tests that agree count the same
 count_agree : (p q : BioOf Held → Bool) → ((y : BioOf Held) → p y ≡ q y) → (ys : List (BioOf Held))

@@ -12,7 +12,7 @@ ghost use Rattle.geo_bio.specs.Up.{told_of_up, after_up, resolved};
 ghost use Rattle.geo_traffic.specs.Traffic.{first_in, count_in};
 ghost use Rattle.geo_traffic.specs.Cursors.{up_after, family_size, gone_by};
 
-use crate::cursor::{with_last, with_one, without_one, Cursor, Due};
+use crate::cursor::{Cursor, Due, with_last, with_one, without_one};
 use geo_base::{BioCmd, BioId, Block, ConsId, Errno, NoMemory, ProvId};
 use geo_bio::{Bio, BioResult, BioTable, Held, LogBytes, Owner, Phase, Risen, Span, Targets};
 use geo_range::PieceList;
@@ -270,7 +270,12 @@ impl Traffic {
     }
 
     /// What a bio that has ended holds, with a copy of its bytes: what it hands on when it goes up as a root.
-    pub fn copied<B: LogBytes>(&self, alloc: Global, bio: BioId, log: &B) -> Result<BioResult, NoMemory>
+    pub fn copied<B: LogBytes>(
+        &self,
+        alloc: Global,
+        bio: BioId,
+        log: &B,
+    ) -> Result<BioResult, NoMemory>
         ensures { IfSome (bio_among self.now.bios bio) (λ x. IfOk result (λ got.
             got ≡ resolved (B.place_bytes log.now) x.result)) }
     {
@@ -282,11 +287,7 @@ impl Traffic {
 }
 
 // What a bio holds, with a copy of its bytes.
-fn copy_of<B: LogBytes>(
-    alloc: Global,
-    held: &Option<Held>,
-    log: &B,
-) -> Result<BioResult, NoMemory>
+fn copy_of<B: LogBytes>(alloc: Global, held: &Option<Held>, log: &B) -> Result<BioResult, NoMemory>
     ensures { IfOk result (λ got. got ≡ resolved (B.place_bytes log.now) held.now) }
 {
     match held {

@@ -1,4 +1,4 @@
-use Rattle.std.proofs.Common.{◌≡◌, ◌∙◌, ◌+◌, ◌<◌, Some, sym, ap, subst, arith}
+use Rattle.std.proofs.Common.{◌≡◌, ◌∙◌, ◌+◌, Some, sym, ap, arith}
 use Rattle.geo_bio.specs.BioTable.{first_bio}
 use Rattle.geo_traffic.specs.Cursors.{is_due, first_from}
 use Rattle.geo_traffic.proofs.OrderLemmas.{table_rises, number_below}

@@ -1,4 +1,4 @@
-use Rattle.std.proofs.Common.{◌≡◌, ◌≢◌, ◌∙◌, ◌+◌, ◌-◌, ◌<◌, Some, sym, ap, subst, arith}
+use Rattle.std.proofs.Common.{◌∙◌, ◌+◌, ◌-◌, sym, ap, subst, arith}
 use Rattle.geo_traffic.specs.Cursors.{is_due, others, first_from, IsCursor}
 use Rattle.geo_traffic.proofs.OrderLemmas.{table_rises, number_below, bio_in}
 use Rattle.geo_traffic.proofs.CursorLemmas.{count_left, left_other, left_none, left_first, is_other, is_same}

@@ -1,11 +1,8 @@
-use Rattle.std.proofs.Common.{◌≡◌, ◌∙◌, ◌+◌, ◌-◌, ◌<◌, ◌++◌, ◌∷◌, [], List, true, length, sym, ap, refl, subst, arith}
-use Rattle.geo_model.specs.Bios.{up_with, new_bio}
-use Rattle.geo_model.specs.World.{BioOf, change_number, is_down, is_sent, is_busy, is_up}
+use Rattle.std.proofs.Common.{◌≡◌, ◌∙◌, true, sym, ap, refl, subst, arith}
+use Rattle.geo_model.specs.World.{is_down, is_sent}
 use Rattle.geo_model.specs.declared.step.Phase.TheVariants as phases
-use Rattle.geo_bio.specs.declared.bio.Held.{Held}
-use Rattle.geo_bio.specs.declared.bio.Held.TheVariants as held
-use Rattle.geo_bio.specs.BioTable.{BioTableView, bio_among, has_phase, with_phase, delivered}
-use Rattle.geo_traffic.specs.Cursors.{IsCounted, with_one, with_last}
+use Rattle.geo_bio.specs.BioTable.{BioTableView, has_phase, with_phase}
+use Rattle.geo_traffic.specs.Cursors.{with_one}
 use Rattle.geo_traffic.proofs.OrderLemmas.{table_rises, fewer_than_next, bio_in}
 use Rattle.geo_traffic.proofs.CursorLemmas.{room_for_one}
 use Rattle.geo_traffic.proofs.CountLemmas.{down_is, from_down_sent}

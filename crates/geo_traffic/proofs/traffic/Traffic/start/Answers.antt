@@ -1,18 +1,14 @@
-use Rattle.std.proofs.Common.{◌≡◌, ◌∙◌, ◌+◌, ◌-◌, ◌<◌, ◌++◌, ◌∷◌, [], List, true, length, sym, ap, refl, subst, arith}
-use Rattle.geo_model.specs.Bios.{up_with, new_bio}
-use Rattle.geo_model.specs.World.{BioOf, change_number, is_down, is_sent, is_busy, is_up}
+use Rattle.std.proofs.Common.{◌≡◌, ◌∙◌, ◌++◌, true, length, sym, ap, refl, subst, arith}
+use Rattle.geo_model.specs.World.{BioOf, change_number, is_down}
 use Rattle.geo_model.specs.declared.step.Phase.TheVariants as phases
 use Rattle.geo_bio.specs.declared.bio.Held.{Held}
-use Rattle.geo_bio.specs.declared.bio.Held.TheVariants as held
-use Rattle.geo_bio.specs.BioTable.{BioTableView, bio_among, has_phase, with_phase, delivered}
-use Rattle.geo_traffic.specs.Cursors.{IsCounted, with_one, with_last}
+use Rattle.geo_bio.specs.BioTable.{BioTableView, has_phase, with_phase}
+use Rattle.geo_traffic.specs.Cursors.{with_last}
 use Rattle.geo_traffic.proofs.OrderLemmas.{table_rises, fewer_than_next, bio_in}
-use Rattle.geo_traffic.proofs.CursorLemmas.{room_for_one}
-use Rattle.std.proofs.Common.{IfSome, OnOk}
+use Rattle.std.proofs.Common.{IfSome}
 use Rattle.std.proofs.lemmas.List.{length-append}
 use Rattle.std.proofs.lemmas.List.Sums.{count_by-le-length}
 use Rattle.geo_bio.specs.Split.{split_into}
-use Rattle.geo_traffic.proofs.CursorLemmas.{count_left, length_moved}
 use Rattle.geo_traffic.proofs.CountLemmas.{down_is, from_down_waiting, down_come, split_down, split_length, split_first}
 use Rattle.geo_traffic.proofs.traffic.Traffic.start.Goals as goal
 

@@ -1,11 +1,10 @@
-use Rattle.std.proofs.Common.{◌≡◌, ◌∙◌, ◌+◌, ◌-◌, ◌<◌, ◌≤◌, List, true, length, sym, ap, refl, subst, arith, IfSome, Some}
-use Rattle.std.specs.Option.{option_map, option_copied}
+use Rattle.std.proofs.Common.{◌≡◌, ◌∙◌, ◌≤◌, true, sym, ap, subst, arith, IfSome, Some}
 use Rattle.std.proofs.lemmas.List.Sums.{count_by-le-length}
 use Rattle.geo_model.specs.World.{BioOf, is_up}
 use Rattle.geo_bio.specs.declared.bio.Held.{Held}
 use Rattle.geo_bio.specs.BioTable.{BioTableView, HasParent, bio_among, has_phase}
 use Rattle.geo_bio.specs.Up.{after_up, told_of_up}
-use Rattle.geo_traffic.specs.Cursors.{IsCounted, IsCursor, others, up_after, family_size, gone_by}
+use Rattle.geo_traffic.specs.Cursors.{IsCursor, others, up_after, family_size, gone_by}
 use Rattle.geo_traffic.proofs.OrderLemmas.{table_rises, fewer_than_next, bio_in, stands_at}
 use Rattle.geo_traffic.proofs.CursorLemmas.{count_left}
 use Rattle.geo_traffic.proofs.CountLemmas.{up_is}
@@ -22,8 +21,15 @@ up_after-self-inside-requires g c =
     c.self.invariant.ups in
     let some = count_by-le-length (λ (y : BioOf Held). is_up y.phase) now.bios.bios in
     let few = fewer_than_next now.bios order in
-    omega (arith, less, some, few, c.without_one-up.ensures.cursor.count, c.without_one-up.ensures.bound,
-    c.self.invariant.ups.count)
+    omega (
+      arith,
+      less,
+      some,
+      few,
+      c.without_one-up.ensures.cursor.count,
+      c.without_one-up.ensures.bound,
+      c.self.invariant.ups.count,
+    )
 
 pub overflow_sub-self : goal.overflow_sub-self
 overflow_sub-self g c =
