@@ -24,3 +24,4 @@ pub mod JoinEnd
 pub mod Joined
 pub mod NewJoiner
 pub mod Shut
+pub mod Gone

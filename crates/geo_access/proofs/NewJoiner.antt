@@ -61,7 +61,7 @@ module _ {C : Type 0} (t : TopoView C) (geom : ℕ) where
 
   module _ (sound : IsSoundGraph t.topology) where
     -- another consumer has another number
-    old_number : (c : Consumer) → Contains t.topology.consumers c → c.number ≢ n
+    pub old_number : (c : Consumer) → Contains t.topology.consumers c → c.number ≢ n
     old_number c there =
         All-contains (λ (d : Consumer). d.number ≢ n) t.topology.consumers c
         (free_of (λ (d : Consumer). d.number) t.topology.consumers n sound.orderly.order.consumers.1) there
@@ -73,7 +73,7 @@ module _ {C : Type 0} (t : TopoView C) (geom : ℕ) where
         (λ x there. ne_eqb x.number n (old_number x there)) (eq-eqb n n refl)
 
     -- no consumer had its number
-    comer_new : consumer_at t.topology n ≡ None
+    pub comer_new : consumer_at t.topology n ≡ None
     comer_new = none_of t.topology.consumers (λ x there. ne_eqb x.number n (old_number x there))
       where
         none_of : (xs : List Consumer) → ((x : Consumer) → Contains xs x → (x.number == n) ≡ false)
@@ -113,7 +113,7 @@ module _ {C : Type 0} (t : TopoView C) (geom : ℕ) where
           ∙ sym (map-append row t.topology.consumers (comer ∷ []))
 
       -- the grants are the old ones, at each consumer
-      same_grants : (c : Consumer) → Contains u.consumers c → granted_by (mesh room) c.number ≡ granted_by t c.number
+      pub same_grants : (c : Consumer) → Contains u.consumers c → granted_by (mesh room) c.number ≡ granted_by t c.number
       same_grants c there =
           elim (Contains-push_cases t.topology.consumers comer c there) [
             | inl old ↦

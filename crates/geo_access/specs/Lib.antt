@@ -4,3 +4,4 @@ pub mod Access
 pub mod Join
 pub mod JoinLaws
 pub mod ShutLaws
+pub mod GoneLaws

@@ -1,4 +1,5 @@
 //! Laws for callers: meshes that meet the conditions of the calls.
+ghost use Rattle.geo_access.specs.GoneLaws.{RefusedConsumersGo};
 ghost use Rattle.geo_access.specs.JoinLaws.{NewConsumersMayJoin};
 ghost use Rattle.geo_access.specs.ShutLaws.{ShutMeshesAreCounted, MeshesStayShut};
 
@@ -20,4 +21,11 @@ pub fn shut_meshes_are_counted<C>()
 #[tactic(auto, using(crate::proofs::Shut::meshes_stay_shut))]
 pub fn meshes_stay_shut<C>()
     ensures { MeshesStayShut C }
+{}
+
+/// A consumer just made that is taken away again, since it was refused, leaves nothing but a number that is used up,
+/// whether it was attached in between or not; and all counts are kept.
+#[tactic(auto, using(crate::proofs::Gone::refused_consumers_go))]
+pub fn refused_consumers_go<C>()
+    ensures { RefusedConsumersGo C }
 {}

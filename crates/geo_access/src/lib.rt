@@ -17,7 +17,9 @@ mod walk;
 
 pub use access::{allowed, could_grant, grant, release};
 pub use joins::join;
-pub use laws::{meshes_stay_shut, new_consumers_may_join, shut_meshes_are_counted};
+pub use laws::{
+    meshes_stay_shut, new_consumers_may_join, refused_consumers_go, shut_meshes_are_counted,
+};
 pub use notes::{next_fallen, next_risen};
 pub use refusal::{GrantRefusal, JoinRefusal};
 pub use steps::Steps;

@@ -23,7 +23,8 @@ module _ (w : World) (line actor : ℕ) where
   request_follows name a = request-follows w line (handle_of w actor name) a
 
   -- the same for a record at the last sector
-  record_follows : (name : List ℕ) (sector_of : Provider → List ℕ) → Follows w (write_record w line actor name sector_of).0
+  record_follows : (name : List ℕ) (sector_of : Provider → List ℕ)
+      → Follows w (write_record w line actor name sector_of).0
   record_follows name sector_of = request_follows name (record_request w (handle_of w actor name) sector_of)
 
   -- each command
@@ -57,7 +58,8 @@ module _ (w : World) (line actor : ℕ) where
       (λ p. concat_sector p.sector (record { name = label; id = id; place = place; count = count }))
   command_follows (commands.MarkStripe name label id place count stripe) other =
       record_follows name
-      (λ p. stripe_sector p.sector (record { name = label; id = id; place = place; count = count; stripe = stripe }))
+      (λ p. stripe_sector p.sector
+      (record { name = label; id = id; place = place; count = count; stripe = stripe }))
   command_follows commands.Mesh other = follows-same w
 
 -- so say all

@@ -86,7 +86,8 @@ module _ (T : ℕ → Type 0) (t : Topology Config) where
     named-comes name =
         let config : Config = Label (Some q.topology.next_consumer) in
         where-made (with_label q p name) (are_names_free q.topology (name ∷ []))
-        (comes-offer T t (with_geom_over q p kinds.Label config) q.topology.next_geom name (p.size - p.sector) p.sector
+        (comes-offer T t (with_geom_over q p kinds.Label config) q.topology.next_geom name
+        (p.size - p.sector) p.sector
         (over-comes kinds.Label config))
 
     -- the geom of a place that is filled may have the configuration

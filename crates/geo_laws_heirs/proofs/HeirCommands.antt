@@ -74,7 +74,8 @@ module _ (w : World) where
   open-follows line actor name prov grant = by (is_some (handle_of w actor name)) where
     -- by whether the name is free
     by : (b : Bool) → Follows w (if b then answer w line (Some EEXIST) w
-        else open_answered w line actor name (find_provider t prov) grant (open_refusal (granted_in w) t prov grant)).0
+        else open_answered w line actor name (find_provider t prov) grant
+        (open_refusal (granted_in w) t prov grant)).0
     by true = follows-same w
     by false =
         opened-follows line actor name (find_provider t prov) grant (open_refusal (granted_in w) t prov grant)

@@ -63,13 +63,11 @@ module _ (w : World) (firm : Firm w) where
     -- a sector is read
     sector-goes : (kind : Kind) (sector : ℕ) → GoesOn (read_sector granted q s kind sector)
     sector-goes kind sector =
+        let asked : Taste = record s { asked = ReadOut kind; reads = s.reads + 1 } in
+        let out : Judging = record { queued = q; taste = asked; judged = Read sector } in
         either-goes (is_some (grant_refusal (with_grant granted s.consumer one_read) q.topology s.provider))
         (end_class granted q s Next)
-        (record { queued = q; taste = record s { asked = ReadOut kind; reads = s.reads + 1 }; judged = Read sector })
-        (stands (end_class granted q s Next) refl)
-        (stands
-        (record { queued = q; taste = record s { asked = ReadOut kind; reads = s.reads + 1 }; judged = Read sector })
-        refl)
+        out (stands (end_class granted q s Next) refl) (stands out refl)
 
     -- a shape is accepted, by what it makes
     made-goes : (o : Option (QueuedTopology Config)) → IfSome o (Comes (IsBare w.topology) w.topology)

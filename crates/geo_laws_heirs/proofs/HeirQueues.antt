@@ -46,18 +46,21 @@ module _ (T : ℕ → Type 0) (t : Topology Config) where
   -- a marked consumer loses its mark, and its geom withers
   comes-spoiled : (q : QueuedTopology Config) (c : Consumer) → Comes q → Comes (spoil_consumer q c)
   comes-spoiled q c comes =
-      comes-unless (record q { topology = set_marks q.topology (λ (x : Consumer). x.number == c.number) false }) c.geom
+      let u : Topology Config = set_marks q.topology (λ (x : Consumer). x.number == c.number) false in
+      comes-unless (record q { topology = u }) c.geom
       (heir-marks T t q.topology comes (λ (x : Consumer). x.number == c.number) false)
 
   -- a spoil is done
   pub comes-spoil : (q : QueuedTopology Config) (p : ℕ) → Comes q → Comes (spoil q p)
   comes-spoil q p comes =
-      comes-fold spoil_consumer comes-spoiled (filter (λ (c : Consumer). c.spoiled) (attached_to q.topology p)) q comes
+      comes-fold spoil_consumer comes-spoiled
+      (filter (λ (c : Consumer). c.spoiled) (attached_to q.topology p)) q comes
 
   -- a consumer hears that its provider is orphaned
   comes-heard : (q : QueuedTopology Config) (c : Consumer) → Comes q → Comes (orphan_consumer q c)
   comes-heard q c comes =
-      comes-whether q (wither_unless_withering q c.geom) (is_of_dev q.topology c) comes (comes-unless q c.geom comes)
+      comes-whether q (wither_unless_withering q c.geom) (is_of_dev q.topology c) comes
+      (comes-unless q c.geom comes)
 
   -- an orphan is done
   pub comes-orphan : (q : QueuedTopology Config) (p : ℕ) → Comes q → Comes (orphan q p)
@@ -76,7 +79,8 @@ module _ (T : ℕ → Type 0) (t : Topology Config) where
       (is_errored q.topology p || option_map_or (λ g. g.withering) (geom_of_provider q.topology p) true) comes comes
 
   -- a resize is done
-  pub comes-resize : (granted : ℕ → Counts) (q : QueuedTopology Config) (p : ℕ) → Comes q → Comes (resize granted q p)
+  pub comes-resize : (granted : ℕ → Counts) (q : QueuedTopology Config) (p : ℕ) → Comes q
+      → Comes (resize granted q p)
   comes-resize granted q p comes =
       comes-again (fold (outgrow_consumer granted) q (attached_to q.topology p)) p
       (comes-fold (outgrow_consumer granted) (comes-outgrown granted) (attached_to q.topology p) q comes)
@@ -101,7 +105,8 @@ module _ (T : ℕ → Type 0) (t : Topology Config) where
   pub comes-offers : (geom sector : ℕ) (xs : List NewSlice) (q : QueuedTopology Config) → Comes q
       → Comes (fold (λ v x. offer v geom x.name x.size sector) q xs)
   comes-offers geom sector xs q comes =
-      comes-fold (λ v x. offer v geom x.name x.size sector) (λ v x here. comes-offer v geom x.name x.size sector here) xs
+      comes-fold (λ v x. offer v geom x.name x.size sector)
+      (λ v x here. comes-offer v geom x.name x.size sector here) xs
       q comes
 
   -- consumers of a geom come at some providers

@@ -58,7 +58,8 @@ module _ (w : World) where
       follows-queued (spoil (queued_of w) p)
       (comes-spoil (IsBare w.topology) w.topology (queued_of w) p (inherits-same (IsBare w.topology) w.topology))
   done-follows (events.Orphan p) = record {
-    heir = comes-orphan (IsBare w.topology) w.topology (queued_of w) p (inherits-same (IsBare w.topology) w.topology);
+    heir = comes-orphan (IsBare w.topology) w.topology (queued_of w) p
+        (inherits-same (IsBare w.topology) w.topology);
     bios = λ x here.
         subst (λ (xs : List Bio). Contains xs x) (sym (killed-bios (dying_consumers w.topology p) w)) here;
   }
@@ -71,11 +72,13 @@ module _ (w : World) where
   wash-follows : (work : WashWork) → Follows w (wash w work)
   unfolding wash
   wash-follows (washes.Provider p) = record {
-    heir = heir-no_provider (IsBare w.topology) w.topology w.topology (inherits-same (IsBare w.topology) w.topology) p;
+    heir = heir-no_provider (IsBare w.topology) w.topology w.topology
+        (inherits-same (IsBare w.topology) w.topology) p;
     bios = λ x here. here;
   }
   wash-follows (washes.Consumer c) = record {
-    heir = heir-no_consumer (IsBare w.topology) w.topology w.topology (inherits-same (IsBare w.topology) w.topology) c;
+    heir = heir-no_consumer (IsBare w.topology) w.topology w.topology
+        (inherits-same (IsBare w.topology) w.topology) c;
     bios = λ x here. here;
   }
   wash-follows (washes.Geom g) = record {
@@ -85,7 +88,8 @@ module _ (w : World) where
 
   -- by what is found
   washed-follows : (o : Option WashWork)
-      → Follows w (world_after w (option_map_or (λ work. Ok (wash w work, outcomes.Ran)) o (Err refusals.NothingToWash)))
+      → Follows w (world_after w
+      (option_map_or (λ work. Ok (wash w work, outcomes.Ran)) o (Err refusals.NothingToWash)))
   washed-follows None = follows-same w
   washed-follows (Some work) = wash-follows work
 

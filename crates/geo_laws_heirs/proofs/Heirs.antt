@@ -50,7 +50,8 @@ module _ {X : Type 0} (number : X → ℕ) (next : ℕ) (R : X → X → Type 0)
   module _ (hit : X → Bool) (change : X → X) (same : (y : X) → number (change y) ≡ number y)
       (so : (y : X) → Contains ys y → hit y ≡ true → (next ≤ number y) ⊎ ((x : X) → R x y → R x (change y))) where
     -- one that may be changed
-    old-either : (y : X) → Contains ys y → (b : Bool) → hit y ≡ b → IsOld number next R xs (if b then change y else y)
+    old-either : (y : X) → Contains ys y → (b : Bool) → hit y ≡ b
+        → IsOld number next R xs (if b then change y else y)
     old-either y here true e =
         elim (so y here e) [
           | inl new ↦ inl (omega (arith, new, same y))
@@ -85,7 +86,8 @@ module _ (T : ℕ → Type 0) (t u : Topology Config) (heir : Inherits T t u) wh
     next_geom = heir.next_geom;
     next_provider = heir.next_provider;
     next_consumer = heir.next_consumer;
-    geoms = old-changed (λ (x : Geom Config). x.number) t.next_geom (IsHeirGeom T) t.geoms u.geoms heir.geoms hit change
+    geoms = old-changed (λ (x : Geom Config). x.number) t.next_geom
+        (IsHeirGeom T) t.geoms u.geoms heir.geoms hit change
         same so;
     providers = heir.providers;
     consumers = heir.consumers;
@@ -123,7 +125,8 @@ module _ (T : ℕ → Type 0) (t u : Topology Config) (heir : Inherits T t u) wh
   -- a geom that withers
   pub heir-withering : (g : ℕ) → Inherits T t (set_withering u g)
   heir-withering g =
-      heir-geoms (λ (x : Geom Config). x.number == g) (λ (x : Geom Config). record x { withering = true }) (λ y. refl)
+      heir-geoms (λ (x : Geom Config). x.number == g) (λ (x : Geom Config). record x { withering = true })
+      (λ y. refl)
       (λ y here e. inr (λ x is. record { number = is.number; kind = is.kind; config = is.config }))
 
   -- a started request
@@ -150,7 +153,8 @@ module _ (T : ℕ → Type 0) (t u : Topology Config) (heir : Inherits T t u) wh
       → (t.next_geom ≤ y.number) ⊎ ((T y.number → ⊥) → config ≡ y.config))
       → Inherits T t (set_config u g config)
   heir-config g config so =
-      heir-geoms (λ (x : Geom Config). x.number == g) (λ (x : Geom Config). record x { config = config }) (λ y. refl)
+      heir-geoms (λ (x : Geom Config). x.number == g) (λ (x : Geom Config). record x { config = config })
+      (λ y. refl)
       (λ y here e. elim (so y here e) [
         | inl new ↦ inl new
         | inr same ↦ inr (λ x is. record {

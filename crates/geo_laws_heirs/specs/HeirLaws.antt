@@ -14,10 +14,11 @@ abbrev pub is_append : Command → Bool
 is_append (commands.Append name prov) = true
 is_append _ = false
 
--- each command but an append, an event, a step of a taste, a reap and a wash leave each part what it was, or make it
--- new, and the bios stay
+-- each command but an append, an event, a step of a taste, a reap and a wash leave each part what it was, or make
+-- it new, and the bios stay
 pub record StepsInherit : Type 0 where
-  pub done : (w : World) (line actor : ℕ) (c : Command) → is_append c ≡ false → Follows w (do_command w line actor c).0
+  pub done : (w : World) (line actor : ℕ) (c : Command) → is_append c ≡ false
+      → Follows w (do_command w line actor c).0
   pub event : (w : World) (seat : ℕ) → Follows w (world_by w seat steps.Event)
   pub judge : (w : World) (seat : ℕ) → Firm w → Follows w (world_by w seat steps.Judge)
   pub reap : (w : World) (seat : ℕ) → Follows w (world_by w seat steps.Reap)

@@ -44,8 +44,8 @@ pub record Inherits (T : ℕ → Type 0) (t u : Topology Config) : Type 0 where
 abbrev pub IsBare : Topology Config → ℕ → Type 0
 IsBare t n = providers_of t n ≡ []
 
--- from the one mesh to the other each part of the graph is new or stood before, where at most geoms without providers
--- are touched, and each bio stays
+-- from the one mesh to the other each part of the graph is new or stood before, where at most geoms without
+-- providers are touched, and each bio stays
 pub record Follows (w v : World) : Type 0 where
   pub heir : Inherits (IsBare w.topology) w.topology v.topology
   pub bios : (x : Bio) → Contains w.bios x → Contains v.bios x

@@ -264,7 +264,8 @@ module _ (w : World) (firm : Firm w) (x : Bio) (here : Contains w.bios x) (waiti
         (at_contained (PieceIsPlaced (place g.config p.name) x.offset) (pieces g.config p x.offset x.len) o.item
         (pieces-placed g.config p x.offset x.len) o.stands)
         (at_contained (IsBetween 0 x.len) (pieces g.config p x.offset x.len) o.item
-        (follow-between 0 x.len (pieces g.config p x.offset x.len) (follow w firm x here p at_target g of no_disk moves))
+        (follow-between 0 x.len (pieces g.config p x.offset x.len)
+        (follow w firm x here p at_target g of no_disk moves))
         o.stands)))
 
     module _ (y : Bio) (z : PieceTarget) (is : IsPieceOf x y z) (good : IsGood z) (stands : Contains w.bios y)
@@ -287,7 +288,8 @@ module _ (w : World) (firm : Firm w) (x : Bio) (here : Contains w.bios x) (waiti
       same_sector : q.sector ≡ p.sector
       same_sector =
           ap (λ (v : Provider). v.sector)
-          (one-found (provider_at t y.target) q below.provider at_child (ap (provider_at t) same_target ∙ below.stands))
+          (one-found (provider_at t y.target) q below.provider at_child
+          (ap (provider_at t) same_target ∙ below.stands))
           ∙ below.sector
 
       -- its range is in whole sectors
@@ -295,7 +297,8 @@ module _ (w : World) (firm : Firm w) (x : Bio) (here : Contains w.bios x) (waiti
       whole =
           let order : IsBioInOrder w y = All-contains (IsBioInOrder w) w.bios y firm.sound.bios stands in
           subst (λ n. y.len % n ≡ 0) same_sector
-          (at-some (provider_at t y.target) (λ v. is_flush y.cmd ≡ false → IsRangeInside y v) q at_child order.target
+          (at-some (provider_at t y.target)
+          (λ v. is_flush y.cmd ≡ false → IsRangeInside y v) q at_child order.target
           (ap is_flush is.cmd ∙ moves)).len_whole
 
       -- a byte of it lies where the bio's lies
@@ -354,7 +357,8 @@ module _ (w : World) (firm : Firm w) (x : Bio) (here : Contains w.bios x) (waiti
         → z.piece.at ≡ a → JoinedFrom (a + z.piece.span.len) b ys → JoinedFrom a b (y ∷ ys)
     one_more a b y ys z is good covered begins rest =
         let q = found-with (provider_at t y.target) (λ q. CoversBy w y q (found y)) covered.1 in
-        let its : CoversRange w y q.item (found y) = q.fact.range (ap (λ c. not (is_flush c)) is.cmd ∙ ap not moves) in
+        let its : CoversRange w y q.item (found y) = q.fact.range
+        (ap (λ c. not (is_flush c)) is.cmd ∙ ap not moves) in
         let len : ℕ = y.len in
         let more : ℕ = b - (a + z.piece.span.len) in
         let order = rest.order in
@@ -442,7 +446,8 @@ module _ (w : World) (firm : Firm w) (x : Bio) (here : Contains w.bios x) (waiti
       record {
         disks = flushed cs (components g.config) flush (subst (AllZip (IsPieceOf x) cs) targets each_piece) covered
             ∙ sym (ends_step-down (ends t) t g.config no_disk)
-            ∙ sym (ends-down t firm.sound.ranks.ranked (IsOpen w) (open-down w firm) x.target opened p g at_target of)
+            ∙ sym (ends-down t firm.sound.ranks.ranked (IsOpen w)
+            (open-down w firm) x.target opened p g at_target of)
             ∙ ap (ends t) (sym number);
         commands = joined_commands cs (each_command cs (piece_targets g.config p x) each_piece covered);
       }

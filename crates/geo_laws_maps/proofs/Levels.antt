@@ -1,5 +1,5 @@
--- As many levels as there are geoms are enough for the ways of a closed set, so the map of a provider is made of those
--- of the providers below.
+-- As many levels as there are geoms are enough for the ways of a closed set, so the map of a provider is made of
+-- those of the providers below.
 use Rattle.std.specs.Prelude.{◌≡◌, ℕ, zero, suc, ◌+◌, ◌<◌, ◌≤◌, ◌==◌, nat_le, Bool, true, false, List, [], ◌∷◌, length, filter, Some, Contains, option_and_then}
 use Rattle.std.proofs.Common.{inl, inr, refl, sym, ◌∙◌, ap, subst, arith}
 use Rattle.std.proofs.lemmas.Bool.{leb-true, le-leb}
@@ -77,7 +77,8 @@ module _ (t : Topology Config) (ranked : Ranked t) (U : ℕ → Type 0) (ways : 
       (count_by-le-length (λ (x : Geom Config). nat_le (rank t x.number) (rank t g)) t.geoms)
 
   -- fewer below a geom that stands
-  height-falls : (g : Geom Config) (h : ℕ) → Contains t.geoms g → rank t h < rank t g.number → height h < height g.number
+  height-falls : (g : Geom Config) (h : ℕ) → Contains t.geoms g → rank t h < rank t g.number
+      → height h < height g.number
   unfolding height
   height-falls g h stands less =
       fewer_pass (λ (x : Geom Config). nat_le (rank t x.number) (rank t h))
@@ -122,7 +123,8 @@ module _ (t : Topology Config) (ranked : Ranked t) (U : ℕ → Type 0) (ways : 
         arith,
         none,
         fewer_pass (λ (x : Geom Config). false)
-            (λ (x : Geom Config). nat_le (rank t x.number) (rank t g.number)) (λ x e. absurd (let no : ⊥ = cc in no)) t.geoms g
+            (λ (x : Geom Config). nat_le (rank t x.number) (rank t g.number))
+            (λ x e. absurd (let no : ⊥ = cc in no)) t.geoms g
             stands refl (le-leb (rank t g.number) (rank t g.number) (omega arith)),
       ))
 

@@ -1,4 +1,5 @@
--- One level of the way down: it is the same where the components lead to the same providers, and these go on the same.
+-- One level of the way down: it is the same where the components lead to the same providers, and these go on
+-- the same.
 use Rattle.std.specs.Prelude.{◌≡◌, ℕ, zero, suc, ◌/◌, ◌==◌, Bool, true, false, List, [], ◌∷◌, ◌++◌, flat_map, filter_map, Option, Some, None, Contains, option_and_then, slice_get, if◌then◌else◌}
 use Rattle.std.specs.Option.{option_to_list, option_flatten, option_map_or}
 use Rattle.std.proofs.Common.{refl, sym, ◌∙◌, ap, subst}
@@ -114,7 +115,8 @@ module _ (F G : ℕ → ℕ → Option DiskSector) (t u : Topology Config) where
       → (x y : Provider) (o : ℕ) → y.name ≡ x.name → y.sector ≡ x.sector
       → flat_step G u config y o ≡ flat_step F t config x o
   flat_step-same Nothing lead so x y o name sector = flat_named Nothing lead so x.name y.name o name
-  flat_step-same (Disk disk) lead so x y o name sector = ap (λ s. Some (record { disk = disk; sector = o / s })) sector
+  flat_step-same (Disk disk) lead so x y o name sector =
+      ap (λ s. Some (record { disk = disk; sector = o / s })) sector
   flat_step-same (Mbr below slices) lead so x y o name sector =
       flat_named (Mbr below slices) lead so x.name y.name o name
   flat_step-same (Ebr below parts) lead so x y o name sector =
@@ -180,7 +182,8 @@ module _ (F G : ℕ → List ℕ) (t u : Topology Config) where
   ends_below (Some q) (Some r) same so c cs ea eb rest =
       let number : r ≡ q = cc in
       let first : G r ≡ F q = ap G number ∙ so q refl in
-      rw (ea, eb) (ap (λ n. n ++ flat_map G (filter_map (provider_of_consumer u) cs)) first ∙ ap (λ n. F q ++ n) rest)
+      rw (ea, eb)
+      (ap (λ n. n ++ flat_map G (filter_map (provider_of_consumer u) cs)) first ∙ ap (λ n. F q ++ n) rest)
   ends_below None (Some r) same so c cs ea eb rest = absurd (let no : ⊥ = cc in no)
   ends_below (Some q) None same so c cs ea eb rest = absurd (let no : ⊥ = cc in no)
 
@@ -192,7 +195,8 @@ module _ (F G : ℕ → List ℕ) (t u : Topology Config) where
   ends_over (c ∷ cs) lead so =
       ends_below (provider_of_consumer t c) (provider_of_consumer u c) (lead c (Contains-here c cs))
       (λ q e. so c q (Contains-here c cs) e) c cs refl refl
-      (ends_over cs (λ d here. lead d (Contains-there c d cs here)) (λ d q here e. so d q (Contains-there c d cs here) e))
+      (ends_over cs (λ d here. lead d (Contains-there c d cs here))
+      (λ d q here e. so d q (Contains-there c d cs here) e))
 
   -- the whole level
   pub ends_step-same : (config : Config) → LeadSame t u config → OfEachBelow t config (λ q. G q ≡ F q)

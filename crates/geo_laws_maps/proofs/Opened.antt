@@ -29,7 +29,8 @@ use Rattle.geo_laws_maps.specs.MapLaws.{LiveIsOpen, OpenGoesDown, UsedGoesDown}
 -- Sums
 
 -- where a sum is nothing, so is each part of it
-part_nothing : {X : Type 0} (f : X → Counts) (xs : List X) (x : X) → Contains xs x → sum_counts (map f xs) ≡ no_counts
+part_nothing : {X : Type 0} (f : X → Counts) (xs : List X) (x : X) → Contains xs x
+    → sum_counts (map f xs) ≡ no_counts
     → f x ≡ no_counts
 part_nothing f [] x here e = absurd (nothing_in x here)
 part_nothing f (y ∷ ys) x here e =
@@ -77,7 +78,8 @@ module _ (w : World) (firm : Firm w) where
   pub live-open : (x : Bio) → Contains w.bios x → IsOpen w x.target
   live-open x here none =
       let order : IsBioInOrder w x = All-contains (IsBioInOrder w) w.bios x firm.sound.bios here in
-      let s = found-with (consumer_at t x.source) (λ c. (c.provider ≡ Some x.target) × HasCountFor w x c) order.source in
+      let s = found-with (consumer_at t x.source)
+      (λ c. (c.provider ≡ Some x.target) × HasCountFor w x c) order.source in
       counted x s.item s.fact.1 (is_read x.cmd) refl
       (wants_none s.item x.target
       (find-Contains (λ (z : Consumer). z.number == x.source) t.consumers s.item s.is) s.fact.0 none)
@@ -114,7 +116,8 @@ module _ (w : World) (firm : Firm w) where
     -- and it has its number
     x_open : have (granted_in w) t x.number ≢ no_counts
     x_open none =
-        opened (ap (have (granted_in w) t) (sym (number_found (λ (z : Provider). z.number) t.providers p x found)) ∙ none)
+        opened (ap (have (granted_in w) t) (sym (number_found (λ (z : Provider). z.number) t.providers p x found))
+        ∙ none)
 
     -- so the geom has an open provider
     in_use : IsTrue (has_open_provider w g)
@@ -135,7 +138,8 @@ module _ (w : World) (firm : Firm w) where
         let middle = middle_kind g.kind g.config class.config (components-below g.config n among) in
         x_open
         (All-contains (λ (y : Provider). have (granted_in w) t y.number ≡ no_counts) (providers_of t g.number) x
-        (wants_nothing (granted_in w) t c g (subst (λ m. geom_at t m ≡ Some g) (sym (own ∙ g_number)) of) middle.granted
+        (wants_nothing (granted_in w) t c g
+        (subst (λ m. geom_at t m ≡ Some g) (sym (own ∙ g_number)) of) middle.granted
         middle.disk none)
         offered)
 

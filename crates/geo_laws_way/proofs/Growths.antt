@@ -69,7 +69,8 @@ module _ (w : World) (firm : Firm w) (top : ℕ) where
       → Contains (below t top) q
   way_below p [] q used reached way = subst (Contains (below t top)) way reached
   way_below p (n ∷ over) q used reached way =
-      way_below n over q (next-inside t (Used w) (used-down w firm) p n used way.0) (next_below p n used reached way.0)
+      way_below n over q (next-inside t (Used w) (used-down w firm) p n used way.0)
+      (next_below p n used reached way.0)
       way.1
 
 -- The concat that grows
@@ -97,7 +98,8 @@ module _ (w : World) (x : Growing) (q : Provider) (firm : Firm w) (is : IsStandi
       (record { bio = used.bio; stands = used.stands; under = record { over = []; way = refl } })
       (below_self (length w.topology.geoms) w.topology top) used.under.way in
       let told : is_below w.topology x.provider.number top ≡ true =
-      any-contained (λ z. z == x.provider.number) (below w.topology top) p reached (eq-eqb p x.provider.number number) in
+      any-contained (λ z. z == x.provider.number) (below w.topology top) p reached
+      (eq-eqb p x.provider.number number) in
       let some : list_any (λ (b : Bio). is_below w.topology x.provider.number b.target) w.bios ≡ true =
       any-contained (λ (b : Bio). is_below w.topology x.provider.number b.target) w.bios used.bio used.stands told in
       let no : false ≡ true = sym bios_away ∙ some in
@@ -116,7 +118,8 @@ module _ (w : World) (x : Growing) (q : Provider) (firm : Firm w) (is : IsStandi
       let one : Topology Config = add_consumer t x.geom.number (Some q.number) in
       comes-risen T t (granted_in v) (risen (granted_in w) t (granted_in v) v.topology) (queued_of v)
       (heir-size T t (set_config one x.geom.number config)
-      (heir-config T t one (heir-consumer T t t (inherits-same T t) x.geom.number (Some q.number)) x.geom.number config
+      (heir-config T t one
+      (heir-consumer T t t (inherits-same T t) x.geom.number (Some q.number)) x.geom.number config
       (λ y here e. inr (λ untouched. absurd (untouched (eqb-true y.number x.geom.number e)))))
       x.provider.number (x.provider.size + q.size) (λ y here e.
       let at : provider_at t x.provider.number ≡ Some y =

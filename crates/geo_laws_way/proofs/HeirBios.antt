@@ -124,7 +124,8 @@ module _ (U : ℕ → Type 0) (w : World) where
   deliver_kept x got = same
 
   -- a step that is made only in some phase
-  in_phase : (b : Bool) (m : World × Outcome) (f : Found) → Kept m.0 → Kept (world_after w (if b then Ok m else Err f))
+  in_phase : (b : Bool) (m : World × Outcome) (f : Found) → Kept m.0
+      → Kept (world_after w (if b then Ok m else Err f))
   in_phase true m f kept = kept
   in_phase false m f kept = same
 

@@ -1,4 +1,5 @@
--- What bios use is kept, where the graph after comes from the graph before, both meshes are firm, and the bios stay.
+-- What bios use is kept, where the graph after comes from the graph before, both meshes are firm, and the
+-- bios stay.
 use Rattle.std.specs.Prelude.{◌≡◌, ℕ, ◌<◌, ◌==◌, List, [], ◌∷◌, map, find, Some, Contains, option_and_then}
 use Rattle.std.proofs.Common.{inl, inr, refl, sym, ◌∙◌, ap, subst, arith}
 use Rattle.std.proofs.lemmas.List.Elements.{All-contains}
@@ -68,7 +69,8 @@ module _ (w v : World) (firm : Firm w) (after : Firm v) (T : ℕ → Type 0)
       order.geoms heir.geoms n x y found now
 
   -- a consumer in both
-  consumer_both : (c : ℕ) (x y : Consumer) → consumer_at t c ≡ Some x → consumer_at u c ≡ Some y → IsHeirConsumer x y
+  consumer_both : (c : ℕ) (x y : Consumer) → consumer_at t c ≡ Some x → consumer_at u c ≡ Some y
+      → IsHeirConsumer x y
   consumer_both c x y found now =
       found_both (λ (z : Consumer). z.number) IsHeirConsumer (λ a b is. is.number) t.next_consumer t.consumers
       u.consumers order.consumers heir.consumers c x y found now
@@ -135,13 +137,15 @@ module _ (w v : World) (firm : Firm w) (after : Firm v) (T : ℕ → Type 0)
       let now = leads p used opened next.provider next.found next.geom next.of next.component next.is in
       let is = same_consumer p used opened next.provider next.found next.geom next.of next.component next.is was.consumer
       was.found in
-      subst (IsOpen v) (one-found now.consumer.provider now.under q now.attached (is.provider ∙ attached)) now.inside
+      subst (IsOpen v)
+      (one-found now.consumer.provider now.under q now.attached (is.provider ∙ attached)) now.inside
 
   -- so is all that is reached
   way_open : (p : ℕ) (over : List ℕ) (q : ℕ) → Used w p → IsOpen v p → IsWay t p over q → IsOpen v q
   way_open p [] q used opened way = subst (IsOpen v) way opened
   way_open p (n ∷ over) q used opened way =
-      way_open n over q (next-inside t (Used w) (used-down w firm) p n used way.0) (next_open p n used opened way.0) way.1
+      way_open n over q (next-inside t (Used w) (used-down w firm) p n used way.0)
+      (next_open p n used opened way.0) way.1
 
   -- and what is used
   still_open : (p : ℕ) → Used w p → IsOpen v p

@@ -64,7 +64,8 @@ module _ (t u : Topology Config) (U : ℕ → Type 0) (ways : IsWays t U) (keeps
             let before : Contains (components down.geom.config) c =
             subst (λ (k : Config). Contains (components k) c) now.geom_is.config among in
             let leads : LeadsInto t U down.geom c = down.below c before in
-            let d = found-with (consumer_at u c) (IsSameConsumer leads.consumer) (kept_consumer p inside c before) in
+            let d = found-with (consumer_at u c) (IsSameConsumer leads.consumer)
+            (kept_consumer p inside c before) in
             record {
               consumer = d.item;
               found = d.is;
@@ -103,7 +104,8 @@ module _ (t u : Topology Config) (U : ℕ → Type 0) (ways : IsWays t U) (keeps
       flat_level u k p o now.provider now.geom now.found now.of
       ∙ ap (λ config. flat_step (flat_within k u) u config now.provider o) now.geom_is.config
       ∙ flat_step-same (flat_within k t) (flat_within k u) t u down.geom.config (lead_same p inside)
-      (of_each (λ q. (i : ℕ) → flat_within k u q i ≡ flat_within k t q i) (flat_within-same k) p inside) down.provider
+      (of_each (λ q. (i : ℕ) → flat_within k u q i ≡ flat_within k t q i)
+      (flat_within-same k) p inside) down.provider
       now.provider o now.is.name now.is.sector
       ∙ sym (flat_level t k p o down.provider down.geom down.found down.of)
 

@@ -89,7 +89,8 @@ go_kept w seat actor firm = left_kept w firm actor (slice_get w.actors actor) re
 step_kept : (w : World) (seat : ℕ) (s : Step) → Firm w → Keeps w (world_by w seat s)
 step_kept w seat (steps.Go actor) firm = go_kept w seat actor firm
 step_kept w seat steps.Event firm = follows-keep w (world_by w seat steps.Event) firm (steps_inherit.event w seat)
-step_kept w seat steps.Judge firm = follows-keep w (world_by w seat steps.Judge) firm (steps_inherit.judge w seat firm)
+step_kept w seat steps.Judge firm =
+    follows-keep w (world_by w seat steps.Judge) firm (steps_inherit.judge w seat firm)
 step_kept w seat steps.Reap firm = follows-keep w (world_by w seat steps.Reap) firm (steps_inherit.reap w seat)
 step_kept w seat steps.Wash firm = follows-keep w (world_by w seat steps.Wash) firm (steps_inherit.wash w seat)
 step_kept w seat (steps.Start b) firm = λ after. starts-keep (Used w) w seat b

@@ -30,8 +30,8 @@ pub record IsSameConsumer (x y : Consumer) : Type 0 where
   pub geom : y.geom ≡ x.geom
   pub provider : y.provider ≡ x.provider
 
--- from the one graph to the other each provider of a set stands with its geom and the geom's components, the same but
--- for errors, withering, started requests and marks
+-- from the one graph to the other each provider of a set stands with its geom and the geom's components, the same
+-- but for errors, withering, started requests and marks
 pub record KeepsWays (U : ℕ → Type 0) (t u : Topology Config) : Type 0 where
   pub provider : (p : ℕ) (x : Provider) → U p → provider_at t p ≡ Some x
       → IsSomeAnd (provider_at u p) (IsSameProvider x)
@@ -45,8 +45,8 @@ pub record KeepsWays (U : ℕ → Type 0) (t u : Topology Config) : Type 0 where
 abbrev pub sizes_at : Topology Config → ℕ → Option (ℕ × ℕ)
 sizes_at t p = option_map {U = ℕ × ℕ} (λ x. (x.sector, x.size)) (provider_at t p)
 
--- a provider has the same sizes in both graphs, each offset of it lies in the same sector of a disk, and the same disks
--- are reached from it
+-- a provider has the same sizes in both graphs, each offset of it lies in the same sector of a disk, and the same
+-- disks are reached from it
 pub record SameMap (t u : Topology Config) (p : ℕ) : Type 0 where
   pub sizes : sizes_at u p ≡ sizes_at t p
   pub sectors : (o : ℕ) → flat u p o ≡ flat t p o

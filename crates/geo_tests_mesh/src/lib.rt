@@ -11,3 +11,5 @@ mod log;
 mod mesh;
 #[cfg(test)]
 mod names;
+#[cfg(test)]
+mod traffic;

@@ -1,6 +1,6 @@
 -- What is found among the bios of a world, and what becomes of them, is what is of the table's.
-use Rattle.std.proofs.Common.{◌≡◌, ℕ, List, [], ◌∷◌, ◌++◌, map, filter, find, count_by, length, cond, ◌+◌, ◌==◌, Bool, true, false, Option, Some, None, sym, refl, ap, ◌∙◌, suc}
-use Rattle.std.specs.List.{list_any, list_all, AllByRecursion}
+use Rattle.std.proofs.Common.{◌≡◌, ℕ, List, [], ◌∷◌, map, filter, find, count_by, length, cond, ◌+◌, ◌==◌, Bool, true, false, Option, Some, None, sym, refl, ap, ◌∙◌, suc}
+use Rattle.std.specs.List.{list_any, AllByRecursion}
 use Rattle.std.specs.Option.{option_map}
 use Rattle.std.proofs.lemmas.List.{map-append}
 use Rattle.std.proofs.lemmas.List.Folds.{list_all-map}

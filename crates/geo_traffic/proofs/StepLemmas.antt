@@ -6,21 +6,13 @@ use Rattle.std.proofs.lemmas.Bool.{eqb-true}
 use Rattle.std.proofs.lemmas.List.{map-append}
 use Rattle.std.proofs.lemmas.List.Folds.{list_all-map}
 use Rattle.std.proofs.lemmas.List.FromFn.{length-enumerate_from}
-use Rattle.geo_base.specs.declared.request.BioCmd.{BioCmd}
-use Rattle.geo_base.specs.declared.errno.Errno.{Errno}
-use Rattle.geo_base.specs.declared.errno.Errno.TheVariants.{EIO}
 use Rattle.geo_model.specs.declared.step.BioResult.{BioResult}
 use Rattle.geo_model.specs.declared.step.BioResult.TheVariants as results
-use Rattle.geo_model.specs.declared.step.DeviceResult.{DeviceResult}
 use Rattle.geo_model.specs.declared.step.DeviceResult.TheVariants as devices
-use Rattle.geo_model.specs.declared.step.Entry.{Entry}
 use Rattle.geo_model.specs.declared.step.Outcome.{Outcome}
 use Rattle.geo_model.specs.declared.step.Outcome.TheVariants as outcomes
-use Rattle.geo_model.specs.declared.step.Owner.{Owner}
 use Rattle.geo_model.specs.declared.step.Owner.TheVariants as owners
 use Rattle.geo_model.specs.declared.step.Phase.TheVariants as phases
-use Rattle.geo_model.specs.declared.step.Step.TheVariants as steps
-use Rattle.geo_model.specs.Graph.{AreNumbers}
 use Rattle.geo_model.specs.Topology.{Topology}
 use Rattle.geo_model.specs.World.{World, Config, Bio, BioOf, bio_at, children_among, change_number, is_done, is_child_of}
 use Rattle.geo_model.specs.Words.{is_read}
@@ -264,13 +256,12 @@ deliveries_are_shown log bios w x place got next is numbers found same =
         → AllByRecursion (λ y. (y.number == x.number) ≡ true
         → shown_bio log (delivered place (errno_of got) y) ≡ up_with (result_of_device got) (shown_bio log y)) ys
     goes [] all = tt
-    goes (y ∷ ys) all =
-        (
-          λ e. subst (λ (z : BioOf Held). shown_bio log (delivered place (errno_of got) z)
-              ≡ up_with (result_of_device got) (shown_bio log z)) (sym (all.0 e))
-              (ap (λ r. up_with r (shown_bio log x)) same),
-          goes ys all.1,
-        )
+    goes (y ∷ ys) all = (
+      λ e. subst (λ (z : BioOf Held). shown_bio log (delivered place (errno_of got) z)
+          ≡ up_with (result_of_device got) (shown_bio log z)) (sym (all.0 e))
+          (ap (λ r. up_with r (shown_bio log x)) same),
+      goes ys all.1,
+    )
 
 -- the place of a Deliver
 pub place_is_answer : PlaceIsAnswer

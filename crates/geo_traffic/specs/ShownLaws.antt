@@ -14,7 +14,7 @@ use Rattle.geo_model.specs.declared.step.Phase.TheVariants as phases
 use Rattle.geo_model.specs.declared.step.Step.TheVariants as steps
 use Rattle.geo_model.specs.Graph.{AreNumbers}
 use Rattle.geo_model.specs.declared.span.Piece.{Piece}
-use Rattle.geo_model.specs.World.{World, Bio, BioOf, bio_at, children_of, children_among, change_number, is_root}
+use Rattle.geo_model.specs.World.{World, Bio, BioOf, bio_at, children_of, children_among, change_number}
 use Rattle.geo_model.specs.Bios.{PieceTarget, new_bio, up_with, submit, bounce, send, split_bio, take_bio, deliver, up_to, taste_with, reply_of_result, request_of_bio, result_of_device, fits_bio}
 use Rattle.geo_bio.specs.declared.bio.Held.{Held}
 use Rattle.geo_bio.specs.declared.bio.Held.TheVariants as held

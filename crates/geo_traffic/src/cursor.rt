@@ -1,6 +1,6 @@
 //! Which bios wait for a step.
 ghost use Rattle.std.specs.Prelude.{◌≡◌, ◌+◌, ◌<◌, ◌^◌, IsTrue, option_map};
-ghost use Rattle.geo_bio.specs.BioTable.{has_phase};
+ghost use Rattle.geo_bio.specs.BioTable.{AreInOrder, has_phase};
 ghost use Rattle.geo_traffic.specs.Cursors.{is_due, others, first_from, IsCursor, with_one, with_last};
 
 use geo_base::BioId;
@@ -36,7 +36,8 @@ fn is_due(due: Due, phase: Phase) -> bool
 
 // Whether the bio of a number is there, and waits for this step.
 fn waits(bios: &BioTable, due: Due, bio: BioId) -> bool
-    ensures { result ≡ has_phase (is_due due) bios.now.bios bio }
+    ensures waits { result ≡ has_phase (is_due due) bios.now.bios bio }
+    ensures bound { bios.now.next < 2 ^ 64 }
 {
     match bios.get(bio) {
         Some(found) => is_due(due, found.phase),
@@ -91,8 +92,12 @@ pub fn with_last(cursor: Cursor, number: u64, count: u64) -> Cursor
 pub fn without_one(cursor: Cursor, bios: &BioTable, due: Due, bio: BioId) -> Cursor
     requires cursor { IsCursor (is_due due) bios.now.bios cursor }
     requires waits { IsTrue (has_phase (is_due due) bios.now.bios bio) }
-    ensures { IsCursor (is_due due) (others bio bios.now.bios) result }
+    ensures cursor { IsCursor (is_due due) (others bio bios.now.bios) result }
+    ensures in_order { AreInOrder bios.now }
+    ensures bound { bios.now.next < 2 ^ 64 }
 {
+    // A look-up says that the bios stand in order.
+    let _ = bios.get(bio);
     let number = bio.number();
     let count = cursor.count - 1;
     if cursor.first != Some(number) {

@@ -12,7 +12,7 @@ ghost use Rattle.geo_bio.specs.Up.{told_of_up, after_up, resolved};
 ghost use Rattle.geo_traffic.specs.Traffic.{first_in, count_in};
 ghost use Rattle.geo_traffic.specs.Cursors.{up_after, family_size, gone_by};
 
-use crate::cursor::{with_last, with_one, without_one, Cursor, Due};
+use crate::cursor::{Cursor, Due, with_last, with_one, without_one};
 use geo_base::{BioCmd, BioId, Block, ConsId, Errno, NoMemory, ProvId};
 use geo_bio::{Bio, BioResult, BioTable, Held, LogBytes, Owner, Phase, Risen, Span, Targets};
 use geo_range::PieceList;
@@ -165,6 +165,7 @@ impl Traffic {
         ensures had_room { 1 ≤ self.old.spare → IsOk result }
     {
         let bio = self.bios.submit(cmd, span, bytes, from, to, owner)?;
+        // A look-up says that there are fewer bios than numbers.
         let _ = self.bios.get(bio);
         self.down = with_last(self.down, bio.number(), 1);
         self.live += 1;
@@ -197,6 +198,7 @@ impl Traffic {
     {
         let down = without_one(self.down, &self.bios, Due::Start, bio);
         let first = self.bios.start(alloc, bio, pieces, targets)?;
+        // A look-up says that there are fewer bios than numbers.
         let _ = self.bios.get(bio);
         let count = pieces.items().len() as u64;
         self.down = with_last(down, first.number(), count);
@@ -211,7 +213,6 @@ impl Traffic {
     {
         self.down = without_one(self.down, &self.bios, Due::Start, bio);
         self.bios.bounce(bio, errno);
-        let _ = self.bios.get(bio);
         self.up = with_one(self.up, bio.number());
     }
 
@@ -222,7 +223,6 @@ impl Traffic {
     {
         self.down = without_one(self.down, &self.bios, Due::Start, bio);
         self.bios.send(bio);
-        let _ = self.bios.get(bio);
         self.sent = with_one(self.sent, bio.number());
     }
 
@@ -233,7 +233,6 @@ impl Traffic {
     {
         self.sent = without_one(self.sent, &self.bios, Due::Take, bio);
         self.bios.take(bio, seat);
-        let _ = self.bios.get(bio);
         self.busy += 1;
     }
 
@@ -242,8 +241,9 @@ impl Traffic {
         requires { IsTrue (has_phase is_busy self.old.bios bio) }
         ensures { self.new ≡ record self.old { bios = change_number bio (delivered place errno) self.old.bios } }
     {
-        self.bios.deliver(bio, place, errno);
+        // A look-up says that the bios stand in order.
         let _ = self.bios.get(bio);
+        self.bios.deliver(bio, place, errno);
         self.busy -= 1;
         self.up = with_one(self.up, bio.number());
     }
@@ -270,7 +270,12 @@ impl Traffic {
     }
 
     /// What a bio that has ended holds, with a copy of its bytes: what it hands on when it goes up as a root.
-    pub fn copied<B: LogBytes>(&self, alloc: Global, bio: BioId, log: &B) -> Result<BioResult, NoMemory>
+    pub fn copied<B: LogBytes>(
+        &self,
+        alloc: Global,
+        bio: BioId,
+        log: &B,
+    ) -> Result<BioResult, NoMemory>
         ensures { IfSome (bio_among self.now.bios bio) (λ x. IfOk result (λ got.
             got ≡ resolved (B.place_bytes log.now) x.result)) }
     {
@@ -282,11 +287,7 @@ impl Traffic {
 }
 
 // What a bio holds, with a copy of its bytes.
-fn copy_of<B: LogBytes>(
-    alloc: Global,
-    held: &Option<Held>,
-    log: &B,
-) -> Result<BioResult, NoMemory>
+fn copy_of<B: LogBytes>(alloc: Global, held: &Option<Held>, log: &B) -> Result<BioResult, NoMemory>
     ensures { IfOk result (λ got. got ≡ resolved (B.place_bytes log.now) held.now) }
 {
     match held {
@@ -313,7 +314,8 @@ fn count_children(bios: &BioTable, parent: BioId) -> u32
 
 // How many children wait for the parent that a bio has, if it is a child.
 fn family_size(bios: &BioTable, bio: BioId) -> u32
-    ensures { IfSome (bio_among bios.now.bios bio) (λ x. result ≡ family_size bios.now.bios x.owner) }
+    ensures size { IfSome (bio_among bios.now.bios bio) (λ x. result ≡ family_size bios.now.bios x.owner) }
+    ensures parent { IfSome (bio_among bios.now.bios bio) (λ x. HasParent bios.now.bios x.owner) }
 {
     match bios.get(bio) {
         Some(found) => match found.owner {
