@@ -54,7 +54,7 @@ covers_then h w a x found number are way covers = by (bio_at a.world a.bio) refl
         (covers_request a.world x y found (same_request_back y x some) before)
 
 -- an entry that is the Up of a bio and a reply is a reply to it
-reply_is : (b : ℕ) (e : Entry) (line : ℕ) (given : Reply) → e.step ≡ steps.Up b → e.outcome ≡ outcomes.Replied line given
+pub reply_is : (b : ℕ) (e : Entry) (line : ℕ) (given : Reply) → e.step ≡ steps.Up b → e.outcome ≡ outcomes.Replied line given
     → is_reply_to b e ≡ true
 reply_is b e line given up is = rw (up, is, eq-eqb b b refl) refl
 

@@ -1,8 +1,7 @@
 -- When leaves cover a bio, and when two graphs map a provider alike (g_bio(9)).
-use Rattle.std.specs.Prelude.{◌≡◌, ℕ, List, Option, IsSomeAnd, All, option_map}
-use Rattle.geo_model.specs.Topology.{Topology, provider_at}
-use Rattle.geo_model.specs.World.{World, Config, Bio}
-use Rattle.geo_model.specs.Place.{flat, ends}
+use Rattle.std.specs.Prelude.{List, IsSomeAnd, All}
+use Rattle.geo_model.specs.Topology.{provider_at}
+use Rattle.geo_model.specs.World.{World, Bio}
 use Rattle.geo_model.specs.Results.{Leaf}
 use Rattle.geo_laws_maps.specs.Covers.{CoversBy}
 use Rattle.geo_laws_way.specs.WayLaws.{SameMap}

@@ -1,13 +1,13 @@
 -- A legal log keeps the ledger all along.
-use Rattle.std.specs.Prelude.{◌≡◌, ℕ, ◌+◌, ◌≤◌, Bool, true, false, List, [], ◌∷◌, ◌++◌, count_by, Ok, Err, IsOkAnd, All}
-use Rattle.std.proofs.Common.{refl, sym, ◌∙◌, ap, subst, append-nil}
+use Rattle.std.specs.Prelude.{◌≡◌, List, [], ◌∷◌, ◌++◌, Ok, Err, IsOkAnd}
+use Rattle.std.proofs.Common.{refl, sym, ap, subst, append-nil}
 use Rattle.std.proofs.lemmas.List.{append_assoc}
-use Rattle.std.proofs.lemmas.List.Elements.{All-from_contained}
+use Rattle.std.proofs.lemmas.List.Elements.{All-from_recursion}
+use Rattle.geo_laws_graph.proofs.Members.{All-from_contained}
 use Rattle.geo_model.specs.declared.step.Entry.{Entry}
-use Rattle.geo_model.specs.declared.step.Outcome.{Outcome}
 use Rattle.geo_model.specs.World.{World, Bio}
 use Rattle.geo_model.specs.Step.{Answer, step}
-use Rattle.geo_model.specs.Log.{IsMade, Legal, Moment, after_entry, moments, replay, world_after}
+use Rattle.geo_model.specs.Log.{IsMade, Legal, Moment, after_entry, moments, replay}
 use Rattle.geo_model.specs.Fitting.{Firm}
 use Rattle.geo_laws_way.proofs.Steps.{steps_keep_used}
 use Rattle.geo_laws_steps.proofs.Stepped.{steps_stay_firm}
@@ -17,7 +17,7 @@ use Rattle.geo_laws_ledger.specs.Ledger.{Ledger}
 use Rattle.geo_laws_ledger.proofs.Stepped.{steps_keep_ledger}
 
 -- an entry that is made leads to the world after it
-entry_made : (w : World) (e : Entry) → IsMade w e → step w e.seat e.step ≡ Ok (after_entry w e, e.outcome)
+pub entry_made : (w : World) (e : Entry) → IsMade w e → step w e.seat e.step ≡ Ok (after_entry w e, e.outcome)
 entry_made w e made = by (step w e.seat e.step) refl made
   where
     by : (r : Answer) → step w e.seat e.step ≡ r → IsOkAnd r (λ m. m.1 ≡ e.outcome)
@@ -28,8 +28,9 @@ entry_made w e made = by (step w e.seat e.step) refl made
 -- the map of each bio's provider stays
 maps_stay : (w : World) (e : Entry) → Firm w → SameMaps w (after_entry w e)
 maps_stay w e firm =
-    All-from_contained (λ (x : Bio). SameMap w.topology (after_entry w e).topology x.target) w.bios
-    (λ x here. steps_keep_used.maps w e.seat e.step x firm here)
+    All-from_recursion (λ (x : Bio). SameMap w.topology (after_entry w e).topology x.target) w.bios
+    (All-from_contained (λ (x : Bio). SameMap w.topology (after_entry w e).topology x.target) w.bios
+    (λ x here. steps_keep_used.maps w e.seat e.step x firm here))
 
 -- one entry more
 pub ledger_after : (h : List Moment) (w : World) (e : Entry) → Ledger h w → Firm w → IsMade w e

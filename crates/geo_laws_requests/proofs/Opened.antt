@@ -1,12 +1,13 @@
 -- The opening has no bio, so the empty history and it keep a ledger.
-use Rattle.std.specs.Prelude.{◌≡◌, ℕ, ◌≤◌, List, [], ◌∷◌, fold, All}
-use Rattle.std.proofs.Common.{refl, ◌∙◌, subst, sym}
+use Rattle.std.specs.Prelude.{◌≡◌, ℕ, false, not, List, [], ◌∷◌, filter, fold, zip, All}
+use Rattle.std.specs.List.{enumerate_from}
+use Rattle.std.proofs.Common.{refl, subst, sym}
 use Rattle.std.proofs.lemmas.List.Elements.{All-from_recursion}
 use Rattle.geo_model.specs.declared.command.DiskDecl.{DiskDecl}
 use Rattle.geo_model.specs.World.{World, Plan}
 use Rattle.geo_model.specs.GeomCommands.{stand}
 use Rattle.geo_model.specs.Opening.{opening, bare_world, disk_in_size}
-use Rattle.geo_laws_histories.specs.Histories.{names_bio, Never}
+use Rattle.geo_laws_histories.specs.Histories.{names_bio}
 use Rattle.geo_laws_ledger.specs.Ledger.{AcceptsAreAccounted, IsLogged, Ledger}
 
 -- disks that stand make no bio
@@ -18,7 +19,9 @@ stand_none w (item ∷ items) none = stand_none (stand w (item.0, disk_in_size i
 -- so the opening has none
 pub opening_none : (plan : Plan) (facts : List (ℕ × ℕ)) → (opening plan facts).bios ≡ []
 unfolding opening
-opening_none plan facts = stand_none (bare_world plan facts) _ refl
+opening_none plan facts =
+    stand_none (bare_world plan facts)
+    (filter (λ item. not item.1.0.later) (enumerate_from 0 (zip plan.disks facts))) refl
 
 -- with nothing told and no bio
 pub opened_ledger : (plan : Plan) (facts : List (ℕ × ℕ)) → Ledger [] (opening plan facts)
