@@ -1,18 +1,18 @@
 -- One step of the loops over notes.
-use Rattle.std.specs.Prelude.{◌≡◌, ℕ, ◌+◌, Bool, true, false, List, ◌∷◌, map, fold, Option, Some, None}
-use Rattle.std.proofs.Common.{refl, sym, ap, ◌∙◌, subst, arith}
+use Rattle.std.specs.Prelude.{◌≡◌, ℕ, ◌+◌, Bool, true, false, List, ◌∷◌, map, fold, Some, None}
+use Rattle.std.proofs.Common.{refl, sym, ap, ◌∙◌, subst}
 use Rattle.geo_base.specs.declared.request.Counts.{Counts}
-use Rattle.geo_model.specs.Topology.{Topology, Provider}
+use Rattle.geo_model.specs.Topology.{Provider}
 use Rattle.geo_model.specs.Graph.{AreNumbers}
 use Rattle.geo_model.specs.Events.{QueuedTopology, spoil_at, is_to_spoil, offer_again, announce_risen, announce_fallen}
 use Rattle.geo_event.specs.EventQueue.{Queued}
 use Rattle.geo_slots.specs.Slots.{with_value}
-use Rattle.geo_mesh.specs.Topo.{TopoView, with_topology, with_notes}
+use Rattle.geo_mesh.specs.Topo.{TopoView, with_topology}
 use Rattle.geo_mesh.specs.Graph.{IsSoundGraph}
 use Rattle.geo_laws_counts.specs.CountWords.{seen_by_counts}
-use Rattle.geo_access.specs.Access.{granted_by, noted, first_noted, is_noted, without_risen, without_fallen, IsCounted}
-use Rattle.geo_life.specs.Life.{queued, notes, RestStays, AreStored, without_rises, without_falls}
-use Rattle.geo_life.proofs.Announcing.{note_next, note_less, note_again, note_none, note_rows}
+use Rattle.geo_access.specs.Access.{granted_by, noted, first_noted, without_risen, without_fallen, IsCounted}
+use Rattle.geo_life.specs.Life.{queued, notes, AreStored, without_rises, without_falls}
+use Rattle.geo_life.proofs.Announcing.{note_next, note_less, note_again, note_rows}
 use Rattle.geo_life.proofs.Seen.{seen_marks}
 use Rattle.geo_life.proofs.Unseen.{provider_rows}
 use Rattle.geo_life.proofs.MarkWalk.{stored_still}

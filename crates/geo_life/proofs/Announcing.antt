@@ -1,12 +1,12 @@
 -- Notes that are taken in order.
-use Rattle.std.specs.Prelude.{◌≡◌, ◌⊎◌, ℕ, suc, ◌+◌, ◌≤◌, ◌<◌, ◌==◌, Bool, true, false, cond, List, [], ◌∷◌, map, filter, find, length, count_by, Option, Some, None, unwrap_or, option_map, if◌then◌else◌}
-use Rattle.std.proofs.Common.{refl, sym, ap, ◌∙◌, subst, arith, inl, eq-eqb}
+use Rattle.std.specs.Prelude.{◌≡◌, ℕ, suc, ◌+◌, ◌<◌, ◌==◌, Bool, true, false, cond, List, [], ◌∷◌, map, filter, find, length, Some, None, unwrap_or, option_map, if◌then◌else◌}
+use Rattle.std.proofs.Common.{refl, sym, ap, ◌∙◌, arith, eq-eqb}
 use Rattle.std.proofs.lemmas.Bool.{eqb-true}
 use Rattle.std.proofs.lemmas.Simd.{map-map}
 use Rattle.geo_model.specs.Topology.{Provider}
 use Rattle.geo_model.specs.Graph.{AreNumbers}
 use Rattle.geo_laws_graph.proofs.Lists.{Rise, rise-from}
-use Rattle.geo_slots.specs.Slots.{value_at, with_value}
+use Rattle.geo_slots.specs.Slots.{with_value}
 use Rattle.geo_access.specs.Access.{noted, first_noted, is_noted}
 use Rattle.geo_life.specs.Life.{notes}
 

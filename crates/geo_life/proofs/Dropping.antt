@@ -1,15 +1,13 @@
 -- Parts that go with no count leave grants, the other stored counts and notes.
-use Rattle.std.specs.Prelude.{◌≡◌, ◌≢◌, ◌⊎◌, ℕ, ◌==◌, Bool, true, false, not, cond, List, [], ◌∷◌, map, filter, find, Option, Some, None, Contains, All, IsSome, IsTrue, unwrap_or, option_map, if◌then◌else◌}
+use Rattle.std.specs.Prelude.{◌≡◌, ◌≢◌, ◌⊎◌, ℕ, ◌==◌, Bool, true, false, not, cond, List, [], ◌∷◌, map, filter, find, Option, Some, None, Contains, unwrap_or, option_map, if◌then◌else◌}
 use Rattle.std.specs.Option.{option_map_or}
 use Rattle.std.proofs.Common.{refl, sym, ◌∙◌, ap, subst, eq-eqb}
-use Rattle.std.proofs.lemmas.Bool.{eqb-true, ne_eqb, not-false}
+use Rattle.std.proofs.lemmas.Bool.{eqb-true, not-false}
 use Rattle.std.proofs.lemmas.List.Elements.{All-contains}
-use Rattle.geo_base.specs.declared.kind.Kind.{Kind}
 use Rattle.geo_base.specs.declared.request.Counts.{Counts}
 use Rattle.geo_model.specs.Words.{is_granted_kind}
-use Rattle.geo_model.specs.Topology.{Topology, Geom, Provider, Consumer, geom_at, consumer_at, attached_to, consumers_of, remove_geom, remove_provider, remove_consumer}
+use Rattle.geo_model.specs.Topology.{Topology, Geom, Provider, Consumer, consumer_at, attached_to, consumers_of, remove_geom, remove_provider, remove_consumer}
 use Rattle.geo_model.specs.Demand.{no_counts, have, want}
-use Rattle.geo_model.specs.Rank.{Ranked}
 use Rattle.geo_model.proofs.DemandLemmas.{map_same}
 use Rattle.geo_slots.specs.Slots.{value_at, without}
 use Rattle.geo_mesh.specs.Topo.{TopoView, Scratches, no_scratch, IsButForRoom, without_geom, without_provider, without_consumer}
@@ -20,10 +18,10 @@ use Rattle.geo_laws_ranks.specs.RankLaws.{RanksStay}
 use Rattle.geo_laws_rank_changes.proofs.RankChanges.{removing-stay}
 use Rattle.geo_laws_counts.specs.CountWords.{DemandStays, AnyConsumer}
 use Rattle.geo_laws_counts.proofs.LimitFacts.{all_of}
-use Rattle.geo_laws_counts.proofs.Numbers.{found_of, numbers_lead}
+use Rattle.geo_laws_counts.proofs.Numbers.{numbers_lead}
 use Rattle.geo_laws_counts.proofs.Stays.{grants_agree, consumers_went, provider_went, geom_went}
 use Rattle.geo_laws_demands.proofs.Flows.{each_of}
-use Rattle.geo_access.specs.Access.{granted_by, holds_grants, clear_scratches, IsCounted, IsQuiet}
+use Rattle.geo_access.specs.Access.{granted_by, holds_grants, clear_scratches, IsQuiet}
 use Rattle.geo_access.proofs.Clearing.{rows-same_on}
 use Rattle.geo_access.proofs.Decided.{item_at, consumer_known}
 use Rattle.geo_life.specs.Life.{AreStored, CountsStay}

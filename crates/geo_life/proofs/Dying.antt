@@ -1,6 +1,6 @@
 -- The walk over the consumers of DEV at a provider.
 use Rattle.std.specs.Prelude.{◌≡◌, ℕ, ◌+◌, nat_le, Bool, true, false, cond, List, [], ◌∷◌, map, filter}
-use Rattle.std.proofs.Common.{refl, sym, ap, ◌∙◌}
+use Rattle.std.proofs.Common.{sym, ap, ◌∙◌}
 use Rattle.geo_model.specs.Topology.{Topology, Consumer, attached_to}
 use Rattle.geo_model.specs.Events.{is_of_dev, dying_consumers}
 use Rattle.geo_laws_graph.specs.LookupLaws.{left_from}

@@ -1,19 +1,18 @@
 -- How many places events can take, and by which grants counts are stored.
 use Rattle.std.specs.Prelude.{◌≡◌, ℕ, ◌≤◌, Bool, not, List, map, filter, length, Contains}
-use Rattle.std.proofs.Common.{refl, sym, ap, ◌∙◌, subst, arith}
+use Rattle.std.proofs.Common.{sym, ap, ◌∙◌, subst, arith}
 use Rattle.std.proofs.lemmas.List.Sums.{count_by-le-length, length-filter}
 use Rattle.std.proofs.lemmas.List.{length-map}
 use Rattle.geo_base.specs.declared.request.Counts.{Counts}
-use Rattle.geo_model.specs.Topology.{Topology, Provider, Consumer}
+use Rattle.geo_model.specs.Topology.{Provider, Consumer}
 use Rattle.geo_model.specs.Demand.{want}
 use Rattle.geo_model.proofs.DemandLemmas.{map_same}
-use Rattle.geo_mesh.specs.Topo.{TopoView}
 use Rattle.geo_laws_counts.specs.CountWords.{DemandStays}
 use Rattle.geo_laws_counts.proofs.LimitFacts.{all_of}
 use Rattle.geo_laws_counts.proofs.Stays.{grants_agree}
 use Rattle.geo_laws_demands.proofs.Flows.{each_of}
-use Rattle.geo_access.specs.Access.{granted_by, noted, IsCounted}
-use Rattle.geo_life.specs.Life.{sound_providers, notes, AreStored}
+use Rattle.geo_access.specs.Access.{granted_by}
+use Rattle.geo_life.specs.Life.{notes}
 use Rattle.geo_life.specs.LifeLaws.{PlacesAreFew, CountsAreStored}
 
 -- what a filter keeps is no more

@@ -11,15 +11,14 @@ use Rattle.geo_model.specs.Topology.{Topology, Geom, Provider, Consumer, geom_at
 use Rattle.geo_model.specs.Demand.{no_counts, have, want}
 use Rattle.geo_model.proofs.DemandLemmas.{map_same}
 use Rattle.geo_slots.specs.Slots.{value_at}
-use Rattle.geo_mesh.specs.declared.records.Scratch.{Scratch}
-use Rattle.geo_mesh.specs.Topo.{TopoView, Scratches, no_scratch, with_topology}
-use Rattle.geo_laws_graph.proofs.Members.{Origin, map-Contains, Contains-map}
+use Rattle.geo_mesh.specs.Topo.{TopoView, no_scratch, with_topology}
+use Rattle.geo_laws_graph.proofs.Members.{map-Contains, Contains-map}
 use Rattle.geo_laws_counts.specs.CountWords.{Seen, seen_by_counts, DemandStays, AnyConsumer}
 use Rattle.geo_laws_counts.proofs.LimitFacts.{all_of}
 use Rattle.geo_laws_counts.proofs.SeenCounts.{seen_stays}
 use Rattle.geo_laws_counts.proofs.Stays.{grants_agree}
 use Rattle.geo_laws_demands.proofs.Flows.{each_of}
-use Rattle.geo_access.specs.Access.{granted_by, holds_grants, clear_scratches, IsCounted, IsQuiet}
+use Rattle.geo_access.specs.Access.{granted_by, holds_grants, clear_scratches, IsCounted}
 use Rattle.geo_access.proofs.Clearing.{rows-same_on}
 use Rattle.geo_life.specs.Life.{AreStored, CountsStay}
 

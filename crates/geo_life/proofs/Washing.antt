@@ -1,6 +1,6 @@
 -- What a wash finds.
-use Rattle.std.specs.Prelude.{◌≡◌, ℕ, suc, ◌+◌, ◌==◌, nat_le, Bool, true, false, not, ◌&&◌, List, [], ◌∷◌, length, map, filter, find, Option, Some, None, Contains, if◌then◌else◌, IsSome, IsSomeAnd, IfSome, IsTrue, MatchOption, is_none, is_some, option_map}
-use Rattle.std.specs.Option.{option_map_or, option_or}
+use Rattle.std.specs.Prelude.{◌≡◌, ℕ, suc, ◌+◌, ◌==◌, nat_le, Bool, true, false, not, ◌&&◌, List, [], ◌∷◌, length, find, Option, Some, None, Contains, if◌then◌else◌, IsSomeAnd, IfSome, IsTrue, MatchOption, is_none, is_some, option_map}
+use Rattle.std.specs.Option.{option_or}
 use Rattle.std.proofs.Common.{refl, sym, ap, ◌∙◌, subst, arith}
 use Rattle.std.proofs.lemmas.Bool.{le-leb, ne_eqb}
 use Rattle.geo_base.specs.declared.request.Counts.{Counts}
@@ -14,7 +14,7 @@ use Rattle.geo_mesh.specs.Topo.{TopoView, first_geom}
 use Rattle.geo_mesh.specs.Graph.{IsSoundGraph}
 use Rattle.geo_laws_graph.specs.LookupLaws.{left_from, IsStep, WalksMeetAll}
 use Rattle.geo_laws_graph.proofs.Walks.{walks-meet, walk-begin}
-use Rattle.geo_laws_graph.proofs.Members.{Contains-here, filter-Contains, Has, has}
+use Rattle.geo_laws_graph.proofs.Members.{Contains-here, filter-Contains}
 use Rattle.geo_laws_graph.proofs.Lists.{found_itself}
 use Rattle.geo_laws_graph.proofs.Numbered.{number_found}
 use Rattle.geo_access.specs.Views.{want_at}
@@ -37,7 +37,7 @@ module _ {X : Type 0} (number : X → ℕ) where
 
   pub none_there : (xs : List X) → is_none (option_map number (find (λ x. nat_le 0 (number x)) xs)) ≡ true → xs ≡ []
   none_there [] e = refl
-  none_there (x ∷ xs) e = 
+  none_there (x ∷ xs) e =
       let no : false ≡ true =
       sym (ne_eqb (suc (length xs)) 0 (λ same. omega (arith, same))) ∙ sym (none_first (x ∷ xs)) ∙ e in
       absurd (cc)

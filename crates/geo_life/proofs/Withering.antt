@@ -1,6 +1,6 @@
 -- The walk over the providers of a geom that withers.
-use Rattle.std.specs.Prelude.{◌≡◌, ℕ, ◌+◌, ◌<◌, ◌==◌, Bool, true, false, not, List, [], ◌∷◌, map, filter, fold, if◌then◌else◌}
-use Rattle.std.proofs.Common.{refl, sym, ap, ◌∙◌, subst, arith}
+use Rattle.std.specs.Prelude.{◌≡◌, ℕ, ◌+◌, Bool, true, false, not, List, [], ◌∷◌, map, filter, fold, if◌then◌else◌}
+use Rattle.std.proofs.Common.{refl, ap, ◌∙◌, arith}
 use Rattle.geo_model.specs.Topology.{Topology, Provider, providers_of, set_error}
 use Rattle.geo_model.specs.Events.{QueuedTopology, orphan_provider}
 use Rattle.geo_laws_graph.specs.LookupLaws.{left_from, ErrorIsFound}

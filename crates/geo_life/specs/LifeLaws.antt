@@ -1,5 +1,5 @@
 -- What callers need to know: how many places events can take, and by which grants counts are stored.
-use Rattle.std.specs.Prelude.{◌≡◌, ℕ, ◌≤◌, Bool, List, length}
+use Rattle.std.specs.Prelude.{◌≡◌, ℕ, ◌≤◌, length}
 use Rattle.geo_base.specs.declared.request.Counts.{Counts}
 use Rattle.geo_model.specs.Topology.{Topology}
 use Rattle.geo_mesh.specs.Topo.{TopoView}

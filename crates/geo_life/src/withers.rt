@@ -46,12 +46,7 @@ pub fn wither_unless_withering<C>(topo: &mut Topo<C>, queue: &mut EventQueue, ge
 }
 
 // The provider is orphaned, unless it carries an error.
-fn orphan_unless_errored<C>(
-    topo: &mut Topo<C>,
-    queue: &mut EventQueue,
-    prov: ProvId,
-    errored: bool,
-)
+fn orphan_unless_errored<C>(topo: &mut Topo<C>, queue: &mut EventQueue, prov: ProvId, errored: bool)
     requires lives { IsSomeAnd (provider_at topo.old.topology prov) (λ x. x.errored ≡ errored) }
     requires sound { IsSoundGraph topo.old.topology }
     requires room { sound_providers topo.old.topology ≤ queue.old.spare }

@@ -1,4 +1,4 @@
-use Rattle.std.proofs.Common.{refl, sym, arith, ap, ◌≡◌, ◌∙◌, ◌+◌, subst}
+use Rattle.std.proofs.Common.{sym, arith, ap, ◌≡◌, ◌∙◌}
 use Rattle.std.specs.Prelude.{false}
 use Rattle.geo_model.specs.Topology.{Topology}
 use Rattle.geo_model.specs.Events.{offer_again, announce_fallen}

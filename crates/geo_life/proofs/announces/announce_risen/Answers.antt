@@ -1,4 +1,4 @@
-use Rattle.std.proofs.Common.{refl, sym, arith, ap, ◌≡◌, ◌∙◌, ◌+◌, subst}
+use Rattle.std.proofs.Common.{sym, arith, ap, ◌≡◌, ◌∙◌, subst}
 use Rattle.std.specs.Prelude.{false, length}
 use Rattle.geo_model.specs.Events.{spoil_at, announce_risen}
 use Rattle.geo_access.specs.Access.{noted}

@@ -1,5 +1,3 @@
-use Rattle.std.proofs.Common.{◌≡◌, sym, ap, ◌∙◌}
-use Rattle.std.specs.Prelude.{not, ◌||◌, true, false}
 use Rattle.geo_life.proofs.Errors.{not_offered_is, offered_sound, offered_errored}
 use Rattle.geo_life.proofs.announces.is_offered.Goals as goal
 

@@ -1,5 +1,4 @@
-use Rattle.std.proofs.Common.{refl, sym, arith, ap, ◌≡◌, ◌∙◌}
-use Rattle.geo_mesh.specs.Cells.{consumer_seen}
+use Rattle.std.proofs.Common.{sym, arith, ◌∙◌}
 use Rattle.geo_life.proofs.Dying.{dying_here, dying_pass, dying_end}
 use Rattle.geo_life.proofs.orphans.next_dying.Goals as goal
 

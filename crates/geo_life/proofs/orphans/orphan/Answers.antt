@@ -1,6 +1,5 @@
-use Rattle.std.proofs.Common.{refl, sym, arith, ap, ◌≡◌, ◌∙◌, ◌+◌}
+use Rattle.std.proofs.Common.{refl, sym, arith, ◌∙◌}
 use Rattle.geo_model.specs.Events.{orphan, orphan_consumer}
-use Rattle.geo_mesh.specs.Cells.{consumer_seen}
 use Rattle.geo_life.specs.Life.{queued}
 use Rattle.geo_life.proofs.Rest.{rest_none, rest_more}
 use Rattle.geo_life.proofs.Seen.{seen_kept, seen_orphan}

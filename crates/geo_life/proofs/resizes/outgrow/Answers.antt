@@ -1,10 +1,5 @@
-use Rattle.std.proofs.Common.{refl, sym, arith, ap, ◌≡◌, ◌∙◌, ◌+◌}
-use Rattle.std.specs.Prelude.{◌&&◌, not, false}
-use Rattle.std.specs.Option.{option_map_or}
-use Rattle.geo_model.specs.Topology.{geom_at}
-use Rattle.geo_model.specs.Demand.{is_zero}
+use Rattle.std.proofs.Common.{refl, sym, arith, ◌∙◌}
 use Rattle.geo_model.specs.Events.{outgrow_consumer}
-use Rattle.geo_mesh.specs.Cells.{consumer_seen}
 use Rattle.geo_life.specs.Life.{queued}
 use Rattle.geo_life.proofs.Rest.{rest_none, rest_more}
 use Rattle.geo_life.proofs.Seen.{mesh_kept, seen_if}

@@ -1,9 +1,4 @@
-use Rattle.std.proofs.Common.{refl, sym, arith, ap, ◌≡◌, ◌∙◌}
-use Rattle.std.specs.Prelude.{◌==◌, ◌&&◌, ◌||◌, false}
-use Rattle.std.specs.Option.{option_map_or}
-use Rattle.geo_base.specs.declared.kind.Kind.TheVariants as kinds
-use Rattle.geo_model.specs.Words.{is_kind}
-use Rattle.geo_model.specs.Topology.{geom_at}
+use Rattle.std.proofs.Common.{refl, sym, ap, ◌∙◌}
 use Rattle.geo_mesh.specs.Topo.{TopoView}
 use Rattle.geo_life.proofs.Rest.{mesh_self}
 use Rattle.geo_life.proofs.Seen.{mesh_kept}

@@ -1,5 +1,4 @@
-use Rattle.std.proofs.Common.{refl, sym, arith, ap, ◌≡◌, ◌∙◌, ◌+◌}
-use Rattle.geo_mesh.specs.Cells.{consumer_seen}
+use Rattle.std.proofs.Common.{refl, sym, arith, ◌∙◌}
 use Rattle.geo_life.specs.Life.{queued}
 use Rattle.geo_life.proofs.Rest.{rest_none, rest_more}
 use Rattle.geo_model.specs.Events.{spoil}

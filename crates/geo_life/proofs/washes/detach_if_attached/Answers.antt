@@ -1,6 +1,3 @@
-use Rattle.std.proofs.Common.{sym, ap, ◌∙◌}
-use Rattle.std.specs.Prelude.{IfSome, None, ◌≡◌}
-use Rattle.geo_model.specs.Topology.{consumer_at, remove_consumer}
 use Rattle.geo_laws_graph.specs.LookupLaws.{TwoChangesAreOne}
 use Rattle.geo_laws_graph.proofs.TwoChanges.{two-changes}
 use Rattle.geo_life.proofs.Loose.{detached_loose}

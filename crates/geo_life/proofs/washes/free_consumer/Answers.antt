@@ -2,7 +2,6 @@ use Rattle.std.proofs.Common.{sym, ◌∙◌}
 use Rattle.std.specs.Prelude.{find, option_map}
 use Rattle.geo_model.specs.Topology.{Consumer, consumers_of}
 use Rattle.geo_model.specs.Freeing.{is_idle}
-use Rattle.geo_mesh.specs.Cells.{consumer_seen}
 use Rattle.geo_access.proofs.Folding.{found_begin, found_more, found_here}
 use Rattle.geo_life.specs.Life.{is_out}
 use Rattle.geo_life.proofs.Washing.{idle_is}

@@ -1,5 +1,5 @@
-use Rattle.std.proofs.Common.{sym, subst, ap, ◌∙◌, ◌≡◌}
-use Rattle.geo_mesh.specs.Topo.{TopoView, without_geom}
+use Rattle.std.proofs.Common.{sym, subst}
+use Rattle.geo_mesh.specs.Topo.{without_geom}
 use Rattle.geo_life.specs.Life.{CountsStay}
 use Rattle.geo_life.specs.Wash.{IsFree}
 use Rattle.geo_life.proofs.Washing.{not_withering}

@@ -1,4 +1,4 @@
-use Rattle.std.proofs.Common.{sym, arith, ap, ◌≡◌, ◌+◌, ◌-◌}
+use Rattle.std.proofs.Common.{arith, ap, ◌≡◌, ◌+◌, ◌-◌}
 use Rattle.geo_model.specs.Topology.{set_error}
 use Rattle.geo_life.proofs.Rest.{mesh_self, post_room}
 use Rattle.geo_life.specs.Life.{sound_providers}

@@ -1,7 +1,6 @@
-use Rattle.std.proofs.Common.{refl, sym, arith, ap, ◌≡◌, ◌∙◌, ◌+◌}
-use Rattle.geo_model.specs.Topology.{provider_at, set_withering}
-use Rattle.geo_mesh.specs.Cells.{provider_seen}
-use Rattle.geo_mesh.specs.Topo.{TopoView, with_topology}
+use Rattle.std.proofs.Common.{refl, sym, arith, ap, ◌≡◌, ◌∙◌}
+use Rattle.geo_model.specs.Topology.{set_withering}
+use Rattle.geo_mesh.specs.Topo.{TopoView}
 use Rattle.geo_life.specs.Life.{queued, sound_providers}
 use Rattle.geo_life.proofs.Rest.{mesh_self, rest_more}
 use Rattle.geo_model.specs.Events.{wither}
