@@ -1,0 +1,148 @@
+-- Providers without an error, before and after one of them gets one.
+use Rattle.std.specs.Prelude.{◌≡◌, ℕ, ◌+◌, ◌==◌, Bool, true, false, not, ◌&&◌, ◌||◌, cond, List, [], ◌∷◌, map, filter, find, length, suc, Option, Some, None, IsSomeAnd}
+use Rattle.std.specs.List.{AllByRecursion, list_any}
+use Rattle.std.specs.Option.{option_map_or, option_and_then}
+use Rattle.std.proofs.Common.{refl, sym, ap, ◌∙◌, arith, inl}
+use Rattle.std.proofs.lemmas.Bool.{eqb-true}
+use Rattle.geo_model.specs.Words.{change_where}
+use Rattle.geo_model.specs.Topology.{Topology, Provider, Geom, provider_at, geom_at, geom_of_provider, is_errored, set_error}
+use Rattle.geo_model.specs.Graph.{IsInOrder, AreNumbers}
+use Rattle.geo_laws_graph.proofs.Lists.{Rise, rise-from, none_outside, unhit}
+use Rattle.geo_life.specs.Life.{sound_providers}
+
+-- whether it carries no error, and with one
+abbrev sound : Provider → Bool
+sound x = not x.errored
+
+abbrev broken : Provider → Provider
+broken x = record x { errored = true }
+
+-- one provider more of the list
+one_less : (p low high : ℕ) (x : Provider) (xs : List Provider) (y : Provider) (b : Bool) → (x.number == p) ≡ b
+    → Rise low (map (λ (z : Provider). z.number) (x ∷ xs)) high
+    → find (λ (z : Provider). z.number == p) (x ∷ xs) ≡ Some y → y.errored ≡ false
+    → (find (λ (z : Provider). z.number == p) xs ≡ Some y
+    → length (filter sound (change_where (λ (z : Provider). z.number == p) broken xs)) + 1 ≡ length (filter sound xs))
+    → length (filter sound (change_where (λ (z : Provider). z.number == p) broken (x ∷ xs))) + 1 ≡ length (filter sound (x ∷ xs))
+one_less p low high x xs y true e rise found is so =
+    let here : Some x ≡ Some y = rw e at found in
+    let same : x ≡ y = cc in
+    let number : x.number ≡ p = eqb-true x.number p e in
+    let rest : change_where (λ (z : Provider). z.number == p) broken xs ≡ xs =
+    unhit (λ (z : Provider). z.number == p) broken xs
+    (none_outside (λ (z : Provider). z.number) (x.number + 1) high p xs rise.2 (inl (omega (arith, number)))) in
+    let clean : x.errored ≡ false = ap (λ (z : Provider). z.errored) same ∙ is in
+    rw (e, rest, clean) (omega arith)
+one_less p low high x xs y false e rise found is so =
+    let later : find (λ (z : Provider). z.number == p) xs ≡ Some y = rw e at found in
+    let less = so later in
+    rw e (by (sound x) less)
+  where
+    by : (c : Bool)
+        → length (filter sound (change_where (λ (z : Provider). z.number == p) broken xs)) + 1
+        ≡ length (filter sound xs)
+        → length (cond c (x ∷ filter sound (change_where (λ (z : Provider). z.number == p) broken xs))
+        (filter sound (change_where (λ (z : Provider). z.number == p) broken xs))) + 1
+        ≡ length (cond c (x ∷ filter sound xs) (filter sound xs))
+    by true less =
+        let more : suc (length (filter sound (change_where (λ (z : Provider). z.number == p) broken xs))) + 1
+        ≡ suc (length (filter sound xs)) = omega (arith, less) in more
+    by false less = less
+
+-- there is one less
+errors_less : (p low high : ℕ) (xs : List Provider) (y : Provider)
+    → Rise low (map (λ (z : Provider). z.number) xs) high
+    → find (λ (z : Provider). z.number == p) xs ≡ Some y → y.errored ≡ false
+    → length (filter sound (change_where (λ (z : Provider). z.number == p) broken xs)) + 1 ≡ length (filter sound xs)
+errors_less p low high [] y rise never is = absurd (cc)
+errors_less p low high (x ∷ xs) y rise found is =
+    one_less p low high x xs y (x.number == p) refl rise found is
+    (λ later. errors_less p (x.number + 1) high xs y rise.2 later is)
+
+-- a provider without an error that gets one is one less of them
+pub error_owes : {C : Type 0} (t : Topology C) → IsInOrder t → (p : ℕ) (x : Provider) → provider_at t p ≡ Some x
+    → x.errored ≡ false
+    → sound_providers (set_error t p) + 1 ≡ sound_providers t
+error_owes t order p x found is =
+    errors_less p 0 t.next_provider t.providers x
+    (rise-from t.next_provider (map (λ (z : Provider). z.number) t.providers) order.providers) found is
+
+-- Whether a provider is offered
+
+module _ {X : Type 0} (number : X → ℕ) (test : X → Bool) (p : ℕ) where
+  -- none of another number passes
+  any_other : (xs : List X) → AllByRecursion (λ (z : X). (number z == p) ≡ false) xs
+      → list_any (λ (z : X). (number z == p) && test z) xs ≡ false
+  any_other [] others = refl
+  any_other (x ∷ xs) others = rw (others.0) (any_other xs others.1)
+
+  or_false : (b : Bool) → (b || false) ≡ b
+  or_false true = refl
+  or_false false = refl
+
+  -- one item more
+  any_step : (low high : ℕ) (x : X) (xs : List X) (y : X) (b : Bool) → (number x == p) ≡ b
+      → Rise low (map number (x ∷ xs)) high
+      → find (λ (z : X). number z == p) (x ∷ xs) ≡ Some y
+      → (find (λ (z : X). number z == p) xs ≡ Some y
+      → list_any (λ (z : X). (number z == p) && test z) xs ≡ test y)
+      → list_any (λ (z : X). (number z == p) && test z) (x ∷ xs) ≡ test y
+  any_step low high x xs y true e rise found so =
+      let here : Some x ≡ Some y = rw e at found in
+      let same : x ≡ y = cc in
+      let is : number x ≡ p = eqb-true (number x) p e in
+      let rest : list_any (λ (z : X). (number z == p) && test z) xs ≡ false =
+      any_other xs (none_outside number (number x + 1) high p xs rise.2 (inl (omega (arith, is)))) in
+      rw (e, rest) (or_false (test x) ∙ ap test same)
+  any_step low high x xs y false e rise found so =
+      let later : find (λ (z : X). number z == p) xs ≡ Some y = rw e at found in rw e (so later)
+
+  any_rising : (low high : ℕ) (xs : List X) (y : X) → Rise low (map number xs) high
+      → find (λ (z : X). number z == p) xs ≡ Some y
+      → list_any (λ (z : X). (number z == p) && test z) xs ≡ test y
+  any_rising low high [] y rise never = absurd (cc)
+  any_rising low high (x ∷ xs) y rise found =
+      any_step low high x xs y (number x == p) refl rise found
+      (λ later. any_rising (number x + 1) high xs y rise.2 later)
+
+  -- the item that is found at a number tells whether one of that number passes
+  pub any_found : (next : ℕ) (xs : List X) (y : X) → AreNumbers (map number xs) next
+      → find (λ (z : X). number z == p) xs ≡ Some y
+      → list_any (λ (z : X). (number z == p) && test z) xs ≡ test y
+  any_found next xs y order found = any_rising 0 next xs y (rise-from next (map number xs) order) found
+
+module _ {C : Type 0} (t : Topology C) (order : IsInOrder t) (p : ℕ) (x : Provider)
+    (found : provider_at t p ≡ Some x) where
+  -- a provider is errored just where it carries an error
+  pub errored_is : is_errored t p ≡ x.errored
+  errored_is =
+      any_found (λ (z : Provider). z.number) (λ z. z.errored) p t.next_provider t.providers x order.providers found
+
+  -- it isn't offered where it carries an error or its geom withers
+  pub not_offered_is : (g : Geom C) → geom_at t x.geom ≡ Some g
+      → (is_errored t p || option_map_or (λ h. h.withering) (geom_of_provider t p) true) ≡ (x.errored || g.withering)
+  not_offered_is g of =
+      ap (λ b. b || option_map_or (λ h. h.withering) (geom_of_provider t p) true) errored_is
+      ∙ ap (λ o. x.errored || option_map_or (λ h. h.withering) (option_and_then (λ y. geom_at t y.geom) o) true) found
+      ∙ ap (λ o. x.errored || option_map_or (λ h. h.withering) o true) of
+
+-- the same of one that is there without an error
+pub error_owes_some : {C : Type 0} (t : Topology C) → IsInOrder t → (p : ℕ)
+    → IsSomeAnd (provider_at t p) (λ x. x.errored ≡ false)
+    → sound_providers (set_error t p) + 1 ≡ sound_providers t
+error_owes_some t order p some = by (provider_at t p) refl some
+  where
+    by : (o : Option Provider) → provider_at t p ≡ o → IsSomeAnd o (λ x. x.errored ≡ false)
+        → sound_providers (set_error t p) + 1 ≡ sound_providers t
+    by None e never = absurd never
+    by (Some x) e is = error_owes t order p x e is
+
+-- a provider without an error is offered unless its geom withers
+pub offered_sound : (a b c : Bool) → a ≡ false → c ≡ (a || b) → not b ≡ not c
+offered_sound true b c never is = absurd (cc)
+offered_sound false b c e is = ap not (sym is)
+
+-- one with an error isn't
+pub offered_errored : (a b c : Bool) → a ≡ true → c ≡ (a || b) → not a ≡ not c
+offered_errored true b c e is = ap not (sym is)
+offered_errored false b c never is = absurd (cc)

@@ -1,0 +1,17 @@
+pub mod Lefts
+pub mod Errors
+pub mod Rest
+pub mod Withering
+pub mod Unseen
+pub mod Seen
+pub mod Marking
+pub mod MarkWalk
+pub mod Spoiling
+pub mod Dying
+pub mod Growing
+pub mod Announcing
+pub mod Announced
+pub mod Dropping
+pub mod Loose
+pub mod Washing
+pub mod Places

@@ -1,0 +1,173 @@
+-- One step of the walk that marks, in a mesh.
+use Rattle.std.specs.Prelude.{◌≡◌, ℕ, ◌+◌, ◌==◌, nat_le, Bool, true, false, ◌&&◌, ◌||◌, List, [], Some, Contains, unwrap_or, if◌then◌else◌}
+use Rattle.std.specs.Option.{option_map_or}
+use Rattle.std.proofs.Common.{refl, sym, ap, ◌∙◌, subst}
+use Rattle.geo_base.specs.declared.request.Counts.{Counts}
+use Rattle.geo_base.specs.declared.kind.Kind.TheVariants as kinds
+use Rattle.geo_model.specs.Words.{is_kind, names_number}
+use Rattle.geo_model.specs.Topology.{Topology, Consumer, geom_at, consumer_at, attached_to, set_marks}
+use Rattle.geo_model.specs.Demand.{no_counts, want}
+use Rattle.geo_model.specs.Events.{is_to_spoil, mark_spoiled}
+use Rattle.geo_slots.specs.Slots.{value_at}
+use Rattle.geo_mesh.specs.declared.records.ConsRec.{ConsRec}
+use Rattle.geo_mesh.specs.Cells.{consumer_seen}
+use Rattle.geo_mesh.specs.Topo.{TopoView, with_topology}
+use Rattle.geo_mesh.specs.Graph.{IsSoundGraph}
+use Rattle.geo_laws_graph.specs.LookupLaws.{left_from}
+use Rattle.geo_laws_graph.proofs.Members.{Contains-here, filter-Contains}
+use Rattle.geo_laws_counts.specs.CountWords.{seen_by_counts}
+use Rattle.geo_laws_counts.proofs.SeenCounts.{seen_stays}
+use Rattle.geo_access.specs.Views.{IsNextConsumer, want_at}
+use Rattle.geo_access.proofs.Decided.{item_at}
+use Rattle.geo_life.specs.Life.{AreStored, CountsStay}
+use Rattle.geo_life.proofs.Unseen.{unseen_stays}
+use Rattle.geo_life.proofs.Seen.{seen_marks}
+use Rattle.geo_life.proofs.Rest.{mesh_self}
+use Rattle.geo_life.proofs.Marking.{still, mark_begin, mark_pass, mark_one, mark_end}
+
+and_first : (a b : Bool) → (a && b) ≡ true → a ≡ true
+and_first true b e = refl
+and_first false b e = e
+
+-- the counts that are stored for a consumer
+pub stored_now : {C : Type 0} (granted : ℕ → Counts) (t : TopoView C) → AreStored granted t → (n : ℕ) (x : Consumer)
+    → consumer_at t.topology n ≡ Some x
+    → want_at t n ≡ want granted t.topology x
+stored_now granted t stored n x found =
+    ap (λ rows. unwrap_or (value_at rows n) no_counts) stored
+    ∙ ap (λ o. unwrap_or o no_counts)
+    (item_at (λ (c : Consumer). c.number) (want granted t.topology) n t.topology.consumers x found)
+
+-- grants whose counts are stored are those still, after a change that counts don't see
+pub stored_still : {C : Type 0} (granted : ℕ → Counts) (t now : TopoView C) → now ≡ with_topology t now.topology
+    → seen_by_counts now.topology ≡ seen_by_counts t.topology → AreStored granted t → AreStored granted now
+stored_still granted t now mesh same stored =
+    subst (AreStored granted) (sym mesh) (CountsStay.stored (unseen_stays t now.topology same) granted stored)
+
+-- so are the counts themselves
+pub stored_want : {C : Type 0} (granted : ℕ → Counts) (t now : TopoView C) → now ≡ with_topology t now.topology
+    → seen_by_counts now.topology ≡ seen_by_counts t.topology → AreStored granted t → (n : ℕ) (x : Consumer)
+    → consumer_at now.topology n ≡ Some x
+    → want_at now n ≡ want granted t.topology x
+stored_want granted t now mesh same stored n x found =
+    stored_now granted now (stored_still granted t now mesh same stored) n x found
+    ∙ (seen_stays granted t.topology now.topology (sym same)).wants x tt
+
+-- the next consumer of a walk over those at a provider is attached to it
+pub next_attached : {C : Type 0} (t : Topology C) (p from_number n : ℕ) (x : ConsRec)
+    → IsNextConsumer t (attached_to t p) from_number n x → names_number x.prov p ≡ true
+next_attached t p from_number n x next =
+    let there : Contains (left_from (λ (c : Consumer). c.number) from_number (attached_to t p)) (consumer_seen n x) =
+    subst (λ ys. Contains ys (consumer_seen n x)) (sym next.left)
+    (Contains-here (consumer_seen n x) (left_from (λ (c : Consumer). c.number) (n + 1) (attached_to t p))) in
+    let inside =
+    filter-Contains (λ (c : Consumer). nat_le from_number c.number) (attached_to t p) (consumer_seen n x) there in
+    (filter-Contains (λ (c : Consumer). names_number c.provider p) t.consumers (consumer_seen n x) inside.0).1
+
+module _ {C : Type 0} (granted : ℕ → Counts) (t : TopoView C) (p : ℕ) (stored : AreStored granted t) where
+  -- whether a consumer has to go
+  abbrev goes : Consumer → Bool
+  goes = is_to_spoil granted t.topology p
+
+  at : (c : Consumer) → goes c ≡ true → names_number c.provider p ≡ true
+  at c e =
+      and_first (names_number c.provider p)
+      (((want granted t.topology c).w == 0)
+      && option_map_or (λ g. g.automatic || is_kind g.kind kinds.Taste) (geom_at t.topology c.geom) false) e
+
+  -- at the beginning
+  pub marks_begin : set_marks t.topology (still goes 0) true ≡ mark_spoiled granted t.topology p
+  marks_begin =
+      ap (λ cs. record t.topology { consumers = cs }) (mark_begin p goes at (λ c. refl) t.topology.consumers)
+
+  module _ (now : TopoView C)
+      (mesh : now ≡ with_topology t (record t.topology { consumers = now.topology.consumers }))
+      (same : seen_by_counts now.topology ≡ seen_by_counts t.topology)
+      (sound : IsSoundGraph now.topology)
+      (from_number n : ℕ) (x : ConsRec)
+      (next : IsNextConsumer now.topology (attached_to now.topology p) from_number n x)
+      (its : want_at now n ≡ x.want) where
+    -- what the code asks of the next consumer
+    abbrev asked : Bool
+    asked =
+        (x.want.w == 0)
+        && option_map_or (λ g. g.automatic || is_kind g.kind kinds.Taste) (geom_at now.topology x.geom) false
+
+    -- is whether it has to go
+    goes_is : goes (consumer_seen n x) ≡ asked
+    goes_is =
+        ap (λ b. b && (((want granted t.topology (consumer_seen n x)).w == 0)
+        && option_map_or (λ g. g.automatic || is_kind g.kind kinds.Taste) (geom_at t.topology x.geom) false))
+        (next_attached now.topology p from_number n x next)
+        ∙ ap (λ (a : Counts). (a.w == 0)
+        && option_map_or (λ g. g.automatic || is_kind g.kind kinds.Taste) (geom_at t.topology x.geom) false)
+        (sym (stored_want granted t now
+        (mesh_self t now (record t.topology { consumers = now.topology.consumers }) mesh) same stored n
+        (consumer_seen n x) next.lives) ∙ its)
+        ∙ ap (λ (v : TopoView C). (x.want.w == 0)
+        && option_map_or (λ g. g.automatic || is_kind g.kind kinds.Taste) (geom_at v.topology x.geom) false)
+        (sym mesh)
+
+    -- one that stays is passed over
+    pub marks_pass : asked ≡ false
+        → set_marks now.topology (still goes (n + 1)) true ≡ set_marks now.topology (still goes from_number) true
+    marks_pass stays =
+        ap (λ cs. record now.topology { consumers = cs })
+        (mark_pass p goes at (λ c. refl) now.topology.consumers from_number n (consumer_seen n x) next.left next.past
+        (goes_is ∙ stays))
+
+    -- one that has to go is marked
+    pub marks_one : asked ≡ true
+        → set_marks (set_marks now.topology (λ c. c.number == n) true) (still goes (n + 1)) true
+        ≡ set_marks now.topology (still goes from_number) true
+    marks_one must =
+        ap (λ cs. record now.topology { consumers = cs })
+        (mark_one p goes at (λ c. refl) now.topology.consumers from_number n now.topology.next_consumer
+        (consumer_seen n x) next.left next.past (goes_is ∙ must) sound.orderly.order.consumers next.lives)
+
+    -- either way
+    pub marks_step : (u : Topology C)
+        → u ≡ (if asked then set_marks now.topology (λ c. c.number == n) true else now.topology)
+        → set_marks u (still goes (n + 1)) true ≡ set_marks now.topology (still goes from_number) true
+    marks_step u is = by asked refl is
+      where
+        by : (b : Bool) → asked ≡ b
+            → u ≡ (if b then set_marks now.topology (λ c. c.number == n) true else now.topology)
+            → set_marks u (still goes (n + 1)) true ≡ set_marks now.topology (still goes from_number) true
+        by true e same = ap (λ v. set_marks v (still goes (n + 1)) true) same ∙ marks_one e
+        by false e same = ap (λ v. set_marks v (still goes (n + 1)) true) same ∙ marks_pass e
+
+  -- at the end
+  pub marks_end : (u : Topology C) (from_number : ℕ)
+      → left_from (λ (c : Consumer). c.number) from_number (attached_to u p) ≡ []
+      → set_marks u (still goes from_number) true ≡ u
+  marks_end u from_number none =
+      ap (λ cs. record u { consumers = cs }) (mark_end p goes at (λ c. refl) u.consumers from_number none)
+
+-- a mark changes consumers alone
+pub mark_mesh : {C : Type 0} (t now new : TopoView C) (b : Bool) (n : ℕ)
+    → now ≡ with_topology t (record t.topology { consumers = now.topology.consumers })
+    → new ≡ with_topology now (if b then set_marks now.topology (λ c. c.number == n) true else now.topology)
+    → new ≡ with_topology t (record t.topology { consumers = new.topology.consumers })
+mark_mesh {C} t now new b n before is = by b is
+  where
+    from : (cs : List Consumer) → new ≡ with_topology now (record now.topology { consumers = cs })
+        → new ≡ with_topology t (record t.topology { consumers = new.topology.consumers })
+    from cs same =
+        same
+        ∙ ap (λ (v : TopoView C). with_topology v (record v.topology { consumers = cs })) before
+        ∙ ap (λ (v : TopoView C). with_topology t (record t.topology { consumers = v.topology.consumers })) (sym same)
+
+    by : (c : Bool)
+        → new ≡ with_topology now (if c then set_marks now.topology (λ x. x.number == n) true else now.topology)
+        → new ≡ with_topology t (record t.topology { consumers = new.topology.consumers })
+    by true same = from (set_marks now.topology (λ x. x.number == n) true).consumers same
+    by false same = from now.topology.consumers same
+
+-- and isn't seen by counts
+pub mark_unseen : {C : Type 0} (now new : TopoView C) (b : Bool) (n : ℕ)
+    → new ≡ with_topology now (if b then set_marks now.topology (λ c. c.number == n) true else now.topology)
+    → seen_by_counts new.topology ≡ seen_by_counts now.topology
+mark_unseen {C} now new true n is =
+    ap (λ (v : TopoView C). seen_by_counts v.topology) is ∙ seen_marks now.topology (λ c. c.number == n) true
+mark_unseen {C} now new false n is = ap (λ (v : TopoView C). seen_by_counts v.topology) is

@@ -1,0 +1,184 @@
+-- The walks over the consumers at a provider that hear of its spoil or its orphan.
+use Rattle.std.specs.Prelude.{◌≡◌, ℕ, ◌+◌, ◌==◌, Bool, true, false, not, List, [], ◌∷◌, map, filter, fold, if◌then◌else◌}
+use Rattle.std.proofs.Common.{refl, sym, ap, ◌∙◌, arith}
+use Rattle.geo_base.specs.declared.request.Counts.{Counts}
+use Rattle.geo_model.specs.Words.{names_number}
+use Rattle.geo_model.specs.Topology.{Topology, Consumer, attached_to, providers_of, is_withering, set_marks, set_withering}
+use Rattle.geo_model.specs.Events.{QueuedTopology, orphan_provider, wither, wither_unless_withering, spoil_consumer, spoil, is_of_dev, orphan_consumer, is_outgrown, outgrow_consumer}
+use Rattle.geo_laws_graph.specs.LookupLaws.{left_from, MarksAreFound}
+use Rattle.geo_laws_graph.proofs.Found.{marks-found}
+use Rattle.geo_laws_graph.proofs.Walks.{walk-begin}
+use Rattle.geo_life.proofs.Lefts.{left_past}
+
+module _ {C : Type 0} where
+  -- providers that are orphaned leave all consumers
+  orphans_leave : (q : QueuedTopology C) (ps : List ℕ)
+      → (fold orphan_provider q ps).topology.consumers ≡ q.topology.consumers
+  orphans_leave q [] = refl
+  orphans_leave q (p ∷ ps) = orphans_leave (orphan_provider q p) ps
+
+  -- so does a geom that withers
+  pub wither_leaves : (q : QueuedTopology C) (g : ℕ) → (wither q g).topology.consumers ≡ q.topology.consumers
+  wither_leaves q g =
+      orphans_leave (record q { topology = set_withering q.topology g })
+      (map (λ x. x.number) (filter (λ x. not x.errored) (providers_of q.topology g)))
+
+  -- unless it does so already
+  pub unless_leaves : (q : QueuedTopology C) (g : ℕ)
+      → (wither_unless_withering q g).topology.consumers ≡ q.topology.consumers
+  unless_leaves q g = by (is_withering q.topology g)
+    where
+      by : (b : Bool) → (if b then q else wither q g).topology.consumers ≡ q.topology.consumers
+      by true = refl
+      by false = wither_leaves q g
+
+  -- a consumer that hears of an orphan leaves all consumers
+  pub orphan_leaves : (q : QueuedTopology C) (x : Consumer)
+      → (orphan_consumer q x).topology.consumers ≡ q.topology.consumers
+  orphan_leaves q x = by (is_of_dev q.topology x)
+    where
+      by : (b : Bool) → (if b then q else wither_unless_withering q x.geom).topology.consumers ≡ q.topology.consumers
+      by true = refl
+      by false = unless_leaves q x.geom
+
+  -- and so does one that is outgrown
+  pub outgrow_leaves : (granted : ℕ → Counts) (q : QueuedTopology C) (x : Consumer)
+      → (outgrow_consumer granted q x).topology.consumers ≡ q.topology.consumers
+  outgrow_leaves granted q x = by (is_outgrown granted q.topology x)
+    where
+      by : (b : Bool) → (if b then wither q x.geom else q).topology.consumers ≡ q.topology.consumers
+      by true = wither_leaves q x.geom
+      by false = refl
+
+module _ {C : Type 0} where
+  -- the next number of consumers stays where geoms wither
+  orphans_next : (q : QueuedTopology C) (ps : List ℕ)
+      → (fold orphan_provider q ps).topology.next_consumer ≡ q.topology.next_consumer
+  orphans_next q [] = refl
+  orphans_next q (p ∷ ps) = orphans_next (orphan_provider q p) ps
+
+  wither_next : (q : QueuedTopology C) (g : ℕ) → (wither q g).topology.next_consumer ≡ q.topology.next_consumer
+  wither_next q g =
+      orphans_next (record q { topology = set_withering q.topology g })
+      (map (λ x. x.number) (filter (λ x. not x.errored) (providers_of q.topology g)))
+
+  pub unless_next : (q : QueuedTopology C) (g : ℕ)
+      → (wither_unless_withering q g).topology.next_consumer ≡ q.topology.next_consumer
+  unless_next q g = by (is_withering q.topology g)
+    where
+      by : (b : Bool) → (if b then q else wither q g).topology.next_consumer ≡ q.topology.next_consumer
+      by true = refl
+      by false = wither_next q g
+
+  -- it is that of what the model says
+  pub next_is : (after new : QueuedTopology C) → new ≡ after → new.topology.next_consumer ≡ after.topology.next_consumer
+  next_is after new is = ap (λ (r : QueuedTopology C). r.topology.next_consumer) is
+
+  -- so where a geom may wither
+  pub if_next : (b : Bool) (q new : QueuedTopology C) (g : ℕ) → new ≡ (if b then wither q g else q)
+      → new.topology.next_consumer ≡ q.topology.next_consumer
+  if_next true q new g is = ap (λ (r : QueuedTopology C). r.topology.next_consumer) is ∙ wither_next q g
+  if_next false q new g is = ap (λ (r : QueuedTopology C). r.topology.next_consumer) is
+
+  -- a provider that may be orphaned leaves the next number of providers
+  pub error_next : (b : Bool) (q new : QueuedTopology C) (p : ℕ) → new ≡ (if b then q else orphan_provider q p)
+      → new.topology.next_provider ≡ q.topology.next_provider
+  error_next true q new p is = ap (λ (r : QueuedTopology C). r.topology.next_provider) is
+  error_next false q new p is = ap (λ (r : QueuedTopology C). r.topology.next_provider) is
+
+module _ {C : Type 0} (p : ℕ) where
+  -- the consumers at the provider from a number on
+  abbrev pub users_left : Topology C → ℕ → List Consumer
+  users_left t from_number = left_from (λ (c : Consumer). c.number) from_number (attached_to t p)
+
+  -- they are the same where the consumers are
+  same_users : (t u : Topology C) → u.consumers ≡ t.consumers → (n : ℕ) → users_left u n ≡ users_left t n
+  same_users t u same n =
+      ap (λ cs. left_from (λ (c : Consumer). c.number) n (filter (λ x. names_number x.provider p) cs)) same
+
+  -- A spoil
+
+  -- the marked consumers that are left, spoiled in order
+  abbrev pub spoil_left : QueuedTopology C → ℕ → QueuedTopology C
+  spoil_left q from_number = fold spoil_consumer q (filter (λ c. c.spoiled) (users_left q.topology from_number))
+
+  -- at the beginning all of them are left
+  pub spoil_begin : (q : QueuedTopology C) → spoil_left q 0 ≡ spoil q p
+  spoil_begin q =
+      ap (λ xs. fold spoil_consumer q (filter (λ c. c.spoiled) xs))
+      (walk-begin (λ (c : Consumer). c.number) (attached_to q.topology p))
+
+  -- one without a mark is passed over
+  pub spoil_pass : (q : QueuedTopology C) (from_number n : ℕ) (x : Consumer)
+      → users_left q.topology from_number ≡ x ∷ users_left q.topology (n + 1) → x.spoiled ≡ false
+      → spoil_left q (n + 1) ≡ spoil_left q from_number
+  spoil_pass q from_number n x left is = rw (left, is) refl
+
+  -- one that loses its mark isn't among those behind it
+  spoil_past : (q : QueuedTopology C) (x : Consumer)
+      → users_left (spoil_consumer q x).topology (x.number + 1) ≡ users_left q.topology (x.number + 1)
+  spoil_past q x =
+      same_users (set_marks q.topology (λ c. c.number == x.number) false) (spoil_consumer q x).topology
+      (unless_leaves (record q { topology = set_marks q.topology (λ c. c.number == x.number) false }) x.geom)
+      (x.number + 1)
+      ∙ ap (left_from (λ (c : Consumer). c.number) (x.number + 1))
+      (MarksAreFound.attached marks-found q.topology (λ c. c.number == x.number) false p)
+      ∙ left_past (λ (c : Consumer). c.number) (λ c. record c { spoiled = false }) (λ c. refl) x.number (x.number + 1)
+      (omega arith) (attached_to q.topology p)
+
+  -- one with a mark is spoiled
+  pub spoil_one : (q : QueuedTopology C) (from_number : ℕ) (x : Consumer)
+      → users_left q.topology from_number ≡ x ∷ users_left q.topology (x.number + 1) → x.spoiled ≡ true
+      → spoil_left (spoil_consumer q x) (x.number + 1) ≡ spoil_left q from_number
+  spoil_one q from_number x left is =
+      ap (λ xs. fold spoil_consumer (spoil_consumer q x) (filter (λ c. c.spoiled) xs)) (spoil_past q x)
+      ∙ rw (left, is) refl
+
+  -- either way
+  pub spoil_step : (q new : QueuedTopology C) (from_number : ℕ) (x : Consumer)
+      → users_left q.topology from_number ≡ x ∷ users_left q.topology (x.number + 1)
+      → new ≡ (if x.spoiled then spoil_consumer q x else q)
+      → spoil_left new (x.number + 1) ≡ spoil_left q from_number
+  spoil_step q new from_number x left is = by x.spoiled refl is
+    where
+      by : (b : Bool) → x.spoiled ≡ b → new ≡ (if b then spoil_consumer q x else q)
+          → spoil_left new (x.number + 1) ≡ spoil_left q from_number
+      by true e same = ap (λ r. spoil_left r (x.number + 1)) same ∙ spoil_one q from_number x left e
+      by false e same = ap (λ r. spoil_left r (x.number + 1)) same ∙ spoil_pass q from_number x.number x left e
+
+  -- at the end none is left
+  pub spoil_end : (q : QueuedTopology C) (from_number : ℕ) → users_left q.topology from_number ≡ []
+      → spoil_left q from_number ≡ q
+  spoil_end q from_number none = ap (λ xs. fold spoil_consumer q (filter (λ c. c.spoiled) xs)) none
+
+  -- Walks that leave all consumers
+
+  module _ (f : QueuedTopology C → Consumer → QueuedTopology C)
+      (leaves : (q : QueuedTopology C) (x : Consumer) → (f q x).topology.consumers ≡ q.topology.consumers) where
+    -- the consumers that are left, in order
+    abbrev pub hear_left : QueuedTopology C → ℕ → QueuedTopology C
+    hear_left q from_number = fold f q (users_left q.topology from_number)
+
+    -- at the beginning all of them are left
+    pub hear_begin : (q : QueuedTopology C) → hear_left q 0 ≡ fold f q (attached_to q.topology p)
+    hear_begin q = ap (fold f q) (walk-begin (λ (c : Consumer). c.number) (attached_to q.topology p))
+
+    -- after one more
+    pub hear_one : (q : QueuedTopology C) (from_number : ℕ) (x : Consumer)
+        → users_left q.topology from_number ≡ x ∷ users_left q.topology (x.number + 1)
+        → hear_left (f q x) (x.number + 1) ≡ hear_left q from_number
+    hear_one q from_number x left =
+        ap (fold f (f q x)) (same_users q.topology (f q x).topology (leaves q x) (x.number + 1))
+        ∙ sym (ap (fold f q) left)
+
+    -- by what was done
+    pub hear_step : (q new : QueuedTopology C) (from_number : ℕ) (x : Consumer)
+        → users_left q.topology from_number ≡ x ∷ users_left q.topology (x.number + 1) → new ≡ f q x
+        → hear_left new (x.number + 1) ≡ hear_left q from_number
+    hear_step q new from_number x left is =
+        ap (λ r. hear_left r (x.number + 1)) is ∙ hear_one q from_number x left
+
+    -- at the end none is left
+    pub hear_end : (q : QueuedTopology C) (from_number : ℕ) → users_left q.topology from_number ≡ []
+        → hear_left q from_number ≡ q
+    hear_end q from_number none = ap (fold f q) none

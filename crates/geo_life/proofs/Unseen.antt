@@ -1,0 +1,221 @@
+-- Changes of a graph that counts don't see leave grants, stored counts and notes.
+use Rattle.std.specs.Prelude.{◌≡◌, ◌⊎◌, ℕ, ◌==◌, Bool, true, false, cond, List, [], ◌∷◌, map, find, Option, Some, None, Contains, All, unwrap_or, option_map, if◌then◌else◌}
+use Rattle.std.specs.Option.{option_map_or}
+use Rattle.std.proofs.Common.{refl, sym, ◌∙◌, ap, subst}
+use Rattle.std.proofs.lemmas.List.Elements.{All-contains}
+use Rattle.std.proofs.lemmas.Simd.{map-map}
+use Rattle.geo_base.specs.declared.kind.Kind.{Kind}
+use Rattle.geo_base.specs.declared.request.Counts.{Counts}
+use Rattle.geo_model.specs.Words.{is_granted_kind}
+use Rattle.geo_model.specs.Topology.{Topology, Geom, Provider, Consumer, geom_at, consumer_at}
+use Rattle.geo_model.specs.Demand.{no_counts, have, want}
+use Rattle.geo_model.proofs.DemandLemmas.{map_same}
+use Rattle.geo_slots.specs.Slots.{value_at}
+use Rattle.geo_mesh.specs.Topo.{TopoView, no_scratch, with_topology}
+use Rattle.geo_laws_graph.proofs.Members.{map-Contains, Contains-map}
+use Rattle.geo_laws_counts.specs.CountWords.{Seen, seen_by_counts, DemandStays, AnyConsumer}
+use Rattle.geo_laws_counts.proofs.LimitFacts.{all_of}
+use Rattle.geo_laws_counts.proofs.SeenCounts.{seen_stays}
+use Rattle.geo_laws_counts.proofs.Stays.{grants_agree}
+use Rattle.geo_laws_demands.proofs.Flows.{each_of}
+use Rattle.geo_access.specs.Access.{granted_by, holds_grants, clear_scratches, IsCounted}
+use Rattle.geo_access.proofs.Clearing.{rows-same_on}
+use Rattle.geo_life.specs.Life.{AreStored, CountsStay}
+
+-- what is found among what is seen
+find_seen : {X Y : Type 0} (test : Y → Bool) (see : X → Y) (xs : List X)
+    → find test (map see xs) ≡ option_map see (find (λ x. test (see x)) xs)
+find_seen test see [] = refl
+find_seen {Y = Y} test see (x ∷ xs) = step (test (see x)) (find_seen test see xs)
+  where
+    step : (b : Bool) → find test (map see xs) ≡ option_map see (find (λ x. test (see x)) xs)
+        → cond b (Some (see x)) (find test (map see xs))
+        ≡ option_map see (cond b (Some x) (find (λ x. test (see x)) xs))
+    step true more = refl
+    step false more = more
+
+-- what is seen of a consumer, and of a provider
+abbrev consumer_seen : Consumer → ℕ × ℕ × Option ℕ
+consumer_seen x = (x.number, x.geom, x.provider)
+
+abbrev provider_seen : Provider → ℕ × ℕ
+provider_seen x = (x.number, x.geom)
+
+-- whether a geom is of DEV or TASTE, from what is seen
+abbrev holds_seen : Seen → ℕ → Bool
+holds_seen s g = option_map_or (λ (x : ℕ × Kind). is_granted_kind x.1) (find (λ (x : ℕ × Kind). x.0 == g) s.geoms) false
+
+-- what a consumer is granted, from what is seen and the stored counts
+abbrev granted_seen : Seen → List (ℕ × Counts) → ℕ → Counts
+granted_seen s wants c =
+    option_map_or
+    (λ (x : ℕ × ℕ × Option ℕ). if holds_seen s x.1 then unwrap_or (value_at wants c) no_counts else no_counts)
+    (find (λ (x : ℕ × ℕ × Option ℕ). x.0 == c) s.consumers)
+    no_counts
+
+module _ {C : Type 0} where
+  -- what is seen of a geom
+  abbrev geom_seen : Geom C → ℕ × Kind
+  geom_seen x = (x.number, x.kind)
+
+  -- the class of a geom is seen
+  holds_is_seen : (t : Topology C) (g : ℕ) → holds_grants t g ≡ holds_seen (seen_by_counts t) g
+  holds_is_seen t g =
+      at (geom_at t g)
+      ∙ ap (λ o. option_map_or (λ (x : ℕ × Kind). is_granted_kind x.1) o false)
+      (sym (find_seen (λ (y : ℕ × Kind). y.0 == g) geom_seen t.geoms))
+    where
+      at : (o : Option (Geom C))
+          → option_map_or (λ (x : Geom C). is_granted_kind x.kind) o false
+          ≡ option_map_or (λ (x : ℕ × Kind). is_granted_kind x.1) (option_map geom_seen o) false
+      at None = refl
+      at (Some x) = refl
+
+  -- so is what a consumer is granted
+  granted_is_seen : (t : TopoView C) (c : ℕ)
+      → granted_by t c ≡ granted_seen (seen_by_counts t.topology) t.wants c
+  granted_is_seen t c =
+      at (consumer_at t.topology c)
+      ∙ ap (λ o.
+      option_map_or
+      (λ (x : ℕ × ℕ × Option ℕ).
+      if holds_seen (seen_by_counts t.topology) x.1 then unwrap_or (value_at t.wants c) no_counts else no_counts) o
+      no_counts)
+      (sym (find_seen (λ (y : ℕ × ℕ × Option ℕ). y.0 == c) consumer_seen t.topology.consumers))
+    where
+      at : (o : Option Consumer)
+          → option_map_or
+          (λ (x : Consumer).
+          if holds_grants t.topology x.geom then unwrap_or (value_at t.wants c) no_counts else no_counts) o no_counts
+          ≡ option_map_or
+          (λ (x : ℕ × ℕ × Option ℕ).
+          if holds_seen (seen_by_counts t.topology) x.1 then unwrap_or (value_at t.wants c) no_counts else no_counts)
+          (option_map consumer_seen o) no_counts
+      at None = refl
+      at (Some x) =
+          ap (λ b. if b then unwrap_or (value_at t.wants c) no_counts else no_counts) (holds_is_seen t.topology x.geom)
+
+module _ {C : Type 0} (t : TopoView C) (u : Topology C) (same : seen_by_counts u ≡ seen_by_counts t.topology) where
+  -- the mesh with the other graph
+  abbrev other : TopoView C
+  other = with_topology t u
+
+  -- each consumer is granted what it was
+  grants_stay : (c : ℕ) → granted_by other c ≡ granted_by t c
+  grants_stay c =
+      granted_is_seen other c ∙ ap (λ s. granted_seen s t.wants c) same ∙ sym (granted_is_seen t c)
+
+  -- numbers are what they were
+  geom_rows : {V : Type 0} (f : ℕ → V)
+      → map {B = ℕ × V} (λ (x : Geom C). (x.number, f x.number)) u.geoms
+      ≡ map {B = ℕ × V} (λ (x : Geom C). (x.number, f x.number)) t.topology.geoms
+  geom_rows {V} f =
+      let row : ℕ × Kind → ℕ × V = λ x. (x.0, f x.0) in
+      sym (map-map row geom_seen u.geoms) ∙ ap (λ (s : Seen). map row s.geoms) same
+      ∙ map-map row geom_seen t.topology.geoms
+
+  pub provider_rows : {V : Type 0} (f : ℕ → V)
+      → map {B = ℕ × V} (λ (x : Provider). (x.number, f x.number)) u.providers
+      ≡ map {B = ℕ × V} (λ (x : Provider). (x.number, f x.number)) t.topology.providers
+  provider_rows {V} f =
+      let row : ℕ × ℕ → ℕ × V = λ x. (x.0, f x.0) in
+      sym (map-map row provider_seen u.providers) ∙ ap (λ (s : Seen). map row s.providers) same
+      ∙ map-map row provider_seen t.topology.providers
+
+  provider_keys : map (λ (x : Provider). x.number) u.providers ≡ map (λ (x : Provider). x.number) t.topology.providers
+  provider_keys =
+      sym (map-map (λ (x : ℕ × ℕ). x.0) provider_seen u.providers)
+      ∙ ap (λ (s : Seen). map (λ (x : ℕ × ℕ). x.0) s.providers) same
+      ∙ map-map (λ (x : ℕ × ℕ). x.0) provider_seen t.topology.providers
+
+  consumer_rows : {V : Type 0} (f : ℕ → ℕ → V)
+      → map {B = ℕ × V} (λ (x : Consumer). (x.number, f x.number x.geom)) u.consumers
+      ≡ map {B = ℕ × V} (λ (x : Consumer). (x.number, f x.number x.geom)) t.topology.consumers
+  consumer_rows {V} f =
+      let row : ℕ × ℕ × Option ℕ → ℕ × V = λ x. (x.0, f x.0 x.1) in
+      sym (map-map row consumer_seen u.consumers) ∙ ap (λ (s : Seen). map row s.consumers) same
+      ∙ map-map row consumer_seen t.topology.consumers
+
+  -- wants are stored by the same grants
+  stores_stay : (granted : ℕ → Counts) → AreStored granted t → AreStored granted other
+  stores_stay granted stored =
+      stored
+      ∙ sym (consumer_rows (λ n g. want granted t.topology (record {
+        number = n;
+        geom = g;
+        provider = None;
+        spoiled = false;
+      })))
+      ∙ map_same (λ (c : Consumer). (c.number, want granted t.topology c))
+      (λ (c : Consumer). (c.number, want granted u c)) u.consumers
+      (each_of (λ (c : Consumer). ◌≡◌ {A = ℕ × Counts} (c.number, want granted t.topology c)
+      (c.number, want granted u c)) u.consumers
+      (λ c there.
+      let P : Counts → ℕ × Counts = λ a. (c.number, a) in
+      ap P (sym ((seen_stays granted t.topology u (sym same)).wants c tt))))
+
+  -- only the first two geoms are of DEV or TASTE
+  kinds_stay : All (λ (g : Geom C). is_granted_kind g.kind ≡ true → (g.number ≡ 1) ⊎ (g.number ≡ 2)) t.topology.geoms
+      → All (λ (g : Geom C). is_granted_kind g.kind ≡ true → (g.number ≡ 1) ⊎ (g.number ≡ 2)) u.geoms
+  kinds_stay all =
+      all_of (λ (g : Geom C). is_granted_kind g.kind ≡ true → (g.number ≡ 1) ⊎ (g.number ≡ 2)) u.geoms
+      (λ g there.
+      let was : Contains (map geom_seen t.topology.geoms) (geom_seen g) =
+      subst (λ (s : Seen). Contains s.geoms (geom_seen g)) same (Contains-map geom_seen u.geoms g there) in
+      let from = map-Contains geom_seen t.topology.geoms (geom_seen g) was in
+      subst (λ (x : ℕ × Kind). is_granted_kind x.1 ≡ true → (x.0 ≡ 1) ⊎ (x.0 ≡ 2)) from.fact
+      (All-contains (λ (h : Geom C). is_granted_kind h.kind ≡ true → (h.number ≡ 1) ⊎ (h.number ≡ 2))
+      t.topology.geoms from.item all from.stands))
+
+  -- nothing is left to try
+  clear_stays : clear_scratches u ≡ clear_scratches t.topology
+  clear_stays =
+      ap (λ rows. record (clear_scratches u) { geoms = rows }) (geom_rows (λ n. no_scratch))
+      ∙ ap (λ rows. record (clear_scratches u) {
+        geoms = map (λ (x : Geom C). (x.number, no_scratch)) t.topology.geoms;
+        providers = rows;
+      }) (provider_rows (λ n. no_scratch))
+      ∙ ap (λ rows. record (clear_scratches t.topology) { consumers = rows }) (consumer_rows (λ n g. no_scratch))
+
+  -- all stored counts are what the model sums up
+  counted_stays : IsCounted t → IsCounted other
+  counted_stays counted =
+      let first : DemandStays (granted_by t) t.topology (granted_by t) u AnyConsumer =
+      seen_stays (granted_by t) t.topology u (sym same) in
+      let second : DemandStays (granted_by t) u (granted_by other) u (Contains u.consumers) =
+      grants_agree (granted_by t) (granted_by other) u
+      (all_of (λ (c : Consumer). granted_by other c.number ≡ granted_by t c.number) u.consumers
+      (λ c there. grants_stay c.number)) in
+      record {
+        kinds = kinds_stay counted.kinds;
+        haves =
+            counted.haves
+            ∙ sym (provider_rows (have (granted_by t) t.topology))
+            ∙ rows-same_on (λ (z : Provider). z.number) (have (granted_by t) t.topology) (have (granted_by other) u)
+            u.providers
+            (λ z there. sym (second.haves z.number ∙ first.haves z.number));
+        wants =
+            stores_stay (granted_by t) counted.wants
+            ∙ map_same (λ (c : Consumer). (c.number, want (granted_by t) u c))
+            (λ (c : Consumer). (c.number, want (granted_by other) u c)) u.consumers
+            (each_of (λ (c : Consumer). ◌≡◌ {A = ℕ × Counts} (c.number, want (granted_by t) u c)
+            (c.number, want (granted_by other) u c)) u.consumers
+            (λ c there. let P : Counts → ℕ × Counts = λ a. (c.number, a) in ap P (sym (second.wants c there))));
+        exclusive = second.exclusive (first.exclusive counted.exclusive);
+        limit = second.limit (first.limit counted.limit);
+        risen = counted.risen ∙ sym provider_keys;
+        fallen = counted.fallen ∙ sym provider_keys;
+        clear = counted.clear ∙ sym clear_stays;
+      }
+
+  -- all that counts keep
+  pub unseen_stays : CountsStay t other
+  unseen_stays = record {
+    granted = grants_stay;
+    stored = stores_stay;
+    counted = counted_stays;
+    quiet = λ quiet. record {
+      risen = quiet.risen ∙ sym (provider_rows (λ n. false));
+      fallen = quiet.fallen ∙ sym (provider_rows (λ n. false));
+    };
+  }

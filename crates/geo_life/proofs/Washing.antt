@@ -1,0 +1,238 @@
+-- What a wash finds.
+use Rattle.std.specs.Prelude.{◌≡◌, ℕ, suc, ◌+◌, ◌==◌, nat_le, Bool, true, false, not, ◌&&◌, List, [], ◌∷◌, length, find, Option, Some, None, Contains, if◌then◌else◌, IsSomeAnd, IfSome, IsTrue, MatchOption, is_none, is_some, option_map}
+use Rattle.std.specs.Option.{option_or}
+use Rattle.std.proofs.Common.{refl, sym, ap, ◌∙◌, subst, arith}
+use Rattle.std.proofs.lemmas.Bool.{le-leb, ne_eqb}
+use Rattle.geo_base.specs.declared.request.Counts.{Counts}
+use Rattle.geo_model.specs.declared.step.WashWork.{WashWork}
+use Rattle.geo_model.specs.declared.step.WashWork.TheVariants as washes
+use Rattle.geo_model.specs.Topology.{Topology, Geom, Provider, Consumer, geom_at, consumer_at, attached_to, providers_of, consumers_of, is_withering}
+use Rattle.geo_model.specs.Graph.{IsInOrder}
+use Rattle.geo_model.specs.Demand.{is_zero}
+use Rattle.geo_model.specs.Freeing.{is_idle, free_consumer, free_geom, wash_work_of, first_wash, wash_where}
+use Rattle.geo_mesh.specs.Topo.{TopoView, first_geom}
+use Rattle.geo_mesh.specs.Graph.{IsSoundGraph}
+use Rattle.geo_laws_graph.specs.LookupLaws.{left_from, IsStep, WalksMeetAll}
+use Rattle.geo_laws_graph.proofs.Walks.{walks-meet, walk-begin}
+use Rattle.geo_laws_graph.proofs.Members.{Contains-here, filter-Contains}
+use Rattle.geo_laws_graph.proofs.Lists.{found_itself}
+use Rattle.geo_laws_graph.proofs.Numbered.{number_found}
+use Rattle.geo_access.specs.Views.{want_at}
+use Rattle.geo_life.specs.Life.{AreStored, is_out}
+use Rattle.geo_life.specs.Wash.{withering_geoms, IsNextGeom}
+use Rattle.geo_life.proofs.Errors.{any_found}
+use Rattle.geo_life.proofs.MarkWalk.{stored_now}
+
+-- Whether there is none
+
+module _ {X : Type 0} (number : X → ℕ) where
+  -- nothing comes first just where there is nothing
+  pub none_first : (xs : List X)
+      → is_none (option_map number (find (λ x. nat_le 0 (number x)) xs)) ≡ (length xs == 0)
+  none_first [] = refl
+  none_first (x ∷ xs) =
+      ap (λ b. is_none (option_map number (if b then Some x else find (λ y. nat_le 0 (number y)) xs)))
+      (le-leb 0 (number x) (omega arith))
+      ∙ sym (ne_eqb (suc (length xs)) 0 (λ e. omega (arith, e)))
+
+  pub none_there : (xs : List X) → is_none (option_map number (find (λ x. nat_le 0 (number x)) xs)) ≡ true → xs ≡ []
+  none_there [] e = refl
+  none_there (x ∷ xs) e =
+      let no : false ≡ true =
+      sym (ne_eqb (suc (length xs)) 0 (λ same. omega (arith, same))) ∙ sym (none_first (x ∷ xs)) ∙ e in
+      absurd (cc)
+
+-- what says that there is something says that there isn't nothing
+pub told_none : {X : Type 0} (o : Option X) (b : Bool) → is_some o ≡ not b → b ≡ is_none o
+told_none None true e = refl
+told_none None false never = absurd (cc)
+told_none (Some x) true never = absurd (cc)
+told_none (Some x) false e = refl
+
+-- Withering geoms
+
+module _ {C : Type 0} (t : Topology C) (order : IsInOrder t) where
+  -- a geom withers just where it says so
+  pub withering_is : (n : ℕ) (g : Geom C) → geom_at t n ≡ Some g → is_withering t n ≡ g.withering
+  withering_is n g found =
+      any_found (λ (x : Geom C). x.number) (λ x. x.withering) n t.next_geom t.geoms g order.geoms found
+
+  -- one that doesn't isn't one that does
+  pub not_withering : (n m : ℕ) → IsSomeAnd (geom_at t m) (λ g. g.withering ≡ false) → IsTrue (is_withering t n) → n ≡ m
+      → ⊥
+  not_withering n m stands withers same = by (geom_at t m) refl stands
+    where
+      by : (o : Option (Geom C)) → geom_at t m ≡ o → IsSomeAnd o (λ g. g.withering ≡ false) → ⊥
+      by None e never = never
+      by (Some g) e stays =
+          let yes_withers : is_withering t m ≡ true = subst (λ k. is_withering t k ≡ true) same withers in
+          let both : true ≡ false = sym yes_withers ∙ withering_is m g e ∙ stays in
+          absurd (cc)
+
+module _ {C : Type 0} (t : Topology C) (sound : IsSoundGraph t) where
+  -- the next withering geom of a walk
+  pub next_geom : (from_number n : ℕ) → first_geom (withering_geoms t) from_number ≡ Some n
+      → IsNextGeom t from_number n
+  next_geom from_number n first =
+      let step : IsStep (λ (g : Geom C). g.number) (withering_geoms t) t.next_geom from_number n =
+      WalksMeetAll.step walks-meet (λ (g : Geom C). g.number) (withering_geoms t) t.next_geom from_number n
+      (WalksMeetAll.part walks-meet (λ (g : Geom C). g.number) (λ g. g.withering) t.geoms t.next_geom
+      sound.orderly.order.geoms) first in
+      let there =
+      filter-Contains (λ (g : Geom C). nat_le from_number g.number) (withering_geoms t) step.item
+      (subst (λ ys. Contains ys step.item) (sym step.left)
+      (Contains-here step.item (left_from (λ (g : Geom C). g.number) (n + 1) (withering_geoms t)))) in
+      let inside = filter-Contains (λ (g : Geom C). g.withering) t.geoms step.item there.0 in
+      let found : geom_at t n ≡ Some step.item =
+      subst (λ m. geom_at t m ≡ Some step.item) step.is
+      (found_itself (λ (g : Geom C). g.number) t.next_geom t.geoms step.item sound.orderly.order.geoms inside.0) in
+      record {
+        geom = step.item;
+        found = found;
+        withers = withering_is t sound.orderly.order n step.item found ∙ inside.1;
+        left = step.left;
+        past = step.past;
+        known = step.known;
+        fits = sound.orderly.numbers.next_geom.fits;
+      }
+
+  -- what the look-up gives
+  pub next_withering : (from_number : ℕ) (o : Option ℕ) → o ≡ first_geom (withering_geoms t) from_number
+      → MatchOption o (left_from (λ (g : Geom C). g.number) from_number (withering_geoms t) ≡ [])
+      (λ n. IsNextGeom t from_number n)
+  next_withering from_number None is =
+      WalksMeetAll.rest walks-meet (λ (g : Geom C). g.number) (withering_geoms t) from_number (sym is)
+  next_withering from_number (Some n) is = next_geom from_number n (sym is)
+
+module _ {C : Type 0} (granted : ℕ → Counts) (active : ℕ → Bool) (t : Topology C) where
+  -- what can go first of the withering geoms that are left
+  abbrev pub wash_left : ℕ → Option WashWork
+  wash_left n = first_wash granted active t (left_from (λ (g : Geom C). g.number) n (withering_geoms t))
+
+  -- at the beginning all of them are left
+  pub wash_begin : wash_left 0 ≡ wash_where granted active t
+  wash_begin = ap (first_wash granted active t) (walk-begin (λ (g : Geom C). g.number) (withering_geoms t))
+
+  module _ (from_number n : ℕ) (next : IsNextGeom t from_number n) where
+    wash_next : wash_left from_number ≡ option_or (wash_work_of granted active t next.geom) (wash_left (n + 1))
+    wash_next = ap (first_wash granted active t) next.left
+
+    -- one of which nothing can go is passed over
+    pub wash_pass : wash_work_of granted active t next.geom ≡ None → wash_left (n + 1) ≡ wash_left from_number
+    wash_pass none = sym (wash_next ∙ ap (λ o. option_or o (wash_left (n + 1))) none)
+
+    -- what can go of one
+    pub wash_here : (work : WashWork) → wash_work_of granted active t next.geom ≡ Some work
+        → Some work ≡ wash_left from_number
+    wash_here work is = sym (wash_next ∙ ap (λ o. option_or o (wash_left (n + 1))) is)
+
+  -- at the end none is left
+  pub wash_end : (from_number : ℕ) → left_from (λ (g : Geom C). g.number) from_number (withering_geoms t) ≡ []
+      → None ≡ wash_left from_number
+  wash_end from_number none = sym (ap (first_wash granted active t) none)
+
+-- a consumer is idle where its stored counts are zero and no request is out
+pub idle_is : {C : Type 0} (granted : ℕ → Counts) (t : TopoView C) → AreStored granted t → (x : Consumer)
+    → consumer_at t.topology x.number ≡ Some x
+    → is_idle granted (is_out t) t.topology x ≡ (is_zero (want_at t x.number) && not (is_out t x.number))
+idle_is granted t stored x found =
+    ap (λ a. is_zero a && not (is_out t x.number)) (sym (stored_now granted t stored x.number x found))
+
+-- What can go of one geom
+
+-- of what is there, what was found of it
+there : {X : Type 0} (P : X → Type 0) (o : Option X) → ((x : X) → o ≡ Some x → P x) → IfSome o P
+there P None so = tt
+there P (Some x) so = so x refl
+
+-- as work
+as_work : {X : Type 0} (number : X → ℕ) (work : ℕ → WashWork) (o : Option X) (n : Option ℕ) → n ≡ option_map number o
+    → option_map (λ x. work (number x)) o ≡ option_map work n
+as_work number work None n is = ap (option_map work) (sym is)
+as_work number work (Some x) n is = ap (option_map work) (sym is)
+
+module _ {C : Type 0} (granted : ℕ → Counts) (active : ℕ → Bool) (t : Topology C) (geom : ℕ)
+    (p : Option ℕ)
+    (provider : p ≡ option_map (λ (x : Provider). x.number)
+    (find (λ x. length (attached_to t x.number) == 0) (providers_of t geom))) where
+  -- a provider goes first
+  first_part : (n : ℕ) → n ≡ geom
+      → option_map (λ (x : Provider). washes.Provider x.number)
+      (find (λ x. length (attached_to t x.number) == 0) (providers_of t n))
+      ≡ option_map washes.Provider p
+  first_part n same =
+      ap (λ m. option_map (λ (x : Provider). washes.Provider x.number)
+      (find (λ x. length (attached_to t x.number) == 0) (providers_of t m))) same
+      ∙ as_work (λ (x : Provider). x.number) washes.Provider
+      (find (λ x. length (attached_to t x.number) == 0) (providers_of t geom)) p provider
+
+  -- the number of a geom that is found
+  its_number : (g : Geom C) → geom_at t geom ≡ Some g → g.number ≡ geom
+  its_number g found = number_found (λ (x : Geom C). x.number) t.geoms geom g found
+
+  pub work_provider : (n : ℕ) → p ≡ Some n
+      → IfSome (geom_at t geom) (λ g. Some (washes.Provider n) ≡ wash_work_of granted active t g)
+  work_provider n is =
+      there (λ g. Some (washes.Provider n) ≡ wash_work_of granted active t g) (geom_at t geom)
+      (λ g found.
+      sym (ap (λ o. option_or o (option_or (free_consumer granted active t g) (option_or (free_geom granted active t g)
+      None)))
+      (first_part g.number (its_number g found) ∙ ap (option_map washes.Provider) is)))
+
+  module _ (none : p ≡ None) (c : Option ℕ)
+      (consumer : c ≡ option_map (λ (x : Consumer). x.number)
+      (find (is_idle granted active t) (consumers_of t geom))) where
+    -- else a consumer
+    second_part : (n : ℕ) → n ≡ geom
+        → option_map (λ (x : Consumer). washes.Consumer x.number) (find (is_idle granted active t) (consumers_of t n))
+        ≡ option_map washes.Consumer c
+    second_part n same =
+        ap (λ m. option_map (λ (x : Consumer). washes.Consumer x.number)
+        (find (is_idle granted active t) (consumers_of t m))) same
+        ∙ as_work (λ (x : Consumer). x.number) washes.Consumer
+        (find (is_idle granted active t) (consumers_of t geom)) c consumer
+
+    -- what is left then
+    after_first : (g : Geom C) → geom_at t geom ≡ Some g
+        → wash_work_of granted active t g
+        ≡ option_or (option_map washes.Consumer c) (option_or (free_geom granted active t g) None)
+    after_first g found =
+        ap (λ o. option_or o (option_or (free_consumer granted active t g)
+        (option_or (free_geom granted active t g) None)))
+        (first_part g.number (its_number g found) ∙ ap (option_map washes.Provider) none)
+        ∙ ap (λ o. option_or o (option_or (free_geom granted active t g) None))
+        (second_part g.number (its_number g found))
+
+    pub work_consumer : (n : ℕ) → c ≡ Some n
+        → IfSome (geom_at t geom) (λ g. Some (washes.Consumer n) ≡ wash_work_of granted active t g)
+    work_consumer n is =
+        there (λ g. Some (washes.Consumer n) ≡ wash_work_of granted active t g) (geom_at t geom)
+        (λ g found.
+        sym (after_first g found
+        ∙ ap (λ o. option_or (option_map washes.Consumer o) (option_or (free_geom granted active t g) None)) is))
+
+    module _ (over : c ≡ None) where
+      -- else the geom
+      after_second : (g : Geom C) → geom_at t geom ≡ Some g → (b : Bool)
+          → b ≡ ((length (providers_of t geom) == 0) && (length (consumers_of t geom) == 0))
+          → wash_work_of granted active t g ≡ option_or (if b then Some (washes.Geom geom) else None) None
+      after_second g found b bare =
+          after_first g found
+          ∙ ap (λ o. option_or (option_map washes.Consumer o) (option_or (free_geom granted active t g) None)) over
+          ∙ ap (λ m.
+          option_or
+          (if (length (providers_of t m) == 0) && (length (consumers_of t m) == 0) then Some (washes.Geom m)
+          else None) None) (its_number g found)
+          ∙ ap (λ d. option_or (if d then Some (washes.Geom geom) else None) None) (sym bare)
+
+      pub work_geom : true ≡ ((length (providers_of t geom) == 0) && (length (consumers_of t geom) == 0))
+          → IfSome (geom_at t geom) (λ g. Some (washes.Geom geom) ≡ wash_work_of granted active t g)
+      work_geom bare =
+          there (λ g. Some (washes.Geom geom) ≡ wash_work_of granted active t g) (geom_at t geom)
+          (λ g found. sym (after_second g found true bare))
+
+      pub work_none : false ≡ ((length (providers_of t geom) == 0) && (length (consumers_of t geom) == 0))
+          → IfSome (geom_at t geom) (λ g. None ≡ wash_work_of granted active t g)
+      work_none bare =
+          there (λ g. None ≡ wash_work_of granted active t g) (geom_at t geom)
+          (λ g found. sym (after_second g found false bare))

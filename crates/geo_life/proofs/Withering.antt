@@ -1,0 +1,68 @@
+-- The walk over the providers of a geom that withers.
+use Rattle.std.specs.Prelude.{◌≡◌, ℕ, ◌+◌, Bool, true, false, not, List, [], ◌∷◌, map, filter, fold, if◌then◌else◌}
+use Rattle.std.proofs.Common.{refl, ap, ◌∙◌, arith}
+use Rattle.geo_model.specs.Topology.{Topology, Provider, providers_of, set_error}
+use Rattle.geo_model.specs.Events.{QueuedTopology, orphan_provider}
+use Rattle.geo_laws_graph.specs.LookupLaws.{left_from, ErrorIsFound}
+use Rattle.geo_laws_graph.proofs.Found.{error-found}
+use Rattle.geo_laws_graph.proofs.Walks.{walk-begin}
+use Rattle.geo_life.proofs.Lefts.{left_past}
+
+module _ {C : Type 0} (g : ℕ) where
+  -- the providers of the geom from a number on
+  abbrev pub providers_left : Topology C → ℕ → List Provider
+  providers_left t from_number = left_from (λ (x : Provider). x.number) from_number (providers_of t g)
+
+  -- those without an error, orphaned in order
+  abbrev pub orphan_left : QueuedTopology C → ℕ → QueuedTopology C
+  orphan_left q from_number =
+      fold orphan_provider q (map (λ x. x.number) (filter (λ x. not x.errored) (providers_left q.topology from_number)))
+
+  -- at the beginning all of them are left
+  pub orphan_begin : (q : QueuedTopology C)
+      → orphan_left q 0
+      ≡ fold orphan_provider q (map (λ x. x.number) (filter (λ x. not x.errored) (providers_of q.topology g)))
+  orphan_begin q =
+      ap (λ xs. fold orphan_provider q (map (λ x. x.number) (filter (λ x. not x.errored) xs)))
+      (walk-begin (λ (x : Provider). x.number) (providers_of q.topology g))
+
+  -- one that carries an error is passed over
+  pub orphan_pass : (q : QueuedTopology C) (from_number n : ℕ) (x : Provider)
+      → providers_left q.topology from_number ≡ x ∷ providers_left q.topology (n + 1) → x.errored ≡ true
+      → orphan_left q (n + 1) ≡ orphan_left q from_number
+  orphan_pass q from_number n x left is = rw (left, is) refl
+
+  -- a provider that gets an error isn't among those behind it
+  error_past : (t : Topology C) (n : ℕ) → providers_left (set_error t n) (n + 1) ≡ providers_left t (n + 1)
+  error_past t n =
+      ap (left_from (λ (x : Provider). x.number) (n + 1)) (ErrorIsFound.of error-found t n g)
+      ∙ left_past (λ (x : Provider). x.number) (λ x. record x { errored = true }) (λ x. refl) n (n + 1) (omega arith)
+      (providers_of t g)
+
+  -- one that carries none is orphaned
+  pub orphan_one : (q : QueuedTopology C) (from_number n : ℕ) (x : Provider)
+      → providers_left q.topology from_number ≡ x ∷ providers_left q.topology (n + 1) → x.number ≡ n
+      → x.errored ≡ false
+      → orphan_left (orphan_provider q n) (n + 1) ≡ orphan_left q from_number
+  orphan_one q from_number n x left number is =
+      ap (λ xs. fold orphan_provider (orphan_provider q n) (map (λ x. x.number) (filter (λ x. not x.errored) xs)))
+      (error_past q.topology n)
+      ∙ rw (left, is, number) refl
+
+  -- either way
+  pub orphan_step : (q new : QueuedTopology C) (from_number n : ℕ) (x : Provider)
+      → providers_left q.topology from_number ≡ x ∷ providers_left q.topology (n + 1) → x.number ≡ n
+      → new ≡ (if x.errored then q else orphan_provider q n)
+      → orphan_left new (n + 1) ≡ orphan_left q from_number
+  orphan_step q new from_number n x left number is = by x.errored refl is
+    where
+      by : (b : Bool) → x.errored ≡ b → new ≡ (if b then q else orphan_provider q n)
+          → orphan_left new (n + 1) ≡ orphan_left q from_number
+      by true e same = ap (λ r. orphan_left r (n + 1)) same ∙ orphan_pass q from_number n x left e
+      by false e same = ap (λ r. orphan_left r (n + 1)) same ∙ orphan_one q from_number n x left number e
+
+  -- at the end none is left
+  pub orphan_end : (q : QueuedTopology C) (from_number : ℕ) → providers_left q.topology from_number ≡ []
+      → orphan_left q from_number ≡ q
+  orphan_end q from_number none =
+      ap (λ xs. fold orphan_provider q (map (λ x. x.number) (filter (λ x. not x.errored) xs))) none

@@ -1,0 +1,112 @@
+use Rattle.std.proofs.Common.{sym, arith, ap, ◌≡◌, ◌∙◌, subst}
+use Rattle.std.specs.Prelude.{false, length}
+use Rattle.geo_model.specs.Events.{spoil_at, announce_risen}
+use Rattle.geo_access.specs.Access.{noted}
+use Rattle.geo_slots.specs.Slots.{with_value}
+use Rattle.geo_mesh.specs.Topo.{TopoView}
+use Rattle.geo_laws_counts.specs.CountWords.{seen_by_counts}
+use Rattle.geo_life.specs.Life.{queued, notes, without_rises, AreStored, CountsStay}
+use Rattle.geo_life.proofs.Seen.{mesh_kept}
+use Rattle.geo_life.proofs.Announcing.{note_none}
+use Rattle.geo_life.proofs.Announced.{rise_step, rise_stored, rise_end, rise_next, rise_less, rise_notes, rise_mesh, rise_unseen, rise_out, mid_is}
+use Rattle.geo_life.proofs.announces.announce_risen.Goals as goal
+
+pub spoil_at-requires : goal.spoil_at-requires
+spoil_at-requires g c =
+    let less =
+    rise_less c.args.topo.now c.loop-prov.topo c.loop-prov.invariant.counted c.in-Some.ensures.sound
+    c.loop-prov.invariant.mesh c.loop-prov.invariant.seen c.in-Some.prov (sym c.in-Some.ensures.first)
+    c.next_risen.new.topo c.in-Some.ensures.dropped in
+    omega (arith, less, c.loop-prov.invariant.room)
+
+pub loop-prov-smaller : goal.loop-prov-smaller
+loop-prov-smaller g c =
+    let less =
+    rise_less c.args.topo.now c.loop-prov.topo c.loop-prov.invariant.counted c.in-Some.ensures.sound
+    c.loop-prov.invariant.mesh c.loop-prov.invariant.seen c.in-Some.prov (sym c.in-Some.ensures.first)
+    c.next_risen.new.topo c.in-Some.ensures.dropped in
+    let now : notes c.spoil_at.new.topo.risen ≡ notes (with_value c.loop-prov.topo.risen c.in-Some.prov false) =
+    ap notes (rise_notes c.args.topo.now c.loop-prov.topo c.loop-prov.invariant.counted c.in-Some.ensures.sound
+    c.loop-prov.invariant.mesh c.loop-prov.invariant.seen c.in-Some.prov (sym c.in-Some.ensures.first)
+    c.next_risen.new.topo c.in-Some.ensures.dropped c.spoil_at.new.topo c.spoil_at.ensures.rest.mesh) in
+    omega (arith, less, now)
+
+pub loop-prov-preserved : goal.loop-prov-preserved
+loop-prov-preserved g c =
+    let first = sym c.in-Some.ensures.first in
+    let rows = with_value c.loop-prov.topo.risen c.in-Some.prov false in
+    let less =
+    rise_less c.args.topo.now c.loop-prov.topo c.loop-prov.invariant.counted c.in-Some.ensures.sound
+    c.loop-prov.invariant.mesh c.loop-prov.invariant.seen c.in-Some.prov first
+    c.next_risen.new.topo c.in-Some.ensures.dropped in
+    let kept : c.spoil_at.new.topo.risen ≡ rows =
+    rise_notes c.args.topo.now c.loop-prov.topo c.loop-prov.invariant.counted c.in-Some.ensures.sound
+    c.loop-prov.invariant.mesh c.loop-prov.invariant.seen c.in-Some.prov first
+    c.next_risen.new.topo c.in-Some.ensures.dropped c.spoil_at.new.topo c.spoil_at.ensures.rest.mesh in
+    let now : notes c.spoil_at.new.topo.risen ≡ notes rows = ap notes kept in
+    let mid : c.next_risen.new.topo ≡ record c.loop-prov.topo { risen = rows } =
+    mid_is c.args.topo.now c.loop-prov.topo c.loop-prov.invariant.counted c.in-Some.ensures.sound
+    c.loop-prov.invariant.mesh c.loop-prov.invariant.seen c.in-Some.prov first
+    c.next_risen.new.topo c.in-Some.ensures.dropped in
+    record {
+      counted = CountsStay.counted c.spoil_at.ensures.kept c.in-Some.ensures.counted;
+      announced = λ granted stored.
+          ap (λ rs. announce_risen granted (noted rs) (queued c.spoil_at.new.topo c.spoil_at.new.queue)) kept
+          ∙ rise_step c.loop-prov.topo.risen rows c.in-Some.prov
+          (rise_next c.args.topo.now c.loop-prov.topo c.loop-prov.invariant.counted c.in-Some.ensures.sound
+          c.loop-prov.invariant.mesh c.loop-prov.invariant.seen c.in-Some.prov first
+          c.next_risen.new.topo c.in-Some.ensures.dropped)
+          (queued c.loop-prov.topo c.loop-prov.queue) (queued c.spoil_at.new.topo c.spoil_at.new.queue) granted
+          (c.spoil_at.ensures.spoiled granted
+          (subst (AreStored granted) (sym mid)
+          (rise_stored c.args.topo.now c.loop-prov.topo c.loop-prov.invariant.counted c.in-Some.ensures.sound
+          c.loop-prov.invariant.mesh c.loop-prov.invariant.seen granted stored))
+          ∙ ap (λ (v : TopoView g.row.C.Denot). spoil_at granted (queued v c.loop-prov.queue) c.in-Some.prov) mid)
+          ∙ c.loop-prov.invariant.announced granted stored;
+      mesh =
+          rise_mesh c.args.topo.now c.loop-prov.topo c.loop-prov.invariant.counted c.in-Some.ensures.sound
+          c.loop-prov.invariant.mesh c.loop-prov.invariant.seen c.in-Some.prov first
+          c.next_risen.new.topo c.in-Some.ensures.dropped c.spoil_at.new.topo c.spoil_at.ensures.rest.mesh;
+      seen =
+          rise_unseen c.next_risen.new.topo c.loop-prov.queue (queued c.spoil_at.new.topo c.spoil_at.new.queue)
+          c.in-Some.prov c.in-Some.ensures.counted c.spoil_at.ensures.spoiled
+          ∙ ap (λ (v : TopoView g.row.C.Denot). seen_by_counts v.topology) mid
+          ∙ c.loop-prov.invariant.seen;
+      memory = c.spoil_at.ensures.rest.room ∙ c.loop-prov.invariant.memory;
+      owed = omega (arith, less, now, c.loop-prov.invariant.owed, c.spoil_at.ensures.room);
+      room = omega (arith, less, now, c.loop-prov.invariant.room, c.spoil_at.ensures.room);
+    }
+
+pub returns-clause-announced : goal.returns-clause-announced
+returns-clause-announced g c =
+    λ granted stored.
+    ap (λ (v : TopoView g.row.C.Denot). queued v c.loop-prov.queue) c.in_default.ensures.dropped
+    ∙ sym (ap (λ ns. announce_risen granted ns (queued c.loop-prov.topo c.loop-prov.queue))
+    (note_none c.loop-prov.topo.risen (sym c.in_default.ensures.first)))
+    ∙ c.loop-prov.invariant.announced granted stored
+
+pub returns-clause-rest : goal.returns-clause-rest
+returns-clause-rest g c = record {
+  mesh =
+      rise_out c.args.topo.now c.loop-prov.topo c.next_risen.new.topo
+      (rise_end c.args.topo.now c.loop-prov.topo c.loop-prov.invariant.counted c.in_default.ensures.sound
+      c.loop-prov.invariant.mesh c.loop-prov.invariant.seen (sym c.in_default.ensures.first))
+      c.in_default.ensures.dropped;
+  room = c.loop-prov.invariant.memory;
+}
+
+pub returns-clause-room : goal.returns-clause-room
+returns-clause-room g c =
+    let none : notes c.loop-prov.topo.risen ≡ 0 =
+    ap length (note_none c.loop-prov.topo.risen (sym c.in_default.ensures.first)) in
+    omega (arith, none, c.loop-prov.invariant.owed)
+
+pub returns-clause-kept : goal.returns-clause-kept
+returns-clause-kept g c =
+    mesh_kept (without_rises c.args.topo.now) c.next_risen.new.topo
+    (rise_out c.args.topo.now c.loop-prov.topo c.next_risen.new.topo
+    (rise_end c.args.topo.now c.loop-prov.topo c.loop-prov.invariant.counted c.in_default.ensures.sound
+    c.loop-prov.invariant.mesh c.loop-prov.invariant.seen (sym c.in_default.ensures.first))
+    c.in_default.ensures.dropped)
+    (ap (λ (v : TopoView g.row.C.Denot). seen_by_counts v.topology) c.in_default.ensures.dropped
+    ∙ c.loop-prov.invariant.seen)
