@@ -182,7 +182,8 @@ module _ (test : Phase → Bool) (bios more : List (BioOf Held)) where
   appended c first k is count head = record {
     count = (λ i. is.count i + sym count i) ∙ sym count_both;
     first = ap (λ o. Some (option_map_or (λ m. m) o first)) is.first ∙ at (find (λ (y : BioOf Held). test y.phase) bios)
-        ∙ ap (option_map (λ (y : BioOf Held). y.number)) (sym (find-append (λ (y : BioOf Held). test y.phase) bios more));
+        ∙ ap (option_map (λ (y : BioOf Held). y.number))
+        (sym (find-append (λ (y : BioOf Held). test y.phase) bios more));
   } where
     at : (o : Option (BioOf Held))
         → Some (option_map_or (λ m. m) (option_map (λ (y : BioOf Held). y.number) o) first)
@@ -196,7 +197,8 @@ module _ (test : Phase → Bool) (bios more : List (BioOf Held)) where
   appended_others c is none head = record {
     count = is.count ∙ sym (count_both ∙ ap (λ k. count_in test bios + k) none ∙ omega arith);
     first = is.first ∙ at (find (λ (y : BioOf Held). test y.phase) bios)
-        ∙ ap (option_map (λ (y : BioOf Held). y.number)) (sym (find-append (λ (y : BioOf Held). test y.phase) bios more));
+        ∙ ap (option_map (λ (y : BioOf Held). y.number))
+        (sym (find-append (λ (y : BioOf Held). test y.phase) bios more));
   } where
     at : (o : Option (BioOf Held))
         → option_map (λ (y : BioOf Held). y.number) o

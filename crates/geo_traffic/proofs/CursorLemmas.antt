@@ -62,7 +62,8 @@ module _ (test : Phase → Bool) where
         let rest : first_bio xs low ≡ Some b = rw e at first in
         let there = later rest in
         let above = reached_above low b xs rest in
-        (there.0, rw (ne_eqb x.number b (λ same. let less = leb-false low x.number e in omega (arith, same, less, above))) there.1)
+        let less = leb-false low x.number e in
+        (there.0, rw (ne_eqb x.number b (λ same. omega (arith, same, less, above))) there.1)
 
   -- one that passes is found
   pub walk_hits : (low b : ℕ) (bios : List (BioOf Held)) → Rising bios → first_bio bios low ≡ Some b
@@ -81,7 +82,8 @@ module _ (test : Phase → Bool) where
         let rest : first_bio xs low ≡ Some b = rw e at first in
         let above = reached_above low b xs rest in
         let less = leb-false low x.number e in
-        let there : has_phase test xs b ≡ true = rw (ne_eqb x.number b (λ same. omega (arith, same, less, above))) at passes in
+        let differs = ne_eqb x.number b (λ same. omega (arith, same, less, above)) in
+        let there : has_phase test xs b ≡ true = rw differs at passes in
         rw e (later rest there)
 
   -- from one that doesn't pass the walk goes on behind it
@@ -115,7 +117,8 @@ module _ (test : Phase → Bool) where
           let rest : first_bio xs low ≡ Some b = rw e at first in
           let above = reached_above low b xs rest in
           let less = leb-false low x.number e in
-          let there : has_phase test xs b ≡ false = rw (ne_eqb x.number b (λ same. omega (arith, same, less, above))) at fails in
+          let differs = ne_eqb x.number b (λ same. omega (arith, same, less, above)) in
+          let there : has_phase test xs b ≡ false = rw differs at fails in
           rw (e, lt-leb (b + 1) x.number (omega (arith, less, above))) (later rest there)
 
 -- What a comparison of the first tells

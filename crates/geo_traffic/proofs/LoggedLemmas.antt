@@ -127,7 +127,8 @@ module _ (places : ℕ) where
     -- after a bio went up
     up_logged : (log : ℕ → Option (List ℕ)) (x : BioOf Held) (owner : Owner)
         → AreLogged places (after_up log bios x owner)
-    up_logged log x (owners.Line handle line) = All-filter (λ (y : BioOf Held). not (y.number == x.number)) Fits bios logged
+    up_logged log x (owners.Line handle line) =
+        All-filter (λ (y : BioOf Held). not (y.number == x.number)) Fits bios logged
     up_logged log x owners.Taste = All-filter (λ (y : BioOf Held). not (y.number == x.number)) Fits bios logged
     up_logged log x (owners.Child parent index) =
         done_logged log (change_number x.number (with_phase phases.Done) bios) parent

@@ -178,4 +178,6 @@ module _ (n : ℕ) where
         ∙ (λ i. unhit (λ (y : BioOf Held). y.number == n) g s.front front_differs i ++ there i)
       where
         there : change_number n g (x ∷ s.back) ≡ g x ∷ s.back
-        there = rw (eq-eqb x.number n s.number) (ap (λ ys. g x ∷ ys) (unhit (λ (y : BioOf Held). y.number == n) g s.back back_differs))
+        there =
+            rw (eq-eqb x.number n s.number)
+            (ap (λ ys. g x ∷ ys) (unhit (λ (y : BioOf Held). y.number == n) g s.back back_differs))

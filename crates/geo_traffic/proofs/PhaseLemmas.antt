@@ -61,11 +61,13 @@ module _ (test : Phase → Bool) (front back : List (BioOf Held)) where
       (above : AllByRecursion (λ (y : BioOf Held). n < y.number) back) where
     -- what is found before it
     found_below : (z : BioOf Held) → search_in front ≡ Some z → z.number < n
-    found_below z e = (found_fact (λ (y : BioOf Held). y.number < n) (λ (y : BioOf Held). test y.phase) front z below e).0
+    found_below z e =
+        (found_fact (λ (y : BioOf Held). y.number < n) (λ (y : BioOf Held). test y.phase) front z below e).0
 
     -- what is found behind it
     found_above : (z : BioOf Held) → search_in back ≡ Some z → n < z.number
-    found_above z e = (found_fact (λ (y : BioOf Held). n < y.number) (λ (y : BioOf Held). test y.phase) back z above e).0
+    found_above z e =
+        (found_fact (λ (y : BioOf Held). n < y.number) (λ (y : BioOf Held). test y.phase) back z above e).0
 
     -- one that passes is the first, or the first of the others is
     pub first_with_hit : (x : BioOf Held) → test x.phase ≡ true → x.number ≡ n
@@ -104,7 +106,8 @@ module _ (test : Phase → Bool) (front back : List (BioOf Held)) where
             ≡ option_map (λ y. y.number) (option_or (search_in front) (search_in (x ∷ back)))
         at (Some z) f = rw f refl
         at None f = absurd (differs
-            (ap (option_map (λ (y : BioOf Held). y.number)) (find-append (λ (y : BioOf Held). test y.phase) front (x ∷ back))
+            (ap (option_map (λ (y : BioOf Held). y.number))
+            (find-append (λ (y : BioOf Held). test y.phase) front (x ∷ back))
             ∙ rw (f, e) (ap Some number)))
 
     -- where the one is found first, the next is the first behind its number

@@ -276,7 +276,8 @@ place_is_answer entries more e bio sector x devices.Done is fits =
     at (is_read x.cmd) refl fits
   where
     at : (b : Bool) → is_read x.cmd ≡ b → IsTrue (fits_bio sector x devices.Done)
-        → resolved (delivered_at (entries ++ e ∷ more)) (Some (delivered_result x.cmd (length entries) None)) ≡ results.Done
+        → resolved (delivered_at (entries ++ e ∷ more)) (Some (delivered_result x.cmd (length entries) None))
+        ≡ results.Done
     at true e fits = absurd (let never = rw e at fits in cc)
     at false e fits = rw e refl
 place_is_answer entries more e bio sector x (devices.Failed done) is fits = refl

@@ -41,7 +41,7 @@ with_one c n = record { count = c.count + 1; first = Some (option_map_or (λ m. 
 abbrev pub with_last : Cursor → ℕ → ℕ → Cursor
 with_last c n count = record { count = c.count + count; first = Some (option_map_or (λ m. m) c.first n) }
 
--- what becomes of the cursor of those that are Up, by what is told of a bio that went up: a parent that is complete is Up
+-- what becomes of the cursor of those that are Up, by what is told of a bio that went up: a complete parent is Up
 abbrev pub up_after : Cursor → Risen → Cursor
 up_after c (risen.InParent parent true) = with_one c parent
 up_after c _ = c

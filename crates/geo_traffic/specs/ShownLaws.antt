@@ -26,8 +26,8 @@ use Rattle.geo_log.specs.Places.{delivered_at}
 use Rattle.geo_traffic.specs.Traffic.{first_in, count_in}
 use Rattle.geo_traffic.specs.Shown.{shown, shown_bio, errno_of, AreLogged}
 
--- searches, selections and counts of the world's bios are those of the table's; a test of a bio's fields but its result
--- is the same test of the table's bio, by computation
+-- searches, selections and counts of the world's bios are those of the table's; a test that reads no result is the
+-- same test of the table's bio, by computation
 pub record ShownAreFound (log : ℕ → Option (List ℕ)) (bios : List (BioOf Held)) : Type 0 where
   pub finds : (test : Bio → Bool)
       → find test (shown log bios) ≡ option_map (shown_bio log) (find (λ x. test (shown_bio log x)) bios)
@@ -46,13 +46,14 @@ pub record ShownChanges (log : ℕ → Option (List ℕ)) (bios : List (BioOf He
   pub moves : (b : ℕ) (phase : Phase)
       → shown log (change_number b (with_phase phase) bios) ≡ change_number b (with_phase phase) (shown log bios)
   pub ends : (b : ℕ) (h : Held)
-      → shown log (change_number b (up_with h) bios) ≡ change_number b (up_with (resolved log (Some h))) (shown log bios)
+      → shown log (change_number b (up_with h) bios)
+      ≡ change_number b (up_with (resolved log (Some h))) (shown log bios)
   pub changes : (b : ℕ) (f : BioOf Held → BioOf Held) (g : Bio → Bio)
       → ((x : BioOf Held) → shown_bio log (f x) ≡ g (shown_bio log x))
       → shown log (change_number b f bios) ≡ change_number b g (shown log bios)
 
--- a world that has the shown bios finds among them what the table finds, and its steps of bios make of them what the
--- table's calls make; x is a bio of the table, in what a step does to it
+-- a world that has the shown bios finds among them what the table finds, and its steps of bios make of them what
+-- the table's calls make; x is a bio of the table
 pub record BiosAreOfWorld (log : ℕ → Option (List ℕ)) (bios : List (BioOf Held)) (w : World) : Type 0 where
   pub finds : (b : ℕ) → bio_at w b ≡ option_map (shown_bio log) (bio_among bios b)
   pub children : (b : ℕ) → children_of w b ≡ shown log (children_among bios b)
@@ -118,7 +119,7 @@ WorldShowsBios =
     (log : ℕ → Option (List ℕ)) (bios : List (BioOf Held)) (w : World) → w.bios ≡ shown log bios
     → BiosAreOfWorld log bios w
 
--- a delivery does in the world what it does in the table, where the place, or the error, is what the device answered
+-- a delivery does in the world what it does in the table, where the place, or the error, is the device's answer
 abbrev pub DeliveriesAreShown : Type 0
 DeliveriesAreShown =
     (log : ℕ → Option (List ℕ)) (bios : List (BioOf Held)) (w : World) (x : BioOf Held) (place : ℕ)

@@ -87,8 +87,8 @@ pub fn with_last(cursor: Cursor, number: u64, count: u64) -> Cursor
     }
 }
 
-/// The cursor without a bio that waits for this step. Where it was the first, the next one is looked for, unless there
-/// is none.
+/// The cursor without a bio that waits for this step. Where it was the first, the next one is looked for, unless
+/// there is none.
 pub fn without_one(cursor: Cursor, bios: &BioTable, due: Due, bio: BioId) -> Cursor
     requires cursor { IsCursor (is_due due) bios.now.bios cursor }
     requires waits { IsTrue (has_phase (is_due due) bios.now.bios bio) }

@@ -22,8 +22,8 @@ use std::marker::Model;
 /// The bios that are on their way, and which of them is due next, which isn't searched. Contracts see their list in
 /// order of numbers, the next number and the spare number.
 ///
-/// Only a bio that leaves its phase while it is the first there, and not the last, leads to a search, from its number
-/// on. In the fixed order at most one bio is Sent or Up, and those that are Down follow each other.
+/// Only a bio that leaves its phase while it is the first there, and not the last, leads to a search, from its
+/// number on. In the fixed order at most one bio is Sent or Up, and those that are Down follow each other.
 #[derive(Drop)]
 pub struct Traffic {
     bios: BioTable,
@@ -119,9 +119,9 @@ impl Traffic {
         self.down.first.map(BioId::new)
     }
 
-    /// The bio of a number. One that waits tells the number of its first child, how many children it has, and how many
-    /// of them are done; the parent of a child waits. The numbers of the bios count from 1, rise, and are below the next
-    /// one.
+    /// The bio of a number. One that waits tells the number of its first child, how many children it has, and how
+    /// many of them are done; the parent of a child waits. The numbers of the bios count from 1, rise, and are below
+    /// the next one.
     pub fn get(&self, bio: BioId) -> Option<&Bio>
         ensures found { option_map (seen bio) (option_copied result) ≡ bio_among self.now.bios bio }
         ensures family { IfSome (option_copied result) (λ x.
@@ -133,7 +133,7 @@ impl Traffic {
         self.bios.get(bio)
     }
 
-    /// The bio with the least number that isn't below a number: the first one, since they stand in order of numbers.
+    /// The bio with the least number that isn't below a number: the first one, as they stand in order of numbers.
     pub fn next_from(&self, number: u64) -> Option<BioId>
         ensures first { result ≡ first_bio self.now.bios number }
         ensures in_order { AreInOrder self.now }
@@ -141,8 +141,8 @@ impl Traffic {
         self.bios.next_from(number)
     }
 
-    /// A new bio of a script's line or of the taste, which is still to be started. It takes memory only where no room
-    /// is spare. Where no number is left the answer is want of memory.
+    /// A new bio of a script's line or of the taste, which is still to be started. It takes memory only where no
+    /// room is spare. Where no number is left the answer is want of memory.
     pub fn submit(
         &mut self,
         cmd: BioCmd,
@@ -172,8 +172,8 @@ impl Traffic {
         Ok(bio)
     }
 
-    /// A bio is split into children, one for each piece, in piece order, and waits for them. The first child's number
-    /// is answered; the others have the numbers that follow. The children take of the room what there is, and where
+    /// A bio is split into children, one for each piece, in piece order, and waits for them. The first child's
+    /// number is answered; the others have the numbers that follow. The children take of the room what there is, and where
     /// memory is wanting the room is no less than it was. 2^32 pieces or more, and numbers that are used up, are
     /// answered as want of memory.
     pub fn start(
@@ -236,7 +236,7 @@ impl Traffic {
         self.busy += 1;
     }
 
-    /// A bio's disk has answered: it goes up with the bytes at this place of the log, with success, or with an error.
+    /// A bio's disk has answered: it goes up with the bytes at this place of the log, with success or with an error.
     pub fn deliver(&mut self, bio: BioId, place: u64, errno: Option<Errno>)
         requires { IsTrue (has_phase is_busy self.old.bios bio) }
         ensures { self.new ≡ record self.old { bios = change_number bio (delivered place errno) self.old.bios } }
@@ -248,9 +248,9 @@ impl Traffic {
         self.up = with_one(self.up, bio.number());
     }
 
-    /// A bio goes up to its owner (g_io_deliver). A child counts in its parent; the last one gives it the first error
-    /// in the order of the pieces, else the bytes joined in this order, and the children are gone. A root is gone, and
-    /// its result is handed on.
+    /// A bio goes up to its owner (g_io_deliver). A child counts in its parent; the last one gives it the first
+    /// error in the order of the pieces, else the bytes joined in this order, and the children are gone. A root is
+    /// gone, and its result is handed on.
     pub fn up<B: LogBytes>(&mut self, alloc: Global, bio: BioId, log: &B) -> Result<Risen, NoMemory>
         requires { IsTrue (has_phase is_up self.old.bios bio) }
         ensures told { IfSome (bio_among self.old.bios bio) (λ x. IfOk result (λ risen.

@@ -11,7 +11,8 @@ returns-then-waits c =
     let first : first_bio t.bios c.loop-bio.from ≡ Some c.in-Some.bio =
     sym c.next_from.ensures.first ∙ c.in-Some.is in
     ap Some c.number.ensures
-    ∙ sym (walk_hits (is_due c.args.due) c.loop-bio.from c.in-Some.bio t.bios (table_rises t c.next_from.ensures.in_order)
+    ∙ sym (walk_hits (is_due c.args.due) c.loop-bio.from c.in-Some.bio t.bios
+    (table_rises t c.next_from.ensures.in_order)
     first (sym c.waits.ensures.waits ∙ c.if-waits.true))
     ∙ c.loop-bio.invariant
 

@@ -15,7 +15,8 @@ with_one-self-inside-requires c =
     let x = bio_in is_down old.bios c.args.bio
     (subst (λ (v : BioTableView). has_phase is_down v.bios c.args.bio ≡ true) (sym c.self.view_is) c.requires) in
     let order = c.without_one-self-inside.ensures.in_order in
-    let room = room_for_one is_up old.bios c.args.bio x.0 (table_rises old order) x.1 (ap is_up (down_is x.0.phase x.2)) in
+    let room = room_for_one is_up old.bios c.args.bio x.0 (table_rises old order) x.1
+    (ap is_up (down_is x.0.phase x.2)) in
     let few = fewer_than_next old order in
     omega (arith, room, few, c.without_one-self-inside.ensures.bound, c.self.invariant.ups.count)
 

@@ -23,7 +23,8 @@ with_last-self-inside-requires c =
     c.without_one-down.ensures.cursor in
     let split = subst (λ o. IfSome o (λ (y : BioOf Held). c.start.new.self.bios
     ≡ change_number c.args.bio (with_phase phases.Waiting) now.bios.bios
-    ++ split_into now.bios.next y 0 c.args.pieces.now.items c.args.targets.now.items)) x.1 c.in_ok-first.ensures.split in
+    ++ split_into now.bios.next y 0 c.args.pieces.now.items c.args.targets.now.items)) x.1
+    c.in_ok-first.ensures.split in
     let all = ap length split
     ∙ length-append (change_number c.args.bio (with_phase phases.Waiting) now.bios.bios)
     (split_into now.bios.next x.0 0 c.args.pieces.now.items c.args.targets.now.items) in
@@ -45,7 +46,8 @@ overflow_add-self c =
     c.without_one-down.ensures.cursor in
     let split = subst (λ o. IfSome o (λ (y : BioOf Held). c.start.new.self.bios
     ≡ change_number c.args.bio (with_phase phases.Waiting) now.bios.bios
-    ++ split_into now.bios.next y 0 c.args.pieces.now.items c.args.targets.now.items)) x.1 c.in_ok-first.ensures.split in
+    ++ split_into now.bios.next y 0 c.args.pieces.now.items c.args.targets.now.items)) x.1
+    c.in_ok-first.ensures.split in
     let all = ap length split
     ∙ length-append (change_number c.args.bio (with_phase phases.Waiting) now.bios.bios)
     (split_into now.bios.next x.0 0 c.args.pieces.now.items c.args.targets.now.items) in
@@ -60,8 +62,8 @@ invariant_of-self-2 c =
     let x = bio_in is_down now.bios.bios c.args.bio
     (subst (λ (v : BioTableView). has_phase is_down v.bios c.args.bio ≡ true) (sym c.self.view_is) c.requires.down) in
     let children = split_into now.bios.next x.0 0 c.args.pieces.now.items c.args.targets.now.items in
-    let waits = from_down_waiting now.bios.bios c.args.bio x.0 (table_rises now.bios c.without_one-down.ensures.in_order)
-    x.1 now.down now.sent now.up now.busy now.live c.self.invariant (with_phase phases.Waiting) refl
+    let rising = table_rises now.bios c.without_one-down.ensures.in_order in
+    let waits = from_down_waiting now.bios.bios c.args.bio x.0 rising x.1 now.down now.sent now.up now.busy now.live c.self.invariant (with_phase phases.Waiting) refl
     c.without_one-down.result (down_is x.0.phase x.2) refl c.without_one-down.ensures.cursor in
     let counted = down_come (change_number c.args.bio (with_phase phases.Waiting) now.bios.bios) children
     c.without_one-down.result now.sent now.up now.busy now.live now.bios.next (length c.args.pieces.now.items) waits
@@ -71,7 +73,8 @@ invariant_of-self-2 c =
     c.requires.some) in
     let split = subst (λ o. IfSome o (λ (y : BioOf Held). c.start.new.self.bios
     ≡ change_number c.args.bio (with_phase phases.Waiting) now.bios.bios
-    ++ split_into now.bios.next y 0 c.args.pieces.now.items c.args.targets.now.items)) x.1 c.in_ok-first.ensures.split in
+    ++ split_into now.bios.next y 0 c.args.pieces.now.items c.args.targets.now.items)) x.1
+    c.in_ok-first.ensures.split in
     let number = c.number.ensures ∙ c.in_ok-first.ensures.first in
     let down = c.with_last-self-inside.ensures
     ∙ (λ i. with_last c.without_one-down.result (number i) (length (c.items.ensures i))) in
