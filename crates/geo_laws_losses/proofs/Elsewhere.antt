@@ -1,0 +1,136 @@
+-- What tasting may cost where a rank changes of a geom that offers nothing, and where providers go.
+use Rattle.std.specs.Prelude.{◌≡◌, ◌≢◌, ◌⊎◌, ℕ, ◌+◌, ◌*◌, ◌<◌, ◌≤◌, ◌==◌, Bool, true, false, not, ◌||◌, List, [], ◌∷◌, filter, length, sum_by, Option, Some, None, Contains, option_and_then}
+use Rattle.std.specs.List.{AllByRecursion, list_any}
+use Rattle.std.specs.Option.{option_map_or}
+use Rattle.std.proofs.Common.{inl, inr, refl, sym, ◌∙◌, ap, subst, arith}
+use Rattle.std.proofs.lemmas.Bool.{eq-eqb}
+use Rattle.std.proofs.lemmas.List.Sums.{sum_by-cons}
+use Rattle.std.proofs.Math.Nat.{mul-le-mul_left}
+use Rattle.geo_model.specs.declared.step.Event.{Event}
+use Rattle.geo_model.specs.declared.step.Event.TheVariants as events
+use Rattle.geo_model.specs.Topology.{Topology, Geom, Provider, geom_at, provider_at, providers_of, geom_of_provider}
+use Rattle.geo_model.specs.Rank.{rank}
+use Rattle.geo_model.specs.Events.{taste_limit}
+use Rattle.geo_model.specs.World.{World, Config, Taste}
+use Rattle.geo_model.specs.Order.{taste_weight, rank_of_provider, event_weight, taste_left, makes_left, can_make}
+use Rattle.geo_model.specs.Laws.{is_offer}
+use Rattle.geo_laws_graph.proofs.Members.{find-Contains, Contains-filter, nothing_in, Contains-cases}
+use Rattle.geo_laws_graph.proofs.Numbered.{number_found}
+
+-- the rank of a geom that is found
+pub rank_by : (f h : ℕ → ℕ) (o : Option (Geom Config)) → ((g : Geom Config) → o ≡ Some g → f g.number ≡ h g.number)
+    → option_map_or (λ (g : Geom Config). f g.number) o taste_limit
+    ≡ option_map_or (λ (g : Geom Config). h g.number) o taste_limit
+rank_by f h None so = refl
+rank_by f h (Some g) so = so g refl
+
+-- the geom of a provider isn't one that offers nothing
+offers_by : (t : Topology Config) (n q : ℕ) → providers_of t n ≡ [] → (o : Option Provider) → provider_at t q ≡ o
+    → (g : Geom Config) → option_and_then (λ x. geom_at t x.geom) o ≡ Some g → g.number ≢ n
+offers_by t n q none None e g at same = absurd cc
+offers_by t n q none (Some x) e g at same =
+    let number : g.number ≡ x.geom = number_found (λ (y : Geom Config). y.number) t.geoms x.geom g at in
+    nothing_in x
+    (subst (λ (ys : List Provider). Contains ys x) none
+    (Contains-filter (λ (y : Provider). y.geom == n) t.providers x
+    (find-Contains (λ (y : Provider). y.number == q) t.providers x e)
+    (eq-eqb x.geom n (sym number ∙ same))))
+
+-- where ranks change at most of a geom that offers nothing, those of providers' geoms stay
+pub elsewhere : (v w : World) (n : ℕ) → providers_of w.topology n ≡ []
+    → ((q : ℕ) → geom_of_provider v.topology q ≡ geom_of_provider w.topology q)
+    → ((g : ℕ) → g ≢ n → rank v.topology g ≡ rank w.topology g) → (q : ℕ)
+    → rank_of_provider v q ≡ rank_of_provider w q
+elsewhere v w n none geoms ranks q =
+    ap (λ (o : Option (Geom Config)). option_map_or (λ (g : Geom Config). rank v.topology g.number) o taste_limit)
+    (geoms q)
+    ∙ rank_by (rank v.topology) (rank w.topology) (geom_of_provider w.topology q) (λ g at.
+    ranks g.number (offers_by w.topology n q none (provider_at w.topology q) refl g at))
+
+-- No more costs
+
+-- each provider's taste costs no more
+abbrev pub Cheaper : World → World → Type 0
+Cheaper v w = (q d : ℕ) → taste_weight (rank_of_provider v q + d) ≤ taste_weight (rank_of_provider w q + d)
+
+-- so where the ranks stay
+pub same_cheaper : (v w : World) → ((q : ℕ) → rank_of_provider v q ≡ rank_of_provider w q) → Cheaper v w
+same_cheaper v w same q d =
+    let e : taste_weight (rank_of_provider v q + d) ≡ taste_weight (rank_of_provider w q + d) =
+    ap (λ (r : ℕ). taste_weight (r + d)) (same q) in omega (arith, e)
+
+-- then each offer costs no more
+offer_most : (v w : World) → Cheaper v w → (q : ℕ) → taste_weight (rank_of_provider v q) ≤ taste_weight (rank_of_provider w q)
+offer_most v w cheaper q =
+    let one : rank_of_provider v q + 0 ≡ rank_of_provider v q = omega arith in
+    let two : rank_of_provider w q + 0 ≡ rank_of_provider w q = omega arith in
+    subst (λ (r : ℕ). taste_weight r ≤ taste_weight (rank_of_provider w q)) one
+    (subst (λ (r : ℕ). taste_weight (rank_of_provider v q + 0) ≤ taste_weight r) two (cheaper q 0))
+
+-- and so does each event
+pub event_most : (v w : World) → Cheaper v w → (e : Event) → event_weight v e ≤ event_weight w e
+event_most v w cheaper (events.NewProvider p) = offer_most v w cheaper p
+event_most v w cheaper (events.Resize p) = let less = offer_most v w cheaper p in omega (arith, less)
+event_most v w cheaper (events.Spoil p) = omega arith
+event_most v w cheaper (events.Orphan p) = omega arith
+
+-- and so does a taste
+pub left_most : (v w : World) → Cheaper v w → (o : Option Taste) → taste_left v o ≤ taste_left w o
+left_most v w cheaper None = omega arith
+left_most v w cheaper (Some s) =
+    let times = mul-le-mul_left (makes_left s.asked + sum_by can_make s.classes) (cheaper s.provider 1) in
+    omega (arith, times)
+
+-- neither of two
+pub neither : (a b : Bool) → (a || b) ≡ false → (a ≡ false) × (b ≡ false)
+neither true b e = absurd cc
+neither false b e = (refl, e)
+
+-- what isn't an offer costs nothing
+no_offer : (v : World) (e : Event) → is_offer e ≡ false → event_weight v e ≡ 0
+no_offer v (events.NewProvider p) none = absurd cc
+no_offer v (events.Resize p) none = absurd cc
+no_offer v (events.Spoil p) none = refl
+no_offer v (events.Orphan p) none = refl
+
+-- without offers a queue costs nothing
+pub no_offers : (v : World) (es : List Event) → list_any is_offer es ≡ false → sum_by (event_weight v) es ≡ 0
+no_offers v [] none = refl
+no_offers v (e ∷ es) none =
+    omega (
+      arith,
+      sum_by-cons (event_weight v) e es,
+      no_offer v e (neither (is_offer e) (list_any is_offer es) none).0,
+      no_offers v es (neither (is_offer e) (list_any is_offer es) none).1,
+    )
+
+-- Lengths
+
+-- one item more that is kept or not
+kept_step : {X : Type 0} (keep : X → Bool) (x : X) (xs : List X) (b : Bool) → keep x ≡ b
+    → length (filter keep xs) ≤ length xs → length (filter keep (x ∷ xs)) ≤ length (x ∷ xs)
+kept_step keep x xs true e most = rw e (omega (arith, most))
+kept_step keep x xs false e most = rw e (omega (arith, most))
+
+-- what is kept is no longer
+pub kept_length : {X : Type 0} (keep : X → Bool) (xs : List X) → length (filter keep xs) ≤ length xs
+kept_length keep [] = omega arith
+kept_length keep (x ∷ xs) = kept_step keep x xs (keep x) refl (kept_length keep xs)
+
+-- one item more, where one is left out
+out_step : {X : Type 0} (keep : X → Bool) (x : X) (xs : List X) (b : Bool) → keep x ≡ b
+    → length (filter keep xs) < length xs → length (filter keep (x ∷ xs)) < length (x ∷ xs)
+out_step keep x xs true e less = rw e (omega (arith, less))
+out_step keep x xs false e less = rw e (omega (arith, less))
+
+-- and is shorter where one is left out
+pub left_out_length : {X : Type 0} (keep : X → Bool) (xs : List X) (x : X) → Contains xs x → keep x ≡ false
+    → length (filter keep xs) < length xs
+left_out_length keep [] x here out = absurd (nothing_in x here)
+left_out_length keep (y ∷ ys) x here out =
+    elim (Contains-cases y x ys here) [
+      | inl same ↦
+          let gone : keep y ≡ false = rw same out in
+          rw gone (omega (arith, kept_length keep ys))
+      | inr rest ↦ out_step keep y ys (keep y) refl (left_out_length keep ys x rest out)
+    ]

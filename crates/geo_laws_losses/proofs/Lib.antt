@@ -1,0 +1,4 @@
+pub mod Losing
+pub mod Elsewhere
+pub mod Heard
+pub mod Washing
