@@ -16,6 +16,7 @@ mod steps;
 mod walk;
 
 pub use access::{allowed, could_grant, grant, release};
+pub use counts::is_zero;
 pub use joins::join;
 pub use laws::{
     meshes_stay_shut, new_consumers_may_join, refused_consumers_go, shut_meshes_are_counted,
@@ -23,5 +24,4 @@ pub use laws::{
 pub use notes::{next_fallen, next_risen};
 pub use refusal::{GrantRefusal, JoinRefusal};
 pub use steps::Steps;
-pub use counts::is_zero;
 pub use walk::{consumer_at, consumer_of, provider_of};

@@ -276,7 +276,7 @@ drawn_command d1 d2 d3 = by (d1 % 8) refl (omega arith)
     handle = handle_word d2
 
     opened : IsCommandText (codes "open " ++ handle_text d2 ++ codes " " ++ open_provider ((d2 / 2) % 6) ++ codes " "
-      ++ open_counts (d3 % 5))
+        ++ open_counts (d3 % 5))
     opened =
         open_text (handle_text d2) (open_provider ((d2 / 2) % 6)) (open_counts (d3 % 5)) handle
         (provider_by ((d2 / 2) % 6) (omega arith)) (counts_by (d3 % 5) (omega arith))
@@ -285,15 +285,15 @@ drawn_command d1 d2 d3 = by (d1 % 8) refl (omega arith)
     read = read_text (handle_text d2) (offset_text d3) (len_text d2) handle (offset_word d3) (len_word d2)
 
     write : IsCommandText (codes "write " ++ handle_text d2 ++ codes " " ++ offset_text d3 ++ codes " "
-      ++ byte_text (d3 % 256) ++ codes "*" ++ len_text d2)
+        ++ byte_text (d3 % 256) ++ codes "*" ++ len_text d2)
     write =
         subst IsCommandText
         (sym (append_assoc (codes "write " ++ handle_text d2 ++ codes " " ++ offset_text d3 ++ codes " " ++ byte_text (d3 % 256)) (codes "*") (len_text d2)
-          ∙ append_assoc (codes "write " ++ handle_text d2 ++ codes " " ++ offset_text d3 ++ codes " ") (byte_text (d3 % 256)) (codes "*" ++ len_text d2)))
+        ∙ append_assoc (codes "write " ++ handle_text d2 ++ codes " " ++ offset_text d3 ++ codes " ") (byte_text (d3 % 256)) (codes "*" ++ len_text d2)))
         (write_text (handle_text d2) (offset_text d3)
         (hex_digit ((d3 % 256) / 16) ∷ hex_digit ((d3 % 256) % 16) ∷ 42 ∷ len_text d2) handle (offset_word d3)
         (run_word ((d3 % 256) / 16) ((d3 % 256) % 16) (512 * (1 + (d2 / 2) % 8)) (omega arith) (omega arith) (omega arith)
-          (omega arith)))
+        (omega arith)))
 
     by : (k : ℕ) → d1 % 8 ≡ k → k < 8 → IsCommandText (command_text d1 d2 d3)
     by zero e b = rw e opened

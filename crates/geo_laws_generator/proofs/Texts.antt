@@ -99,7 +99,7 @@ draws_add plan from i (suc n) x are few =
     record {
       then_plan = rest.then_plan;
       is = ap (λ r. fold next_line r
-        (enumerate_from (from + 1) (drawn_texts (i + 1) n (next_draw (next_draw (next_draw x)))))) one ∙ rest.is;
+          (enumerate_from (from + 1) (drawn_texts (i + 1) n (next_draw (next_draw (next_draw x)))))) one ∙ rest.is;
       disks = rest.disks;
       actors = rest.actors;
       commands =
@@ -184,20 +184,22 @@ says : (start count : ℕ) → IsMode (GenMode start count) → (plan : Plan) ×
 unfolding script
 says start count mode =
     let rest : GoesOn first_plan 15 (drawn_texts 0 count start) count =
-    draws_add first_plan 15 0 count start first_actors (omega (arith, mode.1)) in
-    (rest.then_plan, record {
-      is =
-          ap (λ ls. fold next_line (Ok empty_plan) (enumerate_from 1 ls)) (lines_are start count)
-          ∙ ap (λ xs. fold next_line (Ok empty_plan) xs)
-          (numbered_both 1 first_texts (drawn_texts 0 count start))
-          ∙ fold-append next_line (Ok empty_plan) (enumerate_from 1 first_texts)
-          (enumerate_from 15 (drawn_texts 0 count start))
-          ∙ ap (λ r. fold next_line r (enumerate_from 15 (drawn_texts 0 count start))) first_ok
-          ∙ rest.is;
-      disks = ap (λ (ds : List DiskDecl). length ds) rest.disks ∙ first_disks;
-      actors = ap (λ (xs : List (List ℕ)). length xs) (rest.actors ∙ first_actors);
-      commands = let first = first_commands in omega (arith, rest.commands, first);
-    })
+    draws_add first_plan 15 0 count start first_actors (omega (arith, mode.1)) in (
+      rest.then_plan,
+      record {
+        is =
+            ap (λ ls. fold next_line (Ok empty_plan) (enumerate_from 1 ls)) (lines_are start count)
+            ∙ ap (λ xs. fold next_line (Ok empty_plan) xs)
+            (numbered_both 1 first_texts (drawn_texts 0 count start))
+            ∙ fold-append next_line (Ok empty_plan) (enumerate_from 1 first_texts)
+            (enumerate_from 15 (drawn_texts 0 count start))
+            ∙ ap (λ r. fold next_line r (enumerate_from 15 (drawn_texts 0 count start))) first_ok
+            ∙ rest.is;
+        disks = ap (λ (ds : List DiskDecl). length ds) rest.disks ∙ first_disks;
+        actors = ap (λ (xs : List (List ℕ)). length xs) (rest.actors ∙ first_actors);
+        commands = let first = first_commands in omega (arith, rest.commands, first);
+      },
+    )
 
 -- both laws
 pub generated_plans : GeneratedPlans

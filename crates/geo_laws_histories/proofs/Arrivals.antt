@@ -92,8 +92,13 @@ evented w v o (head ∷ rest) e =
 -- a read of a taste arrives
 judged : (w : World) (x : Judging) (j : Judged) → Made w (judged_world w x j)
 judged w x (judgeds.Read sector) =
-    inr (_, (record { bios = refl; next = refl; number = refl; phase = refl; root = refl },
-    λ line b e. absurd (let bad : ⊥ = cc in bad)))
+    inr (
+      _,
+      (
+        record { bios = refl; next = refl; number = refl; phase = refl; root = refl },
+        λ line b e. absurd (let bad : ⊥ = cc in bad),
+      ),
+    )
 judged w x judgeds.Ended = ran w _ (record { bios = refl; next = refl })
 judged w x judgeds.Next = ran w _ (record { bios = refl; next = refl })
 judged w x judgeds.Made = ran w _ (record { bios = refl; next = refl })

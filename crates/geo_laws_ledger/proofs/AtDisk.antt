@@ -121,7 +121,7 @@ module _ (t : Topology Config) (n disk : ℕ) (d : AtDisk t n disk) where
       ∙ ap (λ k. Some (record { disk = disk; sector = k }))
       (ap (λ z. (o + a * s) / z) sector ∙ sector_behind o s a some whole ∙ sym is) in
       rw here (ap (λ xs. Some (record { disk = disk; sector = first }) ∷ xs)
-        (sectors_at o s (first + 1) (a + 1) len sector some whole (omega (arith, is))))
+      (sectors_at o s (first + 1) (a + 1) len sector some whole (omega (arith, is))))
 
 -- a command is the same as itself
 same_command : (c : BioCmd) → IsTrue (same_cmd c c)

@@ -85,9 +85,10 @@ module _ (h : List Moment) (m : Moment) (w : World) (taken : AreTaken h) where
       → AllByRecursion (λ (c : Bio). CoversThere w c (leaves h c.number)) cs
   each_covers [] all none = tt
   each_covers (c ∷ cs) all none =
-      let its : back_result c ≡ all.0.result = ap (λ o. unwrap_or o results.Done) all.0.is in
-      (all.0.has.covers (subst IsSuccess its (none_failed (back_result c) (map back_result cs) none)),
-      each_covers cs all.1 (none_later (back_result c) (map back_result cs) none))
+      let its : back_result c ≡ all.0.result = ap (λ o. unwrap_or o results.Done) all.0.is in (
+        all.0.has.covers (subst IsSuccess its (none_failed (back_result c) (map back_result cs) none)),
+        each_covers cs all.1 (none_later (back_result c) (map back_result cs) none),
+      )
 
   module _ (y : Bio) (split : WasSplit h w y) (back : All (IsBack h w) (children_of w y.number)) where
     -- its children by recursion
@@ -104,9 +105,9 @@ module _ (h : List Moment) (m : Moment) (w : World) (taken : AreTaken h) where
     joined_now =
         result_at h m y.number split.moment split_found
         ∙ (rw (split.outcome, split.cmd)
-          (ap (λ o. o >>= (λ found. Some (joined_result y.cmd found)))
-            (ap (λ ns. all_there (map (result_within (length h) (h ++ m ∷ [])) ns)) (sym split.children)
-            ∙ all_back (children_of w y.number) by_each)))
+        (ap (λ o. o >>= (λ found. Some (joined_result y.cmd found)))
+        (ap (λ ns. all_there (map (result_within (length h) (h ++ m ∷ [])) ns)) (sym split.children)
+        ∙ all_back (children_of w y.number) by_each)))
 
     -- its leaves are those of its children, in order
     pub leaves_now : leaves (h ++ m ∷ []) y.number
@@ -114,8 +115,8 @@ module _ (h : List Moment) (m : Moment) (w : World) (taken : AreTaken h) where
     leaves_now =
         leaves_at h m y.number split.moment split_found
         ∙ (rw split.outcome
-          (ap (λ ns. flat_map (leaves_within (length h) (h ++ m ∷ [])) ns) (sym split.children)
-            ∙ leaves_back (children_of w y.number) by_each))
+        (ap (λ ns. flat_map (leaves_within (length h) (h ++ m ∷ [])) ns) (sym split.children)
+        ∙ leaves_back (children_of w y.number) by_each))
 
     -- where the joined result is a success each child covers its own range
     pub children_cover : IsSuccess (joined_result y.cmd (map back_result (children_of w y.number)))

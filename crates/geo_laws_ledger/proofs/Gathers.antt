@@ -135,9 +135,9 @@ module _ (h : List Moment) (w v : World) (seat b : ℕ) (o : Outcome) (ledger : 
               covers = λ success.
                   rw (finished_stay.leaves h (this ∷ []) x.number back.result ledger.taken back.has.is)
                   (covers_request v x (in_phase phases.Done x) (leaves h x.number) ((keeps_phase phases.Done).request x)
-                    (covers_stay w v x (leaves h x.number)
-                      (All-contains (λ (z : Bio). SameMap w.topology v.topology z.target) w.bios x maps x_here)
-                      (back.has.covers success)));
+                  (covers_stay w v x (leaves h x.number)
+                  (All-contains (λ (z : Bio). SameMap w.topology v.topology z.target) w.bios x maps x_here)
+                  (back.has.covers success)));
             });
           }
 
@@ -260,9 +260,9 @@ module _ (h : List Moment) (w v : World) (seat b : ℕ) (o : Outcome) (ledger : 
     back =
         All-from_recursion (IsBack h w) (children_of w y.number)
         (All-from_contained (IsBack h w) (children_of w y.number) (λ c here.
-          let stands = filter-Contains is_gone w.bios c here in
-          result_up h w c (All-contains (IsLogged h w) w.bios c ledger.live stands.0)
-          (over w firm x y index found up of_it there waits complete c here)))
+        let stands = filter-Contains is_gone w.bios c here in
+        result_up h w c (All-contains (IsLogged h w) w.bios c ledger.live stands.0)
+        (over w firm x y index found up of_it there waits complete c here)))
 
     -- the parent has the joined result
     logged_up : IsLogged h w y → IsLogged (h ++ this ∷ []) v (up_then y)
@@ -276,8 +276,8 @@ module _ (h : List Moment) (w v : World) (seat b : ℕ) (o : Outcome) (ledger : 
             (covers_stay w v y (leaves (h ++ this ∷ []) y.number)
             (All-contains (λ (z : Bio). SameMap w.topology v.topology z.target) w.bios y maps y_here)
             (subst (λ ls. CoversThere w y ls) (sym (leaves_now h this w ledger.taken y split back))
-              (joined_covers w y (λ c. leaves h c.number) firm y_here waits
-                (children_cover h this w ledger.taken y split back (subst IsSuccess is_joined success)))));
+            (joined_covers w y (λ c. leaves h c.number) firm y_here waits
+            (children_cover h this w ledger.taken y split back (subst IsSuccess is_joined success)))));
       };
     }
       where
@@ -338,8 +338,8 @@ module _ (h : List Moment) (w v : World) (seat b : ℕ) (o : Outcome) (ledger : 
             let its_way : IsOnItsWay w a y = subst (IsOnItsWay w a) one way in
             rw now
             (on_its_way_stays w v a y (up_then y) refl
-              (record { cmd = refl; offset = refl; len = refl; bytes = refl; target = refl })
-              (All-contains (λ (q : Bio). SameMap w.topology v.topology q.target) w.bios y maps y_here) its_way)
+            (record { cmd = refl; offset = refl; len = refl; bytes = refl; target = refl })
+            (All-contains (λ (q : Bio). SameMap w.topology v.topology q.target) w.bios y maps y_here) its_way)
         at_it z at way false e =
             let apart : a.bio ≢ y.number =
             (λ it. both_ways (a.bio == y.number) e (rw it (eq-eqb y.number y.number refl))) in
@@ -349,17 +349,17 @@ module _ (h : List Moment) (w v : World) (seat b : ℕ) (o : Outcome) (ledger : 
             ∙ found_staying a.bio z at (line_stays z way) in
             rw now
             (on_its_way_stays w v a z z refl
-              (record { cmd = refl; offset = refl; len = refl; bytes = refl; target = refl })
-              (All-contains (λ (q : Bio). SameMap w.topology v.topology q.target) w.bios z maps
-                (find-Contains (λ (q : Bio). q.number == a.bio) w.bios z at)) way)
+            (record { cmd = refl; offset = refl; len = refl; bytes = refl; target = refl })
+            (All-contains (λ (q : Bio). SameMap w.topology v.topology q.target) w.bios z maps
+            (find-Contains (λ (q : Bio). q.number == a.bio) w.bios z at)) way)
 
         by : (z : Option Bio) → bio_at w a.bio ≡ z → MatchOption z (IsCompleted h a) (IsOnItsWay w a)
             → MatchOption (bio_at v a.bio) (IsCompleted (h ++ this ∷ []) a) (IsOnItsWay v a)
         by None at done =
             rw (found_none a.bio at)
             (completed_stays h this a ledger.taken
-              (others a.bio (λ it. let here : bio_at w a.bio ≡ Some x = ap (λ n. bio_at w n) it ∙ found in
-              (let bad : ⊥ = cc in bad))) done)
+            (others a.bio (λ it. let here : bio_at w a.bio ≡ Some x = ap (λ n. bio_at w n) it ∙ found in
+            (let bad : ⊥ = cc in bad))) done)
         by (Some z) at way = at_it z at way (a.bio == y.number) refl
 
     -- the ledger goes on

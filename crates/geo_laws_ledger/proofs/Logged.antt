@@ -97,13 +97,17 @@ result_stays h m w v x r on has = record {
 so_far_stays : (h : List Moment) (m : Moment) (w v : World) (x : Bio) → GoesOn h m w v x → (p : Phase)
     → SoFar h w x p → SoFar (h ++ m ∷ []) v x p
 so_far_stays h m w v x on phases.Down so =
-    let none = unnamed x.number m.entry.step on.unnamed_by in
-    (never_so (is_start_of x.number) h m so.0 none.start, never_so (is_take_of x.number) h m so.1 none.take,
-    never_so (is_deliver_of x.number) h m so.2 none.deliver)
+    let none = unnamed x.number m.entry.step on.unnamed_by in (
+      never_so (is_start_of x.number) h m so.0 none.start,
+      never_so (is_take_of x.number) h m so.1 none.take,
+      never_so (is_deliver_of x.number) h m so.2 none.deliver,
+    )
 so_far_stays h m w v x on phases.Sent so =
-    let none = unnamed x.number m.entry.step on.unnamed_by in
-    (queued_stays h m x.number so.0, never_so (is_take_of x.number) h m so.1 none.take,
-    never_so (is_deliver_of x.number) h m so.2 none.deliver)
+    let none = unnamed x.number m.entry.step on.unnamed_by in (
+      queued_stays h m x.number so.0,
+      never_so (is_take_of x.number) h m so.1 none.take,
+      never_so (is_deliver_of x.number) h m so.2 none.deliver,
+    )
 so_far_stays h m w v x on (phases.Busy seat) so = asked_stays h m w v x on so
 so_far_stays h m w v x on phases.Waiting so = record {
   moment = so.moment;

@@ -101,10 +101,11 @@ pub new_bio_logged : (h : List Moment) (w : World) (y : Bio) → y.phase ≡ pha
     → IsLogged h w y
 new_bio_logged h w y down never = record {
   unreplied = weaker (λ m e. no_reply y.number m e);
-  so_far = subst (SoFar h w y) (sym down)
-      (weaker (λ m e. (unnamed y.number m.entry.step e).start),
-      weaker (λ m e. (unnamed y.number m.entry.step e).take),
-      weaker (λ m e. (unnamed y.number m.entry.step e).deliver));
+  so_far = subst (SoFar h w y) (sym down) (
+    weaker (λ m e. (unnamed y.number m.entry.step e).start),
+    weaker (λ m e. (unnamed y.number m.entry.step e).take),
+    weaker (λ m e. (unnamed y.number m.entry.step e).deliver),
+  );
 }
   where
     weaker : {Q : Moment → Type 0} → ((m : Moment) → names_bio y.number m.entry.step ≡ false → Q m) → All Q h
@@ -135,9 +136,9 @@ module _ (h : List Moment) (w v : World) (seat : ℕ) (s : Step) (o : Outcome) (
   accounted_as_before more same =
       all_members (AcceptsAreAccounted h w) (AcceptsAreAccounted (h ++ this ∷ []) v) h
       (λ m here was line b accepts.
-        let a : Acceptance = record { world = after_entry m.before m.entry; line = line; bio = b } in
-        let old : IsAccounted h w a = was line b accepts in
-        accounted_quietly h this w v a ledger.taken maps (none b) more (same b old.made) old) ledger.accepted
+      let a : Acceptance = record { world = after_entry m.before m.entry; line = line; bio = b } in
+      let old : IsAccounted h w a = was line b accepts in
+      accounted_quietly h this w v a ledger.taken maps (none b) more (same b old.made) old) ledger.accepted
 
   -- the bios stay
   pub stays : BiosStay w v → AcceptsNone o → Ledger (h ++ this ∷ []) v
@@ -147,7 +148,7 @@ module _ (h : List Moment) (w v : World) (seat : ℕ) (s : Step) (o : Outcome) (
     live = subst (λ xs. All (IsLogged (h ++ this ∷ []) v) xs) (sym stay.bios)
         (all_members (IsLogged h w) (IsLogged (h ++ this ∷ []) v) w.bios
         (λ x here logged. logged_as_before x here
-          (ap (λ xs. filter (λ (y : Bio). is_child_of y.owner x.number) xs) stay.bios) logged) ledger.live);
+        (ap (λ xs. filter (λ (y : Bio). is_child_of y.owner x.number) xs) stay.bios) logged) ledger.live);
     accepted = All-append (AcceptsAreAccounted (h ++ this ∷ []) v) h (this ∷ [])
         (accounted_as_before (omega (arith, stay.next))
         (λ b below. ap (λ xs. find (λ (y : Bio). y.number == b) xs) stay.bios))
@@ -189,7 +190,7 @@ module _ (h : List Moment) (w v : World) (seat : ℕ) (s : Step) (o : Outcome) (
   accounted_new y come of_line line b is =
       let its = of_line line b is in
       subst (λ n. IsAccounted (h ++ this ∷ []) v
-        (record { world = after_entry w this.entry; line = line; bio = n })) (sym its.0)
+      (record { world = after_entry w this.entry; line = line; bio = n })) (sym its.0)
       (record {
         made = omega (arith, come.next, come.number);
         stands = rw (found_new y come) (record {

@@ -104,7 +104,7 @@ module _ (h : List Moment) (w v : World) (seat b : ℕ) (line : ℕ) (r : BioRes
             | inr new ↦ this_one e l given (only_one e this.entry new) is
           ];
       covers = λ any. subst (λ n. IsSomeAnd (result_of (h ++ this ∷ []) n)
-        (λ z. IsSuccess z → CoversFrom a (h ++ this ∷ []))) (sym it)
+          (λ z. IsSuccess z → CoversFrom a (h ++ this ∷ []))) (sym it)
           (rw its_result covered);
     };
     replied = one_reply a.bio it;

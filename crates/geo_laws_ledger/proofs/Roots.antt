@@ -93,8 +93,8 @@ module _ (h : List Moment) (w v : World) (seat b : ℕ) (o : Outcome) (ledger : 
       subst (λ ys. All (IsLogged (h ++ this ∷ []) v) ys) (sym gone.bios)
       (All-from_recursion (IsLogged (h ++ this ∷ []) v) (filter (λ (y : Bio). not (is_it y)) w.bios)
       (kept w.bios (recursion_from_All (λ y. Contains w.bios y × IsLogged h w y) w.bios
-        (all_members (IsLogged h w) (λ y. Contains w.bios y × IsLogged h w y) w.bios (λ y here is. (here, is))
-        ledger.live))))
+      (all_members (IsLogged h w) (λ y. Contains w.bios y × IsLogged h w y) w.bios (λ y here is. (here, is))
+      ledger.live))))
     where
       logged : (y : Bio) → is_it y ≡ false → Contains w.bios y × IsLogged h w y → IsLogged (h ++ this ∷ []) v y
       logged y other both =

@@ -199,10 +199,11 @@ module _ (h : List Moment) (w v : World) (seat b : ℕ) (x : Bio) (o : Outcome) 
       logged_sent : IsLogged h w x → IsLogged (h ++ this ∷ []) v (in_phase phases.Sent x)
       logged_sent logged = record {
         unreplied = unreplied_by_start h this x.number b refl logged.unreplied;
-        so_far =
-            ((rw (start_found_now logged) (disk, is)),
-            never_so (is_take_of x.number) h this (was_down logged).1 refl,
-            never_so (is_deliver_of x.number) h this (was_down logged).2 refl);
+        so_far = (
+          (rw (start_found_now logged) (disk, is)),
+          never_so (is_take_of x.number) h this (was_down logged).1 refl,
+          never_so (is_deliver_of x.number) h this (was_down logged).2 refl,
+        );
       }
 
   -- Pieces
@@ -223,9 +224,10 @@ module _ (h : List Moment) (w v : World) (seat b : ℕ) (x : Bio) (o : Outcome) 
   kids_new : (t : Topology Config) (k : ℕ) (targets : List PieceTarget) → (w.next_bio + k) + length targets ≤ v.next_bio
       → AllByRecursion (IsNewChild w v x) (kids t k targets)
   kids_new t k [] fit = tt
-  kids_new t k (z ∷ zs) fit =
-      (record { phase = refl; index = k; owner = refl; new = omega arith; below = omega (arith, fit) },
-      kids_new t (k + 1) zs (omega (arith, fit)))
+  kids_new t k (z ∷ zs) fit = (
+    record { phase = refl; index = k; owner = refl; new = omega arith; below = omega (arith, fit) },
+    kids_new t (k + 1) zs (omega (arith, fit)),
+  )
 
   -- all of them are children of the bio
   all_kept : (t : Topology Config) (k : ℕ) (targets : List PieceTarget)

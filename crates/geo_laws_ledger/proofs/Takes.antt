@@ -143,7 +143,7 @@ takes_keep h w v seat disk b o ledger are order sizes maps made =
             undelivered = never_so (is_deliver_of x.number) h this so.2 refl;
             asked =
                 subst (λ z. IsSomeAnd z (λ q. (got : DeviceResult) → CoversThere v (in_phase (phases.Busy seat) x)
-                  (record { bio = x.number; request = q; got = got } ∷ [])))
+                (record { bio = x.number; request = q; got = got } ∷ [])))
                 (sym (asked_now h this x.number so.1 (rw same (eq-eqb b b refl)) ∙ ap request_in asks))
                 (λ got. covers_request v x (in_phase (phases.Busy seat) x) (its_leaf got)
                 ((keeps_phase (phases.Busy seat)).request x)
@@ -266,8 +266,8 @@ delivers_keep h w v seat b got o ledger are maps made =
         covered s is disk sent (Some q) of all =
             rw (leaves_at h this x.number s (start_stays h (this ∷ []) x.number s is), sent)
             (rw (request_stays h (this ∷ []) x.number q of, answer)
-              (covers_stay w v x (record { bio = x.number; request = q; got = got } ∷ [])
-              (All-contains (λ (y : Bio). SameMap w.topology v.topology y.target) w.bios x maps here) (all got)))
+            (covers_stay w v x (record { bio = x.number; request = q; got = got } ∷ [])
+            (All-contains (λ (y : Bio). SameMap w.topology v.topology y.target) w.bios x maps here) (all got)))
 
         by : (z : Option Moment) → start_moment h x.number ≡ z
             → IsSomeAnd z (λ m. (disk : ℕ) × (m.entry.outcome ≡ outcomes.Queued disk))

@@ -65,7 +65,7 @@ module _ (h : List Moment) (w v : World) (seat : ℕ) (s : Step) (o : Outcome) (
       let below : x.number < w.next_bio =
       All-contains (λ n. n < w.next_bio) (map (λ (y : Bio). y.number) w.bios) x.number are.1
       (Contains-map (λ (y : Bio). y.number) w.bios x
-        (find-Contains (λ (y : Bio). y.number == x.number) w.bios x turns.found)) in
+      (find-Contains (λ (y : Bio). y.number == x.number) w.bios x turns.found)) in
       absurd (omega (arith, same, above, below))
 
   -- the bios that stood, after the step

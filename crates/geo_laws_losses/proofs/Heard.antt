@@ -174,10 +174,10 @@ module _ (w : World) (firm : Firm w) (none : w.taste ≡ None) (e : Event) (rest
       ap (λ (r : ℕ). taste_weight (r + 1)) (same p) in
       let was : event_weight w e ≡ taste_weight (rank_of_provider w p) = ap (event_weight w) is in
       tasting_less v w (omega arith) (omega arith) (omega (arith, costs, cost, step, equal, was, had)) where
-    -- geom 2 stands
-    taste_there : (o : Option (Geom Config)) → IsSomeAnd o (λ x. x.withering ≡ false) → IsSome o
-    taste_there None stands = absurd stands
-    taste_there (Some g) stands = refl
+        -- geom 2 stands
+        taste_there : (o : Option (Geom Config)) → IsSomeAnd o (λ x. x.withering ≡ false) → IsSome o
+        taste_there None stands = absurd stands
+        taste_there (Some g) stands = refl
 
   -- by whether the offer is tasted
   offer_lower : (p : ℕ) → e ≡ events.NewProvider p → (b : Bool) → is_not_tasted (granted_in left) w.topology p ≡ b

@@ -110,8 +110,7 @@ still_fine : (t : Topology Config) (n : ℕ) (ns : List ℕ) → AllByRecursion 
 still_fine t n [] others fine = tt
 still_fine t n (m ∷ ns) others fine =
     let same : provider_at (set_error t n) m ≡ provider_at t m =
-    at-unchanged (λ (x : Provider). x.number) (λ x. record x { errored = true }) (λ x. refl) n m others.0 t.providers in
-    (
+    at-unchanged (λ (x : Provider). x.number) (λ x. record x { errored = true }) (λ x. refl) n m others.0 t.providers in (
       subst (λ (o : Option Provider). IsSomeAnd o (λ x. x.errored ≡ false)) (sym same) fine.0,
       still_fine t n ns others.1 fine.1,
     )
@@ -153,10 +152,10 @@ wither_loses q g order =
     loses_twice q begun (wither q g)
     (record { losses = omega arith; order = order; ranks = withering_ranks t g; costs = λ u. refl })
     (orphans_lose (map (λ (x : Provider). x.number) its) 0 t.next_provider begun order rise fine) where
-  -- what isn't true is false
-  fine_flag : (b : Bool) → not b ≡ true → b ≡ false
-  fine_flag true is = absurd cc
-  fine_flag false is = refl
+      -- what isn't true is false
+      fine_flag : (b : Bool) → not b ≡ true → b ≡ false
+      fine_flag true is = absurd cc
+      fine_flag false is = refl
 
 -- unless it does already
 pub unless_loses : (q : QueuedTopology Config) (g : ℕ) → InOrder q → OnlyLoses q (wither_unless_withering q g)

@@ -135,18 +135,18 @@ module _ (w : World) (firm : Firm w) (x : Bio) (found : bio_at w x.number ≡ So
       (λ v. record v { phase = phases.Done }))) e) ∙ at in
       let same : changed (λ (v : Bio). v.number == x.number) (λ v. record v { phase = phases.Done }) z ≡ y = cc in
       subst (λ (v : Bio). is_waiting v.phase ≡ true) same (unhit (z.number == x.number) refl) where
-    -- the parent isn't the child
-    unhit : (b : Bool) → (z.number == x.number) ≡ b
-        → is_waiting (changed (λ (v : Bio). v.number == x.number) (λ v. record v { phase = phases.Done }) z).phase ≡ true
-    unhit false h = rw h waits
-    unhit true h =
-        let its : z.number ≡ parent = number_found (λ (v : Bio). v.number) w.bios parent z e in
-        let number : z.number ≡ x.number = eqb-true z.number x.number h in
-        let there : bio_at w x.number ≡ Some z =
-        subst (λ (n : ℕ). bio_at w n ≡ Some z) (sym its ∙ number) e in
-        let one : Some x ≡ Some z = sym found ∙ there in
-        let both : x ≡ z = cc in
-        absurd (not_both x.phase up (subst (λ (v : Bio). is_waiting v.phase ≡ true) (sym both) waits))
+        -- the parent isn't the child
+        unhit : (b : Bool) → (z.number == x.number) ≡ b
+            → is_waiting (changed (λ (v : Bio). v.number == x.number) (λ v. record v { phase = phases.Done }) z).phase ≡ true
+        unhit false h = rw h waits
+        unhit true h =
+            let its : z.number ≡ parent = number_found (λ (v : Bio). v.number) w.bios parent z e in
+            let number : z.number ≡ x.number = eqb-true z.number x.number h in
+            let there : bio_at w x.number ≡ Some z =
+            subst (λ (n : ℕ). bio_at w n ≡ Some z) (sym its ∙ number) e in
+            let one : Some x ≡ Some z = sym found ∙ there in
+            let both : x ≡ z = cc in
+            absurd (not_both x.phase up (subst (λ (v : Bio). is_waiting v.phase ≡ true) (sym both) waits))
 
   -- the parent that is found waits
   waits : (y : Bio) → bio_at gathered parent ≡ Some y → is_waiting y.phase ≡ true

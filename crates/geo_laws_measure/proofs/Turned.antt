@@ -79,12 +79,12 @@ changed_falls w firm x found change d falls =
     let itself : (x.number == x.number) ≡ true = eq-eqb x.number x.number refl in
     sum_mapped-falls (steps_of w) (steps_of w) (λ y. if y.number == x.number then change y else y) w.bios x d most
     (find-Contains (λ (y : Bio). y.number == x.number) w.bios x found) (rw itself falls) where
-  -- each item
-  by : (ys : List Bio) → AllByRecursion (λ (y : Bio). (y.number == x.number) ≡ true → y ≡ x) ys
-      → AllByRecursion (λ (y : Bio). steps_of w (if y.number == x.number then change y else y) ≤ steps_of w y) ys
-  by [] same = tt
-  by (y ∷ ys) same =
-      (changed_most w x change (omega (arith, falls)) y (y.number == x.number) refl same.0, by ys same.1)
+      -- each item
+      by : (ys : List Bio) → AllByRecursion (λ (y : Bio). (y.number == x.number) ≡ true → y ≡ x) ys
+          → AllByRecursion (λ (y : Bio). steps_of w (if y.number == x.number then change y else y) ≤ steps_of w y) ys
+      by [] same = tt
+      by (y ∷ ys) same =
+          (changed_most w x change (omega (arith, falls)) y (y.number == x.number) refl same.0, by ys same.1)
 
 -- the world with other bios, and no other change
 abbrev pub with_steps : World → List Bio → World

@@ -94,12 +94,12 @@ completes_unreplied h a none = record {
       omega (arith, zero_of);
   reply = λ e line given here up is.
       absurd (both_ways (is_reply_to a.bio e)
-        (All-contains (λ e. is_reply_to a.bio e ≡ false) (entries_of h) e none here)
-        (reply_is a.bio e line given up is));
+      (All-contains (λ e. is_reply_to a.bio e ≡ false) (entries_of h) e none here)
+      (reply_is a.bio e line given up is));
   covers = λ any.
       absurd (both_ways (list_any (is_reply_to a.bio) (entries_of h))
-        (none_any a.bio (entries_of h)
-          (recursion_from_All (λ e. is_reply_to a.bio e ≡ false) (entries_of h) none)) any);
+      (none_any a.bio (entries_of h)
+      (recursion_from_All (λ e. is_reply_to a.bio e ≡ false) (entries_of h) none)) any);
 }
 
 -- what is accounted for completes at most once
@@ -116,17 +116,17 @@ completes h w a ledger was = by (bio_at w a.bio) refl was.stands
         All-contains (IsLogged h w) w.bios x ledger.live (find-Contains (λ (y : Bio). y.number == a.bio) w.bios x at) in
         completes_unreplied h a
         (subst (λ n. All (λ e. is_reply_to n e ≡ false) (entries_of h)) its
-          (All-map (λ e. is_reply_to x.number e ≡ false) (λ m. m.entry) h logged.unreplied))
+        (All-map (λ e. is_reply_to x.number e ≡ false) (λ m. m.entry) h logged.unreplied))
 
 -- each request completes at most once
 requests_complete_once : OfEachLegalLog RequestsCompleteOnce
 requests_complete_once plan facts is fit log legal =
     entries_are_moments w log Once (all_members (AcceptsAreAccounted h v) (λ m. Once m.before m.entry) h
-      (λ m here was line b accepts.
-        subst (λ es. CompletesOnce es h (record { world = after_entry m.before m.entry; line = line; bio = b }))
-        (entries_back w log)
-        (completes h v (record { world = after_entry m.before m.entry; line = line; bio = b }) ledger
-          (was line b accepts))) ledger.accepted)
+    (λ m here was line b accepts.
+    subst (λ es. CompletesOnce es h (record { world = after_entry m.before m.entry; line = line; bio = b }))
+    (entries_back w log)
+    (completes h v (record { world = after_entry m.before m.entry; line = line; bio = b }) ledger
+    (was line b accepts))) ledger.accepted)
   where
     w : World
     w = opening plan facts
@@ -155,12 +155,12 @@ rest_none w rest =
 rest_is_complete : RestIsComplete
 rest_is_complete plan facts is fit log legal rest =
     entries_are_moments w log Answered (all_members (AcceptsAreAccounted h v) (λ m. Answered m.before m.entry) h
-      (λ m here was line b accepts.
-        let gone : bio_at v b ≡ None = ap (λ xs. find (λ (x : Bio). x.number == b) xs) (rest_none v rest) in
-        let a : Acceptance = record { world = after_entry m.before m.entry; line = line; bio = b } in
-        let done : IsCompleted h a =
-        subst (λ o. MatchOption o (IsCompleted h a) (IsOnItsWay v a)) gone (was line b accepts).stands in
-        subst (λ es. count_by (is_reply_to b) es ≡ 1) (entries_back w log) done.replied) ledger.accepted)
+    (λ m here was line b accepts.
+    let gone : bio_at v b ≡ None = ap (λ xs. find (λ (x : Bio). x.number == b) xs) (rest_none v rest) in
+    let a : Acceptance = record { world = after_entry m.before m.entry; line = line; bio = b } in
+    let done : IsCompleted h a =
+    subst (λ o. MatchOption o (IsCompleted h a) (IsOnItsWay v a)) gone (was line b accepts).stands in
+    subst (λ es. count_by (is_reply_to b) es ≡ 1) (entries_back w log) done.replied) ledger.accepted)
   where
     w : World
     w = opening plan facts
@@ -202,7 +202,7 @@ taken_after h w e ledger made b few = by e.step refl
         → count_by (λ (x : Entry). is_take_of b x.step) (entries_of (h ++ m ∷ [])) ≤ 1
     past other =
         let same : count_by (λ (x : Entry). is_take_of b x.step) (entries_of (h ++ m ∷ []))
-          ≡ count_by (λ (x : Entry). is_take_of b x.step) (entries_of h) =
+        ≡ count_by (λ (x : Entry). is_take_of b x.step) (entries_of h) =
         ap (λ es. count_by (λ (x : Entry). is_take_of b x.step) es) (entries_of_both h (m ∷ []))
         ∙ count_past (λ (x : Entry). is_take_of b x.step) (entries_of h) e other in
         omega (arith, same, few)
@@ -217,11 +217,11 @@ taken_after h w e ledger made b few = by e.step refl
         let so : SoFar h w it.bio phases.Sent =
         subst (SoFar h w it.bio) (phase_sent it.bio.phase it.can.sent)
         (All-contains (IsLogged h w) w.bios it.bio ledger.live
-          (find-Contains (λ (y : Bio). y.number == b) w.bios it.bio it.found)).so_far in
+        (find-Contains (λ (y : Bio). y.number == b) w.bios it.bio it.found)).so_far in
         let never : Never (is_take_of b) h = subst (λ n. Never (is_take_of n) h) its so.1 in
         let none : count_by (λ (x : Entry). is_take_of b x.step) (entries_of h) ≡ 0 = untaken b h never in
         let grows : count_by (λ (x : Entry). is_take_of b x.step) (entries_of (h ++ m ∷ []))
-          ≡ suc (count_by (λ (x : Entry). is_take_of b x.step) (entries_of h)) =
+        ≡ suc (count_by (λ (x : Entry). is_take_of b x.step) (entries_of h)) =
         ap (λ es. count_by (λ (x : Entry). is_take_of b x.step) es) (entries_of_both h (m ∷ []))
         ∙ count_hit (λ (x : Entry). is_take_of b x.step) (entries_of h) e (rw is (eq-eqb b b refl)) in
         omega (arith, none, grows)

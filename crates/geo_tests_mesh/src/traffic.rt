@@ -126,7 +126,12 @@ fn take(traffic: &mut Traffic, bio: u64) -> Result<[u64; 5], Fail> {
 }
 
 // The bio's disk answers with 512 bytes of its number, which go into the log.
-fn deliver(traffic: &mut Traffic, alloc: Global, log: &mut Log, bio: u64) -> Result<[u64; 5], Fail> {
+fn deliver(
+    traffic: &mut Traffic,
+    alloc: Global,
+    log: &mut Log,
+    bio: u64,
+) -> Result<[u64; 5], Fail> {
     let fill = [bio as u8; 512];
     let got = DeviceResult::Bytes(Block::from_slice(alloc, &fill)?);
     let bio = BioId::new(bio);
@@ -202,7 +207,11 @@ fn upwards(traffic: &mut Traffic, alloc: Global, log: &mut Log) -> Result<[[u64;
 }
 
 // What is due after the last child came in, and how many bytes of which numbers the READ has, before it goes up and then.
-fn joined(traffic: &mut Traffic, alloc: Global, log: &mut Log) -> Result<([u64; 5], [usize; 2], [u8; 2]), Fail> {
+fn joined(
+    traffic: &mut Traffic,
+    alloc: Global,
+    log: &mut Log,
+) -> Result<([u64; 5], [usize; 2], [u8; 2]), Fail> {
     take(traffic, 4)?;
     deliver(traffic, alloc, log, 4)?;
     up(traffic, alloc, log, 4)?;
@@ -215,7 +224,11 @@ fn joined(traffic: &mut Traffic, alloc: Global, log: &mut Log) -> Result<([u64; 
     };
     let first = bytes.bytes().first().copied().unwrap_or(0);
     let last = bytes.bytes().last().copied().unwrap_or(0);
-    Ok((complete, [early.bytes().len(), bytes.bytes().len()], [first, last]))
+    Ok((
+        complete,
+        [early.bytes().len(), bytes.bytes().len()],
+        [first, last],
+    ))
 }
 
 #[test]
@@ -243,7 +256,10 @@ fn bounced(traffic: &mut Traffic, alloc: Global, log: &Log) -> Result<([u64; 5],
     submit(traffic, alloc, 512)?;
     let seen = bounce(traffic, 1)?;
     let risen = up(traffic, alloc, log, 1)?;
-    Ok((seen, matches!(risen, Risen::Root(BioResult::Failed(Errno::EIO)))))
+    Ok((
+        seen,
+        matches!(risen, Risen::Root(BioResult::Failed(Errno::EIO))),
+    ))
 }
 
 #[test]
