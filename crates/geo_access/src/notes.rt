@@ -1,5 +1,6 @@
 //! Notes of write counts that left zero or came to it.
 ghost use Rattle.std.specs.Prelude.{◌≡◌};
+ghost use Rattle.geo_mesh.specs.Graph.{IsSoundGraph};
 ghost use Rattle.geo_access.specs.Access.{IsCounted, first_noted, is_noted, without_risen, without_fallen};
 
 use geo_base::ProvId;
@@ -10,6 +11,7 @@ pub fn next_risen<C>(topo: &mut Topo<C>) -> Option<ProvId>
     requires { IsCounted topo.old }
     ensures first { result ≡ first_noted topo.old.risen }
     ensures dropped { topo.new ≡ without_risen topo.old result }
+    ensures sound { IsSoundGraph topo.old.topology }
     ensures counted { IsCounted topo.new }
 {
     let prov = topo.first_risen()?;
@@ -24,6 +26,7 @@ pub fn next_fallen<C>(topo: &mut Topo<C>) -> Option<ProvId>
     requires { IsCounted topo.old }
     ensures first { result ≡ first_noted topo.old.fallen }
     ensures dropped { topo.new ≡ without_fallen topo.old result }
+    ensures sound { IsSoundGraph topo.old.topology }
     ensures counted { IsCounted topo.new }
 {
     let prov = topo.first_fallen()?;
