@@ -141,15 +141,16 @@ module _ (t : Topology Config) where
       (find-changed (λ (x : Provider). x.number == n) (λ x. record x { errored = true }) (λ x. x.number == p)
       (λ x e. refl) t.providers)
       ∙ by (provider_at t p) where
-    -- by the provider
-    by : (o : Option Provider)
-        → option_map (λ (g : Geom Config). g.number) (option_and_then (λ (x : Provider). geom_at t x.geom)
-        (option_map (changed (λ (x : Provider). x.number == n) (λ x. record x { errored = true })) o))
-        ≡ option_map (λ (g : Geom Config). g.number) (option_and_then (λ (x : Provider). geom_at t x.geom) o)
-    by None = refl
-    by (Some x) =
-        ap (λ (m : ℕ). option_map (λ (g : Geom Config). g.number) (geom_at t m))
-        (changed-keeps (λ (y : Provider). y.number == n) (λ y. record y { errored = true }) (λ y. y.geom) (λ y e. refl) x)
+        -- by the provider
+        by : (o : Option Provider)
+            → option_map (λ (g : Geom Config). g.number) (option_and_then (λ (x : Provider). geom_at t x.geom)
+            (option_map (changed (λ (x : Provider). x.number == n) (λ x. record x { errored = true })) o))
+            ≡ option_map (λ (g : Geom Config). g.number) (option_and_then (λ (x : Provider). geom_at t x.geom) o)
+        by None = refl
+        by (Some x) =
+            ap (λ (m : ℕ). option_map (λ (g : Geom Config). g.number) (geom_at t m))
+            (changed-keeps (λ (y : Provider). y.number == n) (λ y. record y { errored = true })
+            (λ y. y.geom) (λ y e. refl) x)
 
   -- an error
   pub errored_ranks : (n : ℕ) → KeepsRanks t (set_error t n)
