@@ -60,7 +60,8 @@ same_cheaper v w same q d =
     ap (λ (r : ℕ). taste_weight (r + d)) (same q) in omega (arith, e)
 
 -- then each offer costs no more
-offer_most : (v w : World) → Cheaper v w → (q : ℕ) → taste_weight (rank_of_provider v q) ≤ taste_weight (rank_of_provider w q)
+offer_most : (v w : World) → Cheaper v w → (q : ℕ) → taste_weight (rank_of_provider v q) ≤ taste_weight
+    (rank_of_provider w q)
 offer_most v w cheaper q =
     let one : rank_of_provider v q + 0 ≡ rank_of_provider v q = omega arith in
     let two : rank_of_provider w q + 0 ≡ rank_of_provider w q = omega arith in

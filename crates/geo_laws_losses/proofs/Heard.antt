@@ -49,7 +49,8 @@ kill_most : (w : World) (c : ℕ) → handles_of (kill_handle w c) ≤ handles_o
 kill_most w c =
     sum_mapped (λ (h : Handle). if names_number h.consumer c then record h { dead = true } else h)
     (λ (h : Handle). cond (is_some h.consumer) 1 0) (λ (h : Handle). cond (is_some h.consumer) 1 0) w.handles
-    (of_each (λ (h : Handle). cond (is_some (if names_number h.consumer c then record h { dead = true } else h).consumer)
+    (of_each (λ (h : Handle). cond (is_some
+    (if names_number h.consumer c then record h { dead = true } else h).consumer)
     1 0 ≤ cond (is_some h.consumer) 1 0) (λ h. killed_count c h (names_number h.consumer c) refl) w.handles)
 
 -- what is left of a world in which handles die
@@ -84,7 +85,8 @@ low_by : (w : World) (p : ℕ) (o : Option (Geom Config)) → geom_of_provider w
     → option_map_or (λ g. rank w.topology g.number) o taste_limit < taste_limit
 low_by w p None e fine = absurd cc
 low_by w p (Some g) e fine =
-    below_limit (rank w.topology g.number) (neither g.withering (nat_le taste_limit (rank w.topology g.number)) fine).1
+    below_limit (rank w.topology g.number) (neither g.withering (nat_le taste_limit
+    (rank w.topology g.number)) fine).1
 
 -- so
 low : (w : World) (p : ℕ) → is_not_tasted (granted_in w) w.topology p ≡ false → rank_of_provider w p < taste_limit
@@ -238,9 +240,11 @@ queue_lower w firm none (e ∷ rest) queue enabled = done_lower w firm none e re
 
 -- by whether a taste is under way
 event_lower : (w : World) → Firm w → (o : Option Taste) → w.taste ≡ o
-    → is_ok {T = World × Outcome} {E = Found} (if is_some o then Err refusals.TasteUnderWay else event_of w w.events)
+    → is_ok {T = World × Outcome} {E = Found}
+    (if is_some o then Err refusals.TasteUnderWay else event_of w w.events)
     ≡ true
-    → IsLess (measure (world_after w (if is_some o then Err refusals.TasteUnderWay else event_of w w.events))) (measure w)
+    → IsLess (measure (world_after w
+    (if is_some o then Err refusals.TasteUnderWay else event_of w w.events))) (measure w)
 event_lower w firm None none enabled = queue_lower w firm none w.events refl enabled
 event_lower w firm (Some s) none enabled = absurd cc
 

@@ -2,3 +2,4 @@ pub mod Losing
 pub mod Elsewhere
 pub mod Heard
 pub mod Washing
+pub mod Judged

@@ -110,7 +110,8 @@ still_fine : (t : Topology Config) (n : ℕ) (ns : List ℕ) → AllByRecursion 
 still_fine t n [] others fine = tt
 still_fine t n (m ∷ ns) others fine =
     let same : provider_at (set_error t n) m ≡ provider_at t m =
-    at-unchanged (λ (x : Provider). x.number) (λ x. record x { errored = true }) (λ x. refl) n m others.0 t.providers in (
+    at-unchanged (λ (x : Provider). x.number) (λ x. record x { errored = true })
+    (λ x. refl) n m others.0 t.providers in (
       subst (λ (o : Option Provider). IsSomeAnd o (λ x. x.errored ≡ false)) (sym same) fine.0,
       still_fine t n ns others.1 fine.1,
     )
@@ -184,7 +185,8 @@ spoil_one q c order =
 -- a spoil
 pub spoil_loses : (q : QueuedTopology Config) (p : ℕ) → InOrder q → OnlyLoses q (spoil q p)
 spoil_loses q p order =
-    loses_all spoil_consumer (λ r c order. spoil_one r c order) (filter (λ c. c.spoiled) (attached_to q.topology p)) q
+    loses_all spoil_consumer (λ r c order. spoil_one r c order) (filter (λ c. c.spoiled)
+    (attached_to q.topology p)) q
     order
 
 -- a consumer hears that its provider is orphaned

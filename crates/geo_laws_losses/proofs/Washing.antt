@@ -183,12 +183,14 @@ module _ (w : World) (firm : Firm w) where
       | inr other ↦
           let found : provider_at provider_gone.topology q ≡ provider_at w.topology q =
           removed-provider.others w.topology p q other.1 in
-          let ranks = removing-stay.provider w.topology p firm.sound.ranks.ranked firm.steady.parts.consumers none in
+          let ranks = removing-stay.provider w.topology p firm.sound.ranks.ranked
+          firm.steady.parts.consumers none in
           let same : rank_of_provider provider_gone q ≡ rank_of_provider w q =
           ap rank_at found
           ∙ rank_by (rank provider_gone.topology) (rank w.topology) (geom_of_provider w.topology q)
           (λ g at. ranks.same g.number) in
-          let equal : taste_weight (rank_of_provider provider_gone q + d) ≡ taste_weight (rank_of_provider w q + d) =
+          let equal : taste_weight (rank_of_provider provider_gone q + d) ≡ taste_weight
+          (rank_of_provider w q + d) =
           ap (λ (r : ℕ). taste_weight (r + d)) same in
           omega (arith, equal)
     ]
@@ -197,14 +199,16 @@ module _ (w : World) (firm : Firm w) where
     provider_lower : Stands w.topology (washes.Provider p) → Firm provider_gone
         → IsLess (measure provider_gone) (measure w)
     provider_lower origin after =
-        let queue = sum_kept (event_weight provider_gone) (event_weight w) (λ (e : Event). not (provider_of_event e == p))
+        let queue = sum_kept (event_weight provider_gone) (event_weight w) (λ (e : Event). not
+        (provider_of_event e == p))
         w.events (of_each (λ (e : Event). event_weight provider_gone e ≤ event_weight w e)
         (event_most provider_gone w provider_cheaper) w.events) in
         let taste = left_most provider_gone w provider_cheaper w.taste in
         let fine = sum_kept (λ (x : Provider). cond {A = ℕ} (not x.errored) 1 0)
         (λ (x : Provider). cond {A = ℕ} (not x.errored) 1 0) (λ (x : Provider). not (x.number == p))
         w.topology.providers (no_more (λ (x : Provider). cond {A = ℕ} (not x.errored) 1 0) w.topology.providers) in
-        let losses = sum_kept (λ (e : Event). cond {A = ℕ} (is_loss e) 1 0) (λ (e : Event). cond {A = ℕ} (is_loss e) 1 0)
+        let losses = sum_kept (λ (e : Event). cond {A = ℕ} (is_loss e) 1 0) (λ (e : Event). cond {A = ℕ}
+        (is_loss e) 1 0)
         (λ (e : Event). not (provider_of_event e == p)) w.events
         (no_more (λ (e : Event). cond {A = ℕ} (is_loss e) 1 0) w.events) in
         let bios = now_most provider_gone w after (without_provider_keeps w.topology p) (omega arith) in

@@ -149,7 +149,8 @@ module _ (t : Topology Config) where
         by None = refl
         by (Some x) =
             ap (λ (m : ℕ). option_map (λ (g : Geom Config). g.number) (geom_at t m))
-            (changed-keeps (λ (y : Provider). y.number == n) (λ y. record y { errored = true }) (λ y. y.geom) (λ y e. refl) x)
+            (changed-keeps (λ (y : Provider). y.number == n) (λ y. record y { errored = true })
+            (λ y. y.geom) (λ y e. refl) x)
 
   -- an error
   pub errored_ranks : (n : ℕ) → KeepsRanks t (set_error t n)

@@ -107,7 +107,8 @@ module _ (v w : World) where
 
   -- the rest decides
   after_losses : commands_of v ≤ commands_of w → handles_of v ≤ handles_of w → tasting_of v ≤ tasting_of w
-      → losses_of v ≤ losses_of w → IsTrue (comes_before (from_bios v) (from_bios w)) → IsLess (measure v) (measure w)
+      → losses_of v ≤ losses_of w → IsTrue (comes_before (from_bios v) (from_bios w)) → IsLess
+      (measure v) (measure w)
   after_losses a b c d rest =
       after_tasting a b c (rest_less (losses_of v) (losses_of w) (from_bios v) (from_bios w) d rest)
 

@@ -129,7 +129,8 @@ module _ (w : World) where
   unfolding do_command
   keeps line actor (commands.Open name prov grant) =
       either (is_some (handle_of w actor name)) _ _ refl
-      (opened line actor name (find_provider w.topology prov) grant (open_refusal (granted_in w) w.topology prov grant))
+      (opened line actor name (find_provider w.topology prov) grant (open_refusal
+      (granted_in w) w.topology prov grant))
   keeps line actor (commands.Close name) = closed line (handle_of w actor name)
   keeps line actor (commands.Read name offset len) = asked line (handle_of w actor name) _
   keeps line actor (commands.Write name offset bytes) = asked line (handle_of w actor name) _
@@ -181,7 +182,8 @@ go_left : (w : World) (actor : ℕ) (o : Option (List LineCommand)) → slice_ge
     → is_ok (go_of w actor o) ≡ true → IsLess (measure (world_after w (go_of w actor o))) (measure w)
 go_left w actor None found enabled = absurd cc
 go_left w actor (Some []) found enabled = absurd cc
-go_left w actor (Some (c ∷ rest)) found enabled = go_waits w actor c rest (waits_for w actor c.command) found enabled
+go_left w actor (Some (c ∷ rest)) found enabled = go_waits w actor c rest
+    (waits_for w actor c.command) found enabled
 
 -- a Go lowers the measure
 pub goes_lower : GoesLower
@@ -202,7 +204,8 @@ reaped_most c h false e = rw e (omega arith)
 
 -- the handles that are open, without those of a consumer
 reaped_falls : (c : ℕ) (hs : List Handle) (h : Handle) → Contains hs h → h.consumer ≡ Some c
-    → sum_by open_count (map {A = Handle} {B = Handle} (λ h. if names_number h.consumer c then record h { consumer = None } else h) hs) + 1
+    → sum_by open_count (map {A = Handle} {B = Handle}
+    (λ h. if names_number h.consumer c then record h { consumer = None } else h) hs) + 1
     ≤ sum_by open_count hs
 reaped_falls c hs h here own =
     sum_mapped-falls open_count open_count

@@ -113,7 +113,8 @@ module _ (w : World) (firm : Firm w) (x : Bio) (found : bio_at w x.number ≡ So
   -- it needs one step less
   gathered_falls : sum_by (steps_of w) gathered.bios + 1 ≤ bio_steps_of w
   gathered_falls =
-      changed_falls w firm x found (λ y. record y { phase = phases.Done }) 1 (omega (arith, up_steps w x x.phase up))
+      changed_falls w firm x found (λ y. record y { phase = phases.Done }) 1 (omega
+      (arith, up_steps w x x.phase up))
 
   -- the parent waits
   parent_waits : IsSomeAnd (bio_at w parent) (λ y. IsTrue (is_waiting y.phase))
@@ -130,14 +131,16 @@ module _ (w : World) (firm : Firm w) (x : Bio) (found : bio_at w x.number ≡ So
   waits_by y (Some z) e waits at =
       let now = find-changed (λ (v : Bio). v.number == x.number) (λ v. record v { phase = phases.Done })
       (λ v. v.number == parent) (λ v h. refl) w.bios in
-      let is : Some (changed (λ (v : Bio). v.number == x.number) (λ v. record v { phase = phases.Done }) z) ≡ Some y =
+      let is : Some (changed (λ (v : Bio). v.number == x.number)
+      (λ v. record v { phase = phases.Done }) z) ≡ Some y =
       sym (now ∙ ap (option_map (changed (λ (v : Bio). v.number == x.number)
       (λ v. record v { phase = phases.Done }))) e) ∙ at in
       let same : changed (λ (v : Bio). v.number == x.number) (λ v. record v { phase = phases.Done }) z ≡ y = cc in
       subst (λ (v : Bio). is_waiting v.phase ≡ true) same (unhit (z.number == x.number) refl) where
         -- the parent isn't the child
         unhit : (b : Bool) → (z.number == x.number) ≡ b
-            → is_waiting (changed (λ (v : Bio). v.number == x.number) (λ v. record v { phase = phases.Done }) z).phase ≡ true
+            → is_waiting (changed (λ (v : Bio). v.number == x.number)
+            (λ v. record v { phase = phases.Done }) z).phase ≡ true
         unhit false h = rw h waits
         unhit true h =
             let its : z.number ≡ parent = number_found (λ (v : Bio). v.number) w.bios parent z e in
@@ -159,7 +162,8 @@ module _ (w : World) (firm : Firm w) (x : Bio) (found : bio_at w x.number ≡ So
       (λ v. v.number) (λ v h. refl) w.bios
 
   -- an item of the parent's completion counts no more
-  risen_most : (y : Bio) (r : BioResult) → is_waiting y.phase ≡ true → (z : Bio) (b : Bool) → (z.number == y.number) ≡ b
+  risen_most : (y : Bio) (r : BioResult) → is_waiting y.phase ≡ true → (z : Bio) (b : Bool) →
+      (z.number == y.number) ≡ b
       → ((z.number == y.number) ≡ true → z ≡ y)
       → steps_of w (if z.number == y.number then up_with r z else z) ≤ steps_of w z
   risen_most y r waits z true e is =
@@ -194,7 +198,8 @@ module _ (w : World) (firm : Firm w) (x : Bio) (found : bio_at w x.number ≡ So
 
   -- by whether it is, and the parent that is found
   child_by : (b : Bool) (o : Option Bio) → bio_at gathered parent ≡ o
-      → sum_by (steps_of w) (if b then option_map_or (λ y. complete_parent gathered y) o gathered else gathered).bios + 1
+      → sum_by (steps_of w) (if b then option_map_or
+      (λ y. complete_parent gathered y) o gathered else gathered).bios + 1
       ≤ bio_steps_of w
   child_by false o e = gathered_falls
   child_by true None e = gathered_falls

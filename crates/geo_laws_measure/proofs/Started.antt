@@ -78,7 +78,8 @@ disk_steps zero w x p g some found disk = absurd (omega arith)
 disk_steps (suc levels) w x p g some found disk = rw (found, disk.is) refl
 
 -- by the geom that is found
-sent_geom : (w : World) (x : Bio) (p : Provider) (o : Option (Geom Config)) → provider_at w.topology x.target ≡ Some p
+sent_geom : (w : World) (x : Bio) (p : Provider) (o : Option (Geom Config))
+    → provider_at w.topology x.target ≡ Some p
     → geom_at w.topology p.geom ≡ o → IsSome (disk_of_bio w x)
     → down_steps_within (length w.topology.geoms) w x ≡ 4
 sent_geom w x p None found of some = absurd (let bad : IsSome {T = ℕ} None = rw (found, of) at some in cc)
@@ -107,7 +108,8 @@ steps_below config none = elim (disk_or_below config) [
 split_steps : (levels : ℕ) (w : World) (x : Bio) (p : Provider) (g : Geom Config)
     → provider_with_geom w.topology x.target ≡ Some (p, g) → StepsBelow g.config
     → down_steps_within (suc levels) w x
-    ≡ 2 + sum_by (λ z. down_steps_within levels w (piece_child w.topology w.next_bio x 0 z)) (piece_targets g.config p x)
+    ≡ 2 + sum_by (λ z. down_steps_within levels w (piece_child w.topology w.next_bio x 0 z))
+    (piece_targets g.config p x)
 split_steps levels w x p g found below = rw found (below.steps (down_steps_within levels w) w x p)
 
 -- children, each of which needs no more steps than over so many levels
@@ -139,7 +141,8 @@ module _ (w : World) (firm : Firm w) (x : Bio) (here : Contains w.bios x) where
 
   -- the rank of its geom is no greater than the number of geoms, since the bio's source is above it
   low_by : (o : Option Consumer) → consumer_at t x.source ≡ o
-      → IsSomeAnd o (λ c. (c.provider ≡ Some x.target) × HasCountFor w x c) → (p : Provider) → provider_at t x.target ≡ Some p
+      → IsSomeAnd o (λ c. (c.provider ≡ Some x.target) × HasCountFor w x c) → (p : Provider)
+      → provider_at t x.target ≡ Some p
       → rank t p.geom ≤ length t.geoms
   low_by None e source p found = absurd source
   low_by (Some s) e source p found =
@@ -209,7 +212,8 @@ module _ (w : World) (firm : Firm w) (x : Bio) (here : Contains w.bios x) where
         (omega (arith, many, some_length (λ (y : Geom Config). y.number == p.geom) t.geoms g of))
     split_most (suc levels) many none =
         let needs : down_steps_within (length t.geoms) w x
-        ≡ 2 + sum_by (λ z. down_steps_within levels w (piece_child t w.next_bio x 0 z)) (piece_targets g.config p x) =
+        ≡ 2 + sum_by (λ z. down_steps_within levels w (piece_child t w.next_bio x 0 z))
+        (piece_targets g.config p x) =
         ap (λ (n : ℕ). down_steps_within n w x) many
         ∙ split_steps levels w x p g (with_geom t x.target p g found of) (steps_below g.config none) in
         let most = children_most w x levels 0 (piece_targets g.config p x)
@@ -248,7 +252,8 @@ split_falls w firm x found down targets s after =
     }
 
 -- a bio that is Down and goes back lets them fall
-bounce_falls : (w : World) (firm : Firm w) (x : Bio) (e : Errno) → bio_at w x.number ≡ Some x → is_down x.phase ≡ true
+bounce_falls : (w : World) (firm : Firm w) (x : Bio) (e : Errno) → bio_at w x.number ≡ Some x
+    → is_down x.phase ≡ true
     → Firm (with_steps w (change_number x.number (up_with (results.Failed e)) w.bios))
     → BiosFall (with_steps w (change_number x.number (up_with (results.Failed e)) w.bios)) w
 bounce_falls w firm x e found down after =
@@ -277,7 +282,8 @@ counted_geom t n g x (Some y) e found =
     let here : Some (changed (λ (z : Geom Config). z.number == n) (λ z. record z { started = z.started + 1 }) y)
     ≡ Some x = sym (now ∙ ap (option_map
     (changed (λ (z : Geom Config). z.number == n) (λ z. record z { started = z.started + 1 }))) e) ∙ found in
-    let same : changed (λ (z : Geom Config). z.number == n) (λ z. record z { started = z.started + 1 }) y ≡ x = cc in
+    let same : changed (λ (z : Geom Config). z.number == n)
+    (λ z. record z { started = z.started + 1 }) y ≡ x = cc in
     record {
       other = y;
       found = refl;
@@ -359,7 +365,8 @@ send_falls w firm x found down after =
     let here : Contains w.bios x = find-Contains (λ (y : Bio). y.number == x.number) w.bios x found in
     let itself : (x.number == x.number) ≡ true = eq-eqb x.number x.number refl in
     let among : Contains v.bios (if x.number == x.number then record x { phase = phases.Sent } else x) =
-    Contains-map (λ (y : Bio). if y.number == x.number then record y { phase = phases.Sent } else y) w.bios x here in
+    Contains-map (λ (y : Bio). if y.number == x.number then record y { phase = phases.Sent } else y)
+    w.bios x here in
     let there : Contains v.bios (record x { phase = phases.Sent }) = rw itself at among in
     let disk : IsSome (disk_of_bio w x) =
     All-contains (λ (y : Bio). IsTrue (is_sent y.phase || is_busy y.phase) → IsSome (disk_of_bio v y)) v.bios
@@ -404,7 +411,8 @@ start_down w b x false found e firm after enabled = absurd (let bad : false ≡ 
 start_at_bio : (w : World) (b : ℕ) (o : Option Bio) → bio_at w b ≡ o → Firm w → Firm (world_after w (start_of w o))
     → is_ok (start_of w o) ≡ true → BiosFall (world_after w (start_of w o)) w
 start_at_bio w b None found firm after enabled = absurd cc
-start_at_bio w b (Some x) found firm after enabled = start_down w b x (is_down x.phase) found refl firm after enabled
+start_at_bio w b (Some x) found firm after enabled = start_down w b x
+    (is_down x.phase) found refl firm after enabled
 
 -- a Start
 starts_fall : (w : World) (seat b : ℕ) → Firm w → IsTrue (is_enabled w seat (steps.Start b))

@@ -7,7 +7,8 @@ use Rattle.geo_model.specs.Words.{change_where}
 use Rattle.geo_laws_graph.proofs.Members.{Contains-cases, nothing_in}
 
 -- a sum of terms that are no greater is no greater
-pub sum_most : {X : Type 0} (f g : X → ℕ) (xs : List X) → AllByRecursion (λ x. f x ≤ g x) xs → sum_by f xs ≤ sum_by g xs
+pub sum_most : {X : Type 0} (f g : X → ℕ) (xs : List X) → AllByRecursion (λ x. f x ≤ g x) xs
+    → sum_by f xs ≤ sum_by g xs
 sum_most f g [] most = omega arith
 sum_most f g (x ∷ xs) most =
     omega (arith, sum_by-cons f x xs, sum_by-cons g x xs, most.0, sum_most f g xs most.1)

@@ -47,7 +47,8 @@ through_by config p x false e =
     (of_each (λ (s : Piece). Unit {0}) (λ s. tt) (pieces config p x.offset x.len)))
 
 -- so all pieces
-pub all_through : (config : Config) (p : Provider) (x : Bio) → AllByRecursion (IsThrough config) (piece_targets config p x)
+pub all_through : (config : Config) (p : Provider) (x : Bio) → AllByRecursion (IsThrough config)
+    (piece_targets config p x)
 all_through config p x = through_by config p x (is_flush x.cmd) refl
 
 -- the steps of a bio at a disk, or elsewhere with its children

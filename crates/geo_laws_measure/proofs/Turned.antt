@@ -52,7 +52,8 @@ falls_twice u v w one two = record {
 }
 
 -- the bios of a firm mesh need no more steps than they need where more stands
-pub now_most : (v w : World) → Firm v → Keeps w.topology v.topology → length v.topology.geoms ≤ length w.topology.geoms
+pub now_most : (v w : World) → Firm v → Keeps w.topology v.topology → length v.topology.geoms
+    ≤ length w.topology.geoms
     → bio_steps_of v ≤ sum_by (steps_of w) v.bios
 now_most v w firm keeps fewer =
     sum_most (steps_of v) (steps_of w) v.bios
@@ -60,7 +61,8 @@ now_most v w firm keeps fewer =
     (λ x here. steps_most v w firm keeps fewer x here x.phase))
 
 -- an item that is changed, or isn't, counts no more
-changed_most : (w : World) (x : Bio) (change : Bio → Bio) → steps_of w (change x) ≤ steps_of w x → (y : Bio) (b : Bool)
+changed_most : (w : World) (x : Bio) (change : Bio → Bio) → steps_of w (change x) ≤ steps_of w x →
+    (y : Bio) (b : Bool)
     → (y.number == x.number) ≡ b → ((y.number == x.number) ≡ true → y ≡ x)
     → steps_of w (if y.number == x.number then change y else y) ≤ steps_of w y
 changed_most w x change most y true e is =
@@ -81,7 +83,8 @@ changed_falls w firm x found change d falls =
     (find-Contains (λ (y : Bio). y.number == x.number) w.bios x found) (rw itself falls) where
       -- each item
       by : (ys : List Bio) → AllByRecursion (λ (y : Bio). (y.number == x.number) ≡ true → y ≡ x) ys
-          → AllByRecursion (λ (y : Bio). steps_of w (if y.number == x.number then change y else y) ≤ steps_of w y) ys
+          → AllByRecursion (λ (y : Bio). steps_of w (if y.number == x.number then change y else y)
+          ≤ steps_of w y) ys
       by [] same = tt
       by (y ∷ ys) same =
           (changed_most w x change (omega (arith, falls)) y (y.number == x.number) refl same.0, by ys same.1)

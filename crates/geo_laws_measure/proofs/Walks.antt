@@ -112,7 +112,8 @@ module _ (v w : World) (U : ℕ → Type 0) (ways : IsWays v.topology U) (ranked
       let edge : Below v.topology d.provider.geom x.geom = record {
         consumer = leads.consumer;
         stands = find-Contains (λ (z : Consumer). z.number == c) v.topology.consumers leads.consumer leads.found;
-        above = leads.own ∙ number_found (λ (z : Geom Config). z.number) v.topology.geoms d.provider.geom d.geom d.of;
+        above = leads.own ∙ number_found (λ
+            (z : Geom Config). z.number) v.topology.geoms d.provider.geom d.geom d.of;
         provider = x;
         attached = ap (option_and_then (provider_at v.topology)) leads.attached ∙ found;
         below = refl;

@@ -30,7 +30,8 @@ UpsLower = (w : World) (seat b : ℕ) → Firm w → IsTrue (is_enabled w seat (
 
 -- a Go, of any world
 abbrev pub GoesLower : Type 0
-GoesLower = (w : World) (seat actor : ℕ) → IsTrue (is_enabled w seat (steps.Go actor)) → Lowers w seat (steps.Go actor)
+GoesLower = (w : World) (seat actor : ℕ) → IsTrue (is_enabled w seat (steps.Go actor)) → Lowers w seat
+    (steps.Go actor)
 
 -- a Reap, of any world
 abbrev pub ReapsLower : Type 0
