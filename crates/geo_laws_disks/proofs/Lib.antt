@@ -1,0 +1,9 @@
+pub mod Asked
+pub mod Joined
+pub mod Origins
+pub mod Turns
+pub mod Rises
+pub mod Commanded
+pub mod Comes
+pub mod Inside
+pub mod Held
