@@ -11,5 +11,3 @@ mod log;
 mod mesh;
 #[cfg(test)]
 mod names;
-#[cfg(test)]
-mod traffic;
