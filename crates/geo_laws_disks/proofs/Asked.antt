@@ -88,6 +88,7 @@ module _ (w : World) (disk : ℕ) (x : Bio) (p : Provider) (header : HeaderDisk)
   offset_whole : is_flush x.cmd ≡ false → x.offset % sector_of_bio w x ≡ 0
   offset_whole moves = subst (λ z. x.offset % z ≡ 0) (sym sector) (range moves).offset_whole
 
+  -- the length is in whole sectors
   len_whole : is_flush x.cmd ≡ false → x.len % sector_of_bio w x ≡ 0
   len_whole moves = subst (λ z. x.len % z ≡ 0) (sym sector) (range moves).len_whole
 

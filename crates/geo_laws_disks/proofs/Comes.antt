@@ -43,6 +43,7 @@ apart w v actor rest (inr come) =
     let here = come.1 in
     inr (come.0, record { bios = here.bios; next = here.next; disks = here.disks; number = here.number; bare = here.bare })
 
+-- a Go, by what its command waits for
 go_by : (w v : World) (actor : ℕ) (o : Outcome) (c : LineCommand) (rest : List LineCommand) (waits : Option Found)
     → unless_found waits (do_command (with_commands w actor rest) c.line actor c.command) ≡ Ok (v, o)
     → StayOrCome w v
@@ -52,6 +53,7 @@ go_by w v actor o c rest None e =
     (of_made (with_commands w actor rest) v o (do_command (with_commands w actor rest) c.line actor c.command)
     (command_made (with_commands w actor rest) c.line actor c.command) e)
 
+-- a Go, by the commands that the actor has left
 gone : (w v : World) (actor : ℕ) (o : Outcome) (left : Option (List LineCommand)) → go_of w actor left ≡ Ok (v, o)
     → StayOrCome w v
 gone w v actor o None e = absurd (let bad : ⊥ = cc in bad)
@@ -65,6 +67,7 @@ killed : (w : World) (cs : List ℕ) → Stays w (fold kill_handle w cs)
 killed w [] = same_world w
 killed w (c ∷ cs) = let rest = killed (kill_handle w c) cs in record { bios = rest.bios; next = rest.next; disks = rest.disks }
 
+-- an event that is done changes no bio and no disk
 event_stays : (w : World) (e : Event) → Stays w (do_event w e)
 unfolding do_event
 event_stays w (events.NewProvider p) = by (is_not_tasted (granted_in w) w.topology p) refl
@@ -77,6 +80,7 @@ event_stays w (events.Orphan p) =
     let dead = killed w (dying_consumers w.topology p) in record { bios = dead.bios; next = dead.next; disks = dead.disks }
 event_stays w (events.Resize p) = record { bios = refl; next = refl; disks = refl }
 
+-- the head of the queue
 evented : (w v : World) (o : Outcome) (queue : List Event) → event_of w queue ≡ Ok (v, o) → StayOrCome w v
 evented w v o [] e = absurd (let bad : ⊥ = cc in bad)
 evented w v o (head ∷ rest) e =
@@ -84,6 +88,7 @@ evented w v o (head ∷ rest) e =
     let stay = event_stays begun head in
     of_made w v o (do_event begun head, outcomes.Ran) (inl (record { bios = stay.bios; next = stay.next; disks = stay.disks })) e
 
+-- an Event, by whether a taste is under way
 event_by : (w v : World) (o : Outcome) (b : Bool)
     → (if b then Err found.TasteUnderWay else event_of w w.events) ≡ Ok (v, o) → StayOrCome w v
 event_by w v o true e = absurd (let bad : ⊥ = cc in bad)
@@ -97,6 +102,7 @@ judged w x judgeds.Ended = inl (record { bios = refl; next = refl; disks = refl 
 judged w x judgeds.Next = inl (record { bios = refl; next = refl; disks = refl })
 judged w x judgeds.Made = inl (record { bios = refl; next = refl; disks = refl })
 
+-- a Judge, by the taste that is under way
 judge_by : (w v : World) (o : Outcome) (s : Option Taste) → judge_of w s ≡ Ok (v, o) → StayOrCome w v
 unfolding judge_step
 judge_by w v o None e = absurd (let bad : ⊥ = cc in bad)
@@ -115,12 +121,14 @@ reaped : (w : World) (c : Option ℕ) → Stays w (reap_handle w c)
 reaped w None = same_world w
 reaped w (Some c) = record { bios = refl; next = refl; disks = refl }
 
+-- a Reap, by the handle that can be reaped
 reap_by : (w v : World) (o : Outcome) (h : Option Handle)
     → option_map_or {U = Answer} (λ x. Ok (reap w x, outcomes.Ran)) h (Err found.NothingToReap) ≡ Ok (v, o) → StayOrCome w v
 unfolding reap
 reap_by w v o None e = absurd (let bad : ⊥ = cc in bad)
 reap_by w v o (Some h) e = of_made w v o (reap_handle w h.consumer, outcomes.Ran) (inl (reaped w h.consumer)) e
 
+-- a Wash, by what can be washed
 wash_by : (w v : World) (o : Outcome) (work : Option WashWork)
     → option_map_or {U = Answer} (λ x. Ok (wash w x, outcomes.Ran)) work (Err found.NothingToWash) ≡ Ok (v, o) → StayOrCome w v
 unfolding wash

@@ -69,6 +69,7 @@ opened w line actor name (Some p) grant None =
 opened w line actor name (Some p) grant (Some e) =
     inl (record { bios = refl; next = refl; disks = refl })
 
+-- an open, by whether the handle is in use
 open_made : (w : World) (line actor : ℕ) (name prov : List ℕ) (grant : Counts)
     → Made w (do_open w line actor name prov grant)
 open_made w line actor name prov grant = by (is_some (handle_of w actor name)) refl
@@ -101,6 +102,7 @@ accepted w line (Some h) a None bare =
     made = new_bio w.next_bio a.cmd a.offset a.len a.bytes (unwrap_or h.consumer 0)
         (option_map_or (λ (p : Provider). p.number) (provider_of_handle w h) 0) (owners.Line h.number line)
 
+-- a request, by what refuses it
 request_made : (w : World) (line : ℕ) (h : Option Handle) (a : Asking)
     → (is_flush a.cmd ≡ true → (a.offset ≡ 0) × (a.len ≡ 0)) → Made w (do_request w line h a)
 request_made w line h a bare = accepted w line h a (request_refusal w h a) bare
@@ -131,14 +133,17 @@ insert_made w line (Some item) =
     answered w (stand w item) line (first_error (insert_tests w.topology item))
     (record { bios = refl; next = refl; disks = refl })
 
+-- a geom that withers, if there is one
 withered : (w : World) (line : ℕ) (g : Option (Geom Config)) (e : Errno) → Made w (wither_found w line g e)
 withered w line None e = inl (same_world w)
 withered w line (Some g) e = inl (record { bios = refl; next = refl; disks = refl })
 
+-- a pull
 pull_made : (w : World) (line : ℕ) (item : Option (ℕ × HeaderDisk)) → Made w (do_pull w line item)
 pull_made w line None = inl (same_world w)
 pull_made w line (Some item) = withered w line _ _
 
+-- a destroy
 destroy_made : (w : World) (line : ℕ) (g : Option (Geom Config)) → Made w (do_destroy w line g)
 destroy_made w line None = inl (same_world w)
 destroy_made w line (Some g) =
@@ -153,14 +158,17 @@ nop_made w line name offset size fail (Some p) =
     answered w (with_made w kinds.Nop name (nop_config w.topology offset fail) (p ∷ []) name size p.sector) line
     (first_error (nop_tests w.topology name offset size p)) (record { bios = refl; next = refl; disks = refl })
 
+-- an append, by what refuses its new consumer
 joined : (w : World) (line : ℕ) (x : Growing) (q : Provider) (e : Option Errno) → Made w (append_joined w line x q e)
 joined w line x q None = inl (record { bios = refl; next = refl; disks = refl })
 joined w line x q (Some e) = inl (record { bios = refl; next = refl; disks = refl })
 
+-- an append, by what refuses it before
 tested : (w : World) (line : ℕ) (x : Growing) (q : Provider) (e : Option Errno) → Made w (append_tested w line x q e)
 tested w line x q None = joined w line x q (component_refusal w x q)
 tested w line x q (Some e) = inl (same_world w)
 
+-- an append, by what is found
 append_made : (w : World) (line : ℕ) (x : Option Growing) (q : Option Provider) → Made w (do_append w line x q)
 append_made w line None None = inl (same_world w)
 append_made w line None (Some q) = inl (same_world w)
@@ -177,6 +185,7 @@ concat_made w line name wanted ps =
     (first_error (joined_tests w.topology (concat_name name) (concat_config w.topology ps) wanted ps false))
     (record { bios = refl; next = refl; disks = refl })
 
+-- a stripe
 stripe_made : (w : World) (line : ℕ) (name : List ℕ) (stripe wanted : ℕ) (ps : List Provider)
     → Made w (do_stripe w line name stripe wanted ps)
 stripe_made w line name stripe wanted ps =

@@ -48,6 +48,7 @@ empty_targets config p x flushes = rw flushes (each (components config))
     each [] = tt
     each (c ∷ cs) = ((refl, refl), each cs)
 
+-- the pieces of a FLUSH are empty
 empty_at : (x : Bio) (p : Provider) (g : Geom Config) → is_flush x.cmd ≡ true → (config : Config)
     → EmptyWay (way_at x p g config)
 empty_at x p g flushes Nothing = empty_targets Nothing p x flushes

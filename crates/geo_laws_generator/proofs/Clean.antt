@@ -26,9 +26,11 @@ line_of words = join_with_byte 32 words
 no_space : (b : ℕ) → is_clean_byte b ≡ true → (b == 32) ≡ false
 no_space b clean = grind (arith, nat_tests)
 
+-- nor a line feed
 no_feed : (b : ℕ) → is_clean_byte b ≡ true → (b == 10) ≡ false
 no_feed b clean = grind (arith, nat_tests)
 
+-- and it may stand in a line
 in_range : (b : ℕ) → is_clean_byte b ≡ true → (nat_le 32 b && nat_le b 126) ≡ true
 in_range b clean = grind (arith, nat_tests)
 

@@ -76,6 +76,7 @@ handle_by (suc zero) below =
     record { name = refl; clean = record { some_byte = omega arith; bytes = refl }; short = omega arith }
 handle_by (suc (suc k)) below = absurd (omega (arith, below))
 
+-- the handle of a draw
 pub handle_word : (d2 : ℕ) → IsHandleWord (handle_text d2)
 handle_word d2 = handle_by (d2 % 2) (omega arith)
 
@@ -83,6 +84,7 @@ handle_word d2 = handle_by (d2 % 2) (omega arith)
 pub offset_word : (d3 : ℕ) → IsNumberWord (offset_text d3)
 offset_word d3 = number_word (512 * (d3 % 1024)) (omega arith)
 
+-- the length of a draw
 pub len_word : (d2 : ℕ) → IsNumberWord (len_text d2)
 len_word d2 = number_word (512 * (1 + (d2 / 2) % 8)) (omega arith)
 
@@ -100,6 +102,7 @@ alone h handle = record {
   reads = rw handle.name refl;
 }
 
+-- a flush
 flushed : (h : List ℕ) → IsHandleWord h → IsCommandText (codes "flush " ++ h)
 flushed h handle = record {
   first = codes "flush";
@@ -164,6 +167,7 @@ pub record IsRunWord (word : List ℕ) : Type 0 where
 hex_read : (n : ℕ) → n < 16 → hex_value (hex_digit n) ≡ n
 hex_read n h = grind (arith, nat_tests)
 
+-- and such a digit is clean
 hex_clean : (n : ℕ) → n < 16 → is_clean_byte (hex_digit n) ≡ true
 hex_clean n h = grind (arith, nat_tests)
 
@@ -221,6 +225,7 @@ pub record IsProviderWord (word : List ℕ) : Type 0 where
   pub clean : IsClean word
   pub short : length word ≤ 10
 
+-- counts, as a word
 pub record IsCountsWord (word : List ℕ) : Type 0 where
   pub counts : Counts
   pub reads : counts_of word ≡ Some counts

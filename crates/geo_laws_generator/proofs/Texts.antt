@@ -147,6 +147,7 @@ abbrev plan_or : Result Plan Fault → Plan
 plan_or (Ok plan) = plan
 plan_or (Err fault) = empty_plan
 
+-- the plan of the lines that come first
 abbrev first_plan : Plan
 first_plan = plan_or first_read
 
@@ -154,15 +155,19 @@ first_plan = plan_or first_read
 first_is : is_ok first_read ≡ true
 first_is = refl
 
+-- it has four disks
 first_disks : length first_plan.disks ≡ 4
 first_disks = refl
 
+-- its actors are the four
 first_actors : first_plan.actors ≡ four_actors
 first_actors = refl
 
+-- it has six commands
 first_commands : length first_plan.commands ≡ 6
 first_commands = refl
 
+-- so the lines that come first are read
 first_ok : first_read ≡ Ok first_plan
 first_ok = by first_read first_is
   where

@@ -53,6 +53,7 @@ opened w line actor name (Some p) grant None =
 opened w line actor name (Some p) grant (Some e) =
     replied_stays w (without_number w) line _ (record { bios = refl; next = refl })
 
+-- an open, by whether the handle is in use
 open_made : (w : World) (line actor : ℕ) (name prov : List ℕ) (grant : Counts)
     → Made w (do_open w line actor name prov grant)
 open_made w line actor name prov grant = by (is_some (handle_of w actor name)) refl
@@ -91,6 +92,7 @@ accepted w line (Some h) a None =
         let same : line ≡ l = cc in
         (number, (h.number, ap (λ n. owners.Line h.number n) same))
 
+-- a request, by what refuses it
 request_made : (w : World) (line : ℕ) (h : Option Handle) (a : Asking) → Made w (do_request w line h a)
 request_made w line h a = accepted w line h a (request_refusal w h a)
 
@@ -99,14 +101,17 @@ insert_made : (w : World) (line : ℕ) (item : Option (ℕ × HeaderDisk)) → M
 insert_made w line None = replied_stays w w line _ (same_bios w)
 insert_made w line (Some item) = answered w _ line _ (record { bios = refl; next = refl })
 
+-- a geom that withers, if there is one
 withered : (w : World) (line : ℕ) (g : Option (Geom Config)) (e : Errno) → Made w (wither_found w line g e)
 withered w line None e = replied_stays w w line _ (same_bios w)
 withered w line (Some g) e = replied_stays w _ line _ (record { bios = refl; next = refl })
 
+-- a pull
 pull_made : (w : World) (line : ℕ) (item : Option (ℕ × HeaderDisk)) → Made w (do_pull w line item)
 pull_made w line None = replied_stays w w line _ (same_bios w)
 pull_made w line (Some item) = withered w line _ _
 
+-- a destroy
 destroy_made : (w : World) (line : ℕ) (g : Option (Geom Config)) → Made w (do_destroy w line g)
 destroy_made w line None = replied_stays w w line _ (same_bios w)
 destroy_made w line (Some g) = answered w _ line _ (record { bios = refl; next = refl })
@@ -117,14 +122,17 @@ nop_made : (w : World) (line : ℕ) (name : List ℕ) (offset size fail : ℕ) (
 nop_made w line name offset size fail None = replied_stays w w line _ (same_bios w)
 nop_made w line name offset size fail (Some p) = answered w _ line _ (record { bios = refl; next = refl })
 
+-- an append, by what refuses its new consumer
 joined : (w : World) (line : ℕ) (x : Growing) (q : Provider) (e : Option Errno) → Made w (append_joined w line x q e)
 joined w line x q None = replied_stays w _ line _ (record { bios = refl; next = refl })
 joined w line x q (Some e) = replied_stays w _ line _ (record { bios = refl; next = refl })
 
+-- an append, by what refuses it before
 tested : (w : World) (line : ℕ) (x : Growing) (q : Provider) (e : Option Errno) → Made w (append_tested w line x q e)
 tested w line x q None = joined w line x q (component_refusal w x q)
 tested w line x q (Some e) = replied_stays w w line _ (same_bios w)
 
+-- an append, by what is found
 append_made : (w : World) (line : ℕ) (x : Option Growing) (q : Option Provider) → Made w (do_append w line x q)
 append_made w line None None = replied_stays w w line _ (same_bios w)
 append_made w line None (Some q) = replied_stays w w line _ (same_bios w)

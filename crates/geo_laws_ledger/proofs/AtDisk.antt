@@ -81,6 +81,7 @@ module _ (t : Topology Config) (n disk : ℕ) (d : AtDisk t n disk) where
       ap (λ z. z >>= (λ here. flat_step (flat_within k t) t here.1.config here.0 o)) both_found
       ∙ ap (λ config. flat_step (flat_within k t) t config d.provider o) d.config
 
+  -- and so it is the one end
   ends_level : (k : ℕ) → ends_within (suc k) t n ≡ disk ∷ []
   ends_level k =
       ap (λ z. option_map_or (λ here. ends_step (ends_within k t) t here.1.config) z []) both_found

@@ -36,6 +36,7 @@ none_failed results.Done rs none = tt
 none_failed (results.Bytes bytes) rs none = tt
 none_failed (results.Failed e) rs none = absurd (let bad : ⊥ = cc in bad)
 
+-- nor is there one among the rest
 none_later : (r : BioResult) (rs : List BioResult) → first_failure (r ∷ rs) ≡ None → first_failure rs ≡ None
 none_later results.Done rs none = none
 none_later (results.Bytes bytes) rs none = none
@@ -57,6 +58,7 @@ module _ (h : List Moment) (m : Moment) (w : World) (taken : AreTaken h) where
       ap (λ n. result_within n (h ++ m ∷ []) b) (let e : length h ≡ length h + 0 = omega arith in e)
       ∙ within_stays (length h) 0 h (m ∷ []) b r is
 
+  -- so are the leaves of a bio that has a result
   leaves_before : (b : ℕ) (r : BioResult) → result_of h b ≡ Some r
       → leaves_within (length h) (h ++ m ∷ []) b ≡ leaves h b
   leaves_before b r is =

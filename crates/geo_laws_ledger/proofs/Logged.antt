@@ -28,6 +28,7 @@ pub record NoneOf (a b c d : Bool) : Type 0 where
   pub deliver : c ≡ false
   pub up : d ≡ false
 
+-- where none of four passes, each of them fails
 none_of : (a b c d : Bool) → (a || (b || (c || d))) ≡ false → NoneOf a b c d
 none_of true b c d e = absurd (let bad : ⊥ = cc in bad)
 none_of false true c d e = absurd (let bad : ⊥ = cc in bad)

@@ -58,9 +58,11 @@ keeps_up r = record {
   request = λ y. record { cmd = refl; offset = refl; len = refl; bytes = refl; target = refl };
 }
 
+-- a bio in another phase
 abbrev pub in_phase : Phase → Bio → Bio
 in_phase p y = record y { phase = p }
 
+-- and so does another phase
 pub keeps_phase : (p : Phase) → KeepsRequest (in_phase p)
 keeps_phase p = record {
   number = λ y. refl;
@@ -74,6 +76,7 @@ ItsError t x (Bounces e) = e ≡ (if is_errored t x.target then ENXIO else EIO)
 ItsError t x (Fails g) = EIO ≡ (if is_errored t x.target then ENXIO else EIO)
 ItsError t x way = ⊤
 
+-- by the configuration of the geom
 its_error_at : (t : Topology Config) (x : Bio) (p : Provider) (g : Geom Config) → is_errored t x.target ≡ false
     → (config : Config) → ItsError t x (way_at x p g config)
 its_error_at t x p g fine Nothing = tt

@@ -72,6 +72,7 @@ phase_sent phases.Waiting e = absurd (let bad : ⊥ = cc in bad)
 phase_sent phases.Up e = absurd (let bad : ⊥ = cc in bad)
 phase_sent phases.Done e = absurd (let bad : ⊥ = cc in bad)
 
+-- a phase that is Busy, with its seat
 phase_busy : (p : Phase) → is_busy p ≡ true → (seat : ℕ) × (p ≡ phases.Busy seat)
 phase_busy phases.Down e = absurd (let bad : ⊥ = cc in bad)
 phase_busy phases.Sent e = absurd (let bad : ⊥ = cc in bad)

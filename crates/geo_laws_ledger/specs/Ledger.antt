@@ -23,9 +23,11 @@ use Rattle.geo_laws_ledger.specs.Covering.{CoversThere, SameMaps}
 abbrev pub NotStarted : List Moment → ℕ → Type 0
 NotStarted history b = Never (is_start_of b) history
 
+-- it has no Take so far
 abbrev pub NotTaken : List Moment → ℕ → Type 0
 NotTaken history b = Never (is_take_of b) history
 
+-- it has no Deliver so far
 abbrev pub NotDelivered : List Moment → ℕ → Type 0
 NotDelivered history b = Never (is_deliver_of b) history
 
