@@ -1,0 +1,4 @@
+pub mod Following
+pub mod Attaching
+pub mod AttachLoop
+pub mod Raising
