@@ -1,0 +1,4 @@
+pub mod Counting
+pub mod OwedBios
+pub mod OwedCommands
+pub mod OwedSteps
