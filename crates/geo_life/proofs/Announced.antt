@@ -11,7 +11,7 @@ use Rattle.geo_mesh.specs.Topo.{TopoView, with_topology}
 use Rattle.geo_mesh.specs.Graph.{IsSoundGraph}
 use Rattle.geo_laws_counts.specs.CountWords.{seen_by_counts}
 use Rattle.geo_access.specs.Access.{granted_by, noted, first_noted, without_risen, without_fallen, IsCounted}
-use Rattle.geo_life.specs.Life.{queued, notes, AreStored, without_rises, without_falls}
+use Rattle.geo_life.specs.Life.{queued, notes, IsDevMade, AreStored, without_rises, without_falls}
 use Rattle.geo_life.proofs.Announcing.{note_next, note_less, note_again, note_rows}
 use Rattle.geo_life.proofs.Seen.{seen_marks}
 use Rattle.geo_life.proofs.Unseen.{provider_rows}
@@ -131,6 +131,13 @@ pub rise_unseen : {C : Type 0} (mid : TopoView C) (queue : Queued) (new : Queued
 rise_unseen {C} mid queue new p counted so =
     ap (λ (r : QueuedTopology C). seen_by_counts r.topology) (so (granted_by mid) counted.wants)
     ∙ seen_marks mid.topology (is_to_spoil (granted_by mid) mid.topology p) true
+
+-- and leaves how DEV was made
+pub rise_made : {C : Type 0} (mid : TopoView C) (queue : Queued) (new : QueuedTopology C) (p : ℕ) → IsCounted mid
+    → ((granted : ℕ → Counts) → AreStored granted mid → new ≡ spoil_at granted (queued mid queue) p)
+    → IsDevMade mid.topology → IsDevMade new.topology
+rise_made {C} mid queue new p counted so made =
+    subst (λ (r : QueuedTopology C). IsDevMade r.topology) (sym (so (granted_by mid) counted.wants)) made
 
 -- the mesh at the end
 pub rise_out : {C : Type 0} (start now new : TopoView C) → now ≡ with_topology (without_rises start) now.topology

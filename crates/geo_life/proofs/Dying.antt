@@ -6,22 +6,25 @@ use Rattle.geo_model.specs.Events.{is_of_dev, dying_consumers}
 use Rattle.geo_laws_graph.specs.LookupLaws.{left_from}
 use Rattle.geo_laws_graph.proofs.Lists.{filter-filter}
 use Rattle.geo_life.proofs.Dropping.{filter_seen}
-use Rattle.geo_life.proofs.Spoiling.{users_left}
 
 module _ {C : Type 0} (t : Topology C) (p : ℕ) where
+  -- the consumers at the provider, from a number on
+  abbrev pub users_left : ℕ → List Consumer
+  users_left n = left_from (λ (c : Consumer). c.number) n (attached_to t p)
+
   -- those that die, from a number on
   abbrev pub dying_left : ℕ → List ℕ
   dying_left n = left_from (λ m. m) n (dying_consumers t p)
 
   -- are those of DEV among the consumers that are left
-  pub dying_is : (n : ℕ) → dying_left n ≡ map (λ c. c.number) (filter (is_of_dev t) (users_left p t n))
+  pub dying_is : (n : ℕ) → dying_left n ≡ map (λ c. c.number) (filter (is_of_dev t) (users_left n))
   dying_is n =
       filter_seen (nat_le n) (λ (c : Consumer). c.number) (filter (is_of_dev t) (attached_to t p))
       ∙ ap (map (λ (c : Consumer). c.number))
       (filter-filter (is_of_dev t) (λ (c : Consumer). nat_le n c.number) (attached_to t p))
 
   module _ (from_number : ℕ) (x : Consumer)
-      (left : users_left p t from_number ≡ x ∷ users_left p t (x.number + 1)) where
+      (left : users_left from_number ≡ x ∷ users_left (x.number + 1)) where
     -- whether the next one is of DEV
     next_is : (b : Bool) → is_of_dev t x ≡ b
         → dying_left from_number
@@ -30,15 +33,15 @@ module _ {C : Type 0} (t : Topology C) (p : ℕ) where
         dying_is from_number
         ∙ ap (λ ys. map (λ (c : Consumer). c.number) (filter (is_of_dev t) ys)) left
         ∙ ap (λ b. map (λ (c : Consumer). c.number)
-        (cond b (x ∷ filter (is_of_dev t) (users_left p t (x.number + 1)))
-        (filter (is_of_dev t) (users_left p t (x.number + 1))))) e
+        (cond b (x ∷ filter (is_of_dev t) (users_left (x.number + 1)))
+        (filter (is_of_dev t) (users_left (x.number + 1))))) e
         ∙ ap (λ ns. x.number ∷ ns) (sym (dying_is (x.number + 1)))
     next_is false e =
         dying_is from_number
         ∙ ap (λ ys. map (λ (c : Consumer). c.number) (filter (is_of_dev t) ys)) left
         ∙ ap (λ b. map (λ (c : Consumer). c.number)
-        (cond b (x ∷ filter (is_of_dev t) (users_left p t (x.number + 1)))
-        (filter (is_of_dev t) (users_left p t (x.number + 1))))) e
+        (cond b (x ∷ filter (is_of_dev t) (users_left (x.number + 1)))
+        (filter (is_of_dev t) (users_left (x.number + 1))))) e
         ∙ sym (dying_is (x.number + 1))
 
     -- it dies
@@ -50,6 +53,6 @@ module _ {C : Type 0} (t : Topology C) (p : ℕ) where
     dying_pass e = sym (next_is false e)
 
   -- none is left
-  pub dying_end : (from_number : ℕ) → users_left p t from_number ≡ [] → dying_left from_number ≡ []
+  pub dying_end : (from_number : ℕ) → users_left from_number ≡ [] → dying_left from_number ≡ []
   dying_end from_number none =
       dying_is from_number ∙ ap (λ ys. map (λ (c : Consumer). c.number) (filter (is_of_dev t) ys)) none

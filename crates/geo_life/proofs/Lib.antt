@@ -1,3 +1,4 @@
+pub mod Uppers
 pub mod Lefts
 pub mod Errors
 pub mod Rest
@@ -15,3 +16,4 @@ pub mod Dropping
 pub mod Loose
 pub mod Washing
 pub mod Places
+pub mod Spared

@@ -1,5 +1,5 @@
 -- One step of the walk that marks, in a mesh.
-use Rattle.std.specs.Prelude.{◌≡◌, ℕ, ◌+◌, ◌==◌, nat_le, Bool, true, false, ◌&&◌, ◌||◌, List, [], Some, Contains, unwrap_or, if◌then◌else◌}
+use Rattle.std.specs.Prelude.{◌≡◌, ℕ, ◌+◌, ◌==◌, nat_le, Bool, true, false, not, ◌&&◌, ◌||◌, List, [], filter, Some, Contains, unwrap_or, if◌then◌else◌}
 use Rattle.std.specs.Option.{option_map_or}
 use Rattle.std.proofs.Common.{refl, sym, ap, ◌∙◌, subst}
 use Rattle.geo_base.specs.declared.request.Counts.{Counts}
@@ -14,12 +14,13 @@ use Rattle.geo_mesh.specs.Cells.{consumer_seen}
 use Rattle.geo_mesh.specs.Topo.{TopoView, with_topology}
 use Rattle.geo_mesh.specs.Graph.{IsSoundGraph}
 use Rattle.geo_laws_graph.specs.LookupLaws.{left_from}
-use Rattle.geo_laws_graph.proofs.Members.{Contains-here, filter-Contains}
+use Rattle.geo_laws_graph.proofs.Members.{Contains-here, Contains-filter, filter-Contains}
 use Rattle.geo_laws_counts.specs.CountWords.{seen_by_counts}
 use Rattle.geo_laws_counts.proofs.SeenCounts.{seen_stays}
 use Rattle.geo_access.specs.Views.{IsNextConsumer, want_at}
 use Rattle.geo_access.proofs.Decided.{item_at}
-use Rattle.geo_life.specs.Life.{AreStored, CountsStay}
+use Rattle.geo_life.specs.Life.{consumers_above, IsDevMade, AreStored, CountsStay}
+use Rattle.geo_life.proofs.Uppers.{goes_above}
 use Rattle.geo_life.proofs.Unseen.{unseen_stays}
 use Rattle.geo_life.proofs.Seen.{seen_marks}
 use Rattle.geo_life.proofs.Rest.{mesh_self}
@@ -53,18 +54,22 @@ stored_want granted t now mesh same stored n x found =
     stored_now granted now (stored_still granted t now mesh same stored) n x found
     ∙ (seen_stays granted t.topology now.topology (sym same)).wants x tt
 
--- the next consumer of a walk over those at a provider is attached to it
+-- the next consumer of a walk over those above a provider is attached to it
 pub next_attached : {C : Type 0} (t : Topology C) (p from_number n : ℕ) (x : ConsRec)
-    → IsNextConsumer t (attached_to t p) from_number n x → names_number x.prov p ≡ true
+    → IsNextConsumer t (consumers_above t p) from_number n x → names_number x.prov p ≡ true
 next_attached t p from_number n x next =
-    let there : Contains (left_from (λ (c : Consumer). c.number) from_number (attached_to t p)) (consumer_seen n x) =
+    let there : Contains (left_from (λ (c : Consumer). c.number) from_number (consumers_above t p))
+    (consumer_seen n x) =
     subst (λ ys. Contains ys (consumer_seen n x)) (sym next.left)
-    (Contains-here (consumer_seen n x) (left_from (λ (c : Consumer). c.number) (n + 1) (attached_to t p))) in
+    (Contains-here (consumer_seen n x) (left_from (λ (c : Consumer). c.number) (n + 1) (consumers_above t p))) in
+    let among =
+    filter-Contains (λ (c : Consumer). nat_le from_number c.number) (consumers_above t p) (consumer_seen n x) there in
     let inside =
-    filter-Contains (λ (c : Consumer). nat_le from_number c.number) (attached_to t p) (consumer_seen n x) there in
+    filter-Contains (λ (c : Consumer). not (c.geom == 1)) (attached_to t p) (consumer_seen n x) among.0 in
     (filter-Contains (λ (c : Consumer). names_number c.provider p) t.consumers (consumer_seen n x) inside.0).1
 
-module _ {C : Type 0} (granted : ℕ → Counts) (t : TopoView C) (p : ℕ) (stored : AreStored granted t) where
+module _ {C : Type 0} (granted : ℕ → Counts) (t : TopoView C) (p : ℕ) (stored : AreStored granted t)
+    (whole : IsSoundGraph t.topology) (made : IsDevMade t.topology) where
   -- whether a consumer has to go
   abbrev goes : Consumer → Bool
   goes = is_to_spoil granted t.topology p
@@ -75,17 +80,27 @@ module _ {C : Type 0} (granted : ℕ → Counts) (t : TopoView C) (p : ℕ) (sto
       (((want granted t.topology c).w == 0)
       && option_map_or (λ g. g.automatic || is_kind g.kind kinds.Taste) (geom_at t.topology c.geom) false) e
 
+  -- those that have to go are above the provider
+  inside : (xs : List Consumer) (c : Consumer) → Contains xs c → goes c ≡ true
+      → Contains (filter (λ x. not (x.geom == 1)) (filter (λ x. names_number x.provider p) xs)) c
+  inside xs c there e =
+      Contains-filter (λ (x : Consumer). not (x.geom == 1)) (filter (λ x. names_number x.provider p) xs) c
+      (Contains-filter (λ (x : Consumer). names_number x.provider p) xs c there (at c e))
+      (goes_above granted t.topology p whole made c e)
+
   -- at the beginning
   pub marks_begin : set_marks t.topology (still goes 0) true ≡ mark_spoiled granted t.topology p
   marks_begin =
-      ap (λ cs. record t.topology { consumers = cs }) (mark_begin p goes at (λ c. refl) t.topology.consumers)
+      ap (λ cs. record t.topology { consumers = cs })
+      (mark_begin goes (λ c. refl) t.topology.consumers (consumers_above t.topology p)
+      (inside t.topology.consumers))
 
   module _ (now : TopoView C)
       (mesh : now ≡ with_topology t (record t.topology { consumers = now.topology.consumers }))
       (same : seen_by_counts now.topology ≡ seen_by_counts t.topology)
       (sound : IsSoundGraph now.topology)
       (from_number n : ℕ) (x : ConsRec)
-      (next : IsNextConsumer now.topology (attached_to now.topology p) from_number n x)
+      (next : IsNextConsumer now.topology (consumers_above now.topology p) from_number n x)
       (its : want_at now n ≡ x.want) where
     -- what the code asks of the next consumer
     abbrev asked : Bool
@@ -113,8 +128,8 @@ module _ {C : Type 0} (granted : ℕ → Counts) (t : TopoView C) (p : ℕ) (sto
         → set_marks now.topology (still goes (n + 1)) true ≡ set_marks now.topology (still goes from_number) true
     marks_pass stays =
         ap (λ cs. record now.topology { consumers = cs })
-        (mark_pass p goes at (λ c. refl) now.topology.consumers from_number n (consumer_seen n x) next.left next.past
-        (goes_is ∙ stays))
+        (mark_pass goes (λ c. refl) now.topology.consumers (consumers_above now.topology p)
+        (inside now.topology.consumers) from_number n (consumer_seen n x) next.left next.past (goes_is ∙ stays))
 
     -- one that has to go is marked
     pub marks_one : asked ≡ true
@@ -122,8 +137,8 @@ module _ {C : Type 0} (granted : ℕ → Counts) (t : TopoView C) (p : ℕ) (sto
         ≡ set_marks now.topology (still goes from_number) true
     marks_one must =
         ap (λ cs. record now.topology { consumers = cs })
-        (mark_one p goes at (λ c. refl) now.topology.consumers from_number n now.topology.next_consumer
-        (consumer_seen n x) next.left next.past (goes_is ∙ must) sound.orderly.order.consumers next.lives)
+        (mark_one goes (λ c. refl) now.topology.consumers (consumers_above now.topology p)
+        (inside now.topology.consumers) from_number n now.topology.next_consumer (consumer_seen n x) next.left next.past (goes_is ∙ must) sound.orderly.order.consumers next.lives)
 
     -- either way
     pub marks_step : (u : Topology C)
@@ -139,10 +154,11 @@ module _ {C : Type 0} (granted : ℕ → Counts) (t : TopoView C) (p : ℕ) (sto
 
   -- at the end
   pub marks_end : (u : Topology C) (from_number : ℕ)
-      → left_from (λ (c : Consumer). c.number) from_number (attached_to u p) ≡ []
+      → left_from (λ (c : Consumer). c.number) from_number (consumers_above u p) ≡ []
       → set_marks u (still goes from_number) true ≡ u
   marks_end u from_number none =
-      ap (λ cs. record u { consumers = cs }) (mark_end p goes at (λ c. refl) u.consumers from_number none)
+      ap (λ cs. record u { consumers = cs })
+      (mark_end goes (λ c. refl) u.consumers (consumers_above u p) (inside u.consumers) from_number none)
 
 -- a mark changes consumers alone
 pub mark_mesh : {C : Type 0} (t now new : TopoView C) (b : Bool) (n : ℕ)

@@ -1,9 +1,9 @@
--- The walk that marks the consumers of a provider that have to go.
-use Rattle.std.specs.Prelude.{◌≡◌, ℕ, ◌+◌, ◌≤◌, ◌==◌, nat_le, Bool, true, false, ◌&&◌, List, [], ◌∷◌, map, filter, find, Some, Contains, if◌then◌else◌}
+-- The walk that marks the consumers above a provider that have to go.
+use Rattle.std.specs.Prelude.{◌≡◌, ℕ, ◌+◌, ◌≤◌, ◌==◌, nat_le, Bool, true, false, ◌&&◌, List, [], ◌∷◌, map, find, Some, Contains, if◌then◌else◌}
 use Rattle.std.proofs.Common.{refl, sym, ap, ◌∙◌, subst, arith, inl, inr}
 use Rattle.std.proofs.lemmas.Bool.{eqb-true, eq-eqb, leb-false, le-leb, lt-leb}
 use Rattle.std.proofs.lemmas.Simd.{map-map}
-use Rattle.geo_model.specs.Words.{names_number, change_where}
+use Rattle.geo_model.specs.Words.{change_where}
 use Rattle.geo_model.specs.Topology.{Consumer}
 use Rattle.geo_model.specs.Graph.{AreNumbers}
 use Rattle.geo_model.proofs.DemandLemmas.{map_same}
@@ -37,20 +37,18 @@ and_true : (b : Bool) → (b && true) ≡ b
 and_true true = refl
 and_true false = refl
 
-module _ (p : ℕ) (test : Consumer → Bool)
-    (at : (c : Consumer) → test c ≡ true → names_number c.provider p ≡ true)
-    (stable : (c : Consumer) → test (marked c) ≡ test c) (xs : List Consumer) where
-  -- the consumers at the provider from a number on
+module _ (test : Consumer → Bool)
+    (stable : (c : Consumer) → test (marked c) ≡ test c) (xs ys : List Consumer)
+    (inside : (c : Consumer) → Contains xs c → test c ≡ true → Contains ys c) where
+  -- those of the list that are looked at, from a number on: all that pass are among them
   abbrev users : ℕ → List Consumer
-  users from_number =
-      left_from (λ (c : Consumer). c.number) from_number (filter (λ c. names_number c.provider p) xs)
+  users from_number = left_from (λ (c : Consumer). c.number) from_number ys
 
   -- a consumer that passes is among those that are left, or is passed
   is_left : (from_number : ℕ) (c : Consumer) → Contains xs c → test c ≡ true → nat_le from_number c.number ≡ true
       → Contains (users from_number) c
   is_left from_number c there passes later =
-      Contains-filter (λ (x : Consumer). nat_le from_number x.number) (filter (λ x. names_number x.provider p) xs) c
-      (Contains-filter (λ (x : Consumer). names_number x.provider p) xs c there (at c passes)) later
+      Contains-filter (λ (x : Consumer). nat_le from_number x.number) ys c (inside c there passes) later
 
   -- a consumer other than the next one is to mark just as before
   still_same : (from_number n : ℕ) (x : Consumer) → users from_number ≡ x ∷ users (n + 1) → from_number ≤ n
@@ -70,8 +68,7 @@ module _ (p : ℕ) (test : Consumer → Bool)
             | inl same ↦ let no : true ≡ false = sym passes ∙ but same in absurd (cc)
             | inr behind ↦
                 rw (passes, later)
-                (filter-Contains (λ (y : Consumer). nat_le (n + 1) y.number)
-                (filter (λ y. names_number y.provider p) xs) c behind).1
+                (filter-Contains (λ (y : Consumer). nat_le (n + 1) y.number) ys c behind).1
           ]
 
   -- at the beginning all that pass are to mark

@@ -1,13 +1,14 @@
--- The walks over the consumers at a provider that hear of its spoil or its orphan.
+-- The walks over the consumers above a provider that hear of its spoil or its orphan.
 use Rattle.std.specs.Prelude.{◌≡◌, ℕ, ◌+◌, ◌==◌, Bool, true, false, not, List, [], ◌∷◌, map, filter, fold, if◌then◌else◌}
 use Rattle.std.proofs.Common.{refl, sym, ap, ◌∙◌, arith}
 use Rattle.geo_base.specs.declared.request.Counts.{Counts}
 use Rattle.geo_model.specs.Words.{names_number}
-use Rattle.geo_model.specs.Topology.{Topology, Consumer, attached_to, providers_of, is_withering, set_marks, set_withering}
+use Rattle.geo_model.specs.Topology.{Topology, Consumer, providers_of, is_withering, set_marks, set_withering}
 use Rattle.geo_model.specs.Events.{QueuedTopology, orphan_provider, wither, wither_unless_withering, spoil_consumer, spoil, is_of_dev, orphan_consumer, is_outgrown, outgrow_consumer}
-use Rattle.geo_laws_graph.specs.LookupLaws.{left_from, MarksAreFound}
-use Rattle.geo_laws_graph.proofs.Found.{marks-found}
+use Rattle.geo_laws_graph.specs.LookupLaws.{left_from}
 use Rattle.geo_laws_graph.proofs.Walks.{walk-begin}
+use Rattle.geo_life.specs.Life.{consumers_above, AreHandlesUnmarked}
+use Rattle.geo_life.proofs.Uppers.{spoil_above, above_marked}
 use Rattle.geo_life.proofs.Lefts.{left_past}
 
 module _ {C : Type 0} where
@@ -87,14 +88,15 @@ module _ {C : Type 0} where
   error_next false q new p is = ap (λ (r : QueuedTopology C). r.topology.next_provider) is
 
 module _ {C : Type 0} (p : ℕ) where
-  -- the consumers at the provider from a number on
+  -- the consumers above the provider from a number on
   abbrev pub users_left : Topology C → ℕ → List Consumer
-  users_left t from_number = left_from (λ (c : Consumer). c.number) from_number (attached_to t p)
+  users_left t from_number = left_from (λ (c : Consumer). c.number) from_number (consumers_above t p)
 
   -- they are the same where the consumers are
   same_users : (t u : Topology C) → u.consumers ≡ t.consumers → (n : ℕ) → users_left u n ≡ users_left t n
   same_users t u same n =
-      ap (λ cs. left_from (λ (c : Consumer). c.number) n (filter (λ x. names_number x.provider p) cs)) same
+      ap (λ cs. left_from (λ (c : Consumer). c.number) n
+      (filter (λ c. not (c.geom == 1)) (filter (λ x. names_number x.provider p) cs))) same
 
   -- A spoil
 
@@ -103,10 +105,11 @@ module _ {C : Type 0} (p : ℕ) where
   spoil_left q from_number = fold spoil_consumer q (filter (λ c. c.spoiled) (users_left q.topology from_number))
 
   -- at the beginning all of them are left
-  pub spoil_begin : (q : QueuedTopology C) → spoil_left q 0 ≡ spoil q p
-  spoil_begin q =
+  pub spoil_begin : (q : QueuedTopology C) → AreHandlesUnmarked q.topology → spoil_left q 0 ≡ spoil q p
+  spoil_begin q unmarked =
       ap (λ xs. fold spoil_consumer q (filter (λ c. c.spoiled) xs))
-      (walk-begin (λ (c : Consumer). c.number) (attached_to q.topology p))
+      (walk-begin (λ (c : Consumer). c.number) (consumers_above q.topology p))
+      ∙ ap (fold spoil_consumer q) (spoil_above q.topology p unmarked)
 
   -- one without a mark is passed over
   pub spoil_pass : (q : QueuedTopology C) (from_number n : ℕ) (x : Consumer)
@@ -122,9 +125,9 @@ module _ {C : Type 0} (p : ℕ) where
       (unless_leaves (record q { topology = set_marks q.topology (λ c. c.number == x.number) false }) x.geom)
       (x.number + 1)
       ∙ ap (left_from (λ (c : Consumer). c.number) (x.number + 1))
-      (MarksAreFound.attached marks-found q.topology (λ c. c.number == x.number) false p)
+      (above_marked q.topology (λ c. c.number == x.number) false p)
       ∙ left_past (λ (c : Consumer). c.number) (λ c. record c { spoiled = false }) (λ c. refl) x.number (x.number + 1)
-      (omega arith) (attached_to q.topology p)
+      (omega arith) (consumers_above q.topology p)
 
   -- one with a mark is spoiled
   pub spoil_one : (q : QueuedTopology C) (from_number : ℕ) (x : Consumer)
@@ -160,8 +163,8 @@ module _ {C : Type 0} (p : ℕ) where
     hear_left q from_number = fold f q (users_left q.topology from_number)
 
     -- at the beginning all of them are left
-    pub hear_begin : (q : QueuedTopology C) → hear_left q 0 ≡ fold f q (attached_to q.topology p)
-    hear_begin q = ap (fold f q) (walk-begin (λ (c : Consumer). c.number) (attached_to q.topology p))
+    pub hear_begin : (q : QueuedTopology C) → hear_left q 0 ≡ fold f q (consumers_above q.topology p)
+    hear_begin q = ap (fold f q) (walk-begin (λ (c : Consumer). c.number) (consumers_above q.topology p))
 
     -- after one more
     pub hear_one : (q : QueuedTopology C) (from_number : ℕ) (x : Consumer)

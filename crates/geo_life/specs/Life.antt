@@ -1,8 +1,8 @@
 -- A mesh with its queue of events, as the calls of this crate change it (g_event(9), g_wither_geom(9)).
-use Rattle.std.specs.Prelude.{◌≡◌, ℕ, ◌+◌, ◌==◌, Bool, false, not, List, length, map, filter}
+use Rattle.std.specs.Prelude.{◌≡◌, ℕ, ◌+◌, ◌==◌, Bool, false, not, List, length, map, filter, All, IsSomeAnd}
 use Rattle.std.specs.Option.{option_map_or}
 use Rattle.geo_base.specs.declared.request.Counts.{Counts}
-use Rattle.geo_model.specs.Topology.{Topology, Provider, Consumer}
+use Rattle.geo_model.specs.Topology.{Topology, Provider, Consumer, geom_at, consumers_of, attached_to}
 use Rattle.geo_model.specs.Demand.{want}
 use Rattle.geo_model.specs.Events.{QueuedTopology}
 use Rattle.geo_event.specs.EventQueue.{Queued}
@@ -19,6 +19,18 @@ abbrev pub notes : List (ℕ × Bool) → ℕ
 notes rows = length (noted rows)
 
 module _ {C : Type 0} where
+  -- the consumers at the provider that aren't DEV's, of which each handle has one
+  abbrev pub consumers_above : Topology C → ℕ → List Consumer
+  consumers_above t p = filter (λ c. not (c.geom == 1)) (attached_to t p)
+
+  -- DEV isn't a geom that a taste made
+  abbrev pub IsDevMade : Topology C → Type 0
+  IsDevMade t = IsSomeAnd (geom_at t 1) (λ g. g.automatic ≡ false)
+
+  -- no consumer of a handle has to go because its provider is written
+  abbrev pub AreHandlesUnmarked : Topology C → Type 0
+  AreHandlesUnmarked t = All (λ c. c.spoiled ≡ false) (consumers_of t 1)
+
   -- the graph and the queue, as the model has them
   abbrev pub queued : TopoView C → Queued → QueuedTopology C
   queued t q = record { topology = t.topology; events = q.events }

@@ -5,7 +5,7 @@ ghost use Rattle.geo_base.specs.declared.request.Counts.{Counts};
 ghost use Rattle.geo_model.specs.Topology.{is_errored, geom_of_provider};
 ghost use Rattle.geo_model.specs.Events.{offer_again, announce_risen, announce_fallen};
 ghost use Rattle.geo_access.specs.Access.{noted, IsCounted};
-ghost use Rattle.geo_life.specs.Life.{queued, notes, RestStays, AreStored, CountsStay, without_rises, without_falls};
+ghost use Rattle.geo_life.specs.Life.{queued, notes, IsDevMade, RestStays, AreStored, CountsStay, without_rises, without_falls};
 
 use crate::spoils::spoil_at;
 use geo_access::{next_fallen, next_risen};
@@ -16,6 +16,7 @@ use geo_mesh::Topo;
 /// What follows a rise of write counts, as an open makes it: at each provider that is noted, in order of numbers,
 /// consumers are marked and Spoil is posted. No note of a rise is left. It takes one place of the queue for each note.
 pub fn announce_risen<C>(topo: &mut Topo<C>, queue: &mut EventQueue)
+    requires made { IsDevMade topo.old.topology }
     requires counted { IsCounted topo.old }
     requires room { notes topo.old.risen ≤ queue.old.spare }
     ensures announced { (granted : ℕ → Counts) → AreStored granted topo.old

@@ -6,6 +6,7 @@ ghost use Rattle.geo_mesh.specs.Cells.{consumer_seen};
 ghost use Rattle.geo_laws_graph.specs.LookupLaws.{left_from};
 ghost use Rattle.geo_life.specs.Life.{queued, sound_providers, RestStays, CountsStay};
 
+use crate::above::{consumer_above, look};
 use crate::withers::wither_unless_withering;
 use geo_access::consumer_at;
 use geo_base::{ConsId, Kind, ProvId};
@@ -13,7 +14,7 @@ use geo_event::EventQueue;
 use geo_mesh::{ConsRec, Topo};
 
 /// What an Orphan event does to the mesh: the geom of each consumer at the provider that isn't of DEV withers, unless
-/// it does so already. Handles are told by `next_dying`. It takes at most as many places of the queue as there are
+/// it does so already. Handles are told by `next_dying`, and it doesn't look at them. It takes at most as many places of the queue as there are
 /// providers without an error, one for each that gets one.
 pub fn orphan<C>(topo: &mut Topo<C>, queue: &mut EventQueue, prov: ProvId)
     requires room { sound_providers topo.old.topology ≤ queue.old.spare }
@@ -23,8 +24,9 @@ pub fn orphan<C>(topo: &mut Topo<C>, queue: &mut EventQueue, prov: ProvId)
         ≡ queue.old.spare + sound_providers topo.new.topology }
     ensures kept { CountsStay topo.old topo.new }
 {
+    look(topo);
     let mut from = 0;
-    while let Some((id, cons)) = consumer_at(topo, prov, from) {
+    while let Some((id, cons)) = consumer_above(topo, prov, from) {
         orphan_consumer(topo, queue, &cons);
         from = id.number() + 1;
     }

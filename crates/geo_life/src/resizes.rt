@@ -5,19 +5,21 @@ ghost use Rattle.geo_base.specs.declared.request.Counts.{Counts};
 ghost use Rattle.geo_model.specs.Topology.{geom_at, attached_to};
 ghost use Rattle.geo_model.specs.Demand.{is_zero};
 ghost use Rattle.geo_model.specs.Events.{wither, outgrow_consumer, resize};
-ghost use Rattle.geo_life.specs.Life.{queued, sound_providers, RestStays, AreStored, CountsStay};
+ghost use Rattle.geo_life.specs.Life.{queued, sound_providers, IsDevMade, RestStays, AreStored, CountsStay};
 
+use crate::above::consumer_above;
 use crate::announces::offer_again;
 use crate::withers::wither;
-use geo_access::{consumer_at, is_zero};
+use geo_access::is_zero;
 use geo_base::ProvId;
 use geo_event::EventQueue;
 use geo_mesh::{ConsRec, Topo};
 
 /// What a Resize event does: each geom over the provider that a taste made, that isn't in use and doesn't wither yet,
-/// withers, and the provider is offered for taste again, unless it carries an error or its geom withers. It takes at
-/// most one place of the queue more than there are providers without an error.
+/// withers, and the provider is offered for taste again, unless it carries an error or its geom withers. It doesn't look
+/// at handles. It takes at most one place of the queue more than there are providers without an error.
 pub fn resize<C>(topo: &mut Topo<C>, queue: &mut EventQueue, prov: ProvId)
+    requires made { IsDevMade topo.old.topology }
     requires room { sound_providers topo.old.topology + 1 ≤ queue.old.spare }
     ensures resized { (granted : ℕ → Counts) → AreStored granted topo.old
         → queued topo.new queue.new ≡ resize granted (queued topo.old queue.old) prov }
@@ -32,6 +34,7 @@ pub fn resize<C>(topo: &mut Topo<C>, queue: &mut EventQueue, prov: ProvId)
 
 // Each of these geoms withers.
 fn outgrow<C>(topo: &mut Topo<C>, queue: &mut EventQueue, prov: ProvId)
+    requires made { IsDevMade topo.old.topology }
     requires room { sound_providers topo.old.topology ≤ queue.old.spare }
     ensures outgrown { (granted : ℕ → Counts) → AreStored granted topo.old → queued topo.new queue.new
         ≡ fold (outgrow_consumer granted) (queued topo.old queue.old) (attached_to topo.old.topology prov) }
@@ -41,7 +44,7 @@ fn outgrow<C>(topo: &mut Topo<C>, queue: &mut EventQueue, prov: ProvId)
     ensures kept { CountsStay topo.old topo.new }
 {
     let mut from = 0;
-    while let Some((id, cons)) = consumer_at(topo, prov, from) {
+    while let Some((id, cons)) = consumer_above(topo, prov, from) {
         wither_if_outgrown(topo, queue, &cons);
         from = id.number() + 1;
     }

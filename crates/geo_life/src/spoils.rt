@@ -8,25 +8,27 @@ ghost use Rattle.geo_model.specs.Topology.{geom_at, consumer_at, set_marks};
 ghost use Rattle.geo_model.specs.Events.{mark_spoiled, spoil_at, spoil_consumer, spoil};
 ghost use Rattle.geo_mesh.specs.Cells.{consumer_seen};
 ghost use Rattle.geo_mesh.specs.Topo.{with_topology};
-ghost use Rattle.geo_life.specs.Life.{queued, sound_providers, RestStays, AreStored, CountsStay};
+ghost use Rattle.geo_life.specs.Life.{queued, sound_providers, IsDevMade, AreHandlesUnmarked, RestStays, AreStored, CountsStay};
 
+use crate::above::{consumer_above, look};
 use crate::withers::wither_unless_withering;
-use geo_access::consumer_at;
 use geo_base::{ConsId, Kind, ProvId};
 use geo_event::{Event, EventQueue};
 use geo_mesh::{ConsRec, Topo};
 
 /// Marks the consumers of the provider that have to go because it is written: those of a geom that a taste made, or of
 /// TASTE, that hold no write count. The wants are read as stored, so the clause is of all grants by which these are
-/// what the model has the consumers want.
+/// what the model has the consumers want. Handles are never among them, and it doesn't look at them.
 pub fn mark_spoiled<C>(topo: &mut Topo<C>, prov: ProvId)
+    requires made { IsDevMade topo.old.topology }
     ensures marked { (granted : ℕ → Counts) → AreStored granted topo.old
         → topo.new.topology ≡ mark_spoiled granted topo.old.topology prov }
     ensures mesh { topo.new ≡ with_topology topo.old topo.new.topology }
     ensures kept { CountsStay topo.old topo.new }
 {
+    look(topo);
     let mut from = 0;
-    while let Some((id, cons)) = consumer_at(topo, prov, from) {
+    while let Some((id, cons)) = consumer_above(topo, prov, from) {
         mark_if_due(topo, id, &cons);
         from = id.number() + 1;
     }
@@ -34,6 +36,7 @@ pub fn mark_spoiled<C>(topo: &mut Topo<C>, prov: ProvId)
 
 /// Marks them, and posts Spoil for the provider, in one place of the queue.
 pub fn spoil_at<C>(topo: &mut Topo<C>, queue: &mut EventQueue, prov: ProvId)
+    requires made { IsDevMade topo.old.topology }
     requires room { 1 ≤ queue.old.spare }
     ensures spoiled { (granted : ℕ → Counts) → AreStored granted topo.old
         → queued topo.new queue.new ≡ spoil_at granted (queued topo.old queue.old) prov }
@@ -46,9 +49,10 @@ pub fn spoil_at<C>(topo: &mut Topo<C>, queue: &mut EventQueue, prov: ProvId)
 }
 
 /// What a Spoil event does: each marked consumer of the provider loses its mark, and its geom withers, unless it does
-/// so already. It takes at most as many places of the queue as there are providers without an error, one for each that
-/// gets one.
+/// so already. Handles are never marked, and it doesn't look at them. It takes at most as many places of the queue as
+/// there are providers without an error, one for each that gets one.
 pub fn spoil<C>(topo: &mut Topo<C>, queue: &mut EventQueue, prov: ProvId)
+    requires unmarked { AreHandlesUnmarked topo.old.topology }
     requires room { sound_providers topo.old.topology ≤ queue.old.spare }
     ensures spoiled { queued topo.new queue.new ≡ spoil (queued topo.old queue.old) prov }
     ensures rest { RestStays topo.old queue.old topo.new queue.new }
@@ -57,7 +61,7 @@ pub fn spoil<C>(topo: &mut Topo<C>, queue: &mut EventQueue, prov: ProvId)
     ensures kept { CountsStay topo.old topo.new }
 {
     let mut from = 0;
-    while let Some((id, cons)) = consumer_at(topo, prov, from) {
+    while let Some((id, cons)) = consumer_above(topo, prov, from) {
         spoil_if_marked(topo, queue, id, &cons);
         from = id.number() + 1;
     }

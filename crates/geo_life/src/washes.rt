@@ -12,6 +12,7 @@ ghost use Rattle.geo_life.specs.Life.{queued, is_out, AreStored, CountsStay};
 ghost use Rattle.geo_laws_graph.specs.LookupLaws.{left_from};
 ghost use Rattle.geo_life.specs.Wash.{IsFree, IsIdle, IsNextGeom, washed_view, withering_geoms};
 
+use crate::above::look;
 use geo_access::{consumer_of, is_zero, provider_of};
 use geo_base::{ConsId, GeomId, ProvId};
 use geo_event::EventQueue;
@@ -55,13 +56,6 @@ pub fn wash<C: Drop>(topo: &mut Topo<C>, queue: &mut EventQueue, work: WashWork)
         WashWork::Consumer(cons) => drop_consumer(topo, cons),
         WashWork::Geom(geom) => topo.destroy_geom(geom),
     }
-}
-
-// What each look-up tells of the mesh.
-fn look<C>(topo: &Topo<C>)
-    ensures sound { IsSoundGraph topo.now.topology }
-{
-    let _geom = topo.next_geom(0);
 }
 
 /// Detaches a consumer that holds no count and through which no request is out, and destroys it (g_detach(9)): one of a

@@ -5,14 +5,21 @@ use Rattle.geo_access.specs.Access.{noted}
 use Rattle.geo_slots.specs.Slots.{with_value}
 use Rattle.geo_mesh.specs.Topo.{TopoView}
 use Rattle.geo_laws_counts.specs.CountWords.{seen_by_counts}
-use Rattle.geo_life.specs.Life.{queued, notes, without_rises, AreStored, CountsStay}
+use Rattle.geo_life.specs.Life.{queued, notes, without_rises, IsDevMade, AreStored, CountsStay}
 use Rattle.geo_life.proofs.Seen.{mesh_kept}
 use Rattle.geo_life.proofs.Announcing.{note_none}
-use Rattle.geo_life.proofs.Announced.{rise_step, rise_stored, rise_end, rise_next, rise_less, rise_notes, rise_mesh, rise_unseen, rise_out, mid_is}
+use Rattle.geo_life.proofs.Announced.{rise_step, rise_stored, rise_end, rise_next, rise_less, rise_notes, rise_mesh, rise_unseen, rise_made, rise_out, mid_is}
 use Rattle.geo_life.proofs.announces.announce_risen.Goals as goal
 
-pub spoil_at-requires : goal.spoil_at-requires
-spoil_at-requires g c =
+pub spoil_at-requires-clause-made : goal.spoil_at-requires-clause-made
+spoil_at-requires-clause-made g c =
+    subst (λ (v : TopoView g.row.C.Denot). IsDevMade v.topology)
+    (sym (mid_is c.args.topo.now c.loop-prov.topo c.loop-prov.invariant.counted c.in-Some.ensures.sound
+    c.loop-prov.invariant.mesh c.loop-prov.invariant.seen c.in-Some.prov (sym c.in-Some.ensures.first)
+    c.next_risen.new.topo c.in-Some.ensures.dropped)) c.loop-prov.invariant.made
+
+pub spoil_at-requires-clause-room : goal.spoil_at-requires-clause-room
+spoil_at-requires-clause-room g c =
     let less =
     rise_less c.args.topo.now c.loop-prov.topo c.loop-prov.invariant.counted c.in-Some.ensures.sound
     c.loop-prov.invariant.mesh c.loop-prov.invariant.seen c.in-Some.prov (sym c.in-Some.ensures.first)
@@ -49,6 +56,10 @@ loop-prov-preserved g c =
     c.loop-prov.invariant.mesh c.loop-prov.invariant.seen c.in-Some.prov first
     c.next_risen.new.topo c.in-Some.ensures.dropped in
     record {
+      made =
+          rise_made c.next_risen.new.topo c.loop-prov.queue (queued c.spoil_at.new.topo c.spoil_at.new.queue)
+          c.in-Some.prov c.in-Some.ensures.counted c.spoil_at.ensures.spoiled
+          (subst (λ (v : TopoView g.row.C.Denot). IsDevMade v.topology) (sym mid) c.loop-prov.invariant.made);
       counted = CountsStay.counted c.spoil_at.ensures.kept c.in-Some.ensures.counted;
       announced = λ granted stored.
           ap (λ rs. announce_risen granted (noted rs) (queued c.spoil_at.new.topo c.spoil_at.new.queue)) kept

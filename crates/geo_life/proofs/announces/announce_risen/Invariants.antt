@@ -3,11 +3,12 @@ use Rattle.geo_base.specs.declared.request.Counts.{Counts}
 use Rattle.geo_model.specs.Events.{announce_risen}
 use Rattle.geo_laws_counts.specs.CountWords.{seen_by_counts}
 use Rattle.geo_access.specs.Access.{noted, IsCounted}
-use Rattle.geo_life.specs.Life.{queued, notes, AreStored}
+use Rattle.geo_life.specs.Life.{queued, notes, IsDevMade, AreStored}
 use Rattle.geo_life.proofs.announces.announce_risen.Given as goal
 
 abbrev pub invariant-loop-prov : goal.invariant-loop-prov
 invariant-loop-prov g l = record {
+  made : IsDevMade l.topo.topology;
   counted : IsCounted l.topo;
   announced : (granted : ℕ → Counts) → AreStored granted l.fn.topo
       → announce_risen granted (noted l.topo.risen) (queued l.topo l.queue)

@@ -1,6 +1,7 @@
 use Rattle.std.proofs.Common.{refl, sym, arith, ◌∙◌}
 use Rattle.geo_model.specs.Events.{orphan, orphan_consumer}
 use Rattle.geo_life.specs.Life.{queued}
+use Rattle.geo_life.proofs.Uppers.{orphan_above}
 use Rattle.geo_life.proofs.Rest.{rest_none, rest_more}
 use Rattle.geo_life.proofs.Seen.{seen_kept, seen_orphan}
 use Rattle.geo_life.proofs.Spoiling.{hear_begin, hear_step, hear_end, orphan_leaves}
@@ -8,7 +9,9 @@ use Rattle.geo_life.proofs.orphans.orphan.Goals as goal
 
 pub loop-id-init : goal.loop-id-init
 loop-id-init g c = record {
-  orphaned = hear_begin c.args.prov orphan_consumer orphan_leaves (queued c.args.topo.now c.args.queue.now);
+  orphaned =
+      hear_begin c.args.prov orphan_consumer orphan_leaves (queued c.args.topo.now c.args.queue.now)
+      ∙ orphan_above (queued c.args.topo.now c.args.queue.now) c.args.prov c.look.ensures.sound;
   rest = rest_none c.args.topo.now c.args.queue.now;
   owed = refl;
   room = c.requires.room;

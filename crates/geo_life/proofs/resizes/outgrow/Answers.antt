@@ -1,6 +1,7 @@
 use Rattle.std.proofs.Common.{refl, sym, arith, ◌∙◌}
 use Rattle.geo_model.specs.Events.{outgrow_consumer}
 use Rattle.geo_life.specs.Life.{queued}
+use Rattle.geo_life.proofs.Uppers.{outgrow_above}
 use Rattle.geo_life.proofs.Rest.{rest_none, rest_more}
 use Rattle.geo_life.proofs.Seen.{mesh_kept, seen_if}
 use Rattle.geo_life.proofs.Growing.{outgrow_is}
@@ -12,7 +13,8 @@ pub loop-id-init : goal.loop-id-init
 loop-id-init g c = record {
   outgrown = λ granted stored.
       hear_begin c.args.prov (outgrow_consumer granted) (outgrow_leaves granted)
-      (queued c.args.topo.now c.args.queue.now);
+      (queued c.args.topo.now c.args.queue.now)
+      ∙ outgrow_above granted (queued c.args.topo.now c.args.queue.now) c.args.prov c.requires.made;
   rest = rest_none c.args.topo.now c.args.queue.now;
   seen = refl;
   owed = refl;

@@ -8,7 +8,7 @@ use Rattle.geo_life.proofs.spoils.spoil.Goals as goal
 
 pub loop-id-init : goal.loop-id-init
 loop-id-init g c = record {
-  spoiled = spoil_begin c.args.prov (queued c.args.topo.now c.args.queue.now);
+  spoiled = spoil_begin c.args.prov (queued c.args.topo.now c.args.queue.now) c.requires.unmarked;
   rest = rest_none c.args.topo.now c.args.queue.now;
   owed = refl;
   room = c.requires.room;
