@@ -1,0 +1,6 @@
+//! Text that grows.
+#![tactic(auto)]
+
+mod text;
+
+pub use text::Text;

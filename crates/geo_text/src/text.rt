@@ -1,0 +1,65 @@
+//! Bytes that are written one part behind the other.
+ghost use Rattle.std.specs.Prelude.{◌≡◌, ◌++◌, [], OnOk, decimal};
+
+use geo_base::{Block, NoMemory};
+use std::alloc::Global;
+use std::marker::Model;
+
+/// Bytes to be printed, which contracts see as their list.
+#[derive(Drop)]
+pub struct Text {
+    alloc: Global,
+    bytes: Vec<u8>,
+}
+
+impl Model for Text {
+    ghost use Rattle.std.specs.Prelude.{List, ℕ};
+
+    ghost Value = { List ℕ };
+
+    ghost view = { λ text. text.bytes.items };
+}
+
+impl Text {
+    /// No text. It takes no memory yet.
+    pub fn new(alloc: Global) -> Text
+        ensures { result ≡ [] }
+    {
+        Text {
+            alloc,
+            bytes: Vec::new(alloc),
+        }
+    }
+
+    /// These bytes behind the text.
+    pub fn add(&mut self, part: &[u8]) -> Result<(), NoMemory>
+        ensures { OnOk result (self.new ≡ self.old ++ part.now) }
+    {
+        self.bytes.extend_from_slice(part)?;
+        Ok(())
+    }
+
+    /// A number in decimal behind the text.
+    pub fn add_number(&mut self, number: u64) -> Result<(), NoMemory>
+        ensures { OnOk result (self.new ≡ self.old ++ decimal number) }
+    {
+        let digits = number.to_string(self.alloc)?;
+        self.add(digits.as_bytes())
+    }
+
+    /// A word, and a number in decimal right behind it.
+    pub fn add_labelled(&mut self, word: &[u8], number: u64) -> Result<(), NoMemory>
+        ensures { OnOk result (self.new ≡ self.old ++ word.now ++ decimal number) }
+    {
+        self.add(word)?;
+        self.add_number(number)
+    }
+
+    /// The bytes, which are moved and not copied.
+    pub fn into_block(self) -> Block
+        ensures { result ≡ self }
+    {
+        let Text { alloc: _, bytes } = self;
+        Block::from_vec(bytes)
+    }
+}
