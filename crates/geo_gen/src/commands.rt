@@ -1,7 +1,6 @@
 //! The command of a line, from the three numbers that were drawn for it.
 ghost use Rattle.std.specs.Prelude.{◌≡◌, ◌<◌, ◌+◌, ◌++◌, ◌*◌, ◌/◌, ◌%◌, OnOk};
-ghost use Rattle.geo_base.specs.Runs.{hex_digit};
-ghost use Rattle.geo_model.specs.Generator.{open_provider, open_counts, handle_text, byte_text};
+ghost use Rattle.geo_model.specs.Generator.{open_provider, open_counts, handle_text};
 ghost use Rattle.geo_gen.specs.Lines.{target_text, range_text, fill_text, open_text, close_text, read_text, write_text, delete_text, flush_text, chosen_text};
 
 use geo_base::NoMemory;
@@ -34,21 +33,6 @@ fn open_counts(k: u64) -> &'static [u8]
         3 => b"r1w0e1",
         _ => b"r1w1e1",
     }
-}
-
-/// The digit of a number below 16, in lower case.
-fn hex_digit(n: u8) -> u8
-    requires { n < 16 }
-    ensures { result ≡ hex_digit n }
-{
-    if n < 10 { 48 + n } else { 87 + n }
-}
-
-/// Two hexadecimal digits.
-fn byte_text(n: u8) -> [u8; 2]
-    ensures { result ≡ byte_text n }
-{
-    [hex_digit(n / 16), hex_digit(n % 16)]
 }
 
 /// The offset of a request.
@@ -99,7 +83,7 @@ fn add_fill(text: &mut Text, d2: u64, d3: u64) -> Result<(), NoMemory>
 {
     text.add_labelled(b" ", offset(d3))?;
     text.add(b" ")?;
-    text.add(&byte_text((d3 % 256) as u8))?;
+    text.add_hex((d3 % 256) as u8)?;
     text.add_labelled(b"*", len(d2))
 }
 

@@ -1,9 +1,18 @@
 //! Bytes that are written one part behind the other.
-ghost use Rattle.std.specs.Prelude.{◌≡◌, ◌++◌, [], OnOk, decimal};
+ghost use Rattle.std.specs.Prelude.{◌≡◌, ◌<◌, ◌++◌, ◌/◌, ◌%◌, [], ◌∷◌, OnOk, decimal};
+ghost use Rattle.geo_base.specs.Runs.{hex_digit};
 
 use geo_base::{Block, NoMemory};
 use std::alloc::Global;
 use std::marker::Model;
+
+/// The digit of a number below 16, in lower case.
+fn hex_digit(n: u8) -> u8
+    requires { n < 16 }
+    ensures { result ≡ hex_digit n }
+{
+    if n < 10 { b'0' + n } else { b'a' + (n - 10) }
+}
 
 /// Bytes to be printed, which contracts see as their list.
 #[derive(Drop)]
@@ -53,6 +62,13 @@ impl Text {
     {
         self.add(word)?;
         self.add_number(number)
+    }
+
+    /// A byte as two hexadecimal digits behind the text.
+    pub fn add_hex(&mut self, byte: u8) -> Result<(), NoMemory>
+        ensures { OnOk result (self.new ≡ self.old ++ hex_digit (byte / 16) ∷ hex_digit (byte % 16) ∷ []) }
+    {
+        self.add(&[hex_digit(byte / 16), hex_digit(byte % 16)])
     }
 
     /// The bytes, which are moved and not copied.
