@@ -163,7 +163,8 @@ module _ (w : World) (firm : Firm w) (p : Provider) (there : provider_at w.topol
   over-raised : (kind : Kind) (config : Config)
       → IsRaised t (with_geom_over (queued_of w) p kind config).topology w t.next_geom below
   over-raised kind config =
-      let u : Topology Config = grown w t kind p.name config true firm.sound.ranks.ranked live.geoms live.offerers order in
+      let u : Topology Config =
+      grown w t kind p.name config true firm.sound.ranks.ranked live.geoms live.offerers order in
       raised-on w t kind p.name config true firm.sound.ranks.ranked live.geoms live.offerers order
       (with_geom_over (queued_of w) p kind config).topology t.next_geom p.geom
       (joined-raised w u t.next_geom p

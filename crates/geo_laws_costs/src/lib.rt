@@ -1,5 +1,5 @@
-//! Laws of the measure of a mesh: what a class makes in a taste costs less than what it could make, so each Judge lowers
-//! the measure (geom(4)).
+//! Laws of the measure of a mesh: what a class makes in a taste costs less than what it could make, so each Judge
+//! lowers the measure (geom(4)).
 #![tactic(auto)]
 
 ghost use Rattle.geo_laws_costs.specs.CostLaws.{JudgesLower};

@@ -1,0 +1,4 @@
+pub mod EachStep
+pub mod Moving
+pub mod Picking
+pub mod Endless
