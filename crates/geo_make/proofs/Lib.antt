@@ -2,3 +2,14 @@ pub mod Following
 pub mod Attaching
 pub mod AttachLoop
 pub mod Raising
+pub mod NameLemmas
+pub mod PartLemmas
+pub mod PartLoops
+pub mod TableLemmas
+pub mod MemberLemmas
+pub mod StandingLemmas
+pub mod ClassLemmas
+pub mod JoinLemmas
+pub mod ModelLemmas
+pub mod AcceptLemmas
+pub mod FirmLemmas

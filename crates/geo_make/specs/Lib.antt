@@ -1,2 +1,10 @@
 pub mod Making
 pub mod Standing
+pub mod Accepting
+pub mod Accepts
+pub mod Free
+pub mod Parts
+pub mod Members
+pub mod Joining
+pub mod MakingLaws
+pub mod FirmLaws
