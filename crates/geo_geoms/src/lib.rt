@@ -1,6 +1,12 @@
 //! Commands on geoms: insert, pull, nop, concat, stripe, append and destroy (geom(4), geom(8)).
 #![tactic(auto)]
 
+mod below;
 mod names;
+mod refusals;
 
+pub use below::{
+    Below, all_named, any_errored, below_named, have_sector, rank_below, sector_below,
+};
 pub use names::{Growing, found_provider, growing_concat, named_geom};
+pub use refusals::{is_bad_stripe, joined_refusal, nop_refusal};
