@@ -1,6 +1,6 @@
 -- What a class accepts: from each shape to the model's answer.
-use Rattle.std.specs.Prelude.{◌≡◌, ◌⊎◌, ℕ, ◌^◌, ◌%◌, ◌<◌, ◌≤◌, ◌==◌, nat_le, Bool, true, false, ◌&&◌, ◌||◌, List, length, replicate, Option, Some, None, IfSome, IsSomeAnd, option_map, All, Contains}
-use Rattle.std.proofs.Common.{inl, inr, refl, sym, ◌∙◌, ap, subst, arith}
+use Rattle.std.specs.Prelude.{◌≡◌, ℕ, ◌^◌, ◌%◌, ◌<◌, ◌≤◌, ◌==◌, nat_le, Bool, true, false, ◌&&◌, ◌||◌, length, Option, Some, None, IfSome, option_map, Contains}
+use Rattle.std.proofs.Common.{refl, sym, ◌∙◌, ap, subst, arith}
 use Rattle.std.proofs.lemmas.Bool.{and_parts, leb-true, eqb-true}
 use Rattle.std.proofs.lemmas.List.{length-replicate}
 use Rattle.std.proofs.lemmas.List.Elements.{All-contains}
@@ -19,7 +19,7 @@ use Rattle.geo_laws_graph.proofs.Members.{find-Contains}
 use Rattle.geo_make.specs.declared.member.Member.{Member as Kept}
 use Rattle.geo_make.specs.declared.shapes.Accepted.{Accepted}
 use Rattle.geo_make.specs.declared.shapes.Accepted.TheVariants.{Made, Declined}
-use Rattle.geo_make.specs.Making.{QueuedMesh, queued, AreBoth}
+use Rattle.geo_make.specs.Making.{QueuedMesh, queued}
 use Rattle.geo_make.specs.Accepting.{accepted, with_member, IsAccepted}
 use Rattle.geo_make.specs.Accepts.{HaveSizes, MakesSizes, MayAccept}
 use Rattle.geo_make.specs.Joining.{MayBeMember}

@@ -1,10 +1,10 @@
 -- A new consumer of a geom without providers can be attached, and more of them after it.
-use Rattle.std.specs.Prelude.{◌≡◌, ◌≢◌, ℕ, ◌+◌, ◌<◌, ◌≤◌, ◌==◌, nat_lt, max, Bool, true, false, not, ◌&&◌, List, [], ◌∷◌, Option, Some, None, IsSome, IsSomeAnd, Contains}
+use Rattle.std.specs.Prelude.{◌≡◌, ℕ, ◌+◌, ◌<◌, ◌≤◌, ◌==◌, nat_lt, max, Bool, true, false, not, ◌&&◌, List, [], ◌∷◌, Some, None, IsSome, IsSomeAnd}
 use Rattle.std.specs.List.{list_any, AllByRecursion}
 use Rattle.std.proofs.Common.{refl, sym, ◌∙◌, ap, subst, arith}
 use Rattle.geo_model.specs.Words.{is_granted_kind}
 use Rattle.geo_model.specs.Topology.{Topology, Geom, Provider, Consumer, geom_at, provider_at, consumer_at, providers_of, add_consumer, attach, is_errored}
-use Rattle.geo_model.specs.Rank.{rank, rank_limit, reaches, would_loop, is_too_deep, attach_refusal}
+use Rattle.geo_model.specs.Rank.{rank, rank_limit, would_loop, is_too_deep, attach_refusal}
 use Rattle.geo_mesh.specs.Graph.{IsSoundGraph}
 use Rattle.std.proofs.lemmas.Bool.{or_parts, ltb-false, le-ltb, eqb-true, eq-eqb}
 use Rattle.geo_laws_graph.specs.LookupLaws.{new_consumer}

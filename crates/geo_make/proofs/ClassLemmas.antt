@@ -1,11 +1,11 @@
 -- The geoms of an assembly are among those of its class and of its name.
-use Rattle.std.specs.Prelude.{◌≡◌, ℕ, ◌==◌, Bool, true, false, not, ◌&&◌, List, [], ◌∷◌, find, filter, All, Some, None}
+use Rattle.std.specs.Prelude.{◌≡◌, ℕ, Bool, true, false, ◌&&◌, List, [], ◌∷◌, find, filter, All, Some, None}
 use Rattle.std.specs.List.{AllByRecursion}
-use Rattle.std.proofs.Common.{refl, ◌∙◌, ap, subst, sym}
+use Rattle.std.proofs.Common.{refl, ◌∙◌, sym}
 use Rattle.std.proofs.lemmas.List.Elements.{recursion_from_All}
 use Rattle.geo_base.specs.declared.kind.Kind.{Kind}
 use Rattle.geo_base.specs.declared.kind.Kind.TheVariants as kinds
-use Rattle.geo_model.specs.Words.{same_name, is_kind, kind_number}
+use Rattle.geo_model.specs.Words.{same_name, is_kind}
 use Rattle.geo_model.specs.Topology.{Geom}
 use Rattle.geo_model.specs.World.{Config, Nothing, Disk, Mbr, Ebr, Label, Concat, Stripe, Nop}
 use Rattle.geo_model.specs.Acceptance.{is_same_assembly}

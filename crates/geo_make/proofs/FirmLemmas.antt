@@ -1,7 +1,6 @@
 -- What a firm mesh says of a provider that a class accepts.
-use Rattle.std.specs.Prelude.{◌≡◌, ◌⊎◌, ℕ, ◌+◌, ◌*◌, ◌^◌, ◌%◌, ◌<◌, ◌≤◌, ◌==◌, nat_le, nat_lt, Bool, true, false, not, ◌&&◌, ◌||◌, List, [], ◌∷◌, ◌++◌, length, Option, Some, None, Result, Ok, Err, IfSome, All, Contains, if◌then◌else◌}
-use Rattle.std.specs.List.{AllByRecursion}
-use Rattle.std.proofs.Common.{inl, inr, refl, sym, ◌∙◌, ap, subst, arith}
+use Rattle.std.specs.Prelude.{◌≡◌, ℕ, ◌*◌, ◌^◌, ◌%◌, ◌<◌, ◌==◌, nat_le, nat_lt, Bool, true, false, not, ◌&&◌, List, [], ◌∷◌, ◌++◌, length, Option, Some, None, Result, Ok, Err, IfSome, Contains, if◌then◌else◌}
+use Rattle.std.proofs.Common.{inl, inr, refl, ap, subst, arith}
 use Rattle.std.proofs.lemmas.Bool.{and_parts, or_parts, not-false, leb-true, le-leb, ltb-true, eq-eqb}
 use Rattle.std.proofs.lemmas.List.Elements.{All-contains, All-from_recursion}
 use Rattle.geo_base.specs.Sectors.{IsSectorSize}
@@ -9,12 +8,10 @@ use Rattle.geo_base.specs.declared.decline.DeclineCause.{DeclineCause}
 use Rattle.geo_base.specs.declared.decline.DeclineCause.TheVariants as causes
 use Rattle.geo_base.specs.declared.kind.Kind.{Kind}
 use Rattle.geo_base.specs.declared.kind.Kind.TheVariants as kinds
-use Rattle.geo_model.specs.declared.class.ConcatRecord.{ConcatRecord}
 use Rattle.geo_model.specs.declared.class.Facts.{Facts}
 use Rattle.geo_model.specs.declared.class.LabelRecord.{LabelRecord}
 use Rattle.geo_model.specs.declared.class.Shape.{Shape}
 use Rattle.geo_model.specs.declared.class.Shape.TheVariants.{Slices, Logical, Named, Joined, Striped}
-use Rattle.geo_model.specs.declared.class.StripeRecord.{StripeRecord}
 use Rattle.geo_model.specs.declared.class.Verdict.TheVariants.{Decline, More, Accept}
 use Rattle.geo_model.specs.Words.{first_error, unless}
 use Rattle.geo_model.specs.Topology.{Topology, Geom, Provider, geom_at, provider_at, geom_of_provider, is_errored}

@@ -1,7 +1,7 @@
 -- One change of the mesh and its events after another, whatever room is kept between them.
-use Rattle.std.specs.Prelude.{◌≡◌, ℕ, List, [], ◌∷◌}
-use Rattle.std.proofs.Common.{refl, sym, ◌∙◌, ap, subst}
-use Rattle.geo_mesh.specs.Topo.{TopoView, Room, IsButForRoom}
+use Rattle.std.specs.Prelude.{◌≡◌}
+use Rattle.std.proofs.Common.{◌∙◌, ap, subst}
+use Rattle.geo_mesh.specs.Topo.{TopoView, Room}
 use Rattle.geo_model.specs.World.{Config}
 use Rattle.geo_event.specs.EventQueue.{Queued}
 use Rattle.geo_make.specs.Making.{QueuedMesh, both, AreBoth}

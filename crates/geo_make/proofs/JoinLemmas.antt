@@ -1,6 +1,5 @@
 -- A member that joins an assembly, in a new geom or in the standing one.
-use Rattle.std.specs.Prelude.{◌≡◌, ℕ, ◌-◌, ◌<◌, Bool, true, false, not, ◌&&◌, List, length, Option, Some, None, Result, Ok, Err, IfOk, is_none, IfSome, IsSome, IsSomeAnd, All, option_map, find, slice_get, if◌then◌else◌}
-use Rattle.std.specs.List.{list_all}
+use Rattle.std.specs.Prelude.{◌≡◌, ℕ, ◌-◌, ◌<◌, Bool, true, false, List, length, Option, Some, None, Result, Ok, Err, IfOk, is_none, IfSome, IsSome, IsSomeAnd, option_map, slice_get}
 use Rattle.std.specs.Option.{option_flatten}
 use Rattle.std.proofs.Common.{refl, sym, ◌∙◌, ap, subst}
 use Rattle.std.proofs.lemmas.Bool.{and_parts}

@@ -1,5 +1,5 @@
 -- A place that is taken: what it comes to, and what is known of it.
-use Rattle.std.specs.Prelude.{◌≡◌, ℕ, ◌-◌, Bool, true, false, not, ◌&&◌, ◌||◌, List, [], ◌∷◌, Option, Some, None, IfSome, is_some, option_map, if◌then◌else◌}
+use Rattle.std.specs.Prelude.{◌≡◌, ℕ, ◌-◌, Bool, true, false, not, ◌&&◌, ◌||◌, List, [], ◌∷◌, Option, Some, None, IfSome, is_some, if◌then◌else◌}
 use Rattle.std.specs.List.{list_all}
 use Rattle.std.proofs.Common.{refl, sym, ◌∙◌, ap, subst}
 use Rattle.std.proofs.lemmas.Bool.{and_parts, not-true}
@@ -102,7 +102,8 @@ module _ (m : QueuedMesh) (p : Provider) (geom : ℕ) (config : Config) (place :
 pub plan_carries : (prov geom : ℕ) (plan : Plan) → CarriesRoom (λ m. with_plan m prov geom plan)
 plan_carries prov geom plan m room = by plan.offer refl where
   -- by whether a provider is made
-  by : (o : Option Offer) → plan.offer ≡ o → with_plan (record m { mesh = record m.mesh { room = room } }) prov geom plan
+  by : (o : Option Offer) → plan.offer ≡ o
+      → with_plan (record m { mesh = record m.mesh { room = room } }) prov geom plan
       ≡ record (with_plan m prov geom plan) { mesh = record (with_plan m prov geom plan).mesh { room = room } }
   by None e = rw e refl
   by (Some x) e = rw e refl

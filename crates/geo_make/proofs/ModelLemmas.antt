@@ -1,20 +1,20 @@
 -- What is made is what the model makes.
-use Rattle.std.specs.Prelude.{◌≡◌, ℕ, ◌-◌, ◌+◌, Bool, true, false, List, [], ◌∷◌, ◌++◌, map, fold, Option, Some, None, option_map, is_some, if◌then◌else◌}
+use Rattle.std.specs.Prelude.{◌≡◌, ℕ, ◌-◌, Bool, true, false, List, [], ◌∷◌, ◌++◌, map, fold, Option, Some, None, option_map, is_some, if◌then◌else◌}
 use Rattle.std.specs.List.{list_all}
-use Rattle.std.proofs.Common.{refl, ◌∙◌, ap}
+use Rattle.std.proofs.Common.{refl, ap}
 use Rattle.geo_base.specs.declared.kind.Kind.{Kind}
 use Rattle.geo_base.specs.declared.kind.Kind.TheVariants as kinds
 use Rattle.geo_model.specs.declared.class.Shape.{Shape}
 use Rattle.geo_model.specs.declared.class.Shape.TheVariants.{Slices, Logical, Named, Joined, Striped}
 use Rattle.geo_model.specs.declared.step.Event.TheVariants.{NewProvider}
 use Rattle.geo_model.specs.Names.{label_name}
-use Rattle.geo_model.specs.Topology.{Topology, Geom, Provider, add_consumer, add_provider, add_geom}
+use Rattle.geo_model.specs.Topology.{Topology, Geom, Provider, add_consumer, add_provider}
 use Rattle.geo_model.specs.World.{Config, Label, Mbr, Ebr}
 use Rattle.geo_model.specs.Events.{QueuedTopology, offer}
-use Rattle.geo_model.specs.Acceptance.{NewSlice, Member, are_names_free, with_geom_over, with_slices, with_label, with_place, finish, join_place, join_at, can_join, accept, accept_member, fill_place, places_of, joined_size, is_size, new_slices, new_parts, concat_member, stripe_member, standing_geom}
-use Rattle.geo_model.specs.GeomCommands.{with_geom_at, build}
+use Rattle.geo_model.specs.Acceptance.{NewSlice, Member, are_names_free, with_slices, with_label, finish, join_place, join_at, can_join, accept, accept_member, fill_place, places_of, joined_size, is_size, new_slices, new_parts, concat_member, stripe_member, standing_geom}
+use Rattle.geo_model.specs.GeomCommands.{build}
 use Rattle.geo_mesh.specs.Topo.{TopoView, with_geom}
-use Rattle.geo_make.specs.Making.{QueuedMesh, queued, with_attached, with_all_attached, with_geom_on, with_built, with_offer}
+use Rattle.geo_make.specs.Making.{QueuedMesh, queued, with_attached, with_all_attached, with_built, with_offer}
 use Rattle.geo_make.specs.Accepting.{over, with_slices_of, sliced, labelled, placed, finished, joined, joined_at, with_member, accepted}
 use Rattle.geo_make.specs.MakingLaws.{MakesAsTheModel}
 

@@ -1,32 +1,30 @@
 -- Providers of slices and partitions, one after another.
-use Rattle.std.specs.Prelude.{◌≡◌, ℕ, ◌+◌, ◌-◌, ◌≤◌, ◌<◌, ◌^◌, Bool, true, false, not, ◌&&◌, ◌||◌, List, [], ◌∷◌, ◌++◌, length, map, Option, Some, None, IfSome, All, Contains, if◌then◌else◌}
+use Rattle.std.specs.Prelude.{◌≡◌, ℕ, ◌+◌, ◌-◌, ◌≤◌, Bool, true, false, not, ◌&&◌, List, [], ◌∷◌, ◌++◌, length, map, Option, Contains}
 use Rattle.std.specs.List.{AllByRecursion, list_all}
 use Rattle.std.proofs.Common.{refl, sym, ◌∙◌, ap, subst, arith}
 use Rattle.std.proofs.lemmas.Bool.{and_parts, not-true}
 use Rattle.std.proofs.lemmas.List.Elements.{All-contains, Contains-append_left, Contains-append_right}
 use Rattle.geo_base.specs.Name.{is_name}
-use Rattle.geo_base.specs.declared.kind.Kind.{Kind}
 use Rattle.geo_model.specs.declared.class.Slice.{Slice}
 use Rattle.geo_model.specs.declared.class.EbrPart.{EbrPart}
 use Rattle.geo_model.specs.Words.{same_name}
 use Rattle.geo_model.specs.Names.{slice_name, logical_name}
 use Rattle.geo_model.specs.Place.{slice_place, end_number}
-use Rattle.geo_model.specs.Topology.{Topology, Geom, Provider, geom_at, is_withering, is_name_taken, add_provider}
+use Rattle.geo_model.specs.Topology.{Topology, Provider, is_name_taken, add_provider}
 use Rattle.geo_model.specs.World.{Config}
 use Rattle.geo_model.specs.Acceptance.{NewSlice, are_names_free, new_parts, new_slices}
 use Rattle.geo_mesh.specs.Topo.{TopoView, with_provider, is_provider_size, IsButForRoom}
-use Rattle.geo_event.specs.EventQueue.{Queued}
 use Rattle.geo_laws_graph.specs.LookupLaws.{new_provider}
 use Rattle.geo_laws_graph.proofs.Found.{added-provider}
 use Rattle.geo_laws_graph.proofs.Members.{Contains-here}
 use Rattle.geo_laws_opening.proofs.Standers.{PairsByRecursion}
-use Rattle.geo_laws_accepts.proofs.NewSlices.{new_of, new-differ, slice-tells, logical-tells}
-use Rattle.geo_make.specs.Making.{QueuedMesh, both, AreBoth, with_offer, with_geom_on}
-use Rattle.geo_make.specs.Accepting.{over, sliced, with_slices_of}
-use Rattle.geo_make.specs.Accepts.{HaveSizes, MakesSizes}
+use Rattle.geo_laws_accepts.proofs.NewSlices.{new-differ, slice-tells, logical-tells}
+use Rattle.geo_make.specs.Making.{QueuedMesh, with_offer}
+use Rattle.geo_make.specs.Accepting.{with_slices_of}
+use Rattle.geo_make.specs.Accepts.{HaveSizes}
 use Rattle.geo_make.specs.Parts.{are_names, CanAddPart, Differ, is_addable}
 use Rattle.geo_make.specs.Standing.{MayOffer}
-use Rattle.geo_make.proofs.Following.{with_room, CarriesRoom, followed}
+use Rattle.geo_make.proofs.Following.{CarriesRoom}
 
 -- After one provider
 

@@ -1,6 +1,6 @@
 -- Parts that are named, and providers of them that are made, one after another.
-use Rattle.std.specs.Prelude.{◌≡◌, ℕ, zero, suc, ◌+◌, ◌*◌, ◌<◌, ◌≤◌, Bool, true, false, ◌&&◌, List, [], ◌∷◌, ◌++◌, length, drop, get_or, Option, Some, None, option_map, if◌then◌else◌}
-use Rattle.std.specs.List.{AllByRecursion, list_all}
+use Rattle.std.specs.Prelude.{◌≡◌, ℕ, zero, suc, ◌+◌, ◌*◌, ◌<◌, ◌≤◌, Bool, true, false, List, [], ◌∷◌, ◌++◌, length, drop, get_or, Option, Some, None, option_map, if◌then◌else◌}
+use Rattle.std.specs.List.{AllByRecursion}
 use Rattle.std.proofs.Common.{refl, sym, ◌∙◌, ap, subst, arith, append_assoc, append-nil}
 use Rattle.std.proofs.Math.ListN.{drop_of_length-le}
 use Rattle.std.proofs.lemmas.List.Folds.{list_all-append}
@@ -15,7 +15,7 @@ use Rattle.geo_make.specs.Making.{QueuedMesh, both, AreBoth, with_offer}
 use Rattle.geo_make.specs.Accepting.{with_slices_of}
 use Rattle.geo_make.specs.Parts.{are_names, named_all, IsPlaced, IsPushed, CanAddPart, Differ}
 use Rattle.geo_make.specs.Standing.{MayOffer}
-use Rattle.geo_make.proofs.Following.{with_room, both-are, unroomed}
+use Rattle.geo_make.proofs.Following.{with_room, both-are}
 use Rattle.geo_make.proofs.AttachLoop.{front}
 use Rattle.geo_make.proofs.PartLemmas.{add_more, may_more, offers_carry}
 

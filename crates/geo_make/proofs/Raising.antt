@@ -1,6 +1,6 @@
 -- A new geom, over some providers.
-use Rattle.std.specs.Prelude.{◌≡◌, ◌≢◌, ℕ, ◌+◌, ◌<◌, ◌≤◌, ◌==◌, Bool, true, false, ◌&&◌, List, [], ◌∷◌, Option, Some, None, IsSome, IsSomeAnd, All, Contains}
-use Rattle.std.specs.List.{list_any, AllByRecursion}
+use Rattle.std.specs.Prelude.{◌≡◌, ◌≢◌, ℕ, ◌<◌, ◌==◌, Bool, true, false, ◌&&◌, List, [], ◌∷◌, Option, IsSome, IsSomeAnd, All}
+use Rattle.std.specs.List.{AllByRecursion}
 use Rattle.std.proofs.Common.{inr, refl, sym, ◌∙◌, ap, subst, arith}
 use Rattle.std.proofs.lemmas.List.Elements.{recursion_from_All}
 use Rattle.geo_base.specs.declared.kind.Kind.{Kind}
@@ -8,7 +8,7 @@ use Rattle.geo_model.specs.Topology.{Topology, Geom, Provider, geom_at, provider
 use Rattle.geo_model.specs.Rank.{rank, rank_limit}
 use Rattle.geo_model.specs.World.{Config}
 use Rattle.geo_mesh.specs.Graph.{IsSoundGraph}
-use Rattle.geo_mesh.specs.Topo.{TopoView, Room, with_geom, IsButForRoom}
+use Rattle.geo_mesh.specs.Topo.{TopoView, with_geom, IsButForRoom}
 use Rattle.geo_laws_graph.specs.LookupLaws.{new_geom}
 use Rattle.geo_laws_graph.proofs.Lists.{found_fresh, none_outside, rise-from}
 use Rattle.geo_laws_graph.proofs.Found.{added-geom}
@@ -34,7 +34,8 @@ module _ {C : Type 0} (t : Topology C) (sound : IsSoundGraph t) where
   not_there : (n : ℕ) → IsSome (geom_at t n) → t.next_geom ≢ n
   not_there n there same =
       none-there (geom_at t n)
-      (found_fresh (λ (y : Geom C). y.number) t.next_geom n t.geoms sound.orderly.order.geoms (omega (arith, same))) there
+      (found_fresh (λ (y : Geom C). y.number) t.next_geom n t.geoms sound.orderly.order.geoms
+      (omega (arith, same))) there
 
   -- so not DEV
   pub new_not_dev : t.next_geom ≢ 1
@@ -135,7 +136,8 @@ still_may u v geom provs all may =
     let geoms : v.topology.geoms ≡ u.topology.geoms =
     ap (λ (x : TopoView Config). x.topology.geoms) all ∙ same_geoms u geom provs in
     record {
-      lives = subst (λ (gs : List (Geom Config)). IsSome (geom_at (record u.topology { geoms = gs }) geom)) (sym geoms)
+      lives = subst (λ (gs : List (Geom Config)). IsSome (geom_at (record u.topology { geoms = gs }) geom))
+          (sym geoms)
           may.lives;
       stays = subst (λ (gs : List (Geom Config)). is_withering (record u.topology { geoms = gs }) geom ≡ false)
           (sym geoms) may.stays;

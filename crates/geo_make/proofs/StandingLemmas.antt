@@ -1,18 +1,15 @@
 -- The standing geom of an assembly, and what can take a place there.
-use Rattle.std.specs.Prelude.{◌≡◌, ◌≢◌, ◌⊎◌, ℕ, zero, suc, ◌+◌, ◌^◌, ◌<◌, ◌≤◌, ◌==◌, nat_le, Bool, true, false, not, ◌&&◌, List, [], ◌∷◌, ◌++◌, length, find, filter, flat_map, filter_map, Option, Some, None, is_none, IfSome, IsSome, IsSomeAnd, IsTrue, All, option_map, Contains, slice_get, option_and_then, if◌then◌else◌}
-use Rattle.std.specs.List.{AllByRecursion, list_any, list_all}
+use Rattle.std.specs.Prelude.{◌≡◌, ◌≢◌, ◌⊎◌, ℕ, zero, suc, ◌+◌, ◌^◌, ◌<◌, ◌≤◌, ◌==◌, nat_le, Bool, true, false, not, ◌&&◌, List, [], ◌∷◌, ◌++◌, length, find, filter, flat_map, filter_map, Option, Some, None, is_none, IsSomeAnd, IsTrue, option_map, Contains, slice_get, option_and_then}
+use Rattle.std.specs.List.{list_any, list_all}
 use Rattle.std.specs.Option.{option_flatten, option_map_or, option_to_list}
 use Rattle.std.proofs.Common.{inl, inr, refl, sym, ◌∙◌, ap, subst, arith}
 use Rattle.std.proofs.lemmas.Bool.{and_parts, not-true, eqb-true, eq-eqb, ne_eqb}
-use Rattle.std.proofs.lemmas.List.Elements.{All-contains, recursion_from_All}
-use Rattle.geo_base.specs.declared.kind.Kind.{Kind}
-use Rattle.geo_base.specs.declared.kind.Kind.TheVariants as kinds
-use Rattle.geo_model.specs.Words.{same_name, is_kind, kind_number}
+use Rattle.std.proofs.lemmas.List.Elements.{All-contains}
+use Rattle.geo_model.specs.Words.{same_name}
 use Rattle.geo_model.specs.Topology.{Topology, Geom, Provider, geom_at, provider_at, provider_of_consumer, providers_of, is_withering}
 use Rattle.geo_model.specs.World.{Config, Nothing, Disk, Mbr, Ebr, Label, Concat, Stripe, Nop}
-use Rattle.geo_model.specs.Acceptance.{Member, places_of, is_same_assembly, providers_at, can_join, standing_geom}
+use Rattle.geo_model.specs.Acceptance.{Member, places_of, is_same_assembly, can_join, standing_geom}
 use Rattle.geo_model.specs.Place.{components}
-use Rattle.geo_model.specs.Sound.{IsOfItsClass, fits_kind}
 use Rattle.geo_model.specs.Steady.{has_free_place}
 use Rattle.geo_model.proofs.DemandLemmas.{find_passes}
 use Rattle.geo_mesh.specs.Graph.{IsSoundGraph}

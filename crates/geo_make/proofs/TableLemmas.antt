@@ -1,7 +1,7 @@
 -- A geom over a provider with its slices or its label: what is made, and when nothing can be.
-use Rattle.std.specs.Prelude.{◌≡◌, ℕ, ◌-◌, Bool, true, false, not, ◌&&◌, List, [], ◌∷◌, map, Option, Some, None, Result, IfOk, IfSome, IsSomeAnd, All, if◌then◌else◌}
+use Rattle.std.specs.Prelude.{◌≡◌, ℕ, ◌-◌, Bool, true, false, not, ◌&&◌, List, [], ◌∷◌, map, Option, Some, None, Result, IfOk, IsSomeAnd, All, if◌then◌else◌}
 use Rattle.std.specs.List.{AllByRecursion, list_all}
-use Rattle.std.proofs.Common.{refl, sym, ◌∙◌, ap, subst}
+use Rattle.std.proofs.Common.{refl, sym, ◌∙◌, subst}
 use Rattle.std.proofs.lemmas.Bool.{and_parts, not-true}
 use Rattle.std.proofs.lemmas.List.Elements.{All-contains, All-from_recursion}
 use Rattle.geo_base.specs.Name.{is_name}
@@ -92,7 +92,8 @@ pub sliced_as : {E : Type 0} (t : TopoView Config) (q : Queued) (prov : ℕ) (ki
     → IfOk r (λ answer. IsAccepted answer v s (both t q) (sliced (both t q) prov kind name other more)
     (MakesSizes (sliced (both t q) prov kind name other more)))
 sliced_as t q prov kind name config other parts more r v s same are answer =
-    subst (λ (xs : List NewSlice). IfOk r (λ a. IsAccepted a v s (both t q) (sliced (both t q) prov kind name other xs)
+    subst (λ (xs : List NewSlice). IfOk r (λ a. IsAccepted a v s (both t q) (sliced (both t q) prov kind name
+    other xs)
     (MakesSizes (sliced (both t q) prov kind name other xs)))) are
     (subst (λ (k : Config). IfOk r (λ a. IsAccepted a v s (both t q) (sliced (both t q) prov kind name k parts)
     (MakesSizes (sliced (both t q) prov kind name k parts)))) same answer)
@@ -120,7 +121,8 @@ module _ (t : TopoView Config) (q : Queued) (p : Provider) (name : List ℕ) whe
   pub label_untaken : are_names_free t.topology (name ∷ []) ≡ true → is_name_taken t.topology name ≡ false
   label_untaken free =
       let first = and_parts (is_name name && not (is_name_taken t.topology name)) true free in
-      not-true (is_name_taken t.topology name) (and_parts (is_name name) (not (is_name_taken t.topology name)) first.0).1
+      not-true (is_name_taken t.topology name) (and_parts (is_name name) (not (is_name_taken t.topology name))
+      first.0).1
 
   -- the label that is made
   pub label_made : (w : TopoView Config) (s : Queued) → are_names_free t.topology (name ∷ []) ≡ true

@@ -1,5 +1,5 @@
--- What becomes of the mesh and its events where a class accepts a provider (geom(4)): each definition is the model's, with
--- all that a mesh keeps in place of the graph alone. None where the class declines after all.
+-- What becomes of the mesh and its events where a class accepts a provider (geom(4)): each definition is the model's,
+-- with all that a mesh keeps in place of the graph alone. None where the class declines after all.
 use Rattle.std.specs.Prelude.{◌≡◌, ℕ, ◌-◌, true, List, [], ◌∷◌, map, fold, Option, Some, None, is_some, IsSomeAnd, if◌then◌else◌}
 use Rattle.std.specs.List.{list_all}
 use Rattle.geo_base.specs.declared.kind.Kind.{Kind}
@@ -7,7 +7,7 @@ use Rattle.geo_base.specs.declared.kind.Kind.TheVariants as kinds
 use Rattle.geo_model.specs.declared.class.Shape.{Shape}
 use Rattle.geo_model.specs.declared.class.Shape.TheVariants.{Slices, Logical, Named, Joined, Striped}
 use Rattle.geo_model.specs.Names.{label_name}
-use Rattle.geo_model.specs.Topology.{Topology, Geom, Provider, set_config}
+use Rattle.geo_model.specs.Topology.{Geom, Provider, set_config}
 use Rattle.geo_model.specs.World.{Config, Mbr, Ebr, Label}
 use Rattle.geo_model.specs.Acceptance.{NewSlice, Member, are_names_free, new_slices, new_parts, fill_place, places_of, joined_size, is_size, can_join, concat_member, stripe_member, standing_geom}
 use Rattle.geo_mesh.specs.Topo.{TopoView, with_geom, with_topology}
@@ -86,8 +86,8 @@ accepted m p (Named found) = labelled m p (label_name found.name)
 accepted m p (Joined found) = with_member m p (concat_member found)
 accepted m p (Striped found) = with_member m p (stripe_member found)
 
--- where some facts hold, the answer tells whether something can be made, and it is made; where the class declines, all is
--- what it was
+-- where some facts hold, the answer tells whether something can be made, and it is made; where the class declines, all
+-- is what it was
 abbrev pub IsAccepted : Accepted → TopoView Config → Queued → QueuedMesh → Option QueuedMesh → Type 0 → Type 0
 IsAccepted Made t q old made facts = facts → IsSomeAnd made (AreBoth t q)
 IsAccepted Declined t q old made facts = AreBoth t q old × (facts → made ≡ None)

@@ -2,7 +2,7 @@
 use Rattle.std.specs.Prelude.{◌≡◌, true, [], All, Option, IfSome, IsTrue, ⊤}
 use Rattle.geo_model.specs.declared.class.Shape.{Shape}
 use Rattle.geo_model.specs.declared.class.Shape.TheVariants.{Joined, Striped}
-use Rattle.geo_model.specs.Topology.{Topology, Geom, Provider, providers_of}
+use Rattle.geo_model.specs.Topology.{Topology, Provider, providers_of}
 use Rattle.geo_model.specs.World.{Config}
 use Rattle.geo_model.specs.Events.{QueuedTopology}
 use Rattle.geo_model.specs.Acceptance.{accept}

@@ -19,8 +19,8 @@ abbrev pub is_bare : Topology Config → ℕ → Bool
 is_bare t geom =
     not (geom == 1) && (not (geom == 2) && is_none (first_provider (providers_of t geom) 0))
 
--- what holds of a standing geom in a sound, steady and fitting mesh: it isn't DEV or TASTE, where the place is free it has
--- no provider, and what is made has sizes of providers
+-- what holds of a standing geom in a sound, steady and fitting mesh: it isn't DEV or TASTE, where the place is free it
+-- has no provider, and what is made has sizes of providers
 pub record MayJoin (m : QueuedMesh) (p : Provider) (x : Member) (g : Geom Config) : Type 0 where
   pub not_dev : g.number ≢ 1
   pub not_taste : g.number ≢ 2

@@ -1,13 +1,13 @@
--- The mesh with its events, and the geoms and providers that are made in it (g_new_geomf, g_new_providerf, g_attach(9)).
-use Rattle.std.specs.Prelude.{◌≡◌, ℕ, Bool, true, false, List, [], ◌∷◌, ◌++◌, Some, fold}
+-- The mesh with its events, and the geoms and providers that are made in it (g_new_geomf, g_new_providerf,
+-- g_attach(9)).
+use Rattle.std.specs.Prelude.{◌≡◌, ℕ, Bool, false, List, [], ◌∷◌, ◌++◌, Some, fold}
 use Rattle.geo_base.specs.declared.kind.Kind.{Kind}
 use Rattle.geo_base.specs.declared.kind.Kind.TheVariants as kinds
 use Rattle.geo_model.specs.declared.step.Event.{Event}
 use Rattle.geo_model.specs.declared.step.Event.TheVariants.{NewProvider}
-use Rattle.geo_model.specs.Topology.{Provider, add_consumer}
+use Rattle.geo_model.specs.Topology.{add_consumer}
 use Rattle.geo_model.specs.World.{Config, Disk}
 use Rattle.geo_model.specs.Events.{QueuedTopology}
-use Rattle.geo_model.specs.Acceptance.{NewSlice}
 use Rattle.geo_mesh.specs.Topo.{TopoView, with_geom, with_provider, with_consumer, with_topology, IsButForRoom}
 use Rattle.geo_event.specs.EventQueue.{Queued}
 

@@ -28,8 +28,8 @@ pub enum Accepted {
 /// name is too long or taken, a place is filled, a component has another sector size, or the whole would have a size
 /// that no provider may have. After `NoMemory` nothing changed.
 ///
-/// In a mesh that is sound, steady and fitting that is what the model declines; in another one, where what would be made
-/// breaks the graph, it is declined too.
+/// In a mesh that is sound, steady and fitting that is what the model declines; in another one, where what would be
+/// made breaks the graph, it is declined too.
 pub fn accept(
     alloc: Global,
     topo: &mut Topo<Config>,

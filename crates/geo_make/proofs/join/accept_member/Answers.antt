@@ -1,6 +1,3 @@
-use Rattle.std.proofs.Common.{ap, ◌∙◌, refl, subst, sym, true, false}
-use Rattle.std.specs.Prelude.{Some, [], length, ◌<◌}
-use Rattle.std.specs.Prelude.{None, IsSomeAnd}
 use Rattle.geo_model.specs.Topology.{geom_at}
 use Rattle.geo_laws_less.proofs.Found.{found-with, some-with}
 use Rattle.geo_mesh.specs.Cells.{provider_seen}
@@ -12,21 +9,24 @@ use Rattle.geo_make.proofs.join.accept_member.Goals as goal
 pub join_standing-requires-clause-stays : goal.join_standing-requires-clause-stays
 join_standing-requires-clause-stays c =
     let x = found-with (geom_at c.args.topo.now.topology c.in-Some.geom) _ c.in-Some.ensures.found in
-    standing_stays c.args.topo.now.topology c.in-Some.ensures.sound c.args.member.geom_name c.args.member.empty c.in-Some.geom
+    standing_stays c.args.topo.now.topology c.in-Some.ensures.sound c.args.member.geom_name c.args.member.empty
+    c.in-Some.geom
     x.item x.is x.fact
 
 pub join_standing-requires-clause-place : goal.join_standing-requires-clause-place
 join_standing-requires-clause-place c =
     let x = found-with (geom_at c.args.topo.now.topology c.in-Some.geom) _ c.in-Some.ensures.found in
     some-with (geom_at c.args.topo.now.topology c.in-Some.geom) _ x.item x.is
-    (standing_place c.args.topo.now.topology c.in-Some.ensures.sound c.args.member.geom_name c.args.member.empty c.in-Some.geom
+    (standing_place c.args.topo.now.topology c.in-Some.ensures.sound c.args.member.geom_name c.args.member.empty
+    c.in-Some.geom
     x.item x.is x.fact c.args.member.place c.requires.place)
 
 pub returns-in-Some-clause-made : goal.returns-in-Some-clause-made
 returns-in-Some-clause-made c =
     let x = found-with (geom_at c.args.topo.now.topology c.in-Some.geom) _ c.in-Some.ensures.found in
     ok_follows _ _ c.join_standing.result (λ a is.
-    member_standing c.args.topo.now c.args.queue.now (provider_seen c.args.prov c.args.below.now) (member_of c.args.member) c.in-Some.ensures.sound c.requires.place
+    member_standing c.args.topo.now c.args.queue.now (provider_seen c.args.prov c.args.below.now) (member_of
+    c.args.member) c.in-Some.ensures.sound c.requires.place
     a c.join_standing.new.topo c.join_standing.new.queue c.in-Some.geom x.item x.is
     (λ may. c.in-Some.ensures.first may.classes)
     (at_there (geom_at c.args.topo.now.topology c.in-Some.geom) _ x.item x.is is)) c.join_standing.ensures.made
@@ -34,6 +34,7 @@ returns-in-Some-clause-made c =
 pub returns-in-None-clause-made : goal.returns-in-None-clause-made
 returns-in-None-clause-made c =
     ok_follows _ _ c.join_new.result (λ a is.
-    member_new c.args.topo.now c.args.queue.now (provider_seen c.args.prov c.args.below.now) (member_of c.args.member) c.in-None.ensures.sound c.requires.place
+    member_new c.args.topo.now c.args.queue.now (provider_seen c.args.prov c.args.below.now) (member_of
+    c.args.member) c.in-None.ensures.sound c.requires.place
     a c.join_new.new.topo c.join_new.new.queue
     (λ may. c.in-None.ensures.first may.classes) is) c.join_new.ensures.made

@@ -1,4 +1,4 @@
-use Rattle.std.proofs.Common.{◌≡◌, ◌-◌, None, Some, ap, ◌∙◌, refl, subst, sym, true}
+use Rattle.std.proofs.Common.{◌≡◌, ◌-◌, None, Some, ap, ◌∙◌, subst, sym, true}
 use Rattle.std.specs.Prelude.{[], ◌∷◌}
 use Rattle.geo_model.specs.Topology.{providers_of}
 use Rattle.geo_mesh.specs.Cells.{provider_seen}
@@ -16,7 +16,8 @@ pub returns-in_default-clause-made : goal.returns-in_default-clause-made
 returns-in_default-clause-made c = (
   unchanged c.args.topo.now c.args.queue.now,
   new_none c.args.topo.now c.args.queue.now (provider_seen c.args.prov c.args.below.now) (member_of c.args.member)
-      (subst (λ n. plan_of c.args.topo.now.topology (c.args.below.now.size - n) c.args.below.now.sector c.args.member.empty c.args.member.place
+      (subst (λ n. plan_of c.args.topo.now.topology (c.args.below.now.size - n) c.args.below.now.sector
+      c.args.member.empty c.args.member.place
       (joined_name c.args.member.kind c.args.member.geom_name) ≡ None) c.from.ensures
       (sym c.in_ok-plan.ensures ∙ c.in_default.is)),
 )
@@ -52,9 +53,11 @@ take_place-requires-clause-offer c =
 
 pub returns-clause-made : goal.returns-clause-made
 returns-clause-made c = λ facts.
-    new_joined c.args.topo.now c.args.queue.now (provider_seen c.args.prov c.args.below.now) (member_of c.args.member) c.raise_empty-geom.new.topo
+    new_joined c.args.topo.now c.args.queue.now (provider_seen c.args.prov c.args.below.now) (member_of
+    c.args.member) c.raise_empty-geom.new.topo
     c.take_place.new.topo c.reserve-2.new.self c.take_place.new.queue c.in-Some.plan
-    (subst (λ n. plan_of c.args.topo.now.topology (c.args.below.now.size - n) c.args.below.now.sector c.args.member.empty c.args.member.place
+    (subst (λ n. plan_of c.args.topo.now.topology (c.args.below.now.size - n) c.args.below.now.sector
+    c.args.member.empty c.args.member.place
     (joined_name c.args.member.kind c.args.member.geom_name) ≡ Some c.in-Some.plan) c.from.ensures
     (sym c.in_ok-plan.ensures ∙ c.in-Some.is))
     (geom_over c.args.topo.now c.reserve.new.self c.raise_empty-geom.new.topo c.args.member.kind

@@ -1,15 +1,13 @@
-use Rattle.std.proofs.Common.{◌≡◌, ◌-◌, None, ap, ◌∙◌, refl, subst, sym, true, false}
+use Rattle.std.proofs.Common.{◌≡◌, ◌-◌, None, ◌∙◌, subst, sym}
 use Rattle.std.specs.Prelude.{Some, [], length, ◌<◌, IfSome}
-use Rattle.geo_model.specs.Acceptance.{can_join, places_of}
+use Rattle.geo_model.specs.Acceptance.{places_of}
 use Rattle.geo_model.specs.Topology.{Geom, geom_at, providers_of}
 use Rattle.geo_laws_less.proofs.Found.{at-some}
 use Rattle.geo_mesh.specs.Cells.{geom_seen, provider_seen}
-use Rattle.geo_mesh.specs.Topo.{TopoView}
-use Rattle.geo_make.specs.Making.{AreBoth, both}
-use Rattle.geo_make.specs.Members.{CanBeOffered, joined_name, member_of, plan_of, with_plan}
+use Rattle.geo_make.specs.Members.{CanBeOffered, joined_name, member_of, plan_of}
 use Rattle.geo_make.specs.Standing.{CanStandOn, MayOffer}
 use Rattle.geo_make.proofs.AcceptLemmas.{of_found}
-use Rattle.geo_make.proofs.JoinLemmas.{can_join_is, kept_taken, room_kept, standing_bare, standing_joined, standing_may_offer, standing_no, standing_no_bare, standing_no_plan}
+use Rattle.geo_make.proofs.JoinLemmas.{can_join_is, kept_taken, room_kept, standing_joined, standing_may_offer, standing_no, standing_no_bare, standing_no_plan}
 use Rattle.geo_make.proofs.MemberLemmas.{plan_offers}
 use Rattle.geo_make.proofs.StandingLemmas.{bare_of}
 use Rattle.geo_make.proofs.TableLemmas.{is_no, is_yes, unchanged}
@@ -17,52 +15,61 @@ use Rattle.geo_make.proofs.join.join_standing.Goals as goal
 
 pub returns-then-not-branch-clause-made : goal.returns-then-not-branch-clause-made
 returns-then-not-branch-clause-made c =
-    of_found (geom_at c.args.topo.now.topology c.args.geom) _ (geom_seen c.args.geom c.in-Some.standing.now) c.in-Some.ensures.geom (
+    let t = c.args.topo.now.topology in
+    let p = provider_seen c.args.prov c.args.below.now in
+    let g = geom_seen c.args.geom c.in-Some.standing.now in
+    let inside = at-some (geom_at t c.args.geom)
+    (λ (x : Geom _). c.args.member.now.place < length (places_of x.config)) g c.in-Some.ensures.geom c.requires.place in
+    let cannot = is_no c.in_ok-can_join.field-0 _ (can_join_is t p g c.args.member.now.place
+    c.in_ok-can_join.field-0 inside c.in_ok-can_join.ensures) c.if-not-branch.true in
+    of_found (geom_at t c.args.geom) _ g c.in-Some.ensures.geom (
       unchanged c.args.topo.now c.args.queue.now,
-      λ may.
-          standing_no c.args.topo.now c.args.queue.now (provider_seen c.args.prov c.args.below.now) (member_of c.args.member.now) (geom_seen c.args.geom c.in-Some.standing.now)
-          (is_no c.in_ok-can_join.field-0 _ (can_join_is c.args.topo.now.topology (provider_seen c.args.prov c.args.below.now) (geom_seen c.args.geom c.in-Some.standing.now) c.args.member.now.place c.in_ok-can_join.field-0
-          (at-some (geom_at c.args.topo.now.topology c.args.geom)
-          (λ (g : Geom _). c.args.member.now.place < length (places_of g.config)) (geom_seen c.args.geom c.in-Some.standing.now) c.in-Some.ensures.geom
-          c.requires.place) c.in_ok-can_join.ensures) c.if-not-branch.true),
+      λ may. standing_no c.args.topo.now c.args.queue.now p (member_of c.args.member.now) g cannot,
     )
 
 pub returns-then-not-is_bare-clause-made : goal.returns-then-not-is_bare-clause-made
 returns-then-not-is_bare-clause-made c =
-    of_found (geom_at c.args.topo.now.topology c.args.geom) _ (geom_seen c.args.geom c.in-Some.standing.now) c.in-Some.ensures.geom (
+    let t = c.args.topo.now.topology in
+    let p = provider_seen c.args.prov c.args.below.now in
+    let g = geom_seen c.args.geom c.in-Some.standing.now in
+    let inside = at-some (geom_at t c.args.geom)
+    (λ (x : Geom _). c.args.member.now.place < length (places_of x.config)) g c.in-Some.ensures.geom c.requires.place in
+    let can = is_yes c.in_ok-can_join.field-0 _ (can_join_is t p g c.args.member.now.place
+    c.in_ok-can_join.field-0 inside c.in_ok-can_join.ensures) c.if-not-branch.false in
+    of_found (geom_at t c.args.geom) _ g c.in-Some.ensures.geom (
       unchanged c.args.topo.now c.args.queue.now,
-      λ may.
-          standing_no_bare c.args.topo.now c.args.queue.now (provider_seen c.args.prov c.args.below.now) (member_of c.args.member.now) (geom_seen c.args.geom c.in-Some.standing.now)
-          (is_yes c.in_ok-can_join.field-0 _ (can_join_is c.args.topo.now.topology (provider_seen c.args.prov c.args.below.now) (geom_seen c.args.geom c.in-Some.standing.now) c.args.member.now.place c.in_ok-can_join.field-0
-          (at-some (geom_at c.args.topo.now.topology c.args.geom)
-          (λ (g : Geom _). c.args.member.now.place < length (places_of g.config)) (geom_seen c.args.geom c.in-Some.standing.now) c.in-Some.ensures.geom
-          c.requires.place) c.in_ok-can_join.ensures) c.if-not-branch.false)
+      λ may. standing_no_bare c.args.topo.now c.args.queue.now p (member_of c.args.member.now) g can
           (is_no c.is_bare.result _ c.is_bare.ensures c.if-not-is_bare.true) may,
     )
 
 pub place_plan-requires : goal.place_plan-requires
-place_plan-requires c = (at-some (geom_at c.args.topo.now.topology c.args.geom)
-    (λ (g : Geom _). c.args.member.now.place < length (places_of g.config)) (geom_seen c.args.geom c.in-Some.standing.now) c.in-Some.ensures.geom
-    c.requires.place)
+place_plan-requires c =
+    at-some (geom_at c.args.topo.now.topology c.args.geom)
+    (λ (x : Geom _). c.args.member.now.place < length (places_of x.config))
+    (geom_seen c.args.geom c.in-Some.standing.now) c.in-Some.ensures.geom c.requires.place
 
 pub returns-in_default-2-clause-made : goal.returns-in_default-2-clause-made
 returns-in_default-2-clause-made c =
-    of_found (geom_at c.args.topo.now.topology c.args.geom) _ (geom_seen c.args.geom c.in-Some.standing.now) c.in-Some.ensures.geom (
+    let t = c.args.topo.now.topology in
+    let p = provider_seen c.args.prov c.args.below.now in
+    let g = geom_seen c.args.geom c.in-Some.standing.now in
+    let inside = at-some (geom_at t c.args.geom)
+    (λ (x : Geom _). c.args.member.now.place < length (places_of x.config)) g c.in-Some.ensures.geom c.requires.place in
+    let can = is_yes c.in_ok-can_join.field-0 _ (can_join_is t p g c.args.member.now.place
+    c.in_ok-can_join.field-0 inside c.in_ok-can_join.ensures) c.if-not-branch.false in
+    let plan = subst (λ n. plan_of t (c.args.below.now.size - n) c.args.below.now.sector c.in-Some.standing.now.config
+    c.args.member.now.place (joined_name c.args.member.now.kind c.args.member.now.geom_name) ≡ None)
+    c.from.ensures (sym c.in_ok-plan.ensures ∙ c.in_default-2.is) in
+    of_found (geom_at t c.args.geom) _ g c.in-Some.ensures.geom (
       unchanged c.args.topo.now c.args.queue.now,
-      standing_no_plan c.args.topo.now c.args.queue.now (provider_seen c.args.prov c.args.below.now) (member_of c.args.member.now) (geom_seen c.args.geom c.in-Some.standing.now)
-          (is_yes c.in_ok-can_join.field-0 _ (can_join_is c.args.topo.now.topology (provider_seen c.args.prov c.args.below.now) (geom_seen c.args.geom c.in-Some.standing.now) c.args.member.now.place c.in_ok-can_join.field-0
-          (at-some (geom_at c.args.topo.now.topology c.args.geom)
-          (λ (g : Geom _). c.args.member.now.place < length (places_of g.config)) (geom_seen c.args.geom c.in-Some.standing.now) c.in-Some.ensures.geom
-          c.requires.place) c.in_ok-can_join.ensures) c.if-not-branch.false)
-          (subst (λ n. plan_of c.args.topo.now.topology (c.args.below.now.size - n) c.args.below.now.sector c.in-Some.standing.now.config c.args.member.now.place
-          (joined_name c.args.member.now.kind c.args.member.now.geom_name) ≡ None) c.from.ensures
-          (sym c.in_ok-plan.ensures ∙ c.in_default-2.is)),
+      standing_no_plan c.args.topo.now c.args.queue.now p (member_of c.args.member.now) g can plan,
     )
 
 pub take_place-requires-clause-may : goal.take_place-requires-clause-may
 take_place-requires-clause-may c =
     room_kept (λ t. MayOffer t c.args.geom) c.args.topo.now c.reserve.new.self c.reserve.ensures.same
-    (standing_may_offer c.args.topo.now.topology c.args.geom (geom_seen c.args.geom c.in-Some.standing.now) c.in-Some.ensures.geom c.requires.stays
+    (standing_may_offer c.args.topo.now.topology c.args.geom (geom_seen c.args.geom c.in-Some.standing.now)
+    c.in-Some.ensures.geom c.requires.stays
     (is_yes c.is_bare.result _ c.is_bare.ensures c.if-not-is_bare.false))
 
 pub take_place-requires-clause-bare : goal.take_place-requires-clause-bare
@@ -73,25 +80,32 @@ take_place-requires-clause-bare c =
 
 pub take_place-requires-clause-stands : goal.take_place-requires-clause-stands
 take_place-requires-clause-stands c =
-    room_kept (λ t. CanStandOn t c.args.prov) c.args.topo.now c.reserve.new.self c.reserve.ensures.same c.requires.stands
+    room_kept (λ t. CanStandOn t c.args.prov) c.args.topo.now c.reserve.new.self c.reserve.ensures.same
+    c.requires.stands
 
 pub take_place-requires-clause-offer : goal.take_place-requires-clause-offer
 take_place-requires-clause-offer c =
-    room_kept (λ t. IfSome c.in-Some-2.plan.offer (CanBeOffered t)) c.args.topo.now c.reserve.new.self c.reserve.ensures.same
-    (plan_offers c.args.topo.now.topology _ c.args.below.now.sector c.in-Some.standing.now.config c.args.member.now.place
-    (joined_name c.args.member.now.kind c.args.member.now.geom_name) c.in-Some-2.plan (sym c.in_ok-plan.ensures ∙ c.in-Some-2.is))
+    room_kept (λ t. IfSome c.in-Some-2.plan.offer (CanBeOffered t)) c.args.topo.now c.reserve.new.self
+    c.reserve.ensures.same
+    (plan_offers c.args.topo.now.topology _ c.args.below.now.sector c.in-Some.standing.now.config
+    c.args.member.now.place (joined_name c.args.member.now.kind c.args.member.now.geom_name) c.in-Some-2.plan
+    (sym c.in_ok-plan.ensures ∙ c.in-Some-2.is))
 
 pub returns-clause-made : goal.returns-clause-made
 returns-clause-made c =
-    of_found (geom_at c.args.topo.now.topology c.args.geom) _ (geom_seen c.args.geom c.in-Some.standing.now) c.in-Some.ensures.geom
-    (λ may. standing_joined c.args.topo.now c.args.queue.now (provider_seen c.args.prov c.args.below.now) (member_of c.args.member.now)
-    (geom_seen c.args.geom c.in-Some.standing.now) c.take_place.new.topo c.take_place.new.queue c.in-Some-2.plan
-    (is_yes c.in_ok-can_join.field-0 _ (can_join_is c.args.topo.now.topology (provider_seen c.args.prov c.args.below.now) (geom_seen c.args.geom c.in-Some.standing.now) c.args.member.now.place c.in_ok-can_join.field-0
-    (at-some (geom_at c.args.topo.now.topology c.args.geom)
-    (λ (g : Geom _). c.args.member.now.place < length (places_of g.config)) (geom_seen c.args.geom c.in-Some.standing.now) c.in-Some.ensures.geom
-    c.requires.place) c.in_ok-can_join.ensures) c.if-not-branch.false)
-    (subst (λ n. plan_of c.args.topo.now.topology (c.args.below.now.size - n) c.args.below.now.sector c.in-Some.standing.now.config c.args.member.now.place
-    (joined_name c.args.member.now.kind c.args.member.now.geom_name) ≡ Some c.in-Some-2.plan) c.from.ensures
-    (sym c.in_ok-plan.ensures ∙ c.in-Some-2.is))
-    (kept_taken c.args.topo.now c.reserve.new.self c.take_place.new.topo c.args.queue.now c.reserve-2.new.self c.take_place.new.queue
-    c.args.prov c.args.geom c.in-Some-2.plan c.reserve.ensures.same c.reserve-2.ensures.events_stay c.take_place.ensures.taken))
+    let t = c.args.topo.now.topology in
+    let p = provider_seen c.args.prov c.args.below.now in
+    let g = geom_seen c.args.geom c.in-Some.standing.now in
+    let inside = at-some (geom_at t c.args.geom)
+    (λ (x : Geom _). c.args.member.now.place < length (places_of x.config)) g c.in-Some.ensures.geom c.requires.place in
+    let can = is_yes c.in_ok-can_join.field-0 _ (can_join_is t p g c.args.member.now.place
+    c.in_ok-can_join.field-0 inside c.in_ok-can_join.ensures) c.if-not-branch.false in
+    let plan = subst (λ n. plan_of t (c.args.below.now.size - n) c.args.below.now.sector c.in-Some.standing.now.config
+    c.args.member.now.place (joined_name c.args.member.now.kind c.args.member.now.geom_name) ≡ Some c.in-Some-2.plan)
+    c.from.ensures (sym c.in_ok-plan.ensures ∙ c.in-Some-2.is) in
+    of_found (geom_at t c.args.geom) _ g c.in-Some.ensures.geom
+    (λ may. standing_joined c.args.topo.now c.args.queue.now p (member_of c.args.member.now) g c.take_place.new.topo
+    c.take_place.new.queue c.in-Some-2.plan can plan
+    (kept_taken c.args.topo.now c.reserve.new.self c.take_place.new.topo c.args.queue.now c.reserve-2.new.self
+    c.take_place.new.queue c.args.prov c.args.geom c.in-Some-2.plan c.reserve.ensures.same
+    c.reserve-2.ensures.events_stay c.take_place.ensures.taken))

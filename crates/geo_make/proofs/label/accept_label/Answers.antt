@@ -7,19 +7,21 @@ use Rattle.geo_model.specs.World.{Label}
 use Rattle.geo_mesh.specs.Cells.{provider_seen}
 use Rattle.geo_mesh.specs.Topo.{TopoView, is_provider_size}
 use Rattle.geo_make.proofs.Raising.{risen_free, risen_offered}
-use Rattle.geo_make.proofs.TableLemmas.{is_no, is_yes, label_free, label_made, label_offer, label_small, label_taken, label_untaken, stands_kept, unchanged}
+use Rattle.geo_make.proofs.TableLemmas.{is_no, label_free, label_made, label_offer, label_small, label_taken, label_untaken, stands_kept, unchanged}
 use Rattle.geo_make.proofs.label.accept_label.Goals as goal
 
 pub returns-in_default-clause-made : goal.returns-in_default-clause-made
 returns-in_default-clause-made c = (
   unchanged c.args.topo.now c.args.queue.now,
-  λ facts. label_taken c.args.topo.now c.args.queue.now (provider_seen c.args.prov c.args.below.now) (label_name c.args.found.now.name) (sym c.in_default.ensures),
+  λ facts. label_taken c.args.topo.now c.args.queue.now (provider_seen c.args.prov c.args.below.now) (label_name
+      c.args.found.now.name) (sym c.in_default.ensures),
 )
 
 pub returns-then-not-is_provider_size-clause-made : goal.returns-then-not-is_provider_size-clause-made
 returns-then-not-is_provider_size-clause-made c = (
   unchanged c.args.topo.now c.args.queue.now,
-  label_small c.args.topo.now c.args.queue.now (provider_seen c.args.prov c.args.below.now) (label_name c.args.found.now.name)
+  label_small c.args.topo.now c.args.queue.now (provider_seen c.args.prov c.args.below.now) (label_name
+      c.args.found.now.name)
       (subst (λ n. is_provider_size (c.args.below.now.size - n) c.args.below.now.sector ≡ false) c.from.ensures
       (is_no c.is_provider_size.result _ c.is_provider_size.ensures c.if-not-is_provider_size.true)),
 )
@@ -30,15 +32,18 @@ raise-id-requires-clause-stand c =
 
 pub make_offer-requires-clause-free : goal.make_offer-requires-clause-free
 make_offer-requires-clause-free c =
-    let free = label_free c.args.topo.now c.args.queue.now (provider_seen c.args.prov c.args.below.now) (label_name c.args.found.now.name) c.in-Some.name (sym c.in-Some.ensures) in
+    let free = label_free c.args.topo.now c.args.queue.now (provider_seen c.args.prov c.args.below.now) (label_name
+    c.args.found.now.name) c.in-Some.name (sym c.in-Some.ensures) in
     risen_free c.args.topo.now c.reserve.new.self c.raise-id.new.topo kinds.Label c.args.below.now.name c.label.result
     true (c.args.prov ∷ []) c.reserve.ensures.same c.raise-id.ensures.raised c.in-Some.name
     (subst (λ n. is_name_taken c.args.topo.now.topology n ≡ false) free.1
-    (label_untaken c.args.topo.now c.args.queue.now (provider_seen c.args.prov c.args.below.now) (label_name c.args.found.now.name) free.0))
+    (label_untaken c.args.topo.now c.args.queue.now (provider_seen c.args.prov c.args.below.now) (label_name
+    c.args.found.now.name) free.0))
 
 pub returns-clause-made : goal.returns-clause-made
 returns-clause-made c = λ facts.
-    let free = label_free c.args.topo.now c.args.queue.now (provider_seen c.args.prov c.args.below.now) (label_name c.args.found.now.name) c.in-Some.name (sym c.in-Some.ensures) in
+    let free = label_free c.args.topo.now c.args.queue.now (provider_seen c.args.prov c.args.below.now) (label_name
+    c.args.found.now.name) c.in-Some.name (sym c.in-Some.ensures) in
     let p = provider_seen c.args.prov c.args.below.now in
     let next : c.coming_consumer.result ≡ c.args.topo.now.topology.next_consumer =
     c.coming_consumer.ensures.number ∙ ap (λ (x : TopoView _). x.topology.next_consumer) c.reserve.ensures.same in

@@ -1,7 +1,7 @@
 use Rattle.std.proofs.Common.{arith, refl, subst}
 use Rattle.geo_make.specs.declared.offer.Offer.{Offer}
 use Rattle.geo_make.specs.Making.{AreBoth, both, with_offer}
-use Rattle.geo_make.proofs.PartLoops.{offer_step, offer_next, offer_end, offer_spare}
+use Rattle.geo_make.proofs.PartLoops.{offer_step, offer_end, offer_spare}
 use Rattle.geo_make.proofs.parts.offer_parts.Goals as goal
 
 pub loop-part-init : goal.loop-part-init

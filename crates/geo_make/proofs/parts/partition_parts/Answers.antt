@@ -13,31 +13,37 @@ push_partition-requires c =
     c.loop-part.part-index c.loop-part.parts.items
     (get_or c.args.chain.now c.loop-part.part-index None)
     (omega (arith, c.told-chain, c.loop-part-test.true))
-    (any_default c.args.chain.now c.loop-part.part-index None (get_or c.args.chain.now c.loop-part.part-index None) (omega (arith, c.told-chain, c.loop-part-test.true)))
+    (any_default c.args.chain.now c.loop-part.part-index None (get_or c.args.chain.now c.loop-part.part-index None)
+    (omega (arith, c.told-chain, c.loop-part-test.true)))
     c.loop-part.invariant in
     omega (arith, c.told-chain, inside)
 
 pub returns-then-not-branch-clause-named : goal.returns-then-not-branch-clause-named
 returns-then-not-branch-clause-named c =
-    named_none (logical_name c.args.below.now) (λ s. s.count) c.args.chain.now c.loop-part.place c.loop-part.part-index
+    named_none (logical_name c.args.below.now) (λ s. s.count) c.args.chain.now c.loop-part.place
+    c.loop-part.part-index
     c.loop-part.parts.items c.push_partition.new.parts.items
     (get_or c.args.chain.now c.loop-part.part-index None)
     c.in_ok-push_partition.field-0
     (omega (arith, c.told-chain, c.loop-part-test.true))
-    (any_default c.args.chain.now c.loop-part.part-index None (get_or c.args.chain.now c.loop-part.part-index None) (omega (arith, c.told-chain, c.loop-part-test.true)))
+    (any_default c.args.chain.now c.loop-part.part-index None (get_or c.args.chain.now c.loop-part.part-index None)
+    (omega (arith, c.told-chain, c.loop-part-test.true)))
     c.loop-part.invariant c.in_ok-push_partition.ensures c.if-not-branch.true
 
 pub loop-part-preserved : goal.loop-part-preserved
 loop-part-preserved c =
-    named_more (logical_name c.args.below.now) (λ s. s.count) c.args.chain.now c.loop-part.place c.loop-part.part-index
+    named_more (logical_name c.args.below.now) (λ s. s.count) c.args.chain.now c.loop-part.place
+    c.loop-part.part-index
     c.loop-part.parts.items c.push_partition.new.parts.items
     (get_or c.args.chain.now c.loop-part.part-index None)
     c.in_ok-push_partition.field-0
     (omega (arith, c.told-chain, c.loop-part-test.true))
-    (any_default c.args.chain.now c.loop-part.part-index None (get_or c.args.chain.now c.loop-part.part-index None) (omega (arith, c.told-chain, c.loop-part-test.true)))
+    (any_default c.args.chain.now c.loop-part.part-index None (get_or c.args.chain.now c.loop-part.part-index None)
+    (omega (arith, c.told-chain, c.loop-part-test.true)))
     c.loop-part.invariant c.in_ok-push_partition.ensures c.if-not-branch.false
 
 pub returns-clause-named : goal.returns-clause-named
 returns-clause-named c =
-    named_end (logical_name c.args.below.now) (λ s. s.count) c.args.chain.now c.loop-part.place c.loop-part.parts.items
+    named_end (logical_name c.args.below.now) (λ s. s.count) c.args.chain.now c.loop-part.place
+    c.loop-part.parts.items
     c.loop-part.part-index (omega (arith, c.told-chain, c.loop-part-test.false)) c.loop-part.invariant

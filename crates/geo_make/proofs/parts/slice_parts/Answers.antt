@@ -13,31 +13,37 @@ push_slice-requires c =
     c.loop-slice.slice-index c.loop-slice.parts.items
     (get_or c.args.slices.now c.loop-slice.slice-index None)
     (omega (arith, c.told-slices, c.loop-slice-test.true))
-    (any_default c.args.slices.now c.loop-slice.slice-index None (get_or c.args.slices.now c.loop-slice.slice-index None) (omega (arith, c.told-slices, c.loop-slice-test.true)))
+    (any_default c.args.slices.now c.loop-slice.slice-index None (get_or c.args.slices.now c.loop-slice.slice-index
+    None) (omega (arith, c.told-slices, c.loop-slice-test.true)))
     c.loop-slice.invariant in
     omega (arith, c.told-slices, inside)
 
 pub returns-then-not-branch-clause-named : goal.returns-then-not-branch-clause-named
 returns-then-not-branch-clause-named c =
-    named_none (slice_name c.args.below.now) (λ s. s.count) c.args.slices.now c.loop-slice.place c.loop-slice.slice-index
+    named_none (slice_name c.args.below.now) (λ s. s.count) c.args.slices.now c.loop-slice.place
+    c.loop-slice.slice-index
     c.loop-slice.parts.items c.push_slice.new.parts.items
     (get_or c.args.slices.now c.loop-slice.slice-index None)
     c.in_ok-push_slice.field-0
     (omega (arith, c.told-slices, c.loop-slice-test.true))
-    (any_default c.args.slices.now c.loop-slice.slice-index None (get_or c.args.slices.now c.loop-slice.slice-index None) (omega (arith, c.told-slices, c.loop-slice-test.true)))
+    (any_default c.args.slices.now c.loop-slice.slice-index None (get_or c.args.slices.now c.loop-slice.slice-index
+    None) (omega (arith, c.told-slices, c.loop-slice-test.true)))
     c.loop-slice.invariant c.in_ok-push_slice.ensures c.if-not-branch.true
 
 pub loop-slice-preserved : goal.loop-slice-preserved
 loop-slice-preserved c =
-    named_more (slice_name c.args.below.now) (λ s. s.count) c.args.slices.now c.loop-slice.place c.loop-slice.slice-index
+    named_more (slice_name c.args.below.now) (λ s. s.count) c.args.slices.now c.loop-slice.place
+    c.loop-slice.slice-index
     c.loop-slice.parts.items c.push_slice.new.parts.items
     (get_or c.args.slices.now c.loop-slice.slice-index None)
     c.in_ok-push_slice.field-0
     (omega (arith, c.told-slices, c.loop-slice-test.true))
-    (any_default c.args.slices.now c.loop-slice.slice-index None (get_or c.args.slices.now c.loop-slice.slice-index None) (omega (arith, c.told-slices, c.loop-slice-test.true)))
+    (any_default c.args.slices.now c.loop-slice.slice-index None (get_or c.args.slices.now c.loop-slice.slice-index
+    None) (omega (arith, c.told-slices, c.loop-slice-test.true)))
     c.loop-slice.invariant c.in_ok-push_slice.ensures c.if-not-branch.false
 
 pub returns-clause-named : goal.returns-clause-named
 returns-clause-named c =
-    named_end (slice_name c.args.below.now) (λ s. s.count) c.args.slices.now c.loop-slice.place c.loop-slice.parts.items
+    named_end (slice_name c.args.below.now) (λ s. s.count) c.args.slices.now c.loop-slice.place
+    c.loop-slice.parts.items
     c.loop-slice.slice-index (omega (arith, c.told-slices, c.loop-slice-test.false)) c.loop-slice.invariant

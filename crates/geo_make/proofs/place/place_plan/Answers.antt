@@ -1,6 +1,6 @@
 use Rattle.std.proofs.Common.{◌∙◌, sym}
 use Rattle.geo_model.specs.Acceptance.{fill_place}
-use Rattle.geo_make.specs.Members.{joined_name, plan_for}
+use Rattle.geo_make.specs.Members.{joined_name}
 use Rattle.geo_make.proofs.MemberLemmas.{standing_none, standing_some}
 use Rattle.geo_make.proofs.place.place_plan.Goals as goal
 
@@ -9,7 +9,8 @@ returns-in_default c =
     rw (← c.coming_consumer-consumer.ensures.number)
     (sym (standing_none c.args.topo.now.topology
     (fill_place c.args.config.now c.args.member.now.place c.coming_consumer-consumer.result c.args.size)
-    (joined_name c.args.member.now.kind c.args.member.now.geom_name) c.args.sector (sym c.in_ok-filled.ensures ∙ c.in_default.is)))
+    (joined_name c.args.member.now.kind c.args.member.now.geom_name) c.args.sector (sym c.in_ok-filled.ensures ∙
+    c.in_default.is)))
 
 pub returns : goal.returns
 returns c =

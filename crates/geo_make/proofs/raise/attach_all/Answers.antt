@@ -1,5 +1,5 @@
 use Rattle.std.proofs.Common.{arith, refl}
-use Rattle.geo_make.proofs.AttachLoop.{attach_step, attach_next, attach_end}
+use Rattle.geo_make.proofs.AttachLoop.{attach_step, attach_end}
 use Rattle.geo_make.proofs.raise.attach_all.Goals as goal
 
 pub loop-prov-init : goal.loop-prov-init

@@ -1,6 +1,4 @@
 use Rattle.std.proofs.Common.{subst, sym}
-use Rattle.std.specs.Prelude.{IsSome, []}
-use Rattle.geo_model.specs.Topology.{geom_at, providers_of}
 use Rattle.geo_mesh.specs.Topo.{IsButForRoom}
 use Rattle.geo_make.specs.Making.{with_all_attached}
 use Rattle.geo_make.specs.Standing.{MayOffer}

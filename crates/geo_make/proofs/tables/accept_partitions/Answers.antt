@@ -14,8 +14,10 @@ pub returns-in_default-clause-made : goal.returns-in_default-clause-made
 returns-in_default-clause-made c = (
   unchanged c.args.topo.now c.args.queue.now,
   λ facts. table_unnamed c.args.topo.now c.args.queue.now kinds.Ebr c.args.name.now
-      (Ebr (Some c.args.topo.now.topology.next_consumer) c.args.table.now.parts) c.args.prov (new_parts c.args.name.now c.args.table.now.parts)
-      (named_nothing (new_parts c.args.name.now c.args.table.now.parts) (mapped_none _ c.in_ok-parts.field-0 _ c.in_default.is c.in_ok-parts.ensures.named)),
+      (Ebr (Some c.args.topo.now.topology.next_consumer) c.args.table.now.parts) c.args.prov (new_parts
+      c.args.name.now c.args.table.now.parts)
+      (named_nothing (new_parts c.args.name.now c.args.table.now.parts) (mapped_none _ c.in_ok-parts.field-0 _
+      c.in_default.is c.in_ok-parts.ensures.named)),
 )
 
 pub accept_parts-requires-clause-names : goal.accept_parts-requires-clause-names
@@ -28,14 +30,16 @@ pub accept_parts-requires-clause-apart : goal.accept_parts-requires-clause-apart
 accept_parts-requires-clause-apart c =
     let n = named_some (new_parts c.args.name.now c.args.table.now.parts) c.in-Some.parts.items
     (mapped_some _ c.in_ok-parts.field-0 c.in-Some.parts _ c.in-Some.is c.in_ok-parts.ensures.named) in
-    subst (PairsByRecursion Differ) (sym (c.deref.ensures.value ∙ n.1)) (partitions_differ c.args.name.now c.args.table.now.parts c.partition_parts.ensures.few)
+    subst (PairsByRecursion Differ) (sym (c.deref.ensures.value ∙ n.1)) (partitions_differ c.args.name.now
+    c.args.table.now.parts c.partition_parts.ensures.few)
 
 pub returns-clause-made : goal.returns-clause-made
 returns-clause-made c =
     let n = named_some (new_parts c.args.name.now c.args.table.now.parts) c.in-Some.parts.items
     (mapped_some _ c.in_ok-parts.field-0 c.in-Some.parts _ c.in-Some.is c.in_ok-parts.ensures.named) in
     sliced_as c.args.topo.now c.args.queue.now c.args.prov kinds.Ebr c.args.name.now c.ebr.result
-    (Ebr (Some c.args.topo.now.topology.next_consumer) c.args.table.now.parts) c.deref.result.now (new_parts c.args.name.now c.args.table.now.parts)
+    (Ebr (Some c.args.topo.now.topology.next_consumer) c.args.table.now.parts) c.deref.result.now (new_parts
+    c.args.name.now c.args.table.now.parts)
     c.accept_parts.result c.accept_parts.new.topo c.accept_parts.new.queue
     (c.ebr.ensures ∙ ap (λ n. Ebr (Some n) c.args.table.now.parts) c.coming_consumer.ensures.number)
     (c.deref.ensures.value ∙ n.1) c.accept_parts.ensures.made

@@ -6,7 +6,8 @@ use Rattle.geo_make.proofs.tables.accept_parts.Goals as goal
 pub returns-then-not-are_addable-clause-made : goal.returns-then-not-are_addable-clause-made
 returns-then-not-are_addable-clause-made c = (
   unchanged c.args.topo.now c.args.queue.now,
-  table_none c.args.topo.now c.args.queue.now c.args.geom.kind c.args.geom.name c.args.geom.config c.args.prov c.args.parts.now
+  table_none c.args.topo.now c.args.queue.now c.args.geom.kind c.args.geom.name c.args.geom.config c.args.prov
+      c.args.parts.now
       (is_no c.are_addable.result _ c.are_addable.ensures c.if-not-are_addable.true),
 )
 
@@ -16,13 +17,15 @@ raise-id-requires-clause-stand c =
 
 pub offer_parts-requires-clause-parts : goal.offer_parts-requires-clause-parts
 offer_parts-requires-clause-parts c =
-    table_can c.args.topo.now c.args.queue.now c.args.geom.kind c.args.geom.name c.args.geom.config c.args.prov c.args.parts.now
+    table_can c.args.topo.now c.args.queue.now c.args.geom.kind c.args.geom.name c.args.geom.config c.args.prov
+    c.args.parts.now
     c.reserve.new.self c.raise-id.new.topo c.reserve.ensures.same c.raise-id.ensures.raised
     (is_yes c.are_addable.result _ c.are_addable.ensures c.if-not-are_addable.false)
 
 pub returns-clause-made : goal.returns-clause-made
 returns-clause-made c = λ facts.
-    table_made c.args.topo.now c.args.queue.now c.args.geom.kind c.args.geom.name c.args.geom.config c.args.prov c.args.parts.now
+    table_made c.args.topo.now c.args.queue.now c.args.geom.kind c.args.geom.name c.args.geom.config c.args.prov
+    c.args.parts.now
     c.reserve.new.self c.raise-id.new.topo c.reserve.ensures.same c.raise-id.ensures.raised
     (is_yes c.are_addable.result _ c.are_addable.ensures c.if-not-are_addable.false)
     c.offer_parts.new.topo c.reserve-2.new.self c.offer_parts.new.queue c.raise-id.result

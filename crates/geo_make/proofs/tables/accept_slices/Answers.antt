@@ -14,8 +14,10 @@ pub returns-in_default-clause-made : goal.returns-in_default-clause-made
 returns-in_default-clause-made c = (
   unchanged c.args.topo.now c.args.queue.now,
   λ facts. table_unnamed c.args.topo.now c.args.queue.now kinds.Mbr c.args.name.now
-      (Mbr (Some c.args.topo.now.topology.next_consumer) c.args.table.now.slices) c.args.prov (new_slices c.args.name.now c.args.table.now.slices)
-      (named_nothing (new_slices c.args.name.now c.args.table.now.slices) (mapped_none _ c.in_ok-parts.field-0 _ c.in_default.is c.in_ok-parts.ensures.named)),
+      (Mbr (Some c.args.topo.now.topology.next_consumer) c.args.table.now.slices) c.args.prov (new_slices
+      c.args.name.now c.args.table.now.slices)
+      (named_nothing (new_slices c.args.name.now c.args.table.now.slices) (mapped_none _ c.in_ok-parts.field-0 _
+      c.in_default.is c.in_ok-parts.ensures.named)),
 )
 
 pub accept_parts-requires-clause-names : goal.accept_parts-requires-clause-names
@@ -28,14 +30,16 @@ pub accept_parts-requires-clause-apart : goal.accept_parts-requires-clause-apart
 accept_parts-requires-clause-apart c =
     let n = named_some (new_slices c.args.name.now c.args.table.now.slices) c.in-Some.parts.items
     (mapped_some _ c.in_ok-parts.field-0 c.in-Some.parts _ c.in-Some.is c.in_ok-parts.ensures.named) in
-    subst (PairsByRecursion Differ) (sym (c.deref.ensures.value ∙ n.1)) (slices_differ c.args.name.now c.args.table.now.slices)
+    subst (PairsByRecursion Differ) (sym (c.deref.ensures.value ∙ n.1)) (slices_differ c.args.name.now
+    c.args.table.now.slices)
 
 pub returns-clause-made : goal.returns-clause-made
 returns-clause-made c =
     let n = named_some (new_slices c.args.name.now c.args.table.now.slices) c.in-Some.parts.items
     (mapped_some _ c.in_ok-parts.field-0 c.in-Some.parts _ c.in-Some.is c.in_ok-parts.ensures.named) in
     sliced_as c.args.topo.now c.args.queue.now c.args.prov kinds.Mbr c.args.name.now c.mbr.result
-    (Mbr (Some c.args.topo.now.topology.next_consumer) c.args.table.now.slices) c.deref.result.now (new_slices c.args.name.now c.args.table.now.slices)
+    (Mbr (Some c.args.topo.now.topology.next_consumer) c.args.table.now.slices) c.deref.result.now (new_slices
+    c.args.name.now c.args.table.now.slices)
     c.accept_parts.result c.accept_parts.new.topo c.accept_parts.new.queue
     (c.mbr.ensures ∙ ap (λ n. Mbr (Some n) c.args.table.now.slices) c.coming_consumer.ensures.number)
     (c.deref.ensures.value ∙ n.1) c.accept_parts.ensures.made
