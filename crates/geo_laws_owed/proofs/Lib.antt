@@ -2,3 +2,4 @@ pub mod Counting
 pub mod OwedBios
 pub mod OwedCommands
 pub mod OwedSteps
+pub mod Room

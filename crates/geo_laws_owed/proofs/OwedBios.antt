@@ -114,7 +114,8 @@ module _ (w : World) (x : Bio) (order : BiosInOrder w) (found : bio_at w x.numbe
 
 -- Up
 
-module _ (w : World) (firm : Firm w) (x : Bio) (found : bio_at w x.number ≡ Some x) (up_now : is_up x.phase ≡ true) where
+module _ (w : World) (firm : Firm w) (x : Bio) (found : bio_at w x.number ≡ Some x)
+    (up_now : is_up x.phase ≡ true) where
   -- the bio counts nothing
   up_idle : busy x ≡ 0
   up_idle = idle is_up (λ seat. refl) x up_now

@@ -89,7 +89,8 @@ queue_owes w (e ∷ rest) =
     let same = event_owes (record w { events = rest }) e in omega (arith, same)
 
 -- by whether a taste is under way
-event_by : (w : World) (b : Bool) → Changes w steps.Event (if b then Err refusals.TasteUnderWay else event_of w w.events)
+event_by : (w : World) (b : Bool)
+    → Changes w steps.Event (if b then Err refusals.TasteUnderWay else event_of w w.events)
 event_by w true = tt
 event_by w false = queue_owes w w.events
 
