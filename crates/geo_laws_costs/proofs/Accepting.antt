@@ -145,13 +145,15 @@ free_at (Some c ∷ places) (suc k) short e = free_at places k (omega (arith, sh
 
 module _ (w : World) (firm : Firm w) (p : Provider) (there : provider_at w.topology p.number ≡ Some p)
     (made : QueuedTopology Config) where
-  -- the graph, in order, whose parts live
+  -- the graph
   abbrev t : Topology Config
   t = w.topology
 
+  -- it is in order
   order : IsInOrder t
   order = sound-order w firm.sound.numbers
 
+  -- its parts live
   live : PartsLive t
   live = steady-parts t firm.steady.parts firm.steady.attached
 

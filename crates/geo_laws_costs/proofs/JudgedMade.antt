@@ -217,11 +217,12 @@ module _ (w : World) (firm : Firm w) (s : Taste) (is : w.taste ≡ Some s) (goin
     verdict_lower a same classes (More sector) e = λ made. absurd (let no : ⊥ = cc in no)
     verdict_lower a same classes (Accept shape) e = accept_lower a same classes shape e (accept q p shape) refl
 
-    -- the taste is of the same provider, with the same classes left
+    -- the taste is of the same provider
     same_provider : (kind : Kind) → (with_read g s kind bytes f).provider ≡ s.provider
     same_provider kinds.Ebr = refl
     same_provider _ = refl
 
+    -- with the same classes left
     same_classes : (kind : Kind) → (with_read g s kind bytes f).classes ≡ s.classes
     same_classes kinds.Ebr = refl
     same_classes _ = refl

@@ -2,3 +2,5 @@ pub mod EachStep
 pub mod Moving
 pub mod Picking
 pub mod Endless
+pub mod Quiet
+pub mod Rounds

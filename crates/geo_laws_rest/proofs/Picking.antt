@@ -34,7 +34,7 @@ use Rattle.geo_laws_rest.proofs.EachStep.{steps_lower}
 use Rattle.geo_laws_rest.proofs.Moving.{none_passes, no_bios}
 
 -- what an order wants of its step
-abbrev IsGood : World → Step → Type 0
+abbrev pub IsGood : World → Step → Type 0
 IsGood w s = IsTrue (is_enabled w 0 s) × Lowers w 0 s
 
 -- the first of two, where each that may come first is good
@@ -175,20 +175,24 @@ no_wash w (Some work) e = absurd (let no : ⊥ = cc in no)
 -- What the steps that aren't enabled say
 
 module _ (w : World) where
+  -- of a Judge
   judge_not : is_enabled w 0 steps.Judge ≡ false → is_ok (judge_of w w.taste) ≡ false
   unfolding step judge_next
   judge_not e = e
 
+  -- of an Event
   event_not : is_enabled w 0 steps.Event ≡ false
       → is_ok {T = World × Outcome} {E = Found}
       (if is_some w.taste then Err refusals.TasteUnderWay else event_of w w.events) ≡ false
   unfolding step event
   event_not e = e
 
+  -- of a Reap
   reap_not : is_enabled w 0 steps.Reap ≡ false → reap_work w ≡ None
   unfolding step reap_next
   reap_not e = no_reap w (reap_work w) e
 
+  -- of a Wash
   wash_not : is_enabled w 0 steps.Wash ≡ false → wash_work w ≡ None
   unfolding step wash_next
   wash_not e = no_wash w (wash_work w) e
@@ -364,7 +368,7 @@ module _ (w : World) (firm : Firm w) (idle : NoneBusy w) (busy : Rest w → ⊥)
       (ready_enabled w (enumerate_from 0 w.actors)) actor found))
 
   -- so the first that is enabled is good
-  pick_good : IsSomeAnd (pick w) (IsGood w)
+  pub pick_good : IsSomeAnd (pick w) (IsGood w)
   unfolding pick
   pick_good =
       first_of w _ _ goes_up (λ no_up.

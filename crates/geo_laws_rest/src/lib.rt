@@ -2,7 +2,7 @@
 #![tactic(auto)]
 
 ghost use Rattle.geo_model.specs.Laws.{PickGoesOn, StepsLower};
-ghost use Rattle.geo_laws_rest.specs.RestLaws.{NoneFallsForEver};
+ghost use Rattle.geo_laws_rest.specs.RestLaws.{FixedOrderEnds, NoneFallsForEver};
 
 /// Each enabled step lowers the measure, a Take together with a Deliver that fits; but for a Wash of a consumer while a
 /// taste is under way or to come.
@@ -19,4 +19,10 @@ pub fn fixed_order_goes_on()
 /// No run lowers the measure for ever.
 pub fn measures_do_not_fall_for_ever()
     ensures { NoneFallsForEver }
+{}
+
+/// From a firm mesh without a Busy bio the fixed order comes to an end, whatever disks answer, where each Take is
+/// followed by its Deliver.
+pub fn fixed_order_ends()
+    ensures { FixedOrderEnds }
 {}
