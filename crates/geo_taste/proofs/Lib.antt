@@ -1,0 +1,13 @@
+pub mod Kept
+pub mod Adding
+pub mod Coming
+pub mod Leaving
+pub mod Writing
+pub mod Reading
+pub mod Tests
+pub mod Covering
+pub mod Going
+pub mod Asking
+pub mod Begun
+pub mod Saying
+pub mod Resting

@@ -1,0 +1,33 @@
+use Rattle.std.proofs.Common.{◌≡◌, Some, sym, ap, ◌∙◌, subst}
+use Rattle.std.specs.Prelude.{option_map}
+use Rattle.geo_model.specs.Tasting.{facts_of}
+use Rattle.geo_model.specs.Topology.{provider_at}
+use Rattle.geo_mesh.specs.Cells.{provider_seen}
+use Rattle.geo_taste.proofs.Going.{sector_some, going_errored, going_on}
+use Rattle.geo_taste.proofs.ask.facts.Goals as goal
+
+pub returns-then-provider : goal.returns-then-provider
+returns-then-provider c =
+    sym (ap (option_map (facts_of c.args.topo.now.topology))
+    (going_errored c.args.topo.now.topology c.in_ok-provider.ensures.sound.orderly.order c.args.taste.now
+    (provider_seen c.provider.result c.in_ok-provider.provider.now)
+    (subst (λ n. provider_at c.args.topo.now.topology n
+    ≡ Some (provider_seen c.provider.result c.in_ok-provider.provider.now)) c.provider.ensures
+    c.in_ok-provider.ensures.provider)
+    c.if-provider.true))
+
+pub facts_of-requires : goal.facts_of-requires
+facts_of-requires c =
+    sector_some c.args.topo.now.topology c.in_ok-provider.ensures.sound c.provider.result
+    (provider_seen c.provider.result c.in_ok-provider.provider.now) c.in_ok-provider.ensures.provider
+
+pub returns : goal.returns
+returns c =
+    ap (λ f. Some f) (c.facts_of.ensures c.provider.result)
+    ∙ sym (ap (option_map (facts_of c.args.topo.now.topology))
+    (going_on c.args.topo.now.topology c.in_ok-provider.ensures.sound.orderly.order c.args.taste.now
+    (provider_seen c.provider.result c.in_ok-provider.provider.now)
+    (subst (λ n. provider_at c.args.topo.now.topology n
+    ≡ Some (provider_seen c.provider.result c.in_ok-provider.provider.now)) c.provider.ensures
+    c.in_ok-provider.ensures.provider)
+    c.if-provider.false (sym c.is_spoiled.ensures ∙ c.if-is_spoiled.false)))

@@ -1,0 +1,52 @@
+use Rattle.std.proofs.Common.{sym, ap, ◌∙◌, subst}
+use Rattle.geo_mesh.specs.Topo.{with_consumer}
+use Rattle.geo_taste.specs.Taster.{first_taste, IsSettled, IsTasteOf}
+use Rattle.geo_taste.proofs.Begun.{settled_roomed, taster_settled, tasted_is, loose_there, attach_goes, attached_is, taster_tasting}
+use Rattle.geo_taste.proofs.taster.begin.Goals as goal
+
+pub returns-in_err-consumer-clause-settled : goal.returns-in_err-consumer-clause-settled
+returns-in_err-consumer-clause-settled c =
+    subst IsSettled (sym c.in_err-consumer.ensures.same)
+    (settled_roomed c.args.topo.now c.new_consumer.new.self.room c.requires.settled)
+
+pub attach-requires-clause-consumer : goal.attach-requires-clause-consumer
+attach-requires-clause-consumer c =
+    loose_there c.args.topo.now c.new_consumer.new.self c.taste_geom-geom.ensures.sound
+    (c.in_ok-consumer.ensures.added
+    ∙ ap (λ g. record (with_consumer c.args.topo.now g) { room = c.new_consumer.new.self.room })
+    c.taste_geom-geom.ensures.number)
+    c.in_ok-consumer.consumer c.in_ok-consumer.ensures.number
+
+pub unreachable-requires : goal.unreachable-requires
+unreachable-requires c =
+    let none = attach_goes c.args.topo.now c.new_consumer.new.self c.taste_geom-geom.ensures.sound
+    (c.in_ok-consumer.ensures.added
+    ∙ ap (λ g. record (with_consumer c.args.topo.now g) { room = c.new_consumer.new.self.room })
+    c.taste_geom-geom.ensures.number)
+    c.in_ok-consumer.consumer c.in_ok-consumer.ensures.number c.args.prov
+    (tasted_is c.args.topo.now c.args.prov c.requires.tasted) in
+    let never = sym none ∙ c.in-Err.ensures.answer in
+    absurd (cc)
+
+pub returns-clause-added : goal.returns-clause-added
+returns-clause-added c =
+    attached_is c.args.topo.now c.new_consumer.new.self c.taste_geom-geom.ensures.sound
+    (c.in_ok-consumer.ensures.added
+    ∙ ap (λ g. record (with_consumer c.args.topo.now g) { room = c.new_consumer.new.self.room })
+    c.taste_geom-geom.ensures.number)
+    c.in_ok-consumer.consumer c.in_ok-consumer.ensures.number c.args.prov c.attach.new.self c.in-Ok.ensures.attached
+
+pub returns-clause-settled : goal.returns-clause-settled
+returns-clause-settled c =
+    subst IsSettled (sym (returns-clause-added c))
+    (taster_settled c.args.topo.now c.taste_geom-geom.ensures.sound c.requires.settled c.args.prov
+    c.attach.new.self.room)
+
+pub returns-clause-tasting : goal.returns-clause-tasting
+returns-clause-tasting c = λ alone.
+    subst (λ s. IsTasteOf c.attach.new.self s)
+    (sym (c.new.ensures ∙ ap (first_taste c.args.prov) c.in_ok-consumer.ensures.number))
+    (subst (λ v. IsTasteOf v (first_taste c.args.prov c.args.topo.now.topology.next_consumer))
+    (sym (returns-clause-added c))
+    (taster_tasting c.args.topo.now c.taste_geom-geom.ensures.sound c.requires.settled.counted c.args.prov
+    c.attach.new.self.room alone))

@@ -1,0 +1,62 @@
+use Rattle.std.proofs.Common.{refl, sym, ap, ◌∙◌, ◌+◌, subst}
+use Rattle.std.specs.Prelude.{All, IsSome}
+use Rattle.geo_model.specs.Topology.{Consumer}
+use Rattle.geo_model.specs.declared.class.Judged.TheVariants.{Read, Next}
+use Rattle.geo_model.specs.Demand.{one_read}
+use Rattle.geo_model.specs.World.{ReadOut, Taste}
+use Rattle.geo_access.specs.Access.{IsQuiet, granted_view}
+use Rattle.geo_class.specs.Taste.{ended}
+use Rattle.geo_taste.specs.Taster.{held_by, IsTasteOf}
+use Rattle.geo_taste.proofs.Asking.{read_refused, read_granted, read_made}
+use Rattle.geo_taste.proofs.Reading.{given_tasting, granted_reads, held_reads, granted_quietly, quiet_granted, refusal_told}
+use Rattle.geo_taste.proofs.Resting.{ended_rest, rest_tasting}
+use Rattle.geo_taste.proofs.taster.read_sector.Goals as goal
+
+pub returns-in-Ok-clause-topo : goal.returns-in-Ok-clause-topo
+returns-in-Ok-clause-topo g c =
+    c.in-Ok.ensures.granted
+    ∙ ap (λ n. granted_view c.args.topo.now n one_read) c.holder-consumer.ensures.number
+    ∙ granted_quietly c.args.topo.now c.args.taste.now.consumer c.requires.settled.quiet
+    (granted_reads c.args.topo.now c.args.taste.now.consumer (held_by c.args.taste.now) c.requires.tasting.holds
+    (held_reads c.args.taste.now)) one_read refl
+
+pub returns-in-Ok-clause-judged : goal.returns-in-Ok-clause-judged
+returns-in-Ok-clause-judged g c events =
+    read_granted c.args.topo.now events c.args.taste.now c.args.kind c.args.sector
+    (refusal_told c.args.topo.now c.args.taste.now c.holder-consumer.result c.holder-consumer.ensures.number
+    c.holder-consumer.ensures.place ∙ c.in-Ok.ensures.answer)
+    ∙ read_made c.args.topo.now events c.grant.new.topo
+    (record c.args.taste.now { asked = ReadOut c.args.kind; reads = c.args.taste.now.reads + 1 }) c.note_read.new.self
+    (Read c.args.sector) (ap (λ v. v.topology) (returns-in-Ok-clause-topo g c)) c.note_read.ensures
+
+pub returns-in-Ok-clause-settled : goal.returns-in-Ok-clause-settled
+returns-in-Ok-clause-settled g c = record {
+  counted = c.grant.ensures.counted;
+  quiet = subst IsQuiet (sym (returns-in-Ok-clause-topo g c))
+      (quiet_granted c.args.topo.now c.args.taste.now.consumer one_read c.requires.settled.quiet);
+  attached = subst (λ v. All (λ (x : Consumer). IsSome x.provider) v.topology.consumers)
+      (sym (returns-in-Ok-clause-topo g c)) c.requires.settled.attached;
+}
+
+pub returns-in-Err-clause-judged : goal.returns-in-Err-clause-judged
+returns-in-Err-clause-judged g c events =
+    read_refused c.args.topo.now events c.args.taste.now c.args.kind c.args.sector _
+    (refusal_told c.args.topo.now c.args.taste.now c.holder-consumer.result c.holder-consumer.ensures.number
+    c.holder-consumer.ensures.place ∙ c.in-Err.ensures.answer)
+    ∙ read_made c.args.topo.now events c.grant.new.topo (ended c.args.taste.now) c.end_class.new.self Next
+    (ap (λ v. v.topology) c.in-Err.ensures.same) c.end_class.ensures
+
+pub returns-in-Ok-clause-tasting : goal.returns-in-Ok-clause-tasting
+returns-in-Ok-clause-tasting g c =
+    let same = c.note_read.ensures in
+    subst (λ v. IsTasteOf v c.note_read.new.self) (sym (returns-in-Ok-clause-topo g c))
+    (given_tasting c.args.topo.now c.holder-consumer.ensures.sound c.args.taste.now c.requires.tasting one_read
+    c.note_read.new.self (ap (λ (z : Taste). z.consumer) same) (ap (λ (z : Taste). z.provider) same)
+    (ap (λ (z : Taste). held_by z) same))
+
+pub returns-in-Err-clause-tasting : goal.returns-in-Err-clause-tasting
+returns-in-Err-clause-tasting g c =
+    subst (λ z. IsTasteOf c.grant.new.topo z) (sym c.end_class.ensures)
+    (subst (λ v. IsTasteOf v (ended c.args.taste.now)) (sym c.in-Err.ensures.same)
+    (rest_tasting c.args.topo.now c.args.taste.now (ended c.args.taste.now) c.requires.idle
+    (ended_rest c.args.taste.now) c.requires.tasting))

@@ -1,0 +1,4 @@
+pub mod Taster
+pub mod Over
+pub mod Going
+pub mod Saying
