@@ -11,3 +11,7 @@ pub mod Asking
 pub mod Begun
 pub mod Saying
 pub mod Resting
+pub mod Naming
+pub mod Growing
+pub mod Taking
+pub mod Firm

@@ -3,8 +3,10 @@
 
 mod ask;
 mod judge;
+pub mod laws;
 mod over;
+mod step;
 mod taster;
 
-pub use judge::{Said, say};
+pub use step::judge_step;
 pub use taster::{abort, begin, hand_back, is_tasted};

@@ -1,0 +1,352 @@
+-- What a step comes to where a class accepts: what is made, the mesh, the events and the taste after it.
+use Rattle.std.specs.Prelude.{◌≡◌, ◌<◌, ◌==◌, Bool, true, false, ◌||◌, List, Option, Some, None, Result, Ok, Err, IsSome, IfSome, IsSomeAnd, IfOk, OnErr, is_some, option_map, option_and_then, if◌then◌else◌}
+use Rattle.std.specs.Option.{option_map_or}
+use Rattle.std.proofs.Common.{refl, sym, ◌∙◌, ap, subst, arith}
+use Rattle.std.proofs.lemmas.Bool.{eqb-true, not-true}
+use Rattle.geo_model.specs.declared.class.Judged.{Judged}
+use Rattle.geo_model.specs.declared.class.Judged.TheVariants.{Read, Next, Made, Ended}
+use Rattle.geo_model.specs.declared.class.Shape.{Shape}
+use Rattle.geo_model.specs.declared.class.Verdict.{Verdict}
+use Rattle.geo_model.specs.declared.class.Verdict.TheVariants.{Accept}
+use Rattle.geo_model.specs.declared.step.Event.{Event}
+use Rattle.geo_model.specs.Events.{QueuedTopology, taste_limit}
+use Rattle.geo_model.specs.Rank.{rank, rank_limit}
+use Rattle.geo_model.specs.Tasting.{end_class, facts_of, is_ended, taste_step}
+use Rattle.geo_model.specs.Topology.{Topology, Provider, Consumer, consumer_at, is_errored, provider_at}
+use Rattle.geo_model.specs.World.{Config, Taste, is_read_out}
+use Rattle.geo_model.proofs.DemandLemmas.{find_passes}
+use Rattle.geo_event.specs.EventQueue.{Queued}
+use Rattle.geo_mesh.specs.Graph.{IsSoundGraph}
+use Rattle.geo_mesh.specs.Topo.{TopoView, IsButForRoom}
+use Rattle.geo_access.specs.Access.{granted_by}
+use Rattle.geo_class.specs.Taste.{ended}
+use Rattle.geo_make.specs.declared.shapes.Accepted.{Accepted}
+use Rattle.geo_make.specs.declared.shapes.Accepted.TheVariants as answers
+use Rattle.geo_make.specs.Accepting.{accepted, IsAccepted}
+use Rattle.geo_make.specs.Accepts.{MayAccept, NamesAPlace}
+use Rattle.geo_make.specs.Making.{AreBoth, QueuedMesh, both, queued}
+use Rattle.geo_make.specs.Standing.{CanStandOn}
+use Rattle.geo_make.proofs.ModelLemmas.{accepted_is}
+use Rattle.geo_taste.specs.declared.judge.Said.{Said}
+use Rattle.geo_taste.specs.declared.judge.Said.TheVariants.{Came, Accepts}
+use Rattle.geo_taste.specs.Going.{going}
+use Rattle.geo_taste.specs.Judging.{IsJudged, IsKnownAfter, IsKnownWith, IsMadeOf, IsTakenAs, MayJudge, judged_of, made_by, making, verdict_at}
+use Rattle.geo_taste.specs.Saying.{IsAccepting, IsSaid, accepting, is_plain, with_said}
+use Rattle.geo_taste.specs.Taster.{IsSettled, IsTasteOf, judging, makes, with_judged}
+use Rattle.geo_taste.proofs.Begun.{settled_roomed}
+use Rattle.geo_taste.proofs.Going.{errored_told}
+use Rattle.geo_taste.proofs.Growing.{HoldsTaste, accepted_held}
+use Rattle.geo_taste.proofs.Naming.{back_named}
+use Rattle.geo_taste.proofs.Resting.{accepted_idle, ended_rest, rest_tasting, roomed_tasting}
+
+-- a mesh that is another one, is that but for room
+pub but_for_room : {C : Type 0} (u w : TopoView C) → u ≡ w → IsButForRoom u w
+but_for_room {C} u w e = e ∙ ap (λ r. record w { room = r }) (sym (ap (λ (v : TopoView C). v.room) e))
+
+-- but for room a mesh is settled, and the taste's consumer is as it was
+pub settled_but : {C : Type 0} (t u : TopoView C) → IsButForRoom u t → IsSettled t → IsSettled u
+settled_but {C} t u same is = subst (λ (v : TopoView C). IsSettled v) (sym same) (settled_roomed t u.room is)
+
+pub tasting_but : (t u : TopoView Config) (s : Taste) → IsButForRoom u t → IsTasteOf t s → IsTasteOf u s
+tasting_but t u s same is = subst (λ v. IsTasteOf v s) (sym same) (roomed_tasting t u.room s is)
+
+-- What is accepted
+
+module _ (m : QueuedMesh) (s : Taste) (p : Provider) (shape : Shape) (t : TopoView Config) (q : Queued) where
+  -- what may be made
+  abbrev may : Type 0
+  may = MayAccept (queued m) p shape
+
+  -- the mesh and the events are those that the model has
+  queued_is : (made : QueuedMesh) → AreBoth t q made
+      → queued made ≡ record { topology = t.topology; events = q.events }
+  queued_is made are =
+      ap (λ (g : Topology Config). let r : QueuedTopology Config = record { topology = g; events = made.events } in r)
+      (sym (ap (λ (v : TopoView Config). v.topology) are.mesh))
+      ∙ ap (λ (es : List Event). let r : QueuedTopology Config = record { topology = t.topology; events = es } in r)
+      (sym are.events)
+
+  -- where something is made
+  made_step : (o : Option QueuedMesh) → accepted m p shape ≡ o → IsSomeAnd o (AreBoth t q)
+      → accepting (granted_by m.mesh) (queued m) s p shape ≡ judging t q.events (ended s) Made
+  made_step None is never = absurd never
+  made_step (Some made) is are =
+      ap (λ (r : Option (QueuedTopology Config)).
+      option_map_or (λ x. end_class (granted_by m.mesh) x s Made) r (end_class (granted_by m.mesh) (queued m) s Next))
+      (sym (accepted_is m p shape) ∙ ap (λ (o : Option QueuedMesh). option_map queued o) is)
+      ∙ ap (λ (x : QueuedTopology Config). end_class (granted_by m.mesh) x s Made) (queued_is made are)
+
+  -- where nothing is
+  declined_step : AreBoth t q m → accepted m p shape ≡ None
+      → accepting (granted_by m.mesh) (queued m) s p shape ≡ judging t q.events (ended s) Next
+  declined_step are none =
+      ap (λ (r : Option (QueuedTopology Config)).
+      option_map_or (λ x. end_class (granted_by m.mesh) x s Made) r (end_class (granted_by m.mesh) (queued m) s Next))
+      (sym (accepted_is m p shape) ∙ ap (λ (o : Option QueuedMesh). option_map queued o) none)
+      ∙ ap (λ (x : QueuedTopology Config). end_class (granted_by m.mesh) x s Next) (queued_is m are)
+
+  module _ (held : HoldsTaste s m.mesh) (sound : IsSoundGraph m.mesh.topology)
+      (there : IsSome (provider_at m.mesh.topology p.number)) (place : NamesAPlace shape)
+      (idle : is_read_out s.asked ≡ false) where
+    -- what is made holds the taste
+    made_held : may → (o : Option QueuedMesh) → accepted m p shape ≡ o → IsSomeAnd o (AreBoth t q)
+        → IsSettled t × IsTasteOf t (ended s)
+    made_held so None is never = absurd never
+    made_held so (Some made) is are =
+        let grown : HoldsTaste s made.mesh =
+        subst (λ (o : Option QueuedMesh). IfSome o (λ x. HoldsTaste s x.mesh)) is
+        (accepted_held s m held sound p there shape place so) in (
+          settled_but made.mesh t are.mesh grown.settled,
+          rest_tasting t s (ended s) idle (ended_rest s) (tasting_but made.mesh t s are.mesh grown.tasting),
+        )
+
+    -- each answer
+    taken_by : (a : Accepted) → IsAccepted a t q m (accepted m p shape) may
+        → IsTakenAs m s p shape t q (ended s) (judged_of a)
+    taken_by answers.Made is = record {
+      step = λ so. made_step (accepted m p shape) refl (is so);
+      mesh = is;
+      settled = λ so. (made_held so (accepted m p shape) refl (is so)).0;
+      tasting = λ so. (made_held so (accepted m p shape) refl (is so)).1;
+    }
+    taken_by answers.Declined is = record {
+      step = λ so. declined_step is.0 (is.1 so);
+      mesh = is.0;
+      settled = settled_but m.mesh t is.0.mesh held.settled;
+      tasting = rest_tasting t s (ended s) idle (ended_rest s) (tasting_but m.mesh t s is.0.mesh held.tasting);
+    }
+
+-- so of a provider that is found
+pub taken_as : (m : QueuedMesh) (s : Taste) (shape : Shape) (t : TopoView Config) (q : Queued)
+    → IsSettled m.mesh → IsTasteOf m.mesh s → IsSoundGraph m.mesh.topology → NamesAPlace shape
+    → is_read_out s.asked ≡ false → (p : Provider) → provider_at m.mesh.topology s.provider ≡ Some p
+    → (a : Accepted) → IsAccepted a t q m (accepted m p shape) (MayAccept (queued m) p shape)
+    → IsTakenAs m s p shape t q (ended s) (judged_of a)
+taken_as m s shape t q settled tasting sound place idle p found a is =
+    let number : p.number ≡ s.provider =
+    eqb-true p.number s.provider
+    (find_passes (λ (y : Provider). y.number == s.provider) m.mesh.topology.providers p found) in
+    let at : provider_at m.mesh.topology p.number ≡ Some p =
+    subst (λ n. provider_at m.mesh.topology n ≡ Some p) (sym number) found in
+    taken_by m s p shape t q
+    (record {
+      settled = settled;
+      order = sound.orderly.order;
+      live = sound.orderly.parts.providers;
+      tasting = tasting;
+    })
+    sound (ap is_some at) place idle a is
+
+-- what is found is what is there
+pub if_found : {X : Type 0} (P : X → Type 0) (o : Option X) (x : X) → o ≡ Some x → IfSome o P → P x
+if_found {X} P o x is fact = subst (λ (z : Option X). IfSome z P) is fact
+
+-- The tasted provider
+
+module _ (t : Topology Config) (s : Taste) where
+  -- a taste that goes on has its provider
+  pub goes_found : (p : Provider) → going t s ≡ Some p → (is_ended t s ≡ false) × (provider_at t s.provider ≡ Some p)
+  goes_found p goes = by (is_ended t s) refl goes
+    where
+      by : (b : Bool) → is_ended t s ≡ b → (if b then None else provider_at t s.provider) ≡ Some p
+          → (is_ended t s ≡ false) × (provider_at t s.provider ≡ Some p)
+      by true e never = absurd (cc)
+      by false e found = (e, found)
+
+  -- which carries no error
+  goes_sound : (p : Provider) → IsSoundGraph t → going t s ≡ Some p → p.errored ≡ false
+  goes_sound p sound goes =
+      sym (ap (λ o. option_map_or (λ (x : Provider). x.errored) o false) (goes_found p goes).1)
+      ∙ sym (errored_told t sound.orderly.order s.provider)
+      ∙ first (is_errored t s.provider) (option_map_or (λ (c : Consumer). c.spoiled) (consumer_at t s.consumer) false)
+      (goes_found p goes).0
+    where
+      first : (a b : Bool) → (a || b) ≡ false → a ≡ false
+      first true b never = absurd (cc)
+      first false b e = refl
+
+  -- so a geom can stand on it where it isn't too high
+  pub goes_stands : (p : Provider) → IsSoundGraph t → going t s ≡ Some p
+      → IfSome (provider_at t s.provider) (λ x. rank t x.geom < taste_limit) → CanStandOn t s.provider
+  goes_stands p sound goes low =
+      let found = (goes_found p goes).1 in
+      let below : rank t p.geom < 8 = if_found (λ (x : Provider). rank t x.geom < taste_limit) _ p found low in
+      let under : rank t p.geom < rank_limit = omega (arith, below) in
+      subst (λ (o : Option Provider). IsSomeAnd o (λ x. (x.errored ≡ false) × (rank t x.geom < rank_limit))) (sym found)
+      (goes_sound p sound goes, under)
+
+-- A whole step
+
+module _ (m : QueuedMesh) (s : Taste) (t : TopoView Config) (q : Queued) where
+  -- what a step makes is what the verdict makes
+  making_is : (p : Provider) (shape : Shape) → going m.mesh.topology s ≡ Some p
+      → verdict_at m s p ≡ Some (Accept shape) → making m s ≡ accepted m p shape
+  making_is p shape goes verdict =
+      ap (λ (o : Option Provider). option_and_then (λ x. made_by (verdict_at m s x) m x) o) goes
+      ∙ ap (λ (v : Option Verdict). made_by v m p) verdict
+
+  -- one in which nothing was accepted
+  pub came_judged : (z : Taste) (j : Judged) → makes j ≡ false
+      → taste_step (granted_by m.mesh) (queued m) s ≡ judging t m.events z j
+      → t ≡ with_judged m.mesh s.consumer j → q.events ≡ m.events → IsJudged m s t q z j
+  came_judged z j plain step mesh events = record {
+    step = λ may. step ∙ ap (λ (es : List Event). judging t es z j) (sym events);
+    mesh = by j plain mesh;
+  }
+    where
+      by : (j : Judged) → makes j ≡ false → t ≡ with_judged m.mesh s.consumer j → IsMadeOf (making m s) (MayJudge m s) m s t q j
+      by (Read sector) none same = record {
+        mesh = but_for_room t (with_judged m.mesh s.consumer (Read sector)) same;
+        events = events;
+      }
+      by Next none same = record { mesh = but_for_room t m.mesh same; events = events }
+      by Made never same = absurd (let no : true ≡ false = never in cc)
+      by Ended none same = record { mesh = but_for_room t m.mesh same; events = events }
+
+  module _ (shape : Shape) (z : Taste) (j : Judged) (is : IsAccepting m.mesh s shape)
+      (taken : IsTakenAs m s is.provider shape t q z j) where
+    -- what may be judged may be accepted
+    may_accept : MayJudge m s → MayAccept (queued m) is.provider shape
+    may_accept may = may is.provider shape is.goes is.verdict
+
+    -- the mesh
+    mesh_by : (k : Judged)
+        → IsMadeOf (accepted m is.provider shape) (MayAccept (queued m) is.provider shape) m s t q k
+        → IsMadeOf (making m s) (MayJudge m s) m s t q k
+    mesh_by (Read sector) made = made
+    mesh_by Next made = made
+    mesh_by Made made = λ may.
+        subst (λ (o : Option QueuedMesh). IsSomeAnd o (AreBoth t q))
+        (sym (making_is is.provider shape is.goes is.verdict))
+        (made (may_accept may))
+    mesh_by Ended made = made
+
+    -- one in which a class accepted
+    pub taken_judged : IsJudged m s t q z j
+    taken_judged = record {
+      step = λ may. is.step m.events ∙ taken.step (may_accept may);
+      mesh = mesh_by j taken.mesh;
+    }
+
+    -- what is known then
+    pub known_from : (fact : Type 0) → IsKnownWith j (MayAccept (queued m) is.provider shape) fact
+        → IsKnownWith j (MayJudge m s) fact
+    known_from fact known = by j known
+      where
+        by : (k : Judged) → IsKnownWith k (MayAccept (queued m) is.provider shape) fact
+            → IsKnownWith k (MayJudge m s) fact
+        by (Read sector) so = so
+        by Next so = so
+        by Made so = λ may. so (may_accept may)
+        by Ended so = so
+
+-- a fact that holds is known
+pub known_fact : (j : Judged) (leave fact : Type 0) → fact → IsKnownWith j leave fact
+known_fact (Read sector) leave fact so = so
+known_fact Next leave fact so = so
+known_fact Made leave fact so = λ m. so
+known_fact Ended leave fact so = so
+
+-- What was said
+
+module _ (t u : TopoView Config) (s z : Taste) (said : Said) (is : IsSaid t s u z said) where
+  -- a step came to something
+  pub came_told : (q : Queued) (j : Judged) → said ≡ Came j → u ≡ with_said t s.consumer said → is_plain said ≡ true
+      → IsJudged (both t q) s u q z j
+  came_told q j came mesh plain =
+      came_judged (both t q) s u q z j
+      (not-true (makes j) (subst (λ (x : Said). is_plain x ≡ true) came plain))
+      (subst (IsSaid t s u z) came is q.events) (mesh ∙ ap (with_said t s.consumer) came) refl
+
+  module _ (shape : Shape) (accepts : said ≡ Accepts shape) where
+    -- a class accepts
+    abbrev told : (u ≡ t) × (z ≡ s) × IsAccepting t s shape
+    told = subst (IsSaid t s u z) accepts is
+
+    -- nothing is out then
+    pub said_idle : is_read_out z.asked ≡ false
+    said_idle =
+        ap (λ (x : Taste). is_read_out x.asked) told.1
+        ∙ accepted_idle (granted_by t) s (facts_of t.topology told.2.provider) (Accept shape) told.2.verdict
+
+    -- the place is one
+    pub said_place : NamesAPlace shape
+    said_place = back_named (granted_by t) s (facts_of t.topology told.2.provider) shape told.2.verdict
+
+    -- the taste goes on
+    pub said_goes : IsSome (going u.topology z)
+    said_goes =
+        subst (λ (v : TopoView Config). IsSome (going v.topology z)) (sym told.0)
+        (subst (λ (x : Taste). IsSome (going t.topology x)) (sym told.1) (ap is_some told.2.goes))
+
+    -- where it did before
+    pub said_low : IfSome (provider_at t.topology s.provider) (λ p. rank t.topology p.geom < taste_limit)
+        → IfSome (provider_at u.topology z.provider) (λ p. rank u.topology p.geom < taste_limit)
+    said_low low =
+        subst (λ (v : TopoView Config).
+        IfSome (provider_at v.topology z.provider) (λ p. rank v.topology p.geom < taste_limit)) (sym told.0)
+        (subst (λ (x : Taste). IfSome (provider_at t.topology x.provider) (λ p. rank t.topology p.geom < taste_limit))
+        (sym told.1) low)
+
+    -- what was taken of it
+    abbrev TakesOne : Queued → TopoView Config → Queued → Taste → Judged → Type 0
+    TakesOne q v r y j =
+        (p : Provider) → provider_at u.topology z.provider ≡ Some p → IsTakenAs (both u q) z p shape v r y j
+
+    said_taken : (q : Queued) (v : TopoView Config) (r : Queued) (y : Taste) (j : Judged) → TakesOne q v r y j
+        → IsTakenAs (both t q) s told.2.provider shape v r y j
+    said_taken q v r y j taken =
+        let found : provider_at t.topology s.provider ≡ Some told.2.provider =
+        (goes_found t.topology s told.2.provider told.2.goes).1 in
+        let there : provider_at u.topology z.provider ≡ Some told.2.provider =
+        subst (λ (w : TopoView Config). provider_at w.topology z.provider ≡ Some told.2.provider) (sym told.0)
+        (subst (λ (x : Taste). provider_at t.topology x.provider ≡ Some told.2.provider) (sym told.1) found) in
+        subst (λ (w : TopoView Config). IsTakenAs (both w q) s told.2.provider shape v r y j) told.0
+        (subst (λ (x : Taste). IsTakenAs (both u q) x told.2.provider shape v r y j) told.1
+        (taken told.2.provider there))
+
+    module _ {E : Type 0} (q : Queued) (v : TopoView Config) (r : Queued) (y : Taste) where
+      -- the step is judged
+      pub said_judged : (result : Result Judged E) → IfOk result (TakesOne q v r y)
+          → IfOk result (IsJudged (both t q) s v r y)
+      said_judged (Ok j) taken =
+          taken_judged (both t q) s v r shape y j told.2 (said_taken q v r y j taken)
+      said_judged (Err e) taken = taken
+
+      -- the mesh is settled
+      pub said_settled : (result : Result Judged E) → IfOk result (TakesOne q v r y)
+          → OnErr result (AreBoth v r (both u q)) → IsSettled u
+          → IsKnownAfter result (MayJudge (both t q) s) (IsSettled v)
+      said_settled (Ok j) taken same settled =
+          known_from (both t q) s v r shape y j told.2 (said_taken q v r y j taken) (IsSettled v)
+          (said_taken q v r y j taken).settled
+      said_settled (Err e) taken same settled = settled_but u v same.mesh settled
+
+      -- the taste has its consumer
+      pub said_tasting : (result : Result Judged E) → IfOk result (TakesOne q v r y)
+          → OnErr result (AreBoth v r (both u q)) → OnErr result (y ≡ z) → IsTasteOf u z
+          → IsKnownAfter result (MayJudge (both t q) s) (IsTasteOf v y)
+      said_tasting (Ok j) taken same kept tasting =
+          known_from (both t q) s v r shape y j told.2 (said_taken q v r y j taken) (IsTasteOf v y)
+          (said_taken q v r y j taken).tasting
+      said_tasting (Err e) taken same kept tasting =
+          subst (IsTasteOf v) (sym kept) (tasting_but u v z same.mesh tasting)
+
+      -- nothing changed where it is refused
+      pub said_same : (result : Result Judged E) → OnErr result (AreBoth v r (both u q))
+          → OnErr result (AreBoth v r (both t q))
+      said_same (Ok j) same = same
+      said_same (Err e) same = subst (λ (w : TopoView Config). AreBoth v r (both w q)) told.0 same
+
+      pub said_kept : (result : Result Judged E) → OnErr result (y ≡ z) → OnErr result (y ≡ s)
+      said_kept (Ok j) kept = kept
+      said_kept (Err e) kept = kept ∙ told.1
+
+-- a taste that goes on stands on its provider
+pub some_stands : (t : Topology Config) (s : Taste) → IsSoundGraph t → IsSome (going t s)
+    → IfSome (provider_at t s.provider) (λ p. rank t p.geom < taste_limit) → CanStandOn t s.provider
+some_stands t s sound goes low = by (going t s) refl goes
+  where
+    by : (o : Option Provider) → going t s ≡ o → IsSome o → CanStandOn t s.provider
+    by None e never = absurd (let no : false ≡ true = never in cc)
+    by (Some p) e there = goes_stands t s p sound e low
