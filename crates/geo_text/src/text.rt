@@ -56,6 +56,14 @@ impl Text {
         self.add(digits.as_bytes())
     }
 
+    /// A wide number in decimal behind the text.
+    pub fn add_wide(&mut self, number: u128) -> Result<(), NoMemory>
+        ensures { OnOk result (self.new ≡ self.old ++ decimal number) }
+    {
+        let digits = number.to_string(self.alloc)?;
+        self.add(digits.as_bytes())
+    }
+
     /// A word, and a number in decimal right behind it.
     pub fn add_labelled(&mut self, word: &[u8], number: u64) -> Result<(), NoMemory>
         ensures { OnOk result (self.new ≡ self.old ++ word.now ++ decimal number) }

@@ -1,0 +1,5 @@
+mod PlaceLemmas
+mod MeshLemmas
+mod RunTexts
+mod TallyLemmas
+mod TextLemmas

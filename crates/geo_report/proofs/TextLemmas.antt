@@ -1,0 +1,53 @@
+-- The report and the summary of the model, by the listing.
+use Rattle.std.proofs.Common.{◌≡◌, ℕ, ◌≤◌, List, ◌++◌, length, ap, ◌∙◌, flat_map, All}
+use Rattle.geo_model.specs.declared.command.LineCommand.{LineCommand}
+use Rattle.geo_model.specs.declared.listing.GeomLine.{GeomLine}
+use Rattle.geo_model.specs.declared.step.Entry.{Entry}
+use Rattle.geo_model.specs.World.{Plan}
+use Rattle.geo_model.specs.Plans.{IsPlan}
+use Rattle.geo_model.specs.Report.{line_text, mesh_text, report, summary, count_line, all_replies, is_ok_reply, is_refusal, reply_len, all_errnos}
+use Rattle.geo_report.specs.Texts.{report_text, IsReport, summary_text, IsSummary}
+use Rattle.geo_report.specs.declared.tally.Tally.{Tally}
+use Rattle.geo_report.specs.Tallies.{IsTally, tally_text}
+use Rattle.geo_report.proofs.TallyLemmas.{tally_lines}
+use Rattle.std.proofs.lemmas.List.{append_assoc}
+use Rattle.std.specs.Prelude.{codes, count_by, sum_by}
+use Rattle.geo_base.specs.Errno.{errno_text}
+
+-- the report by the listing is the report
+pub is_report : (plan : Plan) (log : List Entry) (lines : List GeomLine) (text : List ℕ)
+    → text ≡ report_text plan log lines → IsReport plan log lines text
+unfolding report report_text
+is_report plan log lines text is opened listed =
+    is ∙ ap (λ l. flat_map (line_text log) plan.commands ++ mesh_text l) listed
+
+-- the lines of a plan have numbers up to 4,096
+pub lines_fit : (plan : Plan) → IsPlan plan → All (λ (c : LineCommand). c.line ≤ 4096) plan.commands
+lines_fit plan is k d within = (is.commands k d within).line
+
+-- the summary by the listing is the summary
+pub is_summary : (plan : Plan) (log : List Entry) (lines : List GeomLine) (text : List ℕ)
+    → text ≡ summary_text plan log lines → IsSummary plan log lines text
+unfolding summary summary_text
+is_summary plan log lines text is opened listed =
+    is ∙ ap (λ l. count_line (codes "commands") (length plan.commands)
+    ++ count_line (codes "ok") (count_by is_ok_reply (all_replies plan log))
+    ++ flat_map (λ e. count_line (errno_text e) (count_by (is_refusal e) (all_replies plan log))) all_errnos
+    ++ count_line (codes "bytes") (sum_by reply_len (all_replies plan log))
+    ++ count_line (codes "geoms") (length l)) listed
+
+regroup : (a b c d e : List ℕ) → (a ++ (b ++ c ++ d)) ++ e ≡ a ++ b ++ c ++ d ++ e
+regroup a b c d e = simp append_assoc
+
+-- the summary by the numbers that were counted
+pub summary_is : (plan : Plan) (log : List Entry) (lines : List GeomLine) (t : Tally) → IsTally (all_replies plan log) t
+    → count_line (codes "commands") (length plan.commands) ++ tally_text t ++ count_line (codes "geoms") (length lines)
+    ≡ summary_text plan log lines
+unfolding summary_text
+summary_is plan log lines t is =
+    let first : List ℕ = count_line (codes "commands") (length plan.commands) in
+    let last : List ℕ = count_line (codes "geoms") (length lines) in
+    ap (λ l. first ++ l ++ last) (tally_lines (all_replies plan log) t is)
+    ∙ regroup first (count_line (codes "ok") (count_by is_ok_reply (all_replies plan log)))
+    (flat_map (λ e. count_line (errno_text e) (count_by (is_refusal e) (all_replies plan log))) all_errnos)
+    (count_line (codes "bytes") (sum_by reply_len (all_replies plan log))) last

@@ -1,0 +1,4 @@
+pub mod Places
+pub mod MeshTexts
+pub mod Tallies
+pub mod Texts

@@ -1,0 +1,11 @@
+//! What is printed of a plan, its log and the mesh: the report, and the summary.
+#![tactic(auto)]
+
+mod lines;
+mod mesh;
+mod places;
+mod print;
+mod runs;
+mod tally;
+
+pub use print::{report, summary};

@@ -1,0 +1,52 @@
+//! The text of some bytes.
+ghost use Rattle.std.specs.Prelude.{◌≡◌, ◌≤◌, ◌++◌, ◌∷◌, [], length, OnOk};
+ghost use Rattle.geo_base.specs.Runs.{run_text, runs_text};
+
+use geo_base::NoMemory;
+use geo_text::Text;
+
+/// A byte, and how many times it stands.
+fn add_run(text: &mut Text, byte: u8, times: u64) -> Result<(), NoMemory>
+    ensures { OnOk result (text.new ≡ text.old ++ run_text (record { byte = byte; times = times })) }
+{
+    text.add_hex(byte)?;
+    text.add_labelled(b"*", times)
+}
+
+/// A run that others follow.
+fn add_run_before(text: &mut Text, byte: u8, times: u64) -> Result<(), NoMemory>
+    ensures { OnOk result (text.new ≡ text.old ++ run_text (record { byte = byte; times = times }) ++ 32 ∷ []) }
+{
+    add_run(text, byte, times)?;
+    text.add(b" ")
+}
+
+fn add_some_runs(text: &mut Text, bytes: &[u8]) -> Result<(), NoMemory>
+    requires { 1 ≤ length bytes.now }
+    ensures { OnOk result (text.new ≡ text.old ++ runs_text bytes.now) }
+{
+    let mut byte = bytes[0];
+    let mut times = 0u64;
+    for next in bytes {
+        if *next == byte {
+            times += 1;
+        } else {
+            add_run_before(text, byte, times)?;
+            byte = *next;
+            times = 1;
+        }
+    }
+    add_run(text, byte, times)
+}
+
+/// The runs of the bytes, behind the text.
+#[tactic(auto, using(crate::proofs::RunTexts::no_runs))]
+pub fn add_runs(text: &mut Text, bytes: &[u8]) -> Result<(), NoMemory>
+    ensures { OnOk result (text.new ≡ text.old ++ runs_text bytes.now) }
+{
+    if bytes.is_empty() {
+        Ok(())
+    } else {
+        add_some_runs(text, bytes)
+    }
+}
