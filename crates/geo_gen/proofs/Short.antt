@@ -40,7 +40,8 @@ lines_short zero i x = omega arith
 lines_short (suc n) i x =
     let three : 3 * suc n ≡ suc (suc (suc (3 * n))) = omega arith in
     let others = lines_short n (i + 1) (third_draw x) in
-    let own = drawn_short i (draw_value (next_draw x)) (draw_value (next_draw (next_draw x))) (draw_value (third_draw x))
+    let second : ℕ = next_draw (next_draw x) in
+    let own = drawn_short i (draw_value (next_draw x)) (draw_value second) (draw_value (third_draw x))
     (drawn_lines (i + 1) (draws (3 * n) (third_draw x))) (204 * n) others in
     let same = ap (λ m. length (drawn_lines i (draws m x))) three in
     omega (arith, own, same)

@@ -75,9 +75,20 @@ fn add_drawn_lines(text: &mut Text, start: u64, count: u64) -> Result<(), NoMemo
     Ok(())
 }
 
+#[tactic(auto, using(crate::proofs::Drawn::whole))]
+fn script_text(alloc: Global, start: u64, count: u64) -> Result<Block, NoMemory>
+    requires { start < 2147483648 }
+    ensures { IfOk result (λ block. block ≡ generated start count) }
+{
+    let mut text = Text::new(alloc);
+    text.add(header())?;
+    add_drawn_lines(&mut text, start, count)?;
+    Ok(text.into_block())
+}
+
 /// The script of four disks, four actors, the six commands that come first, and `count` that are drawn, from the number
 /// `start` on. `parse` accepts it.
-#[tactic(auto, using(crate::proofs::Drawn::whole, crate::proofs::Short::generated_short, crate::proofs::Short::generated_accepted))]
+#[tactic(auto, using(crate::proofs::Short::generated_short, crate::proofs::Short::generated_accepted))]
 pub fn make_script(alloc: Global, start: u32, count: u32) -> Result<Block, NoMemory>
     requires start_range { start ≤ 2147483647 }
     requires count_range { count ≤ 4000 }
@@ -85,8 +96,5 @@ pub fn make_script(alloc: Global, start: u32, count: u32) -> Result<Block, NoMem
     ensures short { IfOk result (λ block. length block < 2 ^ 32) }
     ensures accepted { IfOk result (λ block. IsOk (script block)) }
 {
-    let mut text = Text::new(alloc);
-    text.add(header())?;
-    add_drawn_lines(&mut text, u64::from(start), u64::from(count))?;
-    Ok(text.into_block())
+    script_text(alloc, u64::from(start), u64::from(count))
 }

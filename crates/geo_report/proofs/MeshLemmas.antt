@@ -52,7 +52,8 @@ consumer_is c =
     (decimal c.counts.w) (codes "e") (decimal c.counts.e) end_line
 
 -- two texts of each element that are one
-pub flat_map_same : {X : Type 0} (f g : X → List ℕ) → ((x : X) → f x ≡ g x) → (xs : List X) → flat_map f xs ≡ flat_map g xs
+pub flat_map_same : {X : Type 0} (f g : X → List ℕ) → ((x : X) → f x ≡ g x) → (xs : List X)
+    → flat_map f xs ≡ flat_map g xs
 flat_map_same f g same [] = refl
 flat_map_same f g same (x ∷ xs) = ap (λ l. l ++ flat_map f xs) (same x) ∙ ap (λ l. g x ++ l) (flat_map_same f g same xs)
 

@@ -60,12 +60,14 @@ errors_more rs numbers x e long is =
     elim (cases_Bool (errno_number x == errno_number e)) [
       | inl hit ↦
           let same : errno_number x ≡ errno_number e = grind (arith, nat_tests, hit) in
-          let here = one_more_here numbers (errno_number x) (errno_number e) same (omega (arith, long, errno_below e)) in
+          let within : errno_number e < length numbers = omega (arith, long, errno_below e) in
+          let here = one_more_here numbers (errno_number x) (errno_number e) same within in
           let one : cond {A = ℕ} (is_refusal e (replies.Refused x)) 1 0 ≡ 1 = rw hit refl in
           omega (arith, more, here, one, is)
       | inr miss ↦
           let other : errno_number e ≢ errno_number x = λ s. absurd (grind (arith, nat_tests, s, miss)) in
-          let there = get_or-set_other numbers (errno_number x) (errno_number e) (get_or numbers (errno_number x) 0 + 1) 0 other in
+          let more_there = get_or numbers (errno_number x) 0 + 1 in
+          let there = get_or-set_other numbers (errno_number x) (errno_number e) more_there 0 other in
           let none : cond {A = ℕ} (is_refusal e (replies.Refused x)) 1 0 ≡ 0 = rw miss refl in
           omega (arith, more, there, none, is)
     ]
@@ -73,7 +75,12 @@ errors_more rs numbers x e long is =
 -- Tallies
 
 pub no_replies : IsTally [] (record { ok = 0; errors = replicate 11 0; bytes = 0 })
-no_replies = record { ok = refl; kinds = refl; errors = λ e. get_or-replicate 11 (errno_number e) 0 0 (errno_below e); bytes = refl }
+no_replies = record {
+  ok = refl;
+  kinds = refl;
+  errors = λ e. get_or-replicate 11 (errno_number e) 0 0 (errno_below e);
+  bytes = refl;
+}
 
 tally_noted : (rs : List Reply) (t : Tally) (r : Reply) → IsTally rs t → IsTally (rs ++ r ∷ []) (noted t r)
 tally_noted rs t replies.Ok is = record {
@@ -139,7 +146,8 @@ bytes_noted i t (replies.Listing lines) short so_far = omega (arith, so_far)
 -- the bytes stay below so many times 2 ^ 64
 pub next_bytes : (i : ℕ) (o : Option Reply) (t more : Tally) → more ≡ noted_answer t o
     → IfSome o (λ r. reply_len r < 2 ^ 64) → t.bytes ≤ i * 2 ^ 64 → more.bytes ≤ (i + 1) * 2 ^ 64
-next_bytes i None t more noted short so_far = let same = ap (λ (t : Tally). t.bytes) noted in omega (arith, same, so_far)
+next_bytes i None t more noted short so_far =
+    let same = ap (λ (t : Tally). t.bytes) noted in omega (arith, same, so_far)
 next_bytes i (Some r) t more noted short so_far =
     let same = ap (λ (t : Tally). t.bytes) noted in omega (arith, same, bytes_noted i t r short so_far)
 
@@ -177,7 +185,8 @@ unfolding tally_text
 tally_lines rs t is =
     let errors = flat_map_same (error_line t) (λ e. count_line (errno_text e) (count_by (is_refusal e) rs))
     (λ e. ap (λ n. count_line (errno_text e) n) (is.errors e)) all_errnos in
-    ap (λ n. count_line (codes "ok") n ++ flat_map (error_line t) all_errnos ++ count_line (codes "bytes") t.bytes) is.ok
+    ap (λ n. count_line (codes "ok") n ++ flat_map (error_line t) all_errnos ++ count_line (codes "bytes") t.bytes)
+    is.ok
     ∙ ap (λ l. count_line (codes "ok") (count_by is_ok_reply rs) ++ l ++ count_line (codes "bytes") t.bytes) errors
     ∙ ap (λ n. count_line (codes "ok") (count_by is_ok_reply rs)
     ++ flat_map (λ e. count_line (errno_text e) (count_by (is_refusal e) rs)) all_errnos
