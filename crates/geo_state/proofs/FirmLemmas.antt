@@ -1,0 +1,206 @@
+-- What a sound world says of the requests on their way, of consumers and of handles.
+use Rattle.std.specs.Prelude.{◌≡◌, ◌≢◌, ℕ, ◌+◌, ◌<◌, ◌≤◌, ◌==◌, Bool, true, false, not, ◌&&◌, List, [], ◌∷◌, map, find, Option, Some, None, IsTrue, IsSome, IsSomeAnd, IfSome, MatchOption, All, ⊤}
+use Rattle.std.specs.List.{AllByRecursion}
+use Rattle.std.specs.Option.{option_map, option_map_or}
+use Rattle.std.proofs.Common.{refl, sym, ◌∙◌, ap, subst, arith, eq-eqb, inr}
+use Rattle.std.proofs.lemmas.Bool.{eqb-true}
+use Rattle.std.proofs.lemmas.List.Elements.{recursion_from_All}
+use Rattle.geo_model.specs.declared.command.LineCommand.{LineCommand}
+use Rattle.geo_model.specs.declared.step.BioResult.{BioResult}
+use Rattle.geo_model.specs.declared.step.Entry.{Entry}
+use Rattle.geo_model.specs.declared.step.Owner.{Owner}
+use Rattle.geo_model.specs.declared.step.Owner.TheVariants as owners
+use Rattle.geo_model.specs.Graph.{AreNumbers}
+use Rattle.geo_model.specs.Words.{names_number}
+use Rattle.geo_model.specs.Topology.{Topology, Consumer, consumer_at, provider_at}
+use Rattle.geo_model.specs.World.{World, Bio, BioOf, Config, Handle, is_root, is_done, is_of_handle}
+use Rattle.geo_model.specs.Fitting.{Firm}
+use Rattle.geo_model.specs.Sound.{HasItsConsumer}
+use Rattle.geo_model.specs.SoundBios.{IsBioInOrder, IsFamilyInOrder, HasCountFor}
+use Rattle.geo_model.specs.Steady.{ComesFromItsOwner}
+use Rattle.geo_bio.specs.declared.bio.Held.{Held}
+use Rattle.geo_handles.specs.Handles.{holding_handle, handle_at}
+use Rattle.geo_log.specs.Places.{delivered_at}
+use Rattle.geo_traffic.specs.Shown.{shown, shown_bio}
+use Rattle.geo_laws_graph.proofs.Lists.{Rise, rise-from, none_outside}
+use Rattle.geo_state.specs.declared.state.State.{State}
+use Rattle.geo_state.specs.Parts.{IsUnderWay, AreUnderWay, HasLineHandle}
+use Rattle.geo_state.specs.Trips.{Trip, trip_of, trips, is_out, out_through, handle_of_owner, is_own}
+use Rattle.geo_state.specs.World.{world, StandsFirm}
+use Rattle.geo_state.proofs.Lists.{count-none, find-none, find-same, all-weaker, all-both}
+use Rattle.geo_state.proofs.Owned.{none-counted}
+
+-- a fact of what is there
+some-lives : {X : Type 0} (P : X → Type 0) (o : Option X) → IsSomeAnd o P → IsSome o
+some-lives P None never = absurd never
+some-lives P (Some x) fact = refl
+
+weaken : {X : Type 0} (P Q : X → Type 0) → ((x : X) → P x → Q x) → (o : Option X) → IsSomeAnd o P → IsSomeAnd o Q
+weaken P Q so None never = never
+weaken P Q so (Some x) fact = so x fact
+
+module _ (log : List Entry) (s : State) (actors : List (List LineCommand)) where
+  one : (x : BioOf Held) → IsBioInOrder (world actors log s) (shown_bio (delivered_at log) x)
+      → ComesFromItsOwner (world actors log s) (shown_bio (delivered_at log) x) x.owner
+      → IsFamilyInOrder (world actors log s) (shown_bio (delivered_at log) x)
+      → IsUnderWay s.topo.topology s.handles.handles (trip_of x)
+  one x order owner family = record {
+    source =
+        weaken (λ (c : Consumer). (c.provider ≡ Some x.target)
+        × HasCountFor (world actors log s) (shown_bio (delivered_at log) x) c) (λ c. c.provider ≡ Some x.target)
+        (λ c facts. facts.0) (consumer_at s.topo.topology x.source) order.source;
+    target = some-lives _ (provider_at s.topo.topology x.target) order.target;
+    owner = of x.owner owner;
+    root = family.root;
+  }
+    where
+      of : (o : Owner) → ComesFromItsOwner (world actors log s) (shown_bio (delivered_at log) x) o
+          → HasLineHandle s.handles.handles x.source o
+      of (owners.Line hd line) fact = fact
+      of owners.Taste fact = tt
+      of (owners.Child parent index) fact = tt
+
+  each : (bios : List (BioOf Held))
+      → AllByRecursion (IsBioInOrder (world actors log s)) (shown (delivered_at log) bios)
+      → AllByRecursion (λ (x : Bio). ComesFromItsOwner (world actors log s) x x.owner) (shown (delivered_at log) bios)
+      → AllByRecursion (IsFamilyInOrder (world actors log s)) (shown (delivered_at log) bios)
+      → AreUnderWay s.topo.topology s.handles.handles (trips bios)
+  each [] order owners_are families = tt
+  each (x ∷ xs) order owners_are families =
+      (one x order.0 owners_are.0 families.0, each xs order.1 owners_are.1 families.1)
+
+  pub under-way_in : Firm (world actors log s) → AreUnderWay s.topo.topology s.handles.handles (trips s.traffic.bios)
+  under-way_in firm =
+      each s.traffic.bios
+      (recursion_from_All (IsBioInOrder (world actors log s)) (world actors log s).bios firm.sound.bios)
+      (recursion_from_All (λ (x : Bio). ComesFromItsOwner (world actors log s) x x.owner) (world actors log s).bios
+      firm.steady.owners)
+      (recursion_from_All (IsFamilyInOrder (world actors log s)) (world actors log s).bios firm.sound.families)
+
+  -- each handle's consumer lives
+  pub holders-live : Firm (world actors log s)
+      → AllByRecursion (λ (h : Handle). (c : ℕ) → h.consumer ≡ Some c → IsSome (consumer_at s.topo.topology c))
+      s.handles.handles
+  holders-live firm =
+      all-weaker (HasItsConsumer (world actors log s))
+      (λ h. (c : ℕ) → h.consumer ≡ Some c → IsSome (consumer_at s.topo.topology c))
+      (λ h has c is. lives h c is has) s.handles.handles
+      (recursion_from_All (HasItsConsumer (world actors log s)) s.handles.handles firm.sound.handles.handles)
+    where
+      lives : (h : Handle) (c : ℕ) → h.consumer ≡ Some c → HasItsConsumer (world actors log s) h
+          → IsSome (consumer_at s.topo.topology c)
+      lives h c is has =
+          some-lives (λ (x : Consumer). x.geom ≡ 1) (consumer_at s.topo.topology c)
+          (subst (λ o. MatchOption o (h.dead ≡ true) (λ d. IsSomeAnd (consumer_at s.topo.topology d) (λ x. x.geom ≡ 1)))
+          is has)
+
+-- where some commands are left
+module _ (log : List Entry) (s : State) (firm : StandsFirm log s) where
+  pub under-way : AreUnderWay s.topo.topology s.handles.handles (trips s.traffic.bios)
+  under-way = under-way_in log s firm.0 firm.1
+
+  pub holders : AllByRecursion (λ (h : Handle). (c : ℕ) → h.consumer ≡ Some c → IsSome (consumer_at s.topo.topology c))
+      s.handles.handles
+  holders = holders-live log s firm.0 firm.1
+
+  pub consumer-numbers : AreNumbers (map (λ (x : Consumer). x.number) s.topo.topology.consumers)
+      s.topo.topology.next_consumer
+  consumer-numbers = firm.1.sound.numbers.consumers
+
+-- a number that isn't given yet is nobody's
+pub unknown : {X : Type 0} (number : X → ℕ) (next n : ℕ) (xs : List X) → AreNumbers (map number xs) next → next ≤ n
+    → find (λ x. number x == n) xs ≡ None
+unknown number next n xs are past =
+    find-none (λ x. number x == n) xs (none_outside number 0 next n xs (rise-from next (map number xs) are) (inr past))
+
+module _ (t : Topology Config) (handles : List Handle) (xs : List Trip) where
+  -- nothing is out through a consumer that isn't there
+  pub none-out : (c : ℕ) → consumer_at t c ≡ None → AreUnderWay t handles xs → out_through xs c ≡ 0
+  none-out c none are =
+      count-none (is_out c) xs
+      (all-weaker (IsUnderWay t handles) (λ x. is_out c x ≡ false)
+      (λ x way. at x way (x.source == c) refl) xs are)
+    where
+      at : (x : Trip) → IsUnderWay t handles x → (b : Bool) → (x.source == c) ≡ b → is_out c x ≡ false
+      at x way true e =
+          let same : x.source ≡ c = eqb-true x.source c e in
+          absurd (subst (λ o. IsSomeAnd o (λ (y : Consumer). y.provider ≡ Some x.target)) (ap (consumer_at t) same ∙ none)
+          way.source)
+      at x way false e = rw e refl
+
+  -- no request is of a handle that isn't there
+  pub none-of : (n : ℕ) → handle_at handles n ≡ None → AreUnderWay t handles xs
+      → AllByRecursion (λ (x : Trip). is_of_handle x.owner n ≡ false) xs
+  none-of n none are =
+      all-weaker (IsUnderWay t handles) (λ (x : Trip). is_of_handle x.owner n ≡ false)
+      (λ x way. of x x.owner refl way) xs are
+    where
+      on : (x : Trip) (hd line : ℕ) → IsSomeAnd (handle_at handles hd) (λ h. h.consumer ≡ Some x.source) → (b : Bool)
+          → (hd == n) ≡ b → (hd == n) ≡ false
+      on x hd line has true e =
+          let same : hd ≡ n = eqb-true hd n e in
+          absurd (subst (λ o. IsSomeAnd o (λ (h : Handle). h.consumer ≡ Some x.source)) (ap (handle_at handles) same ∙ none)
+          has)
+      on x hd line has false e = e
+
+      of : (x : Trip) (o : Owner) → x.owner ≡ o → IsUnderWay t handles x → is_of_handle x.owner n ≡ false
+      of x (owners.Line hd line) is way =
+          ap (λ w. is_of_handle w n) is
+          ∙ on x hd line (subst (HasLineHandle handles x.source) is way.owner) (hd == n) refl
+      of x owners.Taste is way = ap (λ w. is_of_handle w n) is
+      of x (owners.Child parent index) is way = ap (λ w. is_of_handle w n) is
+
+  -- nor of one through whose consumer nothing is out, or that has none
+  pub idle-of : (n : ℕ) (h : Handle) → handle_at handles n ≡ Some h
+      → ((c : ℕ) → h.consumer ≡ Some c → out_through xs c ≡ 0) → AreUnderWay t handles xs
+      → AllByRecursion (λ (x : Trip). is_of_handle x.owner n ≡ false) xs
+  idle-of n h found idle are =
+      all-weaker (λ (x : Trip). IsUnderWay t handles x × ((c : ℕ) → h.consumer ≡ Some c → is_out c x ≡ false))
+      (λ (x : Trip). is_of_handle x.owner n ≡ false)
+      (λ x facts. of x x.owner refl facts.0 facts.1) xs
+      (all-both (IsUnderWay t handles) (λ (x : Trip). (c : ℕ) → h.consumer ≡ Some c → is_out c x ≡ false) xs are quiet)
+    where
+      quiet : AllByRecursion (λ (x : Trip). (c : ℕ) → h.consumer ≡ Some c → is_out c x ≡ false) xs
+      quiet = by h.consumer refl
+        where
+          fill : (ys : List Trip) → h.consumer ≡ None
+              → AllByRecursion (λ (x : Trip). (c : ℕ) → h.consumer ≡ Some c → is_out c x ≡ false) ys
+          fill [] none = tt
+          fill (y ∷ ys) none = ((λ c is. let never : None ≡ Some c = sym none ∙ is in absurd cc), fill ys none)
+
+          by : (o : Option ℕ) → h.consumer ≡ o
+              → AllByRecursion (λ (x : Trip). (c : ℕ) → h.consumer ≡ Some c → is_out c x ≡ false) xs
+          by None is = fill xs is
+          by (Some d) is =
+              all-weaker (λ (x : Trip). is_out d x ≡ false) (λ x. (c : ℕ) → h.consumer ≡ Some c → is_out c x ≡ false)
+              (λ x no c has.
+              let e : Some d ≡ Some c = sym is ∙ has in
+              let same : d ≡ c = cc in
+              subst (λ m. is_out m x ≡ false) same no) xs
+              (none-counted (is_out d) xs (idle d is))
+
+      -- a root that is out
+      out : (x : Trip) (line : ℕ) → x.owner ≡ owners.Line n line → IsUnderWay t handles x
+          → h.consumer ≡ Some x.source → is_out x.source x ≡ true
+      out x line is way has =
+          let going : x.done ≡ false = way.root (ap is_root is) in
+          rw (going, eq-eqb x.source x.source refl) refl
+
+      on : (x : Trip) (hd line : ℕ) → x.owner ≡ owners.Line hd line → IsUnderWay t handles x
+          → ((c : ℕ) → h.consumer ≡ Some c → is_out c x ≡ false) → (b : Bool) → (hd == n) ≡ b → (hd == n) ≡ false
+      on x hd line is way none true e =
+          let same : hd ≡ n = eqb-true hd n e in
+          let of_n : x.owner ≡ owners.Line n line = is ∙ ap (λ m. owners.Line m line) same in
+          let has : h.consumer ≡ Some x.source =
+          subst (λ o. IsSomeAnd o (λ (k : Handle). k.consumer ≡ Some x.source)) found
+          (subst (HasLineHandle handles x.source) of_n way.owner) in
+          let never : true ≡ false = sym (out x line of_n way has) ∙ none x.source has in
+          absurd cc
+      on x hd line is way none false e = e
+
+      of : (x : Trip) (o : Owner) → x.owner ≡ o → IsUnderWay t handles x
+          → ((c : ℕ) → h.consumer ≡ Some c → is_out c x ≡ false) → is_of_handle x.owner n ≡ false
+      of x (owners.Line hd line) is way none =
+          ap (λ w. is_of_handle w n) is ∙ on x hd line is way none (hd == n) refl
+      of x owners.Taste is way none = ap (λ w. is_of_handle w n) is
+      of x (owners.Child parent index) is way none = ap (λ w. is_of_handle w n) is

@@ -1,0 +1,414 @@
+-- All is kept after handles were opened, closed and reaped.
+use Rattle.std.specs.Prelude.{◌≡◌, ◌≢◌, ℕ, ◌+◌, ◌≤◌, ◌==◌, Bool, true, false, not, List, [], ◌∷◌, ◌++◌, length, map, filter, find, count_by, Option, Some, None, IsSome, IsSomeAnd, unwrap_or, if◌then◌else◌}
+use Rattle.std.specs.List.{AllByRecursion}
+use Rattle.std.specs.Option.{option_map, option_map_or}
+use Rattle.std.proofs.Common.{refl, sym, ◌∙◌, ap, subst, arith, eq-eqb}
+use Rattle.std.proofs.lemmas.Bool.{eqb-true, ne_eqb}
+use Rattle.std.proofs.lemmas.List.{map-append, length-map}
+use Rattle.geo_base.specs.declared.request.Counts.{Counts}
+use Rattle.geo_model.specs.declared.step.Entry.{Entry}
+use Rattle.geo_model.specs.Demand.{no_counts}
+use Rattle.geo_model.specs.Graph.{AreNumbers}
+use Rattle.geo_model.specs.Opens.{with_grant}
+use Rattle.geo_model.specs.Words.{names_number}
+use Rattle.geo_model.specs.Topology.{Topology, Geom, Provider, Consumer, consumer_at, add_consumer}
+use Rattle.geo_model.specs.World.{Config, Handle}
+use Rattle.geo_model.specs.Bios.{disk_at}
+use Rattle.geo_model.proofs.DemandLemmas.{names_some}
+use Rattle.geo_slots.specs.Slots.{value_at, without, with_value}
+use Rattle.geo_event.specs.EventQueue.{Queued}
+use Rattle.geo_mesh.specs.Topo.{TopoView, Room, with_consumer, with_topology, without_consumer}
+use Rattle.geo_laws_counts.specs.CountWords.{HoldsGrants}
+use Rattle.geo_access.specs.Access.{IsCounted, IsQuiet, granted_by, holds_grants, granted_view, released_view}
+use Rattle.geo_access.specs.GoneLaws.{HasUsedNumber}
+use Rattle.geo_access.proofs.Gone.{refused_consumers_go}
+use Rattle.geo_handles.specs.Handles.{HandlesView, handle_at, with_opened, released, closed}
+use Rattle.geo_handles.specs.HandleLaws.{noted}
+use Rattle.geo_handles.proofs.HandleLawLemmas.{notes_follow}
+use Rattle.geo_laws_graph.proofs.Lists.{found_fresh, numbers-push, numbers-kept, numbers-changed}
+use Rattle.geo_state.specs.declared.state.State.{State}
+use Rattle.geo_state.specs.Parts.{SameParts, DisksStay, disk_row, geom_row}
+use Rattle.geo_state.specs.Trips.{Trip, trips, out_through, can_be_reaped, is_own}
+use Rattle.geo_state.specs.World.{StandsFirm}
+use Rattle.geo_state.specs.Holds.{Holds, AreOut, AreReady, AreOwn, GrantsAgree, granted_of, owed_events}
+use Rattle.geo_state.specs.Changes.{Effects, IsSettled, HasComer, HasGoer, with_consumer_at, coming, KeptAfterOpen, KeptAfterRefusal, KeptAfterClose, KeptAfterForget, KeptAfterReap, KeptWithHandles}
+use Rattle.geo_state.proofs.Lists.{all-weaker, find-before, find-none, find-past, none-found}
+use Rattle.geo_state.proofs.Frames.{parts-geom, parts-disk}
+use Rattle.geo_state.proofs.Fields.{apart}
+use Rattle.geo_state.proofs.Rises.{active-at}
+use Rattle.geo_state.proofs.LawLemmas.{fields_follow, rows_out, row_out, seats-stay}
+use Rattle.geo_state.proofs.FirmLemmas.{under-way, holders, consumer-numbers, none-out, none-of, idle-of}
+use Rattle.geo_state.proofs.HolderFacts.{IsHeld, held, dev-holds}
+use Rattle.geo_state.proofs.GrantLemmas.{grant-at, granted-after}
+use Rattle.geo_state.proofs.HandleLemmas.{owns-alike_at, came-own, came-granted, gone-own, forgotten-granted, IsOnly, only, closed-granted, released-granted, released-ready, released-own, not-same}
+
+-- Sites: geoms with their disks, and providers with their geoms
+
+pub record SameSites (t u : Topology Config) : Type 0 where
+  pub geoms : map disk_row u.geoms ≡ map disk_row t.geoms
+  pub providers : map geom_row u.providers ≡ map geom_row t.providers
+
+pub sites-trans : (t u v : Topology Config) → SameSites t u → SameSites u v → SameSites t v
+sites-trans t u v first second =
+    record { geoms = second.geoms ∙ first.geoms; providers = second.providers ∙ first.providers }
+
+pub sites-self : (t : Topology Config) → SameSites t t
+sites-self t = record { geoms = refl; providers = refl }
+
+pub sites-of : (t u : Topology Config) → SameParts t u → SameSites t u
+sites-of t u same = record { geoms = same.geoms; providers = same.providers }
+
+-- the parts are the same, but for the consumers
+parts_but : (t u : Topology Config) → SameSites t u → SameParts t (record u { consumers = t.consumers })
+parts_but t u same = record { geoms = same.geoms; providers = same.providers; consumers = refl }
+
+pub sites-stay : (t u : Topology Config) (xs : List Trip) → SameSites t u → DisksStay t u xs
+sites-stay t u xs same = record {
+  geoms = parts-geom t (record u { consumers = t.consumers }) (parts_but t u same);
+  targets = each xs;
+}
+  where
+    each : (ys : List Trip)
+        → AllByRecursion (λ (x : Trip). disk_at u x.target
+        ≡ disk_at t x.target) ys
+    each [] = tt
+    each (y ∷ ys) =
+        (parts-disk t (record u { consumers = t.consumers }) (parts_but t u same) y.target, each ys)
+
+pub sites-count : (t u : Topology Config) → SameSites t u → length u.providers ≡ length t.providers
+sites-count t u same =
+    sym (length-map u.providers geom_row)
+    ∙ ap (λ rows. length rows) same.providers
+    ∙ length-map t.providers geom_row
+
+-- All of it
+
+-- with another mesh that has the same sites, another queue and other handles
+pub holds-with : (s : State) (u : TopoView Config) (q : Queued) (v : HandlesView) → Holds s → IsSettled u q
+    → SameSites s.topo.topology u.topology → AreNumbers (map (λ (h : Handle). h.number) v.handles) v.next
+    → ((c : ℕ) → granted_by u c ≡ granted_of v.handles s.taste c)
+    → AreOut u (trips s.traffic.bios) → AreReady v (trips s.traffic.bios)
+    → AreOwn s.own.items v.handles (trips s.traffic.bios) → Holds (record s { topo = u; queue = q; handles = v })
+holds-with s u q v h settled sites numbers grants active ready own = record {
+  counted = settled.counted;
+  quiet = settled.quiet;
+  numbers = numbers;
+  grants = λ i c. grants c i;
+  active = active;
+  ready = ready;
+  own = own;
+  read = h.read;
+  seats =
+      seats-stay s.disks.items s.topo.topology u.topology (trips s.traffic.bios)
+      (sites-stay s.topo.topology u.topology (trips s.traffic.bios) sites) h.seats;
+  providers = h.providers ∙ sym (sites-count s.topo.topology u.topology sites);
+  room = settled.room;
+}
+
+-- effects leave the requests out
+pub effects-out : (t u : TopoView Config) (xs : List Trip) → Effects t u → AreOut t xs → AreOut u xs
+effects-out t u xs e out =
+    e.active ∙ out ∙ rows_out xs t.topology.consumers
+    ∙ ap (map (row_out xs)) (sym e.parts.consumers)
+    ∙ sym (rows_out xs u.topology.consumers)
+
+-- what was granted, of a handle or of the taste
+granted-is : (s : State) → Holds s → (c : ℕ) → granted_by s.topo c ≡ granted_of s.handles.handles s.taste c
+granted-is s h c = ap (λ (g : ℕ → Counts). g c) h.grants
+
+-- one grant more, by two functions that agree
+grant-same : (f g : ℕ → Counts) (c : ℕ) (add : Counts) (d : ℕ) → (d ≢ c → f d ≡ g d)
+    → with_grant f c add d ≡ with_grant g c add d
+grant-same f g c add d same = by (d == c) refl
+  where
+    by : (b : Bool) → (d == c) ≡ b → with_grant f c add d ≡ with_grant g c add d
+    by true e = grant-at f c add d true e ∙ sym (grant-at g c add d true e)
+    by false e = grant-at f c add d false e ∙ same (apart d c e) ∙ sym (grant-at g c add d false e)
+
+-- Opened
+
+module _ (t : TopoView Config) (prov : ℕ) (fresh : consumer_at t.topology (coming t) ≡ None)
+    (dev : HoldsGrants t.topology 1) where
+  abbrev comer : Consumer
+  comer = record { number = coming t; geom = 1; provider = Some prov; spoiled = false }
+
+  -- the one that came is found
+  comer_found : consumer_at (with_consumer_at t 1 prov).topology (coming t) ≡ Some comer
+  comer_found =
+      find-past (λ (c : Consumer). c.number == coming t) t.topology.consumers (comer ∷ [])
+      (none-found (λ (c : Consumer). c.number == coming t) t.topology.consumers fresh)
+      ∙ ap (λ b. if b then Some comer else None) (eq-eqb (coming t) (coming t) refl)
+
+  comer_kind : IsSomeAnd (consumer_at (with_consumer_at t 1 prov).topology (coming t))
+      (λ x. HoldsGrants (with_consumer_at t 1 prov).topology x.geom)
+  comer_kind =
+      subst (λ o. IsSomeAnd o (λ (x : Consumer). HoldsGrants (with_consumer_at t 1 prov).topology x.geom))
+      (sym comer_found) dev
+
+  -- the others hold what they held
+  others_hold : (d : ℕ) → d ≢ coming t → granted_by (with_consumer_at t 1 prov) d ≡ granted_by t d
+  others_hold d other =
+      ap (λ o. option_map_or
+      (λ (x : Consumer). if holds_grants t.topology x.geom
+      then unwrap_or
+      (value_at (t.wants ++ (coming t, no_counts) ∷ []) d) no_counts else no_counts) o no_counts)
+      (find-before (λ (c : Consumer). c.number == d) t.topology.consumers (comer ∷ []) (not_it, tt))
+      ∙ ap (λ w. option_map_or
+      (λ (x : Consumer). if holds_grants t.topology x.geom
+      then unwrap_or w no_counts else no_counts) (consumer_at t.topology d) no_counts)
+      (ap (option_map (λ (row : ℕ × Counts). row.1))
+      (find-before (λ (row : ℕ × Counts). row.0 == d) t.wants ((coming t, no_counts) ∷ [])
+      (not_it, tt)))
+    where
+      not_it : (coming t == d) ≡ false
+      not_it = not-same (coming t) d (λ same. other (sym same))
+
+  -- what is granted then
+  comer_granted : (grant : Counts) (d : ℕ)
+      → granted_by (granted_view (with_consumer_at t 1 prov) (coming t) grant) d
+      ≡ with_grant (granted_by t) (coming t) grant d
+  comer_granted grant d =
+      granted-after (with_consumer_at t 1 prov) (coming t) grant comer_kind d
+      ∙ grant-same (granted_by (with_consumer_at t 1 prov)) (granted_by t) (coming t) grant d (others_hold d)
+
+pub kept_after_open : KeptAfterOpen
+kept_after_open log s t u q v prov actor name grant h firm came settled opened =
+    let n : ℕ = coming s.topo in
+    let xs : List Trip = trips s.traffic.bios in
+    let hs : List Handle = s.handles.handles in
+    let k : Handle = record {
+      number = s.handles.next;
+      actor = actor;
+      name = name;
+      consumer = Some n;
+      grant = grant;
+      dead = false;
+    } in
+    let fresh : consumer_at s.topo.topology n ≡ None =
+    found_fresh (λ (c : Consumer). c.number) n n s.topo.topology.consumers (consumer-numbers log s firm) (omega arith) in
+    let none_has : find (λ (j : Handle). names_number j.consumer n) hs ≡ None =
+    find-none (λ (j : Handle). names_number j.consumer n) hs
+    (all-weaker (λ (j : Handle). (c : ℕ) → j.consumer ≡ Some c → IsSome (consumer_at s.topo.topology c))
+    (λ j. names_number j.consumer n ≡ false) (λ j lives. nobody s n fresh j lives (names_number j.consumer n) refl) hs
+    (holders log s firm)) in
+    let none_of : handle_at hs s.handles.next ≡ None =
+    found_fresh (λ (j : Handle). j.number) s.handles.next s.handles.next hs h.numbers (omega arith) in
+    let way = under-way log s firm in
+    let handles : v.handles ≡ hs ++ k ∷ [] = ap (λ (w : HandlesView). w.handles) opened in
+    let next : v.next ≡ s.handles.next + 1 = ap (λ (w : HandlesView). w.next) opened in
+    let ready : v.ready ≡ s.handles.ready ++ (s.handles.next, false) ∷ [] = ap (λ (w : HandlesView). w.ready) opened in
+    let topology : t.topology ≡ (with_consumer_at s.topo 1 prov).topology =
+    ap (λ (w : TopoView Config). w.topology) came.comes in
+    holds-with s u q v h settled
+    (sites-trans s.topo.topology t.topology u.topology
+    (subst (SameSites s.topo.topology) (sym topology) (record { geoms = refl; providers = refl }))
+    (sites-of t.topology u.topology came.followed.parts))
+    (rw (handles, next) (numbers-push (λ (j : Handle). j.number) s.handles.next hs k refl h.numbers))
+    (λ d. came.followed.granted d
+    ∙ ap (λ (w : TopoView Config). granted_by w d) came.comes
+    ∙ comer_granted s.topo prov fresh (dev-holds log s firm) grant d
+    ∙ grant-same (granted_by s.topo) (granted_of hs s.taste) n grant d (λ other. granted-is s h d)
+    ∙ sym (came-granted hs k s.taste n refl none_has d)
+    ∙ ap (λ (js : List Handle). granted_of js s.taste d) (sym handles))
+    (effects-out t u xs came.followed
+    ((fields_follow s.topo t xs).comes n
+    (record {
+      consumers =
+          ap (λ (w : Topology Config). map (λ (x : Consumer). x.number) w.consumers) topology
+          ∙ map-append (λ (x : Consumer). x.number) s.topo.topology.consumers
+          (record { number = n; geom = 1; provider = Some prov; spoiled = false } ∷ []);
+      active = ap (λ (w : TopoView Config). w.active) came.comes;
+    })
+    (none-out s.topo.topology hs xs n fresh way) h.active))
+    (ready
+    ∙ ap (λ rows. rows ++ (s.handles.next, false) ∷ []) h.ready
+    ∙ (notes_follow (can_be_reaped xs) hs).opens k refl
+    ∙ ap (noted (can_be_reaped xs)) (sym handles))
+    (rw handles
+    (owns-alike_at s.own.items hs (hs ++ k ∷ []) xs
+    (came-own hs k xs (none-of s.topo.topology hs xs s.handles.next none_of way)) h.own))
+  where
+    nobody : (s : State) (n : ℕ) → consumer_at s.topo.topology n ≡ None → (j : Handle)
+        → ((c : ℕ) → j.consumer ≡ Some c → IsSome (consumer_at s.topo.topology c)) → (b : Bool)
+        → names_number j.consumer n ≡ b → names_number j.consumer n ≡ false
+    nobody s n fresh j lives false e = e
+    nobody s n fresh j lives true e =
+        let there : IsSome (consumer_at s.topo.topology n) =
+        lives n (names_some j.consumer n e) in
+        absurd (subst (λ o. IsSome o → ⊥) (sym fresh) (λ no. cc) there)
+
+-- Refused
+
+pub kept_after_refusal : KeptAfterRefusal
+kept_after_refusal s u q v h used events room same =
+    let xs : List Trip = trips s.traffic.bios in
+    let consumers : u.topology.consumers ≡ s.topo.topology.consumers =
+    ap (λ (w : TopoView Config). w.topology.consumers) used in
+    let owed : owed_events u ≡ owed_events s.topo = ap (λ (w : TopoView Config). owed_events w) used in
+    let was = h.room in
+    let handles : v.handles ≡ s.handles.handles = ap (λ (w : HandlesView). w.handles) same in
+    let next : v.next ≡ s.handles.next = ap (λ (w : HandlesView). w.next) same in
+    let ready : v.ready ≡ s.handles.ready = ap (λ (w : HandlesView). w.ready) same in
+    holds-with s u q v h
+    (record {
+      counted = (refused_consumers_go {C = Config}).counted s.topo u used h.counted;
+      quiet = (refused_consumers_go {C = Config}).quiet s.topo u used h.quiet;
+      room = omega (arith, owed, was, room);
+    })
+    (record {
+      geoms = ap (λ (w : TopoView Config). map disk_row w.topology.geoms) used;
+      providers = ap (λ (w : TopoView Config). map geom_row w.topology.providers) used;
+    })
+    (rw (handles, next) h.numbers)
+    (λ d. ap (λ (w : TopoView Config). granted_by w d) used ∙ granted-is s h d
+    ∙ ap (λ (js : List Handle). granted_of js s.taste d) (sym handles))
+    (ap (λ (w : TopoView Config). w.active) used ∙ h.active
+    ∙ ap (map (λ (c : Consumer). let row : ℕ × ℕ = (c.number, out_through xs c.number) in row)) (sym consumers))
+    (ready ∙ h.ready ∙ ap (noted (can_be_reaped xs)) (sym handles))
+    (rw handles h.own)
+
+-- Closed and reaped
+
+module _ (s : State) (t f u : TopoView Config) (c : ℕ) (h : Holds s) (is : IsHeld s c) (gone : HasGoer s.topo c t f u)
+  where
+    -- the sites stay
+    goer_sites : SameSites s.topo.topology u.topology
+    goer_sites =
+        sites-trans s.topo.topology t.topology u.topology
+        (record {
+          geoms = ap (λ (w : TopoView Config). map disk_row w.topology.geoms) gone.released;
+          providers = ap (λ (w : TopoView Config). map geom_row w.topology.providers) gone.released;
+        })
+        (sites-trans t.topology f.topology u.topology (sites-of t.topology f.topology gone.followed.parts)
+        (record {
+          geoms = ap (λ (w : TopoView Config). map disk_row w.topology.geoms) gone.goes;
+          providers = ap (λ (w : TopoView Config). map geom_row w.topology.providers) gone.goes;
+        }))
+
+    -- nothing is granted to the one that went, and the others hold what they held
+    goer_granted : (d : ℕ) → granted_by u d ≡ with_grant (granted_of s.handles.handles s.taste) c no_counts d
+    goer_granted d =
+        gone.granted d ∙ gone.followed.granted d
+        ∙ ap (λ (w : TopoView Config). granted_by w d) gone.released
+        ∙ granted-after s.topo c no_counts is.holds d
+        ∙ grant-same (granted_by s.topo) (granted_of s.handles.handles s.taste) c no_counts d
+        (λ other. granted-is s h d)
+
+    -- as many are out through the others
+    goer_out : AreOut u (trips s.traffic.bios)
+    goer_out =
+        (fields_follow f u (trips s.traffic.bios)).goes c
+        (record {
+          consumers = ap (λ (w : TopoView Config). w.topology.consumers) gone.goes;
+          active = ap (λ (w : TopoView Config). w.active) gone.goes;
+        })
+        (effects-out t f (trips s.traffic.bios) gone.followed
+        (subst (λ (w : TopoView Config). AreOut w (trips s.traffic.bios)) (sym gone.released) h.active))
+
+-- what is out through a consumer, by what is kept of it
+out-none : (s : State) (c : ℕ) → Holds s → IsHeld s c → value_at s.topo.active c ≡ Some 0
+    → out_through (trips s.traffic.bios) c ≡ 0
+out-none s c h is idle =
+    let lives : IsSome (consumer_at s.topo.topology c) = subst IsSome (sym is.found) refl in
+    let e : Some (out_through (trips s.traffic.bios) c) ≡ Some 0 =
+    sym (active-at s.topo (trips s.traffic.bios) c h.active lives) ∙ idle in
+    cc
+
+-- so it is of a handle whose one consumer it is
+idle-only : (s : State) (c : ℕ) (h : Handle) → h.consumer ≡ Some c → out_through (trips s.traffic.bios) c ≡ 0
+    → (d : ℕ) → h.consumer ≡ Some d → out_through (trips s.traffic.bios) d ≡ 0
+idle-only s c h has none d is =
+    let e : Some c ≡ Some d = sym has ∙ is in
+    let same : c ≡ d = cc in
+    subst (λ m. out_through (trips s.traffic.bios) m ≡ 0) same none
+
+pub kept_after_close : KeptAfterClose
+kept_after_close log s t f u q v k c h firm found has idle gone settled same =
+    let n : ℕ = k.number in
+    let xs : List Trip = trips s.traffic.bios in
+    let hs : List Handle = s.handles.handles in
+    let is : IsHeld s c = held log s firm n c k found has in
+    let it : IsOnly hs n c k = only hs s.handles.next n c k h.numbers found has is.once in
+    let handles : v.handles ≡ closed hs n = ap (λ (w : HandlesView). w.handles) same in
+    let next : v.next ≡ s.handles.next = ap (λ (w : HandlesView). w.next) same in
+    let ready : v.ready ≡ without s.handles.ready n = ap (λ (w : HandlesView). w.ready) same in
+    holds-with s u q v h settled (goer_sites s t f u c h is gone)
+    (rw (handles, next) (numbers-kept (λ (j : Handle). j.number) (λ j. not (j.number == n)) s.handles.next hs h.numbers))
+    (λ d. goer_granted s t f u c h is gone d
+    ∙ sym (closed-granted hs n c k it s.taste is.untasted d)
+    ∙ ap (λ (js : List Handle). granted_of js s.taste d) (sym handles))
+    (goer_out s t f u c h is gone)
+    (ready
+    ∙ ap (λ rows. without rows n) h.ready
+    ∙ (notes_follow (can_be_reaped xs) hs).closes n
+    ∙ ap (noted (can_be_reaped xs)) (sym handles))
+    (rw handles
+    (owns-alike_at s.own.items hs (closed hs n) xs
+    (gone-own hs n xs
+    (idle-of s.topo.topology hs xs n k found (idle-only s c k has (out-none s c h is idle)) (under-way log s firm)))
+    h.own))
+
+pub kept_after_forget : KeptAfterForget
+kept_after_forget log s v k h firm found none same =
+    let n : ℕ = k.number in
+    let xs : List Trip = trips s.traffic.bios in
+    let hs : List Handle = s.handles.handles in
+    let handles : v.handles ≡ closed hs n = ap (λ (w : HandlesView). w.handles) same in
+    let next : v.next ≡ s.handles.next = ap (λ (w : HandlesView). w.next) same in
+    let ready : v.ready ≡ without s.handles.ready n = ap (λ (w : HandlesView). w.ready) same in
+    holds-with s s.topo s.queue v h (record { counted = h.counted; quiet = h.quiet; room = h.room })
+    (sites-self s.topo.topology)
+    (rw (handles, next) (numbers-kept (λ (j : Handle). j.number) (λ j. not (j.number == n)) s.handles.next hs h.numbers))
+    (λ d. granted-is s h d
+    ∙ sym (forgotten-granted hs n s.taste s.handles.next k h.numbers found none d)
+    ∙ ap (λ (js : List Handle). granted_of js s.taste d) (sym handles))
+    h.active
+    (ready
+    ∙ ap (λ rows. without rows n) h.ready
+    ∙ (notes_follow (can_be_reaped xs) hs).closes n
+    ∙ ap (noted (can_be_reaped xs)) (sym handles))
+    (rw handles
+    (owns-alike_at s.own.items hs (closed hs n) xs
+    (gone-own hs n xs
+    (idle-of s.topo.topology hs xs n k found
+    (λ d is. let never : None ≡ Some d = sym none ∙ is in absurd cc) (under-way log s firm)))
+    h.own))
+
+pub kept_after_reap : KeptAfterReap
+kept_after_reap log s t f u q v k c h firm found has idle gone settled same =
+    let n : ℕ = k.number in
+    let xs : List Trip = trips s.traffic.bios in
+    let hs : List Handle = s.handles.handles in
+    let is : IsHeld s c = held log s firm n c k found has in
+    let it : IsOnly hs n c k = only hs s.handles.next n c k h.numbers found has is.once in
+    let handles : v.handles ≡ released hs c = ap (λ (w : HandlesView). w.handles) same in
+    let next : v.next ≡ s.handles.next = ap (λ (w : HandlesView). w.next) same in
+    let ready : v.ready ≡ with_value s.handles.ready n false = ap (λ (w : HandlesView). w.ready) same in
+    holds-with s u q v h settled (goer_sites s t f u c h is gone)
+    (rw (handles, next)
+    (numbers-changed (λ (j : Handle). j.number) (λ j. names_number j.consumer c) (λ j. record j { consumer = None })
+    (λ j e. refl) s.handles.next hs h.numbers))
+    (λ d. goer_granted s t f u c h is gone d
+    ∙ sym (released-granted hs n c k it s.taste is.untasted d)
+    ∙ ap (λ (js : List Handle). granted_of js s.taste d) (sym handles))
+    (goer_out s t f u c h is gone)
+    (ready
+    ∙ ap (λ rows. with_value rows n false) h.ready
+    ∙ released-ready hs n c k it xs
+    ∙ ap (noted (can_be_reaped xs)) (sym handles))
+    (rw handles (owns-alike_at s.own.items hs (released hs c) xs (λ actor. each actor xs) h.own))
+  where
+    each : (actor : ℕ) (ys : List Trip)
+        → AllByRecursion (λ (x : Trip). is_own (released s.handles.handles c) actor x
+        ≡ is_own s.handles.handles actor x) ys
+    each actor [] = tt
+    each actor (y ∷ ys) = (released-own s.handles.handles c actor y, each actor ys)
+
+pub kept_with_handles : KeptWithHandles
+kept_with_handles = record {
+  opened = kept_after_open;
+  refused = kept_after_refusal;
+  closed = kept_after_close;
+  forgotten = kept_after_forget;
+  reaped = kept_after_reap;
+}

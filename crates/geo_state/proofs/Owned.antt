@@ -1,0 +1,306 @@
+-- The requests of an actor's own lines, the taste's read and the requests at the disks, after one more request, after
+-- one is gone, and after one is at its disk or has come from it.
+use Rattle.std.specs.Prelude.{◌≡◌, ◌≢◌, ℕ, ◌+◌, ◌-◌, ◌≤◌, ◌==◌, min, Bool, true, false, not, ◌&&◌, List, [], ◌∷◌, ◌++◌, length, map, filter, find, count_by, Option, Some, None, if◌then◌else◌}
+use Rattle.std.specs.List.{AllByRecursion}
+use Rattle.std.specs.Option.{option_map, option_map_or}
+use Rattle.std.proofs.Common.{refl, sym, ◌∙◌, ap, arith, subst, eq-eqb, inl, inr}
+use Rattle.std.proofs.lemmas.Bool.{eqb-true, cases_eq, ne_eqb, and_parts}
+use Rattle.geo_model.specs.Topology.{Topology}
+use Rattle.geo_model.specs.Words.{change_where}
+use Rattle.geo_model.specs.World.{Config, Handle, is_taste_root}
+use Rattle.geo_model.specs.Bios.{disk_at}
+use Rattle.geo_state.specs.Trips.{Trip, taste_read, is_at_disk, busy_at, is_own, IsOwnCount}
+use Rattle.geo_state.proofs.Outs.{eqb_sym}
+use Rattle.geo_state.proofs.Lists.{Around, around-changed, around-gone, around-count, around-all, around-fact, count-append, counts, count-step, count-skip, count-kept, count-none, find-none, find-past, find-before, find-kept_by, none-found, all-append, all-kept, all-weaker, all-front, all-back}
+
+-- where none is counted none passes
+pub none-counted : {X : Type 0} (p : X → Bool) (xs : List X) → count_by p xs ≡ 0 → AllByRecursion (λ x. p x ≡ false) xs
+none-counted p [] none = tt
+none-counted p (x ∷ xs) none = at (p x) refl (none-counted p xs)
+  where
+    at : (b : Bool) → p x ≡ b → (count_by p xs ≡ 0 → AllByRecursion (λ y. p y ≡ false) xs)
+        → AllByRecursion (λ y. p y ≡ false) (x ∷ xs)
+    at true e rest =
+        let one : counts p x ≡ 1 = ap (λ c. if c then 1 else 0) e in
+        let step = count-step p x xs in
+        absurd (omega (arith, one, step, none))
+    at false e rest = (e, rest (sym (count-skip p x xs e) ∙ none))
+
+-- An actor's own requests
+
+module _ (handles : List Handle) (actor : ℕ) where
+  -- a request that isn't one came
+  pub own-other : (xs : List Trip) (z : Trip) (count low : ℕ) → is_own handles actor z ≡ false
+      → IsOwnCount handles xs actor count low → IsOwnCount handles (xs ++ z ∷ []) actor count low
+  own-other xs z count low other is = record {
+    count_is =
+        is.count_is
+        ∙ (let all : count_by (is_own handles actor) (xs ++ z ∷ [])
+        ≡ count_by (is_own handles actor) xs + count_by (is_own handles actor) (z ∷ []) =
+        count-append (is_own handles actor) xs (z ∷ []) in
+        let none : count_by (is_own handles actor) (z ∷ []) ≡ 0 = count-none (is_own handles actor) (z ∷ []) (other, tt) in
+        omega (arith, all, none));
+    low_is =
+        all-append (λ x. is_own handles actor x ≡ true → low ≤ x.number) xs (z ∷ []) is.low_is
+        ((λ e. let never : true ≡ false = sym e ∙ other in absurd cc), tt);
+  }
+
+  -- one more came
+  pub own-more : (xs : List Trip) (z : Trip) (count low : ℕ) → is_own handles actor z ≡ true
+      → IsOwnCount handles xs actor count low
+      → IsOwnCount handles (xs ++ z ∷ []) actor (count + 1) (if count == 0 then z.number else min low z.number)
+  own-more xs z count low own is = record {
+    count_is =
+        let all : count_by (is_own handles actor) (xs ++ z ∷ [])
+        ≡ count_by (is_own handles actor) xs + count_by (is_own handles actor) (z ∷ []) =
+        count-append (is_own handles actor) xs (z ∷ []) in
+        let step = count-step (is_own handles actor) z [] in
+        let one : counts (is_own handles actor) z ≡ 1 = ap (λ b. if b then 1 else 0) own in
+        let was = is.count_is in
+        omega (arith, all, step, one, was);
+    low_is = by (count == 0) refl;
+  }
+    where
+      by : (b : Bool) → (count == 0) ≡ b
+          → AllByRecursion
+          (λ x. is_own handles actor x ≡ true → (if count == 0 then z.number else min low z.number) ≤ x.number)
+          (xs ++ z ∷ [])
+      by true e =
+          rw e
+          (all-append (λ x. is_own handles actor x ≡ true → z.number ≤ x.number) xs (z ∷ [])
+          (all-weaker (λ (x : Trip). is_own handles actor x ≡ false)
+          (λ x. is_own handles actor x ≡ true → z.number ≤ x.number)
+          (λ x no e. let never : false ≡ true = sym no ∙ e in absurd cc) xs
+          (none-counted (is_own handles actor) xs (sym is.count_is ∙ eqb-true count 0 e)))
+          ((λ e. omega arith), tt))
+      by false e =
+          rw e
+          (all-append (λ x. is_own handles actor x ≡ true → min low z.number ≤ x.number) xs (z ∷ [])
+          (all-weaker (λ (x : Trip). is_own handles actor x ≡ true → low ≤ x.number)
+          (λ x. is_own handles actor x ≡ true → min low z.number ≤ x.number)
+          (λ x above e. let l = above e in omega (arith, l)) xs is.low_is)
+          ((λ e. omega arith), tt))
+
+  -- one is gone
+  pub own-gone : (b : ℕ) (x : Trip) (xs : List Trip) (count low : ℕ) → Around (λ (z : Trip). z.number) b x xs
+      → is_own handles actor x ≡ true → IsOwnCount handles xs actor count low
+      → IsOwnCount handles (filter (λ z. not (z.number == b)) xs) actor (count - 1) low
+  own-gone b x xs count low r own is = record {
+    count_is =
+        let gone = ap (count_by (is_own handles actor)) (around-gone (λ (z : Trip). z.number) b x xs r) in
+        let whole : count_by (is_own handles actor) xs ≡ count_by (is_own handles actor) (r.front ++ x ∷ r.back) =
+        ap (count_by (is_own handles actor)) r.is in
+        let with_it = around-count (λ (z : Trip). z.number) b x xs r (is_own handles actor) x
+        (count_by (is_own handles actor) (x ∷ [])) refl in
+        let step = count-step (is_own handles actor) x [] in
+        let one : counts (is_own handles actor) x ≡ 1 = ap (λ b. if b then 1 else 0) own in
+        let was = is.count_is in
+        omega (arith, gone, whole, with_it, step, one, was);
+    low_is =
+        all-kept (λ x. is_own handles actor x ≡ true → low ≤ x.number) (λ z. not (z.number == b)) xs is.low_is;
+  }
+
+  -- there was one at least
+  pub own-some : (b : ℕ) (x : Trip) (xs : List Trip) (count low : ℕ) → Around (λ (z : Trip). z.number) b x xs
+      → is_own handles actor x ≡ true → IsOwnCount handles xs actor count low → 1 ≤ count
+  own-some b x xs count low r own is =
+      let whole : count_by (is_own handles actor) xs ≡ count_by (is_own handles actor) (r.front ++ x ∷ r.back) =
+      ap (count_by (is_own handles actor)) r.is in
+      let with_it = around-count (λ (z : Trip). z.number) b x xs r (is_own handles actor) x
+      (count_by (is_own handles actor) (x ∷ [])) refl in
+      let step = count-step (is_own handles actor) x [] in
+      let one : counts (is_own handles actor) x ≡ 1 = ap (λ b. if b then 1 else 0) own in
+      let was = is.count_is in
+      omega (arith, whole, with_it, step, one, was)
+
+  -- some that aren't own are gone
+  pub own-kept : (keep : Trip → Bool) (xs : List Trip) (count low : ℕ)
+      → AllByRecursion (λ x. keep x ≡ false → is_own handles actor x ≡ false) xs
+      → IsOwnCount handles xs actor count low → IsOwnCount handles (filter keep xs) actor count low
+  own-kept keep xs count low others is = record {
+    count_is = is.count_is ∙ sym (count-kept (is_own handles actor) keep xs others);
+    low_is = all-kept (λ x. is_own handles actor x ≡ true → low ≤ x.number) keep xs is.low_is;
+  }
+
+-- only the one of a number fails a test of other numbers
+pub only-fails : (b : ℕ) (x : Trip) (xs : List Trip) (p : Trip → Bool) → Around (λ (z : Trip). z.number) b x xs
+    → p x ≡ false → AllByRecursion (λ z. not (z.number == b) ≡ false → p z ≡ false) xs
+only-fails b x xs p r fails =
+    all-weaker (λ z. (z.number == b) ≡ true → p z ≡ false) (λ z. not (z.number == b) ≡ false → p z ≡ false)
+    (λ z so e. so (back (z.number == b) e)) xs
+    (around-all (λ (z : Trip). z.number) b x xs r (λ z. p z ≡ false) fails)
+  where
+    back : (c : Bool) → not c ≡ false → c ≡ true
+    back true e = refl
+    back false e = absurd cc
+
+-- The taste's read
+
+-- another request came, or the first read
+pub read-other : (xs : List Trip) (z : Trip) → is_taste_root z.owner ≡ false → taste_read (xs ++ z ∷ []) ≡ taste_read xs
+read-other xs z other =
+    ap (option_map (λ (x : Trip). x.number)) (find-before (λ x. is_taste_root x.owner) xs (z ∷ []) (other, tt))
+
+pub read-first : (xs : List Trip) (z : Trip) → is_taste_root z.owner ≡ true → taste_read xs ≡ None
+    → taste_read (xs ++ z ∷ []) ≡ Some z.number
+read-first xs z reads none =
+    ap (option_map (λ (x : Trip). x.number))
+    (find-past (λ x. is_taste_root x.owner) xs (z ∷ [])
+    (none-found (λ (x : Trip). is_taste_root x.owner) xs (nothing (find (λ x. is_taste_root x.owner) xs) none))
+    ∙ found)
+  where
+    found : find (λ (x : Trip). is_taste_root x.owner) (z ∷ []) ≡ Some z
+    found = rw reads refl
+
+    nothing : (o : Option Trip) → option_map (λ (x : Trip). x.number) o ≡ None → o ≡ None
+    nothing None e = refl
+    nothing (Some x) e = absurd cc
+
+-- another request is gone, or the only read
+pub read-kept : (b : ℕ) (x : Trip) (xs : List Trip) → Around (λ (z : Trip). z.number) b x xs
+    → is_taste_root x.owner ≡ false → taste_read (filter (λ z. not (z.number == b)) xs) ≡ taste_read xs
+read-kept b x xs r other =
+    ap (option_map (λ (z : Trip). z.number))
+    (find-kept_by (λ z. is_taste_root z.owner) (λ z. not (z.number == b)) xs
+    (only-fails b x xs (λ z. is_taste_root z.owner) r other))
+
+pub read-gone : (b : ℕ) (x : Trip) (xs : List Trip) → Around (λ (z : Trip). z.number) b x xs
+    → is_taste_root x.owner ≡ true → count_by (λ (z : Trip). is_taste_root z.owner) xs ≤ 1
+    → taste_read (filter (λ z. not (z.number == b)) xs) ≡ None
+read-gone b x xs r reads one =
+    ap (option_map (λ (z : Trip). z.number))
+    (find-none (λ z. is_taste_root z.owner) (filter (λ z. not (z.number == b)) xs)
+    (none-counted (λ z. is_taste_root z.owner) (filter (λ z. not (z.number == b)) xs)
+    (let p : Trip → Bool = λ z. is_taste_root z.owner in
+    let gone = ap (count_by p) (around-gone (λ (z : Trip). z.number) b x xs r) in
+    let whole : count_by p xs ≡ count_by p (r.front ++ x ∷ r.back) = ap (count_by p) r.is in
+    let with_it = around-count (λ (z : Trip). z.number) b x xs r p x (count_by p (x ∷ [])) refl in
+    let step = count-step p x [] in
+    let it : counts p x ≡ 1 = ap (λ b. if b then 1 else 0) reads in
+    omega (arith, gone, whole, with_it, step, it, one))))
+
+-- Requests at the disks
+
+module _ (t : Topology Config) (disk : ℕ) where
+  -- one came that isn't at its disk
+  pub busy-other : (xs : List Trip) (z : Trip) → z.busy ≡ false → busy_at t (xs ++ z ∷ []) disk ≡ busy_at t xs disk
+  busy-other xs z idle =
+      ap (option_map (λ (x : Trip). x.number))
+      (find-before (is_at_disk t disk) xs (z ∷ []) (rw idle refl, tt))
+
+  -- one is gone that wasn't
+  pub busy-kept : (b : ℕ) (x : Trip) (xs : List Trip) → Around (λ (z : Trip). z.number) b x xs → x.busy ≡ false
+      → busy_at t (filter (λ z. not (z.number == b)) xs) disk ≡ busy_at t xs disk
+  busy-kept b x xs r idle =
+      ap (option_map (λ (z : Trip). z.number))
+      (find-kept_by (is_at_disk t disk) (λ z. not (z.number == b)) xs
+      (only-fails b x xs (is_at_disk t disk) r (rw idle refl)))
+
+-- what doesn't pass may stand anywhere
+pub find-skip : {X : Type 0} (p : X → Bool) (front back : List X) (x : X) → p x ≡ false
+    → find p (front ++ x ∷ back) ≡ find p (front ++ back)
+find-skip p [] back x fails = rw fails refl
+find-skip p (y ∷ ys) back x fails = at (p y) refl (find-skip p ys back x fails)
+  where
+    at : (b : Bool) → p y ≡ b → find p (ys ++ x ∷ back) ≡ find p (ys ++ back)
+        → find p ((y ∷ ys) ++ x ∷ back) ≡ find p ((y ∷ ys) ++ back)
+    at true e rest = rw e refl
+    at false e rest = rw e rest
+
+module _ (t : Topology Config) (disk b : ℕ) (x : Trip) (xs : List Trip) (r : Around (λ (z : Trip). z.number) b x xs)
+    (there : disk_at t x.target ≡ Some disk) where
+  -- whether it would be at a disk
+  abbrev moved : Bool → Trip
+  moved busy = record x { busy = busy }
+
+  changed_to : (busy : Bool) (d : ℕ)
+      → busy_at t (change_where (λ z. z.number == b) (λ z. record z { busy = busy }) xs) d
+      ≡ option_map (λ (z : Trip). z.number) (find (is_at_disk t d) (r.front ++ moved busy ∷ r.back))
+  changed_to busy d =
+      ap (λ zs. busy_at t zs d) (around-changed (λ (z : Trip). z.number) b x xs r (λ z. record z { busy = busy }))
+
+  -- it is at no other disk
+  elsewhere : (busy : Bool) (d : ℕ) → (d == disk) ≡ false → is_at_disk t d (moved busy) ≡ false
+  elsewhere false d other = refl
+  elsewhere true d other =
+      ap (λ o. option_map_or (λ n. n == d) o false) there ∙ eqb_sym disk d ∙ other
+
+  -- so at another disk nothing changes
+  at_others : (busy : Bool) (d : ℕ) → (d == disk) ≡ false
+      → busy_at t (change_where (λ z. z.number == b) (λ z. record z { busy = busy }) xs) d ≡ busy_at t xs d
+  at_others busy d other =
+      changed_to busy d
+      ∙ ap (option_map (λ (z : Trip). z.number))
+      (find-skip (is_at_disk t d) r.front r.back (moved busy) (elsewhere busy d other)
+      ∙ sym (find-skip (is_at_disk t d) r.front r.back x (was x.busy refl)))
+      ∙ sym (ap (λ zs. busy_at t zs d) r.is)
+    where
+      was : (c : Bool) → x.busy ≡ c → is_at_disk t d x ≡ false
+      was true e = rw e (elsewhere true d other)
+      was false e = rw e refl
+
+  -- it came to the disk, at which nothing was
+  pub busy-taken : busy_at t xs disk ≡ None → (d : ℕ)
+      → busy_at t (change_where (λ z. z.number == b) (λ z. record z { busy = true }) xs) d
+      ≡ (if d == disk then Some x.number else busy_at t xs d)
+  busy-taken none d = by (d == disk) refl
+    where
+      nothing : (o : Option Trip) → option_map (λ (z : Trip). z.number) o ≡ None → o ≡ None
+      nothing None e = refl
+      nothing (Some z) e = absurd cc
+
+      here : is_at_disk t disk (moved true) ≡ true
+      here = ap (λ o. option_map_or (λ n. n == disk) o false) there ∙ eq-eqb disk disk refl
+
+      found : find (is_at_disk t disk) (moved true ∷ r.back) ≡ Some (moved true)
+      found = ap (λ c. if c then Some (moved true) else find (is_at_disk t disk) r.back) here
+
+      by : (c : Bool) → (d == disk) ≡ c
+          → busy_at t (change_where (λ z. z.number == b) (λ z. record z { busy = true }) xs) d
+          ≡ (if c then Some x.number else busy_at t xs d)
+      by true e =
+          let same : d ≡ disk = eqb-true d disk e in
+          let all = none-found (is_at_disk t disk) xs (nothing (find (is_at_disk t disk) xs) none) in
+          let front = all-front (λ z. is_at_disk t disk z ≡ false) r.front (x ∷ r.back) (rw r.is at all) in
+          rw same
+          (changed_to true disk
+          ∙ ap (option_map (λ (z : Trip). z.number))
+          (find-past (is_at_disk t disk) r.front (moved true ∷ r.back) front ∙ found))
+      by false e = at_others true d e
+
+  -- it came from the disk, at which nothing else was
+  pub busy-freed : AllByRecursion (λ z. is_at_disk t disk z ≡ true → (z.number == b) ≡ true) xs → (d : ℕ)
+      → busy_at t (change_where (λ z. z.number == b) (λ z. record z { busy = false }) xs) d
+      ≡ (if d == disk then None else busy_at t xs d)
+  busy-freed alone d = by (d == disk) refl
+    where
+      apart : (zs : List Trip) → AllByRecursion (λ z. is_at_disk t disk z ≡ true → (z.number == b) ≡ true) zs
+          → AllByRecursion (λ z. (z.number == b) ≡ false) zs → AllByRecursion (λ z. is_at_disk t disk z ≡ false) zs
+      apart [] so others = tt
+      apart (z ∷ zs) so others = (one (is_at_disk t disk z) refl so.0 others.0, apart zs so.1 others.1)
+        where
+          one : (c : Bool) → is_at_disk t disk z ≡ c → (is_at_disk t disk z ≡ true → (z.number == b) ≡ true)
+              → (z.number == b) ≡ false → is_at_disk t disk z ≡ false
+          one true e so other = let never : true ≡ false = sym (so e) ∙ other in absurd cc
+          one false e so other = e
+
+      whole : AllByRecursion (λ z. is_at_disk t disk z ≡ true → (z.number == b) ≡ true) (r.front ++ x ∷ r.back)
+      whole = rw r.is at alone
+
+      back : AllByRecursion (λ z. is_at_disk t disk z ≡ false) r.back
+      back = apart r.back (all-back (λ z. is_at_disk t disk z ≡ true → (z.number == b) ≡ true) r.front (x ∷ r.back) whole).1 r.after
+
+      front : AllByRecursion (λ z. is_at_disk t disk z ≡ false) r.front
+      front = apart r.front (all-front (λ z. is_at_disk t disk z ≡ true → (z.number == b) ≡ true) r.front (x ∷ r.back) whole) r.before
+
+      by : (c : Bool) → (d == disk) ≡ c
+          → busy_at t (change_where (λ z. z.number == b) (λ z. record z { busy = false }) xs) d
+          ≡ (if c then None else busy_at t xs d)
+      by true e =
+          let same : d ≡ disk = eqb-true d disk e in
+          rw same
+          (changed_to false disk
+          ∙ ap (option_map (λ (z : Trip). z.number))
+          (find-past (is_at_disk t disk) r.front (moved false ∷ r.back) front
+          ∙ find-none (is_at_disk t disk) (moved false ∷ r.back) (refl, back)))
+      by false e = at_others false d e

@@ -1,0 +1,516 @@
+-- What is kept beside the parts, after a request went up to its owner.
+use Rattle.std.specs.Prelude.{◌≡◌, ◌≢◌, ℕ, ◌+◌, ◌-◌, ◌≤◌, ◌==◌, Bool, true, false, not, ◌&&◌, List, [], ◌∷◌, ◌++◌, map, filter, find, count_by, Option, Some, None, IsTrue, IsSome, IsSomeAnd, IfSome, slice_get, if◌then◌else◌}
+use Rattle.std.specs.List.{AllByRecursion, list_all}
+use Rattle.std.specs.Option.{option_map, option_map_or}
+use Rattle.std.proofs.Common.{refl, sym, ◌∙◌, ap, subst, arith, eq-eqb}
+use Rattle.std.proofs.lemmas.Bool.{eqb-true, ne_eqb, and_parts}
+use Rattle.geo_model.specs.declared.step.Owner.{Owner}
+use Rattle.geo_model.specs.declared.step.Owner.TheVariants as owners
+use Rattle.geo_model.specs.declared.step.Phase.{Phase}
+use Rattle.geo_model.specs.declared.step.Phase.TheVariants as phases
+use Rattle.geo_model.specs.Graph.{AreNumbers}
+use Rattle.geo_model.specs.Topology.{Topology, Consumer, consumer_at}
+use Rattle.geo_model.specs.Words.{change_where, names_number}
+use Rattle.geo_model.specs.World.{BioOf, Config, Handle, change_number, is_done, is_up, is_waiting, is_child_of, is_of_handle, is_taste_root}
+use Rattle.geo_model.specs.Bios.{up_with}
+use Rattle.geo_bio.specs.declared.bio.Held.{Held}
+use Rattle.geo_bio.specs.BioTable.{HasParent, bio_among, has_phase, with_phase}
+use Rattle.geo_bio.specs.Up.{after_up, are_in, completed, gathered}
+use Rattle.geo_slots.specs.Slots.{value_at}
+use Rattle.geo_mesh.specs.Topo.{TopoView, with_active}
+use Rattle.geo_mesh.specs.Rows.{change_at}
+use Rattle.geo_handles.specs.Handles.{HandlesView, HoldsAlone, holding_handle, handle_at}
+use Rattle.geo_handles.specs.HandleLaws.{noted}
+use Rattle.geo_laws_graph.proofs.Lists.{find-changed, all-changed, found_itself}
+use Rattle.geo_laws_graph.proofs.Members.{find-Contains}
+use Rattle.geo_base.proofs.Tests.{found_passes}
+use Rattle.geo_state.specs.declared.state.State.{State}
+use Rattle.geo_state.specs.declared.state.OwnBios.{OwnBios}
+use Rattle.geo_state.specs.Trips.{Trip, trip_of, trips, is_out, out_through, can_be_reaped, taste_read, is_at_disk, busy_at, is_own, IsOwnCount}
+use Rattle.geo_state.specs.Own.{without_bio, change_own, left_by}
+use Rattle.geo_state.specs.Bios.{own_after, read_after, left_of, CanLeave, IsOfItsOwner, CameThrough}
+use Rattle.geo_state.specs.Ready.{refreshed}
+use Rattle.geo_state.specs.Holds.{Holds, AreOut, AreReady, AreOwn, AreSeats}
+use Rattle.geo_state.proofs.Lists.{Around, around, around-all, around-fact, all-weaker, all-both, find-none, none-found}
+use Rattle.geo_state.proofs.TripLemmas.{trips-changed, trips-same, trips-kept}
+use Rattle.geo_state.proofs.Outs.{rows-changed, out-back, out-gone, out-some, reaped-same}
+use Rattle.geo_state.proofs.Owned.{own-gone, own-some, own-kept, only-fails, read-kept, read-gone, busy-kept}
+use Rattle.geo_state.proofs.Unseen.{SameReads, reads-trans, reads-same, reads-gone, busy-gone, IsGoneChild, count-changed, InPhase, in-phase, trips-around, up-is, waiting-is, done-is}
+use Rattle.geo_state.proofs.ReadyLemmas.{IsHolder, holder, refreshed-none, refreshed-one}
+use Rattle.geo_state.proofs.Slots.{slot-same, slot-other}
+use Rattle.geo_state.proofs.Fields.{apart, if-weaker, at-some, if-some, seats-same}
+use Rattle.geo_state.proofs.Moves.{Kept, kept-of, holds-moved, own-of_line, own-of_nobody}
+use Rattle.geo_state.proofs.Turns.{at-some-and}
+
+-- from the one list to the other one request less is out through a consumer, and the rest is kept
+pub record Rise (s : State) (x : Trip) (ys : List Trip) : Type 0 where
+  pub out : (d : ℕ) → out_through ys d
+      ≡ (if d == x.source then out_through (trips s.traffic.bios) d - 1 else out_through (trips s.traffic.bios) d)
+  pub own : AreOwn (own_after s x.owner) s.handles.handles ys
+  pub taste : read_after s x.owner ≡ taste_read ys
+  pub busy : (disk : ℕ) → busy_at s.topo.topology ys disk ≡ busy_at s.topo.topology (trips s.traffic.bios) disk
+
+-- what isn't seen of the second list
+pub rise-on : (s : State) (x : Trip) (ys zs : List Trip) → SameReads ys zs
+    → ((disk : ℕ) → busy_at s.topo.topology zs disk ≡ busy_at s.topo.topology ys disk) → Rise s x ys → Rise s x zs
+rise-on s x ys zs same busy r = record {
+  out = λ d. same.out d ∙ r.out d;
+  own = λ actor.
+      if-weaker (λ (o : OwnBios). IsOwnCount s.handles.handles ys actor o.count o.low)
+      (λ (o : OwnBios). IsOwnCount s.handles.handles zs actor o.count o.low)
+      (λ o is. same.own s.handles.handles actor o.count o.low is) (slice_get (own_after s x.owner) actor) (r.own actor);
+  taste = r.taste ∙ sym same.read;
+  busy = λ disk. busy disk ∙ r.busy disk;
+}
+
+module _ (handles : List Handle) (b : ℕ) (x : Trip) (xs : List Trip) (r : Around (λ (z : Trip). z.number) b x xs)
+    (owns : List OwnBios) where
+  abbrev rest : List Trip
+  rest = filter (λ (z : Trip). not (z.number == b)) xs
+
+  -- one that isn't an actor's own is gone
+  one-kept : (a : ℕ) → is_own handles a x ≡ false
+      → IfSome (slice_get owns a) (λ (o : OwnBios). IsOwnCount handles xs a o.count o.low)
+      → IfSome (slice_get owns a) (λ (o : OwnBios). IsOwnCount handles rest a o.count o.low)
+  one-kept a other is =
+      if-weaker (λ (o : OwnBios). IsOwnCount handles xs a o.count o.low)
+      (λ (o : OwnBios). IsOwnCount handles rest a o.count o.low)
+      (λ o own. own-kept handles a (λ z. not (z.number == b)) xs o.count o.low
+      (only-fails b x xs (is_own handles a) r other) own) (slice_get owns a) is
+
+  pub owns-kept : ((a : ℕ) → is_own handles a x ≡ false) → AreOwn owns handles xs → AreOwn owns handles rest
+  owns-kept nobodys own a = one-kept a (nobodys a) (own a)
+
+  -- one of an actor is gone
+  pub owns-left : (actor : ℕ) → ((a : ℕ) → is_own handles a x ≡ (actor == a)) → AreOwn owns handles xs
+      → AreOwn (left_by owns actor) handles rest
+  owns-left actor mine own a = on (slice_get owns actor) refl (actor == a) refl
+    where
+      on : (o : Option OwnBios) → slice_get owns actor ≡ o → (c : Bool) → (actor == a) ≡ c
+          → IfSome (slice_get (change_own without_bio owns actor (slice_get owns actor)) a)
+          (λ y. IsOwnCount handles rest a y.count y.low)
+      on None is true e =
+          let same : actor ≡ a = eqb-true actor a e in
+          let nothing : slice_get owns a ≡ None = ap (slice_get owns) (sym same) ∙ is in
+          rw (is, nothing) tt
+      on None is false e = rw is (one-kept a (mine a ∙ e) (own a))
+      on (Some o) is true e =
+          let same : actor ≡ a = eqb-true actor a e in
+          let at : slice_get (change_own without_bio owns actor (Some o)) a ≡ Some (without_bio o) =
+          ap (slice_get (change_own without_bio owns actor (Some o))) (sym same)
+          ∙ slot-same owns actor (without_bio o) o is in
+          let old : IsOwnCount handles xs a o.count o.low =
+          at-some (λ (y : OwnBios). IsOwnCount handles xs a y.count y.low) (slice_get owns a) o
+          (ap (slice_get owns) (sym same) ∙ is) (own a) in
+          rw (is, at) (own-gone handles a b x xs o.count o.low r (mine a ∙ e) old)
+      on (Some o) is false e =
+          let at : slice_get (change_own without_bio owns actor (Some o)) a ≡ slice_get owns a =
+          slot-other owns actor a (without_bio o) (λ same. apart actor a e (sym same)) in
+          rw (is, at) (one-kept a (mine a ∙ e) (own a))
+
+-- Roots
+
+module _ (s : State) (b : ℕ) (x : BioOf Held) (at : InPhase is_up s.traffic.bios b) (is : at.bio ≡ x) (h : Holds s)
+  where
+    abbrev xs : List Trip
+    xs = trips s.traffic.bios
+
+    abbrev z : Trip
+    z = trip_of x
+
+    passes : is_up x.phase ≡ true
+    passes = rw is at at.passes
+
+    around-bio : Around (λ (y : BioOf Held). y.number) b x s.traffic.bios
+    around-bio = rw is at at.alone
+
+    r : Around (λ (y : Trip). y.number) b z xs
+    r = trips-around b x s.traffic.bios around-bio
+
+    going : z.done ≡ false
+    going = (up-is x.phase passes).0
+
+    idle : z.busy ≡ false
+    idle = (up-is x.phase passes).1
+
+    gone : List Trip
+    gone = filter (λ (y : Trip). not (y.number == b)) xs
+
+    -- a line's request
+    pub rise-line : (hd line : ℕ) (k : Handle) → x.owner ≡ owners.Line hd line → handle_at s.handles.handles hd ≡ Some k
+        → Rise s z (filter (λ (y : Trip). not (y.number == b)) xs)
+    rise-line hd line k owner found = record {
+      out = λ d. out-gone b z xs r going d;
+      own =
+          rw (owner, found)
+          (owns-left s.handles.handles b z xs r s.own.items k.actor
+          (own-of_line s.handles.handles hd line k z found owner) h.own);
+      taste = rw owner (h.read ∙ sym (read-kept b z xs r (ap is_taste_root owner)));
+      busy = λ disk. busy-kept s.topo.topology disk b z xs r idle;
+    }
+
+    -- the taste's read
+    pub rise-read : x.owner ≡ owners.Taste → count_by (λ (y : Trip). is_taste_root y.owner) xs ≤ 1
+        → Rise s z (filter (λ (y : Trip). not (y.number == b)) xs)
+    rise-read owner one = record {
+      out = λ d. out-gone b z xs r going d;
+      own =
+          rw owner
+          (owns-kept s.handles.handles b z xs r s.own.items
+          (own-of_nobody s.handles.handles z (λ n. ap (λ o. is_of_handle o n) owner)) h.own);
+      taste = rw owner (sym (read-gone b z xs r (ap is_taste_root owner) one));
+      busy = λ disk. busy-kept s.topo.topology disk b z xs r idle;
+    }
+
+    -- a child that is done
+    pub rise-child : (parent index : ℕ) → x.owner ≡ owners.Child parent index
+        → Rise s z (change_where (λ (y : Trip). y.number == b) (λ y. record y { done = true }) xs)
+    rise-child parent index owner = record {
+      out = λ d. out-back b z xs r going d;
+      own = rw owner (λ actor.
+          if-weaker (λ (o : OwnBios). IsOwnCount s.handles.handles xs actor o.count o.low)
+          (λ (o : OwnBios). IsOwnCount s.handles.handles
+          (change_where (λ (y : Trip). y.number == b) (λ y. record y { done = true }) xs) actor o.count o.low)
+          (λ o own. record {
+            count_is =
+                own.count_is
+                ∙ sym (count-changed (λ (y : Trip). y.number == b) (λ y. record y { done = true })
+                (is_own s.handles.handles actor) (λ y e. refl) xs);
+            low_is =
+                all-changed (λ (y : Trip). y.number == b) (λ y. record y { done = true })
+                (λ y. is_own s.handles.handles actor y ≡ true → o.low ≤ y.number) (λ y e above. above) xs own.low_is;
+          }) (slice_get s.own.items actor) (h.own actor));
+      taste =
+          rw owner
+          (h.read
+          ∙ sym (ap (option_map (λ (y : Trip). y.number))
+          (find-changed (λ (y : Trip). y.number == b) (λ y. record y { done = true }) (λ y. is_taste_root y.owner)
+          (λ y e. refl) xs) ∙ seen (find (λ y. is_taste_root y.owner) xs)));
+      busy = λ disk.
+          ap (option_map (λ (y : Trip). y.number))
+          (find-changed (λ (y : Trip). y.number == b) (λ y. record y { done = true })
+          (is_at_disk s.topo.topology disk) (λ y e. refl) xs)
+          ∙ seen (find (is_at_disk s.topo.topology disk) xs);
+    }
+      where
+        by : (y : Trip) (c : Bool)
+            → (let w : Trip = if c then record y { done = true } else y in w.number) ≡ y.number
+        by y true = refl
+        by y false = refl
+
+        seen : (o : Option Trip)
+            → option_map (λ (y : Trip). y.number)
+            (option_map (λ (y : Trip). if y.number == b then record y { done = true } else y) o)
+            ≡ option_map (λ (y : Trip). y.number) o
+        seen None = refl
+        seen (Some y) = ap (λ n. Some n) (by y (y.number == b))
+
+-- Parents that are complete
+
+-- where each child is done, each that is a child is
+all-children : (parent : ℕ) (bios : List (BioOf Held)) → are_in bios parent ≡ true
+    → AllByRecursion (λ (y : BioOf Held). is_child_of y.owner parent ≡ true → is_done y.phase ≡ true) bios
+all-children parent [] all = tt
+all-children parent (y ∷ ys) all = one (is_child_of y.owner parent) refl (all-children parent ys)
+  where
+    one : (c : Bool) → is_child_of y.owner parent ≡ c
+        → (are_in ys parent ≡ true
+        → AllByRecursion (λ (y : BioOf Held). is_child_of y.owner parent ≡ true → is_done y.phase ≡ true) ys)
+        → AllByRecursion (λ (y : BioOf Held). is_child_of y.owner parent ≡ true → is_done y.phase ≡ true) (y ∷ ys)
+    one true e rest =
+        let both : (is_done y.phase && are_in ys parent) ≡ true = (rw e at all) in
+        let parts = and_parts (is_done y.phase) (are_in ys parent) both in
+        ((λ f. parts.0), rest parts.1)
+    one false e rest = ((λ f. let never : false ≡ true = sym e ∙ f in absurd cc), rest (rw e at all))
+
+-- a child's trip, once it is done
+gone-child : (parent : ℕ) (y : BioOf Held) → (is_child_of y.owner parent ≡ true → is_done y.phase ≡ true)
+    → not (is_child_of y.owner parent) ≡ false → IsGoneChild (trip_of y)
+gone-child parent y done e = record {
+  done = done child;
+  busy = done-is y.phase (done child);
+  taste = of_child y.owner child;
+  line = λ handles actor. own-of_nobody handles (trip_of y) (λ n. of_none y.owner n child) actor;
+}
+  where
+    back : (c : Bool) → not c ≡ false → c ≡ true
+    back true f = refl
+    back false f = absurd cc
+
+    child : is_child_of y.owner parent ≡ true
+    child = back (is_child_of y.owner parent) e
+
+    of_child : (o : Owner) → is_child_of o parent ≡ true → is_taste_root o ≡ false
+    of_child (owners.Line hd line) f = absurd cc
+    of_child owners.Taste f = absurd cc
+    of_child (owners.Child p k) f = refl
+
+    of_none : (o : Owner) (n : ℕ) → is_child_of o parent ≡ true → is_of_handle o n ≡ false
+    of_none (owners.Line hd line) n f = absurd cc
+    of_none owners.Taste n f = absurd cc
+    of_none (owners.Child p k) n f = refl
+
+all-gone : (parent : ℕ) (bios : List (BioOf Held))
+    → AllByRecursion (λ (y : BioOf Held). is_child_of y.owner parent ≡ true → is_done y.phase ≡ true) bios
+    → AllByRecursion (λ (w : Trip). not (is_child_of w.owner parent) ≡ false → IsGoneChild w) (trips bios)
+all-gone parent [] all = tt
+all-gone parent (y ∷ ys) all = (gone-child parent y all.0, all-gone parent ys all.1)
+
+-- a parent that waits goes up unseen
+waiting-unseen : (result : Held) (y : BioOf Held) → is_waiting y.phase ≡ true
+    → trip_of (up_with result y) ≡ trip_of y
+waiting-unseen result y waits =
+    let p = waiting-is y.phase waits in
+    ap (λ (d : Bool × Bool). let w : Trip = record (trip_of y) { done = d.0; busy = d.1 } in w)
+    (λ i. (sym p.0 i, sym p.1 i))
+
+module _ (log : ℕ → Option (List ℕ)) (bios : List (BioOf Held)) (parent : ℕ) (t : Topology Config)
+    (waits : AllByRecursion (λ (y : BioOf Held). (y.number == parent) ≡ true → is_waiting y.phase ≡ true) bios)
+    (all : are_in bios parent ≡ true) where
+  up_trips : (result : Held) → trips (change_number parent (up_with result) bios) ≡ trips bios
+  up_trips result =
+      trips-same parent (up_with result) bios
+      (all-weaker (λ (y : BioOf Held). (y.number == parent) ≡ true → is_waiting y.phase ≡ true)
+      (λ y. (y.number == parent) ≡ true → trip_of (up_with result y) ≡ trip_of y)
+      (λ y so e. waiting-unseen result y (so e)) bios waits)
+
+  left_trips : (result : Held)
+      → trips (filter (λ (y : BioOf Held). not (is_child_of y.owner parent)) (change_number parent (up_with result) bios))
+      ≡ filter (λ (w : Trip). not (is_child_of w.owner parent)) (trips bios)
+  left_trips result =
+      trips-kept (λ (y : BioOf Held). not (is_child_of y.owner parent)) (λ (w : Trip). not (is_child_of w.owner parent))
+      (λ y. refl) (change_number parent (up_with result) bios)
+      ∙ ap (filter (λ (w : Trip). not (is_child_of w.owner parent))) (up_trips result)
+
+  pub complete-reads : SameReads (trips bios) (trips (completed log bios parent))
+  complete-reads = on (bio_among bios parent)
+    where
+      on : (o : Option (BioOf Held))
+          → SameReads (trips bios)
+          (trips
+          (option_map_or
+          (λ x. filter (λ y. not (is_child_of y.owner parent)) (change_number parent (up_with (gathered log bios x)) bios))
+          o bios))
+      on None = reads-same (trips bios) (trips bios) refl
+      on (Some y) =
+          rw (left_trips (gathered log bios y))
+          (reads-gone (λ (w : Trip). not (is_child_of w.owner parent)) (trips bios)
+          (all-gone parent bios (all-children parent bios all)))
+
+  pub complete-busy : (disk : ℕ) → busy_at t (trips (completed log bios parent)) disk ≡ busy_at t (trips bios) disk
+  complete-busy disk = on (bio_among bios parent)
+    where
+      on : (o : Option (BioOf Held))
+          → busy_at t
+          (trips
+          (option_map_or
+          (λ x. filter (λ y. not (is_child_of y.owner parent)) (change_number parent (up_with (gathered log bios x)) bios))
+          o bios)) disk ≡ busy_at t (trips bios) disk
+      on None = refl
+      on (Some y) =
+          ap (λ ws. busy_at t ws disk) (left_trips (gathered log bios y))
+          ∙ busy-gone (λ (w : Trip). not (is_child_of w.owner parent)) (trips bios)
+          (all-gone parent bios (all-children parent bios all)) t disk
+
+-- Each owner
+
+up_not_waiting : (p : Phase) → is_up p ≡ true → is_waiting p ≡ false
+up_not_waiting phases.Down e = absurd cc
+up_not_waiting phases.Sent e = absurd cc
+up_not_waiting (phases.Busy seat) e = absurd cc
+up_not_waiting phases.Waiting e = absurd cc
+up_not_waiting phases.Up e = refl
+up_not_waiting phases.Done e = absurd cc
+
+module _ (s : State) (next b : ℕ) (x : BioOf Held) (log : ℕ → Option (List ℕ))
+    (are : AreNumbers (map (λ (y : BioOf Held). y.number) s.traffic.bios) next)
+    (at : InPhase is_up s.traffic.bios b) (is : at.bio ≡ x) (h : Holds s) where
+  number : x.number ≡ b
+  number = eqb-true x.number b (rw is at at.alone.here)
+
+  up : is_up x.phase ≡ true
+  up = rw is at at.passes
+
+  -- the bios with it done
+  done_bios : List (BioOf Held)
+  done_bios = change_number x.number (with_phase phases.Done) s.traffic.bios
+
+  done_seen : trip_of (with_phase phases.Done x) ≡ (let w : Trip = record (trip_of x) { done = true } in w)
+  done_seen = ap (λ d. let w : Trip = record (trip_of x) { done = true; busy = d } in w) (sym (up-is x.phase up).1)
+
+  done_trips : trips (change_number x.number (with_phase phases.Done) s.traffic.bios)
+      ≡ change_where (λ (y : Trip). y.number == b) (λ y. record y { done = true }) (trips s.traffic.bios)
+  done_trips =
+      rw number
+      (trips-changed b (with_phase phases.Done) (λ y. record y { done = true }) s.traffic.bios
+      (around-all (λ (y : BioOf Held). y.number) b x s.traffic.bios (rw is at at.alone)
+      (λ y. trip_of (with_phase phases.Done y) ≡ (let w : Trip = record (trip_of y) { done = true } in w)) done_seen))
+
+  gone_trips : trips (filter (λ (y : BioOf Held). not (y.number == x.number)) s.traffic.bios)
+      ≡ filter (λ (w : Trip). not (w.number == b)) (trips s.traffic.bios)
+  gone_trips =
+      rw number
+      (trips-kept (λ (y : BioOf Held). not (y.number == b)) (λ (w : Trip). not (w.number == b)) (λ y. refl)
+      s.traffic.bios)
+
+  -- the parent waits, also among these
+  parent_waits : (parent : ℕ) → IsTrue (has_phase is_waiting s.traffic.bios parent)
+      → AllByRecursion (λ (y : BioOf Held). (y.number == parent) ≡ true → is_waiting y.phase ≡ true)
+      (change_number x.number (with_phase phases.Done) s.traffic.bios)
+  parent_waits parent waits =
+      let w : InPhase is_waiting s.traffic.bios parent = in-phase is_waiting s.traffic.bios next parent are waits in
+      all-changed (λ (y : BioOf Held). y.number == x.number) (with_phase phases.Done)
+      (λ y. (y.number == parent) ≡ true → is_waiting y.phase ≡ true)
+      (λ y hit so e. absurd (never w (sym (eqb-true y.number parent e) ∙ eqb-true y.number x.number hit ∙ number)))
+      s.traffic.bios
+      (around-all (λ (y : BioOf Held). y.number) parent w.bio s.traffic.bios w.alone
+      (λ y. is_waiting y.phase ≡ true) w.passes)
+    where
+      never : (w : InPhase is_waiting s.traffic.bios parent) → parent ≡ b → ⊥
+      never w same =
+          let found : bio_among s.traffic.bios b ≡ Some w.bio = ap (bio_among s.traffic.bios) (sym same) ∙ w.found in
+          let it : Some w.bio ≡ Some x = sym found ∙ at.found ∙ ap (λ y. Some y) is in
+          let one : w.bio ≡ x = cc in
+          let waiting : is_waiting x.phase ≡ true = rw one at w.passes in
+          let no : false ≡ true = sym (up_not_waiting x.phase up) ∙ waiting in
+          cc
+
+  -- it has gone up
+  pub rises : (o : Owner) → x.owner ≡ o → HasParent s.traffic.bios o → IsOfItsOwner s x.source o
+      → Rise s (trip_of x) (trips (after_up log s.traffic.bios x o))
+  rises (owners.Line hd line) owner parent of =
+      on (handle_at s.handles.handles hd) refl of
+    where
+      on : (o : Option Handle) → handle_at s.handles.handles hd ≡ o → IsSomeAnd o (λ k. k.consumer ≡ Some x.source)
+          → Rise s (trip_of x) (trips (filter (λ (y : BioOf Held). not (y.number == x.number)) s.traffic.bios))
+      on None e never = absurd never
+      on (Some k) e has = rw gone_trips (rise-line s b x at is h hd line k owner e)
+  rises owners.Taste owner parent of = rw gone_trips (rise-read s b x at is h owner of.0)
+  rises (owners.Child parent index) owner waits of =
+      on (are_in (change_number x.number (with_phase phases.Done) s.traffic.bios) parent) refl
+    where
+      first : Rise s (trip_of x) (trips (change_number x.number (with_phase phases.Done) s.traffic.bios))
+      first = rw done_trips (rise-child s b x at is h parent index owner)
+
+      on : (c : Bool) → are_in (change_number x.number (with_phase phases.Done) s.traffic.bios) parent ≡ c
+          → Rise s (trip_of x)
+          (trips
+          (if c
+          then completed log (change_number x.number (with_phase phases.Done) s.traffic.bios) parent
+          else change_number x.number (with_phase phases.Done) s.traffic.bios))
+      on false e = first
+      on true e =
+          let bios : List (BioOf Held) = change_number x.number (with_phase phases.Done) s.traffic.bios in
+          rise-on s (trip_of x) (trips bios) (trips (completed log bios parent))
+          (complete-reads log bios parent s.topo.topology (parent_waits parent waits) e)
+          (complete-busy log bios parent s.topo.topology (parent_waits parent waits) e) first
+
+  -- there was one out through its consumer, and one of its actor
+  pub some-out : 1 ≤ out_through (trips s.traffic.bios) x.source
+  some-out =
+      out-some b (trip_of x) (trips s.traffic.bios) (trips-around b x s.traffic.bios (rw is at at.alone))
+      (up-is x.phase up).0
+
+  pub can-leave : (o : Owner) → x.owner ≡ o → CanLeave s o
+  can-leave owners.Taste owner = tt
+  can-leave (owners.Child parent index) owner = tt
+  can-leave (owners.Line hd line) owner =
+      if-some (λ (k : Handle). IfSome (slice_get s.own.items k.actor) (λ own. 1 ≤ own.count))
+      (handle_at s.handles.handles hd)
+      (λ k found. if-some (λ (own : OwnBios). 1 ≤ own.count) (slice_get s.own.items k.actor)
+      (λ own stands.
+      own-some s.handles.handles k.actor b (trip_of x) (trips s.traffic.bios) own.count own.low
+      (trips-around b x s.traffic.bios (rw is at at.alone))
+      (own-of_line s.handles.handles hd line k (trip_of x) found owner k.actor ∙ eq-eqb k.actor k.actor refl)
+      (at-some (λ (y : OwnBios). IsOwnCount s.handles.handles (trips s.traffic.bios) k.actor y.count y.low)
+      (slice_get s.own.items k.actor) own stands (h.own k.actor))))
+
+-- how many are out through a consumer that lives, as it is kept
+pub active-at : (t : TopoView Config) (xs : List Trip) (c : ℕ) → AreOut t xs → IsSome (consumer_at t.topology c)
+    → value_at t.active c ≡ Some (out_through xs c)
+active-at t xs c out lives = ap (λ rows. value_at rows c) out ∙ on t.topology.consumers lives
+  where
+    on : (cs : List Consumer) → IsSome (find (λ (y : Consumer). y.number == c) cs)
+        → value_at (map (λ (y : Consumer). let row : ℕ × ℕ = (y.number, out_through xs y.number) in row) cs) c
+        ≡ Some (out_through xs c)
+    on [] never = absurd cc
+    on (y ∷ ys) lives = step (y.number == c) refl (on ys)
+      where
+        step : (d : Bool) → (y.number == c) ≡ d
+            → (IsSome (find (λ (y : Consumer). y.number == c) ys)
+            → value_at (map (λ (y : Consumer). let row : ℕ × ℕ = (y.number, out_through xs y.number) in row) ys) c
+            ≡ Some (out_through xs c))
+            → value_at (map (λ (y : Consumer). let row : ℕ × ℕ = (y.number, out_through xs y.number) in row) (y ∷ ys)) c
+            ≡ Some (out_through xs c)
+        step true e rest = rw e (ap (λ n. Some (out_through xs n)) (eqb-true y.number c e))
+        step false e rest = rw e (rest (rw e at lives))
+
+-- the notes follow when the handle of a consumer is looked at again
+pub refreshed-ready : (v : HandlesView) (t : TopoView Config) (c : ℕ) (xs ys : List Trip)
+    → AreNumbers (map (λ (k : Handle). k.number) v.handles) v.next
+    → HoldsAlone v.handles c (option_map (λ (k : Handle). k.number) (holding_handle v.handles c))
+    → ((d : ℕ) → d ≢ c → out_through ys d ≡ out_through xs d)
+    → value_at t.active c ≡ Some (out_through ys c) → AreReady v xs
+    → refreshed v t c ≡ noted (can_be_reaped ys) v.handles
+refreshed-ready v t c xs ys numbers alone others out ready = on (holding_handle v.handles c) refl
+  where
+    each : (ks : List Handle)
+        → AllByRecursion (λ k. names_number k.consumer c ≡ false → can_be_reaped ys k ≡ can_be_reaped xs k) ks
+    each [] = tt
+    each (k ∷ ks) = (
+      (λ no. reaped-same c xs ys others k
+          (λ yes. let never : false ≡ true = sym no ∙ yes in absurd cc)),
+      each ks,
+    )
+
+    on : (o : Option Handle) → holding_handle v.handles c ≡ o
+        → refreshed v t c ≡ noted (can_be_reaped ys) v.handles
+    on None e = refreshed-none v t c ys (can_be_reaped xs) (each v.handles) out e ready
+    on (Some k) e =
+        refreshed-one v t c ys (can_be_reaped xs) (each v.handles) out k e
+        (holder v c k numbers alone e
+        (found_itself (λ (j : Handle). j.number) v.next v.handles k numbers
+        (find-Contains (λ (j : Handle). names_number j.consumer c) v.handles k e))
+        (found_passes (λ (j : Handle). names_number j.consumer c) v.handles k e)) ready
+
+-- all is kept after a request went up
+pub holds-rose : (s new : State) (x : BioOf Held) (ys : List Trip) → Rise s (trip_of x) ys
+    → IsSome (consumer_at s.topo.topology x.source)
+    → HoldsAlone s.handles.handles x.source
+    (option_map (λ (k : Handle). k.number) (holding_handle s.handles.handles x.source))
+    → trips new.traffic.bios ≡ ys → new.topo ≡ with_active s.topo x.source (λ n. n - 1)
+    → new.handles ≡ record s.handles { ready = refreshed s.handles new.topo x.source }
+    → new.own.items ≡ own_after s x.owner → new.read ≡ read_after s x.owner → new.disks ≡ s.disks
+    → new ≡ record s {
+      topo = record s.topo { active = new.topo.active };
+      handles = record s.handles { ready = new.handles.ready };
+      traffic = new.traffic;
+      read = new.read;
+      disks = new.disks;
+      own = new.own;
+    }
+    → Holds s → Holds new
+holds-rose s new x ys r lives alone seen topo handles own read disks rest h =
+    let c : ℕ = x.source in
+    let xs : List Trip = trips s.traffic.bios in
+    let t : TopoView Config = with_active s.topo c (λ n. n - 1) in
+    let active : AreOut t ys =
+    ap (λ rows. change_at (λ n. n - 1) rows c) h.active
+    ∙ rows-changed (λ (y : Consumer). y.number) (out_through xs) (out_through ys) (λ n. n - 1) c r.out
+    s.topo.topology.consumers in
+    let ready = refreshed-ready s.handles t c xs ys h.numbers alone
+    (λ d other. r.out d
+    ∙ ap (λ b. if b then out_through xs d - 1 else out_through xs d) (ne_eqb d c other))
+    (active-at t ys c active lives) h.ready in
+    let seats : AreSeats s.disks.items s.topo.topology ys =
+    seats-same s.disks.items s.topo.topology xs ys r.busy h.seats in
+    holds-moved s new rest
+    (rw seen
+    (record {
+      active = rw topo active;
+      ready =
+          rw (handles ∙ ap (λ u. record s.handles { ready = refreshed s.handles u c }) topo) ready;
+      own = rw (own, handles) r.own;
+      taste = read ∙ r.taste;
+      seat = rw (disks, topo) seats;
+    })) h

@@ -1,0 +1,628 @@
+-- All is kept after geoms, providers and consumers came or went.
+use Rattle.std.specs.Prelude.{◌≡◌, ◌≢◌, ℕ, ◌+◌, ◌≤◌, ◌==◌, Bool, true, false, not, ◌&&◌, List, [], ◌∷◌, ◌++◌, length, map, filter, find, Option, Some, None, IsSome, IsSomeAnd, IfSome, AllPairs, slice_get, if◌then◌else◌}
+use Rattle.std.specs.List.{AllByRecursion}
+use Rattle.std.specs.Option.{option_map, option_map_or, option_and_then, option_flatten}
+use Rattle.std.proofs.Common.{refl, sym, ◌∙◌, ap, subst, arith, eq-eqb}
+use Rattle.std.proofs.lemmas.Bool.{eqb-true, ne_eqb}
+use Rattle.std.proofs.lemmas.List.{map-append, length-append, length-map}
+use Rattle.std.proofs.lemmas.List.Elements.{recursion_from_All}
+use Rattle.geo_base.specs.declared.request.Counts.{Counts}
+use Rattle.geo_base.proofs.Tests.{pairs_head, pairs_tail}
+use Rattle.geo_model.specs.declared.step.Entry.{Entry}
+use Rattle.geo_model.specs.Words.{names_number}
+use Rattle.geo_model.specs.Topology.{Topology, Geom, Provider, Consumer, attached_to, consumer_at, geom_at, provider_at, providers_of}
+use Rattle.geo_model.specs.World.{Config, Handle, Taste}
+use Rattle.geo_model.specs.Place.{disk_of}
+use Rattle.geo_model.specs.Bios.{disk_at}
+use Rattle.geo_model.specs.GeomCommands.{is_geom_of_disk}
+use Rattle.geo_model.specs.Sound.{DifferInDisk}
+use Rattle.geo_slots.specs.Slots.{value_at, without}
+use Rattle.geo_event.specs.EventQueue.{Queued}
+use Rattle.geo_mesh.specs.Topo.{TopoView}
+use Rattle.geo_access.specs.Access.{granted_by}
+use Rattle.geo_state.specs.declared.state.State.{State}
+use Rattle.geo_state.specs.declared.state.DiskSeat.{DiskSeat}
+use Rattle.geo_state.specs.Parts.{IsUnderWay, AreUnderWay, DisksStay, disk_row, geom_row, geom_of_disk}
+use Rattle.geo_state.specs.Seats.{change_seat, with_geom_at}
+use Rattle.geo_state.specs.Trips.{Trip, trips, out_through, is_at_disk, busy_at}
+use Rattle.geo_state.specs.World.{StandsFirm}
+use Rattle.geo_state.specs.Holds.{Holds, AreOut, AreSeats, IsSeat, granted_of}
+use Rattle.geo_state.specs.Changes.{IsSettled}
+use Rattle.geo_state.specs.Sites.{Comers, HasComers, AreFresh, no_row, seats_without, KeptAfterComers, KeptAfterInsert, KeptAfterProvider, KeptAfterConsumer, KeptAfterGeom, KeptWithSites}
+use Rattle.geo_state.proofs.Lists.{Around, around, around-all, all-weaker, all-append, find-before, find-first, find-past, find-kept_by, find-same, none-found}
+use Rattle.geo_state.proofs.Slots.{slot-same, slot-other}
+use Rattle.geo_state.proofs.Fields.{apart, at-some, if-weaker}
+use Rattle.geo_state.proofs.Frames.{first_of, first_read, under, under_read, disk_under, disk_read}
+use Rattle.geo_state.proofs.Rises.{active-at}
+use Rattle.geo_state.proofs.LawLemmas.{fields_follow, rows_out, row_out, seats-stay}
+use Rattle.geo_state.proofs.FirmLemmas.{under-way, none-out}
+use Rattle.geo_state.proofs.HolderFacts.{found-fact, kept-fact}
+
+-- Seats, where one disk has another geom
+
+-- each request on its way goes to the disk to which it went
+abbrev pub TargetsStay : Topology Config → Topology Config → List Trip → Type 0
+TargetsStay t u xs = AllByRecursion (λ (x : Trip). disk_at u x.target ≡ disk_at t x.target) xs
+
+pub busy-stays : (t u : Topology Config) (xs : List Trip) → TargetsStay t u xs → (disk : ℕ)
+    → busy_at u xs disk ≡ busy_at t xs disk
+busy-stays t u xs stay disk =
+    ap (option_map (λ (x : Trip). x.number))
+    (find-same (is_at_disk t disk) (is_at_disk u disk) xs
+    (all-weaker (λ (x : Trip). disk_at u x.target ≡ disk_at t x.target)
+    (λ x. is_at_disk u disk x ≡ is_at_disk t disk x)
+    (λ x e. ap (λ o. x.busy && option_map_or (λ d. d == disk) o false) e) xs stay))
+
+pub seats-geom : (seats : List DiskSeat) (t u : Topology Config) (xs : List Trip) (disk : ℕ) (geom : Option ℕ)
+    → ((d : ℕ) → geom_of_disk u d ≡ (if d == disk then geom else geom_of_disk t d)) → TargetsStay t u xs
+    → AreSeats seats t xs → AreSeats (with_geom_at seats disk geom) u xs
+seats-geom seats t u xs disk geom same stay are = on (slice_get seats disk) refl
+  where
+    kept : (d : ℕ) → (d == disk) ≡ false → IfSome (slice_get seats d) (λ (x : DiskSeat). IsSeat u xs d x.geom x.busy)
+    kept d e =
+        if-weaker (λ (x : DiskSeat). IsSeat t xs d x.geom x.busy) (λ (x : DiskSeat). IsSeat u xs d x.geom x.busy)
+        (λ x old. record {
+          geom_is = old.geom_is ∙ sym (same d ∙ ap (λ c. if c then geom else geom_of_disk t d) e);
+          busy_is = old.busy_is ∙ sym (busy-stays t u xs stay d);
+        }) (slice_get seats d) (are d)
+
+    one : (seat : DiskSeat) → slice_get seats disk ≡ Some seat → (d : ℕ) (b : Bool) → (d == disk) ≡ b
+        → IfSome (slice_get (with_geom_at seats disk geom) d) (λ (x : DiskSeat). IsSeat u xs d x.geom x.busy)
+    one seat is d true e =
+        let here : d ≡ disk = eqb-true d disk e in
+        let new : DiskSeat = record seat { geom = geom } in
+        let at : slice_get (change_seat (λ x. record x { geom = geom }) seats disk (Some seat)) disk ≡ Some new =
+        slot-same seats disk new seat is in
+        let old : IsSeat t xs disk seat.geom seat.busy =
+        at-some (λ (x : DiskSeat). IsSeat t xs disk x.geom x.busy) (slice_get seats disk) seat is (are disk) in
+        rw (here, is, at)
+        (record {
+          geom_is = sym (same disk ∙ ap (λ c. if c then geom else geom_of_disk t disk) (rw here at e));
+          busy_is = old.busy_is ∙ sym (busy-stays t u xs stay disk);
+        })
+    one seat is d false e =
+        let at : slice_get (change_seat (λ x. record x { geom = geom }) seats disk (Some seat)) d ≡ slice_get seats d =
+        slot-other seats disk d (record seat { geom = geom }) (apart d disk e) in
+        rw (is, at) (kept d e)
+
+    none : slice_get seats disk ≡ None → (d : ℕ) (b : Bool) → (d == disk) ≡ b
+        → IfSome (slice_get (with_geom_at seats disk geom) d) (λ (x : DiskSeat). IsSeat u xs d x.geom x.busy)
+    none is d true e =
+        let here : d ≡ disk = eqb-true d disk e in
+        rw (here, is, is) tt
+    none is d false e = rw is (kept d e)
+
+    on : (o : Option DiskSeat) → slice_get seats disk ≡ o → AreSeats (with_geom_at seats disk geom) u xs
+    on None is d = none is d (d == disk) refl
+    on (Some seat) is d = one seat is d (d == disk) refl
+
+-- Rows that grow
+
+-- what stands under a number stands there with more rows behind
+under-more : {V : Type 0} (rows more : List (ℕ × V)) (n : ℕ) → IsSome (under rows n)
+    → under (rows ++ more) n ≡ under rows n
+under-more {V} rows more n there = on (find (λ (row : ℕ × V). row.0 == n) rows) refl there
+  where
+    on : (o : Option (ℕ × V)) → find (λ (row : ℕ × V). row.0 == n) rows ≡ o
+        → IsSome (option_map (λ (row : ℕ × V). row.1) o)
+        → under (rows ++ more) n ≡ under rows n
+    on None e never = absurd cc
+    on (Some row) e lives =
+        ap (option_map (λ (r : ℕ × V). r.1)) (find-first (λ (r : ℕ × V). r.0 == n) rows more row e ∙ sym e)
+
+some-map : {X Y : Type 0} (f : X → Y) (o : Option X) → IsSome o → IsSome (option_map f o)
+some-map f None never = absurd cc
+some-map f (Some x) there = refl
+
+-- what is found is found among the rows
+under-some : {X V : Type 0} (number : X → ℕ) (see : X → V) (n : ℕ) (xs : List X) → IsSome (find (λ x. number x == n) xs)
+    → IsSome (under (map (λ x. let row : ℕ × V = (number x, see x) in row) xs) n)
+under-some number see n xs there =
+    subst IsSome (under_read number see n xs) (some-map see (find (λ x. number x == n) xs) there)
+
+module _ (t u : Topology Config) (gs : List (ℕ × Option ℕ)) (ps : List (ℕ × ℕ))
+    (geoms : map disk_row u.geoms ≡ map disk_row t.geoms ++ gs)
+    (providers : map geom_row u.providers ≡ map geom_row t.providers ++ ps)
+    (live : AllByRecursion (λ (p : Provider). IsSome (geom_at t p.geom)) t.providers) where
+  -- a provider that was there leads to the same disk
+  grown-disk : (p : ℕ) → IsSome (provider_at t p) → disk_at u p ≡ disk_at t p
+  grown-disk p there = on (provider_at t p) refl there
+    where
+      on : (o : Option Provider) → provider_at t p ≡ o → IsSome o → disk_at u p ≡ disk_at t p
+      on None e never = absurd cc
+      on (Some x) e lives =
+          let g : IsSome (geom_at t x.geom) =
+          found-fact (λ (y : Provider). IsSome (geom_at t y.geom)) (λ y. y.number == p) t.providers x live e in
+          let at : under (map geom_row t.providers) p ≡ Some x.geom =
+          sym (under_read (λ (y : Provider). y.number) (λ y. y.geom) p t.providers)
+          ∙ ap (option_map (λ (y : Provider). y.geom)) e in
+          let more : under (map geom_row t.providers ++ ps) p ≡ Some x.geom =
+          under-more (map geom_row t.providers) ps p (under-some (λ (y : Provider). y.number) (λ y. y.geom) p t.providers
+          (subst IsSome (sym e) refl)) ∙ at in
+          disk_read u p
+          ∙ ap (λ rows. disk_under rows (map disk_row u.geoms) p) providers
+          ∙ ap (λ rows. disk_under (map geom_row t.providers ++ ps) rows p) geoms
+          ∙ ap (option_and_then (λ n. option_flatten (under (map disk_row t.geoms ++ gs) n))) more
+          ∙ ap option_flatten
+          (under-more (map disk_row t.geoms) gs x.geom
+          (under-some (λ (y : Geom Config). y.number) (λ y. disk_of y.config) x.geom t.geoms g))
+          ∙ sym (disk_read t p
+          ∙ ap (option_and_then (λ n. option_flatten (under (map disk_row t.geoms) n))) at)
+
+  pub grown-targets : (handles : List Handle) (xs : List Trip) → AreUnderWay t handles xs → TargetsStay t u xs
+  grown-targets handles xs way =
+      all-weaker (IsUnderWay t handles) (λ (x : Trip). disk_at u x.target ≡ disk_at t x.target)
+      (λ x is. grown-disk x.target is.target) xs way
+
+-- the geom of each disk, where no other geom of one comes
+grown-geoms : (t u : Topology Config) (gs : List (ℕ × Option ℕ))
+    → map disk_row u.geoms ≡ map disk_row t.geoms ++ gs → AllByRecursion (λ (row : ℕ × Option ℕ). row.1 ≡ None) gs
+    → (disk : ℕ) → geom_of_disk u disk ≡ geom_of_disk t disk
+grown-geoms t u gs geoms none disk =
+    first_read u.geoms disk
+    ∙ ap (λ rows. first_of rows disk) geoms
+    ∙ ap (option_map (λ (row : ℕ × Option ℕ). row.0))
+    (find-before (λ (row : ℕ × Option ℕ). option_map_or (λ d. d == disk) row.1 false) (map disk_row t.geoms) gs
+    (all-weaker (λ (row : ℕ × Option ℕ). row.1 ≡ None) (λ row. option_map_or (λ d. d == disk) row.1 false ≡ false)
+    (λ row e. ap (λ o. option_map_or (λ d. d == disk) o false) e) gs none))
+    ∙ sym (first_read t.geoms disk)
+
+-- where the disk had none, and one of it came
+come-geoms : (t u : Topology Config) (disk geom : ℕ)
+    → map disk_row u.geoms ≡ map disk_row t.geoms ++ (geom, Some disk) ∷ [] → geom_of_disk t disk ≡ None
+    → (d : ℕ) → geom_of_disk u d ≡ (if d == disk then Some geom else geom_of_disk t d)
+come-geoms t u disk geom geoms none d = first_read u.geoms d ∙ ap (λ rows. first_of rows d) geoms ∙ by (d == disk) refl
+  where
+    test : ℕ → ℕ × Option ℕ → Bool
+    test n row = option_map_or (λ m. m == n) row.1 false
+
+    nothing : (o : Option (ℕ × Option ℕ)) → option_map (λ (row : ℕ × Option ℕ). row.0) o ≡ None → o ≡ None
+    nothing None e = refl
+    nothing (Some row) e = absurd cc
+
+    by : (b : Bool) → (d == disk) ≡ b
+        → first_of (map disk_row t.geoms ++ (geom, Some disk) ∷ []) d ≡ (if b then Some geom else geom_of_disk t d)
+    by true e =
+        let same : d ≡ disk = eqb-true d disk e in
+        rw same
+        (ap (option_map (λ (row : ℕ × Option ℕ). row.0))
+        (find-past (λ (row : ℕ × Option ℕ). option_map_or (λ m. m == disk) row.1 false) (map disk_row t.geoms)
+        ((geom, Some disk) ∷ [])
+        (none-found (λ (row : ℕ × Option ℕ). option_map_or (λ m. m == disk) row.1 false) (map disk_row t.geoms)
+        (nothing (find (λ (row : ℕ × Option ℕ). option_map_or (λ m. m == disk) row.1 false) (map disk_row t.geoms))
+        (sym (first_read t.geoms disk) ∙ none))))
+        ∙ ap (λ b. option_map (λ (row : ℕ × Option ℕ). row.0) (if b then Some (let r : ℕ × Option ℕ = (geom, Some disk) in r) else None))
+        (eq-eqb disk disk refl))
+    by false e =
+        let other : (disk == d) ≡ false = ne_eqb disk d (λ same. apart d disk e (sym same)) in
+        ap (option_map (λ (row : ℕ × Option ℕ). row.0))
+        (find-before (λ (row : ℕ × Option ℕ). option_map_or (λ m. m == d) row.1 false) (map disk_row t.geoms)
+        ((geom, Some disk) ∷ []) (other, tt))
+        ∙ sym (first_read t.geoms d)
+
+-- as many are out, with consumers that came
+grown-out : (s : State) (u : TopoView Config) (cs : List ℕ) (xs : List Trip)
+    → map (λ (x : Consumer). x.number) u.topology.consumers
+    ≡ map (λ (x : Consumer). x.number) s.topo.topology.consumers ++ cs
+    → u.active ≡ s.topo.active ++ map no_row cs → AllByRecursion (λ c. out_through xs c ≡ 0) cs
+    → AreOut s.topo xs → AreOut u xs
+grown-out s u cs xs consumers active none out =
+    active
+    ∙ ap (λ rows. rows ++ map no_row cs) (out ∙ rows_out xs s.topo.topology.consumers)
+    ∙ ap (λ rows. map (row_out xs) (map (λ (x : Consumer). x.number) s.topo.topology.consumers) ++ rows) (zeros cs none)
+    ∙ sym (map-append (row_out xs) (map (λ (x : Consumer). x.number) s.topo.topology.consumers) cs)
+    ∙ ap (map (row_out xs)) (sym consumers)
+    ∙ sym (rows_out xs u.topology.consumers)
+  where
+    zeros : (ds : List ℕ) → AllByRecursion (λ c. out_through xs c ≡ 0) ds → map no_row ds ≡ map (row_out xs) ds
+    zeros [] all = refl
+    zeros (d ∷ ds) all =
+        ap (λ n. let row : ℕ × ℕ = (d, n) in row ∷ map no_row ds) (sym all.0)
+        ∙ ap (λ rows. row_out xs d ∷ rows) (zeros ds all.1)
+
+-- nothing is out through one that isn't there yet
+fresh-none : (log : List Entry) (s : State) (cs : List ℕ) → Holds s → StandsFirm log s → AreFresh s.topo cs
+    → AllByRecursion (λ c. out_through (trips s.traffic.bios) c ≡ 0) cs
+fresh-none log s cs h firm fresh =
+    all-weaker (λ c. value_at s.topo.active c ≡ None) (λ c. out_through (trips s.traffic.bios) c ≡ 0)
+    (λ c e. none-out s.topo.topology s.handles.handles (trips s.traffic.bios) c (absent c e) (under-way log s firm)) cs
+    fresh
+  where
+    absent : (c : ℕ) → value_at s.topo.active c ≡ None → consumer_at s.topo.topology c ≡ None
+    absent c e = on (consumer_at s.topo.topology c) refl
+      where
+        on : (o : Option Consumer) → consumer_at s.topo.topology c ≡ o → o ≡ None
+        on None is = refl
+        on (Some x) is =
+            let never : Some (out_through (trips s.traffic.bios) c) ≡ None =
+            sym (active-at s.topo (trips s.traffic.bios) c h.active (subst IsSome (sym is) refl)) ∙ e in
+            absurd cc
+
+-- how many providers there are
+grown-count : (t u : Topology Config) (ps : List (ℕ × ℕ))
+    → map geom_row u.providers ≡ map geom_row t.providers ++ ps
+    → length u.providers ≡ length t.providers + length ps
+grown-count t u ps providers =
+    sym (length-map u.providers geom_row)
+    ∙ ap (λ rows. length rows) providers
+    ∙ length-append (map geom_row t.providers) ps
+    ∙ ap (λ n. n + length ps) (length-map t.providers geom_row)
+
+offerers : (log : List Entry) (s : State) → StandsFirm log s
+    → AllByRecursion (λ (p : Provider). IsSome (geom_at s.topo.topology p.geom)) s.topo.topology.providers
+offerers log s firm =
+    recursion_from_All (λ (p : Provider). IsSome (geom_at s.topo.topology p.geom)) s.topo.topology.providers
+    firm.1.steady.parts.providers
+
+pub kept_after_comers : KeptAfterComers
+kept_after_comers log s u q taste new h firm came fresh none granted settled =
+    let xs : List Trip = trips s.traffic.bios in
+    record {
+      counted = settled.counted;
+      quiet = settled.quiet;
+      numbers = h.numbers;
+      grants = λ i c. granted c i;
+      active =
+          grown-out s u new.consumers xs came.consumers came.active (fresh-none log s new.consumers h firm fresh) h.active;
+      ready = h.ready;
+      own = h.own;
+      read = h.read;
+      seats =
+          seats-stay s.disks.items s.topo.topology u.topology xs
+          (record {
+            geoms = grown-geoms s.topo.topology u.topology new.geoms came.geoms none;
+            targets =
+                grown-targets s.topo.topology u.topology new.geoms new.providers came.geoms came.providers
+                (offerers log s firm) s.handles.handles xs (under-way log s firm);
+          }) h.seats;
+      providers =
+          ap (λ n. n + length new.providers) h.providers
+          ∙ sym (grown-count s.topo.topology u.topology new.providers came.providers);
+      room = settled.room;
+    }
+
+pub kept_after_insert : KeptAfterInsert
+kept_after_insert log s new disk geom prov h firm came none granted settled disks is =
+    let xs : List Trip = trips s.traffic.bios in
+    let t : Topology Config = s.topo.topology in
+    let u : Topology Config = new.topo.topology in
+    let row : ℕ × ℕ = (prov, geom) in
+    let traffic : new.traffic.bios ≡ s.traffic.bios = ap (λ (z : State). z.traffic.bios) is in
+    subst Holds (sym is)
+    (record {
+      counted = settled.counted;
+      quiet = settled.quiet;
+      numbers = h.numbers;
+      grants = (λ i c. granted c i) ∙ h.grants;
+      active = grown-out s new.topo [] xs came.consumers came.active tt h.active;
+      ready = h.ready;
+      own = h.own;
+      read = h.read;
+      seats =
+          subst (λ seats. AreSeats seats u xs) (sym disks)
+          (seats-geom s.disks.items t u xs disk (Some geom) (come-geoms t u disk geom came.geoms none)
+          (grown-targets t u ((geom, Some disk) ∷ []) (row ∷ []) came.geoms came.providers (offerers log s firm)
+          s.handles.handles xs (under-way log s firm)) h.seats);
+      providers =
+          ap (λ n. n + 1) h.providers ∙ sym (grown-count t u (row ∷ []) came.providers);
+      room = settled.room;
+    })
+
+-- What goes
+
+-- with another mesh in which each disk has its geom, and each request goes to its disk
+with-mesh : (s : State) (u : TopoView Config) (q : Queued) (taste : Option Taste) (providers : ℕ) → Holds s
+    → IsSettled u q → ((c : ℕ) → granted_by u c ≡ granted_of s.handles.handles taste c)
+    → AreOut u (trips s.traffic.bios) → DisksStay s.topo.topology u.topology (trips s.traffic.bios)
+    → providers ≡ length u.topology.providers
+    → Holds (record s { topo = u; queue = q; taste = taste; providers = providers })
+with-mesh s u q taste providers h settled granted out stay count = record {
+  counted = settled.counted;
+  quiet = settled.quiet;
+  numbers = h.numbers;
+  grants = λ i c. granted c i;
+  active = out;
+  ready = h.ready;
+  own = h.own;
+  read = h.read;
+  seats = seats-stay s.disks.items s.topo.topology u.topology (trips s.traffic.bios) stay h.seats;
+  providers = count;
+  room = settled.room;
+}
+
+-- what was granted, of a handle or of the taste
+granted-still : (s : State) (u : TopoView Config) → Holds s → ((c : ℕ) → granted_by u c ≡ granted_by s.topo c)
+    → (c : ℕ) → granted_by u c ≡ granted_of s.handles.handles s.taste c
+granted-still s u h same c = same c ∙ ap (λ (g : ℕ → Counts). g c) h.grants
+
+-- numbers that a test tells apart
+back : (b : Bool) → not b ≡ false → b ≡ true
+back true e = refl
+back false e = absurd cc
+
+module _ (t u : Topology Config) (prov : ℕ)
+    (rest : u.providers ≡ filter (λ (p : Provider). not (p.number == prov)) t.providers) (geoms : u.geoms ≡ t.geoms)
+  where
+    -- another provider leads to the same disk
+    provider-gone : (p : ℕ) → (p == prov) ≡ false → disk_at u p ≡ disk_at t p
+    provider-gone p other =
+        ap (λ (gs : List (Geom Config)). disk_at (record u { geoms = gs }) p) geoms
+        ∙ ap (λ (ps : List Provider). disk_at (record t { providers = ps }) p) rest
+        ∙ seen (find-kept_by (λ (x : Provider). x.number == p) (λ x. not (x.number == prov)) t.providers
+        (others t.providers))
+      where
+        others : (xs : List Provider)
+            → AllByRecursion (λ (x : Provider). not (x.number == prov) ≡ false → (x.number == p) ≡ false) xs
+        others [] = tt
+        others (x ∷ xs) = (
+          (λ e. ne_eqb x.number p (λ same. apart p prov other (sym same ∙ eqb-true x.number prov (back (x.number == prov) e)))),
+          others xs,
+        )
+
+        seen : find (λ (x : Provider). x.number == p) (filter (λ (x : Provider). not (x.number == prov)) t.providers)
+            ≡ find (λ (x : Provider). x.number == p) t.providers
+            → disk_at (record t { providers = filter (λ (x : Provider). not (x.number == prov)) t.providers }) p ≡ disk_at t p
+        seen e =
+            ap (λ (o : Option Provider). option_and_then (λ (g : Geom Config). disk_of g.config)
+            (option_and_then (λ (x : Provider). geom_at t x.geom) o)) e
+
+-- no request goes to a provider to which nothing is attached
+unused : (t : Topology Config) (handles : List Handle) (prov : ℕ) (xs : List Trip) → AreUnderWay t handles xs
+    → attached_to t prov ≡ [] → AllByRecursion (λ (x : Trip). (x.target == prov) ≡ false) xs
+unused t handles prov xs way none =
+    all-weaker (IsUnderWay t handles) (λ (x : Trip). (x.target == prov) ≡ false)
+    (λ x is. by x (x.target == prov) refl (consumer_at t x.source) refl is.source) xs way
+  where
+    by : (x : Trip) (b : Bool) → (x.target == prov) ≡ b → (o : Option Consumer) → consumer_at t x.source ≡ o
+        → IsSomeAnd o (λ c. c.provider ≡ Some x.target) → (x.target == prov) ≡ false
+    by x false e o found has = e
+    by x true e None found never = absurd never
+    by x true e (Some c) found has =
+        let same : x.target ≡ prov = eqb-true x.target prov e in
+        let named : names_number c.provider prov ≡ true = ap (λ p. names_number p prov) has ∙ e in
+        absurd
+        (kept-fact (λ (y : Consumer). ⊥) (λ y. names_number y.provider prov) (λ y. y.number == x.source) t.consumers c
+        (subst (AllByRecursion (λ (y : Consumer). ⊥)) (sym none) tt) found named)
+
+pub kept_after_provider : KeptAfterProvider
+kept_after_provider log s u q prov h firm none gone granted settled =
+    let xs : List Trip = trips s.traffic.bios in
+    let t : Topology Config = s.topo.topology in
+    let v : Topology Config = u.topology in
+    let geoms : v.geoms ≡ t.geoms = ap (λ (w : TopoView Config). w.topology.geoms) gone in
+    let rest : v.providers ≡ filter (λ (p : Provider). not (p.number == prov)) t.providers =
+    ap (λ (w : TopoView Config). w.topology.providers) gone in
+    let consumers : v.consumers ≡ t.consumers = ap (λ (w : TopoView Config). w.topology.consumers) gone in
+    with-mesh s u q s.taste (length v.providers) h settled (granted-still s u h granted)
+    (ap (λ (w : TopoView Config). w.active) gone ∙ h.active
+    ∙ ap (map (λ (c : Consumer). let row : ℕ × ℕ = (c.number, out_through xs c.number) in row)) (sym consumers))
+    (record {
+      geoms = λ disk. ap (λ (gs : List (Geom Config)). option_map (λ (g : Geom Config). g.number)
+          (find (is_geom_of_disk disk) gs)) geoms;
+      targets =
+          all-weaker (λ (x : Trip). (x.target == prov) ≡ false) (λ x. disk_at v x.target ≡ disk_at t x.target)
+          (λ x other. provider-gone t v prov rest geoms x.target other) xs
+          (unused t s.handles.handles prov xs (under-way log s firm) none);
+    }) refl
+
+pub kept_after_consumer : KeptAfterConsumer
+kept_after_consumer s u q taste cons h gone granted settled =
+    let xs : List Trip = trips s.traffic.bios in
+    with-mesh s u q taste s.providers h settled granted
+    ((fields_follow s.topo u xs).goes cons
+    (record {
+      consumers = ap (λ (w : TopoView Config). w.topology.consumers) gone;
+      active = ap (λ (w : TopoView Config). w.active) gone;
+    }) h.active)
+    (record {
+      geoms = λ disk. ap (λ (w : TopoView Config). geom_of_disk w.topology disk) gone;
+      targets = each xs;
+    })
+    (h.providers ∙ sym (ap (λ (w : TopoView Config). length w.topology.providers) gone))
+  where
+    each : (ys : List Trip) → AllByRecursion (λ (x : Trip). disk_at u.topology x.target ≡ disk_at s.topo.topology x.target) ys
+    each [] = tt
+    each (y ∷ ys) = (ap (λ (w : TopoView Config). disk_at w.topology y.target) gone, each ys)
+
+-- A geom that goes
+
+-- what holds of each two holds of one and the others
+pairs-around : {X : Type 0} (R : X → X → Type 0) (number : X → ℕ) (n : ℕ) (x : X) (xs : List X)
+    → ((a b : X) → R a b → R b a) → (r : Around number n x xs) → AllPairs R xs
+    → AllByRecursion (λ y. (number y == n) ≡ false → R x y) xs
+pairs-around {X} R number n x xs turn r pairs =
+    rw r.is
+    (all-append (λ y. (number y == n) ≡ false → R x y) r.front (x ∷ r.back)
+    (front r.front r.back (rw r.is at pairs)) (
+      (λ e. let never : true ≡ false = sym r.here ∙ e in absurd cc),
+      all-weaker (R x) (λ y. (number y == n) ≡ false → R x y) (λ y fact e. fact) r.back
+          (later r.front r.back (rw r.is at pairs)),
+    ))
+  where
+    later : (ys zs : List X) → AllPairs R (ys ++ x ∷ zs) → AllByRecursion (R x) zs
+    later [] zs all = recursion_from_All (R x) zs (pairs_head R x zs all)
+    later (y ∷ ys) zs all = later ys zs (pairs_tail R y (ys ++ x ∷ zs) all)
+
+    last : (ys zs : List X) (P : X → Type 0) → AllByRecursion P (ys ++ x ∷ zs) → P x
+    last [] zs P all = all.0
+    last (y ∷ ys) zs P all = last ys zs P all.1
+
+    front : (ys zs : List X) → AllPairs R (ys ++ x ∷ zs) → AllByRecursion (λ y. (number y == n) ≡ false → R x y) ys
+    front [] zs all = tt
+    front (y ∷ ys) zs all = (
+      (λ e. turn y x (last ys zs (R y)
+          (recursion_from_All (R y) (ys ++ x ∷ zs)
+          (pairs_head R y (ys ++ x ∷ zs) all)))),
+      front ys zs (pairs_tail R y (ys ++ x ∷ zs) all),
+    )
+
+turn-disks : (a b : Geom Config) → DifferInDisk a b → DifferInDisk b a
+turn-disks a b differ d has other = differ d other has
+
+module _ (t : Topology Config) (geom : ℕ) (g : Geom Config) (r : Around (λ (x : Geom Config). x.number) geom g t.geoms)
+    (apart_all : AllPairs DifferInDisk t.geoms) where
+  abbrev left : List (Geom Config)
+  left = filter (λ (x : Geom Config). not (x.number == geom)) t.geoms
+
+  -- a geom of another disk, or of none, isn't seen to go
+  other-disk : (d : ℕ) → is_geom_of_disk d g ≡ false → find (is_geom_of_disk d) left ≡ find (is_geom_of_disk d) t.geoms
+  other-disk d other =
+      find-kept_by (is_geom_of_disk d) (λ (x : Geom Config). not (x.number == geom)) t.geoms
+      (all-weaker (λ (x : Geom Config). (x.number == geom) ≡ true → is_geom_of_disk d x ≡ false)
+      (λ x. not (x.number == geom) ≡ false → is_geom_of_disk d x ≡ false)
+      (λ x so e. so (back (x.number == geom) e)) t.geoms
+      (around-all (λ (x : Geom Config). x.number) geom g t.geoms r
+      (λ x. is_geom_of_disk d x ≡ false) other))
+
+  -- the disk of one that goes has none then
+  none-left : (d : ℕ) → disk_of g.config ≡ Some d → find (is_geom_of_disk d) left ≡ None
+  none-left d has =
+      gone t.geoms
+      (pairs-around DifferInDisk (λ (x : Geom Config). x.number) geom g t.geoms turn-disks r apart_all)
+    where
+      on : (x : Geom Config) (o : Option ℕ) → disk_of x.config ≡ o → DifferInDisk g x
+          → option_map_or (λ m. m == d) o false ≡ false
+      on x None e differ = refl
+      on x (Some m) e differ = ne_eqb m d (λ same. differ d has (e ∙ ap (λ n. Some n) same))
+
+      gone : (xs : List (Geom Config))
+          → AllByRecursion (λ (x : Geom Config). (x.number == geom) ≡ false → DifferInDisk g x) xs
+          → find (is_geom_of_disk d) (filter (λ (x : Geom Config). not (x.number == geom)) xs) ≡ None
+      gone [] all = refl
+      gone (x ∷ xs) all = at (x.number == geom) refl (gone xs all.1)
+        where
+          at : (b : Bool) → (x.number == geom) ≡ b
+              → find (is_geom_of_disk d) (filter (λ (y : Geom Config). not (y.number == geom)) xs) ≡ None
+              → find (is_geom_of_disk d) (filter (λ (y : Geom Config). not (y.number == geom)) (x ∷ xs)) ≡ None
+          at true e rest = rw e rest
+          at false e rest =
+              let fails : is_geom_of_disk d x ≡ false = on x (disk_of x.config) refl (all.0 e) in
+              rw (e, fails) rest
+
+-- the geom of a provider isn't one that has no provider
+module _ (t u : Topology Config) (geom : ℕ) (rest : u.geoms ≡ filter (λ (x : Geom Config). not (x.number == geom)) t.geoms)
+    (providers : u.providers ≡ t.providers) (bare : providers_of t geom ≡ []) where
+  abbrev without_it : Topology Config
+  without_it = record t { geoms = filter (λ (x : Geom Config). not (x.number == geom)) t.geoms }
+
+  geom-gone : (p : ℕ) → disk_at u p ≡ disk_at t p
+  geom-gone p =
+      ap (λ (ps : List Provider). disk_at (record u { providers = ps }) p) providers
+      ∙ ap (λ (gs : List (Geom Config)). disk_at (record t { geoms = gs }) p) rest
+      ∙ on (provider_at t p) refl
+    where
+      its : (x : Provider) → provider_at t p ≡ Some x → (x.geom == geom) ≡ false
+      its x found = by (x.geom == geom) refl
+        where
+          by : (b : Bool) → (x.geom == geom) ≡ b → (x.geom == geom) ≡ false
+          by false e = e
+          by true e =
+              absurd
+              (kept-fact (λ (y : Provider). ⊥) (λ y. y.geom == geom) (λ y. y.number == p) t.providers x
+              (subst (AllByRecursion (λ (y : Provider). ⊥)) (sym bare) tt) found e)
+
+      same : (m : ℕ) → (m == geom) ≡ false
+          → find (λ (x : Geom Config). x.number == m) (filter (λ (x : Geom Config). not (x.number == geom)) t.geoms)
+          ≡ find (λ (x : Geom Config). x.number == m) t.geoms
+      same m other =
+          find-kept_by (λ (x : Geom Config). x.number == m) (λ x. not (x.number == geom)) t.geoms (each t.geoms)
+        where
+          each : (xs : List (Geom Config))
+              → AllByRecursion (λ (x : Geom Config). not (x.number == geom) ≡ false → (x.number == m) ≡ false) xs
+          each [] = tt
+          each (x ∷ xs) = (
+            (λ e. ne_eqb x.number m
+                (λ is. apart m geom other (sym is ∙ eqb-true x.number geom (back (x.number == geom) e)))),
+            each xs,
+          )
+
+      on : (o : Option Provider) → provider_at t p ≡ o → disk_at without_it p ≡ disk_at t p
+      on None e =
+          ap (λ (o : Option Provider). option_and_then (λ (g : Geom Config). disk_of g.config)
+          (option_and_then (λ (x : Provider). geom_at without_it x.geom) o)) e
+          ∙ sym (ap (λ (o : Option Provider). option_and_then (λ (g : Geom Config). disk_of g.config)
+          (option_and_then (λ (x : Provider). geom_at t x.geom) o)) e)
+      on (Some x) e =
+          ap (λ (o : Option Provider). option_and_then (λ (g : Geom Config). disk_of g.config)
+          (option_and_then (λ (y : Provider). geom_at without_it y.geom) o)) e
+          ∙ ap (option_and_then (λ (g : Geom Config). disk_of g.config)) (same x.geom (its x e))
+          ∙ sym (ap (λ (o : Option Provider). option_and_then (λ (g : Geom Config). disk_of g.config)
+          (option_and_then (λ (y : Provider). geom_at t y.geom) o)) e)
+
+pub kept_after_geom : KeptAfterGeom
+kept_after_geom log s new geom g h firm found bare gone granted settled disks is =
+    let xs : List Trip = trips s.traffic.bios in
+    let t : Topology Config = s.topo.topology in
+    let u : Topology Config = new.topo.topology in
+    let rest : u.geoms ≡ filter (λ (x : Geom Config). not (x.number == geom)) t.geoms =
+    ap (λ (w : TopoView Config). w.topology.geoms) gone in
+    let providers : u.providers ≡ t.providers = ap (λ (w : TopoView Config). w.topology.providers) gone in
+    let consumers : u.consumers ≡ t.consumers = ap (λ (w : TopoView Config). w.topology.consumers) gone in
+    let r : Around (λ (x : Geom Config). x.number) geom g t.geoms =
+    around (λ (x : Geom Config). x.number) t.next_geom geom g t.geoms firm.1.sound.numbers.geoms found in
+    let targets : TargetsStay t u xs = each t u rest providers bare xs in
+    subst Holds (sym is)
+    (record {
+      counted = settled.counted;
+      quiet = settled.quiet;
+      numbers = h.numbers;
+      grants = (λ i c. granted c i) ∙ h.grants;
+      active =
+          ap (λ (w : TopoView Config). w.active) gone ∙ h.active
+          ∙ ap (map (λ (c : Consumer). let row : ℕ × ℕ = (c.number, out_through xs c.number) in row)) (sym consumers);
+      ready = h.ready;
+      own = h.own;
+      read = h.read;
+      seats =
+          subst (λ seats. AreSeats seats u xs) (sym disks)
+          (seats t u rest r firm.1.sound.numbers.one_geom_of_disk targets (disk_of g.config) refl h.seats);
+      providers = h.providers ∙ sym (ap (λ (ps : List Provider). length ps) providers);
+      room = settled.room;
+    })
+  where
+    each : (t u : Topology Config) → u.geoms ≡ filter (λ (x : Geom Config). not (x.number == geom)) t.geoms
+        → u.providers ≡ t.providers → providers_of t geom ≡ [] → (ys : List Trip) → TargetsStay t u ys
+    each t u rest providers none [] = tt
+    each t u rest providers none (y ∷ ys) =
+        (geom-gone t u geom rest providers none y.target, each t u rest providers none ys)
+
+    seen : (t u : Topology Config) → u.geoms ≡ filter (λ (x : Geom Config). not (x.number == geom)) t.geoms
+        → Around (λ (x : Geom Config). x.number) geom g t.geoms → AllPairs DifferInDisk t.geoms
+        → (d : ℕ) → is_geom_of_disk d g ≡ false → geom_of_disk u d ≡ geom_of_disk t d
+    seen t u rest r apart_all d other =
+        ap (λ (gs : List (Geom Config)). option_map (λ (x : Geom Config). x.number) (find (is_geom_of_disk d) gs)) rest
+        ∙ ap (option_map (λ (x : Geom Config). x.number)) (other-disk t geom g r apart_all d other)
+
+    seats : (t u : Topology Config) → u.geoms ≡ filter (λ (x : Geom Config). not (x.number == geom)) t.geoms
+        → Around (λ (x : Geom Config). x.number) geom g t.geoms → AllPairs DifferInDisk t.geoms
+        → TargetsStay t u (trips s.traffic.bios) → (o : Option ℕ) → disk_of g.config ≡ o
+        → AreSeats s.disks.items t (trips s.traffic.bios)
+        → AreSeats (seats_without s.disks.items o) u (trips s.traffic.bios)
+    seats t u rest r apart_all targets None e are =
+        seats-stay s.disks.items t u (trips s.traffic.bios)
+        (record {
+          geoms = λ d. seen t u rest r apart_all d (ap (λ o. option_map_or (λ m. m == d) o false) e);
+          targets = targets;
+        }) are
+    seats t u rest r apart_all targets (Some disk) e are =
+        seats-geom s.disks.items t u (trips s.traffic.bios) disk None (λ d. by d (d == disk) refl) targets are
+      where
+        by : (d : ℕ) (b : Bool) → (d == disk) ≡ b → geom_of_disk u d ≡ (if b then None else geom_of_disk t d)
+        by d true f =
+            let same : d ≡ disk = eqb-true d disk f in
+            ap (λ (gs : List (Geom Config)). option_map (λ (x : Geom Config). x.number) (find (is_geom_of_disk d) gs)) rest
+            ∙ ap (option_map (λ (x : Geom Config). x.number))
+            (none-left t geom g r apart_all d (e ∙ ap (λ n. Some n) (sym same)))
+        by d false f =
+            seen t u rest r apart_all d
+            (ap (λ o. option_map_or (λ m. m == d) o false) e
+            ∙ ne_eqb disk d (λ same. apart d disk f (sym same)))
+
+pub kept_with_sites : KeptWithSites
+kept_with_sites = record {
+  comers = kept_after_comers;
+  inserted = kept_after_insert;
+  provider = kept_after_provider;
+  consumer = kept_after_consumer;
+  geom = kept_after_geom;
+}

@@ -1,0 +1,78 @@
+-- What is read of the requests on their way, after each change of them.
+use Rattle.std.specs.Prelude.{◌≡◌, ℕ, ◌+◌, ◌≤◌, ◌==◌, Bool, true, false, not, ◌&&◌, List, [], ◌∷◌, ◌++◌, length, map, filter, find, count_by, Option, Some, None, if◌then◌else◌}
+use Rattle.std.specs.List.{AllByRecursion}
+use Rattle.std.specs.Option.{option_map, option_map_or}
+use Rattle.std.proofs.Common.{refl, sym, ◌∙◌, ap, arith, subst, eq-eqb}
+use Rattle.std.proofs.lemmas.Bool.{eqb-true}
+use Rattle.std.proofs.lemmas.List.{map-append}
+use Rattle.geo_model.specs.declared.step.Owner.{Owner}
+use Rattle.geo_model.specs.declared.step.Phase.{Phase}
+use Rattle.geo_model.specs.Graph.{AreNumbers}
+use Rattle.geo_model.specs.Topology.{Topology}
+use Rattle.geo_model.specs.Words.{change_where}
+use Rattle.geo_model.specs.World.{BioOf, Config, Handle, is_busy, is_done, is_child_of, is_taste_root, is_of_handle, change_number}
+use Rattle.geo_state.specs.Trips.{Trip, trip_of, trips, is_out, out_through, can_be_reaped, taste_read, is_at_disk, busy_at, is_own, own_first}
+use Rattle.geo_state.proofs.Lists.{Around, around, around-changed, around-gone, around-count, count-append, count-same, count-none, find-same, find-none, find-first, find-past, find-before, count-kept, find-kept_by, count-skip, all-append, all-front, all-back}
+
+module _ {R : Type 0} where
+  -- a change of one request is a change of its trip
+  pub trips-changed : (b : ℕ) (change : BioOf R → BioOf R) (g : Trip → Trip) (bios : List (BioOf R))
+      → AllByRecursion (λ x. (x.number == b) ≡ true → trip_of (change x) ≡ g (trip_of x)) bios
+      → trips (change_number b change bios) ≡ change_where (λ z. z.number == b) g (trips bios)
+  trips-changed b change g [] all = refl
+  trips-changed b change g (x ∷ xs) all = at (x.number == b) refl (trips-changed b change g xs all.1)
+    where
+      at : (c : Bool) → (x.number == b) ≡ c
+          → trips (change_number b change xs) ≡ change_where (λ z. z.number == b) g (trips xs)
+          → trips (change_number b change (x ∷ xs)) ≡ change_where (λ z. z.number == b) g (trips (x ∷ xs))
+      at true e rest = rw (e, all.0 e, rest) refl
+      at false e rest = rw (e, rest) refl
+
+  -- a change that no trip shows
+  pub trips-same : (b : ℕ) (change : BioOf R → BioOf R) (bios : List (BioOf R))
+      → AllByRecursion (λ x. (x.number == b) ≡ true → trip_of (change x) ≡ trip_of x) bios
+      → trips (change_number b change bios) ≡ trips bios
+  trips-same b change [] all = refl
+  trips-same b change (x ∷ xs) all = at (x.number == b) refl (trips-same b change xs all.1)
+    where
+      at : (c : Bool) → (x.number == b) ≡ c → trips (change_number b change xs) ≡ trips xs
+          → trips (change_number b change (x ∷ xs)) ≡ trips (x ∷ xs)
+      at true e rest = rw (e, all.0 e, rest) refl
+      at false e rest = rw (e, rest) refl
+
+  -- what a filter keeps
+  pub trips-kept : (keep : BioOf R → Bool) (seen : Trip → Bool) → ((x : BioOf R) → seen (trip_of x) ≡ keep x)
+      → (bios : List (BioOf R)) → trips (filter keep bios) ≡ filter seen (trips bios)
+  trips-kept keep seen same [] = refl
+  trips-kept keep seen same (x ∷ xs) = at (keep x) refl (trips-kept keep seen same xs)
+    where
+      at : (c : Bool) → keep x ≡ c → trips (filter keep xs) ≡ filter seen (trips xs)
+          → trips (filter keep (x ∷ xs)) ≡ filter seen (trips (x ∷ xs))
+      at true e rest = rw (same x, e, rest) refl
+      at false e rest = rw (same x, e, rest) refl
+
+-- what is read of two lists is the same
+pub record SameTrips (xs ys : List Trip) : Type 0 where
+  pub out : (c : ℕ) → out_through ys c ≡ out_through xs c
+  pub read : taste_read ys ≡ taste_read xs
+  pub busy : (t : Topology Config) (disk : ℕ) → busy_at t ys disk ≡ busy_at t xs disk
+  pub count : (handles : List Handle) (actor : ℕ) → count_by (is_own handles actor) ys ≡ count_by (is_own handles actor) xs
+  pub low : (handles : List Handle) (actor low : ℕ)
+      → AllByRecursion (λ x. is_own handles actor x ≡ true → low ≤ x.number) xs
+      → AllByRecursion (λ x. is_own handles actor x ≡ true → low ≤ x.number) ys
+
+pub same-trips : (xs ys : List Trip) → ys ≡ xs → SameTrips xs ys
+same-trips xs ys same = record {
+  out = λ c. ap (λ zs. out_through zs c) same;
+  read = ap taste_read same;
+  busy = λ t disk. ap (λ zs. busy_at t zs disk) same;
+  count = λ handles actor. ap (count_by (is_own handles actor)) same;
+  low = λ handles actor low all. rw same all;
+}
+
+-- children that are done are gone
+pub record IsGoneChild (x : Trip) : Type 0 where
+  pub done : x.done ≡ true
+  pub busy : x.busy ≡ false
+  pub taste : is_taste_root x.owner ≡ false
+  pub line : (h : ℕ) → is_of_handle x.owner h ≡ false

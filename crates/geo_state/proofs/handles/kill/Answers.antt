@@ -1,0 +1,17 @@
+use Rattle.std.proofs.Common.{refl, sym, ap, ◌∙◌, ◌≡◌, true}
+use Rattle.geo_model.specs.World.{Handle}
+use Rattle.geo_handles.specs.Handles.{HandlesView, killed}
+use Rattle.geo_state.specs.declared.state.State.{State}
+use Rattle.geo_state.specs.Ready.{refreshed}
+use Rattle.geo_state.proofs.Kills.{holds-killed}
+use Rattle.geo_state.proofs.handles.kill.Goals as goal
+
+pub returns-clause-kept : goal.returns-clause-kept
+returns-clause-kept c =
+    let s : State = c.args.state.now in
+    let new : State = record s { handles = c.refresh.new.handles } in
+    holds-killed s new c.args.cons c.requires.lives c.is_alone.ensures
+    (ap (λ (v : HandlesView). let z : State = record s { handles = v } in z)
+    (c.refresh.ensures
+    ∙ ap (λ (v : HandlesView). let u : HandlesView = record v { ready = refreshed v s.topo c.args.cons } in u)
+    c.kill.ensures)) c.requires.kept

@@ -1,0 +1,15 @@
+pub mod Trips
+pub mod World
+pub mod Seats
+pub mod Own
+pub mod Ready
+pub mod Parts
+pub mod Holds
+pub mod Bios
+pub mod Laws
+pub mod Changes
+pub mod Views
+pub mod Owed
+pub mod Sites
+pub mod Steps
+pub mod Grants

@@ -1,0 +1,18 @@
+//! What the mesh is at one moment: all its parts, and what is kept beside them so that nothing has to be searched.
+#![tactic(auto)]
+
+mod bios;
+mod handles;
+pub mod laws;
+mod own;
+mod seats;
+mod splits;
+mod state;
+mod ups;
+
+pub use bios::{NewBio, bounce, deliver, send, submit_line, submit_read, take};
+pub use handles::kill;
+pub use seats::{set_busy, set_geom};
+pub use splits::split;
+pub use state::{DiskSeat, OwnBios, State};
+pub use ups::up;
