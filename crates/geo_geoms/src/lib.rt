@@ -4,9 +4,11 @@
 mod below;
 mod names;
 mod refusals;
+mod uses;
 
 pub use below::{
     Below, all_named, any_errored, below_named, have_sector, rank_below, sector_below,
 };
 pub use names::{Growing, found_provider, growing_concat, named_geom};
 pub use refusals::{is_bad_stripe, joined_refusal, nop_refusal};
+pub use uses::is_in_use;
