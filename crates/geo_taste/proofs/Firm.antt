@@ -11,7 +11,6 @@ use Rattle.geo_model.specs.declared.class.Verdict.{Verdict}
 use Rattle.geo_model.specs.declared.class.Verdict.TheVariants.{Accept}
 use Rattle.geo_model.specs.declared.step.BioResult.TheVariants.{Bytes, Done, Failed}
 use Rattle.geo_model.specs.Events.{QueuedTopology}
-use Rattle.geo_model.specs.Fitting.{Firm}
 use Rattle.geo_model.specs.Tasting.{facts_of, verdict_on}
 use Rattle.geo_model.specs.Topology.{Topology}
 use Rattle.geo_model.specs.World.{Asked, Config, NoClass, NextSector, ReadOut, ReadBack, Taste, granted_in}
