@@ -1,0 +1,4 @@
+pub mod Errored
+pub mod Cuts
+pub mod Ways
+pub mod Descent

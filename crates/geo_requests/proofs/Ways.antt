@@ -1,0 +1,104 @@
+-- The way of a request reads only its command, its range and its target.
+use Rattle.std.specs.Prelude.{◌≡◌, ℕ, true, false, [], Some, None, if◌then◌else◌}
+use Rattle.std.specs.Option.{option_map_or}
+use Rattle.std.proofs.Common.{refl, ap}
+use Rattle.geo_base.specs.declared.errno.Errno.TheVariants.{ENXIO, EIO}
+use Rattle.geo_model.specs.declared.step.Owner.TheVariants as owners
+use Rattle.geo_model.specs.Topology.{Topology, Geom, Provider, geom_at, provider_at, is_errored, provider_with_geom}
+use Rattle.geo_model.specs.World.{BioOf, Config, Nothing, Disk, Mbr, Ebr, Label, Concat, Stripe, Nop}
+use Rattle.geo_model.specs.Place.{disk_of}
+use Rattle.geo_model.specs.Bios.{Bounces, Sends, Splits, new_bio, piece_targets, way_at, way_of}
+use Rattle.geo_bio.specs.declared.bio.Held.{Held}
+use Rattle.geo_class.specs.Assembly.{fail_of}
+use Rattle.geo_requests.specs.Ways.{at_nop}
+
+-- a bio with the same command, range and target
+abbrev pub plain : {R : Type 0} → BioOf R → BioOf Held
+plain x = new_bio 0 x.cmd x.offset x.len [] 0 x.target owners.Taste
+
+way_at_plain : {R : Type 0} (x : BioOf R) (p : Provider) (g : Geom Config) (config : Config)
+    → way_at x p g config ≡ way_at (plain x) p g config
+way_at_plain x p g Nothing = refl
+way_at_plain x p g (Disk disk) = refl
+way_at_plain x p g (Mbr below slices) = refl
+way_at_plain x p g (Ebr below parts) = refl
+way_at_plain x p g (Label below) = refl
+way_at_plain x p g (Concat id places sizes) = refl
+way_at_plain x p g (Stripe id stripe places sizes) = refl
+way_at_plain x p g (Nop below offset fail) = refl
+
+-- it goes the same way
+pub way_plain : {R : Type 0} (t : Topology Config) (x : BioOf R) → way_of t x ≡ way_of t (plain x)
+way_plain t x i =
+    if is_errored t x.target
+    then Bounces ENXIO
+    else option_map_or (λ (f : Provider × Geom Config). way_at_plain x f.0 f.1 f.1.config i)
+    (provider_with_geom t x.target) (Bounces EIO)
+
+-- a geom with pieces of its own: not a disk's, and no NOP
+pub way_splits : {R : Type 0} (x : BioOf R) (p : Provider) (g : Geom Config) (config : Config)
+    → disk_of config ≡ None → fail_of config ≡ None → way_at x p g config ≡ Splits (piece_targets config p x)
+way_splits x p g Nothing no_disk no_nop = refl
+way_splits x p g (Disk disk) no_disk no_nop = absurd cc
+way_splits x p g (Mbr below slices) no_disk no_nop = refl
+way_splits x p g (Ebr below parts) no_disk no_nop = refl
+way_splits x p g (Label below) no_disk no_nop = refl
+way_splits x p g (Concat id places sizes) no_disk no_nop = refl
+way_splits x p g (Stripe id stripe places sizes) no_disk no_nop = refl
+way_splits x p g (Nop below offset fail) no_disk no_nop = absurd cc
+
+-- a NOP geom
+pub way_nop : {R : Type 0} (x : BioOf R) (p : Provider) (g : Geom Config) (config : Config) (fail : ℕ)
+    → fail_of config ≡ Some fail → way_at x p g config ≡ at_nop x p g fail
+way_nop x p g (Nop below offset n) fail is = let same : n ≡ fail = cc in ap (at_nop x p g) same
+way_nop x p g Nothing fail is = absurd cc
+way_nop x p g (Disk disk) fail is = absurd cc
+way_nop x p g (Mbr below slices) fail is = absurd cc
+way_nop x p g (Ebr below parts) fail is = absurd cc
+way_nop x p g (Label below) fail is = absurd cc
+way_nop x p g (Concat id places sizes) fail is = absurd cc
+way_nop x p g (Stripe id stripe places sizes) fail is = absurd cc
+
+-- a disk
+pub way_sends : {R : Type 0} (x : BioOf R) (p : Provider) (g : Geom Config) (config : Config) (disk : ℕ)
+    → disk_of config ≡ Some disk → way_at x p g config ≡ Sends disk
+way_sends x p g (Disk d) disk is = let same : d ≡ disk = cc in ap Sends same
+way_sends x p g Nothing disk is = absurd cc
+way_sends x p g (Mbr below slices) disk is = absurd cc
+way_sends x p g (Ebr below parts) disk is = absurd cc
+way_sends x p g (Label below) disk is = absurd cc
+way_sends x p g (Concat id places sizes) disk is = absurd cc
+way_sends x p g (Stripe id stripe places sizes) disk is = absurd cc
+way_sends x p g (Nop below offset n) disk is = absurd cc
+
+-- a NOP geom isn't a disk's
+pub nop_no_disk : (config : Config) (fail : ℕ) → fail_of config ≡ Some fail → disk_of config ≡ None
+nop_no_disk (Nop below offset n) fail is = refl
+nop_no_disk Nothing fail is = refl
+nop_no_disk (Disk disk) fail is = absurd cc
+nop_no_disk (Mbr below slices) fail is = refl
+nop_no_disk (Ebr below parts) fail is = refl
+nop_no_disk (Label below) fail is = refl
+nop_no_disk (Concat id places sizes) fail is = refl
+nop_no_disk (Stripe id stripe places sizes) fail is = refl
+
+-- By the graph
+
+module _ {R : Type 0} (t : Topology Config) (x : BioOf R) where
+  -- a provider with an error
+  pub way_errored : is_errored t x.target ≡ true → way_of t x ≡ Bounces ENXIO
+  way_errored e = rw e refl
+
+  -- no provider
+  pub way_nowhere : is_errored t x.target ≡ false → provider_at t x.target ≡ None → way_of t x ≡ Bounces EIO
+  way_nowhere e none = rw (e, none) refl
+
+  -- no geom
+  pub way_bare : (p : Provider) → is_errored t x.target ≡ false → provider_at t x.target ≡ Some p
+      → geom_at t p.geom ≡ None → way_of t x ≡ Bounces EIO
+  way_bare p e found none = rw (e, found, none) refl
+
+  -- a provider and its geom
+  pub way_there : (p : Provider) (g : Geom Config) → is_errored t x.target ≡ false → provider_at t x.target ≡ Some p
+      → geom_at t p.geom ≡ Some g → way_of t x ≡ way_at x p g g.config
+  way_there p g e found of_it = rw (e, found, of_it) refl
