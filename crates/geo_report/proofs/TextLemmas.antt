@@ -1,10 +1,8 @@
 -- The report and the summary of the model, by the listing.
-use Rattle.std.proofs.Common.{◌≡◌, ℕ, ◌≤◌, List, ◌++◌, length, ap, ◌∙◌, flat_map, All}
-use Rattle.geo_model.specs.declared.command.LineCommand.{LineCommand}
+use Rattle.std.proofs.Common.{◌≡◌, ℕ, List, ◌++◌, length, ap, ◌∙◌, flat_map}
 use Rattle.geo_model.specs.declared.listing.GeomLine.{GeomLine}
 use Rattle.geo_model.specs.declared.step.Entry.{Entry}
 use Rattle.geo_model.specs.World.{Plan}
-use Rattle.geo_model.specs.Plans.{IsPlan}
 use Rattle.geo_model.specs.Report.{line_text, mesh_text, report, summary, count_line, all_replies, is_ok_reply, is_refusal, reply_len, all_errnos}
 use Rattle.geo_report.specs.Texts.{report_text, IsReport, summary_text, IsSummary}
 use Rattle.geo_report.specs.declared.tally.Tally.{Tally}
@@ -20,10 +18,6 @@ pub is_report : (plan : Plan) (log : List Entry) (lines : List GeomLine) (text :
 unfolding report report_text
 is_report plan log lines text is opened listed =
     is ∙ ap (λ l. flat_map (line_text log) plan.commands ++ mesh_text l) listed
-
--- the lines of a plan have numbers up to 4,096
-pub lines_fit : (plan : Plan) → IsPlan plan → All (λ (c : LineCommand). c.line ≤ 4096) plan.commands
-lines_fit plan is k d within = (is.commands k d within).line
 
 -- the summary by the listing is the summary
 pub is_summary : (plan : Plan) (log : List Entry) (lines : List GeomLine) (text : List ℕ)

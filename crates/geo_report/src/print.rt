@@ -1,5 +1,5 @@
 //! The report and the summary.
-ghost use Rattle.std.specs.Prelude.{◌≡◌, ◌≤◌, ◌++◌, OnOk, IfOk, All, flat_map};
+ghost use Rattle.std.specs.Prelude.{◌≡◌, ◌++◌, OnOk, IfOk, flat_map};
 ghost use Rattle.geo_model.specs.Report.{count_line};
 ghost use Rattle.geo_report.specs.Tallies.{error_line, tally_text};
 ghost use Rattle.geo_report.specs.Texts.{report_text, summary_text, IsReport, IsSummary};
@@ -10,7 +10,7 @@ use crate::places::places_of;
 use crate::tally::{Tally, errno_number, tally_of};
 use geo_base::{Block, Errno, NoMemory};
 use geo_log::Log;
-use geo_model::{LineCommand, MeshList};
+use geo_model::MeshList;
 use geo_script::Plan;
 use geo_text::Text;
 use std::alloc::Global;
@@ -63,15 +63,6 @@ fn add_tally(text: &mut Text, tally: &Tally) -> Result<(), NoMemory>
     add_count(text, b"bytes", tally.bytes)
 }
 
-/// The commands of a plan, whose lines have numbers up to 4,096.
-#[tactic(auto, using(crate::proofs::TextLemmas::lines_fit))]
-fn commands_of(plan: &Plan) -> &[LineCommand]
-    ensures commands { result.now ≡ plan.now.commands }
-    ensures lines { All (λ c. c.line ≤ 4096) result.now }
-{
-    plan.commands()
-}
-
 /// What is printed of a plan, its log and the mesh as it is listed: the reply of each line in order, then the mesh. One
 /// pass over the log finds where the replies stand.
 #[tactic(auto, unfolding(crate::specs::Texts::report_text), using(crate::proofs::TextLemmas::is_report))]
@@ -94,7 +85,7 @@ pub fn summary(alloc: Global, plan: &Plan, log: &Log, mesh: &MeshList) -> Result
     ensures summary { IfOk result (IsSummary plan.now log.now.items mesh.now) }
 {
     let places = places_of(alloc, log.entries())?;
-    let tally = tally_of(log.entries(), places.as_slice(), commands_of(plan));
+    let tally = tally_of(log.entries(), places.as_slice(), plan.commands());
     let mut text = Text::new(alloc);
     add_count(&mut text, b"commands", plan.commands().len() as u128)?;
     add_tally(&mut text, &tally)?;
