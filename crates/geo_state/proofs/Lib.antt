@@ -23,4 +23,5 @@ pub mod KeptLemmas
 pub mod ViewLemmas
 pub mod OwedLemmas
 pub mod SiteLemmas
+pub mod OpeningLemmas
 pub mod GrantLaws

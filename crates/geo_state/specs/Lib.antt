@@ -11,5 +11,6 @@ pub mod Changes
 pub mod Views
 pub mod Owed
 pub mod Sites
+pub mod Opening
 pub mod Steps
 pub mod Grants

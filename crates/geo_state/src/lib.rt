@@ -4,6 +4,7 @@
 mod bios;
 mod handles;
 pub mod laws;
+mod opening;
 mod own;
 mod seats;
 mod splits;
@@ -12,6 +13,7 @@ mod ups;
 
 pub use bios::{NewBio, bounce, deliver, send, submit_line, submit_read, take};
 pub use handles::kill;
+pub use opening::{empty, reserve_events};
 pub use seats::{set_busy, set_geom};
 pub use splits::split;
 pub use state::{DiskSeat, OwnBios, State};
