@@ -1,12 +1,6 @@
-//! Tests of the mesh's parts: requests on their way, the graph, numbers under names, handles, and the log.
+//! Tests of the mesh's parts: the graph, and numbers under names.
 #![tactic(auto)]
 
-#[cfg(test)]
-mod bio;
-#[cfg(test)]
-mod handles;
-#[cfg(test)]
-mod log;
 #[cfg(test)]
 mod mesh;
 #[cfg(test)]

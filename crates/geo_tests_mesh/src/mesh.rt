@@ -170,3 +170,54 @@ fn a_sound_provider_is_found_first(rt: HostRuntime) -> Result<(), Fail> {
     assert_eq!(rt; found, [Some(second), Some(second), None]);
     Ok(())
 }
+
+// A provider with a handle, a geom and a handle: the geom's consumer, and what is found above, twice.
+fn between_handles(topo: &mut Topo<u8>) -> Result<(ConsId, [Option<ConsId>; 2]), Fail> {
+    let (_, prov) = geom_of(topo, b"ada0")?;
+    let (over, _) = geom_of(topo, b"over")?;
+    let first = consumer_of(topo, GeomId::new(1))?;
+    let cons = consumer_of(topo, over)?;
+    let second = consumer_of(topo, GeomId::new(1))?;
+    attach(topo, first, prov)?;
+    attach(topo, cons, prov)?;
+    attach(topo, second, prov)?;
+    Ok((
+        cons,
+        [
+            topo.above(prov, 0),
+            topo.above(prov, cons.number().saturating_add(1)),
+        ],
+    ))
+}
+
+#[test]
+fn handles_are_not_above(rt: HostRuntime) -> Result<(), Fail> {
+    let mut topo: Topo<u8> = Topo::new(rt.alloc(), 1, 2)?;
+    let (cons, found) = between_handles(&mut topo)?;
+    assert_eq!(rt; found, [Some(cons), None]);
+    Ok(())
+}
+
+// Geoms of two classes and of one name: the second, and those of its class found from the first number on and behind
+// it; then of a class without one; and TASTE by its name.
+fn two_classes(topo: &mut Topo<u8>) -> Result<(GeomId, [Option<GeomId>; 4]), Fail> {
+    let ada0 = name(b"ada0")?;
+    let taste = name(b"taste")?;
+    topo.new_geom(Kind::Disk, ada0, 7, false)?;
+    let second = topo.new_geom(Kind::Mbr, ada0, 7, true)?;
+    let found = topo.next_named(Kind::Mbr, &ada0, 0);
+    let behind = topo.next_named(Kind::Mbr, &ada0, second.number().saturating_add(1));
+    let none = topo.next_named(Kind::Ebr, &ada0, 0);
+    Ok((
+        second,
+        [found, behind, none, topo.next_named(Kind::Taste, &taste, 0)],
+    ))
+}
+
+#[test]
+fn a_geom_is_found_by_class_and_name(rt: HostRuntime) -> Result<(), Fail> {
+    let mut topo: Topo<u8> = Topo::new(rt.alloc(), 1, 2)?;
+    let (second, found) = two_classes(&mut topo)?;
+    assert_eq!(rt; found, [Some(second), None, None, Some(GeomId::new(2))]);
+    Ok(())
+}
