@@ -1,0 +1,5 @@
+//! Tests of how geoms are made.
+#![tactic(auto)]
+
+#[cfg(test)]
+mod making;
