@@ -2,3 +2,11 @@ pub mod Errored
 pub mod Cuts
 pub mod Ways
 pub mod Descent
+pub mod Against
+pub mod Started
+pub mod Serving
+pub mod Parting
+pub mod Noting
+pub mod Going
+pub mod Asking
+pub mod Rising

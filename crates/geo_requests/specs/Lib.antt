@@ -1,2 +1,5 @@
 pub mod Ways
+pub mod Founds
+pub mod Started
 pub mod Asked
+pub mod Risen

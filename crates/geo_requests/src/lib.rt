@@ -3,12 +3,18 @@
 
 mod cut;
 mod disk;
+mod found;
 mod gate;
 mod mark;
+mod requests;
+mod serve;
+mod starts;
+mod up;
 mod way;
 
-pub use cut::{Cut, cut_bio};
-pub use disk::{disk_at, disk_of, fits, request_of, sector_at};
-pub use gate::{Gate, look};
-pub use mark::{Mark, media, sector_of};
-pub use way::{Way, way_of};
+pub use found::{deliver_found, start_found, take_found, up_found};
+pub use mark::Mark;
+pub use requests::{request, write_record};
+pub use serve::{deliver, take};
+pub use starts::start;
+pub use up::rise;

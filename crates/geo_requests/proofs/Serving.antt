@@ -1,0 +1,383 @@
+-- What a Take and a Deliver do to the state they do to the world.
+use Rattle.std.specs.Prelude.{◌≡◌, ◌≢◌, ℕ, ◌+◌, ◌<◌, ◌≤◌, ◌==◌, Bool, true, false, ◌&&◌, ◌||◌, List, [], ◌∷◌, ◌++◌, length, map, find, Option, Some, None, Ok, Contains, IsSome, IsSomeAnd, IsTrue, IfSome, option_and_then, slice_get}
+use Rattle.std.specs.List.{AllByRecursion}
+use Rattle.std.specs.Option.{option_map, option_map_or}
+use Rattle.std.proofs.Common.{inl, inr, refl, sym, ◌∙◌, ap, subst, arith, length-append}
+use Rattle.std.proofs.lemmas.Bool.{eq-eqb, eqb-true, and_parts, or_right}
+use Rattle.std.proofs.lemmas.List.Elements.{All-contains}
+use Rattle.std.proofs.lemmas.Option.{slice_get_within}
+use Rattle.std.proofs.lemmas.Simd.{map-map}
+use Rattle.geo_base.specs.declared.errno.Errno.{Errno}
+use Rattle.geo_model.specs.declared.command.LineCommand.{LineCommand}
+use Rattle.geo_model.specs.declared.step.DeviceResult.{DeviceResult}
+use Rattle.geo_model.specs.declared.step.Entry.{Entry}
+use Rattle.geo_model.specs.declared.step.Found.{Found}
+use Rattle.geo_model.specs.declared.step.Found.TheVariants as founds
+use Rattle.geo_model.specs.declared.step.Outcome.{Outcome}
+use Rattle.geo_model.specs.declared.step.Outcome.TheVariants as outcomes
+use Rattle.geo_model.specs.declared.step.Phase.TheVariants as phases
+use Rattle.geo_model.specs.declared.step.Request.{Request}
+use Rattle.geo_model.specs.declared.step.Step.TheVariants as steps
+use Rattle.geo_model.specs.Graph.{AreNumbers}
+use Rattle.geo_model.specs.Topology.{Topology}
+use Rattle.geo_model.specs.World.{World, Bio, BioOf, Config, bio_at, change_number, is_busy, is_sent}
+use Rattle.geo_model.specs.Bios.{take_bio, deliver, disk_at, disk_of_bio, busy_bio, sector_at, sector_of_bio, fits_bio, device_request, request_of_bio, result_of_device}
+use Rattle.geo_model.specs.Fitting.{Firm}
+use Rattle.geo_model.specs.SoundBios.{DisksHold, NotBothBusy}
+use Rattle.geo_model.specs.Step.{unless_found, take_of, deliver_of, take_found, deliver_found}
+use Rattle.geo_laws_graph.proofs.Members.{find-Contains, Contains-cases, at_contained}
+use Rattle.geo_laws_graph.proofs.Numbered.{number_found}
+use Rattle.geo_laws_opening.proofs.Standers.{PairsByRecursion, recursion-from_pairs}
+use Rattle.geo_laws_bios.proofs.Phases.{CanTake, can_take, CanDeliver, can_deliver}
+use Rattle.geo_model.proofs.DemandLemmas.{all_weaker}
+use Rattle.geo_bio.specs.declared.bio.Held.{Held}
+use Rattle.geo_bio.specs.BioTable.{BioTableView, bio_among, has_phase, with_phase, delivered, delivered_result}
+use Rattle.geo_bio.specs.Up.{resolved}
+use Rattle.geo_log.specs.Places.{delivered_at}
+use Rattle.geo_traffic.specs.Shown.{shown, shown_bio, errno_of, AreLogged}
+use Rattle.geo_traffic.proofs.StepLemmas.{world_shows_bios, deliveries_are_shown, place_is_answer}
+use Rattle.geo_traffic.proofs.LoggedLemmas.{grown_log_shows_the_same, places_stay_logged}
+use Rattle.geo_state.specs.declared.state.State.{State}
+use Rattle.geo_state.specs.declared.state.DiskSeat.{DiskSeat}
+use Rattle.geo_state.specs.Bios.{OnlyBios, GoesTo, IsFree, IsAloneAt}
+use Rattle.geo_state.specs.Trips.{Trip, trip_of, trips, is_at_disk}
+use Rattle.geo_state.specs.Holds.{Holds, IsSeat}
+use Rattle.geo_state.specs.World.{world, header_disk, HasBytes}
+use Rattle.geo_state.specs.Steps.{against, IsAgainst, Makes}
+use Rattle.geo_requests.specs.Founds.{IsFirm}
+use Rattle.geo_requests.proofs.Against.{against_unless, has_seat, there, seat_same}
+use Rattle.geo_requests.proofs.Started.{here}
+
+-- only the bios of the world are others
+pub world_moved : (s new : State) → OnlyBios s new → (actors : List (List LineCommand)) (log : List Entry)
+    → world actors log new ≡ record (world actors log s) {
+      bios = shown (delivered_at log) new.traffic.bios;
+      next_bio = new.traffic.next;
+    }
+world_moved s new only actors log =
+    ap (world actors log) only.rest
+    ∙ ap (λ ds. let v : World = record (world actors log s) {
+      bios = shown (delivered_at log) new.traffic.bios;
+      next_bio = new.traffic.next;
+      disks = ds;
+    } in v) only.disks
+
+-- What lies in a step that nothing is against
+
+-- a bio that is there, with a fact of it
+pub record FoundBio (s : State) (b : ℕ) (P : BioOf Held → Type 0) : Type 0 where
+  pub bio : BioOf Held
+  pub found : bio_among s.traffic.bios b ≡ Some bio
+  pub fact : P bio
+
+module _ (s : State) (firm : IsFirm s) (b : ℕ) where
+  abbrev w : World
+  w = world firm.1.0 firm.0 s
+
+  abbrev l : ℕ → Option (List ℕ)
+  l = delivered_at firm.0
+
+  -- Take
+
+  take_there : (seat disk : ℕ) (o : Option (BioOf Held)) → bio_among s.traffic.bios b ≡ o
+      → against (take_of w seat disk (option_map (shown_bio l) o)) ≡ None
+      → FoundBio s b (λ x. CanTake w disk (shown_bio l x))
+  take_there seat disk None e none = absurd cc
+  take_there seat disk (Some x) e none = record {
+    bio = x;
+    found = e;
+    fact = can_take w disk (shown_bio l x)
+        (sym (against_unless (take_found w disk (shown_bio l x)) (take_bio w seat disk (shown_bio l x))) ∙ none);
+  }
+
+  pub takes : (seat disk : ℕ) → IsAgainst (λ v. take_of v seat disk (bio_at v b)) s None
+      → FoundBio s b (λ x. CanTake w disk (shown_bio l x))
+  takes seat disk none =
+      take_there seat disk (bio_among s.traffic.bios b) refl
+      (ap (λ o. against (take_of w seat disk o)) (sym (there firm.1.0 firm.0 s b)) ∙ none firm.1.0 firm.0)
+
+  -- Deliver
+
+  deliver_there : (seat : ℕ) (got : DeviceResult) (o : Option (BioOf Held)) → bio_among s.traffic.bios b ≡ o
+      → against (deliver_of w seat got (option_map (shown_bio l) o)) ≡ None
+      → FoundBio s b (λ x. CanDeliver w seat (shown_bio l x) got x.phase)
+  deliver_there seat got None e none = absurd cc
+  deliver_there seat got (Some x) e none = record {
+    bio = x;
+    found = e;
+    fact = can_deliver w seat (shown_bio l x) got x.phase
+        (sym (against_unless (deliver_found w seat (shown_bio l x) got x.phase) (deliver w (shown_bio l x) got))
+        ∙ none);
+  }
+
+  pub delivers : (seat : ℕ) (got : DeviceResult) → IsAgainst (λ v. deliver_of v seat got (bio_at v b)) s None
+      → FoundBio s b (λ x. CanDeliver w seat (shown_bio l x) got x.phase)
+  delivers seat got none =
+      deliver_there seat got (bio_among s.traffic.bios b) refl
+      (ap (λ o. against (deliver_of w seat got o)) (sym (there firm.1.0 firm.0 s b)) ∙ none firm.1.0 firm.0)
+
+  -- The disk
+
+  module _ (holds : Holds s) (disk : ℕ) where
+    free_by : (o : Option DiskSeat) → slice_get s.disks.items disk ≡ o → IsSome o → busy_bio w disk ≡ None
+        → IsSomeAnd o (λ seat. seat.busy ≡ None)
+    free_by None e some none = absurd (let bad : ⊥ = cc in bad)
+    free_by (Some seat) e some none =
+        let is : IsSeat s.topo.topology (trips s.traffic.bios) disk seat.geom seat.busy = rw e at (holds.seats disk) in
+        nothing seat.busy
+        (sym (seat_same firm.1.0 firm.0 s disk seat is)
+        ∙ ap (option_map (λ (y : Bio). founds.DiskBusy y.number)) none)
+      where
+        nothing : (o : Option ℕ)
+            → option_map (λ n. founds.DiskBusy n) o ≡ None → o ≡ None
+        nothing None e = refl
+        nothing (Some n) e = absurd cc
+
+    pub is_free : (prov : ℕ) → disk_at s.topo.topology prov ≡ Some disk → busy_bio w disk ≡ None → IsFree s disk
+    is_free prov at none = free_by (slice_get s.disks.items disk) refl (has_seat s firm prov disk at) none
+
+    -- Alone at a disk
+
+    abbrev at : Bio → Bool
+    at y = is_busy y.phase && option_map_or (λ d. d == disk) (disk_of_bio w y) false
+
+    goes_there : (o : Option ℕ) → option_map_or (λ d. d == disk) o false ≡ true → o ≡ Some disk
+    goes_there None is = absurd cc
+    goes_there (Some d) is = ap (λ n. Some n) (eqb-true d disk is)
+
+    -- two of them can't stand in this order
+    never : (y z : Bio) → NotBothBusy w y z → at y ≡ true → at z ≡ true → ⊥
+    never y z apart first second =
+        let a = and_parts (is_busy y.phase) (option_map_or (λ d. d == disk) (disk_of_bio w y) false) first in
+        let c = and_parts (is_busy z.phase) (option_map_or (λ d. d == disk) (disk_of_bio w z) false) second in
+        apart a.0 c.0 disk (goes_there (disk_of_bio w y) a.1) (goes_there (disk_of_bio w z) c.1)
+
+    module _ (x : Bio) (busy : at x ≡ true) where
+      alone_by : (ys : List Bio) → PairsByRecursion (NotBothBusy w) ys → Contains ys x
+          → AllByRecursion (λ y. at y ≡ true → y ≡ x) ys
+      alone_by [] pairs stands = tt
+      alone_by (y ∷ ys) pairs stands =
+          elim (Contains-cases y x ys stands) [
+            | inl same ↦ (
+              (λ _. same),
+              all_weaker (NotBothBusy w y) (λ z. at z ≡ true → z ≡ x)
+                  (λ z apart is. absurd (never y z apart (subst (λ v. at v ≡ true) (sym same) busy) is)) ys pairs.0,
+            )
+            | inr rest ↦ (
+              (λ is. absurd (never y x (at_contained (NotBothBusy w y) ys x pairs.0 rest) is busy)),
+              alone_by ys pairs.1 rest,
+            )
+          ]
+
+    -- of what is seen of bios
+    seen_alone : (x : BioOf Held) (number : x.number ≡ b) (bios : List (BioOf Held))
+        → AllByRecursion (λ y. at y ≡ true → y ≡ shown_bio l x) (shown l bios)
+        → AllByRecursion (λ (z : Trip). is_at_disk s.topo.topology disk z ≡ true → (z.number == b) ≡ true) (trips bios)
+    seen_alone x number [] all = tt
+    seen_alone x number (y ∷ bios) all = (
+      (λ is. let same : y.number ≡ b = ap (λ (v : Bio). v.number) (all.0 is) ∙ number in eq-eqb y.number b same),
+      seen_alone x number bios all.1,
+    )
+
+    pub is_alone : (x : BioOf Held) → bio_among s.traffic.bios b ≡ Some x → is_busy x.phase ≡ true
+        → disk_at s.topo.topology x.target ≡ Some disk → IsAloneAt s b disk
+    is_alone x is busy goes =
+        let one : at (shown_bio l x) ≡ true = rw (busy, goes, eq-eqb disk disk refl) refl in
+        seen_alone x (number_found (λ (y : BioOf Held). y.number) s.traffic.bios b x is) s.traffic.bios
+        (alone_by (shown_bio l x) one (shown l s.traffic.bios)
+        (recursion-from_pairs (NotBothBusy w) (shown l s.traffic.bios) firm.1.1.sound.disks.one_busy)
+        (here s firm b x is))
+
+-- A Take
+
+module _ (s new : State) (b seat disk : ℕ) (x : BioOf Held) (is : bio_among s.traffic.bios b ≡ Some x)
+    (only : OnlyBios s new)
+    (bios : new.traffic.bios ≡ change_number b (with_phase (phases.Busy seat)) s.traffic.bios)
+    (next : new.traffic.next ≡ s.traffic.next) where
+  pub makes_taken : (request : Request) → request ≡ device_request disk (sector_at s.topo.topology x.target) x
+      → IsAgainst (λ w. take_of w seat disk (bio_at w b)) s None
+      → (log : List Entry) → Makes (λ w. take_of w seat disk (bio_at w b)) log s new (outcomes.Asked request)
+  makes_taken request asked none log actors =
+      let v : World = world actors log s in
+      let y : Bio = shown_bio (delivered_at log) x in
+      let at_bio : bio_at v b ≡ Some y = there actors log s b ∙ ap (option_map (shown_bio (delivered_at log))) is in
+      let free : take_found v disk y ≡ None =
+      sym (against_unless (take_found v disk y) (take_bio v seat disk y))
+      ∙ ap (λ o. against (take_of v seat disk o)) (sym at_bio) ∙ none actors log in
+      let number : x.number ≡ b = number_found (λ (z : BioOf Held). z.number) s.traffic.bios b x is in
+      let made : take_bio v seat disk y ≡ (
+        record v {
+          bios = shown (delivered_at log) (change_number x.number (with_phase (phases.Busy seat)) s.traffic.bios);
+        },
+        outcomes.Asked (request_of_bio v disk y),
+      ) =
+      (world_shows_bios (delivered_at log) s.traffic.bios v refl).takes x seat disk in
+      let after : (record v {
+        bios = shown (delivered_at log) (change_number x.number (with_phase (phases.Busy seat)) s.traffic.bios);
+      }) ≡ world actors log new =
+      (λ i. let u : World = record v {
+        bios = shown (delivered_at log)
+            ((ap (λ n. change_number n (with_phase (phases.Busy seat)) s.traffic.bios) number ∙ sym bios) i);
+        next_bio = sym next i;
+      } in u) ∙ sym (world_moved s new only actors log) in
+      ap (take_of v seat disk) at_bio
+      ∙ ap (λ o. unless_found o (take_bio v seat disk y)) free
+      ∙ ap Ok made
+      ∙ (λ i. Ok (after i, outcomes.Asked (sym asked i)))
+
+  pub logged_taken : (n : ℕ) → AreLogged n s.traffic.bios → AreLogged n new.traffic.bios
+  logged_taken n logged =
+      subst (AreLogged n) (sym bios) ((places_stay_logged n s.traffic.bios logged).moves b (phases.Busy seat))
+
+-- A Deliver
+
+module _ (s new : State) (b seat : ℕ) (x : BioOf Held) (is : bio_among s.traffic.bios b ≡ Some x)
+    (got : DeviceResult) (log : List Entry) (logged : HasBytes log s) (only : OnlyBios s new)
+    (bios : new.traffic.bios ≡ change_number b (delivered (length log) (errno_of got)) s.traffic.bios)
+    (next : new.traffic.next ≡ s.traffic.next) where
+  pub makes_delivered : IsFirm s → (e : Entry) → e.step ≡ steps.Deliver b got
+      → IsTrue (fits_bio (sector_at s.topo.topology x.target) x got)
+      → IsAgainst (λ w. deliver_of w seat got (bio_at w b)) s None → (actors : List (List LineCommand))
+      → deliver_of (world actors log s) seat got (bio_at (world actors log s) b)
+      ≡ Ok (world actors (log ++ e ∷ []) new, outcomes.Delivered)
+  makes_delivered firm e step fits none actors =
+      let v : World = world actors log s in
+      let more : ℕ → Option (List ℕ) = delivered_at (log ++ e ∷ []) in
+      let y : Bio = shown_bio more x in
+      let same : v.bios ≡ shown more s.traffic.bios =
+      sym (grown_log_shows_the_same log (e ∷ []) s.traffic.bios logged) in
+      let at_bio : bio_at v b ≡ Some y =
+      (world_shows_bios more s.traffic.bios v same).finds b ∙ ap (option_map (shown_bio more)) is in
+      let free : deliver_found v seat y got y.phase ≡ None =
+      sym (against_unless (deliver_found v seat y got y.phase) (deliver v y got))
+      ∙ ap (λ o. against (deliver_of v seat got o)) (sym at_bio) ∙ none actors log in
+      let number : x.number ≡ b = number_found (λ (z : BioOf Held). z.number) s.traffic.bios b x is in
+      let itself : bio_among s.traffic.bios x.number ≡ Some x =
+      subst (λ n. bio_among s.traffic.bios n ≡ Some x) (sym number) is in
+      let numbers : AreNumbers (map (λ (z : BioOf Held). z.number) s.traffic.bios) s.traffic.next =
+      subst (λ ns. AreNumbers ns s.traffic.next)
+      (map-map (λ (z : Bio). z.number) (shown_bio (delivered_at firm.0)) s.traffic.bios)
+      firm.1.1.sound.numbers.bios in
+      let answer : resolved more (Some (delivered_result x.cmd (length log) (errno_of got))) ≡ result_of_device got =
+      place_is_answer log [] e b (sector_at s.topo.topology x.target) x got step fits in
+      let made : deliver v y got ≡ (
+        record v {
+          bios = shown more (change_number x.number (delivered (length log) (errno_of got)) s.traffic.bios);
+        },
+        outcomes.Delivered,
+      ) =
+      deliveries_are_shown more s.traffic.bios v x (length log) got s.traffic.next same numbers itself answer in
+      let after : (record v {
+        bios = shown more (change_number x.number (delivered (length log) (errno_of got)) s.traffic.bios);
+      }) ≡ world actors (log ++ e ∷ []) new =
+      (λ i. let u : World = record v {
+        bios = shown more
+            ((ap (λ n. change_number n (delivered (length log) (errno_of got)) s.traffic.bios) number ∙ sym bios) i);
+        next_bio = sym next i;
+      } in u) ∙ sym (world_moved s new only actors (log ++ e ∷ [])) in
+      ap (deliver_of v seat got) at_bio
+      ∙ ap (λ o. unless_found o (deliver v y got)) free
+      ∙ ap Ok made
+      ∙ ap (λ u. Ok (u, outcomes.Delivered)) after
+
+  pub logged_delivered : (e : Entry) → HasBytes (log ++ e ∷ []) new
+  logged_delivered e =
+      let len : length (log ++ e ∷ []) ≡ length log + 1 = length-append log (e ∷ []) in
+      let more : AreLogged (length (log ++ e ∷ [])) s.traffic.bios =
+      (places_stay_logged (length log) s.traffic.bios logged).more (length (log ++ e ∷ [])) (omega (arith, len)) in
+      subst (AreLogged (length (log ++ e ∷ []))) (sym bios)
+      ((places_stay_logged (length (log ++ e ∷ [])) s.traffic.bios more).delivers b (length log) (errno_of got)
+      (omega (arith, len)))
+
+-- What the calls below ask
+
+module _ (s : State) (firm : IsFirm s) (holds : Holds s) (b seat disk : ℕ)
+    (none : IsAgainst (λ v. take_of v seat disk (bio_at v b)) s None) where
+  abbrev pub taken_bio : FoundBio s b (λ x. CanTake (world firm.1.0 firm.0 s) disk (shown_bio (delivered_at firm.0) x))
+  taken_bio = takes s firm b seat disk none
+
+  pub take_sent : IsTrue (has_phase is_sent s.traffic.bios b)
+  take_sent = let is = taken_bio.found in rw is taken_bio.fact.sent
+
+  pub take_goes : GoesTo s b disk
+  take_goes = let is = taken_bio.found in rw is taken_bio.fact.disk_is
+
+  pub take_free : IsFree s disk
+  take_free = is_free s firm b holds disk taken_bio.bio.target taken_bio.fact.disk_is taken_bio.fact.free
+
+-- a Deliver of a bio at its disk
+pub record DeliversAt (s : State) (b disk : ℕ) (got : DeviceResult) : Type 0 where
+  pub bio : BioOf Held
+  pub found : bio_among s.traffic.bios b ≡ Some bio
+  pub busy : is_busy bio.phase ≡ true
+  pub goes : disk_at s.topo.topology bio.target ≡ Some disk
+  pub fits : IsTrue (fits_bio (sector_at s.topo.topology bio.target) bio got)
+
+module _ (s : State) (firm : IsFirm s) (b seat : ℕ) (got : DeviceResult)
+    (none : IsAgainst (λ v. deliver_of v seat got (bio_at v b)) s None) where
+  abbrev pub delivered_bio : FoundBio s b
+      (λ x. CanDeliver (world firm.1.0 firm.0 s) seat (shown_bio (delivered_at firm.0) x) got x.phase)
+  delivered_bio = delivers s firm b seat got none
+
+  -- the bio has a disk
+  pub deliver_has_disk : IsSome (option_and_then (λ (x : BioOf Held). disk_at s.topo.topology x.target)
+      (bio_among s.traffic.bios b))
+  deliver_has_disk =
+      let x = delivered_bio.bio in
+      let is = delivered_bio.found in
+      let busy : (is_sent x.phase || is_busy x.phase) ≡ true = or_right (is_sent x.phase) (is_busy x.phase)
+      delivered_bio.fact.0 in
+      rw is (All-contains
+      (λ (y : Bio). IsTrue (is_sent y.phase || is_busy y.phase) → IsSome (disk_of_bio (world firm.1.0 firm.0 s) y))
+      (world firm.1.0 firm.0 s).bios (shown_bio (delivered_at firm.0) x) firm.1.1.sound.disks.at_disk
+      (here s firm b x is) busy)
+
+  pub delivers_at : (disk : ℕ) → option_and_then (λ (x : BioOf Held). disk_at s.topo.topology x.target)
+      (bio_among s.traffic.bios b) ≡ Some disk → DeliversAt s b disk got
+  delivers_at disk goes =
+      let is = delivered_bio.found in
+      record {
+        bio = delivered_bio.bio;
+        found = is;
+        busy = delivered_bio.fact.0;
+        goes = sym (ap (option_and_then (λ (x : BioOf Held). disk_at s.topo.topology x.target)) is) ∙ goes;
+        fits = delivered_bio.fact.1;
+      }
+
+-- what the call below asks of a Deliver
+pub record IsDelivering (s : State) (b disk : ℕ) : Type 0 where
+  pub busy : IsTrue (has_phase is_busy s.traffic.bios b)
+  pub goes : GoesTo s b disk
+  pub seat : disk < length s.disks.items
+  pub alone : IsAloneAt s b disk
+
+seat_within : (xs : List DiskSeat) (disk : ℕ) (o : Option DiskSeat) → slice_get xs disk ≡ o → IsSome o
+    → disk < length xs
+seat_within xs disk None e some = absurd (let bad : ⊥ = cc in bad)
+seat_within xs disk (Some seat) e some = slice_get_within xs disk seat e
+
+pub deliver_requires : (s : State) (firm : IsFirm s) (b disk : ℕ) (got : DeviceResult) → Holds s
+    → DeliversAt s b disk got → IsDelivering s b disk
+deliver_requires s firm b disk got holds at =
+    let is = at.found in
+    record {
+      busy = rw is at.busy;
+      goes = rw is at.goes;
+      seat = seat_within s.disks.items disk (slice_get s.disks.items disk) refl
+          (has_seat s firm at.bio.target disk at.goes);
+      alone = is_alone s firm b holds disk at.bio is at.busy at.goes;
+    }
+
+-- the bios after a Deliver
+pub deliver_bios : (s new : State) (b place : ℕ) (errno : Option Errno) (got : DeviceResult) (log : List Entry)
+    → new.traffic ≡ record s.traffic { bios = change_number b (delivered place errno) s.traffic.bios }
+    → place ≡ length log → errno ≡ errno_of got
+    → new.traffic.bios ≡ change_number b (delivered (length log) (errno_of got)) s.traffic.bios
+deliver_bios s new b place errno got log is at failed =
+    ap (λ (v : BioTableView). v.bios) is
+    ∙ (λ i. change_number b (delivered (at i) (failed i)) s.traffic.bios)
+
+-- a bio that has a disk goes to one
+pub some_disk : (o : Option ℕ) → None ≡ o → IsSome o → ⊥
+some_disk None is some = cc
+some_disk (Some n) is some = cc

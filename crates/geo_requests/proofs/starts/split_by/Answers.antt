@@ -1,0 +1,18 @@
+use Rattle.std.proofs.Common.{◌≡◌, ◌∙◌, sym, ap, length, refl}
+use Rattle.geo_model.specs.Topology.{Topology}
+use Rattle.geo_model.specs.World.{Config}
+use Rattle.geo_state.specs.Steps.{SameWorld}
+use Rattle.geo_requests.proofs.Parting.{split_there, same_moved, on_error}
+use Rattle.geo_requests.proofs.starts.split_by.Goals as goal
+
+pub returns-in_err-first-clause-same : goal.returns-in_err-first-clause-same
+returns-in_err-first-clause-same c =
+    on_error (SameWorld c.args.state.now c.split.new.state) c.from_residual.result
+    (same_moved c.args.state.now c.split.new.state c.split.ensures.only c.in_err-first.ensures.bios_stay
+    c.in_err-first.ensures.next_stays)
+
+pub returns-clause-started : goal.returns-clause-started
+returns-clause-started c zs is =
+    split_there c.args.state.now c.split.new.state c.args.bio c.args.cut.now zs c.in_ok-first.first _ is
+    c.split.ensures.only c.in_ok-first.ensures.split c.in_ok-first.ensures.next c.in_ok-first.ensures.first
+    (ap length c.items-count.ensures)

@@ -1,0 +1,74 @@
+//! A request goes up to its owner (g_io_deliver, g_bio(9)).
+ghost use Rattle.std.specs.Prelude.{◌≡◌, false, List, IfOk, IfSome, OnErr, IsTrue};
+ghost use Rattle.geo_model.specs.declared.step.Entry.{Entry};
+ghost use Rattle.geo_model.specs.World.{bio_at, is_taste_root, is_up};
+ghost use Rattle.geo_model.specs.Bios.{reply_of_result};
+ghost use Rattle.geo_model.specs.Step.{up_of};
+ghost use Rattle.geo_bio.specs.BioTable.{bio_among, has_phase};
+ghost use Rattle.geo_state.specs.Holds.{Holds};
+ghost use Rattle.geo_state.specs.World.{HasBytes};
+ghost use Rattle.geo_state.specs.Steps.{Makes, SameWorld};
+ghost use Rattle.geo_requests.specs.Founds.{IsFirm};
+ghost use Rattle.geo_requests.specs.Risen.{line_of, outcome_of_rise};
+
+use geo_base::{BioId, NoMemory};
+use geo_log::Log;
+use geo_model::{BioResult, Outcome, Owner, Reply};
+use geo_state::State;
+use geo_traffic::{Risen, Traffic};
+use std::alloc::Global;
+
+/// A bio that is Up, and isn't the taste's, goes up to its owner: a child counts in its parent, which goes up once all
+/// its children are in, and the root of a line is the reply to the line. Where memory is wanting all stays.
+pub fn rise(alloc: Global, state: &mut State, log: &Log, bio: BioId) -> Result<Outcome, NoMemory>
+    requires kept { Holds state.old }
+    requires firm { IsFirm state.old }
+    requires up { IsTrue (has_phase is_up state.old.traffic.bios bio) }
+    requires no_taste { IfSome (bio_among state.old.traffic.bios bio) (λ x. is_taste_root x.owner ≡ false) }
+    ensures made { IfOk result (λ o.
+        Makes (λ w. up_of w (bio_at w bio)) log.now.items state.old state.new o) }
+    ensures kept { Holds state.new }
+    ensures same { OnErr result (SameWorld state.old state.new) }
+    ensures logged { (entries : List Entry) → HasBytes entries state.old → HasBytes entries state.new }
+{
+    let line = line_of(&state.traffic, bio);
+    let risen = geo_state::up(state, alloc, bio, log)?;
+    Ok(outcome_of(line, risen))
+}
+
+// The line that a root answers.
+fn line_of(bios: &Traffic, bio: BioId) -> u32
+    ensures { IfSome (bio_among bios.now.bios bio) (λ x. result ≡ line_of x.owner) }
+{
+    match bios.get(bio) {
+        Some(found) => match found.owner {
+            Owner::Line { line, .. } => line,
+            _ => 0,
+        },
+        None => 0,
+    }
+}
+
+// What comes of a rise.
+fn outcome_of(line: u32, risen: Risen) -> Outcome
+    ensures { result ≡ outcome_of_rise line risen }
+{
+    match risen {
+        Risen::InParent { parent, complete } => Outcome::Gathered { parent, complete },
+        Risen::Root(got) => Outcome::Replied {
+            line,
+            reply: reply_of(got),
+        },
+    }
+}
+
+// A result as the reply to a line.
+fn reply_of(got: BioResult) -> Reply
+    ensures { result ≡ reply_of_result got }
+{
+    match got {
+        BioResult::Done => Reply::Ok,
+        BioResult::Bytes(bytes) => Reply::Bytes(bytes),
+        BioResult::Failed(errno) => Reply::Refused(errno),
+    }
+}
