@@ -1,0 +1,15 @@
+use Rattle.std.specs.Prelude.{◌≡◌, Option, Some, None, false, IsSomeAnd}
+use Rattle.std.specs.Option.{option_map_or}
+use Rattle.std.proofs.Common.{arith, subst}
+use Rattle.geo_model.specs.World.{Handle}
+use Rattle.geo_handles.specs.Handles.{handle_at}
+use Rattle.geo_life.specs.Life.{is_out}
+use Rattle.geo_opens.proofs.Stepping.{forget-steps, forget-idle}
+use Rattle.geo_opens.proofs.closes.forget.Goals as goal
+
+pub forget_held-requires-clause-idle : goal.forget_held-requires-clause-idle
+forget_held-requires-clause-idle g c =
+    forget-idle c.args.state.now c.requires.kept c.requires.firm c.args.id c.in-Some.cons
+    (subst (λ o. IsSomeAnd (handle_at c.args.state.now.handles.handles c.args.id) (λ (h : Handle). h.consumer ≡ o))
+    c.in-Some.is c.requires.there)
+    (subst (λ o. option_map_or (is_out c.args.state.now.topo) o false ≡ false) c.in-Some.is c.requires.free)

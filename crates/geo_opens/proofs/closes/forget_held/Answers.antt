@@ -1,0 +1,31 @@
+use Rattle.geo_opens.proofs.Going.{written-room}
+use Rattle.geo_opens.proofs.Stepping.{step-placed, step-holder, step-idle, close-made, close-kept}
+use Rattle.geo_state.proofs.KeptLemmas.{kept_with_handles}
+use Rattle.geo_opens.proofs.closes.forget_held.Goals as goal
+
+pub give_back-requires-clause-placed : goal.give_back-requires-clause-placed
+give_back-requires-clause-placed g c = step-placed c.args.state.now c.requires.kept c.requires.firm
+
+pub give_back-requires-clause-holder : goal.give_back-requires-clause-holder
+give_back-requires-clause-holder g c =
+    step-holder c.args.state.now c.requires.kept c.requires.firm c.args.id c.args.cons c.requires.idle
+    c.look.ensures.sound
+
+pub give_back-requires-clause-idle : goal.give_back-requires-clause-idle
+give_back-requires-clause-idle g c =
+    step-idle c.args.state.now c.requires.kept c.requires.firm c.args.id c.args.cons c.requires.idle
+
+pub give_back-requires-clause-room : goal.give_back-requires-clause-room
+give_back-requires-clause-room g c = written-room c.args.state.now c.requires.kept
+
+pub returns-clause-made : goal.returns-clause-made
+returns-clause-made g c =
+    close-made c.args.state.now c.requires.kept c.requires.firm c.args.id c.args.cons c.requires.idle
+    c.look.ensures.sound
+    c.give_back.new.topo c.give_back.new.queue c.remove.new.self c.give_back.ensures.gone c.remove.ensures.removed
+
+pub returns-clause-kept : goal.returns-clause-kept
+returns-clause-kept g c =
+    close-kept c.args.state.now c.requires.kept c.requires.firm c.args.id c.args.cons c.requires.idle
+    c.look.ensures.sound
+    c.give_back.new.topo c.give_back.new.queue c.remove.new.self c.give_back.ensures.gone c.remove.ensures.removed kept_with_handles

@@ -1,0 +1,13 @@
+use Rattle.geo_opens.proofs.Stepping.{forget-made, forget-kept}
+use Rattle.geo_state.proofs.KeptLemmas.{kept_with_handles}
+use Rattle.geo_opens.proofs.closes.forget_reaped.Goals as goal
+
+pub returns-clause-made : goal.returns-clause-made
+returns-clause-made c =
+    forget-made c.args.state.now c.requires.kept c.requires.firm c.args.id c.requires.reaped c.remove.new.self
+    c.remove.ensures.removed
+
+pub returns-clause-kept : goal.returns-clause-kept
+returns-clause-kept c =
+    forget-kept c.args.state.now c.requires.kept c.requires.firm c.args.id c.requires.reaped c.remove.new.self
+    c.remove.ensures.removed kept_with_handles

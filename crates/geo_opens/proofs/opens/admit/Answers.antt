@@ -1,0 +1,42 @@
+use Rattle.std.proofs.Common.{sym, ◌∙◌}
+use Rattle.geo_opens.proofs.Settling.{roomed-firm}
+use Rattle.geo_opens.proofs.Opening.{found-there}
+use Rattle.geo_opens.proofs.Admitting.{free-found, free-name, free-allowed, roomed-made, made-then, same-then}
+use Rattle.geo_opens.proofs.opens.admit.Goals as goal
+
+pub unreachable-requires : goal.unreachable-requires
+unreachable-requires g c =
+    free-found c.args.state.now c.make_room.new.state c.make_room.ensures.rest c.make_room.ensures.kept c.args.actor
+    c.args.name.now c.args.prov.now c.args.grant c.requires.decided (sym c.find.ensures ∙ c.in_default.is)
+
+pub open_at-requires-clause-firm : goal.open_at-requires-clause-firm
+open_at-requires-clause-firm g c = (
+  c.requires.firm.0,
+  roomed-firm c.args.state.now c.make_room.new.state c.make_room.ensures.rest c.requires.firm.0 c.requires.firm.1,
+)
+
+pub open_at-requires-clause-free : goal.open_at-requires-clause-free
+open_at-requires-clause-free g c =
+    free-name c.args.state.now c.make_room.new.state c.make_room.ensures.rest c.make_room.ensures.kept c.args.actor
+    c.args.name.now c.args.prov.now c.args.grant c.requires.decided
+
+pub open_at-requires-clause-lives : goal.open_at-requires-clause-lives
+open_at-requires-clause-lives g c =
+    found-there c.make_room.new.state.topo.topology c.args.prov.now c.in-Some.found c.look.ensures.sound
+    (sym c.find.ensures ∙ c.in-Some.is)
+
+pub open_at-requires-clause-allowed : goal.open_at-requires-clause-allowed
+open_at-requires-clause-allowed g c =
+    free-allowed c.args.state.now c.make_room.new.state c.make_room.ensures.rest c.make_room.ensures.kept c.args.actor
+    c.args.name.now c.args.prov.now c.args.grant c.requires.decided c.in-Some.found (sym c.find.ensures ∙ c.in-Some.is)
+
+pub returns-clause-made : goal.returns-clause-made
+returns-clause-made g c =
+    made-then c.open_at.result c.args.state.now c.make_room.new.state c.open_at.new.state c.make_room.ensures.rest
+    c.args.actor c.args.name.now c.args.prov.now c.args.grant c.in-Some.found (sym c.find.ensures ∙ c.in-Some.is)
+    c.open_at.ensures.made
+
+pub returns-clause-same : goal.returns-clause-same
+returns-clause-same g c =
+    same-then c.open_at.result c.args.state.now c.make_room.new.state c.open_at.new.state c.make_room.ensures.rest
+    c.open_at.ensures.same

@@ -1,0 +1,46 @@
+use Rattle.std.proofs.Common.{ap, ◌∙◌}
+use Rattle.geo_life.proofs.Spared.{handles_are_spared}
+use Rattle.geo_state.specs.World.{world}
+use Rattle.geo_handles.specs.Handles.{holding_handle}
+use Rattle.geo_opens.proofs.Settling.{roomed-kept}
+use Rattle.geo_opens.proofs.Opening.{nobodys-next}
+use Rattle.geo_opens.proofs.Stepping.{step-placed}
+use Rattle.geo_opens.proofs.Admitting.{next-unknown, mesh-roomed, admit-made, admit-kept}
+use Rattle.geo_state.specs.declared.state.State.{State}
+use Rattle.geo_state.proofs.KeptLemmas.{kept_with_handles}
+use Rattle.geo_opens.proofs.opens.open_at.Goals as goal
+
+pub take_in-requires-clause-placed : goal.take_in-requires-clause-placed
+take_in-requires-clause-placed g c = step-placed c.args.state.now c.requires.kept c.requires.firm
+
+pub take_in-requires-clause-unknown : goal.take_in-requires-clause-unknown
+take_in-requires-clause-unknown g c = next-unknown c.args.state.now c.requires.kept c.look.ensures.sound
+
+pub open-requires-clause-nobodys : goal.open-requires-clause-nobodys
+open-requires-clause-nobodys g c =
+    ap (holding_handle c.args.state.now.handles.handles) c.in_ok-cons.ensures.number
+    ∙ nobodys-next c.args.state.now c.requires.kept c.look.ensures.sound c.requires.firm.0 c.requires.firm.1
+
+pub returns-in_err-cons-clause-kept : goal.returns-in_err-cons-clause-kept
+returns-in_err-cons-clause-kept g c =
+    let s : State = c.args.state.now in
+    roomed-kept s (record s { topo = c.take_in.new.topo; queue = c.take_in.new.queue })
+    (mesh-roomed s c.take_in.new.topo c.take_in.new.queue c.in_err-cons.ensures.same c.in_err-cons.ensures.queue_stays)
+    c.requires.kept
+
+pub returns-clause-made : goal.returns-clause-made
+returns-clause-made g c =
+    admit-made c.args.state.now c.requires.kept c.requires.firm c.look.ensures.sound c.args.actor c.args.name.now
+    c.args.prov c.args.grant c.requires.room c.take_in.new.topo c.take_in.new.queue c.open.new.self
+    c.in_ok-cons.ensures.came c.in_ok-cons.cons c.in_ok-cons.ensures.number c.open.ensures.opened
+
+pub returns-clause-kept : goal.returns-clause-kept
+returns-clause-kept g c =
+    admit-kept c.args.state.now c.requires.kept c.requires.firm c.look.ensures.sound c.args.actor c.args.name.now
+    c.args.prov c.args.grant c.requires.room c.take_in.new.topo c.take_in.new.queue c.open.new.self
+    c.in_ok-cons.ensures.came c.in_ok-cons.cons c.in_ok-cons.ensures.number c.open.ensures.opened kept_with_handles
+
+pub take_in-requires-clause-made : goal.take_in-requires-clause-made
+take_in-requires-clause-made g c =
+    handles_are_spared.made (world c.requires.firm.1.0 c.requires.firm.0 c.args.state.now)
+    c.requires.firm.1.1.sound c.requires.firm.1.1.steady

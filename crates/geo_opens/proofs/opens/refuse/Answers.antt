@@ -1,0 +1,11 @@
+use Rattle.geo_opens.proofs.Admitting.{next-unknown, refuse-kept}
+use Rattle.geo_state.proofs.KeptLemmas.{kept_with_handles}
+use Rattle.geo_opens.proofs.opens.refuse.Goals as goal
+
+pub use_number-requires-clause-unknown : goal.use_number-requires-clause-unknown
+use_number-requires-clause-unknown c = next-unknown c.args.state.now c.requires.kept c.look.ensures.sound
+
+pub returns-clause-kept : goal.returns-clause-kept
+returns-clause-kept c =
+    refuse-kept c.args.state.now c.requires.kept kept_with_handles c.use_number.new.topo c.use_number.result
+    c.use_number.ensures.used c.use_number.ensures.same

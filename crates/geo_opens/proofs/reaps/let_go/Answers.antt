@@ -1,0 +1,68 @@
+use Rattle.std.specs.Prelude.{◌≡◌, false, IsSome}
+use Rattle.std.proofs.Common.{sym, ap, ◌∙◌, subst}
+use Rattle.geo_slots.specs.Slots.{with_value}
+use Rattle.geo_handles.specs.Handles.{HandlesView, handle_at, released}
+use Rattle.geo_opens.proofs.Going.{written-room}
+use Rattle.geo_opens.proofs.Stepping.{step-placed, step-holder, step-idle, step-there, reap-made, reap-kept}
+use Rattle.geo_state.proofs.KeptLemmas.{kept_with_handles}
+use Rattle.geo_opens.proofs.reaps.let_go.Goals as goal
+
+pub set_ready-requires : goal.set_ready-requires
+set_ready-requires g c =
+    subst (λ (v : HandlesView). IsSome (handle_at v.handles c.args.id)) (sym c.release.ensures.released)
+    (step-there c.args.state.now c.requires.kept c.requires.firm c.args.id c.args.cons c.requires.idle)
+
+pub give_back-requires-clause-placed : goal.give_back-requires-clause-placed
+give_back-requires-clause-placed g c = step-placed c.args.state.now c.requires.kept c.requires.firm
+
+pub give_back-requires-clause-holder : goal.give_back-requires-clause-holder
+give_back-requires-clause-holder g c =
+    step-holder c.args.state.now c.requires.kept c.requires.firm c.args.id c.args.cons c.requires.idle
+    c.look.ensures.sound
+
+pub give_back-requires-clause-idle : goal.give_back-requires-clause-idle
+give_back-requires-clause-idle g c =
+    step-idle c.args.state.now c.requires.kept c.requires.firm c.args.id c.args.cons c.requires.idle
+
+pub give_back-requires-clause-room : goal.give_back-requires-clause-room
+give_back-requires-clause-room g c = written-room c.args.state.now c.requires.kept
+
+pub returns-clause-made : goal.returns-clause-made
+returns-clause-made g c =
+    let old : HandlesView = c.args.state.now.handles in
+    let mid : HandlesView = c.release.new.self in
+    let new : HandlesView = c.set_ready.new.self in
+    let is : new ≡ record old {
+      handles = released old.handles c.args.cons;
+      ready = with_value old.ready c.args.id false;
+      room = new.room;
+    } =
+    c.set_ready.ensures
+    ∙ ap (λ (v : HandlesView). record v { ready = with_value v.ready c.args.id false }) c.release.ensures.released
+    ∙ ap (λ r. record old {
+      handles = released old.handles c.args.cons;
+      ready = with_value old.ready c.args.id false;
+      room = r;
+    }) (sym (ap (λ (v : HandlesView). v.room) c.set_ready.ensures)) in
+    reap-made c.args.state.now c.requires.kept c.requires.firm c.args.id c.args.cons c.requires.idle
+    c.look.ensures.sound c.give_back.new.topo c.give_back.new.queue new c.give_back.ensures.gone is
+
+pub returns-clause-kept : goal.returns-clause-kept
+returns-clause-kept g c =
+    let old : HandlesView = c.args.state.now.handles in
+    let mid : HandlesView = c.release.new.self in
+    let new : HandlesView = c.set_ready.new.self in
+    let is : new ≡ record old {
+      handles = released old.handles c.args.cons;
+      ready = with_value old.ready c.args.id false;
+      room = new.room;
+    } =
+    c.set_ready.ensures
+    ∙ ap (λ (v : HandlesView). record v { ready = with_value v.ready c.args.id false }) c.release.ensures.released
+    ∙ ap (λ r. record old {
+      handles = released old.handles c.args.cons;
+      ready = with_value old.ready c.args.id false;
+      room = r;
+    }) (sym (ap (λ (v : HandlesView). v.room) c.set_ready.ensures)) in
+    reap-kept c.args.state.now c.requires.kept c.requires.firm c.args.id c.args.cons c.requires.idle
+    c.look.ensures.sound c.give_back.new.topo c.give_back.new.queue new c.give_back.ensures.gone is kept_with_handles

@@ -1,0 +1,10 @@
+use Rattle.std.specs.Prelude.{◌≡◌, Some, None, []}
+use Rattle.std.proofs.Common.{sym, ◌∙◌}
+use Rattle.geo_opens.proofs.Actives.{none-to-reap}
+use Rattle.geo_opens.proofs.reaps.next_dead.Goals as goal
+
+pub unreachable-requires : goal.unreachable-requires
+unreachable-requires c =
+    let never = sym (c.requires.due [] [])
+    ∙ none-to-reap c.args.state.now c.requires.kept [] [] (sym c.first_ready.ensures ∙ c.in_default.is) in
+    absurd (cc)

@@ -1,0 +1,16 @@
+use Rattle.std.proofs.Common.{arith}
+use Rattle.geo_opens.proofs.Stepping.{reap-done, reap-steps}
+use Rattle.geo_opens.proofs.reaps.reap.Goals as goal
+
+pub returns-clause-made : goal.returns-clause-made
+returns-clause-made g c =
+    λ log actors. reap-done c.args.state.now c.requires.kept c.requires.firm c.next_dead-id.result
+    c.next_dead-id.ensures c.let_go.new.state c.let_go.ensures.made actors log
+
+pub returns-clause-bound : goal.returns-clause-bound
+returns-clause-bound g c =
+    λ actors log.
+    let same = reap-steps c.args.state.now c.requires.kept c.requires.firm c.next_dead-id.result
+    c.next_dead-id.ensures c.consumer_of_dead-cons.result c.consumer_of_dead-cons.ensures actors log in
+    let most = c.let_go.ensures.bound in
+    omega (arith, same, most)

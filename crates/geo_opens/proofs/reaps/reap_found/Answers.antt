@@ -1,0 +1,11 @@
+use Rattle.geo_opens.proofs.Actives.{some-to-reap, none-to-reap}
+use Rattle.std.proofs.Common.{sym, ◌∙◌}
+use Rattle.geo_opens.proofs.reaps.reap_found.Goals as goal
+
+pub returns-in-Some : goal.returns-in-Some
+returns-in-Some c =
+    λ actors log. some-to-reap c.args.state.now c.requires.kept actors log _ _ c.first_ready.ensures c.in-Some.is
+
+pub returns-in-None : goal.returns-in-None
+returns-in-None c =
+    λ actors log. none-to-reap c.args.state.now c.requires.kept actors log (sym c.first_ready.ensures ∙ c.in-None.is)
