@@ -299,6 +299,14 @@ impl<C> Topo<C> {
         ConsId::new(self.tables.edges.consumers.next_number())
     }
 
+    /// The number that the next provider gets.
+    pub fn coming_provider(&self) -> ProvId
+        ensures number { result ≡ self.now.topology.next_provider }
+        ensures sound { IsSoundGraph self.now.topology }
+    {
+        ProvId::new(self.tables.edges.providers.next_number())
+    }
+
     /// The least number of a provider of the geom that isn't below a number.
     pub fn provider_of(&self, geom: GeomId, from: u64) -> Option<ProvId>
         ensures first { result ≡ first_provider (providers_of self.now.topology geom) from }
