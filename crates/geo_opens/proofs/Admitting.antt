@@ -26,10 +26,10 @@ use Rattle.geo_state.specs.declared.state.State.{State}
 use Rattle.geo_state.specs.Trips.{trips, out_through}
 use Rattle.geo_state.specs.Holds.{Holds}
 use Rattle.geo_state.specs.World.{world, StandsFirm}
-use Rattle.geo_state.specs.Steps.{SameWorld}
+use Rattle.geo_state.specs.Steps.{IsFirm, SameWorld}
 use Rattle.geo_state.specs.Changes.{KeptWithHandles}
 use Rattle.geo_opens.specs.Holders.{grants_with, holding_mesh, HasCome}
-use Rattle.geo_opens.specs.Handles.{IsFirm, IsOpenRefusal, IsRoomed, HasRoom, refused_world, refusal_in}
+use Rattle.geo_opens.specs.Handles.{IsOpenRefusal, IsRoomed, HasRoom, refused_world, refusal_in}
 use Rattle.geo_opens.proofs.Grants.{none_before, none_stored}
 use Rattle.geo_opens.proofs.Settling.{comer-of, come-settled, roomed-world, roomed-kept}
 use Rattle.geo_opens.proofs.Opening.{IsFree, free-open, refused-open, nobodys-next, opened-world}

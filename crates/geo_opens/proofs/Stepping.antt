@@ -30,10 +30,10 @@ use Rattle.geo_life.specs.Life.{is_out, without_falls}
 use Rattle.geo_state.specs.declared.state.State.{State}
 use Rattle.geo_state.specs.Holds.{Holds}
 use Rattle.geo_state.specs.World.{world}
-use Rattle.geo_state.specs.Steps.{IsAgainst}
+use Rattle.geo_state.specs.Steps.{IsFirm, IsAgainst}
 use Rattle.geo_state.specs.Changes.{KeptWithHandles}
 use Rattle.geo_opens.specs.Holders.{HasGone}
-use Rattle.geo_opens.specs.Handles.{IsFirm, IsIdle, steps_of}
+use Rattle.geo_opens.specs.Handles.{IsIdle, steps_of}
 use Rattle.geo_opens.proofs.Actives.{IsNext, out-told, idle-stored, next-to-reap}
 use Rattle.geo_opens.proofs.Going.{placed-all, held, held-holder, held-lives, closed-world, forgotten-world, reaped-world}
 use Rattle.geo_opens.proofs.Settling.{goer-of, gone-settled}

@@ -14,11 +14,7 @@ use Rattle.geo_slots.specs.Slots.{value_at}
 use Rattle.geo_handles.specs.Handles.{handle_at}
 use Rattle.geo_access.specs.Access.{consumers_below, place_of}
 use Rattle.geo_state.specs.declared.state.State.{State}
-use Rattle.geo_state.specs.World.{world, StandsFirm}
-
--- where the log has some entries, the state stands for a sound, steady and fitting world
-abbrev pub IsFirm : State → Type 0
-IsFirm s = (log : List Entry) × StandsFirm log s
+use Rattle.geo_state.specs.World.{world}
 
 -- Opens
 

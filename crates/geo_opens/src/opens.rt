@@ -12,9 +12,9 @@ ghost use Rattle.geo_handles.specs.Handles.{named_handle};
 ghost use Rattle.geo_access.specs.Access.{consumers_below};
 ghost use Rattle.geo_state.specs.World.{world};
 ghost use Rattle.geo_state.specs.Holds.{Holds};
-ghost use Rattle.geo_state.specs.Steps.{Does, SameWorld};
+ghost use Rattle.geo_state.specs.Steps.{IsFirm, Does, SameWorld};
 ghost use Rattle.geo_opens.specs.Holders.{grants_with};
-ghost use Rattle.geo_opens.specs.Handles.{IsFirm, IsOpenRefusal, HasRoom, IsRoomed, refused_world};
+ghost use Rattle.geo_opens.specs.Handles.{IsOpenRefusal, HasRoom, IsRoomed, refused_world};
 
 use crate::handle::look;
 use crate::holders::{take_in, use_number};

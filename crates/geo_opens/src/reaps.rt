@@ -9,8 +9,8 @@ ghost use Rattle.geo_handles.specs.Handles.{first_ready, handle_at};
 ghost use Rattle.geo_access.specs.Access.{consumers_below, place_of};
 ghost use Rattle.geo_state.specs.World.{world};
 ghost use Rattle.geo_state.specs.Holds.{Holds};
-ghost use Rattle.geo_state.specs.Steps.{IsAgainst, Makes};
-ghost use Rattle.geo_opens.specs.Handles.{IsFirm, IsIdle, steps_of};
+ghost use Rattle.geo_state.specs.Steps.{IsFirm, IsAgainst, Makes};
+ghost use Rattle.geo_opens.specs.Handles.{IsIdle, steps_of};
 
 use crate::handle::{consumer_of, look};
 use crate::holders::give_back;

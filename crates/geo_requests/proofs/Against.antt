@@ -32,8 +32,8 @@ use Rattle.geo_state.specs.declared.state.DiskSeat.{DiskSeat}
 use Rattle.geo_state.specs.Trips.{Trip, trip_of, trips, is_at_disk, busy_at}
 use Rattle.geo_state.specs.Holds.{Holds, IsSeat}
 use Rattle.geo_state.specs.World.{world, header_disk}
-use Rattle.geo_state.specs.Steps.{against, IsAgainst}
-use Rattle.geo_requests.specs.Founds.{IsFirm, phase_found, seat_found, way_found, sent_found, take_against, busy_found, deliver_against}
+use Rattle.geo_state.specs.Steps.{IsFirm, against, IsAgainst}
+use Rattle.geo_requests.specs.Founds.{phase_found, seat_found, way_found, sent_found, take_against, busy_found, deliver_against}
 
 -- what is against an answer is what was found
 pub against_unless : (o : Option Found) (made : World × Outcome) → against (unless_found o made) ≡ o

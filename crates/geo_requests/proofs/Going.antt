@@ -20,10 +20,9 @@ use Rattle.geo_traffic.specs.Shown.{shown, AreLogged}
 use Rattle.geo_state.specs.declared.state.State.{State}
 use Rattle.geo_state.specs.Bios.{OnlyBios, IsNoHandles}
 use Rattle.geo_state.specs.World.{world}
-use Rattle.geo_state.specs.Steps.{Makes, SameWorld}
+use Rattle.geo_state.specs.Steps.{IsFirm, Makes, SameWorld}
 use Rattle.geo_requests.specs.declared.cut.Cut.{Cut}
 use Rattle.geo_requests.specs.Ways.{CanCount, CanGoDown, GoesBy, IsCut}
-use Rattle.geo_requests.specs.Founds.{IsFirm}
 use Rattle.geo_requests.specs.Started.{HasStarted, bios_after, next_after, graph_after, outcome_of}
 use Rattle.geo_requests.proofs.Serving.{world_moved}
 use Rattle.geo_requests.proofs.Started.{SplitsWell, can_go_down, splits_well, passes_well, makes_started, logged_started}

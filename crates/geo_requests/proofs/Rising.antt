@@ -36,8 +36,7 @@ use Rattle.geo_traffic.proofs.LoggedLemmas.{places_stay_logged}
 use Rattle.geo_state.specs.declared.state.State.{State}
 use Rattle.geo_state.specs.Bios.{OnlyBios, CameThrough, IsOfItsOwner}
 use Rattle.geo_state.specs.World.{world}
-use Rattle.geo_state.specs.Steps.{Makes}
-use Rattle.geo_requests.specs.Founds.{IsFirm}
+use Rattle.geo_state.specs.Steps.{IsFirm, Makes}
 use Rattle.geo_requests.specs.Risen.{line_of, outcome_of_rise}
 use Rattle.geo_requests.proofs.Descent.{all_through, nobodys}
 use Rattle.geo_requests.proofs.Against.{there}

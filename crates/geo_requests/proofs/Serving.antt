@@ -43,8 +43,7 @@ use Rattle.geo_state.specs.Bios.{OnlyBios, GoesTo, IsFree, IsAloneAt}
 use Rattle.geo_state.specs.Trips.{Trip, trip_of, trips, is_at_disk}
 use Rattle.geo_state.specs.Holds.{Holds, IsSeat}
 use Rattle.geo_state.specs.World.{world, header_disk, HasBytes}
-use Rattle.geo_state.specs.Steps.{against, IsAgainst, Makes}
-use Rattle.geo_requests.specs.Founds.{IsFirm}
+use Rattle.geo_state.specs.Steps.{IsFirm, against, IsAgainst, Makes}
 use Rattle.geo_requests.proofs.Against.{against_unless, has_seat, there, seat_same}
 use Rattle.geo_requests.proofs.Started.{here}
 

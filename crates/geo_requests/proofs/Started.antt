@@ -31,9 +31,8 @@ use Rattle.geo_traffic.proofs.LoggedLemmas.{places_stay_logged}
 use Rattle.geo_state.specs.declared.state.State.{State}
 use Rattle.geo_state.specs.Bios.{OnlyBios, IsNoHandles}
 use Rattle.geo_state.specs.World.{world, header_disk, HasBytes}
-use Rattle.geo_state.specs.Steps.{Makes}
+use Rattle.geo_state.specs.Steps.{IsFirm, Makes}
 use Rattle.geo_requests.specs.Ways.{CanGoDown, IsCut, through}
-use Rattle.geo_requests.specs.Founds.{IsFirm}
 use Rattle.geo_requests.specs.Started.{HasStarted, bios_after, next_after, graph_after, outcome_of}
 use Rattle.geo_requests.proofs.Cuts.{all_mapped}
 use Rattle.geo_requests.proofs.Descent.{can_be_cut, some_targets, all_through, GoesThrough}

@@ -2,7 +2,6 @@
 use Rattle.std.specs.Prelude.{ℕ, ◌==◌, Bool, List, Option, Some, None, option_and_then, slice_get, if◌then◌else◌}
 use Rattle.std.specs.Option.{option_map}
 use Rattle.geo_model.specs.declared.step.DeviceResult.{DeviceResult}
-use Rattle.geo_model.specs.declared.step.Entry.{Entry}
 use Rattle.geo_model.specs.declared.step.Found.{Found}
 use Rattle.geo_model.specs.declared.step.Found.TheVariants as found
 use Rattle.geo_model.specs.declared.step.Phase.{Phase}
@@ -13,11 +12,6 @@ use Rattle.geo_model.specs.Bios.{disk_at, sector_at, fits_bio}
 use Rattle.geo_bio.specs.declared.bio.Held.{Held}
 use Rattle.geo_state.specs.declared.state.State.{State}
 use Rattle.geo_state.specs.declared.state.DiskSeat.{DiskSeat}
-use Rattle.geo_state.specs.World.{StandsFirm}
-
--- where the log has some entries, the state stands for a sound, steady and fitting world
-abbrev pub IsFirm : State → Type 0
-IsFirm s = (log : List Entry) × StandsFirm log s
 
 -- what is against a step that wants a phase
 abbrev pub phase_found : (Phase → Bool) → Option (BioOf Held) → Option Found

@@ -6,8 +6,8 @@ ghost use Rattle.geo_model.specs.Step.{start_of, take_of, deliver_of, up_of};
 ghost use Rattle.geo_bio.specs.BioTable.{bio_among};
 ghost use Rattle.geo_bio.specs.Rows.{seen};
 ghost use Rattle.geo_state.specs.Holds.{Holds};
-ghost use Rattle.geo_state.specs.Steps.{IsAgainst};
-ghost use Rattle.geo_requests.specs.Founds.{IsFirm, phase_found, seat_found, way_found, take_against, sent_found, busy_found, deliver_against};
+ghost use Rattle.geo_state.specs.Steps.{IsFirm, IsAgainst};
+ghost use Rattle.geo_requests.specs.Founds.{phase_found, seat_found, way_found, take_against, sent_found, busy_found, deliver_against};
 
 use crate::disk::{disk_at, fits, sector_at};
 use geo_base::{BioId, ProvId};

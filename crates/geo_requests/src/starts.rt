@@ -9,10 +9,9 @@ ghost use Rattle.geo_bio.specs.BioTable.{bio_among, has_phase};
 ghost use Rattle.geo_state.specs.Bios.{IsNoHandles};
 ghost use Rattle.geo_state.specs.Holds.{Holds};
 ghost use Rattle.geo_state.specs.World.{HasBytes};
-ghost use Rattle.geo_state.specs.Steps.{Makes, SameWorld};
+ghost use Rattle.geo_state.specs.Steps.{IsFirm, Makes, SameWorld};
 ghost use Rattle.geo_mesh.specs.Topo.{with_topology};
 ghost use Rattle.geo_model.specs.Topology.{note_started};
-ghost use Rattle.geo_requests.specs.Founds.{IsFirm};
 ghost use Rattle.geo_requests.specs.Started.{HasStarted};
 ghost use Rattle.geo_requests.specs.Ways.{CanCount, CanGoDown, IsCut, IsWay};
 

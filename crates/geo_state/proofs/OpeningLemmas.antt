@@ -1,4 +1,4 @@
--- All is kept in the state before any disk stands, and with more room for events.
+-- All is kept in the state before any disk stands, and with more room for events and requests.
 use Rattle.std.specs.Prelude.{◌≡◌, ℕ, zero, suc, ◌≤◌, List, [], ◌∷◌, length, map, None, IfSome, slice_get}
 use Rattle.std.specs.List.{AllByRecursion}
 use Rattle.std.proofs.Common.{refl, sym, ◌∙◌, ap, subst, arith}
@@ -10,6 +10,7 @@ use Rattle.geo_access.specs.Access.{IsCounted, IsQuiet, granted_by}
 use Rattle.geo_access.proofs.Shut.{meshes_stay_shut, shut_meshes_are_counted}
 use Rattle.geo_handles.specs.Handles.{HandlesView, no_handles}
 use Rattle.geo_laws_graph.proofs.Lists.{numbers-from}
+use Rattle.geo_traffic.specs.Traffic.{TrafficView}
 use Rattle.geo_state.specs.declared.state.State.{State}
 use Rattle.geo_state.specs.declared.state.DiskSeat.{DiskSeat}
 use Rattle.geo_state.specs.declared.state.OwnBios.{OwnBios}
@@ -79,3 +80,24 @@ holds-roomy s q more h = record {
   providers = h.providers;
   room = let was = h.room in omega (arith, was, more);
 }
+
+-- other room for requests
+spare-only : (s : State) (n : ℕ) → Holds s → Holds (record s { traffic = record s.traffic { spare = n } })
+spare-only s n h = record {
+  counted = h.counted;
+  quiet = h.quiet;
+  numbers = h.numbers;
+  grants = h.grants;
+  active = h.active;
+  ready = h.ready;
+  own = h.own;
+  read = h.read;
+  seats = h.seats;
+  providers = h.providers;
+  room = h.room;
+}
+
+pub holds-spare : (s : State) (t : TrafficView) → t ≡ record s.traffic { spare = t.spare } → Holds s
+    → Holds (record s { traffic = t })
+holds-spare s t spare h =
+    subst (λ (u : TrafficView). let z : State = record s { traffic = u } in Holds z) (sym spare) (spare-only s t.spare h)

@@ -7,7 +7,11 @@ use Rattle.geo_model.specs.declared.step.Outcome.{Outcome}
 use Rattle.geo_model.specs.World.{World}
 use Rattle.geo_model.specs.Step.{Answer}
 use Rattle.geo_state.specs.declared.state.State.{State}
-use Rattle.geo_state.specs.World.{world}
+use Rattle.geo_state.specs.World.{world, StandsFirm}
+
+-- where the log has some entries, the state stands for a sound, steady and fitting world
+abbrev pub IsFirm : State → Type 0
+IsFirm s = (log : List Entry) × StandsFirm log s
 
 -- what was found against a step, by its answer
 abbrev pub against : Answer → Option Found

@@ -1,5 +1,5 @@
 //! What becomes of requests (g_bio(9)), with what is kept of them.
-ghost use Rattle.std.specs.Prelude.{◌≡◌, ◌+◌, ◌<◌, ◌^◌, true, None, [], ◌∷◌, ◌++◌, length, IsSome, IfSome, IfOk, OnOk, OnErr, IsTrue, slice_get};
+ghost use Rattle.std.specs.Prelude.{◌≡◌, ◌+◌, ◌-◌, ◌<◌, ◌≤◌, ◌^◌, true, None, [], ◌∷◌, ◌++◌, length, IsOk, IsSome, IfSome, IfOk, OnOk, OnErr, IsTrue, slice_get};
 ghost use Rattle.geo_model.specs.declared.step.Owner.TheVariants as owners;
 ghost use Rattle.geo_model.specs.declared.step.Phase.TheVariants as phases;
 ghost use Rattle.geo_model.specs.Words.{is_write};
@@ -69,8 +69,9 @@ pub fn submit_line(
     Ok(number)
 }
 
-/// The taste's read goes through its consumer; none is out. Where it can't be counted, and where no number is left for
-/// it, the answer is want of memory.
+/// The taste's read goes through its consumer; none is out. It takes memory only where no room is spare, so where
+/// there is room for one more request, and fewer than 2^62 are out through the consumer, it isn't refused. Where it
+/// can't be counted, and where no number is left for it, the answer is want of memory.
 pub fn submit_read(state: &mut State, bio: NewBio) -> Result<BioId, NoMemory>
     requires kept { Holds state.old }
     requires none_out { state.old.read ≡ None }
@@ -83,6 +84,9 @@ pub fn submit_read(state: &mut State, bio: NewBio) -> Result<BioId, NoMemory>
     ensures next { OnOk result (state.new.traffic.next ≡ state.old.traffic.next + 1) }
     ensures bios_stay { OnErr result (state.new.traffic.bios ≡ state.old.traffic.bios) }
     ensures next_stays { OnErr result (state.new.traffic.next ≡ state.old.traffic.next) }
+    ensures room { OnOk result (state.new.traffic.spare ≡ state.old.traffic.spare - 1) }
+    ensures had_room { 1 ≤ state.old.traffic.spare → IfSome (value_at state.old.topo.active bio.from) (λ n. n < 2 ^ 62)
+        → IsOk result }
     ensures only { OnlyBios state.old state.new }
     ensures kept { Holds state.new }
 {
@@ -171,6 +175,8 @@ fn submit(state: &mut State, bio: NewBio, owner: Owner) -> Result<BioId, NoMemor
     ensures next { OnOk result (state.new.traffic.next ≡ state.old.traffic.next + 1) }
     ensures bios_stay { OnErr result (state.new.traffic.bios ≡ state.old.traffic.bios) }
     ensures next_stays { OnErr result (state.new.traffic.next ≡ state.old.traffic.next) }
+    ensures room { OnOk result (state.new.traffic.spare ≡ state.old.traffic.spare - 1) }
+    ensures had_room { 1 ≤ state.old.traffic.spare → IsOk result }
     ensures one { OnOk result (state.new ≡ record state.old {
       traffic = state.new.traffic;
       topo = with_active state.old.topo bio.from (λ n. n + 1);
@@ -187,7 +193,8 @@ fn submit(state: &mut State, bio: NewBio, owner: Owner) -> Result<BioId, NoMemor
 
 /// Whether one more request through the consumer can be counted.
 pub fn has_count(topo: &Topo<Config>, cons: ConsId) -> bool
-    ensures { result ≡ true → IfSome (value_at topo.now.active cons) (λ n. n < 2 ^ 62) }
+    ensures few { result ≡ true → IfSome (value_at topo.now.active cons) (λ n. n < 2 ^ 62) }
+    ensures always { IfSome (value_at topo.now.active cons) (λ n. n < 2 ^ 62) → result ≡ true }
 {
     match topo.consumer(cons) {
         Some(consumer) => consumer.active < MOST_OUT,

@@ -13,7 +13,7 @@ mod ups;
 
 pub use bios::{NewBio, bounce, deliver, send, submit_line, submit_read, take};
 pub use handles::kill;
-pub use opening::{empty, reserve_events};
+pub use opening::{empty, reserve_bio, reserve_events};
 pub use seats::{set_busy, set_geom};
 pub use splits::split;
 pub use state::{DiskSeat, OwnBios, State};

@@ -10,7 +10,7 @@ pub loop-target-preserved : goal.loop-target-preserved
 loop-target-preserved c =
     all_step (λ (z : ℕ × ℕ). IfSome (value_at c.args.topo.now.active z.0) (λ n. n < 2 ^ 62)) c.args.targets.now
     c.loop-target.target-index c.target-item.result (omega arith) c.target-item.is
-    (c.has_count.ensures c.if-not-has_count.false) c.loop-target.invariant
+    (c.has_count.ensures.few c.if-not-has_count.false) c.loop-target.invariant
 
 pub returns-clause-counts : goal.returns-clause-counts
 returns-clause-counts c =
