@@ -13,7 +13,7 @@ use Rattle.geo_slots.specs.Slots.{value_at}
 use Rattle.geo_mesh.specs.Topo.{TopoView, with_active}
 use Rattle.geo_handles.specs.Handles.{HandlesView, HoldsAlone, holding_handle}
 use Rattle.geo_state.specs.declared.state.State.{State}
-use Rattle.geo_state.specs.Trips.{trip_of, trips}
+use Rattle.geo_state.specs.Trips.{trips}
 use Rattle.geo_state.specs.Ready.{refreshed}
 use Rattle.geo_state.specs.Bios.{CameThrough, CanLeave, IsOfItsOwner, OnlyBios, own_after, read_after}
 use Rattle.geo_state.specs.Holds.{Holds}

@@ -1,7 +1,6 @@
 -- What is kept beside the parts, after a request was split into children.
-use Rattle.std.specs.Prelude.{◌≡◌, ℕ, ◌+◌, ◌<◌, ◌≤◌, ◌^◌, ◌==◌, Bool, true, false, List, [], ◌∷◌, ◌++◌, length, map, fold, find, Option, Some, None, IsTrue, IsSome, IfSome, if◌then◌else◌}
+use Rattle.std.specs.Prelude.{◌≡◌, ℕ, ◌+◌, ◌<◌, ◌≤◌, ◌^◌, ◌==◌, Bool, true, false, List, [], ◌∷◌, ◌++◌, length, map, Option, Some, None, IsTrue, IfSome}
 use Rattle.std.specs.List.{AllByRecursion}
-use Rattle.std.specs.Option.{option_map}
 use Rattle.std.proofs.Common.{refl, sym, ◌∙◌, ap, subst, arith}
 use Rattle.std.proofs.lemmas.Bool.{eqb-true}
 use Rattle.std.proofs.lemmas.List.{map-append}
@@ -21,10 +20,10 @@ use Rattle.geo_state.specs.Trips.{Trip, trip_of, trips}
 use Rattle.geo_state.specs.Bios.{IsNoHandles, OnlyBios, all_out}
 use Rattle.geo_state.specs.Holds.{Holds}
 use Rattle.geo_state.specs.World.{header_disk}
-use Rattle.geo_state.proofs.Lists.{around-all, all-weaker, all-both}
+use Rattle.geo_state.proofs.Lists.{around-all, all-weaker}
 use Rattle.geo_state.proofs.TripLemmas.{trips-same}
 use Rattle.geo_state.proofs.Unseen.{InPhase, in-phase, down-is}
-use Rattle.geo_state.proofs.Moves.{Kept, kept-of, kept-children, holds-moved}
+use Rattle.geo_state.proofs.Moves.{kept-of, kept-children, holds-moved}
 
 -- only what is out changes
 pub all-out-active : (targets : List (ℕ × ℕ)) (t : TopoView Config)

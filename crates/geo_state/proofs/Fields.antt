@@ -1,19 +1,15 @@
 -- What is kept beside the parts, field by field, after requests changed.
 use Rattle.std.specs.Prelude.{◌≡◌, ℕ, ◌==◌, Bool, true, false, List, [], ◌∷◌, Option, Some, None, map, IfSome, slice_get, if◌then◌else◌}
-use Rattle.std.specs.List.{AllByRecursion}
-use Rattle.std.specs.Option.{option_map}
 use Rattle.std.proofs.Common.{refl, sym, ◌∙◌, ap, subst, eq-eqb}
 use Rattle.std.proofs.lemmas.Bool.{eqb-true}
 use Rattle.geo_model.specs.Topology.{Topology, Consumer}
 use Rattle.geo_model.specs.World.{Config, Handle}
-use Rattle.geo_model.proofs.DemandLemmas.{map_same}
-use Rattle.geo_bio.specs.BioTable.{BioTableView}
 use Rattle.geo_mesh.specs.Topo.{TopoView}
 use Rattle.geo_state.specs.declared.state.State.{State}
 use Rattle.geo_state.specs.declared.state.DiskSeat.{DiskSeat}
 use Rattle.geo_state.specs.declared.state.OwnBios.{OwnBios}
 use Rattle.geo_state.specs.Trips.{Trip, trips, out_through, busy_at, IsOwnCount}
-use Rattle.geo_state.specs.Seats.{change_seat, with_busy_at, with_geom_at}
+use Rattle.geo_state.specs.Seats.{change_seat, with_busy_at}
 use Rattle.geo_state.specs.Holds.{Holds, AreOut, AreOwn, AreSeats, IsSeat}
 use Rattle.geo_state.specs.World.{header_disk}
 use Rattle.geo_state.proofs.Unseen.{SameReads}

@@ -1,33 +1,30 @@
 -- What a sound world says of the requests on their way, of consumers and of handles.
-use Rattle.std.specs.Prelude.{◌≡◌, ◌≢◌, ℕ, ◌+◌, ◌<◌, ◌≤◌, ◌==◌, Bool, true, false, not, ◌&&◌, List, [], ◌∷◌, map, find, Option, Some, None, IsTrue, IsSome, IsSomeAnd, IfSome, MatchOption, All, ⊤}
+use Rattle.std.specs.Prelude.{◌≡◌, ℕ, ◌≤◌, ◌==◌, Bool, true, false, List, [], ◌∷◌, map, find, Option, Some, None, IsSome, IsSomeAnd, MatchOption}
 use Rattle.std.specs.List.{AllByRecursion}
-use Rattle.std.specs.Option.{option_map, option_map_or}
-use Rattle.std.proofs.Common.{refl, sym, ◌∙◌, ap, subst, arith, eq-eqb, inr}
+use Rattle.std.proofs.Common.{refl, sym, ◌∙◌, ap, subst, eq-eqb, inr}
 use Rattle.std.proofs.lemmas.Bool.{eqb-true}
 use Rattle.std.proofs.lemmas.List.Elements.{recursion_from_All}
 use Rattle.geo_model.specs.declared.command.LineCommand.{LineCommand}
-use Rattle.geo_model.specs.declared.step.BioResult.{BioResult}
 use Rattle.geo_model.specs.declared.step.Entry.{Entry}
 use Rattle.geo_model.specs.declared.step.Owner.{Owner}
 use Rattle.geo_model.specs.declared.step.Owner.TheVariants as owners
 use Rattle.geo_model.specs.Graph.{AreNumbers}
-use Rattle.geo_model.specs.Words.{names_number}
 use Rattle.geo_model.specs.Topology.{Topology, Consumer, consumer_at, provider_at}
-use Rattle.geo_model.specs.World.{World, Bio, BioOf, Config, Handle, is_root, is_done, is_of_handle}
+use Rattle.geo_model.specs.World.{Bio, BioOf, Config, Handle, is_root, is_of_handle}
 use Rattle.geo_model.specs.Fitting.{Firm}
 use Rattle.geo_model.specs.Sound.{HasItsConsumer}
 use Rattle.geo_model.specs.SoundBios.{IsBioInOrder, IsFamilyInOrder, HasCountFor}
 use Rattle.geo_model.specs.Steady.{ComesFromItsOwner}
 use Rattle.geo_bio.specs.declared.bio.Held.{Held}
-use Rattle.geo_handles.specs.Handles.{holding_handle, handle_at}
+use Rattle.geo_handles.specs.Handles.{handle_at}
 use Rattle.geo_log.specs.Places.{delivered_at}
 use Rattle.geo_traffic.specs.Shown.{shown, shown_bio}
-use Rattle.geo_laws_graph.proofs.Lists.{Rise, rise-from, none_outside}
+use Rattle.geo_laws_graph.proofs.Lists.{rise-from, none_outside}
 use Rattle.geo_state.specs.declared.state.State.{State}
 use Rattle.geo_state.specs.Parts.{IsUnderWay, AreUnderWay, HasLineHandle}
-use Rattle.geo_state.specs.Trips.{Trip, trip_of, trips, is_out, out_through, handle_of_owner, is_own}
+use Rattle.geo_state.specs.Trips.{Trip, trip_of, trips, is_out, out_through}
 use Rattle.geo_state.specs.World.{world, StandsFirm}
-use Rattle.geo_state.proofs.Lists.{count-none, find-none, find-same, all-weaker, all-both}
+use Rattle.geo_state.proofs.Lists.{count-none, find-none, all-weaker, all-both}
 use Rattle.geo_state.proofs.Owned.{none-counted}
 
 -- a fact of what is there

@@ -1,9 +1,8 @@
 -- What consumers are granted, after one came that was granted counts, and after one was released.
-use Rattle.std.specs.Prelude.{◌≡◌, ◌≢◌, ℕ, ◌+◌, ◌==◌, Bool, true, false, not, List, [], ◌∷◌, ◌++◌, map, filter, find, Option, Some, None, IsSome, IsSomeAnd, unwrap_or, if◌then◌else◌}
-use Rattle.std.specs.List.{AllByRecursion}
-use Rattle.std.specs.Option.{option_map, option_map_or}
-use Rattle.std.proofs.Common.{refl, sym, ◌∙◌, ap, subst, eq-eqb}
-use Rattle.std.proofs.lemmas.Bool.{eqb-true, ne_eqb}
+use Rattle.std.specs.Prelude.{◌≡◌, ℕ, ◌==◌, Bool, true, false, List, map, Option, Some, None, IsSomeAnd, unwrap_or, if◌then◌else◌}
+use Rattle.std.specs.Option.{option_map_or}
+use Rattle.std.proofs.Common.{refl, sym, ◌∙◌, ap, subst}
+use Rattle.std.proofs.lemmas.Bool.{eqb-true}
 use Rattle.geo_base.specs.declared.request.Counts.{Counts}
 use Rattle.geo_base.proofs.Tests.{found_passes}
 use Rattle.geo_model.specs.Words.{is_granted_kind}
@@ -15,9 +14,8 @@ use Rattle.geo_model.specs.Opens.{with_grant}
 use Rattle.geo_slots.specs.Slots.{value_at}
 use Rattle.geo_mesh.specs.Topo.{TopoView}
 use Rattle.geo_laws_counts.specs.CountWords.{HoldsGrants}
-use Rattle.geo_access.specs.Access.{IsHolder, granted_by, holds_grants, counted_view}
+use Rattle.geo_access.specs.Access.{granted_by, holds_grants, counted_view}
 use Rattle.geo_access.proofs.Decided.{item_at}
-use Rattle.geo_state.proofs.Lists.{find-before, find-past, none-found}
 
 -- the grants with one of a consumer, there and elsewhere
 pub grant-at : (g : ℕ → Counts) (c : ℕ) (add : Counts) (d : ℕ) (b : Bool) → (d == c) ≡ b

@@ -1,14 +1,11 @@
 -- What is kept of handles, after one came, one is closed, and one is reaped.
-use Rattle.std.specs.Prelude.{◌≡◌, ◌≢◌, ℕ, ◌+◌, ◌≤◌, ◌==◌, Bool, true, false, not, ◌&&◌, List, [], ◌∷◌, ◌++◌, map, filter, find, count_by, Option, Some, None, IfSome, slice_get, if◌then◌else◌}
+use Rattle.std.specs.Prelude.{◌≡◌, ◌≢◌, ℕ, ◌+◌, ◌≤◌, ◌==◌, Bool, true, false, not, ◌&&◌, List, [], ◌∷◌, ◌++◌, map, find, count_by, Option, Some, None, slice_get, if◌then◌else◌}
 use Rattle.std.specs.List.{AllByRecursion}
 use Rattle.std.specs.Option.{option_map, option_map_or}
-use Rattle.std.proofs.Common.{refl, sym, ◌∙◌, ap, subst, arith, eq-eqb}
+use Rattle.std.proofs.Common.{refl, sym, ◌∙◌, ap, arith, eq-eqb}
 use Rattle.std.proofs.lemmas.Bool.{eqb-true, ne_eqb}
-use Rattle.geo_base.specs.declared.request.Counts.{Counts}
-use Rattle.geo_model.specs.declared.step.Owner.{Owner}
-use Rattle.geo_model.specs.declared.step.Owner.TheVariants as owners
 use Rattle.geo_model.specs.Graph.{AreNumbers}
-use Rattle.geo_model.specs.Words.{names_number, change_where}
+use Rattle.geo_model.specs.Words.{names_number}
 use Rattle.geo_model.specs.Demand.{no_counts}
 use Rattle.geo_model.specs.Opens.{with_grant}
 use Rattle.geo_model.specs.World.{Handle, Taste, is_of_handle, taste_grant}
@@ -16,11 +13,11 @@ use Rattle.geo_slots.specs.Slots.{with_value}
 use Rattle.geo_handles.specs.Handles.{handle_at, released, closed}
 use Rattle.geo_handles.specs.HandleLaws.{noted}
 use Rattle.geo_handles.proofs.HandleLawLemmas.{notes_follow}
-use Rattle.geo_laws_graph.proofs.Lists.{find-changed, changed-keeps}
+use Rattle.geo_laws_graph.proofs.Lists.{find-changed}
 use Rattle.geo_state.specs.declared.state.OwnBios.{OwnBios}
 use Rattle.geo_state.specs.Trips.{Trip, can_be_reaped, is_own, IsOwnCount}
 use Rattle.geo_state.specs.Holds.{AreOwn, granted_of}
-use Rattle.geo_state.proofs.Lists.{Around, around, around-all, around-gone, around-count, all-append, all-weaker, all-both, count-append, count-same, count-step, counts, find-before, find-kept_by, find-past, none-found}
+use Rattle.geo_state.proofs.Lists.{Around, around, around-all, around-count, all-append, all-weaker, all-both, count-append, count-same, count-step, counts, find-before, find-kept_by, find-past, none-found}
 use Rattle.geo_state.proofs.Owned.{none-counted}
 use Rattle.geo_state.proofs.Fields.{if-weaker}
 use Rattle.geo_state.proofs.GrantLemmas.{grant-at}

@@ -1,5 +1,5 @@
 -- What a sound world says of the consumer of a handle.
-use Rattle.std.specs.Prelude.{◌≡◌, ℕ, ◌==◌, Bool, true, false, ◌&&◌, List, [], ◌∷◌, filter, find, count_by, Option, Some, None, IsSome, IsSomeAnd, MatchOption, Contains, if◌then◌else◌}
+use Rattle.std.specs.Prelude.{◌≡◌, ℕ, ◌==◌, Bool, true, false, ◌&&◌, List, [], ◌∷◌, filter, find, count_by, Option, Some, None, IsSomeAnd, MatchOption, Contains, if◌then◌else◌}
 use Rattle.std.specs.List.{AllByRecursion}
 use Rattle.std.proofs.Common.{refl, sym, ◌∙◌, ap, subst, arith}
 use Rattle.std.proofs.lemmas.Bool.{eqb-true}
@@ -11,10 +11,10 @@ use Rattle.geo_model.specs.declared.command.LineCommand.{LineCommand}
 use Rattle.geo_model.specs.declared.step.Entry.{Entry}
 use Rattle.geo_model.specs.Demand.{no_counts, one_read}
 use Rattle.geo_model.specs.Words.{is_kind, is_granted_kind, names_number}
-use Rattle.geo_model.specs.Topology.{Topology, Geom, Consumer, consumer_at, consumers_of, geom_at}
-use Rattle.geo_model.specs.World.{World, Config, Handle, Taste, is_read_out, taste_grant}
+use Rattle.geo_model.specs.Topology.{Geom, Consumer, consumer_at, consumers_of, geom_at}
+use Rattle.geo_model.specs.World.{Config, Handle, Taste, is_read_out, taste_grant}
 use Rattle.geo_model.specs.Fitting.{Firm}
-use Rattle.geo_model.specs.Sound.{HasItsConsumer, HasTasteConsumer, IsHandleConsumer, IsOfItsClass, IsTasting}
+use Rattle.geo_model.specs.Sound.{HasItsConsumer, IsHandleConsumer, IsOfItsClass, IsTasting}
 use Rattle.geo_handles.specs.Handles.{handle_at}
 use Rattle.geo_laws_counts.specs.CountWords.{HoldsGrants}
 use Rattle.geo_laws_counts.proofs.Members.{kept_members}

@@ -1,37 +1,33 @@
 -- All is kept after handles were opened, closed and reaped.
-use Rattle.std.specs.Prelude.{◌≡◌, ◌≢◌, ℕ, ◌+◌, ◌≤◌, ◌==◌, Bool, true, false, not, List, [], ◌∷◌, ◌++◌, length, map, filter, find, count_by, Option, Some, None, IsSome, IsSomeAnd, unwrap_or, if◌then◌else◌}
+use Rattle.std.specs.Prelude.{◌≡◌, ◌≢◌, ℕ, ◌+◌, ◌==◌, Bool, true, false, not, List, [], ◌∷◌, ◌++◌, length, map, find, Some, None, IsSome, IsSomeAnd, unwrap_or, if◌then◌else◌}
 use Rattle.std.specs.List.{AllByRecursion}
 use Rattle.std.specs.Option.{option_map, option_map_or}
 use Rattle.std.proofs.Common.{refl, sym, ◌∙◌, ap, subst, arith, eq-eqb}
-use Rattle.std.proofs.lemmas.Bool.{eqb-true, ne_eqb}
 use Rattle.std.proofs.lemmas.List.{map-append, length-map}
 use Rattle.geo_base.specs.declared.request.Counts.{Counts}
-use Rattle.geo_model.specs.declared.step.Entry.{Entry}
 use Rattle.geo_model.specs.Demand.{no_counts}
 use Rattle.geo_model.specs.Graph.{AreNumbers}
 use Rattle.geo_model.specs.Opens.{with_grant}
 use Rattle.geo_model.specs.Words.{names_number}
-use Rattle.geo_model.specs.Topology.{Topology, Geom, Provider, Consumer, consumer_at, add_consumer}
+use Rattle.geo_model.specs.Topology.{Topology, Consumer, consumer_at}
 use Rattle.geo_model.specs.World.{Config, Handle}
 use Rattle.geo_model.specs.Bios.{disk_at}
 use Rattle.geo_model.proofs.DemandLemmas.{names_some}
 use Rattle.geo_slots.specs.Slots.{value_at, without, with_value}
 use Rattle.geo_event.specs.EventQueue.{Queued}
-use Rattle.geo_mesh.specs.Topo.{TopoView, Room, with_consumer, with_topology, without_consumer}
+use Rattle.geo_mesh.specs.Topo.{TopoView}
 use Rattle.geo_laws_counts.specs.CountWords.{HoldsGrants}
-use Rattle.geo_access.specs.Access.{IsCounted, IsQuiet, granted_by, holds_grants, granted_view, released_view}
-use Rattle.geo_access.specs.GoneLaws.{HasUsedNumber}
+use Rattle.geo_access.specs.Access.{granted_by, holds_grants, granted_view}
 use Rattle.geo_access.proofs.Gone.{refused_consumers_go}
-use Rattle.geo_handles.specs.Handles.{HandlesView, handle_at, with_opened, released, closed}
+use Rattle.geo_handles.specs.Handles.{HandlesView, handle_at, released, closed}
 use Rattle.geo_handles.specs.HandleLaws.{noted}
 use Rattle.geo_handles.proofs.HandleLawLemmas.{notes_follow}
 use Rattle.geo_laws_graph.proofs.Lists.{found_fresh, numbers-push, numbers-kept, numbers-changed}
 use Rattle.geo_state.specs.declared.state.State.{State}
 use Rattle.geo_state.specs.Parts.{SameParts, DisksStay, disk_row, geom_row}
 use Rattle.geo_state.specs.Trips.{Trip, trips, out_through, can_be_reaped, is_own}
-use Rattle.geo_state.specs.World.{StandsFirm}
-use Rattle.geo_state.specs.Holds.{Holds, AreOut, AreReady, AreOwn, GrantsAgree, granted_of, owed_events}
-use Rattle.geo_state.specs.Changes.{Effects, IsSettled, HasComer, HasGoer, with_consumer_at, coming, KeptAfterOpen, KeptAfterRefusal, KeptAfterClose, KeptAfterForget, KeptAfterReap, KeptWithHandles}
+use Rattle.geo_state.specs.Holds.{Holds, AreOut, AreReady, AreOwn, granted_of, owed_events}
+use Rattle.geo_state.specs.Changes.{Effects, IsSettled, HasGoer, with_consumer_at, coming, KeptAfterOpen, KeptAfterRefusal, KeptAfterClose, KeptAfterForget, KeptAfterReap, KeptWithHandles}
 use Rattle.geo_state.proofs.Lists.{all-weaker, find-before, find-none, find-past, none-found}
 use Rattle.geo_state.proofs.Frames.{parts-geom, parts-disk}
 use Rattle.geo_state.proofs.Fields.{apart}

@@ -1,27 +1,26 @@
 -- What is kept beside the parts, after the handle of a consumer became dead.
-use Rattle.std.specs.Prelude.{◌≡◌, ℕ, ◌≤◌, ◌==◌, Bool, true, false, ◌&&◌, List, [], ◌∷◌, map, find, Option, Some, None, IfSome, IsSome, slice_get, if◌then◌else◌}
+use Rattle.std.specs.Prelude.{◌≡◌, ℕ, ◌≤◌, ◌==◌, Bool, true, false, List, [], ◌∷◌, map, find, Option, Some, None, IsSome, slice_get, if◌then◌else◌}
 use Rattle.std.specs.List.{AllByRecursion}
 use Rattle.std.specs.Option.{option_map, option_map_or}
-use Rattle.std.proofs.Common.{refl, sym, ◌∙◌, ap, subst, eq-eqb}
+use Rattle.std.proofs.Common.{refl, sym, ◌∙◌, ap, subst}
 use Rattle.std.proofs.lemmas.Bool.{eqb-true}
-use Rattle.geo_base.specs.declared.request.Counts.{Counts}
 use Rattle.geo_base.proofs.Tests.{found_passes}
 use Rattle.geo_model.specs.Graph.{AreNumbers}
 use Rattle.geo_model.specs.Topology.{consumer_at}
-use Rattle.geo_model.specs.Words.{names_number, change_where}
+use Rattle.geo_model.specs.Words.{names_number}
 use Rattle.geo_model.specs.World.{Config, Handle, Taste, is_of_handle, taste_grant}
 use Rattle.geo_slots.specs.Slots.{value_at, with_value}
 use Rattle.geo_mesh.specs.Topo.{TopoView}
 use Rattle.geo_handles.specs.Handles.{HandlesView, HoldsAlone, holding_handle, killed}
 use Rattle.geo_handles.specs.HandleLaws.{noted}
-use Rattle.geo_laws_graph.proofs.Lists.{changed-keeps, find-changed, numbers-changed, unhit, found_itself}
+use Rattle.geo_laws_graph.proofs.Lists.{find-changed, numbers-changed, unhit, found_itself}
 use Rattle.geo_laws_graph.proofs.Members.{find-Contains}
 use Rattle.geo_state.specs.declared.state.State.{State}
 use Rattle.geo_state.specs.declared.state.OwnBios.{OwnBios}
-use Rattle.geo_state.specs.Trips.{Trip, trips, out_through, can_be_reaped, handle_of_owner, is_own, IsOwnCount}
+use Rattle.geo_state.specs.Trips.{Trip, trips, out_through, can_be_reaped, is_own, IsOwnCount}
 use Rattle.geo_state.specs.Ready.{is_idle_now, renoted, refreshed}
-use Rattle.geo_state.specs.Holds.{Holds, AreOwn, AreReady, GrantsAgree, granted_of}
-use Rattle.geo_state.proofs.Lists.{count-same, all-both, all-weaker, none-found}
+use Rattle.geo_state.specs.Holds.{Holds, AreOwn, AreReady, granted_of}
+use Rattle.geo_state.proofs.Lists.{count-same, all-both, none-found}
 use Rattle.geo_state.proofs.ReadyLemmas.{IsHolder, holder}
 use Rattle.geo_state.proofs.Rises.{active-at}
 use Rattle.geo_state.proofs.Fields.{if-weaker}

@@ -1,8 +1,8 @@
 -- What is kept beside the parts follows each change of a part.
-use Rattle.std.specs.Prelude.{◌≡◌, ℕ, ◌≤◌, ◌==◌, Bool, true, false, not, ◌&&◌, List, [], ◌∷◌, ◌++◌, map, filter, find, Option, Some, None, IfSome, slice_get}
+use Rattle.std.specs.Prelude.{◌≡◌, ℕ, ◌==◌, Bool, true, false, not, ◌&&◌, List, [], ◌∷◌, ◌++◌, map, filter, slice_get}
 use Rattle.std.specs.List.{AllByRecursion}
 use Rattle.std.specs.Option.{option_map, option_map_or}
-use Rattle.std.proofs.Common.{refl, sym, ◌∙◌, ap, subst}
+use Rattle.std.proofs.Common.{refl, sym, ◌∙◌, ap}
 use Rattle.std.proofs.lemmas.List.{map-append}
 use Rattle.geo_base.specs.declared.request.Counts.{Counts}
 use Rattle.geo_model.specs.Topology.{Topology, Consumer}
@@ -11,11 +11,10 @@ use Rattle.geo_model.specs.Bios.{disk_at}
 use Rattle.geo_model.specs.Events.{QueuedTopology}
 use Rattle.geo_slots.specs.Slots.{without}
 use Rattle.geo_mesh.specs.Topo.{TopoView}
-use Rattle.geo_state.specs.declared.state.State.{State}
 use Rattle.geo_state.specs.declared.state.DiskSeat.{DiskSeat}
-use Rattle.geo_state.specs.Trips.{Trip, trips, out_through, is_at_disk, busy_at}
-use Rattle.geo_state.specs.Parts.{SameParts, DisksStay, Comes, IsGone, geom_of_disk}
-use Rattle.geo_state.specs.Holds.{Holds, AreOut, AreSeats, IsSeat}
+use Rattle.geo_state.specs.Trips.{Trip, trips, out_through, is_at_disk}
+use Rattle.geo_state.specs.Parts.{SameParts, DisksStay}
+use Rattle.geo_state.specs.Holds.{AreSeats, IsSeat}
 use Rattle.geo_state.specs.Laws.{EffectsKeepParts, HoldsAfterEffects, FieldsFollow}
 use Rattle.geo_state.proofs.Lists.{find-same, all-weaker}
 use Rattle.geo_state.proofs.Fields.{if-weaker}

@@ -25,3 +25,4 @@ pub mod OwedLemmas
 pub mod SiteLemmas
 pub mod OpeningLemmas
 pub mod GrantLaws
+pub mod Walks

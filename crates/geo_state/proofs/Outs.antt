@@ -1,15 +1,13 @@
 -- Requests out through a consumer: how many are, after one came, came back or went on, and which handles can be reaped.
-use Rattle.std.specs.Prelude.{◌≡◌, ◌≢◌, ℕ, ◌+◌, ◌-◌, ◌≤◌, ◌==◌, Bool, true, false, not, ◌&&◌, List, [], ◌∷◌, ◌++◌, length, map, filter, find, count_by, Option, Some, None, if◌then◌else◌}
-use Rattle.std.specs.List.{AllByRecursion}
-use Rattle.std.specs.Option.{option_map, option_map_or}
-use Rattle.std.proofs.Common.{refl, sym, ◌∙◌, ap, arith, subst, eq-eqb, inl, inr}
+use Rattle.std.specs.Prelude.{◌≡◌, ◌≢◌, ℕ, ◌+◌, ◌-◌, ◌≤◌, ◌==◌, Bool, true, false, not, ◌&&◌, List, [], ◌∷◌, ◌++◌, map, filter, count_by, Option, Some, None, if◌then◌else◌}
+use Rattle.std.specs.Option.{option_map_or}
+use Rattle.std.proofs.Common.{refl, sym, ◌∙◌, ap, arith, eq-eqb, inl, inr}
 use Rattle.std.proofs.lemmas.Bool.{eqb-true, cases_eq, ne_eqb}
 use Rattle.geo_model.specs.Words.{names_number, change_where}
 use Rattle.geo_model.specs.World.{Handle}
-use Rattle.geo_slots.specs.Slots.{with_value}
 use Rattle.geo_mesh.specs.Rows.{change_at}
 use Rattle.geo_state.specs.Trips.{Trip, is_out, out_through, can_be_reaped}
-use Rattle.geo_state.proofs.Lists.{Around, around-changed, around-gone, around-count, count-append, counts, count-skip}
+use Rattle.geo_state.proofs.Lists.{Around, around-changed, around-gone, around-count, count-append, counts}
 
 -- equal numbers, either way
 pub eqb_sym : (m n : ℕ) → (m == n) ≡ (n == m)

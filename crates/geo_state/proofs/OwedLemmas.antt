@@ -1,5 +1,5 @@
 -- The places of the queue that are owed.
-use Rattle.std.specs.Prelude.{◌≡◌, ℕ, ◌+◌, ◌*◌, ◌≤◌, ◌==◌, Bool, true, false, not, ◌&&◌, List, [], ◌∷◌, length, map, filter, count_by, if◌then◌else◌}
+use Rattle.std.specs.Prelude.{◌≡◌, ℕ, ◌+◌, ◌≤◌, ◌==◌, Bool, true, false, not, List, [], ◌∷◌, length, map, count_by, if◌then◌else◌}
 use Rattle.std.proofs.Common.{refl, sym, ◌∙◌, ap, arith, eq-eqb}
 use Rattle.std.proofs.lemmas.Bool.{eqb-true}
 use Rattle.std.proofs.lemmas.List.{length-map}
@@ -8,12 +8,9 @@ use Rattle.geo_base.specs.declared.request.Counts.{Counts}
 use Rattle.geo_model.specs.Topology.{Provider}
 use Rattle.geo_model.specs.Demand.{no_counts, have}
 use Rattle.geo_model.specs.Opens.{with_grant}
-use Rattle.geo_model.specs.World.{Config}
-use Rattle.geo_mesh.specs.Topo.{TopoView}
 use Rattle.geo_laws_counts.specs.CountWords.{IsAtMost}
 use Rattle.geo_laws_counts.proofs.Levels.{have-at_most}
-use Rattle.geo_access.specs.Access.{IsCounted, comes_to_zero, granted_by, noted, released_view}
-use Rattle.geo_state.specs.Holds.{owed_events}
+use Rattle.geo_access.specs.Access.{comes_to_zero, granted_by, noted, released_view}
 use Rattle.geo_state.specs.Owed.{OwedAreFew, ClosesOweLess, PlacesAreOwed}
 use Rattle.geo_state.proofs.Lists.{counts, count-skip, count-step}
 

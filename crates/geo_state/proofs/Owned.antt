@@ -1,17 +1,17 @@
 -- The requests of an actor's own lines, the taste's read and the requests at the disks, after one more request, after
 -- one is gone, and after one is at its disk or has come from it.
-use Rattle.std.specs.Prelude.{◌≡◌, ◌≢◌, ℕ, ◌+◌, ◌-◌, ◌≤◌, ◌==◌, min, Bool, true, false, not, ◌&&◌, List, [], ◌∷◌, ◌++◌, length, map, filter, find, count_by, Option, Some, None, if◌then◌else◌}
+use Rattle.std.specs.Prelude.{◌≡◌, ℕ, ◌+◌, ◌-◌, ◌≤◌, ◌==◌, min, Bool, true, false, not, List, [], ◌∷◌, ◌++◌, filter, find, count_by, Option, Some, None, if◌then◌else◌}
 use Rattle.std.specs.List.{AllByRecursion}
 use Rattle.std.specs.Option.{option_map, option_map_or}
-use Rattle.std.proofs.Common.{refl, sym, ◌∙◌, ap, arith, subst, eq-eqb, inl, inr}
-use Rattle.std.proofs.lemmas.Bool.{eqb-true, cases_eq, ne_eqb, and_parts}
+use Rattle.std.proofs.Common.{refl, sym, ◌∙◌, ap, arith, eq-eqb}
+use Rattle.std.proofs.lemmas.Bool.{eqb-true}
 use Rattle.geo_model.specs.Topology.{Topology}
 use Rattle.geo_model.specs.Words.{change_where}
 use Rattle.geo_model.specs.World.{Config, Handle, is_taste_root}
 use Rattle.geo_model.specs.Bios.{disk_at}
 use Rattle.geo_state.specs.Trips.{Trip, taste_read, is_at_disk, busy_at, is_own, IsOwnCount}
 use Rattle.geo_state.proofs.Outs.{eqb_sym}
-use Rattle.geo_state.proofs.Lists.{Around, around-changed, around-gone, around-count, around-all, around-fact, count-append, counts, count-step, count-skip, count-kept, count-none, find-none, find-past, find-before, find-kept_by, none-found, all-append, all-kept, all-weaker, all-front, all-back}
+use Rattle.geo_state.proofs.Lists.{Around, around-changed, around-gone, around-count, around-all, count-append, counts, count-step, count-skip, count-kept, count-none, find-none, find-past, find-before, find-kept_by, none-found, all-append, all-kept, all-weaker, all-front, all-back}
 
 -- where none is counted none passes
 pub none-counted : {X : Type 0} (p : X → Bool) (xs : List X) → count_by p xs ≡ 0 → AllByRecursion (λ x. p x ≡ false) xs

@@ -1,16 +1,15 @@
 -- Which handles can be reaped, after requests came or went, and after a handle's notes were looked at again.
-use Rattle.std.specs.Prelude.{◌≡◌, ◌≢◌, ℕ, ◌≤◌, ◌==◌, Bool, true, false, not, ◌&&◌, List, [], ◌∷◌, ◌++◌, map, filter, find, Option, Some, None, if◌then◌else◌}
+use Rattle.std.specs.Prelude.{◌≡◌, ◌≢◌, ℕ, ◌==◌, Bool, true, false, ◌&&◌, List, [], ◌∷◌, map, find, Option, Some, None, if◌then◌else◌}
 use Rattle.std.specs.List.{AllByRecursion}
 use Rattle.std.specs.Option.{option_map, option_map_or}
-use Rattle.std.proofs.Common.{refl, sym, ◌∙◌, ap, subst, eq-eqb, inl, inr}
-use Rattle.std.proofs.lemmas.Bool.{eqb-true, cases_eq, ne_eqb}
+use Rattle.std.proofs.Common.{refl, sym, ◌∙◌, ap}
 use Rattle.geo_model.specs.Graph.{AreNumbers}
-use Rattle.geo_model.specs.Words.{names_number, change_where}
+use Rattle.geo_model.specs.Words.{names_number}
 use Rattle.geo_model.specs.World.{Config, Handle}
 use Rattle.geo_model.proofs.DemandLemmas.{map_same, names_some}
 use Rattle.geo_slots.specs.Slots.{value_at, with_value}
 use Rattle.geo_mesh.specs.Topo.{TopoView}
-use Rattle.geo_handles.specs.Handles.{HandlesView, holding_handle, HoldsAlone, is_at}
+use Rattle.geo_handles.specs.Handles.{HandlesView, holding_handle, HoldsAlone}
 use Rattle.geo_handles.specs.HandleLaws.{noted}
 use Rattle.geo_handles.proofs.HandleLawLemmas.{notes_follow}
 use Rattle.geo_state.specs.Trips.{Trip, out_through, can_be_reaped}

@@ -1,8 +1,8 @@
 -- What is kept beside the parts, after a request went up to its owner.
-use Rattle.std.specs.Prelude.{◌≡◌, ◌≢◌, ℕ, ◌+◌, ◌-◌, ◌≤◌, ◌==◌, Bool, true, false, not, ◌&&◌, List, [], ◌∷◌, ◌++◌, map, filter, find, count_by, Option, Some, None, IsTrue, IsSome, IsSomeAnd, IfSome, slice_get, if◌then◌else◌}
-use Rattle.std.specs.List.{AllByRecursion, list_all}
+use Rattle.std.specs.Prelude.{◌≡◌, ◌≢◌, ℕ, ◌-◌, ◌≤◌, ◌==◌, Bool, true, false, not, ◌&&◌, List, [], ◌∷◌, map, filter, find, count_by, Option, Some, None, IsTrue, IsSome, IsSomeAnd, IfSome, slice_get, if◌then◌else◌}
+use Rattle.std.specs.List.{AllByRecursion}
 use Rattle.std.specs.Option.{option_map, option_map_or}
-use Rattle.std.proofs.Common.{refl, sym, ◌∙◌, ap, subst, arith, eq-eqb}
+use Rattle.std.proofs.Common.{refl, sym, ◌∙◌, ap, eq-eqb}
 use Rattle.std.proofs.lemmas.Bool.{eqb-true, ne_eqb, and_parts}
 use Rattle.geo_model.specs.declared.step.Owner.{Owner}
 use Rattle.geo_model.specs.declared.step.Owner.TheVariants as owners
@@ -26,21 +26,20 @@ use Rattle.geo_laws_graph.proofs.Members.{find-Contains}
 use Rattle.geo_base.proofs.Tests.{found_passes}
 use Rattle.geo_state.specs.declared.state.State.{State}
 use Rattle.geo_state.specs.declared.state.OwnBios.{OwnBios}
-use Rattle.geo_state.specs.Trips.{Trip, trip_of, trips, is_out, out_through, can_be_reaped, taste_read, is_at_disk, busy_at, is_own, IsOwnCount}
+use Rattle.geo_state.specs.Trips.{Trip, trip_of, trips, out_through, can_be_reaped, taste_read, is_at_disk, busy_at, is_own, IsOwnCount}
 use Rattle.geo_state.specs.Own.{without_bio, change_own, left_by}
-use Rattle.geo_state.specs.Bios.{own_after, read_after, left_of, CanLeave, IsOfItsOwner, CameThrough}
+use Rattle.geo_state.specs.Bios.{own_after, read_after, CanLeave, IsOfItsOwner}
 use Rattle.geo_state.specs.Ready.{refreshed}
 use Rattle.geo_state.specs.Holds.{Holds, AreOut, AreReady, AreOwn, AreSeats}
-use Rattle.geo_state.proofs.Lists.{Around, around, around-all, around-fact, all-weaker, all-both, find-none, none-found}
+use Rattle.geo_state.proofs.Lists.{Around, around-all, all-weaker}
 use Rattle.geo_state.proofs.TripLemmas.{trips-changed, trips-same, trips-kept}
 use Rattle.geo_state.proofs.Outs.{rows-changed, out-back, out-gone, out-some, reaped-same}
 use Rattle.geo_state.proofs.Owned.{own-gone, own-some, own-kept, only-fails, read-kept, read-gone, busy-kept}
-use Rattle.geo_state.proofs.Unseen.{SameReads, reads-trans, reads-same, reads-gone, busy-gone, IsGoneChild, count-changed, InPhase, in-phase, trips-around, up-is, waiting-is, done-is}
-use Rattle.geo_state.proofs.ReadyLemmas.{IsHolder, holder, refreshed-none, refreshed-one}
+use Rattle.geo_state.proofs.Unseen.{SameReads, reads-same, reads-gone, busy-gone, IsGoneChild, count-changed, InPhase, in-phase, trips-around, up-is, waiting-is, done-is}
+use Rattle.geo_state.proofs.ReadyLemmas.{holder, refreshed-none, refreshed-one}
 use Rattle.geo_state.proofs.Slots.{slot-same, slot-other}
 use Rattle.geo_state.proofs.Fields.{apart, if-weaker, at-some, if-some, seats-same}
-use Rattle.geo_state.proofs.Moves.{Kept, kept-of, holds-moved, own-of_line, own-of_nobody}
-use Rattle.geo_state.proofs.Turns.{at-some-and}
+use Rattle.geo_state.proofs.Moves.{holds-moved, own-of_line, own-of_nobody}
 
 -- from the one list to the other one request less is out through a consumer, and the rest is kept
 pub record Rise (s : State) (x : Trip) (ys : List Trip) : Type 0 where

@@ -1,8 +1,8 @@
 -- All is kept after geoms, providers and consumers came or went.
-use Rattle.std.specs.Prelude.{◌≡◌, ◌≢◌, ℕ, ◌+◌, ◌≤◌, ◌==◌, Bool, true, false, not, ◌&&◌, List, [], ◌∷◌, ◌++◌, length, map, filter, find, Option, Some, None, IsSome, IsSomeAnd, IfSome, AllPairs, slice_get, if◌then◌else◌}
+use Rattle.std.specs.Prelude.{◌≡◌, ℕ, ◌+◌, ◌==◌, Bool, true, false, not, ◌&&◌, List, [], ◌∷◌, ◌++◌, length, map, filter, find, Option, Some, None, IsSome, IsSomeAnd, IfSome, AllPairs, slice_get, if◌then◌else◌}
 use Rattle.std.specs.List.{AllByRecursion}
 use Rattle.std.specs.Option.{option_map, option_map_or, option_and_then, option_flatten}
-use Rattle.std.proofs.Common.{refl, sym, ◌∙◌, ap, subst, arith, eq-eqb}
+use Rattle.std.proofs.Common.{refl, sym, ◌∙◌, ap, subst, eq-eqb}
 use Rattle.std.proofs.lemmas.Bool.{eqb-true, ne_eqb}
 use Rattle.std.proofs.lemmas.List.{map-append, length-append, length-map}
 use Rattle.std.proofs.lemmas.List.Elements.{recursion_from_All}
@@ -16,7 +16,7 @@ use Rattle.geo_model.specs.Place.{disk_of}
 use Rattle.geo_model.specs.Bios.{disk_at}
 use Rattle.geo_model.specs.GeomCommands.{is_geom_of_disk}
 use Rattle.geo_model.specs.Sound.{DifferInDisk}
-use Rattle.geo_slots.specs.Slots.{value_at, without}
+use Rattle.geo_slots.specs.Slots.{value_at}
 use Rattle.geo_event.specs.EventQueue.{Queued}
 use Rattle.geo_mesh.specs.Topo.{TopoView}
 use Rattle.geo_access.specs.Access.{granted_by}
@@ -28,7 +28,7 @@ use Rattle.geo_state.specs.Trips.{Trip, trips, out_through, is_at_disk, busy_at}
 use Rattle.geo_state.specs.World.{StandsFirm}
 use Rattle.geo_state.specs.Holds.{Holds, AreOut, AreSeats, IsSeat, granted_of}
 use Rattle.geo_state.specs.Changes.{IsSettled}
-use Rattle.geo_state.specs.Sites.{Comers, HasComers, AreFresh, no_row, seats_without, KeptAfterComers, KeptAfterInsert, KeptAfterProvider, KeptAfterConsumer, KeptAfterGeom, KeptWithSites}
+use Rattle.geo_state.specs.Sites.{AreFresh, no_row, seats_without, KeptAfterComers, KeptAfterInsert, KeptAfterProvider, KeptAfterConsumer, KeptAfterGeom, KeptWithSites}
 use Rattle.geo_state.proofs.Lists.{Around, around, around-all, all-weaker, all-append, find-before, find-first, find-past, find-kept_by, find-same, none-found}
 use Rattle.geo_state.proofs.Slots.{slot-same, slot-other}
 use Rattle.geo_state.proofs.Fields.{apart, at-some, if-weaker}

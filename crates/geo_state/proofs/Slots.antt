@@ -1,6 +1,6 @@
 -- Places of a list, one of which changes.
-use Rattle.std.specs.Prelude.{◌≡◌, ℕ, zero, suc, ◌<◌, ◌==◌, Bool, true, false, List, [], ◌∷◌, length, map, Option, Some, None, IfSome, IsSome, slice_get, slice_set}
-use Rattle.std.proofs.Common.{refl, sym, ◌∙◌, ap, arith, subst}
+use Rattle.std.specs.Prelude.{◌≡◌, ℕ, zero, suc, ◌<◌, List, [], ◌∷◌, length, map, Some, IsSome, slice_get, slice_set}
+use Rattle.std.proofs.Common.{refl, sym, ◌∙◌, ap, arith}
 
 -- at the place stands what was put there
 pub slot-same : {X : Type 0} (xs : List X) (i : ℕ) (v x : X) → slice_get xs i ≡ Some x

@@ -1,18 +1,11 @@
 -- What is read of the requests on their way, after each change of them.
-use Rattle.std.specs.Prelude.{◌≡◌, ℕ, ◌+◌, ◌≤◌, ◌==◌, Bool, true, false, not, ◌&&◌, List, [], ◌∷◌, ◌++◌, length, map, filter, find, count_by, Option, Some, None, if◌then◌else◌}
+use Rattle.std.specs.Prelude.{◌≡◌, ℕ, ◌≤◌, ◌==◌, Bool, true, false, List, [], ◌∷◌, filter, count_by}
 use Rattle.std.specs.List.{AllByRecursion}
-use Rattle.std.specs.Option.{option_map, option_map_or}
-use Rattle.std.proofs.Common.{refl, sym, ◌∙◌, ap, arith, subst, eq-eqb}
-use Rattle.std.proofs.lemmas.Bool.{eqb-true}
-use Rattle.std.proofs.lemmas.List.{map-append}
-use Rattle.geo_model.specs.declared.step.Owner.{Owner}
-use Rattle.geo_model.specs.declared.step.Phase.{Phase}
-use Rattle.geo_model.specs.Graph.{AreNumbers}
+use Rattle.std.proofs.Common.{refl, ap}
 use Rattle.geo_model.specs.Topology.{Topology}
 use Rattle.geo_model.specs.Words.{change_where}
-use Rattle.geo_model.specs.World.{BioOf, Config, Handle, is_busy, is_done, is_child_of, is_taste_root, is_of_handle, change_number}
-use Rattle.geo_state.specs.Trips.{Trip, trip_of, trips, is_out, out_through, can_be_reaped, taste_read, is_at_disk, busy_at, is_own, own_first}
-use Rattle.geo_state.proofs.Lists.{Around, around, around-changed, around-gone, around-count, count-append, count-same, count-none, find-same, find-none, find-first, find-past, find-before, count-kept, find-kept_by, count-skip, all-append, all-front, all-back}
+use Rattle.geo_model.specs.World.{BioOf, Config, Handle, is_taste_root, is_of_handle, change_number}
+use Rattle.geo_state.specs.Trips.{Trip, trip_of, trips, out_through, taste_read, busy_at, is_own}
 
 module _ {R : Type 0} where
   -- a change of one request is a change of its trip

@@ -1,7 +1,5 @@
 -- What is kept beside the parts, after a request went on: bounced, sent, taken by a seat or answered by its disk.
 use Rattle.std.specs.Prelude.{◌≡◌, ℕ, ◌==◌, Bool, true, false, List, Option, Some, None, map, IsTrue, IsSomeAnd, slice_get, if◌then◌else◌}
-use Rattle.std.specs.List.{AllByRecursion}
-use Rattle.std.specs.Option.{option_map}
 use Rattle.std.proofs.Common.{refl, sym, ◌∙◌, ap, subst}
 use Rattle.std.proofs.lemmas.Bool.{eqb-true}
 use Rattle.geo_base.specs.declared.errno.Errno.{Errno}
@@ -13,7 +11,7 @@ use Rattle.geo_model.specs.World.{BioOf, change_number, is_down, is_sent, is_bus
 use Rattle.geo_model.specs.Bios.{up_with, disk_at}
 use Rattle.geo_bio.specs.declared.bio.Held.{Held}
 use Rattle.geo_bio.specs.declared.bio.Held.TheVariants as held
-use Rattle.geo_bio.specs.BioTable.{BioTableView, bio_among, has_phase, with_phase, delivered}
+use Rattle.geo_bio.specs.BioTable.{bio_among, has_phase, with_phase, delivered}
 use Rattle.geo_state.specs.declared.state.State.{State}
 use Rattle.geo_state.specs.declared.state.DiskSeat.{DiskSeat}
 use Rattle.geo_state.specs.Trips.{Trip, trip_of, trips, busy_at}
@@ -21,10 +19,10 @@ use Rattle.geo_state.specs.Seats.{with_busy_at}
 use Rattle.geo_state.specs.Holds.{Holds, IsSeat}
 use Rattle.geo_state.specs.World.{header_disk}
 use Rattle.geo_state.specs.Bios.{OnlyBios, GoesTo, IsFree, IsAloneAt}
-use Rattle.geo_state.proofs.Lists.{Around, around-all, all-weaker}
+use Rattle.geo_state.proofs.Lists.{around-all}
 use Rattle.geo_state.proofs.TripLemmas.{trips-changed, trips-same}
 use Rattle.geo_state.proofs.Owned.{busy-taken, busy-freed}
-use Rattle.geo_state.proofs.Unseen.{SameReads, reads-same, reads-changed, InPhase, in-phase, trips-around, down-is, sent-is, busy-is}
+use Rattle.geo_state.proofs.Unseen.{reads-same, reads-changed, InPhase, in-phase, trips-around, down-is, sent-is, busy-is}
 use Rattle.geo_state.proofs.Fields.{at-some, seats-same, seats-busy, disks-busy, holds-unseen}
 
 -- what holds of what is there

@@ -1,8 +1,8 @@
 -- Changes of requests that the other parts don't see, or only where a request is at a disk.
-use Rattle.std.specs.Prelude.{◌≡◌, ◌≢◌, ℕ, ◌+◌, ◌≤◌, ◌==◌, Bool, true, false, not, ◌&&◌, List, [], ◌∷◌, ◌++◌, map, filter, find, count_by, Option, Some, None, IsTrue, if◌then◌else◌}
+use Rattle.std.specs.Prelude.{◌≡◌, ℕ, ◌+◌, ◌≤◌, ◌==◌, Bool, true, false, ◌&&◌, List, [], ◌∷◌, ◌++◌, map, filter, find, count_by, Option, Some, None, IsTrue, if◌then◌else◌}
 use Rattle.std.specs.List.{AllByRecursion}
 use Rattle.std.specs.Option.{option_map, option_map_or}
-use Rattle.std.proofs.Common.{refl, sym, ◌∙◌, ap, subst}
+use Rattle.std.proofs.Common.{refl, sym, ◌∙◌, ap}
 use Rattle.geo_model.specs.declared.step.Phase.{Phase}
 use Rattle.geo_model.specs.declared.step.Phase.TheVariants as phases
 use Rattle.geo_model.specs.Graph.{AreNumbers}
@@ -12,7 +12,7 @@ use Rattle.geo_model.specs.World.{BioOf, Config, Handle, is_busy, is_done, is_do
 use Rattle.geo_bio.specs.BioTable.{bio_among, has_phase}
 use Rattle.geo_laws_graph.proofs.Lists.{changed-keeps, find-changed, all-changed}
 use Rattle.geo_state.specs.Trips.{Trip, trip_of, trips, is_out, out_through, taste_read, is_at_disk, busy_at, is_own, IsOwnCount}
-use Rattle.geo_state.proofs.Lists.{Around, around, around-all, counts, count-step, count-kept, find-kept_by, all-kept, all-weaker}
+use Rattle.geo_state.proofs.Lists.{Around, around, counts, count-step, count-kept, find-kept_by, all-weaker}
 use Rattle.geo_state.proofs.Owned.{own-kept}
 
 -- from the one list to the other as many are out through each consumer, the taste's read is the same, and what is kept

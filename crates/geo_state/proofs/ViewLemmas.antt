@@ -5,19 +5,15 @@ use Rattle.std.specs.Option.{option_map, option_map_or}
 use Rattle.std.proofs.Common.{refl, sym, ◌∙◌, ap, subst, arith, inl}
 use Rattle.std.proofs.lemmas.Bool.{eqb-true, ne_eqb}
 use Rattle.geo_base.specs.declared.request.Counts.{Counts}
-use Rattle.geo_model.specs.declared.command.LineCommand.{LineCommand}
-use Rattle.geo_model.specs.declared.step.Entry.{Entry}
 use Rattle.geo_model.specs.declared.step.Owner.{Owner}
 use Rattle.geo_model.specs.declared.step.Owner.TheVariants as owners
 use Rattle.geo_model.specs.Graph.{AreNumbers}
 use Rattle.geo_model.specs.Topology.{Consumer, consumer_at}
 use Rattle.geo_model.specs.World.{World, Bio, BioOf, Handle, is_active, is_busy, is_done, is_of_handle, is_taste_root}
 use Rattle.geo_model.specs.Bios.{disk_at}
-use Rattle.geo_model.specs.Fitting.{Firm}
-use Rattle.geo_model.specs.Freeing.{is_to_reap, reap_work}
-use Rattle.geo_model.specs.Step.{is_of_actor, own_bio}
+use Rattle.geo_model.specs.Freeing.{is_to_reap}
+use Rattle.geo_model.specs.Step.{is_of_actor}
 use Rattle.geo_bio.specs.declared.bio.Held.{Held}
-use Rattle.geo_handles.specs.HandleLaws.{noted}
 use Rattle.geo_handles.proofs.HandleLawLemmas.{handles_are_of_world}
 use Rattle.geo_laws_graph.proofs.Lists.{Rise, rise-from, none_outside}
 use Rattle.geo_log.specs.Places.{delivered_at}
@@ -25,11 +21,11 @@ use Rattle.geo_slots.specs.Slots.{value_at}
 use Rattle.geo_traffic.specs.Shown.{shown, shown_bio}
 use Rattle.geo_state.specs.declared.state.State.{State}
 use Rattle.geo_state.specs.declared.state.DiskSeat.{DiskSeat}
-use Rattle.geo_state.specs.Trips.{Trip, trip_of, trips, is_out, out_through, can_be_reaped, handle_of_owner, is_own, own_first, is_at_disk, busy_at}
+use Rattle.geo_state.specs.Trips.{Trip, trip_of, trips, is_out, out_through, can_be_reaped, handle_of_owner, is_own, is_at_disk}
 use Rattle.geo_state.specs.World.{world}
-use Rattle.geo_state.specs.Holds.{Holds, AreOut, IsSeat}
-use Rattle.geo_state.specs.Views.{Shows, StatesShow}
-use Rattle.geo_state.proofs.Lists.{counts, count-skip, count-step, find-same}
+use Rattle.geo_state.specs.Holds.{Holds, IsSeat}
+use Rattle.geo_state.specs.Views.{StatesShow}
+use Rattle.geo_state.proofs.Lists.{counts, count-skip, count-step}
 use Rattle.geo_state.proofs.Outs.{eqb_sym}
 use Rattle.geo_state.proofs.Fields.{at-some}
 use Rattle.geo_state.proofs.ReadyLemmas.{noted-same}

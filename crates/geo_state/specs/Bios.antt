@@ -1,13 +1,11 @@
 -- Steps of requests: what they ask of the state, and which parts of it they change.
-use Rattle.std.specs.Prelude.{◌≡◌, ℕ, ◌+◌, ◌≤◌, ◌^◌, ◌==◌, Bool, true, false, List, Option, Some, None, map, fold, count_by, IsSome, IsSomeAnd, IfSome, ⊤, slice_get}
+use Rattle.std.specs.Prelude.{◌≡◌, ℕ, ◌+◌, ◌≤◌, ◌==◌, true, false, List, Option, Some, None, map, fold, count_by, IsSome, IsSomeAnd, IfSome, ⊤, slice_get}
 use Rattle.std.specs.List.{AllByRecursion}
-use Rattle.std.specs.Option.{option_map, option_map_or}
 use Rattle.geo_model.specs.declared.step.Owner.{Owner}
 use Rattle.geo_model.specs.declared.step.Owner.TheVariants as owners
 use Rattle.geo_model.specs.Topology.{consumer_at}
-use Rattle.geo_model.specs.World.{World, Config, Handle, BioOf, is_taste_root}
+use Rattle.geo_model.specs.World.{Config, Handle, is_taste_root}
 use Rattle.geo_model.specs.Bios.{disk_at}
-use Rattle.geo_bio.specs.declared.bio.Held.{Held}
 use Rattle.geo_bio.specs.BioTable.{bio_among}
 use Rattle.geo_handles.specs.Handles.{handle_at, holding_handle}
 use Rattle.geo_mesh.specs.Topo.{TopoView, with_active}

@@ -14,3 +14,4 @@ pub mod Sites
 pub mod Opening
 pub mod Steps
 pub mod Grants
+pub mod Oldest

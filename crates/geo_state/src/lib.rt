@@ -4,6 +4,7 @@
 mod bios;
 mod handles;
 pub mod laws;
+mod oldest;
 mod opening;
 mod own;
 mod seats;
@@ -13,6 +14,7 @@ mod ups;
 
 pub use bios::{NewBio, bounce, deliver, send, submit_line, submit_read, take};
 pub use handles::kill;
+pub use oldest::own_bio;
 pub use opening::{empty, reserve_bio, reserve_events};
 pub use seats::{set_busy, set_geom};
 pub use splits::split;

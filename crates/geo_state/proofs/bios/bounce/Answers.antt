@@ -1,5 +1,5 @@
 use Rattle.std.proofs.Common.{refl, ap}
-use Rattle.geo_model.specs.World.{BioOf, is_down}
+use Rattle.geo_model.specs.World.{is_down}
 use Rattle.geo_model.specs.Bios.{up_with}
 use Rattle.geo_bio.specs.declared.bio.Held.TheVariants as held
 use Rattle.geo_bio.specs.BioTable.{BioTableView}

@@ -1,10 +1,9 @@
-use Rattle.std.proofs.Common.{refl, sym, ap, ◌∙◌, ◌≡◌, Option, Some, false}
-use Rattle.std.specs.Option.{option_map}
+use Rattle.std.proofs.Common.{refl, ap, ◌∙◌, ◌≡◌, Some, false}
 use Rattle.geo_model.specs.declared.step.Owner.TheVariants as owners
 use Rattle.geo_model.specs.World.{BioOf, Handle}
 use Rattle.geo_model.specs.Bios.{new_bio}
 use Rattle.geo_bio.specs.declared.bio.Held.{Held}
-use Rattle.geo_handles.specs.Handles.{HoldsAlone, handle_at, handle_seen, holding_handle}
+use Rattle.geo_handles.specs.Handles.{handle_at, handle_seen}
 use Rattle.geo_state.specs.declared.state.State.{State}
 use Rattle.geo_state.specs.Own.{entered}
 use Rattle.geo_state.proofs.Turns.{at-some-and}

@@ -1,4 +1,4 @@
-use Rattle.std.proofs.Common.{refl, sym, ap, ◌∙◌, ◌≡◌, ◌+◌, Some}
+use Rattle.std.proofs.Common.{refl, ap, ◌∙◌, ◌+◌, Some}
 use Rattle.geo_model.specs.declared.step.Owner.TheVariants as owners
 use Rattle.geo_model.specs.World.{BioOf}
 use Rattle.geo_model.specs.Bios.{new_bio}

@@ -1,6 +1,5 @@
-use Rattle.std.proofs.Common.{refl, sym, ap, ◌∙◌, ◌≡◌, true}
-use Rattle.geo_model.specs.World.{Handle}
-use Rattle.geo_handles.specs.Handles.{HandlesView, killed}
+use Rattle.std.proofs.Common.{ap, ◌∙◌}
+use Rattle.geo_handles.specs.Handles.{HandlesView}
 use Rattle.geo_state.specs.declared.state.State.{State}
 use Rattle.geo_state.specs.Ready.{refreshed}
 use Rattle.geo_state.proofs.Kills.{holds-killed}

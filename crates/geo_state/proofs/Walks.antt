@@ -1,0 +1,159 @@
+-- The first bio from a number on that passes a test.
+use Rattle.std.specs.Prelude.{◌≡◌, ℕ, ◌+◌, ◌<◌, ◌≤◌, ◌==◌, nat_le, Bool, true, false, ◌&&◌, List, [], ◌∷◌, find, count_by, Some, None, slice_get}
+use Rattle.std.specs.List.{AllByRecursion}
+use Rattle.std.specs.Option.{option_map}
+use Rattle.std.proofs.Common.{refl, sym, ◌∙◌, ap, subst, arith}
+use Rattle.std.proofs.lemmas.Bool.{eq-eqb, ne_eqb, le-leb, lt-leb, leb-true, leb-false}
+use Rattle.geo_model.specs.declared.step.Owner.TheVariants as owners
+use Rattle.geo_model.specs.World.{BioOf, Handle}
+use Rattle.geo_bio.specs.declared.bio.Held.{Held}
+use Rattle.geo_bio.specs.BioTable.{first_bio}
+use Rattle.geo_handles.specs.Handles.{handle_at}
+use Rattle.geo_traffic.proofs.OrderLemmas.{Rising}
+use Rattle.geo_traffic.proofs.CursorLemmas.{reached_above}
+use Rattle.geo_traffic.proofs.PhaseLemmas.{find_agree}
+use Rattle.geo_state.specs.declared.state.State.{State}
+use Rattle.geo_state.specs.declared.state.OwnBios.{OwnBios}
+use Rattle.geo_state.specs.Trips.{Trip, trip_of, trips, handle_of_owner, is_own, own_first, IsOwnCount}
+use Rattle.geo_state.specs.Oldest.{passes, first_passing}
+use Rattle.geo_state.specs.Holds.{Holds}
+use Rattle.geo_state.proofs.Lists.{find-none, find-same}
+use Rattle.geo_state.proofs.Outs.{eqb_sym}
+use Rattle.geo_state.proofs.Owned.{none-counted}
+use Rattle.geo_state.proofs.Fields.{at-some}
+
+-- The walk from a number on
+
+module _ (test : BioOf Held → Bool) where
+  -- a search from a number on, and that by a test too
+  abbrev from_on : ℕ → BioOf Held → Bool
+  from_on low x = nat_le low x.number && test x
+
+  -- where no number is reached, nothing is found
+  none_reached : (low : ℕ) (bios : List (BioOf Held)) → first_bio bios low ≡ None → find (from_on low) bios ≡ None
+  none_reached low [] none = refl
+  none_reached low (x ∷ xs) none = at (nat_le low x.number) refl (none_reached low xs) where
+    at : (b : Bool) → nat_le low x.number ≡ b → (first_bio xs low ≡ None → find (from_on low) xs ≡ None)
+        → find (from_on low) (x ∷ xs) ≡ None
+    at true e later = absurd (let never : Some x.number ≡ None = rw e at none in cc)
+    at false e later = let rest : first_bio xs low ≡ None = rw e at none in rw e (later rest)
+
+  pub walk_ends : (low : ℕ) (bios : List (BioOf Held)) → first_bio bios low ≡ None → first_passing test bios low ≡ None
+  walk_ends low bios none = ap (option_map (λ (x : BioOf Held). x.number)) (none_reached low bios none)
+
+  -- one that passes is found
+  pub walk_hits : (low b : ℕ) (bios : List (BioOf Held)) → Rising bios → first_bio bios low ≡ Some b
+      → passes test bios b ≡ true → first_passing test bios low ≡ Some b
+  walk_hits low b [] rising first hits = absurd cc
+  walk_hits low b (x ∷ xs) rising first hits = at (nat_le low x.number) refl (walk_hits low b xs rising.1) where
+    at : (d : Bool) → nat_le low x.number ≡ d
+        → (first_bio xs low ≡ Some b → passes test xs b ≡ true → first_passing test xs low ≡ Some b)
+        → first_passing test (x ∷ xs) low ≡ Some b
+    at true e later =
+        let here : Some x.number ≡ Some b = rw e at first in
+        let same : x.number ≡ b = cc in
+        let hit : test x ≡ true = rw (eq-eqb x.number b same) at hits in
+        rw (e, hit) here
+    at false e later =
+        let rest : first_bio xs low ≡ Some b = rw e at first in
+        let above = reached_above (λ p. true) low b xs rest in
+        let less = leb-false low x.number e in
+        let differs = ne_eqb x.number b (λ same. omega (arith, same, less, above)) in
+        let there : passes test xs b ≡ true = rw differs at hits in
+        rw e (later rest there)
+
+  -- from one that doesn't pass the walk goes on behind it
+  pub walk_goes_on : (low b : ℕ) (bios : List (BioOf Held)) → Rising bios → first_bio bios low ≡ Some b
+      → passes test bios b ≡ false → first_passing test bios (b + 1) ≡ first_passing test bios low
+  walk_goes_on low b [] rising first fails = refl
+  walk_goes_on low b (x ∷ xs) rising first fails =
+      at (nat_le low x.number) refl (walk_goes_on low b xs rising.1)
+    where
+      behind : low ≤ b → (ys : List (BioOf Held)) → AllByRecursion (λ y. b < y.number) ys
+          → AllByRecursion (λ y. from_on (b + 1) y ≡ from_on low y) ys
+      behind under [] all = tt
+      behind under (y ∷ ys) all = (
+        rw (le-leb (b + 1) y.number (omega (arith, all.0)), le-leb low y.number (omega (arith, under, all.0))) refl,
+        behind under ys all.1,
+      )
+
+      at : (d : Bool) → nat_le low x.number ≡ d
+          → (first_bio xs low ≡ Some b → passes test xs b ≡ false
+          → first_passing test xs (b + 1) ≡ first_passing test xs low)
+          → first_passing test (x ∷ xs) (b + 1) ≡ first_passing test (x ∷ xs) low
+      at true e later =
+          let here : Some x.number ≡ Some b = rw e at first in
+          let same : x.number ≡ b = cc in
+          let miss : test x ≡ false = rw (eq-eqb x.number b same) at fails in
+          let under : low ≤ b = subst (λ m. low ≤ m) same (leb-true low x.number e) in
+          rw (e, miss, lt-leb (b + 1) x.number (omega (arith, same)))
+          (ap (option_map (λ (y : BioOf Held). y.number)) (find_agree (from_on (b + 1)) (from_on low) xs
+          (behind under xs (subst (λ m. AllByRecursion (λ y. m < y.number) xs) same rising.0))))
+      at false e later =
+          let rest : first_bio xs low ≡ Some b = rw e at first in
+          let above = reached_above (λ p. true) low b xs rest in
+          let less = leb-false low x.number e in
+          let differs = ne_eqb x.number b (λ same. omega (arith, same, less, above)) in
+          let there : passes test xs b ≡ false = rw differs at fails in
+          rw (e, lt-leb (b + 1) x.number (omega (arith, less, above))) (later rest there)
+
+-- the first that passes, by trips
+first-trips : (handles : List Handle) (actor low : ℕ) (bios : List (BioOf Held))
+    → AllByRecursion (λ (x : Trip). is_own handles actor x ≡ true → low ≤ x.number) (trips bios)
+    → first_passing (λ (x : BioOf Held). is_own handles actor (trip_of x)) bios low ≡ own_first handles (trips bios) actor
+first-trips handles actor low [] above = refl
+first-trips handles actor low (x ∷ xs) above = at (is_own handles actor (trip_of x)) refl (first-trips handles actor low xs above.1)
+  where
+    no : (b : Bool) → (b && false) ≡ false
+    no true = refl
+    no false = refl
+
+    at : (b : Bool) → is_own handles actor (trip_of x) ≡ b
+        → first_passing (λ (y : BioOf Held). is_own handles actor (trip_of y)) xs low ≡ own_first handles (trips xs) actor
+        → first_passing (λ (y : BioOf Held). is_own handles actor (trip_of y)) (x ∷ xs) low
+        ≡ own_first handles (trips (x ∷ xs)) actor
+    at true e rest = rw (e, le-leb low x.number (above.0 e)) refl
+    at false e rest = rw (e, no (nat_le low x.number)) rest
+
+-- none is out
+none-first : (handles : List Handle) (actor : ℕ) (xs : List Trip) → count_by (is_own handles actor) xs ≡ 0
+    → own_first handles xs actor ≡ None
+none-first handles actor xs none =
+    ap (option_map (λ (x : Trip). x.number))
+    (find-none (is_own handles actor) xs (none-counted (is_own handles actor) xs none))
+
+module _ (s : State) (h : Holds s) (actor : ℕ) (o : OwnBios) (found : slice_get s.own.items actor ≡ Some o) where
+  own_count : IsOwnCount s.handles.handles (trips s.traffic.bios) actor o.count o.low
+  own_count =
+      at-some (λ (x : OwnBios). IsOwnCount s.handles.handles (trips s.traffic.bios) actor x.count x.low)
+      (slice_get s.own.items actor) o found (h.own actor)
+
+  -- where none is out there is no first
+  pub oldest-none : o.count ≡ 0 → own_first s.handles.handles (trips s.traffic.bios) actor ≡ None
+  oldest-none none =
+      none-first s.handles.handles actor (trips s.traffic.bios) (sym own_count.count_is ∙ none)
+
+  -- else it is the first from the low number on
+  pub oldest-is : first_passing (λ (x : BioOf Held). is_own s.handles.handles actor (trip_of x)) s.traffic.bios o.low
+      ≡ own_first s.handles.handles (trips s.traffic.bios) actor
+  oldest-is = first-trips s.handles.handles actor o.low s.traffic.bios own_count.low_is
+
+-- The handle of an owner
+
+pub owner_line : (handles : List Handle) (hd line : ℕ)
+    → handle_of_owner handles (owners.Line hd line) ≡ handle_at handles hd
+owner_line handles hd line =
+    find-same (λ (h : Handle). h.number == hd) (λ h. hd == h.number) handles (each handles)
+  where
+    each : (hs : List Handle) → AllByRecursion (λ (h : Handle). (hd == h.number) ≡ (h.number == hd)) hs
+    each [] = tt
+    each (h ∷ hs) = (eqb_sym hd h.number, each hs)
+
+pub owner_taste : (handles : List Handle) → handle_of_owner handles owners.Taste ≡ None
+owner_taste [] = refl
+owner_taste (h ∷ hs) = owner_taste hs
+
+pub owner_child : (handles : List Handle) (parent index : ℕ)
+    → handle_of_owner handles (owners.Child parent index) ≡ None
+owner_child [] parent index = refl
+owner_child (h ∷ hs) parent index = owner_child hs parent index
