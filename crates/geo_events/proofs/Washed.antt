@@ -1,0 +1,306 @@
+-- What is kept after a wash, and the world then.
+use Rattle.std.specs.Prelude.{◌≡◌, ℕ, zero, suc, ◌+◌, ◌<◌, ◌≤◌, ◌==◌, Bool, true, false, not, List, [], ◌∷◌, ◌++◌, length, map, filter, count_by, Option, Some, None, Contains, IsSome, IsSomeAnd, IfSome, option_and_then, slice_get}
+use Rattle.std.proofs.Common.{refl, sym, ◌∙◌, ap, subst, arith}
+use Rattle.std.proofs.lemmas.List.{length-append}
+use Rattle.std.proofs.lemmas.List.Elements.{All-contains}
+use Rattle.geo_base.specs.declared.request.Counts.{Counts}
+use Rattle.geo_model.specs.declared.step.Event.{Event}
+use Rattle.geo_model.specs.declared.step.WashWork.{WashWork}
+use Rattle.geo_model.specs.declared.step.WashWork.TheVariants as works
+use Rattle.geo_model.specs.Topology.{Geom, Provider, attached_to, geom_at, provider_at}
+use Rattle.geo_model.specs.Events.{QueuedTopology, provider_of_event, without_events_of}
+use Rattle.geo_model.specs.World.{Config, HeaderDisk}
+use Rattle.geo_model.specs.WorldEvents.{with_queued}
+use Rattle.geo_model.specs.Freeing.{wash, washed}
+use Rattle.geo_model.specs.Place.{disk_of}
+use Rattle.geo_model.specs.Sound.{HasDiskSizes}
+use Rattle.geo_laws_graph.proofs.Members.{find-Contains}
+use Rattle.geo_event.specs.EventQueue.{Queued}
+use Rattle.geo_mesh.specs.Topo.{TopoView, IsButForRoom, without_geom, without_provider, without_consumer}
+use Rattle.geo_slots.specs.Slots.{without}
+use Rattle.geo_access.specs.Access.{granted_by}
+use Rattle.geo_life.specs.Life.{queued, is_out, AreStored, CountsStay}
+use Rattle.geo_life.proofs.Places.{counts_are_stored}
+use Rattle.geo_life.specs.Wash.{IsBare}
+use Rattle.geo_state.specs.declared.state.State.{State}
+use Rattle.geo_state.specs.Steps.{IsFirm}
+use Rattle.geo_state.specs.declared.state.DiskSeat.{DiskSeat}
+use Rattle.geo_state.specs.Holds.{Holds, owed_events}
+use Rattle.geo_state.specs.Seats.{change_seat, with_geom_at}
+use Rattle.geo_state.specs.Sites.{seats_without}
+use Rattle.geo_state.specs.Changes.{IsSettled}
+use Rattle.geo_state.specs.World.{world, header_disk}
+use Rattle.geo_state.proofs.Lists.{Around, around, around-gone, count-step, counts}
+use Rattle.geo_state.proofs.Slots.{slot-seen}
+use Rattle.geo_state.proofs.SiteLemmas.{kept_after_provider, kept_after_consumer, kept_after_geom}
+use Rattle.geo_events.specs.Washing.{IsDue, HasWashed}
+use Rattle.geo_events.proofs.Going.{provider-lives, geom-lives}
+
+-- Counts
+
+-- how many providers carry no error, and how many rows have a write count
+abbrev sound : List Provider → ℕ
+sound xs = count_by (λ (p : Provider). not p.errored) xs
+
+abbrev held : List (ℕ × Counts) → ℕ
+held rows = count_by (λ (row : ℕ × Counts). not (row.1.w == 0)) rows
+
+-- of what a filter keeps no more pass
+pub fewer-kept : {X : Type 0} (p q : X → Bool) (xs : List X) → count_by p (filter q xs) ≤ count_by p xs
+fewer-kept p q [] = omega arith
+fewer-kept p q (x ∷ xs) = by (q x) refl (fewer-kept p q xs)
+  where
+    by : (b : Bool) → q x ≡ b → count_by p (filter q xs) ≤ count_by p xs
+        → count_by p (filter q (x ∷ xs)) ≤ count_by p (x ∷ xs)
+    by true e rest =
+        let kept : count_by p (x ∷ filter q xs) ≡ counts p x + count_by p (filter q xs) =
+        count-step p x (filter q xs) in
+        let all : count_by p (x ∷ xs) ≡ counts p x + count_by p xs = count-step p x xs in
+        rw e (let so : count_by p (x ∷ filter q xs) ≤ count_by p (x ∷ xs) = omega (arith, kept, all, rest) in so)
+    by false e rest =
+        let all : count_by p (x ∷ xs) ≡ counts p x + count_by p xs = count-step p x xs in
+        rw e (let so : count_by p (filter q xs) ≤ count_by p (x ∷ xs) = omega (arith, all, rest) in so)
+
+-- the item of a number goes: there is one less
+pub one-less : {X : Type 0} (number : X → ℕ) (n : ℕ) (x : X) (xs : List X) → Around number n x xs
+    → length (filter (λ y. not (number y == n)) xs) + 1 ≡ length xs
+one-less number n x xs r =
+    let gone : length (filter (λ y. not (number y == n)) xs) ≡ length (r.front ++ r.back) =
+    ap length (around-gone number n x xs r) in
+    let all : length xs ≡ length (r.front ++ x ∷ r.back) = ap length r.is in
+    let left : length (r.front ++ r.back) ≡ length r.front + length r.back = length-append r.front r.back in
+    let whole : length (r.front ++ x ∷ r.back) ≡ length r.front + length (x ∷ r.back) =
+    length-append r.front (x ∷ r.back) in
+    omega (arith, gone, all, left, whole)
+
+-- events that are taken away
+fewer-events : (events : List Event) (p : ℕ) → length (without_events_of events p) ≤ length events
+fewer-events [] p = omega arith
+fewer-events (e ∷ rest) p = by (provider_of_event e == p) refl (fewer-events rest p)
+  where
+    by : (b : Bool) → (provider_of_event e == p) ≡ b → length (without_events_of rest p) ≤ length rest
+        → length (without_events_of (e ∷ rest) p) ≤ length (e ∷ rest)
+    by true is less = rw is (let so : length (without_events_of rest p) ≤ suc (length rest) = omega (arith, less) in so)
+    by false is less =
+        rw is (let so : suc (length (without_events_of rest p)) ≤ suc (length rest) = omega (arith, less) in so)
+
+-- The header's disks
+
+-- they don't see which geom stands for them
+disks-geom : (seats : List DiskSeat) (disk : ℕ) (geom : Option ℕ)
+    → map header_disk (with_geom_at seats disk geom) ≡ map header_disk seats
+disks-geom seats disk geom = on (slice_get seats disk) refl
+  where
+    on : (o : Option DiskSeat) → slice_get seats disk ≡ o
+        → map header_disk (change_seat (λ x. record x { geom = geom }) seats disk o) ≡ map header_disk seats
+    on None is = refl
+    on (Some seat) is = slot-seen header_disk seats disk (record seat { geom = geom }) seat is refl
+
+disks-stay : (seats : List DiskSeat) (o : Option ℕ) → map header_disk (seats_without seats o) ≡ map header_disk seats
+disks-stay seats None = refl
+disks-stay seats (Some disk) = disks-geom seats disk None
+
+-- what is in a list mapped is in the list
+below-length : {X Y : Type 0} (f : X → Y) (xs : List X) (i : ℕ) → IsSome (slice_get (map f xs) i) → i < length xs
+below-length f [] i never = absurd cc
+below-length f (y ∷ ys) zero there = omega arith
+below-length f (y ∷ ys) (suc i) there =
+    let rest : i < length ys = below-length f ys i there in
+    omega (arith, rest)
+
+-- the disk of a geom has its seat
+module _ (s : State) (firm : IsFirm s) where
+  seat-of : (g : Geom Config) → Contains s.topo.topology.geoms g → (o : Option ℕ) → disk_of g.config ≡ o
+      → IfSome o (λ d. d < length s.disks.items)
+  seat-of g here None is = tt
+  seat-of g here (Some d) is =
+      let sizes : HasDiskSizes (world firm.1.0 firm.0 s) g =
+      All-contains (HasDiskSizes (world firm.1.0 firm.0 s)) s.topo.topology.geoms g
+      firm.1.1.sound.numbers.disk_sizes here in
+      below-length header_disk s.disks.items d
+      (some-and _ (slice_get (map header_disk s.disks.items) d) (rw is at sizes))
+    where
+      some-and : (P : HeaderDisk → Type 0) (o : Option HeaderDisk) → IsSomeAnd o P → IsSome o
+      some-and P None has = absurd has
+      some-and P (Some x) has = refl
+
+  pub has-seat : (n : ℕ) (disk : Option ℕ)
+      → disk ≡ option_and_then (λ (g : Geom Config). disk_of g.config) (geom_at s.topo.topology n)
+      → IfSome disk (λ d. d < length s.disks.items)
+  has-seat n disk is = subst (λ o. IfSome o (λ d. d < length s.disks.items)) (sym is)
+      (by (geom_at s.topo.topology n) refl)
+    where
+      by : (o : Option (Geom Config)) → geom_at s.topo.topology n ≡ o
+          → IfSome (option_and_then (λ (g : Geom Config). disk_of g.config) o) (λ d. d < length s.disks.items)
+      by None found = tt
+      by (Some g) found =
+          seat-of g (find-Contains (λ (x : Geom Config). x.number == n) s.topo.topology.geoms g found)
+          (disk_of g.config) refl
+
+-- What can go stands
+
+module _ (s : State) (kept : Holds s) (firm : IsFirm s) where
+  stored : AreStored (granted_by s.topo) s.topo
+  stored = counts_are_stored s.topo (granted_by s.topo) kept.counted (λ c. refl)
+
+  pub provider-stands : (p : ℕ) → IsDue s (works.Provider p) → IsSome (provider_at s.topo.topology p)
+  provider-stands p due =
+      provider-lives (granted_by s.topo) (is_out s.topo) s.topo.topology p
+      (sym (due.found (granted_by s.topo) stored)) firm.1.1.sound.numbers.providers
+
+  pub geom-stands : (g : ℕ) → IsDue s (works.Geom g) → IsSome (geom_at s.topo.topology g)
+  geom-stands g due =
+      geom-lives (granted_by s.topo) (is_out s.topo) s.topo.topology g
+      (sym (due.found (granted_by s.topo) stored)) firm.1.1.sound.numbers.geoms
+
+-- What is kept
+
+module _ (s : State) (kept : Holds s) (firm : IsFirm s) (u : TopoView Config) (q : Queued) where
+  -- the world, where nothing but the graph, the queue and what no world sees is other
+  pub washed-world : (new : State) (work : WashWork)
+      → new ≡ record s { topo = u; queue = q; providers = new.providers; disks = new.disks }
+      → map header_disk new.disks.items ≡ map header_disk s.disks.items
+      → queued u q ≡ washed (queued s.topo s.queue) work → HasWashed s new work
+  unfolding wash
+  washed-world new work is disks same actors log =
+      ap (λ (z : State). world actors log z) is
+      ∙ ap (λ (ds : List HeaderDisk). record (world actors log s) {
+        topology = u.topology;
+        events = q.events;
+        disks = ds;
+      }) disks
+      ∙ ap (with_queued (world actors log s)) same
+
+  module _ (memory : q.spare + length q.events ≡ s.queue.spare + length s.queue.events)
+      (counts_stay : CountsStay s.topo u) where
+    -- the queue has the places that are owed
+    settled : owed_events u ≤ owed_events s.topo → s.queue.spare ≤ q.spare → IsSettled u q
+    settled less more = record {
+      counted = counts_stay.counted kept.counted;
+      quiet = counts_stay.quiet kept.quiet;
+      room = let room : owed_events s.topo ≤ s.queue.spare = kept.room in omega (arith, less, more, room);
+    }
+
+    module _ (prov : ℕ) (lives : IsSome (provider_at s.topo.topology prov))
+        (gone : IsButForRoom u (without_provider s.topo prov)) where
+      -- the providers
+      abbrev ps : List Provider
+      ps = s.topo.topology.providers
+
+      -- there is one less
+      pub one-provider-less : length u.topology.providers + 1 ≡ s.providers
+      one-provider-less = on (provider_at s.topo.topology prov) refl lives
+        where
+          on : (o : Option Provider) → provider_at s.topo.topology prov ≡ o → IsSome o
+              → length u.topology.providers + 1 ≡ s.providers
+          on None e never = absurd cc
+          on (Some x) e there =
+              ap (λ (v : TopoView Config). length v.topology.providers + 1) gone
+              ∙ one-less (λ (y : Provider). y.number) prov x ps
+              (around (λ (y : Provider). y.number) s.topo.topology.next_provider prov x ps
+              firm.1.1.sound.numbers.providers e)
+              ∙ sym kept.providers
+
+      module _ (same : queued u q ≡ washed (queued s.topo s.queue) (works.Provider prov)) where
+        -- events that name it leave their room
+        more-spare : s.queue.spare ≤ q.spare
+        more-spare =
+            let events : length q.events ≡ length (without_events_of s.queue.events prov) =
+            ap (λ (r : QueuedTopology Config). length r.events) same in
+            let fewer = fewer-events s.queue.events prov in
+            omega (arith, events, fewer, memory)
+
+        owed-less : owed_events u ≤ owed_events s.topo
+        owed-less =
+            let fewer : sound (filter (λ (x : Provider). not (x.number == prov)) ps) ≤ sound ps =
+            fewer-kept (λ (p : Provider). not p.errored) (λ (x : Provider). not (x.number == prov)) ps in
+            let less : held (without s.topo.haves prov) ≤ held s.topo.haves =
+            fewer-kept (λ (row : ℕ × Counts). not (row.1.w == 0)) (λ (row : ℕ × Counts). not (row.0 == prov))
+            s.topo.haves in
+            let now : owed_events u
+            ≡ sound (filter (λ (x : Provider). not (x.number == prov)) ps) + held (without s.topo.haves prov) =
+            ap (λ (v : TopoView Config). owed_events v) gone in
+            let before : owed_events s.topo ≡ sound ps + held s.topo.haves = refl in
+            let so : owed_events u ≤ owed_events s.topo = omega (arith, fewer, less, now, before) in
+            so
+
+        pub provider-kept : attached_to s.topo.topology prov ≡ [] → (n : ℕ) → n + 1 ≡ s.providers
+            → Holds (record s { topo = u; queue = q; providers = n })
+        provider-kept free n is =
+            let left : length u.topology.providers + 1 ≡ s.providers = one-provider-less in
+            let count : length u.topology.providers ≡ n = omega (arith, left, is) in
+            subst (λ m. Holds (record s { topo = u; queue = q; providers = m })) count
+            (kept_after_provider firm.0 s u q prov kept firm.1 free gone counts_stay.granted
+            (settled owed-less more-spare))
+
+    -- A consumer
+
+    pub consumer-kept : (cons : ℕ) → IsButForRoom u (without_consumer s.topo cons)
+        → queued u q ≡ washed (queued s.topo s.queue) (works.Consumer cons)
+        → Holds (record s { topo = u; queue = q })
+    consumer-kept cons gone same =
+        let now : owed_events u ≡ owed_events s.topo = ap (λ (v : TopoView Config). owed_events v) gone in
+        let events : length q.events ≡ length s.queue.events =
+        ap (λ (r : QueuedTopology Config). length r.events) same in
+        kept_after_consumer s u q s.taste cons kept gone
+        (λ c. counts_stay.granted c ∙ ap (λ (g : ℕ → Counts). g c) kept.grants)
+        (settled (omega (arith, now)) (omega (arith, events, memory)))
+
+    -- A geom
+
+    pub geom-kept : (geom : ℕ) (new : State) → IsBare s.topo geom → IsSome (geom_at s.topo.topology geom)
+        → IsButForRoom u (without_geom s.topo geom)
+        → queued u q ≡ washed (queued s.topo s.queue) (works.Geom geom)
+        → new ≡ record s { topo = u; queue = q; disks = new.disks }
+        → new.disks.items
+        ≡ seats_without s.disks.items
+        (option_and_then (λ (g : Geom Config). disk_of g.config) (geom_at s.topo.topology geom))
+        → Holds new
+    geom-kept geom new bare lives gone same is seats = on (geom_at s.topo.topology geom) refl lives
+      where
+        now : owed_events u ≡ owed_events s.topo
+        now = ap (λ (v : TopoView Config). owed_events v) gone
+
+        still : q ≡ s.queue
+        still =
+            let events : q.events ≡ s.queue.events = ap (λ (r : QueuedTopology Config). r.events) same in
+            let long : length q.events ≡ length s.queue.events = ap length events in
+            let spare : q.spare ≡ s.queue.spare = omega (arith, long, memory) in
+            λ i. record { events = events i; spare = spare i }
+
+        topo : new.topo ≡ u
+        topo = ap (λ (z : State). z.topo) is
+
+        whole : new ≡ record s { topo = new.topo; disks = new.disks }
+        whole =
+            is
+            ∙ ap (λ (r : Queued). record s { topo = u; queue = r; disks = new.disks }) still
+            ∙ ap (λ (v : TopoView Config). record s { topo = v; disks = new.disks }) (sym topo)
+
+        room : IsSettled u s.queue
+        room =
+            subst (λ (r : Queued). IsSettled u r) still
+            (settled (omega (arith, now))
+            (let spare : q.spare ≡ s.queue.spare = ap (λ (r : Queued). r.spare) still in omega (arith, spare)))
+
+        on : (o : Option (Geom Config)) → geom_at s.topo.topology geom ≡ o → IsSome o → Holds new
+        on None e never = absurd cc
+        on (Some g) e there =
+            kept_after_geom firm.0 s new geom g kept firm.1 e bare.no_provider
+            (subst (λ (v : TopoView Config). IsButForRoom v (without_geom s.topo geom)) (sym topo) gone)
+            (λ c. subst (λ (v : TopoView Config). granted_by v c ≡ granted_by s.topo c) (sym topo)
+            (counts_stay.granted c))
+            (subst (λ (v : TopoView Config). IsSettled v s.queue) (sym topo) room)
+            (seats
+            ∙ ap (λ o. seats_without s.disks.items (option_and_then (λ (x : Geom Config). disk_of x.config) o)) e)
+            whole
+
+    pub geom-world : (geom : ℕ) (new : State)
+        → queued u q ≡ washed (queued s.topo s.queue) (works.Geom geom)
+        → new ≡ record s { topo = u; queue = q; disks = new.disks }
+        → (o : Option ℕ) → new.disks.items ≡ seats_without s.disks.items o → HasWashed s new (works.Geom geom)
+    geom-world geom new same is o seats =
+        washed-world new (works.Geom geom)
+        (is ∙ ap (λ n. record s { topo = u; queue = q; providers = n; disks = new.disks })
+        (sym (ap (λ (z : State). z.providers) is)))
+        (ap (map header_disk) seats ∙ disks-stay s.disks.items o) same

@@ -1,0 +1,13 @@
+use Rattle.std.proofs.Common.{sym, ◌∙◌}
+use Rattle.geo_events.proofs.Deciding.{some-waits, none-tasted}
+use Rattle.geo_events.proofs.events.due_head.Goals as goal
+
+pub unreachable-requires : goal.unreachable-requires
+unreachable-requires c =
+    absurd (some-waits c.args.state.now c.requires.due (sym c.head.ensures ∙ c.in_default.is))
+
+pub returns-clause-head : goal.returns-clause-head
+returns-clause-head c = sym c.head.ensures ∙ c.in-Some.is
+
+pub returns-clause-none : goal.returns-clause-none
+returns-clause-none c = none-tasted c.args.state.now c.requires.due

@@ -1,0 +1,43 @@
+use Rattle.std.proofs.Common.{ap, subst, sym, ◌∙◌}
+use Rattle.geo_model.specs.declared.step.Event.TheVariants as heads
+use Rattle.geo_model.specs.Events.{orphan}
+use Rattle.geo_event.specs.EventQueue.{Queued}
+use Rattle.geo_life.specs.Life.{queued, sound_providers}
+use Rattle.geo_state.specs.declared.state.State.{State}
+use Rattle.geo_events.specs.Steps.{IsHead}
+use Rattle.geo_events.proofs.Effects.{head-there, rest-of, owed-same, room-of, room-after, orphan-kept, orphan-from}
+use Rattle.geo_events.proofs.events.orphan_above.Goals as goal
+
+pub drop_head-requires : goal.drop_head-requires
+drop_head-requires c =
+    head-there c.kill_at.new.state (heads.Orphan c.args.prov)
+    (subst (λ (z : State). IsHead z (heads.Orphan c.args.prov)) (sym c.kill_at.ensures.killed) c.requires.head)
+
+pub orphan-requires : goal.orphan-requires
+orphan-requires c = record {
+  room =
+      room-after (sound_providers c.kill_at.new.state.topo.topology) c.kill_at.new.state.queue c.drop_head.new.self
+      c.drop_head.ensures (room-of c.kill_at.new.state c.kill_at.ensures.kept);
+}
+
+pub returns-clause-made : goal.returns-clause-made
+returns-clause-made c =
+    orphan-from c.args.state.now c.kill_at.new.state c.args.prov c.kill_at.ensures.killed
+    c.orphan.new.topo c.orphan.new.queue
+    (c.orphan.ensures.orphaned
+    ∙ ap (λ (r : Queued). orphan (queued c.kill_at.new.state.topo r) c.args.prov) c.drop_head.ensures)
+
+pub returns-clause-kept : goal.returns-clause-kept
+returns-clause-kept c =
+    orphan-kept c.kill_at.new.state c.kill_at.ensures.kept c.orphan.new.topo c.orphan.new.queue
+    (rest-of c.kill_at.new.state c.drop_head.new.self c.drop_head.ensures c.orphan.new.topo c.orphan.new.queue
+    c.orphan.ensures.rest)
+    c.orphan.ensures.kept
+    (owed-same c.kill_at.new.state c.drop_head.new.self c.drop_head.ensures c.orphan.new.topo c.orphan.new.queue
+    c.orphan.ensures.owed)
+    c.args.prov
+    (c.orphan.ensures.orphaned
+    ∙ ap (λ (r : Queued). orphan (queued c.kill_at.new.state.topo r) c.args.prov) c.drop_head.ensures)
+
+pub returns-clause-requests : goal.returns-clause-requests
+returns-clause-requests c = ap (λ (z : State). z.traffic) c.kill_at.ensures.killed

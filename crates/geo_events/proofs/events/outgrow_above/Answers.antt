@@ -1,0 +1,43 @@
+use Rattle.std.proofs.Common.{ap, ◌∙◌}
+use Rattle.std.specs.Prelude.{◌+◌}
+use Rattle.geo_model.specs.declared.step.Event.TheVariants as heads
+use Rattle.geo_model.specs.Events.{resize}
+use Rattle.geo_event.specs.EventQueue.{Queued}
+use Rattle.geo_life.specs.Life.{queued, sound_providers}
+use Rattle.geo_life.proofs.Spared.{handles_are_spared}
+use Rattle.geo_state.specs.World.{world}
+use Rattle.geo_events.proofs.Effects.{head-there, rest-of, owed-one, room-for, room-after, resize-kept, resize-done}
+use Rattle.geo_events.proofs.events.outgrow_above.Goals as goal
+
+pub drop_head-requires : goal.drop_head-requires
+drop_head-requires c = head-there c.args.state.now (heads.Resize c.args.prov) c.requires.head
+
+pub resize-requires-clause-made : goal.resize-requires-clause-made
+resize-requires-clause-made c =
+    handles_are_spared.made (world c.requires.firm.1.0 c.requires.firm.0 c.args.state.now)
+    c.requires.firm.1.1.sound c.requires.firm.1.1.steady
+
+pub resize-requires-clause-room : goal.resize-requires-clause-room
+resize-requires-clause-room c =
+    room-after (sound_providers c.args.state.now.topo.topology + 1) c.args.state.now.queue c.drop_head.new.self
+    c.drop_head.ensures (room-for c.args.state.now c.requires.kept)
+
+pub returns-clause-made : goal.returns-clause-made
+returns-clause-made c =
+    resize-done c.args.state.now c.requires.kept c.resize.new.topo c.resize.new.queue c.args.prov
+    (λ granted stored.
+    c.resize.ensures.resized granted stored
+    ∙ ap (λ (r : Queued). resize granted (queued c.args.state.now.topo r) c.args.prov) c.drop_head.ensures)
+
+pub returns-clause-kept : goal.returns-clause-kept
+returns-clause-kept c =
+    resize-kept c.args.state.now c.requires.kept c.resize.new.topo c.resize.new.queue
+    (rest-of c.args.state.now c.drop_head.new.self c.drop_head.ensures c.resize.new.topo c.resize.new.queue
+    c.resize.ensures.rest)
+    c.resize.ensures.kept
+    (owed-one c.args.state.now c.drop_head.new.self c.drop_head.ensures c.resize.new.topo c.resize.new.queue
+    c.resize.ensures.owed)
+    c.args.prov
+    (λ granted stored.
+    c.resize.ensures.resized granted stored
+    ∙ ap (λ (r : Queued). resize granted (queued c.args.state.now.topo r) c.args.prov) c.drop_head.ensures)

@@ -1,0 +1,36 @@
+use Rattle.std.proofs.Common.{ap, ◌∙◌}
+use Rattle.geo_model.specs.declared.step.Event.TheVariants as heads
+use Rattle.geo_model.specs.Events.{spoil}
+use Rattle.geo_event.specs.EventQueue.{Queued}
+use Rattle.geo_life.specs.Life.{queued, sound_providers}
+use Rattle.geo_events.proofs.Effects.{head-there, rest-of, owed-same, room-of, room-after, spoil-kept, spoil-done}
+use Rattle.geo_events.proofs.events.spoil_above.Goals as goal
+
+pub drop_head-requires : goal.drop_head-requires
+drop_head-requires c = head-there c.args.state.now (heads.Spoil c.args.prov) c.requires.head
+
+pub spoil-requires-clause-unmarked : goal.spoil-requires-clause-unmarked
+spoil-requires-clause-unmarked c = c.requires.firm.1.1.steady.unmarked
+
+pub spoil-requires-clause-room : goal.spoil-requires-clause-room
+spoil-requires-clause-room c =
+    room-after (sound_providers c.args.state.now.topo.topology) c.args.state.now.queue c.drop_head.new.self
+    c.drop_head.ensures (room-of c.args.state.now c.requires.kept)
+
+pub returns-clause-made : goal.returns-clause-made
+returns-clause-made c =
+    spoil-done c.args.state.now c.requires.kept c.spoil.new.topo c.spoil.new.queue c.args.prov
+    (c.spoil.ensures.spoiled
+    ∙ ap (λ (r : Queued). spoil (queued c.args.state.now.topo r) c.args.prov) c.drop_head.ensures)
+
+pub returns-clause-kept : goal.returns-clause-kept
+returns-clause-kept c =
+    spoil-kept c.args.state.now c.requires.kept c.spoil.new.topo c.spoil.new.queue
+    (rest-of c.args.state.now c.drop_head.new.self c.drop_head.ensures c.spoil.new.topo c.spoil.new.queue
+    c.spoil.ensures.rest)
+    c.spoil.ensures.kept
+    (owed-same c.args.state.now c.drop_head.new.self c.drop_head.ensures c.spoil.new.topo c.spoil.new.queue
+    c.spoil.ensures.owed)
+    c.args.prov
+    (c.spoil.ensures.spoiled
+    ∙ ap (λ (r : Queued). spoil (queued c.args.state.now.topo r) c.args.prov) c.drop_head.ensures)

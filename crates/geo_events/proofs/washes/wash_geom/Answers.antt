@@ -1,0 +1,38 @@
+use Rattle.std.proofs.Common.{ap, ◌∙◌}
+use Rattle.geo_state.specs.declared.state.State.{State}
+use Rattle.geo_state.specs.Sites.{seats_without}
+use Rattle.geo_events.proofs.Washed.{geom-stands, has-seat, geom-world, geom-kept}
+use Rattle.geo_events.proofs.washes.wash_geom.Goals as goal
+
+pub wash-requires-clause-dev : goal.wash-requires-clause-dev
+wash-requires-clause-dev c = c.requires.firm.1.1.sound.ranks.dev.stands
+
+pub wash-requires-clause-taste : goal.wash-requires-clause-taste
+wash-requires-clause-taste c = c.requires.firm.1.1.sound.ranks.taste.stands
+
+pub free_seat-requires : goal.free_seat-requires
+free_seat-requires c = record {
+  there =
+      has-seat c.args.state.now c.requires.firm c.args.geom c.disk_of_geom-disk.result c.disk_of_geom-disk.ensures;
+}
+
+pub returns-clause-made : goal.returns-clause-made
+returns-clause-made c =
+    geom-world c.args.state.now c.requires.kept c.requires.firm c.wash.new.topo c.wash.new.queue
+    c.wash.ensures.memory c.wash.ensures.kept c.args.geom c.free_seat.new.state c.wash.ensures.washed
+    c.free_seat.ensures.rest c.disk_of_geom-disk.result c.free_seat.ensures.seats
+
+pub returns-clause-kept : goal.returns-clause-kept
+returns-clause-kept c =
+    geom-kept c.args.state.now c.requires.kept c.requires.firm c.wash.new.topo c.wash.new.queue
+    c.wash.ensures.memory c.wash.ensures.kept c.args.geom c.free_seat.new.state c.requires.due.free
+    (geom-stands c.args.state.now c.requires.kept c.requires.firm c.args.geom c.requires.due)
+    c.wash.ensures.mesh c.wash.ensures.washed c.free_seat.ensures.rest
+    (c.free_seat.ensures.seats
+    ∙ ap (seats_without c.args.state.now.disks.items) c.disk_of_geom-disk.ensures)
+
+pub returns-clause-requests : goal.returns-clause-requests
+returns-clause-requests c = ap (λ (z : State). z.traffic) c.free_seat.ensures.rest
+
+pub wash-requires-clause-free : goal.wash-requires-clause-free
+wash-requires-clause-free c = c.requires.due.free

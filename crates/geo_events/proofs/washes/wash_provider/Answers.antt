@@ -1,0 +1,41 @@
+use Rattle.std.specs.Prelude.{◌-◌}
+use Rattle.std.proofs.Common.{refl, arith}
+use Rattle.geo_model.specs.declared.step.WashWork.TheVariants as works
+use Rattle.geo_events.proofs.Washed.{provider-stands, washed-world, one-provider-less, provider-kept}
+use Rattle.geo_events.proofs.washes.wash_provider.Goals as goal
+
+pub wash-requires-clause-dev : goal.wash-requires-clause-dev
+wash-requires-clause-dev c = c.requires.firm.1.1.sound.ranks.dev.stands
+
+pub wash-requires-clause-taste : goal.wash-requires-clause-taste
+wash-requires-clause-taste c = c.requires.firm.1.1.sound.ranks.taste.stands
+
+pub returns-clause-made : goal.returns-clause-made
+returns-clause-made c =
+    washed-world c.args.state.now c.requires.kept c.requires.firm c.wash.new.topo c.wash.new.queue
+    (record c.args.state.now {
+      topo = c.wash.new.topo;
+      queue = c.wash.new.queue;
+      providers = c.args.state.now.providers - 1;
+    })
+    (works.Provider c.args.prov) refl refl c.wash.ensures.washed
+
+pub overflow_sub-state : goal.overflow_sub-state
+overflow_sub-state c =
+    let less = one-provider-less c.args.state.now c.requires.kept c.requires.firm c.wash.new.topo c.wash.new.queue
+    c.wash.ensures.memory c.wash.ensures.kept c.args.prov
+    (provider-stands c.args.state.now c.requires.kept c.requires.firm c.args.prov c.requires.due)
+    c.wash.ensures.mesh in
+    omega (arith, less)
+
+pub returns-clause-kept : goal.returns-clause-kept
+returns-clause-kept c =
+    let stands = provider-stands c.args.state.now c.requires.kept c.requires.firm c.args.prov c.requires.due in
+    let less = one-provider-less c.args.state.now c.requires.kept c.requires.firm c.wash.new.topo c.wash.new.queue
+    c.wash.ensures.memory c.wash.ensures.kept c.args.prov stands c.wash.ensures.mesh in
+    provider-kept c.args.state.now c.requires.kept c.requires.firm c.wash.new.topo c.wash.new.queue
+    c.wash.ensures.memory c.wash.ensures.kept c.args.prov stands c.wash.ensures.mesh c.wash.ensures.washed
+    c.requires.due.free (c.args.state.now.providers - 1) (omega (arith, less))
+
+pub wash-requires-clause-free : goal.wash-requires-clause-free
+wash-requires-clause-free c = c.requires.due.free
