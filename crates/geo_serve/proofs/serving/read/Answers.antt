@@ -1,0 +1,32 @@
+use Rattle.std.proofs.Common.{◌≡◌, ℕ, ◌*◌, ◌/◌, ◌≤◌, length, rules, ◌∙◌, ap, arith}
+use Rattle.geo_disk.specs.Drive.{bytes_by, count_by}
+use Rattle.geo_base.specs.Written.{written_over}
+use Rattle.geo_serve.proofs.Whole.{all_written, are_sectors, cut_length, sectors_in}
+use Rattle.geo_serve.proofs.serving.read.Goals as goal
+
+pub read-requires : goal.read-requires
+read-requires g c =
+    let sector : ℕ = bytes_by g.D.Disk.sector_bytes c.args.disk.now in
+    let short : c.args.request.now.count * sector ≤ length c.args.room =
+    omega (arith, c.requires.can.not_long, c.requires.room) in
+    are_sectors sector (count_by g.D.Disk.sector_count c.args.disk.now) c.args.request.now.first
+    c.args.request.now.count (length c.bytes_mut.result.now) c.requires.can.some_size c.requires.can.inside
+    (cut_length c.args.request.now.count sector c.sector_size.result c.args.room c.cut.new.self c.bytes_mut.result.now
+    c.bytes_mut.ensures.value c.cut.ensures c.sector_size.ensures short)
+
+pub returns-in-Ok : goal.returns-in-Ok
+returns-in-Ok g c =
+    let sector : ℕ = bytes_by g.D.Disk.sector_bytes c.args.disk.now in
+    let short : c.args.request.now.count * sector ≤ length c.args.room =
+    omega (arith, c.requires.can.not_long, c.requires.room) in
+    let lent : length c.bytes_mut.result.now ≡ c.args.request.now.count * sector =
+    cut_length c.args.request.now.count sector c.sector_size.result c.args.room c.cut.new.self c.bytes_mut.result.now
+    c.bytes_mut.ensures.value c.cut.ensures c.sector_size.ensures short in
+    let long : length c.read.new.out ≡ length c.cut.new.self =
+    c.read.auto.out ∙ ap length c.bytes_mut.ensures.value in
+    let all : written_over c.cut.new.self c.read.new.out ≡ c.read.new.out =
+    all_written c.cut.new.self c.read.new.out long in
+    let bytes : length c.read.new.out ≡ c.args.request.now.count * sector = c.read.auto.out ∙ lent in
+    let many : length c.read.new.out / sector ≡ c.args.request.now.count =
+    sectors_in sector c.args.request.now.count (length c.read.new.out) c.requires.can.some_size bytes in
+    rw all (search rules)

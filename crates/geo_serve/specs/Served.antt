@@ -1,0 +1,31 @@
+-- What a drive does along the entries of a log.
+use Rattle.std.specs.Prelude.{◌≡◌, ℕ, ◌≤◌, List, [], Option, Some, None, IfSome, slice_get, ⊤}
+use Rattle.std.specs.Option.{option_map}
+use Rattle.geo_base.specs.Faults.{RoseBy}
+use Rattle.geo_model.specs.declared.step.Entry.{Entry}
+use Rattle.geo_model.specs.Contents.{AreTrue, contents}
+use Rattle.geo_model.specs.Outside.{failures_of}
+use Rattle.geo_serve.specs.Drives.{DriveView}
+
+-- the drive of a number served what these entries say that it was asked: it holds what they say, where it tells that;
+-- the bytes that they deliver are those that it held; each failure that they deliver is one of its faults; and a disk
+-- in memory that has no call to fail delivers none
+pub record IsServed (log : List Entry) (disk : ℕ) (before after : DriveView) : Type 0 where
+  pub held : after.held ≡ option_map (λ sectors. contents before.sector sectors log disk) before.held
+  pub reads : IfSome before.held (λ sectors. AreTrue before.sector sectors log disk)
+  pub failures : RoseBy (failures_of log disk) before.faults after.faults
+  pub later : before.faults ≤ after.faults
+  pub sector : after.sector ≡ before.sector
+  pub count : after.count ≡ before.count
+  pub kind : after.fails ≡ before.fails
+  pub memory : before.fails ≡ Some [] → failures_of log disk ≡ 0
+
+-- the same of a drive where there is one, both before and after
+abbrev pub IsServedAt : List Entry → ℕ → Option DriveView → Option DriveView → Type 0
+IsServedAt log disk None None = ⊤
+IsServedAt log disk (Some before) (Some after) = IsServed log disk before after
+IsServedAt log disk _ _ = ⊥
+
+-- each of the drives, which are numbered from 0
+abbrev pub AreServed : List Entry → List DriveView → List DriveView → Type 0
+AreServed log before after = (disk : ℕ) → IsServedAt log disk (slice_get before disk) (slice_get after disk)

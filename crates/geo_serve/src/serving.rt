@@ -1,0 +1,92 @@
+//! A request to a disk, and what the disk answers.
+ghost use Rattle.std.specs.Prelude.{◌≡◌, ◌≤◌, ◌<◌, ◌^◌, length, IfErr};
+ghost use Rattle.geo_base.specs.declared.request.BioCmd.TheVariants as cmds;
+ghost use Rattle.geo_model.specs.Requests.{request_limit};
+ghost use Rattle.geo_serve.specs.Drives.{drive_view};
+ghost use Rattle.geo_serve.specs.Serve.{CanServe, Serves, answer_of};
+
+use geo_base::{BioCmd, Block};
+use geo_disk::{Disk, DiskFailed, Drive};
+use geo_model::{DeviceResult, Request};
+
+/// Serves a request by exactly one call of the disk, and answers what came of it. A READ is read into the room, which
+/// is cut to its length.
+pub fn serve<D: Disk>(disk: &mut Drive<D>, request: &Request, room: Block) -> DeviceResult
+    requires room { length room ≡ request_limit }
+    requires can { CanServe (drive_view D.held D.sector_bytes D.sector_count D.calls D.faults disk.old) request.now }
+    ensures { Serves request.now
+        (drive_view D.held D.sector_bytes D.sector_count D.calls D.faults disk.old)
+        (drive_view D.held D.sector_bytes D.sector_count D.calls D.faults disk.new) result }
+{
+    match request.cmd {
+        BioCmd::Read => read(disk, request, room),
+        BioCmd::Write => write(disk, request),
+        BioCmd::Delete => delete(disk, request),
+        BioCmd::Flush => flush(disk, request),
+    }
+}
+
+// A READ.
+fn read<D: Disk>(disk: &mut Drive<D>, request: &Request, mut room: Block) -> DeviceResult
+    requires room { length room ≡ request_limit }
+    requires can { CanServe (drive_view D.held D.sector_bytes D.sector_count D.calls D.faults disk.old) request.now }
+    requires cmd { request.now.cmd ≡ cmds.Read }
+    ensures { Serves request.now
+        (drive_view D.held D.sector_bytes D.sector_count D.calls D.faults disk.old)
+        (drive_view D.held D.sector_bytes D.sector_count D.calls D.faults disk.new) result }
+{
+    let len = request.count * disk.sector_size();
+    room.cut(len);
+    match disk.read(request.first, room.bytes_mut()) {
+        Ok(()) => DeviceResult::Bytes(room),
+        Err(_) => DeviceResult::Failed { done: 0 },
+    }
+}
+
+// A WRITE.
+fn write<D: Disk>(disk: &mut Drive<D>, request: &Request) -> DeviceResult
+    requires can { CanServe (drive_view D.held D.sector_bytes D.sector_count D.calls D.faults disk.old) request.now }
+    requires cmd { request.now.cmd ≡ cmds.Write }
+    ensures { Serves request.now
+        (drive_view D.held D.sector_bytes D.sector_count D.calls D.faults disk.old)
+        (drive_view D.held D.sector_bytes D.sector_count D.calls D.faults disk.new) result }
+{
+    let done = disk.write(request.first, request.bytes.bytes());
+    answer(done)
+}
+
+// A DELETE, after which the sectors are zero.
+fn delete<D: Disk>(disk: &mut Drive<D>, request: &Request) -> DeviceResult
+    requires can { CanServe (drive_view D.held D.sector_bytes D.sector_count D.calls D.faults disk.old) request.now }
+    requires cmd { request.now.cmd ≡ cmds.Delete }
+    ensures { Serves request.now
+        (drive_view D.held D.sector_bytes D.sector_count D.calls D.faults disk.old)
+        (drive_view D.held D.sector_bytes D.sector_count D.calls D.faults disk.new) result }
+{
+    let done = disk.zero(request.first, request.count as u64);
+    answer(done)
+}
+
+// A FLUSH.
+fn flush<D: Disk>(disk: &mut Drive<D>, request: &Request) -> DeviceResult
+    requires cmd { request.now.cmd ≡ cmds.Flush }
+    ensures { Serves request.now
+        (drive_view D.held D.sector_bytes D.sector_count D.calls D.faults disk.old)
+        (drive_view D.held D.sector_bytes D.sector_count D.calls D.faults disk.new) result }
+{
+    let done = disk.flush();
+    answer(done)
+}
+
+// The answer by how a call ended that reads nothing.
+fn answer(done: Result<(), DiskFailed>) -> DeviceResult
+    requires { IfErr done (λ failed. failed.done < 2 ^ 32) }
+    ensures { result ≡ answer_of done }
+{
+    match done {
+        Ok(()) => DeviceResult::Done,
+        Err(failed) => DeviceResult::Failed {
+            done: failed.done as u32,
+        },
+    }
+}
