@@ -38,6 +38,7 @@ pub fn close<L: Ledger>(
     ensures made { (log : List Entry) → Does (λ w. close_handle w line (handle_of w actor name.now)) log
         state.old state.new result }
     ensures kept { Holds state.new }
+    ensures traffic { state.new.traffic ≡ state.old.traffic }
     ensures bound { steps.new ≤ steps.old
         + steps_of state.old (named_handle state.old.handles.handles actor name.now) }
 {
@@ -67,6 +68,7 @@ fn forget<L: Ledger>(
         (actors : List (List LineCommand)) (log : List Entry) → world actors log state.new
         ≡ after_close (world actors log state.old) (without_handle (world actors log state.old) h)) }
     ensures kept { Holds state.new }
+    ensures traffic { state.new.traffic ≡ state.old.traffic }
     ensures bound { steps.new ≤ steps.old + steps_of state.old (handle_at state.old.handles.handles id) }
 {
     match consumer {
@@ -84,6 +86,7 @@ fn forget_held<L: Ledger>(state: &mut State, id: HandleId, cons: ConsId, steps: 
         (actors : List (List LineCommand)) (log : List Entry) → world actors log state.new
         ≡ after_close (world actors log state.old) (without_handle (world actors log state.old) h)) }
     ensures kept { Holds state.new }
+    ensures traffic { state.new.traffic ≡ state.old.traffic }
     ensures bound { steps.new ≤ steps.old
         + consumers_below state.old.topo.topology (place_of state.old.topo.topology cons) }
 {
@@ -101,6 +104,7 @@ fn forget_reaped(state: &mut State, id: HandleId)
         (actors : List (List LineCommand)) (log : List Entry) → world actors log state.new
         ≡ after_close (world actors log state.old) (without_handle (world actors log state.old) h)) }
     ensures kept { Holds state.new }
+    ensures traffic { state.new.traffic ≡ state.old.traffic }
 {
     state.handles.remove(id);
 }

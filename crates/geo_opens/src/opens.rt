@@ -79,6 +79,7 @@ pub fn open<L: Ledger>(
         → Does (λ w. do_open w line actor name.now prov.now grant) log state.old state.new o) }
     ensures same { OnErr result (SameWorld state.old state.new) }
     ensures kept { Holds state.new }
+    ensures traffic { state.new.traffic ≡ state.old.traffic }
     ensures bound { steps.new ≤ steps.old + option_map_or (consumers_below state.old.topo.topology)
         (find_provider state.old.topo.topology prov.now) 0 }
 {
@@ -97,6 +98,7 @@ fn refuse(state: &mut State, actor: u32, name: &Name, prov: &Name) -> Result<(),
         ≡ refused_world (world actors log state.old) actor name.now prov.now) }
     ensures same { OnErr result (SameWorld state.old state.new) }
     ensures kept { Holds state.new }
+    ensures traffic { state.new.traffic ≡ state.old.traffic }
 {
     if state.handles.by_name(actor, name).is_some() || state.topo.find(prov).is_none() {
         return Ok(());
@@ -123,6 +125,7 @@ fn admit<L: Ledger>(
         ≡ after_open (world actors log state.old) (with_handle (world actors log state.old) actor name.now p grant))) }
     ensures same { OnErr result (SameWorld state.old state.new) }
     ensures kept { Holds state.new }
+    ensures traffic { state.new.traffic ≡ state.old.traffic }
     ensures bound { steps.new ≤ steps.old + option_map_or (consumers_below state.old.topo.topology)
         (find_provider state.old.topo.topology prov.now) 0 }
 {
@@ -140,6 +143,7 @@ fn make_room(state: &mut State) -> Result<(), NoMemory>
     ensures room { OnOk result (HasRoom state.new) }
     ensures rest { IsRoomed state.old state.new }
     ensures kept { Holds state.new }
+    ensures traffic { state.new.traffic ≡ state.old.traffic }
 {
     if state.providers > MOST {
         return Err(NoMemory);
@@ -170,6 +174,7 @@ fn open_at<L: Ledger>(
         (with_handle (world actors log state.old) actor name.now prov grant)) }
     ensures same { OnErr result (SameWorld state.old state.new) }
     ensures kept { Holds state.new }
+    ensures traffic { state.new.traffic ≡ state.old.traffic }
     ensures bound { steps.new ≤ steps.old + consumers_below state.old.topo.topology prov }
 {
     look(&state.topo);
