@@ -20,7 +20,8 @@ free_are_names : (t : Topology Config) (xs : List NewSlice) → are_names_free t
     → AllByRecursion (λ (x : NewSlice). is_name x.name ≡ true) xs
 free_are_names t [] free = tt
 free_are_names t (x ∷ xs) free =
-    let parts = and_parts (is_name x.name && not (is_name_taken t x.name)) (are_names_free t (map (λ x. x.name) xs)) free in
+    let parts = and_parts (is_name x.name && not (is_name_taken t x.name))
+    (are_names_free t (map (λ x. x.name) xs)) free in
     ((and_parts (is_name x.name) (not (is_name_taken t x.name)) parts.0).0, free_are_names t xs parts.1)
 
 -- so it is with one

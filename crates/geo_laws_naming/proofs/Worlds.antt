@@ -42,7 +42,8 @@ with_graph w v keeps disks actors graph = record {
   left = subst (AllByRecursion AreCommands) (sym actors) keeps.left;
 }
 
-pub with_queue : (w : World) (q : QueuedTopology Config) → KeepsNames w → Named q.topology → KeepsNames (with_queued w q)
+pub with_queue : (w : World) (q : QueuedTopology Config) → KeepsNames w → Named q.topology
+    → KeepsNames (with_queued w q)
 with_queue w q keeps graph = record { graph = graph; disks = keeps.disks; left = keeps.left }
 
 -- what follows an open and a close

@@ -10,3 +10,4 @@ pub mod Noting
 pub mod Going
 pub mod Asking
 pub mod Rising
+pub mod Returned

@@ -3,3 +3,4 @@ pub mod Founds
 pub mod Started
 pub mod Asked
 pub mod Risen
+pub mod Returned

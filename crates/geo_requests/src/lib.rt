@@ -7,9 +7,11 @@ mod found;
 mod gate;
 mod mark;
 mod requests;
+mod returns;
+mod rises;
 mod serve;
 mod starts;
-mod up;
+mod ups;
 mod way;
 
 pub use found::{deliver_found, start_found, take_found, up_found};
@@ -17,4 +19,4 @@ pub use mark::Mark;
 pub use requests::{request, write_record};
 pub use serve::{deliver, take};
 pub use starts::start;
-pub use up::rise;
+pub use ups::up;

@@ -1,4 +1,4 @@
-//! A request goes up to its owner (g_io_deliver, g_bio(9)).
+//! A request goes up to its parent or to its line (g_io_deliver, g_bio(9)).
 ghost use Rattle.std.specs.Prelude.{◌≡◌, false, List, IfOk, IfSome, OnErr, IsTrue};
 ghost use Rattle.geo_model.specs.declared.step.Entry.{Entry};
 ghost use Rattle.geo_model.specs.World.{bio_at, is_taste_root, is_up};

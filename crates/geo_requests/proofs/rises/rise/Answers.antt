@@ -1,8 +1,8 @@
-use Rattle.std.proofs.Common.{◌≡◌, length}
+use Rattle.std.proofs.Common.{length}
 use Rattle.geo_requests.proofs.Parting.{same_moved, on_error}
 use Rattle.geo_state.specs.Steps.{SameWorld}
 use Rattle.geo_requests.proofs.Rising.{came, rise_made, rise_logged}
-use Rattle.geo_requests.proofs.up.rise.Goals as goal
+use Rattle.geo_requests.proofs.rises.rise.Goals as goal
 
 pub up-requires-clause-came : goal.up-requires-clause-came
 up-requires-clause-came c =

@@ -1,0 +1,71 @@
+use Rattle.std.proofs.Common.{arith, length, ◌∙◌, ap}
+use Rattle.geo_state.specs.Steps.{SameWorld}
+use Rattle.geo_requests.specs.Returned.{root_result}
+use Rattle.geo_requests.proofs.Parting.{same_moved, on_error}
+use Rattle.geo_requests.proofs.Returned.{read_up, came_back, settled_mid, reading_mid, holds_back, read_of, same_taste, nobodys_mid, kind_mid, makes_back, logged_back, read_steps, steps_mid}
+use Rattle.geo_requests.proofs.returns.hand_back.Goals as goal
+
+pub up-requires-clause-came : goal.up-requires-clause-came
+up-requires-clause-came g c =
+    let s = c.args.state.now in
+    let r = read_up s c.args.bio c.requires.up c.requires.taste in
+    came_back s c.requires.firm c.args.bio r.bio r.found r.root
+
+pub returns-in_err-risen-clause-same : goal.returns-in_err-risen-clause-same
+returns-in_err-risen-clause-same g c =
+    on_error (SameWorld c.args.state.now c.up.new.state) c.from_residual.result
+    (same_moved c.args.state.now c.up.new.state c.up.ensures.only c.in_err-risen.ensures.bios_stay
+    c.up.ensures.next_stays)
+
+pub give_back-requires-clause-settled : goal.give_back-requires-clause-settled
+give_back-requires-clause-settled g c =
+    let s = c.args.state.now in
+    let r = read_up s c.args.bio c.requires.up c.requires.taste in
+    settled_mid s c.requires.firm c.args.bio r.bio r.found r.root c.up.new.state c.up.ensures.only c.up.ensures.kept
+
+pub give_back-requires-clause-reading : goal.give_back-requires-clause-reading
+give_back-requires-clause-reading g c =
+    let s = c.args.state.now in
+    let r = read_up s c.args.bio c.requires.up c.requires.taste in
+    reading_mid s c.requires.firm c.args.bio r.bio r.found r.root c.up.new.state c.up.ensures.only c.up.ensures.kept
+
+pub returns-clause-made : goal.returns-clause-made
+returns-clause-made g c =
+    let s = c.args.state.now in
+    let r = read_up s c.args.bio c.requires.up c.requires.taste in
+    makes_back s c.up.new.state c.give_back.new.state c.args.log.now.items c.args.bio r.bio r.found r.root r.rises
+    c.up.ensures.only (rw r.found at c.in_ok-risen.ensures.rises) c.up.ensures.next_stays c.root_result.result
+    (c.root_result.ensures ∙ ap root_result (rw r.found at c.in_ok-risen.ensures.told))
+    c.give_back.ensures.topo c.give_back.ensures.taste c.give_back.ensures.rest
+
+pub returns-clause-kept : goal.returns-clause-kept
+returns-clause-kept g c =
+    let s = c.args.state.now in
+    let r = read_up s c.args.bio c.requires.up c.requires.taste in
+    let a = read_of s c.requires.firm c.args.bio r.bio r.found r.root in
+    holds_back c.up.new.state c.give_back.new.state c.up.ensures.kept a.taste
+    (same_taste s c.requires.firm c.args.bio r.bio r.found r.root c.up.new.state c.up.ensures.only c.up.ensures.kept)
+    a.out
+    (nobodys_mid s c.requires.firm c.args.bio r.bio r.found r.root c.up.new.state c.up.ensures.only c.up.ensures.kept)
+    (kind_mid s c.requires.firm c.args.bio r.bio r.found r.root c.up.new.state c.up.ensures.only c.up.ensures.kept)
+    c.root_result.result c.give_back.ensures.topo c.give_back.ensures.taste c.give_back.ensures.rest
+    c.give_back.ensures.settled
+
+pub returns-clause-logged : goal.returns-clause-logged
+returns-clause-logged g c entries logged =
+    let s = c.args.state.now in
+    let r = read_up s c.args.bio c.requires.up c.requires.taste in
+    logged_back s c.up.new.state c.give_back.new.state c.args.log.now.items c.args.bio r.bio r.found r.root r.rises
+    c.up.ensures.only (rw r.found at c.in_ok-risen.ensures.rises) c.up.ensures.next_stays c.root_result.result
+    (c.root_result.ensures ∙ ap root_result (rw r.found at c.in_ok-risen.ensures.told))
+    c.give_back.ensures.topo c.give_back.ensures.taste c.give_back.ensures.rest (length entries) logged
+
+pub returns-clause-bound : goal.returns-clause-bound
+returns-clause-bound g c =
+    let s = c.args.state.now in
+    let r = read_up s c.args.bio c.requires.up c.requires.taste in
+    let below = steps_mid s c.requires.firm c.args.bio r.bio r.found r.root c.up.new.state c.up.ensures.only
+    c.up.ensures.kept in
+    let all = read_steps s c.args.bio r in
+    let most = c.give_back.ensures.bound in
+    omega (arith, below, all, most)

@@ -1,0 +1,62 @@
+//! A request goes up to its owner (g_io_deliver, g_bio(9)).
+ghost use Rattle.std.specs.Prelude.{◌≡◌, ◌+◌, ◌≤◌, List, IfOk, OnErr, IsTrue};
+ghost use Rattle.geo_model.specs.declared.step.Entry.{Entry};
+ghost use Rattle.geo_model.specs.World.{bio_at, is_up};
+ghost use Rattle.geo_model.specs.Step.{up_of};
+ghost use Rattle.geo_bio.specs.BioTable.{bio_among, has_phase};
+ghost use Rattle.geo_state.specs.Holds.{Holds};
+ghost use Rattle.geo_state.specs.World.{HasBytes};
+ghost use Rattle.geo_state.specs.Steps.{Makes, SameWorld};
+ghost use Rattle.geo_requests.specs.Founds.{IsFirm};
+ghost use Rattle.geo_requests.specs.Returned.{is_taste_read, steps_up};
+
+use crate::returns::hand_back;
+use crate::rises::rise;
+use geo_access::Steps;
+use geo_base::{BioId, NoMemory};
+use geo_log::Log;
+use geo_model::{Outcome, Owner};
+use geo_state::State;
+use geo_traffic::Traffic;
+use std::alloc::Global;
+use std::sync::ledger::Ledger;
+
+/// A bio that is Up goes up to its owner: a child counts in its parent, which goes up once all its children are in; the
+/// root of a line is the reply to the line; and the taste has the result of its read, and gives back what it was
+/// granted for it (geom(4)). Where memory is wanting all stays.
+pub fn up<L: Ledger>(
+    alloc: Global,
+    state: &mut State,
+    log: &Log,
+    bio: BioId,
+    steps: &mut Steps<L>,
+) -> Result<Outcome, NoMemory>
+    requires kept { Holds state.old }
+    requires firm { IsFirm state.old }
+    requires up { IsTrue (has_phase is_up state.old.traffic.bios bio) }
+    ensures made { IfOk result (λ o.
+        Makes (λ w. up_of w (bio_at w bio)) log.now.items state.old state.new o) }
+    ensures kept { Holds state.new }
+    ensures same { OnErr result (SameWorld state.old state.new) }
+    ensures logged { (entries : List Entry) → HasBytes entries state.old → HasBytes entries state.new }
+    ensures bound { steps.new ≤ steps.old
+        + steps_up state.old.topo.topology (bio_among state.old.traffic.bios bio) }
+{
+    if is_taste_read(&state.traffic, bio) {
+        return hand_back(alloc, state, log, bio, steps);
+    }
+    rise(alloc, state, log, bio)
+}
+
+// Whether a bio is the taste's read.
+fn is_taste_read(bios: &Traffic, bio: BioId) -> bool
+    ensures { result ≡ is_taste_read bios.now.bios bio }
+{
+    match bios.get(bio) {
+        Some(found) => match found.owner {
+            Owner::Taste => true,
+            _ => false,
+        },
+        None => false,
+    }
+}
