@@ -1,0 +1,5 @@
+pub mod Splits
+pub mod Requests
+pub mod Held
+pub mod Drives
+pub mod Takes
