@@ -38,13 +38,12 @@ use Rattle.geo_taste.specs.Taster.{IsSettled, IsTasteOf, held_by, with_granted}
 use Rattle.geo_state.specs.declared.state.State.{State}
 use Rattle.geo_state.specs.Bios.{OnlyBios, CameThrough, IsOfItsOwner}
 use Rattle.geo_state.specs.Holds.{Holds, granted_of, owed_events}
-use Rattle.geo_state.specs.Steps.{Makes}
+use Rattle.geo_state.specs.Steps.{IsFirm, Makes}
 use Rattle.geo_state.specs.Trips.{Trip, trip_of, trips}
 use Rattle.geo_state.specs.World.{world}
 use Rattle.geo_state.proofs.GrantLaws.{grants_follow}
 use Rattle.geo_state.proofs.Lists.{counts, count-step}
 use Rattle.geo_state.proofs.OwedLemmas.{places_are_owed}
-use Rattle.geo_requests.specs.Founds.{IsFirm}
 use Rattle.geo_requests.specs.Returned.{IsReading, given_back, is_taste_read, root_result, steps_back, steps_up}
 use Rattle.geo_requests.proofs.Against.{there}
 use Rattle.geo_requests.proofs.Rising.{source_lives, logged_risen}

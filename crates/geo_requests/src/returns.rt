@@ -8,8 +8,7 @@ ghost use Rattle.geo_bio.specs.BioTable.{bio_among, has_phase};
 ghost use Rattle.geo_taste.specs.Taster.{IsSettled};
 ghost use Rattle.geo_state.specs.Holds.{Holds};
 ghost use Rattle.geo_state.specs.World.{HasBytes};
-ghost use Rattle.geo_state.specs.Steps.{Makes, SameWorld};
-ghost use Rattle.geo_requests.specs.Founds.{IsFirm};
+ghost use Rattle.geo_state.specs.Steps.{IsFirm, Makes, SameWorld};
 ghost use Rattle.geo_requests.specs.Returned.{IsReading, given_back, is_taste_read, root_result, steps_back, steps_up};
 
 use geo_access::Steps;

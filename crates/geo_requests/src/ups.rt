@@ -6,8 +6,7 @@ ghost use Rattle.geo_model.specs.Step.{up_of};
 ghost use Rattle.geo_bio.specs.BioTable.{bio_among, has_phase};
 ghost use Rattle.geo_state.specs.Holds.{Holds};
 ghost use Rattle.geo_state.specs.World.{HasBytes};
-ghost use Rattle.geo_state.specs.Steps.{Makes, SameWorld};
-ghost use Rattle.geo_requests.specs.Founds.{IsFirm};
+ghost use Rattle.geo_state.specs.Steps.{IsFirm, Makes, SameWorld};
 ghost use Rattle.geo_requests.specs.Returned.{is_taste_read, steps_up};
 
 use crate::returns::hand_back;
