@@ -171,6 +171,24 @@ judge-found s kept actors log = on s.taste
     on None = refl
     on (Some t) = by t (is_read_out t.asked)
 
+-- where nothing is against it, a taste is there
+pub taste-there : (s : State) → Holds s → IsAgainst judge_next s None → s.taste ≡ None → ⊥
+taste-there s kept due none =
+    let never : Some found.NoTaste ≡ None =
+    sym (ap (taste_against s.read) none) ∙ sym (judge-found s kept [] []) ∙ due [] [] in
+    cc
+
+-- and no read of it is out
+pub taste-idle : (s : State) → Holds s → IsAgainst judge_next s None → (t : Taste) → s.taste ≡ Some t
+    → is_read_out t.asked ≡ false
+taste-idle s kept due t is =
+    by (is_read_out t.asked)
+    (sym (ap (taste_against s.read) is) ∙ sym (judge-found s kept [] []) ∙ due [] [])
+  where
+    by : (b : Bool) → (if b then Some (found.ReadOut (unwrap_or s.read 0)) else None) ≡ None → b ≡ false
+    by true never = absurd cc
+    by false e = refl
+
 -- Washes
 
 -- what is against a wash of what can be washed
@@ -227,7 +245,8 @@ module _ (s : State) (kept : Holds s) (firm : IsFirm s) where
   unfolding wash_next
   wash-makes work tells new washed log actors =
       ap (λ (o : Option WashWork).
-      let r : Answer = option_map_or (λ v. Ok (wash (world actors log s) v, outcomes.Ran)) o (Err found.NothingToWash) in
+      let r : Answer = option_map_or (λ v. Ok (wash (world actors log s) v, outcomes.Ran)) o
+      (Err found.NothingToWash) in
       r)
       (sym (work-is (Some work) tells actors log))
       ∙ ap (λ (x : World). let r : Answer = Ok (x, outcomes.Ran) in r) (sym (washed actors log))

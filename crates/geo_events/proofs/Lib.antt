@@ -4,3 +4,12 @@ pub mod Washed
 pub mod Effects
 pub mod Dying
 pub mod Offering
+pub mod Stepping
+pub mod Growing
+pub mod Shapes
+pub mod Grown
+pub mod Tasted
+pub mod Rooming
+pub mod Reading
+pub mod Judged
+pub mod Arms

@@ -1,3 +1,4 @@
 pub mod Steps
 pub mod Killing
+pub mod Judging
 pub mod Washing

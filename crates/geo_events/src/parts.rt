@@ -1,10 +1,10 @@
-//! What is looked up of a geom, and a disk's seat that becomes free.
-ghost use Rattle.std.specs.Prelude.{◌≡◌, ◌<◌, length, IfSome, option_and_then};
+//! What is looked up of a geom, a disk's seat that becomes free, and how many providers there are.
+ghost use Rattle.std.specs.Prelude.{◌≡◌, ◌+◌, ◌-◌, ◌<◌, ◌≤◌, length, IfSome, option_and_then};
 ghost use Rattle.geo_model.specs.Topology.{geom_at};
 ghost use Rattle.geo_model.specs.Place.{disk_of};
 ghost use Rattle.geo_state.specs.Sites.{seats_without};
 
-use geo_base::GeomId;
+use geo_base::{GeomId, ProvId};
 use geo_class::Config;
 use geo_mesh::Topo;
 use geo_state::{State, set_geom};
@@ -28,4 +28,17 @@ pub fn free_seat(state: &mut State, disk: Option<u32>)
     if let Some(disk) = disk {
         set_geom(state, disk, None);
     }
+}
+
+/// The providers that came are counted: those of this number and above.
+pub fn count_made(state: &mut State, first: ProvId)
+    requires some { first ≤ state.old.topo.topology.next_provider }
+    requires all { state.old.providers + (state.old.topo.topology.next_provider - first)
+        ≡ length state.old.topo.topology.providers }
+    ensures { state.new ≡ record state.old {
+      providers = state.old.providers + (state.old.topo.topology.next_provider - first);
+    } }
+{
+    let next = state.topo.coming_provider();
+    state.providers += next.number() - first.number();
 }

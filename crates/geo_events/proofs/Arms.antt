@@ -1,0 +1,238 @@
+-- Each of what a step of the taste may come to.
+use Rattle.std.specs.Prelude.{◌≡◌, ℕ, ◌+◌, ◌-◌, ◌*◌, ◌≤◌, false, true, List, length, Option, Some, None, IsSome, IsSomeAnd}
+use Rattle.std.proofs.Common.{refl, sym, ◌∙◌, ap, subst}
+use Rattle.geo_model.specs.declared.class.Judged.{Judged}
+use Rattle.geo_model.specs.declared.class.Judged.TheVariants.{Read, Next, Made, Ended}
+use Rattle.geo_model.specs.declared.command.LineCommand.{LineCommand}
+use Rattle.geo_model.specs.declared.step.Entry.{Entry}
+use Rattle.geo_model.specs.declared.step.Event.{Event}
+use Rattle.geo_model.specs.declared.step.Outcome.{Outcome}
+use Rattle.geo_model.specs.declared.step.Outcome.TheVariants as outcomes
+use Rattle.geo_model.specs.Topology.{Topology, Provider, consumer_at, provider_at}
+use Rattle.geo_model.specs.Demand.{one_read}
+use Rattle.geo_model.specs.World.{World, Config, Taste, is_read_out}
+use Rattle.geo_model.specs.Step.{judge_next}
+use Rattle.geo_event.specs.EventQueue.{Queued}
+use Rattle.geo_handles.specs.Handles.{holding_handle}
+use Rattle.geo_slots.specs.Slots.{value_at}
+use Rattle.geo_mesh.specs.Graph.{IsSoundGraph}
+use Rattle.geo_mesh.specs.Topo.{TopoView, IsButForRoom, without_consumer}
+use Rattle.geo_make.specs.Making.{both, AreBoth}
+use Rattle.geo_taste.specs.Judging.{IsJudged, IsKnownWith, MayJudge, making}
+use Rattle.geo_taste.specs.Taster.{IsTasteOf, with_granted}
+use Rattle.geo_taste.specs.Taster.{IsSettled as IsTasteSettled}
+use Rattle.geo_state.specs.declared.state.State.{State}
+use Rattle.geo_state.specs.Bios.{IsNoHandles}
+use Rattle.geo_state.specs.Holds.{Holds}
+use Rattle.geo_state.specs.Steps.{IsFirm, IsAgainst, Makes, SameWorld}
+use Rattle.geo_state.specs.World.{world}
+use Rattle.geo_events.specs.Judging.{HasSector, HasSubmitted, with_taste}
+use Rattle.geo_events.proofs.Stepping.{IsNextTaste, IsInside}
+use Rattle.geo_events.proofs.Tasted.{nobodys, none-out, taster-at, tasting-of}
+use Rattle.geo_events.proofs.Deciding.{taste-idle}
+use Rattle.geo_events.proofs.Judged.{Ready, may-judge, next-taste, judged-makes, next-kept, read-kept, made-kept, came-first, came-all, ended-kept, ended-mesh}
+
+-- a step came to this, with the mesh, the queue and the taste after it
+pub record Stepped (s : State) (a : Taste) (u : TopoView Config) (q : Queued) (z : Taste) (j : Judged) : Type 0 where
+  pub judged : IsJudged (both s.topo s.queue) a u q z j
+  pub settled : IsKnownWith j (MayJudge (both s.topo s.queue) a) (IsTasteSettled u)
+  pub tasting : IsKnownWith j (MayJudge (both s.topo s.queue) a) (IsTasteOf u z)
+  pub spare : s.queue.spare ≤ q.spare + 32
+
+-- where nothing is against a Judge the state is ready for it
+pub ready-of : (s : State) → Holds s → IsFirm s → IsAgainst judge_next s None → (a : Taste) → s.taste ≡ Some a
+    → IsSoundGraph s.topo.topology → 3 * length s.topo.topology.providers + 128 ≤ s.queue.spare → Ready s a
+ready-of s kept firm due a is sound room = record {
+  kept = kept;
+  firm = firm;
+  is = is;
+  idle = taste-idle s kept due a is;
+  sound = sound;
+  room = room;
+}
+
+module _ (s : State) (a : Taste) (ready : Ready s a) (u : TopoView Config) (q : Queued) (z : Taste) where
+  -- what a step came to, by another name for it
+  pub stepped : (j k : Judged) → j ≡ k → IsJudged (both s.topo s.queue) a u q z j
+      → IsKnownWith j (MayJudge (both s.topo s.queue) a) (IsTasteSettled u)
+      → IsKnownWith j (MayJudge (both s.topo s.queue) a) (IsTasteOf u z) → s.queue.spare ≤ q.spare + 32
+      → Stepped s a u q z k
+  stepped j k same judged settled tasting spare =
+      subst (Stepped s a u q z) same
+      (record { judged = judged; settled = settled; tasting = tasting; spare = spare })
+
+  -- The taste goes on
+
+  module _ (step : Stepped s a u q z Next) where
+    pub next-holds : Holds (record s { topo = u; queue = q; taste = Some z })
+    next-holds =
+        next-kept s a ready u q z step.spare step.settled step.judged.mesh.mesh
+        (next-taste s a ready u q z Next step.judged).out
+
+    pub next-made : (log : List Entry)
+        → Makes judge_next log s (record s { topo = u; queue = q; taste = Some z }) outcomes.Ran
+    next-made log =
+        judged-makes s a ready u q z Next step.judged (record s { topo = u; queue = q; taste = Some z })
+        outcomes.Ran log (λ actors. refl)
+
+  -- A read is granted
+
+  module _ (sector : ℕ) (step : Stepped s a u q z (Read sector)) where
+    after : IsNextTaste s.topo.topology a z (Read sector)
+    after = next-taste s a ready u q z (Read sector) step.judged
+
+    mesh : IsButForRoom u (with_granted s.topo a.consumer one_read)
+    mesh = step.judged.mesh.mesh
+
+    pub read-holds : Holds (record s { topo = u; queue = q; taste = Some z })
+    read-holds =
+        read-kept s a ready u q z step.spare step.settled mesh after.consumer after.out
+
+    -- its consumer lives, and no handle has it
+    pub read-through : (o : Option Taste) → IsNoHandles (record s { topo = u; queue = q; taste = o }) z.consumer
+    read-through o = record {
+      lives =
+          subst (λ n. IsSome (consumer_at u.topology n)) (sym after.consumer)
+          (subst (λ (v : TopoView Config). IsSome (consumer_at v.topology a.consumer)) (sym mesh)
+          (subst (λ x. IsSome x) (sym (taster-at s ready.kept ready.firm a ready.is ready.sound)) refl));
+      nobodys =
+          ap (holding_handle s.handles.handles) after.consumer
+          ∙ nobodys s ready.kept ready.firm a ready.is ready.sound;
+    }
+
+    -- nothing is out through it
+    pub read-idle : value_at u.active z.consumer ≡ Some 0
+    read-idle =
+        ap (value_at u.active) after.consumer
+        ∙ ap (λ (v : TopoView Config). value_at v.active a.consumer) mesh
+        ∙ none-out s ready.kept ready.firm a ready.is ready.sound ready.idle
+
+    -- the sector is one of the provider
+    pub read-inside : (o : Option Taste) → HasSector (record s { topo = u; queue = q; taste = o }) z sector
+    read-inside o =
+        subst (λ n. IsSomeAnd (provider_at u.topology n) (IsInside sector)) (sym after.provider)
+        (subst (λ (v : TopoView Config). IsSomeAnd (provider_at v.topology a.provider) (IsInside sector)) (sym mesh)
+        (after.inside sector refl))
+
+    -- the read is submitted
+    pub read-made : (o : Option Taste) (new : State) (out : Outcome) → out ≡ outcomes.Reading s.traffic.next
+        → HasSubmitted (record s { topo = u; queue = q; taste = o }) new z sector → (log : List Entry)
+        → Makes judge_next log s new out
+    read-made o new out told submitted log =
+        judged-makes s a ready u q z (Read sector) step.judged new out log
+        (λ actors. sym (λ i. let r : World × Outcome = (submitted actors log i, told i) in r))
+
+  -- Something is made of the provider
+
+  module _ (step : Stepped s a u q z Made) where
+    made : IsSomeAnd (making (both s.topo s.queue) a) (AreBoth u q)
+    made = step.judged.mesh (may-judge s a ready)
+
+    settled : IsTasteSettled u
+    settled = step.settled (may-judge s a ready)
+
+    pub made-first : s.topo.topology.next_provider ≤ u.topology.next_provider
+    made-first = came-first s a ready u q z step.spare settled made
+
+    pub made-all : s.providers + (u.topology.next_provider - s.topo.topology.next_provider)
+        ≡ length u.topology.providers
+    made-all = came-all s a ready u q z step.spare settled made
+
+    pub made-holds : Holds (record s {
+      topo = u;
+      queue = q;
+      taste = Some z;
+      providers = s.providers + (u.topology.next_provider - s.topo.topology.next_provider);
+    })
+    made-holds =
+        made-kept s a ready u q z step.spare settled made
+        (next-taste s a ready u q z Made step.judged).out
+
+    pub made-made : (n : ℕ) (log : List Entry)
+        → Makes judge_next log s (record s { topo = u; queue = q; taste = Some z; providers = n }) outcomes.Ran
+    made-made n log =
+        judged-makes s a ready u q z Made step.judged
+        (record s { topo = u; queue = q; taste = Some z; providers = n }) outcomes.Ran log (λ actors. refl)
+
+  -- The taste ends
+
+  module _ (step : Stepped s a u q z Ended) where
+    over : IsNextTaste s.topo.topology a z Ended
+    over = next-taste s a ready u q z Ended step.judged
+
+    pub ended-idle : is_read_out z.asked ≡ false
+    ended-idle = over.out
+
+    pub ended-out : value_at u.active z.consumer ≡ Some 0
+    ended-out =
+        ap (value_at u.active) over.consumer
+        ∙ ap (λ (v : TopoView Config). value_at v.active a.consumer) step.judged.mesh.mesh
+        ∙ none-out s ready.kept ready.firm a ready.is ready.sound ready.idle
+
+    module _ (v : TopoView Config) (gone : v ≡ without_consumer u z.consumer) (settled : IsTasteSettled v)
+        (o : Option Taste) (none : o ≡ None) where
+      pub ended-holds : Holds (record s { topo = v; queue = q; taste = o })
+      ended-holds =
+          subst (λ (x : Option Taste). Holds (record s { topo = v; queue = q; taste = x })) (sym none)
+          (ended-kept s a ready u q z step.spare step.judged.mesh.mesh (over.ended refl)
+          step.tasting v gone settled)
+
+      pub ended-made : (log : List Entry)
+          → Makes judge_next log s (record s { topo = v; queue = q; taste = o }) outcomes.Ran
+      ended-made log =
+          let graph : IsButForRoom v (without_consumer s.topo a.consumer) =
+          ended-mesh s a ready u q z step.spare step.judged.mesh.mesh (over.ended refl)
+          step.tasting v gone settled in
+          judged-makes s a ready u q z Ended step.judged (record s { topo = v; queue = q; taste = o })
+          outcomes.Ran log
+          (λ actors.
+          ap (λ (x : Taste). let r : World × Outcome = (
+            record (world actors log s) {
+              topology = (without_consumer s.topo x.consumer).topology;
+              taste = None;
+            },
+            outcomes.Ran,
+          ) in r) (over.ended refl)
+          ∙ ap (λ (x : TopoView Config). let r : World × Outcome = (
+            record (world actors log s) {
+              topology = x.topology;
+              taste = None;
+            },
+            outcomes.Ran,
+          ) in r) (sym graph)
+          ∙ ap (λ (es : List Event). let r : World × Outcome = (
+            record (world actors log s) {
+              topology = v.topology;
+              events = es;
+              taste = None;
+            },
+            outcomes.Ran,
+          ) in r) (sym step.judged.mesh.events)
+          ∙ ap (λ (x : Option Taste). let r : World × Outcome = (
+            record (world actors log s) {
+              topology = v.topology;
+              events = q.events;
+              taste = x;
+            },
+            outcomes.Ran,
+          ) in r) (sym none))
+
+  -- Memory is wanting
+
+  module _ (same : AreBoth u q (both s.topo s.queue)) (still : z ≡ a) (settled : IsTasteSettled u)
+      (spare : s.queue.spare ≤ q.spare + 32) where
+    pub refused-holds : Holds (record s { topo = u; queue = q; taste = Some z })
+    refused-holds =
+        next-kept s a ready u q z spare settled same.mesh
+        (ap (λ (x : Taste). is_read_out x.asked) still ∙ ready.idle)
+
+    pub refused-same : SameWorld s (record s { topo = u; queue = q; taste = Some z })
+    refused-same actors log =
+        ap (λ (x : TopoView Config). record (world actors log s) {
+          topology = x.topology;
+          events = q.events;
+          taste = Some z;
+        }) same.mesh
+        ∙ ap (λ (es : List Event). record (world actors log s) { events = es; taste = Some z }) same.events
+        ∙ ap (λ (x : Taste). record (world actors log s) { taste = Some x }) still
+        ∙ ap (λ (o : Option Taste). record (world actors log s) { taste = o }) (sym ready.is)

@@ -1,0 +1,79 @@
+-- The read of a taste that is submitted.
+use Rattle.std.specs.Prelude.{◌≡◌, ℕ, ◌+◌, ◌*◌, ◌/◌, ◌%◌, ◌<◌, ◌≤◌, ◌^◌, ◌==◌, nat_le, Bool, true, ◌&&◌, ◌||◌, List, [], ◌∷◌, ◌++◌, length, map, Option, Some, None, All, IsSomeAnd}
+use Rattle.std.specs.Option.{option_map_or}
+use Rattle.std.proofs.Common.{refl, sym, ◌∙◌, ap, subst, arith}
+use Rattle.std.proofs.Math.Nat.{div-mul-le_self, mul-le-mul_right}
+use Rattle.std.proofs.lemmas.Bool.{and_parts, leb-true}
+use Rattle.std.proofs.lemmas.List.Elements.{All-contains}
+use Rattle.geo_base.specs.declared.request.BioCmd.TheVariants as cmds
+use Rattle.geo_model.specs.declared.command.LineCommand.{LineCommand}
+use Rattle.geo_model.specs.declared.span.Span.{Span}
+use Rattle.geo_model.specs.declared.step.Entry.{Entry}
+use Rattle.geo_model.specs.declared.step.Owner.TheVariants as owners
+use Rattle.geo_model.specs.Topology.{Topology, Provider, provider_at}
+use Rattle.geo_model.specs.Tasting.{submit_read}
+use Rattle.geo_model.specs.World.{World, Config, Taste}
+use Rattle.geo_model.specs.Bios.{new_bio, submit}
+use Rattle.geo_bio.specs.declared.bio.Held.{Held}
+use Rattle.geo_log.specs.Places.{delivered_at}
+use Rattle.geo_traffic.specs.Shown.{shown, AreLogged}
+use Rattle.geo_traffic.proofs.LoggedLemmas.{places_stay_logged}
+use Rattle.geo_traffic.proofs.StepLemmas.{world_shows_bios}
+use Rattle.geo_laws_graph.proofs.Members.{find-Contains}
+use Rattle.geo_mesh.specs.Graph.{IsOffer, IsSoundGraph}
+use Rattle.geo_state.specs.declared.state.State.{State}
+use Rattle.geo_state.specs.Bios.{OnlyBios}
+use Rattle.geo_state.specs.World.{world, header_disk}
+use Rattle.geo_events.specs.Judging.{with_taste, HasSubmitted}
+
+-- the offset of a sector of a provider fits
+pub sector-fits : (t : Topology Config) → IsSoundGraph t → (prov sector : ℕ) (p : Provider)
+    → provider_at t prov ≡ Some p → IsSomeAnd (provider_at t prov) (λ x. sector < x.size / x.sector)
+    → sector * p.sector < 2 ^ 64
+sector-fits t sound prov sector p found inside =
+    let offer : IsOffer p =
+    All-contains IsOffer t.providers p sound.orderly.offers
+    (find-Contains (λ (x : Provider). x.number == prov) t.providers p found) in
+    let sizes = and_parts ((p.sector == 512) || (p.sector == 4096)) _ offer.sizes in
+    let some = and_parts (nat_le 1 p.size) _ sizes.1 in
+    let most = and_parts (nat_le p.size (2 ^ 60)) (p.size % p.sector == 0) some.1 in
+    let size : p.size ≤ 2 ^ 60 = leb-true p.size (2 ^ 60) most.0 in
+    let below : sector < p.size / p.sector = subst (λ o. IsSomeAnd o (λ x. sector < x.size / x.sector)) found inside in
+    let less : sector ≤ p.size / p.sector = omega (arith, below) in
+    let times : sector * p.sector ≤ p.size / p.sector * p.sector = mul-le-mul_right p.sector less in
+    let whole : p.size / p.sector * p.sector ≤ p.size = div-mul-le_self p.size p.sector in
+    omega (arith, size, times, whole)
+
+module _ (s new : State) (a : Taste) (sector : ℕ) (only : OnlyBios (with_taste s a) new) (span : Span) (bytes : List ℕ)
+    (bios : new.traffic.bios ≡ s.traffic.bios
+    ++ new_bio s.traffic.next cmds.Read span.offset span.len bytes a.consumer a.provider owners.Taste ∷ [])
+  where
+    -- the bytes of the sector
+    abbrev size : ℕ
+    size = option_map_or (λ (p : Provider). p.sector) (provider_at s.topo.topology a.provider) 512
+
+    -- the world with the read
+    pub read-submitted : bytes ≡ [] → new.traffic.next ≡ s.traffic.next + 1
+        → span ≡ record { offset = sector * size; len = size } → HasSubmitted s new a sector
+    read-submitted none next is actors log =
+        let w : World = world actors log (with_taste s a) in
+        ap (world actors log) only.rest
+        ∙ ap (λ ds. let v : World = record w {
+          bios = shown (delivered_at log) new.traffic.bios;
+          next_bio = new.traffic.next;
+          disks = ds;
+        } in v) only.disks
+        ∙ (λ i. let v : World = record w {
+          bios = shown (delivered_at log) (bios i);
+          next_bio = next i;
+        } in v)
+        ∙ sym ((world_shows_bios (delivered_at log) s.traffic.bios w refl).submits cmds.Read span.offset span.len bytes
+        a.consumer a.provider owners.Taste)
+        ∙ (λ i. submit w cmds.Read ((is i).offset) ((is i).len) (none i) a.consumer a.provider owners.Taste)
+
+    -- the bytes that bios name are in the log as before
+    pub read-logged : (n : ℕ) → AreLogged n s.traffic.bios → AreLogged n new.traffic.bios
+    read-logged n logged =
+        subst (AreLogged n) (sym bios)
+        ((places_stay_logged n s.traffic.bios logged).submits s.traffic.next cmds.Read span.offset span.len bytes
+        a.consumer a.provider owners.Taste)

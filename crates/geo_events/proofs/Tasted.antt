@@ -1,0 +1,277 @@
+-- What a firm state tells of the taste that is under way.
+use Rattle.std.specs.Prelude.{◌≡◌, ℕ, ◌+◌, ◌/◌, ◌<◌, ◌≤◌, ◌^◌, ◌==◌, ◌↔◌, Bool, true, false, not, ◌&&◌, List, [], ◌∷◌, length, map, find, Option, Some, None, All, Contains, IsTrue, IsSome, IsSomeAnd, IfSome, MatchOption, if◌then◌else◌}
+use Rattle.std.specs.List.{AllByRecursion, list_any}
+use Rattle.std.specs.Option.{option_map, option_map_or, option_and_then}
+use Rattle.std.proofs.Common.{refl, sym, ◌∙◌, ap, subst, arith, inl, inr, eq-eqb}
+use Rattle.std.proofs.lemmas.Bool.{eqb-true, false_from_ne_true}
+use Rattle.std.proofs.lemmas.List.Elements.{All-contains, recursion_from_All}
+use Rattle.geo_base.specs.Sectors.{IsSectorSize}
+use Rattle.geo_base.specs.declared.kind.Kind.{Kind}
+use Rattle.geo_base.specs.declared.request.Counts.{Counts}
+use Rattle.geo_model.specs.declared.command.LineCommand.{LineCommand}
+use Rattle.geo_model.specs.declared.step.BioResult.TheVariants as results
+use Rattle.geo_model.specs.declared.step.Entry.{Entry}
+use Rattle.geo_model.specs.Words.{is_read, names_number}
+use Rattle.geo_model.specs.Topology.{Topology, Geom, Provider, Consumer, consumer_at, consumers_of, geom_at, geom_of_provider, provider_at}
+use Rattle.geo_model.specs.Demand.{no_counts, one_read, want}
+use Rattle.geo_model.specs.Rank.{rank}
+use Rattle.geo_model.specs.Events.{taste_limit}
+use Rattle.geo_model.specs.World.{World, Config, Bio, BioOf, Handle, Taste, Asked, NoClass, NextSector, ReadOut, ReadBack, granted_in, is_read_out, is_taste_root, taste_grant}
+use Rattle.geo_model.specs.Sound.{AreReadsInOrder, IsMediaSize, IsTasteInOrder, IsTasting}
+use Rattle.geo_model.specs.SoundBios.{IsBioInOrder, HasCountFor}
+use Rattle.geo_model.specs.Fitting.{IsAskedInOrder}
+use Rattle.geo_model.proofs.DemandLemmas.{find_passes, names_some}
+use Rattle.geo_slots.specs.Slots.{value_at}
+use Rattle.geo_bio.specs.declared.bio.Held.{Held}
+use Rattle.geo_log.specs.Places.{delivered_at}
+use Rattle.geo_traffic.specs.Shown.{shown, shown_bio}
+use Rattle.geo_mesh.specs.Graph.{IsSoundGraph}
+use Rattle.geo_laws_graph.proofs.Lists.{found_itself}
+use Rattle.geo_laws_graph.proofs.Members.{find-Contains}
+use Rattle.geo_laws_graph.proofs.Numbered.{find-none}
+use Rattle.geo_laws_counts.specs.CountWords.{HoldsGrants}
+use Rattle.geo_laws_counts.proofs.LimitFacts.{of_filter}
+use Rattle.geo_laws_counts.proofs.Members.{in_head}
+use Rattle.geo_laws_demands.proofs.Openers.{wants_grant}
+use Rattle.geo_laws_judges.proofs.Firsts.{has_sector}
+use Rattle.geo_access.specs.Access.{granted_by}
+use Rattle.geo_access.proofs.Decided.{item_at}
+use Rattle.geo_class.specs.Taste.{sector_back}
+use Rattle.geo_handles.specs.Handles.{handle_at, holding_handle}
+use Rattle.geo_taste.specs.Taster.{held_by, IsTasteOf}
+use Rattle.geo_taste.proofs.Coming.{taste_holds}
+use Rattle.geo_taste.proofs.Reading.{held_idle, taster_found}
+use Rattle.geo_state.specs.declared.state.State.{State}
+use Rattle.geo_state.specs.Holds.{Holds}
+use Rattle.geo_state.specs.Steps.{IsFirm}
+use Rattle.geo_state.specs.Trips.{Trip, trip_of, trips, out_through, taste_read}
+use Rattle.geo_state.specs.Trips.{is_out as goes_through}
+use Rattle.geo_state.specs.World.{world}
+use Rattle.geo_state.proofs.HolderFacts.{IsHeld, held}
+use Rattle.geo_state.proofs.Lists.{count-none}
+use Rattle.geo_state.proofs.Rises.{active-at}
+use Rattle.geo_events.proofs.Deciding.{read-is}
+use Rattle.geo_events.proofs.Stepping.{IsInside, IsReadable}
+
+-- a fact of what is found, and what is there
+fact-at : {X : Type 0} (P : X → Type 0) (o : Option X) (x : X) → o ≡ Some x → IfSome o P → P x
+fact-at P o x is fact = subst (λ z. IfSome z P) is fact
+
+-- reads that are in order are few
+few-reads : (a : Asked) (n : ℕ) → AreReadsInOrder a n → n < 2 ^ 63
+few-reads NoClass n is = omega (arith, is)
+few-reads (NextSector kind sector) n is = let few : n < 33 = is in omega (arith, few)
+few-reads (ReadOut kind) n is = let few : n ≤ 33 = is in omega (arith, few)
+few-reads (ReadBack kind got) n is = let few : n ≤ 33 = is in omega (arith, few)
+
+-- a sector has 512 bytes or more
+long-sector : (size : ℕ) → IsSectorSize size → 512 ≤ size
+long-sector size (inl small) = omega (arith, small)
+long-sector size (inr large) = omega (arith, large)
+
+module _ (s : State) (kept : Holds s) (firm : IsFirm s) (a : Taste) (is : s.taste ≡ Some a) where
+  abbrev t : Topology Config
+  t = s.topo.topology
+
+  abbrev w : World
+  w = world firm.1.0 firm.0 s
+
+  -- it has its consumer, and is in order
+  pub tasting-of : IsTasting t a
+  tasting-of =
+      subst (λ (o : Option Taste). MatchOption o (consumers_of t 2 ≡ []) (IsTasting t)) is firm.1.1.sound.handles.taste
+
+  pub ordered : IsTasteInOrder w a
+  ordered = subst (λ (o : Option Taste). IfSome o (IsTasteInOrder w)) is firm.1.1.sound.events.taste
+
+  -- the reads made are few
+  pub reads-few : a.reads < 2 ^ 63
+  reads-few = few-reads a.asked a.reads ordered.reads
+
+  -- the tasted provider is there, and its geom is low
+  record HasLow : Type 0 where
+    item : Provider
+    found : provider_at t a.provider ≡ Some item
+    low : rank t item.geom < taste_limit
+
+  low-of : HasLow
+  low-of = on (provider_at t a.provider) refl ordered.rank
+    where
+      geom : (p : Provider) (o : Option (Geom Config)) → geom_at t p.geom ≡ o
+          → IsSomeAnd o (λ g. rank t g.number < taste_limit) → rank t p.geom < taste_limit
+      geom p None e never = absurd never
+      geom p (Some g) e low =
+          subst (λ n. rank t n < taste_limit)
+          (eqb-true g.number p.geom (find_passes (λ (x : Geom Config). x.number == p.geom) t.geoms g e)) low
+
+      on : (o : Option Provider) → provider_at t a.provider ≡ o
+          → IsSomeAnd (option_and_then (λ (p : Provider). geom_at t p.geom) o) (λ g. rank t g.number < taste_limit)
+          → HasLow
+      on None e never = absurd never
+      on (Some p) e low = record { item = p; found = e; low = geom p (geom_at t p.geom) refl low }
+
+  -- a fact of the tasted provider
+  at-tasted : (P : Provider → Type 0) → P low-of.item → IfSome (provider_at t a.provider) P
+  at-tasted P fact = subst (λ o. IfSome o P) (sym low-of.found) fact
+
+  pub rank-low : IfSome (provider_at t a.provider) (λ p. rank t p.geom < taste_limit)
+  rank-low = at-tasted (λ p. rank t p.geom < taste_limit) low-of.low
+
+  -- how far a class was asked of it
+  asked-well : IsAskedInOrder t low-of.item a.asked
+  asked-well =
+      fact-at (λ p. IsAskedInOrder t p a.asked) (provider_at t a.provider) low-of.item low-of.found
+      (subst (λ (o : Option Taste). IfSome o (λ x. IfSome (provider_at t x.provider) (λ p. IsAskedInOrder t p x.asked)))
+      is firm.1.1.fitting.asked)
+
+  -- it has sectors
+  sizes-of : IsSectorSize low-of.item.sector × IsMediaSize low-of.item.size low-of.item.sector
+  sizes-of =
+      let here : Contains t.providers low-of.item =
+      find-Contains (λ (p : Provider). p.number == a.provider) t.providers low-of.item low-of.found in (
+        All-contains (λ (p : Provider). IsSectorSize p.sector) t.providers low-of.item firm.1.1.fitting.sectors here,
+        All-contains (λ (p : Provider). IsMediaSize p.size p.sector) t.providers low-of.item
+            firm.1.1.sound.providers.sizes here,
+      )
+
+  -- the sector that is back has 512 bytes or more
+  pub sector-long : IfSome (sector_back a.asked) (λ x. 512 ≤ length x.1)
+  sector-long = on a.asked asked-well
+    where
+      on : (b : Asked) → IsAskedInOrder t low-of.item b → IfSome (sector_back b) (λ x. 512 ≤ length x.1)
+      on NoClass asked = tt
+      on (NextSector kind sector) asked = tt
+      on (ReadOut kind) asked = tt
+      on (ReadBack kind (results.Bytes bytes)) asked =
+          let long : 512 ≤ low-of.item.sector = long-sector low-of.item.sector sizes-of.0 in
+          let all : length bytes ≡ low-of.item.sector = asked.1 in
+          omega (arith, long, all)
+      on (ReadBack kind results.Done) asked = tt
+      on (ReadBack kind (results.Failed e)) asked = tt
+
+  -- what is read of it lies inside it
+  pub readable-of : IfSome (provider_at t a.provider) (IsReadable a)
+  readable-of =
+      at-tasted (IsReadable a) (record {
+        some = has_sector low-of.item.size low-of.item.sector sizes-of.0 sizes-of.1;
+        next = λ kind sector asks.
+            let asked : IsAskedInOrder t low-of.item (NextSector kind sector) =
+            subst (IsAskedInOrder t low-of.item) asks asked-well in
+            asked.1;
+      })
+
+  module _ (sound : IsSoundGraph t) where
+    -- the consumer
+    pub taster-at : consumer_at t a.consumer ≡ Some tasting-of.consumer
+    taster-at = taster_found t sound a tasting-of
+
+    -- it is one of TASTE
+    of-taste : tasting-of.consumer.geom ≡ 2
+    of-taste =
+        eqb-true tasting-of.consumer.geom 2
+        (of_filter (λ (x : Consumer). x.geom == 2) t.consumers tasting-of.consumer
+        (subst (λ xs. Contains xs tasting-of.consumer) (sym tasting-of.alone) (in_head tasting-of.consumer []))).1
+
+    -- so no handle has it
+    pub nobodys : holding_handle s.handles.handles a.consumer ≡ None
+    nobodys = on (holding_handle s.handles.handles a.consumer) refl
+      where
+        on : (o : Option Handle) → holding_handle s.handles.handles a.consumer ≡ o → o ≡ None
+        on None e = refl
+        on (Some h) e =
+            let has : h.consumer ≡ Some a.consumer =
+            names_some h.consumer a.consumer
+            (find_passes (λ (x : Handle). names_number x.consumer a.consumer) s.handles.handles h e) in
+            let at : handle_at s.handles.handles h.number ≡ Some h =
+            found_itself (λ (x : Handle). x.number) s.handles.next s.handles.handles h kept.numbers
+            (find-Contains (λ (x : Handle). names_number x.consumer a.consumer) s.handles.handles h e) in
+            let of_dev : IsHeld s a.consumer = held firm.0 s firm.1 h.number a.consumer h at has in
+            let same : Some tasting-of.consumer ≡ Some of_dev.consumer = sym taster-at ∙ of_dev.found in
+            let geom : tasting-of.consumer.geom ≡ of_dev.consumer.geom = cc in
+            let bad : 2 ≡ 1 = sym of-taste ∙ geom ∙ of_dev.dev in
+            absurd (omega (arith, bad))
+
+    -- what the taste holds is granted to it, and stored
+    granted-it : granted_by s.topo a.consumer ≡ held_by a
+    granted-it =
+        ap (λ (g : ℕ → Counts). g a.consumer) kept.grants
+        ∙ ap (λ o. option_map_or (λ (h : Handle). h.grant) o (taste_grant s.taste a.consumer)) nobodys
+        ∙ ap (λ o. taste_grant o a.consumer) is
+        ∙ ap (λ b. if b && is_read_out a.asked then one_read else no_counts) (eq-eqb a.consumer a.consumer refl)
+
+    wants-it : want (granted_by s.topo) t tasting-of.consumer ≡ held_by a
+    wants-it =
+        wants_grant (granted_by s.topo) t tasting-of.consumer
+        (subst (HoldsGrants t) (sym of-taste) (taste_holds t sound))
+        ∙ ap (granted_by s.topo) tasting-of.number
+        ∙ granted-it
+
+    pub is-taste : IsTasteOf s.topo a
+    is-taste = record {
+      tasting = tasting-of;
+      holds =
+          ap (λ rows. value_at rows a.consumer) kept.counted.wants
+          ∙ item_at (λ (x : Consumer). x.number) (want (granted_by s.topo) t) a.consumer t.consumers tasting-of.consumer
+          taster-at
+          ∙ ap (λ c. Some c) wants-it;
+    }
+
+    -- No read of it is out
+
+    module _ (idle : is_read_out a.asked ≡ false) where
+      -- it is granted nothing
+      wants-nothing : want (granted_in w) t tasting-of.consumer ≡ no_counts
+      wants-nothing =
+          sym (ap (λ (g : ℕ → Counts). want g t tasting-of.consumer) kept.grants) ∙ wants-it ∙ held_idle a idle
+
+      -- so no request comes from it
+      no-request : (x : Bio) → IsBioInOrder w x → x.source ≡ a.consumer → ⊥
+      no-request x order same = by (is_read x.cmd) refl counts
+        where
+          counts : HasCountFor w x tasting-of.consumer
+          counts =
+              (subst (λ o. IsSomeAnd o (λ (c : Consumer). (c.provider ≡ Some x.target) × HasCountFor w x c))
+              (ap (consumer_at t) same ∙ taster-at) order.source).1
+
+          by : (b : Bool) → is_read x.cmd ≡ b → HasCountFor w x tasting-of.consumer → ⊥
+          by true e has =
+              let some : 0 < (want (granted_in w) t tasting-of.consumer).r = has.0 e in
+              let none : (want (granted_in w) t tasting-of.consumer).r ≡ 0 = ap (λ (c : Counts). c.r) wants-nothing in
+              omega (arith, some, none)
+          by false e has =
+              let some : 0 < (want (granted_in w) t tasting-of.consumer).w = has.1 e in
+              let none : (want (granted_in w) t tasting-of.consumer).w ≡ 0 = ap (λ (c : Counts). c.w) wants-nothing in
+              omega (arith, some, none)
+
+      none-through : (bios : List (BioOf Held)) → AllByRecursion (IsBioInOrder w) (shown (delivered_at firm.0) bios)
+          → AllByRecursion (λ (x : Trip). goes_through a.consumer x ≡ false) (trips bios)
+      none-through [] order = tt
+      none-through (x ∷ xs) order = (by (x.source == a.consumer) refl, none-through xs order.1)
+        where
+          by : (b : Bool) → (x.source == a.consumer) ≡ b → goes_through a.consumer (trip_of x) ≡ false
+          by true e =
+              absurd (no-request (shown_bio (delivered_at firm.0) x) order.0 (eqb-true x.source a.consumer e))
+          by false e = ap (λ b. b && not (trip_of x).done) e
+
+      -- nothing is out through it
+      pub none-out : value_at s.topo.active a.consumer ≡ Some 0
+      none-out =
+          active-at s.topo (trips s.traffic.bios) a.consumer kept.active (subst (λ o. IsSome o) (sym taster-at) refl)
+          ∙ ap (λ n. Some n)
+          (count-none (goes_through a.consumer) (trips s.traffic.bios)
+          (none-through s.traffic.bios (recursion_from_All (IsBioInOrder w) w.bios firm.1.1.sound.bios)))
+
+  -- none of its own is out
+  pub read-none : is_read_out a.asked ≡ false → s.read ≡ None
+  read-none idle =
+      kept.read
+      ∙ sym (read-is firm.0 s.traffic.bios)
+      ∙ ap (λ o. option_map (λ (x : Bio). x.number) o)
+      (find-none (λ (x : Bio). is_taste_root x.owner) w.bios
+      (false_from_ne_true (list_any (λ (x : Bio). is_taste_root x.owner) w.bios)
+      (λ some.
+      let out : is_read_out a.asked ≡ true =
+      subst (λ (o : Option Taste). IsTrue (option_map_or (λ x. is_read_out x.asked) o false)) is
+      (firm.1.1.sound.events.read_out.0 some) in
+      let no : true ≡ false = sym out ∙ idle in
+      absurd cc)))

@@ -1,0 +1,15 @@
+use Rattle.std.proofs.Common.{arith}
+use Rattle.geo_events.proofs.Judged.{providers-few}
+use Rattle.geo_events.proofs.parts.count_made.Goals as goal
+
+pub overflow_add-state : goal.overflow_add-state
+overflow_add-state c =
+    let few = providers-few c.args.state.now.topo.topology c.coming_provider-next.ensures.sound in
+    omega (
+      arith,
+      few,
+      c.requires.all,
+      c.coming_provider-next.ensures.number,
+      c.number.ensures,
+      c.number-2.ensures,
+    )
