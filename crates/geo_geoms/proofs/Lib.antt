@@ -1,3 +1,10 @@
 pub mod Naming
 pub mod Joining
 pub mod Using
+pub mod Rising
+pub mod Grown
+pub mod Standing
+pub mod Finding
+pub mod Withered
+pub mod Commanded
+pub mod Nopping

@@ -1,8 +1,8 @@
 -- The walk over the providers of a geom that may be in use.
-use Rattle.std.specs.Prelude.{◌≡◌, ℕ, ◌+◌, ◌==◌, Bool, true, false, not, ◌||◌, [], ◌∷◌, unwrap_or}
+use Rattle.std.specs.Prelude.{◌≡◌, ℕ, ◌+◌, Bool, true, false, not, ◌||◌, [], unwrap_or}
 use Rattle.std.specs.List.{list_any}
-use Rattle.std.proofs.Common.{refl, sym, ap, ◌∙◌}
-use Rattle.geo_model.specs.Topology.{Provider, provider_at, providers_of}
+use Rattle.std.proofs.Common.{sym, ap, ◌∙◌}
+use Rattle.geo_model.specs.Topology.{Provider, providers_of}
 use Rattle.geo_model.specs.Demand.{have, is_zero, no_counts}
 use Rattle.geo_model.specs.GeomCommands.{is_in_use}
 use Rattle.geo_model.specs.World.{Config}

@@ -1,2 +1,4 @@
 pub mod Names
 pub mod Below
+pub mod Disks
+pub mod Makes

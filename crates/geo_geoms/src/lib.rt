@@ -2,13 +2,24 @@
 #![tactic(auto)]
 
 mod below;
+mod destroys;
+mod disks;
+mod inserts;
+mod makes;
 mod names;
+mod nops;
 mod refusals;
+mod reply;
+mod stands;
 mod uses;
 
 pub use below::{
     Below, all_named, any_errored, below_named, have_sector, rank_below, sector_below,
 };
+pub use destroys::{destroy, pull};
+pub use inserts::insert;
 pub use names::{Growing, found_provider, growing_concat, named_geom};
+pub use nops::nop;
 pub use refusals::{is_bad_stripe, joined_refusal, nop_refusal};
+pub use stands::stand;
 pub use uses::is_in_use;

@@ -29,8 +29,8 @@ pub fn found_provider(topo: &Topo<Config>, name: &Name) -> Option<ProvId>
     topo.find(name)
 }
 
-// Each look-up tells that the graph is sound.
-fn look(topo: &Topo<Config>)
+/// Each look-up tells that the graph is sound.
+pub fn look(topo: &Topo<Config>)
     ensures { IsSoundGraph topo.now.topology }
 {
     let _ = topo.coming_consumer();
@@ -44,8 +44,8 @@ fn named_from(topo: &Topo<Config>, kind: Kind, name: &Name, from: u64) -> Option
     topo.next_named(kind, name, from)
 }
 
-// Whether the geom is there and doesn't wither.
-fn is_standing(topo: &Topo<Config>, geom: GeomId) -> bool
+/// Whether the geom is there and doesn't wither.
+pub fn is_standing(topo: &Topo<Config>, geom: GeomId) -> bool
     ensures { result ≡ option_map_or stands (geom_at topo.now.topology geom) false }
 {
     match topo.geom(geom) {
