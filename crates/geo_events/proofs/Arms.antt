@@ -1,14 +1,13 @@
 -- Each of what a step of the taste may come to.
-use Rattle.std.specs.Prelude.{◌≡◌, ℕ, ◌+◌, ◌-◌, ◌*◌, ◌≤◌, false, true, List, length, Option, Some, None, IsSome, IsSomeAnd}
+use Rattle.std.specs.Prelude.{◌≡◌, ℕ, ◌+◌, ◌-◌, ◌*◌, ◌≤◌, false, List, length, Option, Some, None, IsSome, IsSomeAnd}
 use Rattle.std.proofs.Common.{refl, sym, ◌∙◌, ap, subst}
 use Rattle.geo_model.specs.declared.class.Judged.{Judged}
 use Rattle.geo_model.specs.declared.class.Judged.TheVariants.{Read, Next, Made, Ended}
-use Rattle.geo_model.specs.declared.command.LineCommand.{LineCommand}
 use Rattle.geo_model.specs.declared.step.Entry.{Entry}
 use Rattle.geo_model.specs.declared.step.Event.{Event}
 use Rattle.geo_model.specs.declared.step.Outcome.{Outcome}
 use Rattle.geo_model.specs.declared.step.Outcome.TheVariants as outcomes
-use Rattle.geo_model.specs.Topology.{Topology, Provider, consumer_at, provider_at}
+use Rattle.geo_model.specs.Topology.{consumer_at, provider_at}
 use Rattle.geo_model.specs.Demand.{one_read}
 use Rattle.geo_model.specs.World.{World, Config, Taste, is_read_out}
 use Rattle.geo_model.specs.Step.{judge_next}
@@ -26,15 +25,16 @@ use Rattle.geo_state.specs.Bios.{IsNoHandles}
 use Rattle.geo_state.specs.Holds.{Holds}
 use Rattle.geo_state.specs.Steps.{IsFirm, IsAgainst, Makes, SameWorld}
 use Rattle.geo_state.specs.World.{world}
-use Rattle.geo_events.specs.Judging.{HasSector, HasSubmitted, with_taste}
+use Rattle.geo_events.specs.Judging.{HasSector, HasSubmitted}
 use Rattle.geo_events.proofs.Stepping.{IsNextTaste, IsInside}
-use Rattle.geo_events.proofs.Tasted.{nobodys, none-out, taster-at, tasting-of}
+use Rattle.geo_events.proofs.Tasted.{nobodys, none-out, taster-at}
 use Rattle.geo_events.proofs.Deciding.{taste-idle}
 use Rattle.geo_events.proofs.Judged.{Ready, may-judge, next-taste, judged-makes, next-kept, read-kept, made-kept, came-first, came-all, ended-kept, ended-mesh}
 
 -- a step came to this, with the mesh, the queue and the taste after it
 pub record Stepped (s : State) (a : Taste) (u : TopoView Config) (q : Queued) (z : Taste) (j : Judged) : Type 0 where
   pub judged : IsJudged (both s.topo s.queue) a u q z j
+  -- it is settled
   pub settled : IsKnownWith j (MayJudge (both s.topo s.queue) a) (IsTasteSettled u)
   pub tasting : IsKnownWith j (MayJudge (both s.topo s.queue) a) (IsTasteOf u z)
   pub spare : s.queue.spare ≤ q.spare + 32
@@ -69,6 +69,7 @@ module _ (s : State) (a : Taste) (ready : Ready s a) (u : TopoView Config) (q : 
         next-kept s a ready u q z step.spare step.settled step.judged.mesh.mesh
         (next-taste s a ready u q z Next step.judged).out
 
+    -- and the step is the world's
     pub next-made : (log : List Entry)
         → Makes judge_next log s (record s { topo = u; queue = q; taste = Some z }) outcomes.Ran
     next-made log =
@@ -81,9 +82,11 @@ module _ (s : State) (a : Taste) (ready : Ready s a) (u : TopoView Config) (q : 
     after : IsNextTaste s.topo.topology a z (Read sector)
     after = next-taste s a ready u q z (Read sector) step.judged
 
+    -- the mesh with the grant
     mesh : IsButForRoom u (with_granted s.topo a.consumer one_read)
     mesh = step.judged.mesh.mesh
 
+    -- all is kept
     pub read-holds : Holds (record s { topo = u; queue = q; taste = Some z })
     read-holds =
         read-kept s a ready u q z step.spare step.settled mesh after.consumer after.out
@@ -131,13 +134,16 @@ module _ (s : State) (a : Taste) (ready : Ready s a) (u : TopoView Config) (q : 
     settled : IsTasteSettled u
     settled = step.settled (may-judge s a ready)
 
+    -- providers that came have numbers from the next one on
     pub made-first : s.topo.topology.next_provider ≤ u.topology.next_provider
     made-first = came-first s a ready u q z step.spare settled made
 
+    -- with them all are counted
     pub made-all : s.providers + (u.topology.next_provider - s.topo.topology.next_provider)
         ≡ length u.topology.providers
     made-all = came-all s a ready u q z step.spare settled made
 
+    -- all is kept
     pub made-holds : Holds (record s {
       topo = u;
       queue = q;
@@ -148,6 +154,7 @@ module _ (s : State) (a : Taste) (ready : Ready s a) (u : TopoView Config) (q : 
         made-kept s a ready u q z step.spare settled made
         (next-taste s a ready u q z Made step.judged).out
 
+    -- and the step is the world's
     pub made-made : (n : ℕ) (log : List Entry)
         → Makes judge_next log s (record s { topo = u; queue = q; taste = Some z; providers = n }) outcomes.Ran
     made-made n log =
@@ -160,9 +167,11 @@ module _ (s : State) (a : Taste) (ready : Ready s a) (u : TopoView Config) (q : 
     over : IsNextTaste s.topo.topology a z Ended
     over = next-taste s a ready u q z Ended step.judged
 
+    -- no read of it is out
     pub ended-idle : is_read_out z.asked ≡ false
     ended-idle = over.out
 
+    -- nothing is out through its consumer
     pub ended-out : value_at u.active z.consumer ≡ Some 0
     ended-out =
         ap (value_at u.active) over.consumer
@@ -177,6 +186,7 @@ module _ (s : State) (a : Taste) (ready : Ready s a) (u : TopoView Config) (q : 
           (ended-kept s a ready u q z step.spare step.judged.mesh.mesh (over.ended refl)
           step.tasting v gone settled)
 
+      -- and the step is the world's
       pub ended-made : (log : List Entry)
           → Makes judge_next log s (record s { topo = v; queue = q; taste = o }) outcomes.Ran
       ended-made log =
@@ -226,6 +236,7 @@ module _ (s : State) (a : Taste) (ready : Ready s a) (u : TopoView Config) (q : 
         next-kept s a ready u q z spare settled same.mesh
         (ap (λ (x : Taste). is_read_out x.asked) still ∙ ready.idle)
 
+    -- and the world is the same
     pub refused-same : SameWorld s (record s { topo = u; queue = q; taste = Some z })
     refused-same actors log =
         ap (λ (x : TopoView Config). record (world actors log s) {

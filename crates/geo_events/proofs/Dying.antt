@@ -26,6 +26,7 @@ pub record KilledSoFar (s now : State) (p from_number : ℕ) : Type 0 where
     handles = record s.handles { handles = now.handles.handles; ready = now.handles.ready };
   }
 
+-- at first none is dead
 pub killing-begins : (s : State) (p : ℕ) → KilledSoFar s s p 0
 killing-begins s p = record {
   left = ap (fold killed s.handles.handles) (walk-begin (λ n. n) (dying_consumers s.topo.topology p));

@@ -30,9 +30,11 @@ use Rattle.geo_events.specs.Killing.{killed_at}
 abbrev good : Topology Config → ℕ
 good t = count_by (λ (p : Provider). not p.errored) t.providers
 
+-- how many providers have a write count
 abbrev written : TopoView Config → ℕ
 written t = count_by (λ (row : ℕ × Counts). not (row.1.w == 0)) t.haves
 
+-- those without an error, as effects count them
 good-is : (t : Topology Config) → sound_providers t ≡ good t
 good-is t = length-filter (λ (p : Provider). not p.errored) t.providers
 
@@ -56,6 +58,7 @@ module _ (s : State) (kept : Holds s) where
       let enough : sound_providers s.topo.topology + 1 ≤ s.queue.spare + 1 = omega (arith, room, same) in
       enough
 
+  -- also without the place of the head
   pub room-of : sound_providers s.topo.topology ≤ s.queue.spare + 1
   room-of = let more = room-for in omega (arith, more)
 
@@ -77,6 +80,7 @@ module _ (s : State) (kept : Holds s) where
         holds_after_effects s u q kept parts (ap (λ (v : TopoView Config). v.active) rest.mesh) counts_stay.granted
         (counts_stay.counted kept.counted) (counts_stay.quiet kept.quiet) room-left
 
+    -- so after a Spoil
     pub spoil-kept : (p : ℕ) → queued u q ≡ spoil (queued s.topo (headless s.queue)) p
         → Holds (record s { topo = u; queue = q })
     spoil-kept p same =
@@ -84,6 +88,7 @@ module _ (s : State) (kept : Holds s) where
         (subst (λ (r : QueuedTopology Config). SameParts s.topo.topology r.topology) (sym same)
         ((effects_keep_parts (granted_by s.topo) (queued s.topo (headless s.queue))).spoiled p))
 
+    -- after an Orphan
     pub orphan-kept : (p : ℕ) → queued u q ≡ orphan (queued s.topo (headless s.queue)) p
         → Holds (record s { topo = u; queue = q })
     orphan-kept p same =
@@ -91,6 +96,7 @@ module _ (s : State) (kept : Holds s) where
         (subst (λ (r : QueuedTopology Config). SameParts s.topo.topology r.topology) (sym same)
         ((effects_keep_parts (granted_by s.topo) (queued s.topo (headless s.queue))).orphaned p))
 
+    -- and after a Resize
     pub resize-kept : (p : ℕ)
         → ((granted : ℕ → Counts) → AreStored granted s.topo
         → queued u q ≡ resize granted (queued s.topo (headless s.queue)) p)
@@ -111,12 +117,14 @@ module _ (s : State) (kept : Holds s) where
 
   -- The worlds
 
+  -- a Spoil is done
   pub spoil-done : (u : TopoView Config) (q : Queued) (p : ℕ)
       → queued u q ≡ spoil (queued s.topo (headless s.queue)) p
       → HasDone s (record s { topo = u; queue = q }) (heads.Spoil p)
   unfolding do_event
   spoil-done u q p same actors log = ap (with_queued (without_head (world actors log s))) same
 
+  -- a Resize is done
   pub resize-done : (u : TopoView Config) (q : Queued) (p : ℕ)
       → ((granted : ℕ → Counts) → AreStored granted s.topo
       → queued u q ≡ resize granted (queued s.topo (headless s.queue)) p)
@@ -131,6 +139,7 @@ kills : (w : World) (cs : List ℕ) → fold kill_handle w cs ≡ record w { han
 kills w [] = refl
 kills w (c ∷ cs) = kills (kill_handle w c) cs
 
+-- an Orphan is done
 pub orphan-done : (s : State) (v : HandlesView) (u : TopoView Config) (q : Queued) (p : ℕ)
     → v ≡ record s.handles { handles = killed_at s.topo.topology p s.handles.handles; ready = v.ready }
     → queued u q ≡ orphan (queued s.topo (headless s.queue)) p
@@ -168,6 +177,7 @@ module _ (s : State) (mid : Queued) (is : mid ≡ headless s.queue) (u : TopoVie
       let spare : mid.spare ≡ s.queue.spare + 1 = ap (λ (r : Queued). r.spare) is in
       omega (arith, spare, owed)
 
+  -- or one more is owed
   pub owed-one : mid.spare + sound_providers u.topology ≤ q.spare + sound_providers s.topo.topology + 1
       → s.queue.spare + 1 + sound_providers u.topology ≤ q.spare + sound_providers s.topo.topology + 1
   owed-one owed =

@@ -29,6 +29,7 @@ module _ (granted : ℕ → Counts) (active : ℕ → Bool) (t : Topology Config
       record { geom = r.geom; here = Contains-there g r.geom gs r.here; is = r.is }
   source-by g gs work (Some x) is rest e = record { geom = g; here = Contains-here g gs; is = is ∙ e }
 
+  -- so of all geoms
   source : (gs : List (Geom Config)) (work : WashWork) → first_wash granted active t gs ≡ Some work → Source gs work
   source [] work never = absurd cc
   source (g ∷ gs) work e = source-by g gs work (wash_work_of granted active t g) refl (source gs work) e
@@ -61,6 +62,7 @@ module _ (granted : ℕ → Counts) (active : ℕ → Bool) (t : Topology Config
       (subst (λ o. IsSome o)
       (sym (found_itself (λ (y : Provider). y.number) t.next_provider t.providers x numbers kept.0)) refl)
 
+  -- so it lives
   pub provider-lives : (p : ℕ) → wash_where granted active t ≡ Some (works.Provider p)
       → AreNumbers (map (λ (x : Provider). x.number) t.providers) t.next_provider → IsSome (provider_at t p)
   provider-lives p e numbers =
@@ -79,6 +81,7 @@ module _ (granted : ℕ → Counts) (active : ℕ → Bool) (t : Topology Config
   geom-by g n None None false never = absurd cc
   geom-by g n None None true e = cc
 
+  -- so it lives
   pub geom-lives : (n : ℕ) → wash_where granted active t ≡ Some (works.Geom n)
       → AreNumbers (map (λ (x : Geom Config). x.number) t.geoms) t.next_geom → IsSome (geom_at t n)
   geom-lives n e numbers =

@@ -1,8 +1,8 @@
 -- What a class makes of a provider only comes: which consumers, geoms and providers, and that none is of a disk.
-use Rattle.std.specs.Prelude.{◌≡◌, ℕ, ◌+◌, ◌-◌, ◌<◌, ◌≤◌, ◌==◌, Bool, true, false, not, ◌&&◌, List, [], ◌∷◌, ◌++◌, length, map, find, Option, Some, None, All, IfSome, is_some, if◌then◌else◌}
+use Rattle.std.specs.Prelude.{◌≡◌, ℕ, ◌+◌, ◌-◌, ◌≤◌, ◌==◌, Bool, true, false, not, ◌&&◌, List, [], ◌∷◌, ◌++◌, length, map, Option, Some, None, IfSome, is_some, if◌then◌else◌}
 use Rattle.std.specs.List.{AllByRecursion, list_all}
 use Rattle.std.proofs.Common.{refl, sym, ◌∙◌, ap, subst, arith}
-use Rattle.std.proofs.lemmas.Bool.{and_parts, eqb-true, ne_eqb}
+use Rattle.std.proofs.lemmas.Bool.{and_parts, eqb-true}
 use Rattle.std.proofs.lemmas.List.{append_assoc, append-nil, length-append, map-append}
 use Rattle.std.proofs.lemmas.List.Elements.{recursion_from_All}
 use Rattle.geo_base.specs.declared.kind.Kind.{Kind}
@@ -16,7 +16,7 @@ use Rattle.geo_model.specs.Graph.{IsInOrder}
 use Rattle.geo_model.specs.Words.{change_where, same_name}
 use Rattle.geo_model.specs.Names.{label_name, logical_name, slice_name}
 use Rattle.geo_model.specs.Demand.{no_counts}
-use Rattle.geo_model.specs.Topology.{Topology, Geom, Provider, Consumer, geom_at, set_config}
+use Rattle.geo_model.specs.Topology.{Geom, Provider, Consumer, geom_at, set_config}
 use Rattle.geo_model.specs.Place.{disk_of}
 use Rattle.geo_model.specs.World.{Config, Nothing, Disk, Mbr, Ebr, Label, Concat, Stripe, Nop}
 use Rattle.geo_model.specs.Acceptance.{Member, NewSlice, are_names_free, can_join, concat_member, fill_place, is_same_assembly, is_size, joined_size, new_parts, new_slices, places_of, standing_geom, stripe_member}
@@ -113,9 +113,11 @@ module _ (t : TopoView Config) where
   abbrev same_rows : {X : Type 0} (xs : List X) → xs ≡ xs ++ []
   same_rows xs = sym (append-nil xs)
 
+  -- no number is given out
   abbrev none_more : t.topology.next_provider ≡ t.topology.next_provider + 0
   none_more = omega arith
 
+  -- the next number isn't lower
   abbrev not_less : t.topology.next_consumer ≤ t.topology.next_consumer
   not_less = omega arith
 
@@ -249,6 +251,7 @@ few-roomed t u v same g =
 abbrev pub AllGrow : TopoView Config → Option QueuedMesh → Type 0
 AllGrow t made = IfSome made (λ m. GrowsFew t m.mesh)
 
+-- what is made if something holds
 made-if : (b : Bool) (t : TopoView Config) (m : QueuedMesh) → GrowsFew t m.mesh → AllGrow t (if b then Some m else None)
 made-if true t m grown = grown
 made-if false t m grown = tt
@@ -274,6 +277,7 @@ record GrowsBy (t u : TopoView Config) (n : ℕ) : Type 0 where
   grows : Grows t u
   number : length grows.providers ≡ n
 
+-- each slice makes one provider
 slices-grow : (t : TopoView Config) (geom : ℕ) (slices : List NewSlice) (m : QueuedMesh) (n : ℕ)
     → GrowsBy t m.mesh n → GrowsBy t (with_slices_of m geom slices).mesh (n + length slices)
 unfolding grows-on provider-grows
@@ -381,6 +385,7 @@ finished-grows t m g geom config name sector = by (is_size (joined_size config))
         (one-more t m g.grows g.number geom name (joined_size config) sector)
     by false = tt
 
+-- and after it the provider, once all places are filled
 joined-grows : (t : TopoView Config) (m : QueuedMesh) (g : GrowsBy t m.mesh 0) (p : Provider) (geom : ℕ)
     (config : Config) (place : ℕ) (name : List ℕ) → disk_of config ≡ None → OfNoDisk m.mesh geom
     → AllGrow t (joined m p geom config place name)
@@ -459,6 +464,7 @@ module _ (m : QueuedMesh) (order : IsInOrder m.mesh.topology) (p : Provider) whe
         let three = and_parts (same_name g.name x.geom_name) (is_same_assembly g.config x.empty) two.1 in
         assembly-disk g.config x.empty three.1
 
+    -- it is the only geom of its number
     standing-no_disk : (g : Geom Config) → standing_geom m.mesh.topology x.geom_name x.empty ≡ Some g
         → OfNoDisk m.mesh g.number
     standing-no_disk g found =
@@ -477,6 +483,7 @@ module _ (m : QueuedMesh) (order : IsInOrder m.mesh.topology) (p : Provider) whe
         ap (λ (z : Geom Config). disk_of z.config) it ∙ standing-disk g found) m.mesh.topology.geoms
         (each.geoms m.mesh.topology order)
 
+    -- a place in the standing geom, or in a new one
     joined_at-grows : (o : Option (Geom Config)) → standing_geom m.mesh.topology x.geom_name x.empty ≡ o
         → AllGrow m.mesh (joined_at m p x o)
     unfolding geom-grows
@@ -491,6 +498,7 @@ module _ (m : QueuedMesh) (order : IsInOrder m.mesh.topology) (p : Provider) whe
             joined-grows m.mesh m nothing p g.number g.config x.place x.name (standing-disk g e) (standing-no_disk g e)
         by false = tt
 
+    -- so of a member
     member-grows : AllGrow m.mesh (with_member m p x)
     member-grows = joined_at-grows (standing_geom m.mesh.topology x.geom_name x.empty) refl
 

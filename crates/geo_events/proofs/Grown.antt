@@ -1,14 +1,14 @@
 -- A mesh to which parts came: nothing is granted by it, and which rows came.
-use Rattle.std.specs.Prelude.{◌≡◌, ℕ, ◌+◌, ◌≤◌, ◌==◌, Bool, true, false, List, [], ◌∷◌, ◌++◌, length, map, find, Option, Some, None, All, IsSome, unwrap_or, if◌then◌else◌}
+use Rattle.std.specs.Prelude.{◌≡◌, ℕ, ◌==◌, Bool, true, false, List, [], ◌∷◌, ◌++◌, map, find, Option, Some, None, IsSome, unwrap_or, if◌then◌else◌}
 use Rattle.std.specs.List.{AllByRecursion}
 use Rattle.std.specs.Option.{option_map, option_map_or}
-use Rattle.std.proofs.Common.{refl, sym, ◌∙◌, ap, subst}
+use Rattle.std.proofs.Common.{refl, sym, ◌∙◌, ap}
 use Rattle.std.proofs.lemmas.List.{map-append}
 use Rattle.std.proofs.lemmas.List.Elements.{All-contains}
 use Rattle.geo_base.specs.declared.kind.Kind.{Kind}
 use Rattle.geo_base.specs.declared.request.Counts.{Counts}
 use Rattle.geo_model.specs.Words.{is_granted_kind}
-use Rattle.geo_model.specs.Topology.{Topology, Geom, Provider, Consumer, consumer_at, geom_at}
+use Rattle.geo_model.specs.Topology.{Geom, Consumer, consumer_at, geom_at}
 use Rattle.geo_model.specs.Graph.{GeomsLive}
 use Rattle.geo_model.specs.Demand.{no_counts, want}
 use Rattle.geo_model.specs.Place.{disk_of}
@@ -19,7 +19,7 @@ use Rattle.geo_laws_graph.proofs.Members.{find-Contains}
 use Rattle.geo_access.specs.Access.{IsCounted, granted_by, holds_grants}
 use Rattle.geo_access.proofs.Decided.{item_at}
 use Rattle.geo_state.specs.Parts.{disk_row, geom_row}
-use Rattle.geo_state.specs.Sites.{Comers, HasComers, no_row}
+use Rattle.geo_state.specs.Sites.{Comers, HasComers}
 use Rattle.geo_state.proofs.Frames.{under, under_read}
 use Rattle.geo_state.proofs.Lists.{find-first, find-past, none-found}
 use Rattle.geo_events.proofs.Growing.{Grows, class_row, no_want, number_of}
@@ -73,6 +73,7 @@ module _ (t u : TopoView Config) (g : Grows t u) where
     providers = map geom_row g.providers;
   }
 
+  -- they came at the ends
   pub has-comers : HasComers t u comers
   has-comers = record {
     consumers = ap (map number_of) g.with_consumers ∙ map-append number_of t.topology.consumers g.consumers;

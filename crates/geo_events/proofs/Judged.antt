@@ -1,14 +1,12 @@
 -- What comes of a step of the taste, and that all is kept then.
-use Rattle.std.specs.Prelude.{◌≡◌, ℕ, ◌+◌, ◌-◌, ◌*◌, ◌/◌, ◌<◌, ◌≤◌, ◌^◌, ◌==◌, Bool, true, false, List, [], ◌∷◌, length, map, find, Option, Some, None, Ok, Err, IsSome, IsSomeAnd, IfSome, if◌then◌else◌}
+use Rattle.std.specs.Prelude.{◌≡◌, ℕ, ◌+◌, ◌-◌, ◌*◌, ◌/◌, ◌<◌, ◌≤◌, ◌^◌, Bool, true, false, List, [], ◌∷◌, length, map, Option, Some, None, Ok, Err, IsSome, IsSomeAnd, IfSome, if◌then◌else◌}
 use Rattle.std.specs.List.{AllByRecursion}
 use Rattle.std.specs.Option.{option_map, option_and_then}
 use Rattle.std.proofs.Common.{refl, sym, ◌∙◌, ap, subst, arith}
 use Rattle.std.proofs.lemmas.List.{append-nil, length-append, length-map}
-use Rattle.std.proofs.lemmas.List.Elements.{All-weaker}
 use Rattle.geo_base.specs.declared.kind.Kind.TheVariants as kinds
 use Rattle.geo_base.specs.declared.request.Counts.{Counts}
 use Rattle.geo_model.specs.declared.class.Judged.{Judged}
-use Rattle.geo_model.specs.declared.class.Judged.TheVariants.{Read, Next, Made, Ended}
 use Rattle.geo_model.specs.declared.class.Shape.{Shape}
 use Rattle.geo_model.specs.declared.class.Verdict.{Verdict}
 use Rattle.geo_model.specs.declared.class.Verdict.TheVariants.{Decline, More, Accept}
@@ -16,11 +14,11 @@ use Rattle.geo_model.specs.declared.command.LineCommand.{LineCommand}
 use Rattle.geo_model.specs.declared.step.Entry.{Entry}
 use Rattle.geo_model.specs.declared.step.Found.TheVariants as found
 use Rattle.geo_model.specs.declared.step.Outcome.{Outcome}
-use Rattle.geo_model.specs.Graph.{AreNumbers, IsInOrder}
+use Rattle.geo_model.specs.Graph.{IsInOrder}
 use Rattle.geo_model.specs.Topology.{Topology, Provider, Consumer, consumer_at, provider_at}
 use Rattle.geo_model.specs.Demand.{no_counts, one_read}
 use Rattle.geo_model.specs.Opens.{with_grant}
-use Rattle.geo_model.specs.World.{World, Config, Taste, granted_in, is_read_out}
+use Rattle.geo_model.specs.World.{World, Config, Taste, is_read_out}
 use Rattle.geo_model.specs.WorldEvents.{queued_of}
 use Rattle.geo_model.specs.Tasting.{Judging, facts_of, judged_world, judge_step, taste_step}
 use Rattle.geo_model.specs.Step.{Answer, judge_of, judge_next, taste_bio}
@@ -35,10 +33,9 @@ use Rattle.geo_handles.specs.Handles.{holding_handle}
 use Rattle.geo_life.specs.Life.{CountsStay}
 use Rattle.geo_life.proofs.Loose.{dropped_kept}
 use Rattle.geo_make.specs.Making.{QueuedMesh, both, queued, AreBoth}
-use Rattle.geo_make.specs.Accepting.{accepted}
 use Rattle.geo_taste.specs.Going.{going}
 use Rattle.geo_taste.specs.Judging.{IsJudged, MayJudge, making, made_by, verdict_at}
-use Rattle.geo_taste.specs.Taster.{IsTasteOf, held_by, judging, with_granted}
+use Rattle.geo_taste.specs.Taster.{IsTasteOf, judging, with_granted}
 use Rattle.geo_taste.specs.Taster.{IsSettled as IsTasteSettled}
 use Rattle.geo_taste.proofs.Firm.{firm_meshes_judge}
 use Rattle.geo_taste.proofs.Reading.{held_idle, taster_found, taster_holds}
@@ -47,20 +44,19 @@ use Rattle.geo_state.specs.declared.state.State.{State}
 use Rattle.geo_state.specs.Changes.{IsSettled}
 use Rattle.geo_state.specs.Holds.{Holds, granted_of, owed_events}
 use Rattle.geo_state.specs.Parts.{disk_row, geom_row}
-use Rattle.geo_state.specs.Sites.{Comers, HasComers, AreFresh}
+use Rattle.geo_state.specs.Sites.{Comers, AreFresh}
 use Rattle.geo_state.specs.Steps.{IsFirm, Makes}
 use Rattle.geo_state.specs.Trips.{trips, out_through}
 use Rattle.geo_state.specs.World.{world}
 use Rattle.geo_state.proofs.GrantLaws.{grants_follow, tastes_grant_nothing, tastes_grant_reads}
 use Rattle.geo_state.proofs.OwedLemmas.{places_are_owed}
 use Rattle.geo_state.proofs.SiteLemmas.{kept_after_comers, kept_after_consumer}
-use Rattle.geo_events.specs.Judging.{with_taste}
-use Rattle.geo_events.proofs.Growing.{GrowsFew, Grows, IsShort, AllGrow, accepted-grows, few-roomed, number_of}
+use Rattle.geo_events.proofs.Growing.{GrowsFew, IsShort, AllGrow, accepted-grows, few-roomed, number_of}
 use Rattle.geo_events.proofs.Grown.{all-mapped, comers, has-comers, no-disks, grown-granted}
 use Rattle.geo_events.proofs.Offering.{none-stored}
 use Rattle.geo_events.proofs.Shapes.{verdict-short}
 use Rattle.geo_events.proofs.Stepping.{IsNextTaste, steps_on}
-use Rattle.geo_events.proofs.Tasted.{tasting-of, ordered, readable-of, nobodys, is-taste}
+use Rattle.geo_events.proofs.Tasted.{tasting-of, ordered, readable-of, nobodys}
 
 -- The numbers of providers
 
@@ -125,6 +121,7 @@ module _ (s : State) (a : Taste) (ready : Ready s a) where
   abbrev t : Topology Config
   t = s.topo.topology
 
+  -- the mesh with its events
   abbrev m : QueuedMesh
   m = both s.topo s.queue
 

@@ -187,6 +187,7 @@ module _ (s : State) (kept : Holds s) (firm : IsFirm s) where
     pub passed-kept : Holds (record s { queue = queue })
     passed-kept = subst (λ (q : Queued). Holds (record s { queue = q })) (sym headless_is) (headless-kept s kept)
 
+    -- and the event is done
     pub passed-at : (p : ℕ) → false ≡ not (is_not_tasted (granted_by s.topo) t p)
         → HasDone s (record s { queue = queue }) (heads.NewProvider p)
     passed-at p isnt =
@@ -205,6 +206,7 @@ module _ (s : State) (kept : Holds s) (firm : IsFirm s) where
         let room : owed_events s.topo ≤ s.queue.spare = kept.room in
         omega (arith, owed, room))
 
+    -- and the world is the same
     pub roomed-world : SameWorld s (record s { topo = u })
     roomed-world actors log =
         ap (λ (v : TopoView Config). record (world actors log s) { topology = v.topology }) same

@@ -1,20 +1,16 @@
 -- The read of a taste that is submitted.
-use Rattle.std.specs.Prelude.{◌≡◌, ℕ, ◌+◌, ◌*◌, ◌/◌, ◌%◌, ◌<◌, ◌≤◌, ◌^◌, ◌==◌, nat_le, Bool, true, ◌&&◌, ◌||◌, List, [], ◌∷◌, ◌++◌, length, map, Option, Some, None, All, IsSomeAnd}
+use Rattle.std.specs.Prelude.{◌≡◌, ℕ, ◌+◌, ◌*◌, ◌/◌, ◌%◌, ◌<◌, ◌≤◌, ◌^◌, ◌==◌, nat_le, ◌||◌, List, [], ◌∷◌, ◌++◌, Some, IsSomeAnd}
 use Rattle.std.specs.Option.{option_map_or}
 use Rattle.std.proofs.Common.{refl, sym, ◌∙◌, ap, subst, arith}
 use Rattle.std.proofs.Math.Nat.{div-mul-le_self, mul-le-mul_right}
 use Rattle.std.proofs.lemmas.Bool.{and_parts, leb-true}
 use Rattle.std.proofs.lemmas.List.Elements.{All-contains}
 use Rattle.geo_base.specs.declared.request.BioCmd.TheVariants as cmds
-use Rattle.geo_model.specs.declared.command.LineCommand.{LineCommand}
 use Rattle.geo_model.specs.declared.span.Span.{Span}
-use Rattle.geo_model.specs.declared.step.Entry.{Entry}
 use Rattle.geo_model.specs.declared.step.Owner.TheVariants as owners
 use Rattle.geo_model.specs.Topology.{Topology, Provider, provider_at}
-use Rattle.geo_model.specs.Tasting.{submit_read}
 use Rattle.geo_model.specs.World.{World, Config, Taste}
 use Rattle.geo_model.specs.Bios.{new_bio, submit}
-use Rattle.geo_bio.specs.declared.bio.Held.{Held}
 use Rattle.geo_log.specs.Places.{delivered_at}
 use Rattle.geo_traffic.specs.Shown.{shown, AreLogged}
 use Rattle.geo_traffic.proofs.LoggedLemmas.{places_stay_logged}
@@ -23,7 +19,7 @@ use Rattle.geo_laws_graph.proofs.Members.{find-Contains}
 use Rattle.geo_mesh.specs.Graph.{IsOffer, IsSoundGraph}
 use Rattle.geo_state.specs.declared.state.State.{State}
 use Rattle.geo_state.specs.Bios.{OnlyBios}
-use Rattle.geo_state.specs.World.{world, header_disk}
+use Rattle.geo_state.specs.World.{world}
 use Rattle.geo_events.specs.Judging.{with_taste, HasSubmitted}
 
 -- the offset of a sector of a provider fits

@@ -1,7 +1,6 @@
 -- A state with other room for events and requests stands for the same world.
-use Rattle.std.specs.Prelude.{◌≡◌, ℕ, List, Option, Some, None, Result, Ok, Err, IfOk, OnErr, length}
-use Rattle.std.proofs.Common.{refl, sym, ◌∙◌, ap, subst}
-use Rattle.geo_model.specs.declared.command.LineCommand.{LineCommand}
+use Rattle.std.specs.Prelude.{◌≡◌, List, Option, Result, Ok, Err, IfOk, OnErr, length}
+use Rattle.std.proofs.Common.{sym, ◌∙◌, ap, subst}
 use Rattle.geo_model.specs.declared.step.Entry.{Entry}
 use Rattle.geo_model.specs.declared.step.Event.{Event}
 use Rattle.geo_model.specs.declared.step.Found.{Found}
@@ -22,6 +21,7 @@ module _ (s now : State) (roomed : IsRoomed s now) where
       ap (world actors log) roomed.rest
       ∙ ap (λ (es : List Event). let w : World = record (world actors log s) { events = es } in w) roomed.events
 
+  -- so it is as firm
   pub firm-still : IsFirm s → IsFirm now
   firm-still firm = (firm.0, (firm.1.0, subst Firm (sym (same-world firm.1.0 firm.0)) firm.1.1))
 
@@ -36,11 +36,13 @@ module _ (s now : State) (roomed : IsRoomed s now) where
     makes-still (Err e) new log makes = tt
     makes-still (Ok o) new log makes = λ actors. ap step (sym (same-world actors log)) ∙ makes actors
 
+  -- a state that stands for its world stands for that of the state as it was
   pub same-still : {A E : Type 0} (r : Result A E) (new : State) → OnErr r (SameWorld now new)
       → OnErr r (SameWorld s new)
   same-still (Ok x) new same = tt
   same-still (Err e) new same = λ actors log. same actors log ∙ same-world actors log
 
+  -- the bytes that bios name are in the log as before
   pub logged-still : (log : List Entry) → HasBytes log s → HasBytes log now
   logged-still log has =
       subst (λ (z : State). AreLogged (length log) z.traffic.bios) (sym roomed.rest) has

@@ -1,21 +1,19 @@
 -- A class accepts a table of few parts.
-use Rattle.std.specs.Prelude.{◌≡◌, ℕ, ◌+◌, ◌-◌, ◌*◌, ◌<◌, ◌≤◌, Bool, true, false, List, [], ◌∷◌, ◌++◌, length, map, replicate, Option, Some, None, Result, Ok, Err, IfSome, if◌then◌else◌}
+use Rattle.std.specs.Prelude.{◌≡◌, ℕ, ◌+◌, ◌-◌, ◌*◌, ◌<◌, ◌≤◌, Bool, true, false, List, ◌++◌, length, map, replicate, Option, Some, None, Result, Ok, Err, if◌then◌else◌}
 use Rattle.std.specs.Option.{option_map}
-use Rattle.std.proofs.Common.{refl, sym, ◌∙◌, ap, subst, arith}
+use Rattle.std.proofs.Common.{refl, ap, subst, arith}
 use Rattle.std.proofs.lemmas.List.{length-append, length-map, length-replicate}
 use Rattle.geo_base.specs.declared.decline.DeclineCause.{DeclineCause}
 use Rattle.geo_base.specs.declared.decline.DeclineCause.TheVariants as causes
 use Rattle.geo_base.specs.declared.kind.Kind.{Kind}
 use Rattle.geo_base.specs.declared.kind.Kind.TheVariants as kinds
 use Rattle.geo_base.specs.declared.request.Counts.{Counts}
-use Rattle.geo_model.specs.declared.class.ConcatRecord.{ConcatRecord}
 use Rattle.geo_model.specs.declared.class.EbrPart.{EbrPart}
 use Rattle.geo_model.specs.declared.class.Facts.{Facts}
 use Rattle.geo_model.specs.declared.class.LabelRecord.{LabelRecord}
 use Rattle.geo_model.specs.declared.class.MbrTable.{MbrTable}
 use Rattle.geo_model.specs.declared.class.Shape.{Shape}
 use Rattle.geo_model.specs.declared.class.Shape.TheVariants.{Slices, Logical, Named, Joined, Striped}
-use Rattle.geo_model.specs.declared.class.Verdict.{Verdict}
 use Rattle.geo_model.specs.declared.class.Verdict.TheVariants.{Decline, More, Accept}
 use Rattle.geo_model.specs.declared.step.BioResult.TheVariants as results
 use Rattle.geo_model.specs.Words.{first_error, unless}
@@ -59,6 +57,7 @@ short-parts c bytes shape true few e = absurd (let no : ⊥ = cc in no)
 short-parts c bytes shape false few e =
     subst IsShort (let same : Logical (table_of c.links) ≡ shape = cc in same) (places-of c.links few)
 
+-- so of a chain
 short-chain : (c : Chain) (bytes : List ℕ) (shape : Shape) (o : Option DeclineCause) → length c.links ≤ 32
     → chain_verdict c bytes o ≡ Accept shape → IsShort shape
 short-chain c bytes shape None few e = short-parts c bytes shape (leads_on bytes) few e
@@ -70,6 +69,7 @@ short-label : (f : Facts) (x : LabelRecord) (shape : Shape) (b : Bool)
 short-label f x shape true e = not-accepted causes.Media shape e
 short-label f x shape false e = subst IsShort (let same : Named x ≡ shape = cc in same) tt
 
+-- so of the record of a label
 short-named : (f : Facts) (r : Result LabelRecord DeclineCause) (shape : Shape) → label_verdict f r ≡ Accept shape
     → IsShort shape
 short-named f (Ok x) shape e = short-label f x shape (is_other_size x.size (f.sectors * f.sector)) e
@@ -104,6 +104,7 @@ module _ (granted : ℕ → Counts) (s : Taste) (f : Facts) (shape : Shape)
   by-class kinds.Taste bytes asked e = absurd (let no : ⊥ = cc in no)
   by-class kinds.Nop bytes asked e = absurd (let no : ⊥ = cc in no)
 
+  -- so of the sector that is back
   pub verdict-short : verdict_back granted s f ≡ Some (Accept shape) → IsShort shape
   verdict-short e = by s.asked refl e
     where

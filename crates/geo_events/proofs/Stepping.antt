@@ -1,7 +1,7 @@
 -- What a step of a taste makes of the taste, and which sector it reads.
 use Rattle.std.specs.Prelude.{◌≡◌, ℕ, ◌+◌, ◌/◌, ◌<◌, ◌≤◌, Bool, true, false, List, [], ◌∷◌, Option, Some, None, IsSomeAnd, IfSome, is_some, if◌then◌else◌}
 use Rattle.std.specs.Option.{option_map_or}
-use Rattle.std.proofs.Common.{refl, sym, ◌∙◌, ap, subst}
+use Rattle.std.proofs.Common.{refl, sym, subst}
 use Rattle.geo_base.specs.declared.errno.Errno.{Errno}
 use Rattle.geo_base.specs.declared.kind.Kind.{Kind}
 use Rattle.geo_base.specs.declared.kind.Kind.TheVariants as kinds
@@ -16,11 +16,11 @@ use Rattle.geo_model.specs.declared.step.BioResult.TheVariants as results
 use Rattle.geo_model.specs.Topology.{Topology, Provider, provider_at}
 use Rattle.geo_model.specs.Demand.{one_read}
 use Rattle.geo_model.specs.Opens.{grant_refusal, with_grant}
-use Rattle.geo_model.specs.Chain.{Chain, no_links}
+use Rattle.geo_model.specs.Chain.{no_links}
 use Rattle.geo_model.specs.World.{Config, Taste, Asked, NoClass, NextSector, ReadOut, ReadBack, is_read_out}
 use Rattle.geo_model.specs.Events.{QueuedTopology}
 use Rattle.geo_model.specs.Acceptance.{accept, taste_where}
-use Rattle.geo_model.specs.Tasting.{Judging, facts_of, is_attached_class, is_ended, end_class, end_taste, read_sector, follow, with_read, verdict_on, take_result, ask_class, next_class, go_on, taste_step}
+use Rattle.geo_model.specs.Tasting.{Judging, facts_of, is_attached_class, is_ended, end_class, end_taste, read_sector, follow, with_read, verdict_on, take_result, next_class, go_on, taste_step}
 use Rattle.geo_laws_judges.proofs.Firsts.{first_inside}
 
 -- whether a step came to a read
@@ -50,6 +50,7 @@ module _ (granted : ℕ → Counts) (q : QueuedTopology Config) (s : Taste) (idl
   abbrev t : Topology Config
   t = q.topology
 
+  -- the taste after a step is as it should be
   abbrev Steps : Judging → Type 0
   Steps x = IsNextTaste t s x.taste x.judged
 
@@ -142,6 +143,7 @@ module _ (granted : ℕ → Counts) (q : QueuedTopology Config) (s : Taste) (idl
     read_consumer kinds.Stripe bytes = refl
     read_consumer kinds.Nop bytes = refl
 
+    -- and its provider
     read_provider : (kind : Kind) (bytes : List ℕ) → (with_read granted s kind bytes f).provider ≡ s.provider
     read_provider kinds.Ebr bytes = refl
     read_provider kinds.Disk bytes = refl
@@ -189,6 +191,7 @@ module _ (granted : ℕ → Counts) (q : QueuedTopology Config) (s : Taste) (idl
           goes_on q (record s { classes = rest; asked = NoClass; reads = 0; chain = no_links }) refl refl refl
       asks_on kind rest false = where_on kind rest (taste_where kind f) refl
 
+      -- so with the classes that are left
       classes_on : (classes : List Kind) → Steps (next_class granted q s p classes)
       classes_on [] = ends
       classes_on (kind ∷ rest) = asks_on kind rest (is_attached_class t kind s.provider)
@@ -209,6 +212,7 @@ module _ (granted : ℕ → Counts) (q : QueuedTopology Config) (s : Taste) (idl
     provider_on None e can = ends
     provider_on (Some p) e can = asked_on p e can.some can.next s.asked refl
 
+    -- the taste goes on, or it ends
     going_on : (b : Bool)
         → Steps
         (if b

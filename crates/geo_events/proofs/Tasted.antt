@@ -1,18 +1,15 @@
 -- What a firm state tells of the taste that is under way.
-use Rattle.std.specs.Prelude.{◌≡◌, ℕ, ◌+◌, ◌/◌, ◌<◌, ◌≤◌, ◌^◌, ◌==◌, ◌↔◌, Bool, true, false, not, ◌&&◌, List, [], ◌∷◌, length, map, find, Option, Some, None, All, Contains, IsTrue, IsSome, IsSomeAnd, IfSome, MatchOption, if◌then◌else◌}
+use Rattle.std.specs.Prelude.{◌≡◌, ℕ, ◌<◌, ◌≤◌, ◌^◌, ◌==◌, Bool, true, false, not, ◌&&◌, List, [], ◌∷◌, length, Option, Some, None, Contains, IsTrue, IsSome, IsSomeAnd, IfSome, MatchOption, if◌then◌else◌}
 use Rattle.std.specs.List.{AllByRecursion, list_any}
 use Rattle.std.specs.Option.{option_map, option_map_or, option_and_then}
 use Rattle.std.proofs.Common.{refl, sym, ◌∙◌, ap, subst, arith, inl, inr, eq-eqb}
 use Rattle.std.proofs.lemmas.Bool.{eqb-true, false_from_ne_true}
 use Rattle.std.proofs.lemmas.List.Elements.{All-contains, recursion_from_All}
 use Rattle.geo_base.specs.Sectors.{IsSectorSize}
-use Rattle.geo_base.specs.declared.kind.Kind.{Kind}
 use Rattle.geo_base.specs.declared.request.Counts.{Counts}
-use Rattle.geo_model.specs.declared.command.LineCommand.{LineCommand}
 use Rattle.geo_model.specs.declared.step.BioResult.TheVariants as results
-use Rattle.geo_model.specs.declared.step.Entry.{Entry}
 use Rattle.geo_model.specs.Words.{is_read, names_number}
-use Rattle.geo_model.specs.Topology.{Topology, Geom, Provider, Consumer, consumer_at, consumers_of, geom_at, geom_of_provider, provider_at}
+use Rattle.geo_model.specs.Topology.{Topology, Geom, Provider, Consumer, consumer_at, consumers_of, geom_at, provider_at}
 use Rattle.geo_model.specs.Demand.{no_counts, one_read, want}
 use Rattle.geo_model.specs.Rank.{rank}
 use Rattle.geo_model.specs.Events.{taste_limit}
@@ -44,14 +41,14 @@ use Rattle.geo_taste.proofs.Reading.{held_idle, taster_found}
 use Rattle.geo_state.specs.declared.state.State.{State}
 use Rattle.geo_state.specs.Holds.{Holds}
 use Rattle.geo_state.specs.Steps.{IsFirm}
-use Rattle.geo_state.specs.Trips.{Trip, trip_of, trips, out_through, taste_read}
+use Rattle.geo_state.specs.Trips.{Trip, trip_of, trips}
 use Rattle.geo_state.specs.Trips.{is_out as goes_through}
 use Rattle.geo_state.specs.World.{world}
 use Rattle.geo_state.proofs.HolderFacts.{IsHeld, held}
 use Rattle.geo_state.proofs.Lists.{count-none}
 use Rattle.geo_state.proofs.Rises.{active-at}
 use Rattle.geo_events.proofs.Deciding.{read-is}
-use Rattle.geo_events.proofs.Stepping.{IsInside, IsReadable}
+use Rattle.geo_events.proofs.Stepping.{IsReadable}
 
 -- a fact of what is found, and what is there
 fact-at : {X : Type 0} (P : X → Type 0) (o : Option X) (x : X) → o ≡ Some x → IfSome o P → P x
@@ -73,6 +70,7 @@ module _ (s : State) (kept : Holds s) (firm : IsFirm s) (a : Taste) (is : s.tast
   abbrev t : Topology Config
   t = s.topo.topology
 
+  -- the world for which the state stands
   abbrev w : World
   w = world firm.1.0 firm.0 s
 
@@ -81,6 +79,7 @@ module _ (s : State) (kept : Holds s) (firm : IsFirm s) (a : Taste) (is : s.tast
   tasting-of =
       subst (λ (o : Option Taste). MatchOption o (consumers_of t 2 ≡ []) (IsTasting t)) is firm.1.1.sound.handles.taste
 
+  -- it is in order
   pub ordered : IsTasteInOrder w a
   ordered = subst (λ (o : Option Taste). IfSome o (IsTasteInOrder w)) is firm.1.1.sound.events.taste
 
@@ -94,6 +93,7 @@ module _ (s : State) (kept : Holds s) (firm : IsFirm s) (a : Taste) (is : s.tast
     found : provider_at t a.provider ≡ Some item
     low : rank t item.geom < taste_limit
 
+  -- so it is
   low-of : HasLow
   low-of = on (provider_at t a.provider) refl ordered.rank
     where
@@ -114,6 +114,7 @@ module _ (s : State) (kept : Holds s) (firm : IsFirm s) (a : Taste) (is : s.tast
   at-tasted : (P : Provider → Type 0) → P low-of.item → IfSome (provider_at t a.provider) P
   at-tasted P fact = subst (λ o. IfSome o P) (sym low-of.found) fact
 
+  -- its geom has a rank at which it is tasted
   pub rank-low : IfSome (provider_at t a.provider) (λ p. rank t p.geom < taste_limit)
   rank-low = at-tasted (λ p. rank t p.geom < taste_limit) low-of.low
 
@@ -199,6 +200,7 @@ module _ (s : State) (kept : Holds s) (firm : IsFirm s) (a : Taste) (is : s.tast
         ∙ ap (λ o. taste_grant o a.consumer) is
         ∙ ap (λ b. if b && is_read_out a.asked then one_read else no_counts) (eq-eqb a.consumer a.consumer refl)
 
+    -- so its consumer wants that
     wants-it : want (granted_by s.topo) t tasting-of.consumer ≡ held_by a
     wants-it =
         wants_grant (granted_by s.topo) t tasting-of.consumer
@@ -206,6 +208,7 @@ module _ (s : State) (kept : Holds s) (firm : IsFirm s) (a : Taste) (is : s.tast
         ∙ ap (granted_by s.topo) tasting-of.number
         ∙ granted-it
 
+    -- so the consumer is the taste's
     pub is-taste : IsTasteOf s.topo a
     is-taste = record {
       tasting = tasting-of;
@@ -243,6 +246,7 @@ module _ (s : State) (kept : Holds s) (firm : IsFirm s) (a : Taste) (is : s.tast
               let none : (want (granted_in w) t tasting-of.consumer).w ≡ 0 = ap (λ (c : Counts). c.w) wants-nothing in
               omega (arith, some, none)
 
+      -- nor any of those that the state has
       none-through : (bios : List (BioOf Held)) → AllByRecursion (IsBioInOrder w) (shown (delivered_at firm.0) bios)
           → AllByRecursion (λ (x : Trip). goes_through a.consumer x ≡ false) (trips bios)
       none-through [] order = tt

@@ -42,6 +42,7 @@ use Rattle.geo_events.proofs.Going.{provider-lives, geom-lives}
 abbrev sound : List Provider → ℕ
 sound xs = count_by (λ (p : Provider). not p.errored) xs
 
+-- how many rows have a write count
 abbrev held : List (ℕ × Counts) → ℕ
 held rows = count_by (λ (row : ℕ × Counts). not (row.1.w == 0)) rows
 
@@ -96,6 +97,7 @@ disks-geom seats disk geom = on (slice_get seats disk) refl
     on None is = refl
     on (Some seat) is = slot-seen header_disk seats disk (record seat { geom = geom }) seat is refl
 
+-- nor whether one stands for them
 disks-stay : (seats : List DiskSeat) (o : Option ℕ) → map header_disk (seats_without seats o) ≡ map header_disk seats
 disks-stay seats None = refl
 disks-stay seats (Some disk) = disks-geom seats disk None
@@ -124,6 +126,7 @@ module _ (s : State) (firm : IsFirm s) where
       some-and P None has = absurd has
       some-and P (Some x) has = refl
 
+  -- so has that of a geom's number
   pub has-seat : (n : ℕ) (disk : Option ℕ)
       → disk ≡ option_and_then (λ (g : Geom Config). disk_of g.config) (geom_at s.topo.topology n)
       → IfSome disk (λ d. d < length s.disks.items)
@@ -143,11 +146,13 @@ module _ (s : State) (kept : Holds s) (firm : IsFirm s) where
   stored : AreStored (granted_by s.topo) s.topo
   stored = counts_are_stored s.topo (granted_by s.topo) kept.counted (λ c. refl)
 
+  -- a provider that can go
   pub provider-stands : (p : ℕ) → IsDue s (works.Provider p) → IsSome (provider_at s.topo.topology p)
   provider-stands p due =
       provider-lives (granted_by s.topo) (is_out s.topo) s.topo.topology p
       (sym (due.found (granted_by s.topo) stored)) firm.1.1.sound.numbers.providers
 
+  -- and a geom that can go
   pub geom-stands : (g : ℕ) → IsDue s (works.Geom g) → IsSome (geom_at s.topo.topology g)
   geom-stands g due =
       geom-lives (granted_by s.topo) (is_out s.topo) s.topo.topology g
@@ -235,6 +240,7 @@ module _ (s : State) (kept : Holds s) (firm : IsFirm s) (u : TopoView Config) (q
 
     -- A consumer
 
+    -- all is kept
     pub consumer-kept : (cons : ℕ) → IsButForRoom u (without_consumer s.topo cons)
         → queued u q ≡ washed (queued s.topo s.queue) (works.Consumer cons)
         → Holds (record s { topo = u; queue = q })
@@ -248,6 +254,7 @@ module _ (s : State) (kept : Holds s) (firm : IsFirm s) (u : TopoView Config) (q
 
     -- A geom
 
+    -- all is kept
     pub geom-kept : (geom : ℕ) (new : State) → IsBare s.topo geom → IsSome (geom_at s.topo.topology geom)
         → IsButForRoom u (without_geom s.topo geom)
         → queued u q ≡ washed (queued s.topo s.queue) (works.Geom geom)
@@ -295,6 +302,7 @@ module _ (s : State) (kept : Holds s) (firm : IsFirm s) (u : TopoView Config) (q
             ∙ ap (λ o. seats_without s.disks.items (option_and_then (λ (x : Geom Config). disk_of x.config) o)) e)
             whole
 
+    -- and the world is that without it
     pub geom-world : (geom : ℕ) (new : State)
         → queued u q ≡ washed (queued s.topo s.queue) (works.Geom geom)
         → new ≡ record s { topo = u; queue = q; disks = new.disks }

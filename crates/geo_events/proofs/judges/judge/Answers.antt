@@ -1,5 +1,5 @@
 use Rattle.std.specs.Prelude.{◌+◌, ◌≤◌, IfSome}
-use Rattle.std.proofs.Common.{sym, subst}
+use Rattle.std.proofs.Common.{subst}
 use Rattle.geo_access.specs.Access.{consumers_below}
 use Rattle.geo_model.specs.Step.{judge_next}
 use Rattle.std.specs.Prelude.{None}
