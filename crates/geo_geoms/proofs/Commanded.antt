@@ -278,8 +278,8 @@ join-fits w ps full config wanted bad found none =
     let d = none_refused wrong EINVAL ((deep, EDEEP) ∷ []) c.1 in
     let e = none_refused deep EDEEP [] d.1 in
     let f = or_parts bad (is_invalid_joined config ps) d.0 in
-    let g = or_parts (not (list_all (λ (p : Provider). p.sector == sector_of ps) ps)) (not (is_size (joined_size config)))
-    f.1 in
+    let g = or_parts (not (list_all (λ (p : Provider). p.sector == sector_of ps) ps))
+    (not (is_size (joined_size config))) f.1 in
     let h = and_parts _ _ (not-false (is_size (joined_size config)) g.1) in
     record {
       stands = All-from_recursion (CanStandOn w.topology) (map (λ (p : Provider). p.number) ps)

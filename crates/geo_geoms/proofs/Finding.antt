@@ -165,7 +165,8 @@ others-none disk x of (g ∷ gs) apart =
     by (Some d) None e f is rest = rw f rest
     by (Some d) (Some m) e f is rest =
         let mine : d ≡ disk = eqb-true d disk is in
-        let other : (m == disk) ≡ false = ne_eqb m disk (λ same. apart.0 disk (e ∙ ap (λ n. Some n) mine) (f ∙ ap (λ n. Some n) same)) in
+        let other : (m == disk) ≡ false =
+        ne_eqb m disk (λ same. apart.0 disk (e ∙ ap (λ n. Some n) mine) (f ∙ ap (λ n. Some n) same)) in
         rw (f, other) rest
 
 -- the first of the disk, unless it withers
@@ -184,7 +185,8 @@ first-stays disk (g ∷ gs) apart =
         → find (stays disk) gs ≡ unless_withers (find (is_geom_of_disk disk) gs)
         → find (stays disk) (g ∷ gs) ≡ unless_withers (find (is_geom_of_disk disk) (g ∷ gs))
     by true true e f rest =
-        rw (e, f) (others-none disk g e gs (recursion_from_All (DifferInDisk g) gs (pairs_head DifferInDisk g gs apart)))
+        rw (e, f)
+        (others-none disk g e gs (recursion_from_All (DifferInDisk g) gs (pairs_head DifferInDisk g gs apart)))
     by true false e f rest = rw (e, f) refl
     by false b e f rest = rw e rest
 

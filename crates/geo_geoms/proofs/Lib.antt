@@ -8,3 +8,4 @@ pub mod Finding
 pub mod Withered
 pub mod Commanded
 pub mod Nopping
+pub mod Assembled

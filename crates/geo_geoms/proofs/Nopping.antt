@@ -94,7 +94,8 @@ module _ (s : State) (firm : IsFirm s) (prov : List ℕ) (below : Below) (at : I
       (All-contains (λ (x : Provider). IsSectorSize x.sector) s.topo.topology.providers at.p firm.1.1.fitting.sectors
       (find-Contains (λ (x : Provider). x.number == at.p.number) s.topo.topology.providers at.p below-number))
 
-  module _ (offset size fail : ℕ) (none : None ≡ first_error (nop_tests s.topo.topology (nop_name prov) offset size at.p)) where
+  module _ (offset size fail : ℕ)
+      (none : None ≡ first_error (nop_tests s.topo.topology (nop_name prov) offset size at.p)) where
     -- a nop that nothing refuses
     abbrev can : NopFits (world firm.1.0 firm.0 s) at.p (nop_name prov) size
     can = nop-fits (world firm.1.0 firm.0 s) firm.1.1 at.p (nop_name prov) offset size fail below-number none

@@ -76,7 +76,8 @@ pub record IsMore (t m : TopoView Config) (cs : List ℕ) : Type 0 where
 module _ (t : TopoView Config) (counted : IsCounted t) (quiet : IsQuiet t) (sound : IsSoundGraph t.topology) where
   -- A geom
 
-  module _ (kind : Kind) (name : List ℕ) (config : Config) (automatic : Bool) (other : is_granted_kind kind ≡ false) where
+  module _ (kind : Kind) (name : List ℕ) (config : Config) (automatic : Bool)
+      (other : is_granted_kind kind ≡ false) where
     -- the mesh with it
     abbrev raised : TopoView Config
     raised = with_geom t kind name config automatic

@@ -81,7 +81,8 @@ module _ (s : State) (disk : ℕ) (seat : DiskSeat) (at : slice_get s.disks.item
   seat-free free = subst (λ o. IfSome o (λ (x : DiskSeat). is_name_taken s.topo.topology x.name ≡ false)) at free
 
   -- the disks of the header stay, whatever geom stands for one
-  same-disks : (geom : Option ℕ) → map header_disk (with_geom_at s.disks.items disk geom) ≡ map header_disk s.disks.items
+  same-disks : (geom : Option ℕ)
+      → map header_disk (with_geom_at s.disks.items disk geom) ≡ map header_disk s.disks.items
   same-disks geom =
       ap (λ o. map header_disk (change_seat (λ x. record x { geom = geom }) s.disks.items disk o)) at
       ∙ slot-seen header_disk s.disks.items disk (record seat { geom = geom }) seat at refl

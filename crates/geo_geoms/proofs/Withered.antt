@@ -83,7 +83,8 @@ pub record IsNumberOf (o : Option (Geom Config)) (n : ℕ) : Type 0 where
   pub is : o ≡ Some geom
   pub number : geom.number ≡ n
 
-pub number-of : (o : Option (Geom Config)) (n : ℕ) → Some n ≡ option_map (λ (g : Geom Config). g.number) o → IsNumberOf o n
+pub number-of : (o : Option (Geom Config)) (n : ℕ) → Some n ≡ option_map (λ (g : Geom Config). g.number) o
+    → IsNumberOf o n
 number-of None n never = absurd (cc)
 number-of (Some g) n is = record { geom = g; is = refl; number = cc }
 
@@ -149,7 +150,8 @@ module _ (s new : State) (line : ℕ) (o : Outcome) (actors : List (List LineCom
 
       pub destroy-busy : is_in_use (granted_by s.topo) s.topo.topology geom ≡ true
           → o ≡ outcomes.Replied line (replies.Refused EBUSY) → do_destroy w line (named_geom w kind name) ≡ (w, o)
-      destroy-busy busy is = ap (do_destroy w line) g.is ∙ ap answer_by (use-is true busy) ∙ ap (with_outcome w) (sym is)
+      destroy-busy busy is =
+          ap (do_destroy w line) g.is ∙ ap answer_by (use-is true busy) ∙ ap (with_outcome w) (sym is)
 
       pub destroy-done : is_in_use (granted_by s.topo) s.topo.topology geom ≡ false
           → world actors log new ≡ with_queued w (wither (queued_of w) geom) → o ≡ outcomes.Replied line replies.Ok

@@ -5,6 +5,7 @@ mod below;
 mod destroys;
 mod disks;
 mod inserts;
+mod joins;
 mod makes;
 mod names;
 mod nops;
@@ -18,6 +19,7 @@ pub use below::{
 };
 pub use destroys::{destroy, pull};
 pub use inserts::insert;
+pub use joins::{concat, stripe};
 pub use names::{Growing, found_provider, growing_concat, named_geom};
 pub use nops::nop;
 pub use refusals::{is_bad_stripe, joined_refusal, nop_refusal};

@@ -16,7 +16,8 @@ returns-in_default-clause-does c = λ log actors.
 pub returns-in_default-standing_geom-clause-does : goal.returns-in_default-standing_geom-clause-does
 returns-in_default-standing_geom-clause-does c = λ log actors.
     let s : State = c.args.state.now in
-    let named = disk-found s c.args.name.now c.in-Some.disk (ap (λ (xs : List DiskSeat). disk_named xs c.args.name.now) (sym c.deref.ensures.value)
+    let named = disk-found s c.args.name.now c.in-Some.disk
+    (ap (λ (xs : List DiskSeat). disk_named xs c.args.name.now) (sym c.deref.ensures.value)
     ∙ sym c.disk_named.ensures ∙ c.in-Some.is) in
     pull-absent s s c.args.line c.refused-in_default-standing_geom.result actors log c.args.name.now _
     (named.found actors log) (none-of _ (sym c.in_default-standing_geom.is ∙ c.standing_geom.ensures))
@@ -31,7 +32,8 @@ wither_geom-requires-clause-lives c =
 pub returns-clause-does : goal.returns-clause-does
 returns-clause-does c = λ log actors.
     let s : State = c.args.state.now in
-    let named = disk-found s c.args.name.now c.in-Some.disk (ap (λ (xs : List DiskSeat). disk_named xs c.args.name.now) (sym c.deref.ensures.value)
+    let named = disk-found s c.args.name.now c.in-Some.disk
+    (ap (λ (xs : List DiskSeat). disk_named xs c.args.name.now) (sym c.deref.ensures.value)
     ∙ sym c.disk_named.ensures ∙ c.in-Some.is) in
     pull-done s c.wither_geom.new.state c.args.line c.done.result actors log c.args.name.now _
     (named.found actors log) c.in-Some-standing_geom.geom
