@@ -1,0 +1,10 @@
+use Rattle.std.proofs.Common.{ap, ◌∙◌}
+use Rattle.geo_commands.specs.Decisions.{owed_by}
+use Rattle.geo_commands.proofs.Deciding.{owes_after}
+use Rattle.geo_commands.proofs.decisions.owed_after.Goals as goal
+
+pub returns : goal.returns
+returns c actors log line actor command decided =
+    c.owed_by.ensures
+    ∙ ap (λ n. owed_by n c.args.decision.now) c.places_owed.ensures
+    ∙ owes_after c.args.state.now c.requires.kept c.args.decision.now actors log line actor command decided

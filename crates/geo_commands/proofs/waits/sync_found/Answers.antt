@@ -1,0 +1,13 @@
+use Rattle.std.proofs.Common.{sym, ◌∙◌, Some, None}
+use Rattle.geo_commands.proofs.Waiting.{sync_waits}
+use Rattle.geo_commands.proofs.waits.sync_found.Goals as goal
+
+pub returns-in-Some : goal.returns-in-Some
+returns-in-Some c =
+    sync_waits c.args.state.now c.requires.kept c.requires.firm (Some c.in-Some.bio) c.args.actor
+    (sym c.in-Some.is ∙ c.own_bio.ensures)
+
+pub returns-in-None : goal.returns-in-None
+returns-in-None c =
+    sync_waits c.args.state.now c.requires.kept c.requires.firm None c.args.actor
+    (sym c.in-None.is ∙ c.own_bio.ensures)
