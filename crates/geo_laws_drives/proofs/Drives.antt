@@ -1,7 +1,7 @@
 -- Drives that serve what the entries of a log say, with one entry more.
-use Rattle.std.specs.Prelude.{◌≡◌, ◌≢◌, ℕ, zero, suc, ◌+◌, ◌==◌, Bool, true, false, cond, ◌&&◌, List, [], ◌∷◌, ◌++◌, Option, Some, None, IfSome, slice_get, slice_set, if◌then◌else◌}
+use Rattle.std.specs.Prelude.{◌≡◌, ◌≢◌, ℕ, zero, suc, ◌+◌, ◌-◌, ◌^◌, ◌==◌, min, Bool, true, false, cond, ◌&&◌, List, [], ◌∷◌, ◌++◌, Option, Some, None, IfSome, slice_get, slice_set, if◌then◌else◌}
 use Rattle.std.specs.Option.{option_map}
-use Rattle.std.proofs.Common.{refl, sym, ◌∙◌, ap, subst, arith}
+use Rattle.std.proofs.Common.{add-zero, refl, sym, ◌∙◌, ap, subst, arith}
 use Rattle.std.proofs.lemmas.Bool.{both_ways, eqb-true, eq-eqb, ne_eqb}
 use Rattle.geo_laws_graph.proofs.Members.{nothing_in}
 use Rattle.geo_disk.specs.Memory.{counted_on}
@@ -16,10 +16,10 @@ use Rattle.geo_model.specs.Contents.{after_command, contents, done_sectors, AreT
 use Rattle.geo_model.specs.Outside.{failures_of}
 use Rattle.geo_serve.specs.Drives.{DriveView}
 use Rattle.geo_serve.specs.Serve.{FailsAsTold, Serves, TellsWhatIsHeld, held_after, is_failed}
-use Rattle.geo_serve.specs.Served.{AreServed, IsServed, IsServedAt}
+use Rattle.geo_serve.specs.Served.{AreServed, IsServed, IsServedAt, answers_of}
 use Rattle.geo_laws_drives.proofs.Splits.{none_in}
 use Rattle.geo_laws_drives.specs.DriveLaws.{AreTaken, DrivesFollow}
-use Rattle.geo_laws_drives.proofs.Held.{answered_contents, answered_failures, answered_true, quiet_contents, quiet_failures, quiet_true}
+use Rattle.geo_laws_drives.proofs.Held.{answered_answers, answered_contents, answered_failures, answered_true, quiet_answers, quiet_contents, quiet_failures, quiet_true}
 
 -- what a told disk holds, by equal functions
 map_same : {A B : Type 0} (f g : A → B) (o : Option A) → ((x : A) → f x ≡ g x) → option_map f o ≡ option_map g o
@@ -37,6 +37,7 @@ unfolding contents AreTrue
 served_none disk before = record {
   held = by before.held;
   reads = reads before.held;
+  calls = ap (λ n. min n (2 ^ 64 - 1)) (sym (add-zero before.calls));
   failures = omega arith;
   later = omega arith;
   sector = refl;
@@ -62,6 +63,8 @@ served_quiet xs e disk before after taken quiet served = record {
       before.held (λ held. sym (quiet_contents xs e taken quiet before.sector disk held));
   reads = told_by (λ held. AreTrue before.sector held xs disk) (λ held. AreTrue before.sector held (xs ++ e ∷ []) disk)
       before.held (λ held. quiet_true xs e taken quiet before.sector disk held) served.reads;
+  calls = served.calls
+      ∙ ap (λ n. min (before.calls + n) (2 ^ 64 - 1)) (sym (quiet_answers xs e taken quiet disk));
   failures = subst (λ n. RoseBy n before.faults after.faults) (sym (quiet_failures xs e taken quiet disk)) served.failures;
   later = served.later;
   sector = served.sector;
@@ -83,6 +86,7 @@ served_other xs e b got q disk before after taken delivers asked other served = 
       (λ held so_far. answered_true xs e b got q taken delivers asked before.sector disk held so_far
       (λ its. absurd (other its)))
       served.reads;
+  calls = served.calls ∙ ap (λ n. min (before.calls + n) (2 ^ 64 - 1)) (sym answers);
   failures = subst (λ n. RoseBy n before.faults after.faults) (sym fails) served.failures;
   later = served.later;
   sector = served.sector;
@@ -100,6 +104,11 @@ served_other xs e b got q disk before after taken delivers asked other served = 
         answered_contents xs e b got q taken delivers asked size disk held
         ∙ ap (λ (c : Bool). if c then after_command size q.cmd q (done_sectors q got) (contents size held xs disk)
         else contents size held xs disk) apart
+
+    answers : answers_of (xs ++ e ∷ []) disk ≡ answers_of xs disk
+    answers =
+        answered_answers xs e b got q taken delivers asked disk
+        ∙ ap (λ c. answers_of xs disk + cond c 1 0) apart ∙ add-zero (answers_of xs disk)
 
     fails : failures_of (xs ++ e ∷ []) disk ≡ failures_of xs disk
     fails = answered_failures xs e b got q taken delivers asked disk ∙ none (is_failed got)
@@ -130,6 +139,7 @@ served_own xs e b got q before mid after taken delivers asked served serves = re
       ∙ joined before.held;
   reads = reads before.held served.reads
       (subst (λ o. IfSome o (TellsWhatIsHeld q got)) served.held serves.tells);
+  calls = one_more;
   failures = by (is_failed got) refl;
   later = omega (arith, served.later, serves.later);
   sector = serves.sector ∙ served.sector;
@@ -161,6 +171,13 @@ served_own xs e b got q before mid after taken delivers asked served serves = re
     reads None so_far tells = tt
     reads (Some held) so_far tells =
         answered_true xs e b got q taken delivers asked before.sector q.disk held so_far (λ its. tells)
+
+    one_more : min after.calls (2 ^ 64 - 1) ≡ min (before.calls + answers_of (xs ++ e ∷ []) q.disk) (2 ^ 64 - 1)
+    one_more =
+        let more : answers_of (xs ++ e ∷ []) q.disk ≡ answers_of xs q.disk + 1 =
+        answered_answers xs e b got q taken delivers asked q.disk
+        ∙ ap (λ c. answers_of xs q.disk + cond c 1 0) own in
+        omega (arith, more, serves.called, served.calls)
 
     fails : failures_of (xs ++ e ∷ []) q.disk ≡ failures_of xs q.disk + cond (is_failed got) 1 0
     fails =

@@ -14,6 +14,7 @@ use Rattle.geo_model.specs.Results.{request_of}
 use Rattle.geo_model.specs.Contents.{after_answer, after_step, bytes_at, contents, AreTrue, ReadsWhatIsHeld}
 use Rattle.geo_model.specs.Outside.{failures_of, is_failed_answer, is_of_disk}
 use Rattle.geo_serve.specs.Serve.{TellsWhatIsHeld, is_failed}
+use Rattle.geo_serve.specs.Served.{answers_of}
 use Rattle.geo_laws_drives.proofs.Splits.{each_more}
 use Rattle.geo_laws_drives.specs.DriveLaws.{AreTaken, IsTaken}
 use Rattle.geo_laws_drives.proofs.Requests.{delivered_same, request_same}
@@ -119,6 +120,25 @@ failures_more disk xs e taken =
     ∙ ap (λ n. n + cond (fails_in (xs ++ e ∷ []) disk e) 1 0)
     (counted_same (fails_in (xs ++ e ∷ []) disk) (fails_in xs disk) xs (fails_same xs (e ∷ []) disk xs taken) 0)
 
+-- whether an entry delivers an answer of a disk
+abbrev answers_in : List Entry → ℕ → Entry → Bool
+answers_in log disk e = is_of_disk disk (option_and_then (request_of log) (delivered_in e.step))
+
+-- the answers of entries are the same by a longer log
+answers_same : (xs ys : List Entry) (disk : ℕ) (es : List Entry) → AreTaken xs es
+    → AllByRecursion (λ e. answers_in (xs ++ ys) disk e ≡ answers_in xs disk e) es
+answers_same xs ys disk [] taken = tt
+answers_same xs ys disk (e ∷ es) taken =
+    (ap (λ o. is_of_disk disk o) (delivered_same xs ys e.step taken.0), answers_same xs ys disk es taken.1)
+
+-- the answers with one entry more
+answers_more : (disk : ℕ) (xs : List Entry) (e : Entry) → AreTaken xs xs
+    → answers_of (xs ++ e ∷ []) disk ≡ answers_of xs disk + cond (answers_in (xs ++ e ∷ []) disk e) 1 0
+answers_more disk xs e taken =
+    fold-append (λ (a : ℕ) (x : Entry). a + cond (answers_in (xs ++ e ∷ []) disk x) 1 0) 0 xs (e ∷ [])
+    ∙ ap (λ n. n + cond (answers_in (xs ++ e ∷ []) disk e) 1 0)
+    (counted_same (answers_in (xs ++ e ∷ []) disk) (answers_in xs disk) xs (answers_same xs (e ∷ []) disk xs taken) 0)
+
 -- An entry that delivers nothing
 
 module _ (xs : List Entry) (e : Entry) (taken : AreTaken xs xs) (quiet : delivered_in e.step ≡ None) where
@@ -135,6 +155,12 @@ module _ (xs : List Entry) (e : Entry) (taken : AreTaken xs xs) (quiet : deliver
       + cond (c && is_of_disk disk (option_and_then (request_of (xs ++ e ∷ [])) (delivered_in e.step))) 1 0)
       (quiet_answer e.step quiet)
       ∙ add-zero (failures_of xs disk)
+
+  pub quiet_answers : (disk : ℕ) → answers_of (xs ++ e ∷ []) disk ≡ answers_of xs disk
+  quiet_answers disk =
+      answers_more disk xs e taken
+      ∙ ap (λ o. answers_of xs disk + cond (is_of_disk disk (option_and_then (request_of (xs ++ e ∷ [])) o)) 1 0) quiet
+      ∙ add-zero (answers_of xs disk)
 
   pub quiet_true : (size disk : ℕ) (held : List (List ℕ)) → AreTrue size held xs disk
       → AreTrue size held (xs ++ e ∷ []) disk
@@ -183,6 +209,14 @@ module _ (xs : List Entry) (e : Entry) (b : ℕ) (got : DeviceResult) (q : Reque
       ∙ ap (λ c. failures_of xs disk + cond (c && is_of_disk disk (request_of (xs ++ e ∷ []) b)) 1 0)
       (failed_answer b got)
       ∙ ap (λ o. failures_of xs disk + cond (is_failed got && is_of_disk disk o) 1 0) asked_more
+
+  pub answered_answers : (disk : ℕ)
+      → answers_of (xs ++ e ∷ []) disk ≡ answers_of xs disk + cond (q.disk == disk) 1 0
+  answered_answers disk =
+      answers_more disk xs e taken
+      ∙ ap (λ s. answers_of xs disk
+      + cond (is_of_disk disk (option_and_then (request_of (xs ++ e ∷ [])) (delivered_in s))) 1 0) delivers
+      ∙ ap (λ o. answers_of xs disk + cond (is_of_disk disk o) 1 0) asked_more
 
   pub answered_true : (size disk : ℕ) (held : List (List ℕ)) → AreTrue size held xs disk
       → (q.disk ≡ disk → TellsWhatIsHeld q got (contents size held xs disk))
