@@ -65,7 +65,8 @@ served_quiet xs e disk before after taken quiet served = record {
       before.held (λ held. quiet_true xs e taken quiet before.sector disk held) served.reads;
   calls = served.calls
       ∙ ap (λ n. min (before.calls + n) (2 ^ 64 - 1)) (sym (quiet_answers xs e taken quiet disk));
-  failures = subst (λ n. RoseBy n before.faults after.faults) (sym (quiet_failures xs e taken quiet disk)) served.failures;
+  failures = subst (λ n. RoseBy n before.faults after.faults) (sym (quiet_failures xs e taken quiet disk))
+      served.failures;
   later = served.later;
   sector = served.sector;
   count = served.count;
@@ -207,7 +208,8 @@ served_own xs e b got q before mid after taken delivers asked served serves = re
 -- All drives
 
 -- a drive that was changed is the new one
-set_same : {X : Type 0} (xs : List X) (i : ℕ) (v x : X) → slice_get xs i ≡ Some x → slice_get (slice_set xs i v) i ≡ Some v
+set_same : {X : Type 0} (xs : List X) (i : ℕ) (v x : X) → slice_get xs i ≡ Some x
+    → slice_get (slice_set xs i v) i ≡ Some v
 set_same [] i v x never = absurd cc
 set_same (y ∷ ys) zero v x is = refl
 set_same (y ∷ ys) (suc i) v x is = set_same ys i v x is
@@ -262,7 +264,8 @@ all_served_answered xs e b got q before mid old new taken delivers asked here se
         → IsServedAt (xs ++ e ∷ []) disk (slice_get before disk) (slice_get (slice_set mid q.disk new) disk)
     by true is =
         let same : disk ≡ q.disk = eqb-true disk q.disk is in
-        subst (λ n. IsServedAt (xs ++ e ∷ []) n (slice_get before n) (slice_get (slice_set mid q.disk new) n)) (sym same)
+        subst (λ n. IsServedAt (xs ++ e ∷ []) n (slice_get before n) (slice_get (slice_set mid q.disk new) n))
+        (sym same)
         (rw (set_same mid q.disk new old here)
         (own (slice_get before q.disk)
         (subst (λ o. IsServedAt xs q.disk (slice_get before q.disk) o) here (served q.disk))))
