@@ -34,7 +34,6 @@ use Rattle.geo_events.proofs.Judged.{Ready, may-judge, next-taste, judged-makes,
 -- a step came to this, with the mesh, the queue and the taste after it
 pub record Stepped (s : State) (a : Taste) (u : TopoView Config) (q : Queued) (z : Taste) (j : Judged) : Type 0 where
   pub judged : IsJudged (both s.topo s.queue) a u q z j
-  -- it is settled
   pub settled : IsKnownWith j (MayJudge (both s.topo s.queue) a) (IsTasteSettled u)
   pub tasting : IsKnownWith j (MayJudge (both s.topo s.queue) a) (IsTasteOf u z)
   pub spare : s.queue.spare ≤ q.spare + 32
@@ -64,6 +63,7 @@ module _ (s : State) (a : Taste) (ready : Ready s a) (u : TopoView Config) (q : 
   -- The taste goes on
 
   module _ (step : Stepped s a u q z Next) where
+    -- all is kept
     pub next-holds : Holds (record s { topo = u; queue = q; taste = Some z })
     next-holds =
         next-kept s a ready u q z step.spare step.settled step.judged.mesh.mesh
@@ -79,6 +79,7 @@ module _ (s : State) (a : Taste) (ready : Ready s a) (u : TopoView Config) (q : 
   -- A read is granted
 
   module _ (sector : ℕ) (step : Stepped s a u q z (Read sector)) where
+    -- the taste then
     after : IsNextTaste s.topo.topology a z (Read sector)
     after = next-taste s a ready u q z (Read sector) step.judged
 
@@ -128,9 +129,11 @@ module _ (s : State) (a : Taste) (ready : Ready s a) (u : TopoView Config) (q : 
   -- Something is made of the provider
 
   module _ (step : Stepped s a u q z Made) where
+    -- what can be made is made
     made : IsSomeAnd (making (both s.topo s.queue) a) (AreBoth u q)
     made = step.judged.mesh (may-judge s a ready)
 
+    -- the mesh is settled
     settled : IsTasteSettled u
     settled = step.settled (may-judge s a ready)
 
@@ -164,6 +167,7 @@ module _ (s : State) (a : Taste) (ready : Ready s a) (u : TopoView Config) (q : 
   -- The taste ends
 
   module _ (step : Stepped s a u q z Ended) where
+    -- the taste then
     over : IsNextTaste s.topo.topology a z Ended
     over = next-taste s a ready u q z Ended step.judged
 
@@ -180,6 +184,7 @@ module _ (s : State) (a : Taste) (ready : Ready s a) (u : TopoView Config) (q : 
 
     module _ (v : TopoView Config) (gone : v ≡ without_consumer u z.consumer) (settled : IsTasteSettled v)
         (o : Option Taste) (none : o ≡ None) where
+      -- all is kept
       pub ended-holds : Holds (record s { topo = v; queue = q; taste = o })
       ended-holds =
           subst (λ (x : Option Taste). Holds (record s { topo = v; queue = q; taste = x })) (sym none)
@@ -231,6 +236,7 @@ module _ (s : State) (a : Taste) (ready : Ready s a) (u : TopoView Config) (q : 
 
   module _ (same : AreBoth u q (both s.topo s.queue)) (still : z ≡ a) (settled : IsTasteSettled u)
       (spare : s.queue.spare ≤ q.spare + 32) where
+    -- all is kept
     pub refused-holds : Holds (record s { topo = u; queue = q; taste = Some z })
     refused-holds =
         next-kept s a ready u q z spare settled same.mesh

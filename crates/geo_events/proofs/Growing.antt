@@ -110,15 +110,15 @@ grows-on t u v g h = record {
 
 module _ (t : TopoView Config) where
   -- nothing came
-  abbrev same_rows : {X : Type 0} (xs : List X) → xs ≡ xs ++ []
+  same_rows : {X : Type 0} (xs : List X) → xs ≡ xs ++ []
   same_rows xs = sym (append-nil xs)
 
   -- no number is given out
-  abbrev none_more : t.topology.next_provider ≡ t.topology.next_provider + 0
+  none_more : t.topology.next_provider ≡ t.topology.next_provider + 0
   none_more = omega arith
 
   -- the next number isn't lower
-  abbrev not_less : t.topology.next_consumer ≤ t.topology.next_consumer
+  not_less : t.topology.next_consumer ≤ t.topology.next_consumer
   not_less = omega arith
 
   -- a geom that is of no disk

@@ -1,7 +1,6 @@
 //! The read of a taste, which is a bio from then on (geom(4), g_bio(9)).
-ghost use Rattle.std.specs.Prelude.{◌≡◌, ◌*◌, ◌/◌, ◌<◌, ◌≤◌, List, Some, None, IsSomeAnd};
+ghost use Rattle.std.specs.Prelude.{◌≡◌, ◌*◌, ◌/◌, ◌<◌, ◌≤◌, List, Some, IsSomeAnd};
 ghost use Rattle.std.specs.Option.{option_map_or};
-ghost use Rattle.geo_model.specs.declared.span.Span.{Span as SpanValue};
 ghost use Rattle.geo_model.specs.declared.step.Entry.{Entry};
 ghost use Rattle.geo_model.specs.declared.step.Outcome.TheVariants as outcomes;
 ghost use Rattle.geo_model.specs.Topology.{provider_at};
