@@ -144,7 +144,9 @@ module _ (s : State) (kept : Holds s) (firm : IsFirm s) where
       → (actors : List (List LineCommand)) (log : List Entry) → (a || b) ≡ is_unsettled (world actors log s)
   unsettled a b first then_freed actors log =
       ap (λ x. x || b) (first ∙ under_way s actors log)
-      ∙ ap (λ x. (not (length s.queue.events == 0) || (is_some s.taste || not (length (world actors log s).bios == 0))) || x)
+      ∙ ap
+      (λ x. (not (length s.queue.events == 0)
+      || (is_some s.taste || not (length (world actors log s).bios == 0))) || x)
       (then_freed actors log)
       ∙ in_parts (not (length s.queue.events == 0)) (is_some s.taste)
       (not (length (world actors log s).bios == 0)) (is_some (reap_work (world actors log s)))
