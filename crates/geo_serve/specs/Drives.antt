@@ -1,5 +1,5 @@
 -- A drive as requests find it.
-use Rattle.std.specs.Prelude.{ℕ, List, Option, Some, None}
+use Rattle.std.specs.Prelude.{◌≡◌, ℕ, List, length, All, Option, Some, None, IfSome}
 use Rattle.geo_disk.specs.declared.drive.Drive.{Drive}
 use Rattle.geo_disk.specs.declared.drive.Drive.TheVariants.{Ram, Shelved}
 use Rattle.geo_disk.specs.Drive.{bytes_by, calls_by, count_by, faults_by, held_by}
@@ -30,3 +30,11 @@ drive_view held sector_bytes sector_count calls faults drive = record {
   calls = calls_by calls drive;
   faults = faults_by faults drive;
 }
+
+-- each sector that the drive tells has its size
+abbrev pub HasWholeSectors : DriveView → Type 0
+HasWholeSectors d = IfSome d.held (λ sectors. All (λ s. length s ≡ d.sector) sectors)
+
+-- it tells as many sectors as it has
+abbrev pub HasAllSectors : DriveView → Type 0
+HasAllSectors d = IfSome d.held (λ sectors. length sectors ≡ d.count)

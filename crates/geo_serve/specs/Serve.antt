@@ -10,7 +10,7 @@ use Rattle.geo_model.specs.declared.step.Request.{Request}
 use Rattle.geo_model.specs.Words.{is_flush, is_read, is_write}
 use Rattle.geo_model.specs.Requests.{request_limit}
 use Rattle.geo_model.specs.Contents.{after_command, bytes_at, done_sectors}
-use Rattle.geo_serve.specs.Drives.{DriveView}
+use Rattle.geo_serve.specs.Drives.{DriveView, HasAllSectors, HasWholeSectors}
 
 -- a disk of so many sectors can be asked: the request lies inside it and isn't too long, and a WRITE has the bytes of
 -- its sectors
@@ -47,11 +47,13 @@ pub record FailsAsTold (old new : DriveView) (got : DeviceResult) (fails : List 
   pub told : IsTrue (is_failed got) ↔ Contains fails (counted_on old.calls)
   pub faults : new.faults ≡ (if is_failed got then counted_on old.faults else old.faults)
 
--- one call of the disk served the request with this answer
+-- one call of the disk served the request with this answer; the sectors stay whole, and as many as they are
 pub record Serves (q : Request) (old new : DriveView) (got : DeviceResult) : Type 0 where
   pub fits : IsTrue (fits_request old.sector q got)
   pub tells : IfSome old.held (TellsWhatIsHeld q got)
   pub held : new.held ≡ held_after old.sector q got old.held
+  pub whole : HasWholeSectors old → HasWholeSectors new
+  pub all : HasAllSectors old → HasAllSectors new
   pub sector : new.sector ≡ old.sector
   pub count : new.count ≡ old.count
   pub called : new.calls ≡ counted_on old.calls
