@@ -37,6 +37,8 @@ unfolding contents AreTrue
 served_none disk before = record {
   held = by before.held;
   reads = reads before.held;
+  whole = λ w. w;
+  all = λ a. a;
   calls = ap (λ n. min n (2 ^ 64 - 1)) (sym (add-zero before.calls));
   failures = omega arith;
   later = omega arith;
@@ -63,6 +65,8 @@ served_quiet xs e disk before after taken quiet served = record {
       before.held (λ held. sym (quiet_contents xs e taken quiet before.sector disk held));
   reads = told_by (λ held. AreTrue before.sector held xs disk) (λ held. AreTrue before.sector held (xs ++ e ∷ []) disk)
       before.held (λ held. quiet_true xs e taken quiet before.sector disk held) served.reads;
+  whole = served.whole;
+  all = served.all;
   calls = served.calls
       ∙ ap (λ n. min (before.calls + n) (2 ^ 64 - 1)) (sym (quiet_answers xs e taken quiet disk));
   failures = subst (λ n. RoseBy n before.faults after.faults) (sym (quiet_failures xs e taken quiet disk))
@@ -87,6 +91,8 @@ served_other xs e b got q disk before after taken delivers asked other served = 
       (λ held so_far. answered_true xs e b got q taken delivers asked before.sector disk held so_far
       (λ its. absurd (other its)))
       served.reads;
+  whole = served.whole;
+  all = served.all;
   calls = served.calls ∙ ap (λ n. min (before.calls + n) (2 ^ 64 - 1)) (sym answers);
   failures = subst (λ n. RoseBy n before.faults after.faults) (sym fails) served.failures;
   later = served.later;
@@ -140,6 +146,8 @@ served_own xs e b got q before mid after taken delivers asked served serves = re
       ∙ joined before.held;
   reads = reads before.held served.reads
       (subst (λ o. IfSome o (TellsWhatIsHeld q got)) served.held serves.tells);
+  whole = λ w. serves.whole (served.whole w);
+  all = λ a. serves.all (served.all a);
   calls = one_more;
   failures = by (is_failed got) refl;
   later = omega (arith, served.later, serves.later);
