@@ -9,3 +9,5 @@ pub mod Withered
 pub mod Commanded
 pub mod Nopping
 pub mod Assembled
+pub mod Reaching
+pub mod Asked

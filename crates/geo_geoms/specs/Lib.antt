@@ -2,3 +2,4 @@ pub mod Names
 pub mod Below
 pub mod Disks
 pub mod Makes
+pub mod Above

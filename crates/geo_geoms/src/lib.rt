@@ -1,6 +1,7 @@
 //! Commands on geoms: insert, pull, nop, concat, stripe, append and destroy (geom(4), geom(8)).
 #![tactic(auto)]
 
+mod above;
 mod below;
 mod destroys;
 mod disks;
@@ -14,6 +15,7 @@ mod reply;
 mod stands;
 mod uses;
 
+pub use above::is_growth_busy;
 pub use below::{
     Below, all_named, any_errored, below_named, have_sector, rank_below, sector_below,
 };
