@@ -11,3 +11,6 @@ pub mod Nopping
 pub mod Assembled
 pub mod Reaching
 pub mod Asked
+pub mod Appending
+pub mod Testing
+pub mod Larger

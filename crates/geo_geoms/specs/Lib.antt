@@ -3,3 +3,4 @@ pub mod Below
 pub mod Disks
 pub mod Makes
 pub mod Above
+pub mod Appends

@@ -5,6 +5,7 @@ mod above;
 mod below;
 mod destroys;
 mod disks;
+mod growths;
 mod inserts;
 mod joins;
 mod makes;
@@ -20,6 +21,7 @@ pub use below::{
     Below, all_named, any_errored, below_named, have_sector, rank_below, sector_below,
 };
 pub use destroys::{destroy, pull};
+pub use growths::{append_refusal, grow_provider, join_new};
 pub use inserts::insert;
 pub use joins::{concat, stripe};
 pub use names::{Growing, found_provider, growing_concat, named_geom};
