@@ -14,3 +14,5 @@ pub mod Asked
 pub mod Appending
 pub mod Testing
 pub mod Larger
+pub mod Growable
+pub mod Ableness

@@ -2,19 +2,24 @@
 use Rattle.std.specs.Prelude.{◌≡◌, ℕ, ◌+◌, ◌==◌, nat_lt, Bool, not, ◌||◌, List, Option, Some, None}
 use Rattle.geo_base.specs.declared.errno.Errno.{Errno}
 use Rattle.geo_base.specs.declared.request.Counts.{Counts}
+use Rattle.geo_model.specs.declared.command.LineCommand.{LineCommand}
+use Rattle.geo_model.specs.declared.step.Entry.{Entry}
 use Rattle.geo_model.specs.declared.step.Event.TheVariants as events
+use Rattle.geo_model.specs.Words.{first_error}
 use Rattle.geo_model.specs.Topology.{Topology, Provider, provider_at, add_consumer, set_config, set_size}
 use Rattle.geo_model.specs.Demand.{risen}
 use Rattle.geo_model.specs.Opens.{join_refusal}
 use Rattle.geo_model.specs.Acceptance.{size_limit}
 use Rattle.geo_model.specs.Events.{announce_risen, post}
 use Rattle.geo_model.specs.World.{Config}
-use Rattle.geo_model.specs.Append.{Growing as GrowingConcat, growing_concat}
+use Rattle.geo_model.specs.Append.{Growing as GrowingConcat, append_tests, growing_concat}
 use Rattle.geo_event.specs.EventQueue.{Queued}
 use Rattle.geo_mesh.specs.Topo.{TopoView, with_consumer, with_topology, IsButForRoom}
 use Rattle.geo_access.specs.Access.{granted_by, noted, IsCounted}
 use Rattle.geo_access.specs.Join.{joined_view}
 use Rattle.geo_life.specs.Life.{AreStored, CountsStay, notes, queued, without_rises}
+use Rattle.geo_state.specs.declared.state.State.{State}
+use Rattle.geo_state.specs.World.{world}
 use Rattle.geo_geoms.specs.declared.below.Below.{Below}
 use Rattle.geo_geoms.specs.declared.names.Growing.{Growing}
 use Rattle.geo_geoms.specs.Below.{below_seen}
@@ -35,6 +40,12 @@ pub record AreNamed (t : Topology Config) (growing : Growing) (below : Below) : 
 -- whether the sector sizes differ, or a provider would be too large with so many bytes more
 abbrev pub is_misfit : ℕ → ℕ → Provider → Bool
 is_misfit sector size p = not (p.sector == sector) || nat_lt size_limit (p.size + size)
+
+-- such a concat and provider, where no test is against an append of them
+pub record IsAble (s : State) (growing : Growing) (below : Below) : Type 0 where
+  pub named : AreNamed s.topo.topology growing below
+  pub free : (actors : List (List LineCommand)) (log : List Entry)
+      → first_error (append_tests (world actors log s) named.concat named.provider) ≡ None
 
 -- The consumer that joins
 

@@ -148,8 +148,8 @@ fn errno_of_join(why: &JoinRefusal) -> Errno
 }
 
 /// The geom gets the configuration and its provider the size, in bytes; at each provider that is noted to have risen
-/// consumers are marked and Spoil is posted, and then Resize is posted. It takes a place of the queue for each note, and
-/// one more.
+/// consumers are marked and Spoil is posted, and then Resize is posted. It takes a place of the queue for each note,
+/// and one more.
 pub fn grow_provider(
     topo: &mut Topo<Config>,
     queue: &mut EventQueue,

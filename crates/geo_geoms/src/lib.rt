@@ -2,6 +2,7 @@
 #![tactic(auto)]
 
 mod above;
+mod appends;
 mod below;
 mod destroys;
 mod disks;
@@ -17,6 +18,7 @@ mod stands;
 mod uses;
 
 pub use above::is_growth_busy;
+pub use appends::longer;
 pub use below::{
     Below, all_named, any_errored, below_named, have_sector, rank_below, sector_below,
 };
