@@ -67,7 +67,8 @@ module _ (s : State) (firm : IsFirm s) (sound : IsSoundGraph s.topo.topology) (g
 
 -- so whatever memory there is
 pub all-longer : {E : Type 0} (s : State) (firm : IsFirm s) (sound : IsSoundGraph s.topo.topology) (g : Growing)
-    (b : Below) (y : Geom Config) → geom_at s.topo.topology g.geom ≡ Some y → (c : ℕ) → c ≡ s.topo.topology.next_consumer
+    (b : Below) (y : Geom Config) → geom_at s.topo.topology g.geom ≡ Some y → (c : ℕ)
+    → c ≡ s.topo.topology.next_consumer
     → (r : Result Config E) → IfOk r (λ config. config ≡ add_place y.config c b.size)
     → IfOk r (λ config. (able : IsAble s g b)
     → config ≡ add_place able.named.concat.geom.config s.topo.topology.next_consumer able.named.provider.size)

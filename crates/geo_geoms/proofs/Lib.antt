@@ -16,3 +16,5 @@ pub mod Testing
 pub mod Larger
 pub mod Growable
 pub mod Ableness
+pub mod Granting
+pub mod Joined
