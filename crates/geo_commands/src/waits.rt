@@ -1,5 +1,5 @@
 //! What a command waits for.
-ghost use Rattle.std.specs.Prelude.{ℕ, ◌≡◌, ◌<◌, ◌==◌, ◌||◌, List, not, length, is_some};
+ghost use Rattle.std.specs.Prelude.{ℕ, ◌≡◌, ◌==◌, ◌||◌, List, not, length, is_some};
 ghost use Rattle.geo_model.specs.declared.command.Command.TheVariants as commands;
 ghost use Rattle.geo_model.specs.declared.command.LineCommand.{LineCommand};
 ghost use Rattle.geo_model.specs.declared.step.Entry.{Entry};
@@ -18,7 +18,6 @@ use geo_state::{State, own_bio};
 pub fn wait_found(state: &State, actor: u32, command: &Command) -> Option<Found>
     requires kept { Holds state.now }
     requires firm { IsFirm state.now }
-    requires there { actor < length state.now.own.items }
     ensures { (actors : List (List LineCommand)) (log : List Entry)
         → result ≡ waits_for (world actors log state.now) actor command.now }
 {
@@ -33,7 +32,6 @@ pub fn wait_found(state: &State, actor: u32, command: &Command) -> Option<Found>
 fn sync_found(state: &State, actor: u32) -> Option<Found>
     requires kept { Holds state.now }
     requires firm { IsFirm state.now }
-    requires there { actor < length state.now.own.items }
     ensures { (actors : List (List LineCommand)) (log : List Entry)
         → result ≡ waits_for (world actors log state.now) actor commands.Sync }
 {

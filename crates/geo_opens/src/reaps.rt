@@ -40,6 +40,7 @@ pub fn reap<L: Ledger>(state: &mut State, steps: &mut Steps<L>)
     requires due { IsAgainst reap_next state.old None }
     ensures made { (log : List Entry) → Makes reap_next log state.old state.new outcomes.Ran }
     ensures kept { Holds state.new }
+    ensures traffic { state.new.traffic ≡ state.old.traffic }
     ensures bound { (actors : List (List LineCommand)) (log : List Entry)
         → steps.new ≤ steps.old + steps_of state.old (reap_work (world actors log state.old)) }
 {
@@ -82,6 +83,7 @@ fn let_go<L: Ledger>(state: &mut State, id: HandleId, cons: ConsId, steps: &mut 
         (actors : List (List LineCommand)) (log : List Entry) → world actors log state.new
         ≡ reap (world actors log state.old) h) }
     ensures kept { Holds state.new }
+    ensures traffic { state.new.traffic ≡ state.old.traffic }
     ensures bound { steps.new ≤ steps.old
         + consumers_below state.old.topo.topology (place_of state.old.topo.topology cons) }
 {

@@ -138,6 +138,14 @@ module _ (s : State) (h : Holds s) (actor : ℕ) (o : OwnBios) (found : slice_ge
       ≡ own_first s.handles.handles (trips s.traffic.bios) actor
   oldest-is = first-trips s.handles.handles actor o.low s.traffic.bios own_count.low_is
 
+-- from number 0 on it is the first of all
+pub oldest-of-all : (handles : List Handle) (actor : ℕ) (bios : List (BioOf Held))
+    → first_passing (λ (x : BioOf Held). is_own handles actor (trip_of x)) bios 0 ≡ own_first handles (trips bios) actor
+oldest-of-all handles actor bios = first-trips handles actor 0 bios (each (trips bios)) where
+  each : (xs : List Trip) → AllByRecursion (λ (x : Trip). is_own handles actor x ≡ true → 0 ≤ x.number) xs
+  each [] = tt
+  each (x ∷ xs) = (λ own. omega (arith), each xs)
+
 -- The handle of an owner
 
 pub owner_line : (handles : List Handle) (hd line : ℕ)

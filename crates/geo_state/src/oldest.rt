@@ -1,29 +1,37 @@
 //! The first request of an actor's own lines.
-ghost use Rattle.std.specs.Prelude.{◌≡◌, ◌==◌, ◌<◌, ◌^◌, false, length};
+ghost use Rattle.std.specs.Prelude.{◌≡◌, ◌==◌, ◌<◌, ◌^◌, false, slice_get};
 ghost use Rattle.std.specs.Option.{option_map_or};
 ghost use Rattle.geo_handles.specs.Handles.{handle_at};
 ghost use Rattle.geo_state.specs.Holds.{Holds};
 ghost use Rattle.geo_state.specs.Oldest.{passes, first_passing};
 ghost use Rattle.geo_state.specs.Trips.{trips, trip_of, handle_of_owner, is_own, own_first};
 
-use crate::state::State;
+use crate::state::{OwnBios, State};
 use geo_base::{BioId, HandleId};
 use geo_handles::Handles;
 use geo_model::Owner;
 use geo_traffic::Traffic;
 
 /// The first request of the actor's own lines that is out: what a sync waits for. It is looked for from the number on
-/// below which there is none.
+/// below which there is none, if that is kept of the actor, else among all.
 pub fn own_bio(state: &State, actor: u32) -> Option<BioId>
     requires kept { Holds state.now }
-    requires there { actor < length state.now.own.items }
     ensures { result ≡ own_first state.now.handles.handles (trips state.now.traffic.bios) actor }
 {
-    let own = state.own[actor as usize];
+    let Some(own) = own_of(&state.own, actor) else {
+        return first_own(&state.traffic, &state.handles, actor, 0);
+    };
     if own.count == 0 {
         return None;
     }
     first_own(&state.traffic, &state.handles, actor, own.low)
+}
+
+// What is kept of the actor's own requests, if there is the actor.
+fn own_of(own: &Vec<OwnBios>, actor: u32) -> Option<OwnBios>
+    ensures { result ≡ slice_get own.now.items actor }
+{
+    own.get(actor as usize).copied()
 }
 
 // The first request of the actor's own lines, from a number on.
