@@ -20,7 +20,8 @@ use Rattle.geo_model.specs.Acceptance.{joined_size, is_size}
 use Rattle.geo_model.specs.GeomCommands.{sector_of, rank_over, is_invalid_joined, joined_tests}
 use Rattle.geo_class.specs.Assembly.{size_of}
 use Rattle.geo_geoms.specs.declared.below.Below.{Below}
-use Rattle.geo_geoms.specs.Below.{HaveNames, any_errored, below_seen, have_sector, is_bad_join, rank_below, sector_below, tests_below}
+use Rattle.geo_laws_naming.specs.Naming.{HaveNames}
+use Rattle.geo_geoms.specs.Below.{any_errored, below_seen, have_sector, is_bad_join, rank_below, sector_below, tests_below}
 
 module _ (t : Topology Config) where
   -- the sector size of the first

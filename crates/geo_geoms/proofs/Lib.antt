@@ -18,3 +18,8 @@ pub mod Growable
 pub mod Ableness
 pub mod Granting
 pub mod Joined
+pub mod Resizing
+pub mod Reserved
+pub mod Lengthened
+pub mod Summed
+pub mod Answering

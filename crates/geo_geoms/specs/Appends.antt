@@ -11,8 +11,8 @@ use Rattle.geo_model.specs.Demand.{risen}
 use Rattle.geo_model.specs.Opens.{join_refusal}
 use Rattle.geo_model.specs.Acceptance.{size_limit}
 use Rattle.geo_model.specs.Events.{announce_risen, post}
-use Rattle.geo_model.specs.World.{Config}
-use Rattle.geo_model.specs.Append.{Growing as GrowingConcat, append_tests, growing_concat}
+use Rattle.geo_model.specs.World.{World, Config}
+use Rattle.geo_model.specs.Append.{Growing as GrowingConcat, append_joined, append_tests, component_refusal, growing_concat}
 use Rattle.geo_event.specs.EventQueue.{Queued}
 use Rattle.geo_mesh.specs.Topo.{TopoView, with_consumer, with_topology, IsButForRoom}
 use Rattle.geo_access.specs.Access.{granted_by, noted, IsCounted}
@@ -46,6 +46,11 @@ pub record IsAble (s : State) (growing : Growing) (below : Below) : Type 0 where
   pub named : AreNamed s.topo.topology growing below
   pub free : (actors : List (List LineCommand)) (log : List Entry)
       → first_error (append_tests (world actors log s) named.concat named.provider) ≡ None
+
+-- the component was refused or not, and this is the world then
+pub record IsAppended (old new : World) (x : GrowingConcat) (q : Provider) (refusal : Option Errno) : Type 0 where
+  pub refused : refusal ≡ component_refusal old x q
+  pub made : (line : ℕ) → new ≡ (append_joined old line x q refusal).0
 
 -- The consumer that joins
 

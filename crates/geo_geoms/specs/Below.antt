@@ -1,7 +1,6 @@
 -- The providers that a command names, as far as its tests read them.
-use Rattle.std.specs.Prelude.{ℕ, ◌+◌, ◌==◌, ◌%◌, nat_le, nat_lt, Bool, not, ◌||◌, List, [], ◌∷◌, length, map, All, IsTrue, Option, is_none, option_and_then}
+use Rattle.std.specs.Prelude.{ℕ, ◌+◌, ◌==◌, ◌%◌, nat_le, nat_lt, Bool, not, ◌||◌, List, [], ◌∷◌, length, map, Option, is_none, option_and_then}
 use Rattle.std.specs.List.{list_any, list_all}
-use Rattle.geo_base.specs.Name.{is_name}
 use Rattle.geo_base.specs.declared.errno.Errno.{Errno}
 use Rattle.geo_base.specs.declared.errno.Errno.TheVariants.{ENOENT, EEXIST, ENXIO, EINVAL, EDEEP}
 use Rattle.geo_model.specs.Words.{largest}
@@ -41,10 +40,6 @@ have_sector sector xs = list_all (λ x. x.sector == sector) xs
 -- the greatest rank of their geoms
 abbrev pub rank_below : List Below → ℕ
 rank_below xs = largest (map (λ x. x.rank) xs)
-
--- each provider has a name that is one
-abbrev pub HaveNames : Topology Config → Type 0
-HaveNames t = All (λ p. IsTrue (is_name p.name)) t.providers
 
 -- whether a stripe size isn't whole sectors, or is longer than the longest request
 abbrev pub is_bad_stripe : ℕ → List Below → Bool

@@ -18,7 +18,7 @@ mod stands;
 mod uses;
 
 pub use above::is_growth_busy;
-pub use appends::{join_component, longer};
+pub use appends::{append, join_component, longer};
 pub use below::{
     Below, all_named, any_errored, below_named, have_sector, rank_below, sector_below,
 };

@@ -6,7 +6,7 @@ ghost use Rattle.geo_model.specs.GeomCommands.{do_nop, found_provider};
 ghost use Rattle.geo_state.specs.Holds.{Holds};
 ghost use Rattle.geo_state.specs.Steps.{Does, IsFirm, SameWorld};
 ghost use Rattle.geo_state.specs.World.{HasBytes};
-ghost use Rattle.geo_geoms.specs.Below.{HaveNames};
+ghost use Rattle.geo_laws_naming.specs.Naming.{HaveNames};
 
 use crate::below::below_named;
 use crate::makes::make;

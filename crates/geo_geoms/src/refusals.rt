@@ -9,7 +9,8 @@ ghost use Rattle.geo_model.specs.World.{Config as Seen};
 ghost use Rattle.geo_model.specs.Acceptance.{joined_size, is_size};
 ghost use Rattle.geo_model.specs.GeomCommands.{is_invalid_nop, is_invalid_stripe, joined_tests, nop_tests};
 ghost use Rattle.geo_class.specs.Assembly.{size_of};
-ghost use Rattle.geo_geoms.specs.Below.{HaveNames, any_errored, below_seen, have_sector, is_bad_join, is_bad_nop, is_bad_stripe, rank_below, sector_below, tests_below};
+ghost use Rattle.geo_laws_naming.specs.Naming.{HaveNames};
+ghost use Rattle.geo_geoms.specs.Below.{any_errored, below_seen, have_sector, is_bad_join, is_bad_nop, is_bad_stripe, rank_below, sector_below, tests_below};
 
 use crate::below::{Below, any_errored, have_sector, rank_below, sector_below};
 use geo_base::{Errno, Name};
