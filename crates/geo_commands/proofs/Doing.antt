@@ -1,0 +1,193 @@
+-- What a command does, from what the calls below say of it.
+use Rattle.std.specs.Prelude.{◌≡◌, ◌≢◌, ℕ, ◌==◌, Bool, true, false, ◌&&◌, List, [], length, Option, Result, IfOk}
+use Rattle.std.proofs.Common.{refl, sym, ◌∙◌, ap, subst, inl, inr}
+use Rattle.std.proofs.lemmas.Bool.{ne_eqb}
+use Rattle.geo_base.specs.declared.errno.Errno.{Errno}
+use Rattle.geo_base.specs.declared.kind.Kind.{Kind}
+use Rattle.geo_base.specs.declared.request.Counts.{Counts}
+use Rattle.geo_model.specs.declared.command.Command.{Command}
+use Rattle.geo_model.specs.declared.command.Command.TheVariants as commands
+use Rattle.geo_model.specs.declared.command.LineCommand.{LineCommand}
+use Rattle.geo_model.specs.declared.listing.GeomLine.{GeomLine}
+use Rattle.geo_model.specs.declared.step.Entry.{Entry}
+use Rattle.geo_model.specs.declared.step.Outcome.{Outcome}
+use Rattle.geo_model.specs.declared.step.Outcome.TheVariants as outcomes
+use Rattle.geo_model.specs.declared.step.Reply.TheVariants as replies
+use Rattle.geo_model.specs.Commands.{do_command, write_record}
+use Rattle.geo_model.specs.Demand.{is_zero}
+use Rattle.geo_model.specs.HandleCommands.{done}
+use Rattle.geo_model.specs.Listing.{listing}
+use Rattle.geo_model.specs.Plans.{IsCommand, IsGrant}
+use Rattle.geo_model.specs.Topology.{Provider}
+use Rattle.geo_model.specs.World.{World}
+use Rattle.geo_laws_owed.specs.OwedLaws.{is_close}
+use Rattle.geo_traffic.specs.Shown.{AreLogged}
+use Rattle.geo_traffic.specs.Traffic.{TrafficView}
+use Rattle.geo_state.specs.declared.state.State.{State}
+use Rattle.geo_state.specs.Steps.{Does}
+use Rattle.geo_state.specs.World.{world, HasBytes}
+use Rattle.geo_opens.specs.Handles.{refusal_in, IsOpenRefusal}
+use Rattle.geo_commands.specs.declared.decisions.Decision.{Decision}
+use Rattle.geo_commands.specs.declared.decisions.Decision.TheVariants.{Opens, Closes}
+use Rattle.geo_commands.specs.Decisions.{IsDecided, decision_of, is_on_geoms}
+
+-- counts that aren't all zero
+pub some_counts : (a : Counts) → IsGrant a → is_zero a ≡ false
+some_counts a grant =
+    elim grant.some [
+      | inl r ↦ rw (ne_eqb a.r 0 r) refl
+      | inr rest ↦ elim rest [ inl w ↦ second w | inr e ↦ third e ]
+    ]
+  where
+    no : (b : Bool) → (b && false) ≡ false
+    no true = refl
+    no false = refl
+
+    second : a.w ≢ 0 → is_zero a ≡ false
+    second w = ap (λ b. (a.r == 0) && (b && (a.e == 0))) (ne_eqb a.w 0 w) ∙ no (a.r == 0)
+
+    third : a.e ≢ 0 → is_zero a ≡ false
+    third e = ap (λ b. (a.r == 0) && ((a.w == 0) && b)) (ne_eqb a.e 0 e)
+        ∙ ap (λ b. (a.r == 0) && b) (no (a.w == 0)) ∙ no (a.r == 0)
+
+-- what the command of a line does is what was done, where the command is the one that was made
+pub by_command : {E : Type 0} (line actor : ℕ) (command made : Command) → command ≡ made → (log : List Entry)
+    (old new : State) (r : Result Outcome E) → IfOk r (λ o. Does (λ w. do_command w line actor made) log old new o)
+    → IfOk r (λ o. Does (λ w. do_command w line actor command) log old new o)
+by_command line actor command made is log old new r does =
+    subst (λ k. IfOk r (λ o. Does (λ w. do_command w line actor k) log old new o)) (sym is) does
+
+-- the same of an outcome
+pub does_by : (line actor : ℕ) (command made : Command) → command ≡ made → (log : List Entry) (old new : State)
+    (o : Outcome) → Does (λ w. do_command w line actor made) log old new o
+    → Does (λ w. do_command w line actor command) log old new o
+does_by line actor command made is log old new o does =
+    subst (λ k. Does (λ w. do_command w line actor k) log old new o) (sym is) does
+
+-- a command that only waits is done
+pub done_does : (line actor : ℕ) (command made : Command) → command ≡ made
+    → ((w : World) → do_command w line actor made ≡ done w line) → (log : List Entry) (s : State) (o : Outcome)
+    → o ≡ outcomes.Replied line replies.Ok → Does (λ w. do_command w line actor command) log s s o
+done_does line actor command made is plain log s o told = λ actors.
+    ap (do_command (world actors log s) line actor) is
+    ∙ plain (world actors log s)
+    ∙ ap (λ x. let answered : World × Outcome = (world actors log s, x) in answered) (sym told)
+
+-- a record that is written is this one, where it is
+pub mark_does : {E R : Type 0} (line actor : ℕ) (name : List ℕ) (sector_of : R → Provider → List ℕ) (part made : R)
+    → part ≡ made → (log : List Entry) (old new : State) (r : Result Outcome E)
+    → IfOk r (λ o. Does (λ w. write_record w line actor name (sector_of part)) log old new o)
+    → IfOk r (λ o. Does (λ w. write_record w line actor name (sector_of made)) log old new o)
+mark_does line actor name sector_of part made is log old new r does =
+    subst (λ k. IfOk r (λ o. Does (λ w. write_record w line actor name (sector_of k)) log old new o)) is does
+
+-- what is said of a command is said of the one that it is
+pub as_made : (command made : Command) → command ≡ made → IsCommand command → IsCommand made
+as_made command made is fact = subst IsCommand is fact
+
+-- the bytes that bios name are in the log as before
+pub logged_same : (old new : State) → new.traffic ≡ old.traffic → (log : List Entry) → HasBytes log old
+    → HasBytes log new
+logged_same old new same log has = subst (λ (v : TrafficView). AreLogged (length log) v.bios) (sym same) has
+
+-- An open
+
+-- only what refuses it was decided
+pub opens_refusal : (s : State) (actor : ℕ) (name prov : List ℕ) (grant : Counts) (r : Option Errno)
+    → IsDecided s actor (commands.Open name prov grant) (Opens r) → IsOpenRefusal s actor name prov grant r
+opens_refusal s actor name prov grant r decided = λ actors log.
+    let same : Opens r ≡ Opens (refusal_in (world actors log s) actor name prov grant) = decided actors log in cc
+
+-- nothing else was
+pub only_opens : (s : State) (actor : ℕ) (name prov : List ℕ) (grant : Counts) (d : Decision)
+    → IsDecided s actor (commands.Open name prov grant) d → ((r : Option Errno) → d ≡ Opens r → ⊥) → ⊥
+only_opens s actor name prov grant d decided other =
+    other (refusal_in (world [] [] s) actor name prov grant) (decided [] [])
+
+-- where it is decided that a close is answered ok, the command is a close
+pub only_closes : (s : State) (actor : ℕ) (c : Command) (d : Decision) → IsDecided s actor c d → d ≡ Closes
+    → ((name : List ℕ) → c ≡ commands.Close name → ⊥) → ⊥
+only_closes s actor c d decided closes other = by c refl (sym closes ∙ decided [] [])
+  where
+    by : (k : Command) → c ≡ k → Closes ≡ decision_of (world [] [] s) actor k → ⊥
+    by (commands.Open name prov grant) is e = let no : ⊥ = cc in no
+    by (commands.Close name) is e = other name is
+    by k is e = let no : ⊥ = cc in no
+
+-- so no other command
+pub never_closes : {R : Type 0} (s : State) (actor : ℕ) (command made : Command) (d : Decision)
+    → IsDecided s actor command d → command ≡ made → is_close made ≡ false → d ≡ Closes → R
+never_closes s actor command made d decided is other closes =
+    absurd
+    (only_closes s actor command d decided closes
+    (λ name same. let never : true ≡ false = ap is_close (sym same ∙ is) ∙ other in let no : ⊥ = cc in no))
+
+-- The listing
+
+-- the listing is what the command Mesh answers
+pub lists : (s : State) (line : ℕ) (log : List Entry) (lines : List GeomLine)
+    → ((actors : List (List LineCommand)) (log : List Entry) → lines ≡ listing (world actors log s))
+    → Does (λ w. (w, outcomes.Replied line (replies.Listing (listing w)))) log s s
+    (outcomes.Replied line (replies.Listing lines))
+lists s line log lines is actors =
+    ap
+    (λ (ls : List GeomLine).
+    let made : World × Outcome = (world actors log s, outcomes.Replied line (replies.Listing ls)) in made)
+    (sym (is actors log))
+
+-- Commands on geoms
+
+-- A command that is none of these
+module _ (c : Command)
+    (no_open : (name prov : List ℕ) (grant : Counts) → c ≡ commands.Open name prov grant → ⊥)
+    (no_close : (name : List ℕ) → c ≡ commands.Close name → ⊥)
+    (no_read : (name : List ℕ) (offset len : ℕ) → c ≡ commands.Read name offset len → ⊥)
+    (no_write : (name : List ℕ) (offset : ℕ) (bytes : List ℕ) → c ≡ commands.Write name offset bytes → ⊥)
+    (no_delete : (name : List ℕ) (offset len : ℕ) → c ≡ commands.Delete name offset len → ⊥)
+    (no_flush : (name : List ℕ) → c ≡ commands.Flush name → ⊥)
+    (no_sync : c ≡ commands.Sync → ⊥)
+    (no_settle : c ≡ commands.Settle → ⊥)
+    (no_mesh : c ≡ commands.Mesh → ⊥) where
+  -- is one on geoms, or writes a record
+  pub on_geoms_else : (k : Command) → c ≡ k → is_on_geoms k ≡ true
+  on_geoms_else (commands.Open name prov grant) is = absurd (no_open name prov grant is)
+  on_geoms_else (commands.Close name) is = absurd (no_close name is)
+  on_geoms_else (commands.Read name offset len) is = absurd (no_read name offset len is)
+  on_geoms_else (commands.Write name offset bytes) is = absurd (no_write name offset bytes is)
+  on_geoms_else (commands.Delete name offset len) is = absurd (no_delete name offset len is)
+  on_geoms_else (commands.Flush name) is = absurd (no_flush name is)
+  on_geoms_else commands.Sync is = absurd (no_sync is)
+  on_geoms_else commands.Settle is = absurd (no_settle is)
+  on_geoms_else commands.Mesh is = absurd (no_mesh is)
+  on_geoms_else k is = refl
+
+-- One that is none of these
+module _ (c : Command)
+    (no_insert : (disk : List ℕ) → c ≡ commands.Insert disk → ⊥)
+    (no_pull : (disk : List ℕ) → c ≡ commands.Pull disk → ⊥)
+    (no_nop : (prov : List ℕ) (offset size fail : ℕ) → c ≡ commands.Nop prov offset size fail → ⊥)
+    (no_concat : (name : List ℕ) (provs : List (List ℕ)) → c ≡ commands.Concat name provs → ⊥)
+    (no_stripe : (name : List ℕ) (strip : ℕ) (provs : List (List ℕ)) → c ≡ commands.Stripe name strip provs → ⊥)
+    (no_append : (name prov : List ℕ) → c ≡ commands.Append name prov → ⊥)
+    (no_destroy : (kind : Kind) (name : List ℕ) → c ≡ commands.Destroy kind name → ⊥)
+    (no_label : (name label : List ℕ) → c ≡ commands.Label name label → ⊥)
+    (no_relabel : (name label : List ℕ) → c ≡ commands.Relabel name label → ⊥)
+    (no_mark_concat : (name label : List ℕ) (id place count : ℕ)
+    → c ≡ commands.MarkConcat name label id place count → ⊥)
+    (no_mark_stripe : (name label : List ℕ) (id place count strip : ℕ)
+    → c ≡ commands.MarkStripe name label id place count strip → ⊥) where
+  -- isn't one on geoms, and writes no record
+  pub geoms_are : (k : Command) → c ≡ k → is_on_geoms k ≡ true → ⊥
+  geoms_are (commands.Insert disk) is on = no_insert disk is
+  geoms_are (commands.Pull disk) is on = no_pull disk is
+  geoms_are (commands.Nop prov offset size fail) is on = no_nop prov offset size fail is
+  geoms_are (commands.Concat name provs) is on = no_concat name provs is
+  geoms_are (commands.Stripe name strip provs) is on = no_stripe name strip provs is
+  geoms_are (commands.Append name prov) is on = no_append name prov is
+  geoms_are (commands.Destroy kind name) is on = no_destroy kind name is
+  geoms_are (commands.Label name label) is on = no_label name label is
+  geoms_are (commands.Relabel name label) is on = no_relabel name label is
+  geoms_are (commands.MarkConcat name label id place count) is on = no_mark_concat name label id place count is
+  geoms_are (commands.MarkStripe name label id place count strip) is on =
+      no_mark_stripe name label id place count strip is
+  geoms_are k is on = let no : ⊥ = cc in no
