@@ -1,91 +1,46 @@
-//! The mesh: its plan, the lists of its world, and its log.
+//! The mesh: its plan, what it is now, and its log.
+ghost use Rattle.std.specs.Prelude.{◌≡◌, ℕ, [], ◌∷◌, ◌++◌, length, find, nat_le, IfOk, IsOk, IsTrue};
+ghost use Rattle.std.specs.Option.{option_map};
+ghost use Rattle.geo_model.specs.declared.step.Step.TheVariants as steps;
+ghost use Rattle.geo_model.specs.Laws.{NoneBusy};
+ghost use Rattle.geo_model.specs.History.{next_command};
+ghost use Rattle.geo_model.specs.Listing.{listing};
+ghost use Rattle.geo_model.specs.Order.{is_at_rest, first_bio, is_to_take, take_step};
+ghost use Rattle.geo_model.specs.Plans.{FactsFit};
+ghost use Rattle.geo_model.specs.Step.{is_enabled};
+ghost use Rattle.geo_model.specs.World.{is_up, is_down};
+ghost use Rattle.geo_core.specs.Mesh.{MeshView, IsHistory, world_of, Applies, Advances, IsSure};
 
-ghost use Rattle.std.specs.Prelude.{◌≡◌, ◌+◌, ◌<◌, ◌^◌, [], IfOk, IsOk, IsTrue};
-ghost use Rattle.std.specs.Result.{result_err};
-ghost use Rattle.geo_core.specs.World.{seen};
-ghost use Rattle.geo_core.specs.Answer.{Takes};
-ghost use Rattle.geo_core.specs.Plans.{FactsFit};
-ghost use Rattle.geo_core.specs.Step.{step as answer_of, is_enabled};
-ghost use Rattle.geo_core.specs.Sound.{Sound};
-ghost use Rattle.geo_core.specs.Order.{pick, is_at_rest};
-ghost use Rattle.geo_core.specs.Listing.{listing};
-ghost use Rattle.geo_core.specs.Mesh.{MeshView, world_of, Applies, IsHistory};
-
-use super::deliver::{deliver, deliver_found};
-use super::facts::DiskFacts;
-use super::go::{go, go_found};
-use super::list_mesh::listing;
-use super::log::Log;
-use super::opening::opening;
-use super::order::{is_at_rest, pick};
-use super::owed::owed_after;
-use super::plan::Plan;
-use super::rows::State;
-use super::start::{start, start_found};
-use super::step::{ApplyRefusal, Entry, Found, Made, Outcome, Step};
-use super::take::{take, take_found};
-use super::up::{up, up_found};
-use geo_base::NoMemory;
-use geo_model::MeshList;
+use crate::apply::{advance, apply, begin};
+use crate::found::found_against;
+use crate::refusal::ApplyRefusal;
+use crate::rest::{first_down, first_to_take, first_up, is_at_rest, next_bio};
+use crate::running::Running;
+use geo_base::{BioId, NoMemory};
+use geo_listing::listing;
+use geo_log::{DiskFacts, Log};
+use geo_model::{MeshList, Outcome, Step};
+use geo_script::Plan;
 use std::alloc::Global;
 use std::marker::Model;
 
-/// The greatest length of a log, with the places that are owed.
-const LOG_LIMIT: u64 = 0x1_0000_0000;
-
 /// A mesh under way. Contracts see what it began with, its plan and the sizes of its disks, and its log: its world is
 /// that to which the log leads from the opening.
-#[derive(Debug, Drop)]
+#[derive(Drop)]
 pub struct Mesh {
-    plan: Plan,
-    facts: DiskFacts,
-    state: State,
-    log: Log,
+    alloc: Global,
+    running: Running,
 }
 
 impl Model for Mesh {
-    ghost use Rattle.geo_core.specs.World.{seen};
-    ghost use Rattle.geo_core.specs.Mesh.{MeshView, IsMesh};
+    ghost use Rattle.geo_core.specs.Mesh.{MeshView};
+    ghost use Rattle.geo_core.specs.Running.{seen, IsMesh};
 
     ghost Value = { MeshView };
 
-    ghost view = { λ m. record { plan = m.plan; facts = m.facts.items; log = m.log.items } };
+    ghost view = { λ m. seen m.running };
 
-    ghost invariant = { λ m. IsMesh (record { plan = m.plan; facts = m.facts.items; log = m.log.items })
-        (seen m.state) };
-}
-
-/// What is against a step, if anything.
-#[tactic(auto, unfolding(crate::specs::Step::step))]
-fn found_against(state: &State, seat: u32, step: &Step) -> Option<Found>
-    ensures { result ≡ result_err (answer_of (seen state.now) seat step.now) }
-{
-    match step {
-        Step::Go { actor } => go_found(state, *actor),
-        Step::Start { bio } => start_found(state, bio),
-        Step::Take { disk, bio } => take_found(state, seat, *disk, bio),
-        Step::Deliver { bio, got } => deliver_found(state, seat, bio, got),
-        Step::Up { bio } => up_found(state, bio),
-    }
-}
-
-/// Makes an enabled step.
-#[tactic(auto, unfolding(crate::specs::Step::step))]
-fn make(alloc: Global, state: &mut State, seat: u32, step: &Step) -> Result<Made, NoMemory>
-    requires sound { Sound (seen state.old) }
-    requires enabled { IsOk (answer_of (seen state.old) seat step.now) }
-    requires consumers { state.old.next.consumer + 1 < 2 ^ 64 }
-    requires handles { state.old.next.handle + 1 < 2 ^ 64 }
-    requires bios { state.old.next.bio + 1 < 2 ^ 64 }
-    ensures { Takes result (seen state.old) (seen state.new) (answer_of (seen state.old) seat step.now) }
-{
-    match step {
-        Step::Go { actor } => go(alloc, state, *actor),
-        Step::Start { bio } => Ok(start(state, bio)),
-        Step::Take { disk, bio } => take(alloc, state, seat, *disk, bio),
-        Step::Deliver { bio, got } => deliver(alloc, state, seat, bio, got),
-        Step::Up { bio } => up(alloc, state, bio),
-    }
+    ghost invariant = { λ m. IsMesh m.running };
 }
 
 impl Mesh {
@@ -95,69 +50,99 @@ impl Mesh {
         ensures began { IfOk result (λ mesh. mesh ≡ record { plan = plan; facts = disks.now.items; log = [] }) }
         ensures history { IfOk result IsHistory }
     {
-        let state = opening(alloc, &plan, disks)?;
-        let facts = disks.copy(alloc)?;
-        Ok(Mesh {
-            facts,
-            plan,
-            state,
-            log: Log::new(alloc),
-        })
+        let running = begin(alloc, plan, disks)?;
+        Ok(Mesh { alloc, running })
     }
 
-    /// Makes a step, and keeps it in the log. `NotEnabled` exactly where the step isn't enabled, with what was found;
-    /// `LogFull` exactly where it is enabled and its entry, with the places that are then owed, would bring the log
-    /// above 4,294,967,296 entries; `NoMemory` only else. After each the mesh is as before.
-    pub fn apply(&mut self, alloc: Global, seat: u32, step: Step) -> Result<Outcome, ApplyRefusal>
+    /// Makes a step of a seat, and keeps it in the log. `NotEnabled` exactly where the step isn't enabled, with what
+    /// was found; `LogFull` exactly where it is enabled and its entry, with the places that are then owed, would bring
+    /// the log above 4,294,967,296 entries; `NoMemory` only else. After each the mesh is as before. A Deliver that is
+    /// enabled is never refused, nor is a Go of a close that is answered ok.
+    pub fn apply(&mut self, seat: u32, step: Step) -> Result<Outcome, ApplyRefusal>
         ensures answer { Applies result self.old self.new seat step }
         ensures history { IsHistory self.new }
+        ensures sure { IsSure (world_of self.old) seat step → IsOk result }
     {
-        if let Some(found) = found_against(&self.state, seat, &step) {
-            return Err(ApplyRefusal::NotEnabled { found });
-        }
-        let left = LOG_LIMIT - self.log.entries().len() as u64;
-        if left <= owed_after(&self.state, seat, &step) {
-            return Err(ApplyRefusal::LogFull);
-        }
-        self.log.reserve(1)?;
-        let made = make(alloc, &mut self.state, seat, &step)?;
-        let Made { outcome, kept } = made;
-        self.log.push(Entry {
-            seat,
-            step,
-            outcome: kept,
-        });
-        Ok(outcome)
+        apply(self.alloc, &mut self.running, seat, step)
+    }
+
+    /// The same without the outcome, which is the last entry's, so that no bytes are copied.
+    pub fn make(&mut self, seat: u32, step: Step) -> Result<(), ApplyRefusal>
+        ensures answer { Advances result self.old self.new seat step }
+        ensures history { IsHistory self.new }
+        ensures sure { IsSure (world_of self.old) seat step → IsOk result }
+    {
+        advance(self.alloc, &mut self.running, seat, step)
     }
 
     /// Whether a step is enabled for a seat.
     pub fn enabled(&self, seat: u32, step: &Step) -> bool
         ensures { result ≡ is_enabled (world_of self.now) seat step.now }
     {
-        found_against(&self.state, seat, step).is_none()
+        let running = &self.running;
+        found_against(&running.plan, &running.left, &running.state, seat, step).is_none()
     }
 
-    /// The first enabled step in the fixed order: Up, Take and Start of the smallest bio, Go of the smallest line.
-    pub fn pick(&self) -> Option<Step>
-        ensures picked { result ≡ pick (world_of self.now) }
-        ensures history { IsHistory self.now }
-    {
-        pick(&self.state)
-    }
-
-    /// Whether no command and no bio is left.
+    /// Whether no command, bio, event or taste is left, and no reap or wash is possible.
     pub fn at_rest(&self) -> bool
         ensures rest { result ≡ is_at_rest (world_of self.now) }
         ensures history { IsHistory self.now }
     {
-        is_at_rest(&self.state)
+        is_at_rest(&self.running)
     }
 
     /// The mesh as it is printed.
     pub fn listing(&self, alloc: Global) -> Result<MeshList, NoMemory>
         ensures { IfOk result (λ lines. lines ≡ listing (world_of self.now)) }
     {
-        listing(alloc, &self.state)
+        listing(alloc, &self.running.state)
+    }
+
+    /// The Up of the smallest bio that is Up.
+    pub fn first_up(&self) -> Option<Step>
+        ensures { result ≡ first_bio (world_of self.now) (λ x. is_up x.phase) (λ x. steps.Up x.number) }
+    {
+        first_up(&self.running)
+    }
+
+    /// The Take of the smallest bio that can be taken, where none is Busy.
+    pub fn first_to_take(&self) -> Option<Step>
+        requires { NoneBusy (world_of self.now) }
+        ensures { result
+            ≡ first_bio (world_of self.now) (is_to_take (world_of self.now)) (take_step (world_of self.now)) }
+    {
+        first_to_take(&self.running)
+    }
+
+    /// The Start of the smallest bio that is Down.
+    pub fn first_down(&self) -> Option<Step>
+        ensures { result ≡ first_bio (world_of self.now) (λ x. is_down x.phase) (λ x. steps.Start x.number) }
+    {
+        first_down(&self.running)
+    }
+
+    /// The least bio that isn't below a number.
+    pub fn next_bio(&self, from: u64) -> Option<BioId>
+        ensures { result ≡ option_map (λ x. x.number) (find (λ x. nat_le from x.number) (world_of self.now).bios) }
+    {
+        next_bio(&self.running, from)
+    }
+
+    /// How many actors there are.
+    pub fn actors(&self) -> u32
+        ensures { result ≡ length (world_of self.now).actors }
+    {
+        self.running.plan.actors().len() as u32
+    }
+
+    /// The line of the actor's next command.
+    pub fn next_line(&self, actor: u32) -> Option<u32>
+        ensures { result ≡ option_map (λ c. c.line) (next_command (world_of self.now) actor) }
+    {
+        match self.running.left.next(&self.running.plan, actor) {
+            Ok(line) => Some(line.line),
+            Err(_) => None,
+        }
     }
 
     /// The plan with which it began.
@@ -165,7 +150,7 @@ impl Mesh {
         ensures plan { result.now ≡ self.now.plan }
         ensures history { IsHistory self.now }
     {
-        &self.plan
+        &self.running.plan
     }
 
     /// The log.
@@ -173,7 +158,7 @@ impl Mesh {
         ensures log { result.now.items ≡ self.now.log }
         ensures history { IsHistory self.now }
     {
-        &self.log
+        &self.running.log
     }
 
     /// The log, taken out.
@@ -181,6 +166,7 @@ impl Mesh {
         ensures log { result.items ≡ self.log }
         ensures history { IsHistory self }
     {
-        self.log
+        let Mesh { running, .. } = self;
+        running.log
     }
 }

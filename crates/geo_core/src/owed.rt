@@ -1,87 +1,66 @@
-//! The places of the log that are owed.
+//! The places of the log that are owed after a step.
+ghost use Rattle.std.specs.Prelude.{◌≡◌, ◌<◌, ◌^◌, Some};
+ghost use Rattle.geo_state.specs.Holds.{Holds};
+ghost use Rattle.geo_state.specs.Steps.{IsFirm};
+ghost use Rattle.geo_core.specs.Left.{AreNext};
+ghost use Rattle.geo_core.specs.Mesh.{world_of};
+ghost use Rattle.geo_core.specs.Running.{seen, IsMesh};
+ghost use Rattle.geo_commands.specs.Decisions.{places_owed};
+ghost use Rattle.geo_core.specs.Goes.{IsReady, IsOwedAfter};
 
-ghost use Rattle.std.specs.Prelude.{◌≡◌, ◌+◌, ◌≤◌, IsOk, count_by, length};
-ghost use Rattle.geo_core.specs.World.{seen, is_busy};
-ghost use Rattle.geo_core.specs.Go.{go, do_command};
-ghost use Rattle.geo_core.specs.Log.{owed, log_limit, world_after};
-ghost use Rattle.geo_core.specs.Step.{step as answer_of};
+use crate::counted::decide;
+use crate::left::Left;
+use crate::running::Running;
+use geo_commands::{Decision, owed_after};
+use geo_model::Step;
+use geo_script::Plan;
+use geo_state::State;
 
-use super::close::is_closed;
-use super::command::{Command, LineCommand};
-use super::look::OfActor;
-use super::open::is_opened;
-use super::rows::{Bio, State};
-use super::step::Step;
-
-/// How many bios are Busy.
-fn count_busy(bios: &[Bio]) -> usize
-    ensures { result ≡ count_by (λ b. is_busy b.phase) bios.now }
+/// How many places are owed: one for the close of each handle, one for the Deliver of each Busy bio.
+fn owed(state: &State) -> u64
+    requires { places_owed state.now < 2 ^ 63 }
+    ensures owed { result ≡ places_owed state.now }
+    ensures few { result < 2 ^ 63 }
 {
-    bios.iter().filter(|bio| bio.phase.is_busy()).count()
+    state.handles.len() + state.traffic.busy()
 }
 
-/// The places that are owed.
-#[tactic(auto, unfolding(crate::specs::Log::owed))]
-pub fn owed(state: &State) -> u64
-    requires { owed (seen state.now) ≤ log_limit }
-    ensures { result ≡ owed (seen state.now) }
-{
-    state.handles.len() as u64 + count_busy(state.bios.items()) as u64
-}
-
-/// The places that are owed after a command.
-#[tactic(auto, unfolding(crate::specs::Go::do_command))]
-fn owed_after_command(state: &State, line: &LineCommand) -> u64
-    requires { owed (seen state.now) ≤ log_limit }
-    ensures { result ≡ owed (do_command (seen state.now) line.now line.now.command).0 }
-{
-    let now = owed(state);
-    match &line.command {
-        Command::Open(name, prov, _) => {
-            if is_opened(state, line.actor, name, prov) {
-                now + 1
-            } else {
-                now
-            }
-        }
-        Command::Close(name) => {
-            if is_closed(state, line.actor, name) {
-                now - 1
-            } else {
-                now
-            }
-        }
-        Command::Read(_, _, _) => now,
-        Command::Sync => now,
-    }
-}
-
-/// The places that are owed after a Go.
-#[tactic(auto, unfolding(crate::specs::Go::go, crate::specs::Go::go_of, crate::specs::Go::spent, crate::specs::Answer::unless_found, crate::specs::Log::owed))]
-fn owed_after_go(state: &State, actor: u32) -> u64
-    requires small { owed (seen state.now) ≤ log_limit }
-    requires enabled { IsOk (go (seen state.now) actor) }
-    ensures { result ≡ owed (world_after (seen state.now) (go (seen state.now) actor)) }
-{
-    let line: Option<&LineCommand> = state.left.find(&OfActor(actor));
-    match line {
-        None => unreachable!(),
-        Some(line) => owed_after_command(state, line),
-    }
-}
-
-/// The places that are owed after an enabled step.
-#[tactic(auto, unfolding(crate::specs::Step::step))]
-pub fn owed_after(state: &State, seat: u32, step: &Step) -> u64
-    requires small { owed (seen state.now) ≤ log_limit }
-    requires enabled { IsOk (answer_of (seen state.now) seat step.now) }
-    ensures { result ≡ owed (world_after (seen state.now) (answer_of (seen state.now) seat step.now)) }
+/// What is decided of the command of a Go. Nothing changes.
+pub fn decide_step(plan: &Plan, left: &Left, state: &mut State, step: &Step) -> Option<Decision>
+    requires kept { Holds state.old }
+    requires firm { IsFirm state.old }
+    requires next { AreNext plan.now left.now }
+    ensures ready { IsReady plan.now.commands left.now state.old step.now result }
+    ensures same { state.new ≡ state.old }
 {
     match step {
-        Step::Go { actor } => owed_after_go(state, *actor),
-        Step::Start { .. } => owed(state),
-        Step::Take { .. } => owed(state) + 1,
-        Step::Deliver { .. } => owed(state) - 1,
-        Step::Up { .. } => owed(state),
+        Step::Go { actor } => match left.next(plan, *actor) {
+            Ok(line) => Some(decide(state, *actor, &line.command)),
+            Err(_) => None,
+        },
+        _ => None,
+    }
+}
+
+/// How many places are owed after a step, if it is enabled.
+pub fn places_after(running: &Running, step: &Step, decision: &Option<Decision>) -> u64
+    requires mesh { IsMesh running.now }
+    requires ready { IsReady running.now.plan.commands running.now.left running.now.state step.now decision.now }
+    ensures { IsOwedAfter (world_of (seen running.now)) step.now result }
+{
+    let now = owed(&running.state);
+    match step {
+        Step::Go { .. } => match decision {
+            Some(decision) => owed_after(&running.state, decision),
+            None => now,
+        },
+        Step::Take { .. } => now + 1,
+        Step::Deliver { .. } => now.saturating_sub(1),
+        Step::Event => now,
+        Step::Judge => now,
+        Step::Reap => now,
+        Step::Wash => now,
+        Step::Start { .. } => now,
+        Step::Up { .. } => now,
     }
 }

@@ -1,10 +1,14 @@
-use Rattle.geo_core.specs.World.{seen}
-use Rattle.geo_core.specs.Mesh.{MeshView}
-use Rattle.geo_core.proofs.MeshLemmas.{few_consumers}
+use Rattle.std.proofs.Common.{◌≡◌, IfOk, subst}
+use Rattle.geo_model.specs.Listing.{listing}
+use Rattle.geo_core.specs.Mesh.{MeshView, world_of}
+use Rattle.geo_core.proofs.Meshes.{mesh_is_firm}
+use Rattle.geo_core.proofs.Applying.{listed}
 use Rattle.geo_core.proofs.mesh.Mesh.listing.Goals as goal
 
-pub listing-requires : goal.listing-requires
-listing-requires c =
-    let old : MeshView =
-    record { plan = c.self.inside.plan; facts = c.self.inside.facts.items; log = c.self.inside.log.items } in
-    few_consumers old (seen c.self.inside.state) c.self.invariant
+pub listing-requires-clause-firm : goal.listing-requires-clause-firm
+listing-requires-clause-firm c = mesh_is_firm c.self.inside.running c.self.invariant
+
+pub returns : goal.returns
+returns c =
+    subst (λ (v : MeshView). IfOk c.listing.result (λ lines. lines ≡ listing (world_of v))) c.self.view_is
+    (listed c.self.inside.running c.self.invariant c.listing.result c.listing.ensures)

@@ -1,0 +1,58 @@
+use Rattle.std.proofs.Common.{sym, subst}
+use Rattle.geo_model.specs.declared.step.Entry.{Entry}
+use Rattle.geo_log.specs.Room.{Room}
+use Rattle.geo_core.specs.Mesh.{Made}
+use Rattle.geo_core.specs.Running.{seen, IsMesh}
+use Rattle.geo_core.proofs.Admits.{not_ok}
+use Rattle.geo_core.proofs.Meshes.{mesh_is_firm, mesh_names, mesh_commands, same_mesh, one_place, more_mesh, more_made}
+use Rattle.geo_core.proofs.Making.{sure_now}
+use Rattle.geo_core.proofs.carry.carry.Goals as goal
+
+pub make-requires-clause-firm : goal.make-requires-clause-firm
+make-requires-clause-firm c = mesh_is_firm c.args.running.now c.requires.mesh
+
+pub make-requires-clause-named : goal.make-requires-clause-named
+make-requires-clause-named c = mesh_names c.args.running.now c.requires.mesh
+
+pub make-requires-clause-commands : goal.make-requires-clause-commands
+make-requires-clause-commands c = mesh_commands c.args.running.now c.requires.mesh
+
+pub push-requires : goal.push-requires
+push-requires c =
+    one_place c.args.running.now c.make.new.left c.make.new.state c.args.seat c.args.step c.in_ok-outcome.outcome
+    c.requires.mesh c.requires.admitted.place c.requires.admitted.room c.make.ensures.next c.make.ensures.kept
+    c.in_ok-outcome.ensures.logged c.in_ok-outcome.ensures.made
+
+pub returns-clause-mesh : goal.returns-clause-mesh
+returns-clause-mesh c =
+    subst
+    (λ (l : Room Entry).
+    IsMesh (record c.args.running.now { left = c.make.new.left; state = c.make.new.state; log = l }))
+    (sym c.push.ensures)
+    (more_mesh c.args.running.now c.make.new.left c.make.new.state c.args.seat c.args.step c.in_ok-outcome.outcome
+    c.requires.mesh c.requires.admitted.place c.requires.admitted.room c.make.ensures.next c.make.ensures.kept
+    c.in_ok-outcome.ensures.logged c.in_ok-outcome.ensures.made)
+
+pub returns-clause-made : goal.returns-clause-made
+returns-clause-made c = (
+  c.in_ok-outcome.outcome,
+  subst
+      (λ (l : Room Entry). Made (seen c.args.running.now)
+      (seen (record c.args.running.now { left = c.make.new.left; state = c.make.new.state; log = l })) c.args.seat
+      c.args.step c.in_ok-outcome.outcome)
+      (sym c.push.ensures)
+      (more_made c.args.running.now c.make.new.left c.make.new.state c.args.seat c.args.step c.in_ok-outcome.outcome
+      c.requires.mesh c.requires.admitted.place c.requires.admitted.room c.make.ensures.next c.make.ensures.kept
+      c.in_ok-outcome.ensures.logged c.in_ok-outcome.ensures.made),
+)
+
+pub returns-in_err-outcome-clause-mesh : goal.returns-in_err-outcome-clause-mesh
+returns-in_err-outcome-clause-mesh c =
+    rw c.in_err-outcome.ensures.left_stays
+    (same_mesh c.args.running.now c.make.new.state c.requires.mesh c.make.ensures.kept c.in_err-outcome.ensures.same
+    c.in_err-outcome.ensures.bytes)
+
+pub returns-in_err-outcome-clause-sure : goal.returns-in_err-outcome-clause-sure
+returns-in_err-outcome-clause-sure c = λ sure.
+    let ok = c.make.ensures.sure (sure_now c.args.running.now c.requires.mesh c.args.seat c.args.step sure) in
+    absurd (not_ok _ _ c.in_err-outcome.was ok)

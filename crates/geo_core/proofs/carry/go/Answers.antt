@@ -1,0 +1,33 @@
+use Rattle.geo_core.specs.Left.{left_of}
+use Rattle.geo_core.proofs.Admits.{not_ok}
+use Rattle.geo_core.proofs.Going.{went, next_is_command, closes_surely}
+use Rattle.geo_core.proofs.Making.{go_next_of}
+use Rattle.geo_core.proofs.carry.go.Goals as goal
+
+pub unreachable-requires : goal.unreachable-requires
+unreachable-requires c =
+    let next = go_next_of c.args.plan.now.commands c.args.left.now c.args.state.now c.args.actor c.requires.found in
+    let e = next.1 in
+    cc (e, c.in_default.ensures)
+
+pub do_command-requires-clause-is_command : goal.do_command-requires-clause-is_command
+do_command-requires-clause-is_command c =
+    next_is_command (left_of c.args.plan.now.commands c.args.left.now) c.args.actor c.in-Ok.line.now c.in-Ok.ensures
+    c.requires.commands
+
+pub do_command-requires-clause-decided : goal.do_command-requires-clause-decided
+do_command-requires-clause-decided c = c.requires.ready c.in-Ok.line.now c.in-Ok.ensures
+
+pub returns-in_err-outcome-clause-sure : goal.returns-in_err-outcome-clause-sure
+returns-in_err-outcome-clause-sure c = λ log closes.
+    let decided =
+    closes_surely c.args.plan.now.commands c.args.left.now c.args.state.now log 0 c.args.actor c.args.decision closes
+    c.requires.ready in
+    let ok = c.do_command.ensures.no_memory decided in
+    absurd (not_ok _ _ c.in_err-outcome.was ok)
+
+pub returns-clause-made : goal.returns-clause-made
+returns-clause-made c = λ log.
+    went c.args.plan.now.commands c.args.left.now c.advance.new.self c.args.state.now c.do_command.new.state
+    c.args.actor c.in-Ok.line.now c.in_ok-outcome.outcome log c.in-Ok.ensures (c.requires.found log)
+    (c.in_ok-outcome.ensures.does log) c.advance.ensures.gone

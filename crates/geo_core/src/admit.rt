@@ -1,0 +1,60 @@
+//! Whether a step can be made.
+ghost use Rattle.std.specs.Prelude.{◌≡◌, ◌+◌, ◌≤◌, ◌<◌, length, IfOk, IfErr, IsOk, OnOk, OnErr, Err};
+ghost use Rattle.geo_model.specs.Log.{log_limit};
+ghost use Rattle.geo_core.specs.declared.refusal.ApplyRefusal.TheVariants as refusals;
+ghost use Rattle.geo_core.specs.Mesh.{world_of, Refuses};
+ghost use Rattle.geo_core.specs.Running.{seen, IsMesh};
+ghost use Rattle.geo_core.specs.Goes.{IsAdmitted, PaysOff};
+ghost use Rattle.geo_core.specs.Places.{IsPlaced};
+
+use crate::found::found_against;
+use crate::owed::{decide_step, places_after};
+use crate::refusal::ApplyRefusal;
+use crate::running::Running;
+use geo_commands::Decision;
+use geo_log::Log;
+use geo_model::Step;
+
+/// The greatest length of a log, with the places that are owed.
+const LOG_LIMIT: u64 = 0x1_0000_0000;
+
+/// Whether a step of a seat can be made: nothing is against it, it has its place in the log, and there is room for its
+/// entry. All stays but the room of the log.
+pub fn admit(
+    running: &mut Running,
+    seat: u32,
+    step: &Step,
+) -> Result<Option<Decision>, ApplyRefusal>
+    requires mesh { IsMesh running.old }
+    ensures mesh { IsMesh running.new }
+    ensures same { seen running.new ≡ seen running.old }
+    ensures admitted { IfOk result (λ decision. IsAdmitted running.new seat step.now decision) }
+    ensures refused { IfErr result (λ refusal.
+        Refuses refusal (seen running.old) (seen running.new) seat step.now) }
+    ensures sure { PaysOff (world_of (seen running.old)) seat step.now → IsOk result }
+{
+    if let Some(found) = found_against(&running.plan, &running.left, &running.state, seat, step) {
+        return Err(ApplyRefusal::NotEnabled { found });
+    }
+    let decision = decide_step(&running.plan, &running.left, &mut running.state, step);
+    let owed = places_after(running, step, &decision);
+    match make_place(&mut running.log, owed) {
+        Ok(()) => Ok(decision),
+        Err(refusal) => Err(refusal),
+    }
+}
+
+// Makes room for an entry and so many places that are owed after it, if the log isn't full.
+fn make_place(log: &mut Log, owed: u64) -> Result<(), ApplyRefusal>
+    requires { length log.old.items ≤ log_limit }
+    ensures entries { log.new.items ≡ log.old.items }
+    ensures spare { log.old.spare ≤ log.new.spare }
+    ensures placed { IsPlaced result (length log.old.items) owed log.new.spare }
+    ensures sure { owed + 1 ≤ log.old.spare → length log.old.items + 1 + owed ≤ log_limit → IsOk result }
+{
+    if LOG_LIMIT - log.len() <= owed {
+        return Err(ApplyRefusal::LogFull);
+    }
+    log.reserve(owed + 1)?;
+    Ok(())
+}

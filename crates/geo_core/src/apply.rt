@@ -1,0 +1,89 @@
+//! A mesh that begins, and a step of it.
+ghost use Rattle.std.specs.Prelude.{◌≡◌, [], ◌∷◌, ◌++◌, List, IfOk, IsOk};
+ghost use Rattle.geo_model.specs.declared.step.Entry.{Entry as EntryValue};
+ghost use Rattle.geo_model.specs.Plans.{FactsFit};
+ghost use Rattle.geo_core.specs.Mesh.{world_of, Applies, Advances, IsHistory, IsSure};
+ghost use Rattle.geo_core.specs.Running.{seen, IsMesh};
+ghost use Rattle.geo_core.specs.Twins.{EndsWith};
+
+use crate::admit::admit;
+use crate::carry::carry;
+use crate::left::Left;
+use crate::opening::opening;
+use crate::refusal::ApplyRefusal;
+use crate::running::Running;
+use crate::twin::{Spare, spare_of, twin};
+use geo_base::NoMemory;
+use geo_log::{DiskFacts, Log};
+use geo_model::{Outcome, Step};
+use geo_script::Plan;
+use std::alloc::Global;
+
+/// What a mesh holds that has made no step.
+pub fn begin(alloc: Global, plan: Plan, disks: &DiskFacts) -> Result<Running, NoMemory>
+    requires { FactsFit plan disks.now.items }
+    ensures began { IfOk result (λ r. seen r ≡ record { plan = plan; facts = disks.now.items; log = [] }) }
+    ensures mesh { IfOk result IsMesh }
+{
+    let state = opening(alloc, &plan, disks)?;
+    let left = Left::all(alloc, &plan)?;
+    let facts = disks.copy(alloc)?;
+    Ok(Running {
+        plan,
+        facts,
+        left,
+        state,
+        log: Log::new(alloc),
+    })
+}
+
+/// Makes a step of a seat, and keeps it in the log.
+pub fn advance(
+    alloc: Global,
+    running: &mut Running,
+    seat: u32,
+    step: Step,
+) -> Result<(), ApplyRefusal>
+    requires mesh { IsMesh running.old }
+    ensures mesh { IsMesh running.new }
+    ensures answer { Advances result (seen running.old) (seen running.new) seat step }
+    ensures sure { IsSure (world_of (seen running.old)) seat step → IsOk result }
+{
+    let decision = match admit(running, seat, &step) {
+        Ok(decision) => decision,
+        Err(refusal) => return Err(refusal),
+    };
+    match carry(alloc, running, seat, step, decision) {
+        Ok(()) => Ok(()),
+        Err(NoMemory) => Err(ApplyRefusal::NoMemory),
+    }
+}
+
+/// Makes a step of a seat, keeps it in the log, and answers its outcome. What takes memory is copied before the step.
+pub fn apply(
+    alloc: Global,
+    running: &mut Running,
+    seat: u32,
+    step: Step,
+) -> Result<Outcome, ApplyRefusal>
+    requires mesh { IsMesh running.old }
+    ensures mesh { IsMesh running.new }
+    ensures answer { Applies result (seen running.old) (seen running.new) seat step }
+    ensures sure { IsSure (world_of (seen running.old)) seat step → IsOk result }
+{
+    let decision = admit(running, seat, &step)?;
+    let spare = spare_of(alloc, running, &step)?;
+    carry(alloc, running, seat, step, decision)?;
+    Ok(last_outcome(&running.log, spare))
+}
+
+// The outcome of the last entry.
+fn last_outcome(log: &Log, spare: Spare) -> Outcome
+    requires { EndsWith log.now.items spare }
+    ensures { (entries : List EntryValue) (e : EntryValue) → log.now.items ≡ entries ++ e ∷ [] → result ≡ e.outcome }
+{
+    match log.entries().last() {
+        Some(entry) => twin(&entry.outcome, spare),
+        None => unreachable!(),
+    }
+}

@@ -1,0 +1,140 @@
+//! A step is made, and its entry stands in the log.
+ghost use Rattle.std.specs.Prelude.{◌≡◌, ◌++◌, ◌∷◌, [], List, None, Ok, IfOk, IsOk, OnOk, OnErr, All};
+ghost use Rattle.geo_model.specs.declared.command.LineCommand.{LineCommand as LineCommandValue};
+ghost use Rattle.geo_model.specs.declared.step.Entry.{Entry as EntryValue};
+ghost use Rattle.geo_model.specs.declared.step.Outcome.{Outcome as OutcomeValue};
+ghost use Rattle.geo_model.specs.declared.step.Step.TheVariants as steps;
+ghost use Rattle.geo_model.specs.Step.{go};
+ghost use Rattle.geo_model.specs.Plans.{IsCommand};
+ghost use Rattle.geo_state.specs.Holds.{Holds};
+ghost use Rattle.geo_state.specs.Steps.{SameWorld};
+ghost use Rattle.geo_state.specs.World.{world, HasBytes};
+ghost use Rattle.geo_state.specs.Steps.{IsFirm};
+ghost use Rattle.geo_laws_naming.specs.Naming.{HaveNames};
+ghost use Rattle.geo_core.specs.Left.{left_of, AreNext};
+ghost use Rattle.geo_core.specs.Mesh.{world_of, IsSure, Made};
+ghost use Rattle.geo_core.specs.Moves.{Moves, IsFound};
+ghost use Rattle.geo_core.specs.Running.{seen, IsMesh};
+ghost use Rattle.geo_core.specs.Goes.{IsAdmitted, IsDecidedNext, IsReady};
+
+use crate::counted::do_command;
+use crate::left::Left;
+use crate::running::Running;
+use crate::turns::turn;
+use geo_base::NoMemory;
+use geo_commands::Decision;
+use geo_log::Log;
+use geo_model::{Entry, Outcome, Step};
+use geo_script::Plan;
+use geo_state::State;
+use std::alloc::Global;
+
+/// Makes a step of a seat that can be made, and keeps it in the log. Where memory is wanting all stays. A Deliver takes
+/// none, nor does a close that is answered ok.
+pub fn carry(
+    alloc: Global,
+    running: &mut Running,
+    seat: u32,
+    step: Step,
+    decision: Option<Decision>,
+) -> Result<(), NoMemory>
+    requires mesh { IsMesh running.old }
+    requires admitted { IsAdmitted running.old seat step decision }
+    ensures mesh { IsMesh running.new }
+    ensures made { OnOk result ((o : OutcomeValue) × Made (seen running.old) (seen running.new) seat step o) }
+    ensures same { OnErr result (seen running.new ≡ seen running.old) }
+    ensures sure { IsSure (world_of (seen running.old)) seat step → IsOk result }
+{
+    let outcome = make(
+        alloc,
+        &running.plan,
+        &mut running.left,
+        &mut running.state,
+        &running.log,
+        seat,
+        &step,
+        decision,
+    )?;
+    running.log.push(Entry {
+        seat,
+        step,
+        outcome,
+    });
+    Ok(())
+}
+
+// Makes a step, against which nothing is.
+fn make(
+    alloc: Global,
+    plan: &Plan,
+    left: &mut Left,
+    state: &mut State,
+    log: &Log,
+    seat: u32,
+    step: &Step,
+    decision: Option<Decision>,
+) -> Result<Outcome, NoMemory>
+    requires kept { Holds state.old }
+    requires firm { IsFirm state.old }
+    requires logged { HasBytes log.now.items state.old }
+    requires next { AreNext plan.now left.old }
+    requires named { HaveNames state.old.topo.topology }
+    requires commands { All (All (λ (c : LineCommandValue). IsCommand c.command))
+        (left_of plan.now.commands left.old) }
+    requires found { IsFound plan.now.commands left.old state.old seat step.now None }
+    requires ready { IsReady plan.now.commands left.old state.old step.now decision }
+    ensures made { IfOk result (λ o.
+        Moves plan.now.commands log.now.items left.old left.new state.old state.new seat step.now o) }
+    ensures next { AreNext plan.now left.new }
+    ensures kept { Holds state.new }
+    ensures same { OnErr result (SameWorld state.old state.new) }
+    ensures left_stays { OnErr result (left.new ≡ left.old) }
+    ensures logged { IfOk result (λ _. (e : EntryValue) → HasBytes (log.now.items ++ e ∷ []) state.new) }
+    ensures bytes { OnErr result (HasBytes log.now.items state.new) }
+    ensures sure { IsSure (world (left_of plan.now.commands left.old) log.now.items state.old) seat step.now
+        → IsOk result }
+{
+    match step {
+        Step::Go { actor } => match decision {
+            Some(decision) => go(alloc, plan, left, state, *actor, decision),
+            None => unreachable!(),
+        },
+        _ => turn(alloc, state, log, seat, step),
+    }
+}
+
+// Makes a Go, against which nothing is.
+fn go(
+    alloc: Global,
+    plan: &Plan,
+    left: &mut Left,
+    state: &mut State,
+    actor: u32,
+    decision: Decision,
+) -> Result<Outcome, NoMemory>
+    requires kept { Holds state.old }
+    requires firm { IsFirm state.old }
+    requires next { AreNext plan.now left.old }
+    requires named { HaveNames state.old.topo.topology }
+    requires commands { All (All (λ (c : LineCommandValue). IsCommand c.command))
+        (left_of plan.now.commands left.old) }
+    requires found { IsFound plan.now.commands left.old state.old 0 (steps.Go actor) None }
+    requires ready { IsDecidedNext plan.now.commands left.old state.old actor decision }
+    ensures made { (log : List EntryValue) → IfOk result (λ o.
+        go (world (left_of plan.now.commands left.old) log state.old) actor
+        ≡ Ok (world (left_of plan.now.commands left.new) log state.new, o)) }
+    ensures next { AreNext plan.now left.new }
+    ensures kept { Holds state.new }
+    ensures same { OnErr result (SameWorld state.old state.new) }
+    ensures left_stays { OnErr result (left.new ≡ left.old) }
+    ensures logged { (log : List EntryValue) → HasBytes log state.old → HasBytes log state.new }
+    ensures sure { (log : List EntryValue)
+        → IsSure (world (left_of plan.now.commands left.old) log state.old) 0 (steps.Go actor) → IsOk result }
+{
+    let Ok(line) = left.next(plan, actor) else {
+        unreachable!();
+    };
+    let outcome = do_command(alloc, state, line.line, actor, &line.command, decision)?;
+    left.advance(plan, actor);
+    Ok(outcome)
+}
