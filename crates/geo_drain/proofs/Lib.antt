@@ -1,0 +1,5 @@
+pub mod Opened
+pub mod Taking
+pub mod Going
+pub mod Full
+pub mod Lines

@@ -1,0 +1,147 @@
+-- A Take that was made asks for what the drive of its disk can serve.
+use Rattle.std.specs.Prelude.{◌≡◌, ℕ, zero, suc, ◌<◌, List, [], ◌∷◌, ◌++◌, length, map, zip, Option, Some, None, Ok, IsSomeAnd, IsTrue, slice_get}
+use Rattle.std.proofs.Common.{get_or, refl, sym, ◌∙◌, ap, subst, arith}
+use Rattle.std.proofs.lemmas.List.{length-map, same_from_push}
+use Rattle.std.proofs.lemmas.Option.{slice_get_within}
+use Rattle.geo_model.specs.declared.step.DeviceResult.{DeviceResult}
+use Rattle.geo_model.specs.declared.step.Entry.{Entry}
+use Rattle.geo_model.specs.declared.step.Outcome.{Outcome}
+use Rattle.geo_model.specs.declared.step.Outcome.TheVariants as outcomes
+use Rattle.geo_model.specs.declared.step.Request.{Request}
+use Rattle.geo_model.specs.declared.step.Step.TheVariants as steps
+use Rattle.geo_model.specs.World.{HeaderDisk}
+use Rattle.geo_model.specs.Opening.{disk_in_size}
+use Rattle.geo_model.specs.Log.{Legal}
+use Rattle.geo_model.specs.Step.{is_enabled, step}
+use Rattle.geo_laws_steps.proofs.Logs.{firm_after}
+use Rattle.geo_laws_disks.specs.DiskLaws.{AsksInside, LiesInside}
+use Rattle.geo_laws_disks.proofs.Inside.{disks_are_asked}
+use Rattle.geo_serve.specs.Drives.{DriveView}
+use Rattle.geo_serve.specs.Serve.{CanServe, fits_request}
+use Rattle.geo_laws_drives.specs.DriveLaws.{IsServable}
+use Rattle.geo_laws_drives.proofs.Takes.{takes_are_servable}
+use Rattle.geo_core.specs.Mesh.{IsHistory, Made, MeshView, entry_of, opened, world_of}
+use Rattle.geo_drain.specs.Drain.{DrivesFit}
+use Rattle.geo_drain.specs.Turns.{AnswersRequest, EndsWithRequest}
+use Rattle.geo_drain.proofs.Opened.{DriveAt, drive_at, opening_disks}
+
+-- the request of a Take, which the drive of its disk can serve, and whose answers can be delivered
+pub record TakesRequest (taken : MeshView) (drives : List DriveView) (bio : ℕ) (o : Outcome) (q : Request) : Type 0
+  where
+    pub asked : o ≡ outcomes.Asked q
+    pub drive : DriveView
+    pub is_its : slice_get drives q.disk ≡ Some drive
+    pub can : CanServe drive q
+    pub fits : (got : DeviceResult) → IsTrue (fits_request drive.sector q got)
+        → IsTrue (is_enabled (world_of taken) 0 (steps.Deliver bio got))
+
+-- each Take is of such a request
+pub takes_request : (old taken : MeshView) (drives : List DriveView) (disk bio : ℕ) (o : Outcome) → IsHistory old
+    → IsHistory taken → DrivesFit old drives → Made old taken 0 (steps.Take disk bio) o
+    → (q : Request) × TakesRequest taken drives bio o q
+takes_request old taken drives disk bio o history after fit made =
+    by (slice_get (opened old).disks disk) refl asks.inside
+  where
+    e : Entry
+    e = entry_of 0 (steps.Take disk bio) o
+
+    legal : Legal (opened old) (old.log ++ e ∷ [])
+    legal = subst (λ (m : MeshView). Legal (opened m) m.log) made.logged after.lawful.0
+
+    asks : AsksInside (opened old) disk o
+    asks =
+        disks_are_asked.inside old.plan old.facts history.plan history.facts (old.log ++ e ∷ []) legal old.log e
+        ([], refl) disk bio refl
+
+    of_header : (header : HeaderDisk) → slice_get (opened old).disks disk ≡ Some header → LiesInside asks.request header
+        → (q : Request) × TakesRequest taken drives bio o q
+    of_header header here lies =
+        let at : DriveAt drives disk header =
+        drive_at old.plan.disks drives disk header
+        (subst (λ facts. slice_get (map disk_in_size (zip old.plan.disks facts)) disk ≡ Some header) (sym fit)
+        (subst (λ ds. slice_get ds disk ≡ Some header) (opening_disks old.plan old.facts) here)) in
+        let now : slice_get (world_of old).disks disk ≡ Some header =
+        subst (λ ds. slice_get ds disk ≡ Some header)
+        (sym (disks_are_asked.disks old.plan old.facts history.plan history.facts old.log history.lawful.0)) here in
+        let servable : IsServable (world_of taken) 0 bio asks.request header =
+        takes_are_servable (world_of old) (world_of taken) 0 disk bio asks.request header
+        (firm_after old.plan old.facts history.plan history.facts old.log)
+        (subst (λ (x : Outcome). step (world_of old) 0 (steps.Take disk bio) ≡ Ok (world_of taken, x)) asks.is
+        made.does)
+        now lies in (
+          asks.request,
+          record {
+            asked = asks.is;
+            drive = at.drive;
+            is_its = ap (λ n. slice_get drives n) asks.disk_is ∙ at.is;
+            can = servable.can at.drive at.sizes;
+            fits = λ got fit_got.
+                servable.fits got (subst (λ z. IsTrue (fits_request z asks.request got)) at.sizes.sector fit_got);
+          },
+        )
+
+    by : (o2 : Option HeaderDisk) → slice_get (opened old).disks disk ≡ o2 → IsSomeAnd o2 (LiesInside asks.request)
+        → (q : Request) × TakesRequest taken drives bio o q
+    by None here lies = absurd lies
+    by (Some header) here lies = of_header header here lies
+
+-- the last entry asked for one request
+pub same_request : (log : List Entry) (q r : Request) → EndsWithRequest log q → EndsWithRequest log r → q ≡ r
+same_request log q r first second =
+    let both : (first.front ≡ second.front) × (first.last ≡ second.last) =
+    same_from_push first.front second.front first.last second.last (sym first.is ∙ second.is) in
+    let asked : outcomes.Asked q ≡ outcomes.Asked r =
+    sym first.asked ∙ ap (λ (e : Entry). e.outcome) both.1 ∙ second.asked in
+    cc
+
+-- after a Take the last entry asked for its request
+pub ends_with : (old taken : MeshView) (disk bio : ℕ) (o : Outcome) (q : Request)
+    → Made old taken 0 (steps.Take disk bio) o → o ≡ outcomes.Asked q → EndsWithRequest taken.log q
+ends_with old taken disk bio o q made asked = record {
+  front = old.log;
+  last = entry_of 0 (steps.Take disk bio) o;
+  is = ap (λ (m : MeshView). m.log) made.logged;
+  asked = asked;
+}
+
+-- so the request of the last entry is the one that can be served
+pub takes_last : (old taken : MeshView) (drives : List DriveView) (disk bio : ℕ) (o : Outcome) (q : Request)
+    → IsHistory old → IsHistory taken → DrivesFit old drives → Made old taken 0 (steps.Take disk bio) o
+    → EndsWithRequest taken.log q → TakesRequest taken drives bio o q
+takes_last old taken drives disk bio o q history after fit made ends =
+    let some : (r : Request) × TakesRequest taken drives bio o r =
+    takes_request old taken drives disk bio o history after fit made in
+    subst (λ (r : Request). TakesRequest taken drives bio o r)
+    (same_request taken.log some.0 q (ends_with old taken disk bio o some.0 made some.1.asked) ends) some.1
+
+-- its drive can serve it
+pub last_can : (taken : MeshView) (drives : List DriveView) (bio : ℕ) (o : Outcome) (q : Request)
+    → TakesRequest taken drives bio o q → IsSomeAnd (slice_get drives q.disk) (λ d. CanServe d q)
+last_can taken drives bio o q it = subst (λ x. IsSomeAnd x (λ d. CanServe d q)) (sym it.is_its) it.can
+
+-- and its answer can be delivered
+pub last_enabled : (taken : MeshView) (drives after : List DriveView) (bio : ℕ) (o : Outcome) (q : Request)
+    (got : DeviceResult) → TakesRequest taken drives bio o q → AnswersRequest q drives after got
+    → IsTrue (is_enabled (world_of taken) 0 (steps.Deliver bio got))
+last_enabled taken drives after bio o q got it answers =
+    let both : Some it.drive ≡ Some answers.old = sym it.is_its ∙ answers.is_its in
+    let same : it.drive ≡ answers.old = cc in
+    it.fits got (subst (λ (d : DriveView). IsTrue (fits_request d.sector q got)) (sym same) answers.serves.fits)
+
+-- Drives as they are seen
+
+module _ {X Y : Type 0} (f : X → Y) where
+  -- one of them
+  pub seen_at : (xs : List X) (i : ℕ) (d : X) → i < length xs → slice_get (map f xs) i ≡ Some (f (get_or xs i d))
+  seen_at [] i d below = absurd (omega arith)
+  seen_at (x ∷ xs) zero d below = refl
+  seen_at (x ∷ xs) (suc i) d below = seen_at xs i d (omega arith)
+
+  -- and what holds of it
+  pub holds_at : (P : Y → Type 0) (xs : List X) (i : ℕ) (d : X) → i < length xs → IsSomeAnd (slice_get (map f xs) i) P
+      → P (f (get_or xs i d))
+  holds_at P xs i d below holds = subst (λ o. IsSomeAnd o P) (seen_at xs i d below) holds
+
+  -- where one is seen it is there
+  pub seen_within : (xs : List X) (i : ℕ) (y : Y) → slice_get (map f xs) i ≡ Some y → i < length xs
+  seen_within xs i y at = subst (λ n. i < n) (length-map xs f) (slice_get_within (map f xs) i y at)

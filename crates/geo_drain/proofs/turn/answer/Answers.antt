@@ -1,0 +1,27 @@
+use Rattle.std.proofs.Common.{slice_index_or, sym, subst}
+use Rattle.std.proofs.lemmas.List.{map-set}
+use Rattle.geo_serve.specs.Drives.{drive_view}
+use Rattle.geo_serve.specs.Serve.{CanServe, Serves}
+use Rattle.geo_drain.proofs.Taking.{holds_at, seen_at}
+use Rattle.geo_drain.proofs.turn.answer.Goals as goal
+
+pub serve-got-requires-clause-can : goal.serve-got-requires-clause-can
+serve-got-requires-clause-can g c =
+    holds_at (drive_view g.D.Disk.held g.D.Disk.sector_bytes g.D.Disk.sector_count g.D.Disk.calls g.D.Disk.faults)
+    (λ d. CanServe d c.args.request.now) c.args.disks.now c.args.request.now.disk c.index-disks-request.result
+    c.requires.inside c.requires.can
+
+pub returns : goal.returns
+returns g c =
+    let seen = drive_view g.D.Disk.held g.D.Disk.sector_bytes g.D.Disk.sector_count g.D.Disk.calls g.D.Disk.faults in
+    record {
+      old = seen (slice_index_or c.args.disks.now c.args.request.now.disk c.index-disks-request.result);
+      is_its = seen_at seen c.args.disks.now c.args.request.now.disk c.index-disks-request.result c.requires.inside;
+      new = seen c.serve-got.new.disk;
+      serves = subst
+          (λ got. Serves c.args.request.now
+          (seen (slice_index_or c.args.disks.now c.args.request.now.disk c.index-disks-request.result))
+          (seen c.serve-got.new.disk) got)
+          (sym c.in_own_length.ensures) c.serve-got.ensures;
+      drives = map-set seen c.args.disks.now c.args.request.now.disk c.serve-got.new.disk;
+    }

@@ -1,0 +1,68 @@
+use Rattle.std.proofs.Common.{map, subst}
+use Rattle.geo_model.specs.declared.step.Outcome.{Outcome}
+use Rattle.geo_model.specs.declared.step.Request.{Request}
+use Rattle.geo_model.specs.declared.step.Step.TheVariants as steps
+use Rattle.geo_serve.specs.Drives.{drive_view}
+use Rattle.geo_core.specs.Mesh.{Made}
+use Rattle.geo_drain.proofs.Taking.{TakesRequest, ends_with, last_can, last_enabled, seen_within, takes_last, takes_request}
+use Rattle.geo_drain.proofs.turn.take.Goals as goal
+
+pub last_request-requires : goal.last_request-requires
+last_request-requires g c =
+    let seen = drive_view g.D.Disk.held g.D.Disk.sector_bytes g.D.Disk.sector_count g.D.Disk.calls g.D.Disk.faults in
+    let o : Outcome = c.in_ok-make.ensures.made.0 in
+    let it : (q : Request) × TakesRequest c.make.new.mesh (map seen c.args.disks.now) c.args.bio o q =
+    takes_request c.args.mesh.now c.make.new.mesh (map seen c.args.disks.now) c.args.disk c.args.bio o
+    c.requires.history c.in_ok-make.ensures.history c.requires.fit c.in_ok-make.ensures.made.1 in (
+      it.0,
+      ends_with c.args.mesh.now c.make.new.mesh c.args.disk c.args.bio o it.0 c.in_ok-make.ensures.made.1
+          it.1.asked,
+    )
+
+pub answer-got-requires-clause-inside : goal.answer-got-requires-clause-inside
+answer-got-requires-clause-inside g c =
+    let seen = drive_view g.D.Disk.held g.D.Disk.sector_bytes g.D.Disk.sector_count g.D.Disk.calls g.D.Disk.faults in
+    let it : TakesRequest c.make.new.mesh (map seen c.args.disks.now) c.args.bio c.in_ok-make.ensures.made.0
+    c.last_request.result.now =
+    takes_last c.args.mesh.now c.make.new.mesh (map seen c.args.disks.now) c.args.disk c.args.bio
+    c.in_ok-make.ensures.made.0 c.last_request.result.now c.requires.history c.in_ok-make.ensures.history
+    c.requires.fit c.in_ok-make.ensures.made.1 c.last_request.ensures in
+    seen_within seen c.args.disks.now c.last_request.result.now.disk it.drive it.is_its
+
+pub answer-got-requires-clause-can : goal.answer-got-requires-clause-can
+answer-got-requires-clause-can g c =
+    let seen = drive_view g.D.Disk.held g.D.Disk.sector_bytes g.D.Disk.sector_count g.D.Disk.calls g.D.Disk.faults in
+    last_can c.make.new.mesh (map seen c.args.disks.now) c.args.bio c.in_ok-make.ensures.made.0
+    c.last_request.result.now
+    (takes_last c.args.mesh.now c.make.new.mesh (map seen c.args.disks.now) c.args.disk c.args.bio
+    c.in_ok-make.ensures.made.0 c.last_request.result.now c.requires.history c.in_ok-make.ensures.history
+    c.requires.fit c.in_ok-make.ensures.made.1 c.last_request.ensures)
+
+pub deliver-requires : goal.deliver-requires
+deliver-requires g c =
+    let seen = drive_view g.D.Disk.held g.D.Disk.sector_bytes g.D.Disk.sector_count g.D.Disk.calls g.D.Disk.faults in
+    last_enabled c.make.new.mesh (map seen c.args.disks.now) (map seen c.answer-got.new.disks) c.args.bio
+    c.in_ok-make.ensures.made.0 c.last_request.result.now c.answer-got.result
+    (takes_last c.args.mesh.now c.make.new.mesh (map seen c.args.disks.now) c.args.disk c.args.bio
+    c.in_ok-make.ensures.made.0 c.last_request.result.now c.requires.history c.in_ok-make.ensures.history
+    c.requires.fit c.in_ok-make.ensures.made.1 c.last_request.ensures)
+    c.answer-got.ensures
+
+pub returns-clause-made : goal.returns-clause-made
+returns-clause-made g c =
+    let seen = drive_view g.D.Disk.held g.D.Disk.sector_bytes g.D.Disk.sector_count g.D.Disk.calls g.D.Disk.faults in
+    let it : TakesRequest c.make.new.mesh (map seen c.args.disks.now) c.args.bio c.in_ok-make.ensures.made.0
+    c.last_request.result.now =
+    takes_last c.args.mesh.now c.make.new.mesh (map seen c.args.disks.now) c.args.disk c.args.bio
+    c.in_ok-make.ensures.made.0 c.last_request.result.now c.requires.history c.in_ok-make.ensures.history
+    c.requires.fit c.in_ok-make.ensures.made.1 c.last_request.ensures in
+    record {
+      taken = c.make.new.mesh;
+      request = c.last_request.result.now;
+      take = subst (λ (o : Outcome). Made c.args.mesh.now c.make.new.mesh 0 (steps.Take c.args.disk c.args.bio) o)
+          it.asked c.in_ok-make.ensures.made.1;
+      got = c.answer-got.result;
+      answers = c.answer-got.ensures;
+      outcome = c.deliver.ensures.made.0;
+      deliver = c.deliver.ensures.made.1;
+    }

@@ -1,0 +1,29 @@
+-- What a run to rest adds to the log and leaves of the drives.
+use Rattle.std.specs.Prelude.{◌≡◌, ◌+◌, ◌-◌, ◌^◌, ◌≤◌, List, ◌++◌, length, map}
+use Rattle.geo_model.specs.declared.step.Entry.{Entry}
+use Rattle.geo_model.specs.Log.{owed}
+use Rattle.geo_model.specs.FixedOrder.{StepOrder, FollowsOrder}
+use Rattle.geo_model.specs.Endings.{NextIsFull}
+use Rattle.geo_serve.specs.Drives.{DriveView}
+use Rattle.geo_serve.specs.Served.{AreServed}
+use Rattle.geo_core.specs.Mesh.{MeshView, opened, world_of}
+
+-- the mesh with more entries
+abbrev pub with_entries : MeshView → List Entry → MeshView
+with_entries m added = record m { log = m.log ++ added }
+
+-- there is one drive for each disk of the plan, in header order, with the sizes with which the mesh began
+abbrev pub DrivesFit : MeshView → List DriveView → Type 0
+DrivesFit m drives = map (λ (d : DriveView). (d.sector, d.count)) drives ≡ m.facts
+
+-- a run of one thread: what it added to the log follows the order, and each drive served what that says
+pub record Runs (order : StepOrder) (old new : MeshView) (before after : List DriveView) : Type 0 where
+  pub added : List Entry
+  pub grown : new ≡ with_entries old added
+  pub follows : FollowsOrder order (opened old) old.log added
+  pub served : AreServed added before after
+
+-- there is no place in the log for the step that is due, so the log is full but for what is owed
+pub record RanFull (order : StepOrder) (m : MeshView) : Type 0 where
+  pub due : NextIsFull order (opened m) m.log
+  pub nearly : 2 ^ 32 - 1 ≤ length m.log + owed (world_of m)

@@ -1,0 +1,4 @@
+pub mod Drain
+pub mod Turns
+pub mod Earliest
+pub mod Running

@@ -1,0 +1,106 @@
+//! The step that is due in the fixed order.
+ghost use Rattle.std.specs.Prelude.{◌≡◌, ◌↔◌, IsNone, IsTrue};
+ghost use Rattle.std.specs.Option.{option_map};
+ghost use Rattle.geo_model.specs.declared.step.Step.TheVariants as steps;
+ghost use Rattle.geo_model.specs.Laws.{NoneBusy};
+ghost use Rattle.geo_model.specs.Order.{Rest, earliest, if_enabled, pick, ready_actors};
+ghost use Rattle.geo_core.specs.Mesh.{world_of};
+ghost use Rattle.geo_drain.specs.Earliest.{earlier_of, ready_at};
+
+use geo_core::Mesh;
+use geo_model::Step;
+
+/// The step that is due in the fixed order, where no bio is Busy: the first enabled of Up, Take and Start of the
+/// smallest bio, Judge, Event, Reap, Wash, and the Go of the actor whose next line is the smallest. None exactly at
+/// rest.
+pub fn pick(mesh: &Mesh) -> Option<Step>
+    requires { NoneBusy (world_of mesh.now) }
+    ensures picked { result ≡ pick (world_of mesh.now) }
+    ensures rest { IsNone result ↔ Rest (world_of mesh.now) }
+{
+    if mesh.at_rest() {
+        return None;
+    }
+    first_enabled(mesh)
+}
+
+// The first enabled step.
+#[tactic(auto, unfolding(geo_model::specs::Order::pick))]
+fn first_enabled(mesh: &Mesh) -> Option<Step>
+    requires { NoneBusy (world_of mesh.now) }
+    ensures { result ≡ pick (world_of mesh.now) }
+{
+    if let Some(step) = mesh.first_up() {
+        return Some(step);
+    }
+    if let Some(step) = mesh.first_to_take() {
+        return Some(step);
+    }
+    if let Some(step) = mesh.first_down() {
+        return Some(step);
+    }
+    if let Some(step) = if_enabled(mesh, Step::Judge) {
+        return Some(step);
+    }
+    if let Some(step) = if_enabled(mesh, Step::Event) {
+        return Some(step);
+    }
+    if let Some(step) = if_enabled(mesh, Step::Reap) {
+        return Some(step);
+    }
+    if let Some(step) = if_enabled(mesh, Step::Wash) {
+        return Some(step);
+    }
+    match earliest(mesh) {
+        Some(actor) => Some(Step::Go { actor }),
+        None => None,
+    }
+}
+
+// A step, if it is enabled.
+fn if_enabled(mesh: &Mesh, step: Step) -> Option<Step>
+    ensures { result ≡ if_enabled (world_of mesh.now) step }
+{
+    if mesh.enabled(0, &step) {
+        Some(step)
+    } else {
+        None
+    }
+}
+
+// The actor whose next line is the smallest among those whose next command is enabled.
+fn earliest(mesh: &Mesh) -> Option<u32>
+    ensures { result ≡ earliest (ready_actors (world_of mesh.now)) }
+{
+    let mut best: Option<(u32, u32)> = None;
+    for actor in (0..mesh.actors()).rev() {
+        best = earlier(ready(mesh, actor), best);
+    }
+    match best {
+        Some((actor, _)) => Some(actor),
+        None => None,
+    }
+}
+
+// An actor with the line of its next command, if that is enabled.
+fn ready(mesh: &Mesh, actor: u32) -> Option<(u32, u32)>
+    ensures { result ≡ ready_at (world_of mesh.now) actor }
+{
+    let line = mesh.next_line(actor)?;
+    if mesh.enabled(0, &Step::Go { actor }) {
+        Some((actor, line))
+    } else {
+        None
+    }
+}
+
+// Of two actors with their lines the one with the smaller line, the first if both have the same.
+fn earlier(first: Option<(u32, u32)>, second: Option<(u32, u32)>) -> Option<(u32, u32)>
+    ensures { result ≡ earlier_of first second }
+{
+    match (first, second) {
+        (Some(one), Some(other)) if other.1 < one.1 => Some(other),
+        (Some(one), _) => Some(one),
+        (None, rest) => rest,
+    }
+}

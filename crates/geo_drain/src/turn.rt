@@ -1,0 +1,177 @@
+//! One turn: a step, and after a Take its Deliver.
+ghost use Rattle.std.specs.Prelude.{◌≡◌, ◌<◌, IsErrOf, IsOk, IsSomeAnd, IsTrue, OnErr, OnOk, length, map, slice_get};
+ghost use Rattle.geo_model.specs.declared.step.Outcome.{Outcome as OutcomeValue};
+ghost use Rattle.geo_model.specs.declared.step.Outcome.TheVariants as outcomes;
+ghost use Rattle.geo_model.specs.declared.step.Request.{Request as RequestValue};
+ghost use Rattle.geo_model.specs.declared.step.Step.TheVariants as steps;
+ghost use Rattle.geo_model.specs.Log.{is_full};
+ghost use Rattle.geo_model.specs.Requests.{request_limit};
+ghost use Rattle.geo_model.specs.Step.{is_enabled};
+ghost use Rattle.geo_serve.specs.Drives.{drive_view};
+ghost use Rattle.geo_serve.specs.Serve.{CanServe};
+ghost use Rattle.geo_core.specs.Mesh.{IsHistory, Made, world_of};
+ghost use Rattle.geo_drain.specs.Drain.{DrivesFit};
+ghost use Rattle.geo_drain.specs.Turns.{AnswersRequest, EndsWithRequest, ServesTake, Turns};
+
+use crate::refusal::DrainRefusal;
+use geo_base::{BioId, Block};
+use geo_core::{ApplyRefusal, Mesh};
+use geo_disk::{Disk, Drive};
+use geo_model::{DeviceResult, Outcome, Request, Step};
+use geo_serve::serve;
+use std::alloc::Global;
+
+/// The length of the longest request, in bytes.
+const ROOM: u32 = 32768;
+
+/// Makes an enabled step of seat 0. A Take is served by the drive of its disk, and its answer is delivered. Where it is
+/// refused the mesh and the drives are as before.
+pub fn turn<D: Disk>(
+    alloc: Global,
+    mesh: &mut Mesh,
+    disks: &mut [Drive<D>],
+    step: Step,
+) -> Result<(), DrainRefusal>
+    requires history { IsHistory mesh.old }
+    requires enabled { IsTrue (is_enabled (world_of mesh.old) 0 step) }
+    requires fit { DrivesFit mesh.old
+        (map (drive_view D.held D.sector_bytes D.sector_count D.calls D.faults) disks.old) }
+    ensures made { OnOk result (Turns mesh.old mesh.new
+        (map (drive_view D.held D.sector_bytes D.sector_count D.calls D.faults) disks.old)
+        (map (drive_view D.held D.sector_bytes D.sector_count D.calls D.faults) disks.new) step) }
+    ensures full { IsErrOf result DrainRefusal.LogFull → IsTrue (is_full mesh.old.log (world_of mesh.old) 0 step) }
+    ensures mesh { OnErr result (mesh.new ≡ mesh.old) }
+    ensures disks { OnErr result (disks.new ≡ disks.old) }
+    ensures history { IsHistory mesh.new }
+{
+    match step {
+        Step::Take { disk, bio } => take(alloc, mesh, disks, disk, bio),
+        other => make(mesh, other),
+    }
+}
+
+// Makes an enabled step of seat 0.
+fn make(mesh: &mut Mesh, step: Step) -> Result<(), DrainRefusal>
+    requires { IsTrue (is_enabled (world_of mesh.old) 0 step) }
+    ensures made { OnOk result ((outcome : OutcomeValue) × Made mesh.old mesh.new 0 step outcome) }
+    ensures full { IsErrOf result DrainRefusal.LogFull → IsTrue (is_full mesh.old.log (world_of mesh.old) 0 step) }
+    ensures same { OnErr result (mesh.new ≡ mesh.old) }
+    ensures history { IsHistory mesh.new }
+{
+    match mesh.make(0, step) {
+        Ok(()) => Ok(()),
+        Err(ApplyRefusal::NotEnabled { .. }) => unreachable!(),
+        Err(ApplyRefusal::LogFull) => Err(DrainRefusal::LogFull),
+        Err(ApplyRefusal::NoMemory) => Err(DrainRefusal::NoMemory),
+    }
+}
+
+// Takes a bio, has its disk serve the request, and delivers the answer. The room for the answer is there before the
+// Take.
+fn take<D: Disk>(
+    alloc: Global,
+    mesh: &mut Mesh,
+    disks: &mut [Drive<D>],
+    disk: u32,
+    bio: BioId,
+) -> Result<(), DrainRefusal>
+    requires history { IsHistory mesh.old }
+    requires enabled { IsTrue (is_enabled (world_of mesh.old) 0 (steps.Take disk bio)) }
+    requires fit { DrivesFit mesh.old
+        (map (drive_view D.held D.sector_bytes D.sector_count D.calls D.faults) disks.old) }
+    ensures made { OnOk result (ServesTake mesh.old mesh.new
+        (map (drive_view D.held D.sector_bytes D.sector_count D.calls D.faults) disks.old)
+        (map (drive_view D.held D.sector_bytes D.sector_count D.calls D.faults) disks.new) disk bio) }
+    ensures full { IsErrOf result DrainRefusal.LogFull
+        → IsTrue (is_full mesh.old.log (world_of mesh.old) 0 (steps.Take disk bio)) }
+    ensures mesh { OnErr result (mesh.new ≡ mesh.old) }
+    ensures disks { OnErr result (disks.new ≡ disks.old) }
+    ensures history { IsHistory mesh.new }
+{
+    let Ok(room) = Block::zeros(alloc, ROOM) else {
+        return Err(DrainRefusal::NoMemory);
+    };
+    make(mesh, Step::Take { disk, bio })?;
+    let got = answer(alloc, last_request(mesh), disks, room);
+    deliver(mesh, bio, got);
+    Ok(())
+}
+
+// The request that the last entry of the log asked for.
+fn last_request(mesh: &Mesh) -> &Request
+    requires { (q : RequestValue) × EndsWithRequest mesh.now.log q }
+    ensures { EndsWithRequest mesh.now.log result.now }
+{
+    match mesh.log().entries().last() {
+        Some(entry) => request_in(&entry.outcome),
+        None => unreachable!(),
+    }
+}
+
+// The request of an outcome that has one.
+fn request_in(outcome: &Outcome) -> &Request
+    requires { (q : RequestValue) × (outcome.now ≡ outcomes.Asked q) }
+    ensures { outcome.now ≡ outcomes.Asked result.now }
+{
+    match outcome {
+        Outcome::Asked(request) => request,
+        _ => unreachable!(),
+    }
+}
+
+// The answer of the drive of the request's disk.
+fn answer<D: Disk>(
+    alloc: Global,
+    request: &Request,
+    disks: &mut [Drive<D>],
+    room: Block,
+) -> DeviceResult
+    requires room { length room ≡ request_limit }
+    requires inside { request.now.disk < length disks.old }
+    requires can { IsSomeAnd
+        (slice_get (map (drive_view D.held D.sector_bytes D.sector_count D.calls D.faults) disks.old) request.now.disk)
+        (λ d. CanServe d request.now) }
+    ensures { AnswersRequest request.now
+        (map (drive_view D.held D.sector_bytes D.sector_count D.calls D.faults) disks.old)
+        (map (drive_view D.held D.sector_bytes D.sector_count D.calls D.faults) disks.new) result }
+{
+    let drive = &mut disks[request.disk as usize];
+    let got = serve(drive, request, room);
+    in_own_length(alloc, got)
+}
+
+// The same answer, whose bytes take no more memory than their length where memory for a copy is found.
+fn in_own_length(alloc: Global, got: DeviceResult) -> DeviceResult
+    ensures { result ≡ got }
+{
+    match got {
+        DeviceResult::Bytes(bytes) => DeviceResult::Bytes(trimmed(alloc, bytes)),
+        DeviceResult::Done => DeviceResult::Done,
+        DeviceResult::Failed { done } => DeviceResult::Failed { done },
+    }
+}
+
+// The same bytes in a block of their own length, or in the room itself where they fill it or memory is wanting.
+fn trimmed(alloc: Global, bytes: Block) -> Block
+    ensures { result ≡ bytes }
+{
+    if bytes.len() == ROOM as usize {
+        return bytes;
+    }
+    match bytes.copy(alloc) {
+        Ok(copied) => copied,
+        Err(_) => bytes,
+    }
+}
+
+// Delivers an answer that fits, which is never refused.
+fn deliver(mesh: &mut Mesh, bio: BioId, got: DeviceResult)
+    requires { IsTrue (is_enabled (world_of mesh.old) 0 (steps.Deliver bio got)) }
+    ensures made { (outcome : OutcomeValue) × Made mesh.old mesh.new 0 (steps.Deliver bio got) outcome }
+    ensures history { IsHistory mesh.new }
+{
+    match mesh.make(0, Step::Deliver { bio, got }) {
+        Ok(()) => {}
+        Err(_) => unreachable!(),
+    }
+}
