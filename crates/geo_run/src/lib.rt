@@ -1,15 +1,15 @@
-//! The program: it reads a script, makes its steps, and writes the report.
+//! The top call: a script is read, its disks are taken, its mesh goes to rest, and the report is written.
 #![tactic(auto)]
 
-mod drain;
-mod forms;
-mod ram_disk;
-mod report;
-mod script;
-#[cfg(test)]
-mod tests;
-mod text;
+mod due;
+mod finish;
+mod lent;
+mod plan_run;
+mod rest;
+mod source_run;
+mod stop;
 mod top;
 mod words;
 
-pub use top::{Ended, run, without_memory};
+pub use top::{Ended, refuse_words, run_alone, without_memory};
+pub use words::starts_threads;

@@ -1,119 +1,114 @@
-//! Lines, words and numbers of a text.
-ghost use Rattle.std.specs.Prelude.{◌≡◌, ◌==◌, ◌+◌, ◌-◌, ◌*◌, ◌^◌, ◌<◌, ◌≤◌, SomeIff, IfOk, IsTrue, ◌↔◌, length, slice_index_or, []};
-ghost use Rattle.std.specs.List.{slice_split, list_all};
-ghost use Rattle.geo_base.specs.Name.{name_of};
-ghost use Rattle.geo_run.specs.Words.{texts, lines_of, words_of, ends_empty, drop_empty_end, is_plain, is_plain_byte, is_digit, is_decimal, number_of, short_name_of};
+//! The words of the program.
+ghost use Rattle.std.specs.Prelude.{◌↔◌, [], ◌∷◌, IsTrue, codes, string_bytes};
+ghost use Rattle.geo_model.specs.Generator.{Accepts, RunMode};
+ghost use Rattle.geo_run.specs.Numbers.{IsNumberWithin, IsPlain};
+ghost use Rattle.geo_run.specs.Work.{AsksCount, AsksFor, word_bytes};
 
-use geo_base::{Name, NoMemory};
-use std::alloc::{AllocError, Global};
-
-/// The parts of bytes that stand between those of this value.
-fn parts_at<'a>(alloc: Global, bytes: &'a [u8], at: u8) -> Result<Vec<&'a [u8]>, AllocError>
-    ensures { IfOk result (λ parts. texts parts.items ≡ slice_split (λ b. b == at) bytes.now) }
-{
-    bytes.split(|b| *b == at).collect(alloc)
+/// What the words ask for.
+#[derive(Clone, Copy, Debug, PartialEq, Eq)]
+pub enum Work {
+    /// Run the script that the source gives.
+    Step,
+    /// Run the script that is made from the number `start`, with `count` lines that are drawn.
+    Generate { start: u32, count: u32 },
 }
 
-/// The lines of a text. What stands behind the last line feed is one only where it isn't empty.
-pub fn lines_of<'a>(alloc: Global, text: &'a [u8]) -> Result<Vec<&'a [u8]>, NoMemory>
-    ensures { IfOk result (λ lines. texts lines.items ≡ lines_of text.now) }
-{
-    Ok(without_empty_end(parts_at(alloc, text, b'\n')?))
-}
+/// The greatest START.
+const START_LIMIT: u32 = 2_147_483_647;
 
-/// The lines without an empty one at the end.
-fn without_empty_end<'a>(mut lines: Vec<&'a [u8]>) -> Vec<&'a [u8]>
-    ensures { texts result.items ≡ drop_empty_end (texts lines.entry.items) }
-{
-    if ends_empty(lines.as_slice()) {
-        lines.pop();
-        lines
-    } else {
-        lines
-    }
-}
+/// The greatest COUNT.
+const COUNT_LIMIT: u32 = 4_000;
 
-/// Whether the last of the lines is empty.
-fn ends_empty(lines: &[&[u8]]) -> bool
-    ensures { result ≡ ends_empty (texts lines.now) }
-{
-    match lines {
-        [.., last] => last.is_empty(),
-        [] => false,
-    }
-}
-
-/// The words of a line, which stand between single spaces.
-pub fn words_of<'a>(alloc: Global, line: &'a [u8]) -> Result<Vec<&'a [u8]>, NoMemory>
-    ensures { IfOk result (λ words. texts words.items ≡ words_of line.now) }
-{
-    Ok(parts_at(alloc, line, b' ')?)
-}
-
-/// Whether a line has at most 255 bytes, each from 0x20 to 0x7E.
-pub fn is_plain(line: &[u8]) -> bool
-    ensures { result ≡ is_plain line.now }
-{
-    line.len() <= 255 && are_plain(line)
-}
-
-fn are_plain(line: &[u8]) -> bool
-    ensures { result ≡ list_all is_plain_byte line.now }
-{
-    line.iter().all(|b| 32 <= *b && *b <= 126)
-}
-
-fn are_digits(word: &[u8]) -> bool
-    ensures { result ≡ list_all is_digit word.now }
-{
-    word.iter().all(|b| b'0' <= *b && *b <= b'9')
-}
-
-fn is_decimal(word: &[u8]) -> bool
-    ensures { result ≡ is_decimal word.now }
+/// Whether no plus and no zero stands before other bytes.
+fn is_plain(word: &[u8]) -> bool
+    ensures { IsTrue result ↔ IsPlain word.now }
 {
     match word {
-        [] => false,
-        [first, rest @ ..] => are_digits(word) && (*first != b'0' || rest.is_empty()),
+        [b'+', ..] => false,
+        [b'0', _, ..] => false,
+        _ => true,
     }
 }
 
-/// A number with one more digit, where it is below 2^64.
-fn with_digit(value: u64, digit: u8) -> Option<u64>
-    requires { 48 ≤ digit }
-    ensures { SomeIff result (value * 10 + (digit - 48) < 2 ^ 64) (value * 10 + (digit - 48)) }
+/// The number that the word is written as, in decimal without a zero in front, if it isn't above the limit.
+fn number_within(word: &str, limit: u32) -> Option<u32>
+    ensures { IsNumberWithin limit word.now result }
 {
-    value.checked_mul(10)?.checked_add(u64::from(digit - b'0'))
-}
-
-/// The number that a word of decimal digits without a leading zero stands for, where it is below 2^64.
-pub fn number(word: &[u8]) -> Option<u64>
-    ensures { result ≡ number_of word.now }
-{
-    if !is_decimal(word) {
+    if !is_plain(word.as_bytes()) {
         return None;
     }
-    let mut value = 0u64;
-    for digit in word {
-        value = with_digit(value, *digit)?;
-    }
-    Some(value)
-}
-
-/// The name, where it is one of 1 to 16 bytes, as of a disk, an actor or a handle.
-#[tactic(auto, unfolding(crate::specs::Words::short_name_of))]
-pub fn short_name(word: &[u8]) -> Option<Name>
-    ensures { result ≡ short_name_of word.now }
-{
-    match Name::new(word) {
-        Ok(name) => { if name.is_short() { Some(name) } else { None } }
+    match word.parse::<u32>() {
+        Ok(number) => { if number <= limit { Some(number) } else { None } }
         Err(_) => None,
     }
 }
 
-/// The name, where it is one of 1 to 63 bytes, as of a provider.
-pub fn long_name(word: &[u8]) -> Option<Name>
-    ensures { result ≡ name_of word.now }
+/// The same of a word of the program.
+fn number_in(word: &String, limit: u32) -> Option<u32>
+    ensures { IsNumberWithin limit (string_bytes word.now) result }
 {
-    Name::new(word).ok()
+    number_within(word.as_str(), limit)
+}
+
+/// What COUNT asks for behind START.
+fn counted(start: u32, count: &String) -> Option<Work>
+    ensures { AsksCount start (string_bytes count.now) result }
+{
+    match number_in(count, COUNT_LIMIT) {
+        None => None,
+        Some(count) => Some(Work::Generate { start, count }),
+    }
+}
+
+/// What two words after `gen` ask for.
+fn generation(start: &String, count: &String) -> Option<Work>
+    ensures { AsksFor (codes "gen" ∷ string_bytes start.now ∷ string_bytes count.now ∷ []) result }
+{
+    match number_in(start, START_LIMIT) {
+        None => None,
+        Some(start) => counted(start, count),
+    }
+}
+
+/// What one word asks for.
+fn step_of(word: &String) -> Option<Work>
+    ensures { AsksFor (string_bytes word.now ∷ []) result }
+{
+    if word.as_str() == "step" {
+        Some(Work::Step)
+    } else {
+        None
+    }
+}
+
+/// What three words ask for.
+fn generation_of(first: &String, start: &String, count: &String) -> Option<Work>
+    ensures { AsksFor (string_bytes first.now ∷ string_bytes start.now ∷ string_bytes count.now ∷ []) result }
+{
+    if first.as_str() == "gen" {
+        generation(start, count)
+    } else {
+        None
+    }
+}
+
+/// Whether the words are the one word `run`, which asks for threads.
+pub fn starts_threads(words: &[String]) -> bool
+    ensures { IsTrue result ↔ Accepts (word_bytes words.now) RunMode }
+{
+    match words {
+        [word] => word.as_str() == "run",
+        _ => false,
+    }
+}
+
+/// What the words ask for, if they are accepted. The one word `run` asks for threads, and isn't looked at here.
+pub fn work_of(words: &[String]) -> Option<Work>
+    ensures { AsksFor (word_bytes words.now) result }
+{
+    match words {
+        [word] => step_of(word),
+        [first, start, count] => generation_of(first, start, count),
+        _ => None,
+    }
 }

@@ -1,8 +1,10 @@
-//! The program `geomrun`: its words, standard input and standard output, given to `run`.
+//! The program `geomrun`: its words, standard input and standard output, and the images of the current folder, given to
+//! the top call.
 #![tactic(auto)]
 
+use geo_file::FileShelf;
 use geo_io::{StdSink, StdSource};
-use geo_run::{run, without_memory};
+use geo_run::{refuse_words, run_alone, starts_threads, without_memory};
 use std::alloc::Global;
 use std::process::ExitCode;
 use std::rt::Env;
@@ -27,6 +29,12 @@ fn main(rt: HostRuntime) -> ExitCode {
             Vec::new(alloc)
         }
     };
-    let ended = run(alloc, words.as_slice(), &mut source, &mut sink);
+    if starts_threads(words.as_slice()) {
+        return ExitCode::from(refuse_words(&mut sink));
+    }
+    let Ok(mut shelf) = FileShelf::new(rt, alloc, ".") else {
+        return ExitCode::from(without_memory(&mut sink));
+    };
+    let ended = run_alone(alloc, words.as_slice(), &mut source, &mut sink, &mut shelf);
     ExitCode::from(ended.status)
 }

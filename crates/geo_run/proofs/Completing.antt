@@ -1,0 +1,212 @@
+-- Where nothing fails and all is there, the status is 0, or 6 or 7.
+use Rattle.std.proofs.Common.{◌≡◌, ◌⊎◌, ℕ, ◌+◌, ◌-◌, ◌^◌, ◌<◌, ◌≤◌, min, false, List, [], ◌∷◌, ◌++◌, length, find, All, Option, Some, None, Result, Ok, Err, unwrap_or, refl, sym, ◌∙◌, ap, subst, inl, inr, arith, IfSome, IsSomeAnd, ◌&&◌, bytes_eq, if◌then◌else◌}
+use Rattle.std.specs.List.{AllByRecursion, list_any}
+use Rattle.std.proofs.lemmas.List.{append-nil, length-append}
+use Rattle.std.proofs.lemmas.List.Elements.{recursion_from_All}
+use Rattle.geo_base.specs.Faults.{Rose, RoseBy}
+use Rattle.geo_base.specs.Images.{Images, IsDiskSize}
+use Rattle.geo_model.specs.declared.command.DiskDecl.{DiskDecl}
+use Rattle.geo_model.specs.declared.command.DiskKind.{DiskKind}
+use Rattle.geo_model.specs.declared.command.DiskKind.TheVariants as disk_kinds
+use Rattle.geo_model.specs.World.{Plan}
+use Rattle.geo_model.specs.Script.{Fault, script}
+use Rattle.geo_model.specs.Generator.{Mode, StepMode, RunMode, GenMode, Accepts}
+use Rattle.geo_model.specs.Outside.{ShelfView, IsShelf, is_shelf, kept_back, HasImage, IsMissing, IsBadSize}
+use Rattle.geo_model.specs.Endings.{Ending, Reported, ReportedButFault, BadWords, NoScript, ReadFault, ShelfFault, NoDisk, BadSize, OutOfMemory, LogFull, TooLong, Call, StopsAt, failed_takes, first_kept_back, script_limit, status_of}
+use Rattle.geo_model.specs.Headline.{GivesScript, IsComplete, IsToldThere, KeepsAll, NoFault, text_to_give}
+use Rattle.geo_run.proofs.Generated.{generated_in_memory}
+use Rattle.geo_run.proofs.Tests.{is_or_not}
+
+-- Texts
+
+-- a text that was read whole is all that the source had to give
+all_given : (before after : Option (List ℕ)) (text : List ℕ)
+    → IfSome before (λ had. IsSomeAnd after (λ has. had ≡ text ++ has)) → IfSome after (λ left. left ≡ [])
+    → unwrap_or before text ≡ text
+all_given None after text h none = refl
+all_given (Some had) None text h none = absurd h
+all_given (Some had) (Some has) text h none = h ∙ ap (λ bs. text ++ bs) none ∙ append-nil text
+
+-- a text is no longer than what the source had to give
+no_longer : (before after : Option (List ℕ)) (text : List ℕ)
+    → IfSome before (λ had. IsSomeAnd after (λ has. had ≡ text ++ has)) → length text ≤ length (unwrap_or before text)
+no_longer None after text h = omega arith
+no_longer (Some had) None text h = absurd h
+no_longer (Some had) (Some has) text h =
+    let e : length had ≡ length (text ++ has) = ap (λ (bs : List ℕ). length bs) h in
+    let both : length (text ++ has) ≡ length text + length has = length-append text has in omega (arith, e, both)
+
+-- Faults
+
+rose_from : (f n before after : ℕ) → 1 ≤ f + n → RoseBy (f + n) before after → Rose before after
+rose_from f n before after some r = let h : min (before + (f + n)) (2 ^ 64 - 1) ≤ after = r in omega (arith, some, h)
+
+never : (kind : DiskKind) → (is_shelf kind && false) ≡ false
+never disk_kinds.Ram = refl
+never disk_kinds.Shelf = refl
+
+none_first : (ds : List DiskDecl) (P : DiskDecl → Type 0)
+    → IsSomeAnd (find (λ (d : DiskDecl). is_shelf d.kind && false) ds) P → ⊥
+none_first [] P h = h
+none_first (d ∷ ds) P h =
+    none_first ds P (subst (λ t. IsSomeAnd (if t then Some d else find (λ (z : DiskDecl). is_shelf z.kind && false) ds) P) (never d.kind) h)
+
+-- where a disk was kept back, some name was
+some_kept : (ds : List DiskDecl) (names : List (List ℕ)) (P : DiskDecl → Type 0)
+    → IsSomeAnd (find (λ (d : DiskDecl). is_shelf d.kind && list_any (bytes_eq d.name) names) ds) P → 1 ≤ length names
+some_kept ds [] P h = absurd (none_first ds P h)
+some_kept ds (n ∷ names) P h = omega arith
+
+-- Disks
+
+-- what holds of each disk holds of one of them
+of_one : (P : DiskDecl → Type 0) (front : List DiskDecl) (d : DiskDecl) (back : List DiskDecl)
+    → AllByRecursion P (front ++ d ∷ back) → P d
+of_one P [] d back all = all.0
+of_one P (x ∷ front) d back all = of_one P front d back all.1
+
+not_missing : (d : DiskDecl) (told : Option Images) → IsSomeAnd told (HasImage d) → IfSome told (IsMissing d) → ⊥
+not_missing d None has missing = has
+not_missing d (Some images) has missing = by (images d.name) has missing
+  where
+    by : (o : Option (List ℕ)) → IsSomeAnd o (λ bytes. IsDiskSize d.sector (length bytes)) → o ≡ None → ⊥
+    by None h e = h
+    by (Some bytes) h e = cc
+
+not_bad : (d : DiskDecl) (told : Option Images) → IsSomeAnd told (HasImage d) → IfSome told (IsBadSize d) → ⊥
+not_bad d None has bad = has
+not_bad d (Some images) has bad = by (images d.name) has bad
+  where
+    by : (o : Option (List ℕ)) → IsSomeAnd o (λ bytes. IsDiskSize d.sector (length bytes))
+        → IsSomeAnd o (λ bytes. IsDiskSize d.sector (length bytes) → ⊥) → ⊥
+    by None h e = h
+    by (Some bytes) h e = e h
+
+-- a disk at which taking stopped is of the plan, and of the shelf
+stopped_there : (shelf : ShelfView) (plan : Plan) (name : List ℕ) (F : DiskDecl → Images → Type 0)
+    → (s : StopsAt shelf plan name F) → All (IsToldThere shelf) plan.disks → IsSomeAnd shelf.told (HasImage s.disk)
+stopped_there shelf plan name F s all =
+    of_one (IsToldThere shelf) s.front s.disk s.back
+    (subst (λ (ds : List DiskDecl). AllByRecursion (IsToldThere shelf) ds) s.in_plan
+    (recursion_from_All (IsToldThere shelf) plan.disks all)) s.of_shelf
+
+in_memory : (plan : Plan) (name : List ℕ) (F : DiskDecl → Images → Type 0) (shelf : ShelfView)
+    → StopsAt shelf plan name F → All (λ (d : DiskDecl). IsShelf d.kind → ⊥) plan.disks → ⊥
+in_memory plan name F shelf s all =
+    of_one (λ (d : DiskDecl). IsShelf d.kind → ⊥) s.front s.disk s.back
+    (subst (λ (ds : List DiskDecl). AllByRecursion (λ (d : DiskDecl). IsShelf d.kind → ⊥) ds) s.in_plan
+    (recursion_from_All (λ (d : DiskDecl). IsShelf d.kind → ⊥) plan.disks all)) s.of_shelf
+
+-- the plan of the text that was to be given is the plan of the text
+same_plan : (text to_give : List ℕ) (p plan : Plan) → to_give ≡ text → script to_give ≡ Ok p → script text ≡ Ok plan → p ≡ plan
+same_plan text to_give p plan e a b = by p plan (script to_give) a (ap script e ∙ b)
+  where
+    by : (x y : Plan) (r : Result Plan Fault) → r ≡ Ok x → r ≡ Ok y → x ≡ y
+    by x y r p q = cc
+
+no_fault_there : (text to_give : List ℕ) (p : Plan) (fault : Fault) → to_give ≡ text → script to_give ≡ Ok p
+    → script text ≡ Err fault → ⊥
+no_fault_there text to_give p fault e a b = by p fault (script to_give) a (ap script e ∙ b)
+  where
+    by : (x : Plan) (f : Fault) (r : Result Plan Fault) → r ≡ Ok x → r ≡ Err f → ⊥
+    by x f r p q = cc
+
+-- Each mode
+
+-- what a source has to give where it isn't read for nothing
+abbrev HasScript : Call → Type 0
+HasScript call =
+    (length (text_to_give call) ≤ script_limit)
+    × ((p : Plan) × (script (text_to_give call) ≡ Ok p) × All (IsToldThere call.before.shelf) p.disks)
+
+-- an ending that can't be where nothing fails, or one with its status
+abbrev IsGood : Ending → Type 0
+IsGood ending = (status_of ending ≡ 0) ⊎ (status_of ending ≡ 6) ⊎ (status_of ending ≡ 7)
+
+kept_rose : (call : Call) (plan : Plan) (ending : Ending) (name : List ℕ)
+    → IsSomeAnd (first_kept_back plan call.before.shelf call.after.shelf) (λ d. d.name ≡ name)
+    → RoseBy (failed_takes ending + length (kept_back call.before.shelf call.after.shelf)) call.before.shelf.faults call.after.shelf.faults
+    → Rose call.before.shelf.faults call.after.shelf.faults
+kept_rose call plan ending name first rose =
+    let some : 1 ≤ length (kept_back call.before.shelf call.after.shelf) =
+    some_kept plan.disks (kept_back call.before.shelf call.after.shelf) (λ d. d.name ≡ name) first in
+    rose_from (failed_takes ending) (length (kept_back call.before.shelf call.after.shelf)) call.before.shelf.faults
+    call.after.shelf.faults (omega (arith, some)) rose
+
+-- where a source gives a script
+step_ends : (call : Call) (plan : Plan) (ending : Ending) → Accepts call.words StepMode → KeepsAll call StepMode plan ending
+    → NoFault call.before call.after → HasScript call → IsGood ending
+step_ends call plan Reported a k fine s = inl refl
+step_ends call plan (ReportedButFault name) a k fine s =
+    absurd (fine.shelf (kept_rose call plan (ReportedButFault name) name k.cause.1 k.lent.faults))
+step_ends call plan BadWords a k fine s = absurd (k.cause StepMode a)
+step_ends call plan (NoScript line c) a k fine s =
+    absurd (no_fault_there call.text (text_to_give call) s.1.0 (record { line = line; cause = c })
+    (all_given call.before.source.left call.after.source.left call.text k.bytes.had_left k.cause.1.none_left) s.1.1 k.cause.2)
+step_ends call plan ReadFault a k fine s = absurd (fine.source k.cause.2)
+step_ends call plan (ShelfFault name) a k fine s =
+    absurd (fine.shelf (rose_from 1 (length (kept_back call.before.shelf call.after.shelf)) call.before.shelf.faults
+    call.after.shelf.faults (omega arith) k.lent.faults))
+step_ends call plan (NoDisk name) a k fine s =
+    let same : s.1.0 ≡ plan = same_plan call.text (text_to_give call) s.1.0 plan
+    (all_given call.before.source.left call.after.source.left call.text k.bytes.had_left k.cause.0.read.none_left)
+    s.1.1 k.cause.0.script in
+    absurd (not_missing k.cause.1.disk call.before.shelf.told
+    (stopped_there call.before.shelf plan name IsMissing k.cause.1
+    (subst (λ (p : Plan). All (IsToldThere call.before.shelf) p.disks) same s.1.2)) k.cause.1.cause)
+step_ends call plan (BadSize name) a k fine s =
+    let same : s.1.0 ≡ plan = same_plan call.text (text_to_give call) s.1.0 plan
+    (all_given call.before.source.left call.after.source.left call.text k.bytes.had_left k.cause.0.read.none_left)
+    s.1.1 k.cause.0.script in
+    absurd (not_bad k.cause.1.disk call.before.shelf.told
+    (stopped_there call.before.shelf plan name IsBadSize k.cause.1
+    (subst (λ (p : Plan). All (IsToldThere call.before.shelf) p.disks) same s.1.2)) k.cause.1.cause)
+step_ends call plan OutOfMemory a k fine s = inr (inl refl)
+step_ends call plan LogFull a k fine s = inr (inr refl)
+step_ends call plan TooLong a k fine s =
+    let more : length call.text ≤ length (text_to_give call) =
+    no_longer call.before.source.left call.after.source.left call.text k.bytes.had_left in
+    let long : script_limit < length call.text = k.cause.1 in
+    let few : length (text_to_give call) ≤ script_limit = s.0 in
+    absurd (omega (arith, more, long, few))
+
+-- where the script is made
+generated_ends : (call : Call) (plan : Plan) (ending : Ending) (start count : ℕ) → Accepts call.words (GenMode start count)
+    → KeepsAll call (GenMode start count) plan ending → NoFault call.before call.after → IsGood ending
+generated_ends call plan Reported s c a k fine = inl refl
+generated_ends call plan (ReportedButFault name) s c a k fine =
+    absurd (fine.shelf (kept_rose call plan (ReportedButFault name) name k.cause.1 k.lent.faults))
+generated_ends call plan BadWords s c a k fine = absurd (k.cause (GenMode s c) a)
+generated_ends call plan (NoScript line cause) s c a k fine = absurd k.cause.0
+generated_ends call plan ReadFault s c a k fine = absurd k.cause.0
+generated_ends call plan (ShelfFault name) s c a k fine =
+    absurd (fine.shelf (rose_from 1 (length (kept_back call.before.shelf call.after.shelf)) call.before.shelf.faults
+    call.after.shelf.faults (omega arith) k.lent.faults))
+generated_ends call plan (NoDisk name) s c a k fine =
+    absurd (in_memory plan name IsMissing call.before.shelf k.cause.1 (generated_in_memory s c a.in_range plan k.cause.0.script))
+generated_ends call plan (BadSize name) s c a k fine =
+    absurd (in_memory plan name IsBadSize call.before.shelf k.cause.1 (generated_in_memory s c a.in_range plan k.cause.0.script))
+generated_ends call plan OutOfMemory s c a k fine = inr (inl refl)
+generated_ends call plan LogFull s c a k fine = inr (inr refl)
+generated_ends call plan TooLong s c a k fine = absurd k.cause.0
+
+good_status : (call : Call) (ending : Ending) → call.status ≡ status_of ending → IsGood ending
+    → (call.status ≡ 0) ⊎ (call.status ≡ 6) ⊎ (call.status ≡ 7)
+good_status call ending e (inl z) = inl (e ∙ z)
+good_status call ending e (inr (inl z)) = inr (inl (e ∙ z))
+good_status call ending e (inr (inr z)) = inr (inr (e ∙ z))
+
+-- a call that keeps all is complete, where it starts fine thread
+pub complete : (call : Call) (mode : Mode) (plan : Plan) (ending : Ending) → (Accepts call.words RunMode → ⊥)
+    → KeepsAll call mode plan ending → IsComplete call
+complete call mode plan ending alone k m accepts fine gives =
+    elim (is_or_not call.status 4) [
+      | inl cut ↦ absurd (fine.sink (k.prints.cut_off cut).fault)
+      | inr ne ↦ good_status call ending (k.prints.whole ne).status
+          (by m accepts gives (subst (λ (z : Mode). KeepsAll call z plan ending) (sym (k.read_as.mode_is m accepts)) k))
+    ]
+  where
+    by : (z : Mode) → Accepts call.words z → GivesScript call z → KeepsAll call z plan ending → IsGood ending
+    by StepMode a g h = step_ends call plan ending a h fine g
+    by RunMode a g h = absurd (alone a)
+    by (GenMode s c) a g h = generated_ends call plan ending s c a h fine

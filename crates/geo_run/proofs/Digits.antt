@@ -1,0 +1,151 @@
+-- Words that are written as numbers, and lists of words.
+use Rattle.std.proofs.Common.{◌≡◌, ℕ, zero, suc, ◌^◌, ◌<◌, ◌≤◌, true, List, [], ◌∷◌, length, Option, Some, None, Ok, Err, sym, ◌∙◌, ap, subst, arith, get_or, decimal, codes, bytes_eq, lit≤, Bool, IsTrue}
+use Rattle.std.specs.Fmt.{digits}
+use Rattle.std.specs.Str.{all_ascii_digits}
+use Rattle.std.specs.Str.Parse.{ParsesUnsigned, digits_value, without_leading_plus}
+use Rattle.std.specs.Prelude.{string_bytes}
+use Rattle.std.specs.declared.string.String.{String}
+use Rattle.std.specs.declared.alloc.Global.{Global}
+use Rattle.std.proofs.lemmas.Fmt.{digits_decimal, digits_value-decimal, decimal-digits_value, decimal_nonempty, first_decimal}
+use Rattle.std.proofs.lemmas.Str.Parse.{IsNumeralModel, numerals_by_value, tells_all_ascii_digits, not_in_digits, parse_plain}
+use Rattle.std.specs.Cmp.Lexicographic.{same_text}
+use Rattle.std.proofs.lemmas.Slice.Eq.{bytes_eq-Decides}
+use Rattle.geo_model.specs.Generator.{Accepts, GenMode, Mode, RunMode, StepMode}
+use Rattle.geo_run.specs.Numbers.{IsNumberWithin, IsPlain}
+use Rattle.geo_run.specs.declared.words.Work.{Work}
+use Rattle.geo_run.specs.Work.{AsksCount, AsksFor, mode_of, word_bytes}
+
+-- texts of digits
+abbrev AreDigits : List ℕ → Type 0
+AreDigits ds = all_ascii_digits ds ≡ true
+
+own : IsNumeralModel AreDigits (digits_value 10)
+own = numerals_by_value AreDigits tells_all_ascii_digits
+
+-- what is written for a number is plain
+pub plain_decimal : (n : ℕ) → n < 2 ^ 64 → IsPlain (decimal n)
+unfolding digits
+plain_decimal n fits = record {
+  no_plus = not_in_digits own (decimal n) 43 (digits_decimal own n fits) (λ range. absurd (omega (arith, range.0))) 0 (decimal_nonempty n fits);
+  no_zero = λ e. by n fits e;
+}
+  where
+    by : (k : ℕ) → k < 2 ^ 64 → get_or (decimal k) 0 0 ≡ 48 → length (decimal k) ≤ 1
+    by zero small e = lit≤ tt
+    by (suc k) small e =
+        let first : 48 < get_or (decimal (suc k)) 0 0 = first_decimal (suc k) (omega arith) small in
+        absurd (omega (arith, first, e))
+
+-- a plain word that is read is written so
+pub read_plain : (word : List ℕ) (n : ℕ) → IsPlain word → ParsesUnsigned {E = Unit {0}} 32 10 word (Ok n) → word ≡ decimal n
+read_plain word n plain read =
+    let all = parse_plain own {E = Unit {0}} 32 word (Ok n) read plain.no_plus in
+    let is : decimal (digits_value 10 word) ≡ word =
+    decimal-digits_value own word all.0.0 all.0.1
+    (λ e. let few : length word ≤ 1 = plain.no_zero e in let some : 0 < length word = all.0.1 in omega (arith, few, some))
+    (let small : digits_value 10 word < 2 ^ 32 = all.0.2 in omega (arith, small)) in
+    sym is ∙ ap decimal (sym all.1)
+
+-- what is written for a number of 32 bits is read
+pub unread_plain : (word : List ℕ) (n : ℕ) → n < 2 ^ 32 → word ≡ decimal n
+    → ParsesUnsigned {E = Unit {0}} 32 10 word (Err tt) → ⊥
+unread_plain word n small is unread =
+    let fits : n < 2 ^ 64 = omega (arith, small) in
+    let plain : IsPlain word = subst IsPlain (sym is) (plain_decimal n fits) in
+    parse_plain own {E = Unit {0}} 32 word (Err tt) unread plain.no_plus (
+      subst AreDigits (sym is) (digits_decimal own n fits),
+      subst (λ (w : List ℕ). 0 < length w) (sym is) (decimal_nonempty n fits),
+      (let value : digits_value 10 word ≡ n = ap (λ w. digits_value 10 w) is ∙ digits_value-decimal own n fits in omega (arith, value, small)),
+    )
+
+-- two numbers that are written alike are the same
+pub same_written : (m n : ℕ) → m < 2 ^ 64 → n < 2 ^ 64 → decimal m ≡ decimal n → m ≡ n
+same_written m n p q e =
+    sym (digits_value-decimal own m p) ∙ ap (λ w. digits_value 10 w) e ∙ digits_value-decimal own n q
+
+-- what is read is a number of 32 bits
+pub read_small : (word : List ℕ) (n : ℕ) → ParsesUnsigned {E = Unit {0}} 32 10 word (Ok n) → n < 2 ^ 32
+read_small word n read =
+    let small : digits_value 10 (without_leading_plus word) < 2 ^ 32 = read.0.1 in
+    let is : n ≡ digits_value 10 (without_leading_plus word) = read.1 in omega (arith, small, is)
+
+first_same : (x y : List ℕ) (xs ys : List (List ℕ)) → x ∷ xs ≡ y ∷ ys → x ≡ y
+first_same x y xs ys e = cc
+
+rest_same : (x y : List ℕ) (xs ys : List (List ℕ)) → x ∷ xs ≡ y ∷ ys → xs ≡ ys
+rest_same x y xs ys e = cc
+
+none_is_some : (x : List ℕ) (xs : List (List ℕ)) → x ∷ xs ≡ [] → ⊥
+none_is_some x xs e = cc
+
+-- three words are accepted for no mode, if no numbers are written so
+not_generated : (first start count : List ℕ)
+    → ((s c : ℕ) → s ≤ 2147483647 → c ≤ 4000 → start ≡ decimal s → count ≡ decimal c → ⊥)
+    → AsksFor (first ∷ start ∷ count ∷ []) None
+not_generated first start count h = λ alone mode a. by mode a
+  where
+    by : (m : Mode) → Accepts (first ∷ start ∷ count ∷ []) m → ⊥
+    by StepMode a = none_is_some start (count ∷ []) (rest_same first (codes "step") (start ∷ count ∷ []) [] a.spelled)
+    by RunMode a = none_is_some start (count ∷ []) (rest_same first (codes "run") (start ∷ count ∷ []) [] a.spelled)
+    by (GenMode s c) a =
+        let both = rest_same first (codes "gen") (start ∷ count ∷ []) (decimal s ∷ decimal c ∷ []) a.spelled in
+        h s c a.in_range.0 a.in_range.1 (first_same start (decimal s) (count ∷ []) (decimal c ∷ []) both)
+        (first_same count (decimal c) [] [] (rest_same start (decimal s) (count ∷ []) (decimal c ∷ []) both))
+
+-- START isn't a number
+pub no_start : (start count : List ℕ) → IsNumberWithin 2147483647 start None → AsksFor (codes "gen" ∷ start ∷ count ∷ []) None
+no_start start count none = not_generated (codes "gen") start count (λ s c few less is other. none s few is)
+
+-- START is a number, and COUNT is one or isn't
+pub with_start : (start count : List ℕ) (n : ℕ) (r : Option Work) → IsNumberWithin 2147483647 start (Some n)
+    → AsksCount n count r → AsksFor (codes "gen" ∷ start ∷ count ∷ []) r
+with_start start count n None is none = not_generated (codes "gen") start count (λ s c few less e other. none c less other)
+with_start start count n (Some work) is counted =
+    subst (λ (w : Work). Accepts (codes "gen" ∷ start ∷ count ∷ []) (mode_of w)) (sym counted.1) (record {
+      spelled = ap (λ s. codes "gen" ∷ s ∷ count ∷ []) is.0 ∙ ap (λ c. codes "gen" ∷ decimal n ∷ c ∷ []) counted.2.0;
+      in_range = (is.1, counted.2.1);
+    })
+
+-- the words by their items
+pub one_word : (words : List (String Global)) (w : String Global) → 1 ≤ length words → length words < 2
+    → w ≡ get_or words 0 w → word_bytes words ≡ string_bytes w ∷ []
+one_word [] w some few at = absurd (omega (arith, some))
+one_word (x ∷ []) w some few at = ap (λ (v : String Global). string_bytes v ∷ []) (sym at)
+one_word (x ∷ y ∷ zs) w some few at = absurd (omega (arith, few))
+
+pub three_words : (words : List (String Global)) (f s c : String Global) → 3 ≤ length words → length words < 4
+    → f ≡ get_or words 0 f → s ≡ get_or words 1 s → c ≡ get_or words 2 c
+    → word_bytes words ≡ string_bytes f ∷ string_bytes s ∷ string_bytes c ∷ []
+three_words [] f s c some few a b d = absurd (omega (arith, some))
+three_words (x ∷ []) f s c some few a b d = absurd (omega (arith, some))
+three_words (x ∷ y ∷ []) f s c some few a b d = absurd (omega (arith, some))
+three_words (x ∷ y ∷ z ∷ []) f s c some few a b d =
+    ap (λ (v : String Global). string_bytes v ∷ string_bytes y ∷ string_bytes z ∷ []) (sym a)
+    ∙ ap (λ (v : String Global). string_bytes f ∷ string_bytes v ∷ string_bytes z ∷ []) (sym b)
+    ∙ ap (λ (v : String Global). string_bytes f ∷ string_bytes s ∷ string_bytes v ∷ []) (sym d)
+three_words (x ∷ y ∷ z ∷ u ∷ us) f s c some few a b d = absurd (omega (arith, few))
+
+-- the word `step`
+pub asks_step : (word text : List ℕ) → text ≡ word → true ≡ bytes_eq text (codes "step") → Accepts (word ∷ []) StepMode
+asks_step word text is e = record { spelled = ap (λ w. w ∷ []) (sym is ∙ same_text text (codes "step") e); in_range = tt }
+
+-- the word `gen` and two others
+pub asks_generation : (first text start count : List ℕ) (r : Option Work) → text ≡ first → true ≡ bytes_eq text (codes "gen")
+    → AsksFor (codes "gen" ∷ start ∷ count ∷ []) r → AsksFor (first ∷ start ∷ count ∷ []) r
+asks_generation first text start count r is e asks =
+    subst (λ (w : List ℕ). AsksFor (w ∷ start ∷ count ∷ []) r) (sym (sym is ∙ same_text text (codes "gen") e)) asks
+
+-- the one word `run`
+pub asks_run : (words : List (String Global)) (w : String Global) (text : List ℕ) (b : Bool) → 1 ≤ length words
+    → length words < 2 → w ≡ get_or words 0 w → text ≡ string_bytes w → b ≡ bytes_eq text (codes "run")
+    → (IsTrue b → Accepts (word_bytes words) RunMode) × (Accepts (word_bytes words) RunMode → IsTrue b)
+asks_run [] w text b some few at is e = absurd (omega (arith, some))
+asks_run (x ∷ []) w text b some few at is e = (
+  λ t. record {
+    spelled = ap (λ z. z ∷ []) (ap (λ (s : String Global). string_bytes s) (sym at) ∙ sym is ∙ same_text text (codes "run") (sym t ∙ e));
+    in_range = tt;
+  },
+  λ a. e ∙ (bytes_eq-Decides text (codes "run")).1
+      (is ∙ ap (λ (s : String Global). string_bytes s) at ∙ first_same (string_bytes x) (codes "run") [] [] a.spelled),
+)
+asks_run (x ∷ y ∷ zs) w text b some few at is e = absurd (omega (arith, few))

@@ -1,0 +1,176 @@
+-- Drives that are given back to a shelf.
+use Rattle.std.proofs.Common.{◌≡◌, ◌≢◌, ◌⊎◌, ℕ, ◌≤◌, Bool, true, false, not, List, [], ◌∷◌, ◌++◌, refl, sym, ◌∙◌, ap, subst, inl, inr, arith, bytes_eq, Contains, append_assoc, if◌then◌else◌}
+use Rattle.std.specs.Prelude.{⊤}
+use Rattle.geo_disk.specs.Shelf.{IsAsBefore, IsGivenTo}
+use Rattle.std.proofs.lemmas.List.{append-nil}
+use Rattle.geo_disk.specs.Names.{without}
+use Rattle.geo_model.specs.declared.command.DiskDecl.{DiskDecl}
+use Rattle.geo_model.specs.declared.command.DiskKind.{DiskKind}
+use Rattle.geo_model.specs.declared.command.DiskKind.TheVariants as disk_kinds
+use Rattle.geo_model.specs.Outside.{ShelfView, IsShelf}
+use Rattle.geo_run.specs.Drives.{DriveView}
+use Rattle.geo_run.specs.Lending.{AreOther, AreOut, GivesBack, GivesDrive, IsOut, names_of}
+use Rattle.geo_run.proofs.Tests.{contains_first, contains_more, contains_none, contains_cases, same_names, other-append}
+use Rattle.geo_run.proofs.Told.{of_name}
+use Rattle.geo_run.proofs.Taking.{IsForeign, NameStays, stays_along, stays_twice}
+
+-- One drive more
+
+pub gives_more : (a b c : ShelfView) (ns : List (List ℕ)) (n : List ℕ) (xs : List DriveView) (x : DriveView)
+    (kept k : List (List ℕ)) → GivesBack a ns xs kept b → GivesDrive b n x k c x.kind
+    → GivesBack a (ns ++ n ∷ []) (xs ++ x ∷ []) (kept ++ k) c
+gives_more a b c [] n [] x kept k h g = (
+  c,
+  k,
+  [],
+  ap (λ ks. ks ++ k) h.0 ∙ sym (append-nil k),
+  subst (λ (v : ShelfView). GivesDrive v n x k c x.kind) h.1 g,
+  (refl, refl),
+)
+gives_more a b c [] n (y ∷ ys) x kept k h g = absurd h
+gives_more a b c (m ∷ ms) n [] x kept k h g = absurd h
+gives_more a b c (m ∷ ms) n (y ∷ ys) x kept k h g = (
+  h.0,
+  h.1,
+  h.2 ++ k,
+  ap (λ ks. ks ++ k) h.3 ∙ append_assoc h.1 h.2 k,
+  h.4,
+  gives_more h.0 b c ms n ys x h.2 k h.5 g,
+)
+
+-- What is out stays out
+
+-- a name that isn't taken away stays
+without_contains : (gone name : List ℕ) (names : List (List ℕ)) → name ≢ gone → Contains names name
+    → Contains (without gone names) name
+without_contains gone name [] other c = absurd (contains_none name c)
+without_contains gone name (x ∷ names) other c =
+    by (bytes_eq gone x) refl (contains_cases x name names c) (λ more. without_contains gone name names other more)
+  where
+    by : (t : Bool) → bytes_eq gone x ≡ t → (x ≡ name) ⊎ Contains names name
+        → (Contains names name → Contains (without gone names) name)
+        → Contains (if not t then x ∷ without gone names else without gone names) name
+    by true e (inl same) rest = absurd (other (sym same ∙ sym (same_names gone x e)))
+    by true e (inr more) rest = rest more
+    by false e (inl same) rest =
+        subst (λ (n : List ℕ). Contains (x ∷ without gone names) n) same (contains_first x (without gone names))
+    by false e (inr more) rest = contains_more x name (without gone names) (rest more)
+
+-- one drive is given back, and another is out as before
+still_out : (a b : ShelfView) (n m : List ℕ) (x y : DriveView) (k : List (List ℕ)) (kind : DiskKind)
+    → GivesDrive a n x k b kind → m ≢ n → IsOut a m y → IsOut b m y
+still_out a b n m x y k disk_kinds.Ram h other out = subst (λ (v : ShelfView). IsOut v m y) (sym h.1) out
+still_out a b n m x y k disk_kinds.Shelf h other out =
+    elim h [
+      | inl given ↦ let fewer : b.faults_of m ≡ a.faults_of m = given.1.others m other in record {
+        lent = subst (λ names. Contains names m) (sym given.1.lent) (without_contains n m a.lent other out.lent);
+        counted = let c : a.faults_of m ≤ y.faults = out.counted in omega (arith, c, fewer);
+      }
+      | inr kept ↦ let same : b.faults_of m ≡ a.faults_of m = kept.1.disks m in record {
+        lent = subst (λ names. Contains names m) (sym kept.1.lent) out.lent;
+        counted = let c : a.faults_of m ≤ y.faults = out.counted in omega (arith, c, same);
+      }
+    ]
+
+all_still_out : (a b : ShelfView) (n : List ℕ) (x : DriveView) (k : List (List ℕ)) (kind : DiskKind)
+    (ms : List (List ℕ)) (ys : List DriveView)
+    → GivesDrive a n x k b kind → AreOther n ms → AreOut a ms ys → AreOut b ms ys
+all_still_out a b n x k kind [] [] h others out = tt
+all_still_out a b n x k kind [] (y ∷ ys) h others out = absurd out
+all_still_out a b n x k kind (m ∷ ms) [] h others out = absurd out
+all_still_out a b n x k kind (m ∷ ms) (y ∷ ys) h others out = (
+  λ s. still_out a b n m x y k kind h others.0 (out.0 s),
+  out.1,
+  all_still_out a b n x k kind ms ys h others.1 out.2,
+)
+
+-- the others are still out after one was given back
+pub out_next : (a b : ShelfView) (n : List ℕ) (x : DriveView) (k : List (List ℕ))
+    (ms : List (List ℕ)) (ys : List DriveView)
+    → AreOut a (n ∷ ms) (x ∷ ys) → GivesDrive a n x k b x.kind → AreOut b ms ys
+out_next a b n x k ms ys out h = all_still_out a b n x k x.kind ms ys h out.1 out.2
+
+-- By declarations
+
+-- each drive is of the kind of its disk
+abbrev pub SameKinds : List DiskDecl → List DriveView → Type 0
+SameKinds [] [] = ⊤
+SameKinds (d ∷ ds) (x ∷ xs) = (x.kind ≡ d.kind) × SameKinds ds xs
+SameKinds _ _ = ⊥
+
+-- the drives of disks are given back
+abbrev pub GivesAll : ShelfView → List DiskDecl → List DriveView → List (List ℕ) → ShelfView → Type 0
+GivesAll a [] [] kept b = (kept ≡ []) × (b ≡ a)
+GivesAll a (d ∷ ds) (x ∷ xs) kept b =
+    (m : ShelfView) × (first : List (List ℕ)) × (rest : List (List ℕ)) × (kept ≡ first ++ rest)
+    × GivesDrive a d.name x first m d.kind × GivesAll m ds xs rest b
+GivesAll a _ _ kept b = ⊥
+
+pub gives_all : (a b : ShelfView) (ds : List DiskDecl) (xs : List DriveView) (kept : List (List ℕ))
+    → SameKinds ds xs → GivesBack a (names_of ds) xs kept b → GivesAll a ds xs kept b
+gives_all a b [] [] kept kinds h = h
+gives_all a b [] (x ∷ xs) kept kinds h = absurd h
+gives_all a b (d ∷ ds) [] kept kinds h = absurd h
+gives_all a b (d ∷ ds) (x ∷ xs) kept kinds h = (
+  h.0,
+  h.1,
+  h.2,
+  h.3,
+  subst (λ (k : DiskKind). GivesDrive a d.name x h.1 h.0 k) kinds.0 h.4,
+  gives_all h.0 b ds xs h.2 kinds.1 h.5,
+)
+
+-- What stays
+
+-- a give changes nothing of another name
+give_stays : (a b : ShelfView) (n : List ℕ) (x : DriveView) (k : List (List ℕ)) (name : List ℕ) (kind : DiskKind)
+    → GivesDrive a n x k b kind → (IsShelf kind → n ≢ name) → NameStays a b name
+give_stays a b n x k name disk_kinds.Ram h other = stays_along a b name h.1
+give_stays a b n x k name disk_kinds.Shelf h other =
+    elim h [
+      | inl given ↦ record {
+        told = of_name a.told b.told name (IsGivenTo n x.held) (λ o v p. p.others name (λ e. other refl (sym e))) given.1.told;
+        disks = given.1.others name (λ e. other refl (sym e));
+        takes = given.1.takes name;
+        gives = given.1.gives name;
+      }
+      | inr kept ↦ record {
+        told = of_name a.told b.told name IsAsBefore (λ o v p. p name) kept.1.told;
+        disks = kept.1.disks name;
+        takes = kept.1.takes name;
+        gives = kept.1.gives.others name (λ e. other refl (sym e));
+      }
+    ]
+
+-- nor do all gives
+pub gives_stay : (a b : ShelfView) (ds : List DiskDecl) (xs : List DriveView) (kept : List (List ℕ)) (name : List ℕ)
+    → GivesAll a ds xs kept b → IsForeign name ds → NameStays a b name
+gives_stay a b [] [] kept name h other = stays_along a b name h.1
+gives_stay a b [] (x ∷ xs) kept name h other = absurd h
+gives_stay a b (d ∷ ds) [] kept name h other = absurd h
+gives_stay a b (d ∷ ds) (x ∷ xs) kept name h other =
+    stays_twice a h.0 b name (give_stays a h.0 d.name x h.1 name d.kind h.4 other.0)
+    (gives_stay h.0 b ds xs h.2 name h.5 other.1)
+
+-- What is kept
+
+-- what one give keeps is no other name
+first_other : (a b : ShelfView) (n : List ℕ) (x : DriveView) (k : List (List ℕ)) (name : List ℕ) (kind : DiskKind)
+    → GivesDrive a n x k b kind → (IsShelf kind → n ≢ name) → AreOther name k
+first_other a b n x k name disk_kinds.Ram h other = subst (λ ks. AreOther name ks) (sym h.0) tt
+first_other a b n x k name disk_kinds.Shelf h other =
+    elim h [
+      | inl given ↦ subst (λ ks. AreOther name ks) (sym given.0) tt
+      | inr kept ↦ subst (λ ks. AreOther name ks) (sym kept.0) (other refl, tt)
+    ]
+
+-- what is kept is none but the names of the disks
+pub kept_other : (a b : ShelfView) (ds : List DiskDecl) (xs : List DriveView) (kept : List (List ℕ)) (name : List ℕ)
+    → GivesAll a ds xs kept b → IsForeign name ds → AreOther name kept
+kept_other a b [] [] kept name h others = subst (λ ks. AreOther name ks) (sym h.0) tt
+kept_other a b [] (x ∷ xs) kept name h others = absurd h
+kept_other a b (d ∷ ds) [] kept name h others = absurd h
+kept_other a b (d ∷ ds) (x ∷ xs) kept name h others =
+    subst (λ ks. AreOther name ks) (sym h.3)
+    (other-append name h.1 h.2 (first_other a h.0 d.name x h.1 name d.kind h.4 others.0)
+    (kept_other h.0 b ds xs h.2 name h.5 others.1))

@@ -1,0 +1,237 @@
+-- Disks that were taken for a plan, served its mesh, and were given back.
+use Rattle.std.proofs.Common.{◌≡◌, ℕ, suc, ◌+◌, ◌*◌, ◌/◌, ◌<◌, ◌≤◌, true, false, not, List, [], ◌∷◌, length, map, Option, Some, None, refl, sym, ◌∙◌, ap, subst, inl, inr, arith, bytes_eq, Contains, IfSome, IsSomeAnd, get_or, zip}
+use Rattle.std.specs.List.{AllByRecursion, AllPairs, AllZip, enumerate_from}
+use Rattle.std.specs.Option.{option_map}
+use Rattle.geo_base.specs.Faults.{RoseBy}
+use Rattle.geo_base.specs.Images.{Images, IsDiskSize}
+use Rattle.geo_base.specs.Sectors.{IsSectorSize, joined_sectors, sectors_of, zero_sectors}
+use Rattle.geo_model.specs.declared.command.DiskDecl.{DiskDecl}
+use Rattle.geo_model.specs.declared.command.DiskKind.{DiskKind}
+use Rattle.geo_model.specs.declared.command.DiskKind.TheVariants as disk_kinds
+use Rattle.geo_model.specs.declared.step.Entry.{Entry}
+use Rattle.geo_model.specs.Contents.{contents, AreTrue}
+use Rattle.geo_model.specs.Plans.{Differ, HasPlanSectors, HasSectors as HasHeaderSectors, IsDiskDecl, IsFact}
+use Rattle.geo_model.specs.Outside.{ShelfView, IsShelf, IsThere, HasImage, HasToldSize, CanBeTaken, PlannedDisk, planned_disk, failures_of, image_after, HoldsWhatIsLogged, IsMemory, IsDiskKept, kept_back}
+use Rattle.geo_run.specs.Drives.{DriveView, Serves, ServeAll}
+use Rattle.geo_run.specs.Views.{size_of}
+use Rattle.geo_run.specs.Lending.{AreApart, AreOther, IsMade}
+use Rattle.geo_run.proofs.Tests.{same_itself}
+use Rattle.geo_run.proofs.Told.{OfName, chain}
+use Rattle.geo_run.proofs.Taking.{EachHad, IsHad, IsTaken, WentInto}
+use Rattle.geo_run.proofs.Giving.{SameKinds}
+use Rattle.geo_run.proofs.Fates.{EachFate, Fate, HasSectors, WasGiven}
+use Rattle.geo_run.proofs.Sizes.{cut_count, whole_bytes}
+
+-- Names
+
+others_from : (name : List ℕ) (names : List (List ℕ))
+    → ((k : ℕ) (d : List ℕ) → k < length names → Differ name (get_or names k d)) → AreOther name names
+others_from name [] h = tt
+others_from name (x ∷ names) h = (
+  λ e. let told : not (bytes_eq name x) ≡ true = h 0 x (omega arith) in
+      let same : bytes_eq name x ≡ true = subst (λ (n : List ℕ). bytes_eq name n ≡ true) (sym e) (same_itself name) in
+      let bad : false ≡ true = ap not (sym same) ∙ told in cc,
+  others_from name names (λ k d lt. h (suc k) d (omega (arith, lt))),
+)
+
+-- names that differ two by two
+pub apart_from : (names : List (List ℕ)) → AllPairs Differ names → AreApart names
+apart_from [] h = tt
+apart_from (x ∷ names) h = (
+  others_from x names (λ k d lt. h 0 (suc k) d (omega arith) (omega (arith, lt))),
+  apart_from names (λ i j d lt ub. h (suc i) (suc j) d (omega (arith, lt)) (omega (arith, ub))),
+)
+
+-- Kinds and sizes
+
+kind_had : (a b : ShelfView) (d : DiskDecl) (x : DriveView) (kind : DiskKind) → IsHad a b d x kind → x.kind ≡ kind
+kind_had a b d x disk_kinds.Ram h = h.kind
+kind_had a b d x disk_kinds.Shelf h = h.kind
+
+pub kinds_had : (a b : ShelfView) (ds : List DiskDecl) (xs : List DriveView) → EachHad a b ds xs → SameKinds ds xs
+kinds_had a b [] [] h = tt
+kinds_had a b [] (x ∷ xs) h = absurd h
+kinds_had a b (d ∷ ds) [] h = absurd h
+kinds_had a b (d ∷ ds) (x ∷ xs) h = (kind_had a b d x d.kind h.0, kinds_had a b ds xs h.1)
+
+pub kinds_served : (log : List Entry) (n : ℕ) (ds : List DiskDecl) (xs ys : List DriveView)
+    → SameKinds ds xs → ServeAll log n xs ys → SameKinds ds ys
+kinds_served log n [] [] [] k s = tt
+kinds_served log n [] [] (y ∷ ys) k s = absurd s
+kinds_served log n [] (x ∷ xs) ys k s = absurd k
+kinds_served log n (d ∷ ds) [] ys k s = absurd k
+kinds_served log n (d ∷ ds) (x ∷ xs) [] k s = absurd s
+kinds_served log n (d ∷ ds) (x ∷ xs) (y ∷ ys) k s = (s.0.kind ∙ k.0, kinds_served log (n + 1) ds xs ys k.1 s.1)
+
+fact_had : (a b : ShelfView) (d : DiskDecl) (x : DriveView) (kind : DiskKind) → d.kind ≡ kind → IsDiskDecl d
+    → IsHad a b d x kind → IsFact d (size_of x)
+fact_had a b d x disk_kinds.Ram k decl h =
+    let sizes : HasHeaderSectors disk_kinds.Ram d.sector d.sectors =
+    subst (λ (q : DiskKind). HasHeaderSectors q d.sector d.sectors) k decl.sectors in
+    let few : d.sectors * d.sector ≤ 67108864 = sizes.1 in
+    let some : 1 ≤ d.sectors = sizes.0 in
+    let prod : x.count * x.sector ≡ d.sectors * d.sector = ap (λ n. n * x.sector) h.count ∙ ap (λ n. d.sectors * n) h.sector in
+    record {
+      sector = h.sector;
+      sectors = subst (λ (q : DiskKind). HasPlanSectors q d.sectors x.count) (sym k) h.count;
+      some = let e : x.count ≡ d.sectors = h.count in omega (arith, e, some);
+      limited = omega (arith, prod, few);
+    }
+fact_had a b d x disk_kinds.Shelf k decl h = record {
+  sector = h.size.asked;
+  sectors = subst (λ (q : DiskKind). HasPlanSectors q d.sectors x.count) (sym k) tt;
+  some = h.size.some;
+  limited = h.size.limited;
+}
+
+-- the sizes of the drives fit the plan
+pub facts_had : (a b : ShelfView) (ds : List DiskDecl) (xs : List DriveView) → AllByRecursion IsDiskDecl ds
+    → EachHad a b ds xs → AllZip IsFact ds (map size_of xs)
+facts_had a b [] [] decls h = tt
+facts_had a b [] (x ∷ xs) decls h = absurd h
+facts_had a b (d ∷ ds) [] decls h = absurd h
+facts_had a b (d ∷ ds) (x ∷ xs) decls h =
+    (fact_had a b d x d.kind refl decls.0 h.0, facts_had a b ds xs decls.1 h.1)
+
+-- What was there
+
+image_told : (d : DiskDecl) (x : DriveView) (a b : Option Images) → OfName a b d.name (WentInto d x) → IfSome a (HasImage d)
+image_told d x None b h = tt
+image_told d x (Some u) None h = absurd h.is
+image_told d x (Some u) (Some v) h = by (u d.name) h.is.0
+  where
+    by : (o : Option (List ℕ))
+        → IsSomeAnd o (λ bytes. IsDiskSize d.sector (length bytes) × (x.held ≡ Some (sectors_of d.sector bytes)))
+        → IsSomeAnd o (λ bytes. IsDiskSize d.sector (length bytes))
+    by None h = h
+    by (Some bytes) h = h.0
+
+there_had : (a b : ShelfView) (d : DiskDecl) (x : DriveView) (kind : DiskKind) → IsHad a b d x kind
+    → IsShelf kind → CanBeTaken a d
+there_had a b d x disk_kinds.Ram h s = absurd (let bad : false ≡ true = s in cc)
+there_had a b d x disk_kinds.Shelf h s =
+    record { not_lent = h.not_lent; image = image_told d x a.told b.told h.image }
+
+pub all_there : (a b : ShelfView) (ds : List DiskDecl) (xs : List DriveView) → EachHad a b ds xs
+    → AllByRecursion (IsThere a) ds
+all_there a b [] [] h = tt
+all_there a b [] (x ∷ xs) h = absurd h
+all_there a b (d ∷ ds) [] h = absurd h
+all_there a b (d ∷ ds) (x ∷ xs) h = (λ s. there_had a b d x d.kind h.0 s, all_there a b ds xs h.1)
+
+-- the bytes of an image by the size of its drive
+pub image_bytes : (d : DiskDecl) (x : DriveView) (bytes : List ℕ) → IsSectorSize d.sector → x.sector ≡ d.sector
+    → IfSome x.held (λ sectors. length sectors ≡ x.count) → IsDiskSize d.sector (length bytes)
+    → x.held ≡ Some (sectors_of d.sector bytes) → x.count * x.sector ≡ length bytes
+image_bytes d x bytes is same counted fits held =
+    let count : length (sectors_of d.sector bytes) ≡ x.count =
+    subst (λ o. IfSome o (λ (sectors : List (List ℕ)). length sectors ≡ x.count)) held counted in
+    let number : length bytes / d.sector ≡ x.count = sym (cut_count (length bytes / d.sector) d.sector bytes) ∙ count in
+    ap (λ n. x.count * n) same ∙ ap (λ n. n * d.sector) (sym number) ∙ whole_bytes d.sector (length bytes) is fits.whole
+
+size_told : (d : DiskDecl) (x : DriveView) (a b : Option Images) → IsSectorSize d.sector → x.sector ≡ d.sector
+    → IfSome x.held (λ sectors. length sectors ≡ x.count) → OfName a b d.name (WentInto d x)
+    → IfSome a (λ images. IsSomeAnd (images d.name) (λ bytes. x.count * x.sector ≡ length bytes))
+size_told d x None b is same counted h = tt
+size_told d x (Some u) None is same counted h = absurd h.is
+size_told d x (Some u) (Some v) is same counted h = by (u d.name) h.is.0
+  where
+    by : (o : Option (List ℕ))
+        → IsSomeAnd o (λ bytes. IsDiskSize d.sector (length bytes) × (x.held ≡ Some (sectors_of d.sector bytes)))
+        → IsSomeAnd o (λ bytes. x.count * x.sector ≡ length bytes)
+    by None h = h
+    by (Some bytes) h = image_bytes d x bytes is same counted h.0 h.1
+
+size_had : (a b : ShelfView) (d : DiskDecl) (x : DriveView) (kind : DiskKind) → IsSectorSize d.sector
+    → IsHad a b d x kind → IsShelf kind
+    → IfSome a.told (λ images. IsSomeAnd (images d.name) (λ bytes. x.count * x.sector ≡ length bytes))
+size_had a b d x disk_kinds.Ram is h s = absurd (let bad : false ≡ true = s in cc)
+size_had a b d x disk_kinds.Shelf is h s = size_told d x a.told b.told is h.size.asked h.counted h.image
+
+pub sizes_told : (a b : ShelfView) (ds : List DiskDecl) (xs : List DriveView) → AllByRecursion IsDiskDecl ds
+    → EachHad a b ds xs → AllByRecursion (HasToldSize a) (zip ds (map size_of xs))
+sizes_told a b [] [] decls h = tt
+sizes_told a b [] (x ∷ xs) decls h = absurd h
+sizes_told a b (d ∷ ds) [] decls h = absurd h
+sizes_told a b (d ∷ ds) (x ∷ xs) decls h =
+    (λ s. size_had a b d x d.kind decls.0.sector h.0 s, sizes_told a b ds xs decls.1 h.1)
+
+-- What each disk holds
+
+-- the disk of a declaration in memory fails never, and is read as it was written
+memory_kept : (a b : ShelfView) (log : List Entry) (n : ℕ) (d : DiskDecl) (x y : DriveView)
+    → IsMade d x → Serves log n x y → IsMemory log (record { number = n; decl = d })
+memory_kept a b log n d x y made served = record {
+  no_failure = served.no_failures (record { kind = made.kind; fails = made.fails });
+  reads =
+      let reads : IfSome (Some (zero_sectors d.sectors d.sector)) (λ sectors. AreTrue x.sector sectors log n) =
+      subst (λ o. IfSome o (λ sectors. AreTrue x.sector sectors log n)) made.held served.reads in
+      subst (λ (s : ℕ). AreTrue s (zero_sectors d.sectors d.sector) log n) made.sector reads;
+}
+
+-- what a drive holds after the log, by the bytes that its disk had
+pub held_after : (log : List Entry) (n : ℕ) (d : DiskDecl) (x y : DriveView) (bytes : List ℕ) → x.sector ≡ d.sector
+    → x.held ≡ Some (sectors_of d.sector bytes) → Serves log n x y
+    → y.held ≡ Some (contents d.sector (sectors_of d.sector bytes) log n)
+held_after log n d x y bytes same held served =
+    served.held ∙ ap (λ o. option_map (λ sectors. contents x.sector sectors log n) o) held
+    ∙ ap (λ (s : ℕ). Some (contents s (sectors_of d.sector bytes) log n)) same
+
+bytes_after : (log : List Entry) (n : ℕ) (d : DiskDecl) (x y : DriveView) → x.sector ≡ d.sector → Serves log n x y
+    → (u v w : Option (List ℕ)) → WentInto d x u v → HasSectors y v w
+    → IsSomeAnd u (λ bytes. w ≡ Some (image_after log (record { number = n; decl = d }) bytes))
+bytes_after log n d x y same served None v w p q = p.0
+bytes_after log n d x y same served (Some bytes) v w p q =
+    subst (λ o. IfSome o (λ sectors. w ≡ Some (joined_sectors sectors)))
+    (held_after log n d x y bytes same p.0.1 served) q
+
+reads_after : (log : List Entry) (n : ℕ) (d : DiskDecl) (x y : DriveView) → x.sector ≡ d.sector → Serves log n x y
+    → (u v : Option (List ℕ)) → WentInto d x u v
+    → IsSomeAnd u (λ bytes. AreTrue d.sector (sectors_of d.sector bytes) log n)
+reads_after log n d x y same served None v p = p.0
+reads_after log n d x y same served (Some bytes) v p =
+    let reads : IfSome (Some (sectors_of d.sector bytes)) (λ sectors. AreTrue x.sector sectors log n) =
+    subst (λ o. IfSome o (λ sectors. AreTrue x.sector sectors log n)) p.0.1 served.reads in
+    subst (λ (s : ℕ). AreTrue s (sectors_of d.sector bytes) log n) same reads
+
+shelf_kept : (a m b : ShelfView) (log : List Entry) (n : ℕ) (d : DiskDecl) (x y : DriveView) (kept : List (List ℕ))
+    → IsTaken a m d x → Serves log n x y → WasGiven m b d.name y kept
+    → HoldsWhatIsLogged a b log (record { number = n; decl = d })
+shelf_kept a m b log n d x y kept had served given = record {
+  failures = subst (λ (f : ℕ). RoseBy (failures_of log n) f (b.faults_of d.name)) had.brought
+      (subst (λ (f : ℕ). RoseBy (failures_of log n) x.faults f) (sym given.faults) served.failures);
+  bytes = (told (bytes_after log n d x y had.size.asked served)).is;
+  reads = (told_too (λ u v w p q. reads_after log n d x y had.size.asked served u v p)).is;
+}
+  where
+    told : ((u v w : Option (List ℕ)) → WentInto d x u v → HasSectors y v w
+        → IsSomeAnd u (λ bytes. w ≡ Some (image_after log (record { number = n; decl = d }) bytes)))
+        → OfName a.told b.told d.name (λ u w. IsSomeAnd u (λ bytes. w ≡ Some (image_after log (record { number = n; decl = d }) bytes)))
+    told f = chain a.told m.told b.told d.name f had.image given.told
+
+    told_too : ((u v w : Option (List ℕ)) → WentInto d x u v → HasSectors y v w
+        → IsSomeAnd u (λ bytes. AreTrue d.sector (sectors_of d.sector bytes) log n))
+        → OfName a.told b.told d.name (λ u w. IsSomeAnd u (λ bytes. AreTrue d.sector (sectors_of d.sector bytes) log n))
+    told_too f = chain a.told m.told b.told d.name f had.image given.told
+
+disk_kept : (a m b : ShelfView) (log : List Entry) (n : ℕ) (d : DiskDecl) (x y : DriveView) (kept : List (List ℕ))
+    (kind : DiskKind) → kept_back a b ≡ kept → IsHad a m d x kind → Serves log n x y → Fate m b d.name y kept kind
+    → IsDiskKept a b log (record { number = n; decl = d }) kind
+disk_kept a m b log n d x y kept disk_kinds.Ram e had served fate = memory_kept a b log n d x y had served
+disk_kept a m b log n d x y kept disk_kinds.Shelf e had served fate =
+    λ not_kept. elim fate [
+      | inl given ↦ shelf_kept a m b log n d x y kept had served given
+      | inr held ↦ absurd (not_kept (subst (λ ks. Contains ks d.name) (sym e) held.among))
+    ]
+
+-- each disk of the plan that was given back holds what the log says
+pub disks_kept : (a m b : ShelfView) (log : List Entry) (n : ℕ) (ds : List DiskDecl) (xs ys : List DriveView)
+    (kept : List (List ℕ)) → kept_back a b ≡ kept → EachHad a m ds xs → ServeAll log n xs ys → EachFate m b ds ys kept
+    → AllByRecursion (λ (p : PlannedDisk). IsDiskKept a b log p p.decl.kind) (map planned_disk (enumerate_from n ds))
+disks_kept a m b log n [] xs ys kept e h s f = tt
+disks_kept a m b log n (d ∷ ds) [] ys kept e h s f = absurd h
+disks_kept a m b log n (d ∷ ds) (x ∷ xs) [] kept e h s f = absurd s
+disks_kept a m b log n (d ∷ ds) (x ∷ xs) (y ∷ ys) kept e h s f = (
+  disk_kept a m b log n d x y kept d.kind e h.0 s.0 f.0,
+  disks_kept a m b log (n + 1) ds xs ys kept e h.1 s.1 f.1,
+)

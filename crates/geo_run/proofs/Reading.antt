@@ -1,0 +1,138 @@
+-- Runs of texts and of sources.
+use Rattle.std.proofs.Common.{◌≡◌, ℕ, ◌+◌, ◌≤◌, List, [], ◌++◌, length, Option, Some, None, Result, Ok, Err, refl, sym, ap, subst, inl, inr, arith, IfSome, IsSomeAnd, IsErrOf}
+use Rattle.geo_base.specs.Faults.{Rose}
+use Rattle.geo_io.specs.declared.reading.ReadRefusal.{ReadRefusal}
+use Rattle.geo_io.specs.declared.reading.ReadRefusal.TheVariants as reads_refused
+use Rattle.geo_io.specs.Source.{Gives, GivesAtMost, GivesMany, Goes, IsAtEnd, IsEnd, Stream}
+use Rattle.geo_model.specs.declared.command.Cause.{Cause}
+use Rattle.geo_model.specs.World.{Plan}
+use Rattle.geo_model.specs.Opening.{opening}
+use Rattle.geo_model.specs.Generator.{Mode, StepMode}
+use Rattle.geo_model.specs.Script.{Fault, script}
+use Rattle.geo_model.specs.Outside.{ShelfView}
+use Rattle.geo_model.specs.Endings.{reported, script_limit}
+use Rattle.geo_script.specs.declared.refusal.ParseRefusal.{ParseRefusal}
+use Rattle.geo_script.specs.declared.refusal.ParseRefusal.TheVariants as refusals
+use Rattle.geo_script.specs.Draft.{Parses}
+use Rattle.geo_run.specs.declared.due.Due.TheVariants as dues
+use Rattle.geo_run.specs.declared.finish.Finish.{Finish}
+use Rattle.geo_run.specs.declared.stop.Stop.{Stop}
+use Rattle.geo_run.specs.declared.stop.Stop.TheVariants as stops
+use Rattle.geo_run.specs.Calls.{EndsEarly, FinishesPlan, FinishesSource, FinishesText, Gave, UnreadCause}
+use Rattle.geo_run.specs.Ends.{RunsPlan, entries_in}
+use Rattle.geo_run.specs.Stops.{IsDue, ending_by}
+use Rattle.geo_run.specs.Views.{source_view}
+
+-- Texts
+
+-- no log came, and the shelf is as before
+pub early_end : (finish : Finish) (stop : Stop) (a : ShelfView) → finish.due ≡ dues.Stopped stop → finish.log ≡ None
+    → EndsEarly finish stop a a
+early_end finish stop a due log = record { due = due; log = log; shelf = refl }
+
+-- the plan of a text was run
+pub text_ran : (text : List ℕ) (mode : Mode) (finish : Finish) (plan : Plan) (a b : ShelfView) → script text ≡ Ok plan
+    → RunsPlan plan finish.facts.items (entries_in finish.log) (ending_by finish.due) a b
+    → IsDue finish.due (reported mode plan (opening plan finish.facts.items) (entries_in finish.log))
+    → FinishesText text mode finish a b
+text_ran text mode finish plan a b is ran due =
+    inr (subst (λ (r : Result Plan Fault). FinishesPlan r mode finish a b) (sym is) (ran, due))
+
+-- the fault that a reading told
+fault_told : (text : List ℕ) (refusal : ParseRefusal) (line : ℕ) (cause : Cause) → Parses (Err refusal) (script text)
+    → refusal ≡ refusals.Fault line cause → script text ≡ Err (record { line = line; cause = cause })
+fault_told text refusal line cause answer is =
+    subst (λ (r : ParseRefusal). Parses (Err r) (script text)) is answer
+
+-- a text isn't a script
+pub text_faulty : (text : List ℕ) (mode : Mode) (finish : Finish) (refusal : ParseRefusal) (line : ℕ) (cause : Cause)
+    (a : ShelfView) → Parses (Err refusal) (script text) → refusal ≡ refusals.Fault line cause
+    → finish.due ≡ dues.Stopped (stops.NoScript line cause) → finish.log ≡ None → FinishesText text mode finish a a
+text_faulty text mode finish refusal line cause a answer is due log =
+    inr (subst (λ (r : Result Plan Fault). FinishesPlan r mode finish a a)
+    (sym (fault_told text refusal line cause answer is))
+    (early_end finish (stops.NoScript line cause) a due log))
+
+-- memory ran out before a mesh opened
+pub text_lost : (text : List ℕ) (mode : Mode) (finish : Finish) (a : ShelfView) → finish.due ≡ dues.Stopped stops.NoMemory
+    → finish.log ≡ None → FinishesText text mode finish a a
+text_lost text mode finish a due log = inl (early_end finish stops.NoMemory a due log)
+
+-- Sources
+
+goes_left : (old new : Option (List ℕ)) (text : List ℕ) → Goes old text new
+    → IfSome old (λ had. IsSomeAnd new (λ has. had ≡ text ++ has))
+goes_left None new text h = tt
+goes_left (Some u) None text h = absurd h
+goes_left (Some u) (Some v) text h = h
+
+gives_gave : (s t : Stream) (reads reads_after faults faults_after : ℕ) (text : List ℕ) → Gives s text t
+    → Gave (source_view s reads faults) text (source_view t reads_after faults_after)
+gives_gave s t reads reads_after faults faults_after text h =
+    record { given = h.given; had_left = goes_left s.left t.left text h.goes }
+
+none_left : (left : Option (List ℕ)) → IsEnd left → IfSome left (λ l. l ≡ [])
+none_left None h = tt
+none_left (Some l) h = h
+
+-- the source was read to its end
+pub source_read : (s t : Stream) (reads reads_after faults faults_after : ℕ) (text bytes : List ℕ) (finish : Finish)
+    (a b : ShelfView) → Gives s text t → IsAtEnd t → length text ≤ script_limit → bytes ≡ text
+    → FinishesText bytes StepMode finish a b
+    → FinishesSource (source_view s reads faults) (source_view t reads_after faults_after) finish a b
+source_read s t reads reads_after faults faults_after text bytes finish a b gives end few is ends = record {
+  text = text;
+  gave = gives_gave s t reads reads_after faults faults_after text gives;
+  ends = inl (record {
+    few = few;
+    ended = end.ended;
+    none_left = none_left t.left end.none_left;
+    of_text = subst (λ (bs : List ℕ). FinishesText bs StepMode finish a b) is ends;
+  });
+}
+
+-- the source wasn't read to its end
+pub source_unread : (s t : Stream) (reads reads_after faults faults_after : ℕ) (text : List ℕ) (finish : Finish)
+    (stop : Stop) (a : ShelfView) → Gives s text t
+    → UnreadCause text (source_view s reads faults) (source_view t reads_after faults_after) stop
+    → finish.due ≡ dues.Stopped stop → finish.log ≡ None
+    → FinishesSource (source_view s reads faults) (source_view t reads_after faults_after) finish a a
+source_unread s t reads reads_after faults faults_after text finish stop a gives cause due log = record {
+  text = text;
+  gave = gives_gave s t reads reads_after faults faults_after text gives;
+  ends = inr (record { stop = stop; cause = cause; early = early_end finish stop a due log });
+}
+
+-- a read failed
+pub read_fault : {T : Type 0} (s t : Stream) (reads reads_after faults faults_after : ℕ) (finish : Finish) (a : ShelfView)
+    (refusal : ReadRefusal) → refusal ≡ reads_refused.ReadFault
+    → (IsErrOf {T = T} (Err refusal) reads_refused.ReadFault → GivesAtMost s script_limit t)
+    → (IsErrOf {T = T} (Err refusal) reads_refused.ReadFault → Rose faults faults_after)
+    → finish.due ≡ dues.Stopped stops.ReadFault → finish.log ≡ None
+    → FinishesSource (source_view s reads faults) (source_view t reads_after faults_after) finish a a
+read_fault s t reads reads_after faults faults_after finish a refusal is taken rose due log =
+    let gives : GivesAtMost s script_limit t = taken (ap (λ e. Err e) is) in
+    source_unread s t reads reads_after faults faults_after gives.bytes finish stops.ReadFault a gives.gives
+    (gives.few, rose (ap (λ e. Err e) is)) due log
+
+-- the text is too long
+pub read_long : {T : Type 0} (s t : Stream) (reads reads_after faults faults_after : ℕ) (finish : Finish) (a : ShelfView)
+    (refusal : ReadRefusal) → refusal ≡ reads_refused.TooLong
+    → (IsErrOf {T = T} (Err refusal) reads_refused.TooLong → GivesMany s (script_limit + 1) t)
+    → finish.due ≡ dues.Stopped stops.TooLong → finish.log ≡ None
+    → FinishesSource (source_view s reads faults) (source_view t reads_after faults_after) finish a a
+read_long s t reads reads_after faults faults_after finish a refusal is taken due log =
+    let gives : GivesMany s (script_limit + 1) t = taken (ap (λ e. Err e) is) in
+    let many : length gives.bytes ≡ script_limit + 1 = gives.many in
+    source_unread s t reads reads_after faults faults_after gives.bytes finish stops.TooLong a gives.gives
+    (omega (arith, many)) due log
+
+-- memory ran out
+pub read_lost : {T : Type 0} (s t : Stream) (reads reads_after faults faults_after : ℕ) (finish : Finish) (a : ShelfView)
+    (refusal : ReadRefusal) → refusal ≡ reads_refused.NoMemory
+    → (IsErrOf {T = T} (Err refusal) reads_refused.NoMemory → GivesAtMost s (script_limit + 1) t)
+    → finish.due ≡ dues.Stopped stops.NoMemory → finish.log ≡ None
+    → FinishesSource (source_view s reads faults) (source_view t reads_after faults_after) finish a a
+read_lost s t reads reads_after faults faults_after finish a refusal is taken due log =
+    let gives : GivesAtMost s (script_limit + 1) t = taken (ap (λ e. Err e) is) in
+    source_unread s t reads reads_after faults faults_after gives.bytes finish stops.NoMemory a gives.gives tt due log

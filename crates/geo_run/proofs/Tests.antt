@@ -1,0 +1,140 @@
+-- Tests of names and numbers, and lists of names.
+use Rattle.std.proofs.Common.{◌≡◌, ◌≢◌, ℕ, zero, suc, ◌<◌, ◌==◌, ◌⊎◌, Bool, true, false, not, ◌||◌, List, [], ◌∷◌, ◌++◌, length, refl, sym, ap, ◌∙◌, subst, inl, inr, arith, bytes_eq, Contains, get_or, if◌then◌else◌}
+use Rattle.std.specs.List.{list_any}
+use Rattle.std.proofs.lemmas.Slice.Eq.{bytes_eq-Decides}
+use Rattle.std.proofs.lemmas.Bool.Decides.{nat_tests}
+use Rattle.std.proofs.lemmas.List.Elements.{Contains-append_right}
+use Rattle.geo_disk.specs.Names.{without}
+use Rattle.geo_run.specs.Lending.{AreOther}
+
+-- a name is the same as itself
+pub same_itself : (name : List ℕ) → bytes_eq name name ≡ true
+same_itself name = (bytes_eq-Decides name name).1 refl
+
+-- names that the test finds equal are equal
+pub same_names : (a b : List ℕ) → bytes_eq a b ≡ true → a ≡ b
+same_names a b e = (bytes_eq-Decides a b).0 e
+
+-- other names are told apart
+pub other_names : (a b : List ℕ) → a ≢ b → bytes_eq a b ≡ false
+other_names a b other = by (bytes_eq a b) (bytes_eq-Decides a b).0
+  where
+    by : (t : Bool) → (t ≡ true → a ≡ b) → t ≡ false
+    by true h = absurd (other (h refl))
+    by false h = refl
+
+-- two names are the same or not
+pub same_or_other : (a b : List ℕ) → (a ≡ b) ⊎ (a ≢ b)
+same_or_other a b = by (bytes_eq a b) (bytes_eq-Decides a b).0 (bytes_eq-Decides a b).1
+  where
+    by : (t : Bool) → (t ≡ true → a ≡ b) → (a ≡ b → t ≡ true) → (a ≡ b) ⊎ (a ≢ b)
+    by true h k = inl (h refl)
+    by false h k = inr (λ e. let f : false ≡ true = k e in cc)
+
+-- a number is this one or not
+pub is_or_not : (n m : ℕ) → (n ≡ m) ⊎ (n ≢ m)
+is_or_not n m = by (n == m) refl
+  where
+    by : (t : Bool) → (n == m) ≡ t → (n ≡ m) ⊎ (n ≢ m)
+    by true e = inl (grind (arith, nat_tests))
+    by false e = inr (λ same. absurd (grind (arith, nat_tests)))
+
+-- the first of a list is one of it
+pub contains_first : {X : Type 0} (x : X) (xs : List X) → Contains (x ∷ xs) x
+contains_first x xs = (0, omega arith, refl)
+
+-- and so is one of the others
+pub contains_more : {X : Type 0} (x y : X) (xs : List X) → Contains xs y → Contains (x ∷ xs) y
+contains_more x y xs c = Contains-append_right (x ∷ []) xs y c
+
+-- nothing is in an empty list
+pub contains_none : {X : Type 0} (x : X) → Contains [] x → ⊥
+contains_none x c = let bad : c.0 < 0 = c.1 in absurd (omega arith)
+
+-- what a list contains is its first, or one of the others
+pub contains_cases : {X : Type 0} (x y : X) (xs : List X) → Contains (x ∷ xs) y → (x ≡ y) ⊎ Contains xs y
+contains_cases x y xs c = by c.0 c.1 c.2
+  where
+    by : (k : ℕ) → k < length (x ∷ xs) → get_or (x ∷ xs) k y ≡ y → (x ≡ y) ⊎ Contains xs y
+    by zero lt e = inl e
+    by (suc k) lt e = inr (k, omega (arith, lt), e)
+
+-- where no name is this one, the list doesn't contain it
+pub other-contains : (name : List ℕ) (names : List (List ℕ)) → AreOther name names → Contains names name → ⊥
+other-contains name [] others c = contains_none name c
+other-contains name (x ∷ names) others c =
+    elim (contains_cases x name names c) [ inl e ↦ others.0 e | inr more ↦ other-contains name names others.1 more ]
+
+-- and where it doesn't contain a name, no name is this one
+pub other-from : (name : List ℕ) (names : List (List ℕ)) → (Contains names name → ⊥) → AreOther name names
+other-from name [] none = tt
+other-from name (x ∷ names) none = (
+  λ e. none (subst (λ (n : List ℕ). Contains (x ∷ names) n) e (contains_first x names)),
+  other-from name names (λ c. none (contains_more x name names c)),
+)
+
+-- no name of two lists is this one
+pub other-append : (name : List ℕ) (xs ys : List (List ℕ)) → AreOther name xs → AreOther name ys → AreOther name (xs ++ ys)
+other-append name [] ys none more = more
+other-append name (x ∷ xs) ys none more = (none.0, other-append name xs ys none.1 more)
+
+-- so no name of either
+pub other-front : (name : List ℕ) (xs ys : List (List ℕ)) → AreOther name (xs ++ ys) → AreOther name xs
+other-front name [] ys none = tt
+other-front name (x ∷ xs) ys none = (none.0, other-front name xs ys none.1)
+
+pub other-back : (name : List ℕ) (xs ys : List (List ℕ)) → AreOther name (xs ++ ys) → AreOther name ys
+other-back name [] ys none = none
+other-back name (x ∷ xs) ys none = other-back name xs ys none.1
+
+-- where a test of names passes, the name is among them
+pub among-contains : (name : List ℕ) (names : List (List ℕ)) → list_any (bytes_eq name) names ≡ true → Contains names name
+among-contains name [] e = absurd (let bad : false ≡ true = e in cc)
+among-contains name (x ∷ names) e = by (bytes_eq name x) refl (λ h. among-contains name names h) e
+  where
+    by : (t : Bool) → bytes_eq name x ≡ t → (list_any (bytes_eq name) names ≡ true → Contains names name)
+        → (t || list_any (bytes_eq name) names) ≡ true → Contains (x ∷ names) name
+    by true same more h = subst (λ (n : List ℕ). Contains (x ∷ names) n) (sym (same_names name x same)) (contains_first x names)
+    by false other more h = contains_more x name names (more h)
+
+-- where a name is among them, the test passes
+pub contains-among : (name : List ℕ) (names : List (List ℕ)) → Contains names name → list_any (bytes_eq name) names ≡ true
+contains-among name [] c = absurd (contains_none name c)
+contains-among name (x ∷ names) c =
+    elim (contains_cases x name names c) [
+      | inl e ↦ ap (λ t. t || list_any (bytes_eq name) names) (subst (λ (n : List ℕ). bytes_eq name n ≡ true) (sym e) (same_itself name))
+      | inr more ↦ or_true (bytes_eq name x) (list_any (bytes_eq name) names) (contains-among name names more)
+    ]
+  where
+    or_true : (a b : Bool) → b ≡ true → (a || b) ≡ true
+    or_true true b e = refl
+    or_true false b e = e
+
+-- where no name is this one, the test fails
+pub other-among : (name : List ℕ) (names : List (List ℕ)) → AreOther name names → list_any (bytes_eq name) names ≡ false
+other-among name [] others = refl
+other-among name (x ∷ names) others =
+    ap (λ t. t || list_any (bytes_eq name) names) (other_names name x (λ e. others.0 (sym e))) ∙ other-among name names others.1
+
+-- where no name is this one, taking it away changes nothing
+pub without_none : (name : List ℕ) (names : List (List ℕ)) → AreOther name names → without name names ≡ names
+without_none name [] others = refl
+without_none name (x ∷ names) others =
+    ap (λ t. if not t then x ∷ without name names else without name names) (other_names name x (λ e. others.0 (sym e)))
+    ∙ ap (λ ns. x ∷ ns) (without_none name names others.1)
+
+-- the name that stands first goes
+pub without_first : (name : List ℕ) (names : List (List ℕ)) → without name (name ∷ names) ≡ without name names
+without_first name names =
+    ap (λ t. if not t then name ∷ without name names else without name names) (same_itself name)
+
+-- names in two parts without one
+pub without_both : (name : List ℕ) (xs ys : List (List ℕ)) → without name (xs ++ ys) ≡ without name xs ++ without name ys
+without_both name [] ys = refl
+without_both name (x ∷ xs) ys = by (bytes_eq name x) (without_both name xs ys)
+  where
+    by : (t : Bool) → without name (xs ++ ys) ≡ without name xs ++ without name ys
+        → (if not t then x ∷ without name (xs ++ ys) else without name (xs ++ ys))
+        ≡ (if not t then x ∷ without name xs else without name xs) ++ without name ys
+    by true more = more
+    by false more = ap (λ ns. x ∷ ns) more

@@ -1,0 +1,178 @@
+-- The whole call: how its run finished, and what was written.
+use Rattle.std.proofs.Common.{◌≡◌, ◌⊎◌, ℕ, ◌+◌, ◌-◌, ◌^◌, ◌≤◌, min, List, ◌++◌, length, drop, Option, Some, None, refl, sym, ◌∙◌, ap, subst, inl, inr, arith, IfSome, IfNone}
+use Rattle.std.proofs.Math.Seq.{drop-append_seam}
+use Rattle.geo_base.specs.Faults.{RoseBy}
+use Rattle.geo_model.specs.declared.step.Entry.{Entry}
+use Rattle.geo_model.specs.World.{World, Plan}
+use Rattle.geo_model.specs.Opening.{opening}
+use Rattle.geo_model.specs.Generator.{Mode, StepMode, RunMode, GenMode, Accepts}
+use Rattle.geo_model.specs.Outside.{ShelfView, SinkView, SourceView, kept_back}
+use Rattle.geo_model.specs.Endings.{Ending, Reported, ReportedButFault, BadWords, NoScript, ReadFault, ShelfFault, NoDisk, BadSize, OutOfMemory, LogFull, TooLong, Call, due_text, failed_takes, reported, status_of}
+use Rattle.geo_model.specs.Headline.{FollowsMode, ImagesStayAt, IsComplete, KeepsAll, Prints}
+use Rattle.geo_run.specs.declared.finish.Finish.{Finish}
+use Rattle.geo_run.specs.Calls.{Finishes, Keeps, KeepsInside, added_to, call_of, outside_of}
+use Rattle.geo_run.specs.Ends.{entries_in}
+use Rattle.geo_run.specs.Stops.{IsDue, ending_by}
+use Rattle.geo_run.specs.Work.{IsAlone}
+use Rattle.geo_run.specs.Writes.{Writes, WritesEnding}
+use Rattle.geo_run.proofs.Completing.{complete}
+
+-- Where memory ran out at the end
+
+order_at : (mode : Mode) (plan : Plan) (opened : World) (ending : Ending) (log : List Entry) → (mode ≡ RunMode → ⊥)
+    → FollowsMode mode plan opened ending log → FollowsMode mode plan opened OutOfMemory log
+order_at StepMode plan opened ending log other h = h
+order_at RunMode plan opened ending log other h = absurd (other refl)
+order_at (GenMode s c) plan opened ending log other h = h
+
+orders_at : (mode : Mode) (plan : Plan) (opened : World) (ending : Ending) (log : Option (List Entry)) → (mode ≡ RunMode → ⊥)
+    → IfSome log (FollowsMode mode plan opened ending) → IfSome log (FollowsMode mode plan opened OutOfMemory)
+orders_at mode plan opened ending None other h = h
+orders_at mode plan opened ending (Some l) other h = order_at mode plan opened ending l other h
+
+stay_at : (call : Call) (ending : Ending) → ImagesStayAt call ending → ImagesStayAt call OutOfMemory
+stay_at call OutOfMemory h = h
+stay_at call Reported h = λ alone. h
+stay_at call (ReportedButFault name) h = λ alone. h
+stay_at call BadWords h = λ alone. h
+stay_at call (NoScript line c) h = λ alone. h
+stay_at call ReadFault h = λ alone. h
+stay_at call (ShelfFault name) h = λ alone. h
+stay_at call (NoDisk name) h = λ alone. h
+stay_at call (BadSize name) h = λ alone. h
+stay_at call LogFull h = λ alone. h
+stay_at call TooLong h = λ alone. h
+
+stays_at : (call : Call) (ending : Ending) (log : Option (List Entry)) → IfNone log (ImagesStayAt call ending)
+    → IfNone log (ImagesStayAt call OutOfMemory)
+stays_at call ending None h = stay_at call ending h
+stays_at call ending (Some l) h = h
+
+-- what a call keeps it keeps where memory runs out at its end
+out_of_memory : (call : Call) (mode : Mode) (plan : Plan) (ending : Ending) → (mode ≡ RunMode → ⊥)
+    → KeepsInside call mode plan ending → KeepsInside call mode plan OutOfMemory
+out_of_memory call mode plan ending other k = record {
+  read_as = k.read_as;
+  gave = k.gave;
+  cause = tt;
+  has_log = tt;
+  is_opened = k.is_opened;
+  history = k.history;
+  to_its_end = λ whole. absurd whole;
+  order = orders_at mode plan (opening plan call.facts) ending call.log other k.order;
+  fits = k.fits;
+  disks = k.disks;
+  lent = record {
+    faults = fewer (failed_takes ending) (length (kept_back call.before.shelf call.after.shelf))
+        call.before.shelf.faults call.after.shelf.faults k.lent.faults;
+    gives = k.lent.gives;
+  };
+  others = k.others;
+  images = stays_at call ending call.log k.images;
+  images_stand = k.images_stand;
+  outside = record {
+    source = λ which. elim which [ inl gen ↦ k.outside.source (inl gen) | inr bad ↦ absurd bad ];
+    shelf = λ which. elim which [ inl gen ↦ k.outside.shelf (inl gen) | inr bad ↦ absurd bad ];
+  };
+}
+  where
+    fewer : (f n x y : ℕ) → RoseBy (f + n) x y → RoseBy (0 + n) x y
+    fewer f n x y r = let h : min (x + (f + n)) (2 ^ 64 - 1) ≤ y = r in omega (arith, h)
+
+-- What is written
+
+prints : (call : Call) (ending : Ending) (text : List ℕ)
+    → Writes call.status (status_of ending) text call.before.sink call.after.sink
+    → call.written ≡ added_to call.before.sink.taken call.after.sink.taken
+    → Prints call ending text
+prints call ending text w e = record {
+  cut_off = λ four. let begun = w.cut_off four in
+      record { fault = begun.fault; rest = begun.rest; written = ap (λ bs. bs ++ begun.rest) is ∙ begun.front };
+  whole = λ ne. let all = w.whole ne in record { status = all.0; written = is ∙ all.1 };
+}
+  where
+    is : call.written ≡ w.written
+    is = e ∙ ap (λ bs. drop (length call.before.sink.taken) bs) w.took
+        ∙ drop-append_seam call.before.sink.taken w.written
+
+took : (call : Call) (status due : ℕ) (text : List ℕ) → Writes status due text call.before.sink call.after.sink
+    → call.written ≡ added_to call.before.sink.taken call.after.sink.taken
+    → call.after.sink.taken ≡ call.before.sink.taken ++ call.written
+took call status due text w e =
+    w.took ∙ ap (λ bs. call.before.sink.taken ++ bs)
+    (sym (e ∙ ap (λ bs. drop (length call.before.sink.taken) bs) w.took ∙ drop-append_seam call.before.sink.taken w.written))
+
+-- both
+keeps_all : (call : Call) (mode : Mode) (plan : Plan) (ending : Ending) → KeepsInside call mode plan ending
+    → Writes call.status (status_of ending) (due_text (reported mode plan (opening plan call.facts) call.log) ending)
+    call.before.sink call.after.sink
+    → call.written ≡ added_to call.before.sink.taken call.after.sink.taken
+    → KeepsAll call mode plan ending
+keeps_all call mode plan ending k w e = record {
+  read_as = k.read_as;
+  bytes = record {
+    gave = k.gave.given;
+    had_left = k.gave.had_left;
+    took = took call call.status (status_of ending) (due_text (reported mode plan (opening plan call.facts) call.log) ending) w e;
+  };
+  cause = k.cause;
+  prints = prints call ending (due_text (reported mode plan (opening plan call.facts) call.log) ending) w e;
+  has_log = k.has_log;
+  is_opened = k.is_opened;
+  history = k.history;
+  to_its_end = k.to_its_end;
+  order = k.order;
+  fits = k.fits;
+  disks = k.disks;
+  lent = k.lent;
+  others = k.others;
+  images = k.images;
+  images_stand = k.images_stand;
+  outside = k.outside;
+}
+
+-- a run that finished and wrote what is due keeps all that it has to
+pub keeps : (words : List (List ℕ)) (finish : Finish) (status : ℕ) (source source_after : SourceView)
+    (sink sink_after : SinkView) (shelf shelf_after : ShelfView) → IsAlone words
+    → (f : Finishes words finish source source_after shelf shelf_after)
+    → ((reported : List ℕ) → IsDue finish.due reported → WritesEnding reported (ending_by finish.due) status sink sink_after)
+    → Keeps (call_of words (record { status = status; log = finish.log; facts = finish.facts })
+    (outside_of source sink shelf) (outside_of source_after sink_after shelf_after))
+keeps words finish status source source_after sink sink_after shelf shelf_after alone f writes =
+    by written.actual written.is written.writes
+  where
+    call : Call
+    call = call_of words (record { status = status; log = finish.log; facts = finish.facts })
+        (outside_of source sink shelf) (outside_of source_after sink_after shelf_after)
+
+    text : List ℕ
+    text = reported f.mode f.plan (opening f.plan finish.facts.items) (entries_in finish.log)
+
+    written : WritesEnding text (ending_by finish.due) status sink sink_after
+    written = writes text f.due
+
+    inside : KeepsInside call f.mode f.plan (ending_by finish.due)
+    inside = f.keeps status sink sink_after
+
+    by : (actual : Ending) → (actual ≡ ending_by finish.due) ⊎ (actual ≡ OutOfMemory)
+        → Writes status (status_of actual) (due_text text actual) sink sink_after → Keeps call
+    by actual (inl e) w = record {
+      mode = f.mode;
+      plan = f.plan;
+      ending = actual;
+      all = keeps_all call f.mode f.plan actual
+          (subst (λ (z : Ending). KeepsInside call f.mode f.plan z) (sym e) inside) w refl;
+    }
+    by actual (inr e) w = record {
+      mode = f.mode;
+      plan = f.plan;
+      ending = actual;
+      all = keeps_all call f.mode f.plan actual
+          (subst (λ (z : Ending). KeepsInside call f.mode f.plan z) (sym e)
+          (out_of_memory call f.mode f.plan (ending_by finish.due) f.alone inside)) w refl;
+    }
+
+-- and is complete
+pub completes : (words : List (List ℕ)) (call : Call) → call.words ≡ words → IsAlone words → Keeps call → IsComplete call
+completes words call e alone k =
+    complete call k.mode k.plan k.ending (λ a. alone (subst (λ (ws : List (List ℕ)). Accepts ws RunMode) e a)) k.all

@@ -1,0 +1,46 @@
+-- Each ending without a report.
+use Rattle.std.proofs.Common.{ap}
+use Rattle.geo_model.specs.Endings.{BadWords, NoScript, ReadFault, ShelfFault, NoDisk, BadSize, OutOfMemory, LogFull, TooLong}
+use Rattle.geo_run.specs.Stops.{ending_of}
+use Rattle.geo_run.proofs.Writing.{ends, made_ends, same_ends}
+use Rattle.geo_run.proofs.due.write_stop.Goals as goal
+
+pub returns-in-BadWords : goal.returns-in-BadWords
+returns-in-BadWords g c =
+    same_ends _ BadWords _ _ _ _ (ap ending_of c.in-BadWords.is) (ends _ BadWords _ _ _ c.written.ensures)
+
+pub returns-in-NoScript : goal.returns-in-NoScript
+returns-in-NoScript g c =
+    same_ends _ (NoScript c.in-NoScript.line c.in-NoScript.cause) _ _ _ _ (ap ending_of c.in-NoScript.is)
+    (made_ends _ (NoScript c.in-NoScript.line c.in-NoScript.cause) _ _ _ _ c.fault_text.ensures c.written_made.ensures)
+
+pub returns-in-ReadFault : goal.returns-in-ReadFault
+returns-in-ReadFault g c =
+    same_ends _ ReadFault _ _ _ _ (ap ending_of c.in-ReadFault.is) (ends _ ReadFault _ _ _ c.written-in-ReadFault.ensures)
+
+pub returns-in-ShelfFault : goal.returns-in-ShelfFault
+returns-in-ShelfFault g c =
+    same_ends _ (ShelfFault c.in-ShelfFault.name) _ _ _ _ (ap ending_of c.in-ShelfFault.is)
+    (made_ends _ (ShelfFault c.in-ShelfFault.name) _ _ _ _ c.named_text.ensures c.written_made-in-ShelfFault.ensures)
+
+pub returns-in-NoDisk : goal.returns-in-NoDisk
+returns-in-NoDisk g c =
+    same_ends _ (NoDisk c.in-NoDisk.name) _ _ _ _ (ap ending_of c.in-NoDisk.is)
+    (made_ends _ (NoDisk c.in-NoDisk.name) _ _ _ _ c.named_text-in-NoDisk.ensures c.written_made-in-NoDisk.ensures)
+
+pub returns-in-BadSize : goal.returns-in-BadSize
+returns-in-BadSize g c =
+    same_ends _ (BadSize c.in-BadSize.name) _ _ _ _ (ap ending_of c.in-BadSize.is)
+    (made_ends _ (BadSize c.in-BadSize.name) _ _ _ _ c.named_text-in-BadSize.ensures c.written_made-in-BadSize.ensures)
+
+pub returns-in-NoMemory : goal.returns-in-NoMemory
+returns-in-NoMemory g c =
+    same_ends _ OutOfMemory _ _ _ _ (ap ending_of c.in-NoMemory.is) (ends _ OutOfMemory _ _ _ c.written-in-NoMemory.ensures)
+
+pub returns-in-LogFull : goal.returns-in-LogFull
+returns-in-LogFull g c =
+    same_ends _ LogFull _ _ _ _ (ap ending_of c.in-LogFull.is) (ends _ LogFull _ _ _ c.written-in-LogFull.ensures)
+
+pub returns-in-TooLong : goal.returns-in-TooLong
+returns-in-TooLong g c =
+    same_ends _ TooLong _ _ _ _ (ap ending_of c.in-TooLong.is) (ends _ TooLong _ _ _ c.written-in-TooLong.ensures)

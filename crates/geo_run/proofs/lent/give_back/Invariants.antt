@@ -1,0 +1,26 @@
+use Rattle.std.proofs.Common.{◌≡◌, ◌++◌, ℕ, List, length, map, take, drop, slice_get}
+use Rattle.std.specs.Vec.Iter.{into_iter_items}
+use Rattle.geo_run.specs.Drives.{drive_view}
+use Rattle.geo_run.specs.Views.{shelf_view}
+use Rattle.geo_run.specs.Lending.{AreOut, GivesBack}
+use Rattle.geo_run.proofs.lent.give_back.Given as goal
+
+-- the drives so far were given back, and the others are out
+abbrev pub invariant-loop-drive : goal.invariant-loop-drive
+invariant-loop-drive g l = record {
+  place : l.place ≡ length l.yielded;
+  all : l.fn.lent.drives.items ≡ l.yielded ++ into_iter_items l.drive-iterator;
+  given : (kept : List (List ℕ)) × (l.kept ≡ slice_get kept 0) × GivesBack
+      (shelf_view g.H.Shelf.told g.H.Shelf.lent g.H.Shelf.faults g.H.Shelf.faults_of g.H.Shelf.take_faults
+      g.H.Shelf.give_faults l.fn.shelf)
+      (take (length l.yielded) l.names.items)
+      (map (drive_view g.H.D.Disk.held g.H.D.Disk.sector_bytes g.H.D.Disk.sector_count g.H.D.Disk.faults) l.yielded) kept
+      (shelf_view g.H.Shelf.told g.H.Shelf.lent g.H.Shelf.faults g.H.Shelf.faults_of g.H.Shelf.take_faults
+      g.H.Shelf.give_faults l.shelf);
+  out : AreOut
+      (shelf_view g.H.Shelf.told g.H.Shelf.lent g.H.Shelf.faults g.H.Shelf.faults_of g.H.Shelf.take_faults
+      g.H.Shelf.give_faults l.shelf)
+      (drop (length l.yielded) l.names.items)
+      (map (drive_view g.H.D.Disk.held g.H.D.Disk.sector_bytes g.H.D.Disk.sector_count g.H.D.Disk.faults)
+      (into_iter_items l.drive-iterator));
+}

@@ -1,0 +1,8 @@
+-- The one word is `run`.
+use Rattle.geo_run.proofs.Digits.{asks_run}
+use Rattle.geo_run.proofs.words.starts_threads.Goals as goal
+
+pub returns-in-len1 : goal.returns-in-len1
+returns-in-len1 c =
+    asks_run c.args.words.now c.word-item.result c.as_str.result.now c.eq.result c.in-len1.len_at_least c.in-len1.len_below
+    c.word-item.is c.as_str.ensures.value c.eq.ensures

@@ -1,0 +1,6 @@
+-- The word is `step`.
+use Rattle.geo_run.proofs.Digits.{asks_step}
+use Rattle.geo_run.proofs.words.step_of.Goals as goal
+
+pub returns-then-eq : goal.returns-then-eq
+returns-then-eq c = asks_step _ _ c.as_str.ensures.value c.if-eq.ensures

@@ -1,0 +1,135 @@
+-- The calls of the program as they are seen from outside.
+use Rattle.std.specs.Prelude.{◌≡◌, ◌⊎◌, ℕ, ◌<◌, ◌≤◌, List, [], ◌++◌, drop, length, None, Result, Ok, Err, IfSome, IfNone, IsSome, IsSomeAnd, IsTrue, ⊤}
+use Rattle.geo_base.specs.Faults.{Rose}
+use Rattle.geo_model.specs.Generator.{Mode, StepMode, RunMode}
+use Rattle.geo_model.specs.Script.{Fault, script}
+use Rattle.geo_model.specs.World.{Plan}
+use Rattle.geo_model.specs.Opening.{opening}
+use Rattle.geo_model.specs.Outside.{Outside, ShelfView, SinkView, SourceView, DisksAreKept, OthersStay, ImagesStand}
+use Rattle.geo_model.specs.Log.{Fits}
+use Rattle.geo_model.specs.History.{KeepsHistory, RanToItsEnd}
+use Rattle.geo_model.specs.Endings.{Ending, Call, CauseOf, HasLog, IsOpened, IsWhole, reported, script_limit}
+use Rattle.geo_model.specs.Headline.{FollowsMode, ImagesStayAt, KeepsAll, LeavesOutside, LentAfter, ReadAs}
+use Rattle.geo_run.specs.declared.top.Ended.{Ended}
+use Rattle.geo_run.specs.declared.finish.Finish.{Finish}
+use Rattle.geo_run.specs.declared.due.Due.TheVariants as dues
+use Rattle.geo_run.specs.declared.stop.Stop.{Stop}
+use Rattle.geo_run.specs.declared.stop.Stop.TheVariants as stops
+use Rattle.geo_run.specs.Ends.{RunsPlan, entries_in}
+use Rattle.geo_run.specs.Stops.{ending_by, IsDue}
+
+-- what came behind so many bytes
+abbrev pub added_to : List ℕ → List ℕ → List ℕ
+added_to before after = drop (length before) after
+
+-- the call that was given these words, found this outside and left that one
+abbrev pub call_of : List (List ℕ) → Ended → Outside → Outside → Call
+call_of words ended before after = record {
+  words = words;
+  text = added_to before.source.given after.source.given;
+  facts = ended.facts.items;
+  status = ended.status;
+  written = added_to before.sink.taken after.sink.taken;
+  log = entries_in ended.log;
+  before = before;
+  after = after;
+}
+
+-- the call keeps all that it has to
+pub record Keeps (call : Call) : Type 0 where
+  pub mode : Mode
+  pub plan : Plan
+  pub ending : Ending
+  pub all : KeepsAll call mode plan ending
+
+-- Before anything is written
+
+-- the source gave the text, which it had left where it tells that
+pub record Gave (before : SourceView) (text : List ℕ) (after : SourceView) : Type 0 where
+  pub given : after.given ≡ before.given ++ text
+  pub had_left : IfSome before.left (λ had. IsSomeAnd after.left (λ has. had ≡ text ++ has))
+
+-- what a call keeps beside what it writes
+pub record KeepsInside (call : Call) (mode : Mode) (plan : Plan) (ending : Ending) : Type 0 where
+  pub read_as : ReadAs call mode plan
+  pub gave : Gave call.before.source call.text call.after.source
+  pub cause : CauseOf call mode plan ending
+  pub has_log : HasLog ending call.log
+  pub is_opened : IsSome call.log → IsOpened call mode plan
+  pub history : IfSome call.log (KeepsHistory (opening plan call.facts))
+  pub to_its_end : IsWhole ending → IfSome call.log (RanToItsEnd (opening plan call.facts))
+  pub order : IfSome call.log (FollowsMode mode plan (opening plan call.facts) ending)
+  pub fits : IfSome call.log (Fits (opening plan call.facts))
+  pub disks : IfSome call.log (DisksAreKept plan call.before.shelf call.after.shelf)
+  pub lent : LentAfter ending call.before.shelf call.after.shelf
+  pub others : OthersStay plan call.before.shelf call.after.shelf
+  pub images : IfNone call.log (ImagesStayAt call ending)
+  pub images_stand : ImagesStand call.before.shelf call.after.shelf
+  pub outside : LeavesOutside mode ending call.before call.after
+
+-- the source and the shelf of a call, and the sink, at one moment
+abbrev pub outside_of : SourceView → SinkView → ShelfView → Outside
+outside_of source sink shelf = record { source = source; sink = sink; shelf = shelf }
+
+-- a run of these words that finished so keeps all that it has to, whatever is then written
+pub record Finishes (words : List (List ℕ)) (finish : Finish) (source source_after : SourceView)
+    (shelf shelf_after : ShelfView) : Type 0 where
+  pub mode : Mode
+  pub plan : Plan
+  pub alone : mode ≡ RunMode → ⊥
+  pub due : IsDue finish.due (reported mode plan (opening plan finish.facts.items) (entries_in finish.log))
+  pub keeps : (status : ℕ) (sink sink_after : SinkView)
+      → KeepsInside
+      (call_of words (record { status = status; log = finish.log; facts = finish.facts }) (outside_of source sink shelf)
+      (outside_of source_after sink_after shelf_after))
+      mode plan (ending_by finish.due)
+
+-- Of a text
+
+-- no log came, and the shelf is as before; this is due
+pub record EndsEarly (finish : Finish) (stop : Stop) (before after : ShelfView) : Type 0 where
+  pub due : finish.due ≡ dues.Stopped stop
+  pub log : finish.log ≡ None
+  pub shelf : after ≡ before
+
+-- the plan of a text was run, or the first fault of the text is told
+abbrev pub FinishesPlan : Result Plan Fault → Mode → Finish → ShelfView → ShelfView → Type 0
+FinishesPlan (Ok plan) mode finish before after =
+    RunsPlan plan finish.facts.items (entries_in finish.log) (ending_by finish.due) before after
+    × IsDue finish.due (reported mode plan (opening plan finish.facts.items) (entries_in finish.log))
+FinishesPlan (Err fault) mode finish before after =
+    EndsEarly finish (stops.NoScript fault.line fault.cause) before after
+
+-- a text was run, or memory ran out before its mesh opened
+abbrev pub FinishesText : List ℕ → Mode → Finish → ShelfView → ShelfView → Type 0
+FinishesText text mode finish before after =
+    EndsEarly finish stops.NoMemory before after ⊎ FinishesPlan (script text) mode finish before after
+
+-- Of a source
+
+-- why a source wasn't read to its end
+abbrev pub UnreadCause : List ℕ → SourceView → SourceView → Stop → Type 0
+UnreadCause text before after stops.ReadFault = (length text ≤ script_limit) × Rose before.faults after.faults
+UnreadCause text before after stops.TooLong = script_limit < length text
+UnreadCause text before after stops.NoMemory = ⊤
+UnreadCause text before after _ = ⊥
+
+-- a source gave this text, but wasn't read to its end
+pub record EndsUnread (text : List ℕ) (source source_after : SourceView) (finish : Finish)
+    (before after : ShelfView) : Type 0 where
+  pub stop : Stop
+  pub cause : UnreadCause text source source_after stop
+  pub early : EndsEarly finish stop before after
+
+-- a source was read to its end, and its text was run
+pub record EndsRead (text : List ℕ) (source_after : SourceView) (finish : Finish) (before after : ShelfView) : Type 0 where
+  pub few : length text ≤ script_limit
+  pub ended : IsTrue source_after.ended
+  pub none_left : IfSome source_after.left (λ left. left ≡ [])
+  pub of_text : FinishesText text StepMode finish before after
+
+-- a source gave a text, which was run if it is all of it
+pub record FinishesSource (source source_after : SourceView) (finish : Finish) (before after : ShelfView) : Type 0 where
+  pub text : List ℕ
+  pub gave : Gave source text source_after
+  pub ends : EndsRead text source_after finish before after ⊎ EndsUnread text source source_after finish before after

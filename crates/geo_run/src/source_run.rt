@@ -1,0 +1,90 @@
+//! The runs of the program: of the script that the source gives, and of the one that is made from a number.
+ghost use Rattle.std.specs.Prelude.{◌<◌, ◌^◌, length};
+ghost use Rattle.geo_model.specs.Generator.{IsMode, GenMode, generated};
+ghost use Rattle.geo_run.specs.Views.{shelf_view, source_view};
+ghost use Rattle.geo_run.specs.Work.{IsAlone, mode_of, word_bytes};
+ghost use Rattle.geo_run.specs.Calls.{Finishes, FinishesText, FinishesSource};
+
+use crate::finish::{Finish, unopened};
+use crate::plan_run::run_plan;
+use crate::stop::Stop;
+use crate::words::{Work, work_of};
+use geo_disk::Shelf;
+use geo_gen::make_script;
+use geo_io::{ReadRefusal, Source, read_all};
+use geo_script::{ParseRefusal, parse};
+use std::alloc::Global;
+
+/// The longest script, in bytes.
+const LONGEST: u32 = 4_194_304;
+
+/// Runs the plan of a text.
+fn run_text<H: Shelf>(alloc: Global, text: &[u8], work: &Work, shelf: &mut H) -> Finish
+where
+    H::D: Drop,
+    requires { length text.now < 2 ^ 32 }
+    ensures { FinishesText text.now (mode_of work.now) result
+        (shelf_view H.told H.lent H.faults H.faults_of H.take_faults H.give_faults shelf.old)
+        (shelf_view H.told H.lent H.faults H.faults_of H.take_faults H.give_faults shelf.new) }
+{
+    match parse(alloc, text) {
+        Ok(plan) => run_plan(alloc, plan, work, shelf),
+        Err(ParseRefusal::Fault { line, cause }) => unopened(alloc, Stop::NoScript { line, cause }),
+        Err(ParseRefusal::NoMemory) => unopened(alloc, Stop::NoMemory),
+    }
+}
+
+/// Reads the source to its end, and runs its text.
+fn run_source<S: Source, H: Shelf>(alloc: Global, source: &mut S, shelf: &mut H) -> Finish
+where
+    H::D: Drop,
+    ensures { FinishesSource (source_view (S.stream source.old) (S.reads source.old) (S.faults source.old))
+        (source_view (S.stream source.new) (S.reads source.new) (S.faults source.new)) result
+        (shelf_view H.told H.lent H.faults H.faults_of H.take_faults H.give_faults shelf.old)
+        (shelf_view H.told H.lent H.faults H.faults_of H.take_faults H.give_faults shelf.new) }
+{
+    match read_all(alloc, source, LONGEST) {
+        Ok(text) => run_text(alloc, text.bytes(), &Work::Step, shelf),
+        Err(ReadRefusal::ReadFault) => unopened(alloc, Stop::ReadFault),
+        Err(ReadRefusal::TooLong) => unopened(alloc, Stop::TooLong),
+        Err(ReadRefusal::NoMemory) => unopened(alloc, Stop::NoMemory),
+    }
+}
+
+/// Makes the script of a number, and runs it.
+fn run_generated<H: Shelf>(alloc: Global, start: u32, count: u32, shelf: &mut H) -> Finish
+where
+    H::D: Drop,
+    requires { IsMode (GenMode start count) }
+    ensures { FinishesText (generated start count) (GenMode start count) result
+        (shelf_view H.told H.lent H.faults H.faults_of H.take_faults H.give_faults shelf.old)
+        (shelf_view H.told H.lent H.faults H.faults_of H.take_faults H.give_faults shelf.new) }
+{
+    match make_script(alloc, start, count) {
+        Ok(text) => run_text(alloc, text.bytes(), &Work::Generate { start, count }, shelf),
+        Err(_) => unopened(alloc, Stop::NoMemory),
+    }
+}
+
+/// Runs what the words ask for.
+pub fn run_words<S: Source, H: Shelf>(
+    alloc: Global,
+    words: &[String],
+    source: &mut S,
+    shelf: &mut H,
+) -> Finish
+where
+    H::D: Drop,
+    requires { IsAlone (word_bytes words.now) }
+    ensures { Finishes (word_bytes words.now) result
+        (source_view (S.stream source.old) (S.reads source.old) (S.faults source.old))
+        (source_view (S.stream source.new) (S.reads source.new) (S.faults source.new))
+        (shelf_view H.told H.lent H.faults H.faults_of H.take_faults H.give_faults shelf.old)
+        (shelf_view H.told H.lent H.faults H.faults_of H.take_faults H.give_faults shelf.new) }
+{
+    match work_of(words) {
+        Some(Work::Step) => run_source(alloc, source, shelf),
+        Some(Work::Generate { start, count }) => run_generated(alloc, start, count, shelf),
+        None => unopened(alloc, Stop::BadWords),
+    }
+}
