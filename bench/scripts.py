@@ -1,0 +1,82 @@
+"""Scripts and requests of the measurements, all made from fixed numbers."""
+import random
+
+SIZE = 1 << 22  # the bytes of the provider that requests go to
+PIECE = 4096
+
+
+def requests(count, seed=1, size=SIZE, piece=PIECE):
+    """Mixed requests as (is_write, offset, byte): half of them writes, at random whole pieces."""
+    draw = random.Random(seed)
+    return [(draw.random() < 0.5, piece * draw.randrange(size // piece), draw.randrange(256)) for _ in range(count)]
+
+
+def lines(todo, piece=PIECE):
+    return ''.join('a write h %d %02x*%d\n' % (at, byte, piece) if writes else 'a read h %d %d\n' % (at, piece)
+                   for writes, at, byte in todo)
+
+
+def over(header, geoms, provider, todo):
+    """The script that opens a provider and sends these requests through it."""
+    return header + 'actor a\n' + geoms + 'a open h %s r1w1e0\n' % provider + lines(todo) + 'a close h\n'
+
+
+def memory(todo):
+    return over('ram md0 512 %d\n' % (SIZE // 512), '', 'md0', todo)
+
+
+def stripe(todo):
+    disks = ''.join('ram md%d 512 %d\n' % (k, SIZE // 512 // 4) for k in range(4))
+    return over(disks, 'a stripe s 4096 md0 md1 md2 md3\n', 'stripe/s', todo)
+
+
+def nops(todo):
+    provider, geoms = 'md0', ''
+    for _ in range(6):
+        geoms += 'a nop %s 0 %d 0\n' % (provider, SIZE)
+        provider += '.nop'
+    return over('ram md0 512 %d\n' % (SIZE // 512), geoms, provider, todo)
+
+
+def image(todo):
+    return over('disk image 512\n', '', 'image', todo)
+
+
+def large_reads(count):
+    """Reads of 32 KiB, the longest that there are."""
+    text = 'ram md0 512 %d\nactor a\na open h md0 r1w0e0\n' % (SIZE // 512)
+    return text + ''.join('a read h %d 32768\n' % (k * 32768 % SIZE) for k in range(count)) + 'a close h\n'
+
+
+def generated(start, count):
+    """The script that `gen START COUNT` runs."""
+    text = ''.join('ram md%d 512 1024\n' % k for k in range(4)) + ''.join('actor a%d\n' % k for k in range(4))
+    text += 'a0 stripe s 4096 md0 md1\na0 concat c md2 md3\n'
+    text += ''.join('a%d open h0 %s\n' % (k, to) for k, to in enumerate(
+        ['stripe/s r1w1e0', 'concat/c r1w1e0', 'stripe/s r1w0e0', 'concat/c r1w0e0']))
+    providers = ['md0', 'md1', 'md2', 'md3', 'stripe/s', 'concat/c']
+    counts = ['r1w0e0', 'r0w1e0', 'r1w1e0', 'r1w0e1', 'r1w1e1']
+    state, draws = start, []
+    for _ in range(3 * count):
+        state = (state * 1103515245 + 12345) % 2147483648
+        draws.append(state // 65536)
+    for i in range(count):
+        d1, d2, d3 = draws[3 * i:3 * i + 3]
+        handle, at, size = 'h%d' % (d2 % 2), 512 * (d3 % 1024), 512 * (1 + d2 // 2 % 8)
+        opens = 'open %s %s %s' % (handle, providers[d2 // 2 % 6], counts[d3 % 5])
+        reads = 'read %s %d %d' % (handle, at, size)
+        text += 'a%d %s\n' % (i % 4, [
+            opens, opens, 'close ' + handle, reads, reads, 'write %s %d %02x*%d' % (handle, at, d3 % 256, size),
+            'delete %s %d %d' % (handle, at, size), 'flush ' + handle][d1 % 8])
+    return text
+
+
+def reader_program(todo, piece=PIECE):
+    """The same requests for nbdsh, one after the other."""
+    return ('for w, at, b in %r:\n    h.pwrite(bytes([b]) * %d, at) if w else h.pread(%d, at)\n' % (todo, piece, piece))
+
+
+def qemu_commands(todo, piece=PIECE):
+    """The same requests for qemu-io, without the lines that it prints for each."""
+    return ''.join('write -q -P %d %d %d\n' % (byte, at, piece) if writes else 'read -q %d %d\n' % (at, piece)
+                   for writes, at, byte in todo)
