@@ -31,12 +31,12 @@ use Rattle.geo_access.specs.declared.decide.Refused.TheVariants.{Named, Writer, 
 use Rattle.geo_access.specs.declared.refusal.GrantRefusal.TheVariants.{Enxio, Eperm, Eoverflow}
 use Rattle.geo_access.specs.Tries.{Apart}
 use Rattle.geo_access.specs.Access.{granted_by}
-use Rattle.geo_access.specs.Views.{order_of, finish_geom, IsTried, judged, errno_of_refused}
+use Rattle.geo_access.specs.Views.{CountsTell, order_of, finish_geom, IsTried, judged, errno_of_refused}
 use Rattle.geo_access.proofs.Walking.{found_in}
 use Rattle.geo_access.proofs.Trying.{trying, some_of}
 use Rattle.geo_access.proofs.Walked.{geoms_below, below_ordered, below_lives, below_covers, tried_order, order_apart}
 use Rattle.geo_access.proofs.Verdict.{After, IsVerdict, refused}
-use Rattle.geo_access.proofs.Decided.{IsTold, consumer_known, new_is, cleared, decided, end}
+use Rattle.geo_access.proofs.Decided.{IsTold, consumer_known, new_is, tells, cleared, decided, end}
 
 -- what is found in a list is found in a longer one
 pub find_left : {X : Type 0} (test : X → Bool) (xs ys : List X) (x : X) → find test xs ≡ Some x
@@ -300,6 +300,11 @@ module _ {C : Type 0} (t : TopoView C) (sound : IsSoundGraph t.topology) (told :
         ≡ trying t (end t sound told p add new o tried t.topology.next_consumer opened_grants opened opened_gains
         opened_mores opening_after open_demand).tries
     open_is = new_is t sound told p add new o tried t.topology.next_consumer opened_grants opened opened_gains
+        opened_mores opening_after open_demand
+
+    -- the counts of the provider tell whether a consumer there stands in the way
+    pub open_tells : CountsTell new p
+    open_tells = tells t sound told p add new o tried t.topology.next_consumer opened_grants opened opened_gains
         opened_mores opening_after open_demand
 
     -- the geoms of the order live

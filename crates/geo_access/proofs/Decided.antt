@@ -1,5 +1,5 @@
 -- A demand that was tried: what the judgement says, that nothing is left once it ends, and how many steps it took.
-use Rattle.std.specs.Prelude.{◌≡◌, ℕ, ◌+◌, ◌==◌, ◌<◌, ◌≤◌, Bool, true, false, ◌||◌, cond, List, [], ◌∷◌, length, map, filter, flat_map, find, fold, Option, Some, None, IsSome, IsSomeAnd, Contains, AllPairs, option_map, unwrap_or, if◌then◌else◌}
+use Rattle.std.specs.Prelude.{◌≡◌, ℕ, ◌+◌, ◌==◌, ◌<◌, ◌≤◌, Bool, true, false, not, ◌||◌, cond, List, [], ◌∷◌, length, map, filter, flat_map, find, fold, Option, Some, None, IsSome, IsSomeAnd, Contains, AllPairs, option_map, unwrap_or, if◌then◌else◌}
 use Rattle.std.specs.List.{list_any}
 use Rattle.std.specs.Option.{option_map_or}
 use Rattle.std.proofs.Common.{refl, sym, ◌∙◌, ap, subst, arith, inl, inr, eq-eqb}
@@ -10,14 +10,16 @@ use Rattle.geo_base.specs.declared.request.Counts.{Counts}
 use Rattle.geo_model.specs.Words.{names_number}
 use Rattle.geo_model.specs.Topology.{Topology, Provider, Consumer, geom_at, provider_at, consumers_of, providers_under, attached_to}
 use Rattle.geo_model.specs.Opens.{below}
-use Rattle.geo_model.specs.Demand.{no_counts, add_counts, have, want, is_exclusive, fits_limit}
+use Rattle.geo_model.specs.Demand.{no_counts, add_counts, sum_counts, have, want, is_exclusive, fits_limit}
 use Rattle.geo_model.proofs.DemandLemmas.{find_passes}
 use Rattle.geo_slots.specs.Slots.{value_at}
 use Rattle.geo_mesh.specs.Topo.{TopoView}
 use Rattle.geo_mesh.specs.Graph.{IsSoundGraph}
 use Rattle.geo_laws_counts.proofs.Members.{in_head, in_tail, in_cases, flat_map_cases}
 use Rattle.geo_laws_counts.proofs.LimitFacts.{of_filter}
-use Rattle.geo_laws_counts.proofs.Numbers.{found_of, first_below, rest_rise}
+use Rattle.geo_laws_counts.proofs.Numbers.{found_of, first_below, rest_rise, numbers_lead}
+use Rattle.geo_laws_counts.proofs.Sums.{add-zero}
+use Rattle.geo_laws_counts.proofs.Upward.{have_is_sum}
 use Rattle.geo_laws_demands.specs.WalkWords.{has_number, cap}
 use Rattle.geo_laws_demands.proofs.Reach.{below_self}
 use Rattle.geo_laws_demands.proofs.Orders.{has-contains, has_not, not-has}
@@ -26,15 +28,18 @@ use Rattle.geo_laws_demands.proofs.Raising.{Demands}
 use Rattle.geo_access.specs.declared.counts.Way.{Way}
 use Rattle.geo_access.specs.declared.counts.Way.TheVariants.{Rises}
 use Rattle.geo_access.specs.declared.order.Order.{Order}
+use Rattle.geo_access.specs.declared.decide.Side.{Side}
+use Rattle.geo_access.specs.declared.decide.Side.TheVariants.{Writes, Excludes}
 use Rattle.geo_access.specs.Tries.{had, Apart}
 use Rattle.geo_access.specs.Access.{granted_by, clear_scratches, IsCounted, consumers_below}
-use Rattle.geo_access.specs.Views.{order_of, have_at, want_at, made_at, gain_at, raised, raised_have, finish_geom, IsTried, consumers_over, judged}
+use Rattle.geo_access.specs.Views.{CountsTell, order_of, have_at, want_at, made_at, gain_at, raised, raised_have, has_side, other, finish_geom, IsTried, consumers_over, judged}
 use Rattle.geo_access.proofs.Walking.{found_in}
 use Rattle.geo_access.proofs.Trying.{trying, trying-made, trying-gain}
 use Rattle.geo_access.proofs.TryOut.{Spread}
-use Rattle.geo_access.proofs.Walked.{geoms_below, below_ordered, first_below as first_geom, reached_touched, below_covers, all_reached, attached_reached, first_tries, walked, tried_order, tried_view, order_apart}
+use Rattle.geo_access.proofs.Walked.{geoms_below, below_ordered, first_below as first_geom, above_place, reached_touched, below_covers, all_reached, attached_reached, first_tries, walked, tried_order, tried_view, order_apart}
 use Rattle.geo_access.proofs.Clearing.{clear_whole, link_outside, outside_gains}
-use Rattle.geo_access.proofs.Verdict.{After, IsVerdict, verdict, any_true}
+use Rattle.geo_access.proofs.Judging.{other_some}
+use Rattle.geo_access.proofs.Verdict.{After, IsVerdict, verdict, any_true, sum_zero_w, sum_zero_e}
 
 -- the same over one item more
 item_step : {X V : Type 0} (key : X → ℕ) (f : X → V) (n : ℕ) (x y : X) (xs : List X)
@@ -283,13 +288,10 @@ module _ {C : Type 0} (t : TopoView C) (sound : IsSoundGraph t.topology) (told :
           (first_geom t sound told.clear p tried.offer tried.found) z (provider_known t sound z there)
           (has_not order z.geom away)))
 
-      -- the judgement of the demand
-      pub decided : IsVerdict (trying t end.tries) p own add (granted_by t) after u gain more ctx
-          (judged new p add (order_of new o))
-      decided =
-          let raises : (q : ℕ) (c : Consumer) → Contains (attached_to t.topology q) c
-          → raised (trying t end.tries) c ≡ cap (add_counts (want (granted_by t) t.topology c) (more c)) =
-          λ q c at.
+      -- what a consumer gains by the walk
+      raises : (q : ℕ) (c : Consumer) → Contains (attached_to t.topology q) c
+          → raised (trying t end.tries) c ≡ cap (add_counts (want (granted_by t) t.topology c) (more c))
+      raises q c at =
           let there : Contains t.topology.consumers c =
           (of_filter (λ (d : Consumer). names_number d.provider q) t.topology.consumers c at).0 in
           ap (λ a. cap (add_counts a (made_at (trying t end.tries) c.geom))) (told.wants q c at)
@@ -298,7 +300,66 @@ module _ {C : Type 0} (t : TopoView C) (sound : IsSoundGraph t.topology) (told :
           (All-contains (λ (d : Consumer). IsSome (geom_at t.topology d.geom)) t.topology.consumers c
           sound.orderly.parts.geoms there)
           ∙ end.made c there ∙ capped c there (has_number order c.geom) refl)
-          ∙ add-cap (want (granted_by t) t.topology c) (more c) in
+          ∙ add-cap (want (granted_by t) t.topology c) (more c)
+        where
+          capped : (c : Consumer) → Contains t.topology.consumers c → (b : Bool) → has_number order c.geom ≡ b
+              → (if b then cap (more c) else no_counts) ≡ cap (more c)
+          capped c there true e = refl
+          capped c there false e = ap cap (sym (demand.flow.around c there (has_not order c.geom e)))
+
+      -- those at the provider gain nothing
+      gains_nothing : (c : Consumer) → Contains (attached_to t.topology p) c
+          → add_counts (want (granted_by t) t.topology c) (more c) ≡ want (granted_by t) t.topology c
+      gains_nothing c at =
+          ap (add_counts (want (granted_by t) t.topology c))
+          (demand.flow.around c
+          (of_filter (λ (d : Consumer). names_number d.provider p) t.topology.consumers c at).0
+          (above_place t sound told.clear p tried.offer tried.found c at))
+          ∙ add-zero (want (granted_by t) t.topology c)
+
+      -- so none of them has a side where none had it
+      none_has : (side : Side)
+          → ((c : Consumer) → Contains (attached_to t.topology p) c
+          → has_side side (want (granted_by t) t.topology c) ≡ false)
+          → other (trying t end.tries) p 0 side ≡ None
+      none_has side none = by (other (trying t end.tries) p 0 side) refl
+        where
+          by : (n : Option ℕ) → other (trying t end.tries) p 0 side ≡ n → n ≡ None
+          by None e = refl
+          by (Some n) e =
+              let has = other_some (trying t end.tries)
+              (λ c. add_counts (want (granted_by t) t.topology c) (more c)) raises p 0 side n e in
+              let no : true ≡ false =
+              sym has.has ∙ ap (has_side side) (gains_nothing has.one has.at) ∙ none has.one has.at in absurd (cc)
+
+      -- what they want is what the provider has
+      wants_sum : sum_counts (map (want (granted_by t) t.topology) (attached_to t.topology p)) ≡ have_at t p
+      wants_sum =
+          sym (have_is_sum t.topology sound.ranked (numbers_lead t.topology sound.orderly.order.providers.0)
+          (granted_by t) p)
+          ∙ sym (subst (λ n. have_at t n ≡ have (granted_by t) t.topology n)
+          (provider_stands t sound p tried.offer tried.found).1
+          (stored_have tried.offer
+          (provider_known t sound tried.offer (provider_stands t sound p tried.offer tried.found).0)))
+
+      -- and the counts of the provider tell whether one has a side
+      pub tells : CountsTell new p
+      tells =
+          subst (λ v. CountsTell v p) (sym new_is) (record {
+            exclusive = λ zero. none_has Excludes (λ c at. ap not (eq-eqb
+                (want (granted_by t) t.topology c).e 0
+                (sum_zero_e (want (granted_by t) t.topology) (attached_to t.topology p) c at
+                (ap (λ (a : Counts). a.e) wants_sum ∙ zero))));
+            writes = λ zero. none_has Writes (λ c at. ap not (eq-eqb
+                (want (granted_by t) t.topology c).w 0
+                (sum_zero_w (want (granted_by t) t.topology) (attached_to t.topology p) c at
+                (ap (λ (a : Counts). a.w) wants_sum ∙ zero))));
+          })
+
+      -- the judgement of the demand
+      pub decided : IsVerdict (trying t end.tries) p own add (granted_by t) after u gain more ctx
+          (judged new p add (order_of new o))
+      decided =
           let totals : (z : Provider) → Contains t.topology.providers z
           → raised_have (trying t end.tries) z.number ≡ cap (have after u z.number) =
           λ z there.
@@ -329,8 +390,3 @@ module _ {C : Type 0} (t : TopoView C) (sound : IsSoundGraph t.topology) (told :
           (λ z there near. below_covers t sound told.clear p tried.offer tried.found z.number z near
           (provider_known t sound z there))
           tried.offer tried.found told.exclusive told.limit)
-        where
-          capped : (c : Consumer) → Contains t.topology.consumers c → (b : Bool) → has_number order c.geom ≡ b
-              → (if b then cap (more c) else no_counts) ≡ cap (more c)
-          capped c there true e = refl
-          capped c there false e = ap cap (sym (demand.flow.around c there (has_not order c.geom e)))

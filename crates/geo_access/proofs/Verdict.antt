@@ -69,7 +69,7 @@ side_gone n e =
     ]
 
 -- what is part of a sum that is zero is zero
-sum_zero_w : {X : Type 0} (f : X → Counts) (xs : List X) (x : X) → Contains xs x → (sum_counts (map f xs)).w ≡ 0
+pub sum_zero_w : {X : Type 0} (f : X → Counts) (xs : List X) (x : X) → Contains xs x → (sum_counts (map f xs)).w ≡ 0
     → (f x).w ≡ 0
 sum_zero_w f [] x there none = absurd (in_nothing x there)
 sum_zero_w f (y ∷ ys) x there none =
@@ -79,7 +79,7 @@ sum_zero_w f (y ∷ ys) x there none =
     ]
 
 -- the same for exclusive counts
-sum_zero_e : {X : Type 0} (f : X → Counts) (xs : List X) (x : X) → Contains xs x → (sum_counts (map f xs)).e ≡ 0
+pub sum_zero_e : {X : Type 0} (f : X → Counts) (xs : List X) (x : X) → Contains xs x → (sum_counts (map f xs)).e ≡ 0
     → (f x).e ≡ 0
 sum_zero_e f [] x there none = absurd (in_nothing x there)
 sum_zero_e f (y ∷ ys) x there none =

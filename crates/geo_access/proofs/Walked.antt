@@ -1,9 +1,10 @@
 -- A demand that was tried, as the walk leaves the mesh.
-use Rattle.std.specs.Prelude.{◌≡◌, ℕ, zero, suc, ◌==◌, ◌≤◌, Bool, true, false, List, [], ◌∷◌, length, flat_map, fold, Some, IsSome, IsSomeAnd, Contains, if◌then◌else◌}
+use Rattle.std.specs.Prelude.{◌≡◌, ℕ, zero, suc, ◌==◌, ◌<◌, ◌≤◌, Bool, true, false, List, [], ◌∷◌, length, flat_map, fold, Some, IsSome, IsSomeAnd, Contains, if◌then◌else◌}
 use Rattle.std.proofs.Common.{refl, sym, ◌∙◌, ap, subst, arith}
 use Rattle.std.proofs.lemmas.Bool.{eqb-true}
 use Rattle.geo_base.specs.declared.request.Counts.{Counts}
-use Rattle.geo_model.specs.Topology.{Topology, Provider, Consumer, geom_at, provider_at, consumers_of, providers_under}
+use Rattle.geo_model.specs.Words.{names_number}
+use Rattle.geo_model.specs.Topology.{Topology, Provider, Consumer, geom_at, provider_at, consumers_of, attached_to, providers_under}
 use Rattle.geo_model.specs.Rank.{rank, geoms_under}
 use Rattle.geo_model.specs.Opens.{below}
 use Rattle.geo_model.specs.Demand.{no_counts, add_counts}
@@ -13,9 +14,10 @@ use Rattle.geo_mesh.specs.Graph.{IsSoundGraph}
 use Rattle.geo_laws_counts.proofs.Sums.{zero-add}
 use Rattle.geo_laws_counts.proofs.Members.{in_nothing, in_head, in_tail, in_flat_map}
 use Rattle.geo_laws_counts.proofs.LimitFacts.{of_filter}
+use Rattle.geo_laws_counts.proofs.Upward.{names_some}
 use Rattle.geo_laws_demands.specs.WalkWords.{has_number, IsOrder, order_from, cap, set_at, gain_without}
-use Rattle.geo_laws_demands.proofs.Reach.{below_self, below_closed}
-use Rattle.geo_laws_demands.proofs.Orders.{order_within, order_closed, under-is, is-under, below_least, filter_map_cases}
+use Rattle.geo_laws_demands.proofs.Reach.{below_self, below_closed, directly_under, under_of}
+use Rattle.geo_laws_demands.proofs.Orders.{order_within, order_closed, under_lower, under-is, is-under, below_least, filter_map_cases}
 use Rattle.geo_laws_demands.proofs.Flows.{flow_start, set_at-value}
 use Rattle.geo_laws_demands.proofs.Raising.{Demands, Covers}
 use Rattle.geo_access.specs.declared.counts.Way.{Way}
@@ -124,6 +126,25 @@ module _ {C : Type 0} (t : TopoView C) (sound : IsSoundGraph t.topology) (clear 
         subst (λ o. IsSomeAnd o (λ (z : Provider). z.geom ≡ y.geom)) (sym found) refl,
       )
       (λ x there. absurd (in_nothing x there))
+
+  -- none of these geoms has a consumer attached to the provider
+  place_low : (x : ℕ) → Contains geoms_below x → rank t.topology x ≤ rank t.topology y.geom
+  place_low =
+      order_within t.topology (λ x. rank t.topology x ≤ rank t.topology y.geom)
+      (λ x h low under. let less : rank t.topology h < rank t.topology x =
+      under_lower t.topology sound.ranked x h under in omega arith)
+      (rank t.topology y.geom) y.geom [] (omega arith) (λ x there. absurd (in_nothing x there))
+
+  pub above_place : (c : Consumer) → Contains (attached_to t.topology p) c → Contains geoms_below c.geom → ⊥
+  above_place c at there =
+      let inside = of_filter (λ (d : Consumer). names_number d.provider p) t.topology.consumers c at in
+      let low : rank t.topology c.geom ≤ rank t.topology y.geom = place_low c.geom there in
+      let under : IsSomeAnd (provider_at t.topology p) (λ z. rank t.topology z.geom < rank t.topology c.geom) =
+      under_of t.topology sound.ranked c.geom p
+      (directly_under t.topology c p inside.0 (names_some c.provider p inside.1)) in
+      let less : rank t.topology y.geom < rank t.topology c.geom =
+      subst (λ o. IsSomeAnd o (λ (z : Provider). rank t.topology z.geom < rank t.topology c.geom)) found under in
+      omega arith
 
   -- What was tried
 

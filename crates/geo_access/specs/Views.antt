@@ -240,6 +240,11 @@ module _ {C : Type 0} where
   abbrev pub first_errored : TopoView C → ℕ → List ℕ → Option ℕ
   first_errored v p xs = fold (λ best x. fold (lesser v) best (providers_under v.topology x)) (lesser v None p) xs
 
+  -- at a provider that has no exclusive count no consumer would have one, and at one without a write count none writes
+  pub record CountsTell (v : TopoView C) (q : ℕ) : Type 0 where
+    pub exclusive : (have_at v q).e ≡ 0 → other v q 0 Excludes ≡ None
+    pub writes : (have_at v q).w ≡ 0 → other v q 0 Writes ≡ None
+
   -- another consumer's exclusive count, where the demand writes; another writer, where it has an exclusive count
   abbrev pub beside_exclusive : TopoView C → ℕ → Counts → Option Refused
   beside_exclusive v p add = if add.w == 0 then None else option_map (λ c. Exclusive c) (other v p 0 Excludes)

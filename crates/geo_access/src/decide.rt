@@ -5,9 +5,9 @@ ghost use Rattle.geo_model.specs.Topology.{geom_at, provider_at, consumer_at, pr
 ghost use Rattle.geo_mesh.specs.Cells.{consumer_seen};
 ghost use Rattle.geo_model.specs.Demand.{add_counts};
 ghost use Rattle.geo_laws_demands.specs.WalkWords.{cap};
-ghost use Rattle.geo_access.specs.Views.{answer_of, errno_of_refused, judged, against, beside_exclusive, beside_writer, have_at, want_at, made_at, order_of, lesser, raised, has_side, other, second_pair, pair_with, pair_at, raised_have, fault_at, fault_in, first_some};
+ghost use Rattle.geo_access.specs.Views.{CountsTell, answer_of, errno_of_refused, judged, against, beside_exclusive, beside_writer, have_at, want_at, made_at, order_of, lesser, raised, has_side, other, second_pair, pair_with, pair_at, raised_have, fault_at, fault_in, first_some};
 
-use crate::counts::{add, is_over};
+use crate::counts::{NO_COUNTS, add, is_over};
 use crate::order::{Order, take};
 use crate::refusal::GrantRefusal;
 use crate::walk::{consumer_at, consumer_of, provider_of};
@@ -42,7 +42,8 @@ pub enum Refused {
 
 /// What refuses the demand that is tried, if anything does.
 pub fn judge<C>(topo: &Topo<C>, prov: ProvId, add: Counts, order: Order) -> Option<Refused>
-    requires { All (λ x. IsSome (geom_at topo.now.topology x)) (order_of topo.now order) }
+    requires lives { All (λ x. IsSome (geom_at topo.now.topology x)) (order_of topo.now order) }
+    requires tells { CountsTell topo.now prov }
     ensures { result ≡ judged topo.now prov add (order_of topo.now order) }
 {
     if let Some(found) = first_errored(topo, prov, order) {
@@ -60,6 +61,7 @@ pub fn judge<C>(topo: &Topo<C>, prov: ProvId, add: Counts, order: Order) -> Opti
 
 // Another consumer at the provider that stands in the way of these counts.
 fn against<C>(topo: &Topo<C>, prov: ProvId, add: Counts) -> Option<Refused>
+    requires { CountsTell topo.now prov }
     ensures { result ≡ against topo.now prov add }
 {
     match beside_exclusive(topo, prov, add) {
@@ -68,26 +70,44 @@ fn against<C>(topo: &Topo<C>, prov: ProvId, add: Counts) -> Option<Refused>
     }
 }
 
-// Another consumer's exclusive count, where the demand writes.
+// Another consumer's exclusive count, where the demand writes. No consumer is looked at where the provider has none.
 fn beside_exclusive<C>(topo: &Topo<C>, prov: ProvId, add: Counts) -> Option<Refused>
+    requires { CountsTell topo.now prov }
     ensures { result ≡ beside_exclusive topo.now prov add }
 {
     if add.w == 0 {
+        return None;
+    }
+    if have_of(topo, prov).e == 0 {
         return None;
     }
     let exclusive = other(topo, prov, 0, Side::Excludes)?;
     Some(Refused::Exclusive(exclusive))
 }
 
-// Another writer, where the demand has an exclusive count.
+// Another writer, where the demand has an exclusive count. No consumer is looked at where the provider has none.
 fn beside_writer<C>(topo: &Topo<C>, prov: ProvId, add: Counts) -> Option<Refused>
+    requires { CountsTell topo.now prov }
     ensures { result ≡ beside_writer topo.now prov add }
 {
     if add.e == 0 {
         return None;
     }
+    if have_of(topo, prov).w == 0 {
+        return None;
+    }
     let writer = other(topo, prov, 0, Side::Writes)?;
     Some(Refused::Writer(writer))
+}
+
+// The counts of the provider.
+fn have_of<C>(topo: &Topo<C>, prov: ProvId) -> Counts
+    ensures { result ≡ have_at topo.now prov }
+{
+    match topo.provider(prov) {
+        Some(found) => found.have,
+        None => NO_COUNTS,
+    }
 }
 
 /// The answer to a consumer at the provider.

@@ -3,7 +3,8 @@ use Rattle.geo_access.specs.declared.counts.Way.TheVariants.{Rises}
 use Rattle.geo_access.specs.Access.{place_of}
 use Rattle.geo_access.specs.Views.{IsTried, order_of, judged, answer_of}
 use Rattle.geo_access.proofs.Granting.{holder_is, holder_lives}
-use Rattle.geo_access.proofs.Decided.{steps_bound}
+use Rattle.geo_access.proofs.Decided.{counted_told, steps_bound}
+use Rattle.geo_access.proofs.Coming.{open_tells}
 use Rattle.geo_access.proofs.Allowing.{its_lives, its_apart, its_end, its_answer, its_names}
 use Rattle.geo_access.proofs.access.allowed.Goals as goal
 
@@ -36,8 +37,8 @@ finish-requires-clause-apart g c =
     its_apart c.args.topo.now c.place_of-prov.ensures.sound c.requires.counted c.args.cons holder
     c.requires.nothing c.args.add c.try_out-order.new.topo c.try_out-order.result tried
 
-pub judge-refused-requires : goal.judge-refused-requires
-judge-refused-requires g c =
+pub judge-refused-requires-clause-lives : goal.judge-refused-requires-clause-lives
+judge-refused-requires-clause-lives g c =
     let holder = holder_is c.args.topo.now.topology c.args.cons c.requires.holder in
     let tried : IsTried c.args.topo.now (place_of c.args.topo.now.topology c.args.cons) c.args.add Rises
     c.try_out-order.new.topo c.try_out-order.result =
@@ -45,6 +46,13 @@ judge-refused-requires g c =
     c.place_of-prov.ensures.place c.try_out-order.ensures.tried in
     its_lives c.args.topo.now c.place_of-prov.ensures.sound c.requires.counted c.args.cons holder
     c.requires.nothing c.args.add c.try_out-order.new.topo c.try_out-order.result tried
+
+pub judge-refused-requires-clause-tells : goal.judge-refused-requires-clause-tells
+judge-refused-requires-clause-tells g c =
+    let told = counted_told c.args.topo.now c.place_of-prov.ensures.sound c.requires.counted in
+    open_tells c.args.topo.now c.place_of-prov.ensures.sound told c.place_of-prov.result
+    c.try_out-order.ensures.tried.offer c.try_out-order.ensures.tried.found c.args.add
+    c.try_out-order.new.topo c.try_out-order.result c.try_out-order.ensures.tried
 
 pub returns-clause-same : goal.returns-clause-same
 returns-clause-same g c =

@@ -7,7 +7,7 @@ use Rattle.geo_access.specs.declared.counts.Way.TheVariants.{Rises}
 use Rattle.geo_access.specs.Views.{errno_of_refused}
 use Rattle.geo_access.proofs.Trying.{some_of}
 use Rattle.geo_access.proofs.Decided.{counted_told, steps_bound}
-use Rattle.geo_access.proofs.Coming.{open_lives, open_apart, open_end, open_refused}
+use Rattle.geo_access.proofs.Coming.{open_lives, open_tells, open_apart, open_end, open_refused}
 use Rattle.geo_access.proofs.access.could_grant.Goals as goal
 
 pub try_out-order-requires : goal.try_out-order-requires
@@ -27,10 +27,17 @@ finish-requires-clause-apart g c =
     (counted_told c.args.topo.now c.try_out-order.ensures.sound c.requires.counted) c.args.prov offer.0 offer.1
     c.args.add c.try_out-order.new.topo c.try_out-order.result c.try_out-order.ensures.tried
 
-pub judge-refused-requires : goal.judge-refused-requires
-judge-refused-requires g c =
+pub judge-refused-requires-clause-lives : goal.judge-refused-requires-clause-lives
+judge-refused-requires-clause-lives g c =
     let offer = some_of (provider_at c.args.topo.now.topology c.args.prov) c.requires.lives in
     open_lives c.args.topo.now c.try_out-order.ensures.sound
+    (counted_told c.args.topo.now c.try_out-order.ensures.sound c.requires.counted) c.args.prov offer.0 offer.1
+    c.args.add c.try_out-order.new.topo c.try_out-order.result c.try_out-order.ensures.tried
+
+pub judge-refused-requires-clause-tells : goal.judge-refused-requires-clause-tells
+judge-refused-requires-clause-tells g c =
+    let offer = some_of (provider_at c.args.topo.now.topology c.args.prov) c.requires.lives in
+    open_tells c.args.topo.now c.try_out-order.ensures.sound
     (counted_told c.args.topo.now c.try_out-order.ensures.sound c.requires.counted) c.args.prov offer.0 offer.1
     c.args.add c.try_out-order.new.topo c.try_out-order.result c.try_out-order.ensures.tried
 

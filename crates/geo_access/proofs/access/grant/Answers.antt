@@ -7,7 +7,8 @@ use Rattle.geo_access.specs.declared.counts.Way.TheVariants.{Rises}
 use Rattle.geo_access.specs.Access.{granted_by, granted_view, leaves_zero, noted, place_of, IsRefusal, IsNamed, IsCounted}
 use Rattle.geo_access.specs.Views.{IsTried, order_of, judged, answer_of}
 use Rattle.geo_access.proofs.Granting.{holder_is, holder_lives, others_stay}
-use Rattle.geo_access.proofs.Decided.{steps_bound}
+use Rattle.geo_access.proofs.Decided.{counted_told, steps_bound}
+use Rattle.geo_access.proofs.Coming.{open_tells}
 use Rattle.geo_access.proofs.Allowing.{its_lives, its_apart, its_end, its_answer, its_names, its_allowed}
 use Rattle.geo_access.proofs.Granted.{new_counted, noted_is}
 use Rattle.geo_access.proofs.GrantEnd.{grant_end}
@@ -22,8 +23,8 @@ try_out-order-requires g c = record {
   clear = c.requires.counted.clear;
 }
 
-pub judge-requires : goal.judge-requires
-judge-requires g c =
+pub judge-requires-clause-lives : goal.judge-requires-clause-lives
+judge-requires-clause-lives g c =
     let holder = holder_is c.args.topo.now.topology c.args.cons c.requires.holder in
     let tried : IsTried c.args.topo.now (place_of c.args.topo.now.topology c.args.cons) c.args.add Rises
     c.try_out-order.new.topo c.try_out-order.result =
@@ -31,6 +32,13 @@ judge-requires g c =
     c.place_of-prov.ensures.place c.try_out-order.ensures.tried in
     its_lives c.args.topo.now c.place_of-prov.ensures.sound c.requires.counted c.args.cons holder
     c.requires.nothing c.args.add c.try_out-order.new.topo c.try_out-order.result tried
+
+pub judge-requires-clause-tells : goal.judge-requires-clause-tells
+judge-requires-clause-tells g c =
+    let told = counted_told c.args.topo.now c.place_of-prov.ensures.sound c.requires.counted in
+    open_tells c.args.topo.now c.place_of-prov.ensures.sound told c.place_of-prov.result
+    c.try_out-order.ensures.tried.offer c.try_out-order.ensures.tried.found c.args.add
+    c.try_out-order.new.topo c.try_out-order.result c.try_out-order.ensures.tried
 
 pub finish-requires-clause-lives : goal.finish-requires-clause-lives
 finish-requires-clause-lives g c =

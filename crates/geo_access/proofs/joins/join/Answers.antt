@@ -14,18 +14,27 @@ use Rattle.geo_access.specs.Views.{order_of, finish_geom}
 use Rattle.geo_access.specs.Join.{IsLoose, joined_view, join_answer}
 use Rattle.geo_access.proofs.Trying.{some_of}
 use Rattle.geo_access.proofs.Decided.{steps_bound}
-use Rattle.geo_access.proofs.Coming.{open_is, open_lives, open_apart, open_end}
+use Rattle.geo_access.proofs.Coming.{open_is, open_lives, open_tells, open_apart, open_end}
 use Rattle.geo_access.proofs.JoinStart.{loose_is, but_told, nothing_stored, wanted_is}
 use Rattle.geo_access.proofs.JoinVerdict.{IsRight, its_judgement, told_right}
 use Rattle.geo_access.proofs.Joined.{at_end, at_end_counted, at_end_risen, at_end_lives}
 use Rattle.geo_access.proofs.joins.join.Goals as goal
 
-pub judge-refused-requires : goal.judge-refused-requires
-judge-refused-requires g c =
+pub judge-refused-requires-clause-lives : goal.judge-refused-requires-clause-lives
+judge-refused-requires-clause-lives g c =
     let sound : IsSoundGraph c.args.topo.now.topology = c.wanted-add.ensures.sound in
     let loose = loose_is c.args.topo.now c.args.cons c.requires.loose in
     let offer = some_of (provider_at c.args.topo.now.topology c.args.prov) c.requires.lives in
     open_lives c.args.topo.now sound (but_told c.args.topo.now sound c.args.cons c.requires.counted loose)
+    c.args.prov offer.0 offer.1 c.wanted-add.result c.try_out-order.new.topo c.try_out-order.result
+    c.try_out-order.ensures.tried
+
+pub judge-refused-requires-clause-tells : goal.judge-refused-requires-clause-tells
+judge-refused-requires-clause-tells g c =
+    let sound : IsSoundGraph c.args.topo.now.topology = c.wanted-add.ensures.sound in
+    let loose = loose_is c.args.topo.now c.args.cons c.requires.loose in
+    let offer = some_of (provider_at c.args.topo.now.topology c.args.prov) c.requires.lives in
+    open_tells c.args.topo.now sound (but_told c.args.topo.now sound c.args.cons c.requires.counted loose)
     c.args.prov offer.0 offer.1 c.wanted-add.result c.try_out-order.new.topo c.try_out-order.result
     c.try_out-order.ensures.tried
 
