@@ -6,7 +6,6 @@ use Rattle.std.proofs.Common.{refl, sym, ◌∙◌, ap, subst, arith}
 use Rattle.std.proofs.lemmas.Bool.{ne_eqb}
 use Rattle.std.proofs.lemmas.List.Elements.{recursion_from_All}
 use Rattle.geo_model.specs.declared.command.LineCommand.{LineCommand}
-use Rattle.geo_model.specs.declared.step.Event.{Event}
 use Rattle.geo_model.specs.declared.step.Found.{Found}
 use Rattle.geo_model.specs.declared.step.Found.TheVariants as found
 use Rattle.geo_model.specs.declared.step.Outcome.TheVariants as outcomes
@@ -31,7 +30,7 @@ use Rattle.geo_state.specs.Steps.{against, IsAgainst}
 use Rattle.geo_core.specs.declared.running.Running.{Running}
 use Rattle.geo_core.specs.Left.{left_of}
 use Rattle.geo_core.specs.Mesh.{world_of}
-use Rattle.geo_core.specs.Running.{seen, world_now, IsMesh}
+use Rattle.geo_core.specs.Running.{seen, world_now, is_idle, IsMesh}
 use Rattle.geo_laws_graph.proofs.Lists.{found_itself}
 use Rattle.geo_laws_graph.proofs.Members.{find-Contains}
 use Rattle.geo_state.proofs.Lists.{find-same, find-none}
@@ -176,7 +175,7 @@ no_work f none None b e = rw (← e) refl
 no_work f none (Some x) b e = rw (← e) refl
 
 -- whether nothing is in a list
-no_items : {X : Type 0} (xs : List X) → is_none (slice_get xs 0) ≡ (length xs == 0)
+pub no_items : {X : Type 0} (xs : List X) → is_none (slice_get xs 0) ≡ (length xs == 0)
 no_items [] = refl
 no_items (x ∷ xs) = sym (ne_eqb (suc (length xs)) 0 (λ same. omega (arith, same)))
 
@@ -188,9 +187,12 @@ none_told (Some x) true told = absurd (cc)
 none_told (Some x) false told = refl
 
 module _ (r : Running) (is : IsMesh r) where
+  abbrev now : World
+  now = world_of (seen r)
+
   -- nothing can be reaped where that is what is found
-  unreaped : (reaps : Option Found) → IsAgainst reap_next r.state reaps
-      → is_some reaps ≡ is_none (reap_work (world_of (seen r)))
+  pub unreaped : (reaps : Option Found) → IsAgainst reap_next r.state reaps
+      → is_some reaps ≡ is_none (reap_work now)
   unfolding reap_next
   unreaped reaps none =
       subst (λ (v : World). is_some reaps ≡ is_none (reap_work v)) is.world
@@ -198,38 +200,31 @@ module _ (r : Running) (is : IsMesh r) where
       (none (left_of r.plan.commands r.left) r.log.items))
 
   -- nor washed
-  unwashed : (washes : Option Found) → IsAgainst wash_next r.state washes
-      → is_some washes ≡ is_none (wash_work (world_of (seen r)))
+  pub unwashed : (washes : Option Found) → IsAgainst wash_next r.state washes
+      → is_some washes ≡ is_none (wash_work now)
   unfolding wash_next
   unwashed washes none =
       subst (λ (v : World). is_some washes ≡ is_none (wash_work v)) is.world
       (no_work (λ (work : WashWork). wash (world_now r) work) found.NothingToWash (wash_work (world_now r)) washes
       (none (left_of r.plan.commands r.left) r.log.items))
 
-  -- all is at rest where each test holds, as the state tells
-  pub rested : (head : Option Event) (reaps washes : Option Found)
-      (done no_bio no_event no_taste no_reap no_wash : Bool)
-      → done ≡ list_all (λ (rest : List LineCommand). length rest == 0) (left_of r.plan.commands r.left)
-      → no_bio ≡ (length r.state.traffic.bios == 0)
-      → head ≡ slice_get r.state.queue.events 0 → is_some head ≡ not no_event
-      → is_some r.state.taste ≡ not no_taste
-      → IsAgainst reap_next r.state reaps → no_reap ≡ is_some reaps
-      → IsAgainst wash_next r.state washes → no_wash ≡ is_some washes
-      → (done && (no_bio && (no_event && (no_taste && (no_reap && no_wash))))) ≡ is_at_rest (world_of (seen r))
+  -- all is at rest where each test holds
+  pub rested : (idle no_reap no_wash : Bool) → idle ≡ is_idle now → no_reap ≡ is_none (reap_work now)
+      → no_wash ≡ is_none (wash_work now) → (idle && (no_reap && no_wash)) ≡ is_at_rest now
   unfolding is_at_rest
-  rested head reaps washes done no_bio no_event no_taste no_reap no_wash commands bios first event taste to_reap reaped
-      to_wash washed =
-      let w : World = world_of (seen r) in
-      let left_is : done ≡ list_all (λ (rest : List LineCommand). length rest == 0) w.actors =
-      commands ∙ ap (λ (v : World). list_all (λ (rest : List LineCommand). length rest == 0) v.actors) is.world in
-      let bios_are : no_bio ≡ (length w.bios == 0) =
-      bios ∙ ap (λ n. n == 0) (sym ((shown_are_found (delivered_at r.log.items) r.state.traffic.bios).len))
-      ∙ ap (λ (v : World). length v.bios == 0) is.world in
-      let events_are : no_event ≡ (length w.events == 0) =
-      none_told head no_event event ∙ ap (λ (o : Option Event). is_none o) first ∙ no_items r.state.queue.events
-      ∙ ap (λ (v : World). length v.events == 0) is.world in
-      let taste_is : no_taste ≡ is_none w.taste =
-      none_told r.state.taste no_taste taste ∙ ap (λ (v : World). is_none v.taste) is.world in
-      let reaps_are : no_reap ≡ is_none (reap_work w) = reaped ∙ unreaped reaps to_reap in
-      let washes_are : no_wash ≡ is_none (wash_work w) = washed ∙ unwashed washes to_wash in
-      rw (left_is, bios_are, events_are, taste_is, reaps_are, washes_are) refl
+  rested idle no_reap no_wash is_so reaps washes =
+      rw (is_so, reaps, washes)
+      (by (length now.bios == 0) (length now.events == 0) (is_none now.taste)
+      (list_all (λ (rest : List LineCommand). length rest == 0) now.actors)
+      (is_none (reap_work now) && is_none (wash_work now)))
+    where
+      by : (bios events taste done last : Bool)
+          → (((bios && (events && taste)) && done) && last) ≡ (done && (bios && (events && (taste && last))))
+      by true true true true last = refl
+      by true true true false last = refl
+      by true true false true last = refl
+      by true true false false last = refl
+      by true false taste true last = refl
+      by true false taste false last = refl
+      by false events taste true last = refl
+      by false events taste false last = refl

@@ -8,7 +8,7 @@ ghost use Rattle.geo_model.specs.World.{is_up, is_down};
 ghost use Rattle.geo_model.specs.Bios.{disk_at};
 ghost use Rattle.geo_bio.specs.BioTable.{AreInOrder, bio_among};
 ghost use Rattle.geo_core.specs.Mesh.{world_of};
-ghost use Rattle.geo_core.specs.Running.{seen, IsMesh};
+ghost use Rattle.geo_core.specs.Running.{seen, is_idle, is_quiet, IsMesh};
 
 use crate::running::Running;
 use geo_base::{BioId, ProvId};
@@ -17,20 +17,35 @@ use geo_events::wash_found;
 use geo_mesh::Topo;
 use geo_model::Step;
 use geo_opens::reap_found;
+use geo_state::State;
 
-/// Whether no command, bio, event or taste is left, and no reap or wash is possible.
+/// Whether no command, bio, event or taste is left, and no reap or wash is possible. These two are asked last, since a
+/// wash is sought among the geoms.
 pub fn is_at_rest(running: &Running) -> bool
     requires { IsMesh running.now }
     ensures { result ≡ is_at_rest (world_of (seen running.now)) }
 {
+    if !is_idle(running) {
+        return false;
+    }
     let state = &running.state;
-    let done = running.left.is_empty(&running.plan);
-    let no_bio = state.traffic.is_empty();
-    let no_event = state.queue.head().is_none();
-    let no_taste = state.taste.is_none();
-    let no_reap = reap_found(state).is_some();
-    let no_wash = wash_found(state).is_some();
-    done && (no_bio && (no_event && (no_taste && (no_reap && no_wash))))
+    reap_found(state).is_some() && wash_found(state).is_some()
+}
+
+// Whether no command, bio, event or taste is left.
+fn is_idle(running: &Running) -> bool
+    requires { IsMesh running.now }
+    ensures { result ≡ is_idle (world_of (seen running.now)) }
+{
+    is_quiet(&running.state) && running.left.is_empty(&running.plan)
+}
+
+// Whether no bio, event or taste is left.
+#[tactic(auto, using(crate::proofs::Due::no_items))]
+fn is_quiet(state: &State) -> bool
+    ensures { result ≡ is_quiet state.now.traffic.bios state.now.queue.events state.now.taste }
+{
+    state.traffic.is_empty() && (state.queue.head().is_none() && state.taste.is_none())
 }
 
 /// The Up of the smallest bio that is Up.

@@ -1,67 +1,37 @@
-use Rattle.std.proofs.Common.{◌∙◌}
+use Rattle.std.specs.Prelude.{true, false, is_none}
+use Rattle.std.proofs.Common.{◌∙◌, refl, sym}
+use Rattle.geo_model.specs.World.{World}
+use Rattle.geo_model.specs.Freeing.{reap_work, wash_work}
+use Rattle.geo_core.specs.Mesh.{world_of}
+use Rattle.geo_core.specs.Running.{seen}
 use Rattle.geo_core.proofs.Meshes.{mesh_is_firm}
-use Rattle.geo_core.proofs.Due.{rested}
+use Rattle.geo_core.proofs.Due.{rested, unreaped, unwashed}
 use Rattle.geo_core.proofs.rest.is_at_rest.Goals as goal
 
 pub wash_found-requires-clause-firm : goal.wash_found-requires-clause-firm
 wash_found-requires-clause-firm c = mesh_is_firm c.args.running.now c.requires
 
-pub returns-else-done : goal.returns-else-done
-returns-else-done c =
-    let all =
-    rested c.args.running.now c.requires c.head.result c.reap_found.result c.wash_found.result c.is_empty-done.result
-    c.is_empty-no_bio.result c.is_none-no_event.result c.is_none-no_taste.result c.is_some-no_reap.result
-    c.is_some-no_wash.result c.is_empty-done.ensures c.is_empty-no_bio.ensures c.head.ensures
-    c.is_none-no_event.ensures c.is_none-no_taste.ensures c.reap_found.ensures c.is_some-no_reap.ensures
-    c.wash_found.ensures c.is_some-no_wash.ensures in
-    c.if-done.false ∙ (rw c.if-done.false at all)
+pub returns-then-not-is_idle : goal.returns-then-not-is_idle
+returns-then-not-is_idle c =
+    let now : World = world_of (seen c.args.running.now) in
+    rested c.args.running.now c.requires false (is_none (reap_work now)) (is_none (wash_work now))
+    (sym c.if-not-is_idle.true ∙ c.is_idle.ensures) refl refl
 
-pub returns-else-no_bio : goal.returns-else-no_bio
-returns-else-no_bio c =
-    let all =
-    rested c.args.running.now c.requires c.head.result c.reap_found.result c.wash_found.result c.is_empty-done.result
-    c.is_empty-no_bio.result c.is_none-no_event.result c.is_none-no_taste.result c.is_some-no_reap.result
-    c.is_some-no_wash.result c.is_empty-done.ensures c.is_empty-no_bio.ensures c.head.ensures
-    c.is_none-no_event.ensures c.is_none-no_taste.ensures c.reap_found.ensures c.is_some-no_reap.ensures
-    c.wash_found.ensures c.is_some-no_wash.ensures in
-    c.if-no_bio.false ∙ (rw (c.if-done.true, c.if-no_bio.false) at all)
+pub returns-then-is_some : goal.returns-then-is_some
+returns-then-is_some c =
+    rested c.args.running.now c.requires true true c.is_some-then-is_some.result
+    (sym c.if-not-is_idle.false ∙ c.is_idle.ensures)
+    (sym c.if-is_some.true ∙ c.is_some.ensures
+    ∙ unreaped c.args.running.now c.requires c.reap_found.result c.reap_found.ensures)
+    (c.is_some-then-is_some.ensures
+    ∙ unwashed c.args.running.now c.requires c.wash_found.result c.wash_found.ensures)
 
-pub returns-else-no_event : goal.returns-else-no_event
-returns-else-no_event c =
-    let all =
-    rested c.args.running.now c.requires c.head.result c.reap_found.result c.wash_found.result c.is_empty-done.result
-    c.is_empty-no_bio.result c.is_none-no_event.result c.is_none-no_taste.result c.is_some-no_reap.result
-    c.is_some-no_wash.result c.is_empty-done.ensures c.is_empty-no_bio.ensures c.head.ensures
-    c.is_none-no_event.ensures c.is_none-no_taste.ensures c.reap_found.ensures c.is_some-no_reap.ensures
-    c.wash_found.ensures c.is_some-no_wash.ensures in
-    c.if-no_event.false ∙ (rw (c.if-done.true, c.if-no_bio.true, c.if-no_event.false) at all)
-
-pub returns-else-no_taste : goal.returns-else-no_taste
-returns-else-no_taste c =
-    let all =
-    rested c.args.running.now c.requires c.head.result c.reap_found.result c.wash_found.result c.is_empty-done.result
-    c.is_empty-no_bio.result c.is_none-no_event.result c.is_none-no_taste.result c.is_some-no_reap.result
-    c.is_some-no_wash.result c.is_empty-done.ensures c.is_empty-no_bio.ensures c.head.ensures
-    c.is_none-no_event.ensures c.is_none-no_taste.ensures c.reap_found.ensures c.is_some-no_reap.ensures
-    c.wash_found.ensures c.is_some-no_wash.ensures in
-    c.if-no_taste.false ∙ (rw (c.if-done.true, c.if-no_bio.true, c.if-no_event.true, c.if-no_taste.false) at all)
-
-pub returns-else-no_reap : goal.returns-else-no_reap
-returns-else-no_reap c =
-    let all =
-    rested c.args.running.now c.requires c.head.result c.reap_found.result c.wash_found.result c.is_empty-done.result
-    c.is_empty-no_bio.result c.is_none-no_event.result c.is_none-no_taste.result c.is_some-no_reap.result
-    c.is_some-no_wash.result c.is_empty-done.ensures c.is_empty-no_bio.ensures c.head.ensures
-    c.is_none-no_event.ensures c.is_none-no_taste.ensures c.reap_found.ensures c.is_some-no_reap.ensures
-    c.wash_found.ensures c.is_some-no_wash.ensures in
-    c.if-no_reap.false ∙ (rw (c.if-done.true, c.if-no_bio.true, c.if-no_event.true, c.if-no_taste.true, c.if-no_reap.false) at all)
-
-pub returns-then-no_reap : goal.returns-then-no_reap
-returns-then-no_reap c =
-    let all =
-    rested c.args.running.now c.requires c.head.result c.reap_found.result c.wash_found.result c.is_empty-done.result
-    c.is_empty-no_bio.result c.is_none-no_event.result c.is_none-no_taste.result c.is_some-no_reap.result
-    c.is_some-no_wash.result c.is_empty-done.ensures c.is_empty-no_bio.ensures c.head.ensures
-    c.is_none-no_event.ensures c.is_none-no_taste.ensures c.reap_found.ensures c.is_some-no_reap.ensures
-    c.wash_found.ensures c.is_some-no_wash.ensures in
-    rw (c.if-done.true, c.if-no_bio.true, c.if-no_event.true, c.if-no_taste.true, c.if-no_reap.true) at all
+pub returns-else-is_some : goal.returns-else-is_some
+returns-else-is_some c =
+    let now : World = world_of (seen c.args.running.now) in
+    c.if-is_some.false
+    ∙ rested c.args.running.now c.requires true false (is_none (wash_work now))
+    (sym c.if-not-is_idle.false ∙ c.is_idle.ensures)
+    (sym c.if-is_some.false ∙ c.is_some.ensures
+    ∙ unreaped c.args.running.now c.requires c.reap_found.result c.reap_found.ensures)
+    refl
