@@ -20,6 +20,10 @@ pub record CanServe (d : DriveView) (q : Request) : Type 0 where
   pub not_long : q.count * d.sector ≤ request_limit
   pub bytes : IsTrue (is_write q.cmd) → length q.bytes ≡ q.count * d.sector
 
+-- the room has a place for each byte of a READ
+abbrev pub HasRoom : DriveView → Request → List ℕ → Type 0
+HasRoom d q room = IsTrue (is_read q.cmd) → q.count * d.sector ≤ length room
+
 -- whether an answer fits a request in sectors of so many bytes: a READ is answered by the bytes of its sectors, another
 -- request by Done, and a failure did no more sectors than were asked, and none of a READ or a FLUSH
 abbrev pub fits_request : ℕ → Request → DeviceResult → Bool

@@ -1,9 +1,8 @@
 //! A request to a disk, and what the disk answers.
-ghost use Rattle.std.specs.Prelude.{◌≡◌, ◌≤◌, ◌<◌, ◌^◌, length, IfErr};
+ghost use Rattle.std.specs.Prelude.{◌≡◌, ◌<◌, ◌^◌, IfErr};
 ghost use Rattle.geo_base.specs.declared.request.BioCmd.TheVariants as cmds;
-ghost use Rattle.geo_model.specs.Requests.{request_limit};
 ghost use Rattle.geo_serve.specs.Drives.{drive_view};
-ghost use Rattle.geo_serve.specs.Serve.{CanServe, Serves, answer_of};
+ghost use Rattle.geo_serve.specs.Serve.{CanServe, HasRoom, Serves, answer_of};
 
 use geo_base::{BioCmd, Block};
 use geo_disk::{Disk, DiskFailed, Drive};
@@ -12,7 +11,7 @@ use geo_model::{DeviceResult, Request};
 /// Serves a request by exactly one call of the disk, and answers what came of it. A READ is read into the room, which
 /// is cut to its length.
 pub fn serve<D: Disk>(disk: &mut Drive<D>, request: &Request, room: Block) -> DeviceResult
-    requires room { length room ≡ request_limit }
+    requires room { HasRoom (drive_view D.held D.sector_bytes D.sector_count D.calls D.faults disk.old) request.now room }
     requires can { CanServe (drive_view D.held D.sector_bytes D.sector_count D.calls D.faults disk.old) request.now }
     ensures { Serves request.now
         (drive_view D.held D.sector_bytes D.sector_count D.calls D.faults disk.old)
@@ -28,7 +27,7 @@ pub fn serve<D: Disk>(disk: &mut Drive<D>, request: &Request, room: Block) -> De
 
 // A READ.
 fn read<D: Disk>(disk: &mut Drive<D>, request: &Request, mut room: Block) -> DeviceResult
-    requires room { length room ≡ request_limit }
+    requires room { HasRoom (drive_view D.held D.sector_bytes D.sector_count D.calls D.faults disk.old) request.now room }
     requires can { CanServe (drive_view D.held D.sector_bytes D.sector_count D.calls D.faults disk.old) request.now }
     requires cmd { request.now.cmd ≡ cmds.Read }
     ensures { Serves request.now

@@ -1,6 +1,7 @@
-use Rattle.std.proofs.Common.{◌≡◌, ℕ, ◌*◌, ◌/◌, ◌≤◌, length, rules, ◌∙◌, ap, arith}
+use Rattle.std.proofs.Common.{◌≡◌, ℕ, ◌*◌, ◌/◌, ◌≤◌, length, rules, ◌∙◌, ap}
 use Rattle.geo_disk.specs.Drive.{bytes_by, count_by}
 use Rattle.geo_base.specs.Written.{written_over}
+use Rattle.geo_model.specs.Words.{is_read}
 use Rattle.geo_serve.proofs.Whole.{all_written, are_sectors, cut_length, sectors_in}
 use Rattle.geo_serve.proofs.serving.read.Goals as goal
 
@@ -8,7 +9,7 @@ pub read-requires : goal.read-requires
 read-requires g c =
     let sector : ℕ = bytes_by g.D.Disk.sector_bytes c.args.disk.now in
     let short : c.args.request.now.count * sector ≤ length c.args.room =
-    omega (arith, c.requires.can.not_long, c.requires.room) in
+    c.requires.room (ap is_read c.requires.cmd) in
     are_sectors sector (count_by g.D.Disk.sector_count c.args.disk.now) c.args.request.now.first
     c.args.request.now.count (length c.bytes_mut.result.now) c.requires.can.some_size c.requires.can.inside
     (cut_length c.args.request.now.count sector c.sector_size.result c.args.room c.cut.new.self c.bytes_mut.result.now
@@ -18,7 +19,7 @@ pub returns-in-Ok : goal.returns-in-Ok
 returns-in-Ok g c =
     let sector : ℕ = bytes_by g.D.Disk.sector_bytes c.args.disk.now in
     let short : c.args.request.now.count * sector ≤ length c.args.room =
-    omega (arith, c.requires.can.not_long, c.requires.room) in
+    c.requires.room (ap is_read c.requires.cmd) in
     let lent : length c.bytes_mut.result.now ≡ c.args.request.now.count * sector =
     cut_length c.args.request.now.count sector c.sector_size.result c.args.room c.cut.new.self c.bytes_mut.result.now
     c.bytes_mut.ensures.value c.cut.ensures c.sector_size.ensures short in
