@@ -1,5 +1,5 @@
 -- What drives can serve, and what they do along a log.
-use Rattle.std.specs.Prelude.{◌≡◌, ℕ, ◌*◌, List, [], ◌∷◌, ◌++◌, Some, None, Ok, IsSome, IfSome, IsTrue, slice_get, slice_set}
+use Rattle.std.specs.Prelude.{◌≡◌, ℕ, ◌*◌, List, [], ◌∷◌, ◌++◌, Some, None, Ok, IsSome, IsSomeAnd, IfSome, IsTrue, slice_get, slice_set}
 use Rattle.std.specs.List.{AllByRecursion}
 use Rattle.geo_model.specs.declared.step.DeviceResult.{DeviceResult}
 use Rattle.geo_model.specs.declared.step.Entry.{Entry}
@@ -7,7 +7,8 @@ use Rattle.geo_model.specs.declared.step.Outcome.TheVariants as outcomes
 use Rattle.geo_model.specs.declared.step.Request.{Request}
 use Rattle.geo_model.specs.declared.step.Step.{Step}
 use Rattle.geo_model.specs.declared.step.Step.TheVariants as steps
-use Rattle.geo_model.specs.World.{World, HeaderDisk}
+use Rattle.geo_model.specs.World.{World, Bio, HeaderDisk, bio_at}
+use Rattle.geo_model.specs.Words.{is_read}
 use Rattle.geo_model.specs.Step.{step, is_enabled}
 use Rattle.geo_model.specs.FixedOrder.{delivered_in}
 use Rattle.geo_model.specs.Results.{request_of}
@@ -22,8 +23,14 @@ pub record HasSizes (d : DriveView) (header : HeaderDisk) : Type 0 where
   pub sector : d.sector ≡ header.sector
   pub size : header.size ≡ d.sector * d.count
 
--- a request of a bio that a seat took can be served by such a drive, and an answer that fits it can be delivered
-pub record IsServable (after : World) (seat b : ℕ) (q : Request) (header : HeaderDisk) : Type 0 where
+-- a bio is a READ of so many bytes
+abbrev pub IsReadOf : ℕ → Bio → Type 0
+IsReadOf bytes x = IsTrue (is_read x.cmd) × (x.len ≡ bytes)
+
+-- a request of a bio that a seat took can be served by such a drive, a READ asks for as many bytes as its bio, and an
+-- answer that fits the request can be delivered
+pub record IsServable (before after : World) (seat b : ℕ) (q : Request) (header : HeaderDisk) : Type 0 where
+  pub reads : IsTrue (is_read q.cmd) → IsSomeAnd (bio_at before b) (IsReadOf (q.count * header.sector))
   pub can : (d : DriveView) → HasSizes d header → CanServe d q
   pub fits : (got : DeviceResult) → IsTrue (fits_request header.sector q got)
       → IsTrue (is_enabled after seat (steps.Deliver b got))
@@ -33,7 +40,7 @@ abbrev pub TakesAreServable : Type 0
 TakesAreServable =
     (w after : World) (seat disk b : ℕ) (q : Request) (header : HeaderDisk) → Firm w
     → step w seat (steps.Take disk b) ≡ Ok (after, outcomes.Asked q) → slice_get w.disks disk ≡ Some header
-    → LiesInside q header → IsServable after seat b q header
+    → LiesInside q header → IsServable w after seat b q header
 
 -- a step that delivers a bio delivers one for which the log has a request
 abbrev pub IsTaken : List Entry → Step → Type 0
