@@ -5,6 +5,7 @@ pub mod Openings
 pub mod Twins
 pub mod Owing
 pub mod Due
+pub mod Rooms
 pub mod Turning
 pub mod Going
 pub mod Spares

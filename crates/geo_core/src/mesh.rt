@@ -9,12 +9,12 @@ ghost use Rattle.geo_model.specs.Order.{is_at_rest, first_bio, is_to_take, take_
 ghost use Rattle.geo_model.specs.Plans.{FactsFit};
 ghost use Rattle.geo_model.specs.Step.{is_enabled};
 ghost use Rattle.geo_model.specs.World.{is_up, is_down};
-ghost use Rattle.geo_core.specs.Mesh.{MeshView, IsHistory, world_of, Applies, Advances, IsSure};
+ghost use Rattle.geo_core.specs.Mesh.{MeshView, IsHistory, world_of, room_of, Applies, Advances, IsSure};
 
 use crate::apply::{advance, apply, begin};
 use crate::found::found_against;
 use crate::refusal::ApplyRefusal;
-use crate::rest::{first_down, first_to_take, first_up, is_at_rest, next_bio};
+use crate::rest::{first_down, first_to_take, first_up, is_at_rest, next_bio, room};
 use crate::running::Running;
 use geo_base::{BioId, NoMemory};
 use geo_listing::listing;
@@ -126,6 +126,13 @@ impl Mesh {
         ensures { result ≡ option_map (λ x. x.number) (find (λ x. nat_le from x.number) (world_of self.now).bios) }
     {
         next_bio(&self.running, from)
+    }
+
+    /// How many bytes a READ of this bio gives; 0 for another command, or if there is no such bio.
+    pub fn room(&self, bio: BioId) -> u32
+        ensures { result ≡ room_of (world_of self.now) bio }
+    {
+        room(&self.running, bio)
     }
 
     /// How many actors there are.

@@ -1,17 +1,19 @@
-//! Whether nothing is left to do, and what is due next.
-ghost use Rattle.std.specs.Prelude.{◌≡◌, find, IfSome, nat_le};
+//! Whether nothing is left to do, what is due next, and the room that it takes.
+ghost use Rattle.std.specs.Prelude.{◌≡◌, ◌<◌, ◌^◌, find, IfSome, IsTrue, nat_le};
 ghost use Rattle.std.specs.Option.{option_map, option_map_or};
 ghost use Rattle.geo_model.specs.declared.step.Step.TheVariants as steps;
 ghost use Rattle.geo_model.specs.Laws.{NoneBusy};
 ghost use Rattle.geo_model.specs.Order.{is_at_rest, first_bio, is_to_take, take_step};
+ghost use Rattle.geo_model.specs.Words.{is_read};
 ghost use Rattle.geo_model.specs.World.{is_up, is_down};
 ghost use Rattle.geo_model.specs.Bios.{disk_at};
 ghost use Rattle.geo_bio.specs.BioTable.{AreInOrder, bio_among};
-ghost use Rattle.geo_core.specs.Mesh.{world_of};
+ghost use Rattle.geo_core.specs.Mesh.{bytes_read, room_of, world_of};
 ghost use Rattle.geo_core.specs.Running.{seen, is_idle, is_quiet, IsMesh};
 
 use crate::running::Running;
-use geo_base::{BioId, ProvId};
+use geo_base::{BioCmd, BioId, ProvId};
+use geo_bio::Bio;
 use geo_class::Config;
 use geo_events::wash_found;
 use geo_mesh::Topo;
@@ -118,4 +120,26 @@ pub fn next_bio(running: &Running, from: u64) -> Option<BioId>
         ≡ option_map (λ x. x.number) (find (λ x. nat_le from x.number) (world_of (seen running.now)).bios) }
 {
     running.state.traffic.next_from(from)
+}
+
+/// How many bytes a READ of this bio gives; 0 for another command, or if there is no such bio.
+pub fn room(running: &Running, bio: BioId) -> u32
+    requires { IsMesh running.now }
+    ensures { result ≡ room_of (world_of (seen running.now)) bio }
+{
+    match running.state.traffic.get(bio) {
+        Some(found) => bytes_read(found),
+        None => 0,
+    }
+}
+
+// How many bytes it gives if it is a READ, else 0.
+fn bytes_read(bio: &Bio) -> u32
+    requires { IsTrue (is_read bio.now.cmd) → bio.now.span.len < 2 ^ 32 }
+    ensures { result ≡ bytes_read bio.now.cmd bio.now.span.len }
+{
+    match bio.cmd {
+        BioCmd::Read => bio.span.len as u32,
+        _ => 0,
+    }
 }
