@@ -1,5 +1,6 @@
 -- A Take that was made asks for what the drive of its disk can serve.
-use Rattle.std.specs.Prelude.{◌≡◌, ℕ, zero, suc, ◌<◌, List, [], ◌∷◌, ◌++◌, length, map, zip, Option, Some, None, Ok, IsSomeAnd, IsTrue, slice_get}
+use Rattle.std.specs.Prelude.{◌≡◌, ℕ, zero, suc, ◌<◌, ◌*◌, ◌≤◌, List, [], ◌∷◌, ◌++◌, length, map, zip, Option, Some, None, Ok, IsSomeAnd, IsTrue, slice_get}
+use Rattle.std.specs.Option.{option_map_or}
 use Rattle.std.proofs.Common.{get_or, refl, sym, ◌∙◌, ap, subst, arith}
 use Rattle.std.proofs.lemmas.List.{length-map, same_from_push}
 use Rattle.std.proofs.lemmas.Option.{slice_get_within}
@@ -9,7 +10,7 @@ use Rattle.geo_model.specs.declared.step.Outcome.{Outcome}
 use Rattle.geo_model.specs.declared.step.Outcome.TheVariants as outcomes
 use Rattle.geo_model.specs.declared.step.Request.{Request}
 use Rattle.geo_model.specs.declared.step.Step.TheVariants as steps
-use Rattle.geo_model.specs.World.{HeaderDisk}
+use Rattle.geo_model.specs.World.{Bio, HeaderDisk, bio_at}
 use Rattle.geo_model.specs.Opening.{disk_in_size}
 use Rattle.geo_model.specs.Log.{Legal}
 use Rattle.geo_model.specs.Step.{is_enabled, step}
@@ -17,28 +18,36 @@ use Rattle.geo_laws_steps.proofs.Logs.{firm_after}
 use Rattle.geo_laws_disks.specs.DiskLaws.{AsksInside, LiesInside}
 use Rattle.geo_laws_disks.proofs.Inside.{disks_are_asked}
 use Rattle.geo_serve.specs.Drives.{DriveView}
-use Rattle.geo_serve.specs.Serve.{CanServe, fits_request}
-use Rattle.geo_laws_drives.specs.DriveLaws.{IsServable}
+use Rattle.geo_serve.specs.Serve.{CanServe, HasRoom, fits_request}
+use Rattle.geo_laws_drives.specs.DriveLaws.{IsReadOf, IsServable}
 use Rattle.geo_laws_drives.proofs.Takes.{takes_are_servable}
-use Rattle.geo_core.specs.Mesh.{IsHistory, Made, MeshView, entry_of, opened, world_of}
+use Rattle.geo_core.specs.Mesh.{IsHistory, Made, MeshView, bytes_read, entry_of, opened, room_of, world_of}
 use Rattle.geo_drain.specs.Drain.{DrivesFit}
 use Rattle.geo_drain.specs.Turns.{AnswersRequest, EndsWithRequest}
 use Rattle.geo_drain.proofs.Opened.{DriveAt, drive_at, opening_disks}
 
--- the request of a Take, which the drive of its disk can serve, and whose answers can be delivered
-pub record TakesRequest (taken : MeshView) (drives : List DriveView) (bio : ℕ) (o : Outcome) (q : Request) : Type 0
+-- the request of a Take, which the drive of its disk can serve, in room of as many bytes as the bio reads, and whose
+-- answers can be delivered
+pub record TakesRequest (old taken : MeshView) (drives : List DriveView) (bio : ℕ) (o : Outcome) (q : Request) : Type 0
   where
     pub asked : o ≡ outcomes.Asked q
     pub drive : DriveView
     pub is_its : slice_get drives q.disk ≡ Some drive
     pub can : CanServe drive q
+    pub room : (block : List ℕ) → length block ≡ room_of (world_of old) bio → HasRoom drive q block
     pub fits : (got : DeviceResult) → IsTrue (fits_request drive.sector q got)
         → IsTrue (is_enabled (world_of taken) 0 (steps.Deliver bio got))
+
+-- a READ of so many bytes fits the room of its bio
+read_fits : (o : Option Bio) (n : ℕ) → IsSomeAnd o (IsReadOf n)
+    → n ≤ option_map_or (λ (x : Bio). bytes_read x.cmd x.len) o 0
+read_fits None n is = absurd is
+read_fits (Some x) n is = rw is.0 (let same : x.len ≡ n = is.1 in omega (arith, same))
 
 -- each Take is of such a request
 pub takes_request : (old taken : MeshView) (drives : List DriveView) (disk bio : ℕ) (o : Outcome) → IsHistory old
     → IsHistory taken → DrivesFit old drives → Made old taken 0 (steps.Take disk bio) o
-    → (q : Request) × TakesRequest taken drives bio o q
+    → (q : Request) × TakesRequest old taken drives bio o q
 takes_request old taken drives disk bio o history after fit made =
     by (slice_get (opened old).disks disk) refl asks.inside
   where
@@ -54,7 +63,7 @@ takes_request old taken drives disk bio o history after fit made =
         ([], refl) disk bio refl
 
     of_header : (header : HeaderDisk) → slice_get (opened old).disks disk ≡ Some header → LiesInside asks.request header
-        → (q : Request) × TakesRequest taken drives bio o q
+        → (q : Request) × TakesRequest old taken drives bio o q
     of_header header here lies =
         let at : DriveAt drives disk header =
         drive_at old.plan.disks drives disk header
@@ -63,7 +72,7 @@ takes_request old taken drives disk bio o history after fit made =
         let now : slice_get (world_of old).disks disk ≡ Some header =
         subst (λ ds. slice_get ds disk ≡ Some header)
         (sym (disks_are_asked.disks old.plan old.facts history.plan history.facts old.log history.lawful.0)) here in
-        let servable : IsServable (world_of taken) 0 bio asks.request header =
+        let servable : IsServable (world_of old) (world_of taken) 0 bio asks.request header =
         takes_are_servable (world_of old) (world_of taken) 0 disk bio asks.request header
         (firm_after old.plan old.facts history.plan history.facts old.log)
         (subst (λ (x : Outcome). step (world_of old) 0 (steps.Take disk bio) ≡ Ok (world_of taken, x)) asks.is
@@ -75,13 +84,17 @@ takes_request old taken drives disk bio o history after fit made =
             drive = at.drive;
             is_its = ap (λ n. slice_get drives n) asks.disk_is ∙ at.is;
             can = servable.can at.drive at.sizes;
+            room = λ block long reads.
+                subst (λ z. asks.request.count * z ≤ length block) (sym at.sizes.sector)
+                (subst (λ n. asks.request.count * header.sector ≤ n) (sym long)
+                (read_fits (bio_at (world_of old) bio) (asks.request.count * header.sector) (servable.reads reads)));
             fits = λ got fit_got.
                 servable.fits got (subst (λ z. IsTrue (fits_request z asks.request got)) at.sizes.sector fit_got);
           },
         )
 
     by : (o2 : Option HeaderDisk) → slice_get (opened old).disks disk ≡ o2 → IsSomeAnd o2 (LiesInside asks.request)
-        → (q : Request) × TakesRequest taken drives bio o q
+        → (q : Request) × TakesRequest old taken drives bio o q
     by None here lies = absurd lies
     by (Some header) here lies = of_header header here lies
 
@@ -107,23 +120,30 @@ ends_with old taken disk bio o q made asked = record {
 -- so the request of the last entry is the one that can be served
 pub takes_last : (old taken : MeshView) (drives : List DriveView) (disk bio : ℕ) (o : Outcome) (q : Request)
     → IsHistory old → IsHistory taken → DrivesFit old drives → Made old taken 0 (steps.Take disk bio) o
-    → EndsWithRequest taken.log q → TakesRequest taken drives bio o q
+    → EndsWithRequest taken.log q → TakesRequest old taken drives bio o q
 takes_last old taken drives disk bio o q history after fit made ends =
-    let some : (r : Request) × TakesRequest taken drives bio o r =
+    let some : (r : Request) × TakesRequest old taken drives bio o r =
     takes_request old taken drives disk bio o history after fit made in
-    subst (λ (r : Request). TakesRequest taken drives bio o r)
+    subst (λ (r : Request). TakesRequest old taken drives bio o r)
     (same_request taken.log some.0 q (ends_with old taken disk bio o some.0 made some.1.asked) ends) some.1
 
 -- its drive can serve it
-pub last_can : (taken : MeshView) (drives : List DriveView) (bio : ℕ) (o : Outcome) (q : Request)
-    → TakesRequest taken drives bio o q → IsSomeAnd (slice_get drives q.disk) (λ d. CanServe d q)
-last_can taken drives bio o q it = subst (λ x. IsSomeAnd x (λ d. CanServe d q)) (sym it.is_its) it.can
+pub last_can : (old taken : MeshView) (drives : List DriveView) (bio : ℕ) (o : Outcome) (q : Request)
+    → TakesRequest old taken drives bio o q → IsSomeAnd (slice_get drives q.disk) (λ d. CanServe d q)
+last_can old taken drives bio o q it = subst (λ x. IsSomeAnd x (λ d. CanServe d q)) (sym it.is_its) it.can
+
+-- in room of as many bytes as the bio reads
+pub last_room : (old taken : MeshView) (drives : List DriveView) (bio : ℕ) (o : Outcome) (q : Request)
+    (block : List ℕ) → TakesRequest old taken drives bio o q → length block ≡ room_of (world_of old) bio
+    → IsSomeAnd (slice_get drives q.disk) (λ d. HasRoom d q block)
+last_room old taken drives bio o q block it long =
+    subst (λ x. IsSomeAnd x (λ d. HasRoom d q block)) (sym it.is_its) (it.room block long)
 
 -- and its answer can be delivered
-pub last_enabled : (taken : MeshView) (drives after : List DriveView) (bio : ℕ) (o : Outcome) (q : Request)
-    (got : DeviceResult) → TakesRequest taken drives bio o q → AnswersRequest q drives after got
+pub last_enabled : (old taken : MeshView) (drives after : List DriveView) (bio : ℕ) (o : Outcome) (q : Request)
+    (got : DeviceResult) → TakesRequest old taken drives bio o q → AnswersRequest q drives after got
     → IsTrue (is_enabled (world_of taken) 0 (steps.Deliver bio got))
-last_enabled taken drives after bio o q got it answers =
+last_enabled old taken drives after bio o q got it answers =
     let both : Some it.drive ≡ Some answers.old = sym it.is_its ∙ answers.is_its in
     let same : it.drive ≡ answers.old = cc in
     it.fits got (subst (λ (d : DriveView). IsTrue (fits_request d.sector q got)) (sym same) answers.serves.fits)

@@ -5,10 +5,9 @@ ghost use Rattle.geo_model.specs.declared.step.Outcome.TheVariants as outcomes;
 ghost use Rattle.geo_model.specs.declared.step.Request.{Request as RequestValue};
 ghost use Rattle.geo_model.specs.declared.step.Step.TheVariants as steps;
 ghost use Rattle.geo_model.specs.Log.{is_full};
-ghost use Rattle.geo_model.specs.Requests.{request_limit};
 ghost use Rattle.geo_model.specs.Step.{is_enabled};
 ghost use Rattle.geo_serve.specs.Drives.{drive_view};
-ghost use Rattle.geo_serve.specs.Serve.{CanServe};
+ghost use Rattle.geo_serve.specs.Serve.{CanServe, HasRoom};
 ghost use Rattle.geo_core.specs.Mesh.{IsHistory, Made, world_of};
 ghost use Rattle.geo_drain.specs.Drain.{DrivesFit};
 ghost use Rattle.geo_drain.specs.Turns.{AnswersRequest, EndsWithRequest, ServesTake, Turns};
@@ -20,9 +19,6 @@ use geo_disk::{Disk, Drive};
 use geo_model::{DeviceResult, Outcome, Request, Step};
 use geo_serve::serve;
 use std::alloc::Global;
-
-/// The length of the longest request, in bytes.
-const ROOM: u32 = 32768;
 
 /// Makes an enabled step of seat 0. A Take is served by the drive of its disk, and its answer is delivered. Where it is
 /// refused the mesh and the drives are as before.
@@ -66,8 +62,8 @@ fn make(mesh: &mut Mesh, step: Step) -> Result<(), DrainRefusal>
     }
 }
 
-// Takes a bio, has its disk serve the request, and delivers the answer. The room for the answer is there before the
-// Take.
+// Takes a bio, has its disk serve the request, and delivers the answer. The room for what a READ gives is there before
+// the Take.
 fn take<D: Disk>(
     alloc: Global,
     mesh: &mut Mesh,
@@ -88,11 +84,11 @@ fn take<D: Disk>(
     ensures disks { OnErr result (disks.new ≡ disks.old) }
     ensures history { IsHistory mesh.new }
 {
-    let Ok(room) = Block::zeros(alloc, ROOM) else {
+    let Ok(room) = Block::zeros(alloc, mesh.room(bio)) else {
         return Err(DrainRefusal::NoMemory);
     };
     make(mesh, Step::Take { disk, bio })?;
-    let got = answer(alloc, last_request(mesh), disks, room);
+    let got = answer(last_request(mesh), disks, room);
     deliver(mesh, bio, got);
     Ok(())
 }
@@ -120,48 +116,20 @@ fn request_in(outcome: &Outcome) -> &Request
 }
 
 // The answer of the drive of the request's disk.
-fn answer<D: Disk>(
-    alloc: Global,
-    request: &Request,
-    disks: &mut [Drive<D>],
-    room: Block,
-) -> DeviceResult
-    requires room { length room ≡ request_limit }
+fn answer<D: Disk>(request: &Request, disks: &mut [Drive<D>], room: Block) -> DeviceResult
     requires inside { request.now.disk < length disks.old }
     requires can { IsSomeAnd
         (slice_get (map (drive_view D.held D.sector_bytes D.sector_count D.calls D.faults) disks.old) request.now.disk)
         (λ d. CanServe d request.now) }
+    requires room { IsSomeAnd
+        (slice_get (map (drive_view D.held D.sector_bytes D.sector_count D.calls D.faults) disks.old) request.now.disk)
+        (λ d. HasRoom d request.now room) }
     ensures { AnswersRequest request.now
         (map (drive_view D.held D.sector_bytes D.sector_count D.calls D.faults) disks.old)
         (map (drive_view D.held D.sector_bytes D.sector_count D.calls D.faults) disks.new) result }
 {
     let drive = &mut disks[request.disk as usize];
-    let got = serve(drive, request, room);
-    in_own_length(alloc, got)
-}
-
-// The same answer, whose bytes take no more memory than their length where memory for a copy is found.
-fn in_own_length(alloc: Global, got: DeviceResult) -> DeviceResult
-    ensures { result ≡ got }
-{
-    match got {
-        DeviceResult::Bytes(bytes) => DeviceResult::Bytes(trimmed(alloc, bytes)),
-        DeviceResult::Done => DeviceResult::Done,
-        DeviceResult::Failed { done } => DeviceResult::Failed { done },
-    }
-}
-
-// The same bytes in a block of their own length, or in the room itself where they fill it or memory is wanting.
-fn trimmed(alloc: Global, bytes: Block) -> Block
-    ensures { result ≡ bytes }
-{
-    if bytes.len() == ROOM as usize {
-        return bytes;
-    }
-    match bytes.copy(alloc) {
-        Ok(copied) => copied,
-        Err(_) => bytes,
-    }
+    serve(drive, request, room)
 }
 
 // Delivers an answer that fits, which is never refused.

@@ -1,15 +1,21 @@
-use Rattle.std.proofs.Common.{slice_index_or, sym, subst}
+use Rattle.std.proofs.Common.{slice_index_or}
 use Rattle.std.proofs.lemmas.List.{map-set}
 use Rattle.geo_serve.specs.Drives.{drive_view}
-use Rattle.geo_serve.specs.Serve.{CanServe, Serves}
+use Rattle.geo_serve.specs.Serve.{CanServe, HasRoom}
 use Rattle.geo_drain.proofs.Taking.{holds_at, seen_at}
 use Rattle.geo_drain.proofs.turn.answer.Goals as goal
 
-pub serve-got-requires-clause-can : goal.serve-got-requires-clause-can
-serve-got-requires-clause-can g c =
+pub serve-requires-clause-can : goal.serve-requires-clause-can
+serve-requires-clause-can g c =
     holds_at (drive_view g.D.Disk.held g.D.Disk.sector_bytes g.D.Disk.sector_count g.D.Disk.calls g.D.Disk.faults)
     (λ d. CanServe d c.args.request.now) c.args.disks.now c.args.request.now.disk c.index-disks-request.result
     c.requires.inside c.requires.can
+
+pub serve-requires-clause-room : goal.serve-requires-clause-room
+serve-requires-clause-room g c =
+    holds_at (drive_view g.D.Disk.held g.D.Disk.sector_bytes g.D.Disk.sector_count g.D.Disk.calls g.D.Disk.faults)
+    (λ d. HasRoom d c.args.request.now c.args.room) c.args.disks.now c.args.request.now.disk
+    c.index-disks-request.result c.requires.inside c.requires.room
 
 pub returns : goal.returns
 returns g c =
@@ -17,11 +23,7 @@ returns g c =
     record {
       old = seen (slice_index_or c.args.disks.now c.args.request.now.disk c.index-disks-request.result);
       is_its = seen_at seen c.args.disks.now c.args.request.now.disk c.index-disks-request.result c.requires.inside;
-      new = seen c.serve-got.new.disk;
-      serves = subst
-          (λ got. Serves c.args.request.now
-          (seen (slice_index_or c.args.disks.now c.args.request.now.disk c.index-disks-request.result))
-          (seen c.serve-got.new.disk) got)
-          (sym c.in_own_length.ensures) c.serve-got.ensures;
-      drives = map-set seen c.args.disks.now c.args.request.now.disk c.serve-got.new.disk;
+      new = seen c.serve.new.disk;
+      serves = c.serve.ensures;
+      drives = map-set seen c.args.disks.now c.args.request.now.disk c.serve.new.disk;
     }

@@ -1,17 +1,19 @@
-use Rattle.std.proofs.Common.{map, subst}
+use Rattle.std.proofs.Common.{◌∙◌, ap, map, subst}
+use Rattle.std.proofs.lemmas.List.{length-replicate}
+use Rattle.std.specs.Prelude.{length}
 use Rattle.geo_model.specs.declared.step.Outcome.{Outcome}
 use Rattle.geo_model.specs.declared.step.Request.{Request}
 use Rattle.geo_model.specs.declared.step.Step.TheVariants as steps
 use Rattle.geo_serve.specs.Drives.{drive_view}
 use Rattle.geo_core.specs.Mesh.{Made}
-use Rattle.geo_drain.proofs.Taking.{TakesRequest, ends_with, last_can, last_enabled, seen_within, takes_last, takes_request}
+use Rattle.geo_drain.proofs.Taking.{TakesRequest, ends_with, last_can, last_enabled, last_room, seen_within, takes_last, takes_request}
 use Rattle.geo_drain.proofs.turn.take.Goals as goal
 
 pub last_request-requires : goal.last_request-requires
 last_request-requires g c =
     let seen = drive_view g.D.Disk.held g.D.Disk.sector_bytes g.D.Disk.sector_count g.D.Disk.calls g.D.Disk.faults in
     let o : Outcome = c.in_ok-make.ensures.made.0 in
-    let it : (q : Request) × TakesRequest c.make.new.mesh (map seen c.args.disks.now) c.args.bio o q =
+    let it : (q : Request) × TakesRequest c.args.mesh.now c.make.new.mesh (map seen c.args.disks.now) c.args.bio o q =
     takes_request c.args.mesh.now c.make.new.mesh (map seen c.args.disks.now) c.args.disk c.args.bio o
     c.requires.history c.in_ok-make.ensures.history c.requires.fit c.in_ok-make.ensures.made.1 in (
       it.0,
@@ -22,7 +24,7 @@ last_request-requires g c =
 pub answer-got-requires-clause-inside : goal.answer-got-requires-clause-inside
 answer-got-requires-clause-inside g c =
     let seen = drive_view g.D.Disk.held g.D.Disk.sector_bytes g.D.Disk.sector_count g.D.Disk.calls g.D.Disk.faults in
-    let it : TakesRequest c.make.new.mesh (map seen c.args.disks.now) c.args.bio c.in_ok-make.ensures.made.0
+    let it : TakesRequest c.args.mesh.now c.make.new.mesh (map seen c.args.disks.now) c.args.bio c.in_ok-make.ensures.made.0
     c.last_request.result.now =
     takes_last c.args.mesh.now c.make.new.mesh (map seen c.args.disks.now) c.args.disk c.args.bio
     c.in_ok-make.ensures.made.0 c.last_request.result.now c.requires.history c.in_ok-make.ensures.history
@@ -32,16 +34,26 @@ answer-got-requires-clause-inside g c =
 pub answer-got-requires-clause-can : goal.answer-got-requires-clause-can
 answer-got-requires-clause-can g c =
     let seen = drive_view g.D.Disk.held g.D.Disk.sector_bytes g.D.Disk.sector_count g.D.Disk.calls g.D.Disk.faults in
-    last_can c.make.new.mesh (map seen c.args.disks.now) c.args.bio c.in_ok-make.ensures.made.0
+    last_can c.args.mesh.now c.make.new.mesh (map seen c.args.disks.now) c.args.bio c.in_ok-make.ensures.made.0
     c.last_request.result.now
     (takes_last c.args.mesh.now c.make.new.mesh (map seen c.args.disks.now) c.args.disk c.args.bio
     c.in_ok-make.ensures.made.0 c.last_request.result.now c.requires.history c.in_ok-make.ensures.history
     c.requires.fit c.in_ok-make.ensures.made.1 c.last_request.ensures)
 
+pub answer-got-requires-clause-room : goal.answer-got-requires-clause-room
+answer-got-requires-clause-room g c =
+    let seen = drive_view g.D.Disk.held g.D.Disk.sector_bytes g.D.Disk.sector_count g.D.Disk.calls g.D.Disk.faults in
+    last_room c.args.mesh.now c.make.new.mesh (map seen c.args.disks.now) c.args.bio c.in_ok-make.ensures.made.0
+    c.last_request.result.now c.in-Ok.room
+    (takes_last c.args.mesh.now c.make.new.mesh (map seen c.args.disks.now) c.args.disk c.args.bio
+    c.in_ok-make.ensures.made.0 c.last_request.result.now c.requires.history c.in_ok-make.ensures.history
+    c.requires.fit c.in_ok-make.ensures.made.1 c.last_request.ensures)
+    (ap length c.in-Ok.ensures ∙ length-replicate c.room.result 0 ∙ c.room.ensures)
+
 pub deliver-requires : goal.deliver-requires
 deliver-requires g c =
     let seen = drive_view g.D.Disk.held g.D.Disk.sector_bytes g.D.Disk.sector_count g.D.Disk.calls g.D.Disk.faults in
-    last_enabled c.make.new.mesh (map seen c.args.disks.now) (map seen c.answer-got.new.disks) c.args.bio
+    last_enabled c.args.mesh.now c.make.new.mesh (map seen c.args.disks.now) (map seen c.answer-got.new.disks) c.args.bio
     c.in_ok-make.ensures.made.0 c.last_request.result.now c.answer-got.result
     (takes_last c.args.mesh.now c.make.new.mesh (map seen c.args.disks.now) c.args.disk c.args.bio
     c.in_ok-make.ensures.made.0 c.last_request.result.now c.requires.history c.in_ok-make.ensures.history
@@ -51,7 +63,7 @@ deliver-requires g c =
 pub returns-clause-made : goal.returns-clause-made
 returns-clause-made g c =
     let seen = drive_view g.D.Disk.held g.D.Disk.sector_bytes g.D.Disk.sector_count g.D.Disk.calls g.D.Disk.faults in
-    let it : TakesRequest c.make.new.mesh (map seen c.args.disks.now) c.args.bio c.in_ok-make.ensures.made.0
+    let it : TakesRequest c.args.mesh.now c.make.new.mesh (map seen c.args.disks.now) c.args.bio c.in_ok-make.ensures.made.0
     c.last_request.result.now =
     takes_last c.args.mesh.now c.make.new.mesh (map seen c.args.disks.now) c.args.disk c.args.bio
     c.in_ok-make.ensures.made.0 c.last_request.result.now c.requires.history c.in_ok-make.ensures.history
