@@ -1,9 +1,18 @@
 //! What no clause says: that there is memory, the mesh at a concrete type, and a tower of geoms.
+//!
+//! Each test drops its mesh by a call. At the end of a scope or at a `?` the drop of each part of it would be written
+//! out, and proved for minutes.
 use geo_base::{ConsId, Counts, GeomId, Kind, Name, ProvId};
 use geo_mesh::{AttachRefusal, Topo};
+use std::alloc::Global;
 use std::test::Fail;
 
 const NO_COUNTS: Counts = Counts { r: 0, w: 0, e: 0 };
+
+// The mesh that stands at first.
+fn first_mesh(alloc: Global) -> Result<Topo<u8>, Fail> {
+    Ok(Topo::new(alloc, 1, 2)?)
+}
 
 // The name of these bytes.
 fn name(bytes: &[u8]) -> Result<Name, Fail> {
@@ -104,10 +113,11 @@ fn own_provider(topo: &mut Topo<u8>) -> Result<[Option<AttachRefusal>; 2], Fail>
 
 #[test]
 fn a_geom_would_reach_itself(rt: HostRuntime) -> Result<(), Fail> {
-    let mut topo: Topo<u8> = Topo::new(rt.alloc(), 1, 2)?;
-    let answers = own_provider(&mut topo)?;
+    let mut topo = first_mesh(rt.alloc())?;
+    let answers = own_provider(&mut topo);
+    drop(topo);
     assert_eq!(rt;
-        answers,
+        answers?,
         [Some(AttachRefusal::Eloop), Some(AttachRefusal::Enxio)]
     );
     Ok(())
@@ -123,9 +133,10 @@ fn falling_tower(topo: &mut Topo<u8>) -> Result<[Option<u32>; 3], Fail> {
 
 #[test]
 fn a_tower_falls_by_a_storey(rt: HostRuntime) -> Result<(), Fail> {
-    let mut topo: Topo<u8> = Topo::new(rt.alloc(), 1, 2)?;
-    let ranks = falling_tower(&mut topo)?;
-    assert_eq!(rt; ranks, [Some(31), Some(30), None]);
+    let mut topo = first_mesh(rt.alloc())?;
+    let ranks = falling_tower(&mut topo);
+    drop(topo);
+    assert_eq!(rt; ranks?, [Some(31), Some(30), None]);
     Ok(())
 }
 
@@ -141,10 +152,12 @@ fn above_the_limit(topo: &mut Topo<u8>) -> Result<[Option<AttachRefusal>; 2], Fa
 
 #[test]
 fn rank_33_is_too_deep(rt: HostRuntime) -> Result<(), Fail> {
-    let mut topo: Topo<u8> = Topo::new(rt.alloc(), 1, 2)?;
-    let answers = above_the_limit(&mut topo)?;
-    assert_eq!(rt; answers, [Some(AttachRefusal::Edeep), None]);
-    assert_eq!(rt; topo.rank(GeomId::new(1)), Some(33));
+    let mut topo = first_mesh(rt.alloc())?;
+    let answers = above_the_limit(&mut topo);
+    let rank = topo.rank(GeomId::new(1));
+    drop(topo);
+    assert_eq!(rt; answers?, [Some(AttachRefusal::Edeep), None]);
+    assert_eq!(rt; rank, Some(33));
     Ok(())
 }
 
@@ -165,8 +178,10 @@ fn two_of_a_name(topo: &mut Topo<u8>) -> Result<(ProvId, [Option<ProvId>; 3]), F
 
 #[test]
 fn a_sound_provider_is_found_first(rt: HostRuntime) -> Result<(), Fail> {
-    let mut topo: Topo<u8> = Topo::new(rt.alloc(), 1, 2)?;
-    let (second, found) = two_of_a_name(&mut topo)?;
+    let mut topo = first_mesh(rt.alloc())?;
+    let answer = two_of_a_name(&mut topo);
+    drop(topo);
+    let (second, found) = answer?;
     assert_eq!(rt; found, [Some(second), Some(second), None]);
     Ok(())
 }
@@ -192,8 +207,10 @@ fn between_handles(topo: &mut Topo<u8>) -> Result<(ConsId, [Option<ConsId>; 2]),
 
 #[test]
 fn handles_are_not_above(rt: HostRuntime) -> Result<(), Fail> {
-    let mut topo: Topo<u8> = Topo::new(rt.alloc(), 1, 2)?;
-    let (cons, found) = between_handles(&mut topo)?;
+    let mut topo = first_mesh(rt.alloc())?;
+    let answer = between_handles(&mut topo);
+    drop(topo);
+    let (cons, found) = answer?;
     assert_eq!(rt; found, [Some(cons), None]);
     Ok(())
 }
@@ -216,8 +233,10 @@ fn two_classes(topo: &mut Topo<u8>) -> Result<(GeomId, [Option<GeomId>; 4]), Fai
 
 #[test]
 fn a_geom_is_found_by_class_and_name(rt: HostRuntime) -> Result<(), Fail> {
-    let mut topo: Topo<u8> = Topo::new(rt.alloc(), 1, 2)?;
-    let (second, found) = two_classes(&mut topo)?;
+    let mut topo = first_mesh(rt.alloc())?;
+    let answer = two_classes(&mut topo);
+    drop(topo);
+    let (second, found) = answer?;
     assert_eq!(rt; found, [Some(second), None, None, Some(GeomId::new(2))]);
     Ok(())
 }
