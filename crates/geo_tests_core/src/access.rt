@@ -8,80 +8,18 @@ ghost use Rattle.geo_access.specs.Access.{IsCounted, IsHolder, IsQuiet};
 ghost use Rattle.geo_access.specs.Join.{IsLoose};
 ghost use Rattle.geo_tests_core.specs.Built.{AreAttached, IsBuilt};
 
-use geo_access::{GrantRefusal, JoinRefusal, Steps, could_grant, grant, join};
-use geo_base::{ConsId, Counts, Errno, GeomId, Kind, Name, ProvId};
+use crate::built::{consumer_of, first_mesh, geom_of, is_quiet, name, open, provider_of, stand};
+use geo_access::{JoinRefusal, Steps, could_grant, join};
+use geo_base::{ConsId, Counts, Errno, GeomId, Kind, ProvId};
 use geo_mesh::Topo;
 use std::alloc::Global;
 use std::marker::Brand;
 use std::sync::ledger::{Blank, Ledger};
 use std::test::Fail;
 
-const NO_COUNTS: Counts = Counts { r: 0, w: 0, e: 0 };
-
 const ONE_READ: Counts = Counts { r: 1, w: 0, e: 0 };
 
 const ONE_WRITE: Counts = Counts { r: 0, w: 1, e: 0 };
-
-// A mesh in which nothing was made yet.
-fn first_mesh(alloc: Global) -> Result<Topo<u8>, Fail>
-    ensures { IfOk result (λ topo. IsBuilt topo) }
-{
-    Ok(Topo::new(alloc, 1, 2)?)
-}
-
-// A geom of the class, with this name.
-fn geom_of(topo: &mut Topo<u8>, kind: Kind, name: Name) -> Result<GeomId, Fail>
-    requires built { IsBuilt topo.old }
-    requires other { is_granted_kind kind ≡ false }
-    ensures { OnOk result (IsBuilt topo.new) }
-{
-    Ok(topo.new_geom(kind, name, 7, false)?)
-}
-
-// A provider of the geom, of a megabyte.
-#[tactic(auto, using(crate::proofs::Building::provider_built))]
-fn provider_of(topo: &mut Topo<u8>, geom: GeomId, name: Name) -> Result<ProvId, Fail>
-    requires { IsBuilt topo.old }
-    ensures { OnOk result (IsBuilt topo.new) }
-{
-    let good = topo.geom(geom).is_some() && geom.number() > 2;
-    if !good || topo.is_withering(geom) || topo.is_name_taken(&name) {
-        return Err(Fail::from("no provider may be made"));
-    }
-    Ok(topo.new_provider(geom, name, 1_048_576, 512)?)
-}
-
-// A consumer of the geom, attached to the provider.
-fn consumer_of(topo: &mut Topo<u8>, geom: GeomId, prov: ProvId) -> Result<ConsId, Fail>
-    requires { IsBuilt topo.old }
-    ensures { OnOk result (IsBuilt topo.new) }
-{
-    if topo.geom(geom).is_none() {
-        return Err(Fail::from("no geom"));
-    }
-    let cons = topo.new_consumer(geom)?;
-    let free = match topo.consumer(cons) {
-        Some(consumer) => consumer.prov.is_none(),
-        None => false,
-    };
-    if !free || topo.provider(prov).is_none() {
-        return Err(Fail::from("not to be attached"));
-    }
-    match topo.attach(cons, prov) {
-        Ok(()) => Ok(cons),
-        Err(_) => Err(Fail::from("refused")),
-    }
-}
-
-// A disk's geom, and its provider.
-fn disk(topo: &mut Topo<u8>, text: &[u8]) -> Result<ProvId, Fail>
-    requires { IsBuilt topo.old }
-    ensures { OnOk result (IsBuilt topo.new) }
-{
-    let name = name(text)?;
-    let geom = geom_of(topo, Kind::Disk, name)?;
-    provider_of(topo, geom, name)
-}
 
 // A concat over two providers, which may be one, and its provider.
 fn concat(
@@ -94,16 +32,11 @@ fn concat(
     ensures { OnOk result (IsBuilt topo.new) }
 {
     let name = name(text)?;
-    let geom = geom_of(topo, Kind::Concat, name)?;
+    let geom = geom_of(topo, Kind::Concat, name, 7)?;
     consumer_of(topo, geom, first)?;
     consumer_of(topo, geom, second)?;
     let prov = provider_of(topo, geom, name)?;
     Ok((geom, prov))
-}
-
-// The name of these bytes.
-fn name(bytes: &[u8]) -> Result<Name, Fail> {
-    Ok(Name::new(bytes).ok().ok_or("not a name")?)
 }
 
 // What a handle with these counts at the provider would be answered.
@@ -122,38 +55,6 @@ fn asked<L: Ledger>(
     Ok(could_grant(topo, prov, add, steps))
 }
 
-// A new handle with these counts at the provider.
-fn open<L: Ledger>(
-    topo: &mut Topo<u8>,
-    prov: ProvId,
-    add: Counts,
-    steps: &mut Steps<L>,
-) -> Result<Result<(), GrantRefusal>, Fail>
-    requires built { IsBuilt topo.old }
-    requires some { is_zero add ≡ false }
-    ensures counted { OnOk result (IsCounted topo.new) }
-    ensures attached { OnOk result (AreAttached topo.new.topology) }
-{
-    let cons = consumer_of(topo, GeomId::new(1), prov)?;
-    if !holds_nothing(topo, cons) {
-        return Err(Fail::from("no new handle"));
-    }
-    Ok(grant(topo, cons, add, steps))
-}
-
-// Whether the consumer is of DEV, is attached and has no counts.
-fn holds_nothing(topo: &Topo<u8>, cons: ConsId) -> bool
-    ensures holder { result ≡ true → IsHolder topo.now.topology cons }
-    ensures nothing { result ≡ true → value_at topo.now.wants cons ≡ Some no_counts }
-{
-    match topo.consumer(cons) {
-        Some(consumer) => {
-            consumer.geom.number() == 1 && consumer.prov.is_some() && consumer.want == NO_COUNTS
-        }
-        None => false,
-    }
-}
-
 // A concat over a disk and a concat that stands on that same disk: what a handle that writes at it would be answered,
 // and one that reads.
 fn over_a_diamond<L: Ledger>(
@@ -166,8 +67,8 @@ fn over_a_diamond<L: Ledger>(
     requires some { L.parts ≡ 1 }
 {
     let mut steps: Steps<L> = Steps::new(blank);
-    let foot = disk(topo, b"md0")?;
-    let side = disk(topo, b"md1")?;
+    let foot = stand(topo, Kind::Disk, b"md0", 7)?;
+    let side = stand(topo, Kind::Disk, b"md1", 7)?;
     let (_, middle) = concat(topo, b"middle", foot, side)?;
     let (_, top) = concat(topo, b"top", middle, foot)?;
     let writer = asked(topo, top, ONE_WRITE, &mut steps)?;
@@ -176,7 +77,7 @@ fn over_a_diamond<L: Ledger>(
 
 // The same in a new mesh.
 fn diamond_answers(alloc: Global) -> Result<[Result<(), Errno>; 2], Fail> {
-    let mut topo = first_mesh(alloc)?;
+    let mut topo = first_mesh(alloc, 1, 2)?;
     over_a_diamond::<Brand>(&mut topo, Blank::new(1))
 }
 
@@ -192,7 +93,7 @@ fn tower(topo: &mut Topo<u8>, height: u8) -> Result<(ProvId, ProvId), Fail>
     requires { IsBuilt topo.old }
     ensures { OnOk result (IsBuilt topo.new) }
 {
-    let foot = disk(topo, b"md0")?;
+    let foot = stand(topo, Kind::Disk, b"md0", 7)?;
     let mut top = foot;
     for storey in 0..height {
         let (_, prov) = concat(topo, &[b'c', 65 + storey % 26, 65 + storey / 26], top, top)?;
@@ -218,7 +119,7 @@ fn below_thirty<L: Ledger>(topo: &mut Topo<u8>, blank: Blank) -> Result<Option<C
 
 // The same in a new mesh.
 fn thirty_below(alloc: Global) -> Result<Option<Counts>, Fail> {
-    let mut topo = first_mesh(alloc)?;
+    let mut topo = first_mesh(alloc, 1, 2)?;
     below_thirty::<Brand>(&mut topo, Blank::new(1))
 }
 
@@ -250,7 +151,7 @@ fn above_thirty<L: Ledger>(topo: &mut Topo<u8>, blank: Blank) -> Result<Result<(
 
 // The same in a new mesh.
 fn thirty_above(alloc: Global) -> Result<Result<(), Errno>, Fail> {
-    let mut topo = first_mesh(alloc)?;
+    let mut topo = first_mesh(alloc, 1, 2)?;
     above_thirty::<Brand>(&mut topo, Blank::new(1))
 }
 
@@ -283,14 +184,6 @@ fn grow<L: Ledger>(
     Ok(join(topo, cons, prov, steps))
 }
 
-// Whether no write count is noted.
-fn is_quiet(topo: &Topo<u8>) -> bool
-    requires { IsCounted topo.now }
-    ensures { result ≡ true → IsQuiet topo.now }
-{
-    topo.first_risen().is_none() && topo.first_fallen().is_none()
-}
-
 // Whether the consumer is attached to nothing, and no request is out through it.
 fn is_loose(topo: &Topo<u8>, cons: ConsId) -> bool
     ensures { result ≡ true → IsLoose topo.now cons }
@@ -313,8 +206,8 @@ fn growing<L: Ledger>(
     requires some { L.parts ≡ 1 }
 {
     let mut steps: Steps<L> = Steps::new(blank);
-    let foot = disk(topo, b"md0")?;
-    let side = disk(topo, b"md1")?;
+    let foot = stand(topo, Kind::Disk, b"md0", 7)?;
+    let side = stand(topo, Kind::Disk, b"md1", 7)?;
     let (geom, top) = concat(topo, b"top", foot, foot)?;
     if open(topo, top, ONE_READ, &mut steps)?.is_err() {
         return Err(Fail::from("refused"));
@@ -329,7 +222,7 @@ fn growing<L: Ledger>(
 
 // The same in a new mesh.
 fn grown(alloc: Global) -> Result<([Result<(), JoinRefusal>; 2], Option<Counts>), Fail> {
-    let mut topo = first_mesh(alloc)?;
+    let mut topo = first_mesh(alloc, 1, 2)?;
     growing::<Brand>(&mut topo, Blank::new(1))
 }
 

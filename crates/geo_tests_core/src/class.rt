@@ -2,6 +2,7 @@
 ghost use Rattle.std.specs.Prelude.{◌≡◌, ◌≤◌, [], ◌∷◌, None, Some, length, IfOk};
 ghost use Rattle.geo_model.specs.World.{Concat};
 
+use crate::media::table_of;
 use geo_base::{Block, ConsId, DeclineCause, Kind, Name, ProvId};
 use geo_class::{Asked, Config, Facts, Media, Shape, Taste, Verdict, judge, taste_where};
 use geo_concat::ConcatRecord;
@@ -17,22 +18,6 @@ fn facts_of(kind: Kind, sectors: u64) -> Facts {
         sector: 512,
         sectors,
     }
-}
-
-/// A table or a link with an entry of this type, first sector and number of sectors at each of two places.
-fn table_of(entries: [(u8, u32, u32); 2]) -> [u8; 512] {
-    let mut sector = [0u8; 512];
-    let (kind, first, count) = entries[0];
-    sector[450] = kind;
-    sector[454..458].copy_from_slice(&first.to_le_bytes());
-    sector[458..462].copy_from_slice(&count.to_le_bytes());
-    let (kind, first, count) = entries[1];
-    sector[466] = kind;
-    sector[470..474].copy_from_slice(&first.to_le_bytes());
-    sector[474..478].copy_from_slice(&count.to_le_bytes());
-    sector[510] = 0x55;
-    sector[511] = 0xAA;
-    sector
 }
 
 /// A label of version 2 of the volume `vol`, whose media has 3,584 bytes.

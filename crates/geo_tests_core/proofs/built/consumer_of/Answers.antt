@@ -3,10 +3,10 @@ use Rattle.geo_model.specs.Topology.{attach}
 use Rattle.geo_mesh.specs.Topo.{with_topology}
 use Rattle.geo_tests_core.specs.Built.{IsBuilt}
 use Rattle.geo_tests_core.proofs.Building.{consumer_built}
-use Rattle.geo_tests_core.proofs.access.consumer_of.Goals as goal
+use Rattle.geo_tests_core.proofs.built.consumer_of.Goals as goal
 
 pub returns-in-Ok : goal.returns-in-Ok
-returns-in-Ok c =
+returns-in-Ok g c =
     subst IsBuilt
     (sym (c.in-Ok.ensures.attached
     ∙ ap (λ (n : ℕ). with_topology c.new_consumer.new.self (attach c.new_consumer.new.self.topology n c.args.prov))

@@ -1,9 +1,9 @@
 use Rattle.std.proofs.Common.{sym, ◌∙◌}
 use Rattle.geo_tests_core.proofs.Building.{quiet_found, none_said}
-use Rattle.geo_tests_core.proofs.access.is_quiet.Goals as goal
+use Rattle.geo_tests_core.proofs.built.is_quiet.Goals as goal
 
 pub returns-then-is_none : goal.returns-then-is_none
-returns-then-is_none c = λ e.
+returns-then-is_none g c = λ e.
     quiet_found c.args.topo.now c.requires
     (sym c.first_risen.ensures.first
     ∙ none_said c.first_risen.result c.is_none.result c.is_none.ensures c.if-is_none.true)
