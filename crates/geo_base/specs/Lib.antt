@@ -7,4 +7,5 @@ pub mod Faults
 pub mod Sectors
 pub mod Images
 pub mod Written
+pub mod Shared
 pub mod RunsReader

@@ -10,6 +10,7 @@ mod kind;
 mod name;
 mod request;
 mod runs;
+mod shared;
 
 pub use block::{Block, NoMemory};
 pub use calls::Calls;
@@ -20,3 +21,4 @@ pub use kind::Kind;
 pub use name::{BadName, Name};
 pub use request::{BioCmd, Counts};
 pub use runs::{RunsRefusal, read_runs, runs_are_read_back, runs_have_one_reading, runs_text};
+pub use shared::SharedBytes;

@@ -1,5 +1,5 @@
 //! A bio goes up, and its parent gathers what its children hold.
-ghost use Rattle.std.specs.Prelude.{◌≡◌, ◌≢◌, ◌+◌, ◌<◌, ◌^◌, ◌++◌, [], IfOk, IfSome, OnOk, OnErr, MatchOption};
+ghost use Rattle.std.specs.Prelude.{◌≡◌, ◌≢◌, ◌+◌, ◌<◌, ◌^◌, ◌++◌, [], IfOk, IfSome, OnOk, OnErr, MatchOption, unwrap_or};
 ghost use Rattle.geo_slots.specs.Slots.{value_at, with_value, without};
 ghost use Rattle.std.specs.Option.{option_and_then, option_map_or};
 ghost use Rattle.geo_model.specs.Bios.{bytes_of_result};
@@ -9,31 +9,42 @@ ghost use Rattle.geo_bio.specs.Gather.{copy_of, result_given, held_error, error_
 use crate::bio::{Bio, Held, Risen};
 use crate::log_bytes::LogBytes;
 use crate::rows::{end_with, set_phase};
-use geo_base::{BioCmd, BioId, Block, Errno, NoMemory};
+use geo_base::{BioCmd, BioId, Block, Errno, NoMemory, SharedBytes};
 use geo_model::{BioResult, Phase};
 use geo_slots::Slots;
 use std::alloc::Global;
 
-// The bytes of a READ that the log keeps, copied; None where a bio holds none by their place.
-fn copied_bytes<B: LogBytes>(alloc: Global, bio: &Bio, log: &B) -> Result<Option<Block>, NoMemory>
+/// The bytes of a place of the log, once more; none where the place has none.
+pub fn copied_at<B: LogBytes>(alloc: Global, place: u64, log: &B) -> Result<SharedBytes, NoMemory>
+    ensures { IfOk result (λ copied. copied ≡ unwrap_or (B.place_bytes log.now place) []) }
+{
+    match log.bytes_at(place) {
+        Some(bytes) => bytes.copy(alloc),
+        None => Ok(SharedBytes::from_block(Block::from_vec(Vec::new(alloc)))),
+    }
+}
+
+// The bytes of a READ that the log keeps, once more; None where a bio holds none by their place.
+fn copied_bytes<B: LogBytes>(
+    alloc: Global,
+    bio: &Bio,
+    log: &B,
+) -> Result<Option<SharedBytes>, NoMemory>
     ensures { IfOk result (λ copied. copied ≡ copy_of (B.place_bytes log.now) bio.now.held) }
 {
     match &bio.held {
-        Some(Held::AtPlace(place)) => {
-            let bytes = log.bytes_at(*place).unwrap_or(&[]);
-            Ok(Some(Block::from_slice(alloc, bytes)?))
-        }
+        Some(Held::AtPlace(place)) => { Ok(Some(copied_at(alloc, *place, log)?)) }
         _ => Ok(None),
     }
 }
 
 // What a bio held, as a result.
-fn result_of(held: Option<Held>, copied: Option<Block>) -> BioResult
+fn result_of(held: Option<Held>, copied: Option<SharedBytes>) -> BioResult
     ensures { result ≡ result_given held copied }
 {
     match (held, copied) {
         (Some(Held::Failed(errno)), _) => BioResult::Failed(errno),
-        (Some(Held::Bytes(bytes)), _) => BioResult::Bytes(bytes),
+        (Some(Held::Bytes(bytes)), _) => BioResult::Bytes(SharedBytes::from_block(bytes)),
         (Some(Held::AtPlace(_)), Some(bytes)) => BioResult::Bytes(bytes),
         _ => BioResult::Done,
     }
@@ -88,6 +99,16 @@ fn first_failure(bios: &Slots<Bio>, first: u64, count: u32) -> Option<Errno>
     None
 }
 
+// The bytes of a place of the log; none where the place has none.
+fn bytes_of<B: LogBytes>(place: u64, log: &B) -> &[u8]
+    ensures { result.now ≡ unwrap_or (B.place_bytes log.now place) [] }
+{
+    match log.bytes_at(place) {
+        Some(bytes) => bytes.bytes(),
+        None => &[],
+    }
+}
+
 // Adds the bytes that a bio holds, if it holds some.
 fn push_bytes<B: LogBytes>(bytes: &mut Vec<u8>, bio: &Bio, log: &B) -> Result<(), NoMemory>
     ensures { OnOk result (bytes.new.items ≡ bytes.old.items
@@ -95,7 +116,7 @@ fn push_bytes<B: LogBytes>(bytes: &mut Vec<u8>, bio: &Bio, log: &B) -> Result<()
 {
     match &bio.held {
         Some(Held::Bytes(part)) => bytes.extend_from_slice(part.bytes())?,
-        Some(Held::AtPlace(at)) => bytes.extend_from_slice(log.bytes_at(*at).unwrap_or(&[]))?,
+        Some(Held::AtPlace(at)) => bytes.extend_from_slice(bytes_of(*at, log))?,
         _ => {}
     }
     Ok(())

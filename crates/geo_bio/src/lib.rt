@@ -11,6 +11,7 @@ mod table;
 mod targets;
 
 pub use bio::{Bio, Held, Risen};
+pub use gather::copied_at;
 pub use geo_model::{BioResult, Owner, Phase, Span};
 pub use log_bytes::LogBytes;
 pub use table::BioTable;

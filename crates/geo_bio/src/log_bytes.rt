@@ -1,6 +1,8 @@
 //! The bytes that a log keeps.
 ghost use Rattle.std.specs.Prelude.{◌≡◌, option_copied};
 
+use geo_base::SharedBytes;
+
 /// A log, as the table asks it for bytes that were delivered.
 pub trait LogBytes {
     ghost use Rattle.std.specs.Prelude.{ℕ, List, Option};
@@ -9,6 +11,6 @@ pub trait LogBytes {
     ghost place_bytes: { Self → ℕ → Option (List ℕ) };
 
     /// The bytes of a place; None exactly where the place has none.
-    fn bytes_at(&self, place: u64) -> Option<&[u8]>
+    fn bytes_at(&self, place: u64) -> Option<&SharedBytes>
         ensures { option_copied result ≡ place_bytes self.now place };
 }

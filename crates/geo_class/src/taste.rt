@@ -12,7 +12,7 @@ ghost use Rattle.geo_ebr.specs.ChainView.{chain_after, verdict_of};
 ghost use Rattle.geo_class.specs.Taste.{after_back, after_verdict, asked_of, chain_with, ended, sector_back, settled, verdict_back, verdict_with, weighed, with_link_of, with_next};
 
 use crate::verdict::judge;
-use geo_base::{Block, ConsId, Kind, ProvId};
+use geo_base::{ConsId, Kind, ProvId, SharedBytes};
 use geo_ebr::{Chain, Link};
 use geo_model::{BioResult, Facts, Shape, Verdict};
 use std::marker::Model;
@@ -249,7 +249,7 @@ impl Taste {
     }
 
     /// Takes the sector that is back, with the class that asked for it. None where none is back, and all stays.
-    fn take_sector(&mut self) -> Option<(Kind, Block)>
+    fn take_sector(&mut self) -> Option<(Kind, SharedBytes)>
         ensures sector { result ≡ sector_back self.old.asked }
         ensures taste { self.new ≡ record self.old { asked = NoClass } }
     {
@@ -291,7 +291,7 @@ impl Taste {
     }
 
     /// A class has this sector back.
-    fn put_back(&mut self, kind: Kind, sector: Block)
+    fn put_back(&mut self, kind: Kind, sector: SharedBytes)
         ensures { self.new ≡ record self.old { asked = ReadBack kind (BytesValue sector) } }
     {
         self.asked = Asked::ReadBack {
@@ -301,7 +301,7 @@ impl Taste {
     }
 
     /// A verdict on a sector is known: where it is accepted it is kept.
-    fn settle(&mut self, kind: Kind, sector: Block, verdict: &Verdict)
+    fn settle(&mut self, kind: Kind, sector: SharedBytes, verdict: &Verdict)
         ensures { self.new ≡ settled self.old kind sector verdict.now }
     {
         match verdict {

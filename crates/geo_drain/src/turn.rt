@@ -88,7 +88,7 @@ fn take<D: Disk>(
         return Err(DrainRefusal::NoMemory);
     };
     make(mesh, Step::Take { disk, bio })?;
-    let got = answer(last_request(mesh), disks, room);
+    let got = answer(alloc, last_request(mesh), disks, room);
     deliver(mesh, bio, got);
     Ok(())
 }
@@ -115,8 +115,13 @@ fn request_in(outcome: &Outcome) -> &Request
     }
 }
 
-// The answer of the drive of the request's disk.
-fn answer<D: Disk>(request: &Request, disks: &mut [Drive<D>], room: Block) -> DeviceResult
+// The answer of the drive of the request's disk. The bytes of a READ are shared, so that its reply needs no copy.
+fn answer<D: Disk>(
+    alloc: Global,
+    request: &Request,
+    disks: &mut [Drive<D>],
+    room: Block,
+) -> DeviceResult
     requires inside { request.now.disk < length disks.old }
     requires can { IsSomeAnd
         (slice_get (map (drive_view D.held D.sector_bytes D.sector_count D.calls D.faults) disks.old) request.now.disk)
@@ -129,7 +134,7 @@ fn answer<D: Disk>(request: &Request, disks: &mut [Drive<D>], room: Block) -> De
         (map (drive_view D.held D.sector_bytes D.sector_count D.calls D.faults) disks.new) result }
 {
     let drive = &mut disks[request.disk as usize];
-    serve(drive, request, room)
+    serve(drive, request, room).share(alloc)
 }
 
 // Delivers an answer that fits, which is never refused.

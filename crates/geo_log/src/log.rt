@@ -2,7 +2,7 @@
 ghost use Rattle.std.specs.Prelude.{◌≡◌, ◌+◌, ◌-◌, ◌≤◌, [], ◌∷◌, ◌++◌, length, IsOk, OnOk, OnErr, option_copied};
 ghost use Rattle.geo_log.specs.Places.{delivered};
 
-use geo_base::NoMemory;
+use geo_base::{NoMemory, SharedBytes};
 use geo_bio::LogBytes;
 use geo_model::{DeviceResult, Entry, Step};
 use std::alloc::Global;
@@ -70,12 +70,12 @@ impl Log {
 }
 
 // The bytes that an entry delivered; None where it is no Deliver, or one without bytes.
-fn delivered(entry: &Entry) -> Option<&[u8]>
+fn delivered(entry: &Entry) -> Option<&SharedBytes>
     ensures { option_copied result ≡ delivered entry.now }
 {
     match &entry.step {
         Step::Deliver { got, .. } => match got {
-            DeviceResult::Bytes(bytes) => Some(bytes.bytes()),
+            DeviceResult::Bytes(bytes) => Some(bytes),
             _ => None,
         },
         _ => None,
@@ -88,7 +88,7 @@ impl LogBytes for Log {
 
     ghost place_bytes = { λ log. delivered_at log.items };
 
-    fn bytes_at(&self, place: u64) -> Option<&[u8]> {
+    fn bytes_at(&self, place: u64) -> Option<&SharedBytes> {
         match self.entries.get(place as usize) {
             Some(entry) => delivered(entry),
             None => None,

@@ -2,7 +2,9 @@
 ghost use Rattle.std.specs.Prelude.{◌≡◌, IfOk};
 
 use crate::listing::MeshList;
-use geo_base::{BioCmd, BioId, Block, ConsId, Errno, GeomId, HandleId, NoMemory, ProvId};
+use geo_base::{
+    BioCmd, BioId, Block, ConsId, Errno, GeomId, HandleId, NoMemory, ProvId, SharedBytes,
+};
 use std::alloc::Global;
 
 /// An event of the queue.
@@ -37,7 +39,7 @@ pub enum Owner {
 #[derive(Debug, Drop)]
 pub enum BioResult {
     Done,
-    Bytes(Block),
+    Bytes(SharedBytes),
     Failed(Errno),
 }
 
@@ -57,9 +59,22 @@ impl BioResult {
 /// What a disk answered; `done` is how many sectors of the request were done before it failed.
 #[derive(Debug, Drop)]
 pub enum DeviceResult {
-    Bytes(Block),
+    Bytes(SharedBytes),
     Done,
     Failed { done: u32 },
+}
+
+impl DeviceResult {
+    /// The same answer, whose bytes a reply takes over without a copy. Where memory is wanting they are copied then.
+    pub fn share(self, alloc: Global) -> DeviceResult
+        ensures { result ≡ self }
+    {
+        match self {
+            DeviceResult::Bytes(bytes) => DeviceResult::Bytes(bytes.share(alloc)),
+            DeviceResult::Done => DeviceResult::Done,
+            DeviceResult::Failed { done } => DeviceResult::Failed { done },
+        }
+    }
 }
 
 /// A request to a disk, in sectors.
@@ -126,7 +141,7 @@ pub enum Found {
 #[derive(Debug, Drop)]
 pub enum Reply {
     Ok,
-    Bytes(Block),
+    Bytes(SharedBytes),
     Refused(Errno),
     Listing(MeshList),
 }

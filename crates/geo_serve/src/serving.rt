@@ -4,7 +4,7 @@ ghost use Rattle.geo_base.specs.declared.request.BioCmd.TheVariants as cmds;
 ghost use Rattle.geo_serve.specs.Drives.{drive_view};
 ghost use Rattle.geo_serve.specs.Serve.{CanServe, HasRoom, Serves, answer_of};
 
-use geo_base::{BioCmd, Block};
+use geo_base::{BioCmd, Block, SharedBytes};
 use geo_disk::{Disk, DiskFailed, Drive};
 use geo_model::{DeviceResult, Request};
 
@@ -37,7 +37,7 @@ fn read<D: Disk>(disk: &mut Drive<D>, request: &Request, mut room: Block) -> Dev
     let len = request.count * disk.sector_size();
     room.cut(len);
     match disk.read(request.first, room.bytes_mut()) {
-        Ok(()) => DeviceResult::Bytes(room),
+        Ok(()) => DeviceResult::Bytes(SharedBytes::from_block(room)),
         Err(_) => DeviceResult::Failed { done: 0 },
     }
 }

@@ -3,7 +3,7 @@ ghost use Rattle.std.specs.Prelude.{◌≡◌, ◌^◌, ◌<◌, length, IfOk};
 ghost use Rattle.geo_model.specs.World.{is_down, is_sent, is_busy, is_up};
 ghost use Rattle.geo_bio.specs.BioTable.{has_phase};
 
-use geo_base::{BioCmd, BioId, Block, ConsId, Errno, HandleId, NoMemory, ProvId};
+use geo_base::{BioCmd, BioId, Block, ConsId, Errno, HandleId, NoMemory, ProvId, SharedBytes};
 use geo_bio::{BioResult, BioTable, LogBytes, Owner, Phase, Risen, Span, Targets};
 use geo_model::Piece;
 use geo_range::PieceList;
@@ -13,7 +13,7 @@ use std::test::Fail;
 // A log whose place p has the p-th page.
 #[derive(Drop)]
 struct Pages {
-    pages: Vec<Block>,
+    pages: Vec<SharedBytes>,
 }
 
 impl LogBytes for Pages {
@@ -21,11 +21,8 @@ impl LogBytes for Pages {
 
     ghost place_bytes = { λ log place. slice_get log.pages.items place };
 
-    fn bytes_at(&self, place: u64) -> Option<&[u8]> {
-        match self.pages.get(place as usize) {
-            Some(page) => Some(page.bytes()),
-            None => None,
-        }
+    fn bytes_at(&self, place: u64) -> Option<&SharedBytes> {
+        self.pages.get(place as usize)
     }
 }
 
@@ -34,7 +31,8 @@ fn numbered_pages(alloc: Global, count: u8) -> Result<Pages, NoMemory> {
     let mut pages = Vec::new(alloc);
     for number in 0..count {
         let page = [number; 512];
-        pages.push(Block::from_slice(alloc, &page)?)?;
+        let block = Block::from_slice(alloc, &page)?;
+        pages.push(SharedBytes::from_block(block))?;
     }
     Ok(Pages { pages })
 }

@@ -1,5 +1,5 @@
 //! What no clause says: that there is memory, and a log with a Deliver.
-use geo_base::{BioId, Block};
+use geo_base::{BioId, Block, SharedBytes};
 use geo_bio::LogBytes;
 use geo_log::{DeviceResult, Entry, Log, Outcome, Step};
 use std::alloc::Global;
@@ -17,7 +17,7 @@ fn entry(step: Step, outcome: Outcome) -> Entry {
 // Three entries, of which the second delivers two bytes. How many bytes each place has.
 fn one_deliver(log: &mut Log, alloc: Global) -> Result<[Option<usize>; 3], Fail> {
     log.reserve(3)?;
-    let bytes = Block::from_slice(alloc, b"ok")?;
+    let bytes = SharedBytes::from_block(Block::from_slice(alloc, b"ok")?);
     let got = DeviceResult::Bytes(bytes);
     let bio = BioId::new(1);
     log.push(entry(Step::Event, Outcome::Ran));

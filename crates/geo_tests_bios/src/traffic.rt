@@ -3,7 +3,7 @@ ghost use Rattle.std.specs.Prelude.{◌≡◌};
 ghost use Rattle.geo_model.specs.World.{is_down, is_sent, is_busy, is_up};
 ghost use Rattle.geo_bio.specs.BioTable.{has_phase};
 
-use geo_base::{BioCmd, BioId, Block, ConsId, Errno, HandleId, NoMemory, ProvId};
+use geo_base::{BioCmd, BioId, Block, ConsId, Errno, HandleId, NoMemory, ProvId, SharedBytes};
 use geo_log::{DeviceResult, Entry, Log, Outcome, Step};
 use geo_model::Piece;
 use geo_range::PieceList;
@@ -133,7 +133,7 @@ fn deliver(
     bio: u64,
 ) -> Result<[u64; 5], Fail> {
     let fill = [(bio % 256) as u8; 512];
-    let got = DeviceResult::Bytes(Block::from_slice(alloc, &fill)?);
+    let got = DeviceResult::Bytes(SharedBytes::from_block(Block::from_slice(alloc, &fill)?));
     let bio = BioId::new(bio);
     if !is_busy(traffic, bio) {
         return Err("not busy".into());

@@ -13,8 +13,10 @@ ghost use Rattle.geo_traffic.specs.Traffic.{first_in, count_in};
 ghost use Rattle.geo_traffic.specs.Cursors.{up_after, family_size, gone_by};
 
 use crate::cursor::{Cursor, Due, with_last, with_one, without_one};
-use geo_base::{BioCmd, BioId, Block, ConsId, Errno, NoMemory, ProvId};
-use geo_bio::{Bio, BioResult, BioTable, Held, LogBytes, Owner, Phase, Risen, Span, Targets};
+use geo_base::{BioCmd, BioId, Block, ConsId, Errno, NoMemory, ProvId, SharedBytes};
+use geo_bio::{
+    Bio, BioResult, BioTable, Held, LogBytes, Owner, Phase, Risen, Span, Targets, copied_at,
+};
 use geo_range::PieceList;
 use std::alloc::Global;
 use std::marker::Model;
@@ -291,11 +293,10 @@ fn copy_of<B: LogBytes>(alloc: Global, held: &Option<Held>, log: &B) -> Result<B
     ensures { IfOk result (λ got. got ≡ resolved (B.place_bytes log.now) held.now) }
 {
     match held {
-        Some(Held::Bytes(bytes)) => Ok(BioResult::Bytes(bytes.copy(alloc)?)),
-        Some(Held::AtPlace(place)) => {
-            let bytes = log.bytes_at(*place).unwrap_or(&[]);
-            Ok(BioResult::Bytes(Block::from_slice(alloc, bytes)?))
-        }
+        Some(Held::Bytes(bytes)) => Ok(BioResult::Bytes(SharedBytes::from_block(bytes.copy(
+            alloc,
+        )?))),
+        Some(Held::AtPlace(place)) => Ok(BioResult::Bytes(copied_at(alloc, *place, log)?)),
         Some(Held::Failed(errno)) => Ok(BioResult::Failed(*errno)),
         _ => Ok(BioResult::Done),
     }

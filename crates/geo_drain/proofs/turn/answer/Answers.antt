@@ -24,6 +24,6 @@ returns g c =
       old = seen (slice_index_or c.args.disks.now c.args.request.now.disk c.index-disks-request.result);
       is_its = seen_at seen c.args.disks.now c.args.request.now.disk c.index-disks-request.result c.requires.inside;
       new = seen c.serve.new.disk;
-      serves = c.serve.ensures;
+      serves = rw c.share.ensures c.serve.ensures;
       drives = map-set seen c.args.disks.now c.args.request.now.disk c.serve.new.disk;
     }

@@ -30,4 +30,4 @@ returns-in-Ok g c =
     let bytes : length c.read.new.out ≡ c.args.request.now.count * sector = c.read.auto.out ∙ lent in
     let many : length c.read.new.out / sector ≡ c.args.request.now.count =
     sectors_in sector c.args.request.now.count (length c.read.new.out) c.requires.can.some_size bytes in
-    rw all (search rules)
+    rw (c.from_block.ensures ∙ all) (search rules)
