@@ -1,7 +1,8 @@
 -- A consumer that was made and is taken away again leaves nothing but a number that is used up.
-use Rattle.std.specs.Prelude.{◌≡◌, ◌≢◌, ℕ, ◌+◌, ◌==◌, Bool, true, false, not, ◌&&◌, List, [], ◌∷◌, ◌++◌, length, map, filter, Option, Some, None, Contains, unwrap_or, if◌then◌else◌}
+use Rattle.std.specs.Prelude.{◌≡◌, ◌≢◌, ℕ, ◌+◌, ◌==◌, Bool, true, false, not, List, [], ◌∷◌, ◌++◌, length, map, filter, Option, Some, None, Contains, unwrap_or, if◌then◌else◌}
 use Rattle.std.specs.Option.{option_map_or}
 use Rattle.std.proofs.Common.{refl, sym, ◌∙◌, ap, subst, arith, inl, inr, eq-eqb}
+use Rattle.std.proofs.Math.Bool.{and-not_self}
 use Rattle.std.proofs.lemmas.Bool.{ne_eqb}
 use Rattle.std.proofs.lemmas.List.{map-append}
 use Rattle.std.proofs.lemmas.List.Elements.{filter-append, Contains-append_left, Contains-append_right}
@@ -296,11 +297,7 @@ module _ {C : Type 0} (t : TopoView C) (geom : ℕ) (sound : IsSoundGraph t.topo
         ∙ stays_zero (have (granted_by t) t.topology z.number))))
       where
         stays_zero : (a : Counts) → leaves_zero a a ≡ false
-        stays_zero a = by (a.w == 0)
-          where
-            by : (b : Bool) → (b && not b) ≡ false
-            by true = refl
-            by false = refl
+        stays_zero a = and-not_self (a.w == 0)
 
     -- that it joined has it attached, and nothing else
     joined_is : joined_view mesh n prov ≡ on mesh n prov

@@ -1,6 +1,7 @@
 -- The end of a grant that nothing refuses.
-use Rattle.std.specs.Prelude.{◌≡◌, ◌≢◌, ℕ, ◌==◌, Bool, true, false, not, ◌&&◌, List, [], map, fold, Option, Some, None, IsSome, IsSomeAnd, IfSome, Contains, if◌then◌else◌}
+use Rattle.std.specs.Prelude.{◌≡◌, ◌≢◌, ℕ, ◌==◌, Bool, true, false, List, [], map, fold, Option, Some, None, IsSome, IsSomeAnd, IfSome, Contains, if◌then◌else◌}
 use Rattle.std.proofs.Common.{refl, sym, ◌∙◌, ap, subst, inl, inr, eq-eqb}
+use Rattle.std.proofs.Math.Bool.{and-not_self}
 use Rattle.std.proofs.lemmas.Bool.{cases_eq, ne_eqb}
 use Rattle.std.proofs.lemmas.List.Elements.{All-contains}
 use Rattle.geo_base.specs.declared.request.Counts.{Counts}
@@ -186,11 +187,6 @@ module _ {C : Type 0} (t : TopoView C) (sound : IsSoundGraph t.topology) (counte
       ∙ ap (add_counts (want (granted_by t) t.topology c)) (demand.flow.around c there (has_not its_order c.geom away))
       ∙ add-zero (want (granted_by t) t.topology c)))
 
-  -- a count that stays leaves no zero
-  stays_zero : (b : Bool) → (b && not b) ≡ false
-  stays_zero true = refl
-  stays_zero false = refl
-
   -- the end of the walk, with the holder's own counts
   pub grant_end : with_want (fold (finish_geom (Some Rises)) new (order_of new o)) cons add ≡ granted_view t cons add
   grant_end =
@@ -218,7 +214,7 @@ module _ {C : Type 0} (t : TopoView C) (sound : IsSoundGraph t.topology) (counte
       (leaves_zero (have (granted_by t) t.topology z.number) (have after t.topology z.number))
       (λ inside. ap (leaves_zero (have (granted_by t) t.topology z.number)) (shifted_have z there))
       (λ away. sym (ap (leaves_zero (have (granted_by t) t.topology z.number)) (sym (outside_have z there away))
-      ∙ stays_zero ((have (granted_by t) t.topology z.number).w == 0))))
+      ∙ and-not_self ((have (granted_by t) t.topology z.number).w == 0))))
       (λ z there.
       ap (λ (x : Cell). x.fallen) (all.cells z there)
       ∙ cell_of (λ (x : Cell). x.fallen) (has_number its_order z.geom) z

@@ -1,7 +1,8 @@
 -- The end of a join that nothing refuses.
-use Rattle.std.specs.Prelude.{◌≡◌, ◌≢◌, ℕ, ◌==◌, Bool, true, false, not, ◌&&◌, List, [], ◌∷◌, map, fold, Option, Some, None, IsSome, IsSomeAnd, IfSome, Contains, if◌then◌else◌}
+use Rattle.std.specs.Prelude.{◌≡◌, ◌≢◌, ℕ, ◌==◌, Bool, true, false, List, [], ◌∷◌, map, fold, Option, Some, None, IsSome, IsSomeAnd, IfSome, Contains, if◌then◌else◌}
 use Rattle.std.specs.Option.{option_map_or}
 use Rattle.std.proofs.Common.{refl, sym, ◌∙◌, ap, subst, inl, inr, eq-eqb}
+use Rattle.std.proofs.Math.Bool.{and-not_self}
 use Rattle.std.proofs.lemmas.Bool.{eqb-true, cases_eq, ne_eqb}
 use Rattle.std.proofs.lemmas.List.Elements.{All-contains}
 use Rattle.geo_base.specs.declared.request.Counts.{Counts}
@@ -366,11 +367,6 @@ module _ {C : Type 0} (t : TopoView C) (sound : IsSoundGraph t.topology) (cons :
       ∙ ap (add_counts (want granted t.topology c)) (demand.flow.around c there (has_not its_order c.geom away))
       ∙ add-zero (want granted t.topology c)))
 
-  -- a count that stays leaves no zero
-  stays_zero : (b : Bool) → (b && not b) ≡ false
-  stays_zero true = refl
-  stays_zero false = refl
-
   -- a part of a cell
   cell_of : {V : Type 0} (see : Cell → V) (b : Bool) (z : Provider)
       → see (if b then kept_cell Rises (parts.cells z.number) else parts.cells z.number)
@@ -406,7 +402,7 @@ module _ {C : Type 0} (t : TopoView C) (sound : IsSoundGraph t.topology) (cons :
       (leaves_zero (have granted t.topology z.number) (have granted u z.number))
       (λ inside. ap (leaves_zero (have granted t.topology z.number)) (shifted_have z there))
       (λ away. sym (ap (leaves_zero (have granted t.topology z.number)) (sym (outside_have z there away))
-      ∙ stays_zero ((have granted t.topology z.number).w == 0))))
+      ∙ and-not_self ((have granted t.topology z.number).w == 0))))
       (λ z there.
       ap (λ (x : Cell). x.fallen) (all.cells z there)
       ∙ cell_of (λ (x : Cell). x.fallen) (has_number its_order z.geom) z

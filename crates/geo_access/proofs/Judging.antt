@@ -2,7 +2,7 @@
 use Rattle.std.specs.Prelude.{◌≡◌, ◌≢◌, ◌⊎◌, ℕ, ◌==◌, ◌≤◌, min, Bool, true, false, not, ◌&&◌, cond, List, [], ◌∷◌, flat_map, find, fold, Option, Some, None, Contains, option_map, if◌then◌else◌}
 use Rattle.std.specs.Option.{option_map_or, option_and_then, option_or}
 use Rattle.std.proofs.Common.{refl, sym, ◌∙◌, ap, subst, arith, inl, inr, eq-eqb}
-use Rattle.std.proofs.lemmas.Bool.{cases_eq, cases_lt, ne_eqb}
+use Rattle.std.proofs.lemmas.Bool.{cases_eq, cases_lt, ne_eqb, and_parts}
 use Rattle.std.proofs.lemmas.List.Sums.{fold-append}
 use Rattle.geo_base.specs.declared.request.Counts.{Counts}
 use Rattle.geo_model.specs.Words.{names_number}
@@ -176,7 +176,7 @@ find_none test (y ∷ ys) none x there = step (test y) refl none (λ h rest. fin
     ]
 
 -- a mapped option is there where the option is
-mapped_none : {X : Type 0} (f : X → ℕ) (o : Option X) → option_map f o ≡ None → o ≡ None
+pub mapped_none : {X Y : Type 0} (f : X → Y) (o : Option X) → option_map f o ≡ None → o ≡ None
 mapped_none f None e = refl
 mapped_none f (Some x) e = absurd (cc)
 
@@ -199,12 +199,6 @@ zero_min n =
 pub side-cap : (side : Side) (a : Counts) → has_side side (cap a) ≡ has_side side a
 side-cap Writes a = ap not (zero_min a.w)
 side-cap Excludes a = ap not (zero_min a.e)
-
--- two tests hold
-both_true : (a b : Bool) → (a && b) ≡ true → (a ≡ true) × (b ≡ true)
-both_true true true e = (refl, refl)
-both_true true false e = absurd (cc)
-both_true false b e = absurd (cc)
 
 -- a test that doesn't hold beside one that does
 second_false : (a b : Bool) → (a && b) ≡ false → a ≡ true → b ≡ false
@@ -241,7 +235,7 @@ module _ {C : Type 0} (v : TopoView C) (u : Consumer → Counts)
       let test : Consumer → Bool = λ c. not (c.number == but) && has_side side (raised v c) in
       let one = mapped_some (λ (c : Consumer). c.number) (find test (attached_to v.topology q)) n found in
       let is = find_some test (attached_to v.topology q) one.0 one.1 in
-      let tests = both_true (not (one.0.number == but)) (has_side side (raised v one.0)) is.1 in
+      let tests = and_parts (not (one.0.number == but)) (has_side side (raised v one.0)) is.1 in
       record {
         one = one.0;
         at = is.0;

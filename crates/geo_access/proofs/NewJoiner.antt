@@ -1,5 +1,5 @@
 -- A consumer just made may join.
-use Rattle.std.specs.Prelude.{◌≡◌, ◌≢◌, ℕ, ◌==◌, Bool, true, false, List, [], ◌∷◌, ◌++◌, map, filter, find, Option, Some, None, IsSomeAnd, Contains, unwrap_or, option_map, if◌then◌else◌}
+use Rattle.std.specs.Prelude.{◌≡◌, ◌≢◌, ℕ, ◌==◌, Bool, true, false, List, [], ◌∷◌, ◌++◌, map, filter, find, Some, None, IsSomeAnd, Contains, unwrap_or, option_map, if◌then◌else◌}
 use Rattle.std.specs.Option.{option_map_or}
 use Rattle.std.proofs.Common.{refl, sym, ◌∙◌, ap, subst, inl, inr, eq-eqb}
 use Rattle.std.proofs.lemmas.Bool.{cases_eq, ne_eqb}
@@ -26,6 +26,7 @@ use Rattle.geo_access.specs.JoinLaws.{NewConsumersMayJoin}
 use Rattle.geo_access.proofs.Clearing.{rows-same_on}
 use Rattle.geo_access.proofs.Decided.{item_at, consumer_known}
 use Rattle.geo_access.proofs.Coming.{find_left, find_last}
+use Rattle.geo_access.proofs.Judging.{mapped_none}
 
 -- where none passes, the last is found
 find_behind : {X : Type 0} (test : X → Bool) (xs : List X) (y : X) → find test xs ≡ None → test y ≡ true
@@ -38,11 +39,6 @@ find_behind {X} test (x ∷ xs) y none passes = by (test x) none (λ rest. find_
         → (if b then Some x else find test (xs ++ y ∷ [])) ≡ Some y
     by true never so = absurd (cc)
     by false rest so = so rest
-
--- nothing is seen of nothing
-seen_none : {X Y : Type 0} (f : X → Y) (o : Option X) → option_map f o ≡ None → o ≡ None
-seen_none f None none = refl
-seen_none f (Some x) none = absurd (cc)
 
 module _ {C : Type 0} (t : TopoView C) (geom : ℕ) where
   -- its number, and it
@@ -209,7 +205,7 @@ module _ {C : Type 0} (t : TopoView C) (geom : ℕ) where
       idle =
           ap (option_map {T = ℕ × ℕ} (λ r. r.1))
           (find_behind (λ (r : ℕ × ℕ). r.0 == n) t.active (n, 0)
-          (seen_none (λ (r : ℕ × ℕ). r.1) (find (λ (r : ℕ × ℕ). r.0 == n) t.active) none) (eq-eqb n n refl));
+          (mapped_none (λ (r : ℕ × ℕ). r.1) (find (λ (r : ℕ × ℕ). r.0 == n) t.active) none) (eq-eqb n n refl));
     }
 
 -- so a new consumer may join

@@ -1,7 +1,8 @@
 -- The end of a demand: what is lost below comes out of the counts, once each.
-use Rattle.std.specs.Prelude.{◌≡◌, ◌≢◌, ℕ, ◌==◌, Bool, true, false, not, ◌&&◌, List, [], map, fold, Option, Some, None, IsSome, IsSomeAnd, IfSome, Contains, All, unwrap_or, if◌then◌else◌}
+use Rattle.std.specs.Prelude.{◌≡◌, ◌≢◌, ℕ, ◌==◌, Bool, true, false, List, [], map, fold, Option, Some, None, IsSome, IsSomeAnd, IfSome, Contains, All, unwrap_or, if◌then◌else◌}
 use Rattle.std.specs.Option.{option_map_or}
 use Rattle.std.proofs.Common.{refl, sym, ◌∙◌, ap, subst, arith, inl, inr, eq-eqb}
+use Rattle.std.proofs.Math.Bool.{not-and_self}
 use Rattle.std.proofs.lemmas.Bool.{cases_eq, ne_eqb}
 use Rattle.std.proofs.lemmas.List.Elements.{All-contains}
 use Rattle.geo_base.specs.declared.request.Counts.{Counts}
@@ -264,11 +265,6 @@ module _ {C : Type 0} (t : TopoView C) (sound : IsSoundGraph t.topology) (counte
         ∙ none_less (want after t.topology c) (want (granted_by t) t.topology c) less (sym lost
         ∙ demand.flow.around c there (has_not its_order c.geom away)))
 
-    -- a count that stays comes to no zero
-    stays_zero : (b : Bool) → (not b && b) ≡ false
-    stays_zero true = refl
-    stays_zero false = refl
-
     cell_of : {V : Type 0} (see : Cell → V) (b : Bool) (z : Provider)
         → see (if b then kept_cell Falls ((tried_parts t sound counted tries).cells z.number) else
         (tried_parts t sound counted tries).cells z.number)
@@ -308,7 +304,7 @@ module _ {C : Type 0} (t : TopoView C) (sound : IsSoundGraph t.topology) (counte
         (λ inside. ap (comes_to_zero (have (granted_by t) t.topology z.number)) (shifted_have z there))
         (λ away. sym
         (ap (comes_to_zero (have (granted_by t) t.topology z.number)) (sym (outside_have z there away))
-        ∙ stays_zero ((have (granted_by t) t.topology z.number).w == 0))))
+        ∙ not-and_self ((have (granted_by t) t.topology z.number).w == 0))))
         (λ z there.
         ap (λ (x : Cell). x.gain) (all.cells z there)
         ∙ cell_of (λ (x : Cell). x.gain) (has_number its_order z.geom) z

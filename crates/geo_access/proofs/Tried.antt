@@ -2,8 +2,7 @@
 use Rattle.std.specs.Prelude.{◌≡◌, ℕ, zero, suc, ◌+◌, ◌-◌, ◌==◌, ◌≤◌, ◌^◌, min, Bool, true, false, not, ◌&&◌, List, [], ◌∷◌, length, map, filter_map, fold, Option, Some, None, IsSome, Contains, option_map, if◌then◌else◌}
 use Rattle.std.specs.List.{cons_option, list_all}
 use Rattle.std.specs.Option.{option_map_or, option_and_then}
-use Rattle.std.proofs.Common.{refl, sym, ◌∙◌, ap, subst, arith, inl, inr, eq-eqb}
-use Rattle.std.proofs.lemmas.Bool.{cases_eq, ne_eqb}
+use Rattle.std.proofs.Common.{refl, sym, ◌∙◌, ap, subst, arith}
 use Rattle.std.proofs.lemmas.List.Elements.{All-contains}
 use Rattle.geo_base.specs.declared.request.Counts.{Counts}
 use Rattle.geo_base.specs.declared.kind.Kind.{Kind}
@@ -25,6 +24,7 @@ use Rattle.geo_access.specs.declared.counts.Weight.{Weight}
 use Rattle.geo_access.specs.Tries.{had, made_of}
 use Rattle.geo_access.specs.Views.{Gathered, mark_at, gain_at, have_at, put_geom, visit, visit_under, weigh}
 use Rattle.geo_access.proofs.Walking.{found_in, offerer_lives}
+use Rattle.geo_access.proofs.Judging.{zero_min}
 use Rattle.geo_access.proofs.Trying.{rows_of, rows-same, geom_tries, provider_tries, Tries, some_of, trying, trying-mark, trying-geom, head_or, link_in, kept_order, order_tries, link_zero}
 
 -- mesh tries that agree are the same mesh
@@ -189,15 +189,7 @@ module _ {C : Type 0} (t : TopoView C) (sound : IsSoundGraph t.topology) (end : 
 
 -- What a class makes of what is gained
 
--- a count is zero just where it is so stopped
-zero_min : (n : ℕ) → (min n 4294967295 == 0) ≡ (n == 0)
-zero_min n =
-    elim (cases_eq n 0) [
-      | inl none ↦ eq-eqb (min n 4294967295) 0 (omega arith) ∙ sym (eq-eqb n 0 none)
-      | inr some ↦ ne_eqb (min n 4294967295) 0 (λ none. some (omega arith)) ∙ sym (ne_eqb n 0 some)
-    ]
-
--- and so for counts
+-- counts are zero just where they are so stopped
 pub is_zero-cap : (a : Counts) → is_zero (cap a) ≡ is_zero a
 is_zero-cap a =
     ap (λ b. b && ((min a.w 4294967295 == 0) && (min a.e 4294967295 == 0))) (zero_min a.r)

@@ -3,6 +3,7 @@ use Rattle.std.specs.Prelude.{◌≡◌, ◌≢◌, ◌⊎◌, ℕ, ◌==◌, �
 use Rattle.std.specs.List.{list_any}
 use Rattle.std.specs.Option.{option_or, option_map_or}
 use Rattle.std.proofs.Common.{refl, sym, ◌∙◌, ap, subst, arith, inl, inr, eq-eqb}
+use Rattle.std.proofs.Math.Bool.{or-true}
 use Rattle.std.proofs.lemmas.Bool.{eqb-true, cases_eq, ne_eqb, ltb-true, ltb-false}
 use Rattle.std.proofs.lemmas.List.Elements.{All-contains}
 use Rattle.geo_base.specs.declared.request.Counts.{Counts}
@@ -136,12 +137,8 @@ any_true test [] x there passes = absurd (in_nothing x there)
 any_true test (y ∷ ys) x there passes =
     elim (in_cases y ys x there) [
       | inl same ↦ ap (λ b. b || list_any test ys) (ap test same ∙ passes)
-      | inr rest ↦ ap (λ b. test y || b) (any_true test ys x rest passes) ∙ either (test y)
+      | inr rest ↦ ap (λ b. test y || b) (any_true test ys x rest passes) ∙ or-true (test y)
     ]
-  where
-    either : (b : Bool) → (b || true) ≡ true
-    either true = refl
-    either false = refl
 
 module _ {C : Type 0} (t : Topology C) (known : (z : Provider) → Contains t.providers z
     → provider_at t z.number ≡ Some z)

@@ -1,6 +1,7 @@
 -- What a command does, from what the calls below say of it.
-use Rattle.std.specs.Prelude.{◌≡◌, ◌≢◌, ℕ, ◌==◌, Bool, true, false, ◌&&◌, List, [], length, Option, Result, IfOk}
+use Rattle.std.specs.Prelude.{◌≡◌, ◌≢◌, ℕ, ◌==◌, true, false, ◌&&◌, List, [], length, Option, Result, IfOk}
 use Rattle.std.proofs.Common.{refl, sym, ◌∙◌, ap, subst, inl, inr}
+use Rattle.std.proofs.Math.Bool.{and-false}
 use Rattle.std.proofs.lemmas.Bool.{ne_eqb}
 use Rattle.geo_base.specs.declared.errno.Errno.{Errno}
 use Rattle.geo_base.specs.declared.kind.Kind.{Kind}
@@ -39,16 +40,12 @@ some_counts a grant =
       | inr rest ↦ elim rest [ inl w ↦ second w | inr e ↦ third e ]
     ]
   where
-    no : (b : Bool) → (b && false) ≡ false
-    no true = refl
-    no false = refl
-
     second : a.w ≢ 0 → is_zero a ≡ false
-    second w = ap (λ b. (a.r == 0) && (b && (a.e == 0))) (ne_eqb a.w 0 w) ∙ no (a.r == 0)
+    second w = ap (λ b. (a.r == 0) && (b && (a.e == 0))) (ne_eqb a.w 0 w) ∙ and-false (a.r == 0)
 
     third : a.e ≢ 0 → is_zero a ≡ false
     third e = ap (λ b. (a.r == 0) && ((a.w == 0) && b)) (ne_eqb a.e 0 e)
-        ∙ ap (λ b. (a.r == 0) && b) (no (a.w == 0)) ∙ no (a.r == 0)
+        ∙ ap (λ b. (a.r == 0) && b) (and-false (a.w == 0)) ∙ and-false (a.r == 0)
 
 -- what the command of a line does is what was done, where the command is the one that was made
 pub by_command : {E : Type 0} (line actor : ℕ) (command made : Command) → command ≡ made → (log : List Entry)

@@ -33,7 +33,7 @@ use Rattle.geo_core.specs.Mesh.{world_of}
 use Rattle.geo_core.specs.Running.{seen, world_now, is_idle, IsMesh}
 use Rattle.geo_laws_graph.proofs.Lists.{found_itself}
 use Rattle.geo_laws_graph.proofs.Members.{find-Contains}
-use Rattle.geo_state.proofs.Lists.{find-same, find-none}
+use Rattle.geo_state.proofs.Lists.{find-same, find-none, none-mapped}
 use Rattle.geo_core.proofs.Meshes.{mesh_firm}
 
 -- the first bio that passes, as a step by its number
@@ -113,10 +113,6 @@ module _ (w : World) (firm : Firm w) (none : NoneBusy w) where
 
 -- what is first by its number
 
-none_first : (o : Option (BioOf Held)) → option_map (λ (x : BioOf Held). x.number) o ≡ None → o ≡ None
-none_first None e = refl
-none_first (Some x) e = absurd (let no : ⊥ = cc in no)
-
 some_first : (o : Option (BioOf Held)) (bio : ℕ) → option_map (λ (x : BioOf Held). x.number) o ≡ Some bio
     → (x : BioOf Held) × (o ≡ Some x) × (x.number ≡ bio)
 some_first None bio e = absurd (let no : ⊥ = cc in no)
@@ -143,7 +139,7 @@ module _ (r : Running) (is : IsMesh r) (none : NoneBusy (world_of (seen r))) whe
   pub take_none : first_in is_sent bios ≡ None
       → first_bio (world_of (seen r)) (is_to_take (world_of (seen r))) (take_step (world_of (seen r))) ≡ None
   take_none e =
-      let o = none_first (find (λ (x : BioOf Held). is_sent x.phase) bios) e in
+      let o = none-mapped (λ (x : BioOf Held). x.number) (find (λ (x : BioOf Held). is_sent x.phase) bios) e in
       ap (option_map (take_step (world_of (seen r)))) (first_of ∙ ap (option_map (shown_bio log)) o)
 
   pub take_some : AreInOrder r.state.traffic → (bio disk : ℕ) → first_in is_sent bios ≡ Some bio

@@ -1,10 +1,11 @@
 -- The commands that are left, by their places.
-use Rattle.std.specs.Prelude.{◌≡◌, ℕ, zero, suc, ◌+◌, ◌==◌, ◌<◌, ◌≤◌, true, false, List, [], ◌∷◌, ◌++◌, length, map, Option, Some, None, Ok, Err, IsOk, IfSome, slice_get, slice_set}
+use Rattle.std.specs.Prelude.{◌≡◌, ℕ, zero, suc, ◌+◌, ◌==◌, ◌≤◌, true, false, List, [], ◌∷◌, ◌++◌, length, map, Option, Some, None, Ok, Err, IsOk, IfSome, slice_get, slice_set}
 use Rattle.std.specs.List.{enumerate_from, range_with_len, list_all}
 use Rattle.std.specs.Option.{option_map}
 use Rattle.std.proofs.Common.{refl, sym, ◌∙◌, ap, subst, arith, add-one, add-zero, zero-add}
 use Rattle.std.proofs.lemmas.Bool.{eq-eqb, ne_eqb}
-use Rattle.std.proofs.lemmas.List.{length_push}
+use Rattle.std.proofs.lemmas.List.{length_push, map_push}
+use Rattle.std.proofs.lemmas.Option.{slice_get_within}
 use Rattle.geo_model.specs.declared.command.LineCommand.{LineCommand}
 use Rattle.geo_model.specs.declared.step.Found.TheVariants.{NoSuchActor, NoCommand}
 use Rattle.geo_model.specs.World.{Plan}
@@ -44,10 +45,6 @@ range-more : (a n j : ℕ) → j ≡ a + n → range_with_len a (suc n) ≡ rang
 range-more a zero j e = let same : a ≡ j = omega (arith, e) in ap (λ (m : ℕ). m ∷ []) same
 range-more a (suc n) j e = ap (λ (rest : List ℕ). a ∷ rest) (range-more (a + 1) n j (omega (arith, e)))
 
-pub map-push : {X Y : Type 0} (f : X → Y) (xs : List X) (x : X) → map f (xs ++ x ∷ []) ≡ map f xs ++ f x ∷ []
-map-push f [] x = refl
-map-push {X} {Y} f (y ∷ xs) x = ap (λ (rest : List Y). f y ∷ rest) (map-push f xs x)
-
 -- the commands from a place on
 
 -- a command of the actor is the first from its place on
@@ -76,11 +73,6 @@ nothing (x ∷ xs) actor (suc place) at = nothing xs actor place at
 pub past : {X : Type 0} (xs : List X) → slice_get xs (length xs) ≡ None
 past [] = refl
 past (x ∷ xs) = past xs
-
-inside : {X : Type 0} (xs : List X) (i : ℕ) (x : X) → slice_get xs i ≡ Some x → i < length xs
-inside [] i x at = absurd (let no : ⊥ = cc in no)
-inside (y ∷ xs) zero x at = omega arith
-inside (y ∷ xs) (suc i) x at = let less = inside xs i x at in omega (arith, less)
 
 -- what an actor has left, and what comes after its next command
 
@@ -148,7 +140,7 @@ module _ (plan : Plan) (places : List ℕ) (next : AreNext plan places) (actor :
     by None end =
         absurd (let no : IsOk (next_of left) = some in let e = no_command place at end in
         let wrong : ⊥ = cc (e, no) in wrong)
-    by (Some c) has = let less = inside plan.commands place c has in omega (arith, less)
+    by (Some c) has = let less = slice_get_within plan.commands place c has in omega (arith, less)
 
 -- an actor that has a next command has a place
 pub has_place : (plan : Plan) (places : List ℕ) (actor : ℕ)
@@ -208,7 +200,7 @@ module _ (commands : List LineCommand) where
     by (Some c) has =
         let of : c.actor ≡ actor = rw has at is.own in
         let first = here commands actor place c has (eq-eqb c.actor actor of) in
-        let less = inside commands place c has in
+        let less = slice_get_within commands place c has in
         ap (λ (rest : List LineCommand). length rest == 0) first ∙ some (left_from commands actor (suc place))
         ∙ sym (ne_eqb place (length commands) (λ same. omega (arith, less, same)))
 
@@ -263,5 +255,5 @@ first-push commands places actors place first is skips =
       left = push-from commands 0 places place actors long
           ∙ ap (λ (xs : List (List LineCommand)). xs ++ left_from commands actors place ∷ []) first.left
           ∙ ap (λ (c : List LineCommand). map f (range_with_len 0 actors) ++ c ∷ []) skips
-          ∙ sym (map-push f (range_with_len 0 actors) actors) ∙ ap (map f) (sym more);
+          ∙ sym (map_push f (range_with_len 0 actors) actors) ∙ ap (map f) (sym more);
     }

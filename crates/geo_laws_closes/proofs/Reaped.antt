@@ -3,7 +3,7 @@ use Rattle.std.specs.Prelude.{◌≡◌, ◌≢◌, ℕ, ◌==◌, Bool, true, f
 use Rattle.std.specs.List.{AllByRecursion}
 use Rattle.std.specs.Option.{option_map_or}
 use Rattle.std.proofs.Common.{refl, sym, ◌∙◌, ap, subst}
-use Rattle.std.proofs.lemmas.Bool.{eq-eqb, ne_eqb, and_parts}
+use Rattle.std.proofs.lemmas.Bool.{eq-eqb, ne_eqb, and_parts, not-true}
 use Rattle.std.proofs.lemmas.List.Elements.{All-contains, All-map}
 use Rattle.std.proofs.lemmas.List.Sums.{length-filter}
 use Rattle.geo_model.specs.declared.step.Found.TheVariants as refusals
@@ -133,11 +133,7 @@ module _ (w : World) (firm : Firm w) (h : Handle) (here : Contains w.handles h) 
 pub idle_by : (w : World) (o : Option ℕ) (n : ℕ) → o ≡ Some n
     → option_map_or (λ c. not (is_active w c)) o false ≡ true
     → is_active w n ≡ false
-idle_by w o n is passes = off (is_active w n) (rw is at passes) where
-  -- a test
-  off : (b : Bool) → not b ≡ true → b ≡ false
-  off true e = absurd (let bad : ⊥ = cc in bad)
-  off false e = refl
+idle_by w o n is passes = not-true (is_active w n) (rw is at passes)
 
 -- by the consumer of the handle
 reap_by : (w : World) (h : Handle) (o : Option ℕ) → h.consumer ≡ o → reap_work w ≡ Some h → Firm w

@@ -1,9 +1,9 @@
 -- What follows a change of write counts, and what events do: a firm world stays firm.
-use Rattle.std.specs.Prelude.{◌≡◌, ◌≢◌, ◌⊎◌, ℕ, ◌==◌, Bool, true, false, not, ◌&&◌, ◌||◌, List, [], ◌∷◌, filter, fold, Option, Some, None, All, Contains, IsSome, MatchOption}
+use Rattle.std.specs.Prelude.{◌≡◌, ◌≢◌, ◌⊎◌, ℕ, ◌==◌, true, false, not, ◌&&◌, ◌||◌, List, [], ◌∷◌, filter, fold, Option, Some, None, All, Contains, IsSome, MatchOption}
 use Rattle.std.specs.List.{AllByRecursion}
 use Rattle.std.specs.Option.{option_map_or, option_and_then}
 use Rattle.std.proofs.Common.{inl, inr, refl, sym, ◌∙◌, ap, subst}
-use Rattle.std.proofs.lemmas.Bool.{eq-eqb, and_parts}
+use Rattle.std.proofs.lemmas.Bool.{eq-eqb, and_parts, or_parts}
 use Rattle.std.proofs.lemmas.List.Elements.{All-contains, All-head, All-tail, All-map, All-filter}
 use Rattle.geo_base.specs.declared.kind.Kind.TheVariants as kinds
 use Rattle.geo_model.specs.declared.step.Event.TheVariants as events
@@ -31,19 +31,14 @@ offered_lives : (t : Topology Config) (o : Option Provider)
 offered_lives t None e = not_set (sym e)
 offered_lives t (Some x) e = refl
 
--- neither of two where not one of them
-not_either : (a b : Bool) → (a || b) ≡ false → b ≡ false
-not_either true b e = not_set (sym e)
-not_either false b e = e
-
 -- an offer
 pub offered-firm : (w : World) (p : ℕ) → Firm w → Firm (with_queued w (offer_again (queued_of w) p))
 offered-firm w p firm =
     whichever-firm w (queued_of w) (post (queued_of w) (events.NewProvider p))
     (is_errored w.topology p || option_map_or (λ (g : Geom Config). g.withering) (geom_of_provider w.topology p) true)
     (λ e. firm) (λ e. posted-firm w (events.NewProvider p) (offered_lives w.topology (provider_at w.topology p)
-    (not_either (is_errored w.topology p) (option_map_or (λ (g : Geom Config). g.withering)
-    (geom_of_provider w.topology p) true) e)) firm)
+    (or_parts (is_errored w.topology p) (option_map_or (λ (g : Geom Config). g.withering)
+    (geom_of_provider w.topology p) true) e).1) firm)
 
 -- offers at some providers
 pub fallen-firm : (ps : List ℕ) (w : World) → Firm w → Firm (with_queued w (announce_fallen ps (queued_of w)))

@@ -5,7 +5,7 @@ use Rattle.std.specs.List.{AllByRecursion, list_all}
 use Rattle.std.proofs.Common.{refl, sym, ◌∙◌, ap, arith, subst}
 use Rattle.std.proofs.lemmas.Bool.Decides.{nat_tests}
 use Rattle.std.proofs.lemmas.Bool.{le-leb, lt-ltb}
-use Rattle.std.proofs.lemmas.Fmt.{length-decimal-le}
+use Rattle.std.proofs.lemmas.Fmt.{length-decimal-le, decimal_nonempty}
 use Rattle.std.proofs.lemmas.List.{append_assoc, length-append}
 use Rattle.geo_base.specs.Name.{is_name, is_short_name}
 use Rattle.geo_base.specs.Runs.{ByteRun, hex_digit}
@@ -15,7 +15,7 @@ use Rattle.geo_model.specs.declared.command.Command.TheVariants as commands
 use Rattle.geo_model.specs.Script.{is_digit, Words, by_word, command_table, counts_of, fitting_bytes, hex_value, is_decimal, number_of, run_of, runs_in, value_of}
 use Rattle.geo_model.specs.Generator.{byte_text, command_text, handle_text, len_text, offset_text, open_counts, open_provider}
 use Rattle.geo_laws_generator.proofs.Clean.{IsClean, is_clean_byte, line_of}
-use Rattle.geo_laws_generator.proofs.Numbers.{decimal_read, number_read, value_read, written_digits, written_some}
+use Rattle.geo_laws_generator.proofs.Numbers.{decimal_read, number_read, value_read, written_digits}
 
 -- a text is that of clean words, and these are read as a command
 pub record IsCommandText (text : List ℕ) : Type 0 where
@@ -57,7 +57,7 @@ digit_clean (b ∷ bs) all = by (is_digit b) refl all (digit_clean bs)
 -- a number is written clean
 written_clean : (n : ℕ) → n < 2 ^ 64 → IsClean (decimal n)
 written_clean n fits =
-    record { some_byte = written_some n fits; bytes = digit_clean (decimal n) (written_digits n fits) }
+    record { some_byte = decimal_nonempty n fits; bytes = digit_clean (decimal n) (written_digits n fits) }
 
 -- a number's word
 number_word : (n : ℕ) → n < 1000000 → IsNumberWord (decimal n)

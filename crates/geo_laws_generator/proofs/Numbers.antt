@@ -38,10 +38,6 @@ decimal_from_digits (b ∷ bs) digits some first =
 pub written_digits : (n : ℕ) → n < 2 ^ 64 → AreDigits (decimal n)
 written_digits n fits = digits_decimal own n fits
 
--- at least one
-pub written_some : (n : ℕ) → n < 2 ^ 64 → 0 < length (decimal n)
-written_some n fits = decimal_nonempty n fits
-
 -- it is read as decimal
 pub decimal_read : (n : ℕ) → n < 2 ^ 64 → is_decimal (decimal n) ≡ true
 unfolding digits

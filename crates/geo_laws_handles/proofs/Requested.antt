@@ -2,7 +2,7 @@
 use Rattle.std.specs.Prelude.{◌≡◌, ◌≢◌, ℕ, ◌+◌, ◌-◌, ◌<◌, ◌≤◌, ◌%◌, ◌==◌, nat_lt, Bool, true, false, not, ◌&&◌, ◌||◌, List, [], ◌∷◌, find, Option, Some, None, Contains, IsTrue, option_and_then, if◌then◌else◌, unwrap_or}
 use Rattle.std.specs.Option.{option_map_or}
 use Rattle.std.proofs.Common.{inl, refl, sym, ◌∙◌, ap, subst, arith}
-use Rattle.std.proofs.lemmas.Bool.{eq-eqb, eqb-true, eqb-false, or_parts, not-false, ltb-false}
+use Rattle.std.proofs.lemmas.Bool.{eq-eqb, eqb-true, eqb-false, or_parts, not-false, ltb-false, not-true}
 use Rattle.std.proofs.lemmas.List.Elements.{All-contains}
 use Rattle.geo_base.specs.declared.request.BioCmd.TheVariants as cmds
 use Rattle.geo_base.specs.declared.request.Counts.{Counts}
@@ -57,21 +57,11 @@ not_zero n e = let some : n ≢ 0 = eqb-false n 0 e in omega arith
 may : (b : Bool) (g : Counts) → not (if b then not (g.r == 0) else not (g.w == 0)) ≡ false
     → (IsTrue b → 0 < g.r) × (b ≡ false → 0 < g.w)
 may true g e =
-    let some : 1 ≤ g.r = not_zero g.r (none (g.r == 0) e) in
+    let some : 1 ≤ g.r = not_zero g.r (not-true (g.r == 0) (not-false (not (g.r == 0)) e)) in
     ((λ is. omega arith), (λ other. absurd (let bad : ⊥ = cc in bad)))
-  where
-    -- a test that isn't not not
-    none : (b : Bool) → not (not b) ≡ false → b ≡ false
-    none true e = absurd (let bad : ⊥ = cc in bad)
-    none false e = refl
 may false g e =
-    let some : 1 ≤ g.w = not_zero g.w (none (g.w == 0) e) in
+    let some : 1 ≤ g.w = not_zero g.w (not-true (g.w == 0) (not-false (not (g.w == 0)) e)) in
     ((λ is. absurd (let bad : ⊥ = cc in bad)), (λ other. omega arith))
-  where
-    -- a test that isn't not not
-    none : (b : Bool) → not (not b) ≡ false → b ≡ false
-    none true e = absurd (let bad : ⊥ = cc in bad)
-    none false e = refl
 
 -- what is found by an option stands
 and_then-stands : (t : Topology Config) (o : Option ℕ) (p : Provider) → option_and_then (provider_at t) o ≡ Some p

@@ -1,8 +1,9 @@
 -- A new root of a line that is Down: a firm mesh stays firm.
-use Rattle.std.specs.Prelude.{◌≡◌, ◌↔◌, ℕ, ◌+◌, ◌≤◌, ◌==◌, Bool, true, false, ◌||◌, List, [], ◌∷◌, ◌++◌, length, map, count_by, Option, Some, None, IsSome, IsSomeAnd, IsTrue}
+use Rattle.std.specs.Prelude.{◌≡◌, ◌↔◌, ℕ, ◌+◌, ◌≤◌, ◌==◌, Bool, false, ◌||◌, List, [], ◌∷◌, ◌++◌, length, map, count_by, Option, Some, None, IsSome, IsSomeAnd, IsTrue}
 use Rattle.std.specs.List.{enumerate_from, list_all, list_any}
 use Rattle.std.specs.Option.{option_map_or}
 use Rattle.std.proofs.Common.{refl, sym, ◌∙◌, ap, subst}
+use Rattle.std.proofs.Math.Bool.{or-false}
 use Rattle.std.proofs.lemmas.List.Elements.{All-weaker, All-push}
 use Rattle.std.proofs.lemmas.List.Quantifiers.{all_pairs_push}
 use Rattle.std.proofs.lemmas.List.Sums.{length-filter}
@@ -118,7 +119,7 @@ module _ (w : World) (x : Bio) (handle line : ℕ) (firm : Firm w) (number : x.n
     read_out = subst (λ (b : Bool). IsTrue b ↔ IsTrue (option_map_or (λ s. is_read_out s.asked) w.taste false))
         (sym (any-pushed (λ (z : Bio). is_taste_root z.owner) w.bios x
         ∙ ap (λ b. list_any (λ (z : Bio). is_taste_root z.owner) w.bios || b) no_read
-        ∙ or_none (list_any (λ (z : Bio). is_taste_root z.owner) w.bios)))
+        ∙ or-false (list_any (λ (z : Bio). is_taste_root z.owner) w.bios)))
         hold.read_out;
     owners = All-push (λ (z : Bio). ComesFromItsOwner v z z.owner) w.bios x
         (All-weaker (λ (z : Bio). ComesFromItsOwner w z z.owner) (λ (z : Bio). ComesFromItsOwner v z z.owner)
@@ -135,11 +136,6 @@ module _ (w : World) (x : Bio) (handle line : ℕ) (firm : Firm w) (number : x.n
     };
   }
     where
-      -- one more that isn't
-      or_none : (b : Bool) → (b || false) ≡ b
-      or_none true = refl
-      or_none false = refl
-
       -- as many read for a taste
       same_reads : count_by (λ (z : Bio). is_taste_root z.owner) v.bios
           ≡ count_by (λ (z : Bio). is_taste_root z.owner) w.bios

@@ -84,6 +84,14 @@ up_names b m none up =
     let it_is : is_up_of b m.entry.step ≡ true = rw up (eq-eqb b b refl) in
     both_ways (is_up_of b m.entry.step) not_up it_is
 
+-- an entry of a list of one is that one
+pub only_one : (x y : Entry) → Contains (y ∷ []) x → x ≡ y
+only_one x y here =
+    elim (Contains-cases y x [] here) [
+      | inl same ↦ sym same
+      | inr rest ↦ absurd (nothing_in x rest)
+    ]
+
 -- a bio that is complete stays so, where a step doesn't name it
 pub completed_stays : (h : List Moment) (m : Moment) (a : Acceptance) → AreTaken h
     → names_bio a.bio m.entry.step ≡ false → IsCompleted h a → IsCompleted (h ++ m ∷ []) a
@@ -108,13 +116,6 @@ completed_stays h m a taken none done = record {
   where
     other : is_reply_to a.bio m.entry ≡ false
     other = no_reply a.bio m none
-
-    only_one : (x y : Entry) → Contains (y ∷ []) x → x ≡ y
-    only_one x y here =
-        elim (Contains-cases y x [] here) [
-          | inl same ↦ sym same
-          | inr rest ↦ absurd (nothing_in x rest)
-        ]
 
     any_before : list_any (is_reply_to a.bio) (entries_of (h ++ m ∷ [])) ≡ list_any (is_reply_to a.bio) (entries_of h)
     any_before =

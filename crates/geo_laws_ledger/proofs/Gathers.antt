@@ -1,8 +1,8 @@
 -- The Up of a child keeps the ledger: it is Done, and the last one brings up its parent with the joined result.
-use Rattle.std.specs.Prelude.{◌≡◌, ◌≢◌, ℕ, ◌<◌, ◌≤◌, ◌==◌, ◌&&◌, ◌||◌, Bool, true, false, not, List, [], ◌∷◌, ◌++◌, map, filter, find, Option, Some, None, option_map, MatchOption, IsSomeAnd, All, Contains}
+use Rattle.std.specs.Prelude.{◌≡◌, ◌≢◌, ℕ, ◌<◌, ◌≤◌, ◌==◌, ◌||◌, Bool, true, false, not, List, [], ◌∷◌, ◌++◌, map, filter, find, Option, Some, None, option_map, MatchOption, IsSomeAnd, All, Contains}
 use Rattle.std.specs.List.{AllByRecursion}
 use Rattle.std.proofs.Common.{refl, sym, ◌∙◌, ap, append-nil, subst, arith}
-use Rattle.std.proofs.lemmas.Bool.{both_ways, eq-eqb, eqb-true, ne_eqb, not-true, or_left}
+use Rattle.std.proofs.lemmas.Bool.{both_ways, eq-eqb, eqb-true, ne_eqb, not-true, or_left, and_right}
 use Rattle.std.proofs.lemmas.List.Elements.{All-append, All-contains, All-filter, All-from_recursion, filter_passes, recursion_from_All}
 use Rattle.geo_model.specs.declared.step.BioResult.{BioResult}
 use Rattle.geo_model.specs.declared.step.Outcome.{Outcome}
@@ -55,17 +55,12 @@ phase_waiting phases.Waiting e = refl
 phase_waiting phases.Up e = absurd (let bad : ⊥ = cc in bad)
 phase_waiting phases.Done e = absurd (let bad : ⊥ = cc in bad)
 
--- what isn't so beside anything isn't so
-pub and_no : (a b : Bool) → b ≡ false → (a && b) ≡ false
-and_no true b e = e
-and_no false b e = refl
-
 -- an Up that gathers is no reply to any bio
 gather_unreplied : (h : List Moment) (m : Moment) (n : ℕ) → is_reply m.entry.outcome ≡ false
     → All (λ z. is_reply_to n z.entry ≡ false) h → All (λ z. is_reply_to n z.entry ≡ false) (h ++ m ∷ [])
 gather_unreplied h m n no_reply none =
     All-append (λ z. is_reply_to n z.entry ≡ false) h (m ∷ []) none
-    (All-from_recursion (λ z. is_reply_to n z.entry ≡ false) (m ∷ []) (and_no _ _ no_reply, tt))
+    (All-from_recursion (λ z. is_reply_to n z.entry ≡ false) (m ∷ []) (and_right _ _ no_reply, tt))
 
 -- the result of a bio that is Up
 pub result_up : (h : List Moment) (w : World) (x : Bio) → IsLogged h w x → (is_up x.phase || is_done x.phase) ≡ true

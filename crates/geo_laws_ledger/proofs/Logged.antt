@@ -94,6 +94,12 @@ result_stays h m w v x r on has = record {
       (covers_stay w v x (leaves h x.number) on.its_map (has.covers success));
 }
 
+-- so for one that may be there
+some_stays : (h : List Moment) (m : Moment) (w v : World) (x : Bio) → GoesOn h m w v x → (o : Option BioResult)
+    → IsSomeAnd o (HasResult h w x) → IsSomeAnd o (HasResult (h ++ m ∷ []) v x)
+some_stays h m w v x on None some = absurd some
+some_stays h m w v x on (Some r) some = result_stays h m w v x r on some
+
 -- by its phase
 so_far_stays : (h : List Moment) (m : Moment) (w v : World) (x : Bio) → GoesOn h m w v x → (p : Phase)
     → SoFar h w x p → SoFar (h ++ m ∷ []) v x p
@@ -119,16 +125,8 @@ so_far_stays h m w v x on phases.Waiting so = record {
   children = on.children ∙ so.children;
   cmd = so.cmd;
 }
-so_far_stays h m w v x on phases.Up so = by x.result so
-  where
-    by : (o : Option BioResult) → IsSomeAnd o (HasResult h w x) → IsSomeAnd o (HasResult (h ++ m ∷ []) v x)
-    by None some = absurd some
-    by (Some r) some = result_stays h m w v x r on some
-so_far_stays h m w v x on phases.Done so = by x.result so
-  where
-    by : (o : Option BioResult) → IsSomeAnd o (HasResult h w x) → IsSomeAnd o (HasResult (h ++ m ∷ []) v x)
-    by None some = absurd some
-    by (Some r) some = result_stays h m w v x r on some
+so_far_stays h m w v x on phases.Up so = some_stays h m w v x on x.result so
+so_far_stays h m w v x on phases.Done so = some_stays h m w v x on x.result so
 
 -- a step that isn't the Up of a bio is no reply to it
 pub no_reply : (b : ℕ) (m : Moment) → names_bio b m.entry.step ≡ false → is_reply_to b m.entry ≡ false

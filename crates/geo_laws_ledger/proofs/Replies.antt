@@ -16,7 +16,7 @@ use Rattle.geo_model.specs.Bios.{reply_of_result}
 use Rattle.geo_model.specs.Log.{Moment}
 use Rattle.geo_model.specs.Results.{Covers, CoversEnds, CoversRange, Leaf, entries_of, leaves, result_of}
 use Rattle.geo_model.specs.History.{Acceptance, CoversFrom, IsSuccess, RepliesWithResult, is_reply_to}
-use Rattle.geo_laws_graph.proofs.Members.{All-from_contained, Contains-cases, nothing_in}
+use Rattle.geo_laws_graph.proofs.Members.{All-from_contained}
 use Rattle.geo_laws_graph.proofs.Numbered.{filter-pushed_hit, number_found}
 use Rattle.geo_laws_bios.proofs.Items.{none_kept}
 use Rattle.geo_laws_histories.proofs.Looks.{entries_of_both}
@@ -26,6 +26,7 @@ use Rattle.geo_laws_ledger.specs.Covering.{CoversThere}
 use Rattle.geo_laws_ledger.specs.Ledger.{HasResult, IsCompleted, IsLogged, IsOnItsWay, IsSameRequest, Ledger}
 use Rattle.geo_laws_ledger.proofs.Covered.{covers_request, covers_stay}
 use Rattle.geo_laws_ledger.proofs.Quiet.{moment_of}
+use Rattle.geo_laws_ledger.proofs.Accounted.{only_one}
 use Rattle.geo_laws_ledger.proofs.Roots.{same_map_back, same_request_back}
 
 -- of what a bio covers in the world of now, from the world of its acceptance
@@ -110,13 +111,6 @@ module _ (h : List Moment) (w v : World) (seat b : ℕ) (line : ℕ) (r : BioRes
     replied = one_reply a.bio it;
   }
     where
-      only_one : (e f : Entry) → Contains (f ∷ []) e → e ≡ f
-      only_one e f here =
-          elim (Contains-cases f e [] here) [
-            | inl one ↦ sym one
-            | inr rest ↦ absurd (nothing_in e rest)
-          ]
-
       this_one : (e : Entry) (l : ℕ) (given : Reply) → e ≡ this.entry → e.outcome ≡ outcomes.Replied l given
           → RepliesWithResult a (h ++ this ∷ []) l given
       this_one e l given one is =

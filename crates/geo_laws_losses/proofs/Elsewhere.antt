@@ -1,9 +1,9 @@
 -- What tasting may cost where a rank changes of a geom that offers nothing, and where providers go.
-use Rattle.std.specs.Prelude.{◌≡◌, ◌≢◌, ◌⊎◌, ℕ, ◌+◌, ◌*◌, ◌<◌, ◌≤◌, ◌==◌, Bool, true, false, not, ◌||◌, List, [], ◌∷◌, filter, length, sum_by, Option, Some, None, Contains, option_and_then}
+use Rattle.std.specs.Prelude.{◌≡◌, ◌≢◌, ◌⊎◌, ℕ, ◌+◌, ◌*◌, ◌<◌, ◌≤◌, ◌==◌, Bool, true, false, not, List, [], ◌∷◌, filter, length, sum_by, Option, Some, None, Contains, option_and_then}
 use Rattle.std.specs.List.{AllByRecursion, list_any}
 use Rattle.std.specs.Option.{option_map_or}
 use Rattle.std.proofs.Common.{inl, inr, refl, sym, ◌∙◌, ap, subst, arith}
-use Rattle.std.proofs.lemmas.Bool.{eq-eqb}
+use Rattle.std.proofs.lemmas.Bool.{eq-eqb, or_parts}
 use Rattle.std.proofs.lemmas.List.Sums.{sum_by-cons}
 use Rattle.std.proofs.Math.Nat.{mul-le-mul_left}
 use Rattle.geo_model.specs.declared.step.Event.{Event}
@@ -82,11 +82,6 @@ left_most v w cheaper (Some s) =
     let times = mul-le-mul_left (makes_left s.asked + sum_by can_make s.classes) (cheaper s.provider 1) in
     omega (arith, times)
 
--- neither of two
-pub neither : (a b : Bool) → (a || b) ≡ false → (a ≡ false) × (b ≡ false)
-neither true b e = absurd cc
-neither false b e = (refl, e)
-
 -- what isn't an offer costs nothing
 no_offer : (v : World) (e : Event) → is_offer e ≡ false → event_weight v e ≡ 0
 no_offer v (events.NewProvider p) none = absurd cc
@@ -101,8 +96,8 @@ no_offers v (e ∷ es) none =
     omega (
       arith,
       sum_by-cons (event_weight v) e es,
-      no_offer v e (neither (is_offer e) (list_any is_offer es) none).0,
-      no_offers v es (neither (is_offer e) (list_any is_offer es) none).1,
+      no_offer v e (or_parts (is_offer e) (list_any is_offer es) none).0,
+      no_offers v es (or_parts (is_offer e) (list_any is_offer es) none).1,
     )
 
 -- Lengths

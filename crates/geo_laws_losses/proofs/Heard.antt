@@ -3,7 +3,7 @@ use Rattle.std.specs.Prelude.{◌≡◌, ◌≢◌, ◌⊎◌, ℕ, suc, ◌+◌
 use Rattle.std.specs.List.{AllByRecursion}
 use Rattle.std.specs.Option.{option_map_or}
 use Rattle.std.proofs.Common.{inl, inr, refl, sym, ◌∙◌, ap, subst, arith}
-use Rattle.std.proofs.lemmas.Bool.{cases_lt, le-leb}
+use Rattle.std.proofs.lemmas.Bool.{cases_lt, le-leb, or_parts}
 use Rattle.std.proofs.lemmas.List.Elements.{All-contains}
 use Rattle.std.proofs.lemmas.List.Sums.{sum_by-cons, sum_by_push}
 use Rattle.geo_base.specs.declared.request.Counts.{Counts}
@@ -33,7 +33,7 @@ use Rattle.geo_laws_measure.proofs.Sums.{sum_mapped}
 use Rattle.geo_laws_measure.proofs.Costs.{KeepsRanks, rank_same, weights_same, left_same, weight_some}
 use Rattle.geo_laws_losses.specs.LossLaws.{EventsLower}
 use Rattle.geo_laws_losses.proofs.Losing.{losses_in, InOrder, OnlyLoses, spoil_loses, orphan_loses_all, outgrow_loses}
-use Rattle.geo_laws_losses.proofs.Elsewhere.{elsewhere, neither}
+use Rattle.geo_laws_losses.proofs.Elsewhere.{elsewhere}
 
 -- Handles that die
 
@@ -85,14 +85,14 @@ low_by : (w : World) (p : ℕ) (o : Option (Geom Config)) → geom_of_provider w
     → option_map_or (λ g. rank w.topology g.number) o taste_limit < taste_limit
 low_by w p None e fine = absurd cc
 low_by w p (Some g) e fine =
-    below_limit (rank w.topology g.number) (neither g.withering (nat_le taste_limit
+    below_limit (rank w.topology g.number) (or_parts g.withering (nat_le taste_limit
     (rank w.topology g.number)) fine).1
 
 -- so
 low : (w : World) (p : ℕ) → is_not_tasted (granted_in w) w.topology p ≡ false → rank_of_provider w p < taste_limit
 low w p fine =
-    let one = neither (is_errored w.topology p) _ fine in
-    let two = neither (option_map_or (λ g. g.withering || nat_le taste_limit (rank w.topology g.number))
+    let one = or_parts (is_errored w.topology p) _ fine in
+    let two = or_parts (option_map_or (λ g. g.withering || nat_le taste_limit (rank w.topology g.number))
     (geom_of_provider w.topology p) true) (not ((have (granted_in w) w.topology p).w == 0)) one.1 in
     low_by w p (geom_of_provider w.topology p) refl two.0
 

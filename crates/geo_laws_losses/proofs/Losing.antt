@@ -4,6 +4,7 @@ use Rattle.std.specs.Prelude.{◌≡◌, ◌≢◌, ◌⊎◌, ℕ, ◌+◌, ◌
 use Rattle.std.specs.List.{AllByRecursion}
 use Rattle.std.specs.Option.{option_map_or}
 use Rattle.std.proofs.Common.{inl, inr, refl, sym, ◌∙◌, ap, subst, arith}
+use Rattle.std.proofs.lemmas.Bool.{not-true}
 use Rattle.std.proofs.lemmas.List.Sums.{sum_by_push}
 use Rattle.geo_base.specs.declared.request.Counts.{Counts}
 use Rattle.geo_model.specs.declared.step.Event.{Event}
@@ -149,14 +150,10 @@ wither_loses q g order =
     let same : origin.item.number ≡ n = origin.fact in
     subst (IsFine t) same
     (subst (λ (o : Option Provider). IsSomeAnd o (λ x. x.errored ≡ false)) (sym found)
-    (fine_flag origin.item.errored kept.1))) in
+    (not-true origin.item.errored kept.1))) in
     loses_twice q begun (wither q g)
     (record { losses = omega arith; order = order; ranks = withering_ranks t g; costs = λ u. refl })
-    (orphans_lose (map (λ (x : Provider). x.number) its) 0 t.next_provider begun order rise fine) where
-      -- what isn't true is false
-      fine_flag : (b : Bool) → not b ≡ true → b ≡ false
-      fine_flag true is = absurd cc
-      fine_flag false is = refl
+    (orphans_lose (map (λ (x : Provider). x.number) its) 0 t.next_provider begun order rise fine)
 
 -- unless it does already
 pub unless_loses : (q : QueuedTopology Config) (g : ℕ) → InOrder q → OnlyLoses q (wither_unless_withering q g)

@@ -3,7 +3,7 @@ use Rattle.std.specs.Prelude.{◌≡◌, ◌≢◌, ◌⊎◌, ℕ, ◌+◌, ◌
 use Rattle.std.specs.List.{AllByRecursion, list_any}
 use Rattle.std.specs.Option.{option_map_or, option_or}
 use Rattle.std.proofs.Common.{inl, inr, refl, sym, ◌∙◌, ap, subst, arith}
-use Rattle.std.proofs.lemmas.Bool.{eq-eqb}
+use Rattle.std.proofs.lemmas.Bool.{eq-eqb, or_parts}
 use Rattle.std.proofs.lemmas.Bool.Decides.{eqb_tells}
 use Rattle.geo_model.specs.declared.step.Event.{Event}
 use Rattle.geo_model.specs.declared.step.Found.{Found}
@@ -40,7 +40,7 @@ use Rattle.geo_laws_measure.proofs.Costs.{weight_some, weights_same, left_same}
 use Rattle.geo_laws_measure.proofs.Walks.{Keeps, StandsAs}
 use Rattle.geo_laws_measure.proofs.Turned.{now_most}
 use Rattle.geo_laws_losses.specs.LossLaws.{WashesLower}
-use Rattle.geo_laws_losses.proofs.Elsewhere.{rank_by, elsewhere, neither, Cheaper, same_cheaper, event_most, left_most, no_offers, kept_length, left_out_length}
+use Rattle.geo_laws_losses.proofs.Elsewhere.{rank_by, elsewhere, Cheaper, same_cheaper, event_most, left_most, no_offers, kept_length, left_out_length}
 
 -- What stands of what is washed
 
@@ -234,7 +234,7 @@ module _ (w : World) (firm : Firm w) where
     consumer_lower : FoundWith (consumer_at w.topology c) (IsSpent w) → Firm consumer_gone
         → (is_some w.taste || list_any is_offer w.events) ≡ false → IsLess (measure consumer_gone) (measure w)
     consumer_lower found after late =
-        let quiet = neither (is_some w.taste) (list_any is_offer w.events) late in
+        let quiet = or_parts (is_some w.taste) (list_any is_offer w.events) late in
         let queue : sum_by (event_weight consumer_gone) w.events ≡ 0 = no_offers consumer_gone w.events quiet.1 in
         let over : w.taste ≡ None = none_by w.taste quiet.0 in
         let taste : taste_left consumer_gone w.taste ≡ 0 = ap (taste_left consumer_gone) over in

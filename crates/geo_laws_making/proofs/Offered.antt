@@ -1,7 +1,8 @@
 -- The providers of a new geom, which are offered for taste one after another: what they leave as it is.
-use Rattle.std.specs.Prelude.{◌≡◌, ◌≢◌, ◌⊎◌, ℕ, ◌+◌, ◌==◌, Bool, true, false, not, ◌&&◌, ◌||◌, List, [], ◌∷◌, length, fold, Option, Some, None, All, AllPairs, Contains, IsSome, IfSome, IsTrue}
+use Rattle.std.specs.Prelude.{◌≡◌, ◌≢◌, ◌⊎◌, ℕ, ◌+◌, ◌==◌, Bool, true, false, not, ◌&&◌, List, [], ◌∷◌, length, fold, Option, Some, None, All, AllPairs, Contains, IsSome, IfSome, IsTrue}
 use Rattle.std.specs.List.{AllByRecursion}
 use Rattle.std.proofs.Common.{inl, inr, refl, sym, ◌∙◌, ap, arith, get_or}
+use Rattle.std.proofs.lemmas.Bool.{or_from}
 use Rattle.std.proofs.lemmas.List.{length-append}
 use Rattle.std.proofs.lemmas.List.Elements.{All-contains, All-push, All-weaker, Contains-push_cases, Contains-get_or}
 use Rattle.std.proofs.lemmas.List.Quantifiers.{all_pairs_push}
@@ -230,10 +231,6 @@ module _ (n sector : ℕ) where
       still_free [] free apart = tt
       still_free (y ∷ ys) free apart = (
         added-provider.taken q.topology n x.name x.size sector y.name
-            ∙ both_false (is_name_taken q.topology y.name) (same_name x.name y.name) free.0 apart.0,
+            ∙ or_from (is_name_taken q.topology y.name) (same_name x.name y.name) free.0 apart.0,
         still_free ys free.1 apart.1,
       )
-        where
-          -- neither
-          both_false : (a b : Bool) → a ≡ false → b ≡ false → (a || b) ≡ false
-          both_false a b e f = rw (e, f) refl

@@ -3,6 +3,7 @@ use Rattle.std.specs.Prelude.{◌≡◌, ℕ, ◌+◌, ◌-◌, ◌*◌, ◌/◌
 use Rattle.std.specs.List.{AllByRecursion, AllZip, list_all, enumerate_from, range_with_len}
 use Rattle.std.proofs.Common.{inl, inr, refl, sym, ◌∙◌, ap, subst, arith}
 use Rattle.std.proofs.Math.Nat.{add-mul, one-mul, div-mul_cancel, dvd_of_mod-eq-zero}
+use Rattle.std.proofs.lemmas.Bool.{not-true}
 use Rattle.std.proofs.lemmas.Grind.{flat_map-append}
 use Rattle.std.proofs.lemmas.List.{map-append, drop-drop, take_all}
 use Rattle.std.proofs.lemmas.List.Elements.{All-contains, All-append, All-nil}
@@ -463,14 +464,9 @@ module _ (w : World) (firm : Firm w) (x : Bio) (here : Contains w.bios x) (waiti
   -- so they cover it
   pub covered-by : All (IsCovered w found) cs → CoversBy w x p (flat_map found cs)
   covered-by all = record {
-    range = λ moves. range_covered (not_flush (is_flush x.cmd) moves) (children_covered all);
+    range = λ moves. range_covered (not-true (is_flush x.cmd) moves) (children_covered all);
     flush = λ flush. flush_covered flush (children_covered all);
   }
-    where
-      -- what isn't true is false
-      not_flush : (b : Bool) → not b ≡ true → b ≡ false
-      not_flush true e = absurd (let no : ⊥ = cc in no)
-      not_flush false e = refl
 
 -- so for each Waiting bio
 pub joined_covers : JoinedCovers

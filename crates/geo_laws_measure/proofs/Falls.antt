@@ -1,18 +1,13 @@
 -- The six numbers of the measure, compared from the first on.
-use Rattle.std.specs.Prelude.{◌≡◌, ◌⊎◌, ℕ, ◌+◌, ◌*◌, ◌<◌, ◌≤◌, ◌==◌, nat_lt, Bool, true, false, not, ◌&&◌, ◌||◌, List, [], ◌∷◌, length, sum_by, count_by, is_some, IsTrue}
+use Rattle.std.specs.Prelude.{◌≡◌, ◌⊎◌, ℕ, ◌+◌, ◌*◌, ◌<◌, ◌≤◌, ◌==◌, nat_lt, not, ◌&&◌, List, [], ◌∷◌, length, sum_by, count_by, is_some, IsTrue}
 use Rattle.std.proofs.Common.{inl, inr, refl, arith}
-use Rattle.std.proofs.lemmas.Bool.{lt-ltb, eq-eqb, cases_lt}
+use Rattle.std.proofs.lemmas.Bool.{lt-ltb, eq-eqb, cases_lt, or_right}
 use Rattle.geo_model.specs.World.{World}
 use Rattle.geo_model.specs.Order.{comes_before, IsLess, measure, event_weight, taste_left, is_loss, steps_left}
 
 -- a smaller first number decides
 first_less : (m n : ℕ) (ms ns : List ℕ) → m < n → IsTrue (comes_before (m ∷ ms) (n ∷ ns))
 first_less m n ms ns less = rw (lt-ltb m n less) refl
-
--- one of two truths
-either_true : (a b : Bool) → b ≡ true → (a || b) ≡ true
-either_true true b is = refl
-either_true false b is = is
 
 -- at a first number that is no greater, the rest may decide
 rest_less : (m n : ℕ) (ms ns : List ℕ) → m ≤ n → IsTrue (comes_before ms ns)
@@ -21,7 +16,7 @@ rest_less m n ms ns most rest = elim (cases_lt m n) [
   | inl less ↦ first_less m n ms ns less
   | inr least ↦
       let same : m ≡ n = omega arith in
-      either_true (nat_lt m n) ((m == n) && comes_before ms ns) (rw (eq-eqb m n same) rest)
+      or_right (nat_lt m n) ((m == n) && comes_before ms ns) (rw (eq-eqb m n same) rest)
 ]
 
 -- commands that are left

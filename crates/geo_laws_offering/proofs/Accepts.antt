@@ -2,7 +2,7 @@
 use Rattle.std.specs.Prelude.{◌≡◌, ℕ, ◌-◌, Bool, true, false, not, ◌&&◌, List, [], ◌∷◌, map, Option, Some, None, IsSomeAnd, IfSome, is_some, if◌then◌else◌}
 use Rattle.std.specs.List.{list_all}
 use Rattle.std.proofs.Common.{refl, sym, subst}
-use Rattle.std.proofs.lemmas.Bool.{and_parts}
+use Rattle.std.proofs.lemmas.Bool.{and_parts, not-true}
 use Rattle.geo_base.specs.declared.kind.Kind.{Kind}
 use Rattle.geo_base.specs.declared.kind.Kind.TheVariants as kinds
 use Rattle.geo_model.specs.declared.class.Shape.{Shape}
@@ -34,11 +34,6 @@ config-upright : (t : Topology Config) (g : ℕ) (config : Config) (o : Option (
 config-upright t g config None e upright = absurd upright
 config-upright t g config (Some x) e upright =
     subst (λ o. IsSomeAnd o (λ y. y.withering ≡ false)) (sym (config-found.here t g config x e)) upright
-
--- not true is false
-not-true : (b : Bool) → not b ≡ true → b ≡ false
-not-true true e = absurd (let bad : ⊥ = cc in bad)
-not-true false e = refl
 
 module _ (q : QueuedTopology Config) (order : IsInOrder q.topology) where
   -- the graph before

@@ -1,10 +1,10 @@
 -- Where a legal log leads without a Busy bio, and not to rest, the fixed order gives an enabled step that lowers the
 -- measure.
-use Rattle.std.specs.Prelude.{◌≡◌, ℕ, suc, ◌+◌, ◌==◌, nat_le, Bool, true, false, ◌&&◌, ◌||◌, List, [], ◌∷◌, ◌++◌, length, find, flat_map, Option, Some, None, Err, Ok, IsSomeAnd, IsTrue, is_some, is_none, is_ok, option_map, slice_get, if◌then◌else◌}
+use Rattle.std.specs.Prelude.{◌≡◌, ℕ, suc, ◌+◌, ◌==◌, nat_le, Bool, true, false, ◌||◌, List, [], ◌∷◌, ◌++◌, length, find, flat_map, Option, Some, None, Err, Ok, IsSomeAnd, IsTrue, is_some, is_none, is_ok, option_map, slice_get, if◌then◌else◌}
 use Rattle.std.specs.List.{AllByRecursion, list_all, list_any, enumerate_from}
 use Rattle.std.specs.Option.{option_map_or, option_or}
 use Rattle.std.proofs.Common.{refl, sym, ◌∙◌, ap, subst, arith}
-use Rattle.std.proofs.lemmas.Bool.{eq-eqb, and_parts}
+use Rattle.std.proofs.lemmas.Bool.{eq-eqb, and_parts, and_right}
 use Rattle.geo_model.specs.declared.command.Command.{Command}
 use Rattle.geo_model.specs.declared.command.Command.TheVariants as commands
 use Rattle.geo_model.specs.declared.command.LineCommand.{LineCommand}
@@ -64,11 +64,6 @@ given w s P so false e r is = absurd (let no : ⊥ = cc in no)
 withheld : (s : Step) (b : Bool) → (if b then Some s else None) ≡ None → b ≡ false
 withheld s true e = absurd (let no : ⊥ = cc in no)
 withheld s false e = refl
-
--- false on the right
-and_false : (b c : Bool) → c ≡ false → (b && c) ≡ false
-and_false true c e = e
-and_false false c e = refl
 
 -- Bios
 
@@ -356,7 +351,7 @@ module _ (w : World) (firm : Firm w) (idle : NoneBusy w) (busy : Rest w → ⊥)
   -- without bios, tastes and events a Wash isn't early
   late : w.taste ≡ None → w.events ≡ [] → is_early_wash w steps.Wash ≡ false
   late taste events =
-      and_false (is_of_consumer (wash_work w)) (is_some w.taste || list_any is_offer w.events)
+      and_right (is_of_consumer (wash_work w)) (is_some w.taste || list_any is_offer w.events)
       (rw (taste, events) refl)
 
   -- an actor goes

@@ -3,6 +3,7 @@ use Rattle.std.specs.Prelude.{◌≡◌, ◌↔◌, ℕ, ◌+◌, ◌*◌, ◌/�
 use Rattle.std.specs.List.{AllByRecursion, enumerate_from, list_all, list_any}
 use Rattle.std.specs.Option.{option_map_or}
 use Rattle.std.proofs.Common.{inl, inr, refl, sym, ◌∙◌, ap, subst, arith}
+use Rattle.std.proofs.Math.Bool.{or-true}
 use Rattle.std.proofs.lemmas.List.Elements.{All-contains, All-weaker, All-push}
 use Rattle.std.proofs.lemmas.List.Quantifiers.{all_pairs_push}
 use Rattle.std.proofs.lemmas.List.Sums.{length-filter}
@@ -218,11 +219,6 @@ module _ (w : World) (firm : Firm w) (s : Taste) (p : Provider) (granted : IsGra
       (filter-pushed_hit (λ (z : Bio). is_taste_root z.owner) w.bios x refl
       ∙ ap (λ (zs : List Bio). zs ++ x ∷ []) (nothing_kept (λ (z : Bio). is_taste_root z.owner) w.bios none_out))
 
-  -- one more that does
-  or_true : (b : Bool) → (b || true) ≡ true
-  or_true true = refl
-  or_true false = refl
-
   -- the bios then
   read-bios : BiosHold v
   read-bios = record {
@@ -240,7 +236,7 @@ module _ (w : World) (firm : Firm w) (s : Taste) (p : Provider) (granted : IsGra
     read_out = (
       (λ some. refl),
       (λ out. any-pushed (λ (z : Bio). is_taste_root z.owner) w.bios x
-          ∙ or_true (list_any (λ (z : Bio). is_taste_root z.owner) w.bios)),
+          ∙ or-true (list_any (λ (z : Bio). is_taste_root z.owner) w.bios)),
     );
     owners = All-push (λ (z : Bio). ComesFromItsOwner v z z.owner) w.bios x
         (All-weaker (λ (z : Bio). ComesFromItsOwner w z z.owner) (λ (z : Bio). ComesFromItsOwner v z z.owner)

@@ -3,6 +3,7 @@ use Rattle.std.specs.Prelude.{◌≡◌, ℕ, ◌+◌, ◌==◌, Bool, true, fal
 use Rattle.std.specs.List.{AllByRecursion, list_any}
 use Rattle.std.specs.Option.{option_map_or, option_and_then}
 use Rattle.std.proofs.Common.{refl, sym, ap, ◌∙◌, arith, inl}
+use Rattle.std.proofs.Math.Bool.{or-false}
 use Rattle.std.proofs.lemmas.Bool.{eqb-true}
 use Rattle.geo_model.specs.Words.{change_where}
 use Rattle.geo_model.specs.Topology.{Topology, Provider, Geom, provider_at, geom_at, geom_of_provider, is_errored, set_error}
@@ -76,10 +77,6 @@ module _ {X : Type 0} (number : X → ℕ) (test : X → Bool) (p : ℕ) where
   any_other [] others = refl
   any_other (x ∷ xs) others = rw (others.0) (any_other xs others.1)
 
-  or_false : (b : Bool) → (b || false) ≡ b
-  or_false true = refl
-  or_false false = refl
-
   -- one item more
   any_step : (low high : ℕ) (x : X) (xs : List X) (y : X) (b : Bool) → (number x == p) ≡ b
       → Rise low (map number (x ∷ xs)) high
@@ -93,7 +90,7 @@ module _ {X : Type 0} (number : X → ℕ) (test : X → Bool) (p : ℕ) where
       let is : number x ≡ p = eqb-true (number x) p e in
       let rest : list_any (λ (z : X). (number z == p) && test z) xs ≡ false =
       any_other xs (none_outside number (number x + 1) high p xs rise.2 (inl (omega (arith, is)))) in
-      rw (e, rest) (or_false (test x) ∙ ap test same)
+      rw (e, rest) (or-false (test x) ∙ ap test same)
   any_step low high x xs y false e rise found so =
       let later : find (λ (z : X). number z == p) xs ≡ Some y = rw e at found in rw e (so later)
 

@@ -2,6 +2,7 @@
 use Rattle.std.specs.Prelude.{◌≡◌, ℕ, ◌+◌, ◌==◌, nat_le, Bool, true, false, not, ◌&&◌, ◌||◌, List, [], filter, Some, Contains, unwrap_or, if◌then◌else◌}
 use Rattle.std.specs.Option.{option_map_or}
 use Rattle.std.proofs.Common.{refl, sym, ap, ◌∙◌, subst}
+use Rattle.std.proofs.lemmas.Bool.{and_parts}
 use Rattle.geo_base.specs.declared.request.Counts.{Counts}
 use Rattle.geo_base.specs.declared.kind.Kind.TheVariants as kinds
 use Rattle.geo_model.specs.Words.{is_kind, names_number}
@@ -25,10 +26,6 @@ use Rattle.geo_life.proofs.Unseen.{unseen_stays}
 use Rattle.geo_life.proofs.Seen.{seen_marks}
 use Rattle.geo_life.proofs.Rest.{mesh_self}
 use Rattle.geo_life.proofs.Marking.{still, mark_begin, mark_pass, mark_one, mark_end}
-
-and_first : (a b : Bool) → (a && b) ≡ true → a ≡ true
-and_first true b e = refl
-and_first false b e = e
 
 -- the counts that are stored for a consumer
 pub stored_now : {C : Type 0} (granted : ℕ → Counts) (t : TopoView C) → AreStored granted t → (n : ℕ) (x : Consumer)
@@ -76,9 +73,9 @@ module _ {C : Type 0} (granted : ℕ → Counts) (t : TopoView C) (p : ℕ) (sto
 
   at : (c : Consumer) → goes c ≡ true → names_number c.provider p ≡ true
   at c e =
-      and_first (names_number c.provider p)
+      (and_parts (names_number c.provider p)
       (((want granted t.topology c).w == 0)
-      && option_map_or (λ g. g.automatic || is_kind g.kind kinds.Taste) (geom_at t.topology c.geom) false) e
+      && option_map_or (λ g. g.automatic || is_kind g.kind kinds.Taste) (geom_at t.topology c.geom) false) e).0
 
   -- those that have to go are above the provider
   inside : (xs : List Consumer) (c : Consumer) → Contains xs c → goes c ≡ true

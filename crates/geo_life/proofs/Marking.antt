@@ -1,6 +1,7 @@
 -- The walk that marks the consumers above a provider that have to go.
 use Rattle.std.specs.Prelude.{◌≡◌, ℕ, ◌+◌, ◌≤◌, ◌==◌, nat_le, Bool, true, false, ◌&&◌, List, [], ◌∷◌, map, find, Some, Contains, if◌then◌else◌}
 use Rattle.std.proofs.Common.{refl, sym, ap, ◌∙◌, subst, arith, inl, inr}
+use Rattle.std.proofs.Math.Bool.{and-false, and-true}
 use Rattle.std.proofs.lemmas.Bool.{eqb-true, eq-eqb, leb-false, le-leb, lt-leb}
 use Rattle.std.proofs.lemmas.Simd.{map-map}
 use Rattle.geo_model.specs.Words.{change_where}
@@ -28,14 +29,6 @@ change_same f g xs same =
     (All-from_contained
     (λ c. (if f c then marked c else c) ≡ (if g c then marked c else c)) xs
     (λ c there. ap (λ b. if b then marked c else c) (same c there)))
-
-and_false : (b : Bool) → (b && false) ≡ false
-and_false true = refl
-and_false false = refl
-
-and_true : (b : Bool) → (b && true) ≡ b
-and_true true = refl
-and_true false = refl
 
 module _ (test : Consumer → Bool)
     (stable : (c : Consumer) → test (marked c) ≡ test c) (xs ys : List Consumer)
@@ -75,7 +68,7 @@ module _ (test : Consumer → Bool)
   pub mark_begin : change_where (still test 0) marked xs ≡ change_where test marked xs
   mark_begin =
       change_same (still test 0) test xs
-      (λ c there. ap (λ b. test c && b) (le-leb 0 c.number (omega arith)) ∙ and_true (test c))
+      (λ c there. ap (λ b. test c && b) (le-leb 0 c.number (omega arith)) ∙ and-true (test c))
 
   -- a consumer that doesn't pass is passed over
   pub mark_pass : (from_number n : ℕ) (x : Consumer) → users from_number ≡ x ∷ users (n + 1) → from_number ≤ n
@@ -117,7 +110,7 @@ module _ (test : Consumer → Bool)
           let over : nat_le (n + 1) c.number ≡ false = lt-leb (n + 1) c.number (omega (arith, is)) in
           ap (λ (d : Consumer). if still test (n + 1) d then marked d else d)
           (ap (λ b. if b then marked c else c) e)
-          ∙ ap (λ b. if b then marked c else marked c) (ap (λ b. test (marked c) && b) over ∙ and_false (test (marked c)))
+          ∙ ap (λ b. if b then marked c else marked c) (ap (λ b. test (marked c) && b) over ∙ and-false (test (marked c)))
           ∙ sym (ap (λ b. if b then marked c else c) (ap (λ b. b && nat_le from_number c.number) passes ∙ here))
       by c there false e =
           ap (λ (d : Consumer). if still test (n + 1) d then marked d else d)

@@ -2,6 +2,7 @@
 use Rattle.std.specs.Prelude.{◌≡◌, ◌≢◌, ℕ, ◌==◌, nat_le, Bool, true, false, not, ◌&&◌, ◌||◌, List, [], ◌∷◌, map, filter, find, fold, Option, Some, None, Contains, IsSomeAnd, if◌then◌else◌}
 use Rattle.std.specs.Option.{option_map, option_map_or}
 use Rattle.std.proofs.Common.{refl, sym, ap, ◌∙◌, subst}
+use Rattle.std.proofs.Math.Bool.{and-false}
 use Rattle.std.proofs.lemmas.Bool.{eqb-true, eq-eqb}
 use Rattle.std.proofs.lemmas.List.Elements.{All-contains}
 use Rattle.geo_base.specs.declared.request.Counts.{Counts}
@@ -196,16 +197,12 @@ module _ {C : Type 0} where
       ap (λ b. is_zero (want granted t c) && b)
       (ap (λ n. option_map_or (λ (g : Geom C). g.automatic && not g.withering) (geom_at t n) false) is
       ∙ by (geom_at t 1) dev)
-      ∙ never (is_zero (want granted t c))
+      ∙ and-false (is_zero (want granted t c))
     where
       by : (o : Option (Geom C)) → IsSomeAnd o IsMade
           → option_map_or (λ (g : Geom C). g.automatic && not g.withering) o false ≡ false
       by None absent = absurd absent
       by (Some g) made = ap (λ b. b && not g.withering) made
-
-      never : (b : Bool) → (b && false) ≡ false
-      never true = refl
-      never false = refl
 
   outgrow_stays : (granted : ℕ → Counts) (q : QueuedTopology C) (c : Consumer) → HasMadeDev q
       → HasMadeDev (outgrow_consumer granted q c)

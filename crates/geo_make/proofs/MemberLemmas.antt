@@ -3,7 +3,7 @@ use Rattle.std.specs.Prelude.{◌≡◌, ℕ, ◌-◌, Bool, true, false, not, �
 use Rattle.std.specs.List.{list_all}
 use Rattle.std.proofs.Common.{refl, sym, ◌∙◌, ap, subst}
 use Rattle.std.proofs.lemmas.Bool.{and_parts, not-true}
-use Rattle.std.proofs.lemmas.List.Elements.{All-contains}
+use Rattle.std.proofs.lemmas.List.Elements.{All-contains, Contains-push}
 use Rattle.geo_base.specs.Name.{is_name}
 use Rattle.geo_model.specs.Topology.{Topology, Provider, is_name_taken}
 use Rattle.geo_model.specs.World.{Config}
@@ -18,7 +18,6 @@ use Rattle.geo_make.specs.Accepting.{placed, joined}
 use Rattle.geo_make.specs.Accepts.{HaveSizes, MakesSizes}
 use Rattle.geo_make.specs.Members.{CanBeOffered, plan_for, plan_of, with_plan}
 use Rattle.geo_make.proofs.Following.{CarriesRoom}
-use Rattle.geo_make.proofs.PartLemmas.{at_end}
 
 -- where all that is made has sizes of providers, the one of a plan has
 pub plan_sizes : (m : QueuedMesh) (prov geom : ℕ) (filled : Config) (o : Option Offer)
@@ -30,7 +29,7 @@ plan_sizes m prov geom filled (Some x) sizes =
     let y : Provider = new_provider n.mesh.topology geom x.name x.size x.sector in
     All-contains (λ (z : Provider). is_provider_size z.size z.sector ≡ true)
     (with_offer n geom x.name x.size x.sector).mesh.topology.providers y sizes
-    (at_end n.mesh.topology.providers y)
+    (Contains-push n.mesh.topology.providers y)
 
 module _ (m : QueuedMesh) (p : Provider) (geom : ℕ) (config : Config) (place : ℕ) (name : List ℕ) where
   -- the configuration with the place filled

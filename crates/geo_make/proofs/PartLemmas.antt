@@ -1,9 +1,9 @@
 -- Providers of slices and partitions, one after another.
-use Rattle.std.specs.Prelude.{◌≡◌, ℕ, ◌+◌, ◌-◌, ◌≤◌, Bool, true, false, not, ◌&&◌, List, [], ◌∷◌, ◌++◌, length, map, Option, Contains}
+use Rattle.std.specs.Prelude.{◌≡◌, ℕ, ◌+◌, ◌-◌, ◌≤◌, Bool, true, false, not, ◌&&◌, List, [], ◌∷◌, length, map, Option, Contains}
 use Rattle.std.specs.List.{AllByRecursion, list_all}
 use Rattle.std.proofs.Common.{refl, sym, ◌∙◌, ap, subst, arith}
 use Rattle.std.proofs.lemmas.Bool.{and_parts, not-true}
-use Rattle.std.proofs.lemmas.List.Elements.{All-contains, Contains-append_left, Contains-append_right}
+use Rattle.std.proofs.lemmas.List.Elements.{All-contains, Contains-append_left, Contains-push}
 use Rattle.geo_base.specs.Name.{is_name}
 use Rattle.geo_model.specs.declared.class.Slice.{Slice}
 use Rattle.geo_model.specs.declared.class.EbrPart.{EbrPart}
@@ -16,7 +16,6 @@ use Rattle.geo_model.specs.Acceptance.{NewSlice, are_names_free, new_parts, new_
 use Rattle.geo_mesh.specs.Topo.{TopoView, with_provider, is_provider_size, IsButForRoom}
 use Rattle.geo_laws_graph.specs.LookupLaws.{new_provider}
 use Rattle.geo_laws_graph.proofs.Found.{added-provider}
-use Rattle.geo_laws_graph.proofs.Members.{Contains-here}
 use Rattle.geo_laws_opening.proofs.Standers.{PairsByRecursion}
 use Rattle.geo_laws_accepts.proofs.NewSlices.{new-differ, slice-tells, logical-tells}
 use Rattle.geo_make.specs.Making.{QueuedMesh, with_offer}
@@ -71,10 +70,6 @@ kept_standing geom (x ∷ xs) m y here =
     kept_standing geom xs (with_offer m geom x.name x.size 512) y
     (Contains-append_left m.mesh.topology.providers (new_provider m.mesh.topology geom x.name x.size 512 ∷ []) y here)
 
--- an item at the end of a list
-pub at_end : {X : Type 0} (xs : List X) (x : X) → Contains (xs ++ x ∷ []) x
-at_end xs x = Contains-append_right xs (x ∷ []) x (Contains-here x [])
-
 -- where all that is made has sizes of providers, each part has
 pub part_sizes : (geom : ℕ) (xs : List NewSlice) (m : QueuedMesh)
     → HaveSizes (with_slices_of m geom xs).mesh.topology
@@ -84,7 +79,7 @@ part_sizes geom (x ∷ xs) m sizes =
     let y : Provider = new_provider m.mesh.topology geom x.name x.size 512 in (
       All-contains (λ (z : Provider). is_provider_size z.size z.sector ≡ true)
           (with_slices_of m geom (x ∷ xs)).mesh.topology.providers y sizes
-          (kept_standing geom xs (with_offer m geom x.name x.size 512) y (at_end m.mesh.topology.providers y)),
+          (kept_standing geom xs (with_offer m geom x.name x.size 512) y (Contains-push m.mesh.topology.providers y)),
       part_sizes geom xs (with_offer m geom x.name x.size 512) sizes,
     )
 

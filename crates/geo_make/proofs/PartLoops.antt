@@ -1,5 +1,5 @@
 -- Parts that are named, and providers of them that are made, one after another.
-use Rattle.std.specs.Prelude.{◌≡◌, ℕ, zero, suc, ◌+◌, ◌*◌, ◌<◌, ◌≤◌, Bool, true, false, List, [], ◌∷◌, ◌++◌, length, drop, get_or, Option, Some, None, option_map, if◌then◌else◌}
+use Rattle.std.specs.Prelude.{◌≡◌, ℕ, ◌+◌, ◌*◌, ◌<◌, ◌≤◌, Bool, true, false, List, [], ◌∷◌, ◌++◌, length, drop, get_or, Option, Some, None, option_map, if◌then◌else◌}
 use Rattle.std.specs.List.{AllByRecursion}
 use Rattle.std.proofs.Common.{refl, sym, ◌∙◌, ap, subst, arith, append_assoc, append-nil}
 use Rattle.std.proofs.Math.ListN.{drop_of_length-le}
@@ -20,12 +20,6 @@ use Rattle.geo_make.proofs.AttachLoop.{front}
 use Rattle.geo_make.proofs.PartLemmas.{add_more, may_more, offers_carry}
 
 -- Lists
-
--- an item of a list doesn't depend on what stands for one behind the end
-pub any_default : {X : Type 0} (xs : List X) (i : ℕ) (a b : X) → i < length xs → get_or xs i a ≡ get_or xs i b
-any_default [] i a b less = absurd (let never : ⊥ = omega (arith, less) in never)
-any_default (x ∷ xs) zero a b less = refl
-any_default (x ∷ xs) (suc i) a b less = any_default xs i a b (omega (arith, less))
 
 -- there are no more parts than places
 pub count_new : {X : Type 0} (name : ℕ → List ℕ) (count : X → ℕ) (k : ℕ) (xs : List (Option X))

@@ -3,7 +3,7 @@ use Rattle.std.specs.Prelude.{◌≡◌, ℕ, ◌-◌, Bool, true, false, not, �
 use Rattle.std.specs.List.{AllByRecursion, list_all}
 use Rattle.std.proofs.Common.{refl, sym, ◌∙◌, subst}
 use Rattle.std.proofs.lemmas.Bool.{and_parts, not-true}
-use Rattle.std.proofs.lemmas.List.Elements.{All-contains, All-from_recursion}
+use Rattle.std.proofs.lemmas.List.Elements.{All-contains, All-from_recursion, Contains-push}
 use Rattle.geo_base.specs.Name.{is_name}
 use Rattle.geo_base.specs.declared.kind.Kind.{Kind}
 use Rattle.geo_base.specs.declared.kind.Kind.TheVariants as kinds
@@ -23,7 +23,7 @@ use Rattle.geo_make.specs.Parts.{are_names, CanAddPart, is_addable}
 use Rattle.geo_make.specs.Standing.{CanStandOn}
 use Rattle.geo_make.proofs.Following.{followed}
 use Rattle.geo_make.proofs.Raising.{risen_over, risen_providers}
-use Rattle.geo_make.proofs.PartLemmas.{addable_free, at_end, can_add_all, free_addable, offers_carry, part_sizes, unnamed_where}
+use Rattle.geo_make.proofs.PartLemmas.{addable_free, can_add_all, free_addable, offers_carry, part_sizes, unnamed_where}
 
 -- one provider may be stood on
 pub stand_one : (t : Topology Config) (prov : ℕ) → CanStandOn t prov → All (CanStandOn t) (prov ∷ [])
@@ -174,7 +174,7 @@ module _ (t : TopoView Config) (q : Queued) (p : Provider) (name : List ℕ) whe
       let good : is_provider_size (p.size - p.sector) p.sector ≡ true =
       All-contains (λ (z : Provider). is_provider_size z.size z.sector ≡ true)
       (with_offer m t.topology.next_geom name (p.size - p.sector) p.sector).mesh.topology.providers y sizes
-      (at_end m.mesh.topology.providers y) in
+      (Contains-push m.mesh.topology.providers y) in
       let never : false ≡ true = sym small ∙ good in
       absurd (let none : ⊥ = cc in none)
 

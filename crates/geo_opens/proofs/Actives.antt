@@ -3,6 +3,7 @@ use Rattle.std.specs.Prelude.{◌≡◌, ◌≢◌, ℕ, suc, ◌==◌, Bool, tr
 use Rattle.std.specs.List.{AllByRecursion, list_any}
 use Rattle.std.specs.Option.{option_map_or, option_and_then}
 use Rattle.std.proofs.Common.{refl, sym, ◌∙◌, ap, subst, arith}
+use Rattle.std.proofs.Math.Bool.{not-not}
 use Rattle.std.proofs.lemmas.Bool.{and_parts, eqb-true, ne_eqb}
 use Rattle.std.proofs.lemmas.List.Sums.{length-filter}
 use Rattle.geo_model.specs.declared.command.LineCommand.{LineCommand}
@@ -34,6 +35,7 @@ use Rattle.geo_state.specs.Trips.{is_out as goes_through}
 use Rattle.geo_state.specs.Holds.{Holds}
 use Rattle.geo_state.specs.World.{world}
 use Rattle.geo_state.specs.Steps.{against}
+use Rattle.geo_state.proofs.Lists.{none-mapped}
 
 -- what is asked of what is seen
 any_seen : {X Y : Type 0} (test : Y → Bool) (see : X → Y) (xs : List X)
@@ -73,11 +75,6 @@ trips-all log P (x ∷ xs) so = (
       (λ z there. so z (in_tail (shown_bio (delivered_at log) x) (shown (delivered_at log) xs) z there)),
 )
 
--- not of not
-not_not : (b : Bool) → not (not b) ≡ b
-not_not true = refl
-not_not false = refl
-
 module _ (s : State) (kept : Holds s) where
   -- as many are kept as go through a consumer
   pub stored-out : (c : ℕ) → IsSome (consumer_at s.topo.topology c)
@@ -111,7 +108,7 @@ module _ (s : State) (kept : Holds s) where
         stored-out c lives
         ∙ ap (λ n. Some n)
         (eqb-true (out_through (trips s.traffic.bios) c) 0
-        (sym (not_not (out_through (trips s.traffic.bios) c == 0))
+        (sym (not-not (out_through (trips s.traffic.bios) c == 0))
         ∙ ap not (sym (active-is log s.traffic.bios c) ∙ idle)))
 
     -- and where none is kept, nothing is out
@@ -128,7 +125,7 @@ module _ (s : State) (kept : Holds s) where
             ≡ option_map_or (λ c. out_through (trips s.traffic.bios) c == 0) o false
         on None = refl
         on (Some c) =
-            ap not (active-is log s.traffic.bios c) ∙ not_not (out_through (trips s.traffic.bios) c == 0)
+            ap not (active-is log s.traffic.bios c) ∙ not-not (out_through (trips s.traffic.bios) c == 0)
 
     -- the first that is noted is the one that is reaped next
     pub first-to-reap : first_ready s.handles.ready ≡ option_map (λ h. h.number) (reap_work w)
@@ -153,11 +150,9 @@ module _ (s : State) (kept : Holds s) where
 
     -- where nothing is noted there is nothing to reap
     pub none-to-reap : first_ready s.handles.ready ≡ None → against (reap_next w) ≡ Some refusals.NothingToReap
-    none-to-reap none = reap-found ∙ ap found_of (by (reap_work w) (sym first-to-reap ∙ none))
-      where
-        by : (o : Option Handle) → option_map (λ (h : Handle). h.number) o ≡ None → o ≡ None
-        by None e = refl
-        by (Some h) never = absurd (cc)
+    none-to-reap none =
+        reap-found
+        ∙ ap found_of (none-mapped (λ (h : Handle). h.number) (reap_work w) (sym first-to-reap ∙ none))
 
     -- where one is noted nothing is against a reap
     pub some-to-reap : (r : Option ℕ) (n : ℕ) → r ≡ first_ready s.handles.ready → r ≡ Some n
@@ -197,7 +192,7 @@ module _ (s : State) (kept : Holds s) where
               (find-Contains (is_to_reap w) s.handles.handles h work));
           consumer = c;
           names = is;
-          idle = sym (not_not (is_active w c)) ∙ ap not idle;
+          idle = sym (not-not (is_active w c)) ∙ ap not idle;
         }
 
         by : (o : Option Handle) → reap_work w ≡ o → option_map (λ (h : Handle). h.number) o ≡ Some n → IsNext n

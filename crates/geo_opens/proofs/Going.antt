@@ -40,7 +40,7 @@ use Rattle.geo_opens.specs.Holders.{written, HasGone}
 use Rattle.geo_opens.proofs.Coming.{dev_holds}
 
 -- what is said of what may be there
-some_of : {X : Type 0} (P : X → Type 0) (o : Option X) → IsSomeAnd o P → (x : X) × (o ≡ Some x) × P x
+pub some_of : {X : Type 0} (P : X → Type 0) (o : Option X) → IsSomeAnd o P → (x : X) × (o ≡ Some x) × P x
 some_of P None never = absurd never
 some_of P (Some x) fact = (x, refl, fact)
 

@@ -34,14 +34,10 @@ use Rattle.geo_state.specs.Steps.{IsFirm, IsAgainst}
 use Rattle.geo_state.specs.Changes.{KeptWithHandles}
 use Rattle.geo_opens.specs.Holders.{HasGone}
 use Rattle.geo_opens.specs.Handles.{IsIdle, steps_of}
+use Rattle.geo_state.proofs.Lists.{none-mapped}
 use Rattle.geo_opens.proofs.Actives.{IsNext, out-told, idle-stored, next-to-reap}
-use Rattle.geo_opens.proofs.Going.{placed-all, held, held-holder, held-lives, closed-world, forgotten-world, reaped-world}
+use Rattle.geo_opens.proofs.Going.{placed-all, held, held-holder, held-lives, closed-world, forgotten-world, reaped-world, some_of}
 use Rattle.geo_opens.proofs.Settling.{goer-of, gone-settled}
-
--- what is said of what may be there
-pub part_of : {X : Type 0} (P : X → Type 0) (o : Option X) → IsSomeAnd o P → (x : X) × (o ≡ Some x) × P x
-part_of P None never = absurd never
-part_of P (Some x) fact = (x, refl, fact)
 
 -- what is said of what is there, of what may be
 pub if_there : {X : Type 0} (P : X → Type 0) (o : Option X) (x : X) → o ≡ Some x → P x → IfSome o P
@@ -73,7 +69,7 @@ module _ (s : State) (kept : Holds s) (firm : IsFirm s) where
     -- the handle, and what is known of it
     abbrev its : (h : Handle) × (handle_at hs id ≡ Some h)
         × ((h.consumer ≡ Some cons) × (value_at s.topo.active cons ≡ Some 0))
-    its = part_of (λ (h : Handle). (h.consumer ≡ Some cons) × (value_at s.topo.active cons ≡ Some 0)) (handle_at hs id)
+    its = some_of (λ (h : Handle). (h.consumer ≡ Some cons) × (value_at s.topo.active cons ≡ Some 0)) (handle_at hs id)
         idle
 
     abbrev h : Handle
@@ -182,7 +178,7 @@ module _ (s : State) (kept : Holds s) (firm : IsFirm s) where
       }) where
     -- the handle
     abbrev it : (h : Handle) × (handle_at hs id ≡ Some h) × (h.consumer ≡ None)
-    it = part_of (λ (h : Handle). h.consumer ≡ None) (handle_at hs id) reaped
+    it = some_of (λ (h : Handle). h.consumer ≡ None) (handle_at hs id) reaped
 
     same : it.0.number ≡ id
     same = number_found (λ (x : Handle). x.number) hs id it.0 it.1
@@ -220,12 +216,8 @@ module _ (s : State) (kept : Holds s) (firm : IsFirm s) where
         → close_handle (world actors log s) line (handle_of (world actors log s) actor name)
         ≡ (world actors log s, o)
     close-none none o is actors log =
-        ap (close_handle (world actors log s) line) (nobody (named_handle hs actor name) none)
+        ap (close_handle (world actors log s) line) (none-mapped (λ (x : Handle). x.number) (named_handle hs actor name) none)
         ∙ ap (λ (r : Outcome). let pair : World × Outcome = (world actors log s, r) in pair) (sym is)
-      where
-        nobody : (p : Option Handle) → option_map (λ (x : Handle). x.number) p ≡ None → p ≡ None
-        nobody None e = refl
-        nobody (Some k) never = absurd (cc)
 
     -- whether a request is out through its consumer
     told : (k : Handle) → Contains hs k → (actors : List (List LineCommand)) (log : List Entry)
@@ -376,7 +368,7 @@ module _ (s : State) (kept : Holds s) (firm : IsFirm s) where
         → steps_of s (reap_work (world actors log s)) ≡ consumers_below t (place_of t c)
     reap-steps c idle actors log =
         let x : IsNext s kept actors log n = next_at actors log in
-        let k = part_of (λ (h : Handle). (h.consumer ≡ Some c) × (value_at s.topo.active c ≡ Some 0)) (handle_at hs n)
+        let k = some_of (λ (h : Handle). (h.consumer ≡ Some c) × (value_at s.topo.active c ≡ Some 0)) (handle_at hs n)
         idle in
         let two : Some x.handle ≡ Some k.0 = sym x.there ∙ k.1 in
         let one : x.handle ≡ k.0 = cc in
@@ -390,14 +382,14 @@ module _ (s : State) (kept : Holds s) (firm : IsFirm s) where
     pub forget-steps : (o : Option ℕ) → IsSomeAnd (handle_at hs id) (λ h. h.consumer ≡ o)
         → steps_of s (handle_at hs id) ≡ option_map_or (λ c. consumers_below t (place_of t c)) o 0
     forget-steps o there =
-        let k = part_of (λ (h : Handle). h.consumer ≡ o) (handle_at hs id) there in
+        let k = some_of (λ (h : Handle). h.consumer ≡ o) (handle_at hs id) there in
         ap (steps_of s) k.1 ∙ ap (λ r. option_map_or (λ c. consumers_below t (place_of t c)) r 0) k.2
 
     -- one with a consumer is idle
     pub forget-idle : (c : ℕ) → IsSomeAnd (handle_at hs id) (λ h. h.consumer ≡ Some c)
         → option_map_or (is_out s.topo) (Some c) false ≡ false → IsIdle s id c
     forget-idle c there free =
-        let k = part_of (λ (h : Handle). h.consumer ≡ Some c) (handle_at hs id) there in
+        let k = some_of (λ (h : Handle). h.consumer ≡ Some c) (handle_at hs id) there in
         let here : Contains hs k.0 = find-Contains (λ (x : Handle). x.number == id) hs k.0 k.1 in
         let lives = held-lives s kept firm.0 firm.1 c (held s kept firm.0 firm.1 k.0 c here k.2) in
         let idle : is_active (world firm.1.0 firm.0 s) c ≡ false =

@@ -1,5 +1,5 @@
 -- Where nothing fails and all is there, the status is 0, or 6 or 7.
-use Rattle.std.proofs.Common.{◌≡◌, ◌⊎◌, ℕ, ◌+◌, ◌-◌, ◌^◌, ◌<◌, ◌≤◌, min, false, List, [], ◌∷◌, ◌++◌, length, find, All, Option, Some, None, Result, Ok, Err, unwrap_or, refl, sym, ◌∙◌, ap, subst, inl, inr, arith, IfSome, IsSomeAnd, ◌&&◌, bytes_eq, if◌then◌else◌}
+use Rattle.std.proofs.Common.{◌≡◌, ◌⊎◌, ℕ, ◌+◌, ◌-◌, ◌^◌, ◌<◌, ◌≤◌, min, false, List, [], ◌∷◌, ◌++◌, length, find, All, Option, Some, None, Ok, Err, unwrap_or, refl, sym, ◌∙◌, ap, subst, inl, inr, arith, IfSome, IsSomeAnd, ◌&&◌, bytes_eq, if◌then◌else◌}
 use Rattle.std.specs.List.{AllByRecursion, list_any}
 use Rattle.std.proofs.lemmas.List.{append-nil, length-append}
 use Rattle.std.proofs.lemmas.List.Elements.{recursion_from_All}
@@ -14,7 +14,7 @@ use Rattle.geo_model.specs.Generator.{Mode, StepMode, RunMode, GenMode, Accepts}
 use Rattle.geo_model.specs.Outside.{ShelfView, IsShelf, is_shelf, kept_back, HasImage, IsMissing, IsBadSize}
 use Rattle.geo_model.specs.Endings.{Ending, Reported, ReportedButFault, BadWords, NoScript, ReadFault, ShelfFault, NoDisk, BadSize, OutOfMemory, LogFull, TooLong, Call, StopsAt, failed_takes, first_kept_back, script_limit, status_of}
 use Rattle.geo_model.specs.Headline.{GivesScript, IsComplete, IsToldThere, KeepsAll, NoFault, text_to_give}
-use Rattle.geo_run.proofs.Generated.{generated_in_memory}
+use Rattle.geo_run.proofs.Generated.{generated_in_memory, one_plan, plan_or_fault}
 use Rattle.geo_run.proofs.Tests.{is_or_not}
 
 -- Texts
@@ -99,17 +99,11 @@ in_memory plan name F shelf s all =
 
 -- the plan of the text that was to be given is the plan of the text
 same_plan : (text to_give : List ℕ) (p plan : Plan) → to_give ≡ text → script to_give ≡ Ok p → script text ≡ Ok plan → p ≡ plan
-same_plan text to_give p plan e a b = by p plan (script to_give) a (ap script e ∙ b)
-  where
-    by : (x y : Plan) (r : Result Plan Fault) → r ≡ Ok x → r ≡ Ok y → x ≡ y
-    by x y r p q = cc
+same_plan text to_give p plan e a b = one_plan p plan (script to_give) a (ap script e ∙ b)
 
 no_fault_there : (text to_give : List ℕ) (p : Plan) (fault : Fault) → to_give ≡ text → script to_give ≡ Ok p
     → script text ≡ Err fault → ⊥
-no_fault_there text to_give p fault e a b = by p fault (script to_give) a (ap script e ∙ b)
-  where
-    by : (x : Plan) (f : Fault) (r : Result Plan Fault) → r ≡ Ok x → r ≡ Err f → ⊥
-    by x f r p q = cc
+no_fault_there text to_give p fault e a b = plan_or_fault p fault (script to_give) a (ap script e ∙ b)
 
 -- Each mode
 

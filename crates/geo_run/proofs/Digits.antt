@@ -58,24 +58,20 @@ unread_plain word n small is unread =
       (let value : digits_value 10 word ≡ n = ap (λ w. digits_value 10 w) is ∙ digits_value-decimal own n fits in omega (arith, value, small)),
     )
 
--- two numbers that are written alike are the same
-pub same_written : (m n : ℕ) → m < 2 ^ 64 → n < 2 ^ 64 → decimal m ≡ decimal n → m ≡ n
-same_written m n p q e =
-    sym (digits_value-decimal own m p) ∙ ap (λ w. digits_value 10 w) e ∙ digits_value-decimal own n q
-
 -- what is read is a number of 32 bits
 pub read_small : (word : List ℕ) (n : ℕ) → ParsesUnsigned {E = Unit {0}} 32 10 word (Ok n) → n < 2 ^ 32
 read_small word n read =
     let small : digits_value 10 (without_leading_plus word) < 2 ^ 32 = read.0.1 in
     let is : n ≡ digits_value 10 (without_leading_plus word) = read.1 in omega (arith, small, is)
 
-first_same : (x y : List ℕ) (xs ys : List (List ℕ)) → x ∷ xs ≡ y ∷ ys → x ≡ y
+-- the first of two lists that are the same, and the others; and no list that has one is empty
+pub first_same : (x y : List ℕ) (xs ys : List (List ℕ)) → x ∷ xs ≡ y ∷ ys → x ≡ y
 first_same x y xs ys e = cc
 
-rest_same : (x y : List ℕ) (xs ys : List (List ℕ)) → x ∷ xs ≡ y ∷ ys → xs ≡ ys
+pub rest_same : (x y : List ℕ) (xs ys : List (List ℕ)) → x ∷ xs ≡ y ∷ ys → xs ≡ ys
 rest_same x y xs ys e = cc
 
-none_is_some : (x : List ℕ) (xs : List (List ℕ)) → x ∷ xs ≡ [] → ⊥
+pub none_is_some : (x : List ℕ) (xs : List (List ℕ)) → x ∷ xs ≡ [] → ⊥
 none_is_some x xs e = cc
 
 -- three words are accepted for no mode, if no numbers are written so

@@ -63,6 +63,10 @@ served_kinds : (log : Option (List Entry)) (ds : List DiskDecl) (xs ys : List Dr
 served_kinds None ds xs ys kinds served = subst (λ (zs : List DriveView). SameKinds ds zs) (sym served) kinds
 served_kinds (Some log) ds xs ys kinds served = kinds_served log 0 ds xs ys kinds served
 
+-- at least no fault came where none is due
+rose_none : (f x y : ℕ) → f ≡ 0 → x ≤ y → RoseBy f x y
+rose_none f x y e le = omega arith
+
 -- Where no disk is of the shelf
 
 no_takes : (a b : ShelfView) (ds : List DiskDecl) (xs : List DriveView)
@@ -236,7 +240,7 @@ runs_plan plan facts log ending xs a m b is opens r = record {
   mesh = r.mesh;
   disks = disks_by plan log a m b xs r.served r.kept course r.serves;
   lent = lent_after ending a m b plan.disks xs r.served r.kept course
-      (later (failed_takes ending) a.faults m.faults (no_failed (opening plan facts) log r.kept ending r.cause)
+      (rose_none (failed_takes ending) a.faults m.faults (no_failed (opening plan facts) log r.kept ending r.cause)
       (takes_later a m plan.disks xs opens));
   others = record {
     bytes = λ name foreign. (course_told a m b plan.disks xs r.served r.kept course name (names_foreign name foreign)).is;
@@ -263,9 +267,6 @@ runs_plan plan facts log ending xs a m b is opens r = record {
     names_foreign : (name : List ℕ) → IsForeignName plan name → IsForeign name plan.disks
     names_foreign name foreign =
         recursion_from_All (λ (d : DiskDecl). IsShelf d.kind → d.name ≢ name) plan.disks foreign
-
-    later : (f x y : ℕ) → f ≡ 0 → x ≤ y → RoseBy f x y
-    later f x y e le = omega arith
 
 -- Where nothing is taken
 
@@ -344,14 +345,11 @@ take_stopped a b d stop disk_kinds.Shelf h = record {
   faults = by stop h.cause;
 }
   where
-    later : (f x y : ℕ) → f ≡ 0 → x ≤ y → RoseBy f x y
-    later f x y e le = omega arith
-
     by : (s : Stop) → TakeCause a d s b → RoseBy (failed_takes (ending_of s)) a.faults b.faults
     by (stops.ShelfFault name) c = c.1
-    by (stops.NoDisk name) c = later 0 a.faults b.faults refl h.later
-    by (stops.BadSize name) c = later 0 a.faults b.faults refl h.later
-    by stops.NoMemory c = later 0 a.faults b.faults refl h.later
+    by (stops.NoDisk name) c = rose_none 0 a.faults b.faults refl h.later
+    by (stops.BadSize name) c = rose_none 0 a.faults b.faults refl h.later
+    by stops.NoMemory c = rose_none 0 a.faults b.faults refl h.later
     by stops.BadWords c = absurd c
     by (stops.NoScript line cause) c = absurd c
     by stops.ReadFault c = absurd c

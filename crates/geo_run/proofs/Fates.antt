@@ -3,6 +3,7 @@ use Rattle.std.proofs.Common.{◌≡◌, ◌≢◌, ◌⊎◌, ℕ, suc, ◌+◌
 use Rattle.std.specs.Prelude.{⊤}
 use Rattle.geo_disk.specs.Shelf.{IsAsBefore, IsGivenTo}
 use Rattle.std.specs.List.{AllByRecursion, list_any}
+use Rattle.std.proofs.lemmas.Bool.{or_right}
 use Rattle.std.proofs.lemmas.List.Elements.{Contains-append_right}
 use Rattle.geo_base.specs.Faults.{Rose, RoseBy}
 use Rattle.geo_base.specs.Sectors.{joined_sectors}
@@ -358,11 +359,8 @@ is_of ds name = list_any (λ (d : DiskDecl). is_shelf d.kind && bytes_eq d.name 
 of_more : (d : DiskDecl) (ds : List DiskDecl) (names : List (List ℕ))
     → AllByRecursion (λ name. is_of ds name ≡ true) names → AllByRecursion (λ name. is_of (d ∷ ds) name ≡ true) names
 of_more d ds [] all = tt
-of_more d ds (n ∷ names) all = (or_true (is_shelf d.kind && bytes_eq d.name n) (is_of ds n) all.0, of_more d ds names all.1)
-  where
-    or_true : (p q : Bool) → q ≡ true → (p || q) ≡ true
-    or_true true q e = refl
-    or_true false q e = e
+of_more d ds (n ∷ names) all =
+    (or_right (is_shelf d.kind && bytes_eq d.name n) (is_of ds n) all.0, of_more d ds names all.1)
 
 -- each name that is kept is one of the plan
 pub kept_of_plan : (a b : ShelfView) (ds : List DiskDecl) (xs : List DriveView) (kept : List (List ℕ))

@@ -145,14 +145,14 @@ keep_first ts = refl
 abbrev first_read : Result Plan Fault
 first_read = fold next_line (Ok empty_plan) (enumerate_from 1 first_texts)
 
--- the plan of an answer that is one
-abbrev plan_or : Result Plan Fault → Plan
-plan_or (Ok plan) = plan
-plan_or (Err fault) = empty_plan
+-- the plan that a reading gives
+abbrev pub plan_in : Result Plan Fault → Plan
+plan_in (Ok plan) = plan
+plan_in (Err fault) = empty_plan
 
 -- the plan of the lines that come first
 abbrev first_plan : Plan
-first_plan = plan_or first_read
+first_plan = plan_in first_read
 
 -- it is a plan, of four disks, four actors and six commands
 first_is : is_ok first_read ≡ true
@@ -174,7 +174,7 @@ first_commands = refl
 first_ok : first_read ≡ Ok first_plan
 first_ok = by first_read first_is
   where
-    by : (r : Result Plan Fault) → is_ok r ≡ true → r ≡ Ok (plan_or r)
+    by : (r : Result Plan Fault) → is_ok r ≡ true → r ≡ Ok (plan_in r)
     by (Ok plan) e = refl
     by (Err fault) e = absurd (let bad : ⊥ = cc in bad)
 
@@ -187,9 +187,12 @@ lines_are start count =
     ∙ keep_first (drawn_texts 0 count start ++ [] ∷ [])
     ∙ ap (λ ts. first_texts ++ ts) (drop_end 0 count start)
 
--- one reading gives one plan
-same_plan : (a b : Plan) (r : Result Plan Fault) → r ≡ Ok a → r ≡ Ok b → a ≡ b
-same_plan a b r p q = cc
+-- one reading gives one plan, and no fault beside it
+pub one_plan : (a b : Plan) (r : Result Plan Fault) → r ≡ Ok a → r ≡ Ok b → a ≡ b
+one_plan a b r p q = cc
+
+pub plan_or_fault : (a : Plan) (f : Fault) (r : Result Plan Fault) → r ≡ Ok a → r ≡ Err f → ⊥
+plan_or_fault a f r p q = cc
 
 -- the disks of a generated script are those that come first, which are in memory
 pub generated_in_memory : (start count : ℕ) → IsMode (GenMode start count) → (plan : Plan)
@@ -206,7 +209,7 @@ generated_in_memory start count mode plan e =
     (enumerate_from 15 (drawn_texts 0 count start))
     ∙ ap (λ r. fold next_line r (enumerate_from 15 (drawn_texts 0 count start))) first_ok
     ∙ rest.is in
-    let same : rest.then_plan ≡ plan = same_plan rest.then_plan plan (script (generated start count)) is e in
+    let same : rest.then_plan ≡ plan = one_plan rest.then_plan plan (script (generated start count)) is e in
     subst (λ (ds : List DiskDecl). All (λ (d : DiskDecl). IsShelf d.kind → ⊥) ds)
     (sym rest.disks ∙ ap (λ (p : Plan). p.disks) same)
     (All-from_recursion (λ (d : DiskDecl). IsShelf d.kind → ⊥) first_plan.disks in_memory)

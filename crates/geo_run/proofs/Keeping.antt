@@ -1,14 +1,14 @@
 -- What a call keeps, from how its run finished.
-use Rattle.std.proofs.Common.{◌≡◌, ◌≢◌, ◌⊎◌, ℕ, ◌^◌, ◌<◌, ◌≤◌, nat_le, Bool, true, false, List, [], ◌∷◌, ◌++◌, length, drop, Option, Some, None, Result, Ok, Err, refl, sym, ◌∙◌, ap, subst, inl, inr, arith, codes, decimal, IfSome, IfNone, IsSome, IsSomeAnd, IsTrue}
+use Rattle.std.proofs.Common.{◌≡◌, ◌≢◌, ◌⊎◌, ℕ, ◌≤◌, nat_le, Bool, true, false, List, [], ◌∷◌, ◌++◌, length, drop, Option, Some, None, Result, Ok, Err, refl, sym, ◌∙◌, ap, subst, inl, inr, arith, codes, decimal, IfSome, IfNone, IsSome, IsSomeAnd, IsTrue}
 use Rattle.std.proofs.Math.Seq.{drop-append_seam, drop-length}
+use Rattle.std.proofs.lemmas.Fmt.{decimal_injective}
 use Rattle.std.proofs.lemmas.List.{append-nil}
 use Rattle.std.proofs.lemmas.Bool.Decides.{nat_tests}
-use Rattle.geo_laws_generator.proofs.Numbers.{number_read}
 use Rattle.geo_laws_generator.proofs.Texts.{generated_plans}
 use Rattle.geo_model.specs.declared.step.Entry.{Entry}
 use Rattle.geo_model.specs.World.{World, Plan}
 use Rattle.geo_model.specs.Opening.{opening}
-use Rattle.geo_model.specs.Script.{Fault, empty_plan, number_of, script}
+use Rattle.geo_model.specs.Script.{Fault, empty_plan, script}
 use Rattle.geo_model.specs.Generator.{Mode, StepMode, RunMode, GenMode, IsMode, Accepts, generated}
 use Rattle.geo_model.specs.Log.{Fits}
 use Rattle.geo_model.specs.History.{KeepsHistory, RanToItsEnd}
@@ -27,28 +27,14 @@ use Rattle.geo_run.specs.Calls.{EndsEarly, EndsRead, EndsUnread, Finishes, Finis
 use Rattle.geo_run.specs.Ends.{HasNoShelfDisk, MeshRan, PlanCause, RunsPlan, entries_in}
 use Rattle.geo_run.specs.Stops.{IsDue, ending_by, ending_of}
 use Rattle.geo_run.specs.Work.{mode_of}
+use Rattle.geo_run.proofs.Digits.{first_same, none_is_some, rest_same}
 use Rattle.geo_run.proofs.Endings.{images_stand_same, images_stay_same, lent_still, others_still}
-use Rattle.geo_run.proofs.Generated.{generated_in_memory}
+use Rattle.geo_run.proofs.Generated.{generated_in_memory, one_plan, plan_in, plan_or_fault}
 
 -- Modes
 
--- the first of two lists that are the same
-first_same : (x y : List ℕ) (xs ys : List (List ℕ)) → x ∷ xs ≡ y ∷ ys → x ≡ y
-first_same x y xs ys e = cc
-
-rest_same : (x y : List ℕ) (xs ys : List (List ℕ)) → x ∷ xs ≡ y ∷ ys → xs ≡ ys
-rest_same x y xs ys e = cc
-
-none_is_some : (x : List ℕ) (xs : List (List ℕ)) → x ∷ xs ≡ [] → ⊥
-none_is_some x xs e = cc
-
 longer : (x y : List ℕ) (m n : ℕ) → length x ≡ m → length y ≡ n → m ≢ n → x ≡ y → ⊥
 longer x y m n p q ne e = ne (sym p ∙ ap (λ (zs : List ℕ). length zs) e ∙ q)
-
--- a number is read from its digits, so other numbers have other digits
-same_number : (m n : ℕ) → m < 2 ^ 64 → n < 2 ^ 64 → decimal m ≡ decimal n → m ≡ n
-same_number m n p q e =
-    let both : Some m ≡ Some n = sym (number_read m p) ∙ ap number_of e ∙ number_read n q in cc
 
 step_run : codes "step" ∷ [] ≡ codes "run" ∷ [] → ⊥
 step_run e = longer (codes "step") (codes "run") 4 3 refl refl (omega arith) (first_same (codes "step") (codes "run") [] [] e)
@@ -74,9 +60,9 @@ modes_same words (GenMode s c) RunMode a b =
 modes_same words (GenMode s c) (GenMode t d) a b =
     let both : decimal s ∷ decimal c ∷ [] ≡ decimal t ∷ decimal d ∷ [] =
     rest_same (codes "gen") (codes "gen") (decimal s ∷ decimal c ∷ []) (decimal t ∷ decimal d ∷ []) (sym a.spelled ∙ b.spelled) in
-    let starts : s ≡ t = same_number s t (omega (arith, a.in_range.0)) (omega (arith, b.in_range.0))
+    let starts : s ≡ t = decimal_injective s t (omega (arith, a.in_range.0)) (omega (arith, b.in_range.0))
     (first_same (decimal s) (decimal t) (decimal c ∷ []) (decimal d ∷ []) both) in
-    let counts : c ≡ d = same_number c d (omega (arith, a.in_range.1)) (omega (arith, b.in_range.1))
+    let counts : c ≡ d = decimal_injective c d (omega (arith, a.in_range.1)) (omega (arith, b.in_range.1))
     (first_same (decimal c) (decimal d) [] [] (rest_same (decimal s) (decimal t) (decimal c ∷ []) (decimal d ∷ []) both)) in
     cc
 
@@ -116,18 +102,6 @@ whole_or_not : (call : Call) (mode : Mode) → WasReadWhole call mode ⊎ (WasRe
 whole_or_not call StepMode = read_or_not call
 whole_or_not call RunMode = read_or_not call
 whole_or_not call (GenMode s c) = inl tt
-
--- one reading gives one plan, and no fault beside it
-one_plan : (a b : Plan) (r : Result Plan Fault) → r ≡ Ok a → r ≡ Ok b → a ≡ b
-one_plan a b r p q = cc
-
-plan_or_fault : (a : Plan) (f : Fault) (r : Result Plan Fault) → r ≡ Ok a → r ≡ Err f → ⊥
-plan_or_fault a f r p q = cc
-
--- the plan that a reading gives
-abbrev plan_in : Result Plan Fault → Plan
-plan_in (Ok plan) = plan
-plan_in (Err fault) = empty_plan
 
 read_as_whole : (call : Call) (mode : Mode) (r : Result Plan Fault) → Accepts call.words mode → WasReadWhole call mode
     → script (script_of mode call.text) ≡ r → ReadAs call mode (plan_in r)

@@ -1,6 +1,6 @@
 -- Disks that are taken and given back one after the other.
 use Rattle.std.proofs.Common.{◌≡◌, ℕ, ◌+◌, ◌-◌, ◌<◌, ◌≤◌, List, [], ◌∷◌, ◌++◌, length, map, take, drop, get_or, refl, sym, ◌∙◌, ap, subst, arith, Option, Some, None, Bool, true, false, slice_get}
-use Rattle.std.proofs.lemmas.List.{append-nil, drop_more, map-append, length-append, length-drop, take-append-drop, take_more}
+use Rattle.std.proofs.lemmas.List.{append-nil, drop_more, map-append, length-drop, take-append-drop, take_more, length_push, nil_from_length}
 use Rattle.geo_model.specs.declared.command.DiskDecl.{DiskDecl}
 use Rattle.geo_model.specs.declared.step.Entry.{Entry}
 use Rattle.geo_model.specs.Outside.{ShelfView}
@@ -155,9 +155,6 @@ pub item_out : {X : Type 0} (f : X → DriveView) (s : ShelfView) (names : List 
     (rest : List X) → left ≡ x ∷ rest → AreOut s (drop n names) (map f left) → AreOut s (drop n names) (f x ∷ map f rest)
 item_out f s names n left x rest e out = subst (λ xs. AreOut s (drop n names) (map f xs)) e out
 
-longer : {X : Type 0} (xs : List X) (x : X) → length (xs ++ x ∷ []) ≡ length xs + 1
-longer xs x = length-append xs (x ∷ [])
-
 -- one item more was given back
 pub gave_item : {X : Type 0} (f : X → DriveView) (a b c : ShelfView) (names : List (List ℕ)) (items : List X) (x : X)
     (name : List ℕ) (first next : Option (List ℕ)) (given : Bool) → length items < length names
@@ -170,7 +167,7 @@ gave_item f a b c names items x name first next given lt at is so_far one =
     let more = gave_next a b c names (length items) name (map f items) (f x) first next given lt at is so_far one in (
       more.0,
       more.1,
-      subst (λ (n : ℕ). GivesBack a (take n names) (map f (items ++ x ∷ [])) more.0 c) (sym (longer items x))
+      subst (λ (n : ℕ). GivesBack a (take n names) (map f (items ++ x ∷ [])) more.0 c) (sym (length_push items x))
           (subst (λ (xs : List DriveView). GivesBack a (take (length items + 1) names) xs more.0 c)
           (sym (map-append f items (x ∷ []))) more.2),
     )
@@ -181,20 +178,16 @@ pub rest_out : {X : Type 0} (f : X → DriveView) (b c : ShelfView) (names : Lis
     → name ≡ get_or names (length items) name → AreOut b (drop (length items) names) (f x ∷ map f rest)
     → GivesDrive b name (f x) k c (f x).kind → AreOut c (drop (length (items ++ x ∷ [])) names) (map f rest)
 rest_out f b c names items x rest name k lt at out one =
-    subst (λ (n : ℕ). AreOut c (drop n names) (map f rest)) (sym (longer items x))
+    subst (λ (n : ℕ). AreOut c (drop n names) (map f rest)) (sym (length_push items x))
     (out_next b c name (f x) k (drop (length items + 1) names) (map f rest)
     (next_out b names (length items) name (f x) (map f rest) lt at out) one)
-
-nothing : {X : Type 0} (xs : List X) → length xs ≡ 0 → xs ≡ []
-nothing [] e = refl
-nothing (x ∷ xs) e = absurd (omega (arith, e))
 
 -- all items were given back
 pub gave_all : {X : Type 0} (f : X → DriveView) (a b : ShelfView) (names : List (List ℕ)) (all items left : List X)
     (kept : List (List ℕ)) → all ≡ items ++ left → length left ≡ 0 → AreOut b (drop (length items) names) (map f left)
     → GivesBack a (take (length items) names) (map f items) kept b → GivesBack a names (map f all) kept b
 gave_all f a b names all items left kept e none out given =
-    let empty : left ≡ [] = nothing left none in
+    let empty : left ≡ [] = nil_from_length left none in
     let whole : take (length items) names ≡ names =
     none_left b names (length items) (subst (λ xs. AreOut b (drop (length items) names) (map f xs)) empty out) in
     subst (λ (ns : List (List ℕ)). GivesBack a ns (map f all) kept b) whole

@@ -23,18 +23,19 @@ whole_bytes size n is whole =
       | inr e ↦ subst (λ (s : ℕ). n % s ≡ 0 → (n / s) * s ≡ n) (sym e) (λ w. omega arith) whole
     ]
 
+-- one times more
+times_more : (n size : ℕ) → n * size + size ≡ suc n * size
+times_more n size = grind arith
+
 -- the bytes of sectors that were cut are the bytes, where they are whole sectors
 pub joined_cut : (n size : ℕ) (bytes : List ℕ) → n * size ≡ length bytes → joined_sectors (cut_into n size bytes) ≡ bytes
 joined_cut zero size [] e = refl
 joined_cut zero size (b ∷ bytes) e = absurd (let bad : zero * size ≡ suc (length bytes) = e in grind arith)
 joined_cut (suc n) size bytes e =
     let few : length (drop size bytes) ≡ length bytes - size = length-drop size bytes in
-    let all : n * size + size ≡ length bytes = suc_mul n size ∙ e in
+    let all : n * size + size ≡ length bytes = times_more n size ∙ e in
     ap (λ bs. take size bytes ++ bs) (joined_cut n size (drop size bytes) (omega (arith, few, all)))
     ∙ take-append-drop size bytes
-  where
-    suc_mul : (n size : ℕ) → n * size + size ≡ suc n * size
-    suc_mul n size = grind arith
 
 -- the sectors of an image are its bytes
 pub joined_image : (size : ℕ) (bytes : List ℕ) → IsSectorSize size → IsDiskSize size (length bytes)
@@ -47,12 +48,9 @@ cut_whole : (n size : ℕ) (bytes : List ℕ) → n * size ≤ length bytes
 cut_whole zero size bytes e = tt
 cut_whole (suc n) size bytes e =
     let few : length (drop size bytes) ≡ length bytes - size = length-drop size bytes in
-    let all : n * size + size ≡ suc n * size = suc_mul n size in
+    let all : n * size + size ≡ suc n * size = times_more n size in
     let front : size ≤ length bytes = omega (arith, all, e) in
     (length-take-le size bytes front, cut_whole n size (drop size bytes) (omega (arith, few, all, e)))
-  where
-    suc_mul : (n size : ℕ) → n * size + size ≡ suc n * size
-    suc_mul n size = grind arith
 
 pub image_whole : (size : ℕ) (bytes : List ℕ) → IsSectorSize size → IsDiskSize size (length bytes)
     → All (λ (s : List ℕ). length s ≡ size) (sectors_of size bytes)

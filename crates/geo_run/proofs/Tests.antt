@@ -1,6 +1,7 @@
 -- Tests of names and numbers, and lists of names.
 use Rattle.std.proofs.Common.{◌≡◌, ◌≢◌, ℕ, zero, suc, ◌<◌, ◌==◌, ◌⊎◌, Bool, true, false, not, ◌||◌, List, [], ◌∷◌, ◌++◌, length, refl, sym, ap, ◌∙◌, subst, inl, inr, arith, bytes_eq, Contains, get_or, if◌then◌else◌}
 use Rattle.std.specs.List.{list_any}
+use Rattle.std.proofs.lemmas.Bool.{or_right}
 use Rattle.std.proofs.lemmas.Slice.Eq.{bytes_eq-Decides}
 use Rattle.std.proofs.lemmas.Bool.Decides.{nat_tests}
 use Rattle.std.proofs.lemmas.List.Elements.{Contains-append_right}
@@ -103,12 +104,8 @@ contains-among name [] c = absurd (contains_none name c)
 contains-among name (x ∷ names) c =
     elim (contains_cases x name names c) [
       | inl e ↦ ap (λ t. t || list_any (bytes_eq name) names) (subst (λ (n : List ℕ). bytes_eq name n ≡ true) (sym e) (same_itself name))
-      | inr more ↦ or_true (bytes_eq name x) (list_any (bytes_eq name) names) (contains-among name names more)
+      | inr more ↦ or_right (bytes_eq name x) (list_any (bytes_eq name) names) (contains-among name names more)
     ]
-  where
-    or_true : (a b : Bool) → b ≡ true → (a || b) ≡ true
-    or_true true b e = refl
-    or_true false b e = e
 
 -- where no name is this one, the test fails
 pub other-among : (name : List ℕ) (names : List (List ℕ)) → AreOther name names → list_any (bytes_eq name) names ≡ false

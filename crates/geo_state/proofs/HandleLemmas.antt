@@ -1,9 +1,10 @@
 -- What is kept of handles, after one came, one is closed, and one is reaped.
-use Rattle.std.specs.Prelude.{◌≡◌, ◌≢◌, ℕ, ◌+◌, ◌≤◌, ◌==◌, Bool, true, false, not, ◌&&◌, List, [], ◌∷◌, ◌++◌, map, find, count_by, Option, Some, None, slice_get, if◌then◌else◌}
+use Rattle.std.specs.Prelude.{◌≡◌, ℕ, ◌+◌, ◌≤◌, ◌==◌, Bool, true, false, not, List, [], ◌∷◌, ◌++◌, map, find, count_by, Option, Some, None, slice_get, if◌then◌else◌}
 use Rattle.std.specs.List.{AllByRecursion}
 use Rattle.std.specs.Option.{option_map, option_map_or}
 use Rattle.std.proofs.Common.{refl, sym, ◌∙◌, ap, arith, eq-eqb}
-use Rattle.std.proofs.lemmas.Bool.{eqb-true, ne_eqb}
+use Rattle.std.proofs.Math.Bool.{and-false}
+use Rattle.std.proofs.lemmas.Bool.{eqb-true, ne_eqb, not-false}
 use Rattle.geo_model.specs.Graph.{AreNumbers}
 use Rattle.geo_model.specs.Words.{names_number}
 use Rattle.geo_model.specs.Demand.{no_counts}
@@ -21,15 +22,6 @@ use Rattle.geo_state.proofs.Lists.{Around, around, around-all, around-count, all
 use Rattle.geo_state.proofs.Owned.{none-counted}
 use Rattle.geo_state.proofs.Fields.{if-weaker}
 use Rattle.geo_state.proofs.GrantLemmas.{grant-at}
-
--- equal numbers pass a test, and others don't
-pub not-same : (m n : ℕ) → m ≢ n → (m == n) ≡ false
-not-same m n other = ne_eqb m n other
-
--- a test and its opposite
-back : (b : Bool) → not b ≡ false → b ≡ true
-back true e = refl
-back false e = absurd cc
 
 -- with handles that have the same actors for these requests, as many are own
 pub owns-alike_at : (owns : List OwnBios) (hs ks : List Handle) (xs : List Trip)
@@ -85,7 +77,7 @@ module _ (hs : List Handle) (h : Handle) where
       by false e =
           ap (λ o. option_map_or (λ (k : Handle). k.grant) o (taste_grant taste d))
           (find-before (λ (k : Handle). names_number k.consumer d) hs (h ∷ [])
-          (named false (not-same n d (λ same. let never : true ≡ false = sym (eq-eqb d n (sym same)) ∙ e in cc)), tt))
+          (named false (ne_eqb n d (λ same. let never : true ≡ false = sym (eq-eqb d n (sym same)) ∙ e in cc)), tt))
           ∙ sym (grant-at (granted_of hs taste) n h.grant d false e)
 
 -- One is closed
@@ -105,7 +97,7 @@ module _ (hs : List Handle) (n : ℕ) where
           → AllByRecursion (λ (k : Handle). not (k.number == n) ≡ false → is_of_handle x.owner k.number ≡ false) ks
       others x miss [] = tt
       others x miss (k ∷ ks) = (
-        (λ e. ap (is_of_handle x.owner) (eqb-true k.number n (back (k.number == n) e)) ∙ miss),
+        (λ e. ap (is_of_handle x.owner) (eqb-true k.number n (not-false (k.number == n) e)) ∙ miss),
         others x miss ks,
       )
 
@@ -117,7 +109,8 @@ module _ (hs : List Handle) (n : ℕ) where
       ap (λ o. option_map_or (λ (k : Handle). k.grant) o (taste_grant taste d))
       (find-kept_by (λ (k : Handle). names_number k.consumer d) (λ k. not (k.number == n)) hs
       (all-weaker (λ (k : Handle). (k.number == n) ≡ true → names_number k.consumer d ≡ false)
-      (λ k. not (k.number == n) ≡ false → names_number k.consumer d ≡ false) (λ k so e. so (back (k.number == n) e)) hs
+      (λ k. not (k.number == n) ≡ false → names_number k.consumer d ≡ false)
+      (λ k so e. so (not-false (k.number == n) e)) hs
       (around-all (λ (k : Handle). k.number) n h hs (around (λ (k : Handle). k.number) next n h hs numbers found)
       (λ k. names_number k.consumer d ≡ false) (ap (λ o. names_number o d) none))))
 
@@ -196,12 +189,13 @@ module _ (hs : List Handle) (n c : ℕ) (h : Handle) (it : IsOnly hs n c h) wher
       find-kept_by (λ (k : Handle). names_number k.consumer d) (λ k. not (k.number == n)) hs
       (all-weaker (λ (k : Handle). (k.number == n) ≡ true → k ≡ h)
       (λ k. not (k.number == n) ≡ false → names_number k.consumer d ≡ false)
-      (λ k mine e. ap (λ (j : Handle). names_number j.consumer d) (mine (back (k.number == n) e)) ∙ not_it) hs it.mine)
+      (λ k mine e. ap (λ (j : Handle). names_number j.consumer d) (mine (not-false (k.number == n) e)) ∙ not_it)
+      hs it.mine)
     where
       not_it : names_number h.consumer d ≡ false
       not_it =
           ap (λ o. names_number o d) it.has
-          ∙ not-same c d (λ same. let never : true ≡ false = sym (eq-eqb d c (sym same)) ∙ other in cc)
+          ∙ ne_eqb c d (λ same. let never : true ≡ false = sym (eq-eqb d c (sym same)) ∙ other in cc)
 
   -- the grants after it was closed
   pub closed-granted : (taste : Option Taste) → taste_grant taste c ≡ no_counts → (d : ℕ)
@@ -249,7 +243,7 @@ module _ (hs : List Handle) (n c : ℕ) (h : Handle) (it : IsOnly hs n c h) wher
           miss None never = absurd cc
           miss (Some m) e =
               let same : m ≡ c = eqb-true m c e in
-              not-same m d (λ is. let never : true ≡ false = sym (eq-eqb d c (sym is ∙ same)) ∙ other in cc)
+              ne_eqb m d (λ is. let never : true ≡ false = sym (eq-eqb d c (sym is ∙ same)) ∙ other in cc)
 
       grant : (k : Handle) (b : Bool) → (let j : Handle = if b then reap_one k else k in j.grant) ≡ k.grant
       grant k true = refl
@@ -283,11 +277,7 @@ module _ (hs : List Handle) (n c : ℕ) (h : Handle) (it : IsOnly hs n c h) wher
   released-ready xs = (notes_follow (can_be_reaped xs) hs).notes n false ∙ rows hs named-it
     where
       none_can : (k : Handle) → can_be_reaped xs (reap_one k) ≡ false
-      none_can k = nothing k.dead
-        where
-          nothing : (b : Bool) → (b && false) ≡ false
-          nothing true = refl
-          nothing false = refl
+      none_can k = and-false k.dead
 
       rows : (ks : List Handle)
           → AllByRecursion (λ (k : Handle). names_number k.consumer c ≡ (k.number == n)) ks

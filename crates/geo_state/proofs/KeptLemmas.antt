@@ -3,6 +3,7 @@ use Rattle.std.specs.Prelude.{◌≡◌, ◌≢◌, ℕ, ◌+◌, ◌==◌, Bool
 use Rattle.std.specs.List.{AllByRecursion}
 use Rattle.std.specs.Option.{option_map, option_map_or}
 use Rattle.std.proofs.Common.{refl, sym, ◌∙◌, ap, subst, arith, eq-eqb}
+use Rattle.std.proofs.lemmas.Bool.{ne_eqb}
 use Rattle.std.proofs.lemmas.List.{map-append, length-map}
 use Rattle.geo_base.specs.declared.request.Counts.{Counts}
 use Rattle.geo_model.specs.Demand.{no_counts}
@@ -36,7 +37,7 @@ use Rattle.geo_state.proofs.LawLemmas.{fields_follow, rows_out, row_out, seats-s
 use Rattle.geo_state.proofs.FirmLemmas.{under-way, holders, consumer-numbers, none-out, none-of, idle-of}
 use Rattle.geo_state.proofs.HolderFacts.{IsHeld, held, dev-holds}
 use Rattle.geo_state.proofs.GrantLemmas.{grant-at, granted-after}
-use Rattle.geo_state.proofs.HandleLemmas.{owns-alike_at, came-own, came-granted, gone-own, forgotten-granted, IsOnly, only, closed-granted, released-granted, released-ready, released-own, not-same}
+use Rattle.geo_state.proofs.HandleLemmas.{owns-alike_at, came-own, came-granted, gone-own, forgotten-granted, IsOnly, only, closed-granted, released-granted, released-ready, released-own}
 
 -- Sites: geoms with their disks, and providers with their geoms
 
@@ -157,7 +158,7 @@ module _ (t : TopoView Config) (prov : ℕ) (fresh : consumer_at t.topology (com
       (not_it, tt)))
     where
       not_it : (coming t == d) ≡ false
-      not_it = not-same (coming t) d (λ same. other (sym same))
+      not_it = ne_eqb (coming t) d (λ same. other (sym same))
 
   -- what is granted then
   comer_granted : (grant : Counts) (d : ℕ)

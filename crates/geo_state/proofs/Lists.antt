@@ -1,12 +1,18 @@
 -- Counts and searches in lists, after one more item, after some are gone, and around the one item of a number.
-use Rattle.std.specs.Prelude.{◌≡◌, ℕ, ◌+◌, ◌==◌, Bool, true, false, not, List, [], ◌∷◌, ◌++◌, map, filter, find, count_by, Some, None, if◌then◌else◌}
+use Rattle.std.specs.Prelude.{◌≡◌, ℕ, ◌+◌, ◌==◌, Bool, true, false, not, List, [], ◌∷◌, ◌++◌, map, filter, find, count_by, Option, Some, None, if◌then◌else◌}
 use Rattle.std.specs.List.{AllByRecursion}
+use Rattle.std.specs.Option.{option_map}
 use Rattle.std.proofs.Common.{refl, sym, ◌∙◌, ap, arith, inl}
 use Rattle.std.proofs.lemmas.Bool.{eqb-true}
 use Rattle.std.proofs.lemmas.List.Sums.{sum_by-append}
 use Rattle.geo_model.specs.Graph.{AreNumbers}
 use Rattle.geo_model.specs.Words.{change_where}
 use Rattle.geo_laws_graph.proofs.Lists.{Rise, rise-from, none_outside, unhit}
+
+-- nothing is there where nothing of it is
+pub none-mapped : {X Y : Type 0} (f : X → Y) (o : Option X) → option_map f o ≡ None → o ≡ None
+none-mapped f None e = refl
+none-mapped f (Some x) e = absurd cc
 
 module _ {X : Type 0} (p : X → Bool) where
   -- how many pass of two lists

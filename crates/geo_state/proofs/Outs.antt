@@ -1,7 +1,8 @@
 -- Requests out through a consumer: how many are, after one came, came back or went on, and which handles can be reaped.
-use Rattle.std.specs.Prelude.{◌≡◌, ◌≢◌, ℕ, ◌+◌, ◌-◌, ◌≤◌, ◌==◌, Bool, true, false, not, ◌&&◌, List, [], ◌∷◌, ◌++◌, map, filter, count_by, Option, Some, None, if◌then◌else◌}
+use Rattle.std.specs.Prelude.{◌≡◌, ◌≢◌, ℕ, ◌+◌, ◌-◌, ◌≤◌, ◌==◌, Bool, true, false, not, List, [], ◌∷◌, ◌++◌, map, filter, count_by, Option, Some, None, if◌then◌else◌}
 use Rattle.std.specs.Option.{option_map_or}
 use Rattle.std.proofs.Common.{refl, sym, ◌∙◌, ap, arith, eq-eqb, inl, inr}
+use Rattle.std.proofs.Math.Bool.{and-false}
 use Rattle.std.proofs.lemmas.Bool.{eqb-true, cases_eq, ne_eqb}
 use Rattle.geo_model.specs.Words.{names_number, change_where}
 use Rattle.geo_model.specs.World.{Handle}
@@ -94,14 +95,10 @@ module _ (b : ℕ) (x : Trip) (xs : List Trip) (r : Around (λ (z : Trip). z.num
         (ap (λ zs. out_through zs d)
         (around-changed (λ (z : Trip). z.number) b x xs r (λ z. record z { done = true }))
         ∙ (let it : Trip = record x { done = true } in
-        let fails : is_out d it ≡ false = and_false (x.source == d) in
+        let fails : is_out d it ≡ false = and-false (x.source == d) in
         let n : counts (is_out d) it ≡ 0 = ap (λ b. if b then 1 else 0) fails in
         let all = around-count (λ (z : Trip). z.number) b x xs r (is_out d) it (counts (is_out d) it) (omega arith) in
         omega (arith, n, all)))
-      where
-        and_false : (a : Bool) → (a && false) ≡ false
-        and_false true = refl
-        and_false false = refl
 
     -- it is gone
     pub out-gone : (d : ℕ)

@@ -1,17 +1,17 @@
 -- The requests of an actor's own lines, the taste's read and the requests at the disks, after one more request, after
 -- one is gone, and after one is at its disk or has come from it.
-use Rattle.std.specs.Prelude.{◌≡◌, ℕ, ◌+◌, ◌-◌, ◌≤◌, ◌==◌, min, Bool, true, false, not, List, [], ◌∷◌, ◌++◌, filter, find, count_by, Option, Some, None, if◌then◌else◌}
+use Rattle.std.specs.Prelude.{◌≡◌, ℕ, ◌+◌, ◌-◌, ◌≤◌, ◌==◌, min, Bool, true, false, not, List, [], ◌∷◌, ◌++◌, filter, find, count_by, Some, None, if◌then◌else◌}
 use Rattle.std.specs.List.{AllByRecursion}
 use Rattle.std.specs.Option.{option_map, option_map_or}
 use Rattle.std.proofs.Common.{refl, sym, ◌∙◌, ap, arith, eq-eqb}
-use Rattle.std.proofs.lemmas.Bool.{eqb-true}
+use Rattle.std.proofs.lemmas.Bool.{eqb-true, not-false}
 use Rattle.geo_model.specs.Topology.{Topology}
 use Rattle.geo_model.specs.Words.{change_where}
 use Rattle.geo_model.specs.World.{Config, Handle, is_taste_root}
 use Rattle.geo_model.specs.Bios.{disk_at}
 use Rattle.geo_state.specs.Trips.{Trip, taste_read, is_at_disk, busy_at, is_own, IsOwnCount}
 use Rattle.geo_state.proofs.Outs.{eqb_sym}
-use Rattle.geo_state.proofs.Lists.{Around, around-changed, around-gone, around-count, around-all, count-append, counts, count-step, count-skip, count-kept, count-none, find-none, find-past, find-before, find-kept_by, none-found, all-append, all-kept, all-weaker, all-front, all-back}
+use Rattle.geo_state.proofs.Lists.{Around, around-changed, around-gone, around-count, around-all, count-append, counts, count-step, count-skip, count-kept, count-none, find-none, find-past, find-before, find-kept_by, none-found, none-mapped, all-append, all-kept, all-weaker, all-front, all-back}
 
 -- where none is counted none passes
 pub none-counted : {X : Type 0} (p : X → Bool) (xs : List X) → count_by p xs ≡ 0 → AllByRecursion (λ x. p x ≡ false) xs
@@ -127,12 +127,8 @@ pub only-fails : (b : ℕ) (x : Trip) (xs : List Trip) (p : Trip → Bool) → A
     → p x ≡ false → AllByRecursion (λ z. not (z.number == b) ≡ false → p z ≡ false) xs
 only-fails b x xs p r fails =
     all-weaker (λ z. (z.number == b) ≡ true → p z ≡ false) (λ z. not (z.number == b) ≡ false → p z ≡ false)
-    (λ z so e. so (back (z.number == b) e)) xs
+    (λ z so e. so (not-false (z.number == b) e)) xs
     (around-all (λ (z : Trip). z.number) b x xs r (λ z. p z ≡ false) fails)
-  where
-    back : (c : Bool) → not c ≡ false → c ≡ true
-    back true e = refl
-    back false e = absurd cc
 
 -- The taste's read
 
@@ -146,15 +142,12 @@ pub read-first : (xs : List Trip) (z : Trip) → is_taste_root z.owner ≡ true 
 read-first xs z reads none =
     ap (option_map (λ (x : Trip). x.number))
     (find-past (λ x. is_taste_root x.owner) xs (z ∷ [])
-    (none-found (λ (x : Trip). is_taste_root x.owner) xs (nothing (find (λ x. is_taste_root x.owner) xs) none))
+    (none-found (λ (x : Trip). is_taste_root x.owner) xs
+    (none-mapped (λ (x : Trip). x.number) (find (λ (x : Trip). is_taste_root x.owner) xs) none))
     ∙ found)
   where
     found : find (λ (x : Trip). is_taste_root x.owner) (z ∷ []) ≡ Some z
     found = rw reads refl
-
-    nothing : (o : Option Trip) → option_map (λ (x : Trip). x.number) o ≡ None → o ≡ None
-    nothing None e = refl
-    nothing (Some x) e = absurd cc
 
 -- another request is gone, or the only read
 pub read-kept : (b : ℕ) (x : Trip) (xs : List Trip) → Around (λ (z : Trip). z.number) b x xs
@@ -245,10 +238,6 @@ module _ (t : Topology Config) (disk b : ℕ) (x : Trip) (xs : List Trip) (r : A
       ≡ (if d == disk then Some x.number else busy_at t xs d)
   busy-taken none d = by (d == disk) refl
     where
-      nothing : (o : Option Trip) → option_map (λ (z : Trip). z.number) o ≡ None → o ≡ None
-      nothing None e = refl
-      nothing (Some z) e = absurd cc
-
       here : is_at_disk t disk (moved true) ≡ true
       here = ap (λ o. option_map_or (λ n. n == disk) o false) there ∙ eq-eqb disk disk refl
 
@@ -260,7 +249,8 @@ module _ (t : Topology Config) (disk b : ℕ) (x : Trip) (xs : List Trip) (r : A
           ≡ (if c then Some x.number else busy_at t xs d)
       by true e =
           let same : d ≡ disk = eqb-true d disk e in
-          let all = none-found (is_at_disk t disk) xs (nothing (find (is_at_disk t disk) xs) none) in
+          let all = none-found (is_at_disk t disk) xs
+          (none-mapped (λ (z : Trip). z.number) (find (is_at_disk t disk) xs) none) in
           let front = all-front (λ z. is_at_disk t disk z ≡ false) r.front (x ∷ r.back) (rw r.is at all) in
           rw same
           (changed_to true disk

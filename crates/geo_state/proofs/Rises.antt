@@ -3,7 +3,7 @@ use Rattle.std.specs.Prelude.{◌≡◌, ◌≢◌, ℕ, ◌-◌, ◌≤◌, ◌
 use Rattle.std.specs.List.{AllByRecursion}
 use Rattle.std.specs.Option.{option_map, option_map_or}
 use Rattle.std.proofs.Common.{refl, sym, ◌∙◌, ap, eq-eqb}
-use Rattle.std.proofs.lemmas.Bool.{eqb-true, ne_eqb, and_parts}
+use Rattle.std.proofs.lemmas.Bool.{eqb-true, ne_eqb, and_parts, not-false}
 use Rattle.geo_model.specs.declared.step.Owner.{Owner}
 use Rattle.geo_model.specs.declared.step.Owner.TheVariants as owners
 use Rattle.geo_model.specs.declared.step.Phase.{Phase}
@@ -232,12 +232,8 @@ gone-child parent y done e = record {
   line = λ handles actor. own-of_nobody handles (trip_of y) (λ n. of_none y.owner n child) actor;
 }
   where
-    back : (c : Bool) → not c ≡ false → c ≡ true
-    back true f = refl
-    back false f = absurd cc
-
     child : is_child_of y.owner parent ≡ true
-    child = back (is_child_of y.owner parent) e
+    child = not-false (is_child_of y.owner parent) e
 
     of_child : (o : Owner) → is_child_of o parent ≡ true → is_taste_root o ≡ false
     of_child (owners.Line hd line) f = absurd cc

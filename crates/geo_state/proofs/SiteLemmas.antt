@@ -3,7 +3,7 @@ use Rattle.std.specs.Prelude.{◌≡◌, ℕ, ◌+◌, ◌==◌, Bool, true, fal
 use Rattle.std.specs.List.{AllByRecursion}
 use Rattle.std.specs.Option.{option_map, option_map_or, option_and_then, option_flatten}
 use Rattle.std.proofs.Common.{refl, sym, ◌∙◌, ap, subst, eq-eqb}
-use Rattle.std.proofs.lemmas.Bool.{eqb-true, ne_eqb}
+use Rattle.std.proofs.lemmas.Bool.{eqb-true, ne_eqb, not-false}
 use Rattle.std.proofs.lemmas.List.{map-append, length-append, length-map}
 use Rattle.std.proofs.lemmas.List.Elements.{recursion_from_All}
 use Rattle.geo_base.specs.declared.request.Counts.{Counts}
@@ -29,7 +29,7 @@ use Rattle.geo_state.specs.World.{StandsFirm}
 use Rattle.geo_state.specs.Holds.{Holds, AreOut, AreSeats, IsSeat, granted_of}
 use Rattle.geo_state.specs.Changes.{IsSettled}
 use Rattle.geo_state.specs.Sites.{AreFresh, no_row, seats_without, KeptAfterComers, KeptAfterInsert, KeptAfterProvider, KeptAfterConsumer, KeptAfterGeom, KeptWithSites}
-use Rattle.geo_state.proofs.Lists.{Around, around, around-all, all-weaker, all-append, find-before, find-first, find-past, find-kept_by, find-same, none-found}
+use Rattle.geo_state.proofs.Lists.{Around, around, around-all, all-weaker, all-append, find-before, find-first, find-past, find-kept_by, find-same, none-found, none-mapped}
 use Rattle.geo_state.proofs.Slots.{slot-same, slot-other}
 use Rattle.geo_state.proofs.Fields.{apart, at-some, if-weaker}
 use Rattle.geo_state.proofs.Frames.{first_of, first_read, under, under_read, disk_under, disk_read}
@@ -176,10 +176,6 @@ come-geoms t u disk geom geoms none d = first_read u.geoms d ∙ ap (λ rows. fi
     test : ℕ → ℕ × Option ℕ → Bool
     test n row = option_map_or (λ m. m == n) row.1 false
 
-    nothing : (o : Option (ℕ × Option ℕ)) → option_map (λ (row : ℕ × Option ℕ). row.0) o ≡ None → o ≡ None
-    nothing None e = refl
-    nothing (Some row) e = absurd cc
-
     by : (b : Bool) → (d == disk) ≡ b
         → first_of (map disk_row t.geoms ++ (geom, Some disk) ∷ []) d ≡ (if b then Some geom else geom_of_disk t d)
     by true e =
@@ -189,7 +185,8 @@ come-geoms t u disk geom geoms none d = first_read u.geoms d ∙ ap (λ rows. fi
         (find-past (λ (row : ℕ × Option ℕ). option_map_or (λ m. m == disk) row.1 false) (map disk_row t.geoms)
         ((geom, Some disk) ∷ [])
         (none-found (λ (row : ℕ × Option ℕ). option_map_or (λ m. m == disk) row.1 false) (map disk_row t.geoms)
-        (nothing (find (λ (row : ℕ × Option ℕ). option_map_or (λ m. m == disk) row.1 false) (map disk_row t.geoms))
+        (none-mapped (λ (row : ℕ × Option ℕ). row.0)
+        (find (λ (row : ℕ × Option ℕ). option_map_or (λ m. m == disk) row.1 false) (map disk_row t.geoms))
         (sym (first_read t.geoms disk) ∙ none))))
         ∙ ap (λ b. option_map (λ (row : ℕ × Option ℕ). row.0) (if b then Some (let r : ℕ × Option ℕ = (geom, Some disk) in r) else None))
         (eq-eqb disk disk refl))
@@ -335,11 +332,6 @@ granted-still : (s : State) (u : TopoView Config) → Holds s → ((c : ℕ) →
     → (c : ℕ) → granted_by u c ≡ granted_of s.handles.handles s.taste c
 granted-still s u h same c = same c ∙ ap (λ (g : ℕ → Counts). g c) h.grants
 
--- numbers that a test tells apart
-back : (b : Bool) → not b ≡ false → b ≡ true
-back true e = refl
-back false e = absurd cc
-
 module _ (t u : Topology Config) (prov : ℕ)
     (rest : u.providers ≡ filter (λ (p : Provider). not (p.number == prov)) t.providers) (geoms : u.geoms ≡ t.geoms)
   where
@@ -355,7 +347,8 @@ module _ (t u : Topology Config) (prov : ℕ)
             → AllByRecursion (λ (x : Provider). not (x.number == prov) ≡ false → (x.number == p) ≡ false) xs
         others [] = tt
         others (x ∷ xs) = (
-          (λ e. ne_eqb x.number p (λ same. apart p prov other (sym same ∙ eqb-true x.number prov (back (x.number == prov) e)))),
+          (λ e. ne_eqb x.number p
+              (λ same. apart p prov other (sym same ∙ eqb-true x.number prov (not-false (x.number == prov) e)))),
           others xs,
         )
 
@@ -470,7 +463,7 @@ module _ (t : Topology Config) (geom : ℕ) (g : Geom Config) (r : Around (λ (x
       find-kept_by (is_geom_of_disk d) (λ (x : Geom Config). not (x.number == geom)) t.geoms
       (all-weaker (λ (x : Geom Config). (x.number == geom) ≡ true → is_geom_of_disk d x ≡ false)
       (λ x. not (x.number == geom) ≡ false → is_geom_of_disk d x ≡ false)
-      (λ x so e. so (back (x.number == geom) e)) t.geoms
+      (λ x so e. so (not-false (x.number == geom) e)) t.geoms
       (around-all (λ (x : Geom Config). x.number) geom g t.geoms r
       (λ x. is_geom_of_disk d x ≡ false) other))
 
@@ -532,7 +525,7 @@ module _ (t u : Topology Config) (geom : ℕ) (rest : u.geoms ≡ filter (λ (x 
           each [] = tt
           each (x ∷ xs) = (
             (λ e. ne_eqb x.number m
-                (λ is. apart m geom other (sym is ∙ eqb-true x.number geom (back (x.number == geom) e)))),
+                (λ is. apart m geom other (sym is ∙ eqb-true x.number geom (not-false (x.number == geom) e)))),
             each xs,
           )
 

@@ -1,8 +1,9 @@
 -- Changes of requests that the other parts don't see, or only where a request is at a disk.
-use Rattle.std.specs.Prelude.{◌≡◌, ℕ, ◌+◌, ◌≤◌, ◌==◌, Bool, true, false, ◌&&◌, List, [], ◌∷◌, ◌++◌, map, filter, find, count_by, Option, Some, None, IsTrue, if◌then◌else◌}
+use Rattle.std.specs.Prelude.{◌≡◌, ℕ, ◌+◌, ◌≤◌, ◌==◌, Bool, true, false, List, [], ◌∷◌, ◌++◌, map, filter, find, count_by, Option, Some, None, IsTrue, if◌then◌else◌}
 use Rattle.std.specs.List.{AllByRecursion}
 use Rattle.std.specs.Option.{option_map, option_map_or}
 use Rattle.std.proofs.Common.{refl, sym, ◌∙◌, ap}
+use Rattle.std.proofs.Math.Bool.{and-false}
 use Rattle.geo_model.specs.declared.step.Phase.{Phase}
 use Rattle.geo_model.specs.declared.step.Phase.TheVariants as phases
 use Rattle.geo_model.specs.Graph.{AreNumbers}
@@ -94,7 +95,7 @@ module _ (keep : Trip → Bool) (xs : List Trip) (gone : AllByRecursion (λ x. k
     out =
         λ c. count-kept (is_out c) keep xs
         (all-weaker (λ (x : Trip). keep x ≡ false → IsGoneChild x) (λ x. keep x ≡ false → is_out c x ≡ false)
-        (λ x so e. rw (so e).done (no (x.source == c))) xs gone);
+        (λ x so e. rw (so e).done (and-false (x.source == c))) xs gone);
     read =
         ap (option_map (λ (z : Trip). z.number))
         (find-kept_by (λ z. is_taste_root z.owner) keep xs
@@ -106,10 +107,6 @@ module _ (keep : Trip → Bool) (xs : List Trip) (gone : AllByRecursion (λ x. k
         (λ x. keep x ≡ false → is_own handles actor x ≡ false)
         (λ x so e. (so e).line handles actor) xs gone) is;
   }
-    where
-      no : (a : Bool) → (a && false) ≡ false
-      no true = refl
-      no false = refl
 
   pub busy-gone : (t : Topology Config) (disk : ℕ) → busy_at t (filter keep xs) disk ≡ busy_at t xs disk
   busy-gone t disk =

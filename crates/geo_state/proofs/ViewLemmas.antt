@@ -3,6 +3,7 @@ use Rattle.std.specs.Prelude.{◌≡◌, ℕ, ◌+◌, ◌==◌, Bool, true, fal
 use Rattle.std.specs.List.{AllByRecursion, list_any}
 use Rattle.std.specs.Option.{option_map, option_map_or}
 use Rattle.std.proofs.Common.{refl, sym, ◌∙◌, ap, subst, arith, inl}
+use Rattle.std.proofs.Math.Bool.{and-false, and-true, or-false, not-not}
 use Rattle.std.proofs.lemmas.Bool.{eqb-true, ne_eqb}
 use Rattle.geo_base.specs.declared.request.Counts.{Counts}
 use Rattle.geo_model.specs.declared.step.Owner.{Owner}
@@ -101,18 +102,6 @@ module _ (actor : ℕ) (hd : ℕ) where
   any-of low high [] rise = refl
   any-of low high (h ∷ hs) rise = at (hd == h.number) refl (any-of (h.number + 1) high hs rise.2)
     where
-      or-false : (b : Bool) → (b || false) ≡ b
-      or-false true = refl
-      or-false false = refl
-
-      and-true : (b : Bool) → (b && true) ≡ b
-      and-true true = refl
-      and-true false = refl
-
-      and-false : (b : Bool) → (b && false) ≡ false
-      and-false true = refl
-      and-false false = refl
-
       at : (b : Bool) → (hd == h.number) ≡ b
           → list_any (λ (k : Handle). (k.actor == actor) && (hd == k.number)) hs
           ≡ option_map_or (λ (k : Handle). k.actor == actor) (find (λ (k : Handle). hd == k.number) hs) false
@@ -137,26 +126,18 @@ of-actor handles next are actor (owners.Line hd line) =
     any-of actor hd 0 next handles (rise-from next (map (λ (h : Handle). h.number) handles) are)
 of-actor handles next are actor owners.Taste = none handles
   where
-    no : (b : Bool) → (b && false) ≡ false
-    no true = refl
-    no false = refl
-
     none : (hs : List Handle)
         → list_any (λ (h : Handle). (h.actor == actor) && is_of_handle owners.Taste h.number) hs
         ≡ option_map_or (λ (h : Handle). h.actor == actor) (handle_of_owner hs owners.Taste) false
     none [] = refl
-    none (h ∷ hs) = rw (no (h.actor == actor)) (none hs)
+    none (h ∷ hs) = rw (and-false (h.actor == actor)) (none hs)
 of-actor handles next are actor (owners.Child parent index) = none handles
   where
-    no : (b : Bool) → (b && false) ≡ false
-    no true = refl
-    no false = refl
-
     none : (hs : List Handle)
         → list_any (λ (h : Handle). (h.actor == actor) && is_of_handle (owners.Child parent index) h.number) hs
         ≡ option_map_or (λ (h : Handle). h.actor == actor) (handle_of_owner hs (owners.Child parent index)) false
     none [] = refl
-    none (h ∷ hs) = rw (no (h.actor == actor)) (none hs)
+    none (h ∷ hs) = rw (and-false (h.actor == actor)) (none hs)
 
 -- whether a request is out through a consumer that may be there
 active-is : (s : State) (c : ℕ) → Holds s
@@ -224,10 +205,6 @@ states_show log s actors h firm =
         s.traffic.bios
         ∙ any-counted (is_out c) (trips s.traffic.bios)
 
-    twice : (b : Bool) → not (not b) ≡ b
-    twice true = refl
-    twice false = refl
-
     each : (hs : List Handle)
         → AllByRecursion (λ (k : Handle). is_to_reap (world actors log s) k ≡ can_be_reaped (trips s.traffic.bios) k) hs
     each [] = tt
@@ -237,7 +214,7 @@ states_show log s actors h firm =
             → option_map_or (λ c. not (is_active (world actors log s) c)) o false
             ≡ option_map_or (λ c. out_through (trips s.traffic.bios) c == 0) o false
         one None = refl
-        one (Some c) = ap not (active c) ∙ twice (out_through (trips s.traffic.bios) c == 0)
+        one (Some c) = ap not (active c) ∙ not-not (out_through (trips s.traffic.bios) c == 0)
 
     seat_of : (disk : ℕ) (seat : DiskSeat) → slice_get s.disks.items disk ≡ Some seat
         → IsSeat s.topo.topology (trips s.traffic.bios) disk seat.geom seat.busy

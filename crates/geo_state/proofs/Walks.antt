@@ -3,6 +3,7 @@ use Rattle.std.specs.Prelude.{◌≡◌, ℕ, ◌+◌, ◌<◌, ◌≤◌, ◌==
 use Rattle.std.specs.List.{AllByRecursion}
 use Rattle.std.specs.Option.{option_map}
 use Rattle.std.proofs.Common.{refl, sym, ◌∙◌, ap, subst, arith}
+use Rattle.std.proofs.Math.Bool.{and-false}
 use Rattle.std.proofs.lemmas.Bool.{eq-eqb, ne_eqb, le-leb, lt-leb, leb-true, leb-false}
 use Rattle.geo_model.specs.declared.step.Owner.TheVariants as owners
 use Rattle.geo_model.specs.World.{BioOf, Handle}
@@ -104,16 +105,12 @@ first-trips : (handles : List Handle) (actor low : ℕ) (bios : List (BioOf Held
 first-trips handles actor low [] above = refl
 first-trips handles actor low (x ∷ xs) above = at (is_own handles actor (trip_of x)) refl (first-trips handles actor low xs above.1)
   where
-    no : (b : Bool) → (b && false) ≡ false
-    no true = refl
-    no false = refl
-
     at : (b : Bool) → is_own handles actor (trip_of x) ≡ b
         → first_passing (λ (y : BioOf Held). is_own handles actor (trip_of y)) xs low ≡ own_first handles (trips xs) actor
         → first_passing (λ (y : BioOf Held). is_own handles actor (trip_of y)) (x ∷ xs) low
         ≡ own_first handles (trips (x ∷ xs)) actor
     at true e rest = rw (e, le-leb low x.number (above.0 e)) refl
-    at false e rest = rw (e, no (nat_le low x.number)) rest
+    at false e rest = rw (e, and-false (nat_le low x.number)) rest
 
 -- none is out
 none-first : (handles : List Handle) (actor : ℕ) (xs : List Trip) → count_by (is_own handles actor) xs ≡ 0

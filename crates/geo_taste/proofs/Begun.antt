@@ -2,7 +2,7 @@
 use Rattle.std.specs.Prelude.{◌≡◌, ℕ, ◌==◌, nat_le, Bool, true, false, cond, not, ◌||◌, List, ◌∷◌, ◌++◌, filter, find, map, Option, Some, None, IsSome, IsSomeAnd, IfSome, All, Contains, [], option_map, unwrap_or}
 use Rattle.std.specs.Option.{option_map_or, option_and_then}
 use Rattle.std.proofs.Common.{refl, sym, ◌∙◌, ap, subst, eq-eqb}
-use Rattle.std.proofs.lemmas.Bool.{eqb-true}
+use Rattle.std.proofs.lemmas.Bool.{eqb-true, or_parts}
 use Rattle.std.proofs.lemmas.List.Elements.{All-filter, All-push, All-weaker}
 use Rattle.geo_base.specs.declared.request.Counts.{Counts}
 use Rattle.geo_model.specs.Topology.{Topology, Geom, Provider, Consumer, geom_at, provider_at, consumer_at, geom_of_provider, is_errored, add_consumer, attach, consumers_of, detach}
@@ -25,11 +25,6 @@ use Rattle.geo_taste.proofs.Adding.{no_consumer}
 use Rattle.geo_taste.proofs.Coming.{taster_allowed}
 use Rattle.geo_taste.proofs.Going.{errored_told}
 use Rattle.geo_taste.proofs.Leaving.{taster_counted, goer_counted}
-
--- neither of two
-neither : (a b : Bool) → (a || b) ≡ false → (a ≡ false) × (b ≡ false)
-neither true b never = absurd (cc)
-neither false b none = (refl, none)
 
 -- what is kept doesn't tell the room
 pub settled_roomed : {C : Type 0} (t : TopoView C) (room : Room) → IsSettled t → IsSettled (record t { room = room })
@@ -74,8 +69,8 @@ module _ {C : Type 0} (t : TopoView C) where
       let low : Bool = option_map_or (λ (g : Geom C). g.withering || nat_le taste_limit (rank t.topology g.number))
       (geom_of_provider t.topology p) true in
       let written : Bool = not ((have (granted_by t) t.topology p).w == 0) in
-      let a = neither (is_errored t.topology p) (low || written) tasted in
-      let b = neither low written a.1 in
+      let a = or_parts (is_errored t.topology p) (low || written) tasted in
+      let b = or_parts low written a.1 in
       by (provider_at t.topology p) refl b.0 a.0
     where
       by : (o : Option Provider) → provider_at t.topology p ≡ o

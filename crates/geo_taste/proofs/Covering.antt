@@ -3,9 +3,11 @@ use Rattle.std.specs.Prelude.{◌≡◌, ℕ, ◌==◌, Bool, true, false, cond,
 use Rattle.std.specs.List.{list_any}
 use Rattle.std.specs.Option.{option_map_or}
 use Rattle.std.proofs.Common.{refl, sym, ◌∙◌, ap}
-use Rattle.std.proofs.lemmas.Bool.{eqb-true, and_parts, and_from}
+use Rattle.std.proofs.lemmas.Bool.{eqb-true, and_parts, and_from, and_left}
+use Rattle.std.proofs.lemmas.List.Elements.{filter_agree}
 use Rattle.geo_base.specs.declared.kind.Kind.{Kind}
 use Rattle.geo_base.specs.declared.kind.Kind.TheVariants as kinds
+use Rattle.geo_base.proofs.Tests.{same_tests}
 use Rattle.geo_model.specs.Words.{is_kind, names_number}
 use Rattle.geo_model.specs.Topology.{Topology, Geom, Consumer, geom_at, consumers_of, attached_to}
 use Rattle.geo_model.specs.Graph.{IsInOrder}
@@ -20,7 +22,7 @@ use Rattle.geo_laws_counts.proofs.LimitFacts.{of_filter}
 use Rattle.geo_laws_counts.proofs.Members.{in_filter}
 use Rattle.geo_mesh.specs.Graph.{IsSoundGraph}
 use Rattle.geo_taste.specs.Over.{may_be_of, over, stands_as}
-use Rattle.geo_taste.proofs.Tests.{Passes, one_passes, same_tests, some_passes}
+use Rattle.geo_taste.proofs.Tests.{Passes, one_passes, some_passes}
 
 module _ (t : Topology Config) (order : IsInOrder t) (kind : Kind) (p : ℕ) where
   -- whether a geom is of the class and isn't withering, and whether it is over the provider
@@ -97,13 +99,6 @@ filter_twice {X} f g (x ∷ xs) = by (g x) (filter_twice f g xs)
     by true so = ap (λ ys. cond (f x) (x ∷ ys) ys) so
     by false so = so
 
--- of tests that are the same
-filter_same : {X : Type 0} (f g : X → Bool) → ((x : X) → f x ≡ g x) → (xs : List X) → filter f xs ≡ filter g xs
-filter_same f g same [] = refl
-filter_same f g same (x ∷ xs) =
-    ap (λ b. cond b (x ∷ filter f xs) (filter f xs)) (same x)
-    ∙ ap (λ ys. cond (g x) (x ∷ ys) ys) (filter_same f g same xs)
-
 -- what doesn't pass either isn't missed
 any_kept : {X : Type 0} (test f g : X → Bool) → ((x : X) → f x ≡ false → test x ≡ false) → (xs : List X)
     → list_any test (filter (λ x. g x && f x) xs) ≡ list_any test (filter g xs)
@@ -135,15 +130,11 @@ neither_one true b never = absurd (cc)
 neither_one false true e = (refl, refl)
 neither_one false false never = absurd (cc)
 
--- and both of them
-both_fail : (a b : Bool) → a ≡ false → (a && b) ≡ false
-both_fail a b e = ap (λ c. c && b) e
-
 module _ (t : Topology Config) (kind : Kind) (p : ℕ) where
   -- for DEV all consumers at the provider are looked at
   pub over_all : is_kind kind kinds.Dev ≡ true → attached_to t p ≡ over t kind p
   over_all dev =
-      filter_same (λ (c : Consumer). names_number c.provider p) (looked_at kind p)
+      filter_agree (λ (c : Consumer). names_number c.provider p) (looked_at kind p)
       (λ c. by (names_number c.provider p) ∙ ap (λ b. names_number c.provider p && (b || not (c.geom == 1))) (sym dev))
       t.consumers
     where
@@ -156,7 +147,7 @@ module _ (t : Topology Config) (kind : Kind) (p : ℕ) where
       → filter (λ (c : Consumer). not (c.geom == 1)) (attached_to t p) ≡ over t kind p
   over_above other =
       filter_twice (λ (c : Consumer). not (c.geom == 1)) (λ (c : Consumer). names_number c.provider p) t.consumers
-      ∙ filter_same (λ (c : Consumer). names_number c.provider p && not (c.geom == 1)) (looked_at kind p)
+      ∙ filter_agree (λ (c : Consumer). names_number c.provider p && not (c.geom == 1)) (looked_at kind p)
       (λ c. ap (λ b. names_number c.provider p && (b || not (c.geom == 1))) (sym other)) t.consumers
 
   -- a handle's consumer is of no other class
@@ -170,7 +161,7 @@ module _ (t : Topology Config) (kind : Kind) (p : ℕ) where
           → option_map_or (λ (g : Geom Config). is_kind g.kind kind && not g.withering) o false ≡ false
       by None never other = absurd never
       by (Some g) dev other =
-          both_fail (is_kind g.kind kind) (not g.withering)
+          and_left (is_kind g.kind kind) (not g.withering)
           (ap (λ (k : Kind). is_kind k kind) dev ∙ dev_other kind other)
 
   -- so it is enough to look at the others

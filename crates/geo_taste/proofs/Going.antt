@@ -4,6 +4,7 @@ use Rattle.std.specs.Option.{option_map_or}
 use Rattle.std.proofs.Common.{refl, sym, ◌∙◌, ap, inl, inr, arith}
 use Rattle.std.proofs.lemmas.Bool.{eqb-true, and_parts, and_from, or_cases}
 use Rattle.std.proofs.lemmas.List.Elements.{All-contains}
+use Rattle.geo_base.proofs.Tests.{same_tests}
 use Rattle.geo_model.specs.Topology.{Topology, Provider, Consumer, provider_at, consumer_at, is_errored}
 use Rattle.geo_model.specs.Graph.{IsInOrder}
 use Rattle.geo_model.specs.Tasting.{is_ended}
@@ -15,7 +16,7 @@ use Rattle.geo_laws_graph.proofs.Members.{at_contained, find-Contains}
 use Rattle.geo_laws_graph.proofs.Numbered.{any-contained}
 use Rattle.geo_laws_graph.proofs.Found.{each-found}
 use Rattle.geo_taste.specs.Going.{going}
-use Rattle.geo_taste.proofs.Tests.{Passes, one_passes, same_tests, some_passes}
+use Rattle.geo_taste.proofs.Tests.{Passes, one_passes, some_passes}
 
 -- whether a provider carries an error is what stands at it
 pub errored_told : {C : Type 0} (t : Topology C) → IsInOrder t → (p : ℕ)

@@ -1,8 +1,8 @@
 -- What a step comes to where a class accepts: what is made, the mesh, the events and the taste after it.
-use Rattle.std.specs.Prelude.{◌≡◌, ◌<◌, ◌==◌, Bool, true, false, ◌||◌, List, Option, Some, None, Result, Ok, Err, IsSome, IfSome, IsSomeAnd, IfOk, OnErr, is_some, option_map, option_and_then, if◌then◌else◌}
+use Rattle.std.specs.Prelude.{◌≡◌, ◌<◌, ◌==◌, Bool, true, false, List, Option, Some, None, Result, Ok, Err, IsSome, IfSome, IsSomeAnd, IfOk, OnErr, is_some, option_map, option_and_then, if◌then◌else◌}
 use Rattle.std.specs.Option.{option_map_or}
 use Rattle.std.proofs.Common.{refl, sym, ◌∙◌, ap, subst, arith}
-use Rattle.std.proofs.lemmas.Bool.{eqb-true, not-true}
+use Rattle.std.proofs.lemmas.Bool.{eqb-true, not-true, or_parts}
 use Rattle.geo_model.specs.declared.class.Judged.{Judged}
 use Rattle.geo_model.specs.declared.class.Judged.TheVariants.{Read, Next, Made, Ended}
 use Rattle.geo_model.specs.declared.class.Shape.{Shape}
@@ -158,12 +158,8 @@ module _ (t : Topology Config) (s : Taste) where
   goes_sound p sound goes =
       sym (ap (λ o. option_map_or (λ (x : Provider). x.errored) o false) (goes_found p goes).1)
       ∙ sym (errored_told t sound.orderly.order s.provider)
-      ∙ first (is_errored t s.provider) (option_map_or (λ (c : Consumer). c.spoiled) (consumer_at t s.consumer) false)
-      (goes_found p goes).0
-    where
-      first : (a b : Bool) → (a || b) ≡ false → a ≡ false
-      first true b never = absurd (cc)
-      first false b e = refl
+      ∙ (or_parts (is_errored t s.provider) (option_map_or (λ (c : Consumer). c.spoiled) (consumer_at t s.consumer) false)
+      (goes_found p goes).0).0
 
   -- so a geom can stand on it where it isn't too high
   pub goes_stands : (p : Provider) → IsSoundGraph t → going t s ≡ Some p

@@ -2,7 +2,7 @@
 use Rattle.std.specs.Prelude.{◌≡◌, Bool, true, false, ◌||◌, List, [], ◌∷◌, Option, Some, None, Contains}
 use Rattle.std.specs.List.{list_any}
 use Rattle.std.specs.Option.{option_map_or}
-use Rattle.std.proofs.Common.{refl, sym}
+use Rattle.std.proofs.Common.{refl}
 use Rattle.geo_laws_counts.proofs.Members.{in_head, in_tail}
 
 -- an item that passes
@@ -21,12 +21,6 @@ one_passes {X} test (x ∷ xs) some = by (test x) refl some (one_passes test xs)
     by true e so rest = record { item = x; there = in_head x xs; passes = e }
     by false e so rest = let r : Passes test xs = rest so in
         record { item = r.item; there = in_tail x xs r.item r.there; passes = r.passes }
-
--- two tests of which each passes where the other one does
-pub same_tests : (a b : Bool) → (a ≡ true → b ≡ true) → (b ≡ true → a ≡ true) → a ≡ b
-same_tests true b forth back = sym (forth refl)
-same_tests false true forth back = back refl
-same_tests false false forth back = refl
 
 -- a value that passes is there
 pub some_passes : {X : Type 0} (test : X → Bool) (o : Option X) → option_map_or test o false ≡ true

@@ -1,7 +1,8 @@
 -- Grants that differ in reads and exclusive counts alone leave all write counts as they are.
-use Rattle.std.specs.Prelude.{◌≡◌, ℕ, zero, suc, ◌+◌, ◌==◌, Bool, true, false, not, ◌&&◌, List, [], ◌∷◌, length, map, Option, Some, None}
+use Rattle.std.specs.Prelude.{◌≡◌, ℕ, zero, suc, ◌+◌, ◌==◌, false, not, ◌&&◌, List, [], ◌∷◌, length, map, Option, Some, None}
 use Rattle.std.specs.Option.{option_map_or}
 use Rattle.std.proofs.Common.{refl, ◌∙◌, ap}
+use Rattle.std.proofs.Math.Bool.{and-not_self, not-and_self}
 use Rattle.geo_base.specs.declared.request.Counts.{Counts}
 use Rattle.geo_base.specs.declared.kind.Kind.{Kind}
 use Rattle.geo_base.specs.declared.kind.Kind.TheVariants as kinds
@@ -58,20 +59,10 @@ module _ {C : Type 0} (t : Topology C) (granted other : ℕ → Counts) (same : 
   pub have_writes : (p : ℕ) → (have granted t p).w ≡ (have other t p).w
   have_writes = within_writes (length t.geoms)
 
--- a test and its contrary
-never_both : (b : Bool) → (b && not b) ≡ false
-never_both true = refl
-never_both false = refl
-
--- and the other way round
-both_never : (b : Bool) → (not b && b) ≡ false
-both_never true = refl
-both_never false = refl
-
 -- a write count that stays leaves no zero
 pub leaves_none : (a b : Counts) → a.w ≡ b.w → leaves_zero a b ≡ false
-leaves_none a b same = ap (λ n. (n == 0) && not (b.w == 0)) same ∙ never_both (b.w == 0)
+leaves_none a b same = ap (λ n. (n == 0) && not (b.w == 0)) same ∙ and-not_self (b.w == 0)
 
 -- nor does it come to one
 pub comes_none : (a b : Counts) → a.w ≡ b.w → comes_to_zero a b ≡ false
-comes_none a b same = ap (λ n. not (n == 0) && (b.w == 0)) same ∙ both_never (b.w == 0)
+comes_none a b same = ap (λ n. not (n == 0) && (b.w == 0)) same ∙ not-and_self (b.w == 0)

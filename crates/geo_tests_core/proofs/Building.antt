@@ -1,5 +1,5 @@
 -- Meshes stay built.
-use Rattle.std.specs.Prelude.{◌≡◌, ℕ, ◌==◌, Bool, true, false, List, [], ◌∷◌, map, filter, find, Option, Some, None, Contains, IsSome, IsSomeAnd, is_some, option_map, not, Result, Ok, Err, OnOk, if◌then◌else◌}
+use Rattle.std.specs.Prelude.{◌≡◌, ℕ, ◌==◌, Bool, true, false, List, [], ◌∷◌, map, filter, find, Option, Some, None, Contains, IsSome, IsSomeAnd, is_some, option_map, not, if◌then◌else◌}
 use Rattle.std.proofs.Common.{refl, sym, ◌∙◌, ap, subst, inl, inr, eq-eqb}
 use Rattle.std.proofs.lemmas.Bool.{cases_eq, ne_eqb}
 use Rattle.std.proofs.lemmas.List.Elements.{All-contains, Contains-push_cases}
@@ -159,11 +159,6 @@ pub joined_attached : {C : Type 0} (t mid : TopoView C) (geom p : ℕ) → IsBut
 joined_attached {C} t mid geom p is before =
     subst (λ (v : TopoView C). AreAttached (attach v.topology t.topology.next_consumer p)) (sym is)
     (comer_attached t.topology geom p before)
-
--- what follows from what an Ok says
-pub on_ok : {X E P Q : Type 0} (r : Result X E) → (P → Q) → OnOk r P → OnOk r Q
-on_ok (Ok x) so fact = so fact
-on_ok (Err e) so fact = fact
 
 -- nothing is there where nothing is said to be
 pub none_said : {X : Type 0} (o : Option X) (b : Bool) → is_some o ≡ not b → b ≡ true → o ≡ None

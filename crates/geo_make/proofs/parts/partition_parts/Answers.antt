@@ -1,6 +1,7 @@
 use Rattle.std.proofs.Common.{None, arith, get_or}
+use Rattle.std.proofs.lemmas.List.{get_or_default}
 use Rattle.geo_model.specs.Names.{logical_name}
-use Rattle.geo_make.proofs.PartLoops.{any_default, named_begin, named_end, named_more, named_none, named_place}
+use Rattle.geo_make.proofs.PartLoops.{named_begin, named_end, named_more, named_none, named_place}
 use Rattle.geo_make.proofs.parts.partition_parts.Goals as goal
 
 pub loop-part-init : goal.loop-part-init
@@ -13,7 +14,7 @@ push_partition-requires c =
     c.loop-part.part-index c.loop-part.parts.items
     (get_or c.args.chain.now c.loop-part.part-index None)
     (omega (arith, c.told-chain, c.loop-part-test.true))
-    (any_default c.args.chain.now c.loop-part.part-index None (get_or c.args.chain.now c.loop-part.part-index None)
+    (get_or_default c.args.chain.now c.loop-part.part-index None (get_or c.args.chain.now c.loop-part.part-index None)
     (omega (arith, c.told-chain, c.loop-part-test.true)))
     c.loop-part.invariant in
     omega (arith, c.told-chain, inside)
@@ -26,7 +27,7 @@ returns-then-not-branch-clause-named c =
     (get_or c.args.chain.now c.loop-part.part-index None)
     c.in_ok-push_partition.field-0
     (omega (arith, c.told-chain, c.loop-part-test.true))
-    (any_default c.args.chain.now c.loop-part.part-index None (get_or c.args.chain.now c.loop-part.part-index None)
+    (get_or_default c.args.chain.now c.loop-part.part-index None (get_or c.args.chain.now c.loop-part.part-index None)
     (omega (arith, c.told-chain, c.loop-part-test.true)))
     c.loop-part.invariant c.in_ok-push_partition.ensures c.if-not-branch.true
 
@@ -38,7 +39,7 @@ loop-part-preserved c =
     (get_or c.args.chain.now c.loop-part.part-index None)
     c.in_ok-push_partition.field-0
     (omega (arith, c.told-chain, c.loop-part-test.true))
-    (any_default c.args.chain.now c.loop-part.part-index None (get_or c.args.chain.now c.loop-part.part-index None)
+    (get_or_default c.args.chain.now c.loop-part.part-index None (get_or c.args.chain.now c.loop-part.part-index None)
     (omega (arith, c.told-chain, c.loop-part-test.true)))
     c.loop-part.invariant c.in_ok-push_partition.ensures c.if-not-branch.false
 

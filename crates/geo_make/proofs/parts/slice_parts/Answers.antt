@@ -1,6 +1,7 @@
 use Rattle.std.proofs.Common.{None, arith, get_or}
+use Rattle.std.proofs.lemmas.List.{get_or_default}
 use Rattle.geo_model.specs.Names.{slice_name}
-use Rattle.geo_make.proofs.PartLoops.{any_default, named_begin, named_end, named_more, named_none, named_place}
+use Rattle.geo_make.proofs.PartLoops.{named_begin, named_end, named_more, named_none, named_place}
 use Rattle.geo_make.proofs.parts.slice_parts.Goals as goal
 
 pub loop-slice-init : goal.loop-slice-init
@@ -13,7 +14,7 @@ push_slice-requires c =
     c.loop-slice.slice-index c.loop-slice.parts.items
     (get_or c.args.slices.now c.loop-slice.slice-index None)
     (omega (arith, c.told-slices, c.loop-slice-test.true))
-    (any_default c.args.slices.now c.loop-slice.slice-index None (get_or c.args.slices.now c.loop-slice.slice-index
+    (get_or_default c.args.slices.now c.loop-slice.slice-index None (get_or c.args.slices.now c.loop-slice.slice-index
     None) (omega (arith, c.told-slices, c.loop-slice-test.true)))
     c.loop-slice.invariant in
     omega (arith, c.told-slices, inside)
@@ -26,7 +27,7 @@ returns-then-not-branch-clause-named c =
     (get_or c.args.slices.now c.loop-slice.slice-index None)
     c.in_ok-push_slice.field-0
     (omega (arith, c.told-slices, c.loop-slice-test.true))
-    (any_default c.args.slices.now c.loop-slice.slice-index None (get_or c.args.slices.now c.loop-slice.slice-index
+    (get_or_default c.args.slices.now c.loop-slice.slice-index None (get_or c.args.slices.now c.loop-slice.slice-index
     None) (omega (arith, c.told-slices, c.loop-slice-test.true)))
     c.loop-slice.invariant c.in_ok-push_slice.ensures c.if-not-branch.true
 
@@ -38,7 +39,7 @@ loop-slice-preserved c =
     (get_or c.args.slices.now c.loop-slice.slice-index None)
     c.in_ok-push_slice.field-0
     (omega (arith, c.told-slices, c.loop-slice-test.true))
-    (any_default c.args.slices.now c.loop-slice.slice-index None (get_or c.args.slices.now c.loop-slice.slice-index
+    (get_or_default c.args.slices.now c.loop-slice.slice-index None (get_or c.args.slices.now c.loop-slice.slice-index
     None) (omega (arith, c.told-slices, c.loop-slice-test.true)))
     c.loop-slice.invariant c.in_ok-push_slice.ensures c.if-not-branch.false
 

@@ -1,7 +1,8 @@
 -- Numbers that words are written as.
 use Rattle.std.proofs.Common.{◌≡◌, ◌<◌, ◌^◌, true, false, arith, sym, subst, ◌∙◌}
+use Rattle.std.proofs.lemmas.Fmt.{decimal_injective}
 use Rattle.geo_run.specs.Numbers.{IsPlain}
-use Rattle.geo_run.proofs.Digits.{plain_decimal, read_plain, read_small, same_written, unread_plain}
+use Rattle.geo_run.proofs.Digits.{plain_decimal, read_plain, read_small, unread_plain}
 use Rattle.geo_run.proofs.words.number_within.Goals as goal
 
 pub returns-then-not-is_plain : goal.returns-then-not-is_plain
@@ -27,7 +28,7 @@ returns-else-number-limit c = λ n le e.
     let read : c.in-Ok.number < 2 ^ 32 = read_small c.args.word.now c.in-Ok.number c.in-Ok.ensures.value.0 in
     let small : c.in-Ok.number < 2 ^ 64 = omega (arith, read) in
     let same : n ≡ c.in-Ok.number =
-    same_written n c.in-Ok.number (omega (arith, limit, le)) small
+    decimal_injective n c.in-Ok.number (omega (arith, limit, le)) small
     (sym e ∙ read_plain c.args.word.now c.in-Ok.number plain c.in-Ok.ensures.value.0) in
     absurd (omega (arith, same, le, above))
 

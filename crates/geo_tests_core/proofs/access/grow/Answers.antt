@@ -1,11 +1,12 @@
 use Rattle.std.proofs.Common.{sym, subst, ℕ}
+use Rattle.std.proofs.lemmas.Result.{on_ok_weaker}
 use Rattle.geo_model.specs.Topology.{attach}
 use Rattle.geo_mesh.specs.Topo.{TopoView}
 use Rattle.geo_access.specs.Join.{IsCountedBut}
 use Rattle.geo_access.specs.JoinLaws.{NewConsumersMayJoin}
 use Rattle.geo_access.proofs.NewJoiner.{new_consumers_may_join}
 use Rattle.geo_tests_core.specs.Built.{AreAttached}
-use Rattle.geo_tests_core.proofs.Building.{joined_attached, on_ok}
+use Rattle.geo_tests_core.proofs.Building.{joined_attached}
 use Rattle.geo_tests_core.proofs.access.grow.Goals as goal
 
 pub join-requires-clause-counted : goal.join-requires-clause-counted
@@ -16,7 +17,7 @@ join-requires-clause-counted g c =
 
 pub returns-clause-attached : goal.returns-clause-attached
 returns-clause-attached g c =
-    on_ok c.join.result
+    on_ok_weaker c.join.result
     (λ joined.
     subst (λ (v : TopoView ℕ). AreAttached v.topology) (sym joined)
     (subst (λ (n : ℕ). AreAttached (attach c.new_consumer.new.self.topology n c.args.prov))
