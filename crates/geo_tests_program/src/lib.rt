@@ -1,0 +1,25 @@
+//! Tests of the whole core by lists of steps, and of the program over an outside that fails.
+//!
+//! What is large, as a bench, an outside or how a run ended, is made in a short function, which lends it to another
+//! one and then drops it by a call. At the end of a scope or at a `?` the drop of each part of it would be written out,
+//! and proved for minutes.
+#![tactic(auto)]
+
+#[cfg(test)]
+mod bench;
+#[cfg(test)]
+mod contents;
+#[cfg(test)]
+mod faults;
+#[cfg(test)]
+mod found;
+#[cfg(test)]
+mod memory;
+#[cfg(test)]
+mod outside;
+#[cfg(test)]
+mod scripts;
+#[cfg(test)]
+mod steps;
+#[cfg(test)]
+mod users;
