@@ -78,7 +78,9 @@ fn over_a_diamond<L: Ledger>(
 // The same in a new mesh.
 fn diamond_answers(alloc: Global) -> Result<[Result<(), Errno>; 2], Fail> {
     let mut topo = first_mesh(alloc, 1, 2)?;
-    over_a_diamond::<Brand>(&mut topo, Blank::new(1))
+    let answer = over_a_diamond::<Brand>(&mut topo, Blank::new(1));
+    drop(topo);
+    answer
 }
 
 #[test]
@@ -120,7 +122,9 @@ fn below_thirty<L: Ledger>(topo: &mut Topo<u8>, blank: Blank) -> Result<Option<C
 // The same in a new mesh.
 fn thirty_below(alloc: Global) -> Result<Option<Counts>, Fail> {
     let mut topo = first_mesh(alloc, 1, 2)?;
-    below_thirty::<Brand>(&mut topo, Blank::new(1))
+    let answer = below_thirty::<Brand>(&mut topo, Blank::new(1));
+    drop(topo);
+    answer
 }
 
 #[test]
@@ -152,7 +156,9 @@ fn above_thirty<L: Ledger>(topo: &mut Topo<u8>, blank: Blank) -> Result<Result<(
 // The same in a new mesh.
 fn thirty_above(alloc: Global) -> Result<Result<(), Errno>, Fail> {
     let mut topo = first_mesh(alloc, 1, 2)?;
-    above_thirty::<Brand>(&mut topo, Blank::new(1))
+    let answer = above_thirty::<Brand>(&mut topo, Blank::new(1));
+    drop(topo);
+    answer
 }
 
 #[test]
@@ -223,7 +229,9 @@ fn growing<L: Ledger>(
 // The same in a new mesh.
 fn grown(alloc: Global) -> Result<([Result<(), JoinRefusal>; 2], Option<Counts>), Fail> {
     let mut topo = first_mesh(alloc, 1, 2)?;
-    growing::<Brand>(&mut topo, Blank::new(1))
+    let answer = growing::<Brand>(&mut topo, Blank::new(1));
+    drop(topo);
+    answer
 }
 
 #[test]

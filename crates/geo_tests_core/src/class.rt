@@ -3,7 +3,7 @@ ghost use Rattle.std.specs.Prelude.{◌≡◌, ◌≤◌, [], ◌∷◌, None, S
 ghost use Rattle.geo_model.specs.World.{Concat};
 
 use crate::media::table_of;
-use geo_base::{Block, ConsId, DeclineCause, Kind, Name, ProvId};
+use geo_base::{Block, ConsId, DeclineCause, Kind, Name, ProvId, SharedBytes};
 use geo_class::{Asked, Config, Facts, Media, Shape, Taste, Verdict, judge, taste_where};
 use geo_concat::ConcatRecord;
 use geo_model::BioResult;
@@ -66,7 +66,7 @@ fn with_link(rt: &impl Abort, taste: &mut Taste, bytes: Block, facts: &Facts) ->
     assert!(rt; taste.reads() < 33);
     taste.note_read(Kind::Ebr);
     assert!(rt; taste.read_out());
-    taste.take_back(BioResult::Bytes(bytes));
+    taste.take_back(BioResult::Bytes(SharedBytes::from_block(bytes)));
     let Some(verdict) = taste.judge_back(facts) else {
         panic!(rt; "no sector")
     };

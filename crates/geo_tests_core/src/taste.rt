@@ -13,7 +13,7 @@ ghost use Rattle.geo_tests_core.specs.Built.{IsBuilt};
 use crate::built::{consumer_of, first_mesh, geom_of, is_quiet, name, open, stand};
 use crate::media::{Medium, sector_of};
 use geo_access::Steps;
-use geo_base::{Block, Counts, Errno, GeomId, Kind, ProvId};
+use geo_base::{Block, Counts, Errno, GeomId, Kind, ProvId, SharedBytes};
 use geo_class::{Asked, Config, Taste};
 use geo_event::EventQueue;
 use geo_mesh::Topo;
@@ -124,7 +124,12 @@ fn turn<L: Ledger>(
     match judged {
         Judged::Read { sector } => {
             let block = Block::from_slice(alloc, &sector_of(medium, sector))?;
-            give(taste, topo, BioResult::Bytes(block), steps)?;
+            give(
+                taste,
+                topo,
+                BioResult::Bytes(SharedBytes::from_block(block)),
+                steps,
+            )?;
             Ok(judged)
         }
         _ => Ok(judged),
@@ -241,7 +246,9 @@ fn found(
     requires { is_granted_kind kind ≡ false }
 {
     let mut topo = first_mesh(alloc, Config::nothing(), Config::nothing())?;
-    found_in::<Brand>(alloc, &mut topo, kind, medium, text, Blank::new(1))
+    let answer = found_in::<Brand>(alloc, &mut topo, kind, medium, text, Blank::new(1));
+    drop(topo);
+    answer
 }
 
 /// A disk that holds this table is tasted so.
@@ -360,7 +367,9 @@ fn passed(alloc: Global, kind: Kind) -> Result<(bool, u32), Fail>
     requires { is_granted_kind kind ≡ false }
 {
     let mut topo = first_mesh(alloc, Config::nothing(), Config::nothing())?;
-    over_one::<Brand>(alloc, &mut topo, kind, Blank::new(1))
+    let answer = over_one::<Brand>(alloc, &mut topo, kind, Blank::new(1));
+    drop(topo);
+    answer
 }
 
 #[test]
@@ -406,7 +415,9 @@ fn over_crowd<L: Ledger>(
 /// The same in a new mesh.
 fn crowded(alloc: Global) -> Result<(bool, u32), Fail> {
     let mut topo = first_mesh(alloc, Config::nothing(), Config::nothing())?;
-    over_crowd::<Brand>(alloc, &mut topo, Blank::new(1))
+    let answer = over_crowd::<Brand>(alloc, &mut topo, Blank::new(1));
+    drop(topo);
+    answer
 }
 
 #[test]
@@ -429,7 +440,12 @@ fn half<L: Ledger>(
 {
     if taste.read_out() {
         let block = Block::zeros(alloc, 512)?;
-        return give(taste, topo, BioResult::Bytes(block), steps);
+        return give(
+            taste,
+            topo,
+            BioResult::Bytes(SharedBytes::from_block(block)),
+            steps,
+        );
     }
     let mut queue = EventQueue::new(alloc);
     match step(alloc, taste, topo, &mut queue, steps)? {
@@ -583,7 +599,9 @@ fn disk_cut_short<L: Ledger>(
 /// The same in a new mesh.
 fn pulled(alloc: Global, parts: u32) -> Result<bool, Fail> {
     let mut topo = first_mesh(alloc, Config::nothing(), Config::nothing())?;
-    disk_cut_short::<Brand>(alloc, &mut topo, parts, Blank::new(1))
+    let answer = disk_cut_short::<Brand>(alloc, &mut topo, parts, Blank::new(1));
+    drop(topo);
+    answer
 }
 
 #[test]

@@ -1,5 +1,8 @@
 //! What no clause says: that there is memory, and the life of providers and geoms at a concrete type: marks and spoils,
 //! an orphan under a handle, and a tower that is washed.
+//!
+//! Each mesh is dropped by a call. At the end of a scope the drop of each part of it would be written out, and proved
+//! for a minute.
 ghost use Rattle.std.specs.Prelude.{◌≡◌, ◌+◌, ◌≤◌, true, false, OnOk, IsSomeAnd};
 ghost use Rattle.geo_model.specs.Topology.{geom_at};
 ghost use Rattle.geo_life.specs.Life.{sound_providers, IsDevMade, AreHandlesUnmarked};
@@ -193,7 +196,9 @@ fn spoiled(
 // The same in a new mesh.
 fn first_spoiled(alloc: Global) -> Result<([[bool; 3]; 3], [Option<Event>; 2]), Fail> {
     let mut topo = Topo::new(alloc, 1, 2)?;
-    spoiled(&mut topo, alloc)
+    let answer = spoiled(&mut topo, alloc);
+    drop(topo);
+    answer
 }
 
 // The first two events of the queue.
@@ -231,7 +236,9 @@ fn orphaned(topo: &mut Topo<u8>, alloc: Global) -> Result<([Option<ConsId>; 2], 
 // The same in a new mesh.
 fn first_orphaned(alloc: Global) -> Result<([Option<ConsId>; 2], [bool; 3]), Fail> {
     let mut topo = Topo::new(alloc, 1, 2)?;
-    orphaned(&mut topo, alloc)
+    let answer = orphaned(&mut topo, alloc);
+    drop(topo);
+    answer
 }
 
 fn orphan_tower(
@@ -361,7 +368,9 @@ fn washed_with(
 // The same in a new mesh.
 fn first_washed(alloc: Global) -> Result<([Option<WashWork>; 3], [Option<WashWork>; 2]), Fail> {
     let mut topo = Topo::new(alloc, 1, 2)?;
-    washed_with(&mut topo, alloc)
+    let answer = washed_with(&mut topo, alloc);
+    drop(topo);
+    answer
 }
 
 #[test]

@@ -1,26 +1,36 @@
 ghost use Rattle.std.specs.Prelude.{◌<◌, ◌^◌, length};
 
-use geo_base::{Block, Calls, Name, RunsRefusal, read_runs, runs_text};
+use geo_base::{Block, Calls, Name, RunsRefusal, SharedBytes, read_runs, runs_text};
 use std::alloc::Global;
-use std::test::Fail;
 
 #[test]
-fn blocks_are_made(rt: HostRuntime) -> Result<(), Fail> {
+fn blocks_are_made(rt: HostRuntime) {
     let alloc = rt.alloc();
-    let block = Block::from_slice(alloc, b"ab")?;
+    let block = Block::from_slice(alloc, b"ab").expect(&rt, "memory");
     assert_eq!(rt; block.bytes(), b"ab".as_slice());
-    let mut again = block.copy(alloc)?;
+    let mut again = block.copy(alloc).expect(&rt, "memory");
     again.cut(1);
     assert_eq!(rt; again.bytes(), b"a".as_slice());
-    let zeros = Block::zeros(alloc, 3)?;
+    let zeros = Block::zeros(alloc, 3).expect(&rt, "memory");
     assert_eq!(rt; zeros.bytes(), b"\0\0\0".as_slice());
-    let calls = Calls::of(alloc, &[2, 5])?;
+    let calls = Calls::of(alloc, &[2, 5]).expect(&rt, "memory");
     assert!(rt; calls.has(5) && !calls.has(3));
-    Ok(())
 }
 
 #[test]
-fn names_end_at_63_bytes(rt: HostRuntime) -> Result<(), Fail> {
+fn shared_bytes_are_copied(rt: HostRuntime) {
+    let alloc = rt.alloc();
+    let own = SharedBytes::from_block(Block::from_slice(alloc, b"ab").expect(&rt, "memory"));
+    let apart = own.copy(alloc).expect(&rt, "memory");
+    let shared = own.share(alloc);
+    let again = shared.copy(alloc).expect(&rt, "memory");
+    drop(shared);
+    assert_eq!(rt; again.bytes(), apart.bytes());
+    assert_eq!(rt; again.len(), 2);
+}
+
+#[test]
+fn names_end_at_63_bytes(rt: HostRuntime) {
     let long = [b'a'; 63];
     let Ok(name) = Name::new(&long) else {
         panic!(rt; "63 bytes are a name")
@@ -32,7 +42,6 @@ fn names_end_at_63_bytes(rt: HostRuntime) -> Result<(), Fail> {
         panic!(rt; "a name")
     };
     assert!(rt; !name.is_short() && name.with_tail(b"s1").is_ok());
-    Ok(())
 }
 
 /// Where the text has its fault, and none where it is one of runs.
@@ -46,9 +55,9 @@ fn fault(alloc: Global, text: &[u8]) -> Option<u32>
 }
 
 #[test]
-fn texts_of_runs_both_ways(rt: HostRuntime) -> Result<(), Fail> {
+fn texts_of_runs_both_ways(rt: HostRuntime) {
     let alloc = rt.alloc();
-    let zeros = Block::zeros(alloc, 65_536)?;
+    let zeros = Block::zeros(alloc, 65_536).expect(&rt, "memory");
     let Ok(again) = read_runs(alloc, b"00*65536") else {
         panic!(rt; "the longest run")
     };
@@ -57,14 +66,13 @@ fn texts_of_runs_both_ways(rt: HostRuntime) -> Result<(), Fail> {
         panic!(rt; "a sector")
     };
     assert_eq!(rt; sector.len(), 512);
-    let text = runs_text(alloc, sector.bytes())?;
+    let text = runs_text(alloc, sector.bytes()).expect(&rt, "memory");
     assert_eq!(rt;
         text.bytes(),
         b"00*450 a5*1 00*3 01*1 00*3 07*1 00*51 55*1 aa*1".as_slice()
     );
-    let text = runs_text(alloc, b"\x00\x0f\xff\xff")?;
+    let text = runs_text(alloc, b"\x00\x0f\xff\xff").expect(&rt, "memory");
     assert_eq!(rt; text.bytes(), b"00*1 0f*1 ff*2".as_slice());
-    Ok(())
 }
 
 #[test]

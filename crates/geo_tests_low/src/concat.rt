@@ -2,7 +2,6 @@ use geo_base::{DeclineCause, Name};
 use geo_concat::{ConcatMap, ConcatRecord, decode, encode};
 use geo_range::{AddressMap, Span};
 use std::process::Abort;
-use std::test::Fail;
 
 /// The sector of a record with this place and count.
 fn sector_of(rt: &impl Abort, place: u16, count: u16) -> [u8; 512] {
@@ -22,16 +21,15 @@ fn sector_of(rt: &impl Abort, place: u16, count: u16) -> [u8; 512] {
 }
 
 #[test]
-fn the_record_of_a_second_place(rt: HostRuntime) -> Result<(), Fail> {
+fn the_record_of_a_second_place(rt: HostRuntime) {
     let sector = sector_of(&rt, 1, 2);
     assert_eq!(rt;
         &sector[..22],
         b"RGEOM::CONCAT\0\0\0\x01\0\0\0v\0".as_slice()
     );
     assert_eq!(rt; &sector[36..46], b"\x07\0\0\0\x01\0\x02\0\0\0".as_slice());
-    let part = decode(&sector)?;
+    let part = decode(&sector).expect(&rt, "a record");
     assert_eq!(rt; (part.id, part.place, part.count), (7, 1, 2));
-    Ok(())
 }
 
 #[test]
@@ -45,17 +43,19 @@ fn places_that_are_none(rt: HostRuntime) {
 }
 
 #[test]
-fn a_range_over_both_components(rt: HostRuntime) -> Result<(), Fail> {
+fn a_range_over_both_components(rt: HostRuntime) {
     let map = ConcatMap::new(&[1536, 2560], 512);
     assert_eq!(rt; (map.size(), map.sector()), (4096, 512));
     assert_eq!(rt; (map.place(1535), map.place(1536)), ((0, 1535), (1, 0)));
-    let list = map.split(
-        rt.alloc(),
-        Span {
-            offset: 1024,
-            len: 2048,
-        },
-    )?;
+    let list = map
+        .split(
+            rt.alloc(),
+            Span {
+                offset: 1024,
+                len: 2048,
+            },
+        )
+        .expect(&rt, "memory");
     let items = list.items();
     assert_eq!(rt; items.len(), 2);
     assert_eq!(rt;
@@ -76,7 +76,6 @@ fn a_range_over_both_components(rt: HostRuntime) -> Result<(), Fail> {
         ),
         (1, 0, 1536, 512)
     );
-    Ok(())
 }
 
 #[test]

@@ -4,7 +4,6 @@ use geo_base::DeclineCause;
 use geo_ebr::{Chain, EbrMap, EbrTable, Link, Media, read_chain};
 use geo_range::{AddressMap, Span};
 use std::process::Abort;
-use std::test::Fail;
 
 /// Writes an entry of this type, first sector and number of sectors.
 fn put_entry(sector: &mut [u8; 512], place: usize, kind: u8, first: u32, count: u32)
@@ -199,29 +198,29 @@ impl Media for TwoLinks {
 }
 
 #[test]
-fn the_chain_of_a_media(rt: HostRuntime) -> Result<(), Fail> {
+fn the_chain_of_a_media(rt: HostRuntime) {
     let media = TwoLinks {
         first: leading(1, 4, 10),
         other: last(1, 3),
     };
-    let table = read_chain(&media, 63)?;
+    let table = read_chain(&media, 63).expect(&rt, "a chain");
     assert_eq!(rt; part_of(&rt, &table, 1), (11, 3));
-    Ok(())
 }
 
 #[test]
-fn a_partition_lies_behind_its_first_sector(rt: HostRuntime) -> Result<(), Fail> {
+fn a_partition_lies_behind_its_first_sector(rt: HostRuntime) {
     let map = EbrMap::new(11, 3);
     assert_eq!(rt; (map.size(), map.sector()), (1536, 512));
     assert_eq!(rt; (map.place(0), map.place(1535)), ((0, 5632), (0, 7167)));
-    let list = map.split(
-        rt.alloc(),
-        Span {
-            offset: 512,
-            len: 1024,
-        },
-    )?;
+    let list = map
+        .split(
+            rt.alloc(),
+            Span {
+                offset: 512,
+                len: 1024,
+            },
+        )
+        .expect(&rt, "memory");
     assert_eq!(rt; list.items().len(), 1);
     assert_eq!(rt; list.items()[0].span.offset, 6144);
-    Ok(())
 }

@@ -1,29 +1,27 @@
 //! What no clause says: that there is memory, and that a queue may be sent.
 use geo_base::ProvId;
 use geo_event::{Event, EventQueue};
-use std::test::Fail;
 
 #[test]
-fn events_are_done_in_order_and_those_of_a_provider_cancelled(rt: HostRuntime) -> Result<(), Fail> {
+fn events_are_done_in_order_and_those_of_a_provider_cancelled(rt: HostRuntime) {
     let (disk, slice) = (ProvId::new(1), ProvId::new(2));
     let mut queue = EventQueue::new(rt.alloc());
     assert_eq!(rt; queue.head(), None);
-    queue.reserve(1)?;
+    queue.reserve(1).expect(&rt, "memory");
     queue.post(Event::NewProvider(disk));
-    queue.reserve(1)?;
+    queue.reserve(1).expect(&rt, "memory");
     queue.post(Event::Spoil(slice));
-    queue.reserve(1)?;
+    queue.reserve(1).expect(&rt, "memory");
     queue.post(Event::Orphan(disk));
-    queue.reserve(1)?;
+    queue.reserve(1).expect(&rt, "memory");
     queue.post(Event::Resize(disk));
-    queue.reserve(1)?;
+    queue.reserve(1).expect(&rt, "memory");
     queue.post(Event::Resize(slice));
     assert_eq!(rt; queue.head(), Some(Event::NewProvider(disk)));
     queue.cancel(disk);
     assert_eq!(rt; queue.head(), Some(Event::Spoil(slice)));
     queue.drop_head();
     assert_eq!(rt; queue.head(), Some(Event::Resize(slice)));
-    Ok(())
 }
 
 // A queue goes to another thread.

@@ -1,11 +1,10 @@
 //! What no clause says: that there is memory, and a family at work.
 use geo_family::Family;
-use std::test::Fail;
 
 #[test]
-fn a_family_is_made_where_memory_is_ample(rt: HostRuntime) -> Result<(), Fail> {
+fn a_family_is_made_where_memory_is_ample(rt: HostRuntime) {
     let mut family = Family::new(rt.alloc());
-    family.reserve(1, 2)?;
+    family.reserve(1, 2).expect(&rt, "memory");
     let parent = family.add_parent();
     let child = family.add_child();
     assert_eq!(rt; (parent, child), (1, 1));
@@ -13,7 +12,6 @@ fn a_family_is_made_where_memory_is_ample(rt: HostRuntime) -> Result<(), Fail> {
     assert_eq!(rt; family.last(parent), None);
     family.unlink(child);
     family.remove_child(child);
-    family.reserve(0, 2)?;
+    family.reserve(0, 2).expect(&rt, "memory");
     assert_eq!(rt; family.add_child(), 2);
-    Ok(())
 }

@@ -1,15 +1,14 @@
 ghost use Rattle.std.specs.Prelude.{◌<◌};
 
-use geo_base::{Block, Calls};
+use geo_base::{Block, Calls, NoMemory};
 use geo_io::{
     Failed, MemSink, MemSource, ReadRefusal, Sink, Source, StdSink, StdSource, read_all, write_out,
 };
 use std::alloc::Global;
 use std::process::Abort;
-use std::test::Fail;
 
 /// A source in memory, which gives so many bytes at a time, and of which these calls fail.
-fn source_of(alloc: Global, text: &[u8], piece: u32, fails: &[u64]) -> Result<MemSource, Fail>
+fn source_of(alloc: Global, text: &[u8], piece: u32, fails: &[u64]) -> Result<MemSource, NoMemory>
     requires { 0 < piece }
 {
     let bytes = Block::from_slice(alloc, text)?;
@@ -22,34 +21,31 @@ fn refusal_of(alloc: Global, source: &mut MemSource) -> Option<ReadRefusal> {
 }
 
 #[test]
-fn a_source_in_memory_is_read_whole(rt: HostRuntime) -> Result<(), Fail> {
-    let mut source = source_of(rt.alloc(), b"hello", 2, &[])?;
-    let all = read_all(rt.alloc(), &mut source, 5)?;
+fn a_source_in_memory_is_read_whole(rt: HostRuntime) {
+    let mut source = source_of(rt.alloc(), b"hello", 2, &[]).expect(&rt, "memory");
+    let all = read_all(rt.alloc(), &mut source, 5).expect(&rt, "the whole source");
     assert_eq!(rt; all.bytes(), b"hello".as_slice());
-    Ok(())
 }
 
 #[test]
-fn a_source_that_is_too_long_is_refused(rt: HostRuntime) -> Result<(), Fail> {
-    let mut long = source_of(rt.alloc(), b"hello!", 4, &[])?;
+fn a_source_that_is_too_long_is_refused(rt: HostRuntime) {
+    let mut long = source_of(rt.alloc(), b"hello!", 4, &[]).expect(&rt, "memory");
     assert_eq!(rt;
         refusal_of(rt.alloc(), &mut long),
         Some(ReadRefusal::TooLong)
     );
-    Ok(())
 }
 
 #[test]
-fn a_failing_read_in_mid_stream_is_told(rt: HostRuntime) -> Result<(), Fail> {
-    let mut source = source_of(rt.alloc(), b"hello", 2, &[2])?;
+fn a_failing_read_in_mid_stream_is_told(rt: HostRuntime) {
+    let mut source = source_of(rt.alloc(), b"hello", 2, &[2]).expect(&rt, "memory");
     assert_eq!(rt;
         refusal_of(rt.alloc(), &mut source),
         Some(ReadRefusal::ReadFault)
     );
     // The failed call took nothing, so the next goes on behind the first.
-    let rest = read_all(rt.alloc(), &mut source, 5)?;
+    let rest = read_all(rt.alloc(), &mut source, 5).expect(&rt, "the whole source");
     assert_eq!(rt; rest.bytes(), b"llo".as_slice());
-    Ok(())
 }
 
 /// How many bytes were written before a write failed.
@@ -61,27 +57,31 @@ fn written_at_fault(rt: &impl Abort, sink: &mut MemSink, bytes: &[u8]) -> u64 {
 }
 
 #[test]
-fn a_failing_write_in_mid_stream_is_told(rt: HostRuntime) -> Result<(), Fail> {
-    let mut sink = MemSink::new(rt.alloc(), 9, 3, Calls::of(rt.alloc(), &[2])?)?;
+fn a_failing_write_in_mid_stream_is_told(rt: HostRuntime) {
+    let mut sink = MemSink::new(
+        rt.alloc(),
+        9,
+        3,
+        Calls::of(rt.alloc(), &[2]).expect(&rt, "memory"),
+    )
+    .expect(&rt, "memory");
     assert_eq!(rt; written_at_fault(&rt, &mut sink, b"hello"), 3);
     assert_eq!(rt; written_at_fault(&rt, &mut sink, b"hello, hello"), 6);
     assert_eq!(rt; sink.written(), b"helhello,".as_slice());
-    Ok(())
 }
 
 #[test]
-fn a_reader_of_std_is_a_source(rt: HostRuntime) -> Result<(), Fail> {
+fn a_reader_of_std_is_a_source(rt: HostRuntime) {
     let alloc = rt.alloc();
     let mut source = StdSource::new(b"two words".as_slice());
-    let all = read_all(alloc, &mut source, 100)?;
+    let all = read_all(alloc, &mut source, 100).expect(&rt, "the whole source");
     assert_eq!(rt; all.bytes(), b"two words".as_slice());
     let mut out = [0u8; 4];
     assert!(rt; source.read(&mut out) == Ok(0));
-    Ok(())
 }
 
 #[test]
-fn a_writer_of_std_is_a_sink(rt: HostRuntime) -> Result<(), Fail> {
+fn a_writer_of_std_is_a_sink(rt: HostRuntime) {
     let mut sink = StdSink::new(std::io::sink());
     assert!(rt; write_out(&mut sink, b"words").is_ok());
     let mut cells = [0u8; 2];
@@ -90,5 +90,4 @@ fn a_writer_of_std_is_a_sink(rt: HostRuntime) -> Result<(), Fail> {
     // The third write would be of nothing.
     assert!(rt; fault.is_some_and(|f| f.written == 2));
     assert!(rt; full.write(b"s") == Err(Failed));
-    Ok(())
 }

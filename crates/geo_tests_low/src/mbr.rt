@@ -4,7 +4,6 @@ use geo_base::DeclineCause;
 use geo_mbr::{MbrMap, Slice, decode};
 use geo_range::{AddressMap, Span};
 use std::process::Abort;
-use std::test::Fail;
 
 /// A sector with a signature, and one entry of this type, first sector and number of sectors.
 fn with_entry(place: usize, kind: u8, first: [u8; 4], count: [u8; 4]) -> [u8; 512]
@@ -33,30 +32,30 @@ fn cause_of(rt: &impl Abort, sector: &[u8], sectors: u64) -> DeclineCause
 }
 
 #[test]
-fn one_slice_behind_the_table(rt: HostRuntime) -> Result<(), Fail> {
-    let table = decode(&with_entry(0, 0xA5, [1, 0, 0, 0], [7, 0, 0, 0]), 8)?;
+fn one_slice_behind_the_table(rt: HostRuntime) {
+    let table = decode(&with_entry(0, 0xA5, [1, 0, 0, 0], [7, 0, 0, 0]), 8).expect(&rt, "a table");
     let Some(slice) = table.slices[0] else {
         panic!(rt; "a slice")
     };
     assert_eq!(rt; (slice.first, slice.count), (1, 7));
     assert!(rt; table.slices[1].is_none());
-    Ok(())
 }
 
 #[test]
-fn a_slice_lies_behind_its_first_sector(rt: HostRuntime) -> Result<(), Fail> {
+fn a_slice_lies_behind_its_first_sector(rt: HostRuntime) {
     let map = MbrMap::new(&Slice { first: 1, count: 7 });
     assert_eq!(rt; (map.size(), map.sector()), (3584, 512));
     assert_eq!(rt; map.place(3583), (0, 4095));
-    let list = map.split(
-        rt.alloc(),
-        Span {
-            offset: 0,
-            len: 3584,
-        },
-    )?;
+    let list = map
+        .split(
+            rt.alloc(),
+            Span {
+                offset: 0,
+                len: 3584,
+            },
+        )
+        .expect(&rt, "memory");
     assert_eq!(rt; list.items().len(), 1);
-    Ok(())
 }
 
 #[test]
@@ -76,8 +75,9 @@ fn hostile_entries(rt: HostRuntime) {
 }
 
 #[test]
-fn a_slice_ends_at_the_media_end(rt: HostRuntime) -> Result<(), Fail> {
-    let table = decode(&with_entry(2, 0xA5, [8, 0, 0, 0], [56, 0, 0, 0]), 64)?;
+fn a_slice_ends_at_the_media_end(rt: HostRuntime) {
+    let table = decode(&with_entry(2, 0xA5, [8, 0, 0, 0], [56, 0, 0, 0]), 64).expect(
+        &rt, "a table",
+    );
     assert!(rt; table.slices[2].is_some());
-    Ok(())
 }

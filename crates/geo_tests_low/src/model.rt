@@ -1,11 +1,10 @@
-use geo_base::{BioCmd, Block, Counts, Errno, Kind, Name};
+use geo_base::{BioCmd, Block, Counts, Errno, Kind, Name, NoMemory, SharedBytes};
 use geo_model::{
     BioResult, ConsLine, ConsLines, GeomLine, MeshList, NameList, Outcome, ProvLine, ProvLines,
     Reply, Request,
 };
 use std::alloc::Global;
 use std::process::Abort;
-use std::test::Fail;
 
 /// The name of everything here.
 fn md0(rt: &impl Abort) -> Name {
@@ -16,7 +15,7 @@ fn md0(rt: &impl Abort) -> Name {
 }
 
 /// A line of one provider.
-fn providers(alloc: Global, name: Name) -> Result<ProvLines, Fail> {
+fn providers(alloc: Global, name: Name) -> Result<ProvLines, NoMemory> {
     let mut lines = ProvLines::new(alloc);
     lines.push(ProvLine {
         name,
@@ -29,7 +28,7 @@ fn providers(alloc: Global, name: Name) -> Result<ProvLines, Fail> {
 }
 
 /// A line of one consumer.
-fn consumers(alloc: Global, name: Name) -> Result<ConsLines, Fail> {
+fn consumers(alloc: Global, name: Name) -> Result<ConsLines, NoMemory> {
     let mut lines = ConsLines::new(alloc);
     lines.push(ConsLine {
         prov: name,
@@ -39,7 +38,7 @@ fn consumers(alloc: Global, name: Name) -> Result<ConsLines, Fail> {
 }
 
 /// A listing of one geom with a provider and a consumer.
-fn listing(alloc: Global, name: Name) -> Result<MeshList, Fail> {
+fn listing(alloc: Global, name: Name) -> Result<MeshList, NoMemory> {
     let providers = providers(alloc, name)?;
     let consumers = consumers(alloc, name)?;
     let mut mesh = MeshList::new(alloc);
@@ -71,25 +70,25 @@ fn assert_listed(rt: &impl Abort, mesh: &MeshList) {
 }
 
 #[test]
-fn lists_of_lines_are_kept_and_copied(rt: HostRuntime) -> Result<(), Fail> {
-    let mesh = listing(rt.alloc(), md0(&rt))?;
-    let again = mesh.copy(rt.alloc())?;
+fn lists_of_lines_are_kept_and_copied(rt: HostRuntime) {
+    let mesh = listing(rt.alloc(), md0(&rt)).expect(&rt, "memory");
+    let again = mesh.copy(rt.alloc()).expect(&rt, "memory");
     assert_listed(&rt, &again);
-    Ok(())
 }
 
 #[test]
-fn names_are_copied(rt: HostRuntime) -> Result<(), Fail> {
+fn names_are_copied(rt: HostRuntime) {
     let mut names = Vec::new(rt.alloc());
-    names.push(md0(&rt))?;
-    let names = NameList::from_vec(names).copy(rt.alloc())?;
+    names.push(md0(&rt)).expect(&rt, "memory");
+    let names = NameList::from_vec(names)
+        .copy(rt.alloc())
+        .expect(&rt, "memory");
     assert_eq!(rt; names.items().len(), 1);
     assert_eq!(rt; names.into_vec()[0].bytes(), b"md0".as_slice());
-    Ok(())
 }
 
 /// The copy of the outcome that asks a disk to write these bytes.
-fn asked(alloc: Global, bytes: Block) -> Result<Outcome, Fail> {
+fn asked(alloc: Global, bytes: Block) -> Result<Outcome, NoMemory> {
     let request = Request {
         disk: 1,
         cmd: BioCmd::Write,
@@ -97,7 +96,7 @@ fn asked(alloc: Global, bytes: Block) -> Result<Outcome, Fail> {
         count: 1,
         bytes,
     };
-    Ok(Outcome::Asked(request).copy(alloc)?)
+    Outcome::Asked(request).copy(alloc)
 }
 
 /// The outcome asks for these bytes.
@@ -109,10 +108,19 @@ fn assert_asked(rt: &impl Abort, outcome: &Outcome, bytes: &[u8]) {
 }
 
 #[test]
-fn a_request_is_copied(rt: HostRuntime) -> Result<(), Fail> {
-    let outcome = asked(rt.alloc(), Block::from_slice(rt.alloc(), b"ab")?)?;
+fn a_request_is_copied(rt: HostRuntime) {
+    let outcome = asked(
+        rt.alloc(),
+        Block::from_slice(rt.alloc(), b"ab").expect(&rt, "memory"),
+    )
+    .expect(&rt, "memory");
     assert_asked(&rt, &outcome, b"ab");
-    Ok(())
+}
+
+/// Bytes that are shared, if there is memory for it.
+fn shared(alloc: Global, bytes: &[u8]) -> Result<SharedBytes, NoMemory> {
+    let block = Block::from_slice(alloc, bytes)?;
+    Ok(SharedBytes::from_block(block).share(alloc))
 }
 
 /// The reply is of these bytes.
@@ -124,11 +132,10 @@ fn assert_replied(rt: &impl Abort, reply: &Reply, bytes: &[u8]) {
 }
 
 #[test]
-fn a_reply_is_copied(rt: HostRuntime) -> Result<(), Fail> {
-    let reply = Reply::Bytes(Block::from_slice(rt.alloc(), b"ab")?);
-    let again = reply.copy(rt.alloc())?;
+fn a_reply_is_copied(rt: HostRuntime) {
+    let reply = Reply::Bytes(shared(rt.alloc(), b"ab").expect(&rt, "memory"));
+    let again = reply.copy(rt.alloc()).expect(&rt, "memory");
     assert_replied(&rt, &again, b"ab");
-    Ok(())
 }
 
 /// A bio ended with these bytes.
@@ -140,11 +147,12 @@ fn assert_ended(rt: &impl Abort, ended: &BioResult, bytes: &[u8]) {
 }
 
 #[test]
-fn results_are_copied(rt: HostRuntime) -> Result<(), Fail> {
-    let result = BioResult::Bytes(Block::from_slice(rt.alloc(), b"ab")?);
-    let again = result.copy(rt.alloc())?;
+fn results_are_copied(rt: HostRuntime) {
+    let result = BioResult::Bytes(shared(rt.alloc(), b"ab").expect(&rt, "memory"));
+    let again = result.copy(rt.alloc()).expect(&rt, "memory");
     assert_ended(&rt, &again, b"ab");
-    let failed = BioResult::Failed(Errno::EIO).copy(rt.alloc())?;
+    let failed = BioResult::Failed(Errno::EIO)
+        .copy(rt.alloc())
+        .expect(&rt, "memory");
     assert!(rt; matches!(failed, BioResult::Failed(Errno::EIO)));
-    Ok(())
 }

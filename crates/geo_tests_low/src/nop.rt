@@ -1,19 +1,20 @@
 use geo_nop::{NopMap, hits};
 use geo_range::{AddressMap, Piece, Span};
-use std::test::Fail;
 
 #[test]
-fn a_window_of_two_sectors(rt: HostRuntime) -> Result<(), Fail> {
+fn a_window_of_two_sectors(rt: HostRuntime) {
     let map = NopMap::new(512, 1024, 512);
     assert_eq!(rt; (map.size(), map.sector()), (1024, 512));
     assert_eq!(rt; map.place(1023), (0, 1535));
-    let list = map.split(
-        rt.alloc(),
-        Span {
-            offset: 512,
-            len: 512,
-        },
-    )?;
+    let list = map
+        .split(
+            rt.alloc(),
+            Span {
+                offset: 512,
+                len: 512,
+            },
+        )
+        .expect(&rt, "memory");
     let piece = Piece {
         child: 0,
         span: Span {
@@ -23,7 +24,6 @@ fn a_window_of_two_sectors(rt: HostRuntime) -> Result<(), Fail> {
         at: 0,
     };
     assert_eq!(rt; list.items(), [piece].as_slice());
-    Ok(())
 }
 
 #[test]

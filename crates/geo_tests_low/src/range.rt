@@ -3,7 +3,6 @@ ghost use Rattle.std.specs.Prelude.{◌<◌};
 use geo_base::NoMemory;
 use geo_range::{AddressMap, Piece, PieceList, Span, Stretch, Window};
 use std::alloc::Global;
-use std::test::Fail;
 
 /// The pieces of all of a provider.
 fn pieces_of<M: AddressMap>(alloc: Global, map: &M) -> Result<PieceList, NoMemory>
@@ -14,15 +13,17 @@ fn pieces_of<M: AddressMap>(alloc: Global, map: &M) -> Result<PieceList, NoMemor
 }
 
 #[test]
-fn a_window_is_one_piece(rt: HostRuntime) -> Result<(), Fail> {
+fn a_window_is_one_piece(rt: HostRuntime) {
     let window = Window::new(1024, 2048, 512);
-    let list = window.split(
-        rt.alloc(),
-        Span {
-            offset: 512,
-            len: 1536,
-        },
-    )?;
+    let list = window
+        .split(
+            rt.alloc(),
+            Span {
+                offset: 512,
+                len: 1536,
+            },
+        )
+        .expect(&rt, "memory");
     let piece = Piece {
         child: 0,
         span: Span {
@@ -33,15 +34,20 @@ fn a_window_is_one_piece(rt: HostRuntime) -> Result<(), Fail> {
     };
     assert_eq!(rt; list.items(), [piece].as_slice());
     assert_eq!(rt; window.place(2047), (0, 3071));
-    assert_eq!(rt; pieces_of(rt.alloc(), &window)?.items().len(), 1);
+    assert_eq!(rt;
+        pieces_of(rt.alloc(), &window)
+            .expect(&rt, "memory")
+            .items()
+            .len(),
+        1
+    );
     assert_eq!(rt; window.sector(), 512);
-    Ok(())
 }
 
 #[test]
-fn a_part_outside_the_range_is_no_piece(rt: HostRuntime) -> Result<(), Fail> {
+fn a_part_outside_the_range_is_no_piece(rt: HostRuntime) {
     let mut list = PieceList::new(rt.alloc());
-    list.reserve(2)?;
+    list.reserve(2).expect(&rt, "memory");
     let span = Span {
         offset: 512,
         len: 512,
@@ -56,5 +62,4 @@ fn a_part_outside_the_range_is_no_piece(rt: HostRuntime) -> Result<(), Fail> {
         },
     );
     assert!(rt; list.items().is_empty());
-    Ok(())
 }

@@ -1,7 +1,6 @@
 //! What no clause says: that there is memory, the table at concrete types, and that past values cost nothing.
 use geo_slots::Slots;
 use std::alloc::{AllocError, Global};
-use std::test::Fail;
 
 // A table of this many values, of which every other one was removed: those of the even numbers are left.
 fn half_removed(alloc: Global, count: u64) -> Result<Slots<u64>, AllocError> {
@@ -32,31 +31,29 @@ fn walk(table: &Slots<u64>, count: u64) -> (u64, u64) {
 }
 
 #[test]
-fn every_other_of_a_hundred_thousand_is_removed(rt: HostRuntime) -> Result<(), Fail> {
-    let mut table = half_removed(rt.alloc(), 100_000)?;
+fn every_other_of_a_hundred_thousand_is_removed(rt: HostRuntime) {
+    let mut table = half_removed(rt.alloc(), 100_000).expect(&rt, "memory");
     assert_eq!(rt; walk(&table, 100_000), (50_000, 100_000));
     assert_eq!(rt; table.get(99_999), None);
     assert_eq!(rt; table.get(100_000).copied(), Some(99_999));
-    table.reserve(1)?;
+    table.reserve(1).expect(&rt, "memory");
     assert_eq!(rt; table.insert(7), 100_001);
-    Ok(())
 }
 
 #[test]
-fn a_value_that_is_text_is_changed_and_taken_out(rt: HostRuntime) -> Result<(), Fail> {
+fn a_value_that_is_text_is_changed_and_taken_out(rt: HostRuntime) {
     let mut table: Slots<String> = Slots::new(rt.alloc());
-    table.reserve(2)?;
-    let first = table.insert(String::from_str(rt.alloc(), "ada0")?);
-    let second = table.insert(String::from_str(rt.alloc(), "ada1")?);
+    table.reserve(2).expect(&rt, "memory");
+    let first = table.insert(String::from_str(rt.alloc(), "ada0").expect(&rt, "memory"));
+    let second = table.insert(String::from_str(rt.alloc(), "ada1").expect(&rt, "memory"));
     assert_eq!(rt; (first, second), (1, 2));
     if let Some(name) = table.get_mut(first) {
-        name.push_str("s1")?;
+        name.push_str("s1").expect(&rt, "memory");
     }
-    let taken = table.remove(first).ok_or("no value")?;
+    let taken = table.remove(first).expect(&rt, "a value");
     assert_eq!(rt; taken.as_str(), "ada0s1");
     assert!(rt; table.remove(first).is_none());
     assert_eq!(rt; table.first_from(0), Some(2));
-    Ok(())
 }
 
 // A table goes to another thread where its values may.

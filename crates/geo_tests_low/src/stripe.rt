@@ -2,7 +2,6 @@ use geo_base::{DeclineCause, Name};
 use geo_range::{AddressMap, Span};
 use geo_stripe::{StripeMap, StripeRecord, decode, encode};
 use std::process::Abort;
-use std::test::Fail;
 
 /// The sector of a record with this place, count and stripe size.
 fn sector_of(rt: &impl Abort, place: u16, count: u16, stripe: u32) -> [u8; 512] {
@@ -40,14 +39,13 @@ fn the_fields_of_a_second_place(rt: HostRuntime) {
 }
 
 #[test]
-fn the_record_of_a_second_place(rt: HostRuntime) -> Result<(), Fail> {
-    let part = decode(&sector_of(&rt, 1, 2, 4096))?;
+fn the_record_of_a_second_place(rt: HostRuntime) {
+    let part = decode(&sector_of(&rt, 1, 2, 4096)).expect(&rt, "a record");
     assert_eq!(rt; part.name.bytes(), b"fast".as_slice());
     assert_eq!(rt;
         (part.id, part.place, part.count, part.stripe),
         (7, 1, 2, 4096)
     );
-    Ok(())
 }
 
 #[test]
@@ -73,20 +71,23 @@ fn places_and_stripe_sizes_that_are_none(rt: HostRuntime) {
 }
 
 #[test]
-fn seven_pieces_over_three_components(rt: HostRuntime) -> Result<(), Fail> {
+fn seven_pieces_over_three_components(rt: HostRuntime) {
     let map = StripeMap::new(3, 512, 2048, 512);
     assert_eq!(rt; (map.size(), map.sector()), (6144, 512));
     assert_eq!(rt; map.place(6143), (2, 2047));
-    let list = map.split(
-        rt.alloc(),
-        Span {
-            offset: 0,
-            len: 3584,
-        },
-    )?;
+    let list = map
+        .split(
+            rt.alloc(),
+            Span {
+                offset: 0,
+                len: 3584,
+            },
+        )
+        .expect(&rt, "memory");
     let mut seen = Vec::new(rt.alloc());
     for piece in list.items() {
-        seen.push((piece.child, piece.span.offset, piece.span.len, piece.at))?;
+        seen.push((piece.child, piece.span.offset, piece.span.len, piece.at))
+            .expect(&rt, "memory");
     }
     let wanted = [
         (0, 0, 512, 0),
@@ -98,5 +99,4 @@ fn seven_pieces_over_three_components(rt: HostRuntime) -> Result<(), Fail> {
         (0, 1024, 512, 3072),
     ];
     assert_eq!(rt; seen.as_slice(), wanted.as_slice());
-    Ok(())
 }

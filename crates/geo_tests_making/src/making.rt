@@ -1,5 +1,8 @@
 //! What no clause says: that there is memory, and geoms at concrete names and sizes: a label, slices, partitions, and
 //! assemblies whose places come in one order and in another.
+//!
+//! Each mesh is dropped by a call. At the end of a scope the drop of each part of it would be written out, and proved
+//! for a minute.
 ghost use Rattle.std.specs.Prelude.{◌≡◌, ◌<◌};
 ghost use Rattle.geo_make.specs.Accepts.{NamesAPlace};
 
@@ -107,7 +110,9 @@ fn completed(alloc: Global, first: u16) -> Result<[Option<u64>; 2], Fail>
     requires { first < 2 }
 {
     let mut bench = new_bench(alloc)?;
-    complete(&mut bench, first)
+    let answer = complete(&mut bench, first);
+    drop(bench);
+    answer
 }
 
 #[test]
@@ -143,7 +148,9 @@ fn answers(bench: &mut Bench) -> Result<[bool; 4], Fail> {
 // In a new mesh.
 fn answered(alloc: Global) -> Result<[bool; 4], Fail> {
     let mut bench = new_bench(alloc)?;
-    answers(&mut bench)
+    let answer = answers(&mut bench);
+    drop(bench);
+    answer
 }
 
 #[test]
@@ -169,7 +176,9 @@ fn same_names(bench: &mut Bench) -> Result<[bool; 4], Fail> {
 // In a new mesh.
 fn named_alike(alloc: Global) -> Result<[bool; 4], Fail> {
     let mut bench = new_bench(alloc)?;
-    same_names(&mut bench)
+    let answer = same_names(&mut bench);
+    drop(bench);
+    answer
 }
 
 #[test]
@@ -214,7 +223,9 @@ fn slices(bench: &mut Bench) -> Result<(bool, bool, [Option<u64>; 4]), Fail> {
 // In a new mesh.
 fn sliced(alloc: Global) -> Result<(bool, bool, [Option<u64>; 4]), Fail> {
     let mut bench = new_bench(alloc)?;
-    slices(&mut bench)
+    let answer = slices(&mut bench);
+    drop(bench);
+    answer
 }
 
 #[test]
@@ -258,7 +269,9 @@ fn partitions(bench: &mut Bench) -> Result<[Option<u64>; 3], Fail> {
 // In a new mesh.
 fn parted(alloc: Global) -> Result<[Option<u64>; 3], Fail> {
     let mut bench = new_bench(alloc)?;
-    partitions(&mut bench)
+    let answer = partitions(&mut bench);
+    drop(bench);
+    answer
 }
 
 #[test]
@@ -285,7 +298,9 @@ fn long_names(bench: &mut Bench) -> Result<[bool; 3], Fail> {
 // In a new mesh.
 fn named_long(alloc: Global) -> Result<[bool; 3], Fail> {
     let mut bench = new_bench(alloc)?;
-    long_names(&mut bench)
+    let answer = long_names(&mut bench);
+    drop(bench);
+    answer
 }
 
 #[test]
@@ -312,7 +327,9 @@ fn label(bench: &mut Bench) -> Result<(Option<u64>, Option<Event>), Fail> {
 // In a new mesh.
 fn labelled(alloc: Global) -> Result<(Option<u64>, Option<Event>), Fail> {
     let mut bench = new_bench(alloc)?;
-    label(&mut bench)
+    let answer = label(&mut bench);
+    drop(bench);
+    answer
 }
 
 #[test]
@@ -358,7 +375,9 @@ fn labels(bench: &mut Bench) -> Result<[bool; 3], Fail> {
 // In a new mesh.
 fn labels_tried(alloc: Global) -> Result<[bool; 3], Fail> {
     let mut bench = new_bench(alloc)?;
-    labels(&mut bench)
+    let answer = labels(&mut bench);
+    drop(bench);
+    answer
 }
 
 #[test]
@@ -393,7 +412,9 @@ fn stripe(bench: &mut Bench) -> Result<Option<u64>, Fail> {
 // In a new mesh.
 fn striped(alloc: Global) -> Result<Option<u64>, Fail> {
     let mut bench = new_bench(alloc)?;
-    stripe(&mut bench)
+    let answer = stripe(&mut bench);
+    drop(bench);
+    answer
 }
 
 #[test]

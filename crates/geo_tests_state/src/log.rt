@@ -1,5 +1,5 @@
 //! What no clause says: that there is memory, a log with several Delivers, and one that gets no more room.
-use geo_base::{BioId, Block};
+use geo_base::{BioId, Block, SharedBytes};
 use geo_bio::LogBytes;
 use geo_log::{DeviceResult, Entry, Log, Outcome, Step};
 use std::alloc::Global;
@@ -22,12 +22,13 @@ fn deliver(bio: u64, got: DeviceResult) -> Entry {
 
 // The bytes of a text, as a disk's answer.
 fn answer(alloc: Global, text: &[u8]) -> Result<DeviceResult, Fail> {
-    Ok(DeviceResult::Bytes(Block::from_slice(alloc, text)?))
+    let block = Block::from_slice(alloc, text)?;
+    Ok(DeviceResult::Bytes(SharedBytes::from_block(block)))
 }
 
 // How many bytes a place has and their first, or nothing.
 fn seen(log: &Log, place: u64) -> Option<(usize, u8)> {
-    let bytes = log.bytes_at(place)?;
+    let bytes = log.bytes_at(place)?.bytes();
     Some((bytes.len(), bytes.first().copied().unwrap_or(0)))
 }
 
