@@ -4,3 +4,4 @@ pub mod RunsLemmas
 pub mod RunsReach
 pub mod RunsEnds
 pub mod RunsFault
+pub mod Parts

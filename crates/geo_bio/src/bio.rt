@@ -1,12 +1,12 @@
 //! A request on its way (g_bio(9)).
-use geo_base::{BioCmd, BioId, Block, ConsId, Errno, ProvId};
+use geo_base::{BioCmd, BioId, ConsId, Errno, ProvId, SharedBytes};
 use geo_model::{BioResult, Owner, Phase, Span};
 
 /// How a bio ended, as the table keeps it: `AtPlace` names the bytes of a READ by their place in the log.
 #[derive(Debug, Drop)]
 pub enum Held {
     Done,
-    Bytes(Block),
+    Bytes(SharedBytes),
     AtPlace(u64),
     Failed(Errno),
 }
@@ -17,7 +17,7 @@ pub enum Held {
 pub struct Bio {
     pub cmd: BioCmd,
     pub span: Span,
-    pub bytes: Block,
+    pub bytes: SharedBytes,
     pub from: ConsId,
     pub to: ProvId,
     pub owner: Owner,

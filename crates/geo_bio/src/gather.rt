@@ -20,7 +20,7 @@ pub fn copied_at<B: LogBytes>(alloc: Global, place: u64, log: &B) -> Result<Shar
 {
     match log.bytes_at(place) {
         Some(bytes) => bytes.copy(alloc),
-        None => Ok(SharedBytes::from_block(Block::from_vec(Vec::new(alloc)))),
+        None => Ok(SharedBytes::none(alloc)),
     }
 }
 
@@ -44,7 +44,7 @@ fn result_of(held: Option<Held>, copied: Option<SharedBytes>) -> BioResult
 {
     match (held, copied) {
         (Some(Held::Failed(errno)), _) => BioResult::Failed(errno),
-        (Some(Held::Bytes(bytes)), _) => BioResult::Bytes(SharedBytes::from_block(bytes)),
+        (Some(Held::Bytes(bytes)), _) => BioResult::Bytes(bytes),
         (Some(Held::AtPlace(_)), Some(bytes)) => BioResult::Bytes(bytes),
         _ => BioResult::Done,
     }
@@ -147,7 +147,7 @@ fn joined<B: LogBytes>(
     count: u32,
     len: u64,
     log: &B,
-) -> Result<Block, NoMemory>
+) -> Result<SharedBytes, NoMemory>
     requires { first + count < 2 ^ 64 }
     ensures { IfOk result (λ block. block ≡ bytes_from (B.place_bytes log.now) bios.now.rows first count) }
 {
@@ -155,7 +155,54 @@ fn joined<B: LogBytes>(
     for place in 0..count as u64 {
         push_bytes_at(&mut bytes, bios, first + place, log)?;
     }
-    Ok(Block::from_vec(bytes))
+    Ok(SharedBytes::from_block(Block::from_vec(bytes)))
+}
+
+// The bytes that a bio holds, once more; none where it holds none.
+fn bytes_again<B: LogBytes>(alloc: Global, bio: &Bio, log: &B) -> Result<SharedBytes, NoMemory>
+    ensures { IfOk result (λ bytes. bytes ≡ bytes_of_result (resolved (B.place_bytes log.now) bio.now.held)) }
+{
+    match &bio.held {
+        Some(Held::Bytes(bytes)) => bytes.copy(alloc),
+        Some(Held::AtPlace(place)) => copied_at(alloc, *place, log),
+        _ => Ok(SharedBytes::none(alloc)),
+    }
+}
+
+// The bytes that the bio of a number holds, once more; none where it isn't there or holds none.
+fn bytes_again_at<B: LogBytes>(
+    alloc: Global,
+    bios: &Slots<Bio>,
+    number: u64,
+    log: &B,
+) -> Result<SharedBytes, NoMemory>
+    ensures { IfOk result (λ bytes. bytes ≡ option_map_or
+        (λ x. bytes_of_result (resolved (B.place_bytes log.now) x.held)) (value_at bios.now.rows number) []) }
+{
+    match bios.get(number) {
+        Some(bio) => bytes_again(alloc, bio, log),
+        None => Ok(SharedBytes::none(alloc)),
+    }
+}
+
+// The bytes of the children of a bio, in the order of its pieces: it shares those of an only child, and those of
+// several are joined.
+fn gathered_bytes<B: LogBytes>(
+    alloc: Global,
+    bios: &Slots<Bio>,
+    parent: &Bio,
+    log: &B,
+) -> Result<SharedBytes, NoMemory>
+    requires { parent.now.first_child + parent.now.children < 2 ^ 64 }
+    ensures { IfOk result (λ bytes. bytes
+        ≡ bytes_from (B.place_bytes log.now) bios.now.rows parent.now.first_child parent.now.children) }
+{
+    let (first, count) = (parent.first_child, parent.children);
+    if count == 1 {
+        bytes_again_at(alloc, bios, first, log)
+    } else {
+        joined(alloc, bios, first, count, parent.span.len, log)
+    }
 }
 
 // What a parent holds once its children are in: the first error in the order of its pieces, else the bytes joined.
@@ -173,14 +220,7 @@ fn gathered<B: LogBytes>(
         parent.cmd,
     ) {
         (Some(errno), _) => Ok(Held::Failed(errno)),
-        (None, BioCmd::Read) => Ok(Held::Bytes(joined(
-            alloc,
-            bios,
-            parent.first_child,
-            parent.children,
-            parent.span.len,
-            log,
-        )?)),
+        (None, BioCmd::Read) => Ok(Held::Bytes(gathered_bytes(alloc, bios, parent, log)?)),
         (None, _) => Ok(Held::Done),
     }
 }

@@ -4,12 +4,12 @@ ghost use Rattle.geo_slots.specs.Slots.{value_at, with_value};
 ghost use Rattle.geo_bio.specs.Split.{child_for, children_for, waiting, with_all, numbered};
 
 use crate::bio::Bio;
-use geo_base::{BioId, Block, ConsId, NoMemory, ProvId};
+use geo_base::{BioId, ConsId, NoMemory, ProvId};
 use geo_model::{Owner, Phase, Piece};
 use geo_slots::Slots;
 use std::alloc::Global;
 
-// The child of a bio for a piece, with a copy of the piece's bytes.
+// The child of a bio for a piece, with the piece's bytes.
 fn child_of(
     alloc: Global,
     parent: BioId,
@@ -20,14 +20,10 @@ fn child_of(
 ) -> Result<Bio, NoMemory>
     ensures { IfOk result (λ child. child ≡ child_for parent bio.now index piece target) }
 {
-    let all = bio.bytes.bytes();
-    let from = all.len().min(piece.at as usize);
-    let rest = &all[from..];
-    let len = rest.len().min(piece.span.len as usize);
     Ok(Bio {
         cmd: bio.cmd,
         span: piece.span,
-        bytes: Block::from_slice(alloc, &rest[..len])?,
+        bytes: bio.bytes.part(alloc, piece.at, piece.span.len)?,
         from: target.0,
         to: target.1,
         owner: Owner::Child { parent, index },

@@ -16,7 +16,7 @@ use crate::log_bytes::LogBytes;
 use crate::rows::{end_with, set_phase};
 use crate::split::{make_children, split_bio};
 use crate::targets::Targets;
-use geo_base::{BioCmd, BioId, Block, ConsId, Errno, NoMemory, ProvId};
+use geo_base::{BioCmd, BioId, ConsId, Errno, NoMemory, ProvId, SharedBytes};
 use geo_model::{Owner, Phase, Span};
 use geo_range::PieceList;
 use geo_slots::Slots;
@@ -97,7 +97,7 @@ impl BioTable {
         &mut self,
         cmd: BioCmd,
         span: Span,
-        bytes: Block,
+        bytes: SharedBytes,
         from: ConsId,
         to: ProvId,
         owner: Owner,

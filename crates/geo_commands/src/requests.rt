@@ -8,7 +8,7 @@ ghost use Rattle.geo_state.specs.Holds.{Holds};
 ghost use Rattle.geo_state.specs.Steps.{Does, SameWorld};
 ghost use Rattle.geo_state.specs.World.{HasBytes};
 
-use geo_base::{BioCmd, Block, Name, NoMemory};
+use geo_base::{BioCmd, Name, NoMemory, SharedBytes};
 use geo_model::{Outcome, Span};
 use geo_requests::request;
 use geo_state::State;
@@ -33,7 +33,7 @@ pub fn ask(
     ensures same { OnErr result (SameWorld state.old state.new) }
     ensures logged { (log : List Entry) → HasBytes log state.old → HasBytes log state.new }
 {
-    let nothing = Block::from_slice(alloc, &[])?;
+    let nothing = SharedBytes::none(alloc);
     let span = Span { offset, len };
     request(state, line, actor, name, cmd, span, nothing)
 }
@@ -46,7 +46,7 @@ pub fn write(
     actor: u32,
     name: &Name,
     offset: u64,
-    bytes: &Block,
+    bytes: &SharedBytes,
 ) -> Result<Outcome, NoMemory>
     requires kept { Holds state.old }
     ensures does { (log : List Entry) → IfOk result (λ o.

@@ -80,29 +80,29 @@ module _ (r : Running) (is : IsMesh r) where
       absurd (let no : ⊥ = cc (next, e) in no)))
 
   -- a Take, by the bytes of its bio
-  asked_by : (o : Option (BioOf Held)) (spare : Spare) → IfSome o (λ x. spare ≡ spares.Asked x.bytes)
-      → IfSome (option_map (shown_bio log) o) (λ x. spare ≡ spares.Asked x.bytes)
+  asked_by : (o : Option (BioOf Held)) (spare : Spare) → IfSome o (λ x. spare ≡ spares.Bytes x.bytes)
+      → IfSome (option_map (shown_bio log) o) (λ x. spare ≡ spares.Bytes x.bytes)
   asked_by None spare is = tt
   asked_by (Some x) spare is = is
 
-  take_has : (disk b : ℕ) (spare : Spare) → IfSome (bio_among bios b) (λ x. spare ≡ spares.Asked x.bytes)
+  take_has : (disk b : ℕ) (spare : Spare) → IfSome (bio_among bios b) (λ x. spare ≡ spares.Bytes x.bytes)
       → HasOutcome (world_of (seen r)) (steps.Take disk b) spare
   unfolding step
   take_has disk b spare has =
       here r is (steps.Take disk b) spare (λ seat.
       take_twin (world_now r) spare seat disk (bio_at (world_now r) b)
-      (subst (λ (o : Option Bio). IfSome o (λ x. spare ≡ spares.Asked x.bytes)) (sym (there b))
+      (subst (λ (o : Option Bio). IfSome o (λ x. spare ≡ spares.Bytes x.bytes)) (sym (there b))
       (asked_by (bio_among bios b) spare has)))
 
   -- for what comes of the copy
   taken_ok : (o : Option (BioOf Held)) (spare : Spare)
-      → IfSome o (λ x. let got : Result Spare NoMemory = Ok spare in IfOk got (λ (s : Spare). s ≡ spares.Asked x.bytes))
-      → IfSome o (λ x. spare ≡ spares.Asked x.bytes)
+      → IfSome o (λ x. let got : Result Spare NoMemory = Ok spare in IfOk got (λ (s : Spare). s ≡ spares.Bytes x.bytes))
+      → IfSome o (λ x. spare ≡ spares.Bytes x.bytes)
   taken_ok None spare has = tt
   taken_ok (Some x) spare has = has
 
   pub spare_take : (disk b : ℕ) (result : Result Spare NoMemory)
-      → IfSome (bio_among bios b) (λ x. IfOk result (λ spare. spare ≡ spares.Asked x.bytes))
+      → IfSome (bio_among bios b) (λ x. IfOk result (λ spare. spare ≡ spares.Bytes x.bytes))
       → IfOk result (λ spare. HasOutcome (world_of (seen r)) (steps.Take disk b) spare)
   spare_take disk b (Ok spare) has = take_has disk b spare (taken_ok (bio_among bios b) spare has)
   spare_take disk b (Err e) has = tt

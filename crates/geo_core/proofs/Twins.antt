@@ -221,7 +221,7 @@ start_twin w spare (Some x) = by (is_down x.phase) where
 -- Take, Deliver
 
 pub take_twin : (w : World) (spare : Spare) (seat disk : ℕ) (o : Option Bio)
-    → IfSome o (λ x. spare ≡ spares.Asked x.bytes) → TwinAnswer (take_of w seat disk o) spare
+    → IfSome o (λ x. spare ≡ spares.Bytes x.bytes) → TwinAnswer (take_of w seat disk o) spare
 unfolding take_bio
 take_twin w spare seat disk None is = tt
 take_twin w spare seat disk (Some x) is = unless_twin (take_found w disk x) (take_bio w seat disk x) spare is

@@ -24,14 +24,14 @@ use Rattle.geo_core.specs.declared.twin.Spare.TheVariants as spares
 
 -- what the reply has is there once more
 abbrev pub HasReply : Reply → Spare → Type 0
-HasReply (replies.Bytes bytes) spare = spare ≡ spares.Read bytes
+HasReply (replies.Bytes bytes) spare = spare ≡ spares.Bytes bytes
 HasReply (replies.Listing lines) spare = spare ≡ spares.Lines lines
 HasReply _ spare = ⊤
 
 -- what the outcome has is there once more
 abbrev pub HasTwin : Outcome → Spare → Type 0
 HasTwin (outcomes.Replied line reply) spare = HasReply reply spare
-HasTwin (outcomes.Asked request) spare = spare ≡ spares.Asked request.bytes
+HasTwin (outcomes.Asked request) spare = spare ≡ spares.Bytes request.bytes
 HasTwin _ spare = ⊤
 
 -- what the reply to the line of a request has, by the request's owner and by what it holds, is there once more

@@ -10,7 +10,7 @@ ghost use Rattle.geo_core.specs.Running.{seen, IsMesh};
 ghost use Rattle.geo_core.specs.Twins.{HasReply, HasTwin, HasOutcome, HasCommand, HasRead, prints};
 
 use crate::running::Running;
-use geo_base::{BioId, Block, NoMemory, SharedBytes};
+use geo_base::{BioId, NoMemory, SharedBytes};
 use geo_listing::listing;
 use geo_model::{BioResult, Command, MeshList, Outcome, Owner, Reply, Request, Step};
 use std::alloc::Global;
@@ -19,8 +19,7 @@ use std::alloc::Global;
 #[derive(Debug, Drop)]
 pub enum Spare {
     Nothing,
-    Asked(Block),
-    Read(SharedBytes),
+    Bytes(SharedBytes),
     Lines(MeshList),
 }
 
@@ -56,10 +55,10 @@ fn lines_of(alloc: Global, running: &Running, command: &Command) -> Result<Spare
 // The bytes with which a disk is asked.
 fn bytes_asked(alloc: Global, running: &Running, bio: BioId) -> Result<Spare, NoMemory>
     ensures { IfSome (bio_among running.now.state.traffic.bios bio) (λ x.
-        IfOk result (λ spare. spare ≡ spares.Asked x.bytes)) }
+        IfOk result (λ spare. spare ≡ spares.Bytes x.bytes)) }
 {
     match running.state.traffic.get(bio) {
-        Some(found) => Ok(Spare::Asked(found.bytes.copy(alloc)?)),
+        Some(found) => Ok(Spare::Bytes(found.bytes.copy(alloc)?)),
         None => Ok(Spare::Nothing),
     }
 }
@@ -84,7 +83,7 @@ fn result_read(alloc: Global, running: &Running, bio: BioId) -> Result<Spare, No
         HasReply (reply_of_result (resolved (delivered_at running.now.log.items) x.result)) spare)) }
 {
     match running.state.traffic.copied(alloc, bio, &running.log)? {
-        BioResult::Bytes(bytes) => Ok(Spare::Read(bytes)),
+        BioResult::Bytes(bytes) => Ok(Spare::Bytes(bytes)),
         _ => Ok(Spare::Nothing),
     }
 }
@@ -130,7 +129,7 @@ fn twin_reply(reply: &Reply, spare: Spare) -> Reply
         Reply::Ok => Reply::Ok,
         Reply::Refused(errno) => Reply::Refused(*errno),
         Reply::Bytes(_) => match spare {
-            Spare::Read(bytes) => Reply::Bytes(bytes),
+            Spare::Bytes(bytes) => Reply::Bytes(bytes),
             _ => unreachable!(),
         },
         Reply::Listing(_) => match spare {
@@ -142,11 +141,11 @@ fn twin_reply(reply: &Reply, spare: Spare) -> Reply
 
 // The request once more.
 fn twin_request(request: &Request, spare: Spare) -> Request
-    requires { spare ≡ spares.Asked request.now.bytes }
+    requires { spare ≡ spares.Bytes request.now.bytes }
     ensures { result ≡ request.now }
 {
     match spare {
-        Spare::Asked(bytes) => Request {
+        Spare::Bytes(bytes) => Request {
             disk: request.disk,
             cmd: request.cmd,
             first: request.first,

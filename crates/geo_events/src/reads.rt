@@ -10,7 +10,7 @@ ghost use Rattle.geo_state.specs.Holds.{Holds};
 ghost use Rattle.geo_state.specs.World.{HasBytes};
 ghost use Rattle.geo_events.specs.Judging.{HasSector, HasSubmitted, with_taste};
 
-use geo_base::{BioCmd, Block, ProvId};
+use geo_base::{BioCmd, ProvId, SharedBytes};
 use geo_class::{Config, Taste};
 use geo_mesh::Topo;
 use geo_model::{Outcome, Span};
@@ -38,7 +38,7 @@ pub fn read_next(alloc: Global, state: &mut State, taste: Taste, sector: u64) ->
     let bio = NewBio {
         cmd: BioCmd::Read,
         span,
-        bytes: Block::from_vec(Vec::new(alloc)),
+        bytes: SharedBytes::none(alloc),
         from,
         to,
     };

@@ -1,7 +1,7 @@
 //! The disks and the commands of a plan.
 ghost use Rattle.std.specs.Prelude.{◌≡◌, IfOk};
 
-use geo_base::{Block, Counts, Kind, Name, NoMemory};
+use geo_base::{Counts, Kind, Name, NoMemory, SharedBytes};
 use std::alloc::Global;
 use std::marker::Model;
 
@@ -75,7 +75,7 @@ pub enum Command {
     Open(Name, Name, Counts),
     Close(Name),
     Read(Name, u64, u64),
-    Write(Name, u64, Block),
+    Write(Name, u64, SharedBytes),
     Delete(Name, u64, u64),
     Flush(Name),
     Sync,

@@ -2,9 +2,7 @@
 ghost use Rattle.std.specs.Prelude.{◌≡◌, IfOk};
 
 use crate::listing::MeshList;
-use geo_base::{
-    BioCmd, BioId, Block, ConsId, Errno, GeomId, HandleId, NoMemory, ProvId, SharedBytes,
-};
+use geo_base::{BioCmd, BioId, ConsId, Errno, GeomId, HandleId, NoMemory, ProvId, SharedBytes};
 use std::alloc::Global;
 
 /// An event of the queue.
@@ -84,7 +82,7 @@ pub struct Request {
     pub cmd: BioCmd,
     pub first: u64,
     pub count: u32,
-    pub bytes: Block,
+    pub bytes: SharedBytes,
 }
 
 impl Request {

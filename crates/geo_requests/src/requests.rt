@@ -15,7 +15,7 @@ ghost use Rattle.geo_requests.specs.Asked.{IsShortMark, mark_sector, media_of, p
 
 use crate::gate::{Gate, look};
 use crate::mark::{Mark, media, sector_of};
-use geo_base::{BioCmd, Block, Name, NoMemory};
+use geo_base::{BioCmd, Name, NoMemory, SharedBytes};
 use geo_model::{Outcome, Reply, Span};
 use geo_state::{NewBio, State, submit_line};
 use std::alloc::Global;
@@ -32,7 +32,7 @@ pub fn request(
     name: &Name,
     cmd: BioCmd,
     span: Span,
-    bytes: Block,
+    bytes: SharedBytes,
 ) -> Result<Outcome, NoMemory>
     requires kept { Holds state.old }
     requires bytes_fit { IsTrue (is_write cmd) → length bytes ≡ span.len }
@@ -58,7 +58,7 @@ fn accept(
     gate: Gate,
     cmd: BioCmd,
     span: Span,
-    bytes: Block,
+    bytes: SharedBytes,
 ) -> Result<Outcome, NoMemory>
     requires kept { Holds state.old }
     requires asking { IsAsking state.old gate.handle gate.source }
@@ -131,7 +131,8 @@ fn write_at(
     ensures logged { (log : List Entry) → HasBytes log state.old → HasBytes log state.new }
 {
     let span = last_sector(size, sector);
-    let bytes = sector_of(alloc, mark, size, sector)?;
+    let block = sector_of(alloc, mark, size, sector)?;
+    let bytes = SharedBytes::from_block(block);
     request(state, line, actor, name, BioCmd::Write, span, bytes)
 }
 
@@ -165,6 +166,6 @@ fn write_nowhere(
     ensures same { OnErr result (SameWorld state.old state.new) }
     ensures logged { (log : List Entry) → HasBytes log state.old → HasBytes log state.new }
 {
-    let nothing = Block::from_slice(alloc, &[])?;
+    let nothing = SharedBytes::none(alloc);
     request(state, line, actor, name, BioCmd::Write, NOWHERE, nothing)
 }

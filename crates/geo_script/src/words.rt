@@ -5,7 +5,7 @@ ghost use Rattle.geo_model.specs.Script.{words_of, short_name, long_name, next_w
 ghost use Rattle.geo_script.specs.Reads.{ReadsWord, ReadsLast};
 
 use crate::refusal::LineRefusal;
-use geo_base::{Block, Name, RunsRefusal, read_runs};
+use geo_base::{Name, RunsRefusal, SharedBytes, read_runs};
 use geo_model::{Cause, NameList};
 use std::alloc::Global;
 use std::marker::Model;
@@ -116,15 +116,15 @@ pub fn at_end<A: Drop>(value: A, words: Words<'_>) -> Result<A, Cause>
     }
 }
 
-/// The bytes of the runs that stand to the end of the line.
-pub fn runs(alloc: Global, words: Words<'_>) -> Result<Block, LineRefusal>
+/// The bytes of the runs that stand to the end of the line. They are shared, so that a request has no copy of them.
+pub fn runs(alloc: Global, words: Words<'_>) -> Result<SharedBytes, LineRefusal>
     ensures { ReadsLast result (runs_words words.entry) }
 {
     let Some(text) = words.rest else {
         return Err(LineRefusal::Fault(Cause::Words));
     };
     match read_runs(alloc, text) {
-        Ok(bytes) => Ok(bytes),
+        Ok(bytes) => Ok(SharedBytes::from_block(bytes).share(alloc)),
         Err(RunsRefusal::At { .. }) => Err(LineRefusal::Fault(Cause::Runs)),
         Err(RunsRefusal::NoMemory) => Err(LineRefusal::NoMemory),
     }

@@ -17,7 +17,7 @@ use crate::handles::is_alone;
 use crate::own::enter;
 use crate::seats::set_busy;
 use crate::state::{OwnBios, State};
-use geo_base::{BioCmd, BioId, Block, ConsId, Errno, HandleId, NoMemory, ProvId};
+use geo_base::{BioCmd, BioId, ConsId, Errno, HandleId, NoMemory, ProvId, SharedBytes};
 use geo_class::Config;
 use geo_mesh::Topo;
 use geo_model::{Owner, Span};
@@ -30,7 +30,7 @@ pub const MOST_OUT: u64 = 0x4000_0000_0000_0000;
 pub struct NewBio {
     pub cmd: BioCmd,
     pub span: Span,
-    pub bytes: Block,
+    pub bytes: SharedBytes,
     pub from: ConsId,
     pub to: ProvId,
 }

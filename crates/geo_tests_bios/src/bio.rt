@@ -44,7 +44,7 @@ fn submit_read(alloc: Global, table: &mut BioTable, len: u64) -> Result<BioId, N
         handle: HandleId::new(1),
         line: 1,
     };
-    let bytes = Block::zeros(alloc, 0)?;
+    let bytes = SharedBytes::none(alloc);
     table.submit(
         BioCmd::Read,
         span,

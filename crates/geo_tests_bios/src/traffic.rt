@@ -37,7 +37,7 @@ fn submit(traffic: &mut Traffic, alloc: Global, len: u64) -> Result<(), NoMemory
         line: 1,
     };
     let span = Span { offset: 0, len };
-    let bytes = Block::zeros(alloc, 0)?;
+    let bytes = SharedBytes::none(alloc);
     let (from, to) = (ConsId::new(1), ProvId::new(1));
     traffic.submit(BioCmd::Read, span, bytes, from, to, owner)?;
     Ok(())

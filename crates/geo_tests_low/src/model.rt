@@ -88,7 +88,7 @@ fn names_are_copied(rt: HostRuntime) {
 }
 
 /// The copy of the outcome that asks a disk to write these bytes.
-fn asked(alloc: Global, bytes: Block) -> Result<Outcome, NoMemory> {
+fn asked(alloc: Global, bytes: SharedBytes) -> Result<Outcome, NoMemory> {
     let request = Request {
         disk: 1,
         cmd: BioCmd::Write,
@@ -109,11 +109,9 @@ fn assert_asked(rt: &impl Abort, outcome: &Outcome, bytes: &[u8]) {
 
 #[test]
 fn a_request_is_copied(rt: HostRuntime) {
-    let outcome = asked(
-        rt.alloc(),
-        Block::from_slice(rt.alloc(), b"ab").expect(&rt, "memory"),
-    )
-    .expect(&rt, "memory");
+    let outcome = asked(rt.alloc(), shared(rt.alloc(), b"ab").expect(&rt, "memory")).expect(
+        &rt, "memory",
+    );
     assert_asked(&rt, &outcome, b"ab");
 }
 

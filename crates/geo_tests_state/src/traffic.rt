@@ -3,7 +3,7 @@ ghost use Rattle.std.specs.Prelude.{◌≡◌};
 ghost use Rattle.geo_model.specs.World.{is_down, is_sent, is_busy, is_up};
 ghost use Rattle.geo_bio.specs.BioTable.{has_phase};
 
-use geo_base::{BioCmd, BioId, Block, ConsId, Errno, HandleId, ProvId};
+use geo_base::{BioCmd, BioId, ConsId, Errno, HandleId, ProvId, SharedBytes};
 use geo_log::Log;
 use geo_traffic::{Owner, Phase, Span, Traffic};
 use std::alloc::Global;
@@ -17,7 +17,7 @@ fn submit(traffic: &mut Traffic, alloc: Global) -> Result<(), Fail> {
         offset: 0,
         len: 512,
     };
-    let bytes = Block::zeros(alloc, 0)?;
+    let bytes = SharedBytes::none(alloc);
     let owner = Owner::Line { handle, line };
     traffic.submit(BioCmd::Read, span, bytes, from, to, owner)?;
     Ok(())

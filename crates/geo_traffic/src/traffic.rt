@@ -13,7 +13,7 @@ ghost use Rattle.geo_traffic.specs.Traffic.{first_in, count_in};
 ghost use Rattle.geo_traffic.specs.Cursors.{up_after, family_size, gone_by};
 
 use crate::cursor::{Cursor, Due, with_last, with_one, without_one};
-use geo_base::{BioCmd, BioId, Block, ConsId, Errno, NoMemory, ProvId, SharedBytes};
+use geo_base::{BioCmd, BioId, ConsId, Errno, NoMemory, ProvId, SharedBytes};
 use geo_bio::{
     Bio, BioResult, BioTable, Held, LogBytes, Owner, Phase, Risen, Span, Targets, copied_at,
 };
@@ -149,7 +149,7 @@ impl Traffic {
         &mut self,
         cmd: BioCmd,
         span: Span,
-        bytes: Block,
+        bytes: SharedBytes,
         from: ConsId,
         to: ProvId,
         owner: Owner,
@@ -293,9 +293,7 @@ fn copy_of<B: LogBytes>(alloc: Global, held: &Option<Held>, log: &B) -> Result<B
     ensures { IfOk result (λ got. got ≡ resolved (B.place_bytes log.now) held.now) }
 {
     match held {
-        Some(Held::Bytes(bytes)) => Ok(BioResult::Bytes(SharedBytes::from_block(bytes.copy(
-            alloc,
-        )?))),
+        Some(Held::Bytes(bytes)) => Ok(BioResult::Bytes(bytes.copy(alloc)?)),
         Some(Held::AtPlace(place)) => Ok(BioResult::Bytes(copied_at(alloc, *place, log)?)),
         Some(Held::Failed(errno)) => Ok(BioResult::Failed(*errno)),
         _ => Ok(BioResult::Done),

@@ -10,4 +10,4 @@ returns-clause-does c log =
     (λ bs. IfOk c.request.result (λ o. Does
     (λ w. request w c.args.line c.args.actor c.args.name.now (asking c.args.cmd c.args.offset c.args.len bs)) log
     c.args.state.now c.request.new.state o))
-    c.in_ok-nothing.ensures (c.request.ensures.does log)
+    c.none-nothing.ensures (c.request.ensures.does log)

@@ -6,7 +6,7 @@ use Rattle.geo_requests.proofs.requests.write_nowhere.Goals as goal
 
 pub returns-clause-does : goal.returns-clause-does
 returns-clause-does c log =
-    let nothing = sym c.in_ok-nothing.ensures in
+    let nothing = sym c.none-nothing.ensures in
     record_does c.args.state.now c.request.new.state c.args.line c.args.actor c.args.name.now c.args.mark.now
     None c.requires.media _ (λ i. asking cmds.Write 0 0 (nothing i)) c.request.result log
     (c.request.ensures.does log)

@@ -6,8 +6,9 @@ use Rattle.geo_script.proofs.words.runs.Goals as goal
 
 pub returns-in-Ok : goal.returns-in-Ok
 returns-in-Ok c =
-    ap runs_words (sym c.words.view_is ∙ ap words_left c.in-Some.is)
-    ∙ runs_words-some c.in-Some.text.now c.in-Ok.bytes c.in-Ok.ensures
+    rw (c.share.ensures ∙ c.from_block.ensures)
+    (ap runs_words (sym c.words.view_is ∙ ap words_left c.in-Some.is)
+    ∙ runs_words-some c.in-Some.text.now c.in-Ok.bytes c.in-Ok.ensures)
 
 pub returns-in-Err-At : goal.returns-in-Err-At
 returns-in-Err-At c =
