@@ -1,5 +1,5 @@
 //! The text of some bytes.
-ghost use Rattle.std.specs.Prelude.{◌≡◌, ◌≤◌, ◌++◌, ◌∷◌, [], length, OnOk};
+ghost use Rattle.std.specs.Prelude.{◌≡◌, ◌≤◌, ◌++◌, ◌∷◌, [], length, replicate, bytes_eq, get_or, OnOk};
 ghost use Rattle.geo_base.specs.Runs.{run_text, runs_text};
 
 use geo_base::NoMemory;
@@ -39,13 +39,24 @@ fn add_some_runs(text: &mut Text, bytes: &[u8]) -> Result<(), NoMemory>
     add_run(text, byte, times)
 }
 
+// Whether the bytes are their first, so many times: each is the one before it. Slices are compared many bytes at a time.
+fn is_one_run(bytes: &[u8]) -> bool
+    requires { 1 ≤ length bytes.now }
+    ensures { result ≡ bytes_eq bytes.now (replicate (length bytes.now) (get_or bytes.now 0 0)) }
+{
+    let behind = &bytes[1..];
+    behind == &bytes[..behind.len()]
+}
+
 /// The runs of the bytes, behind the text.
-#[tactic(auto, using(crate::proofs::RunTexts::no_runs))]
+#[tactic(auto, using(crate::proofs::RunTexts::no_runs, crate::proofs::RunTexts::one_run))]
 pub fn add_runs(text: &mut Text, bytes: &[u8]) -> Result<(), NoMemory>
     ensures { OnOk result (text.new ≡ text.old ++ runs_text bytes.now) }
 {
     if bytes.is_empty() {
         Ok(())
+    } else if is_one_run(bytes) {
+        add_run(text, bytes[0], bytes.len() as u64)
     } else {
         add_some_runs(text, bytes)
     }
