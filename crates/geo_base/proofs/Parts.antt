@@ -1,9 +1,9 @@
--- Parts of bytes that stand between two places.
+-- Parts of bytes.
 use Rattle.std.specs.Prelude.{◌≡◌, ℕ, ◌+◌, ◌-◌, ◌≤◌, List, length, take, drop, min, slice_range}
 use Rattle.std.proofs.Common.{sym, ◌∙◌, ap, arith, inl, inr}
-use Rattle.std.proofs.Math.Seq.{take-nil}
+use Rattle.std.proofs.Math.Seq.{take-length, take-nil}
 use Rattle.std.proofs.lemmas.Bool.{cases_lt}
-use Rattle.std.proofs.lemmas.List.{drop_all, drop-drop, drop-take, length-take, take_all, take-take}
+use Rattle.std.proofs.lemmas.List.{drop_all, drop-drop, drop-take, length-drop, length-take, take_all, take-take}
 
 -- the first of the first: as many as the lesser number
 take_min : (r len : ℕ) (xs : List ℕ) → take len (take r xs) ≡ take (min r len) xs
@@ -17,29 +17,45 @@ take_min r len xs = elim (cases_lt r len) [
       take-take len r xs (omega arith) ∙ ap (λ n. take n xs) (sym least)
 ]
 
-module _ (xs : List ℕ) (s e from len : ℕ) where
-  -- the place at which the part begins, counted from the first byte
-  abbrev start : ℕ
-  start = min (e - s) from
+-- the first bytes, as many as there are
+take_most : (len : ℕ) (xs : List ℕ) → take (min (length xs) len) xs ≡ take len xs
+take_most len xs = sym (take_min (length xs) len xs) ∙ ap (take len) (take-length xs)
 
-  -- so many bytes from a place on, of those between two places
-  pub part_between : slice_range xs (s + start) (s + start + min (e - s - start) len)
-      ≡ take len (drop from (slice_range xs s e))
-  part_between = elim (cases_lt (e - s) from) [
+module _ (xs : List ℕ) (from len : ℕ) where
+  -- the place at which the part begins
+  abbrev start : ℕ
+  start = min (length xs) from
+
+  -- so many bytes from a place on, or as many as there are
+  pub part_from : slice_range xs start (start + min (length xs - start) len) ≡ take len (drop from xs)
+  part_from = elim (cases_lt (length xs) from) [
     | inl past ↦
-        let short : length (take (e - s) (drop s xs)) ≤ from =
-        let is = length-take (e - s) (drop s xs) in omega (arith, is) in
-        let none : s + start + min (e - s - start) len - (s + start) ≡ 0 = omega arith in
-        ap (λ n. take n (drop (s + start) xs)) none
-        ∙ sym (ap (take len) (drop_all from (take (e - s) (drop s xs)) short) ∙ take-nil len)
+        let short : length xs ≤ from = omega arith in
+        let none : start + min (length xs - start) len - start ≡ 0 = omega arith in
+        ap (λ n. take n (drop start xs)) none ∙ sym (ap (take len) (drop_all from xs short) ∙ take-nil len)
     | inr within ↦
         let first : start ≡ from = omega arith in
-        let all : e - s ≡ from + (e - s - from) = omega arith in
-        let many : s + start + min (e - s - start) len - (s + start) ≡ min (e - s - from) len = omega arith in
-        ap (λ n. take n (drop (s + start) xs)) many
-        ∙ ap (λ n. take (min (e - s - from) len) (drop (s + n) xs)) first
-        ∙ sym (ap (λ n. take len (drop from (take n (drop s xs)))) all
-        ∙ ap (take len) (drop-take from (e - s - from) (drop s xs))
-        ∙ take_min (e - s - from) len (drop from (drop s xs))
-        ∙ ap (take (min (e - s - from) len)) (drop-drop from s xs))
+        let rest = length-drop from xs in
+        let many : start + min (length xs - start) len - start ≡ min (length (drop from xs)) len =
+        omega (arith, rest) in
+        ap (λ n. take n (drop start xs)) many
+        ∙ ap (λ n. take (min (length (drop from xs)) len) (drop n xs)) first
+        ∙ take_most len (drop from xs)
   ]
+
+-- a part of a part, whose places are counted from the part's first byte
+pub part_of_part : (xs : List ℕ) (s e from to : ℕ) → from ≤ to → to ≤ e - s
+    → slice_range xs (s + from) (s + to) ≡ slice_range (slice_range xs s e) from to
+part_of_part xs s e from to rising inside =
+    let many : s + to - (s + from) ≡ to - from = omega arith in
+    let all : e - s ≡ from + (e - s - from) = omega (arith, rising, inside) in
+    let few : to - from ≤ e - s - from = omega (arith, rising, inside) in
+    ap (λ n. take n (drop (s + from) xs)) many
+    ∙ ap (take (to - from)) (sym (drop-drop from s xs))
+    ∙ sym (ap (λ n. take (to - from) (drop from (take n (drop s xs)))) all
+    ∙ ap (take (to - from)) (drop-take from (e - s - from) (drop s xs))
+    ∙ take-take (to - from) (e - s - from) (drop from (drop s xs)) few)
+
+-- a part is no longer than its two places are apart
+pub part_ends : (xs : List ℕ) (s e : ℕ) → length (slice_range xs s e) ≤ e - s
+part_ends xs s e = let is = length-take (e - s) (drop s xs) in omega (arith, is)
