@@ -47,6 +47,7 @@ pub trait Disk {
         ensures read { OnOk result (IsRead (held self.old) (sector_bytes self.old) first out.new) }
         ensures none_done { IfErr result (λ e. e.done ≡ 0) }
         ensures cause { HasCause (faults self.old) (faults self.new) result }
+        ensures told { OnOk result (faults self.new ≡ faults self.old) }
         ensures called { calls self.new ≡ counted_on (calls self.old) };
 
     /// Writes the bytes over the sectors from `first` on. After a failure the first `done` of them are written, and
@@ -59,6 +60,7 @@ pub trait Disk {
             (length bytes.now / sector_bytes self.old)) bytes.now (held self.old) }
         ensures part_done { IfErr result (λ e. e.done ≤ length bytes.now / sector_bytes self.old) }
         ensures cause { HasCause (faults self.old) (faults self.new) result }
+        ensures told { OnOk result (faults self.new ≡ faults self.old) }
         ensures called { calls self.new ≡ counted_on (calls self.old) };
 
     /// Writes zeros over `count` sectors from `first` on. After a failure the first `done` of them are zero, and no
@@ -70,6 +72,7 @@ pub trait Disk {
         ensures held { held self.new ≡ zeroed (sector_bytes self.old) first (done_of result count) (held self.old) }
         ensures part_done { IfErr result (λ e. e.done ≤ count) }
         ensures cause { HasCause (faults self.old) (faults self.new) result }
+        ensures told { OnOk result (faults self.new ≡ faults self.old) }
         ensures called { calls self.new ≡ counted_on (calls self.old) };
 
     /// Makes what was written last.
@@ -79,6 +82,7 @@ pub trait Disk {
         ensures held { held self.new ≡ held self.old }
         ensures none_done { IfErr result (λ e. e.done ≡ 0) }
         ensures cause { HasCause (faults self.old) (faults self.new) result }
+        ensures told { OnOk result (faults self.new ≡ faults self.old) }
         ensures called { calls self.new ≡ counted_on (calls self.old) };
 
     /// The sectors that are told are as many as there are.

@@ -50,6 +50,7 @@ impl<D: Disk> Disk for Drive<D> {
         ensures read { OnOk result (IsRead (held_by D.held self.old) (bytes_by D.sector_bytes self.old) first out.new) }
         ensures none_done { IfErr result (λ e. e.done ≡ 0) }
         ensures cause { HasCause (faults_by D.faults self.old) (faults_by D.faults self.new) result }
+        ensures told { OnOk result (faults_by D.faults self.new ≡ faults_by D.faults self.old) }
         ensures called { calls_by D.calls self.new ≡ counted_on (calls_by D.calls self.old) }
 
         // A disk in memory is as after this call, which fails exactly where its number is in the list.
@@ -72,6 +73,7 @@ impl<D: Disk> Disk for Drive<D> {
             (done_of result (length bytes.now / bytes_by D.sector_bytes self.old)) bytes.now (held_by D.held self.old) }
         ensures part_done { IfErr result (λ e. e.done ≤ length bytes.now / bytes_by D.sector_bytes self.old) }
         ensures cause { HasCause (faults_by D.faults self.old) (faults_by D.faults self.new) result }
+        ensures told { OnOk result (faults_by D.faults self.new ≡ faults_by D.faults self.old) }
         ensures called { calls_by D.calls self.new ≡ counted_on (calls_by D.calls self.old) }
         ensures ram { IfRam self.old self.new (λ old new.
             new ≡ called (is_err result)
@@ -92,6 +94,7 @@ impl<D: Disk> Disk for Drive<D> {
             ≡ zeroed (bytes_by D.sector_bytes self.old) first (done_of result count) (held_by D.held self.old) }
         ensures part_done { IfErr result (λ e. e.done ≤ count) }
         ensures cause { HasCause (faults_by D.faults self.old) (faults_by D.faults self.new) result }
+        ensures told { OnOk result (faults_by D.faults self.new ≡ faults_by D.faults self.old) }
         ensures called { calls_by D.calls self.new ≡ counted_on (calls_by D.calls self.old) }
         ensures ram { IfRam self.old self.new (λ old new. new
             ≡ called (is_err result) (after_zero old first (done_of result count))) }
@@ -109,6 +112,7 @@ impl<D: Disk> Disk for Drive<D> {
         ensures held { held_by D.held self.new ≡ held_by D.held self.old }
         ensures none_done { IfErr result (λ e. e.done ≡ 0) }
         ensures cause { HasCause (faults_by D.faults self.old) (faults_by D.faults self.new) result }
+        ensures told { OnOk result (faults_by D.faults self.new ≡ faults_by D.faults self.old) }
         ensures called { calls_by D.calls self.new ≡ counted_on (calls_by D.calls self.old) }
         ensures ram { IfRam self.old self.new (λ old new. new ≡ called (is_err result) old) }
         ensures fails { IfRam self.old self.new (λ old _. IsErr result ↔ Contains old.fails (counted_on old.calls)) }

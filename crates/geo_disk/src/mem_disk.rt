@@ -229,6 +229,7 @@ impl Disk for MemDisk {
         ensures read { OnOk result (IsRead (Some self.old.sectors) self.old.sector first out.new) }
         ensures none_done { IfErr result (λ e. e.done ≡ 0) }
         ensures cause { HasCause self.old.faults self.new.faults result }
+        ensures told { OnOk result (self.new.faults ≡ self.old.faults) }
     {
         if self.next_fails() {
             return Err(DiskFailed { done: 0 });
@@ -246,6 +247,7 @@ impl Disk for MemDisk {
         ensures fails { IsErr result ↔ Contains self.old.fails (counted_on self.old.calls) }
         ensures done { IfErr result (λ e. e.done ≡ part_of self.old.part (length bytes.now / self.old.sector)) }
         ensures cause { HasCause self.old.faults self.new.faults result }
+        ensures told { OnOk result (self.new.faults ≡ self.old.faults) }
     {
         let all = bytes.len() as u64 / u64::from(self.sector);
         let failed = self.next_fails();
@@ -265,6 +267,7 @@ impl Disk for MemDisk {
         ensures fails { IsErr result ↔ Contains self.old.fails (counted_on self.old.calls) }
         ensures done { IfErr result (λ e. e.done ≡ part_of self.old.part count) }
         ensures cause { HasCause self.old.faults self.new.faults result }
+        ensures told { OnOk result (self.new.faults ≡ self.old.faults) }
     {
         let failed = self.next_fails();
         let done = if failed { self.part(count) } else { count };
@@ -281,6 +284,7 @@ impl Disk for MemDisk {
         ensures fails { IsErr result ↔ Contains self.old.fails (counted_on self.old.calls) }
         ensures none_done { IfErr result (λ e. e.done ≡ 0) }
         ensures cause { HasCause self.old.faults self.new.faults result }
+        ensures told { OnOk result (self.new.faults ≡ self.old.faults) }
     {
         if self.next_fails() {
             return Err(DiskFailed { done: 0 });

@@ -10,7 +10,8 @@ use crate::picking::pick;
 use geo_core::Mesh;
 use geo_model::Step;
 
-/// An order in which one thread makes the steps of a mesh. It gives an enabled step wherever all isn't at rest.
+/// An order in which one thread makes the steps of a mesh. Where a legal log leads without a Busy bio, and not to rest,
+/// it gives an enabled step.
 pub trait Order {
     /// The step that is due in a world after its log, if there is one.
     ghost due: { Self → StepOrder };

@@ -1,4 +1,5 @@
-//! Laws of the generator: what is made from a number is a script, of four disks, four actors and so many commands.
+//! Laws of the generator: what is made from a number is a script of four disks, four actors, and six commands and so
+//! many more.
 #![tactic(auto)]
 
 ghost use Rattle.geo_laws_generator.specs.GeneratorLaws.{GeneratedPlans};

@@ -1,5 +1,5 @@
 -- A request to a disk, and what comes of it (g_bio(9)).
-use Rattle.std.specs.Prelude.{◌≡◌, ◌↔◌, ℕ, ◌+◌, ◌*◌, ◌==◌, ◌<◌, ◌≤◌, nat_le, Bool, true, false, not, ◌&&◌, ◌||◌, List, length, Option, Result, Ok, Err, IfSome, IsTrue, Contains, if◌then◌else◌, ⊤}
+use Rattle.std.specs.Prelude.{◌≡◌, ◌↔◌, ℕ, ◌+◌, ◌*◌, ◌==◌, ◌<◌, ◌≤◌, nat_le, Bool, true, false, not, ◌&&◌, ◌||◌, List, length, Option, Result, Ok, Err, IfSome, IsTrue, IsFalse, Contains, if◌then◌else◌, ⊤}
 use Rattle.std.specs.Option.{option_map}
 use Rattle.geo_base.specs.Faults.{Rose}
 use Rattle.geo_disk.specs.declared.disk.DiskFailed.{DiskFailed}
@@ -51,7 +51,8 @@ pub record FailsAsTold (old new : DriveView) (got : DeviceResult) (fails : List 
   pub told : IsTrue (is_failed got) ↔ Contains fails (counted_on old.calls)
   pub faults : new.faults ≡ (if is_failed got then counted_on old.faults else old.faults)
 
--- one call of the disk served the request with this answer; the sectors stay whole, and as many as they are
+-- one call of the disk served the request with this answer; the sectors stay whole, and as many as they are; a fault
+-- is told, and nothing else
 pub record Serves (q : Request) (old new : DriveView) (got : DeviceResult) : Type 0 where
   pub fits : IsTrue (fits_request old.sector q got)
   pub tells : IfSome old.held (TellsWhatIsHeld q got)
@@ -63,6 +64,7 @@ pub record Serves (q : Request) (old new : DriveView) (got : DeviceResult) : Typ
   pub called : new.calls ≡ counted_on old.calls
   pub later : old.faults ≤ new.faults
   pub cause : IsTrue (is_failed got) → Rose old.faults new.faults
+  pub told : IsFalse (is_failed got) → new.faults ≡ old.faults
   pub kind : new.fails ≡ old.fails
   pub memory : IfSome old.fails (FailsAsTold old new got)
 

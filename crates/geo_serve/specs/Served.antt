@@ -16,7 +16,7 @@ answers_of log disk = count_by (λ e. is_of_disk disk (option_and_then (request_
 -- the drive of a number served what these entries say that it was asked: it holds what they say, where it tells that;
 -- the bytes that they deliver are those that it held; its sectors stay whole, and as many as they are; it had one call
 -- for each answer that they deliver, as far as it counts its calls; each failure that they deliver is one of its
--- faults; and a disk in memory that has no call to fail delivers none
+-- faults, and where they deliver none it has no more faults; and a disk in memory that has no call to fail delivers none
 pub record IsServed (log : List Entry) (disk : ℕ) (before after : DriveView) : Type 0 where
   pub held : after.held ≡ option_map (λ sectors. contents before.sector sectors log disk) before.held
   pub reads : IfSome before.held (λ sectors. AreTrue before.sector sectors log disk)
@@ -24,6 +24,7 @@ pub record IsServed (log : List Entry) (disk : ℕ) (before after : DriveView) :
   pub all : HasAllSectors before → HasAllSectors after
   pub calls : min after.calls (2 ^ 64 - 1) ≡ min (before.calls + answers_of log disk) (2 ^ 64 - 1)
   pub failures : RoseBy (failures_of log disk) before.faults after.faults
+  pub told : failures_of log disk ≡ 0 → after.faults ≡ before.faults
   pub later : before.faults ≤ after.faults
   pub sector : after.sector ≡ before.sector
   pub count : after.count ≡ before.count

@@ -1,19 +1,14 @@
-//! What no clause says: runs of the program whose source, sink, shelf or disk fails at each of its calls in turn, against
-//! worked reports.
+//! What no clause says: runs of the program whose source, sink, shelf or disk fails at each of its calls in turn,
+//! against worked reports.
 ghost use Rattle.std.specs.Prelude.{◌≡◌, [], Contains};
 
-use crate::outside::{
-    Outside, Unready, behind, name, outside_of, put_failing, run, run_to_end, says,
-};
-use crate::scripts::{
-    HALF, LABEL, LABEL_REPORT, NO_LABEL_REPORT, NO_READ_REPORT, USERS, USERS_REPORT,
-};
+use crate::calls::{Failures, failures_of};
+use crate::outside::{Outside, Unready, name, outside_of, put_failing, run, says};
+use crate::scripts::{LABEL, LABEL_REPORT, NO_LABEL_REPORT, NO_READ_REPORT, USERS, USERS_REPORT};
 use crate::users::{DONE, Left, Users, leaves, set_up};
 use geo_base::{Block, Calls, Name, NoMemory};
-use geo_disk::{MemDisk, MemShelf, Shelf, Taken};
+use geo_disk::MemShelf;
 use geo_io::{MemSink, MemSource};
-use geo_log::Log;
-use geo_model::{DeviceResult, Step};
 use geo_run::Ended;
 use std::alloc::Global;
 use std::mem;
@@ -220,7 +215,34 @@ fn is_labelled(alloc: Global, bytes: &[u8]) -> Result<bool, Unready> {
     Ok(same)
 }
 
-// A run writes what is due, and leaves the disk as it was.
+// The status of a run, and the failures in its log.
+fn end_of(ended: Ended) -> (u8, Failures) {
+    let end = (ended.status, failures_of(&ended.log));
+    drop(ended);
+    end
+}
+
+// The same of the run of the script, or none where there is no memory for the words.
+fn run_to_failures(
+    rt: &impl Abort,
+    alloc: Global,
+    outside: &mut Outside,
+) -> Option<(u8, Failures)> {
+    match run(rt, alloc, outside) {
+        Some(ended) => Some(end_of(ended)),
+        None => None,
+    }
+}
+
+// The disk has nine calls, all of them reads.
+fn failures_at(call: u64) -> Failures {
+    Failures {
+        answers: if call <= 9 { 1 } else { 0 },
+        sectors: 0,
+    }
+}
+
+// A run writes what is due, its log has the failure, and the disk is left as it was.
 fn asks_of(
     rt: &impl Abort,
     alloc: Global,
@@ -228,8 +250,8 @@ fn asks_of(
     d0: &Name,
     call: u64,
 ) -> Result<(), Fail> {
-    let end = run_to_end(rt, alloc, outside).ok_or("no memory")?;
-    assert_eq!(rt; end.status, 0, "at call {call}");
+    let end = run_to_failures(rt, alloc, outside).ok_or("no memory")?;
+    assert_eq!(rt; end, (0, failures_at(call)), "at call {call}");
     says(rt, outside, due_at(call), b"", call);
     let bytes = outside.shelf.bytes_of(d0).ok_or("no disk")?;
     let same = is_labelled(alloc, bytes)?;
@@ -258,142 +280,6 @@ fn asks(rt: &impl Abort, alloc: Global, call: u64) -> Result<(), Fail> {
 fn each_failing_call_of_a_disk_has_its_answer(rt: HostRuntime) -> Result<(), Fail> {
     for call in 1..=10u64 {
         asks(&rt, rt.alloc(), call)?;
-    }
-    Ok(())
-}
-
-// Gives back a disk that was taken, whose failing writes first do so many sectors from now on.
-fn give_failing(shelf: &mut MemShelf, name: &Name, mut disk: MemDisk, done: u64) -> Result<(), Fail>
-    requires { Contains shelf.old.loans.lent name.now }
-{
-    disk.failing_after(done);
-    let given = shelf.give(name, disk);
-    let is_given = given.is_ok();
-    drop(given);
-    if is_given {
-        Ok(())
-    } else {
-        Err("not given back".into())
-    }
-}
-
-// From now on a failing write of the disk first does so many sectors.
-fn fail_after(shelf: &mut MemShelf, name: &Name, done: u64) -> Result<(), Fail> {
-    match shelf.take(name, 512) {
-        Ok(Taken::Disk(disk)) => give_failing(shelf, name, disk, done),
-        other => {
-            drop(other);
-            Err("no disk".into())
-        }
-    }
-}
-
-// Puts a disk on a shelf of which none is lent, whose fifth call, the write, fails after so many sectors.
-fn put_half(alloc: Global, shelf: &mut MemShelf, d0: &Name, done: u64) -> Result<(), Fail>
-    requires { shelf.old.loans.lent ≡ [] }
-{
-    let zeros = Block::zeros(alloc, 4096)?;
-    put_failing(alloc, shelf, d0, zeros, &[5])?;
-    fail_after(shelf, d0, done)
-}
-
-// How many sectors the one failed answer of a log says were done.
-fn done_in(log: &Log) -> Option<u32> {
-    for entry in log.entries() {
-        if let Step::Deliver {
-            got: DeviceResult::Failed { done },
-            ..
-        } = &entry.step
-        {
-            return Some(*done);
-        }
-    }
-    None
-}
-
-// The same of a run, with its status.
-fn half_in(ended: &Ended) -> (u8, Option<u32>) {
-    match &ended.log {
-        Some(log) => (ended.status, done_in(log)),
-        None => (ended.status, None),
-    }
-}
-
-// The same of a run whose end is dropped then.
-fn half_of(ended: Ended) -> (u8, Option<u32>) {
-    let half = half_in(&ended);
-    drop(ended);
-    half
-}
-
-// The same of the run of the script, or none where there is no memory for the words.
-fn run_half(rt: &impl Abort, alloc: Global, outside: &mut Outside) -> Option<(u8, Option<u32>)> {
-    match run(rt, alloc, outside) {
-        Some(ended) => Some(half_of(ended)),
-        None => None,
-    }
-}
-
-/// How many sectors a failing write does, and what is read then; it never does all of them.
-const HALVES: [(u64, u32, &[u8]); 5] = [
-    (0, 0, b"00*2048"),
-    (1, 1, b"11*512 00*1536"),
-    (2, 2, b"11*1024 00*1024"),
-    (3, 3, b"11*1536 00*512"),
-    (4, 3, b"11*1536 00*512"),
-];
-
-const FRONT: &[u8] = b"3 ok\n4 EIO\n5 ok ";
-
-const TAIL: &[u8] = b"\ngeom DISK d0 rank 1\n  provider d0 size 4096 sector 512 r1w1e0\n";
-
-// What a run tells of the bytes that it read.
-fn told_read(outside: &Outside) -> Result<&[u8], Fail> {
-    Ok(behind(outside.sink.written(), FRONT).ok_or("another report")?)
-}
-
-// A run reads these bytes, and its log says that so many sectors were done.
-fn halves_of(
-    rt: &impl Abort,
-    alloc: Global,
-    outside: &mut Outside,
-    done: u32,
-    runs: &[u8],
-) -> Result<(), Fail> {
-    let half = run_half(rt, alloc, outside).ok_or("no memory")?;
-    assert_eq!(rt; half, (0, Some(done)), "after {done} sectors");
-    let tail = behind(told_read(outside)?, runs).ok_or("other bytes")?;
-    assert_eq!(rt; tail, TAIL, "after {done} sectors");
-    Ok(())
-}
-
-// The same over a disk whose write fails after so many sectors, and is put on the shelf first.
-fn halves_with(
-    rt: &impl Abort,
-    alloc: Global,
-    outside: &mut Outside,
-    half: (u64, u32, &[u8]),
-) -> Result<(), Fail>
-    requires { outside.old.shelf.loans.lent ≡ [] }
-{
-    let (after, done, runs) = half;
-    let d0 = name(b"d0")?;
-    put_half(alloc, &mut outside.shelf, &d0, after)?;
-    halves_of(rt, alloc, outside, done, runs)
-}
-
-// The same of an outside that is dropped then.
-fn halves(rt: &impl Abort, alloc: Global, half: (u64, u32, &[u8])) -> Result<(), Fail> {
-    let mut outside = outside_of(alloc, HALF)?;
-    let answer = halves_with(rt, alloc, &mut outside, half);
-    drop(outside);
-    answer
-}
-
-#[test]
-fn a_write_that_fails_half_way_is_read_as_it_stands(rt: HostRuntime) -> Result<(), Fail> {
-    for half in HALVES {
-        halves(&rt, rt.alloc(), half)?;
     }
     Ok(())
 }

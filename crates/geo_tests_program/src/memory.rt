@@ -1,5 +1,5 @@
-//! What no clause says: runs in which one allocation is refused. Without that each of these tests comes to the end of its
-//! scripts; with it (`rt try --test --fail-alloc N`) the refusal is told, and nothing else changes.
+//! What no clause says: runs in which one allocation is refused. Without that each of these tests comes to the end of
+//! its scripts; with it (`rt try --test --fail-alloc N`) the refusal is told, and nothing else changes.
 use crate::bench::{
     ALL, Bench, answer, answer_if, begin_if, due, is_text, refusal_of, taken_by, told,
 };

@@ -329,10 +329,13 @@ geom LABEL d0 rank 2
   consumer d0 r1w0e1
 ";
 
-/// Four sectors of a disk of the shelf are written at once, and read.
-pub const HALF: &[u8] = b"disk d0 512
+/// A write, a read, a delete, a flush and a read of the four sectors of a disk of the shelf.
+pub const EACH: &[u8] = b"disk d0 512
 actor a
 a open h d0 r1w1e0
 a write h 0 11*2048
+a read h 0 2048
+a delete h 0 1024
+a flush h
 a read h 0 2048
 ";

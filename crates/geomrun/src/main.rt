@@ -8,7 +8,7 @@ use geo_run::{refuse_words, run_alone, starts_threads, without_memory};
 use std::alloc::Global;
 use std::process::ExitCode;
 use std::rt::Env;
-use std::{env, io};
+use std::{env, io, mem};
 
 /// The words behind the program's own name.
 fn words<R: Env + AllocGlobal>(rt: &R, alloc: Global) -> io::Result<Vec<String>> {
@@ -25,7 +25,7 @@ fn main(rt: HostRuntime) -> ExitCode {
             if error.kind() == io::ErrorKind::OutOfMemory {
                 return ExitCode::from(without_memory(&mut sink));
             }
-            // A word that isn't UTF-8 is none of the program's, and neither is an empty list.
+            // Words that aren't all UTF-8 are answered as no words are.
             Vec::new(alloc)
         }
     };
@@ -36,5 +36,8 @@ fn main(rt: HostRuntime) -> ExitCode {
         return ExitCode::from(without_memory(&mut sink));
     };
     let ended = run_alone(alloc, words.as_slice(), &mut source, &mut sink, &mut shelf);
-    ExitCode::from(ended.status)
+    let status = ended.status;
+    // The program's memory ends with it, so the log isn't taken apart entry by entry.
+    mem::forget(ended);
+    ExitCode::from(status)
 }

@@ -3,7 +3,7 @@ use Rattle.std.proofs.Common.{◌∙◌, ap, sym, subst}
 use Rattle.std.proofs.lemmas.List.Elements.{Contains-push}
 use Rattle.geo_disk.specs.declared.shelf.Taken.{Taken}
 use Rattle.geo_disk.specs.Shelf.{lent_by}
-use Rattle.geo_tests_program.proofs.faults.fail_after.Goals as goal
+use Rattle.geo_tests_program.proofs.calls.fail_after.Goals as goal
 
 pub give_failing-requires : goal.give_failing-requires
 give_failing-requires c =
