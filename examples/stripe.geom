@@ -13,7 +13,7 @@ a write h 0 11*4096 22*4096
 a read h 2048 4096
 a close h
 
-# An open handle outlives the pull, but every request through it is refused; its close always succeeds.
+# An open handle outlives the pull. Every request through it is refused, and closing it still works.
 a open h stripe/s r1w0e0
 b pull right
 a settle
