@@ -1,59 +1,16 @@
 //! What no clause says: runs over a disk of which one call fails, a write or a delete after a part of its sectors.
 ghost use Rattle.std.specs.Prelude.{◌≡◌, [], Contains};
 
-use crate::contents::has_contents;
+use crate::contents::{Failures, failures_of, has_contents};
 use crate::outside::{Outside, Unready, behind, name, outside_of, put_failing, run};
 use crate::scripts::EACH;
 use geo_base::{Block, Name};
 use geo_disk::{MemDisk, MemShelf, Shelf, Taken};
 use geo_log::Log;
-use geo_model::{DeviceResult, Entry, Step};
 use geo_run::Ended;
 use std::alloc::Global;
 use std::process::Abort;
 use std::test::Fail;
-
-/// The answers of disks that failed: how many they are, and how many sectors were done before.
-#[derive(Clone, Copy, Debug, PartialEq, Eq)]
-pub struct Failures {
-    pub answers: u64,
-    pub sectors: u64,
-}
-
-// Counts an entry that delivers a failure.
-fn count(failures: &mut Failures, entry: &Entry) {
-    if let Step::Deliver {
-        got: DeviceResult::Failed { done },
-        ..
-    } = &entry.step
-    {
-        failures.answers = failures.answers.saturating_add(1);
-        failures.sectors = failures.sectors.saturating_add(u64::from(*done));
-    }
-}
-
-// The failures of the entries of a log.
-fn failures_in(log: &Log) -> Failures {
-    let mut failures = Failures {
-        answers: 0,
-        sectors: 0,
-    };
-    for entry in log.entries() {
-        count(&mut failures, entry);
-    }
-    failures
-}
-
-/// The failures in a log, if there is one.
-pub fn failures_of(log: &Option<Log>) -> Failures {
-    match log {
-        Some(log) => failures_in(log),
-        None => Failures {
-            answers: 0,
-            sectors: 0,
-        },
-    }
-}
 
 /// The bytes of the disk, which has four sectors.
 const SIZE: u32 = 2048;

@@ -1,4 +1,4 @@
-//! What a log says of the bytes of a disk.
+//! What a log says of disks: the bytes of one, and which answers failed.
 use geo_base::{BioCmd, Block};
 use geo_log::Log;
 use geo_model::{DeviceResult, Entry, Outcome, Request, Step};
@@ -93,4 +93,46 @@ pub fn has_contents(
     drop(block);
     replayed?;
     Ok(same)
+}
+
+/// The answers of disks that failed: how many they are, and how many sectors were done before.
+#[derive(Clone, Copy, Debug, PartialEq, Eq)]
+pub struct Failures {
+    pub answers: u64,
+    pub sectors: u64,
+}
+
+// Counts an entry that delivers a failure.
+fn count(failures: &mut Failures, entry: &Entry) {
+    if let Step::Deliver {
+        got: DeviceResult::Failed { done },
+        ..
+    } = &entry.step
+    {
+        failures.answers = failures.answers.saturating_add(1);
+        failures.sectors = failures.sectors.saturating_add(u64::from(*done));
+    }
+}
+
+// The failures of the entries of a log.
+fn failures_in(log: &Log) -> Failures {
+    let mut failures = Failures {
+        answers: 0,
+        sectors: 0,
+    };
+    for entry in log.entries() {
+        count(&mut failures, entry);
+    }
+    failures
+}
+
+/// The failures in a log, if there is one.
+pub fn failures_of(log: &Option<Log>) -> Failures {
+    match log {
+        Some(log) => failures_in(log),
+        None => Failures {
+            answers: 0,
+            sectors: 0,
+        },
+    }
 }

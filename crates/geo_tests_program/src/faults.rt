@@ -2,14 +2,13 @@
 //! against worked reports.
 ghost use Rattle.std.specs.Prelude.{◌≡◌, [], Contains};
 
-use crate::calls::{Failures, failures_of};
-use crate::outside::{Outside, Unready, name, outside_of, put_failing, run, says};
+use crate::contents::Failures;
+use crate::outside::{Outside, Unready, name, outside_of, put_failing, run_to_end, says};
 use crate::scripts::{LABEL, LABEL_REPORT, NO_LABEL_REPORT, NO_READ_REPORT, USERS, USERS_REPORT};
 use crate::users::{DONE, Left, Users, leaves, set_up};
 use geo_base::{Block, Calls, Name, NoMemory};
 use geo_disk::MemShelf;
 use geo_io::{MemSink, MemSource};
-use geo_run::Ended;
 use std::alloc::Global;
 use std::mem;
 use std::process::Abort;
@@ -215,25 +214,6 @@ fn is_labelled(alloc: Global, bytes: &[u8]) -> Result<bool, Unready> {
     Ok(same)
 }
 
-// The status of a run, and the failures in its log.
-fn end_of(ended: Ended) -> (u8, Failures) {
-    let end = (ended.status, failures_of(&ended.log));
-    drop(ended);
-    end
-}
-
-// The same of the run of the script, or none where there is no memory for the words.
-fn run_to_failures(
-    rt: &impl Abort,
-    alloc: Global,
-    outside: &mut Outside,
-) -> Option<(u8, Failures)> {
-    match run(rt, alloc, outside) {
-        Some(ended) => Some(end_of(ended)),
-        None => None,
-    }
-}
-
 // The disk has nine calls, all of them reads.
 fn failures_at(call: u64) -> Failures {
     Failures {
@@ -250,8 +230,12 @@ fn asks_of(
     d0: &Name,
     call: u64,
 ) -> Result<(), Fail> {
-    let end = run_to_failures(rt, alloc, outside).ok_or("no memory")?;
-    assert_eq!(rt; end, (0, failures_at(call)), "at call {call}");
+    let end = run_to_end(rt, alloc, outside).ok_or("no memory")?;
+    assert_eq!(rt;
+        (end.status, end.failures),
+        (0, failures_at(call)),
+        "at call {call}"
+    );
     says(rt, outside, due_at(call), b"", call);
     let bytes = outside.shelf.bytes_of(d0).ok_or("no disk")?;
     let same = is_labelled(alloc, bytes)?;

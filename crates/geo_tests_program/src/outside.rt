@@ -1,6 +1,7 @@
 //! Runs of the program over an outside in memory: what it reads, what it writes, and its disks.
 ghost use Rattle.std.specs.Prelude.{◌≡◌, [], IfOk, OnOk};
 
+use crate::contents::{Failures, failures_of};
 use geo_base::{Block, Calls, Name, NoMemory};
 use geo_disk::MemShelf;
 use geo_io::{MemSink, MemSource};
@@ -122,11 +123,12 @@ pub fn run(rt: &impl Abort, alloc: Global, outside: &mut Outside) -> Option<Ende
     Some(ended)
 }
 
-/// The end of a run: its status, and whether its mesh opened.
+/// The end of a run: its status, whether its mesh opened, and the failures of disks in its log.
 #[derive(Clone, Copy, Debug, PartialEq, Eq)]
 pub struct End {
     pub status: u8,
     pub opened: bool,
+    pub failures: Failures,
 }
 
 // The end of a run, whose log is dropped.
@@ -134,6 +136,7 @@ fn end_of(ended: Ended) -> End {
     let end = End {
         status: ended.status,
         opened: ended.log.is_some(),
+        failures: failures_of(&ended.log),
     };
     drop(ended);
     end
