@@ -16,7 +16,7 @@ pub enum DeclineCause {
     Version,
     /// A record whose name isn't one.
     BadName,
-    /// A record with no place, or with a place past its count.
+    /// A record whose count isn't 1 to 16, or whose place isn't below it.
     Place,
     /// A record of a stripe whose stripe size doesn't fit.
     Size,

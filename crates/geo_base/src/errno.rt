@@ -11,9 +11,9 @@ pub enum Errno {
     EEXIST,
     /// There is no such handle.
     EBADF,
-    /// The provider carries an error, or its handle is dead.
+    /// The provider carries an error, its handle is dead, or the disk of a pull doesn't stand.
     ENXIO,
-    /// The access counts forbid it.
+    /// The access counts forbid it, or the handle wasn't opened for it.
     EPERM,
     /// A count would pass its limit.
     EOVERFLOW,

@@ -52,8 +52,8 @@ impl SharedBytes {
         SharedBytes::from_block(Block::from_vec(Vec::new(alloc)))
     }
 
-    /// The same bytes, so that a copy or a part of them takes none of its own. Where memory is wanting they have one
-    /// holder still.
+    /// The same bytes, so that a copy or a part of them needs no bytes of its own. Where memory is wanting they have
+    /// one holder still.
     pub fn share(self, alloc: Global) -> SharedBytes
         ensures { result ≡ self }
     {

@@ -20,10 +20,11 @@ pub record ReadAs (call : Call) (mode : Mode) (plan : Plan) : Type 0 where
   pub no_plan : (f : Fault) → script (script_of mode call.text) ≡ Err f → plan ≡ empty_plan
   pub not_read : (WasReadWhole call mode → ⊥) → plan ≡ empty_plan
 
--- what a status of 4 means: the sink's faults rose, and a first part of the due text is written
+-- what a status of 4 means: the sink's faults rose, and a first part of the due text is written, with some left
 pub record IsCutOff (call : Call) (due : List ℕ) : Type 0 where
   pub fault : Rose call.before.sink.faults call.after.sink.faults
   pub rest : List ℕ
+  pub some_left : rest ≢ []
   pub written : call.written ++ rest ≡ due
 
 -- at any other status the whole of the due text is written

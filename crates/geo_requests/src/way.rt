@@ -68,7 +68,7 @@ fn way_at(
     }
 }
 
-// The way of a request at a NOP geom, by which requests it fails. Where it can't be counted the answer is want of memory.
+// The way of a request at a NOP geom, by which requests it fails. Where it can't be counted memory is wanting.
 fn way_at_nop(
     alloc: Global,
     topo: &Topo<Config>,

@@ -1,4 +1,4 @@
-//! Programs that don't do what they should, and that what a run keeps refuses; and calls that keep it.
+//! Programs that do wrong, each refused by what a run keeps; and calls that keep it.
 ghost use Rattle.geo_model.specs.Endings.{Reported};
 ghost use Rattle.geo_model.specs.Generator.{StepMode};
 ghost use Rattle.geo_model.specs.Headline.{KeepsAll};

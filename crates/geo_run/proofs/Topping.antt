@@ -87,7 +87,12 @@ prints : (call : Call) (ending : Ending) (text : List ℕ)
     → Prints call ending text
 prints call ending text w e = record {
   cut_off = λ four. let begun = w.cut_off four in
-      record { fault = begun.fault; rest = begun.rest; written = ap (λ bs. bs ++ begun.rest) is ∙ begun.front };
+      record {
+        fault = begun.fault;
+        rest = begun.rest;
+        some_left = begun.some_left;
+        written = ap (λ bs. bs ++ begun.rest) is ∙ begun.front;
+      };
   whole = λ ne. let all = w.whole ne in record { status = all.0; written = is ∙ all.1 };
 }
   where

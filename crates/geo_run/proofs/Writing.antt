@@ -1,6 +1,6 @@
 -- What is written at the end.
-use Rattle.std.proofs.Common.{◌≡◌, ◌⊎◌, ℕ, List, [], ◌++◌, take, drop, Result, Ok, Err, IfOk, refl, sym, subst, inl, inr}
-use Rattle.std.proofs.lemmas.List.{take-append-drop}
+use Rattle.std.proofs.Common.{◌≡◌, ◌⊎◌, ◌∙◌, ℕ, ◌-◌, ◌<◌, List, [], ◌++◌, length, take, drop, Result, Ok, Err, IfOk, refl, sym, ap, subst, absurd, inl, inr}
+use Rattle.std.proofs.lemmas.List.{take-append-drop, length-drop}
 use Rattle.geo_base.specs.Faults.{Rose}
 use Rattle.geo_model.specs.Endings.{Ending, OutOfMemory, status_of, due_text}
 use Rattle.geo_model.specs.Outside.{SinkView}
@@ -10,14 +10,17 @@ use Rattle.geo_run.specs.Stops.{ending_of}
 use Rattle.geo_run.specs.Writes.{Writes, WritesEnding, WritesMade}
 
 -- only a first part is written
-pub cut_off : (due n : ℕ) (text : List ℕ) (before after : SinkView) → after.taken ≡ before.taken ++ take n text
-    → Rose before.faults after.faults → Writes 4 due text before after
-cut_off due n text before after took rose = record {
+pub cut_off : (due n : ℕ) (text : List ℕ) (before after : SinkView) → n < length text
+    → after.taken ≡ before.taken ++ take n text → Rose before.faults after.faults → Writes 4 due text before after
+cut_off due n text before after less took rose = record {
   written = take n text;
   took = took;
-  cut_off = λ e. record { fault = rose; rest = drop n text; front = take-append-drop n text };
+  cut_off = λ e. record { fault = rose; rest = drop n text; some_left = some_left; front = take-append-drop n text };
   whole = λ ne. absurd (ne refl);
 }
+  where
+    some_left : drop n text ≢ []
+    some_left none = let h : length text - n ≡ 0 = sym (length-drop {A = ℕ} n text) ∙ ap length none in omega (less, h)
 
 -- the due text of an ending is written
 pub ends : (reported : List ℕ) (ending : Ending) (status : ℕ) (before after : SinkView)

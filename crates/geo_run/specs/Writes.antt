@@ -4,10 +4,11 @@ use Rattle.geo_base.specs.Faults.{Rose}
 use Rattle.geo_model.specs.Endings.{Ending, OutOfMemory, status_of, due_text}
 use Rattle.geo_model.specs.Outside.{SinkView}
 
--- a text is only begun: the sink's faults rose, and these are its first bytes
+-- a text is only begun: the sink's faults rose, and these are its first bytes, with some left
 pub record IsBegun (text written : List ℕ) (before after : SinkView) : Type 0 where
   pub fault : Rose before.faults after.faults
   pub rest : List ℕ
+  pub some_left : rest ≢ []
   pub front : written ++ rest ≡ text
 
 -- the whole text was written under its status, or, where the sink failed, a first part of it under status 4
