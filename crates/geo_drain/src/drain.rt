@@ -11,6 +11,7 @@ use crate::refusal::DrainRefusal;
 use crate::turn::turn;
 use geo_core::Mesh;
 use geo_disk::{Disk, Drive};
+use geo_pool::Pool;
 use std::alloc::Global;
 
 /// Makes the steps that are due in an order, with seat 0, until the mesh is at rest. After each Take the drive of its
@@ -35,8 +36,9 @@ pub fn run_to_rest<D: Disk, O: Order>(
 {
     // The log is one that a mesh can have, so each step that is due can be made.
     let _log = mesh.log();
+    let mut pool = Pool::new(alloc);
     while let Some(step) = order.next(mesh) {
-        turn(alloc, mesh, disks, step)?;
+        turn(alloc, mesh, disks, &mut pool, step)?;
     }
     Ok(())
 }

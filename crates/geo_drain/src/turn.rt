@@ -17,6 +17,7 @@ use geo_base::{BioId, Block};
 use geo_core::{ApplyRefusal, Mesh};
 use geo_disk::{Disk, Drive};
 use geo_model::{DeviceResult, Outcome, Request, Step};
+use geo_pool::Pool;
 use geo_serve::serve;
 use std::alloc::Global;
 
@@ -26,6 +27,7 @@ pub fn turn<D: Disk>(
     alloc: Global,
     mesh: &mut Mesh,
     disks: &mut [Drive<D>],
+    pool: &mut Pool,
     step: Step,
 ) -> Result<(), DrainRefusal>
     requires history { IsHistory mesh.old }
@@ -41,7 +43,7 @@ pub fn turn<D: Disk>(
     ensures history { IsHistory mesh.new }
 {
     match step {
-        Step::Take { disk, bio } => take(alloc, mesh, disks, disk, bio),
+        Step::Take { disk, bio } => take(alloc, mesh, disks, pool, disk, bio),
         other => make(mesh, other),
     }
 }
@@ -68,6 +70,7 @@ fn take<D: Disk>(
     alloc: Global,
     mesh: &mut Mesh,
     disks: &mut [Drive<D>],
+    pool: &mut Pool,
     disk: u32,
     bio: BioId,
 ) -> Result<(), DrainRefusal>
@@ -88,7 +91,7 @@ fn take<D: Disk>(
         return Err(DrainRefusal::NoMemory);
     };
     make(mesh, Step::Take { disk, bio })?;
-    let got = answer(alloc, last_request(mesh), disks, room);
+    let got = answer(alloc, last_request(mesh), disks, pool, room);
     deliver(mesh, bio, got);
     Ok(())
 }
@@ -115,11 +118,13 @@ fn request_in(outcome: &Outcome) -> &Request
     }
 }
 
-// The answer of the drive of the request's disk. The bytes of a READ are shared, so that its reply needs no copy.
+// The answer of the drive of the request's disk. The bytes of a READ are shared, so that its reply needs no copy, and
+// such as came before stand in memory once.
 fn answer<D: Disk>(
     alloc: Global,
     request: &Request,
     disks: &mut [Drive<D>],
+    pool: &mut Pool,
     room: Block,
 ) -> DeviceResult
     requires inside { request.now.disk < length disks.old }
@@ -134,7 +139,18 @@ fn answer<D: Disk>(
         (map (drive_view D.held D.sector_bytes D.sector_count D.calls D.faults) disks.new) result }
 {
     let drive = &mut disks[request.disk as usize];
-    serve(drive, request, room).share(alloc)
+    let got = serve(drive, request, room).share(alloc);
+    pooled(pool, got)
+}
+
+// The same answer, with bytes that came before where they do.
+fn pooled(pool: &mut Pool, got: DeviceResult) -> DeviceResult
+    ensures { result ≡ got }
+{
+    match got {
+        DeviceResult::Bytes(bytes) => DeviceResult::Bytes(pool.once(bytes)),
+        other => other,
+    }
 }
 
 // Delivers an answer that fits, which is never refused.

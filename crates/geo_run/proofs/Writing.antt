@@ -1,5 +1,6 @@
 -- What is written at the end.
-use Rattle.std.proofs.Common.{◌≡◌, ◌⊎◌, ◌∙◌, ℕ, ◌-◌, ◌<◌, List, [], ◌++◌, length, take, drop, Result, Ok, Err, IfOk, refl, sym, ap, subst, absurd, inl, inr}
+use native.Mathlib.Omega.{arith}
+use Rattle.std.proofs.Common.{◌≡◌, ◌≢◌, ◌⊎◌, ◌∙◌, ℕ, ◌-◌, ◌<◌, List, [], ◌++◌, length, take, drop, Result, Ok, Err, IfOk, refl, sym, ap, subst, inl, inr}
 use Rattle.std.proofs.lemmas.List.{take-append-drop, length-drop}
 use Rattle.geo_base.specs.Faults.{Rose}
 use Rattle.geo_model.specs.Endings.{Ending, OutOfMemory, status_of, due_text}
@@ -20,7 +21,7 @@ cut_off due n text before after less took rose = record {
 }
   where
     some_left : drop n text ≢ []
-    some_left none = let h : length text - n ≡ 0 = sym (length-drop {A = ℕ} n text) ∙ ap length none in omega (less, h)
+    some_left none = let h : length text - n ≡ 0 = sym (length-drop {A = ℕ} n text) ∙ ap length none in omega (arith, less, h)
 
 -- the due text of an ending is written
 pub ends : (reported : List ℕ) (ending : Ending) (status : ℕ) (before after : SinkView)

@@ -8,6 +8,7 @@ ghost use Rattle.geo_script.specs.Draft.{Adds};
 use crate::refusal::LineRefusal;
 use geo_base::Name;
 use geo_model::{Cause, Command, DiskDecl, LineCommand};
+use geo_pool::Pool;
 use std::alloc::Global;
 use std::marker::Model;
 
@@ -20,6 +21,8 @@ pub struct Draft {
     disks: Vec<DiskDecl>,
     actors: Vec<Name>,
     commands: Vec<LineCommand>,
+    // What its writes write.
+    written: Pool,
 }
 
 impl Model for Draft {
@@ -62,6 +65,16 @@ fn is_header_word(word: &[u8]) -> bool
     word == b"ram".as_slice() || word == b"disk".as_slice() || word == b"actor".as_slice()
 }
 
+// The same command, where what a write writes stands in memory once.
+fn pooled(pool: &mut Pool, command: Command) -> Command
+    ensures { result ≡ command }
+{
+    match command {
+        Command::Write(handle, offset, bytes) => Command::Write(handle, offset, pool.once(bytes)),
+        other => other,
+    }
+}
+
 impl Draft {
     /// No disk, no actor and no command.
     pub fn new(alloc: Global) -> Draft
@@ -71,6 +84,7 @@ impl Draft {
             disks: Vec::new(alloc),
             actors: Vec::new(alloc),
             commands: Vec::new(alloc),
+            written: Pool::new(alloc),
         }
     }
 
@@ -126,6 +140,7 @@ impl Draft {
     ) -> Result<(), LineRefusal>
         ensures { Adds result self.new (add_command self.old line actor command) }
     {
+        let command = pooled(&mut self.written, command);
         self.commands.push(LineCommand {
             line,
             actor,

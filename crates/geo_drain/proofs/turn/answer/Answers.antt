@@ -1,4 +1,4 @@
-use Rattle.std.proofs.Common.{slice_index_or}
+use Rattle.std.proofs.Common.{◌∙◌, slice_index_or}
 use Rattle.std.proofs.lemmas.List.{map-set}
 use Rattle.geo_serve.specs.Drives.{drive_view}
 use Rattle.geo_serve.specs.Serve.{CanServe, HasRoom}
@@ -24,6 +24,6 @@ returns g c =
       old = seen (slice_index_or c.args.disks.now c.args.request.now.disk c.index-disks-request.result);
       is_its = seen_at seen c.args.disks.now c.args.request.now.disk c.index-disks-request.result c.requires.inside;
       new = seen c.serve.new.disk;
-      serves = rw c.share.ensures c.serve.ensures;
+      serves = rw (c.pooled.ensures ∙ c.share-got.ensures) c.serve.ensures;
       drives = map-set seen c.args.disks.now c.args.request.now.disk c.serve.new.disk;
     }

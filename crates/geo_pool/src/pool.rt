@@ -1,0 +1,60 @@
+//! Bytes that came before.
+ghost use Rattle.std.specs.Prelude.{◌≡◌, IfSome};
+
+use geo_base::SharedBytes;
+use std::alloc::Global;
+use std::collections::BTreeMap;
+
+/// Bytes that came before: under each first byte the last ones that had to be kept. What is written and read again and
+/// again stands in memory once, since bytes with which kept ones begin are given as a part of these.
+#[derive(Drop)]
+pub struct Pool {
+    alloc: Global,
+    known: BTreeMap<u8, SharedBytes>,
+}
+
+impl Pool {
+    /// No bytes are known. It takes no memory yet.
+    pub fn new(alloc: Global) -> Pool {
+        Pool {
+            alloc,
+            known: BTreeMap::new(alloc),
+        }
+    }
+
+    /// The same bytes: a part of known ones that begin with them, else themselves, which are known from now on if there
+    /// is memory for it.
+    pub fn once(&mut self, bytes: SharedBytes) -> SharedBytes
+        ensures { result ≡ bytes }
+    {
+        match self.same(&bytes) {
+            Some(same) => same,
+            None => {
+                self.keep(&bytes);
+                bytes
+            }
+        }
+    }
+
+    // The same bytes, as a part of the known ones with this first byte.
+    fn same(&self, bytes: &SharedBytes) -> Option<SharedBytes>
+        ensures { IfSome result (λ same. same ≡ bytes.now) }
+    {
+        let first = bytes.bytes().first()?;
+        let known = self.known.get(first)?;
+        if known.bytes().starts_with(bytes.bytes()) {
+            known.part(self.alloc, 0, bytes.len() as u64).ok()
+        } else {
+            None
+        }
+    }
+
+    // The bytes are known from now on, if there is memory for it.
+    fn keep(&mut self, bytes: &SharedBytes) {
+        if let Some(first) = bytes.bytes().first() {
+            if let Ok(copy) = bytes.copy(self.alloc) {
+                let _ = self.known.insert(*first, copy);
+            }
+        }
+    }
+}
