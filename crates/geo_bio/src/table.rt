@@ -67,8 +67,8 @@ impl BioTable {
     }
 
     /// The bio of a number. One that waits tells the number of its first child, how many children it has, and how many
-    /// of them are done; the parent of a child waits. The numbers of the bios count from 1, rise, and are below the next
-    /// one.
+    /// of them are done; the parent of a child waits. The numbers of the bios count from 1, rise, and are below the
+    /// next one.
     pub fn get(&self, bio: BioId) -> Option<&Bio>
         ensures found { option_map (seen bio) (option_copied result) ≡ bio_among self.now.bios bio }
         ensures family { IfSome (option_copied result) (λ x.

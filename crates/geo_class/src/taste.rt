@@ -311,8 +311,8 @@ impl Taste {
         }
     }
 
-    /// As `judge_back`, but where the class accepts the sector the taste stays as it is, and the class is done with only
-    /// at `end_class`: so what it found can be made, and nothing is forgotten where that fails.
+    /// As `judge_back`, but where the class accepts the sector the taste stays as it is, and the class is done with
+    /// only at `end_class`: so what it found can be made, and nothing is forgotten where that fails.
     pub fn weigh_back(&mut self, facts: &Facts) -> Option<Verdict>
         requires { IfSome (sector_back self.old.asked) (λ x. 512 ≤ length x.1) }
         ensures verdict { (granted : ℕ → CountsValue)

@@ -67,9 +67,9 @@ fn first_against(
     None
 }
 
-/// What is against a concat or a stripe of this name over the providers that were found for `wanted` names, where `size`
-/// is the one that they make together, if a provider may have it: the name is taken; a name was not found; a provider
-/// carries an error; something doesn't fit; it would be too deep.
+/// What is against a concat or a stripe of this name over the providers that were found for `wanted` names, where
+/// `size` is the one that they make together, if a provider may have it: the name is taken; a name was not found; a
+/// provider carries an error; something doesn't fit; it would be too deep.
 pub fn joined_refusal(
     topo: &Topo<Config>,
     name: &Name,

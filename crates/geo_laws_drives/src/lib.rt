@@ -4,8 +4,8 @@
 
 ghost use Rattle.geo_laws_drives.specs.DriveLaws.{DrivesFollow, TakesAreServable};
 
-/// What a Take of a firm mesh asks, a drive of the disk's sizes can serve, a READ asks for as many bytes as its bio, and
-/// each answer that fits the request can be delivered at once.
+/// What a Take of a firm mesh asks, a drive of the disk's sizes can serve, a READ asks for as many bytes as its bio,
+/// and each answer that fits the request can be delivered at once.
 #[tactic(auto, using(crate::proofs::Takes::takes_are_servable))]
 pub fn takes_are_servable()
     ensures { TakesAreServable }

@@ -14,8 +14,8 @@ pub fn counts_are_stored<C>()
     ensures { CountsAreStored C }
 {}
 
-/// A sound and steady world, and so each firm one, has what the calls ask for that look at no handle: no taste made DEV,
-/// and no handle's consumer is marked.
+/// A sound and steady world, and so each firm one, has what the calls ask for that look at no handle: no taste made
+/// DEV, and no handle's consumer is marked.
 #[tactic(auto, using(crate::proofs::Spared::handles_are_spared))]
 pub fn handles_are_spared()
     ensures { HandlesAreSpared }

@@ -14,8 +14,8 @@ use geo_event::EventQueue;
 use geo_mesh::{ConsRec, Topo};
 
 /// What an Orphan event does to the mesh: the geom of each consumer at the provider that isn't of DEV withers, unless
-/// it does so already. Handles are told by `next_dying`, and it doesn't look at them. It takes at most as many places of
-/// the queue as there are providers without an error, one for each that gets one.
+/// it does so already. Handles are told by `next_dying`, and it doesn't look at them. It takes at most as many places
+/// of the queue as there are providers without an error, one for each that gets one.
 pub fn orphan<C>(topo: &mut Topo<C>, queue: &mut EventQueue, prov: ProvId)
     requires room { sound_providers topo.old.topology ≤ queue.old.spare }
     ensures orphaned { queued topo.new queue.new ≡ orphan (queued topo.old queue.old) prov }

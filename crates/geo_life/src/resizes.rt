@@ -16,8 +16,8 @@ use geo_event::EventQueue;
 use geo_mesh::{ConsRec, Topo};
 
 /// What a Resize event does: each geom over the provider that a taste made, that isn't in use and doesn't wither yet,
-/// withers, and the provider is offered for taste again, unless it carries an error or its geom withers. It doesn't look
-/// at handles. It takes at most one place of the queue more than there are providers without an error.
+/// withers, and the provider is offered for taste again, unless it carries an error or its geom withers. It doesn't
+/// look at handles. It takes at most one place of the queue more than there are providers without an error.
 pub fn resize<C>(topo: &mut Topo<C>, queue: &mut EventQueue, prov: ProvId)
     requires made { IsDevMade topo.old.topology }
     requires room { sound_providers topo.old.topology + 1 ≤ queue.old.spare }

@@ -39,7 +39,8 @@ fn add_some_runs(text: &mut Text, bytes: &[u8]) -> Result<(), NoMemory>
     add_run(text, byte, times)
 }
 
-// Whether the bytes are their first, so many times: each is the one before it. Slices are compared many bytes at a time.
+// Whether the bytes are their first, so many times: each is the one before it. Slices are compared many bytes at a
+// time.
 fn is_one_run(bytes: &[u8]) -> bool
     requires { 1 ≤ length bytes.now }
     ensures { result ≡ bytes_eq bytes.now (replicate (length bytes.now) (get_or bytes.now 0 0)) }

@@ -28,8 +28,8 @@ use std::sync::ledger::Ledger;
 /// consumer is marked; a result to judge, where what a class accepts is made of the provider; a sector to read, a class
 /// to ask. After `NoMemory` nothing changed.
 ///
-/// In a mesh that is sound, steady and fitting that is the model's step. In another one a class that accepts may decline
-/// after all, where what would be made breaks the graph.
+/// In a mesh that is sound, steady and fitting that is the model's step. In another one a class that accepts may
+/// decline after all, where what would be made breaks the graph.
 pub fn judge_step<L: Ledger>(
     alloc: Global,
     taste: &mut Taste,

@@ -7,8 +7,8 @@ pub enum Medium {
     Blank,
     /// A table in sector 0, with an entry of this type, first sector and number of sectors at each of two places.
     Table([(u8, u32, u32); 2]),
-    /// So many links, one in each second sector, with a partition of one sector each; what leads on is of this type, and
-    /// the last link leads to another sector, or to none where that is 0.
+    /// So many links, one in each second sector, with a partition of one sector each; what leads on is of this type,
+    /// and the last link leads to another sector, or to none where that is 0.
     Chain { links: u32, kind: u8, last: u32 },
 }
 

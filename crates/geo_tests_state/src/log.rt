@@ -56,8 +56,8 @@ fn each_place_has_the_bytes_of_its_own_deliver(rt: HostRuntime) -> Result<(), Fa
     Ok(())
 }
 
-// Room for more than there can be is refused, and then the bytes go into the room that was made before: from there on no
-// memory is asked for, and they are moved.
+// Room for more than there can be is refused, and then the bytes go into the room that was made before: from there on
+// no memory is asked for, and they are moved.
 fn without_memory(log: &mut Log, alloc: Global) -> Result<Option<(usize, u8)>, Fail> {
     let bytes = answer(alloc, b"moved")?;
     log.reserve(1)?;

@@ -186,7 +186,8 @@ fn none_is_skipped(rt: HostRuntime) -> Result<(), Fail> {
     Ok(())
 }
 
-// Room for more READs than there can be is refused, after one was made. What is left then, and the number of the next one.
+// Room for more READs than there can be is refused, after one was made. What is left then, and the number of the next
+// one.
 fn refused(traffic: &mut Traffic, alloc: Global) -> Result<(([u64; 2], bool), u64), Fail> {
     submit(traffic, alloc)?;
     let Err(_) = traffic.reserve(u64::MAX) else {

@@ -174,10 +174,10 @@ impl Traffic {
         Ok(bio)
     }
 
-    /// A bio is split into children, one for each piece, in piece order, and waits for them. The first child's number is
-    /// answered; the others have the numbers that follow. The children take of the room what there is, and where memory
-    /// is wanting the room is no less than it was. 2^32 pieces or more, and numbers that are used up, are answered as
-    /// want of memory.
+    /// A bio is split into children, one for each piece, in piece order, and waits for them. The first child's number
+    /// is answered; the others have the numbers that follow. The children take of the room what there is, and where
+    /// memory is wanting the room is no less than it was. 2^32 pieces or more, and numbers that are used up, are
+    /// answered as want of memory.
     pub fn start(
         &mut self,
         alloc: Global,
