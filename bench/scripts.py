@@ -1,5 +1,5 @@
 """Scripts and requests of the measurements, all made from fixed numbers."""
-import random
+import itertools, random
 
 SIZE = 1 << 22  # the bytes of the provider that requests go to
 PIECE = 4096
@@ -16,13 +16,29 @@ def lines(todo, piece=PIECE):
                    for writes, at, byte in todo)
 
 
-def over(header, geoms, provider, todo):
+def runs(data):
+    """Bytes as a script has them."""
+    return ' '.join('%02x*%d' % (byte, len(list(run))) for byte, run in itertools.groupby(data))
+
+
+def unlike_lines(todo, piece=PIECE):
+    """The same, but the blocks that are written begin with the number of their request, so no two are alike."""
+    return ''.join('a write h %d %s\n' % (at, runs([k // 256, k % 256] + [byte] * (piece - 2))) if writes
+                   else 'a read h %d %d\n' % (at, piece) for k, (writes, at, byte) in enumerate(todo))
+
+
+def over(header, geoms, provider, todo, lines=lines):
     """The script that opens a provider and sends these requests through it."""
     return header + 'actor a\n' + geoms + 'a open h %s r1w1e0\n' % provider + lines(todo) + 'a close h\n'
 
 
-def memory(todo):
-    return over('ram md0 512 %d\n' % (SIZE // 512), '', 'md0', todo)
+def memory(todo, lines=lines):
+    return over('ram md0 512 %d\n' % (SIZE // 512), '', 'md0', todo, lines)
+
+
+def unlike(todo):
+    """As `memory`, with blocks no two of which are alike."""
+    return memory(todo, unlike_lines)
 
 
 def stripe(todo):
@@ -30,12 +46,17 @@ def stripe(todo):
     return over(disks, 'a stripe s 4096 md0 md1 md2 md3\n', 'stripe/s', todo)
 
 
-def nops(todo):
+def nops(todo, lines=lines):
     provider, geoms = 'md0', ''
     for _ in range(6):
         geoms += 'a nop %s 0 %d 0\n' % (provider, SIZE)
         provider += '.nop'
-    return over('ram md0 512 %d\n' % (SIZE // 512), geoms, provider, todo)
+    return over('ram md0 512 %d\n' % (SIZE // 512), geoms, provider, todo, lines)
+
+
+def unlike_nops(todo):
+    """As `nops`, with blocks no two of which are alike."""
+    return nops(todo, unlike_lines)
 
 
 def image(todo):
