@@ -14,10 +14,10 @@ use Rattle.geo_laws_counts.proofs.Members.{in_nothing, in_head, in_tail, in_case
 use Rattle.geo_laws_counts.proofs.LimitFacts.{of_filter}
 use Rattle.geo_laws_counts.proofs.Numbers.{key_in}
 use Rattle.geo_laws_counts.proofs.Upward.{names_some}
-use Rattle.geo_laws_demands.specs.WalkWords.{has_number, IsOrder, set_at, Flow}
-use Rattle.geo_laws_demands.proofs.Reach.{directly_under}
-use Rattle.geo_laws_demands.proofs.Orders.{order_closed, is-under}
-use Rattle.geo_laws_demands.proofs.Flows.{each_of, sum-none}
+use Rattle.geo_laws_counts.specs.WalkWords.{has_number, IsOrder, set_at, Flow}
+use Rattle.geo_laws_counts.proofs.Reach.{directly_under}
+use Rattle.geo_laws_counts.proofs.Orders.{order_closed, is-under}
+use Rattle.geo_laws_counts.proofs.Flows.{each_of, sum-none}
 use Rattle.geo_access.specs.Tries.{Apart}
 use Rattle.geo_access.specs.Access.{clear_scratches}
 use Rattle.geo_access.specs.Views.{finish_provider, finish_geom}

@@ -19,11 +19,11 @@ use Rattle.geo_laws_counts.proofs.Members.{in_filter, in_head, in_tail}
 use Rattle.geo_laws_counts.proofs.LimitFacts.{of_filter, all_of}
 use Rattle.geo_laws_counts.proofs.Numbers.{numbers_lead, free_of}
 use Rattle.geo_laws_counts.proofs.Upward.{names_some, have_is_sum}
-use Rattle.geo_laws_ranks.proofs.EdgeRanks.{climbing-ranked}
-use Rattle.geo_laws_demands.specs.DemandLaws.{Comes}
-use Rattle.geo_laws_demands.proofs.Openers.{wants_grant, came_more, came_stays, came_wants}
-use Rattle.geo_laws_demands.proofs.Refusing.{errors_came}
-use Rattle.geo_laws_demands.proofs.Raising.{Demands, Covers, coming_demands}
+use Rattle.geo_laws_graph.proofs.EdgeRanks.{climbing-ranked}
+use Rattle.geo_laws_counts.specs.DemandLaws.{Comes}
+use Rattle.geo_laws_counts.proofs.Openers.{wants_grant, came_more, came_stays, came_wants}
+use Rattle.geo_laws_counts.proofs.Refusing.{errors_came}
+use Rattle.geo_laws_counts.proofs.Raising.{Demands, Covers, coming_demands}
 use Rattle.geo_access.specs.declared.counts.Way.TheVariants.{Rises}
 use Rattle.geo_access.specs.declared.order.Order.{Order}
 use Rattle.geo_access.specs.declared.decide.Refused.{Refused}

@@ -20,11 +20,11 @@ use Rattle.geo_laws_counts.proofs.LimitFacts.{of_filter}
 use Rattle.geo_laws_counts.proofs.Numbers.{found_of, first_below, rest_rise, numbers_lead}
 use Rattle.geo_laws_counts.proofs.Sums.{add-zero}
 use Rattle.geo_laws_counts.proofs.Upward.{have_is_sum}
-use Rattle.geo_laws_demands.specs.WalkWords.{has_number, cap}
-use Rattle.geo_laws_demands.proofs.Reach.{below_self}
-use Rattle.geo_laws_demands.proofs.Orders.{has-contains, has_not, not-has}
-use Rattle.geo_laws_demands.proofs.Flows.{add-cap}
-use Rattle.geo_laws_demands.proofs.Raising.{Demands}
+use Rattle.geo_laws_counts.specs.WalkWords.{has_number, cap}
+use Rattle.geo_laws_counts.proofs.Reach.{below_self}
+use Rattle.geo_laws_counts.proofs.Orders.{has-contains, has_not, not-has}
+use Rattle.geo_laws_counts.proofs.Flows.{add-cap}
+use Rattle.geo_laws_counts.proofs.Raising.{Demands}
 use Rattle.geo_access.specs.declared.counts.Way.{Way}
 use Rattle.geo_access.specs.declared.counts.Way.TheVariants.{Rises}
 use Rattle.geo_access.specs.declared.order.Order.{Order}

@@ -11,8 +11,8 @@ use Rattle.geo_mesh.specs.Graph.{IsSoundGraph}
 use Rattle.geo_laws_graph.specs.LookupLaws.{left_from}
 use Rattle.geo_laws_counts.proofs.Members.{in_head}
 use Rattle.geo_laws_counts.proofs.LimitFacts.{of_filter}
-use Rattle.geo_laws_demands.proofs.Reach.{directly_under}
-use Rattle.geo_laws_demands.proofs.Orders.{is-under, under_lower}
+use Rattle.geo_laws_counts.proofs.Reach.{directly_under}
+use Rattle.geo_laws_counts.proofs.Orders.{is-under, under_lower}
 use Rattle.geo_access.specs.declared.order.Order.{Order}
 use Rattle.geo_access.specs.Views.{Gathered, mark_at, put_geom, fresh_under, visit, visit_under}
 use Rattle.geo_access.proofs.Folding.{fold_more, fold_end}

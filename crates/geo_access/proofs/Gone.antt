@@ -22,7 +22,7 @@ use Rattle.geo_laws_counts.proofs.LimitFacts.{all_of}
 use Rattle.geo_laws_counts.proofs.Members.{in_head, in_tail}
 use Rattle.geo_laws_counts.proofs.Quiet.{granted_wants_nothing}
 use Rattle.geo_laws_counts.proofs.Stays.{stays_from, want_from, grants_agree, consumer_came}
-use Rattle.geo_laws_demands.proofs.Flows.{each_of}
+use Rattle.geo_laws_counts.proofs.Flows.{each_of}
 use Rattle.geo_access.specs.Access.{granted_by, holds_grants, IsCounted, IsQuiet, IsPlaced, leaves_zero}
 use Rattle.geo_access.specs.Join.{joined_view}
 use Rattle.geo_access.specs.GoneLaws.{next_number, HasUsedNumber, on, off, RefusedConsumersGo}

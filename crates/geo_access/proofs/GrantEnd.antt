@@ -17,11 +17,11 @@ use Rattle.geo_laws_counts.proofs.Sums.{add-zero, add-more, at_most-trans}
 use Rattle.geo_laws_counts.proofs.Levels.{want-at_most}
 use Rattle.geo_laws_counts.proofs.Members.{in_nothing, in_filter}
 use Rattle.geo_laws_counts.proofs.LimitFacts.{within_limit}
-use Rattle.geo_laws_demands.specs.WalkWords.{has_number, cap}
-use Rattle.geo_laws_demands.proofs.Orders.{has-contains, has_not}
-use Rattle.geo_laws_demands.proofs.Flows.{add-cap}
-use Rattle.geo_laws_demands.proofs.Openers.{wants_grant}
-use Rattle.geo_laws_demands.proofs.Raising.{Demands}
+use Rattle.geo_laws_counts.specs.WalkWords.{has_number, cap}
+use Rattle.geo_laws_counts.proofs.Orders.{has-contains, has_not}
+use Rattle.geo_laws_counts.proofs.Flows.{add-cap}
+use Rattle.geo_laws_counts.proofs.Openers.{wants_grant}
+use Rattle.geo_laws_counts.proofs.Raising.{Demands}
 use Rattle.geo_access.specs.declared.counts.Way.TheVariants.{Rises}
 use Rattle.geo_access.specs.declared.order.Order.{Order}
 use Rattle.geo_access.specs.Access.{granted_by, IsCounted, IsQuiet, IsPlaced, granted_view, leaves_zero}

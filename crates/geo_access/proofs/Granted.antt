@@ -17,9 +17,9 @@ use Rattle.geo_laws_counts.proofs.Sums.{counts-same}
 use Rattle.geo_laws_counts.proofs.Members.{in_nothing, in_cases}
 use Rattle.geo_laws_counts.proofs.LimitFacts.{all_of}
 use Rattle.geo_laws_counts.proofs.Stays.{grants_agree}
-use Rattle.geo_laws_demands.specs.WalkWords.{set_at, cap}
-use Rattle.geo_laws_demands.proofs.Flows.{each_of}
-use Rattle.geo_laws_demands.proofs.Openers.{wants_grant}
+use Rattle.geo_laws_counts.specs.WalkWords.{set_at, cap}
+use Rattle.geo_laws_counts.proofs.Flows.{each_of}
+use Rattle.geo_laws_counts.proofs.Openers.{wants_grant}
 use Rattle.geo_access.specs.Access.{granted_by, holds_grants, clear_scratches, IsQuiet, IsCounted, counted_view, noted}
 use Rattle.geo_access.proofs.Trying.{rows_of, rows-set, Tries, trying}
 use Rattle.geo_access.proofs.Clearing.{rows-same_on}

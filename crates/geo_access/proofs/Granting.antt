@@ -21,10 +21,10 @@ use Rattle.geo_laws_counts.proofs.LimitFacts.{of_filter, all_of}
 use Rattle.geo_laws_counts.proofs.Members.{in_filter}
 use Rattle.geo_laws_counts.proofs.Numbers.{numbers_lead, only_of}
 use Rattle.geo_laws_counts.proofs.Upward.{names_some, have_is_sum}
-use Rattle.geo_laws_demands.specs.DemandLaws.{DiffersAt}
-use Rattle.geo_laws_demands.proofs.Singles.{differing_stays}
-use Rattle.geo_laws_demands.proofs.Openers.{wants_grant}
-use Rattle.geo_laws_demands.proofs.Raising.{Demands, Covers, grant_demands}
+use Rattle.geo_laws_counts.specs.DemandLaws.{DiffersAt}
+use Rattle.geo_laws_counts.proofs.Singles.{differing_stays}
+use Rattle.geo_laws_counts.proofs.Openers.{wants_grant}
+use Rattle.geo_laws_counts.proofs.Raising.{Demands, Covers, grant_demands}
 use Rattle.geo_access.specs.declared.decide.Refused.{Refused}
 use Rattle.geo_access.specs.declared.decide.Refused.TheVariants.{Named, Writer, Exclusive}
 use Rattle.geo_access.specs.declared.refusal.GrantRefusal.TheVariants.{Enxio, Eperm, Eoverflow}

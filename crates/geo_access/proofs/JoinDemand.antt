@@ -20,7 +20,7 @@ use Rattle.geo_laws_counts.proofs.Members.{in_filter}
 use Rattle.geo_laws_counts.proofs.Numbers.{found_of}
 use Rattle.geo_laws_counts.proofs.LimitFacts.{of_filter, all_of}
 use Rattle.geo_laws_counts.proofs.Upward.{names_some, have_is_sum}
-use Rattle.geo_laws_demands.proofs.Raising.{Demands, Covers, more-same, outside}
+use Rattle.geo_laws_counts.proofs.Raising.{Demands, Covers, more-same, outside}
 use Rattle.geo_laws_growth.specs.JoinLaws.{Joins, JoiningRaises, JoiningKeepsBelow, JoiningChangesBelow, JoiningGains}
 use Rattle.geo_laws_growth.proofs.Joining.{joined_known, its_number, it_stands, joining_raises}
 use Rattle.geo_laws_growth.proofs.JoiningBelow.{joining_keeps_below, joining_changes_below}

@@ -24,10 +24,10 @@ use Rattle.geo_laws_counts.specs.CountWords.{IsAtMost}
 use Rattle.geo_laws_counts.specs.LimitLaws.{greatest_counts}
 use Rattle.geo_laws_counts.proofs.Sums.{add-zero, at_most-trans}
 use Rattle.geo_laws_counts.proofs.LimitFacts.{of_filter, within_limit}
-use Rattle.geo_laws_demands.specs.WalkWords.{has_number, cap}
-use Rattle.geo_laws_demands.proofs.Orders.{has-contains, contains-has, has_not}
-use Rattle.geo_laws_demands.proofs.Flows.{add-cap}
-use Rattle.geo_laws_demands.proofs.Raising.{Demands}
+use Rattle.geo_laws_counts.specs.WalkWords.{has_number, cap}
+use Rattle.geo_laws_counts.proofs.Orders.{has-contains, contains-has, has_not}
+use Rattle.geo_laws_counts.proofs.Flows.{add-cap}
+use Rattle.geo_laws_counts.proofs.Raising.{Demands}
 use Rattle.geo_laws_growth.specs.JoinLaws.{Joins}
 use Rattle.geo_laws_growth.proofs.JoiningBelow.{own_away as never_below}
 use Rattle.geo_access.specs.declared.order.Order.{Order}

@@ -19,8 +19,8 @@ use Rattle.geo_laws_counts.proofs.Sums.{add-zero, add-assoc, zero-add}
 use Rattle.geo_laws_counts.proofs.Members.{in_head, in_tail}
 use Rattle.geo_laws_counts.proofs.LimitFacts.{of_filter}
 use Rattle.geo_laws_counts.proofs.Upward.{names_some, geom_found}
-use Rattle.geo_laws_demands.specs.WalkWords.{cap}
-use Rattle.geo_laws_demands.proofs.Flows.{cap-add}
+use Rattle.geo_laws_counts.specs.WalkWords.{cap}
+use Rattle.geo_laws_counts.proofs.Flows.{cap-add}
 use Rattle.geo_access.specs.Access.{granted_by, holds_grants}
 use Rattle.geo_access.specs.Views.{have_at, want_at}
 use Rattle.geo_access.specs.Tries.{made_of}

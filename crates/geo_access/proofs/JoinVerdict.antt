@@ -13,10 +13,10 @@ use Rattle.geo_model.specs.Opens.{below, has_error_below, join_refusal}
 use Rattle.geo_model.specs.Refusals.{IsFirstErrored}
 use Rattle.geo_mesh.specs.Topo.{TopoView, with_provider_scratch}
 use Rattle.geo_mesh.specs.Graph.{IsSoundGraph}
-use Rattle.geo_laws_demands.specs.WalkWords.{cap}
-use Rattle.geo_laws_demands.proofs.Reach.{below_self}
-use Rattle.geo_laws_demands.proofs.Flows.{add-cap}
-use Rattle.geo_laws_demands.proofs.Raising.{Demands}
+use Rattle.geo_laws_counts.specs.WalkWords.{cap}
+use Rattle.geo_laws_counts.proofs.Reach.{below_self}
+use Rattle.geo_laws_counts.proofs.Flows.{add-cap}
+use Rattle.geo_laws_counts.proofs.Raising.{Demands}
 use Rattle.geo_laws_growth.specs.JoinLaws.{Joins}
 use Rattle.geo_laws_growth.proofs.Joining.{joins_without_loop}
 use Rattle.geo_access.specs.declared.counts.Way.{Way}

@@ -18,9 +18,9 @@ use Rattle.geo_laws_graph.proofs.Lists.{map-changed}
 use Rattle.geo_laws_counts.specs.CountWords.{DemandStays}
 use Rattle.geo_laws_counts.proofs.LimitFacts.{all_of}
 use Rattle.geo_laws_counts.proofs.Stays.{grants_agree}
-use Rattle.geo_laws_demands.specs.WalkWords.{cap}
-use Rattle.geo_laws_demands.proofs.Flows.{each_of}
-use Rattle.geo_laws_demands.proofs.Openers.{wants_grant}
+use Rattle.geo_laws_counts.specs.WalkWords.{cap}
+use Rattle.geo_laws_counts.proofs.Flows.{each_of}
+use Rattle.geo_laws_counts.proofs.Openers.{wants_grant}
 use Rattle.geo_laws_growth.specs.JoinLaws.{Joins}
 use Rattle.geo_laws_growth.proofs.Joining.{its_number}
 use Rattle.geo_access.specs.declared.counts.Way.TheVariants.{Rises}

@@ -10,7 +10,7 @@ use Rattle.geo_model.specs.Topology.{Topology, Provider, Consumer, provider_at, 
 use Rattle.geo_mesh.specs.Topo.{TopoView}
 use Rattle.geo_laws_counts.proofs.Members.{in_nothing, in_head, in_tail, in_cases}
 use Rattle.geo_laws_counts.proofs.LimitFacts.{of_filter}
-use Rattle.geo_laws_demands.specs.WalkWords.{cap}
+use Rattle.geo_laws_counts.specs.WalkWords.{cap}
 use Rattle.geo_access.specs.declared.decide.Side.{Side}
 use Rattle.geo_access.specs.declared.decide.Side.TheVariants.{Writes, Excludes}
 use Rattle.geo_access.specs.Views.{raised, has_side, other, pair_with, pair_at, lesser, smaller, first_errored, first_some}

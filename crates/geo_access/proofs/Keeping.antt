@@ -14,10 +14,10 @@ use Rattle.geo_mesh.specs.Graph.{IsSoundGraph}
 use Rattle.geo_laws_counts.proofs.Members.{in_head, in_tail, in_filter}
 use Rattle.geo_laws_counts.proofs.LimitFacts.{of_filter}
 use Rattle.geo_laws_counts.proofs.Numbers.{found_of}
-use Rattle.geo_laws_demands.specs.WalkWords.{has_number, set_at}
+use Rattle.geo_laws_counts.specs.WalkWords.{has_number, set_at}
 use Rattle.geo_access.specs.declared.counts.Way.{Way}
 use Rattle.geo_access.specs.declared.counts.Way.TheVariants.{Rises, Falls}
-use Rattle.geo_laws_demands.proofs.Orders.{not-has}
+use Rattle.geo_laws_counts.proofs.Orders.{not-has}
 use Rattle.geo_access.specs.Tries.{shifted, Apart}
 use Rattle.geo_access.specs.Views.{have_at, gain_at, made_at, raise_want, finish_provider, finish_geom}
 use Rattle.geo_access.proofs.Trying.{rows_of, rows-set, rows-same, rows-at, set_through, some_of}

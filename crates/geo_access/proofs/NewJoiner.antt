@@ -19,7 +19,7 @@ use Rattle.geo_laws_counts.proofs.LimitFacts.{all_of}
 use Rattle.geo_laws_counts.proofs.Members.{in_head, in_tail}
 use Rattle.geo_laws_counts.proofs.Numbers.{free_of}
 use Rattle.geo_laws_counts.proofs.Stays.{grants_agree, consumer_came}
-use Rattle.geo_laws_demands.proofs.Flows.{each_of}
+use Rattle.geo_laws_counts.proofs.Flows.{each_of}
 use Rattle.geo_access.specs.Access.{granted_by, holds_grants, clear_scratches, IsCounted, IsQuiet}
 use Rattle.geo_access.specs.Join.{IsCountedBut, IsLoose, IsPlacedBut}
 use Rattle.geo_access.specs.JoinLaws.{NewConsumersMayJoin}

@@ -20,11 +20,11 @@ use Rattle.geo_laws_counts.proofs.Levels.{have-at_most, want-at_most}
 use Rattle.geo_laws_counts.proofs.Members.{in_nothing, in_filter}
 use Rattle.geo_laws_counts.proofs.LimitFacts.{all_of, within_limit}
 use Rattle.geo_laws_counts.proofs.Upward.{have_is_sum}
-use Rattle.geo_laws_demands.specs.DemandLaws.{DiffersAt}
-use Rattle.geo_laws_demands.specs.WalkWords.{has_number, cap}
-use Rattle.geo_laws_demands.proofs.Orders.{has-contains, has_not}
-use Rattle.geo_laws_demands.proofs.Openers.{wants_grant}
-use Rattle.geo_laws_demands.proofs.Raising.{Demands, grant_demands}
+use Rattle.geo_laws_counts.specs.DemandLaws.{DiffersAt}
+use Rattle.geo_laws_counts.specs.WalkWords.{has_number, cap}
+use Rattle.geo_laws_counts.proofs.Orders.{has-contains, has_not}
+use Rattle.geo_laws_counts.proofs.Openers.{wants_grant}
+use Rattle.geo_laws_counts.proofs.Raising.{Demands, grant_demands}
 use Rattle.geo_access.specs.declared.counts.Way.TheVariants.{Falls}
 use Rattle.geo_access.specs.declared.order.Order.{Order}
 use Rattle.geo_access.specs.Access.{granted_by, holds_grants, IsCounted, IsQuiet, IsPlaced, released_view, comes_to_zero}

@@ -20,7 +20,7 @@ use Rattle.geo_laws_counts.specs.LimitLaws.{NoneInTheWay, greatest_counts}
 use Rattle.geo_laws_counts.proofs.Sums.{at_most-zero}
 use Rattle.geo_laws_counts.proofs.Members.{in_nothing, in_cases}
 use Rattle.geo_laws_counts.proofs.LimitFacts.{all_of, exclusive_means, limit_means}
-use Rattle.geo_laws_demands.proofs.Flows.{each_of, sum-none}
+use Rattle.geo_laws_counts.proofs.Flows.{each_of, sum-none}
 use Rattle.geo_model.proofs.DemandLemmas.{map_same}
 use Rattle.geo_access.specs.Access.{granted_by, holds_grants, clear_scratches, IsCounted}
 use Rattle.geo_access.specs.ShutLaws.{IsShut, ShutMeshesAreCounted, MeshesStayShut}

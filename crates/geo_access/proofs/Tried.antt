@@ -16,9 +16,9 @@ use Rattle.geo_laws_counts.specs.CountWords.{gain_of_kind}
 use Rattle.geo_laws_counts.proofs.Sums.{add-zero, add-assoc, zeros-sum}
 use Rattle.geo_laws_counts.proofs.Members.{in_head, in_tail}
 use Rattle.geo_laws_counts.proofs.Upward.{geom_found}
-use Rattle.geo_laws_demands.specs.WalkWords.{has_number, order_from, cap, set_at}
-use Rattle.geo_laws_demands.proofs.Orders.{order_within, under-is}
-use Rattle.geo_laws_demands.proofs.Flows.{cap-add, add-cap}
+use Rattle.geo_laws_counts.specs.WalkWords.{has_number, order_from, cap, set_at}
+use Rattle.geo_laws_counts.proofs.Orders.{order_within, under-is}
+use Rattle.geo_laws_counts.proofs.Flows.{cap-add, add-cap}
 use Rattle.geo_access.specs.declared.counts.Way.{Way}
 use Rattle.geo_access.specs.declared.counts.Weight.{Weight}
 use Rattle.geo_access.specs.Tries.{had, made_of}

@@ -19,10 +19,10 @@ use Rattle.geo_laws_counts.proofs.LimitFacts.{of_filter}
 use Rattle.geo_laws_counts.proofs.Upward.{geom_found}
 use Rattle.geo_laws_counts.proofs.Numbers.{found_of, key_in}
 use Rattle.std.proofs.lemmas.List.Kept.{AllPairs-from_increasing}
-use Rattle.geo_laws_demands.specs.WalkWords.{has_number, IsOrder, order_from, cap, set_at, hand_at, gain_without}
-use Rattle.geo_laws_demands.proofs.Orders.{not-has, order_within, order_stays}
-use Rattle.geo_laws_demands.proofs.Flows.{flow_step, flow_first, flow_end}
-use Rattle.geo_laws_demands.proofs.Raising.{Demands}
+use Rattle.geo_laws_counts.specs.WalkWords.{has_number, IsOrder, order_from, cap, set_at, hand_at, gain_without}
+use Rattle.geo_laws_counts.proofs.Orders.{not-has, order_within, order_stays}
+use Rattle.geo_laws_counts.proofs.Flows.{flow_step, flow_first, flow_end}
+use Rattle.geo_laws_counts.proofs.Raising.{Demands}
 use Rattle.geo_access.specs.declared.counts.Way.{Way}
 use Rattle.geo_access.specs.declared.counts.Weight.{Weight}
 use Rattle.geo_access.specs.declared.order.Order.{Order}

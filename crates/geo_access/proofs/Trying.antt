@@ -13,8 +13,8 @@ use Rattle.geo_mesh.specs.declared.records.Scratch.{Scratch}
 use Rattle.geo_mesh.specs.Topo.{TopoView, no_scratch, with_geom_scratch, with_provider_scratch}
 use Rattle.geo_laws_counts.proofs.Levels.{of_each}
 use Rattle.geo_laws_counts.proofs.Members.{in_head, in_tail}
-use Rattle.geo_laws_demands.specs.WalkWords.{has_number, IsOrder, set_at}
-use Rattle.geo_laws_demands.proofs.Flows.{each_of}
+use Rattle.geo_laws_counts.specs.WalkWords.{has_number, IsOrder, set_at}
+use Rattle.geo_laws_counts.proofs.Flows.{each_of}
 use Rattle.geo_access.specs.declared.order.Order.{Order}
 use Rattle.geo_access.specs.Access.{clear_scratches}
 use Rattle.geo_access.specs.Views.{links, mark_at, made_at, gain_at}

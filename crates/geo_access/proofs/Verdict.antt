@@ -20,9 +20,9 @@ use Rattle.geo_laws_counts.specs.LimitLaws.{NoneInTheWay, greatest_counts}
 use Rattle.geo_laws_counts.proofs.Members.{in_nothing, in_head, in_tail, in_cases, in_filter}
 use Rattle.geo_laws_counts.proofs.LimitFacts.{of_filter, all_of, exclusive_means, limit_means}
 use Rattle.geo_laws_counts.proofs.Upward.{names_some}
-use Rattle.geo_laws_demands.specs.DemandLaws.{StaysAround}
-use Rattle.geo_laws_demands.specs.WalkWords.{cap}
-use Rattle.geo_laws_demands.proofs.Rising.{changed_exclusive, changed_limit}
+use Rattle.geo_laws_counts.specs.DemandLaws.{StaysAround}
+use Rattle.geo_laws_counts.specs.WalkWords.{cap}
+use Rattle.geo_laws_counts.proofs.Rising.{changed_exclusive, changed_limit}
 use Rattle.geo_access.specs.declared.decide.Side.TheVariants.{Writes, Excludes}
 use Rattle.geo_access.specs.declared.decide.Asked.{Asked}
 use Rattle.geo_access.specs.declared.decide.Asked.TheVariants.{Exclusion, Limit}

@@ -15,11 +15,11 @@ use Rattle.geo_laws_counts.proofs.Sums.{zero-add}
 use Rattle.geo_laws_counts.proofs.Members.{in_nothing, in_head, in_tail, in_flat_map}
 use Rattle.geo_laws_counts.proofs.LimitFacts.{of_filter}
 use Rattle.geo_laws_counts.proofs.Upward.{names_some}
-use Rattle.geo_laws_demands.specs.WalkWords.{has_number, IsOrder, order_from, cap, set_at, gain_without}
-use Rattle.geo_laws_demands.proofs.Reach.{below_self, below_closed, directly_under, under_of}
-use Rattle.geo_laws_demands.proofs.Orders.{order_within, order_closed, under_lower, under-is, is-under, below_least, filter_map_cases}
-use Rattle.geo_laws_demands.proofs.Flows.{flow_start, set_at-value}
-use Rattle.geo_laws_demands.proofs.Raising.{Demands, Covers}
+use Rattle.geo_laws_counts.specs.WalkWords.{has_number, IsOrder, order_from, cap, set_at, gain_without}
+use Rattle.geo_laws_counts.proofs.Reach.{below_self, below_closed, directly_under, under_of}
+use Rattle.geo_laws_counts.proofs.Orders.{order_within, order_closed, under_lower, under-is, is-under, below_least, filter_map_cases}
+use Rattle.geo_laws_counts.proofs.Flows.{flow_start, set_at-value}
+use Rattle.geo_laws_counts.proofs.Raising.{Demands, Covers}
 use Rattle.geo_access.specs.declared.counts.Way.{Way}
 use Rattle.geo_access.specs.declared.order.Order.{Order}
 use Rattle.geo_access.specs.Tries.{had, Apart}

@@ -11,7 +11,7 @@ use Rattle.geo_model.specs.Demand.{no_counts, add_counts, have, want, is_exclusi
 use Rattle.geo_model.specs.Refusals.{IsFirstErrored, StandAgainst, IsOverLimit}
 use Rattle.geo_slots.specs.Slots.{value_at}
 use Rattle.geo_mesh.specs.Topo.{TopoView, with_topology}
-use Rattle.geo_laws_demands.specs.WalkWords.{cap}
+use Rattle.geo_laws_counts.specs.WalkWords.{cap}
 use Rattle.geo_access.specs.declared.refusal.GrantRefusal.{GrantRefusal}
 use Rattle.geo_access.specs.declared.refusal.GrantRefusal.TheVariants as grants
 use Rattle.geo_access.specs.declared.refusal.JoinRefusal.{JoinRefusal}

@@ -6,7 +6,7 @@ use Rattle.geo_base.specs.declared.kind.Kind.TheVariants as kinds
 use Rattle.geo_base.specs.Kind.{adds_exclusive}
 use Rattle.geo_model.specs.Demand.{no_counts, add_counts, is_zero}
 use Rattle.geo_laws_counts.specs.CountWords.{more_counts}
-use Rattle.geo_laws_demands.specs.WalkWords.{cap}
+use Rattle.geo_laws_counts.specs.WalkWords.{cap}
 use Rattle.geo_access.specs.declared.counts.Way.{Way}
 use Rattle.geo_access.specs.declared.counts.Way.TheVariants.{Rises, Falls}
 use Rattle.geo_access.specs.declared.counts.Weight.{Weight}

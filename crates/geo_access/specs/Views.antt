@@ -27,7 +27,7 @@ use Rattle.geo_access.specs.declared.decide.Refused.{Refused}
 use Rattle.geo_access.specs.declared.decide.Refused.TheVariants.{Named, Writer, Exclusive}
 use Rattle.geo_base.specs.declared.errno.Errno.{Errno}
 use Rattle.geo_base.specs.declared.errno.Errno.TheVariants.{ENXIO, EPERM, EOVERFLOW}
-use Rattle.geo_laws_demands.specs.WalkWords.{cap}
+use Rattle.geo_laws_counts.specs.WalkWords.{cap}
 use Rattle.geo_access.specs.Tries.{is_over, had, shifted, made_of}
 
 -- a walk over some consumers of the graph comes to this one next

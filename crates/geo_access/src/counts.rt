@@ -3,7 +3,7 @@ ghost use Rattle.std.specs.Prelude.{◌≡◌, ◌&&◌, ◌||◌, not};
 ghost use Rattle.geo_model.specs.Demand.{add_counts, no_counts, is_zero};
 ghost use Rattle.geo_laws_counts.specs.CountWords.{more_counts};
 ghost use Rattle.geo_access.specs.Tries.{is_over, had, shifted, made_of, exclusive_where};
-ghost use Rattle.geo_laws_demands.specs.WalkWords.{cap};
+ghost use Rattle.geo_laws_counts.specs.WalkWords.{cap};
 
 use geo_base::{Counts, Kind};
 

@@ -4,7 +4,7 @@ ghost use Rattle.std.specs.Option.{option_map_or};
 ghost use Rattle.geo_model.specs.Topology.{geom_at, provider_at, consumer_at, providers_under, providers_of, consumers_of, attached_to};
 ghost use Rattle.geo_mesh.specs.Cells.{consumer_seen};
 ghost use Rattle.geo_model.specs.Demand.{add_counts};
-ghost use Rattle.geo_laws_demands.specs.WalkWords.{cap};
+ghost use Rattle.geo_laws_counts.specs.WalkWords.{cap};
 ghost use Rattle.geo_access.specs.Views.{CountsTell, answer_of, errno_of_refused, judged, against, beside_exclusive, beside_writer, have_at, want_at, made_at, order_of, lesser, raised, has_side, other, second_pair, pair_with, pair_at, raised_have, fault_at, fault_in, first_some};
 
 use crate::counts::{NO_COUNTS, add, is_over};

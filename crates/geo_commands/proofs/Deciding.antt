@@ -17,8 +17,8 @@ use Rattle.geo_model.specs.Log.{owed}
 use Rattle.geo_laws_owed.specs.OwedLaws.{is_ok_reply}
 use Rattle.geo_laws_owed.proofs.OwedCommands.{HandlesInOrder, command_owes}
 use Rattle.geo_log.specs.Places.{delivered_at}
-use Rattle.geo_traffic.specs.ShownLaws.{ShownAreFound}
-use Rattle.geo_traffic.proofs.ShownLemmas.{shown_are_found}
+use Rattle.geo_state.specs.ShownLaws.{ShownAreFound}
+use Rattle.geo_state.proofs.ShownLemmas.{shown_are_found}
 use Rattle.geo_handles.specs.Handles.{named_handle}
 use Rattle.geo_life.specs.Life.{is_out}
 use Rattle.geo_state.specs.declared.state.State.{State}

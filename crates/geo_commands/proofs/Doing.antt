@@ -22,8 +22,8 @@ use Rattle.geo_model.specs.Plans.{IsCommand, IsGrant}
 use Rattle.geo_model.specs.Topology.{Provider}
 use Rattle.geo_model.specs.World.{World}
 use Rattle.geo_laws_owed.specs.OwedLaws.{is_close}
-use Rattle.geo_traffic.specs.Shown.{AreLogged}
-use Rattle.geo_traffic.specs.Traffic.{TrafficView}
+use Rattle.geo_state.specs.Shown.{AreLogged}
+use Rattle.geo_state.specs.Traffic.{TrafficView}
 use Rattle.geo_state.specs.declared.state.State.{State}
 use Rattle.geo_state.specs.Steps.{Does}
 use Rattle.geo_state.specs.World.{world, HasBytes}

@@ -15,9 +15,9 @@ use Rattle.geo_model.specs.Freeing.{reap_work, wash_work, wash_where}
 use Rattle.geo_model.specs.Step.{is_of_actor, own_bio, is_unsettled, waits_for}
 use Rattle.geo_bio.specs.declared.bio.Held.{Held}
 use Rattle.geo_log.specs.Places.{delivered_at}
-use Rattle.geo_traffic.specs.Shown.{shown_bio}
-use Rattle.geo_traffic.specs.ShownLaws.{ShownAreFound}
-use Rattle.geo_traffic.proofs.ShownLemmas.{shown_are_found}
+use Rattle.geo_state.specs.Shown.{shown_bio}
+use Rattle.geo_state.specs.ShownLaws.{ShownAreFound}
+use Rattle.geo_state.proofs.ShownLemmas.{shown_are_found}
 use Rattle.geo_access.specs.Access.{granted_by}
 use Rattle.geo_handles.specs.Handles.{first_ready}
 use Rattle.geo_life.specs.Life.{AreStored, is_out}

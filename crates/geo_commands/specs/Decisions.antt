@@ -8,7 +8,7 @@ use Rattle.geo_model.specs.declared.step.Entry.{Entry}
 use Rattle.geo_model.specs.Topology.{find_provider}
 use Rattle.geo_model.specs.World.{World, Handle, handle_of, is_active, is_busy}
 use Rattle.geo_access.specs.Access.{consumers_below}
-use Rattle.geo_traffic.specs.Traffic.{count_in}
+use Rattle.geo_state.specs.Traffic.{count_in}
 use Rattle.geo_state.specs.declared.state.State.{State}
 use Rattle.geo_state.specs.World.{world}
 use Rattle.geo_opens.specs.Handles.{refusal_in}

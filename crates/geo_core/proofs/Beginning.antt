@@ -10,7 +10,7 @@ use Rattle.geo_model.specs.Plans.{IsPlan, FactsFit}
 use Rattle.geo_model.specs.Log.{owed}
 use Rattle.geo_bio.specs.declared.bio.Held.{Held}
 use Rattle.geo_log.specs.Room.{Room}
-use Rattle.geo_traffic.specs.Shown.{AreLogged}
+use Rattle.geo_state.specs.Shown.{AreLogged}
 use Rattle.geo_state.specs.declared.state.State.{State}
 use Rattle.geo_state.specs.World.{world, HasBytes}
 use Rattle.geo_core.specs.declared.running.Running.{Running}

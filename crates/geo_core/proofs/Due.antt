@@ -23,9 +23,9 @@ use Rattle.geo_model.specs.Step.{reap_next, wash_next}
 use Rattle.geo_bio.specs.declared.bio.Held.{Held}
 use Rattle.geo_bio.specs.BioTable.{AreInOrder, bio_among}
 use Rattle.geo_log.specs.Places.{delivered_at}
-use Rattle.geo_traffic.specs.Traffic.{first_in}
-use Rattle.geo_traffic.specs.Shown.{shown_bio}
-use Rattle.geo_traffic.proofs.ShownLemmas.{shown_are_found}
+use Rattle.geo_state.specs.Traffic.{first_in}
+use Rattle.geo_state.specs.Shown.{shown_bio}
+use Rattle.geo_state.proofs.ShownLemmas.{shown_are_found}
 use Rattle.geo_state.specs.Steps.{against, IsAgainst}
 use Rattle.geo_core.specs.declared.running.Running.{Running}
 use Rattle.geo_core.specs.Left.{left_of}

@@ -15,14 +15,14 @@ use Rattle.geo_model.specs.Step.{Answer, step}
 use Rattle.geo_model.specs.Log.{replay, world_after, owed, is_full, IsMade}
 use Rattle.geo_model.proofs.LogLemmas.{replay-append}
 use Rattle.geo_laws_steps.proofs.Logs.{firm_after}
-use Rattle.geo_laws_naming.specs.Naming.{HaveNames}
-use Rattle.geo_laws_naming.proofs.Logs.{legal_logs_have_names}
+use Rattle.geo_laws_texts.specs.Naming.{HaveNames}
+use Rattle.geo_laws_texts.proofs.Logs.{legal_logs_have_names}
 use Rattle.geo_laws_owed.proofs.Room.{logs_stay_lawful}
 use Rattle.geo_laws_requests.proofs.Complete.{legal_logs_complete_requests}
 use Rattle.geo_log.specs.Places.{delivered_at}
-use Rattle.geo_traffic.specs.ShownLaws.{LoggedStay}
-use Rattle.geo_traffic.proofs.ShownLemmas.{shown_are_found}
-use Rattle.geo_traffic.proofs.LoggedLemmas.{grown_log_shows_the_same, places_stay_logged}
+use Rattle.geo_state.specs.ShownLaws.{LoggedStay}
+use Rattle.geo_state.proofs.ShownLemmas.{shown_are_found}
+use Rattle.geo_state.proofs.LoggedLemmas.{grown_log_shows_the_same, places_stay_logged}
 use Rattle.geo_state.specs.declared.state.State.{State}
 use Rattle.geo_state.specs.Holds.{Holds}
 use Rattle.geo_state.specs.Steps.{Makes, SameWorld}

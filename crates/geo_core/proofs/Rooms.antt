@@ -15,8 +15,8 @@ use Rattle.geo_laws_graph.proofs.Members.{find-Contains}
 use Rattle.geo_bio.specs.declared.bio.Held.{Held}
 use Rattle.geo_bio.specs.BioTable.{bio_among}
 use Rattle.geo_log.specs.Places.{delivered_at}
-use Rattle.geo_traffic.specs.Shown.{shown_bio}
-use Rattle.geo_traffic.proofs.ShownLemmas.{shown_are_found}
+use Rattle.geo_state.specs.Shown.{shown_bio}
+use Rattle.geo_state.proofs.ShownLemmas.{shown_are_found}
 use Rattle.geo_core.specs.declared.running.Running.{Running}
 use Rattle.geo_core.specs.Mesh.{bytes_read, room_of, world_of}
 use Rattle.geo_core.specs.Running.{seen, IsMesh}

@@ -23,9 +23,9 @@ use Rattle.geo_model.specs.Laws.{ClosesOk}
 use Rattle.geo_bio.specs.declared.bio.Held.{Held}
 use Rattle.geo_bio.specs.BioTable.{bio_among}
 use Rattle.geo_log.specs.Places.{delivered_at}
-use Rattle.geo_traffic.specs.Shown.{shown_bio}
-use Rattle.geo_traffic.specs.ShownLaws.{BiosAreOfWorld}
-use Rattle.geo_traffic.proofs.StepLemmas.{got_is, world_shows_bios}
+use Rattle.geo_state.specs.Shown.{shown_bio}
+use Rattle.geo_state.specs.ShownLaws.{BiosAreOfWorld}
+use Rattle.geo_state.proofs.StepLemmas.{got_is, world_shows_bios}
 use Rattle.geo_state.specs.declared.state.State.{State}
 use Rattle.geo_state.specs.World.{world}
 use Rattle.geo_core.specs.declared.running.Running.{Running}

@@ -13,9 +13,9 @@ use Rattle.geo_model.specs.Opening.{bare_world}
 use Rattle.geo_model.specs.Plans.{IsPlan, FactsFit, Differ}
 use Rattle.geo_model.specs.Words.{same_name}
 use Rattle.geo_model.proofs.DemandLemmas.{all_weaker}
-use Rattle.geo_laws_opening.proofs.Standing.{Stander, disk_geoms, disk_providers, standers, stand-all}
-use Rattle.geo_laws_opening.proofs.Standing as laws
-use Rattle.geo_laws_opening.proofs.Standers.{PairsByRecursion, AreApart, standers-apart}
+use Rattle.geo_laws_life.proofs.Standing.{Stander, disk_geoms, disk_providers, standers, stand-all}
+use Rattle.geo_laws_life.proofs.Standing as laws
+use Rattle.geo_laws_life.proofs.Standers.{PairsByRecursion, AreApart, standers-apart}
 use Rattle.geo_core.specs.Openings.{stood}
 use Rattle.geo_core.proofs.Openings.{stands, take_one, numbered_at}
 

@@ -14,16 +14,16 @@ use Rattle.geo_model.specs.Fitting.{Firm}
 use Rattle.geo_model.specs.GeomCommands.{stand, is_geom_of_disk}
 use Rattle.geo_model.specs.Opening.{bare_world, disk_in_size, opening}
 use Rattle.geo_model.specs.Plans.{IsPlan, IsFact, FactsFit}
-use Rattle.geo_laws_geoms.proofs.Inserted.{stand-firm}
-use Rattle.geo_traffic.specs.Traffic.{TrafficView}
+use Rattle.geo_laws_making.proofs.Inserted.{stand-firm}
+use Rattle.geo_state.specs.Traffic.{TrafficView}
 use Rattle.geo_state.specs.declared.state.State.{State}
 use Rattle.geo_state.specs.declared.state.DiskSeat.{DiskSeat}
 use Rattle.geo_state.specs.Holds.{Holds}
 use Rattle.geo_state.specs.Parts.{geom_of_disk}
 use Rattle.geo_state.specs.World.{world, header_disk}
 use Rattle.geo_state.specs.Steps.{IsFirm}
-use Rattle.geo_geoms.specs.Disks.{item_at}
-use Rattle.geo_geoms.proofs.Finding.{seat-absent}
+use Rattle.geo_commands.specs.Disks.{item_at}
+use Rattle.geo_commands.proofs.Finding.{seat-absent}
 use Rattle.geo_core.specs.Openings.{stand_one, stood, IsOpened}
 use Rattle.geo_core.proofs.Openings.{stands, stood_more, stood_all, header_stays, disk_numbered}
 use Rattle.geo_core.proofs.Standing.{no_geom_yet, name_free}

@@ -15,9 +15,9 @@ use Rattle.geo_model.specs.Step.{Answer, step, event, judge_next, reap_next, was
 use Rattle.geo_bio.specs.declared.bio.Held.{Held}
 use Rattle.geo_bio.specs.BioTable.{bio_among, has_phase}
 use Rattle.geo_log.specs.Places.{delivered_at}
-use Rattle.geo_traffic.specs.Shown.{shown_bio}
-use Rattle.geo_traffic.specs.ShownLaws.{BiosAreOfWorld}
-use Rattle.geo_traffic.proofs.StepLemmas.{world_shows_bios}
+use Rattle.geo_state.specs.Shown.{shown_bio}
+use Rattle.geo_state.specs.ShownLaws.{BiosAreOfWorld}
+use Rattle.geo_state.proofs.StepLemmas.{world_shows_bios}
 use Rattle.geo_state.specs.declared.state.State.{State}
 use Rattle.geo_state.specs.Steps.{against, IsAgainst, Makes}
 use Rattle.geo_state.specs.World.{world, HasBytes}

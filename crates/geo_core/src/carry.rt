@@ -10,7 +10,7 @@ ghost use Rattle.geo_state.specs.Holds.{Holds};
 ghost use Rattle.geo_state.specs.Steps.{SameWorld};
 ghost use Rattle.geo_state.specs.World.{world, HasBytes};
 ghost use Rattle.geo_state.specs.Steps.{IsFirm};
-ghost use Rattle.geo_laws_naming.specs.Naming.{HaveNames};
+ghost use Rattle.geo_laws_texts.specs.Naming.{HaveNames};
 ghost use Rattle.geo_core.specs.Left.{left_of, AreNext};
 ghost use Rattle.geo_core.specs.Mesh.{world_of, IsSure, Made};
 ghost use Rattle.geo_core.specs.Moves.{Moves, IsFound};

@@ -10,7 +10,7 @@ ghost use Rattle.geo_bio.specs.BioTable.{has_phase};
 ghost use Rattle.geo_state.specs.Holds.{Holds};
 ghost use Rattle.geo_state.specs.Steps.{IsAgainst, IsFirm, Does, Makes, SameWorld};
 ghost use Rattle.geo_state.specs.World.{HasBytes};
-ghost use Rattle.geo_laws_naming.specs.Naming.{HaveNames};
+ghost use Rattle.geo_laws_texts.specs.Naming.{HaveNames};
 ghost use Rattle.geo_commands.specs.Decisions.{IsDecided};
 ghost use Rattle.geo_commands.specs.declared.decisions.Decision.TheVariants as decisions;
 

@@ -17,7 +17,7 @@ use crate::refusal::ApplyRefusal;
 use crate::rest::{first_down, first_to_take, first_up, is_at_rest, next_bio, room};
 use crate::running::Running;
 use geo_base::{BioId, NoMemory};
-use geo_listing::listing;
+use geo_commands::listing;
 use geo_log::{DiskFacts, Log};
 use geo_model::{MeshList, Outcome, Step};
 use geo_script::Plan;

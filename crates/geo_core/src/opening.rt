@@ -9,7 +9,7 @@ ghost use Rattle.geo_state.specs.World.{header_disk};
 ghost use Rattle.geo_core.specs.Openings.{IsOpened, stood};
 
 use geo_base::NoMemory;
-use geo_geoms::stand;
+use geo_commands::stand;
 use geo_log::DiskFacts;
 use geo_model::DiskDecl;
 use geo_script::Plan;

@@ -11,7 +11,7 @@ ghost use Rattle.geo_core.specs.Twins.{HasReply, HasTwin, HasOutcome, HasCommand
 
 use crate::running::Running;
 use geo_base::{BioId, NoMemory, SharedBytes};
-use geo_listing::listing;
+use geo_commands::listing;
 use geo_model::{BioResult, Command, MeshList, Outcome, Owner, Reply, Request, Step};
 use std::alloc::Global;
 

@@ -26,10 +26,10 @@ use Rattle.geo_laws_requests.proofs.Complete.{legal_logs_complete_requests}
 use Rattle.geo_laws_rest.proofs.Quiet.{step_idle, take_idle}
 use Rattle.geo_serve.specs.Drives.{DriveView}
 use Rattle.geo_serve.specs.Served.{AreServed}
-use Rattle.geo_laws_drives.specs.DriveLaws.{AreTaken}
-use Rattle.geo_laws_drives.proofs.Drives.{all_served_answered, all_served_none, all_served_quiet}
-use Rattle.geo_laws_drives.proofs.Requests.{request_last, taken_more}
-use Rattle.geo_laws_drives.proofs.Splits.{each_more, none_in}
+use Rattle.geo_laws_disks.specs.DriveLaws.{AreTaken}
+use Rattle.geo_laws_disks.proofs.Drives.{all_served_answered, all_served_none, all_served_quiet}
+use Rattle.geo_laws_disks.proofs.Requests.{request_last, taken_more}
+use Rattle.geo_laws_disks.proofs.Splits.{each_more, none_in}
 use Rattle.geo_core.specs.Mesh.{IsHistory, Made, MeshView, entry_of, opened, with_entry, world_of}
 use Rattle.geo_drain.specs.Drain.{DrivesFit, with_entries}
 use Rattle.geo_drain.specs.Running.{IsRunning}

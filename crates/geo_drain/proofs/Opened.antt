@@ -7,7 +7,7 @@ use Rattle.geo_model.specs.World.{World, Plan, HeaderDisk}
 use Rattle.geo_model.specs.GeomCommands.{stand}
 use Rattle.geo_model.specs.Opening.{opening, bare_world, disk_in_size}
 use Rattle.geo_serve.specs.Drives.{DriveView}
-use Rattle.geo_laws_drives.specs.DriveLaws.{HasSizes}
+use Rattle.geo_laws_disks.specs.DriveLaws.{HasSizes}
 
 -- disks that stand leave the header
 stand_same : (w : World) (items : List (ℕ × (DiskDecl × (ℕ × ℕ))))

@@ -19,8 +19,8 @@ use Rattle.geo_laws_disks.specs.DiskLaws.{AsksInside, LiesInside}
 use Rattle.geo_laws_disks.proofs.Inside.{disks_are_asked}
 use Rattle.geo_serve.specs.Drives.{DriveView}
 use Rattle.geo_serve.specs.Serve.{CanServe, HasRoom, fits_request}
-use Rattle.geo_laws_drives.specs.DriveLaws.{IsReadOf, IsServable}
-use Rattle.geo_laws_drives.proofs.Takes.{takes_are_servable}
+use Rattle.geo_laws_disks.specs.DriveLaws.{IsReadOf, IsServable}
+use Rattle.geo_laws_disks.proofs.Takes.{takes_are_servable}
 use Rattle.geo_core.specs.Mesh.{IsHistory, Made, MeshView, bytes_read, entry_of, opened, room_of, world_of}
 use Rattle.geo_drain.specs.Drain.{DrivesFit}
 use Rattle.geo_drain.specs.Turns.{AnswersRequest, EndsWithRequest}

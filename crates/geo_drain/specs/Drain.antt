@@ -3,7 +3,7 @@ use Rattle.std.specs.Prelude.{◌≡◌, ◌+◌, ◌-◌, ◌^◌, ◌≤◌, L
 use Rattle.geo_model.specs.declared.step.Entry.{Entry}
 use Rattle.geo_model.specs.Log.{owed}
 use Rattle.geo_model.specs.FixedOrder.{StepOrder, FollowsOrder}
-use Rattle.geo_model.specs.Endings.{NextIsFull}
+use Rattle.geo_headline.specs.Endings.{NextIsFull}
 use Rattle.geo_serve.specs.Drives.{DriveView}
 use Rattle.geo_serve.specs.Served.{AreServed}
 use Rattle.geo_core.specs.Mesh.{MeshView, opened, world_of}

@@ -3,7 +3,7 @@ use Rattle.geo_model.specs.FixedOrder.{StepOrder}
 use Rattle.geo_model.specs.Laws.{NoneBusy}
 use Rattle.std.specs.Prelude.{List}
 use Rattle.geo_serve.specs.Drives.{DriveView}
-use Rattle.geo_laws_drives.specs.DriveLaws.{AreTaken}
+use Rattle.geo_laws_disks.specs.DriveLaws.{AreTaken}
 use Rattle.geo_core.specs.Mesh.{IsHistory, MeshView, world_of}
 use Rattle.geo_drain.specs.Drain.{DrivesFit, Runs}
 

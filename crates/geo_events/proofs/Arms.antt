@@ -16,7 +16,7 @@ use Rattle.geo_handles.specs.Handles.{holding_handle}
 use Rattle.geo_slots.specs.Slots.{value_at}
 use Rattle.geo_mesh.specs.Graph.{IsSoundGraph}
 use Rattle.geo_mesh.specs.Topo.{TopoView, IsButForRoom, without_consumer}
-use Rattle.geo_make.specs.Making.{both, AreBoth}
+use Rattle.geo_taste.specs.Making.{both, AreBoth}
 use Rattle.geo_taste.specs.Judging.{IsJudged, IsKnownWith, MayJudge, making}
 use Rattle.geo_taste.specs.Taster.{IsTasteOf, with_granted}
 use Rattle.geo_taste.specs.Taster.{IsSettled as IsTasteSettled}

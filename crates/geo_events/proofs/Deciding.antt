@@ -20,8 +20,8 @@ use Rattle.geo_model.specs.Tasting.{judge_step}
 use Rattle.geo_model.specs.Step.{Answer, event, event_of, judge_next, judge_of, taste_bio, wash_next}
 use Rattle.geo_bio.specs.declared.bio.Held.{Held}
 use Rattle.geo_log.specs.Places.{delivered_at}
-use Rattle.geo_traffic.specs.Shown.{shown, shown_bio, AreLogged}
-use Rattle.geo_traffic.specs.Traffic.{TrafficView}
+use Rattle.geo_state.specs.Shown.{shown, shown_bio, AreLogged}
+use Rattle.geo_state.specs.Traffic.{TrafficView}
 use Rattle.geo_access.specs.Access.{granted_by}
 use Rattle.geo_life.specs.Life.{is_out, AreStored}
 use Rattle.geo_life.proofs.Places.{counts_are_stored}

@@ -32,7 +32,7 @@ use Rattle.geo_access.specs.Access.{IsHolder, granted_by}
 use Rattle.geo_handles.specs.Handles.{holding_handle}
 use Rattle.geo_life.specs.Life.{CountsStay}
 use Rattle.geo_life.proofs.Loose.{dropped_kept}
-use Rattle.geo_make.specs.Making.{QueuedMesh, both, queued, AreBoth}
+use Rattle.geo_taste.specs.Making.{QueuedMesh, both, queued, AreBoth}
 use Rattle.geo_taste.specs.Going.{going}
 use Rattle.geo_taste.specs.Judging.{IsJudged, MayJudge, making, made_by, verdict_at}
 use Rattle.geo_taste.specs.Taster.{IsTasteOf, judging, with_granted}

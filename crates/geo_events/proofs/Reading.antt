@@ -12,9 +12,9 @@ use Rattle.geo_model.specs.Topology.{Topology, Provider, provider_at}
 use Rattle.geo_model.specs.World.{World, Config, Taste}
 use Rattle.geo_model.specs.Bios.{new_bio, submit}
 use Rattle.geo_log.specs.Places.{delivered_at}
-use Rattle.geo_traffic.specs.Shown.{shown, AreLogged}
-use Rattle.geo_traffic.proofs.LoggedLemmas.{places_stay_logged}
-use Rattle.geo_traffic.proofs.StepLemmas.{world_shows_bios}
+use Rattle.geo_state.specs.Shown.{shown, AreLogged}
+use Rattle.geo_state.proofs.LoggedLemmas.{places_stay_logged}
+use Rattle.geo_state.proofs.StepLemmas.{world_shows_bios}
 use Rattle.geo_laws_graph.proofs.Members.{find-Contains}
 use Rattle.geo_mesh.specs.Graph.{IsOffer, IsSoundGraph}
 use Rattle.geo_state.specs.declared.state.State.{State}

@@ -8,7 +8,7 @@ use Rattle.geo_model.specs.declared.step.Outcome.{Outcome}
 use Rattle.geo_model.specs.Fitting.{Firm}
 use Rattle.geo_model.specs.World.{World}
 use Rattle.geo_model.specs.Step.{Answer}
-use Rattle.geo_traffic.specs.Shown.{AreLogged}
+use Rattle.geo_state.specs.Shown.{AreLogged}
 use Rattle.geo_state.specs.declared.state.State.{State}
 use Rattle.geo_state.specs.Steps.{IsFirm, IsAgainst, Makes, SameWorld, against}
 use Rattle.geo_state.specs.World.{world, HasBytes}

@@ -21,7 +21,7 @@ use Rattle.geo_model.specs.World.{Config, Taste, Asked, NoClass, NextSector, Rea
 use Rattle.geo_model.specs.Events.{QueuedTopology}
 use Rattle.geo_model.specs.Acceptance.{accept, taste_where}
 use Rattle.geo_model.specs.Tasting.{Judging, facts_of, is_attached_class, is_ended, end_class, end_taste, read_sector, follow, with_read, verdict_on, take_result, next_class, go_on, taste_step}
-use Rattle.geo_laws_judges.proofs.Firsts.{first_inside}
+use Rattle.geo_laws_making.proofs.Firsts.{first_inside}
 
 -- whether a step came to a read
 abbrev pub reads : Judged → Bool

@@ -21,7 +21,7 @@ use Rattle.geo_model.proofs.DemandLemmas.{find_passes, names_some}
 use Rattle.geo_slots.specs.Slots.{value_at}
 use Rattle.geo_bio.specs.declared.bio.Held.{Held}
 use Rattle.geo_log.specs.Places.{delivered_at}
-use Rattle.geo_traffic.specs.Shown.{shown, shown_bio}
+use Rattle.geo_state.specs.Shown.{shown, shown_bio}
 use Rattle.geo_mesh.specs.Graph.{IsSoundGraph}
 use Rattle.geo_laws_graph.proofs.Lists.{found_itself}
 use Rattle.geo_laws_graph.proofs.Members.{find-Contains}
@@ -29,8 +29,8 @@ use Rattle.geo_laws_graph.proofs.Numbered.{find-none}
 use Rattle.geo_laws_counts.specs.CountWords.{HoldsGrants}
 use Rattle.geo_laws_counts.proofs.LimitFacts.{of_filter}
 use Rattle.geo_laws_counts.proofs.Members.{in_head}
-use Rattle.geo_laws_demands.proofs.Openers.{wants_grant}
-use Rattle.geo_laws_judges.proofs.Firsts.{has_sector}
+use Rattle.geo_laws_counts.proofs.Openers.{wants_grant}
+use Rattle.geo_laws_making.proofs.Firsts.{has_sector}
 use Rattle.geo_access.specs.Access.{granted_by}
 use Rattle.geo_access.proofs.Decided.{item_at}
 use Rattle.geo_class.specs.Taste.{sector_back}

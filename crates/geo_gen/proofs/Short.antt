@@ -7,8 +7,8 @@ use Rattle.std.proofs.lemmas.List.{length-append}
 use Rattle.geo_model.specs.Generator.{generated, draws, drawn_lines, command_text, next_draw, draw_value, line}
 use Rattle.geo_model.specs.Report.{end_line}
 use Rattle.geo_model.specs.Script.{script}
-use Rattle.geo_laws_generator.proofs.CommandTexts.{drawn_command}
-use Rattle.geo_laws_generator.proofs.Texts.{generated_plans}
+use Rattle.geo_laws_texts.proofs.CommandTexts.{drawn_command}
+use Rattle.geo_laws_texts.proofs.Texts.{generated_plans}
 use Rattle.geo_gen.specs.Lines.{header_text, third_draw}
 use Rattle.geo_gen.proofs.Drawn.{whole}
 

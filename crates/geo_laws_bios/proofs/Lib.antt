@@ -5,3 +5,17 @@ pub mod Owners
 pub mod Turned
 pub mod Restarted
 pub mod Turning
+pub mod Pieces
+pub mod Counted
+pub mod Wholes
+pub mod Joined
+pub mod Splitting
+pub mod Descending
+pub mod Starting
+pub mod Leaving
+pub mod Completing
+pub mod Ascending
+pub mod Serving
+pub mod Tasted
+pub mod Rising
+pub mod BioSteps

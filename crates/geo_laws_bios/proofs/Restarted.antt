@@ -31,9 +31,9 @@ use Rattle.geo_model.specs.Fitting.{Firm, FitsBelow, FitsPlaces, HasOneProvider,
 use Rattle.geo_laws_counts.specs.CountWords.{DemandStays, AnyConsumer, seen_by_counts}
 use Rattle.geo_laws_counts.proofs.SeenCounts.{seen_stays}
 use Rattle.geo_laws_graph.proofs.Living.{if_some_weaker}
-use Rattle.geo_laws_ranks.specs.RankLaws.{AllRanksStay}
-use Rattle.geo_laws_ranks.proofs.EdgeRanks.{stays_all}
-use Rattle.geo_laws_rank_changes.proofs.KeptEdges.{parts-edges}
+use Rattle.geo_laws_graph.specs.RankLaws.{AllRanksStay}
+use Rattle.geo_laws_graph.proofs.EdgeRanks.{stays_all}
+use Rattle.geo_laws_graph.proofs.KeptEdges.{parts-edges}
 use Rattle.geo_laws_bios.specs.BioFrames.{BiosHold, RestNumbersHold, GraphHolds, SizesHold, TasteHolds, restart, restarted, RestartsStayFirm}
 use Rattle.geo_laws_bios.proofs.Items.{some_weaker, pairs_map}
 use Rattle.geo_laws_bios.proofs.Apart.{bios_of, rest_of, firm_of}

@@ -12,3 +12,12 @@ pub mod Stays
 pub mod Unseen
 pub mod Counters
 pub mod Numbers
+pub mod Reach
+pub mod Gains
+pub mod Openers
+pub mod Singles
+pub mod Rising
+pub mod Refusing
+pub mod Orders
+pub mod Flows
+pub mod Raising

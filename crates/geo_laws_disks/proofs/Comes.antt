@@ -23,7 +23,7 @@ use Rattle.geo_model.specs.Freeing.{reap, reap_handle, reap_work, wash, wash_wor
 use Rattle.geo_model.specs.Commands.{do_command}
 use Rattle.geo_model.specs.Step.{Answer, with_commands, waits_for, unless_found, go_of, go, event, event_of, judge_next, judge_of, taste_bio, reap_next, wash_next, step}
 use Rattle.geo_model.specs.Fitting.{Firm}
-use Rattle.geo_laws_histories.proofs.Arrivals.{okay}
+use Rattle.geo_laws_requests.proofs.Arrivals.{okay}
 use Rattle.geo_laws_disks.proofs.Commanded.{BioComes, Made, StayOrCome, Stays, command_made, same_world}
 use Rattle.geo_laws_disks.proofs.Origins.{HasOrigins, Origin, all_stay}
 use Rattle.geo_laws_disks.proofs.Turns.{delivers_origins, starts_origins, takes_origins}

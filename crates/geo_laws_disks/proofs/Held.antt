@@ -25,8 +25,8 @@ use Rattle.geo_laws_graph.proofs.Members.{Contains-map, find-Contains}
 use Rattle.geo_laws_graph.proofs.Numbered.{filter-pushed, filter-pushed_hit, number_found}
 use Rattle.geo_laws_steps.proofs.Logs.{opened_firm}
 use Rattle.geo_laws_steps.proofs.Stepped.{steps_stay_firm}
-use Rattle.geo_laws_ledger.proofs.Starts.{in_phase}
-use Rattle.geo_laws_ledger.proofs.Takes.{TakesIt, takes_it}
+use Rattle.geo_laws_requests.proofs.Starts.{in_phase}
+use Rattle.geo_laws_requests.proofs.Takes.{TakesIt, takes_it}
 use Rattle.geo_laws_requests.proofs.Along.{entry_made}
 use Rattle.geo_laws_disks.proofs.Origins.{HasOrigins, Origin}
 use Rattle.geo_laws_disks.proofs.Comes.{steps_origins}

@@ -7,3 +7,8 @@ pub mod Commanded
 pub mod Comes
 pub mod Inside
 pub mod Held
+pub mod Splits
+pub mod Requests
+pub mod HeldByDrives
+pub mod Drives
+pub mod Takes

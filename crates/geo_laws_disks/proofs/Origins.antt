@@ -11,7 +11,7 @@ use Rattle.geo_model.specs.World.{World, Bio, bio_at, change_number, is_busy}
 use Rattle.geo_model.specs.Graph.{AreNumbers}
 use Rattle.geo_laws_graph.proofs.Members.{All-from_contained, at_contained}
 use Rattle.geo_laws_graph.proofs.Numbered.{unique}
-use Rattle.geo_laws_ledger.proofs.Turning.{KeepsRequest}
+use Rattle.geo_laws_requests.proofs.Turning.{KeepsRequest}
 use Rattle.geo_laws_disks.proofs.Asked.{IsBare}
 
 -- a bio stood before, with its number and its range; while another seat is at it, it is Busy as it was

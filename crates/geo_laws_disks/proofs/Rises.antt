@@ -17,8 +17,8 @@ use Rattle.geo_model.specs.SoundBios.{IsFamilyInOrder}
 use Rattle.geo_model.specs.Fitting.{Firm}
 use Rattle.geo_laws_graph.proofs.Members.{find-Contains}
 use Rattle.geo_laws_graph.proofs.Numbered.{number_found}
-use Rattle.geo_laws_histories.proofs.Arrivals.{okay}
-use Rattle.geo_laws_ledger.proofs.Starts.{in_phase, keeps_phase, keeps_up}
+use Rattle.geo_laws_requests.proofs.Arrivals.{okay}
+use Rattle.geo_laws_requests.proofs.Starts.{in_phase, keeps_phase, keeps_up}
 use Rattle.geo_laws_disks.proofs.Origins.{HasOrigins, IsFree, Origin, all_stay, changed_origins, free_at, not_busy, quiet_phase}
 
 -- the bio that an Up names, where it is enabled

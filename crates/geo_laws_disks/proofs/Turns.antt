@@ -20,10 +20,10 @@ use Rattle.geo_model.specs.Place.{components}
 use Rattle.geo_model.specs.Bios.{Way, Bounces, Fails, Sends, Splits, Passes, PieceTarget, deliver, empty_piece, is_fitting, is_hit, piece_child, piece_children, piece_targets, result_of_device, start_by, take_bio, up_with, way_at, way_of}
 use Rattle.geo_model.specs.Step.{deliver_found, deliver_of, step, unless_found}
 use Rattle.geo_model.specs.Graph.{AreNumbers}
-use Rattle.geo_laws_ledger.proofs.Starts.{StartsIt, in_phase, keeps_phase, keeps_up, starts_it}
-use Rattle.geo_laws_ledger.proofs.Takes.{TakesIt, takes_it}
+use Rattle.geo_laws_requests.proofs.Starts.{StartsIt, in_phase, keeps_phase, keeps_up, starts_it}
+use Rattle.geo_laws_requests.proofs.Takes.{TakesIt, takes_it}
 use Rattle.geo_laws_graph.proofs.Numbered.{number_found}
-use Rattle.geo_laws_ledger.proofs.Turning.{KeepsRequest}
+use Rattle.geo_laws_requests.proofs.Turning.{KeepsRequest}
 use Rattle.geo_laws_disks.proofs.Origins.{HasOrigins, IsFree, IsNew, Origin, all_stay, changed_origins, free_at, not_busy, quiet_phase}
 
 -- Start

@@ -7,3 +7,13 @@ pub mod TwoChanges
 pub mod Walks
 pub mod Finding
 pub mod Living
+pub mod Climbing
+pub mod Paths
+pub mod AddedEdges
+pub mod EdgeRanks
+pub mod Depth
+pub mod Attaching
+pub mod KeptEdges
+pub mod RankChanges
+pub mod Opens
+pub mod Holding

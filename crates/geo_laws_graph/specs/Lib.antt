@@ -1,1 +1,5 @@
 pub mod LookupLaws
+pub mod Edges
+pub mod RankLaws
+pub mod Attach
+pub mod RankChangeLaws

@@ -1,4 +1,6 @@
-//! Laws of the graph: what is found in it after each change of one thing (geom(4), g_attach(9)).
+//! Laws of the graph: look-ups before and after one change, and ranks (geom(4)).
 #![tactic(auto)]
 
 pub mod lookups;
+pub mod rank_changes;
+pub mod ranks;

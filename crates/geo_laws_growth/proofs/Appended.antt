@@ -18,10 +18,10 @@ use Rattle.geo_laws_graph.proofs.Found.{added-consumer}
 use Rattle.geo_laws_graph.proofs.Living.{sound-order, steady-parts, add_consumer-geoms}
 use Rattle.geo_laws_graph.proofs.Numbered.{any-contained}
 use Rattle.geo_laws_graph.proofs.TwoChanges.{two-changes}
-use Rattle.geo_laws_rank_changes.specs.Attach.{CanAttach}
-use Rattle.geo_laws_rank_changes.proofs.RankChanges.{adding-stay}
-use Rattle.geo_laws_rank_changes.proofs.Holding.{sound-ranks}
-use Rattle.geo_laws_demands.proofs.Reach.{below_self}
+use Rattle.geo_laws_graph.specs.Attach.{CanAttach}
+use Rattle.geo_laws_graph.proofs.RankChanges.{adding-stay}
+use Rattle.geo_laws_graph.proofs.Holding.{sound-ranks}
+use Rattle.geo_laws_counts.proofs.Reach.{below_self}
 use Rattle.geo_laws_growth.specs.JoinLaws.{Joins, IsJoined}
 use Rattle.geo_laws_growth.specs.GrowthLaws.{IsFoundGrowing, AppendsHold, grown}
 use Rattle.geo_laws_growth.proofs.Joining.{joins_without_loop}

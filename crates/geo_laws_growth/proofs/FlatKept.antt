@@ -13,7 +13,7 @@ use Rattle.geo_model.specs.Place.{Spot, DiskSector, place, component, disk_of, p
 use Rattle.geo_model.specs.Sound.{IsPlaceInside, IsPlaced}
 use Rattle.geo_model.proofs.DemandLemmas.{find_passes}
 use Rattle.geo_laws_graph.proofs.Members.{has, find-Contains}
-use Rattle.geo_laws_demands.proofs.Reach.{below_self, below_closed}
+use Rattle.geo_laws_counts.proofs.Reach.{below_self, below_closed}
 use Rattle.geo_laws_growth.specs.GrowthLaws.{KeepsWays, IsLaid}
 
 -- A provider and its geom

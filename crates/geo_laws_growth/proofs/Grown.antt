@@ -12,8 +12,8 @@ use Rattle.geo_model.specs.Graph.{IsInOrder}
 use Rattle.geo_laws_graph.proofs.Members.{find-Contains, filter-Contains, Contains-here}
 use Rattle.geo_laws_graph.proofs.Lists.{found_itself}
 use Rattle.geo_laws_graph.proofs.Found.{added-consumer, config-found, size_found}
-use Rattle.geo_laws_ranks.specs.RankLaws.{AllRanksStay}
-use Rattle.geo_laws_rank_changes.proofs.RankChanges.{plain-stay}
+use Rattle.geo_laws_graph.specs.RankLaws.{AllRanksStay}
+use Rattle.geo_laws_graph.proofs.RankChanges.{plain-stay}
 use Rattle.geo_laws_counts.specs.CountWords.{DemandStays, AnyConsumer}
 use Rattle.geo_laws_counts.proofs.Unseen.{unseen_config, unseen_size}
 use Rattle.geo_laws_growth.specs.GrowthLaws.{IsFoundGrowing, GrownIsFound, GrowthIsNotSeen}

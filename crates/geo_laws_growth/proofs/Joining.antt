@@ -11,7 +11,7 @@ use Rattle.geo_model.proofs.DemandLemmas.{all_weaker, find_passes}
 use Rattle.geo_laws_graph.proofs.Members.{find-Contains}
 use Rattle.geo_laws_graph.proofs.Numbered.{unique}
 use Rattle.geo_laws_graph.proofs.Spared.{IsUntouched, filter-untouched}
-use Rattle.geo_laws_rank_changes.proofs.RankChanges.{loop-ranked}
+use Rattle.geo_laws_graph.proofs.RankChanges.{loop-ranked}
 use Rattle.geo_laws_counts.specs.CountWords.{IsAtMost, NumbersLead, IsOnlyOne}
 use Rattle.geo_laws_counts.proofs.Sums.{counts-same, add-assoc, add-zero, zero-add, at_most-zero, sum-at_most, add-move}
 use Rattle.geo_laws_counts.proofs.Levels.{of_each, want_given-at_most, grants-same}

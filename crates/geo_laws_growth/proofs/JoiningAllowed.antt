@@ -12,7 +12,7 @@ use Rattle.geo_model.specs.Demand.{have, want, is_exclusive, fits_limit}
 use Rattle.geo_laws_counts.specs.CountWords.{IsAtMost}
 use Rattle.geo_laws_counts.specs.LimitLaws.{NoneInTheWay, greatest_counts}
 use Rattle.geo_laws_counts.proofs.LimitFacts.{apart_from, within_limit, all_of}
-use Rattle.geo_laws_demands.proofs.Rising.{fallen_none, risen_in, changed_exclusive, changed_limit}
+use Rattle.geo_laws_counts.proofs.Rising.{fallen_none, risen_in, changed_exclusive, changed_limit}
 use Rattle.geo_laws_growth.specs.JoinLaws.{Joins, JoiningRisesBelow, IsJoined, JoinsAreAllowed}
 use Rattle.geo_laws_growth.proofs.Joining.{counts_raised}
 use Rattle.geo_laws_growth.proofs.JoiningBelow.{around_kept}

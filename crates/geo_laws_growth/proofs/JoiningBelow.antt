@@ -19,8 +19,8 @@ use Rattle.geo_laws_counts.proofs.Members.{in_nothing, in_cases, flat_map_cases,
 use Rattle.geo_laws_counts.proofs.LimitFacts.{of_filter}
 use Rattle.geo_laws_counts.proofs.Levels.{of_each}
 use Rattle.geo_laws_counts.proofs.Upward.{names_some, want_given-same, have_is_sum, upward, found_of, attached-above}
-use Rattle.geo_laws_demands.specs.DemandLaws.{StaysAround}
-use Rattle.geo_laws_demands.proofs.Reach.{below_self, below_closed, under-rank}
+use Rattle.geo_laws_counts.specs.DemandLaws.{StaysAround}
+use Rattle.geo_laws_counts.proofs.Reach.{below_self, below_closed, under-rank}
 use Rattle.geo_laws_growth.specs.JoinLaws.{Joins, JoiningKeepsBelow, JoiningChangesBelow}
 use Rattle.geo_laws_growth.proofs.Joining.{joined_known, attached_elsewhere}
 

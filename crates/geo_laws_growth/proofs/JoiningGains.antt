@@ -9,7 +9,7 @@ use Rattle.geo_laws_counts.specs.CountWords.{IsAtMost, more_counts, gain_of_kind
 use Rattle.geo_laws_counts.proofs.Sums.{sum-same, add-assoc, add-zero}
 use Rattle.geo_laws_counts.proofs.Wants.{want_of_sum, want-sum, want_of_sum-gain}
 use Rattle.geo_laws_counts.proofs.Upward.{have_is_sum}
-use Rattle.geo_laws_demands.proofs.Gains.{sum_of_more}
+use Rattle.geo_laws_counts.proofs.Gains.{sum_of_more}
 use Rattle.geo_laws_growth.specs.JoinLaws.{Joins, JoiningGains}
 use Rattle.geo_laws_growth.proofs.Joining.{joined_known, sum_attached, counts_raised, wants_raised}
 use Rattle.geo_laws_growth.proofs.JoiningBelow.{wants_at_it_kept}

@@ -12,7 +12,7 @@ use Rattle.geo_model.specs.Append.{Growing, growing_concat, component_refusal, w
 use Rattle.geo_model.specs.Sound.{Sound, IsPlaced, RanksHold}
 use Rattle.geo_model.specs.Steady.{Steady}
 use Rattle.geo_model.specs.Graph.{IsInOrder}
-use Rattle.geo_laws_ranks.specs.RankLaws.{AllRanksStay}
+use Rattle.geo_laws_graph.specs.RankLaws.{AllRanksStay}
 use Rattle.geo_laws_counts.specs.CountWords.{DemandStays, AnyConsumer}
 use Rattle.geo_laws_growth.specs.JoinLaws.{Joins}
 

@@ -6,10 +6,10 @@ use Rattle.geo_model.specs.Rank.{Ranked, would_loop, is_too_deep}
 use Rattle.geo_model.specs.Opens.{below, has_error_below, join_refusal}
 use Rattle.geo_model.specs.Demand.{have, want, no_counts, add_counts, sum_counts, is_exclusive, fits_limit, risen, fallen}
 use Rattle.geo_model.specs.Graph.{IsInOrder, GeomsLive}
-use Rattle.geo_laws_rank_changes.specs.Attach.{CanAttach}
+use Rattle.geo_laws_graph.specs.Attach.{CanAttach}
 use Rattle.geo_laws_counts.specs.CountWords.{IsAtMost, more_counts, gain_of_kind}
 use Rattle.geo_laws_counts.specs.LimitLaws.{NoneInTheWay, greatest_counts}
-use Rattle.geo_laws_demands.specs.DemandLaws.{StaysAround}
+use Rattle.geo_laws_counts.specs.DemandLaws.{StaysAround}
 
 -- a consumer that isn't attached joins a provider, and the graph has no loop with it
 pub record Joins {C : Type 0} (t : Topology C) (c p : ℕ) : Type 0 where

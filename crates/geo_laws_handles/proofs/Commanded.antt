@@ -17,8 +17,8 @@ use Rattle.geo_model.specs.Log.{world_after}
 use Rattle.geo_model.specs.History.{first_command, next_command}
 use Rattle.geo_model.specs.Laws.{world_by}
 use Rattle.geo_model.specs.Fitting.{Firm}
-use Rattle.geo_laws_closes.proofs.Closed.{closes_stay_firm}
-use Rattle.geo_laws_opens.proofs.Opening.{opens_stay_firm}
+use Rattle.geo_laws_handles.proofs.Closed.{closes_stay_firm}
+use Rattle.geo_laws_handles.proofs.Opening.{opens_stay_firm}
 use Rattle.geo_laws_handles.specs.CommandLaws.{is_of_handles, EachStaysFirm, HandleCommandsStayFirm, GoesStayFirm}
 use Rattle.geo_laws_handles.proofs.Left.{commands_left_stay_firm}
 use Rattle.geo_laws_handles.proofs.Requested.{requests_stay_firm}

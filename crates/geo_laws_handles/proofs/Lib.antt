@@ -1,5 +1,17 @@
+pub mod Devs
+pub mod Handles
+pub mod Released
+pub mod Closed
+pub mod Reaped
+pub mod Used
+pub mod Opened
+pub mod Opening
 pub mod Left
 pub mod Submitted
 pub mod Requested
 pub mod Sectors
 pub mod Commanded
+pub mod Freed
+pub mod Idle
+pub mod Offered
+pub mod Answered

@@ -26,10 +26,10 @@ use Rattle.geo_laws_graph.proofs.Lists.{found_itself}
 use Rattle.geo_laws_graph.proofs.Living.{sound-order}
 use Rattle.geo_laws_graph.proofs.Numbered.{number_found}
 use Rattle.geo_laws_counts.proofs.Upward.{names_some}
-use Rattle.geo_laws_demands.proofs.Openers.{wants_grant}
-use Rattle.geo_laws_less.proofs.Found.{some-with}
-use Rattle.geo_laws_closes.proofs.Devs.{holds_grants}
-use Rattle.geo_laws_closes.proofs.Closed.{has_dev, one_holder}
+use Rattle.geo_laws_counts.proofs.Openers.{wants_grant}
+use Rattle.geo_laws_life.proofs.Found.{some-with}
+use Rattle.geo_laws_handles.proofs.Devs.{holds_grants}
+use Rattle.geo_laws_handles.proofs.Closed.{has_dev, one_holder}
 use Rattle.geo_laws_bios.proofs.Items.{none_passes}
 use Rattle.geo_laws_graph.proofs.Members.{at_contained}
 use Rattle.geo_laws_handles.specs.RequestLaws.{HasItsBytes, FillsSectors, RequestsStayFirm}

@@ -29,21 +29,21 @@ use Rattle.geo_laws_graph.proofs.Lists.{found_fresh, found_itself}
 use Rattle.geo_laws_graph.proofs.Numbered.{number_found, any-contained}
 use Rattle.geo_laws_graph.proofs.Found.{each-found, added-geom}
 use Rattle.geo_laws_graph.proofs.Living.{found-before, parts-alive, add_geom-geoms, sound-order, steady-parts}
-use Rattle.geo_laws_rank_changes.proofs.RankChanges.{adding-stay}
-use Rattle.geo_laws_rank_changes.proofs.Opens.{over, over-ranks, offers-nothing, rank-next}
-use Rattle.geo_laws_rank_changes.proofs.Holding.{sound-ranks}
+use Rattle.geo_laws_graph.proofs.RankChanges.{adding-stay}
+use Rattle.geo_laws_graph.proofs.Opens.{over, over-ranks, offers-nothing, rank-next}
+use Rattle.geo_laws_graph.proofs.Holding.{sound-ranks}
 use Rattle.geo_laws_counts.specs.CountWords.{IsAtMost, DemandStays}
 use Rattle.geo_laws_counts.proofs.LimitFacts.{all_of}
 use Rattle.geo_laws_counts.proofs.Stays.{geom_came}
 use Rattle.geo_laws_counts.proofs.Sums.{at_most-same}
-use Rattle.geo_laws_opening.proofs.Standers.{recursion-from_pairs}
-use Rattle.geo_laws_less.proofs.Found.{found-with, some-with, some-there, none-there, if-found, at-found, one-found, all_zip-weaker}
-use Rattle.geo_laws_effects.proofs.MarksKept.{stands-at}
+use Rattle.geo_laws_life.proofs.Standers.{recursion-from_pairs}
+use Rattle.geo_laws_life.proofs.Found.{found-with, some-with, some-there, none-there, if-found, at-found, one-found, all_zip-weaker}
+use Rattle.geo_laws_life.proofs.MarksKept.{stands-at}
 use Rattle.geo_laws_making.specs.MakingLaws.{below_new, HasPlace, CanOffer, IsNewDisk, CanMake, MakesKeepFirm}
-use Rattle.geo_laws_more.specs.MoreLaws.{IsUntouched, GeomFits, ProviderFits, IsMore}
+use Rattle.geo_laws_making.specs.MoreLaws.{IsUntouched, GeomFits, ProviderFits, IsMore}
 use Rattle.geo_laws_making.proofs.Over.{IsNewOne, attached_one, below-among, over-geoms, over-providers, over-found, over-new, over-cases, over-others, over-order, over-live, over-demand}
 use Rattle.geo_laws_making.proofs.Offered.{offered, IsOffered, KeepsGraph, offered-geoms, offered-consumers, offered-found, offered-cases, offered-others, offered-number, offered-living, offered-keeps, offered-names}
-use Rattle.geo_laws_more.proofs.MoreFirm.{more-firm}
+use Rattle.geo_laws_making.proofs.MoreFirm.{more-firm}
 
 -- consumers change neither geoms nor providers
 bare_over : (n m : ℕ) (ps : List Provider) (t : Topology Config) → StandsBare t m → StandsBare (over n t ps) m

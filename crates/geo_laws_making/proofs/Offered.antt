@@ -22,14 +22,14 @@ use Rattle.geo_laws_graph.proofs.Lists.{found_fresh}
 use Rattle.geo_laws_graph.proofs.Numbered.{any-contained}
 use Rattle.geo_laws_graph.proofs.Found.{added-provider}
 use Rattle.geo_laws_graph.proofs.Living.{found-before, parts-alive}
-use Rattle.geo_laws_rank_changes.proofs.RankChanges.{adding-stay}
-use Rattle.geo_laws_rank_changes.proofs.Holding.{sound-ranks}
+use Rattle.geo_laws_graph.proofs.RankChanges.{adding-stay}
+use Rattle.geo_laws_graph.proofs.Holding.{sound-ranks}
 use Rattle.geo_laws_counts.specs.CountWords.{DemandStays, AnyConsumer}
 use Rattle.geo_laws_counts.proofs.Stays.{provider_came}
 use Rattle.geo_laws_counts.proofs.Upward.{names_some}
-use Rattle.geo_laws_less.proofs.Found.{some-there, none-there, at-found}
-use Rattle.geo_laws_less.proofs.Less.{demand-trans}
-use Rattle.geo_laws_opening.proofs.Standers.{PairsByRecursion}
+use Rattle.geo_laws_life.proofs.Found.{some-there, none-there, at-found}
+use Rattle.geo_laws_life.proofs.Less.{demand-trans}
+use Rattle.geo_laws_life.proofs.Standers.{PairsByRecursion}
 use Rattle.geo_laws_making.proofs.Over.{stays}
 
 -- the graph and the queue with these providers of a geom, each offered

@@ -16,11 +16,11 @@ use Rattle.geo_model.specs.Graph.{IsInOrder, PartsLive}
 use Rattle.geo_laws_graph.proofs.Members.{Contains-here, Contains-there}
 use Rattle.geo_laws_graph.proofs.Found.{added-consumer}
 use Rattle.geo_laws_graph.proofs.Living.{found-before, parts-alive}
-use Rattle.geo_laws_rank_changes.proofs.Opens.{over}
+use Rattle.geo_laws_graph.proofs.Opens.{over}
 use Rattle.geo_laws_counts.specs.CountWords.{DemandStays, AnyConsumer}
 use Rattle.geo_laws_counts.proofs.Stays.{consumer_came}
-use Rattle.geo_laws_less.proofs.Found.{some-there}
-use Rattle.geo_laws_less.proofs.Less.{demand-trans}
+use Rattle.geo_laws_life.proofs.Found.{some-there}
+use Rattle.geo_laws_life.proofs.Less.{demand-trans}
 use Rattle.geo_laws_making.specs.MakingLaws.{below_new}
 
 -- false isn't true

@@ -1,1 +1,11 @@
+pub mod MoreLaws
 pub mod MakingLaws
+pub mod GeomLaws
+pub mod AppendLaws
+pub mod GeomCommandLaws
+pub mod PlaceLaws
+pub mod AssemblyLaws
+pub mod AcceptLaws
+pub mod TasteLaws
+pub mod ChainSteps
+pub mod JudgeLaws

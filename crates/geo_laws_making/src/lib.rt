@@ -1,11 +1,13 @@
-//! Laws of making: a new geom over some providers, with providers that are offered for taste, keeps a firm mesh
-//! firm, one that is sound, steady and fitting (g_new_geomf, g_new_providerf).
+//! Laws of a mesh that comes to more: geoms that commands make and grow, and those that classes make of what they taste
+//! (geom(4), g_new_geomf, g_new_providerf, g_new_consumer).
 #![tactic(auto)]
 
-ghost use Rattle.geo_laws_making.specs.MakingLaws.{MakesKeepFirm};
-
-/// A firm mesh stays firm with a new geom that can be made over some providers, with providers that are offered.
-#[tactic(auto, using(crate::proofs::Made::makes_keep))]
-pub fn makes_keep_firm()
-    ensures { MakesKeepFirm }
-{}
+pub mod accepting;
+pub mod appends;
+pub mod assemblies;
+pub mod geoms;
+pub mod growing;
+pub mod judges;
+pub mod makes;
+pub mod places;
+pub mod tasting;

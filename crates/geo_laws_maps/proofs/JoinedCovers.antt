@@ -23,8 +23,8 @@ use Rattle.geo_model.specs.Fitting.{Firm}
 use Rattle.geo_model.proofs.PlaceLemmas.{pieces-placed}
 use Rattle.geo_laws_graph.proofs.Members.{find-Contains, filter-Contains, filter_map-Contains, All-from_contained, at_contained}
 use Rattle.geo_laws_graph.proofs.Numbered.{number_found}
-use Rattle.geo_laws_less.proofs.Found.{found-with, some-with, at-some, one-found}
-use Rattle.geo_laws_bio_pieces.proofs.Pieces.{Below, IsBetween, follow, follow-between, piece_below, no_piece_lost}
+use Rattle.geo_laws_life.proofs.Found.{found-with, some-with, at-some, one-found}
+use Rattle.geo_laws_bios.proofs.Pieces.{Below, IsBetween, follow, follow-between, piece_below, no_piece_lost}
 use Rattle.geo_laws_maps.specs.Ways.{IsOpen}
 use Rattle.geo_laws_maps.specs.Covers.{CoversBy, IsCovered, JoinedCovers}
 use Rattle.geo_laws_maps.proofs.Opened.{live-open, open-down}

@@ -10,9 +10,9 @@ use Rattle.geo_model.specs.World.{Config}
 use Rattle.geo_model.specs.Place.{components, flat_step, flat_within, flat, ends_step, ends_within, ends}
 use Rattle.geo_laws_graph.proofs.Members.{find-Contains, Contains-cases, nothing_in}
 use Rattle.geo_laws_graph.proofs.Numbered.{number_found}
-use Rattle.geo_laws_ranks.specs.Edges.{Below}
-use Rattle.geo_laws_ranks.proofs.Climbing.{rank-falls}
-use Rattle.geo_laws_less.proofs.Found.{one-found}
+use Rattle.geo_laws_graph.specs.Edges.{Below}
+use Rattle.geo_laws_graph.proofs.Climbing.{rank-falls}
+use Rattle.geo_laws_life.proofs.Found.{one-found}
 use Rattle.geo_laws_maps.specs.Ways.{LeadsInto, GoesDown, IsWays, IsOpen}
 use Rattle.geo_laws_maps.specs.MapLaws.{MapGoesDown}
 use Rattle.geo_laws_maps.proofs.Opened.{open-down}

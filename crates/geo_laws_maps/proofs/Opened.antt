@@ -21,8 +21,8 @@ use Rattle.geo_laws_counts.proofs.Upward.{have_is_sum}
 use Rattle.geo_laws_counts.proofs.Numbers.{numbers_lead}
 use Rattle.geo_laws_counts.proofs.BareParts.{none_within}
 use Rattle.geo_laws_counts.proofs.Sums.{counts-same, zero-test}
-use Rattle.geo_laws_less.proofs.Found.{found-with, one-found}
-use Rattle.geo_laws_less.proofs.LessLooks.{components-below, middle_kind}
+use Rattle.geo_laws_life.proofs.Found.{found-with, one-found}
+use Rattle.geo_laws_life.proofs.LessLooks.{components-below, middle_kind}
 use Rattle.geo_laws_maps.specs.Ways.{LeadsInto, IsWays, IsNextUnder, IsWay, IsUnder, IsOpen, Used}
 use Rattle.geo_laws_maps.specs.MapLaws.{LiveIsOpen, OpenGoesDown, UsedGoesDown}
 

@@ -9,12 +9,12 @@ use Rattle.geo_model.specs.World.{World, Bio}
 use Rattle.geo_model.specs.Step.{Answer, step}
 use Rattle.geo_model.specs.Log.{IsMade, Legal, Moment, after_entry, moments, replay}
 use Rattle.geo_model.specs.Fitting.{Firm}
-use Rattle.geo_laws_way.proofs.Steps.{steps_keep_used}
+use Rattle.geo_laws_steps.proofs.Steps.{steps_keep_used}
 use Rattle.geo_laws_steps.proofs.Stepped.{steps_stay_firm}
-use Rattle.geo_laws_way.specs.WayLaws.{SameMap}
-use Rattle.geo_laws_ledger.specs.Covering.{SameMaps}
-use Rattle.geo_laws_ledger.specs.Ledger.{Ledger}
-use Rattle.geo_laws_ledger.proofs.Stepped.{steps_keep_ledger}
+use Rattle.geo_laws_steps.specs.WayLaws.{SameMap}
+use Rattle.geo_laws_requests.specs.Covering.{SameMaps}
+use Rattle.geo_laws_requests.specs.Ledger.{Ledger}
+use Rattle.geo_laws_requests.proofs.Stepped.{steps_keep_ledger}
 
 -- an entry that is made leads to the world after it
 pub entry_made : (w : World) (e : Entry) → IsMade w e → step w e.seat e.step ≡ Ok (after_entry w e, e.outcome)

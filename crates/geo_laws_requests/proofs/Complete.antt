@@ -30,13 +30,13 @@ use Rattle.geo_laws_steps.proofs.AnsweredLogs.{appends_are_answered, opens_are_a
 use Rattle.geo_laws_steps.proofs.FreedLogs.{legal_logs_free_only_idle}
 use Rattle.geo_laws_steps.proofs.Logs.{legal_logs_stay_sound, opened_firm}
 use Rattle.geo_laws_steps.proofs.Stepped.{steps_stay_firm}
-use Rattle.geo_laws_histories.specs.Histories.{Never}
-use Rattle.geo_laws_histories.proofs.Looks.{entries_of_both}
-use Rattle.geo_laws_histories.proofs.Entries.{entries_are_moments}
-use Rattle.geo_laws_ledger.specs.Ledger.{AcceptsAreAccounted, IsAccounted, IsCompleted, IsLogged, IsOnItsWay, Ledger, SoFar}
-use Rattle.geo_laws_ledger.proofs.Accounted.{count_past}
-use Rattle.geo_laws_ledger.proofs.Takes.{phase_sent, takes_it}
-use Rattle.geo_laws_ledger.proofs.Replies.{reply_is}
+use Rattle.geo_laws_requests.specs.Histories.{Never}
+use Rattle.geo_laws_requests.proofs.Looks.{entries_of_both}
+use Rattle.geo_laws_requests.proofs.Entries.{entries_are_moments}
+use Rattle.geo_laws_requests.specs.Ledger.{AcceptsAreAccounted, IsAccounted, IsCompleted, IsLogged, IsOnItsWay, Ledger, SoFar}
+use Rattle.geo_laws_requests.proofs.Accounted.{count_past}
+use Rattle.geo_laws_requests.proofs.Takes.{phase_sent, takes_it}
+use Rattle.geo_laws_requests.proofs.Replies.{reply_is}
 use Rattle.geo_laws_requests.specs.RequestLaws.{BiosAreTakenOnce, LegalLogsCompleteRequests}
 use Rattle.geo_laws_requests.proofs.Along.{entry_made, ledger_after, ledger_along}
 use Rattle.geo_laws_requests.proofs.Opened.{opened_ledger}

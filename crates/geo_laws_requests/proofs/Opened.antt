@@ -7,8 +7,8 @@ use Rattle.geo_model.specs.declared.command.DiskDecl.{DiskDecl}
 use Rattle.geo_model.specs.World.{World, Plan}
 use Rattle.geo_model.specs.GeomCommands.{stand}
 use Rattle.geo_model.specs.Opening.{opening, bare_world, disk_in_size}
-use Rattle.geo_laws_histories.specs.Histories.{names_bio}
-use Rattle.geo_laws_ledger.specs.Ledger.{AcceptsAreAccounted, IsLogged, Ledger}
+use Rattle.geo_laws_requests.specs.Histories.{names_bio}
+use Rattle.geo_laws_requests.specs.Ledger.{AcceptsAreAccounted, IsLogged, Ledger}
 
 -- disks that stand make no bio
 stand_none : (w : World) (items : List (ℕ × (DiskDecl × (ℕ × ℕ)))) → w.bios ≡ []

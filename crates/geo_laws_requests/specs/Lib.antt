@@ -1,1 +1,5 @@
+pub mod Histories
+pub mod Arrivals
+pub mod Covering
+pub mod Ledger
 pub mod RequestLaws

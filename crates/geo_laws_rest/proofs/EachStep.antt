@@ -1,13 +1,13 @@
 -- Each enabled step lowers the measure, but an early wash.
 use Rattle.geo_model.specs.declared.step.Step.TheVariants as steps
 use Rattle.geo_model.specs.Laws.{StepsLower}
-use Rattle.geo_laws_measure.proofs.Turned.{takes_lower, delivers_lower}
-use Rattle.geo_laws_measure.proofs.Started.{starts_lower}
-use Rattle.geo_laws_measure.proofs.Risen.{ups_lower}
-use Rattle.geo_laws_measure.proofs.Gone.{goes_lower, reaps_lower}
-use Rattle.geo_laws_losses.proofs.Heard.{events_lower}
-use Rattle.geo_laws_losses.proofs.Washing.{washes_lower}
-use Rattle.geo_laws_costs.proofs.JudgedMade.{judges_lower}
+use Rattle.geo_laws_rest.proofs.Turned.{takes_lower, delivers_lower}
+use Rattle.geo_laws_rest.proofs.Started.{starts_lower}
+use Rattle.geo_laws_rest.proofs.Risen.{ups_lower}
+use Rattle.geo_laws_rest.proofs.Gone.{goes_lower, reaps_lower}
+use Rattle.geo_laws_rest.proofs.Heard.{events_lower}
+use Rattle.geo_laws_rest.proofs.Washing.{washes_lower}
+use Rattle.geo_laws_rest.proofs.JudgedMade.{judges_lower}
 
 -- by the step
 pub steps_lower : StepsLower

@@ -19,7 +19,7 @@ use Rattle.geo_model.specs.Fitting.{Firm}
 use Rattle.geo_model.specs.Laws.{NoneBusy}
 use Rattle.geo_model.proofs.DemandLemmas.{find_passes}
 use Rattle.geo_laws_graph.proofs.Members.{Origin, All-from_contained, Contains-map, Contains-here, Contains-there, at_contained, filter-Contains, find-Contains, has}
-use Rattle.geo_laws_less.proofs.Found.{found-with}
+use Rattle.geo_laws_life.proofs.Found.{found-with}
 
 -- where nothing is found, no item passes
 none_step : {X : Type 0} (test : X → Bool) (x : X) (xs : List X) (b : Bool) → test x ≡ b

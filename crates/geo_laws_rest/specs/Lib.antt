@@ -1,1 +1,4 @@
+pub mod MeasureLaws
+pub mod LossLaws
+pub mod CostLaws
 pub mod RestLaws

@@ -10,7 +10,7 @@ use Rattle.geo_model.specs.Log.{replay, Legal, IsMade}
 use Rattle.geo_model.specs.History.{AtEachEntry, OpensAreAnswered, AppendsAreAnswered}
 use Rattle.geo_model.specs.Laws.{OfEachLegalLog}
 use Rattle.geo_model.proofs.LogLemmas.{Legal-back}
-use Rattle.geo_laws_handle_facts.proofs.Answered.{opens_are_answered_right}
+use Rattle.geo_laws_handles.proofs.Answered.{opens_are_answered_right}
 use Rattle.geo_laws_steps.proofs.AnsweredAppends.{append_answers}
 
 -- the answer of an entry that is made

@@ -3,8 +3,8 @@ use Rattle.geo_model.specs.Opening.{opening}
 use Rattle.geo_model.specs.Log.{replay}
 use Rattle.geo_model.specs.History.{AlwaysFreesOnlyIdle}
 use Rattle.geo_model.specs.Laws.{OfEachLegalLog, LegalLogsOfferOnlyLiving}
-use Rattle.geo_laws_freeing.proofs.Frees.{steps_free_only_idle}
-use Rattle.geo_laws_freeing.proofs.Offers.{steps_offer_only_living}
+use Rattle.geo_laws_steps.proofs.Frees.{steps_free_only_idle}
+use Rattle.geo_laws_steps.proofs.Offers.{steps_offer_only_living}
 use Rattle.geo_laws_steps.proofs.Logs.{firm_after}
 
 -- what is destroyed was idle

@@ -13,8 +13,8 @@ use Rattle.geo_model.specs.History.{next_command}
 use Rattle.geo_model.specs.Laws.{world_by}
 use Rattle.geo_laws_handles.specs.CommandLaws.{EachStaysFirm, is_of_handles}
 use Rattle.geo_laws_handles.proofs.Commanded.{handle_commands_stay_firm, goes_stay_firm}
-use Rattle.geo_laws_appends.specs.GeomCommandLaws.{is_of_geoms}
-use Rattle.geo_laws_appends.proofs.Commanded.{geom_commands_stay}
+use Rattle.geo_laws_making.specs.GeomCommandLaws.{is_of_geoms}
+use Rattle.geo_laws_making.proofs.Commanded.{geom_commands_stay}
 use Rattle.geo_laws_steps.specs.CommandLaws.{CommandsStayFirm}
 
 -- a command is one of a handle or one of geoms

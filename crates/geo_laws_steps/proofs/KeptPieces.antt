@@ -8,7 +8,7 @@ use Rattle.geo_model.specs.World.{World, Config}
 use Rattle.geo_model.specs.Opening.{opening}
 use Rattle.geo_model.specs.Log.{replay}
 use Rattle.geo_model.specs.Laws.{NoPieceIsLost}
-use Rattle.geo_laws_bio_pieces.proofs.Pieces.{firm_meshes_lose_no_piece}
+use Rattle.geo_laws_bios.proofs.Pieces.{firm_meshes_lose_no_piece}
 use Rattle.geo_laws_steps.proofs.Logs.{firm_after}
 
 -- a provider that is found with its geom is found, and so is the geom

@@ -1,3 +1,7 @@
+pub mod Ends
+pub mod OfHandles
+pub mod Frees
+pub mod Offers
 pub mod Gone
 pub mod Stepped
 pub mod Logs
@@ -5,3 +9,16 @@ pub mod KeptPieces
 pub mod FreedLogs
 pub mod AnsweredAppends
 pub mod AnsweredLogs
+pub mod Heirs
+pub mod HeirQueues
+pub mod HeirAccepts
+pub mod HeirJudges
+pub mod HeirSteps
+pub mod HeirCommands
+pub mod Commanded
+pub mod Kept
+pub mod Followed
+pub mod HeirBios
+pub mod Growths
+pub mod SameMaps
+pub mod Steps

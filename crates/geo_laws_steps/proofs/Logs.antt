@@ -8,8 +8,8 @@ use Rattle.geo_model.specs.Log.{replay, Legal, after_entry}
 use Rattle.geo_model.specs.Fitting.{Firm}
 use Rattle.geo_model.specs.History.{LegalAndSound}
 use Rattle.geo_model.specs.Laws.{OfEachLegalLog, LegalLogsStaySteady, LegalLogsStayFitting}
-use Rattle.geo_laws_opening.proofs.Opened.{opening-sound, opening-steady}
-use Rattle.geo_laws_opening.proofs.Fits.{opening-fitting}
+use Rattle.geo_laws_life.proofs.Opened.{opening-sound, opening-steady}
+use Rattle.geo_laws_life.proofs.Fits.{opening-fitting}
 use Rattle.geo_laws_steps.proofs.Stepped.{steps_stay_firm}
 
 -- the world with which a plan begins is firm

@@ -5,11 +5,11 @@ use Rattle.geo_model.specs.declared.step.Step.TheVariants as steps
 use Rattle.geo_model.specs.World.{World}
 use Rattle.geo_model.specs.Fitting.{Firm}
 use Rattle.geo_model.specs.Laws.{world_by, StepsStayFirm}
-use Rattle.geo_laws_bio_ups.proofs.BioSteps.{bio_steps_stay_firm}
-use Rattle.geo_laws_events.proofs.Begun.{event_step_keeps}
-use Rattle.geo_laws_washes.proofs.Washed.{wash_step_keeps}
-use Rattle.geo_laws_closes.proofs.Reaped.{reaps_stay_firm}
-use Rattle.geo_laws_judges.proofs.Judging.{judges_stay_firm}
+use Rattle.geo_laws_bios.proofs.BioSteps.{bio_steps_stay_firm}
+use Rattle.geo_laws_life.proofs.Begun.{event_step_keeps}
+use Rattle.geo_laws_life.proofs.Washed.{wash_step_keeps}
+use Rattle.geo_laws_handles.proofs.Reaped.{reaps_stay_firm}
+use Rattle.geo_laws_making.proofs.Judging.{judges_stay_firm}
 use Rattle.geo_laws_steps.proofs.Gone.{commands_stay_firm}
 
 -- each step

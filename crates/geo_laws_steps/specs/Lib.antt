@@ -1,1 +1,5 @@
+pub mod FreeingLaws
 pub mod CommandLaws
+pub mod Heirs
+pub mod HeirLaws
+pub mod WayLaws

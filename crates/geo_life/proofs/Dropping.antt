@@ -14,13 +14,13 @@ use Rattle.geo_mesh.specs.Topo.{TopoView, Scratches, no_scratch, IsButForRoom, w
 use Rattle.geo_mesh.specs.Graph.{IsSoundGraph}
 use Rattle.geo_laws_graph.proofs.Members.{filter-Contains, Contains-filter, find-Contains, nothing_in}
 use Rattle.geo_laws_graph.proofs.Numbered.{at-gone, at-kept}
-use Rattle.geo_laws_ranks.specs.RankLaws.{RanksStay}
-use Rattle.geo_laws_rank_changes.proofs.RankChanges.{removing-stay}
+use Rattle.geo_laws_graph.specs.RankLaws.{RanksStay}
+use Rattle.geo_laws_graph.proofs.RankChanges.{removing-stay}
 use Rattle.geo_laws_counts.specs.CountWords.{DemandStays, AnyConsumer}
 use Rattle.geo_laws_counts.proofs.LimitFacts.{all_of}
 use Rattle.geo_laws_counts.proofs.Numbers.{numbers_lead}
 use Rattle.geo_laws_counts.proofs.Stays.{grants_agree, consumers_went, provider_went, geom_went}
-use Rattle.geo_laws_demands.proofs.Flows.{each_of}
+use Rattle.geo_laws_counts.proofs.Flows.{each_of}
 use Rattle.geo_access.specs.Access.{granted_by, holds_grants, clear_scratches, IsQuiet}
 use Rattle.geo_access.proofs.Clearing.{rows-same_on}
 use Rattle.geo_access.proofs.Decided.{item_at, consumer_known}

@@ -10,7 +10,7 @@ use Rattle.geo_model.proofs.DemandLemmas.{map_same}
 use Rattle.geo_laws_counts.specs.CountWords.{DemandStays}
 use Rattle.geo_laws_counts.proofs.LimitFacts.{all_of}
 use Rattle.geo_laws_counts.proofs.Stays.{grants_agree}
-use Rattle.geo_laws_demands.proofs.Flows.{each_of}
+use Rattle.geo_laws_counts.proofs.Flows.{each_of}
 use Rattle.geo_access.specs.Access.{granted_by}
 use Rattle.geo_life.specs.Life.{notes}
 use Rattle.geo_life.specs.LifeLaws.{PlacesAreFew, CountsAreStored}

@@ -17,7 +17,7 @@ use Rattle.geo_laws_counts.specs.CountWords.{Seen, seen_by_counts, DemandStays, 
 use Rattle.geo_laws_counts.proofs.LimitFacts.{all_of}
 use Rattle.geo_laws_counts.proofs.SeenCounts.{seen_stays}
 use Rattle.geo_laws_counts.proofs.Stays.{grants_agree}
-use Rattle.geo_laws_demands.proofs.Flows.{each_of}
+use Rattle.geo_laws_counts.proofs.Flows.{each_of}
 use Rattle.geo_access.specs.Access.{granted_by, holds_grants, clear_scratches, IsCounted}
 use Rattle.geo_access.proofs.Clearing.{rows-same_on}
 use Rattle.geo_life.specs.Life.{AreStored, CountsStay}

@@ -10,7 +10,7 @@ use Rattle.geo_model.specs.World.{Plan}
 use Rattle.geo_model.specs.Records.{label_record, label_sector, concat_record, concat_sector, stripe_record, stripe_sector, is_stripe_size}
 use Rattle.geo_model.specs.Script.{IsScript, runs_in, fitting_bytes, words_of}
 use Rattle.geo_model.specs.Plans.{IsPlan, IsWord64}
-use Rattle.geo_model.specs.Generator.{GenMode, IsMode, generated}
+use Rattle.geo_model.specs.Generator.{CanBeGenerated, generated}
 
 -- the plan of a script keeps the rules of plans
 abbrev pub ScriptsArePlans : Type 0
@@ -18,7 +18,7 @@ ScriptsArePlans = (text : List ℕ) (plan : Plan) → IsScript text plan → IsP
 
 -- a generated text is a script
 abbrev pub GeneratedTextsAreScripts : Type 0
-GeneratedTextsAreScripts = (start count : ℕ) → IsMode (GenMode start count)
+GeneratedTextsAreScripts = (start count : ℕ) → CanBeGenerated start count
     → (plan : Plan) × IsScript (generated start count) plan
 
 -- the bytes of a text of runs, as the reader of a line finds them

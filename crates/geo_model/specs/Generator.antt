@@ -1,5 +1,5 @@
--- The script that is made from a number, and the words of the program.
-use Rattle.std.specs.Prelude.{◌≡◌, ℕ, zero, suc, ◌+◌, ◌*◌, ◌/◌, ◌%◌, ◌≤◌, List, [], ◌∷◌, ◌++◌, flat_map, slice_get, unwrap_or, codes, decimal, ⊤}
+-- The script that is made from a number.
+use Rattle.std.specs.Prelude.{ℕ, zero, suc, ◌+◌, ◌*◌, ◌/◌, ◌%◌, ◌≤◌, List, [], ◌∷◌, ◌++◌, flat_map, slice_get, unwrap_or, codes, decimal}
 use Rattle.std.specs.List.{range_with_len}
 use Rattle.geo_base.specs.Runs.{hex_digit}
 use Rattle.geo_model.specs.Report.{end_line}
@@ -91,26 +91,6 @@ drawn_lines i _ = []
 unfoldable pub generated : ℕ → ℕ → List ℕ
 generated start count = disk_lines ++ actor_lines ++ first_lines ++ drawn_lines 0 (draws (3 * count) start)
 
--- Words of the program
-
--- what the program is asked to do
-pub data Mode : Type 0 where
-  StepMode : Mode
-  RunMode : Mode
-  GenMode : (start count : ℕ) → Mode
-
--- the words that ask for it; the numbers are decimal without a zero in front
-abbrev pub words_for : Mode → List (List ℕ)
-words_for StepMode = codes "step" ∷ []
-words_for RunMode = codes "run" ∷ []
-words_for (GenMode start count) = codes "gen" ∷ decimal start ∷ decimal count ∷ []
-
-abbrev pub IsMode : Mode → Type 0
-IsMode StepMode = ⊤
-IsMode RunMode = ⊤
-IsMode (GenMode start count) = (start ≤ 2147483647) × (count ≤ 4000)
-
--- the words are accepted for this
-pub record Accepts (words : List (List ℕ)) (mode : Mode) : Type 0 where
-  pub spelled : words ≡ words_for mode
-  pub in_range : IsMode mode
+-- the numbers from which a script is made: a start below 2^31, and at most 4,000 lines that are drawn
+abbrev pub CanBeGenerated : ℕ → ℕ → Type 0
+CanBeGenerated start count = (start ≤ 2147483647) × (count ≤ 4000)

@@ -42,8 +42,5 @@ pub mod Fitting
 pub mod Passes
 pub mod History
 pub mod FixedOrder
-pub mod Outside
-pub mod Endings
-pub mod Headline
 pub mod Laws
 pub mod FormatLaws

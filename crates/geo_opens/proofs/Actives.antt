@@ -18,7 +18,7 @@ use Rattle.geo_model.specs.Step.{Answer, reap_next}
 use Rattle.geo_model.proofs.DemandLemmas.{find_passes}
 use Rattle.geo_bio.specs.declared.bio.Held.{Held}
 use Rattle.geo_log.specs.Places.{delivered_at}
-use Rattle.geo_traffic.specs.Shown.{shown, shown_bio}
+use Rattle.geo_state.specs.Shown.{shown, shown_bio}
 use Rattle.geo_slots.specs.Slots.{value_at}
 use Rattle.geo_mesh.specs.Topo.{TopoView}
 use Rattle.geo_laws_graph.proofs.Lists.{found_itself}

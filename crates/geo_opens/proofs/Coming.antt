@@ -24,11 +24,11 @@ use Rattle.geo_laws_graph.proofs.TwoChanges.{two-changes}
 use Rattle.geo_laws_counts.specs.CountWords.{HoldsGrants}
 use Rattle.geo_laws_counts.proofs.Members.{in_head, in_tail}
 use Rattle.geo_laws_counts.proofs.LimitFacts.{all_of}
-use Rattle.geo_laws_ranks.proofs.EdgeRanks.{reaches-none}
-use Rattle.geo_laws_rank_changes.proofs.Opens.{open-rises, open-other}
-use Rattle.geo_laws_demands.proofs.Reach.{below_self}
-use Rattle.geo_laws_demands.proofs.Refusing.{allowed, errors_came}
-use Rattle.geo_laws_demands.proofs.Openers.{below_came}
+use Rattle.geo_laws_graph.proofs.EdgeRanks.{reaches-none}
+use Rattle.geo_laws_graph.proofs.Opens.{open-rises, open-other}
+use Rattle.geo_laws_counts.proofs.Reach.{below_self}
+use Rattle.geo_laws_counts.proofs.Refusing.{allowed, errors_came}
+use Rattle.geo_laws_counts.proofs.Openers.{below_came}
 use Rattle.geo_access.specs.Access.{consumers_below, IsCounted}
 use Rattle.geo_access.specs.GoneLaws.{HasUsedNumber}
 use Rattle.geo_access.proofs.Gone.{refused_consumers_go}

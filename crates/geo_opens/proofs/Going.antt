@@ -30,7 +30,7 @@ use Rattle.geo_laws_graph.proofs.Numbered.{number_found, unique}
 use Rattle.geo_laws_graph.proofs.Spared.{IsSpared, find-spared, IsUntouched, find-untouched}
 use Rattle.geo_laws_counts.specs.CountWords.{AgreeExcept, DemandStays, HoldsGrants, IsOnlyOne}
 use Rattle.geo_laws_counts.proofs.Numbers.{number_is_only}
-use Rattle.geo_laws_demands.proofs.Openers.{went_quietly}
+use Rattle.geo_laws_counts.proofs.Openers.{went_quietly}
 use Rattle.geo_handles.specs.Handles.{HandlesView, handle_at, released, closed}
 use Rattle.geo_access.specs.Access.{granted_by, IsPlaced, IsHolder}
 use Rattle.geo_state.specs.declared.state.State.{State}

@@ -16,7 +16,7 @@ use Rattle.geo_mesh.specs.Graph.{IsSoundGraph}
 use Rattle.geo_laws_graph.proofs.Lists.{found_fresh}
 use Rattle.geo_laws_graph.proofs.Numbered.{at-new, at-others}
 use Rattle.geo_laws_counts.specs.CountWords.{HoldsGrants}
-use Rattle.geo_laws_demands.proofs.Openers.{wants_grant}
+use Rattle.geo_laws_counts.proofs.Openers.{wants_grant}
 use Rattle.geo_access.specs.Access.{granted_by, holds_grants, IsCounted}
 use Rattle.geo_access.proofs.Decided.{item_at}
 use Rattle.geo_opens.specs.Holders.{opened_mesh}

@@ -22,8 +22,8 @@ use Rattle.geo_laws_counts.proofs.Sums.{at_most-same, at_most-zero}
 use Rattle.geo_laws_counts.proofs.Levels.{have-at_most}
 use Rattle.geo_laws_counts.proofs.Quiet.{granted_wants_nothing}
 use Rattle.geo_laws_counts.proofs.Stays.{consumer_came}
-use Rattle.geo_laws_demands.proofs.Flows.{each_of}
-use Rattle.geo_laws_demands.proofs.Openers.{wants_grant}
+use Rattle.geo_laws_counts.proofs.Flows.{each_of}
+use Rattle.geo_laws_counts.proofs.Openers.{wants_grant}
 use Rattle.geo_access.specs.Access.{granted_by, holds_grants, clear_scratches, noted, place_of, consumers_below, granted_view, released_view, comes_to_zero, IsCounted, IsQuiet, IsPlaced, IsHolder}
 use Rattle.geo_access.proofs.Clearing.{rows-same_on}
 use Rattle.geo_access.proofs.Decided.{item_at}

@@ -24,9 +24,9 @@ use Rattle.geo_laws_graph.proofs.Members.{find-Contains}
 use Rattle.geo_bio.specs.declared.bio.Held.{Held}
 use Rattle.geo_bio.specs.BioTable.{bio_among}
 use Rattle.geo_log.specs.Places.{delivered_at}
-use Rattle.geo_traffic.specs.Shown.{shown, shown_bio}
-use Rattle.geo_traffic.proofs.ShownLemmas.{shown_are_found}
-use Rattle.geo_traffic.proofs.StepLemmas.{world_shows_bios}
+use Rattle.geo_state.specs.Shown.{shown, shown_bio}
+use Rattle.geo_state.proofs.ShownLemmas.{shown_are_found}
+use Rattle.geo_state.proofs.StepLemmas.{world_shows_bios}
 use Rattle.geo_state.specs.declared.state.State.{State}
 use Rattle.geo_state.specs.declared.state.DiskSeat.{DiskSeat}
 use Rattle.geo_state.specs.Trips.{Trip, trip_of, trips, is_at_disk, busy_at}

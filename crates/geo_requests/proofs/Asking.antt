@@ -22,9 +22,9 @@ use Rattle.geo_model.specs.Requests.{Asking, request_refusal, request_refusal_at
 use Rattle.geo_bio.specs.declared.bio.Held.{Held}
 use Rattle.geo_handles.specs.Handles.{named_handle, handle_at}
 use Rattle.geo_log.specs.Places.{delivered_at}
-use Rattle.geo_traffic.specs.Shown.{shown, AreLogged}
-use Rattle.geo_traffic.proofs.StepLemmas.{world_shows_bios}
-use Rattle.geo_traffic.proofs.LoggedLemmas.{places_stay_logged}
+use Rattle.geo_state.specs.Shown.{shown, AreLogged}
+use Rattle.geo_state.proofs.StepLemmas.{world_shows_bios}
+use Rattle.geo_state.proofs.LoggedLemmas.{places_stay_logged}
 use Rattle.geo_state.specs.declared.state.State.{State}
 use Rattle.geo_state.specs.Bios.{OnlyBios, IsAsking}
 use Rattle.geo_state.specs.World.{world}

@@ -21,9 +21,9 @@ use Rattle.geo_model.specs.Fitting.{Firm, HasItsSum}
 use Rattle.geo_model.proofs.DemandLemmas.{all_weaker, find_passes}
 use Rattle.geo_laws_graph.proofs.Members.{find-Contains, Contains-filter, nothing_in}
 use Rattle.geo_laws_graph.proofs.Numbered.{number_found}
-use Rattle.geo_laws_bio_pieces.proofs.Pieces.{below_of, LiesBelow, is_placed, range_of, pieces_below}
-use Rattle.geo_laws_bio_starts.proofs.Splitting.{GoesDown}
-use Rattle.geo_laws_bio_starts.proofs.Descending.{all_go, some_go}
+use Rattle.geo_laws_bios.proofs.Pieces.{below_of, LiesBelow, is_placed, range_of, pieces_below}
+use Rattle.geo_laws_bios.proofs.Splitting.{GoesDown}
+use Rattle.geo_laws_bios.proofs.Descending.{all_go, some_go}
 use Rattle.geo_handles.specs.Handles.{holding_handle}
 use Rattle.geo_class.specs.Cover.{LiesBefore, IsAsLong}
 use Rattle.geo_class.proofs.CoverLemmas.{what_lies_is_covered}

@@ -21,8 +21,8 @@ use Rattle.geo_model.specs.Steady.{ComesFromItsOwner}
 use Rattle.geo_model.specs.Step.{up_of}
 use Rattle.geo_laws_graph.proofs.Numbered.{any-contained}
 use Rattle.geo_laws_counts.specs.CountWords.{HoldsGrants}
-use Rattle.geo_laws_demands.proofs.Openers.{wants_grant}
-use Rattle.geo_laws_tastes.proofs.Tasters.{tasting, taster, taster_found, taster_holds, none_has}
+use Rattle.geo_laws_counts.proofs.Openers.{wants_grant}
+use Rattle.geo_laws_making.proofs.Tasters.{tasting, taster, taster_found, taster_holds, none_has}
 use Rattle.geo_slots.specs.Slots.{value_at}
 use Rattle.geo_bio.specs.declared.bio.Held.{Held}
 use Rattle.geo_bio.specs.BioTable.{bio_among, has_phase}
@@ -32,8 +32,8 @@ use Rattle.geo_access.specs.Access.{consumers_below, granted_by, released_view}
 use Rattle.geo_access.proofs.Decided.{item_at}
 use Rattle.geo_handles.specs.Handles.{holding_handle}
 use Rattle.geo_log.specs.Places.{delivered_at}
-use Rattle.geo_traffic.specs.Shown.{shown, shown_bio, AreLogged}
-use Rattle.geo_traffic.proofs.StepLemmas.{world_shows_bios}
+use Rattle.geo_state.specs.Shown.{shown, shown_bio, AreLogged}
+use Rattle.geo_state.proofs.StepLemmas.{world_shows_bios}
 use Rattle.geo_taste.specs.Taster.{IsSettled, IsTasteOf, held_by, with_granted}
 use Rattle.geo_state.specs.declared.state.State.{State}
 use Rattle.geo_state.specs.Bios.{OnlyBios, CameThrough, IsOfItsOwner}

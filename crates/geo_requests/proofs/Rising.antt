@@ -18,7 +18,7 @@ use Rattle.geo_model.specs.Steady.{ComesFromItsOwner}
 use Rattle.geo_model.specs.Fitting.{Firm}
 use Rattle.geo_laws_graph.proofs.Members.{find-Contains, Contains-filter, at_contained}
 use Rattle.geo_laws_graph.proofs.Numbered.{number_found}
-use Rattle.geo_laws_bio_pieces.proofs.Joined.{not_nothing}
+use Rattle.geo_laws_bios.proofs.Joined.{not_nothing}
 use Rattle.geo_handles.specs.Handles.{holding_handle, handle_at}
 use Rattle.geo_model.specs.declared.step.Entry.{Entry}
 use Rattle.geo_model.specs.declared.step.Outcome.{Outcome}
@@ -30,9 +30,9 @@ use Rattle.geo_bio.specs.declared.bio.Risen.{Risen}
 use Rattle.geo_bio.specs.BioTable.{bio_among, has_phase}
 use Rattle.geo_bio.specs.Up.{after_up, told_of_up}
 use Rattle.geo_log.specs.Places.{delivered_at}
-use Rattle.geo_traffic.specs.Shown.{shown, shown_bio, AreLogged}
-use Rattle.geo_traffic.proofs.StepLemmas.{world_shows_bios}
-use Rattle.geo_traffic.proofs.LoggedLemmas.{places_stay_logged}
+use Rattle.geo_state.specs.Shown.{shown, shown_bio, AreLogged}
+use Rattle.geo_state.proofs.StepLemmas.{world_shows_bios}
+use Rattle.geo_state.proofs.LoggedLemmas.{places_stay_logged}
 use Rattle.geo_state.specs.declared.state.State.{State}
 use Rattle.geo_state.specs.Bios.{OnlyBios, CameThrough, IsOfItsOwner}
 use Rattle.geo_state.specs.World.{world}

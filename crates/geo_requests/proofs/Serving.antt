@@ -27,16 +27,16 @@ use Rattle.geo_model.specs.SoundBios.{DisksHold, NotBothBusy}
 use Rattle.geo_model.specs.Step.{unless_found, take_of, deliver_of, take_found, deliver_found}
 use Rattle.geo_laws_graph.proofs.Members.{find-Contains, Contains-cases, at_contained}
 use Rattle.geo_laws_graph.proofs.Numbered.{number_found}
-use Rattle.geo_laws_opening.proofs.Standers.{PairsByRecursion, recursion-from_pairs}
+use Rattle.geo_laws_life.proofs.Standers.{PairsByRecursion, recursion-from_pairs}
 use Rattle.geo_laws_bios.proofs.Phases.{CanTake, can_take, CanDeliver, can_deliver}
 use Rattle.geo_model.proofs.DemandLemmas.{all_weaker}
 use Rattle.geo_bio.specs.declared.bio.Held.{Held}
 use Rattle.geo_bio.specs.BioTable.{BioTableView, bio_among, has_phase, with_phase, delivered, delivered_result}
 use Rattle.geo_bio.specs.Up.{resolved}
 use Rattle.geo_log.specs.Places.{delivered_at}
-use Rattle.geo_traffic.specs.Shown.{shown, shown_bio, errno_of, AreLogged}
-use Rattle.geo_traffic.proofs.StepLemmas.{world_shows_bios, deliveries_are_shown, place_is_answer}
-use Rattle.geo_traffic.proofs.LoggedLemmas.{grown_log_shows_the_same, places_stay_logged}
+use Rattle.geo_state.specs.Shown.{shown, shown_bio, errno_of, AreLogged}
+use Rattle.geo_state.proofs.StepLemmas.{world_shows_bios, deliveries_are_shown, place_is_answer}
+use Rattle.geo_state.proofs.LoggedLemmas.{grown_log_shows_the_same, places_stay_logged}
 use Rattle.geo_state.specs.declared.state.State.{State}
 use Rattle.geo_state.specs.declared.state.DiskSeat.{DiskSeat}
 use Rattle.geo_state.specs.Bios.{OnlyBios, GoesTo, IsFree, IsAloneAt}

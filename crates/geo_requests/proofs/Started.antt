@@ -18,16 +18,16 @@ use Rattle.geo_model.proofs.WayLemmas.{starts_in_parts}
 use Rattle.geo_model.proofs.DemandLemmas.{all_weaker}
 use Rattle.geo_laws_graph.proofs.Members.{find-Contains}
 use Rattle.geo_laws_graph.proofs.Numbered.{number_found}
-use Rattle.geo_laws_bio_starts.proofs.Starting.{SplitsAt, splits_at}
+use Rattle.geo_laws_bios.proofs.Starting.{SplitsAt, splits_at}
 use Rattle.geo_bio.specs.declared.bio.Held.{Held}
 use Rattle.geo_bio.specs.declared.bio.Held.TheVariants as held
 use Rattle.geo_bio.specs.BioTable.{bio_among, has_phase, with_phase}
 use Rattle.geo_bio.specs.PieceLaws.{target_in}
 use Rattle.geo_log.specs.Places.{delivered_at}
 use Rattle.geo_handles.specs.Handles.{holding_handle}
-use Rattle.geo_traffic.specs.Shown.{shown, shown_bio, AreLogged}
-use Rattle.geo_traffic.proofs.StepLemmas.{world_shows_bios}
-use Rattle.geo_traffic.proofs.LoggedLemmas.{places_stay_logged}
+use Rattle.geo_state.specs.Shown.{shown, shown_bio, AreLogged}
+use Rattle.geo_state.proofs.StepLemmas.{world_shows_bios}
+use Rattle.geo_state.proofs.LoggedLemmas.{places_stay_logged}
 use Rattle.geo_state.specs.declared.state.State.{State}
 use Rattle.geo_state.specs.Bios.{OnlyBios, IsNoHandles}
 use Rattle.geo_state.specs.World.{world, header_disk, HasBytes}

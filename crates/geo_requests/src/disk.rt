@@ -9,7 +9,7 @@ use geo_bio::Bio;
 use geo_class::Config;
 use geo_mesh::Topo;
 use geo_model::{DeviceResult, Request};
-use geo_traffic::Traffic;
+use geo_state::Traffic;
 use std::alloc::Global;
 
 /// The size of a sector where none is known.

@@ -15,8 +15,7 @@ use geo_bio::Bio;
 use geo_class::Config;
 use geo_mesh::Topo;
 use geo_model::{DeviceResult, Found, Phase};
-use geo_state::{DiskSeat, State};
-use geo_traffic::Traffic;
+use geo_state::{DiskSeat, State, Traffic};
 
 /// What is against a Start of a bio, if anything is.
 pub fn start_found(state: &State, bio: BioId) -> Option<Found>

@@ -15,8 +15,7 @@ use geo_access::Steps;
 use geo_base::{BioId, NoMemory};
 use geo_log::Log;
 use geo_model::{BioResult, Outcome};
-use geo_state::State;
-use geo_traffic::Risen;
+use geo_state::{Risen, State};
 use std::alloc::Global;
 use std::sync::ledger::Ledger;
 

@@ -13,8 +13,7 @@ ghost use Rattle.geo_requests.specs.Risen.{line_of, outcome_of_rise};
 use geo_base::{BioId, NoMemory};
 use geo_log::Log;
 use geo_model::{BioResult, Outcome, Owner, Reply};
-use geo_state::State;
-use geo_traffic::{Risen, Traffic};
+use geo_state::{Risen, State, Traffic};
 use std::alloc::Global;
 
 /// A bio that is Up, and isn't the taste's, goes up to its owner: a child counts in its parent, which goes up once all

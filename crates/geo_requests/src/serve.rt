@@ -8,7 +8,7 @@ ghost use Rattle.geo_model.specs.Step.{take_of, deliver_of};
 ghost use Rattle.geo_state.specs.Holds.{Holds};
 ghost use Rattle.geo_state.specs.World.{HasBytes, world};
 ghost use Rattle.geo_state.specs.Steps.{IsFirm, IsAgainst, Makes, SameWorld};
-ghost use Rattle.geo_traffic.specs.Shown.{errno_of};
+ghost use Rattle.geo_state.specs.Shown.{errno_of};
 
 use crate::disk::{disk_of, request_of};
 use geo_base::{BioId, Errno, NoMemory};

@@ -21,8 +21,7 @@ use geo_base::{BioId, Errno, GeomId, NoMemory};
 use geo_class::Config;
 use geo_mesh::Topo;
 use geo_model::Outcome;
-use geo_state::{State, bounce, send, split};
-use geo_traffic::Traffic;
+use geo_state::{State, Traffic, bounce, send, split};
 use std::alloc::Global;
 
 /// A bio that is Down goes its way: back with an error, to its disk, or in pieces to those below. What can't be

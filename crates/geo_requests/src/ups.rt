@@ -15,8 +15,7 @@ use geo_access::Steps;
 use geo_base::{BioId, NoMemory};
 use geo_log::Log;
 use geo_model::{Outcome, Owner};
-use geo_state::State;
-use geo_traffic::Traffic;
+use geo_state::{State, Traffic};
 use std::alloc::Global;
 use std::sync::ledger::Ledger;
 

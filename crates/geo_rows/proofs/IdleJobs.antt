@@ -11,10 +11,10 @@ use Rattle.geo_model.specs.Opening.{opening}
 use Rattle.geo_model.specs.Log.{replay, IsPrefixOf}
 use Rattle.geo_model.specs.Step.{step, event, is_enabled}
 use Rattle.geo_model.specs.WorldEvents.{do_event}
-use Rattle.geo_model.specs.Generator.{Mode, RunMode}
+use Rattle.geo_headline.specs.Modes.{Mode, RunMode}
 use Rattle.geo_model.specs.FixedOrder.{JobsEndedIdle, EndedIdle, WasIdle, event_seat, IsOfItsJob}
-use Rattle.geo_model.specs.Endings.{Call, Ending, Reported, ReportedButFault, BadWords, NoScript, ReadFault, ShelfFault, NoDisk, BadSize, OutOfMemory, LogFull, TooLong, status_of, IsWhole, WasReadWhole, HasLog}
-use Rattle.geo_model.specs.Headline.{KeepsAll, FollowsMode}
+use Rattle.geo_headline.specs.Endings.{Call, Ending, Reported, ReportedButFault, BadWords, NoScript, ReadFault, ShelfFault, NoDisk, BadSize, OutOfMemory, LogFull, TooLong, status_of, IsWhole, WasReadWhole, HasLog}
+use Rattle.geo_headline.specs.Headline.{KeepsAll, FollowsMode}
 use Rattle.geo_rows.specs.WrongPrograms.{IsRefused, LeavesAllToTheDrain, IdlesAtEvent}
 use Rattle.geo_rows.proofs.WrongPrograms.{ends}
 

@@ -6,7 +6,7 @@ use Rattle.geo_model.specs.declared.command.DiskKind.TheVariants.{Shelf}
 use Rattle.geo_model.specs.declared.step.Entry.{Entry}
 use Rattle.geo_model.specs.World.{Plan, World}
 use Rattle.geo_model.specs.Script.{script, IsScript, Fault, empty_plan}
-use Rattle.geo_model.specs.Generator.{Mode, StepMode, RunMode, GenMode, Accepts, words_for}
+use Rattle.geo_headline.specs.Modes.{Mode, StepMode, RunMode, GenMode, Accepts, words_for}
 use Rattle.geo_model.specs.Opening.{opening}
 use Rattle.geo_model.specs.Plans.{IsPlan, FactsFit, IsDiskDecl}
 use Rattle.geo_model.specs.Sound.{Sound}
@@ -16,10 +16,10 @@ use Rattle.geo_model.specs.Listing.{listing}
 use Rattle.geo_model.specs.Report.{report, mesh_text}
 use Rattle.geo_model.specs.Log.{IsSplitBy, IsPrefixOf, replay, Fits}
 use Rattle.geo_model.specs.History.{KeepsHistory, RanToItsEnd}
-use Rattle.geo_model.specs.Outside.{IsThere, HasToldSize, IsDiskKept, DisksAreKept}
-use Rattle.geo_model.specs.Endings.{Reported, IsOpened}
-use Rattle.geo_model.specs.Headline.{KeepsAll}
-use Rattle.geo_laws_opening.proofs.Opened.{opening-sound}
+use Rattle.geo_headline.specs.Outside.{IsThere, HasToldSize, IsDiskKept, DisksAreKept}
+use Rattle.geo_headline.specs.Endings.{Reported, IsOpened}
+use Rattle.geo_headline.specs.Headline.{KeepsAll}
+use Rattle.geo_laws_life.proofs.Opened.{opening-sound}
 use Rattle.geo_rows.specs.RightCalls.{quiet_call, later_plan, later_text, silent_shelf}
 
 -- the word `step` has one meaning

@@ -8,7 +8,7 @@ use Rattle.geo_model.specs.declared.step.Reply.TheVariants as replies
 use Rattle.geo_model.specs.declared.step.Step.TheVariants as steps
 use Rattle.geo_rows.specs.StepLists.{sliced_world, pulled_early, pulled_late, spoiled_world, striped_world, read_in_reverse, fill_of, failing_world, second_up_first, opened_world, failed_read, log_of, errors_met, reply_after, by_seat_0, go as next_of}
 use Rattle.geo_rows.specs.Rows.{bytes_of}
-use Rattle.geo_model.specs.Outside.{failures_of}
+use Rattle.geo_headline.specs.Outside.{failures_of}
 use Rattle.geo_model.specs.Log.{made, replay}
 use Rattle.geo_model.specs.Bios.{start, take_bio, deliver, up}
 use Rattle.geo_model.specs.WorldEvents.{do_event}

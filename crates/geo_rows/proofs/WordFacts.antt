@@ -3,7 +3,7 @@ use Rattle.std.specs.Fmt.{digits}
 use Rattle.std.specs.Prelude.{◌≡◌, ℕ, zero, suc, ◌+◌, ◌<◌, ◌≤◌, List, [], ◌∷◌, get_or, codes, decimal}
 use Rattle.std.proofs.Common.{refl, sym, ◌∙◌, ap, arith}
 use Rattle.std.proofs.lemmas.Fmt.{decimal_digit, first_decimal, decimal_injective}
-use Rattle.geo_model.specs.Generator.{StepMode, RunMode, GenMode, Accepts, words_for}
+use Rattle.geo_headline.specs.Modes.{StepMode, RunMode, GenMode, Accepts, words_for}
 use Rattle.geo_rows.specs.WorkedWords.{AskNothing, gen_words}
 
 pub gen-accepted : Accepts (gen_words (codes "1") (codes "3")) (GenMode 1 3)

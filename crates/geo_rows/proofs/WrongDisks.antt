@@ -11,10 +11,10 @@ use Rattle.geo_model.specs.Words.{same_name}
 use Rattle.geo_model.specs.Opening.{opening}
 use Rattle.geo_model.specs.Report.{end_line}
 use Rattle.geo_model.specs.Script.{IsScript}
-use Rattle.geo_model.specs.Generator.{Mode, StepMode}
-use Rattle.geo_model.specs.Outside.{is_shelf, IsThere, KeepsLength, WhereTold}
-use Rattle.geo_model.specs.Endings.{Call, Ending, Reported, ReportedButFault, BadWords, NoScript, ReadFault, ShelfFault, NoDisk, BadSize, OutOfMemory, LogFull, TooLong, status_of, due_text, reported, HasLog, CauseOf, IsOpened, script_of}
-use Rattle.geo_model.specs.Headline.{KeepsAll}
+use Rattle.geo_headline.specs.Modes.{Mode, StepMode}
+use Rattle.geo_headline.specs.Outside.{is_shelf, IsThere, KeepsLength, WhereTold}
+use Rattle.geo_headline.specs.Endings.{Call, Ending, Reported, ReportedButFault, BadWords, NoScript, ReadFault, ShelfFault, NoDisk, BadSize, OutOfMemory, LogFull, TooLong, status_of, due_text, reported, HasLog, CauseOf, IsOpened, script_of}
+use Rattle.geo_headline.specs.Headline.{KeepsAll}
 use Rattle.geo_rows.specs.WrongPrograms.{IsRefused, KeepsDisk, DropsDisk, BlamesAnotherDisk, LosesImage, ReportsDisk, InventsDisk, InventsLentDisk}
 use Rattle.geo_rows.proofs.WrongPrograms.{ends}
 

@@ -11,11 +11,11 @@ use Rattle.geo_model.specs.World.{World, Plan}
 use Rattle.geo_model.specs.Opening.{opening}
 use Rattle.geo_model.specs.Log.{owed, replay}
 use Rattle.geo_model.specs.Script.{IsScript}
-use Rattle.geo_model.specs.Generator.{Mode, Accepts}
-use Rattle.geo_model.specs.Outside.{ShelfView, IsShelf, HasImage, IsMissing, IsBadSize}
-use Rattle.geo_model.specs.Endings.{Call, Ending, Reported, ReportedButFault, BadWords, NoScript, ReadFault, ShelfFault, NoDisk, BadSize, OutOfMemory, LogFull, TooLong, status_of, HasLog, CauseOf, LogRanFull, script_limit}
-use Rattle.geo_model.specs.Headline.{KeepsAll}
-use Rattle.geo_laws_opening.proofs.Standing.{opening-stood}
+use Rattle.geo_headline.specs.Modes.{Mode, Accepts}
+use Rattle.geo_headline.specs.Outside.{ShelfView, IsShelf, HasImage, IsMissing, IsBadSize}
+use Rattle.geo_headline.specs.Endings.{Call, Ending, Reported, ReportedButFault, BadWords, NoScript, ReadFault, ShelfFault, NoDisk, BadSize, OutOfMemory, LogFull, TooLong, status_of, HasLog, CauseOf, LogRanFull, script_limit}
+use Rattle.geo_headline.specs.Headline.{KeepsAll}
+use Rattle.geo_laws_life.proofs.Standing.{opening-stood}
 use Rattle.geo_rows.specs.WrongPrograms.{IsRefused, AnswersUsage, AnswersFaultOfScript, AnswersReadFault, AnswersWriteFault, AnswersDiskFault, AnswersFullWithoutLog, AnswersFullAtOnce, AnswersFullTooEarly, AnswersTooLong}
 
 -- at a status other than 4 the ending has that status

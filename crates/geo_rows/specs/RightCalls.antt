@@ -2,8 +2,8 @@
 use Rattle.std.specs.Prelude.{ℕ, false, true, List, [], ◌∷◌, Some, None, codes}
 use Rattle.geo_model.specs.declared.command.DiskKind.TheVariants.{Shelf}
 use Rattle.geo_model.specs.World.{Plan}
-use Rattle.geo_model.specs.Outside.{ShelfView, SourceView}
-use Rattle.geo_model.specs.Endings.{Call}
+use Rattle.geo_headline.specs.Outside.{ShelfView, SourceView}
+use Rattle.geo_headline.specs.Endings.{Call}
 
 -- a disk of the shelf that isn't to stand yet
 abbrev pub later_text : List ℕ

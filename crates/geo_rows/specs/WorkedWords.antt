@@ -1,6 +1,6 @@
 -- Words that the program accepts for nothing.
 use Rattle.std.specs.Prelude.{List, [], ◌∷◌, ℕ, codes}
-use Rattle.geo_model.specs.Generator.{Mode, Accepts}
+use Rattle.geo_headline.specs.Modes.{Mode, Accepts}
 
 -- the words ask for nothing
 abbrev pub AskNothing : List (List ℕ) → Type 0

@@ -11,11 +11,11 @@ use Rattle.geo_model.specs.Step.{is_enabled}
 use Rattle.geo_model.specs.Log.{replay, owed}
 use Rattle.geo_model.specs.Report.{end_line}
 use Rattle.geo_model.specs.Script.{IsScript}
-use Rattle.geo_model.specs.Generator.{Mode, StepMode, RunMode, Accepts}
+use Rattle.geo_headline.specs.Modes.{Mode, StepMode, RunMode, Accepts}
 use Rattle.geo_model.specs.FixedOrder.{EventWorkerIdle, event_seat}
-use Rattle.geo_model.specs.Outside.{IsShelf, HasImage, IsKeptBack, kept_back}
-use Rattle.geo_model.specs.Endings.{Call, Ending, script_of, script_limit}
-use Rattle.geo_model.specs.Headline.{KeepsAll}
+use Rattle.geo_headline.specs.Outside.{IsShelf, HasImage, IsKeptBack, kept_back}
+use Rattle.geo_headline.specs.Endings.{Call, Ending, script_of, script_limit}
+use Rattle.geo_headline.specs.Headline.{KeepsAll}
 
 -- no call of the kind keeps what a run keeps, whatever mode, plan and ending are said of it
 abbrev pub IsRefused : (Call → Type 0) → Type 0

@@ -1,14 +1,15 @@
 //! Worked examples of the model, proved by computation.
 ghost use Rattle.geo_base.specs.declared.decline.DeclineCause.TheVariants as declines;
 ghost use Rattle.geo_base.specs.declared.errno.Errno.TheVariants.{EBUSY, EDEEP, EEXIST, EIO, ELOOP, ENXIO, EOVERFLOW, EPERM};
-ghost use Rattle.geo_model.specs.Generator.{Accepts, GenMode, draws};
+ghost use Rattle.geo_model.specs.Generator.{draws};
+ghost use Rattle.geo_headline.specs.Modes.{Accepts, GenMode};
 ghost use Rattle.geo_model.specs.Log.{made, replay};
 ghost use Rattle.geo_model.specs.Opening.{opening};
 ghost use Rattle.geo_model.specs.Place.{pieces, place};
 ghost use Rattle.geo_model.specs.Rank.{rank};
 ghost use Rattle.geo_model.specs.Records.{concat_record, concat_sector, label_record, label_sector, mbr_table, stripe_record, stripe_sector};
 ghost use Rattle.geo_rows.specs.Rows.{assembling_facts, assembling_plan, assembling_text, boundaries_facts, boundaries_plan, boundaries_text, bytes_of, counts, diamond_facts, diamond_plan, diamond_text, exclusion_facts, exclusion_plan, exclusion_text, failing_nop_facts, failing_nop_plan, failing_nop_text, first_facts, first_plan, first_text, hostile_table_facts, hostile_table_plan, hostile_table_text, joining_facts, joining_plan, joining_text, labelling_facts, labelling_plan, labelling_text, large_users_facts, large_users_text, pulling_facts, pulling_plan, pulling_text, report_of, slice_facts, slice_plan, slice_text, spoiling_facts, spoiling_plan, spoiling_text, striping_facts, striping_plan, striping_text, two_users_facts, two_users_plan, two_users_text};
-ghost use Rattle.geo_model.specs.Outside.{failures_of};
+ghost use Rattle.geo_headline.specs.Outside.{failures_of};
 ghost use Rattle.geo_model.specs.Script.{empty_plan, script};
 ghost use Rattle.geo_rows.specs.Scripts.{assembling_script, boundaries_script, diamond_script, equal_neighbours_script, exclusion_script, failing_nop_script, fault, first_script, generated_summary, hostile_table_script, joining_script, labelling_script, late_header_script, left_over_script, missing_script, no_counts_script, no_lines_summary, odd_sector_script, pulling_script, same_disk_script, slice_script, spoiling_script, stranger_script, striping_script, three_lines_summary, two_spaces_script, two_users_script, unknown_script, zero_in_front_script};
 ghost use Rattle.geo_model.specs.Step.{step};

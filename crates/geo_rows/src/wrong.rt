@@ -1,7 +1,7 @@
 //! Programs that do wrong, each refused by what a run keeps; and calls that keep it.
-ghost use Rattle.geo_model.specs.Endings.{Reported};
-ghost use Rattle.geo_model.specs.Generator.{StepMode};
-ghost use Rattle.geo_model.specs.Headline.{KeepsAll};
+ghost use Rattle.geo_headline.specs.Endings.{Reported};
+ghost use Rattle.geo_headline.specs.Modes.{StepMode};
+ghost use Rattle.geo_headline.specs.Headline.{KeepsAll};
 ghost use Rattle.geo_model.specs.World.{Plan, World};
 ghost use Rattle.geo_model.specs.declared.step.Entry.{Entry};
 ghost use Rattle.geo_rows.specs.RightCalls.{later_plan, quiet_call};

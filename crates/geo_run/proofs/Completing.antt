@@ -10,10 +10,10 @@ use Rattle.geo_model.specs.declared.command.DiskKind.{DiskKind}
 use Rattle.geo_model.specs.declared.command.DiskKind.TheVariants as disk_kinds
 use Rattle.geo_model.specs.World.{Plan}
 use Rattle.geo_model.specs.Script.{Fault, script}
-use Rattle.geo_model.specs.Generator.{Mode, StepMode, RunMode, GenMode, Accepts}
-use Rattle.geo_model.specs.Outside.{ShelfView, IsShelf, is_shelf, kept_back, HasImage, IsMissing, IsBadSize}
-use Rattle.geo_model.specs.Endings.{Ending, Reported, ReportedButFault, BadWords, NoScript, ReadFault, ShelfFault, NoDisk, BadSize, OutOfMemory, LogFull, TooLong, Call, StopsAt, failed_takes, first_kept_back, script_limit, status_of}
-use Rattle.geo_model.specs.Headline.{GivesScript, IsComplete, IsToldThere, KeepsAll, NoFault, text_to_give}
+use Rattle.geo_headline.specs.Modes.{Mode, StepMode, RunMode, GenMode, Accepts}
+use Rattle.geo_headline.specs.Outside.{ShelfView, IsShelf, is_shelf, kept_back, HasImage, IsMissing, IsBadSize}
+use Rattle.geo_headline.specs.Endings.{Ending, Reported, ReportedButFault, BadWords, NoScript, ReadFault, ShelfFault, NoDisk, BadSize, OutOfMemory, LogFull, TooLong, Call, StopsAt, failed_takes, first_kept_back, script_limit, status_of}
+use Rattle.geo_headline.specs.Headline.{GivesScript, IsComplete, IsToldThere, KeepsAll, NoFault, text_to_give}
 use Rattle.geo_run.proofs.Generated.{generated_in_memory, one_plan, plan_or_fault}
 use Rattle.geo_run.proofs.Tests.{is_or_not}
 

@@ -10,7 +10,7 @@ use Rattle.geo_model.specs.declared.command.DiskKind.TheVariants as disk_kinds
 use Rattle.geo_model.specs.declared.step.Entry.{Entry}
 use Rattle.geo_model.specs.Contents.{contents}
 use Rattle.geo_model.specs.Plans.{IsDiskDecl}
-use Rattle.geo_model.specs.Outside.{ShelfView, IsShelf, kept_back, ImagesStay, ImagesStand, KeepsLength}
+use Rattle.geo_headline.specs.Outside.{ShelfView, IsShelf, kept_back, ImagesStay, ImagesStand, KeepsLength}
 use Rattle.geo_run.specs.Drives.{DriveView, HasWholeSectors, Serves, ServeAll}
 use Rattle.geo_run.specs.Lending.{AreApart, AreOther, names_of}
 use Rattle.geo_run.proofs.Tests.{other-contains, other-from, same_or_other}

@@ -10,7 +10,7 @@ use Rattle.std.proofs.lemmas.Fmt.{digits_decimal, digits_value-decimal, decimal-
 use Rattle.std.proofs.lemmas.Str.Parse.{IsNumeralModel, numerals_by_value, tells_all_ascii_digits, not_in_digits, parse_plain}
 use Rattle.std.specs.Cmp.Lexicographic.{same_text}
 use Rattle.std.proofs.lemmas.Slice.Eq.{bytes_eq-Decides}
-use Rattle.geo_model.specs.Generator.{Accepts, GenMode, Mode, RunMode, StepMode}
+use Rattle.geo_headline.specs.Modes.{Accepts, GenMode, Mode, RunMode, StepMode}
 use Rattle.geo_run.specs.Numbers.{IsNumberWithin, IsPlain}
 use Rattle.geo_run.specs.declared.words.Work.{Work}
 use Rattle.geo_run.specs.Work.{AsksCount, AsksFor, mode_of, word_bytes}

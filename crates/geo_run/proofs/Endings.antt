@@ -14,9 +14,9 @@ use Rattle.geo_model.specs.declared.step.Entry.{Entry}
 use Rattle.geo_model.specs.World.{World, Plan}
 use Rattle.geo_model.specs.Opening.{opening}
 use Rattle.geo_model.specs.Plans.{IsPlan, IsDiskDecl, FactsFit}
-use Rattle.geo_model.specs.Outside.{ShelfView, IsShelf, is_shelf, kept_back, IsThere, IsMissing, IsBadSize, HasToldSize, ImagesStay, ImagesStand, OthersStay, DisksAreKept, KeepsLength, PlannedDisk, planned_disk, IsDiskKept, CountsStay, is_of_plan, IsForeign as IsForeignName}
-use Rattle.geo_model.specs.Endings.{Ending, Reported, ReportedButFault, BadWords, NoScript, ReadFault, ShelfFault, NoDisk, BadSize, OutOfMemory, LogFull, TooLong, HasLog, StopsAt, failed_takes}
-use Rattle.geo_model.specs.Headline.{LentAfter}
+use Rattle.geo_headline.specs.Outside.{ShelfView, IsShelf, is_shelf, kept_back, IsThere, IsMissing, IsBadSize, HasToldSize, ImagesStay, ImagesStand, OthersStay, DisksAreKept, KeepsLength, PlannedDisk, planned_disk, IsDiskKept, CountsStay, is_of_plan, IsForeign as IsForeignName}
+use Rattle.geo_headline.specs.Endings.{Ending, Reported, ReportedButFault, BadWords, NoScript, ReadFault, ShelfFault, NoDisk, BadSize, OutOfMemory, LogFull, TooLong, HasLog, StopsAt, failed_takes}
+use Rattle.geo_headline.specs.Headline.{LentAfter}
 use Rattle.geo_run.specs.Drives.{DriveView}
 use Rattle.geo_run.specs.Rest.{RanFull}
 use Rattle.geo_run.specs.declared.stop.Stop.{Stop}

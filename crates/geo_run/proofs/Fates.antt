@@ -12,7 +12,7 @@ use Rattle.geo_disk.specs.Names.{without}
 use Rattle.geo_model.specs.declared.command.DiskDecl.{DiskDecl}
 use Rattle.geo_model.specs.declared.command.DiskKind.{DiskKind}
 use Rattle.geo_model.specs.declared.command.DiskKind.TheVariants as disk_kinds
-use Rattle.geo_model.specs.Outside.{ShelfView, IsShelf, is_shelf, kept_back}
+use Rattle.geo_headline.specs.Outside.{ShelfView, IsShelf, is_shelf, kept_back}
 use Rattle.geo_run.specs.Drives.{DriveView}
 use Rattle.geo_run.specs.Lending.{AreApart, AreOther, GivesDrive, names_of}
 use Rattle.geo_run.proofs.Tests.{contains_first, contains-among, same_itself, other-append, other-among, without_none, without_first, without_both}

@@ -8,13 +8,14 @@ use Rattle.std.proofs.lemmas.List.Splits.{slice_split_at}
 use Rattle.std.proofs.lemmas.List.Sums.{fold-append}
 use Rattle.geo_model.specs.declared.command.DiskDecl.{DiskDecl}
 use Rattle.geo_model.specs.World.{Plan}
-use Rattle.geo_model.specs.Outside.{IsShelf}
+use Rattle.geo_headline.specs.Outside.{IsShelf}
 use Rattle.std.specs.List.{AllByRecursion}
 use Rattle.std.proofs.Common.{sym, subst}
 use Rattle.std.proofs.lemmas.List.Elements.{All-from_recursion}
-use Rattle.geo_model.specs.Generator.{GenMode, IsMode, actor_lines, disk_lines, drawn_lines, draws, draw_value, first_lines, generated, next_draw}
+use Rattle.geo_model.specs.Generator.{actor_lines, disk_lines, drawn_lines, draws, draw_value, first_lines, generated, next_draw}
+use Rattle.geo_headline.specs.Modes.{GenMode, IsMode}
 use Rattle.geo_model.specs.Script.{Fault, drop_empty_end, empty_plan, lines_of, next_line, script}
-use Rattle.geo_laws_generator.proofs.Lines.{AddsCommand, drawn_line, drawn_text, four_actors}
+use Rattle.geo_laws_texts.proofs.Lines.{AddsCommand, drawn_line, drawn_text, four_actors}
 
 -- the lines that are drawn from a number, as texts
 abbrev drawn_texts : ℕ → ℕ → ℕ → List (List ℕ)

@@ -7,7 +7,7 @@ use Rattle.geo_disk.specs.Names.{without}
 use Rattle.geo_model.specs.declared.command.DiskDecl.{DiskDecl}
 use Rattle.geo_model.specs.declared.command.DiskKind.{DiskKind}
 use Rattle.geo_model.specs.declared.command.DiskKind.TheVariants as disk_kinds
-use Rattle.geo_model.specs.Outside.{ShelfView, IsShelf}
+use Rattle.geo_headline.specs.Outside.{ShelfView, IsShelf}
 use Rattle.geo_run.specs.Drives.{DriveView}
 use Rattle.geo_run.specs.Lending.{AreOther, AreOut, GivesBack, GivesDrive, IsOut, names_of}
 use Rattle.geo_run.proofs.Tests.{contains_first, contains_more, contains_none, contains_cases, same_names, other-append}

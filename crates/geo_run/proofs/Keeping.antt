@@ -4,17 +4,18 @@ use Rattle.std.proofs.Math.Seq.{drop-append_seam, drop-length}
 use Rattle.std.proofs.lemmas.Fmt.{decimal_injective}
 use Rattle.std.proofs.lemmas.List.{append-nil}
 use Rattle.std.proofs.lemmas.Bool.Decides.{nat_tests}
-use Rattle.geo_laws_generator.proofs.Texts.{generated_plans}
+use Rattle.geo_laws_texts.proofs.Texts.{generated_plans}
 use Rattle.geo_model.specs.declared.step.Entry.{Entry}
 use Rattle.geo_model.specs.World.{World, Plan}
 use Rattle.geo_model.specs.Opening.{opening}
 use Rattle.geo_model.specs.Script.{Fault, empty_plan, script}
-use Rattle.geo_model.specs.Generator.{Mode, StepMode, RunMode, GenMode, IsMode, Accepts, generated}
+use Rattle.geo_model.specs.Generator.{generated}
+use Rattle.geo_headline.specs.Modes.{Mode, StepMode, RunMode, GenMode, IsMode, Accepts}
 use Rattle.geo_model.specs.Log.{Fits}
 use Rattle.geo_model.specs.History.{KeepsHistory, RanToItsEnd}
-use Rattle.geo_model.specs.Outside.{ShelfView, SinkView, SourceView, ImagesStay, ImagesStand, OthersStay, DisksAreKept}
-use Rattle.geo_model.specs.Endings.{Ending, Reported, ReportedButFault, BadWords, NoScript, ReadFault, ShelfFault, NoDisk, BadSize, OutOfMemory, LogFull, TooLong, Call, CauseOf, HasLog, IsBeforeDisks, IsParsed, IsReadWhole, IsWhole, LogRanFull, ReadsScript, WasReadWhole, failed_takes, reported, script_limit, script_of}
-use Rattle.geo_model.specs.Headline.{FollowsMode, ImagesStayAt, IsBadWords, IsGen, LentAfter, ReadAs}
+use Rattle.geo_headline.specs.Outside.{ShelfView, SinkView, SourceView, ImagesStay, ImagesStand, OthersStay, DisksAreKept}
+use Rattle.geo_headline.specs.Endings.{Ending, Reported, ReportedButFault, BadWords, NoScript, ReadFault, ShelfFault, NoDisk, BadSize, OutOfMemory, LogFull, TooLong, Call, CauseOf, HasLog, IsBeforeDisks, IsParsed, IsReadWhole, IsWhole, LogRanFull, ReadsScript, WasReadWhole, failed_takes, reported, script_limit, script_of}
+use Rattle.geo_headline.specs.Headline.{FollowsMode, ImagesStayAt, IsBadWords, IsGen, LentAfter, ReadAs}
 use Rattle.geo_run.specs.Rest.{RanFull}
 use Rattle.geo_run.specs.declared.due.Due.{Due}
 use Rattle.geo_run.specs.declared.due.Due.TheVariants as dues

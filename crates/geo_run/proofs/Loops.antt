@@ -3,7 +3,7 @@ use Rattle.std.proofs.Common.{◌≡◌, ℕ, ◌+◌, ◌-◌, ◌<◌, ◌≤�
 use Rattle.std.proofs.lemmas.List.{append-nil, drop_more, map-append, length-drop, take-append-drop, take_more, length_push, nil_from_length}
 use Rattle.geo_model.specs.declared.command.DiskDecl.{DiskDecl}
 use Rattle.geo_model.specs.declared.step.Entry.{Entry}
-use Rattle.geo_model.specs.Outside.{ShelfView}
+use Rattle.geo_headline.specs.Outside.{ShelfView}
 use Rattle.geo_run.specs.Drives.{DriveView, ServeAll}
 use Rattle.geo_run.specs.declared.stop.Stop.{Stop}
 use Rattle.geo_run.specs.Lending.{AreOut, GivesBack, GivesDrive, OpensDrive, OpensDrives, OpensNoDrive, StopsOpening, first_kept, kept_name, names_of}

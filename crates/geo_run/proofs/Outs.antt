@@ -5,7 +5,7 @@ use Rattle.std.proofs.lemmas.List.Elements.{Contains-append_right}
 use Rattle.geo_model.specs.declared.command.DiskDecl.{DiskDecl}
 use Rattle.geo_model.specs.declared.command.DiskKind.{DiskKind}
 use Rattle.geo_model.specs.declared.command.DiskKind.TheVariants as disk_kinds
-use Rattle.geo_model.specs.Outside.{ShelfView}
+use Rattle.geo_headline.specs.Outside.{ShelfView}
 use Rattle.geo_run.specs.Drives.{DriveView}
 use Rattle.geo_run.specs.declared.stop.Stop.{Stop}
 use Rattle.geo_run.specs.Lending.{AreApart, AreOther, AreOut, IsOut, OpensDrives, OpensNoDrive, SameCounts, StopsOpening, names_of}

@@ -11,7 +11,7 @@ use Rattle.geo_model.specs.declared.command.DiskKind.TheVariants as disk_kinds
 use Rattle.geo_model.specs.declared.step.Entry.{Entry}
 use Rattle.geo_model.specs.Contents.{contents, AreTrue}
 use Rattle.geo_model.specs.Plans.{Differ, HasPlanSectors, HasSectors as HasHeaderSectors, IsDiskDecl, IsFact}
-use Rattle.geo_model.specs.Outside.{ShelfView, IsShelf, IsThere, HasImage, HasToldSize, CanBeTaken, PlannedDisk, planned_disk, failures_of, image_after, HoldsWhatIsLogged, IsMemory, IsDiskKept, kept_back}
+use Rattle.geo_headline.specs.Outside.{ShelfView, IsShelf, IsThere, HasImage, HasToldSize, CanBeTaken, PlannedDisk, planned_disk, failures_of, image_after, HoldsWhatIsLogged, IsMemory, IsDiskKept, kept_back}
 use Rattle.geo_run.specs.Drives.{DriveView, Serves, ServeAll}
 use Rattle.geo_run.specs.Views.{size_of}
 use Rattle.geo_run.specs.Lending.{AreApart, AreOther, IsMade}

@@ -6,10 +6,10 @@ use Rattle.geo_model.specs.declared.command.DiskDecl.{DiskDecl}
 use Rattle.geo_model.specs.declared.step.Entry.{Entry}
 use Rattle.geo_model.specs.World.{Plan}
 use Rattle.geo_model.specs.Opening.{opening}
-use Rattle.geo_model.specs.Generator.{Mode}
+use Rattle.geo_headline.specs.Modes.{Mode}
 use Rattle.geo_model.specs.Plans.{FactsFit, IsDiskDecl, IsPlan}
-use Rattle.geo_model.specs.Outside.{ShelfView}
-use Rattle.geo_model.specs.Endings.{Ending, reported}
+use Rattle.geo_headline.specs.Outside.{ShelfView}
+use Rattle.geo_headline.specs.Endings.{Ending, reported}
 use Rattle.geo_run.specs.Drives.{DriveView}
 use Rattle.geo_run.specs.Rest.{AreDrivesOf, DrivesFit}
 use Rattle.geo_run.specs.declared.due.Due.{Due}

@@ -7,10 +7,10 @@ use Rattle.geo_io.specs.Source.{Gives, GivesAtMost, GivesMany, Goes, IsAtEnd, Is
 use Rattle.geo_model.specs.declared.command.Cause.{Cause}
 use Rattle.geo_model.specs.World.{Plan}
 use Rattle.geo_model.specs.Opening.{opening}
-use Rattle.geo_model.specs.Generator.{Mode, StepMode}
+use Rattle.geo_headline.specs.Modes.{Mode, StepMode}
 use Rattle.geo_model.specs.Script.{Fault, script}
-use Rattle.geo_model.specs.Outside.{ShelfView}
-use Rattle.geo_model.specs.Endings.{reported, script_limit}
+use Rattle.geo_headline.specs.Outside.{ShelfView}
+use Rattle.geo_headline.specs.Endings.{reported, script_limit}
 use Rattle.geo_script.specs.declared.refusal.ParseRefusal.{ParseRefusal}
 use Rattle.geo_script.specs.declared.refusal.ParseRefusal.TheVariants as refusals
 use Rattle.geo_script.specs.Draft.{Parses}

@@ -4,14 +4,14 @@ use Rattle.geo_log.specs.Room.{Room}
 use Rattle.geo_model.specs.declared.listing.GeomLine.{GeomLine}
 use Rattle.geo_model.specs.declared.step.Entry.{Entry}
 use Rattle.geo_model.specs.World.{World, Plan}
-use Rattle.geo_model.specs.Generator.{Mode}
+use Rattle.geo_headline.specs.Modes.{Mode}
 use Rattle.geo_model.specs.Listing.{listing}
 use Rattle.geo_model.specs.Log.{Fits}
 use Rattle.geo_model.specs.Opening.{opening}
 use Rattle.geo_model.specs.FixedOrder.{FollowsOrder, fixed_order}
 use Rattle.geo_model.specs.History.{KeepsHistory, RanToItsEnd}
-use Rattle.geo_model.specs.Outside.{ShelfView}
-use Rattle.geo_model.specs.Endings.{OutOfMemory, IsWhole, reported, reported_by}
+use Rattle.geo_headline.specs.Outside.{ShelfView}
+use Rattle.geo_headline.specs.Endings.{OutOfMemory, IsWhole, reported, reported_by}
 use Rattle.geo_core.specs.Mesh.{MeshView, opened, world_of}
 use Rattle.geo_drain.specs.declared.refusal.DrainRefusal.{DrainRefusal}
 use Rattle.geo_drain.specs.declared.refusal.DrainRefusal.TheVariants as refusals

@@ -10,7 +10,7 @@ use Rattle.geo_disk.specs.Shelf.{IsTakenFrom, IsOfSize}
 use Rattle.geo_model.specs.declared.command.DiskDecl.{DiskDecl}
 use Rattle.geo_model.specs.declared.command.DiskKind.{DiskKind}
 use Rattle.geo_model.specs.declared.command.DiskKind.TheVariants as disk_kinds
-use Rattle.geo_model.specs.Outside.{ShelfView, IsShelf}
+use Rattle.geo_headline.specs.Outside.{ShelfView, IsShelf}
 use Rattle.geo_run.specs.Drives.{DriveView}
 use Rattle.geo_run.specs.Lending.{AreApart, AreOther, IsMade, OpensDrive, OpensDrives, SameCounts, names_of}
 use Rattle.geo_run.proofs.Told.{OfName, IsSame, of_name, chain, same, same_twice}

@@ -5,10 +5,10 @@ use Rattle.geo_base.specs.Faults.{RoseBy}
 use Rattle.geo_model.specs.declared.step.Entry.{Entry}
 use Rattle.geo_model.specs.World.{World, Plan}
 use Rattle.geo_model.specs.Opening.{opening}
-use Rattle.geo_model.specs.Generator.{Mode, StepMode, RunMode, GenMode, Accepts}
-use Rattle.geo_model.specs.Outside.{ShelfView, SinkView, SourceView, kept_back}
-use Rattle.geo_model.specs.Endings.{Ending, Reported, ReportedButFault, BadWords, NoScript, ReadFault, ShelfFault, NoDisk, BadSize, OutOfMemory, LogFull, TooLong, Call, due_text, failed_takes, reported, status_of}
-use Rattle.geo_model.specs.Headline.{FollowsMode, ImagesStayAt, IsComplete, KeepsAll, Prints}
+use Rattle.geo_headline.specs.Modes.{Mode, StepMode, RunMode, GenMode, Accepts}
+use Rattle.geo_headline.specs.Outside.{ShelfView, SinkView, SourceView, kept_back}
+use Rattle.geo_headline.specs.Endings.{Ending, Reported, ReportedButFault, BadWords, NoScript, ReadFault, ShelfFault, NoDisk, BadSize, OutOfMemory, LogFull, TooLong, Call, due_text, failed_takes, reported, status_of}
+use Rattle.geo_headline.specs.Headline.{FollowsMode, ImagesStayAt, IsComplete, KeepsAll, Prints}
 use Rattle.geo_run.specs.declared.finish.Finish.{Finish}
 use Rattle.geo_run.specs.Calls.{Finishes, Keeps, KeepsInside, added_to, call_of, outside_of}
 use Rattle.geo_run.specs.Ends.{entries_in}

@@ -3,8 +3,8 @@ use native.Mathlib.Omega.{arith}
 use Rattle.std.proofs.Common.{◌≡◌, ◌≢◌, ◌⊎◌, ◌∙◌, ℕ, ◌-◌, ◌<◌, List, [], ◌++◌, length, take, drop, Result, Ok, Err, IfOk, refl, sym, ap, subst, inl, inr}
 use Rattle.std.proofs.lemmas.List.{take-append-drop, length-drop}
 use Rattle.geo_base.specs.Faults.{Rose}
-use Rattle.geo_model.specs.Endings.{Ending, OutOfMemory, status_of, due_text}
-use Rattle.geo_model.specs.Outside.{SinkView}
+use Rattle.geo_headline.specs.Endings.{Ending, OutOfMemory, status_of, due_text}
+use Rattle.geo_headline.specs.Outside.{SinkView}
 use Rattle.geo_run.specs.declared.stop.Stop.{Stop}
 use Rattle.geo_run.specs.declared.stop.Stop.TheVariants as stops
 use Rattle.geo_run.specs.Stops.{ending_of}

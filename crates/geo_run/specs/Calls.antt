@@ -1,15 +1,15 @@
 -- The calls of the program as they are seen from outside.
 use Rattle.std.specs.Prelude.{◌≡◌, ◌⊎◌, ℕ, ◌<◌, ◌≤◌, List, [], ◌++◌, drop, length, None, Result, Ok, Err, IfSome, IfNone, IsSome, IsSomeAnd, IsTrue, ⊤}
 use Rattle.geo_base.specs.Faults.{Rose}
-use Rattle.geo_model.specs.Generator.{Mode, StepMode, RunMode}
+use Rattle.geo_headline.specs.Modes.{Mode, StepMode, RunMode}
 use Rattle.geo_model.specs.Script.{Fault, script}
 use Rattle.geo_model.specs.World.{Plan}
 use Rattle.geo_model.specs.Opening.{opening}
-use Rattle.geo_model.specs.Outside.{Outside, ShelfView, SinkView, SourceView, DisksAreKept, OthersStay, ImagesStand}
+use Rattle.geo_headline.specs.Outside.{Outside, ShelfView, SinkView, SourceView, DisksAreKept, OthersStay, ImagesStand}
 use Rattle.geo_model.specs.Log.{Fits}
 use Rattle.geo_model.specs.History.{KeepsHistory, RanToItsEnd}
-use Rattle.geo_model.specs.Endings.{Ending, Call, CauseOf, HasLog, IsOpened, IsWhole, reported, script_limit}
-use Rattle.geo_model.specs.Headline.{FollowsMode, ImagesStayAt, KeepsAll, LeavesOutside, LentAfter, ReadAs}
+use Rattle.geo_headline.specs.Endings.{Ending, Call, CauseOf, HasLog, IsOpened, IsWhole, reported, script_limit}
+use Rattle.geo_headline.specs.Headline.{FollowsMode, ImagesStayAt, KeepsAll, LeavesOutside, LentAfter, ReadAs}
 use Rattle.geo_run.specs.declared.top.Ended.{Ended}
 use Rattle.geo_run.specs.declared.finish.Finish.{Finish}
 use Rattle.geo_run.specs.declared.due.Due.TheVariants as dues

@@ -8,7 +8,7 @@ use Rattle.geo_model.specs.declared.command.DiskKind.{DiskKind}
 use Rattle.geo_model.specs.declared.command.DiskKind.TheVariants as disk_kinds
 use Rattle.geo_model.specs.declared.step.Entry.{Entry}
 use Rattle.geo_model.specs.Contents.{contents, AreTrue}
-use Rattle.geo_model.specs.Outside.{failures_of}
+use Rattle.geo_headline.specs.Outside.{failures_of}
 
 -- a drive: whether it is in memory or of a shelf, its sizes, its sectors where it tells them, how often it failed, and
 -- which of its calls are to fail, as far as that is set

@@ -11,10 +11,10 @@ use Rattle.geo_model.specs.Plans.{FactsFit}
 use Rattle.geo_model.specs.Log.{Fits}
 use Rattle.geo_model.specs.FixedOrder.{FollowsOrder, fixed_order}
 use Rattle.geo_model.specs.History.{KeepsHistory, RanToItsEnd}
-use Rattle.geo_model.specs.Outside.{ShelfView, IsShelf, IsThere, IsMissing, IsBadSize, HasToldSize, kept_back, DisksAreKept, OthersStay, ImagesStay, ImagesStand}
-use Rattle.geo_model.specs.Endings.{Ending, Reported, ReportedButFault, ShelfFault, NoDisk, BadSize, OutOfMemory, LogFull, IsWhole, HasLog, StopsAt, first_kept_back, reported_by}
-use Rattle.geo_model.specs.Headline.{LentAfter}
-use Rattle.geo_model.specs.Generator.{Mode}
+use Rattle.geo_headline.specs.Outside.{ShelfView, IsShelf, IsThere, IsMissing, IsBadSize, HasToldSize, kept_back, DisksAreKept, OthersStay, ImagesStay, ImagesStand}
+use Rattle.geo_headline.specs.Endings.{Ending, Reported, ReportedButFault, ShelfFault, NoDisk, BadSize, OutOfMemory, LogFull, IsWhole, HasLog, StopsAt, first_kept_back, reported_by}
+use Rattle.geo_headline.specs.Headline.{LentAfter}
+use Rattle.geo_headline.specs.Modes.{Mode}
 use Rattle.geo_core.specs.Mesh.{MeshView, opened}
 use Rattle.geo_drain.specs.declared.refusal.DrainRefusal.{DrainRefusal}
 use Rattle.geo_drain.specs.declared.refusal.DrainRefusal.TheVariants as refusals

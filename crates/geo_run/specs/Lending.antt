@@ -9,7 +9,7 @@ use Rattle.geo_disk.specs.Shelf.{WhereTold, IsTakenFrom, IsGivenTo, IsAsBefore, 
 use Rattle.geo_model.specs.declared.command.DiskDecl.{DiskDecl}
 use Rattle.geo_model.specs.declared.command.DiskKind.{DiskKind}
 use Rattle.geo_model.specs.declared.command.DiskKind.TheVariants as disk_kinds
-use Rattle.geo_model.specs.Outside.{ShelfView}
+use Rattle.geo_headline.specs.Outside.{ShelfView}
 use Rattle.geo_run.specs.Drives.{DriveView}
 use Rattle.geo_run.specs.declared.stop.Stop.{Stop}
 use Rattle.geo_run.specs.declared.stop.Stop.TheVariants as stops

@@ -1,6 +1,6 @@
 -- What is due at the end of a run: its report, or why there is none.
 use Rattle.std.specs.Prelude.{◌≡◌, ℕ, List, Option, Some, None, ⊤}
-use Rattle.geo_model.specs.Endings.{Ending, Reported, ReportedButFault, BadWords, NoScript, ReadFault, ShelfFault, NoDisk, BadSize, OutOfMemory, LogFull, TooLong}
+use Rattle.geo_headline.specs.Endings.{Ending, Reported, ReportedButFault, BadWords, NoScript, ReadFault, ShelfFault, NoDisk, BadSize, OutOfMemory, LogFull, TooLong}
 use Rattle.geo_run.specs.declared.stop.Stop.{Stop}
 use Rattle.geo_run.specs.declared.stop.Stop.TheVariants as stops
 use Rattle.geo_run.specs.declared.due.Due.{Due}

@@ -3,7 +3,7 @@ use Rattle.std.specs.Prelude.{ℕ, List, Option}
 use Rattle.geo_base.specs.Images.{Images}
 use Rattle.geo_io.specs.Sink.{Basin}
 use Rattle.geo_io.specs.Source.{Stream}
-use Rattle.geo_model.specs.Outside.{ShelfView, SinkView, SourceView}
+use Rattle.geo_headline.specs.Outside.{ShelfView, SinkView, SourceView}
 use Rattle.geo_run.specs.Drives.{DriveView}
 
 abbrev pub source_view : Stream → ℕ → ℕ → SourceView

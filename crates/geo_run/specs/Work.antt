@@ -2,7 +2,7 @@
 use Rattle.std.specs.Prelude.{◌≡◌, ℕ, List, map, Option, Some, None, string_bytes}
 use Rattle.std.specs.declared.string.String.{String}
 use Rattle.std.specs.declared.alloc.Global.{Global}
-use Rattle.geo_model.specs.Generator.{Mode, StepMode, RunMode, GenMode, Accepts}
+use Rattle.geo_headline.specs.Modes.{Mode, StepMode, RunMode, GenMode, Accepts}
 use Rattle.geo_run.specs.Numbers.{IsNumberWithin}
 use Rattle.geo_run.specs.declared.words.Work.{Work}
 use Rattle.geo_run.specs.declared.words.Work.TheVariants as works

@@ -1,8 +1,8 @@
 -- What is written at the end.
 use Rattle.std.specs.Prelude.{◌≡◌, ◌≢◌, ◌⊎◌, ℕ, List, [], ◌++◌, Result, Ok, Err}
 use Rattle.geo_base.specs.Faults.{Rose}
-use Rattle.geo_model.specs.Endings.{Ending, OutOfMemory, status_of, due_text}
-use Rattle.geo_model.specs.Outside.{SinkView}
+use Rattle.geo_headline.specs.Endings.{Ending, OutOfMemory, status_of, due_text}
+use Rattle.geo_headline.specs.Outside.{SinkView}
 
 -- a text is only begun: the sink's faults rose, and these are its first bytes, with some left
 pub record IsBegun (text written : List ℕ) (before after : SinkView) : Type 0 where

@@ -1,6 +1,6 @@
 //! What is due at the end of a run, and how it is written.
 ghost use Rattle.std.specs.Prelude.{◌≡◌, ◌≢◌, ℕ, List, [], IfOk, codes};
-ghost use Rattle.geo_model.specs.Endings.{BadWords, ReportedButFault, due_text};
+ghost use Rattle.geo_headline.specs.Endings.{BadWords, ReportedButFault, due_text};
 ghost use Rattle.geo_run.specs.Stops.{IsDue, ending_by, ending_of, ending_with};
 ghost use Rattle.geo_run.specs.Views.{sink_view};
 ghost use Rattle.geo_run.specs.Writes.{Writes, WritesEnding, WritesMade};

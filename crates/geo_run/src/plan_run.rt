@@ -1,6 +1,6 @@
 //! The run of a plan: its disks are taken, its mesh goes to rest, the disks are given back, and the report is made.
 ghost use Rattle.std.specs.Prelude.{◌≡◌, [], List, Some, None, map, IfOk, IsErrOf, OnOk, IsErr};
-ghost use Rattle.geo_model.specs.Endings.{reported, reported_by};
+ghost use Rattle.geo_headline.specs.Endings.{reported, reported_by};
 ghost use Rattle.geo_model.specs.History.{KeepsHistory, RanToItsEnd};
 ghost use Rattle.geo_model.specs.Laws.{NoneBusy};
 ghost use Rattle.geo_model.specs.Log.{Fits};

@@ -1,6 +1,7 @@
 //! The runs of the program: of the script that the source gives, and of the one that is made from a number.
 ghost use Rattle.std.specs.Prelude.{◌<◌, ◌^◌, length};
-ghost use Rattle.geo_model.specs.Generator.{IsMode, GenMode, generated};
+ghost use Rattle.geo_model.specs.Generator.{generated};
+ghost use Rattle.geo_headline.specs.Modes.{IsMode, GenMode};
 ghost use Rattle.geo_run.specs.Views.{shelf_view, source_view};
 ghost use Rattle.geo_run.specs.Work.{IsAlone, mode_of, word_bytes};
 ghost use Rattle.geo_run.specs.Calls.{Finishes, FinishesText, FinishesSource};

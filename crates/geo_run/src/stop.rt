@@ -2,7 +2,7 @@
 ghost use Rattle.std.specs.Prelude.{◌≡◌, ◌∷◌, ◌++◌, [], IfOk, codes};
 ghost use Rattle.geo_model.specs.Report.{end_line};
 ghost use Rattle.geo_model.specs.Script.{cause_text};
-ghost use Rattle.geo_model.specs.Endings.{NoScript, due_text};
+ghost use Rattle.geo_headline.specs.Endings.{NoScript, due_text};
 
 use geo_base::{Block, Name, NoMemory};
 use geo_model::Cause;

@@ -1,7 +1,7 @@
 //! The top call.
 ghost use Rattle.std.specs.Prelude.{[], codes};
-ghost use Rattle.geo_model.specs.Endings.{BadWords, due_text};
-ghost use Rattle.geo_model.specs.Headline.{IsComplete};
+ghost use Rattle.geo_headline.specs.Endings.{BadWords, due_text};
+ghost use Rattle.geo_headline.specs.Headline.{IsComplete};
 ghost use Rattle.geo_run.specs.Calls.{Keeps, call_of, outside_of};
 ghost use Rattle.geo_run.specs.Views.{shelf_view, sink_view, source_view};
 ghost use Rattle.geo_run.specs.Work.{IsAlone, word_bytes};

@@ -1,6 +1,6 @@
 //! The words of the program.
 ghost use Rattle.std.specs.Prelude.{◌↔◌, [], ◌∷◌, IsTrue, codes, string_bytes};
-ghost use Rattle.geo_model.specs.Generator.{Accepts, RunMode};
+ghost use Rattle.geo_headline.specs.Modes.{Accepts, RunMode};
 ghost use Rattle.geo_run.specs.Numbers.{IsNumberWithin, IsPlain};
 ghost use Rattle.geo_run.specs.Work.{AsksCount, AsksFor, word_bytes};
 

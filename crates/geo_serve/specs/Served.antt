@@ -6,7 +6,7 @@ use Rattle.geo_model.specs.declared.step.Entry.{Entry}
 use Rattle.geo_model.specs.Contents.{AreTrue, contents}
 use Rattle.geo_model.specs.FixedOrder.{delivered_in}
 use Rattle.geo_model.specs.Results.{request_of}
-use Rattle.geo_model.specs.Outside.{failures_of, is_of_disk}
+use Rattle.geo_headline.specs.Outside.{failures_of, is_of_disk}
 use Rattle.geo_serve.specs.Drives.{DriveView, HasAllSectors, HasWholeSectors}
 
 -- how many answers of a disk the log delivers

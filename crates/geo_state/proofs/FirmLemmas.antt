@@ -18,7 +18,7 @@ use Rattle.geo_model.specs.Steady.{ComesFromItsOwner}
 use Rattle.geo_bio.specs.declared.bio.Held.{Held}
 use Rattle.geo_handles.specs.Handles.{handle_at}
 use Rattle.geo_log.specs.Places.{delivered_at}
-use Rattle.geo_traffic.specs.Shown.{shown, shown_bio}
+use Rattle.geo_state.specs.Shown.{shown, shown_bio}
 use Rattle.geo_laws_graph.proofs.Lists.{rise-from, none_outside}
 use Rattle.geo_state.specs.declared.state.State.{State}
 use Rattle.geo_state.specs.Parts.{IsUnderWay, AreUnderWay, HasLineHandle}

@@ -26,3 +26,11 @@ pub mod SiteLemmas
 pub mod OpeningLemmas
 pub mod GrantLaws
 pub mod Walks
+pub mod ShownLemmas
+pub mod StepLemmas
+pub mod LoggedLemmas
+pub mod OrderLemmas
+pub mod PhaseLemmas
+pub mod CursorLemmas
+pub mod CountLemmas
+pub mod RiseLemmas

@@ -10,7 +10,7 @@ use Rattle.geo_access.specs.Access.{IsCounted, IsQuiet, granted_by}
 use Rattle.geo_access.proofs.Shut.{meshes_stay_shut, shut_meshes_are_counted}
 use Rattle.geo_handles.specs.Handles.{HandlesView, no_handles}
 use Rattle.geo_laws_graph.proofs.Lists.{numbers-from}
-use Rattle.geo_traffic.specs.Traffic.{TrafficView}
+use Rattle.geo_state.specs.Traffic.{TrafficView}
 use Rattle.geo_state.specs.declared.state.State.{State}
 use Rattle.geo_state.specs.declared.state.DiskSeat.{DiskSeat}
 use Rattle.geo_state.specs.declared.state.OwnBios.{OwnBios}

@@ -19,7 +19,7 @@ use Rattle.geo_handles.proofs.HandleLawLemmas.{handles_are_of_world}
 use Rattle.geo_laws_graph.proofs.Lists.{Rise, rise-from, none_outside}
 use Rattle.geo_log.specs.Places.{delivered_at}
 use Rattle.geo_slots.specs.Slots.{value_at}
-use Rattle.geo_traffic.specs.Shown.{shown, shown_bio}
+use Rattle.geo_state.specs.Shown.{shown, shown_bio}
 use Rattle.geo_state.specs.declared.state.State.{State}
 use Rattle.geo_state.specs.declared.state.DiskSeat.{DiskSeat}
 use Rattle.geo_state.specs.Trips.{Trip, trip_of, trips, is_out, out_through, can_be_reaped, handle_of_owner, is_own, is_at_disk}

@@ -10,9 +10,9 @@ use Rattle.geo_model.specs.World.{BioOf, Handle}
 use Rattle.geo_bio.specs.declared.bio.Held.{Held}
 use Rattle.geo_bio.specs.BioTable.{first_bio}
 use Rattle.geo_handles.specs.Handles.{handle_at}
-use Rattle.geo_traffic.proofs.OrderLemmas.{Rising}
-use Rattle.geo_traffic.proofs.CursorLemmas.{reached_above}
-use Rattle.geo_traffic.proofs.PhaseLemmas.{find_agree}
+use Rattle.geo_state.proofs.OrderLemmas.{Rising}
+use Rattle.geo_state.proofs.CursorLemmas.{reached_above}
+use Rattle.geo_state.proofs.PhaseLemmas.{find_agree}
 use Rattle.geo_state.specs.declared.state.State.{State}
 use Rattle.geo_state.specs.declared.state.OwnBios.{OwnBios}
 use Rattle.geo_state.specs.Trips.{Trip, trip_of, trips, handle_of_owner, is_own, own_first, IsOwnCount}

@@ -15,3 +15,7 @@ pub mod Opening
 pub mod Steps
 pub mod Grants
 pub mod Oldest
+pub mod Traffic
+pub mod Cursors
+pub mod Shown
+pub mod ShownLaws

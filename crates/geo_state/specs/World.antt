@@ -7,7 +7,7 @@ use Rattle.geo_model.specs.Fitting.{Firm}
 use Rattle.geo_log.specs.Places.{delivered_at}
 use Rattle.geo_state.specs.declared.state.State.{State}
 use Rattle.geo_state.specs.declared.state.DiskSeat.{DiskSeat}
-use Rattle.geo_traffic.specs.Shown.{shown, AreLogged}
+use Rattle.geo_state.specs.Shown.{shown, AreLogged}
 
 -- a disk's seat as the model's disk
 abbrev pub header_disk : DiskSeat → HeaderDisk

@@ -6,11 +6,11 @@ ghost use Rattle.geo_state.specs.Holds.{Holds};
 ghost use Rattle.geo_state.specs.Oldest.{passes, first_passing};
 ghost use Rattle.geo_state.specs.Trips.{trips, trip_of, handle_of_owner, is_own, own_first};
 
+use crate::Traffic;
 use crate::state::{OwnBios, State};
 use geo_base::{BioId, HandleId};
 use geo_handles::Handles;
 use geo_model::Owner;
-use geo_traffic::Traffic;
 
 /// The first request of the actor's own lines that is out: what a sync waits for. It is looked for from the number on
 /// below which there is none, if that is kept of the actor, else among all.

@@ -6,13 +6,13 @@ ghost use Rattle.geo_state.specs.declared.state.OwnBios.{OwnBios as OwnBiosValue
 ghost use Rattle.geo_state.specs.Holds.{Holds};
 ghost use Rattle.geo_state.specs.Opening.{IsEmpty, IsFreeSeat};
 
+use crate::Traffic;
 use crate::state::{DiskSeat, OwnBios, State};
 use geo_base::NoMemory;
 use geo_class::Config;
 use geo_event::EventQueue;
 use geo_handles::Handles;
 use geo_mesh::Topo;
-use geo_traffic::Traffic;
 use std::alloc::Global;
 
 /// More providers than so many can't be counted.

@@ -10,13 +10,13 @@ ghost use Rattle.geo_slots.specs.Slots.{value_at};
 ghost use Rattle.geo_state.specs.Holds.{Holds};
 ghost use Rattle.geo_state.specs.Bios.{OnlyBios, IsNoHandles, all_out};
 
+use crate::Targets;
 use crate::bios::{MOST_OUT, has_count};
 use crate::state::State;
 use geo_base::{BioId, ConsId, NoMemory, ProvId};
 use geo_class::Config;
 use geo_mesh::Topo;
 use geo_range::PieceList;
-use geo_traffic::Targets;
 use std::alloc::Global;
 
 /// A bio is split into children, one for each piece, in piece order, and waits for them. The first child's number is

@@ -1,11 +1,11 @@
 //! What the mesh is at one moment.
 
+use crate::Traffic;
 use geo_base::{BioId, GeomId, Name};
 use geo_class::{Config, Taste};
 use geo_event::EventQueue;
 use geo_handles::Handles;
 use geo_mesh::Topo;
-use geo_traffic::Traffic;
 
 /// A disk of the header: its sector size and its size in bytes, the geom that stands for it, withering or not, and
 /// the request that is at it.

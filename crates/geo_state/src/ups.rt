@@ -14,9 +14,9 @@ ghost use Rattle.geo_state.specs.Bios.{OnlyBios, CameThrough, CanLeave, left_of,
 use crate::handles::{is_alone, refresh};
 use crate::own::leave;
 use crate::state::State;
+use crate::{LogBytes, Risen};
 use geo_base::{BioId, ConsId, HandleId, NoMemory};
 use geo_model::Owner;
-use geo_traffic::{LogBytes, Risen};
 use std::alloc::Global;
 
 /// A bio goes up to its owner. A child counts in its parent; the last one gives it the first error in the order of the

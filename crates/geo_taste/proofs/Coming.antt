@@ -18,8 +18,8 @@ use Rattle.geo_laws_graph.proofs.TwoChanges.{two-changes}
 use Rattle.geo_laws_counts.specs.CountWords.{HoldsGrants}
 use Rattle.geo_laws_counts.proofs.Members.{in_head, in_tail}
 use Rattle.geo_laws_counts.proofs.LimitFacts.{all_of}
-use Rattle.geo_laws_ranks.proofs.EdgeRanks.{reaches-none}
-use Rattle.geo_laws_rank_changes.proofs.Opens.{open-rises, open-other}
+use Rattle.geo_laws_graph.proofs.EdgeRanks.{reaches-none}
+use Rattle.geo_laws_graph.proofs.Opens.{open-rises, open-other}
 
 -- of a geom without providers none stands
 pub bare_of : (ps : List Provider) (g : ℕ) → ((y : Provider) → Contains ps y → y.geom ≢ g)

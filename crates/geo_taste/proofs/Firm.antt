@@ -16,8 +16,8 @@ use Rattle.geo_model.specs.Topology.{Topology}
 use Rattle.geo_model.specs.World.{Asked, Config, NoClass, NextSector, ReadOut, ReadBack, Taste, granted_in}
 use Rattle.geo_access.specs.Access.{granted_by}
 use Rattle.geo_class.specs.Taste.{sector_back, verdict_back}
-use Rattle.geo_make.specs.Accepts.{MayAccept}
-use Rattle.geo_make.proofs.FirmLemmas.{firm_meshes_accept}
+use Rattle.geo_taste.specs.Accepts.{MayAccept}
+use Rattle.geo_taste.proofs.FirmLemmas.{firm_meshes_accept}
 use Rattle.geo_taste.specs.Going.{going}
 use Rattle.geo_taste.specs.Judging.{FirmMeshesJudge}
 use Rattle.geo_taste.proofs.Taking.{goes_found}

@@ -27,12 +27,12 @@ use Rattle.geo_laws_graph.specs.LookupLaws.{new_geom, new_provider, new_consumer
 use Rattle.geo_laws_graph.proofs.Members.{find-Contains}
 use Rattle.geo_laws_graph.proofs.Found.{added-geom, added-provider, added-consumer, config-found}
 use Rattle.geo_laws_counts.proofs.Counters.{nothing_above}
-use Rattle.geo_make.specs.Making.{QueuedMesh, queued, with_attached, with_offer}
-use Rattle.geo_make.specs.Accepting.{accepted, finished, joined, joined_at, labelled, over, placed, sliced, with_member, with_slices_of}
-use Rattle.geo_make.specs.Accepts.{HaveSizes, MakesSizes, MayAccept, NamesAPlace}
-use Rattle.geo_make.specs.Joining.{MayBeMember, MayJoin}
-use Rattle.geo_make.proofs.ModelLemmas.{accepted_is}
-use Rattle.geo_make.proofs.StandingLemmas.{standing_at, standing_may}
+use Rattle.geo_taste.specs.Making.{QueuedMesh, queued, with_attached, with_offer}
+use Rattle.geo_taste.specs.Accepting.{accepted, finished, joined, joined_at, labelled, over, placed, sliced, with_member, with_slices_of}
+use Rattle.geo_taste.specs.Accepts.{HaveSizes, MakesSizes, MayAccept, NamesAPlace}
+use Rattle.geo_taste.specs.Joining.{MayBeMember, MayJoin}
+use Rattle.geo_taste.proofs.ModelLemmas.{accepted_is}
+use Rattle.geo_taste.proofs.StandingLemmas.{standing_at, standing_may}
 use Rattle.geo_access.specs.Access.{granted_by}
 use Rattle.geo_taste.specs.Taster.{held_by, IsSettled, IsTasteOf}
 use Rattle.geo_taste.proofs.Adding.{config_kept, consumer_kept, geom_kept, no_geom, none_lives, provider_kept}

@@ -15,7 +15,7 @@ use Rattle.geo_laws_graph.proofs.Found.{each-found}
 use Rattle.geo_laws_counts.specs.CountWords.{DemandStays, HoldsGrants}
 use Rattle.geo_laws_counts.proofs.LimitFacts.{all_of, each_of}
 use Rattle.geo_laws_counts.proofs.Stays.{grants_agree}
-use Rattle.geo_laws_demands.proofs.Openers.{wants_grant}
+use Rattle.geo_laws_counts.proofs.Openers.{wants_grant}
 use Rattle.geo_laws_graph.proofs.Members.{at_contained}
 use Rattle.geo_access.specs.Access.{granted_by, holds_grants, clear_scratches, IsCounted}
 use Rattle.geo_access.proofs.Clearing.{rows-same_on}

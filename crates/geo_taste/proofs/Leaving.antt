@@ -13,7 +13,7 @@ use Rattle.geo_laws_graph.proofs.Found.{removed-consumer}
 use Rattle.geo_laws_graph.proofs.TwoChanges.{two-changes}
 use Rattle.geo_laws_counts.proofs.LimitFacts.{all_of, of_filter}
 use Rattle.geo_laws_counts.proofs.Stays.{consumers_went}
-use Rattle.geo_laws_demands.proofs.Openers.{wants_grant}
+use Rattle.geo_laws_counts.proofs.Openers.{wants_grant}
 use Rattle.geo_access.specs.Access.{granted_by, holds_grants, clear_scratches, IsCounted}
 use Rattle.geo_taste.specs.Taster.{with_taster}
 use Rattle.geo_taste.proofs.Kept.{kept_counted}

@@ -20,8 +20,8 @@ use Rattle.geo_model.specs.Chain.{Chain, with_link, link_tests, table_of, chain_
 use Rattle.geo_model.specs.Records.{u16_at, u32_at, head_tests, place_test, size_test, concat_magic, stripe_magic, concat_tests, stripe_tests, mbr_table, label_record}
 use Rattle.geo_model.specs.Tasting.{verdict_on}
 use Rattle.geo_class.specs.Taste.{sector_back, verdict_back}
-use Rattle.geo_laws_formats.specs.RecordLaws.{IsPlace}
-use Rattle.geo_make.specs.Accepts.{NamesAPlace}
+use Rattle.geo_laws_texts.specs.RecordLaws.{IsPlace}
+use Rattle.geo_taste.specs.Accepts.{NamesAPlace}
 
 -- Places
 

@@ -19,7 +19,7 @@ use Rattle.geo_laws_graph.proofs.Found.{each-found}
 use Rattle.geo_laws_counts.specs.CountWords.{HoldsGrants}
 use Rattle.geo_laws_counts.proofs.LimitFacts.{of_filter, each_of}
 use Rattle.geo_laws_counts.proofs.Members.{in_head}
-use Rattle.geo_laws_demands.proofs.Openers.{wants_grant}
+use Rattle.geo_laws_counts.proofs.Openers.{wants_grant}
 use Rattle.geo_access.specs.Access.{granted_by, holds_grants, counted_view, granted_view, released_view, leaves_zero, comes_to_zero, place_of, IsQuiet, IsHolder}
 use Rattle.geo_access.proofs.Decided.{item_at}
 use Rattle.geo_taste.specs.Taster.{held_by, with_granted, IsTasteOf}

@@ -20,13 +20,13 @@ use Rattle.geo_mesh.specs.Graph.{IsSoundGraph}
 use Rattle.geo_mesh.specs.Topo.{TopoView, IsButForRoom}
 use Rattle.geo_access.specs.Access.{granted_by}
 use Rattle.geo_class.specs.Taste.{ended}
-use Rattle.geo_make.specs.declared.shapes.Accepted.{Accepted}
-use Rattle.geo_make.specs.declared.shapes.Accepted.TheVariants as answers
-use Rattle.geo_make.specs.Accepting.{accepted, IsAccepted}
-use Rattle.geo_make.specs.Accepts.{MayAccept, NamesAPlace}
-use Rattle.geo_make.specs.Making.{AreBoth, QueuedMesh, both, queued}
-use Rattle.geo_make.specs.Standing.{CanStandOn}
-use Rattle.geo_make.proofs.ModelLemmas.{accepted_is}
+use Rattle.geo_taste.specs.declared.shapes.Accepted.{Accepted}
+use Rattle.geo_taste.specs.declared.shapes.Accepted.TheVariants as answers
+use Rattle.geo_taste.specs.Accepting.{accepted, IsAccepted}
+use Rattle.geo_taste.specs.Accepts.{MayAccept, NamesAPlace}
+use Rattle.geo_taste.specs.Making.{AreBoth, QueuedMesh, both, queued}
+use Rattle.geo_taste.specs.Standing.{CanStandOn}
+use Rattle.geo_taste.proofs.ModelLemmas.{accepted_is}
 use Rattle.geo_taste.specs.declared.judge.Said.{Said}
 use Rattle.geo_taste.specs.declared.judge.Said.TheVariants.{Came, Accepts}
 use Rattle.geo_taste.specs.Going.{going}

@@ -14,11 +14,11 @@ use Rattle.geo_event.specs.EventQueue.{Queued}
 use Rattle.geo_mesh.specs.Topo.{TopoView}
 use Rattle.geo_access.specs.Access.{granted_by}
 use Rattle.geo_class.specs.Taste.{verdict_back}
-use Rattle.geo_make.specs.declared.shapes.Accepted.{Accepted}
-use Rattle.geo_make.specs.declared.shapes.Accepted.TheVariants as answers
-use Rattle.geo_make.specs.Accepting.{accepted}
-use Rattle.geo_make.specs.Accepts.{MayAccept}
-use Rattle.geo_make.specs.Making.{AreBoth, QueuedMesh, queued}
+use Rattle.geo_taste.specs.declared.shapes.Accepted.{Accepted}
+use Rattle.geo_taste.specs.declared.shapes.Accepted.TheVariants as answers
+use Rattle.geo_taste.specs.Accepting.{accepted}
+use Rattle.geo_taste.specs.Accepts.{MayAccept}
+use Rattle.geo_taste.specs.Making.{AreBoth, QueuedMesh, queued}
 use Rattle.geo_taste.specs.Going.{going}
 use Rattle.geo_taste.specs.Saying.{accepting}
 use Rattle.geo_taste.specs.Taster.{IsSettled, IsTasteOf, judging, with_judged}

@@ -3,3 +3,13 @@ pub mod Over
 pub mod Going
 pub mod Saying
 pub mod Judging
+pub mod Making
+pub mod Standing
+pub mod Accepting
+pub mod Accepts
+pub mod Free
+pub mod Parts
+pub mod Members
+pub mod Joining
+pub mod MakingLaws
+pub mod FirmLaws

@@ -7,7 +7,7 @@ use geo_base::{BioCmd, BioId, Block, ConsId, Errno, HandleId, NoMemory, ProvId, 
 use geo_log::{DeviceResult, Entry, Log, Outcome, Step};
 use geo_model::Piece;
 use geo_range::PieceList;
-use geo_traffic::{BioResult, Owner, Phase, Risen, Span, Targets, Traffic};
+use geo_state::{BioResult, Owner, Phase, Risen, Span, Targets, Traffic};
 use std::alloc::Global;
 use std::test::Fail;
 

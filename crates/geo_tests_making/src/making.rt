@@ -4,14 +4,14 @@
 //! Each mesh is dropped by a call. At the end of a scope the drop of each part of it would be written out, and proved
 //! for a minute.
 ghost use Rattle.std.specs.Prelude.{◌≡◌, ◌<◌};
-ghost use Rattle.geo_make.specs.Accepts.{NamesAPlace};
+ghost use Rattle.geo_taste.specs.Accepts.{NamesAPlace};
 
 use geo_base::{Name, ProvId};
 use geo_class::{Config, Shape};
 use geo_event::{Event, EventQueue};
-use geo_make::{Accepted, Offer, accept, stand_disk};
 use geo_mesh::Topo;
 use geo_model::{ConcatRecord, EbrPart, EbrTable, LabelRecord, MbrTable, Slice, StripeRecord};
+use geo_taste::{Accepted, Offer, accept, stand_disk};
 use std::alloc::Global;
 use std::test::Fail;
 

@@ -5,7 +5,7 @@ ghost use Rattle.geo_bio.specs.BioTable.{has_phase};
 
 use geo_base::{BioCmd, BioId, ConsId, Errno, HandleId, ProvId, SharedBytes};
 use geo_log::Log;
-use geo_traffic::{Owner, Phase, Span, Traffic};
+use geo_state::{Owner, Phase, Span, Traffic};
 use std::alloc::Global;
 use std::test::Fail;
 

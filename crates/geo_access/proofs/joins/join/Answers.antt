@@ -6,7 +6,7 @@ use Rattle.geo_model.specs.Demand.{no_counts, want, risen}
 use Rattle.geo_slots.specs.Slots.{value_at}
 use Rattle.geo_mesh.specs.Topo.{TopoView, with_want}
 use Rattle.geo_mesh.specs.Graph.{IsSoundGraph}
-use Rattle.geo_laws_demands.specs.WalkWords.{cap}
+use Rattle.geo_laws_counts.specs.WalkWords.{cap}
 use Rattle.geo_access.specs.declared.counts.Way.TheVariants.{Rises}
 use Rattle.geo_access.specs.Access.{granted_by, noted, IsCounted}
 use Rattle.geo_access.specs.Tries.{Apart}

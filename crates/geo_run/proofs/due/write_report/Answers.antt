@@ -1,6 +1,6 @@
 -- With a disk that couldn't be given back, and without.
 use Rattle.std.proofs.Common.{ap}
-use Rattle.geo_model.specs.Endings.{Reported, ReportedButFault}
+use Rattle.geo_headline.specs.Endings.{Reported, ReportedButFault}
 use Rattle.geo_run.specs.Stops.{ending_with}
 use Rattle.geo_run.proofs.Writing.{ends, made_ends, same_ends}
 use Rattle.geo_run.proofs.due.write_report.Goals as goal

@@ -1,6 +1,6 @@
 -- Each ending without a report.
 use Rattle.std.proofs.Common.{ap}
-use Rattle.geo_model.specs.Endings.{BadWords, NoScript, ReadFault, ShelfFault, NoDisk, BadSize, OutOfMemory, LogFull, TooLong}
+use Rattle.geo_headline.specs.Endings.{BadWords, NoScript, ReadFault, ShelfFault, NoDisk, BadSize, OutOfMemory, LogFull, TooLong}
 use Rattle.geo_run.specs.Stops.{ending_of}
 use Rattle.geo_run.proofs.Writing.{ends, made_ends, same_ends}
 use Rattle.geo_run.proofs.due.write_stop.Goals as goal

@@ -2,8 +2,8 @@ use Rattle.std.proofs.Common.{◌≡◌, ◌∙◌, ◌+◌, Bool, true, Some, s
 use Rattle.geo_model.specs.World.{BioOf}
 use Rattle.geo_bio.specs.declared.bio.Held.{Held}
 use Rattle.geo_bio.specs.BioTable.{first_bio}
-use Rattle.geo_traffic.proofs.OrderLemmas.{table_rises, number_below}
-use Rattle.geo_traffic.proofs.CursorLemmas.{reached_above, reached_there}
+use Rattle.geo_state.proofs.OrderLemmas.{table_rises, number_below}
+use Rattle.geo_state.proofs.CursorLemmas.{reached_above, reached_there}
 use Rattle.geo_state.specs.Trips.{trip_of, is_own}
 use Rattle.geo_state.specs.Oldest.{first_passing}
 use Rattle.geo_state.proofs.Walks.{walk_ends, walk_hits, walk_goes_on}

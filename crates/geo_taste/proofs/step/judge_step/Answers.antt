@@ -1,4 +1,4 @@
-use Rattle.geo_make.specs.Making.{both}
+use Rattle.geo_taste.specs.Making.{both}
 use Rattle.geo_taste.specs.Judging.{MayJudge}
 use Rattle.geo_taste.specs.Taster.{IsSettled, IsTasteOf}
 use Rattle.geo_taste.proofs.Taking.{came_told, known_fact, said_goes, said_idle, said_judged, said_kept, said_low, said_place, said_same, said_settled, said_tasting}

@@ -1,9 +1,9 @@
 use Rattle.std.proofs.Common.{◌≡◌, Some, sym, subst}
 use Rattle.geo_model.specs.Topology.{provider_at}
-use Rattle.geo_make.specs.Accepting.{accepted, IsAccepted}
-use Rattle.geo_make.specs.Accepts.{MayAccept}
-use Rattle.geo_make.specs.Making.{both, queued}
-use Rattle.geo_make.specs.Standing.{CanStandOn}
+use Rattle.geo_taste.specs.Accepting.{accepted, IsAccepted}
+use Rattle.geo_taste.specs.Accepts.{MayAccept}
+use Rattle.geo_taste.specs.Making.{both, queued}
+use Rattle.geo_taste.specs.Standing.{CanStandOn}
 use Rattle.geo_taste.specs.Judging.{IsTakenAs, judged_of}
 use Rattle.geo_taste.proofs.Taking.{if_found, some_stands, taken_as}
 use Rattle.geo_taste.proofs.step.take_shape.Goals as goal

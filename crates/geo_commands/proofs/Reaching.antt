@@ -1,0 +1,446 @@
+-- The providers that are reached upwards from one are those below which it is.
+use Rattle.std.specs.Prelude.{◌≡◌, ◌≢◌, ℕ, zero, suc, ◌+◌, ◌<◌, ◌≤◌, ◌==◌, Bool, true, false, not, List, [], ◌∷◌, ◌++◌, length, map, flat_map, fold, Option, Some, None, Contains, IsSomeAnd, slice_get, if◌then◌else◌}
+use Rattle.std.specs.List.{AllByRecursion}
+use Rattle.std.specs.Option.{option_map_or}
+use Rattle.std.proofs.Common.{refl, sym, ◌∙◌, ap, subst, arith, inl, inr}
+use Rattle.std.proofs.lemmas.Bool.{cases_eq, cases_lt, eq-eqb, eqb-true, ne_eqb, false_from_ne_true, or_parts}
+use Rattle.std.proofs.lemmas.List.{length-append, length-map}
+use Rattle.std.proofs.lemmas.List.Elements.{All-contains, Contains-append_left, Contains-append_right, Contains-append_cases}
+use Rattle.geo_model.specs.Words.{names_number}
+use Rattle.geo_model.specs.Topology.{Topology, Provider, Consumer, provider_at, consumers_of, providers_of, providers_under, attached_to}
+use Rattle.geo_model.specs.Opens.{below, below_within, is_below}
+use Rattle.geo_model.specs.World.{Config}
+use Rattle.geo_model.proofs.DemandLemmas.{names_some}
+use Rattle.geo_mesh.specs.Graph.{IsSoundGraph, IsOffer}
+use Rattle.geo_laws_graph.specs.LookupLaws.{EachIsFound, left_from}
+use Rattle.geo_laws_graph.proofs.Found.{each-found}
+use Rattle.geo_laws_graph.proofs.Members.{Origin, Contains-here, Contains-there, Contains-cases, Contains-filter, Contains-map, at_contained, filter-Contains, filter_map-Contains, find-Contains, map-Contains, nothing_in}
+use Rattle.geo_laws_graph.proofs.Numbered.{any-contained, number_found}
+use Rattle.geo_laws_counts.proofs.Members.{flat_map_cases, in_flat_map}
+use Rattle.geo_laws_counts.proofs.Reach.{below_closed, below_self}
+use Rattle.geo_laws_life.proofs.Standers.{PairsByRecursion}
+use Rattle.geo_laws_making.proofs.Concats.{no_more}
+use Rattle.geo_life.specs.Life.{consumers_above}
+use Rattle.geo_commands.specs.Above.{has_number, offers_of, users_of, with_number}
+
+-- Numbers
+
+-- a number that is contained is among them
+has-contained : (ns : List ℕ) (n : ℕ) → Contains ns n → has_number ns n ≡ true
+has-contained ns n there = any-contained (λ m. m == n) ns n there (eq-eqb n n refl)
+
+-- and one that is among them is contained
+contained-has : (ns : List ℕ) (n : ℕ) → has_number ns n ≡ true → Contains ns n
+contained-has [] n never = absurd (cc)
+contained-has (m ∷ ns) n has =
+    elim (cases_eq m n) [
+      | inl same ↦ subst (λ k. Contains (m ∷ ns) k) same (Contains-here m ns)
+      | inr other ↦
+          (let rest : has_number ns n ≡ true = rw (ne_eqb m n other) at has in
+          Contains-there m n ns (contained-has ns n rest))
+    ]
+
+-- a number behind them keeps those that were there
+with-old : (ns : List ℕ) (m n : ℕ) → Contains ns n → Contains (with_number ns m) n
+with-old ns m n there = by (has_number ns m)
+  where
+    by : (b : Bool) → Contains (if b then ns else ns ++ m ∷ []) n
+    by true = there
+    by false = Contains-append_left ns (m ∷ []) n there
+
+-- it is there then
+with-new : (ns : List ℕ) (m : ℕ) → Contains (with_number ns m) m
+with-new ns m = by (has_number ns m) refl
+  where
+    by : (b : Bool) → has_number ns m ≡ b → Contains (if b then ns else ns ++ m ∷ []) m
+    by true e = contained-has ns m e
+    by false e = Contains-append_right ns (m ∷ []) m (Contains-here m [])
+
+-- and nothing else
+with-only : (P : ℕ → Type 0) (ns : List ℕ) (m : ℕ) → ((n : ℕ) → Contains ns n → P n) → P m → (n : ℕ)
+    → Contains (with_number ns m) n → P n
+with-only P ns m old new n there = by (has_number ns m) there
+  where
+    by : (b : Bool) → Contains (if b then ns else ns ++ m ∷ []) n → P n
+    by true here = old n here
+    by false here =
+        elim (Contains-append_cases ns (m ∷ []) n here) [
+          | inl was ↦ old n was
+          | inr last ↦
+              elim (Contains-cases m n [] last) [
+                | inl same ↦ subst P same new
+                | inr never ↦ absurd (nothing_in n never)
+              ]
+        ]
+
+-- what stands at a place stays there
+with-place : (ns : List ℕ) (m k n : ℕ) → slice_get ns k ≡ Some n → slice_get (with_number ns m) k ≡ Some n
+with-place ns m k n is = by (has_number ns m)
+  where
+    front : (xs ys : List ℕ) (j : ℕ) → slice_get xs j ≡ Some n → slice_get (xs ++ ys) j ≡ Some n
+    front [] ys j never = absurd (cc)
+    front (x ∷ xs) ys zero e = e
+    front (x ∷ xs) ys (suc j) e = front xs ys j e
+
+    by : (b : Bool) → slice_get (if b then ns else ns ++ m ∷ []) k ≡ Some n
+    by true = is
+    by false = front ns (m ∷ []) k is
+
+-- what is apart stays so
+pairs-with : (ns : List ℕ) (m : ℕ) → PairsByRecursion (λ a b. a ≢ b) ns → has_number ns m ≡ false
+    → PairsByRecursion (λ a b. a ≢ b) (ns ++ m ∷ [])
+pairs-with [] m apart none = (tt, tt)
+pairs-with (n ∷ ns) m apart none =
+    let parts = or_parts (n == m) (has_number ns m) none in
+    (all-but ns apart.0 parts.0, pairs-with ns m apart.1 parts.1)
+  where
+    all-but : (ks : List ℕ) → AllByRecursion (λ b. n ≢ b) ks → (n == m) ≡ false
+        → AllByRecursion (λ b. n ≢ b) (ks ++ m ∷ [])
+    all-but [] facts other =
+        ((λ same. let never : true ≡ false = sym (eq-eqb n m same) ∙ other in absurd (cc)), tt)
+    all-but (k ∷ ks) facts other = (facts.0, all-but ks facts.1 other)
+
+with-apart : (ns : List ℕ) (m : ℕ) → PairsByRecursion (λ a b. a ≢ b) ns
+    → PairsByRecursion (λ a b. a ≢ b) (with_number ns m)
+with-apart ns m apart = by (has_number ns m) refl
+  where
+    by : (b : Bool) → has_number ns m ≡ b → PairsByRecursion (λ a b. a ≢ b) (if b then ns else ns ++ m ∷ [])
+    by true e = apart
+    by false e = pairs-with ns m apart e
+
+with-length : (ns : List ℕ) (m : ℕ) → length ns ≤ length (with_number ns m)
+with-length ns m = by (has_number ns m)
+  where
+    by : (b : Bool) → length ns ≤ length (if b then ns else ns ++ m ∷ [])
+    by true = omega arith
+    by false = let more = length-append ns (m ∷ []) in omega (arith, more)
+
+-- so where many are put behind them
+
+pub all-old : (ms ns : List ℕ) (n : ℕ) → Contains ns n → Contains (fold with_number ns ms) n
+all-old [] ns n there = there
+all-old (m ∷ ms) ns n there = all-old ms (with_number ns m) n (with-old ns m n there)
+
+pub all-new : (ms ns : List ℕ) (n : ℕ) → Contains ms n → Contains (fold with_number ns ms) n
+all-new [] ns n never = absurd (nothing_in n never)
+all-new (m ∷ ms) ns n there =
+    elim (Contains-cases m n ms there) [
+      | inl same ↦ all-old ms (with_number ns m) n (subst (λ k. Contains (with_number ns m) k) same (with-new ns m))
+      | inr rest ↦ all-new ms (with_number ns m) n rest
+    ]
+
+pub all-only : (P : ℕ → Type 0) (ms ns : List ℕ) → ((n : ℕ) → Contains ns n → P n) → ((n : ℕ) → Contains ms n → P n)
+    → (n : ℕ) → Contains (fold with_number ns ms) n → P n
+all-only P [] ns old new n there = old n there
+all-only P (m ∷ ms) ns old new n there =
+    all-only P ms (with_number ns m) (with-only P ns m old (new m (Contains-here m ms)))
+    (λ k here. new k (Contains-there m k ms here)) n there
+
+pub all-place : (ms ns : List ℕ) (k n : ℕ) → slice_get ns k ≡ Some n
+    → slice_get (fold with_number ns ms) k ≡ Some n
+all-place [] ns k n is = is
+all-place (m ∷ ms) ns k n is = all-place ms (with_number ns m) k n (with-place ns m k n is)
+
+pub all-apart : (ms ns : List ℕ) → PairsByRecursion (λ a b. a ≢ b) ns
+    → PairsByRecursion (λ a b. a ≢ b) (fold with_number ns ms)
+all-apart [] ns apart = apart
+all-apart (m ∷ ms) ns apart = all-apart ms (with_number ns m) (with-apart ns m apart)
+
+pub all-length : (ms ns : List ℕ) → length ns ≤ length (fold with_number ns ms)
+all-length [] ns = omega arith
+all-length (m ∷ ms) ns =
+    let one = with-length ns m in
+    let rest = all-length ms (with_number ns m) in
+    omega (arith, one, rest)
+
+-- Loops
+
+-- numbers of some lists, one list after another
+pub fold-behind : (xs ys ns : List ℕ) → fold with_number ns (xs ++ ys) ≡ fold with_number (fold with_number ns xs) ys
+fold-behind [] ys ns = refl
+fold-behind (x ∷ xs) ys ns = fold-behind xs ys (with_number ns x)
+
+-- while they are gathered: it is below each of them, it is among them, those right above the first ones are, and no
+-- provider is among them twice
+pub record IsReached (t : Topology Config) (prov : ℕ) (above : List ℕ) (next : ℕ) : Type 0 where
+  pub sound_so_far : (p : ℕ) → Contains above p → Contains (below t p) prov
+  pub first : Contains above prov
+  pub closed : (k p : ℕ) → k < next → slice_get above k ≡ Some p → (y : ℕ) → Contains (users_of t p) y
+      → Contains above y
+  pub apart : PairsByRecursion (λ a b. a ≢ b) above
+  pub among : (p : ℕ) → Contains above p → Contains (prov ∷ map (λ (x : Provider). x.number) t.providers) p
+  pub far : next ≤ length above
+
+-- so there are no more than providers, and one
+pub reached-few : (t : Topology Config) (prov : ℕ) (above : List ℕ) (next : ℕ) → IsReached t prov above next
+    → length above ≤ length t.providers + 1
+reached-few t prov above next is =
+    let few = no_more above (prov ∷ map (λ (x : Provider). x.number) t.providers) is.apart is.among in
+    let many = length-map t.providers (λ (x : Provider). x.number) in
+    omega (arith, few, many)
+
+-- a place where nothing stands is past the end
+pub past-of : (xs : List ℕ) (i : ℕ) → slice_get xs i ≡ None → length xs ≤ i
+past-of [] i none = omega arith
+past-of (x ∷ xs) zero never = absurd (cc)
+past-of (x ∷ xs) (suc i) none = let rest = past-of xs i none in omega (arith, rest)
+
+-- the next provider of a walk, put behind them
+pub offers-next : (ps : List Provider) (ns now : List ℕ) (low after : ℕ) (x : Provider)
+    → left_from (λ (y : Provider). y.number) low ps ≡ x ∷ left_from (λ (y : Provider). y.number) after ps
+    → now ≡ with_number ns x.number
+    → fold with_number now (map (λ (y : Provider). y.number) (left_from (λ (y : Provider). y.number) after ps))
+    ≡ fold with_number ns (map (λ (y : Provider). y.number) (left_from (λ (y : Provider). y.number) low ps))
+offers-next ps ns now low after x left is =
+    ap (λ (xs : List ℕ). fold with_number xs
+    (map (λ (y : Provider). y.number) (left_from (λ (y : Provider). y.number) after ps))) is
+    ∙ sym (ap (λ (qs : List Provider). fold with_number ns (map (λ (y : Provider). y.number) qs)) left)
+
+-- those of the geom of the next consumer
+pub users-next : (t : Topology Config) (cs : List Consumer) (ns now : List ℕ) (low after : ℕ) (x : Consumer)
+    → left_from (λ (y : Consumer). y.number) low cs ≡ x ∷ left_from (λ (y : Consumer). y.number) after cs
+    → now ≡ fold with_number ns (offers_of t x.geom)
+    → fold with_number now
+    (flat_map (λ (d : Consumer). offers_of t d.geom) (left_from (λ (y : Consumer). y.number) after cs))
+    ≡ fold with_number ns
+    (flat_map (λ (d : Consumer). offers_of t d.geom) (left_from (λ (y : Consumer). y.number) low cs))
+users-next t cs ns now low after x left is =
+    let rest : List ℕ =
+    flat_map (λ (d : Consumer). offers_of t d.geom) (left_from (λ (y : Consumer). y.number) after cs) in
+    ap (λ (xs : List ℕ). fold with_number xs rest) is
+    ∙ sym (fold-behind (offers_of t x.geom) rest ns)
+    ∙ sym (ap (λ (ds : List Consumer). fold with_number ns (flat_map (λ (d : Consumer). offers_of t d.geom) ds)) left)
+
+-- What is reached downwards
+
+module _ (t : Topology Config) (sound : IsSoundGraph t) where
+  -- the one provider is right under the other
+  pub record IsUnder (y p : ℕ) : Type 0 where
+    pub provider : Provider
+    pub found : provider_at t y ≡ Some provider
+    pub consumer : Consumer
+    pub stands : Contains t.consumers consumer
+    pub geom : consumer.geom ≡ provider.geom
+    pub attached : consumer.provider ≡ Some p
+
+  -- what is under the geom of a provider is under the provider
+  under-of : (y p : ℕ) (x : Provider) → provider_at t y ≡ Some x → Contains (providers_under t x.geom) p → IsUnder y p
+  under-of y p x found there =
+      let o : Origin (λ (c : Consumer). c.provider ≡ Some p) (consumers_of t x.geom) =
+      filter_map-Contains (λ (c : Consumer). c.provider) (consumers_of t x.geom) p there in
+      let c = filter-Contains (λ (d : Consumer). d.geom == x.geom) t.consumers o.item o.stands in
+      record {
+        provider = x;
+        found = found;
+        consumer = o.item;
+        stands = c.0;
+        geom = eqb-true o.item.geom x.geom c.1;
+        attached = o.fact;
+      }
+
+  -- a fact that goes down from each provider to those right under it holds of all that is reached
+  least : (P : ℕ → Type 0) → ((y p : ℕ) → P y → IsUnder y p → P p) → (k y : ℕ) → P y → (z : ℕ)
+      → Contains (below_within k t y) z → P z
+  least P down zero y fact z there =
+      elim (Contains-cases y z [] there) [
+        | inl same ↦ subst P same fact
+        | inr never ↦ absurd (nothing_in z never)
+      ]
+  least P down (suc k) y fact z there =
+      elim (Contains-cases y z _ there) [
+        | inl same ↦ subst P same fact
+        | inr rest ↦ by (provider_at t y) refl rest (λ m is. least P down k m is z)
+      ]
+    where
+      by : (o : Option Provider) → provider_at t y ≡ o
+          → Contains (option_map_or (λ (x : Provider). flat_map (below_within k t) (providers_under t x.geom)) o []) z
+          → ((m : ℕ) → P m → Contains (below_within k t m) z → P z) → P z
+      by None e never deeper = absurd (nothing_in z never)
+      by (Some x) e here deeper =
+          let c = flat_map_cases (below_within k t) (providers_under t x.geom) z here in
+          deeper c.0 (down y c.0 fact (under-of y c.0 x e c.1)) c.2
+
+  -- what is right above a provider: it is right under them
+  users-under : (p y : ℕ) → Contains (users_of t p) y → IsUnder y p
+  users-under p y there =
+      let c = flat_map_cases (λ (d : Consumer). offers_of t d.geom) (consumers_above t p) y there in
+      let x : Origin (λ (z : Provider). z.number ≡ y) (providers_of t c.0.geom) =
+      map-Contains (λ (z : Provider). z.number) (providers_of t c.0.geom) y c.2 in
+      let own = filter-Contains (λ (z : Provider). z.geom == c.0.geom) t.providers x.item x.stands in
+      let above = filter-Contains (λ (d : Consumer). not (d.geom == 1)) (attached_to t p) c.0 c.1 in
+      let at = filter-Contains (λ (d : Consumer). names_number d.provider p) t.consumers c.0 above.0 in
+      let each : EachIsFound Config = each-found in
+      record {
+        provider = x.item;
+        found = subst (λ n. provider_at t n ≡ Some x.item) x.fact
+            (at_contained (λ (z : Provider). provider_at t z.number ≡ Some z) t.providers x.item
+            (each.providers t sound.orderly.order) own.0);
+        consumer = c.0;
+        stands = at.0;
+        geom = sym (eqb-true x.item.geom c.0.geom own.1);
+        attached = names_some c.0.provider p at.1;
+      }
+
+  -- and each under which it is right is among them
+  under-users : (p y : ℕ) → IsUnder y p → Contains (users_of t p) y
+  under-users p y is =
+      let there : Contains t.providers is.provider =
+      find-Contains (λ (z : Provider). z.number == y) t.providers is.provider is.found in
+      let offer : IsOffer is.provider =
+      All-contains (λ (z : Provider). IsOffer z) t.providers is.provider sound.orderly.offers there in
+      let number : is.provider.number ≡ y =
+      number_found (λ (z : Provider). z.number) t.providers y is.provider is.found in
+      let at : Contains (attached_to t p) is.consumer =
+      Contains-filter (λ (d : Consumer). names_number d.provider p) t.consumers is.consumer is.stands
+      (ap (λ o. names_number o p) is.attached ∙ eq-eqb p p refl) in
+      let above : Contains (consumers_above t p) is.consumer =
+      Contains-filter (λ (d : Consumer). not (d.geom == 1)) (attached_to t p) is.consumer at
+      (ap not (ne_eqb is.consumer.geom 1 (λ same. offer.not_dev (sym is.geom ∙ same)))) in
+      in_flat_map (λ (d : Consumer). offers_of t d.geom) (consumers_above t p) is.consumer y above
+      (subst (λ n. Contains (offers_of t is.consumer.geom) n) number
+      (Contains-map (λ (z : Provider). z.number) (providers_of t is.consumer.geom) is.provider
+      (Contains-filter (λ (z : Provider). z.geom == is.consumer.geom) t.providers is.provider there
+      (eq-eqb is.provider.geom is.consumer.geom (sym is.geom)))))
+
+  -- below a provider stands what is below those right under it
+  below-more : (p y z : ℕ) → IsUnder y p → Contains (below t p) z → Contains (below t y) z
+  below-more p y z is there =
+      least (λ n. Contains (below t y) n)
+      (λ m n here under.
+      below_closed t sound.ranked y m n under.consumer under.stands under.attached
+      (subst (λ o. IsSomeAnd o (λ (x : Provider). x.geom ≡ under.consumer.geom)) (sym under.found) (sym under.geom))
+      here)
+      (length t.geoms) p
+      (below_closed t sound.ranked y y p is.consumer is.stands is.attached
+      (subst (λ o. IsSomeAnd o (λ (x : Provider). x.geom ≡ is.consumer.geom)) (sym is.found) (sym is.geom))
+      (below_self (length t.geoms) t y))
+      z there
+
+  module _ (prov : ℕ) where
+    pub reached-begin : IsReached t prov (prov ∷ []) 0
+    reached-begin = record {
+      sound_so_far = λ p there.
+          elim (Contains-cases prov p [] there) [
+            | inl same ↦ subst (λ n. Contains (below t n) prov) same (below_self (length t.geoms) t prov)
+            | inr never ↦ absurd (nothing_in p never)
+          ];
+      first = Contains-here prov [];
+      closed = λ k p less. absurd (omega (arith, less));
+      apart = (tt, tt);
+      among = λ p there.
+          elim (Contains-cases prov p [] there) [
+            | inl same ↦ subst (λ n. Contains (prov ∷ map (λ (x : Provider). x.number) t.providers) n) same
+                (Contains-here prov (map (λ (x : Provider). x.number) t.providers))
+            | inr never ↦ absurd (nothing_in p never)
+          ];
+      far = omega arith;
+    }
+
+    pub reached-on : (above : List ℕ) (next found : ℕ) → IsReached t prov above next → slice_get above next ≡ Some found
+        → IsReached t prov (fold with_number above (users_of t found)) (next + 1)
+    reached-on above next found is at =
+        let here : Contains above found = slot-there above next found at in
+        record {
+          sound_so_far =
+              all-only (λ p. Contains (below t p) prov) (users_of t found) above is.sound_so_far
+              (λ y user. below-more found y prov (users-under found y user) (is.sound_so_far found here));
+          first = all-old (users_of t found) above prov is.first;
+          closed = λ k p less place y user.
+              elim (cases_lt k next) [
+                | inl before ↦
+                    (let old : slice_get above k ≡ Some p = back k p before place in
+                    all-old (users_of t found) above y (is.closed k p before old y user))
+                | inr past ↦
+                    (let same : k ≡ next = omega (arith, less, past) in
+                    let one : Some p ≡ Some found =
+                    sym place ∙ ap (slice_get (fold with_number above (users_of t found))) same
+                    ∙ all-place (users_of t found) above next found at in
+                    let is_found : p ≡ found = cc in
+                    all-new (users_of t found) above y (subst (λ n. Contains (users_of t n) y) is_found user))
+              ];
+          apart = all-apart (users_of t found) above is.apart;
+          among =
+              all-only (λ p. Contains (prov ∷ map (λ (x : Provider). x.number) t.providers) p) (users_of t found) above
+              is.among
+              (λ y user.
+              Contains-there prov y (map (λ (x : Provider). x.number) t.providers)
+              (provider-number y (users-under found y user)));
+          far =
+              let longer = all-length (users_of t found) above in
+              let less : next < length above = slot-within above next found at in
+              omega (arith, longer, less);
+        }
+      where
+        slot-there : (xs : List ℕ) (i x : ℕ) → slice_get xs i ≡ Some x → Contains xs x
+        slot-there [] i x never = absurd (cc)
+        slot-there (y ∷ ys) zero x e =
+            let same : y ≡ x = cc in subst (λ n. Contains (y ∷ ys) n) same (Contains-here y ys)
+        slot-there (y ∷ ys) (suc i) x e = Contains-there y x ys (slot-there ys i x e)
+
+        slot-within : (xs : List ℕ) (i x : ℕ) → slice_get xs i ≡ Some x → i < length xs
+        slot-within [] i x never = absurd (cc)
+        slot-within (y ∷ ys) zero x e = omega arith
+        slot-within (y ∷ ys) (suc i) x e = let rest = slot-within ys i x e in omega (arith, rest)
+
+        -- a provider that is right above one is there
+        provider-number : (y : ℕ) → IsUnder y found
+            → Contains (map (λ (x : Provider). x.number) t.providers) y
+        provider-number y under =
+            subst (λ n. Contains (map (λ (x : Provider). x.number) t.providers) n)
+            (number_found (λ (z : Provider). z.number) t.providers y under.provider under.found)
+            (Contains-map (λ (z : Provider). z.number) t.providers under.provider
+            (find-Contains (λ (z : Provider). z.number == y) t.providers under.provider under.found))
+
+        -- an earlier place had something, and has it still
+        filled : (xs : List ℕ) (j i x : ℕ) → j < i → slice_get xs i ≡ Some x → (n : ℕ) × (slice_get xs j ≡ Some n)
+        filled [] j i x less never = absurd (cc)
+        filled (y ∷ ys) zero i x less e = (y, refl)
+        filled (y ∷ ys) (suc j) zero x less e = absurd (omega (arith, less))
+        filled (y ∷ ys) (suc j) (suc i) x less e = filled ys j i x (omega (arith, less)) e
+
+        back : (k p : ℕ) → k < next → slice_get (fold with_number above (users_of t found)) k ≡ Some p
+            → slice_get above k ≡ Some p
+        back k p before place =
+            let f = filled above k next found before at in
+            let same : Some f.0 ≡ Some p = sym (all-place (users_of t found) above k f.0 f.1) ∙ place in
+            let one : f.0 ≡ p = cc in
+            f.1 ∙ ap (λ n. Some n) one
+
+    -- at the end they are all below which it is
+    pub reached-end : (above : List ℕ) (next : ℕ) → IsReached t prov above next → length above ≤ next → (p : ℕ)
+        → has_number above p ≡ is_below t prov p
+    reached-end above next is past p = by (has_number above p) (is_below t prov p) refl refl
+      where
+        place-of : (xs : List ℕ) (x : ℕ) → Contains xs x → (k : ℕ) × ((k < length xs) × (slice_get xs k ≡ Some x))
+        place-of [] x never = absurd (nothing_in x never)
+        place-of (y ∷ ys) x there =
+            elim (Contains-cases y x ys there) [
+              | inl same ↦ (0, (omega arith, ap (λ n. Some n) same))
+              | inr rest ↦
+                  (let r = place-of ys x rest in
+                  let less = r.1.0 in (suc r.0, (omega (arith, less), r.1.1)))
+            ]
+
+        -- none that isn't among them leads down to one that is
+        apart : (y m : ℕ) → has_number above y ≡ false → IsUnder y m → has_number above m ≡ false
+        apart y m out under =
+            false_from_ne_true (has_number above m)
+            (λ inside.
+            let place = place-of above m (contained-has above m inside) in
+            let less = place.1.0 in
+            let there : Contains above y =
+            is.closed place.0 m (omega (arith, less, past)) place.1.1 y (under-users m y under) in
+            let never : true ≡ false = sym (has-contained above y there) ∙ out in cc)
+
+        by : (a b : Bool) → has_number above p ≡ a → is_below t prov p ≡ b → a ≡ b
+        by true true e f = refl
+        by false false e f = refl
+        by true false e f =
+            let told : is_below t prov p ≡ true =
+            has-contained (below t p) prov (is.sound_so_far p (contained-has above p e)) in
+            let never : true ≡ false = sym told ∙ f in absurd (cc)
+        by false true e f =
+            let out : has_number above prov ≡ false =
+            least (λ n. has_number above n ≡ false) (λ y m out under. apart y m out under) (length t.geoms) p e prov
+            (contained-has (below t p) prov f) in
+            let never : true ≡ false = sym (has-contained above prov is.first) ∙ out in absurd (cc)

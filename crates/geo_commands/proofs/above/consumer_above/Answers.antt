@@ -1,0 +1,21 @@
+use Rattle.std.proofs.Common.{sym}
+use Rattle.geo_access.proofs.Walking.{consumers_end}
+use Rattle.geo_life.specs.Life.{consumers_above}
+use Rattle.geo_life.proofs.Uppers.{above_next, above_some}
+use Rattle.geo_commands.proofs.above.consumer_above.Goals as goal
+
+pub returns-in_err-id : goal.returns-in_err-id
+returns-in_err-id c =
+    rw c.from_residual.ensures (consumers_end (consumers_above c.args.topo.now.topology c.args.prov) c.args.from
+    (sym c.in_err-id.ensures.first))
+
+pub returns-in_err-cons : goal.returns-in_err-cons
+returns-in_err-cons c =
+    absurd
+    (above_some c.args.topo.now.topology c.args.prov c.consumer.ensures.sound c.args.from c.in_ok-id.id
+    (sym c.in_ok-id.ensures.first) c.in_err-cons.ensures.consumer)
+
+pub returns : goal.returns
+returns c =
+    above_next c.args.topo.now.topology c.args.prov c.consumer.ensures.sound c.args.from c.in_ok-id.id
+    (sym c.in_ok-id.ensures.first) c.in_ok-cons.cons.now c.in_ok-cons.ensures.consumer

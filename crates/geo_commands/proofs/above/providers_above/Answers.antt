@@ -1,0 +1,36 @@
+use Rattle.std.proofs.Common.{◌∙◌, ◌+◌, ◌++◌, ◌∷◌, [], List, ℕ, slice_get, sym, ap, subst, arith}
+use Rattle.std.proofs.lemmas.Option.{slice_get_within}
+use Rattle.geo_commands.proofs.Reaching.{IsReached, past-of, reached-begin, reached-end, reached-few, reached-on}
+use Rattle.geo_commands.proofs.above.providers_above.Goals as goal
+
+pub loop-found-init : goal.loop-found-init
+loop-found-init c =
+    subst (λ (xs : List ℕ). IsReached c.args.topo.now.topology c.args.prov xs 0)
+    (sym (c.in_ok-push.ensures.items ∙ ap (λ (xs : List ℕ). xs ++ c.args.prov ∷ []) c.new-above.ensures.items))
+    (reached-begin c.args.topo.now.topology c.look.ensures c.args.prov)
+
+pub loop-found-preserved : goal.loop-found-preserved
+loop-found-preserved c =
+    subst (λ (xs : List ℕ). IsReached c.args.topo.now.topology c.args.prov xs (c.loop-found.next + 1))
+    (sym c.in_ok-push_users.ensures)
+    (reached-on c.args.topo.now.topology c.look.ensures c.args.prov c.loop-found.above.items c.loop-found.next
+    c.in-Some.found c.loop-found.invariant
+    (ap (λ (xs : List ℕ). slice_get xs c.loop-found.next) (sym c.deref.ensures.value)
+    ∙ sym c.at.ensures ∙ c.in-Some.is))
+
+pub loop-found-smaller : goal.loop-found-smaller
+loop-found-smaller c =
+    let few = reached-few c.args.topo.now.topology c.args.prov c.loop-found.above.items c.loop-found.next
+    c.loop-found.invariant in
+    let less = slice_get_within c.loop-found.above.items c.loop-found.next c.in-Some.found
+    (ap (λ (xs : List ℕ). slice_get xs c.loop-found.next) (sym c.deref.ensures.value)
+    ∙ sym c.at.ensures ∙ c.in-Some.is) in
+    omega (arith, few, less)
+
+pub returns : goal.returns
+returns c = λ p.
+    reached-end c.args.topo.now.topology c.look.ensures c.args.prov c.loop-found.above.items c.loop-found.next
+    c.loop-found.invariant
+    (past-of c.loop-found.above.items c.loop-found.next
+    (ap (λ (xs : List ℕ). slice_get xs c.loop-found.next) (sym c.deref.ensures.value)
+    ∙ sym c.at.ensures ∙ c.in_default.is)) p

@@ -1,0 +1,10 @@
+-- What was reached so far.
+use Rattle.std.proofs.Common.{◌+◌, ◌-◌, length}
+use Rattle.geo_commands.proofs.Reaching.{IsReached}
+use Rattle.geo_commands.proofs.above.providers_above.Given as goal
+
+abbrev pub invariant-loop-found : goal.invariant-loop-found
+invariant-loop-found l = IsReached l.topo.topology l.fn.prov l.above.items l.next
+
+abbrev pub decreases-loop-found : goal.decreases-loop-found
+decreases-loop-found l = length l.topo.topology.providers + 1 - l.next

@@ -1,0 +1,46 @@
+use Rattle.std.specs.Prelude.{IsSome}
+use Rattle.std.proofs.Common.{refl, sym, ◌∙◌, subst}
+use Rattle.geo_commands.proofs.Lengthened.{able_grows, able_kept, able_told}
+use Rattle.geo_commands.proofs.appends.add_with_room.Goals as goal
+
+pub returns-in-Some-clause-does : goal.returns-in-Some-clause-does
+returns-in-Some-clause-does g c = λ able actors log. record {
+  refused = sym c.in-Some.is ∙ c.in_ok-errno.ensures.answer able actors log;
+  made = λ line.
+      c.in_ok-errno.ensures.refused (subst (λ o. IsSome o) (sym c.in-Some.is) refl) actors log;
+}
+
+pub grow_provider-requires : goal.grow_provider-requires
+grow_provider-requires g c =
+    let may = able_grows c.args.state.now c.requires.kept c.requires.firm c.look.ensures c.args.growing.now
+    c.args.below.now c.requires.able c.join_component.new.state c.join_component.ensures.rest
+    (λ actors log. sym c.in_default.is ∙ c.in_ok-errno.ensures.answer c.requires.able actors log)
+    (c.in_ok-errno.ensures.joined c.in_default.is) c.in_ok-config.config (c.in_ok-config.ensures c.requires.able)
+    c.larger_size-size.result (c.larger_size-size.ensures c.requires.able) c.requires.room in
+    record {
+      stands = may.stands;
+      lives = may.lives;
+      sectors = may.sectors;
+      grows = may.grows;
+      made = may.made;
+      counted = may.counted;
+      room = may.room;
+    }
+
+pub returns-clause-does : goal.returns-clause-does
+returns-clause-does g c = λ able.
+    able_told c.args.state.now c.requires.kept c.requires.firm c.look.ensures c.args.growing.now c.args.below.now able
+    c.join_component.new.state c.join_component.ensures.rest
+    (λ actors log. sym c.in_default.is ∙ c.in_ok-errno.ensures.answer able actors log)
+    (c.in_ok-errno.ensures.joined c.in_default.is) c.in_ok-config.config (c.in_ok-config.ensures able)
+    c.larger_size-size.result (c.larger_size-size.ensures able) c.grow_provider.new.topo c.grow_provider.new.queue
+    c.grow_provider.ensures
+
+pub returns-clause-kept : goal.returns-clause-kept
+returns-clause-kept g c =
+    able_kept c.args.state.now c.requires.kept c.requires.firm c.look.ensures c.args.growing.now c.args.below.now
+    c.requires.able c.join_component.new.state c.join_component.ensures.rest
+    (λ actors log. sym c.in_default.is ∙ c.in_ok-errno.ensures.answer c.requires.able actors log)
+    (c.in_ok-errno.ensures.joined c.in_default.is) c.in_ok-config.config (c.in_ok-config.ensures c.requires.able)
+    c.larger_size-size.result (c.larger_size-size.ensures c.requires.able) c.grow_provider.new.topo
+    c.grow_provider.new.queue c.grow_provider.ensures c.requires.room

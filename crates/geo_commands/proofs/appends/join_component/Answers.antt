@@ -1,0 +1,45 @@
+use Rattle.geo_commands.proofs.Joined.{able-lives, able-stands, all-placed, answer-told, kept-told, next-unknown, room-told, same-told, used-told}
+use Rattle.geo_commands.proofs.appends.join_component.Goals as goal
+
+pub join_new-requires-clause-placed : goal.join_new-requires-clause-placed
+join_new-requires-clause-placed g c =
+    all-placed c.args.state.now c.requires.kept c.requires.firm c.look.ensures
+
+pub join_new-requires-clause-unknown : goal.join_new-requires-clause-unknown
+join_new-requires-clause-unknown g c =
+    next-unknown c.args.state.now c.requires.kept c.requires.firm c.look.ensures
+
+pub join_new-requires-clause-stands : goal.join_new-requires-clause-stands
+join_new-requires-clause-stands g c =
+    able-stands c.args.state.now c.requires.kept c.requires.firm c.look.ensures c.args.growing.now c.args.below.now
+    c.requires.able
+
+pub join_new-requires-clause-lives : goal.join_new-requires-clause-lives
+join_new-requires-clause-lives g c =
+    able-lives c.args.state.now c.requires.kept c.requires.firm c.look.ensures c.args.growing.now c.args.below.now
+    c.requires.able
+
+pub returns-clause-answer : goal.returns-clause-answer
+returns-clause-answer g c =
+    answer-told c.args.state.now c.requires.kept c.requires.firm c.look.ensures c.join_new.new.topo c.join_new.result
+    c.args.growing.now c.args.below.now c.join_new.ensures.answer
+
+pub returns-clause-refused : goal.returns-clause-refused
+returns-clause-refused g c =
+    used-told c.args.state.now c.requires.kept c.requires.firm c.look.ensures c.join_new.new.topo c.join_new.result
+    c.join_new.ensures.refused
+
+pub returns-clause-same : goal.returns-clause-same
+returns-clause-same g c =
+    same-told c.args.state.now c.requires.kept c.requires.firm c.look.ensures c.join_new.new.topo c.join_new.result
+    c.join_new.ensures.same
+
+pub returns-clause-kept : goal.returns-clause-kept
+returns-clause-kept g c =
+    kept-told c.args.state.now c.requires.kept c.requires.firm c.look.ensures c.join_new.new.topo c.join_new.result
+    c.join_new.ensures.refused
+
+pub returns-clause-kept_still : goal.returns-clause-kept_still
+returns-clause-kept_still g c =
+    room-told c.args.state.now c.requires.kept c.requires.firm c.look.ensures c.join_new.new.topo c.join_new.result
+    c.join_new.ensures.same

@@ -1,0 +1,60 @@
+use Rattle.std.specs.Prelude.{Some}
+use Rattle.std.proofs.Common.{ap, sym, ◌∙◌, arith}
+use Rattle.geo_commands.proofs.Appending.{comer_below, comer_counted, comer_free, comer_joined, comer_loose, comer_refusal, comer_used}
+use Rattle.geo_commands.proofs.growths.join_new.Goals as goal
+
+pub join-requires-clause-counted : goal.join-requires-clause-counted
+join-requires-clause-counted g c =
+    comer_counted c.args.topo.now c.new_consumer.new.self c.args.geom c.args.prov c.in_ok-cons.cons c.look.ensures
+    c.requires.counted c.requires.unknown c.in_ok-cons.ensures.added c.in_ok-cons.ensures.number
+
+pub join-requires-clause-loose : goal.join-requires-clause-loose
+join-requires-clause-loose g c =
+    comer_loose c.args.topo.now c.new_consumer.new.self c.args.geom c.args.prov c.in_ok-cons.cons c.look.ensures
+    c.requires.counted c.requires.unknown c.in_ok-cons.ensures.added c.in_ok-cons.ensures.number
+
+pub destroy_consumer-requires : goal.destroy_consumer-requires
+destroy_consumer-requires g c =
+    comer_free c.args.topo.now c.new_consumer.new.self c.args.geom c.args.prov c.in_ok-cons.cons c.look.ensures
+    c.requires.counted c.requires.unknown c.in_ok-cons.ensures.added c.in_ok-cons.ensures.number c.join.new.topo
+    c.in-Err.ensures.same
+
+pub returns-in-Err-clause-answer : goal.returns-in-Err-clause-answer
+returns-in-Err-clause-answer g c =
+    ap (λ e. Some e) c.errno_of_join.ensures ∙ sym c.in-Err.ensures.answer
+    ∙ comer_refusal c.args.topo.now c.new_consumer.new.self c.args.geom c.args.prov c.in_ok-cons.cons c.look.ensures
+    c.requires.counted c.requires.unknown c.in_ok-cons.ensures.added c.in_ok-cons.ensures.number
+
+pub returns-in-Err-clause-refused : goal.returns-in-Err-clause-refused
+returns-in-Err-clause-refused g c = λ some.
+    comer_used c.args.topo.now c.new_consumer.new.self c.args.geom c.args.prov c.in_ok-cons.cons c.look.ensures
+    c.requires.counted c.requires.unknown c.in_ok-cons.ensures.added c.in_ok-cons.ensures.number c.join.new.topo
+    c.destroy_consumer.new.self c.in-Err.ensures.same c.destroy_consumer.ensures
+
+pub returns-in-Err-clause-bound : goal.returns-in-Err-clause-bound
+returns-in-Err-clause-bound g c =
+    let most = c.join.ensures.bound in
+    let more = comer_below c.args.topo.now c.new_consumer.new.self c.args.geom c.args.prov c.in_ok-cons.cons
+    c.look.ensures
+    c.requires.counted c.requires.unknown c.in_ok-cons.ensures.added c.in_ok-cons.ensures.number in
+    omega (arith, most, more)
+
+pub returns-clause-answer : goal.returns-clause-answer
+returns-clause-answer g c =
+    sym c.in_default.ensures.answer
+    ∙ comer_refusal c.args.topo.now c.new_consumer.new.self c.args.geom c.args.prov c.in_ok-cons.cons c.look.ensures
+    c.requires.counted c.requires.unknown c.in_ok-cons.ensures.added c.in_ok-cons.ensures.number
+
+pub returns-clause-joined : goal.returns-clause-joined
+returns-clause-joined g c = λ none.
+    comer_joined c.args.topo.now c.new_consumer.new.self c.args.geom c.args.prov c.in_ok-cons.cons c.look.ensures
+    c.requires.counted c.requires.unknown c.in_ok-cons.ensures.added c.in_ok-cons.ensures.number c.join.new.topo
+    c.in_default.ensures.joined c.in_default.ensures.counted c.in_default.ensures.risen
+
+pub returns-clause-bound : goal.returns-clause-bound
+returns-clause-bound g c =
+    let most = c.join.ensures.bound in
+    let more = comer_below c.args.topo.now c.new_consumer.new.self c.args.geom c.args.prov c.in_ok-cons.cons
+    c.look.ensures
+    c.requires.counted c.requires.unknown c.in_ok-cons.ensures.added c.in_ok-cons.ensures.number in
+    omega (arith, most, more)

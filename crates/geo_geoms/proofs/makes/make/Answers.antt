@@ -1,8 +1,0 @@
-use Rattle.geo_geoms.proofs.Grown.{grown-kept}
-use Rattle.geo_geoms.proofs.makes.make.Goals as goal
-
-pub returns-clause-kept : goal.returns-clause-kept
-returns-clause-kept c =
-    grown-kept c.args.state.now c.grow.new.state c.args.geom c.args.below.now c.args.offer.now
-    c.in_ok-grow.ensures.grown c.requires.kept c.look.ensures c.requires.kind c.requires.stands c.requires.firm
-    c.requires.no_disk

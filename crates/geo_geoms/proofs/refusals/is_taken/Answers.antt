@@ -1,7 +1,0 @@
-use Rattle.std.proofs.Common.{sym, ◌∙◌}
-use Rattle.geo_geoms.proofs.Joining.{not_taken}
-use Rattle.geo_geoms.proofs.refusals.is_taken.Goals as goal
-
-pub returns-in-None : goal.returns-in-None
-returns-in-None c = λ bytes is.
-    not_taken c.args.topo.now.topology bytes c.requires.named (sym is ∙ c.in-None.is)

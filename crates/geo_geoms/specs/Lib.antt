@@ -1,6 +1,0 @@
-pub mod Names
-pub mod Below
-pub mod Disks
-pub mod Makes
-pub mod Above
-pub mod Appends

@@ -1,0 +1,126 @@
+-- What a whole run keeps, and when it has to succeed.
+use Rattle.std.specs.Prelude.{◌≡◌, ◌≢◌, ◌⊎◌, ℕ, ◌+◌, ◌≤◌, List, [], ◌++◌, length, unwrap_or, IsSome, IsSomeAnd, IfSome, IfNone, All, Err, ⊤}
+use Rattle.geo_base.specs.Faults.{Rose, RoseBy}
+use Rattle.geo_model.specs.declared.command.DiskDecl.{DiskDecl}
+use Rattle.geo_model.specs.declared.step.Entry.{Entry}
+use Rattle.geo_model.specs.World.{World, Plan}
+use Rattle.geo_model.specs.Opening.{opening}
+use Rattle.geo_model.specs.Log.{Fits}
+use Rattle.geo_model.specs.Script.{script, Fault, IsScript, empty_plan}
+use Rattle.geo_headline.specs.Modes.{Mode, RunMode, GenMode, Accepts}
+use Rattle.geo_model.specs.History.{KeepsHistory, RanToItsEnd}
+use Rattle.geo_model.specs.FixedOrder.{StepOrder, FollowsOrder, FollowsJobs, JobsEndedIdle}
+use Rattle.geo_headline.specs.Outside.{Outside, ShelfView, kept_back, IsShelf, HasImage, DisksAreKept, OthersStay, ImagesStay, ImagesStand}
+use Rattle.geo_headline.specs.Endings.{Ending, BadWords, OutOfMemory, Call, status_of, due_text, BytesPass, order_of, script_of, script_limit, reported, IsWhole, HasLog, WasReadWhole, IsOpened, CauseOf, failed_takes, IsBeforeDisks}
+
+-- the mode and the plan are those of the words and of the text; a source that wasn't read to its end gives no plan
+pub record ReadAs (call : Call) (mode : Mode) (plan : Plan) : Type 0 where
+  pub mode_is : (m : Mode) → Accepts call.words m → m ≡ mode
+  pub plan_is : WasReadWhole call mode → (p : Plan) → IsScript (script_of mode call.text) p → p ≡ plan
+  pub no_plan : (f : Fault) → script (script_of mode call.text) ≡ Err f → plan ≡ empty_plan
+  pub not_read : (WasReadWhole call mode → ⊥) → plan ≡ empty_plan
+
+-- what a status of 4 means: the sink's faults rose, and a first part of the due text is written, with some left
+pub record IsCutOff (call : Call) (due : List ℕ) : Type 0 where
+  pub fault : Rose call.before.sink.faults call.after.sink.faults
+  pub rest : List ℕ
+  pub some_left : rest ≢ []
+  pub written : call.written ++ rest ≡ due
+
+-- at any other status the whole of the due text is written
+pub record IsWritten (call : Call) (ending : Ending) (due : List ℕ) : Type 0 where
+  pub status : call.status ≡ status_of ending
+  pub written : call.written ≡ due
+
+pub record Prints (call : Call) (ending : Ending) (due : List ℕ) : Type 0 where
+  pub cut_off : call.status ≡ 4 → IsCutOff call due
+  pub whole : call.status ≢ 4 → IsWritten call ending due
+
+-- each disk that was kept back, and a take that failed, is one more fault of the shelf; for each name that was kept
+-- back a give of it failed
+pub record LentAfter (ending : Ending) (before after : ShelfView) : Type 0 where
+  pub faults : RoseBy (failed_takes ending + length (kept_back before after)) before.faults after.faults
+  pub gives : All (λ name. Rose (before.give_faults name) (after.give_faults name)) (kept_back before after)
+
+-- with threads the log is what the jobs did and then what was left, and in a run to its end it says why the jobs ended
+pub record FollowsRun (order : StepOrder) (plan : Plan) (opened : World) (ending : Ending)
+    (log : List Entry) : Type 0 where
+  pub threads : List Entry
+  pub rest : List Entry
+  pub parts : log ≡ threads ++ rest
+  pub jobs : FollowsJobs order plan opened threads rest
+  pub idle : IsWhole ending → JobsEndedIdle plan opened threads rest
+
+-- the log stands in the order of the mode
+abbrev pub FollowsMode : Mode → Plan → World → Ending → List Entry → Type 0
+FollowsMode RunMode plan opened ending log = FollowsRun (order_of RunMode) plan opened ending log
+FollowsMode mode plan opened ending log = FollowsOrder (order_of mode) opened [] log
+
+-- the images stay where no log came; with threads nothing is said of them where memory ran out
+abbrev pub ImagesStayAt : Call → Ending → Type 0
+ImagesStayAt call OutOfMemory = (Accepts call.words RunMode → ⊥) → ImagesStay call.before.shelf call.after.shelf
+ImagesStayAt call _ = ImagesStay call.before.shelf call.after.shelf
+
+abbrev pub IsGen : Mode → Type 0
+IsGen (GenMode start count) = ⊤
+IsGen _ = ⊥
+
+abbrev pub IsBadWords : Ending → Type 0
+IsBadWords BadWords = ⊤
+IsBadWords _ = ⊥
+
+-- the source stays where it isn't read, and the shelf where no disk is taken
+pub record LeavesOutside (mode : Mode) (ending : Ending) (before after : Outside) : Type 0 where
+  pub source : IsGen mode ⊎ IsBadWords ending → after.source ≡ before.source
+  pub shelf : IsGen mode ⊎ IsBeforeDisks ending → after.shelf ≡ before.shelf
+
+-- Whatever the interleaving, everything printed is the report of the history kept under the topology lock, which
+-- replays from the opening; at every prefix counts are sums of open demands and no writer stands beside another's
+-- exclusive right; opens are refused exactly where the mesh forbids; every accepted bio completes once, and if
+-- successful through exactly its flat map's sectors; geoms are freed only closed, detached and idle.
+pub record KeepsAll (call : Call) (mode : Mode) (plan : Plan) (ending : Ending) : Type 0 where
+  pub read_as : ReadAs call mode plan
+  pub bytes : BytesPass call
+  pub cause : CauseOf call mode plan ending
+  pub prints : Prints call ending (due_text (reported mode plan (opening plan call.facts) call.log) ending)
+  pub has_log : HasLog ending call.log
+  pub is_opened : IsSome call.log → IsOpened call mode plan
+  pub history : IfSome call.log (KeepsHistory (opening plan call.facts))
+  pub to_its_end : IsWhole ending → IfSome call.log (RanToItsEnd (opening plan call.facts))
+  pub order : IfSome call.log (FollowsMode mode plan (opening plan call.facts) ending)
+  pub fits : IfSome call.log (Fits (opening plan call.facts))
+  pub disks : IfSome call.log (DisksAreKept plan call.before.shelf call.after.shelf)
+  pub lent : LentAfter ending call.before.shelf call.after.shelf
+  pub others : OthersStay plan call.before.shelf call.after.shelf
+  pub images : IfNone call.log (ImagesStayAt call ending)
+  pub images_stand : ImagesStand call.before.shelf call.after.shelf
+  pub outside : LeavesOutside mode ending call.before call.after
+
+-- Completeness
+
+-- no fault of the source, the sink or the shelf rose
+pub record NoFault (before after : Outside) : Type 0 where
+  pub source : Rose before.source.faults after.source.faults → ⊥
+  pub sink : Rose before.sink.faults after.sink.faults → ⊥
+  pub shelf : Rose before.shelf.faults after.shelf.faults → ⊥
+
+-- the shelf tells that it has an image for the disk
+abbrev pub IsToldThere : ShelfView → DiskDecl → Type 0
+IsToldThere shelf d = IsShelf d.kind → IsSomeAnd shelf.told (HasImage d)
+
+-- the text that the source has to give: what it had left where it tells that, else what it gave
+abbrev pub text_to_give : Call → List ℕ
+text_to_give call = unwrap_or call.before.source.left call.text
+
+-- the source has a script to give that isn't too long, and each of its disks is there
+abbrev pub GivesScript : Call → Mode → Type 0
+GivesScript call (GenMode start count) = ⊤
+GivesScript call _ =
+    (length (text_to_give call) ≤ script_limit)
+    × ((p : Plan) × IsScript (text_to_give call) p × All (IsToldThere call.before.shelf) p.disks)
+
+-- where the words are accepted, nothing fails and all is there, the status is 0, or 6 or 7
+abbrev pub IsComplete : Call → Type 0
+IsComplete call =
+    (mode : Mode) → Accepts call.words mode → NoFault call.before call.after → GivesScript call mode
+    → (call.status ≡ 0) ⊎ (call.status ≡ 6) ⊎ (call.status ≡ 7)

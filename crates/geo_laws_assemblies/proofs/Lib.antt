@@ -1,4 +1,0 @@
-pub mod Filled
-pub mod Finished
-pub mod MadeFree
-pub mod Placed

@@ -1,4 +1,0 @@
-pub mod Pieces
-pub mod Counted
-pub mod Wholes
-pub mod Joined

@@ -1,5 +1,0 @@
-use Rattle.geo_laws_bio_pieces.proofs.Pieces.{firm_meshes_lose_no_piece}
-use Rattle.geo_laws_bio_pieces.proofs.firm_meshes_lose_no_piece.Goals as goal
-
-pub returns : goal.returns
-returns c = firm_meshes_lose_no_piece

@@ -1,9 +1,0 @@
-//! Laws of the pieces of a request in a sound, steady and fitting mesh (g_bio(9)).
-#![tactic(auto)]
-
-ghost use Rattle.geo_laws_bio_pieces.specs.PieceLaws.{FirmMeshesLoseNoPiece};
-
-/// Each piece of a request has its consumer, and the pieces follow each other over the whole request.
-pub fn firm_meshes_lose_no_piece()
-    ensures { FirmMeshesLoseNoPiece }
-{}

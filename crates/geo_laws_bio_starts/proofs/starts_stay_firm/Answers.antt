@@ -1,5 +1,0 @@
-use Rattle.geo_laws_bio_starts.proofs.Starting.{starts_stay_firm}
-use Rattle.geo_laws_bio_starts.proofs.starts_stay_firm.Goals as goal
-
-pub returns : goal.returns
-returns c = starts_stay_firm

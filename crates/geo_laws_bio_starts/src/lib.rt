@@ -1,9 +1,0 @@
-//! The law that a Start leaves a mesh sound, steady and fitting (g_bio(9)).
-#![tactic(auto)]
-
-ghost use Rattle.geo_laws_bio_starts.specs.StartLaws.{StartsStayFirm};
-
-/// A bio is started, whichever way it goes, or it isn't Down.
-pub fn starts_stay_firm()
-    ensures { StartsStayFirm }
-{}

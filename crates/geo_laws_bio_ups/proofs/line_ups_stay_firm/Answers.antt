@@ -1,5 +1,0 @@
-use Rattle.geo_laws_bio_ups.proofs.Leaving.{line_ups_stay_firm}
-use Rattle.geo_laws_bio_ups.proofs.line_ups_stay_firm.Goals as goal
-
-pub returns : goal.returns
-returns c = line_ups_stay_firm

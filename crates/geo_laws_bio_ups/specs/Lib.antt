@@ -1,3 +1,0 @@
-pub mod UpLaws
-pub mod ServingLaws
-pub mod BioStepLaws

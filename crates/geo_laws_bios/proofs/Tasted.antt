@@ -1,0 +1,540 @@
+-- The read of a taste comes back: its root goes, the taste has the result, and nothing is granted to it.
+use Rattle.std.specs.Prelude.{◌≡◌, ◌⊎◌, ℕ, ◌/◌, ◌<◌, ◌≤◌, ◌==◌, Bool, true, false, not, ◌&&◌, ◌||◌, List, [], ◌∷◌, length, map, filter, find, count_by, Option, Some, None, All, Contains, IsSome, IsSomeAnd, IfSome, IsTrue, unwrap_or}
+use Rattle.std.specs.List.{list_any}
+use Rattle.std.specs.Option.{option_map_or}
+use Rattle.std.proofs.Common.{inl, inr, refl, sym, ◌∙◌, ap, subst, arith}
+use Rattle.std.proofs.lemmas.Bool.{eq-eqb, eqb-true, not_from_false, not-true, and_right, or_cases, or_left, or_right, false_from_ne_true}
+use Rattle.std.proofs.lemmas.List.Elements.{All-filter, All-weaker, All-contains, All-contains_itself}
+use Rattle.std.proofs.lemmas.List.Kept.{AllPairs-filter}
+use Rattle.std.proofs.lemmas.List.Sums.{length-filter}
+use Rattle.geo_base.specs.declared.request.Counts.{Counts}
+use Rattle.geo_base.specs.declared.kind.Kind.{Kind}
+use Rattle.geo_base.specs.declared.kind.Kind.TheVariants as kinds
+use Rattle.geo_model.specs.declared.step.BioResult.{BioResult}
+use Rattle.geo_model.specs.declared.step.BioResult.TheVariants as results
+use Rattle.geo_model.specs.declared.step.Owner.{Owner}
+use Rattle.geo_model.specs.declared.step.Owner.TheVariants as owners
+use Rattle.geo_model.specs.Words.{is_kind, is_read, names_number}
+use Rattle.geo_model.specs.Topology.{Topology, Geom, Provider, Consumer, geom_at, provider_at, consumer_at, providers_of, consumers_of}
+use Rattle.geo_model.specs.Demand.{have, want, is_zero, no_counts, want_of_kind}
+use Rattle.geo_model.specs.World.{World, Bio, Config, Handle, Taste, Asked, NoClass, NextSector, ReadOut, ReadBack, granted_in, taste_grant, bio_at, is_root, is_taste_root, is_read_out, is_waiting, is_done, is_up, is_busy, is_sent}
+use Rattle.geo_model.specs.Place.{disk_of}
+use Rattle.geo_model.specs.Bios.{disk_of_bio, up_taste, without_bio}
+use Rattle.geo_model.specs.Sound.{IsTasting, IsHandleConsumer, HasItsConsumer, HandlesHold, LeadsDown, IsPlaced, IsTasteInOrder, HasItsChain, ChainHolds, class_asked, IsOfItsClass}
+use Rattle.geo_model.specs.SoundBios.{IsBioInOrder, IsFamilyInOrder, HasItsParent, HasCountFor, NotBothBusy}
+use Rattle.geo_model.specs.Steady.{HasItsComponents, ComesFromItsOwner, HasItsResult, FitsBio}
+use Rattle.geo_model.specs.Fitting.{Firm, IsAskedInOrder, IsOneSector}
+use Rattle.geo_laws_counts.specs.CountWords.{IsAtMost, AreAtMost}
+use Rattle.geo_laws_counts.proofs.Sums.{at_most-same, at_most-zero, at_most-under, zero-test}
+use Rattle.geo_laws_counts.proofs.Levels.{have-at_most}
+use Rattle.geo_laws_counts.proofs.Keeping.{exclusive_less, limit_less}
+use Rattle.geo_laws_graph.proofs.Lists.{numbers-kept, filter-filter, found_itself}
+use Rattle.geo_laws_graph.proofs.Living.{if_some_weaker}
+use Rattle.geo_laws_graph.proofs.Members.{find-Contains, filter-Contains, Contains-filter, Contains-cases, nothing_in, at_contained}
+use Rattle.geo_laws_graph.proofs.Numbered.{any-contained, number_found}
+use Rattle.geo_laws_bios.specs.BioFrames.{BiosHold, RestNumbersHold, GraphHolds, SizesHold, RestHolds}
+use Rattle.geo_laws_bios.specs.UpLaws.{TasteUpsStayFirm}
+use Rattle.geo_laws_bios.proofs.Apart.{bios_of, rest_of, firm_of}
+use Rattle.geo_laws_bios.proofs.Items.{none_passes, some_weaker}
+use Rattle.geo_laws_bios.proofs.Phases.{not_waiting}
+use Rattle.geo_laws_bios.proofs.Turning.{found_there}
+use Rattle.geo_laws_bios.proofs.Owners.{parent_stays}
+use Rattle.geo_laws_bios.proofs.Leaving.{family_kept, has_result}
+use Rattle.geo_laws_bios.specs.PieceLaws.{SourceServes}
+use Rattle.geo_laws_bios.proofs.Serving.{all_serve}
+
+-- Lists
+
+-- a list of at most one item that has one, has just that
+single : {X : Type 0} (x : X) (xs : List X) → length xs ≤ 1 → Contains xs x → xs ≡ x ∷ []
+single x [] short here = absurd (nothing_in x here)
+single x (y ∷ []) short here = elim (Contains-cases y x [] here) [
+  | inl same ↦ ap (λ z. z ∷ []) same
+  | inr rest ↦ absurd (nothing_in x rest)
+]
+single x (y ∷ z ∷ zs) short here = absurd (omega (arith, short))
+
+-- where nothing is kept, nothing passes
+none_by : {X : Type 0} (test : X → Bool) (x : X) (xs : List X) (b : Bool) → test x ≡ b → filter test (x ∷ xs) ≡ []
+    → (filter test xs ≡ [] → list_any test xs ≡ false) → list_any test (x ∷ xs) ≡ false
+none_by test x xs true e none rest = let bad : x ∷ filter test xs ≡ [] = rw e at none in absurd cc
+none_by test x xs false e none rest = rw e (rest (rw e at none))
+
+-- so for the whole list
+any_none : {X : Type 0} (test : X → Bool) (xs : List X) → filter test xs ≡ [] → list_any test xs ≡ false
+any_none test [] none = refl
+any_none test (x ∷ xs) none = none_by test x xs (test x) refl none (any_none test xs)
+
+-- where nothing passes, nothing is kept
+filter_none : {X : Type 0} (test : X → Bool) (x : X) → test x ≡ false → filter test (x ∷ []) ≡ []
+filter_none test x out = rw out refl
+
+-- Grants
+
+-- a consumer of DEV wants what it is granted
+dev_kind : (kind : Kind) (haves : List Counts) (grant : Counts) → is_kind kind kinds.Dev ≡ true
+    → want_of_kind kind haves grant ≡ grant
+dev_kind kinds.Dev haves grant is = refl
+dev_kind kinds.Disk haves grant is = absurd cc
+dev_kind kinds.Taste haves grant is = absurd cc
+dev_kind kinds.Mbr haves grant is = absurd cc
+dev_kind kinds.Ebr haves grant is = absurd cc
+dev_kind kinds.Label haves grant is = absurd cc
+dev_kind kinds.Concat haves grant is = absurd cc
+dev_kind kinds.Stripe haves grant is = absurd cc
+dev_kind kinds.Nop haves grant is = absurd cc
+
+-- a taste's read is out, so it is asked so
+record IsOut (a : Asked) : Type 0 where
+  kind : Kind
+  is : a ≡ ReadOut kind
+
+-- by how far the class is asked
+is_out : (a : Asked) → is_read_out a ≡ true → IsOut a
+is_out NoClass out = absurd cc
+is_out (NextSector kind sector) out = absurd cc
+is_out (ReadOut kind) out = record { kind = kind; is = refl }
+is_out (ReadBack kind got) out = absurd cc
+
+module _ (w : World) (x : Bio) (s : Taste) (kind : Kind) where
+  -- the result of the read
+  abbrev got : BioResult
+  got = unwrap_or x.result results.Done
+
+  -- the taste then
+  abbrev read : Taste
+  read = record s { asked = ReadBack kind got }
+
+  -- whether a bio is the root
+  abbrev is_it : Bio → Bool
+  is_it z = z.number == x.number
+
+  -- the bios that stay
+  abbrev staying : List Bio
+  staying = filter (λ z. not (is_it z)) w.bios
+
+  -- the world then
+  abbrev pub tasted : World
+  tasted = record w { bios = staying; taste = Some read }
+
+  -- the graph
+  abbrev t : Topology Config
+  t = w.topology
+
+  -- nothing is granted to the taste then
+  nothing : (c : ℕ) → taste_grant (Some read) c ≡ no_counts
+  nothing c = let out : ((s.consumer == c) && false) ≡ false = and_right (s.consumer == c) false refl in rw out refl
+
+  -- so each grant is at most what it was
+  less_by : (c : ℕ) (o : Option Handle)
+      → IsAtMost (option_map_or (λ (h : Handle). h.grant) o (taste_grant (Some read) c))
+      (option_map_or (λ (h : Handle). h.grant) o (taste_grant w.taste c))
+  less_by c None = subst (λ (n : Counts). IsAtMost n (taste_grant w.taste c)) (sym (nothing c))
+      (at_most-zero (taste_grant w.taste c))
+  less_by c (Some h) = at_most-same h.grant
+
+  -- all grants
+  less : AreAtMost (granted_in tasted) (granted_in w)
+  less c = less_by c (find (λ (h : Handle). names_number h.consumer c) w.handles)
+
+  -- a provider that has a count then, had one
+  count_was : (p : ℕ) → is_zero (have (granted_in tasted) t p) ≡ false → is_zero (have (granted_in w) t p) ≡ false
+  count_was p some = stays (is_zero (have (granted_in w) t p)) refl where
+    stays : (b : Bool) → is_zero (have (granted_in w) t p) ≡ b → b ≡ false
+    stays false e = refl
+    stays true e =
+        let none : have (granted_in w) t p ≡ no_counts = zero-test (have (granted_in w) t p) e in
+        let gone : have (granted_in tasted) t p ≡ no_counts =
+        at_most-under (have (granted_in tasted) t p) (have (granted_in w) t p)
+        (have-at_most (granted_in tasted) (granted_in w) less t p) none in
+        let zero : is_zero (have (granted_in tasted) t p) ≡ true = rw gone refl in
+        absurd cc
+
+  -- a geom that is open then, was open
+  open_was : (ps : List Provider)
+      → list_any (λ (p : Provider). not (is_zero (have (granted_in tasted) t p.number))) ps ≡ true
+      → list_any (λ (p : Provider). not (is_zero (have (granted_in w) t p.number))) ps ≡ true
+  open_was [] some = absurd cc
+  open_was (p ∷ ps) some = elim
+      (or_cases (not (is_zero (have (granted_in tasted) t p.number)))
+      (list_any (λ (q : Provider). not (is_zero (have (granted_in tasted) t q.number))) ps) some) [
+        | inl here ↦ or_left (not (is_zero (have (granted_in w) t p.number)))
+            (list_any (λ (q : Provider). not (is_zero (have (granted_in w) t q.number))) ps)
+            (not_from_false (is_zero (have (granted_in w) t p.number))
+            (count_was p.number (not-true (is_zero (have (granted_in tasted) t p.number)) here)))
+        | inr rest ↦ or_right (not (is_zero (have (granted_in w) t p.number)))
+            (list_any (λ (q : Provider). not (is_zero (have (granted_in w) t q.number))) ps) (open_was ps rest)
+      ]
+
+  -- a provider leads down
+  leads_down : (p : Provider) → LeadsDown w p → LeadsDown tasted p
+  leads_down p leads =
+      some_weaker
+      (λ (g : Geom Config). (is_zero (have (granted_in w) t p.number) ≡ false) ⊎ (g.withering ≡ false)
+      → IsSome (disk_of g.config) ⊎ IsPlaced t g p)
+      (λ (g : Geom Config). (is_zero (have (granted_in tasted) t p.number) ≡ false) ⊎ (g.withering ≡ false)
+      → IsSome (disk_of g.config) ⊎ IsPlaced t g p)
+      (λ g so used. so (elim used [ inl has_count ↦ inl (count_was p.number has_count) | inr stands ↦ inr stands ]))
+      (geom_at t p.geom) leads
+
+  -- a geom has its components
+  components_kept : (g : Geom Config) → HasItsComponents w g → HasItsComponents tasted g
+  components_kept g has used =
+      has (elim used [ inl stands ↦ inl stands | inr is_open ↦ inr (open_was (providers_of t g.number) is_open) ])
+
+  -- numbers
+  numbers_kept : RestNumbersHold w → RestNumbersHold tasted
+  numbers_kept hold = record {
+    geoms = hold.geoms;
+    providers = hold.providers;
+    consumers = hold.consumers;
+    handles = hold.handles;
+    classes = hold.classes;
+    one_geom_of_disk = hold.one_geom_of_disk;
+    disk_sizes = hold.disk_sizes;
+  }
+
+  -- sizes
+  sizes_kept : SizesHold w → SizesHold tasted
+  sizes_kept hold = record {
+    disks = hold.disks;
+    sectors = hold.sectors;
+    wholes = hold.wholes;
+    places = hold.places;
+    one = hold.one;
+    apart = hold.apart;
+    sums = hold.sums;
+  }
+
+  module _ (firm : Firm w) (found : bio_at w x.number ≡ Some x) (up : is_up x.phase ≡ true)
+      (owner : x.owner ≡ owners.Taste)
+      (is : w.taste ≡ Some s) (asked : s.asked ≡ ReadOut kind) (to_it : s.provider ≡ x.target) where
+    -- the bios before
+    hold : BiosHold w
+    hold = bios_of w firm
+
+    -- the rest before
+    rest : RestHolds w
+    rest = rest_of w firm
+
+    -- the root stands
+    here : Contains w.bios x
+    here = find-Contains is_it w.bios x found
+
+    -- the taste's consumer
+    tasting : IsTasting t read
+    tasting =
+        let was : IsTasting t s = rw is at rest.graph.handles.taste in
+        record { consumer = was.consumer; alone = was.alone; number = was.number; attached = was.attached }
+
+    -- handles
+    handles_kept : HandlesHold tasted
+    handles_kept = record {
+      consumers = All-weaker (IsHandleConsumer w) (IsHandleConsumer tasted)
+          (λ c of. record { attached = of.attached; one_handle = of.one_handle })
+          (consumers_of t 1) rest.graph.handles.consumers;
+      handles = rest.graph.handles.handles;
+      taste = tasting;
+    }
+
+    -- the graph
+    graph_kept : GraphHolds tasted
+    graph_kept = record {
+      ranks = rest.graph.ranks;
+      counts = record {
+        exclusive = exclusive_less (granted_in tasted) (granted_in w) less t rest.graph.counts.exclusive;
+        limited = limit_less (granted_in tasted) (granted_in w) less t rest.graph.counts.limited;
+      };
+      providers = rest.graph.providers;
+      numbers = numbers_kept rest.graph.numbers;
+      handles = handles_kept;
+      places = All-weaker (LeadsDown w) (LeadsDown tasted) leads_down t.providers rest.graph.places;
+      made = rest.graph.made;
+      parts = rest.graph.parts;
+      attached = rest.graph.attached;
+      components = All-weaker (HasItsComponents w)
+          (HasItsComponents tasted) components_kept t.geoms rest.graph.components;
+      partial = rest.graph.partial;
+      unmarked = rest.graph.unmarked;
+    }
+
+    -- the chain
+    chain_kept : IsTasteInOrder w s → HasItsChain tasted read
+    chain_kept order ebr =
+        let asks : class_asked s.asked ≡ Some kinds.Ebr =
+        subst (λ (a : Asked). class_asked a ≡ Some kinds.Ebr) (sym asked) ebr in
+        if_some_weaker (λ (p : Provider). ChainHolds (p.size / p.sector) s.asked s.reads s.chain)
+        (λ (p : Provider). ChainHolds (p.size / p.sector) (ReadBack kind got) s.reads s.chain)
+        (λ p was. let out : ChainHolds (p.size / p.sector) (ReadOut kind) s.reads s.chain =
+        subst (λ (a : Asked). ChainHolds (p.size / p.sector) a s.reads s.chain) asked was in
+        record {
+          reads = out.reads;
+          few = out.few;
+          parts = out.parts;
+          sector = tt;
+          zero = out.zero;
+          inside = out.inside;
+          near = out.near;
+          apart = out.apart;
+          new = out.new;
+        })
+        (provider_at t s.provider) (order.chain asks)
+
+    -- the taste is in order
+    taste_kept : IsTasteInOrder tasted read
+    taste_kept =
+        let order : IsTasteInOrder w s =
+        subst (λ (o : Option Taste). IfSome o (IsTasteInOrder w)) is rest.tasting.taste in
+        record { rank = order.rank; reads = rw asked at order.reads; chain = chain_kept order }
+
+    -- the result is one sector, by the result
+    sector_by : (p : Provider) (o : Option BioResult) → IsSomeAnd o (FitsBio x) → x.len ≡ p.sector
+        → IsOneSector p (unwrap_or o results.Done)
+    sector_by p None has len = absurd has
+    sector_by p (Some results.Done) has len = tt
+    sector_by p (Some (results.Failed e)) has len = tt
+    sector_by p (Some (results.Bytes bytes)) has len = has.1 ∙ len
+
+    -- the root read one sector, by the provider
+    one_by : (o : Option Provider) → IsSomeAnd o (λ p. x.len ≡ p.sector)
+        → IfSome o (λ p. IsAskedInOrder t p (ReadOut kind)) → IfSome o (λ p. IsAskedInOrder t p (ReadBack kind got))
+    one_by None len was = tt
+    one_by (Some p) len was =
+        (was, sector_by p x.result (has_result w x hold found (or_left (is_up x.phase) (is_done x.phase) up)) len)
+
+    -- how far the class is asked
+    asked_kept : IfSome (provider_at t s.provider) (λ p. IsAskedInOrder t p (ReadBack kind got))
+    asked_kept =
+        let was : IfSome (provider_at t s.provider) (λ p. IsAskedInOrder t p s.asked) = rw is at rest.tasting.asked in
+        let out : IfSome (provider_at t s.provider) (λ p. IsAskedInOrder t p (ReadOut kind)) =
+        subst (λ (a : Asked). IfSome (provider_at t s.provider) (λ p. IsAskedInOrder t p a)) asked was in
+        let sector : IsSomeAnd (provider_at t x.target) (λ p. x.len ≡ p.sector) =
+        All-contains
+        (λ (z : Bio). IsTrue (is_taste_root z.owner)
+        → IsSomeAnd (provider_at t z.target) (λ p. z.len ≡ p.sector)) w.bios x hold.read.sector here
+        (rw owner refl) in
+        one_by (provider_at t s.provider)
+        (subst (λ (n : ℕ). IsSomeAnd (provider_at t n) (λ p. x.len ≡ p.sector)) (sym to_it) sector) out
+
+    -- all but the bios
+    rest_kept : RestHolds tasted
+    rest_kept = record {
+      graph = graph_kept;
+      sizes = sizes_kept rest.sizes;
+      tasting = record { living = rest.tasting.living; taste = taste_kept; asked = asked_kept };
+      commands = rest.commands;
+    }
+
+    -- no other bio reads for the taste
+    no_reads : filter (λ (z : Bio). is_taste_root z.owner) staying ≡ []
+    no_reads =
+        let short : length (filter (λ (z : Bio). is_taste_root z.owner) w.bios) ≤ 1 =
+        subst (λ (n : ℕ). n ≤ 1) (sym (length-filter (λ (z : Bio). is_taste_root z.owner) w.bios)) hold.read.one in
+        let reads : is_taste_root x.owner ≡ true = rw owner refl in
+        let goes : not (is_it x) ≡ false = (let e : is_it x ≡ true = eq-eqb x.number x.number refl in rw e refl) in
+        filter-filter (λ (z : Bio). not (is_it z)) (λ (z : Bio). is_taste_root z.owner) w.bios
+        ∙ ap (λ (zs : List Bio). filter (λ z. not (is_it z)) zs)
+        (single x (filter (λ (z : Bio). is_taste_root z.owner) w.bios) short
+        (Contains-filter (λ (z : Bio). is_taste_root z.owner) w.bios x here reads))
+        ∙ filter_none (λ (z : Bio). not (is_it z)) x goes
+
+    -- whether any does
+    none_reads : list_any (λ (z : Bio). is_taste_root z.owner) staying ≡ false
+    none_reads = any_none (λ (z : Bio). is_taste_root z.owner) staying no_reads
+
+    -- what a handle's consumer is granted stays
+    grant_by : (h : Handle) (c : ℕ) → Contains w.handles h → h.consumer ≡ Some c → (o : Option Handle)
+        → find (λ (v : Handle). names_number v.consumer c) w.handles ≡ o
+        → granted_in tasted c ≡ granted_in w c
+    grant_by h c stands names None e =
+        let named : names_number h.consumer c ≡ true = rw names (eq-eqb c c refl) in
+        let not_named : names_number h.consumer c ≡ false =
+        at_contained (λ (v : Handle). names_number v.consumer c ≡ false) w.handles h
+        (none_passes (λ (v : Handle). names_number v.consumer c) w.handles e) stands in
+        absurd cc
+    grant_by h c stands names (Some v) e = rw e refl
+
+    -- a consumer of DEV, whose grant stays, wants what it wanted
+    dev_wants : (c : Consumer) → c.geom ≡ 1 → granted_in tasted c.number ≡ granted_in w c.number
+        → want (granted_in tasted) t c ≡ want (granted_in w) t c
+    dev_wants c dev same = by_geom (geom_at t 1) refl rest.graph.ranks.dev.stands where
+      by_geom : (o : Option (Geom Config)) → geom_at t 1 ≡ o → IsSomeAnd o (λ g. g.withering ≡ false)
+          → want (granted_in tasted) t c ≡ want (granted_in w) t c
+      by_geom None e has = absurd has
+      by_geom (Some g) e has =
+          let class : IsOfItsClass g = All-contains IsOfItsClass t.geoms g rest.graph.numbers.classes
+          (find-Contains (λ (v : Geom Config). v.number == 1) t.geoms g e) in
+          let one : g.number ≡ 1 = number_found (λ (v : Geom Config). v.number) t.geoms 1 g e in
+          let is_dev : is_kind g.kind kinds.Dev ≡ true = class.dev ∙ eq-eqb g.number 1 one in
+          let geom : geom_at t c.geom ≡ Some g = subst (λ (n : ℕ). geom_at t n ≡ Some g) (sym dev) e in
+          rw geom (dev_kind g.kind
+          (map (λ (v : Provider). have (granted_in tasted) t v.number) (providers_of t g.number))
+          (granted_in tasted c.number) is_dev
+          ∙ same ∙ sym
+          (dev_kind g.kind (map (λ (v : Provider). have (granted_in w) t v.number) (providers_of t g.number))
+          (granted_in w c.number) is_dev))
+
+    -- the source of a root of a line, by the handle
+    line_serves : (z : Bio) → Contains w.bios z → (o : Option Handle) (handle : ℕ)
+        → find (λ (h : Handle). h.number == handle) w.handles ≡ o
+        → IsSomeAnd o (λ h. h.consumer ≡ Some z.source) → SourceServes (granted_in tasted) t z
+    line_serves z stands None handle e has = absurd has
+    line_serves z stands (Some h) handle e names = by_consumer (consumer_at t z.source) refl where
+      by_consumer : (o : Option Consumer) → consumer_at t z.source ≡ o → SourceServes (granted_in tasted) t z
+      by_consumer o at =
+          let h_stands : Contains w.handles h = find-Contains (λ (v : Handle). v.number == handle) w.handles h e in
+          let of_it : HasItsConsumer w h =
+          All-contains (HasItsConsumer w) w.handles h rest.graph.handles.handles h_stands in
+          let dev : IsSomeAnd (consumer_at t z.source) (λ v. v.geom ≡ 1) = rw names at of_it in
+          let order : IsBioInOrder w z = All-contains (IsBioInOrder w) w.bios z hold.order stands in
+          served o at (rw at at dev) (rw at at order.source)
+          (grant_by h z.source h_stands names
+          (find (λ (v : Handle). names_number v.consumer z.source) w.handles) refl)
+        where
+          served : (o : Option Consumer) → consumer_at t z.source ≡ o → IsSomeAnd o (λ v. v.geom ≡ 1)
+              → IsSomeAnd o (λ c. (c.provider ≡ Some z.target) × HasCountFor w z c)
+              → granted_in tasted z.source ≡ granted_in w z.source → SourceServes (granted_in tasted) t z
+          served None at dev has same = absurd dev
+          served (Some c) at dev has same =
+              let number : c.number ≡ z.source = number_found (λ (v : Consumer). v.number) t.consumers z.source c at in
+              let grant : granted_in tasted c.number ≡ granted_in w c.number =
+              subst (λ (n : ℕ). granted_in tasted n ≡ granted_in w n) (sym number) same in
+              let wants : want (granted_in tasted) t c ≡ want (granted_in w) t c = dev_wants c dev grant in
+              rw at (
+                has.0,
+                subst
+                    (λ (n : Counts). (IsTrue (is_read z.cmd) → 0 < n.r) × (is_read z.cmd ≡ false → 0 < n.w))
+                    (sym wants) has.1,
+              )
+
+    -- the source of a root that stays, by its owner
+    root_serves : (z : Bio) → Contains w.bios z → not (is_it z) ≡ true → (o : Owner) → z.owner ≡ o
+        → is_root z.owner ≡ true → SourceServes (granted_in tasted) t z
+    root_serves z stands kept (owners.Line handle line) e root =
+        let comes : ComesFromItsOwner w z z.owner =
+        All-contains (λ (v : Bio). ComesFromItsOwner w v v.owner) w.bios z hold.owners stands in
+        line_serves z stands (find (λ (h : Handle). h.number == handle) w.handles) handle refl (rw e at comes)
+    root_serves z stands kept owners.Taste e root =
+        let reads : is_taste_root z.owner ≡ true = rw e refl in
+        let some : list_any (λ (v : Bio). is_taste_root v.owner) staying ≡ true =
+        any-contained (λ (v : Bio). is_taste_root v.owner) staying z
+        (Contains-filter (λ (v : Bio). not (is_it v)) w.bios z stands kept) reads in
+        let none : list_any (λ (v : Bio). is_taste_root v.owner) staying ≡ false = none_reads in
+        absurd cc
+    root_serves z stands kept (owners.Child parent index) e root =
+        let no_root : is_root z.owner ≡ false = rw e refl in
+        absurd cc
+
+    -- what is Waiting stays
+    waiting_stays : (z : Bio) → Contains w.bios z → is_waiting z.phase ≡ true → not (is_it z) ≡ true
+    waiting_stays z stands waits = not_from_false (is_it z) (false_from_ne_true (is_it z) (λ e.
+        let itself : bio_at w z.number ≡ Some z =
+        found_itself (λ (v : Bio). v.number) w.next_bio w.bios z hold.numbers stands in
+        let there : bio_at w x.number ≡ Some z =
+        subst (λ (n : ℕ). bio_at w n ≡ Some z) (eqb-true z.number x.number e) itself in
+        let same : z ≡ x = cc in
+        let x_waits : is_waiting x.phase ≡ true = subst (λ (v : Bio). is_waiting v.phase ≡ true) same waits in
+        let not_it : is_waiting x.phase ≡ false = not_waiting is_up refl x.phase up in
+        cc))
+
+    -- so each bio that stays is in order
+    order_kept : (z : Bio) → Contains staying z → IsBioInOrder tasted z
+    order_kept z stays =
+        let both = filter-Contains (λ (v : Bio). not (is_it v)) w.bios z stays in
+        let order : IsBioInOrder w z = All-contains (IsBioInOrder w) w.bios z hold.order both.0 in
+        record {
+          source = all_serve w firm (granted_in tasted) (λ (v : Bio). not (is_it v))
+              (λ v stands root kept. root_serves v stands kept v.owner refl root)
+              waiting_stays z both.0 both.1;
+          target = order.target;
+          bytes = order.bytes;
+        }
+
+    -- a parent stays
+    parent_kept : (o : Owner) → HasItsParent (without_bio w x.number) o → HasItsParent tasted o
+    parent_kept = parent_stays (without_bio w x.number) tasted (λ n has. has)
+
+    -- so does an owner
+    owner_kept : (z : Bio) (o : Owner) → ComesFromItsOwner w z o → ComesFromItsOwner tasted z o
+    owner_kept z (owners.Line handle line) comes = comes
+    owner_kept z owners.Taste comes = rw is at comes
+    owner_kept z (owners.Child parent index) comes = comes
+
+    -- and a family
+    family_stays : (z : Bio) → IsFamilyInOrder w z → IsFamilyInOrder tasted z
+    family_stays z family =
+        let without : IsFamilyInOrder (without_bio w x.number) z =
+        family_kept w x hold found (rw owner refl) (not_waiting is_up refl x.phase up) z family in
+        record {
+          parent = parent_kept z.owner without.parent;
+          pieces = without.pieces;
+          not_complete = without.not_complete;
+          root = without.root;
+        }
+
+    -- a fact of each bio that stays
+    each_stays : (P Q : Bio → Type 0) → ((z : Bio) → Q z → P z) → All Q w.bios → All P staying
+    each_stays P Q so facts = All-filter (λ (z : Bio). not (is_it z)) P w.bios (All-weaker Q P so w.bios facts)
+
+    -- the bios
+    bios_kept : BiosHold tasted
+    bios_kept = record {
+      numbers = numbers-kept (λ (z : Bio). z.number) (λ (z : Bio). not (is_it z)) w.next_bio w.bios hold.numbers;
+      order = All-weaker (Contains staying) (IsBioInOrder tasted) order_kept staying (All-contains_itself staying);
+      families = each_stays (IsFamilyInOrder tasted) (IsFamilyInOrder w) family_stays hold.families;
+      disks = record {
+        at_disk = All-filter (λ (z : Bio). not (is_it z))
+            (λ (z : Bio). IsTrue (is_sent z.phase || is_busy z.phase) → IsSome
+            (disk_of_bio w z)) w.bios hold.disks.at_disk;
+        one_busy = AllPairs-filter (NotBothBusy w) (λ (z : Bio). not (is_it z)) w.bios hold.disks.one_busy;
+      };
+      read_out = (
+        (λ some. let none : list_any (λ (z : Bio). is_taste_root z.owner) staying ≡ false = none_reads in
+            absurd cc),
+        (λ out. absurd cc),
+      );
+      owners = each_stays (λ (z : Bio). ComesFromItsOwner tasted z z.owner)
+          (λ (z : Bio). ComesFromItsOwner w z z.owner) (λ z comes. owner_kept z z.owner comes) hold.owners;
+      results = All-filter (λ (z : Bio). not (is_it z)) HasItsResult w.bios hold.results;
+      read = record {
+        one =
+            let count : count_by (λ (z : Bio). is_taste_root z.owner) staying ≡ 0 =
+            sym (length-filter (λ (z : Bio). is_taste_root z.owner) staying)
+            ∙ ap (λ (zs : List Bio). length zs) no_reads in
+            omega (arith, count);
+        sector = All-filter (λ (z : Bio). not (is_it z))
+            (λ (z : Bio). IsTrue (is_taste_root z.owner)
+            → IsSomeAnd (provider_at t z.target) (λ p. z.len ≡ p.sector)) w.bios hold.read.sector;
+      };
+    }
+
+    -- so the mesh is firm
+    pub tasted_firm : Firm tasted
+    tasted_firm = firm_of tasted bios_kept rest_kept
+
+module _ (w : World) (x : Bio) (firm : Firm w) (found : bio_at w x.number ≡ Some x) (up : is_up x.phase ≡ true)
+    (owner : x.owner ≡ owners.Taste) where
+  -- whatever the taste
+  by_taste : (o : Option Taste) → w.taste ≡ o → IsSomeAnd o (λ s. (s.consumer ≡ x.source) × (s.provider ≡ x.target))
+      → Firm (up_taste w x).0
+  by_taste None is has = absurd has
+  by_taste (Some s) is has =
+      let here : Contains w.bios x = find-Contains (λ (v : Bio). v.number == x.number) w.bios x found in
+      let reads : is_taste_root x.owner ≡ true = rw owner refl in
+      let any : list_any (λ (v : Bio). is_taste_root v.owner) w.bios ≡ true =
+      any-contained (λ (v : Bio). is_taste_root v.owner) w.bios x here reads in
+      let out : is_read_out s.asked ≡ true = rw is at (firm.sound.events.read_out.0 any) in
+      let asked = is_out s.asked out in
+      let asked_is : s.asked ≡ ReadOut asked.kind = asked.is in
+      let firm_then : Firm (tasted w x s asked.kind) =
+      tasted_firm w x s asked.kind firm found up owner is asked_is has.1 in
+      rw (is, asked_is) firm_then
+
+-- an Up of the root of a taste keeps a mesh firm
+pub taste_ups_stay_firm : TasteUpsStayFirm
+taste_ups_stay_firm w b x found up owner firm =
+    let there : bio_at w x.number ≡ Some x = found_there w b x found in
+    let here : Contains w.bios x = find-Contains (λ (v : Bio). v.number == x.number) w.bios x there in
+    let comes : ComesFromItsOwner w x x.owner =
+    All-contains (λ (v : Bio). ComesFromItsOwner w v v.owner) w.bios x firm.steady.owners here in
+    by_taste w x firm there up owner w.taste refl (rw owner at comes)

@@ -1,0 +1,5 @@
+use Rattle.geo_laws_bios.proofs.Rising.{ups_stay_firm}
+use Rattle.geo_laws_bios.proofs.ups.ups_stay_firm.Goals as goal
+
+pub returns : goal.returns
+returns c = ups_stay_firm

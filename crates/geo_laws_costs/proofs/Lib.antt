@@ -1,5 +1,0 @@
-pub mod Offers
-pub mod Raised
-pub mod Accepting
-pub mod Verdicts
-pub mod JudgedMade

@@ -1,0 +1,293 @@
+-- What one demand makes providers and consumers gain: where the grant of one consumer rises, and where a consumer
+-- comes.
+use Rattle.std.specs.Prelude.{◌≡◌, ◌≢◌, ℕ, ◌==◌, Bool, true, false, not, ◌&&◌, cond, List, [], ◌∷◌, map, filter, Some, Contains, IsSomeAnd, if◌then◌else◌}
+use Rattle.std.specs.List.{list_all}
+use Rattle.std.proofs.Common.{refl, sym, ◌∙◌, ap, subst, arith, inl, inr, eq-eqb}
+use Rattle.std.proofs.lemmas.Bool.{eqb-true, cases_eq, ne_eqb}
+use Rattle.std.proofs.lemmas.List.Elements.{All-contains, All-from_recursion}
+use Rattle.geo_base.specs.declared.request.Counts.{Counts}
+use Rattle.geo_base.specs.declared.kind.Kind.{Kind}
+use Rattle.geo_base.specs.declared.kind.Kind.TheVariants as kinds
+use Rattle.geo_model.specs.Words.{names_number, is_granted_kind}
+use Rattle.geo_model.specs.Topology.{Topology, Geom, Provider, Consumer, geom_at, provider_at, providers_of, attached_to, add_consumer}
+use Rattle.geo_model.specs.Rank.{Ranked}
+use Rattle.geo_model.specs.Opens.{below}
+use Rattle.geo_model.specs.Demand.{no_counts, add_counts, sum_counts, is_zero, have, want}
+use Rattle.geo_laws_counts.specs.CountWords.{AreAtMost, more_counts, gain_of_kind, NumbersLead, HoldsGrants}
+use Rattle.geo_laws_counts.proofs.Sums.{counts-same, zero-add, add-zero, sum-same, sum-add, more-add, zeros-sum}
+use Rattle.geo_laws_counts.proofs.Members.{in_filter, in_cases, in_nothing}
+use Rattle.geo_laws_counts.proofs.LimitFacts.{of_filter}
+use Rattle.geo_laws_counts.proofs.Counters.{want_same}
+use Rattle.geo_laws_counts.specs.DemandLaws.{DiffersAt, StaysAround, Comes}
+use Rattle.geo_laws_counts.specs.WalkWords.{Flow}
+use Rattle.geo_laws_counts.proofs.Flows.{each_of}
+use Rattle.geo_laws_counts.proofs.Gains.{want_gains, have_gains}
+use Rattle.geo_laws_counts.proofs.Singles.{differing_stays}
+use Rattle.geo_laws_counts.proofs.Openers.{wants_grant, came_gains, came_wants, came_stays}
+
+-- what is no more than it was has nothing more
+pub more-same : (a b : Counts) → b ≡ a → more_counts a b ≡ no_counts
+more-same a b e = ap (more_counts a) e
+    ∙ counts-same (more_counts a a) no_counts (omega arith) (omega arith) (omega arith)
+
+-- no exclusive count comes where nothing is gained
+none_more : (b : Bool) (gains : List Counts) → sum_counts gains ≡ no_counts
+    → add_counts (sum_counts gains)
+    (record { r = 0; w = 0; e = (if b && not (list_all is_zero gains) then 1 else 0) }) ≡ no_counts
+none_more true gains none = rw (zeros-sum gains, none) refl
+none_more false gains none = rw none refl
+
+-- what a class's consumer gains where its geom's providers gain nothing
+pub nothing_gained : (kind : Kind) (had gains : List Counts) → sum_counts gains ≡ no_counts
+    → gain_of_kind kind had gains no_counts ≡ no_counts
+nothing_gained kinds.Dev had gains none = refl
+nothing_gained kinds.Taste had gains none = refl
+nothing_gained kinds.Disk had gains none = refl
+nothing_gained kinds.Nop had gains none = none
+nothing_gained kinds.Mbr had gains none = none_more (list_all is_zero had) gains none
+nothing_gained kinds.Ebr had gains none = none_more (list_all is_zero had) gains none
+nothing_gained kinds.Label had gains none = none_more (list_all is_zero had) gains none
+nothing_gained kinds.Concat had gains none = none_more (list_all is_zero had) gains none
+nothing_gained kinds.Stripe had gains none = none_more (list_all is_zero had) gains none
+
+-- and what one of DEV or TASTE gains without a grant
+pub granted_gain : (kind : Kind) (had gains : List Counts) → is_granted_kind kind ≡ true
+    → gain_of_kind kind had gains no_counts ≡ no_counts
+granted_gain kinds.Dev had gains e = refl
+granted_gain kinds.Taste had gains e = refl
+granted_gain kinds.Disk had gains e = absurd (cc)
+granted_gain kinds.Nop had gains e = absurd (cc)
+granted_gain kinds.Mbr had gains e = absurd (cc)
+granted_gain kinds.Ebr had gains e = absurd (cc)
+granted_gain kinds.Label had gains e = absurd (cc)
+granted_gain kinds.Concat had gains e = absurd (cc)
+granted_gain kinds.Stripe had gains e = absurd (cc)
+
+-- the same over one item more
+swap_step : {X : Type 0} (a b : X → Bool) (f : Counts) (x : X) (xs : List X) (p q : Bool) → a x ≡ p → b x ≡ q
+    → sum_counts (map (λ x. if a x then f else no_counts) (filter b xs))
+    ≡ sum_counts (map (λ x. if b x then f else no_counts) (filter a xs))
+    → sum_counts (map (λ x. if a x then f else no_counts) (cond q (x ∷ filter b xs) (filter b xs)))
+    ≡ sum_counts (map (λ x. if b x then f else no_counts) (cond p (x ∷ filter a xs) (filter a xs)))
+swap_step a b f x xs true true ea eb so =
+    ap (λ z. add_counts (cond z f no_counts) (sum_counts (map (λ x. if a x then f else no_counts) (filter b xs)))) ea
+    ∙ ap (add_counts f) so
+    ∙ sym (ap (λ z.
+    add_counts (cond z f no_counts) (sum_counts (map (λ x. if b x then f else no_counts) (filter a xs)))) eb)
+swap_step a b f x xs true false ea eb so =
+    so ∙ sym (ap
+    (λ z. add_counts (cond z f no_counts) (sum_counts (map (λ x. if b x then f else no_counts) (filter a xs)))) eb
+    ∙ zero-add (sum_counts (map (λ x. if b x then f else no_counts) (filter a xs))))
+swap_step a b f x xs false true ea eb so =
+    ap (λ z. add_counts (cond z f no_counts) (sum_counts (map (λ x. if a x then f else no_counts) (filter b xs)))) ea
+    ∙ zero-add (sum_counts (map (λ x. if a x then f else no_counts) (filter b xs))) ∙ so
+swap_step a b f x xs false false ea eb so = so
+
+-- the sum over the items that pass one test, of those that pass another
+pub sum-swap : {X : Type 0} (a b : X → Bool) (f : Counts) (xs : List X)
+    → sum_counts (map (λ x. if a x then f else no_counts) (filter b xs))
+    ≡ sum_counts (map (λ x. if b x then f else no_counts) (filter a xs))
+sum-swap a b f [] = refl
+sum-swap a b f (x ∷ xs) = swap_step a b f x xs (a x) (b x) refl refl (sum-swap a b f xs)
+
+-- a demand: what it makes providers and consumers gain, from what providers had without it
+pub record Demands {C : Type 0} (t : Topology C) (p : ℕ) (first : Counts) (had gain : ℕ → Counts) (more : Consumer
+    → Counts) (order : List ℕ) : Type 0 where
+  pub flow : Flow t p first gain more order
+  pub makes : (x : Consumer) (g : Geom C) → Contains t.consumers x → geom_at t x.geom ≡ Some g
+      → more x ≡ gain_of_kind g.kind (map (λ y. had y.number) (providers_of t g.number))
+      (map (λ y. gain y.number) (providers_of t g.number)) no_counts
+
+-- each provider that is reached has its geom in the order
+abbrev pub Covers : {C : Type 0} → Topology C → ℕ → List ℕ → Type 0
+Covers t p order = (y : ℕ) (x : Provider) → Contains (below t p) y → provider_at t y ≡ Some x → Contains order x.geom
+
+module _ {C : Type 0} (t : Topology C) (known : NumbersLead t) (p : ℕ) (order : List ℕ)
+    (covers : Covers t p order) where
+  -- what stands on a geom outside isn't reached
+  pub outside : (g : ℕ) → (Contains order g → ⊥) → (y : Provider) → Contains (providers_of t g) y
+      → Contains (below t p) y.number → ⊥
+  outside g away y there reached =
+      let inside = of_filter (λ x. x.geom == g) t.providers y there in
+      let found : provider_at t y.number ≡ Some y =
+      All-contains (λ (x : Provider). provider_at t x.number ≡ Some x) t.providers y
+      (All-from_recursion (λ (x : Provider). provider_at t x.number ≡ Some x) t.providers known) inside.0 in
+      away (subst (Contains order) (eqb-true y.geom g inside.1) (covers y.number y reached found))
+
+module _ {C : Type 0} (t : Topology C) (ranked : Ranked t) (known : NumbersLead t) (small large : ℕ
+    → Counts) (grants : AreAtMost small large)
+    (c p : ℕ) (d : Consumer) (differs : DiffersAt small large t c p)
+    (only : filter (λ (x : Consumer). x.number == c) t.consumers ≡ d ∷ [])
+    (attached : d.provider ≡ Some p) (number : d.number ≡ c) (kind : HoldsGrants t d.geom) (order : List ℕ)
+    (covers : Covers t p order) where
+  -- what a consumer wants more, but for the one whose grant rises
+  abbrev pub grant_more : Consumer → Counts
+  grant_more x = if x.number == c then no_counts else more_counts (want small t x) (want large t x)
+
+  -- what a provider has more
+  abbrev pub grant_gain : ℕ → Counts
+  grant_gain q = more_counts (have small t q) (have large t q)
+
+  -- a consumer of that number is that one
+  the_one : (x : Consumer) → Contains t.consumers x → x.number ≡ c → x ≡ d
+  the_one x there e =
+      elim (in_cases d [] x
+      (subst (λ xs. Contains xs x) only
+      (in_filter (λ (y : Consumer). y.number == c) t.consumers x there (eq-eqb x.number c e)))) [
+        | inl same ↦ sym same
+        | inr none ↦ absurd (in_nothing x none)
+      ]
+
+  -- it wants as much more as it is granted
+  one_more : (x : Consumer) → Contains t.consumers x → x.number ≡ c
+      → more_counts (want small t x) (want large t x) ≡ more_counts (small c) (large c)
+  one_more x there e =
+      let holds : HoldsGrants t x.geom =
+      subst (λ (y : Consumer). HoldsGrants t y.geom) (sym (the_one x there e)) kind in
+      ap (λ a. more_counts a (want large t x)) (wants_grant small t x holds ∙ ap small e)
+      ∙ ap (more_counts (small c)) (wants_grant large t x holds ∙ ap large e)
+
+  -- what each wants more
+  more_split : (x : Consumer) → Contains t.consumers x
+      → more_counts (want small t x) (want large t x)
+      ≡ add_counts (if x.number == c then more_counts (small c) (large c) else no_counts) (grant_more x)
+  more_split x there =
+      elim (cases_eq x.number c) [
+        | inl same ↦
+            one_more x there same ∙ sym (add-zero (more_counts (small c) (large c)))
+            ∙ sym (ap (λ b. add_counts (cond b (more_counts (small c) (large c)) no_counts)
+            (cond b no_counts (more_counts (want small t x) (want large t x)))) (eq-eqb x.number c same))
+        | inr other ↦
+            sym (zero-add (more_counts (want small t x) (want large t x)))
+            ∙ sym (ap (λ b. add_counts (cond b (more_counts (small c) (large c)) no_counts)
+            (cond b no_counts (more_counts (want small t x) (want large t x)))) (ne_eqb x.number c other))
+      ]
+
+  -- the grant comes to the one provider
+  one_place : (q : ℕ)
+      → sum_counts (map (λ (x : Consumer). if x.number == c then more_counts (small c) (large c) else no_counts)
+      (attached_to t q))
+      ≡ (if p == q then more_counts (small c) (large c) else no_counts)
+  one_place q =
+      let first : Counts = more_counts (small c) (large c) in
+      sum-swap (λ (x : Consumer). x.number == c) (λ (x : Consumer). names_number x.provider q) first t.consumers
+      ∙ ap (λ xs. sum_counts (map (λ (x : Consumer). if names_number x.provider q then first else no_counts) xs)) only
+      ∙ add-zero (if names_number d.provider q then first else no_counts)
+      ∙ ap (λ o. if names_number o q then first else no_counts) attached
+
+  -- each gains the sum of what stands above gains
+  grant_sums : (q : ℕ)
+      → grant_gain q
+      ≡ add_counts (if p == q then more_counts (small c) (large c) else no_counts)
+      (sum_counts (map grant_more (attached_to t q)))
+  grant_sums q =
+      ap (more_counts (have small t q)) (have_gains small large grants t ranked known q)
+      ∙ more-add (have small t q)
+      (sum_counts (map (λ x. more_counts (want small t x) (want large t x)) (attached_to t q)))
+      ∙ sum-same (λ x. more_counts (want small t x) (want large t x))
+      (λ x. add_counts (if x.number == c then more_counts (small c) (large c) else no_counts) (grant_more x))
+      (attached_to t q)
+      (each_of (λ (x : Consumer). more_counts (want small t x) (want large t x)
+      ≡ add_counts (if x.number == c then more_counts (small c) (large c) else no_counts) (grant_more x))
+      (attached_to t q)
+      (λ x there. more_split x (of_filter (λ (y : Consumer). names_number y.provider q) t.consumers x there).0))
+      ∙ sum-add (λ (x : Consumer). if x.number == c then more_counts (small c) (large c) else no_counts) grant_more
+      (attached_to t q)
+      ∙ ap (λ a. add_counts a (sum_counts (map grant_more (attached_to t q)))) (one_place q)
+
+  -- consumers of other geoms gain nothing
+  grant_around : (x : Consumer) → Contains t.consumers x → (Contains order x.geom → ⊥) → grant_more x ≡ no_counts
+  grant_around x there away =
+      elim (cases_eq x.number c) [
+        | inl same ↦ ap (λ b. cond b no_counts (more_counts (want small t x) (want large t x))) (eq-eqb x.number c same)
+        | inr other ↦
+            ap (λ b. cond b no_counts (more_counts (want small t x) (want large t x))) (ne_eqb x.number c other)
+            ∙ more-same (want small t x) (want large t x)
+            (want_same small t large t x (differs.agree x.number other) refl refl
+            (each_of (λ (y : Provider). have large t y.number ≡ have small t y.number) (providers_of t x.geom)
+            (λ y stands. StaysAround.haves (differing_stays small large t c p differs ranked known) y.number
+            (outside t known p order covers x.geom away y stands))))
+      ]
+
+  -- each gains what its class makes of what its geom's providers gain
+  grant_makes : (x : Consumer) (g : Geom C) → Contains t.consumers x → geom_at t x.geom ≡ Some g
+      → grant_more x ≡ gain_of_kind g.kind (map (λ y. have small t y.number) (providers_of t g.number))
+      (map (λ y. grant_gain y.number) (providers_of t g.number)) no_counts
+  grant_makes x g there found =
+      elim (cases_eq x.number c) [
+        | inl same ↦
+            let holds : HoldsGrants t x.geom =
+            subst (λ (y : Consumer). HoldsGrants t y.geom) (sym (the_one x there same)) kind in
+            let granted : is_granted_kind g.kind ≡ true =
+            subst (λ o. IsSomeAnd o (λ (y : Geom C). is_granted_kind y.kind ≡ true)) found holds in
+            ap (λ b. cond b no_counts (more_counts (want small t x) (want large t x))) (eq-eqb x.number c same)
+            ∙ sym (granted_gain g.kind (map (λ y. have small t y.number) (providers_of t g.number))
+            (map (λ y. grant_gain y.number) (providers_of t g.number)) granted)
+        | inr other ↦
+            ap (λ b. cond b no_counts (more_counts (want small t x) (want large t x))) (ne_eqb x.number c other)
+            ∙ ap (more_counts (want small t x)) (want_gains small large grants t x g found)
+            ∙ more-add (want small t x)
+            (gain_of_kind g.kind (map (λ y. have small t y.number) (providers_of t g.number))
+            (map (λ y. grant_gain y.number) (providers_of t g.number))
+            (more_counts (small x.number) (large x.number)))
+            ∙ ap (gain_of_kind g.kind (map (λ y. have small t y.number) (providers_of t g.number))
+            (map (λ y. grant_gain y.number) (providers_of t g.number)))
+            (more-same (small x.number) (large x.number) (differs.agree x.number other))
+      ]
+
+  -- so a grant that rises is a demand
+  pub grant_demands : Demands t p (more_counts (small c) (large c)) (have small t) grant_gain grant_more order
+  grant_demands = record { flow = record { sums = grant_sums; around = grant_around }; makes = grant_makes }
+
+module _ {C : Type 0} (t : Topology C) (known : NumbersLead t) (granted after : ℕ → Counts) (geom p : ℕ)
+    (comes : Comes granted t after geom) (ranked : Ranked (add_consumer t geom (Some p)))
+    (bare : providers_of t geom ≡ [])
+    (order : List ℕ) (covers : Covers t p order) where
+  -- what a consumer wants more once the new one is there
+  abbrev pub coming_more : Consumer → Counts
+  coming_more x = more_counts (want granted t x) (want after (add_consumer t geom (Some p)) x)
+
+  -- what a provider has more
+  abbrev pub coming_gain : ℕ → Counts
+  coming_gain q = more_counts (have granted t q) (have after (add_consumer t geom (Some p)) q)
+
+  -- each gains the sum of what stands above gains, and p the new grant
+  coming_sums : (q : ℕ)
+      → coming_gain q
+      ≡ add_counts (if p == q then after t.next_consumer else no_counts)
+      (sum_counts (map coming_more (attached_to t q)))
+  coming_sums q =
+      let first : Counts = if p == q then after t.next_consumer else no_counts in
+      let sum : Counts = sum_counts (map coming_more (attached_to t q)) in
+      ap (more_counts (have granted t q))
+      (came_gains granted after t geom p comes.free comes.kind comes.agree ranked known q)
+      ∙ more-add (have granted t q) (add_counts sum first)
+      ∙ counts-same (add_counts sum first) (add_counts first sum) (omega arith) (omega arith) (omega arith)
+
+  -- consumers of other geoms gain nothing
+  coming_around : (x : Consumer) → Contains t.consumers x → (Contains order x.geom → ⊥) → coming_more x ≡ no_counts
+  coming_around x there away =
+      more-same (want granted t x) (want after (add_consumer t geom (Some p)) x)
+      (want_same granted t after (add_consumer t geom (Some p)) x
+      (comes.agree x.number (All-contains (λ (y : Consumer). y.number ≢ t.next_consumer) t.consumers x comes.free
+      there)) refl refl
+      (each_of (λ (y : Provider). have after (add_consumer t geom (Some p)) y.number ≡ have granted t y.number)
+      (providers_of t x.geom)
+      (λ y stands.
+      StaysAround.haves (came_stays granted after t geom p comes.free comes.kind comes.agree ranked known bare)
+      y.number (outside t known p order covers x.geom away y stands))))
+
+  -- each gains what its class makes of what its geom's providers gain
+  coming_makes : (x : Consumer) (g : Geom C) → Contains t.consumers x → geom_at t x.geom ≡ Some g
+      → coming_more x ≡ gain_of_kind g.kind (map (λ y. have granted t y.number) (providers_of t g.number))
+      (map (λ y. coming_gain y.number) (providers_of t g.number)) no_counts
+  coming_makes x g there found =
+      ap (more_counts (want granted t x))
+      (came_wants granted after t geom p comes.free comes.kind comes.agree x g there found)
+      ∙ more-add (want granted t x)
+      (gain_of_kind g.kind (map (λ y. have granted t y.number) (providers_of t g.number))
+      (map (λ y. coming_gain y.number) (providers_of t g.number)) no_counts)
+
+  -- so a consumer that comes makes a demand
+  pub coming_demands : Demands t p (after t.next_consumer) (have granted t) coming_gain coming_more order
+  coming_demands = record { flow = record { sums = coming_sums; around = coming_around }; makes = coming_makes }

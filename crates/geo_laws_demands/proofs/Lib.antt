@@ -1,9 +1,0 @@
-pub mod Reach
-pub mod Gains
-pub mod Openers
-pub mod Singles
-pub mod Rising
-pub mod Refusing
-pub mod Orders
-pub mod Flows
-pub mod Raising

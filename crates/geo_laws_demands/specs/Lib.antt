@@ -1,3 +1,0 @@
-pub mod DemandLaws
-pub mod AllowedLaws
-pub mod WalkWords

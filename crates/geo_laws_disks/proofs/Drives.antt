@@ -1,0 +1,300 @@
+-- Drives that serve what the entries of a log say, with one entry more.
+use Rattle.std.specs.Prelude.{◌≡◌, ◌≢◌, ℕ, zero, suc, ◌+◌, ◌-◌, ◌^◌, ◌==◌, min, Bool, true, false, cond, ◌&&◌, List, [], ◌∷◌, ◌++◌, Option, Some, None, IfSome, slice_get, slice_set, if◌then◌else◌}
+use Rattle.std.specs.Option.{option_map}
+use Rattle.std.proofs.Common.{add-zero, refl, sym, ◌∙◌, ap, subst, arith}
+use Rattle.std.proofs.lemmas.Bool.{both_ways, eqb-true, eq-eqb, ne_eqb}
+use Rattle.geo_laws_graph.proofs.Members.{nothing_in}
+use Rattle.geo_disk.specs.Memory.{counted_on}
+use Rattle.geo_base.specs.Faults.{Rose, RoseBy}
+use Rattle.geo_model.specs.declared.step.DeviceResult.{DeviceResult}
+use Rattle.geo_model.specs.declared.step.Entry.{Entry}
+use Rattle.geo_model.specs.declared.step.Request.{Request}
+use Rattle.geo_model.specs.declared.step.Step.TheVariants as steps
+use Rattle.geo_model.specs.FixedOrder.{delivered_in}
+use Rattle.geo_model.specs.Results.{request_of}
+use Rattle.geo_model.specs.Contents.{after_command, contents, done_sectors, AreTrue}
+use Rattle.geo_headline.specs.Outside.{failures_of}
+use Rattle.geo_serve.specs.Drives.{DriveView}
+use Rattle.geo_serve.specs.Serve.{FailsAsTold, Serves, TellsWhatIsHeld, held_after, is_failed}
+use Rattle.geo_serve.specs.Served.{AreServed, IsServed, IsServedAt, answers_of}
+use Rattle.geo_laws_disks.proofs.Splits.{none_in}
+use Rattle.geo_laws_disks.specs.DriveLaws.{AreTaken, DrivesFollow}
+use Rattle.geo_laws_disks.proofs.HeldByDrives.{answered_answers, answered_contents, answered_failures, answered_true, quiet_answers, quiet_contents, quiet_failures, quiet_true}
+
+-- what a told disk holds, by equal functions
+map_same : {A B : Type 0} (f g : A → B) (o : Option A) → ((x : A) → f x ≡ g x) → option_map f o ≡ option_map g o
+map_same f g None same = refl
+map_same f g (Some x) same = ap Some (same x)
+
+-- a fact of a told disk, by another
+told_by : {A : Type 0} (P Q : A → Type 0) (o : Option A) → ((x : A) → P x → Q x) → IfSome o P → IfSome o Q
+told_by P Q None by told = tt
+told_by P Q (Some x) by told = by x told
+
+-- drives at the beginning of a log
+pub served_none : (disk : ℕ) (before : DriveView) → IsServed [] disk before before
+unfolding contents AreTrue
+served_none disk before = record {
+  held = by before.held;
+  reads = reads before.held;
+  whole = λ w. w;
+  all = λ a. a;
+  calls = ap (λ n. min n (2 ^ 64 - 1)) (sym (add-zero before.calls));
+  failures = omega arith;
+  told = λ none. refl;
+  later = omega arith;
+  sector = refl;
+  count = refl;
+  kind = refl;
+  memory = λ e. refl;
+}
+  where
+    by : (o : Option (List (List ℕ))) → o ≡ option_map (λ held. contents before.sector held [] disk) o
+    by None = refl
+    by (Some held) = refl
+
+    reads : (o : Option (List (List ℕ))) → IfSome o (λ held. AreTrue before.sector held [] disk)
+    reads None = tt
+    reads (Some held) = λ earlier e split. absurd (none_in earlier e split.0 split.1)
+
+-- a drive that isn't asked
+pub served_quiet : (xs : List Entry) (e : Entry) (disk : ℕ) (before after : DriveView) → AreTaken xs xs
+    → delivered_in e.step ≡ None → IsServed xs disk before after → IsServed (xs ++ e ∷ []) disk before after
+served_quiet xs e disk before after taken quiet served = record {
+  held = served.held
+      ∙ map_same (λ held. contents before.sector held xs disk) (λ held. contents before.sector held (xs ++ e ∷ []) disk)
+      before.held (λ held. sym (quiet_contents xs e taken quiet before.sector disk held));
+  reads = told_by (λ held. AreTrue before.sector held xs disk) (λ held. AreTrue before.sector held (xs ++ e ∷ []) disk)
+      before.held (λ held. quiet_true xs e taken quiet before.sector disk held) served.reads;
+  whole = served.whole;
+  all = served.all;
+  calls = served.calls
+      ∙ ap (λ n. min (before.calls + n) (2 ^ 64 - 1)) (sym (quiet_answers xs e taken quiet disk));
+  failures = subst (λ n. RoseBy n before.faults after.faults) (sym (quiet_failures xs e taken quiet disk))
+      served.failures;
+  told = λ none. served.told (sym (quiet_failures xs e taken quiet disk) ∙ none);
+  later = served.later;
+  sector = served.sector;
+  count = served.count;
+  kind = served.kind;
+  memory = λ none. quiet_failures xs e taken quiet disk ∙ served.memory none;
+}
+
+-- a drive of another disk than the one that answered
+pub served_other : (xs : List Entry) (e : Entry) (b : ℕ) (got : DeviceResult) (q : Request) (disk : ℕ)
+    (before after : DriveView) → AreTaken xs xs → e.step ≡ steps.Deliver b got → request_of xs b ≡ Some q
+    → q.disk ≢ disk → IsServed xs disk before after → IsServed (xs ++ e ∷ []) disk before after
+served_other xs e b got q disk before after taken delivers asked other served = record {
+  held = served.held
+      ∙ map_same (λ held. contents before.sector held xs disk) (λ held. contents before.sector held (xs ++ e ∷ []) disk)
+      before.held (λ held. sym (same before.sector held));
+  reads = told_by (λ held. AreTrue before.sector held xs disk) (λ held. AreTrue before.sector held (xs ++ e ∷ []) disk)
+      before.held
+      (λ held so_far. answered_true xs e b got q taken delivers asked before.sector disk held so_far
+      (λ its. absurd (other its)))
+      served.reads;
+  whole = served.whole;
+  all = served.all;
+  calls = served.calls ∙ ap (λ n. min (before.calls + n) (2 ^ 64 - 1)) (sym answers);
+  failures = subst (λ n. RoseBy n before.faults after.faults) (sym fails) served.failures;
+  told = λ none. served.told (sym fails ∙ none);
+  later = served.later;
+  sector = served.sector;
+  count = served.count;
+  kind = served.kind;
+  memory = λ none. fails ∙ served.memory none;
+}
+  where
+    apart : (q.disk == disk) ≡ false
+    apart = ne_eqb q.disk disk other
+
+    same : (size : ℕ) (held : List (List ℕ))
+        → contents size held (xs ++ e ∷ []) disk ≡ contents size held xs disk
+    same size held =
+        answered_contents xs e b got q taken delivers asked size disk held
+        ∙ ap (λ (c : Bool). if c then after_command size q.cmd q (done_sectors q got) (contents size held xs disk)
+        else contents size held xs disk) apart
+
+    answers : answers_of (xs ++ e ∷ []) disk ≡ answers_of xs disk
+    answers =
+        answered_answers xs e b got q taken delivers asked disk
+        ∙ ap (λ c. answers_of xs disk + cond c 1 0) apart ∙ add-zero (answers_of xs disk)
+
+    fails : failures_of (xs ++ e ∷ []) disk ≡ failures_of xs disk
+    fails = answered_failures xs e b got q taken delivers asked disk ∙ none (is_failed got)
+      where
+        none : (c : Bool) → failures_of xs disk + cond (c && (q.disk == disk)) 1 0 ≡ failures_of xs disk
+        none true = rw apart (omega arith)
+        none false = omega arith
+
+-- a disk in memory without a call to fail doesn't fail
+never : (old new : DriveView) (got : DeviceResult) → IfSome old.fails (FailsAsTold old new got) → old.fails ≡ Some []
+    → is_failed got ≡ false
+never old new got told none = by (is_failed got) refl
+  where
+    by : (c : Bool) → is_failed got ≡ c → is_failed got ≡ false
+    by false is = is
+    by true is =
+        let its : FailsAsTold old new got [] = subst (λ o. IfSome o (FailsAsTold old new got)) none told in
+        absurd (nothing_in (counted_on old.calls) (its.told.0 is))
+
+-- the drive of the disk that answered
+pub served_own : (xs : List Entry) (e : Entry) (b : ℕ) (got : DeviceResult) (q : Request) (before mid after : DriveView)
+    → AreTaken xs xs → e.step ≡ steps.Deliver b got → request_of xs b ≡ Some q
+    → IsServed xs q.disk before mid → Serves q mid after got → IsServed (xs ++ e ∷ []) q.disk before after
+served_own xs e b got q before mid after taken delivers asked served serves = record {
+  held = serves.held ∙ ap (λ o. held_after mid.sector q got o) served.held
+      ∙ ap (λ s. held_after s q got (option_map (λ held. contents before.sector held xs q.disk) before.held))
+      served.sector
+      ∙ joined before.held;
+  reads = reads before.held served.reads
+      (subst (λ o. IfSome o (TellsWhatIsHeld q got)) served.held serves.tells);
+  whole = λ w. serves.whole (served.whole w);
+  all = λ a. serves.all (served.all a);
+  calls = one_more;
+  failures = by (is_failed got) refl;
+  told = λ none. told_by_all (is_failed got) refl (sym fails ∙ none);
+  later = omega (arith, served.later, serves.later);
+  sector = serves.sector ∙ served.sector;
+  count = serves.count ∙ served.count;
+  kind = serves.kind ∙ served.kind;
+  memory = λ none. fails ∙ quiet none;
+}
+  where
+    own : (q.disk == q.disk) ≡ true
+    own = eq-eqb q.disk q.disk refl
+
+    same : (held : List (List ℕ)) → contents before.sector held (xs ++ e ∷ []) q.disk
+        ≡ after_command before.sector q.cmd q (done_sectors q got) (contents before.sector held xs q.disk)
+    same held =
+        answered_contents xs e b got q taken delivers asked before.sector q.disk held
+        ∙ ap (λ (c : Bool). if c
+        then after_command before.sector q.cmd q (done_sectors q got) (contents before.sector held xs q.disk)
+        else contents before.sector held xs q.disk) own
+
+    joined : (o : Option (List (List ℕ)))
+        → held_after before.sector q got (option_map (λ held. contents before.sector held xs q.disk) o)
+        ≡ option_map (λ held. contents before.sector held (xs ++ e ∷ []) q.disk) o
+    joined None = refl
+    joined (Some held) = ap Some (sym (same held))
+
+    reads : (o : Option (List (List ℕ))) → IfSome o (λ held. AreTrue before.sector held xs q.disk)
+        → IfSome (option_map (λ held. contents before.sector held xs q.disk) o) (TellsWhatIsHeld q got)
+        → IfSome o (λ held. AreTrue before.sector held (xs ++ e ∷ []) q.disk)
+    reads None so_far tells = tt
+    reads (Some held) so_far tells =
+        answered_true xs e b got q taken delivers asked before.sector q.disk held so_far (λ its. tells)
+
+    one_more : min after.calls (2 ^ 64 - 1) ≡ min (before.calls + answers_of (xs ++ e ∷ []) q.disk) (2 ^ 64 - 1)
+    one_more =
+        let more : answers_of (xs ++ e ∷ []) q.disk ≡ answers_of xs q.disk + 1 =
+        answered_answers xs e b got q taken delivers asked q.disk
+        ∙ ap (λ c. answers_of xs q.disk + cond c 1 0) own in
+        omega (arith, more, serves.called, served.calls)
+
+    fails : failures_of (xs ++ e ∷ []) q.disk ≡ failures_of xs q.disk + cond (is_failed got) 1 0
+    fails =
+        answered_failures xs e b got q taken delivers asked q.disk
+        ∙ ap (λ c. failures_of xs q.disk + cond (is_failed got && c) 1 0) own ∙ both (is_failed got)
+      where
+        both : (c : Bool)
+            → failures_of xs q.disk + cond (c && true) 1 0 ≡ failures_of xs q.disk + cond c 1 0
+        both true = refl
+        both false = refl
+
+    quiet : before.fails ≡ Some [] → failures_of xs q.disk + cond (is_failed got) 1 0 ≡ 0
+    quiet none =
+        rw (never mid after got serves.memory (served.kind ∙ none), served.memory none) refl
+
+    by : (c : Bool) → is_failed got ≡ c → RoseBy (failures_of (xs ++ e ∷ []) q.disk) before.faults after.faults
+    by true is =
+        let more : failures_of (xs ++ e ∷ []) q.disk ≡ failures_of xs q.disk + 1 =
+        fails ∙ ap (λ c. failures_of xs q.disk + cond c 1 0) is in
+        let rose : Rose mid.faults after.faults = serves.cause is in
+        omega (arith, more, rose, served.failures)
+    by false is =
+        let more : failures_of (xs ++ e ∷ []) q.disk ≡ failures_of xs q.disk + 0 =
+        fails ∙ ap (λ c. failures_of xs q.disk + cond c 1 0) is in
+        omega (arith, more, served.failures, serves.later)
+
+    told_by_all : (c : Bool) → is_failed got ≡ c → failures_of xs q.disk + cond (is_failed got) 1 0 ≡ 0
+        → after.faults ≡ before.faults
+    told_by_all true is none =
+        let more : failures_of xs q.disk + 1 ≡ 0 = ap (λ c. failures_of xs q.disk + cond c 1 0) (sym is) ∙ none in
+        absurd (omega (arith, more))
+    told_by_all false is none =
+        let so_far : failures_of xs q.disk ≡ 0 = omega (arith, none) in
+        serves.told is ∙ served.told so_far
+
+-- All drives
+
+-- a drive that was changed is the new one
+set_same : {X : Type 0} (xs : List X) (i : ℕ) (v x : X) → slice_get xs i ≡ Some x
+    → slice_get (slice_set xs i v) i ≡ Some v
+set_same [] i v x never = absurd cc
+set_same (y ∷ ys) zero v x is = refl
+set_same (y ∷ ys) (suc i) v x is = set_same ys i v x is
+
+-- another stays
+set_other : {X : Type 0} (xs : List X) (i j : ℕ) (v : X) → j ≢ i → slice_get (slice_set xs i v) j ≡ slice_get xs j
+set_other [] i j v other = refl
+set_other (y ∷ ys) zero zero v other = absurd (other refl)
+set_other (y ∷ ys) zero (suc j) v other = refl
+set_other (y ∷ ys) (suc i) zero v other = refl
+set_other (y ∷ ys) (suc i) (suc j) v other = set_other ys i j v (λ e. other (ap (λ n. suc n) e))
+
+-- each drive at the beginning of a log
+pub all_served_none : (drives : List DriveView) → AreServed [] drives drives
+all_served_none drives disk = by (slice_get drives disk)
+  where
+    by : (o : Option DriveView) → IsServedAt [] disk o o
+    by None = tt
+    by (Some d) = served_none disk d
+
+-- an entry that delivers nothing
+pub all_served_quiet : (xs : List Entry) (e : Entry) (before after : List DriveView) → AreTaken xs xs
+    → delivered_in e.step ≡ None → AreServed xs before after → AreServed (xs ++ e ∷ []) before after
+all_served_quiet xs e before after taken quiet served disk =
+    by (slice_get before disk) (slice_get after disk) (served disk)
+  where
+    by : (a c : Option DriveView) → IsServedAt xs disk a c → IsServedAt (xs ++ e ∷ []) disk a c
+    by None None at = tt
+    by (Some a) (Some c) at = served_quiet xs e disk a c taken quiet at
+    by None (Some c) at = at
+    by (Some a) None at = at
+
+-- an entry that delivers what one of them answered
+pub all_served_answered : (xs : List Entry) (e : Entry) (b : ℕ) (got : DeviceResult) (q : Request)
+    (before mid : List DriveView) (old new : DriveView) → AreTaken xs xs → e.step ≡ steps.Deliver b got
+    → request_of xs b ≡ Some q → slice_get mid q.disk ≡ Some old → Serves q old new got → AreServed xs before mid
+    → AreServed (xs ++ e ∷ []) before (slice_set mid q.disk new)
+all_served_answered xs e b got q before mid old new taken delivers asked here serves served disk =
+    by (disk == q.disk) refl
+  where
+    other : (a c : Option DriveView) → q.disk ≢ disk → IsServedAt xs disk a c → IsServedAt (xs ++ e ∷ []) disk a c
+    other None None apart at = tt
+    other (Some a) (Some c) apart at = served_other xs e b got q disk a c taken delivers asked apart at
+    other None (Some c) apart at = at
+    other (Some a) None apart at = at
+
+    own : (a : Option DriveView) → IsServedAt xs q.disk a (Some old) → IsServedAt (xs ++ e ∷ []) q.disk a (Some new)
+    own None at = at
+    own (Some a) at = served_own xs e b got q a old new taken delivers asked at serves
+
+    by : (c : Bool) → (disk == q.disk) ≡ c
+        → IsServedAt (xs ++ e ∷ []) disk (slice_get before disk) (slice_get (slice_set mid q.disk new) disk)
+    by true is =
+        let same : disk ≡ q.disk = eqb-true disk q.disk is in
+        subst (λ n. IsServedAt (xs ++ e ∷ []) n (slice_get before n) (slice_get (slice_set mid q.disk new) n))
+        (sym same)
+        (rw (set_same mid q.disk new old here)
+        (own (slice_get before q.disk)
+        (subst (λ o. IsServedAt xs q.disk (slice_get before q.disk) o) here (served q.disk))))
+    by false is =
+        let apart : disk ≢ q.disk = (λ same. both_ways (disk == q.disk) is (eq-eqb disk q.disk same)) in
+        rw (set_other mid q.disk disk new apart)
+        (other (slice_get before disk) (slice_get mid disk) (λ same. apart (sym same)) (served disk))
+
+-- all of it
+pub drives_follow : DrivesFollow
+drives_follow = record { none = all_served_none; quiet = all_served_quiet; answered = all_served_answered }

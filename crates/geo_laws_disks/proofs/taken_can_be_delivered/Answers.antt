@@ -1,5 +1,0 @@
-use Rattle.geo_laws_disks.proofs.Held.{taken_can_be_delivered}
-use Rattle.geo_laws_disks.proofs.taken_can_be_delivered.Goals as goal
-
-pub returns : goal.returns
-returns c = taken_can_be_delivered

@@ -1,5 +1,0 @@
-pub mod Changes
-pub mod Killed
-pub mod MarksKept
-pub mod Withering
-pub mod Announced

@@ -1,5 +1,0 @@
-use Rattle.geo_laws_formats.proofs.ChainProofs.{chains_are_read}
-use Rattle.geo_laws_formats.proofs.chains.chains_are_read.Goals as goal
-
-pub returns : goal.returns
-returns c = chains_are_read

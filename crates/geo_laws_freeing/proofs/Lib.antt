@@ -1,4 +1,0 @@
-pub mod Ends
-pub mod OfHandles
-pub mod Frees
-pub mod Offers

@@ -1,4 +1,0 @@
-pub mod Freed
-pub mod Idle
-pub mod Offered
-pub mod Answered

@@ -1,2 +1,0 @@
-pub mod Heirs
-pub mod HeirLaws

@@ -1,5 +1,0 @@
-pub mod Looks
-pub mod Finished
-pub mod Entries
-pub mod CommandArrivals
-pub mod Arrivals

@@ -1,3 +1,0 @@
-pub mod Chains
-pub mod Firsts
-pub mod Judging

@@ -1,9 +1,0 @@
-//! Laws of requests: the ledger that ties a history to the world that it leads to (g_bio(9)).
-#![tactic(auto)]
-
-ghost use Rattle.geo_laws_ledger.specs.Ledger.{StepsKeepLedger};
-
-/// Each step keeps the ledger of requests: what the log tells of each bio is what becomes of it.
-pub fn steps_keep_ledger()
-    ensures { StepsKeepLedger }
-{}

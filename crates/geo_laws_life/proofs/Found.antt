@@ -1,0 +1,151 @@
+-- What is found, and pairs of a list in order of numbers.
+use Rattle.std.specs.Prelude.{◌≡◌, ◌≢◌, ℕ, ◌+◌, ◌<◌, ◌≤◌, ◌==◌, Bool, true, false, not, List, [], ◌∷◌, map, filter, find, Option, Some, None, AllPairs, Contains, IfSome, IsSomeAnd, IsSome}
+use Rattle.std.specs.List.{AllByRecursion, AllZip}
+use Rattle.std.proofs.Common.{inl, inr, refl, sym, ◌∙◌, ap, subst, arith}
+use Rattle.std.proofs.lemmas.Bool.{eq-eqb}
+use Rattle.geo_model.specs.Graph.{AreNumbers}
+use Rattle.geo_laws_graph.proofs.Members.{Contains-here, Contains-there, Contains-cases, nothing_in, All-from_contained, at_contained, find-Contains}
+use Rattle.geo_laws_graph.proofs.Lists.{Rise, rise-from, found_itself}
+use Rattle.geo_laws_graph.proofs.Numbered.{number_found}
+use Rattle.geo_laws_life.proofs.Standers.{PairsByRecursion, pairs-from_recursion, recursion-from_pairs}
+use Rattle.geo_laws_life.specs.LessLaws.{ComesFrom}
+
+-- a thing that is found, and what holds of it
+pub record FoundWith {X : Type 0} (o : Option X) (P : X → Type 0) : Type 0 where
+  pub item : X
+  pub is : o ≡ Some item
+  pub fact : P item
+
+module _ {X : Type 0} where
+  -- where a fact holds of what is found, something is found
+  pub found-with : (o : Option X) (P : X → Type 0) → IsSomeAnd o P → FoundWith o P
+  found-with None P fact = absurd fact
+  found-with (Some x) P fact = record { item = x; is = refl; fact = fact }
+
+  -- a fact of what is found
+  pub some-with : (o : Option X) (P : X → Type 0) (x : X) → o ≡ Some x → P x → IsSomeAnd o P
+  some-with o P x e fact = subst (λ z. IsSomeAnd z P) (sym e) fact
+
+  -- what is found is there
+  pub some-there : (o : Option X) (x : X) → o ≡ Some x → IsSome o
+  some-there o x e = subst (λ z. IsSome z) (sym e) refl
+
+  -- a fact of whatever is found
+  pub if-found : (o : Option X) (P : X → Type 0) → ((x : X) → o ≡ Some x → P x) → IfSome o P
+  if-found None P so = tt
+  if-found (Some x) P so = so x refl
+
+  -- such a fact of what is found
+  pub at-found : (o : Option X) (P : X → Type 0) (x : X) → o ≡ Some x → IfSome o P → P x
+  at-found o P x e fact = subst (λ z. IfSome z P) e fact
+
+  -- what holds of whatever is found there holds of what is found
+  pub at-some : (o : Option X) (P : X → Type 0) (x : X) → o ≡ Some x → IsSomeAnd o P → P x
+  at-some o P x e fact = subst (λ z. IsSomeAnd z P) e fact
+
+  -- two things that are found in one place are one
+  pub one-found : (o : Option X) (x y : X) → o ≡ Some x → o ≡ Some y → x ≡ y
+  one-found o x y e f = cc
+
+  -- nothing isn't something
+  pub none-there : (o : Option X) → o ≡ None → IsSome o → ⊥
+  none-there o e there = let no : false ≡ true = subst (λ z. IsSome z) e there in cc
+
+-- a test that all items pass keeps them all
+pub keeps_all : {X : Type 0} (test : X → Bool) (xs : List X) → AllByRecursion (λ x. test x ≡ true) xs
+    → filter test xs ≡ xs
+keeps_all test [] facts = refl
+keeps_all test (x ∷ xs) facts = rw (facts.0, keeps_all test xs facts.1) refl
+
+-- a number that passes isn't the one that goes
+pub passes_apart : (n p : ℕ) → not (n == p) ≡ true → n ≢ p
+passes_apart n p e same = let is : (n == p) ≡ true = eq-eqb n p same in let no : false ≡ true =
+    sym (ap not is) ∙ e in cc
+
+-- a fact of each two items of two lists that follows from another
+pub all_zip-weaker : {A B : Type 0} (R S : A → B → Type 0) → ((a : A) (b : B) → R a b → S a b)
+    → (xs : List A) (ys : List B) → AllZip R xs ys → AllZip S xs ys
+all_zip-weaker R S so [] [] facts = facts
+all_zip-weaker R S so [] (y ∷ ys) facts = facts
+all_zip-weaker R S so (x ∷ xs) [] facts = facts
+all_zip-weaker R S so (x ∷ xs) (y ∷ ys) facts = (so x y facts.0, all_zip-weaker R S so xs ys facts.1)
+
+-- what is found at a number, and that a fact ties it to another thing
+pub record From {X : Type 0} (number : X → ℕ) (R : X → X → Type 0) (xs : List X) (n : ℕ) (y : X) : Type 0 where
+  pub item : X
+  pub found : find (λ (z : X). number z == n) xs ≡ Some item
+  pub is : R item y
+
+module _ {X : Type 0} (number : X → ℕ) where
+  -- each of a list comes from one of another with the same number: so does what is found at a number
+  pub from-found : (R : X → X → Type 0) → ((x y : X) → R x y → number y ≡ number x) → (next : ℕ) (xs ys : List X)
+      → AreNumbers (map number xs) next
+      → ((y : X) → Contains ys y → ComesFrom R xs y) → (n : ℕ) (y : X) → find (λ (z : X). number z == n) ys ≡ Some y
+      → From number R xs n y
+  from-found R same next xs ys are come n y found =
+      let o = come y (find-Contains (λ (z : X). number z == n) ys y found) in
+      let here : number o.item ≡ n = sym (same o.item y o.fact) ∙ number_found number ys n y found in
+      record {
+        item = o.item;
+        found = subst (λ m. find (λ (z : X). number z == m) xs ≡ Some o.item) here
+            (found_itself number next xs o.item are o.stands);
+        is = o.fact;
+      }
+
+  -- where numbers rise from one on, none is lower
+  above_low : (low high : ℕ) (xs : List X) (y : X) → Rise low (map number xs) high → Contains xs y → low ≤ number y
+  above_low low high [] y rise here = absurd (nothing_in y here)
+  above_low low high (x ∷ xs) y rise here =
+      elim (Contains-cases x y xs here) [
+        | inl same ↦ (let e : number x ≡ number y = ap number same in let a : low ≤ number x = rise.0 in omega arith)
+        | inr rest ↦ (let a : low ≤ number x = rise.0 in let b : number x + 1 ≤ number y =
+            above_low (number x + 1) high xs y rise.2 rest in omega arith)
+      ]
+
+  -- a fact of any two members of which the one has the lower number, by recursion
+  pairs_by : (R : X → X → Type 0) (low high : ℕ) (xs : List X) → Rise low (map number xs) high
+      → ((x y : X) → Contains xs x → Contains xs y → number x < number y → R x y) → PairsByRecursion R xs
+  pairs_by R low high [] rise so = tt
+  pairs_by R low high (x ∷ xs) rise so = (
+    All-from_contained (R x) xs (λ y here.
+        let b : number x + 1 ≤ number y = above_low (number x + 1) high xs y rise.2 here in
+        so x y (Contains-here x xs) (Contains-there x y xs here) (omega arith)),
+    pairs_by R (number x + 1) high xs rise.2 (λ y z a b less. so y z (Contains-there x y xs a)
+        (Contains-there x z xs b) less),
+  )
+
+  -- and back
+  members_by : (R : X → X → Type 0) (low high : ℕ) (xs : List X) → Rise low (map number xs) high → PairsByRecursion R xs
+      → (x y : X) → Contains xs x → Contains xs y → number x < number y → R x y
+  members_by R low high [] rise facts x y a b less = absurd (nothing_in x a)
+  members_by R low high (z ∷ zs) rise facts x y a b less =
+      elim (Contains-cases z x zs a) [
+        | inl first ↦
+            elim (Contains-cases z y zs b) [
+              | inl second ↦ (let e : number x ≡ number y = ap number (sym first ∙ second) in absurd (omega arith))
+              | inr rest ↦ subst (λ v. R v y) first (at_contained (R z) zs y facts.0 rest)
+            ]
+        | inr rest ↦
+            elim (Contains-cases z y zs b) [
+              | inl second ↦
+                  (let e : number z ≡ number y = ap number second in
+                  let c : number z + 1 ≤ number x = above_low (number z + 1) high zs x rise.2 rest in
+                  absurd (omega arith))
+              | inr more ↦ members_by R (number z + 1) high zs rise.2 facts.1 x y rest more less
+            ]
+      ]
+
+  -- what holds of any two in their order in one list, holds so in another whose members come from its members
+  pub pairs-from : (R : X → X → Type 0) (T : X → X → Type 0) → ((x y : X) → T x y → number y ≡ number x)
+      → ((x y u v : X) → T x u → T y v → R x y → R u v)
+      → (next other : ℕ) (xs ys : List X) → AreNumbers (map number xs) next → AreNumbers (map number ys) other
+      → ((y : X) → Contains ys y → ComesFrom T xs y) → AllPairs R xs → AllPairs R ys
+  pairs-from R T same keeps next other xs ys are new come facts =
+      pairs-from_recursion R ys (pairs_by R 0 other ys (rise-from other (map number ys) new) (λ u v a b less.
+      let o = come u a in
+      let p = come v b in
+      let e : number u ≡ number o.item = same o.item u o.fact in
+      let f : number v ≡ number p.item = same p.item v p.fact in
+      keeps o.item p.item u v o.fact p.fact
+      (members_by R 0 next xs (rise-from next (map number xs) are) (recursion-from_pairs R xs facts) o.item p.item
+      o.stands p.stands (omega arith))))

@@ -1,0 +1,159 @@
+-- A graph that has come to less is steady.
+use Rattle.std.specs.Prelude.{◌≡◌, ◌⊎◌, ℕ, ◌≤◌, Bool, true, false, not, List, [], ◌∷◌, length, Option, Some, None, All, Contains, IsSome, IsSomeAnd, IfSome, IsTrue, option_and_then}
+use Rattle.std.specs.List.{list_any}
+use Rattle.std.proofs.Common.{inl, inr, refl, sym, ◌∙◌, ap, subst, arith}
+use Rattle.std.proofs.lemmas.Bool.{or_cases}
+use Rattle.std.proofs.lemmas.List.Elements.{All-contains}
+use Rattle.geo_model.specs.declared.step.Event.{Event}
+use Rattle.geo_base.specs.declared.request.Counts.{Counts}
+use Rattle.geo_model.specs.Topology.{Topology, Geom, Provider, Consumer, geom_at, provider_at, consumer_at, providers_of, consumers_of}
+use Rattle.geo_model.specs.Demand.{have, no_counts, is_zero}
+use Rattle.geo_model.specs.Place.{components}
+use Rattle.geo_model.specs.World.{World, Config, granted_in}
+use Rattle.geo_model.specs.Sound.{IsOfItsClass}
+use Rattle.geo_model.specs.Steady.{Steady, has_free_place, has_open_provider, HasItsComponents, WaitsForPlaces}
+use Rattle.geo_model.specs.Fitting.{Firm}
+use Rattle.geo_laws_graph.proofs.Members.{Contains-here, Contains-there}
+use Rattle.geo_laws_graph.proofs.Lists.{found_itself}
+use Rattle.geo_laws_graph.proofs.Numbered.{any-contained}
+use Rattle.geo_laws_counts.proofs.LimitFacts.{all_of}
+use Rattle.geo_laws_life.proofs.Found.{found-with, some-with, one-found}
+use Rattle.geo_laws_life.specs.LessLaws.{IsGeomOf, IsSpent, IsLess}
+use Rattle.geo_laws_life.proofs.Less.{upright-before, remade, geom-number, provider-number}
+use Rattle.geo_laws_life.proofs.LessLooks.{has_below, components-below, before_order, stays_or_spent, of_geom, spent-closed}
+
+-- a member that passes a test, where one does
+pub record Passes {X : Type 0} (test : X → Bool) (xs : List X) : Type 0 where
+  pub item : X
+  pub here : Contains xs item
+  pub passes : test item ≡ true
+
+-- one that a list has that passes
+pub some-passes : {X : Type 0} (test : X → Bool) (xs : List X) → list_any test xs ≡ true → Passes test xs
+some-passes test [] some = absurd (let no : ⊥ = cc in no)
+some-passes test (x ∷ xs) some =
+    elim (or_cases (test x) (list_any test xs) some) [
+      | inl first ↦ record { item = x; here = Contains-here x xs; passes = first }
+      | inr rest ↦
+          (let more = some-passes test xs rest in
+          record { item = more.item; here = Contains-there x more.item xs more.here; passes = more.passes })
+    ]
+
+-- a list that isn't longer than none
+no_longer : {X : Type 0} (xs ys : List X) → length xs ≤ length ys → ys ≡ [] → xs ≡ []
+no_longer [] ys short none = refl
+no_longer (x ∷ xs) ys short none = let e : length ys ≡ 0 = ap length none in absurd (omega (arith, short, e))
+
+-- zero counts aren't some
+zero_open : (granted : ℕ → Counts) (t : Topology Config) (n : ℕ) → have granted t n ≡ no_counts
+    → not (is_zero (have granted t n)) ≡ true → ⊥
+zero_open granted t n none some = let no : false ≡ true = sym (ap (λ a. not (is_zero a)) none) ∙ some in cc
+
+module _ (w : World) (u : Topology Config) (firm : Firm w) (less : IsLess w u) where
+  -- each consumer is attached
+  attached_one : (c : Consumer) → Contains u.consumers c → IsSome (option_and_then (provider_at u) c.provider)
+  attached_one c here =
+      let o = less.consumers c here in
+      let was : IsSome (option_and_then (provider_at w.topology) o.item.provider) =
+      All-contains (λ (z : Consumer). IsSome (option_and_then (provider_at w.topology) z.provider))
+      w.topology.consumers o.item firm.steady.attached o.stands in
+      by c.provider (ap (λ (z : Consumer). z.provider) o.fact.same) was
+      (All-contains (λ (z : Consumer). IfSome z.provider (λ q. IsSome (provider_at u q))) u.consumers c
+      less.live.providers here)
+    where
+      -- by what it is attached to
+      by : (o : Option ℕ) {before : Option ℕ} → o ≡ before → IsSome (option_and_then (provider_at w.topology) before)
+          → IfSome o (λ q. IsSome (provider_at u q)) → IsSome (option_and_then (provider_at u) o)
+      by None e was live = subst (λ z. IsSome (option_and_then (provider_at w.topology) z)) (sym e) was
+      by (Some n) e was live = live
+
+  -- a geom that is used or stands upright was so before
+  used_before : (queue : List Event) (x y : Geom Config) → IsGeomOf x y
+      → (y.withering ≡ false) ⊎ IsTrue (has_open_provider (remade w u queue) y)
+      → (x.withering ≡ false) ⊎ IsTrue (has_open_provider w x)
+  used_before queue x y is (inl stands) = inl (upright-before x y is x.withering refl stands)
+  used_before queue x y is (inr some) =
+      let p = some-passes (λ (z : Provider). not (is_zero (have (granted_in w) u z.number))) (providers_of u y.number)
+      some in
+      let q = of_geom w u firm less y.number p.item p.here in
+      inr (any-contained (λ (z : Provider). not (is_zero (have (granted_in w) w.topology z.number)))
+      (providers_of w.topology x.number) q.item
+      (subst (λ n. Contains (providers_of w.topology n) q.item) (geom-number x y is) q.stands)
+      (sym (ap (λ a. not (is_zero a)) (less.demand.haves p.item.number
+      ∙ ap (have (granted_in w) w.topology) (provider-number q.item p.item q.fact))) ∙ p.passes))
+
+  -- a spent consumer isn't a component of a geom that is used or stands upright
+  spent_unused : (x : Geom Config) → Contains w.topology.geoms x → (x.withering ≡ false)
+      ⊎ IsTrue (has_open_provider w x) → has_below x.config ≡ true
+      → (d : Consumer) → d.geom ≡ x.number → IsSpent w d → ⊥
+  spent_unused x here used below d own spent =
+      let at : geom_at w.topology d.geom ≡ Some x =
+      subst (λ n. geom_at w.topology n ≡ Some x) (sym own)
+      (found_itself (λ (z : Geom Config). z.number) w.topology.next_geom w.topology.geoms x
+      (before_order w u firm less).geoms here) in
+      elim used [
+        | inl stands ↦
+            (let same : x ≡ spent.geom = one-found (geom_at w.topology d.geom) x spent.geom at spent.found in
+            let no : true ≡ false = sym (ap (λ (z : Geom Config). z.withering) same ∙ spent.withering) ∙ stands in
+            cc)
+        | inr some ↦
+            (let p = some-passes (λ (z : Provider). not (is_zero (have (granted_in w) w.topology z.number)))
+            (providers_of w.topology x.number) some in
+            zero_open (granted_in w) w.topology p.item.number
+            (All-contains (λ (y : Provider). have (granted_in w) w.topology y.number ≡ no_counts)
+            (providers_of w.topology x.number) p.item
+            (spent-closed w d x spent at (All-contains IsOfItsClass w.topology.geoms x firm.sound.numbers.classes
+            here).config below) p.here)
+            p.passes)
+      ]
+
+  -- each component still stands
+  components_stand : (queue : List Event) (y : Geom Config) → Contains u.geoms y
+      → HasItsComponents (remade w u queue) y
+  components_stand queue y here used =
+      let o = less.geoms y here in
+      let before = used_before queue o.item y o.fact used in
+      let old = All-contains (HasItsComponents w) w.topology.geoms o.item firm.steady.components o.stands before in
+      all_of (λ c. IsSomeAnd (consumer_at u c) (λ x. (x.geom ≡ y.number) × IsSome x.provider)) (components y.config)
+      (λ c among.
+      let among_before : Contains (components o.item.config) c =
+      subst (λ (z : Geom Config). Contains (components z.config) c) o.fact.same among in
+      let d = found-with (consumer_at w.topology c) (λ x. (x.geom ≡ o.item.number) × IsSome x.provider)
+      (All-contains (λ c. IsSomeAnd (consumer_at w.topology c) (λ x. (x.geom ≡ o.item.number) × IsSome x.provider))
+      (components o.item.config) c old among_before) in
+      elim (stays_or_spent w u firm less c d.item d.is) [
+        | inl stays ↦
+            some-with (consumer_at u c) (λ x. (x.geom ≡ y.number) × IsSome x.provider) stays.now stays.found (
+              ap (λ (z : Consumer). z.geom) stays.is.same ∙ d.fact.0 ∙ sym (geom-number o.item y o.fact),
+              subst (λ (z : Consumer). IsSome z.provider) (sym stays.is.same) d.fact.1,
+            )
+        | inr spent ↦ absurd (spent_unused o.item o.stands before (components-below o.item.config c among_before)
+            d.item d.fact.0 spent)
+      ])
+
+  -- an assembly with a free place has no provider
+  waits : (queue : List Event) (y : Geom Config) → Contains u.geoms y → WaitsForPlaces (remade w u queue) y
+  waits queue y here free =
+      let o = less.geoms y here in
+      no_longer (providers_of u y.number) (providers_of w.topology o.item.number)
+      (subst (λ n. length (providers_of u y.number) ≤ length (providers_of w.topology n))
+      (geom-number o.item y o.fact) (less.fewer y.number))
+      (All-contains (WaitsForPlaces w) w.topology.geoms o.item firm.steady.partial o.stands
+      (subst (λ (z : Geom Config). IsTrue (has_free_place z)) o.fact.same free))
+
+  -- so the world is steady
+  pub less-steady : (queue : List Event) → All (λ c. c.spoiled ≡ false) (consumers_of u 1) → Steady (remade w u queue)
+  less-steady queue unmarked = record {
+    made = all_of (λ (g : Geom Config). (g.number ≡ 1) ⊎ (g.number ≡ 2) → g.automatic ≡ false) u.geoms (λ y here.
+        let o = less.geoms y here in
+        subst (λ (g : Geom Config). (g.number ≡ 1) ⊎ (g.number ≡ 2) → g.automatic ≡ false) (sym o.fact.same)
+        (All-contains (λ (g : Geom Config). (g.number ≡ 1) ⊎ (g.number ≡ 2) → g.automatic ≡ false) w.topology.geoms
+        o.item firm.steady.made o.stands));
+    parts = record { providers = less.live.offerers; consumers = less.live.geoms };
+    attached = all_of (λ (c : Consumer). IsSome (option_and_then (provider_at u) c.provider)) u.consumers attached_one;
+    components = all_of (HasItsComponents (remade w u queue)) u.geoms (components_stand queue);
+    partial = all_of (WaitsForPlaces (remade w u queue)) u.geoms (waits queue);
+    owners = firm.steady.owners;
+    results = firm.steady.results;
+    unmarked = unmarked;
+  }

@@ -1,0 +1,6 @@
+use Rattle.geo_laws_life.proofs.Opened.{opening-sound, opening-steady}
+use Rattle.geo_laws_life.proofs.Fits.{opening-fitting}
+use Rattle.geo_laws_life.proofs.opening.openings_are_sound.Goals as goal
+
+pub returns : goal.returns
+returns c = record { sound = opening-sound; steady = opening-steady; fitting = opening-fitting }

@@ -1,0 +1,5 @@
+pub mod OpeningLaws
+pub mod LessLaws
+pub mod EffectLaws
+pub mod EventLaws
+pub mod WashLaws

@@ -1,0 +1,104 @@
+-- Whatever is made of an accepted verdict: the class tells the shape.
+use Rattle.std.specs.Prelude.{◌≡◌, ℕ, ◌*◌, Bool, true, false, List, Option, Some, None, Result, Ok, Err, if◌then◌else◌}
+use Rattle.std.proofs.Common.{sym, subst}
+use Rattle.geo_base.specs.declared.decline.DeclineCause.{DeclineCause}
+use Rattle.geo_base.specs.declared.decline.DeclineCause.TheVariants as causes
+use Rattle.geo_base.specs.declared.kind.Kind.{Kind}
+use Rattle.geo_base.specs.declared.kind.Kind.TheVariants as kinds
+use Rattle.geo_model.specs.declared.class.Facts.{Facts}
+use Rattle.geo_model.specs.declared.class.LabelRecord.{LabelRecord}
+use Rattle.geo_model.specs.declared.class.Shape.{Shape}
+use Rattle.geo_model.specs.declared.class.Shape.TheVariants.{Slices, Logical, Named, Joined, Striped}
+use Rattle.geo_model.specs.declared.class.Verdict.TheVariants.{Decline, More, Accept}
+use Rattle.geo_model.specs.Words.{first_error}
+use Rattle.geo_model.specs.Topology.{Provider}
+use Rattle.geo_model.specs.World.{World, Config, Taste}
+use Rattle.geo_model.specs.Events.{QueuedTopology}
+use Rattle.geo_model.specs.WorldEvents.{with_queued}
+use Rattle.geo_model.specs.Acceptance.{verdict_of, is_other_size, label_verdict}
+use Rattle.geo_model.specs.Chain.{Chain, with_link, link_tests, table_of, chain_verdict, leads_on}
+use Rattle.geo_model.specs.Records.{mbr_table, label_record, concat_record, stripe_record}
+use Rattle.geo_model.specs.Tasting.{facts_of}
+use Rattle.geo_model.specs.Fitting.{Firm}
+use Rattle.geo_laws_making.specs.AcceptLaws.{IsAccepted, AcceptsStayFirm}
+use Rattle.geo_laws_making.proofs.Labelled.{label-firm}
+use Rattle.geo_laws_making.proofs.Sliced.{slices-firm}
+use Rattle.geo_laws_making.proofs.Parted.{parts-firm}
+use Rattle.geo_laws_making.proofs.PlacedInside.{places_stay}
+
+-- a shape is made of what a class found
+pub record IsOfShape {A : Type 0} (make : A → Shape) (shape : Shape) : Type 0 where
+  pub found : A
+  pub is : shape ≡ make found
+
+-- so it is where a class says so
+shape_of : {A : Type 0} (make : A → Shape) (r : Result A DeclineCause) (shape : Shape)
+    → verdict_of make r ≡ Accept shape
+    → IsOfShape make shape
+shape_of make (Ok found) shape e = record { found = found; is = let same : make found ≡ shape = cc in sym same }
+shape_of make (Err cause) shape e = absurd (let no : ⊥ = cc in no)
+
+-- of a label, by whether it says another size
+label_by : (found : LabelRecord) (shape : Shape) (b : Bool)
+    → (if b then Decline causes.Media else Accept (Named found)) ≡ Accept shape → IsOfShape Named shape
+label_by found shape true e = absurd (let no : ⊥ = cc in no)
+label_by found shape false e = record { found = found; is = let same : Named found ≡ shape = cc in sym same }
+
+-- so of a label
+label_of : (f : Facts) (r : Result LabelRecord DeclineCause) (shape : Shape) → label_verdict f r ≡ Accept shape
+    → IsOfShape Named shape
+label_of f (Ok found) shape e = label_by found shape (is_other_size found.size (f.sectors * f.sector)) e
+label_of f (Err cause) shape e = absurd (let no : ⊥ = cc in no)
+
+-- of a chain, by whether it leads on
+chain_by : (c : Chain) (shape : Shape) (b : Bool)
+    → (if b then More c.next else Accept (Logical (table_of c.links))) ≡ Accept shape
+    → IsOfShape Logical shape
+chain_by c shape true e = absurd (let no : ⊥ = cc in no)
+chain_by c shape false e =
+    record { found = table_of c.links; is = let same : Logical (table_of c.links) ≡ shape = cc in sym same }
+
+-- so of a chain
+chain_of : (c : Chain) (bytes : List ℕ) (o : Option DeclineCause) (shape : Shape)
+    → chain_verdict c bytes o ≡ Accept shape
+    → IsOfShape Logical shape
+chain_of c bytes (Some cause) shape e = absurd (let no : ⊥ = cc in no)
+chain_of c bytes None shape e = chain_by c shape (leads_on bytes) e
+
+module _ (w : World) (s : Taste) (p : Provider) (bytes : List ℕ) (shape : Shape) (made : QueuedTopology Config)
+    (firm : Firm w) where
+  -- the facts of the provider
+  abbrev f : Facts
+  f = facts_of w.topology p
+
+  -- by the class
+  accepted-firm : (kind : Kind) → IsAccepted w s p kind bytes shape made → Firm (with_queued w made)
+  accepted-firm kinds.Mbr accepted =
+      let o = shape_of Slices (mbr_table bytes f.sectors) shape accepted.verdict in
+      slices-firm w s p bytes o.found made firm (subst (λ x. IsAccepted w s p kinds.Mbr bytes x made) o.is accepted)
+  accepted-firm kinds.Ebr accepted =
+      let o = chain_of (with_link f.sectors s.chain bytes) bytes
+      (first_error (link_tests f.sectors (with_link f.sectors s.chain bytes) bytes)) shape accepted.verdict in
+      parts-firm w s p bytes o.found made firm (subst (λ x. IsAccepted w s p kinds.Ebr bytes x made) o.is accepted)
+  accepted-firm kinds.Label accepted =
+      let o = label_of f (label_record bytes) shape accepted.verdict in
+      label-firm w s p bytes o.found made firm (subst
+      (λ x. IsAccepted w s p kinds.Label bytes x made) o.is accepted)
+  accepted-firm kinds.Concat accepted =
+      let o = shape_of Joined (concat_record bytes) shape accepted.verdict in
+      places_stay.concat w s p bytes o.found made firm
+      (subst (λ x. IsAccepted w s p kinds.Concat bytes x made) o.is accepted)
+  accepted-firm kinds.Stripe accepted =
+      let o = shape_of Striped (stripe_record bytes) shape accepted.verdict in
+      places_stay.stripe w s p bytes o.found made firm
+      (subst (λ x. IsAccepted w s p kinds.Stripe bytes x made) o.is accepted)
+  accepted-firm kinds.Disk accepted = absurd (let e = accepted.verdict in let no : ⊥ = cc in no)
+  accepted-firm kinds.Dev accepted = absurd (let e = accepted.verdict in let no : ⊥ = cc in no)
+  accepted-firm kinds.Taste accepted = absurd (let e = accepted.verdict in let no : ⊥ = cc in no)
+  accepted-firm kinds.Nop accepted = absurd (let e = accepted.verdict in let no : ⊥ = cc in no)
+
+-- so say all verdicts
+pub accepts_stay : AcceptsStayFirm
+accepts_stay = record {
+  accept = λ w s p kind bytes shape made firm accepted. accepted-firm w s p bytes shape made firm kind accepted;
+}

@@ -1,0 +1,332 @@
+-- A graph that has come to more is steady and fitting, and a firm world with it is firm.
+use Rattle.std.specs.Prelude.{◌≡◌, ◌≢◌, ◌⊎◌, ℕ, ◌≤◌, ◌/◌, ◌%◌, ◌==◌, true, false, not, List, [], length, Option, Some, None, All, Contains, IsSome, IsSomeAnd, IfSome, IsTrue, option_and_then}
+use Rattle.std.specs.List.{list_any}
+use Rattle.std.specs.Option.{option_map_or}
+use Rattle.std.proofs.Common.{inl, inr, sym, ◌∙◌, ap, subst, arith}
+use Rattle.std.proofs.lemmas.Bool.{eqb-true, cases_eq, not-true}
+use Rattle.std.proofs.lemmas.List.Elements.{All-contains, All-weaker}
+use Rattle.geo_base.specs.Sectors.{IsSectorSize}
+use Rattle.geo_base.specs.declared.kind.Kind.TheVariants as kinds
+use Rattle.geo_model.specs.declared.class.Facts.{Facts}
+use Rattle.geo_model.specs.declared.step.Event.{Event}
+use Rattle.geo_model.specs.Topology.{Topology, Geom, Provider, Consumer, geom_at, provider_at, consumer_at, providers_of}
+use Rattle.geo_model.specs.Demand.{have, is_zero}
+use Rattle.geo_model.specs.Events.{provider_of_event}
+use Rattle.geo_model.specs.Place.{components}
+use Rattle.geo_model.specs.Acceptance.{taste_where, places_of, joined_size}
+use Rattle.geo_model.specs.Tasting.{facts_of}
+use Rattle.geo_model.specs.World.{World, Config, Taste, Asked, NoClass, NextSector, ReadOut, ReadBack, granted_in, is_taste_root}
+use Rattle.geo_model.specs.Sound.{IsTasteInOrder}
+use Rattle.geo_model.specs.Steady.{Steady, has_free_place, has_open_provider, HasItsComponents, WaitsForPlaces}
+use Rattle.geo_model.specs.Fitting.{IsWholeIn, FitsBelow, sizes_of, FitsPlace, FitsPlaces, IsAskedInOrder, HasOneProvider, PlacesHold, HasItsSum, Fitting, Firm}
+use Rattle.geo_laws_graph.proofs.Members.{has, find-Contains, filter-Contains}
+use Rattle.geo_laws_graph.proofs.Lists.{found_itself}
+use Rattle.geo_laws_graph.proofs.Numbered.{any-contained, number_found}
+use Rattle.geo_laws_counts.proofs.LimitFacts.{all_of}
+use Rattle.geo_laws_life.proofs.Found.{found-with, some-with, some-there, if-found, at-found, at-some, one-found, all_zip-weaker}
+use Rattle.geo_laws_life.proofs.Less.{remade}
+use Rattle.geo_laws_life.proofs.LessSteady.{some-passes}
+use Rattle.geo_laws_making.specs.MoreLaws.{IsGrownFrom, IsMore, MoreIsFirm}
+use Rattle.geo_laws_making.proofs.More.{WasBelow, before_order, target_stands, taste_stands, more-providers, more-counts, more-numbers, more-handles, more-places, more-bios, more-families, more-disks, more-events}
+
+-- what is asked stays in order where the facts are the same
+asked_still : (t u : Topology Config) (p : Provider) → facts_of u p ≡ facts_of t p → (a : Asked)
+    → IsAskedInOrder t p a
+    → IsAskedInOrder u p a
+asked_still t u p facts NoClass fact = fact
+asked_still t u p facts (NextSector kind sector) fact = (
+  subst (λ f. IsSome (taste_where kind f))
+      (sym facts) fact.0,
+  fact.1,
+)
+asked_still t u p facts (ReadOut kind) fact = subst (λ f. IsSome (taste_where kind f)) (sym facts) fact
+asked_still t u p facts (ReadBack kind got) fact = (
+  subst (λ f. IsSome (taste_where kind f)) (sym facts) fact.0,
+  fact.1,
+)
+
+-- the facts, by the class and the provider
+abbrev with_kind : Provider → Option (Geom Config) → Facts
+with_kind p o = record {
+  kind = option_map_or (λ (x : Geom Config). x.kind) o kinds.Disk;
+  sector = p.sector;
+  sectors = p.size / p.sector;
+}
+
+module _ (w : World) (u : Topology Config) (g : Geom Config) (firm : Firm w) (more : IsMore w u g) where
+  -- the graph before
+  abbrev t : Topology Config
+  t = w.topology
+
+  -- a geom that was there is found, where it isn't the one
+  old_geom : (n : ℕ) → n ≢ g.number → IsSome (geom_at t n) → (h : Geom Config) → geom_at u n ≡ Some h
+      → geom_at t n ≡ Some h
+  old_geom n apart there h found =
+      let x = has (geom_at t n) there in
+      let same : x.item ≡ h = one-found (geom_at u n) x.item h (more.old_geoms n x.item apart x.is) found in
+      x.is ∙ ap (λ z. Some z) same
+
+  -- an old consumer is attached
+  attached_before : (o : Option ℕ) → IsSome (option_and_then (provider_at t) o)
+      → IsSome (option_and_then (provider_at u) o)
+  attached_before None there = there
+  attached_before (Some n) there =
+      let x = has (provider_at t n) there in
+      let s = more.old_providers n x.item x.is in
+      some-there (provider_at u n) s.now s.found
+
+  -- what is below an old consumer was so before, and may have grown
+  was_below : (o : Option ℕ) → IsSome (option_and_then (provider_at t) o) → (q : Provider)
+      → option_and_then (provider_at u) o ≡ Some q → WasBelow t o q
+  was_below None there q found = absurd (let no : ⊥ = cc in no)
+  was_below (Some n) there q found =
+      let x = has (provider_at t n) there in
+      let s = more.old_providers n x.item x.is in
+      let same : s.now ≡ q = one-found (provider_at u n) s.now q s.found found in
+      record { before = x.item; was = x.is; is = subst (IsGrownFrom x.item) same s.is }
+
+  -- a consumer of another geom was there before
+  other_consumer : (c : Consumer) → Contains u.consumers c → c.geom ≢ g.number → Contains t.consumers c
+  other_consumer c here apart =
+      elim (more.consumers c here) [
+        | inl old ↦ old
+        | inr made ↦ absurd (apart made.geom)
+      ]
+
+  -- Steadiness
+
+  -- a geom that is open or stands upright was so before
+  used_before : (queue : List Event) (x : Geom Config) → Contains t.geoms x → x.number ≢ g.number
+      → (x.withering ≡ false) ⊎ IsTrue (has_open_provider (remade w u queue) x)
+      → (x.withering ≡ false) ⊎ IsTrue (has_open_provider w x)
+  used_before queue x here apart (inl stands) = inl stands
+  used_before queue x here apart (inr some) =
+      let was : list_any (λ (z : Provider). not (is_zero (have (granted_in w) u z.number)))
+      (providers_of t x.number) ≡ true =
+      subst (λ ps. list_any (λ (z : Provider). not (is_zero (have (granted_in w) u z.number))) ps ≡ true)
+      (more.others x.number apart) some in
+      let p = some-passes (λ (z : Provider). not (is_zero (have (granted_in w) u z.number)))
+      (providers_of t x.number) was in
+      let kept = filter-Contains (λ (z : Provider). z.geom == x.number) t.providers p.item p.here in
+      elim (more.opened p.item kept.0 (not-true (is_zero (have (granted_in w) u p.item.number)) p.passes)) [
+        | inl opened ↦
+            inr (any-contained (λ (z : Provider). not (is_zero (have (granted_in w) t z.number)))
+            (providers_of t x.number)
+            p.item p.here (ap not opened))
+        | inr upright ↦
+            inl (at-some (geom_at t p.item.geom) (λ h. h.withering ≡ false) x
+            (subst (λ n. geom_at t n ≡ Some x) (sym (eqb-true p.item.geom x.number kept.1))
+            (found_itself (λ (z : Geom Config). z.number) t.next_geom t.geoms x
+            (before_order w u g firm more).geoms here))
+            upright)
+      ]
+
+  -- each component still stands
+  components_stand : (queue : List Event) (y : Geom Config) → Contains u.geoms y
+      → HasItsComponents (remade w u queue) y
+  components_stand queue y here =
+      elim (more.geoms y here) [
+        | inl old ↦ (λ used.
+            All-weaker (λ c. IsSomeAnd (consumer_at t c) (λ x. (x.geom ≡ y.number) × IsSome x.provider))
+            (λ c. IsSomeAnd (consumer_at u c) (λ x. (x.geom ≡ y.number) × IsSome x.provider)) (λ c fact.
+            let d = found-with (consumer_at t c) (λ x. (x.geom ≡ y.number) × IsSome x.provider) fact in
+            some-with (consumer_at u c) (λ x. (x.geom ≡ y.number) × IsSome x.provider) d.item
+            (more.old_consumers c d.item d.is) d.fact) (components y.config)
+            (All-contains (HasItsComponents w) t.geoms y firm.steady.components old.0
+            (used_before queue y old.0 old.1 used)))
+        | inr same ↦ (λ used.
+            subst (λ (z : Geom Config). All (λ c. IsSomeAnd (consumer_at u c) (λ x. (x.geom ≡ z.number)
+            × IsSome x.provider))
+            (components z.config)) (sym same) more.fits.components)
+      ]
+
+  -- the world is steady
+  more-steady : (queue : List Event) → Steady (remade w u queue)
+  more-steady queue = record {
+    made = all_of (λ (x : Geom Config). (x.number ≡ 1) ⊎ (x.number ≡ 2) → x.automatic ≡ false) u.geoms (λ y here.
+        elim (more.geoms y here) [
+          | inl old ↦
+              All-contains (λ (x : Geom Config). (x.number ≡ 1) ⊎ (x.number ≡ 2) → x.automatic ≡ false) t.geoms y
+              firm.steady.made old.0
+          | inr same ↦ (λ which.
+              let number = ap (λ (z : Geom Config). z.number) (sym same) in
+              absurd (elim which [
+                | inl dev ↦ more.fits.dev (number ∙ dev)
+                | inr taste ↦ more.fits.taste (number ∙ taste)
+              ]))
+        ]);
+    parts = record { providers = more.live.offerers; consumers = more.live.geoms };
+    attached = all_of (λ (c : Consumer). IsSome (option_and_then (provider_at u) c.provider)) u.consumers (λ c here.
+        elim (more.consumers c here) [
+          | inl old ↦
+              attached_before c.provider
+              (All-contains (λ (c : Consumer). IsSome (option_and_then (provider_at t) c.provider)) t.consumers c
+              firm.steady.attached old)
+          | inr made ↦ made.attached
+        ]);
+    components = all_of (HasItsComponents (remade w u queue)) u.geoms (components_stand queue);
+    partial = all_of (WaitsForPlaces (remade w u queue)) u.geoms (λ y here.
+        elim (more.geoms y here) [
+          | inl old ↦ (λ free.
+              more.others y.number old.1 ∙ All-contains (WaitsForPlaces w) t.geoms y firm.steady.partial old.0 free)
+          | inr same ↦
+              subst (λ (z : Geom Config). IsTrue (has_free_place z) → providers_of u z.number ≡ []) (sym same)
+              more.fits.partial
+        ]);
+    owners = firm.steady.owners;
+    results = firm.steady.results;
+    unmarked = subst (All (λ (c : Consumer). c.spoiled ≡ false)) (sym more.dev) firm.steady.unmarked;
+  }
+
+  -- Fitting
+
+  -- what is below a consumer fits
+  fits_below : (c : Consumer) → Contains u.consumers c → FitsBelow u c
+  fits_below c here =
+      if-found (geom_at u c.geom) (λ h. IfSome (option_and_then (provider_at u) c.provider)
+      (λ q. IsWholeIn h.config q.sector))
+      (λ h found. by h found (cases_eq c.geom g.number))
+    where
+      -- of the geom itself, or of another one
+      by : (h : Geom Config) → geom_at u c.geom ≡ Some h → (c.geom ≡ g.number) ⊎ (c.geom ≢ g.number)
+          → IfSome (option_and_then (provider_at u) c.provider) (λ q. IsWholeIn h.config q.sector)
+      by h found (inl own) =
+          let same : g ≡ h = one-found (geom_at u c.geom) g h (ap (geom_at u) own ∙ more.stands) found in
+          subst (λ (z : Geom Config). IfSome (option_and_then (provider_at u) c.provider)
+          (λ q. IsWholeIn z.config q.sector))
+          same (more.wholes c here own)
+      by h found (inr apart) =
+          let old = other_consumer c here apart in
+          let was = old_geom c.geom apart
+          (All-contains (λ (z : Consumer). IsSome (geom_at t z.geom)) t.consumers c firm.steady.parts.consumers
+          old) h found in
+          if-found (option_and_then (provider_at u) c.provider) (λ q. IsWholeIn h.config q.sector) (λ q under.
+          let b = was_below c.provider
+          (All-contains (λ (z : Consumer). IsSome (option_and_then (provider_at t) z.provider)) t.consumers c
+          firm.steady.attached old) q under in
+          subst (λ n. IsWholeIn h.config n) (sym (ap (λ (z : Provider). z.sector) b.is.same))
+          (at-found (option_and_then (provider_at t) c.provider) (λ q. IsWholeIn h.config q.sector) b.before b.was
+          (at-found (geom_at t c.geom)
+          (λ h. IfSome (option_and_then (provider_at t) c.provider) (λ q. IsWholeIn h.config q.sector)) h was
+          (All-contains (FitsBelow t) t.consumers c firm.fitting.wholes old))))
+
+  -- a place of another geom fits
+  fits_place : (n : ℕ) → n ≢ g.number → (place : Option ℕ) (size : ℕ) → FitsPlace t n place size
+      → FitsPlace u n place size
+  fits_place n apart None size fact = tt
+  fits_place n apart (Some k) size fact =
+      if-found (consumer_at u k) (λ c. c.geom ≡ n
+      → IfSome (option_and_then (provider_at u) c.provider) (λ q. (size ≤ q.size) × (size % q.sector ≡ 0)))
+      (λ c found own.
+      let here = find-Contains (λ (z : Consumer). z.number == k) u.consumers c found in
+      let old = other_consumer c here (λ same. apart (sym own ∙ same)) in
+      let was : consumer_at t k ≡ Some c = subst (λ m. consumer_at t m ≡ Some c)
+      (number_found (λ (z : Consumer). z.number) u.consumers k c found)
+      (found_itself (λ (z : Consumer). z.number) t.next_consumer t.consumers c
+      (before_order w u g firm more).consumers old) in
+      if-found (option_and_then (provider_at u) c.provider) (λ q. (size ≤ q.size) × (size % q.sector ≡ 0))
+      (λ q under.
+      let b = was_below c.provider
+      (All-contains (λ (z : Consumer). IsSome (option_and_then (provider_at t) z.provider)) t.consumers c
+      firm.steady.attached old) q under in
+      let fit = at-found (option_and_then (provider_at t) c.provider) (λ q. (size ≤ q.size)
+      × (size % q.sector ≡ 0)) b.before
+      b.was (at-found (consumer_at t k) (λ c. c.geom ≡ n
+      → IfSome (option_and_then (provider_at t) c.provider) (λ q. (size ≤ q.size) × (size % q.sector ≡ 0))) c
+      was fact own) in
+      let low : size ≤ b.before.size = fit.0 in
+      let larger : b.before.size ≤ q.size = b.is.larger in
+      (omega arith, subst (λ m. size % m ≡ 0) (sym (ap (λ (z : Provider). z.sector) b.is.same)) fit.1)))
+
+  -- the taste asks in order
+  asks : (o : Option Taste) → IfSome o (IsTasteInOrder w)
+      → IfSome o (λ s. (x : Provider) → provider_at t s.provider ≡ Some x → (provider_at u s.provider ≡ Some x)
+      × (x.geom ≢ g.number))
+      → IfSome o (λ s. IfSome (provider_at t s.provider) (λ p. IsAskedInOrder t p s.asked))
+      → IfSome o (λ s. IfSome (provider_at u s.provider) (λ p. IsAskedInOrder u p s.asked))
+  asks None order still old = tt
+  asks (Some s) order still old =
+      let both = taste_stands w u g firm more s order still in
+      subst (λ o. IfSome o (λ p. IsAskedInOrder u p s.asked)) (sym both.found)
+      (asked_still t u both.provider
+      (ap (with_kind both.provider) both.of ∙ sym (ap (with_kind both.provider) both.was_of)) s.asked
+      (at-found (provider_at t s.provider) (λ p. IsAskedInOrder t p s.asked) both.provider both.was old))
+
+  -- the world is fitting
+  more-fitting : (queue : List Event) → Fitting (remade w u queue)
+  more-fitting queue = record {
+    disks = firm.fitting.disks;
+    sectors = all_of (λ (p : Provider). IsSectorSize p.sector) u.providers (λ p here.
+        elim (more.providers p here) [
+          | inl old ↦ All-contains (λ (p : Provider). IsSectorSize p.sector) t.providers p firm.fitting.sectors
+              old.0
+          | inr made ↦ made.sector
+        ]);
+    wholes = all_of (FitsBelow u) u.consumers fits_below;
+    places = all_of (FitsPlaces u) u.geoms (λ y here.
+        elim (more.geoms y here) [
+          | inl old ↦
+              all_zip-weaker (FitsPlace t y.number) (FitsPlace u y.number) (λ a b. fits_place y.number old.1 a b)
+              (places_of y.config) (sizes_of y.config)
+              (All-contains (FitsPlaces t) t.geoms y firm.fitting.places old.0)
+          | inr same ↦ subst (FitsPlaces u) (sym same) more.fits.places
+        ]);
+    one = all_of (HasOneProvider u) u.geoms (λ y here.
+        elim (more.geoms y here) [
+          | inl old ↦
+              subst (λ (ps : List Provider). y.kind ≡ kinds.Concat → length ps ≤ 1)
+              (sym (more.others y.number old.1))
+              (All-contains (HasOneProvider t) t.geoms y firm.fitting.one old.0)
+          | inr same ↦ subst (HasOneProvider u) (sym same) more.fits.one
+        ]);
+    apart = all_of PlacesHold u.geoms (λ y here.
+        elim (more.geoms y here) [
+          | inl old ↦ All-contains PlacesHold t.geoms y firm.fitting.apart old.0
+          | inr same ↦ subst PlacesHold (sym same) more.fits.apart
+        ]);
+    sums = all_of (HasItsSum u) u.geoms (λ y here.
+        elim (more.geoms y here) [
+          | inl old ↦
+              subst (λ (ps : List Provider). (y.kind ≡ kinds.Concat) ⊎ (y.kind ≡ kinds.Stripe)
+              → All (λ p. p.size ≡ joined_size y.config) ps)
+              (sym (more.others y.number old.1)) (All-contains (HasItsSum t) t.geoms y firm.fitting.sums old.0)
+          | inr same ↦ subst (HasItsSum u) (sym same) more.fits.sums
+        ]);
+    asked = asks w.taste firm.sound.events.taste more.tasted firm.fitting.asked;
+    read = record {
+      one = firm.fitting.read.one;
+      sector = all_of (λ x. IsTrue (is_taste_root x.owner)
+          → IsSomeAnd (provider_at u x.target) (λ p. x.len ≡ p.sector)) w.bios (λ x here root.
+          let s = target_stands w u g firm more x here in
+          some-with (provider_at u x.target) (λ p. x.len ≡ p.sector) s.provider s.found
+          (at-some (provider_at t x.target) (λ p. x.len ≡ p.sector) s.provider s.was
+          (All-contains (λ x. IsTrue (is_taste_root x.owner)
+          → IsSomeAnd (provider_at t x.target) (λ p. x.len ≡ p.sector)) w.bios x firm.fitting.read.sector here
+          root)));
+    };
+    commands = firm.fitting.commands;
+  }
+
+  -- a firm world with a graph that has come to more is firm
+  pub more-firm : (queue : List Event) → All (λ e. IsSome (provider_at u (provider_of_event e))) queue
+      → Firm (remade w u queue)
+  more-firm queue living = record {
+    sound = record {
+      ranks = more.ranks;
+      counts = more-counts w u g firm more queue;
+      providers = more-providers w u g firm more;
+      numbers = more-numbers w u g firm more queue;
+      handles = more-handles w u g firm more queue;
+      places = more-places w u g firm more queue;
+      bios = more-bios w u g firm more queue;
+      families = more-families w u g firm more queue;
+      disks = more-disks w u g firm more queue;
+      events = more-events w u g firm more queue living;
+    };
+    steady = more-steady queue;
+    fitting = more-fitting queue;
+  }
+
+-- a graph that has come to more keeps a firm world firm
+pub more_is_firm : MoreIsFirm
+more_is_firm = record { firm = λ w u g queue firm more living. more-firm w u g firm more queue living }

@@ -1,0 +1,447 @@
+-- A provider takes a place of a standing assembly: the graph has come to more, and a firm world with it is firm.
+use Rattle.std.specs.Prelude.{◌≡◌, ◌≢◌, ◌⊎◌, ℕ, ◌+◌, ◌-◌, ◌%◌, ◌<◌, ◌≤◌, ◌==◌, max, Bool, true, false, List, [], ◌∷◌, length, if◌then◌else◌, Option, Some, None, All, AllPairs, Contains, IsSome, IsSomeAnd, IfSome, option_and_then, slice_set}
+use Rattle.std.specs.List.{AllZip}
+use Rattle.std.proofs.Common.{inl, inr, refl, sym, ◌∙◌, ap, subst, arith}
+use Rattle.std.proofs.lemmas.Bool.{eq-eqb, eqb-true}
+use Rattle.std.proofs.lemmas.List.{length-set}
+use Rattle.std.proofs.lemmas.List.Elements.{All-contains, All-nil, Contains-push_cases}
+use Rattle.std.proofs.lemmas.Nat.Gcd.{dvd_of_mod-eq-zero, mod-eq-zero_of_dvd, dvd_refl}
+use Rattle.std.proofs.Math.Nat.{dvd-sub}
+use Rattle.geo_model.specs.Words.{change_where}
+use Rattle.geo_model.specs.Topology.{Topology, Geom, Provider, Consumer, geom_at, provider_at, consumer_at, geom_of_provider, providers_of, add_consumer, set_config}
+use Rattle.geo_model.specs.Rank.{rank, rank_limit}
+use Rattle.geo_model.specs.Demand.{want, is_zero}
+use Rattle.geo_model.specs.Events.{taste_limit}
+use Rattle.geo_model.specs.World.{World, Config, Taste, granted_in}
+use Rattle.geo_model.specs.Place.{components, disk_of}
+use Rattle.geo_model.specs.Acceptance.{places_of, fill_place, joined_size}
+use Rattle.geo_model.specs.Append.{component_limit}
+use Rattle.geo_model.specs.Graph.{IsInOrder, PartsLive}
+use Rattle.geo_model.specs.Sound.{RanksHold, DifferInDisk, IsMediaSize, IsOfItsClass, IsTasteInOrder}
+use Rattle.geo_model.specs.Fitting.{IsWholeIn, FitsBelow, sizes_of, FitsPlace, FitsPlaces, PlacesHold, Firm}
+use Rattle.geo_laws_graph.specs.LookupLaws.{new_consumer}
+use Rattle.geo_laws_graph.proofs.Members.{find-Contains, map-Contains}
+use Rattle.geo_laws_graph.proofs.Lists.{found_fresh}
+use Rattle.geo_laws_graph.proofs.Numbered.{number_found}
+use Rattle.geo_laws_graph.proofs.Found.{added-consumer, config-found}
+use Rattle.geo_laws_graph.proofs.Living.{found-before, parts-alive, sound-order, steady-parts}
+use Rattle.geo_laws_graph.specs.RankChangeLaws.{OneRankRises}
+use Rattle.geo_laws_graph.proofs.RankChanges.{plain-stay}
+use Rattle.geo_laws_graph.proofs.Opens.{open-rises}
+use Rattle.geo_laws_graph.proofs.Holding.{sound-ranks}
+use Rattle.geo_laws_counts.specs.CountWords.{IsAtMost, DemandStays, AnyConsumer}
+use Rattle.geo_laws_counts.proofs.LimitFacts.{all_of}
+use Rattle.geo_laws_counts.proofs.Sums.{at_most-same}
+use Rattle.geo_laws_counts.proofs.Unseen.{unseen_config}
+use Rattle.geo_laws_life.proofs.Standers.{pairs-from_recursion, recursion-from_pairs}
+use Rattle.geo_laws_life.specs.LessLaws.{ComesFrom}
+use Rattle.geo_laws_life.proofs.Found.{found-with, some-with, some-there, none-there, if-found, at-found, one-found, pairs-from}
+use Rattle.geo_laws_life.proofs.Less.{demand-trans}
+use Rattle.geo_laws_making.proofs.Over.{over-demand}
+use Rattle.geo_laws_making.proofs.Made.{through}
+use Rattle.geo_laws_making.specs.MoreLaws.{IsUntouched, GeomFits, ConsumerFits, IsMore}
+use Rattle.geo_laws_making.proofs.MoreFirm.{more-firm}
+use Rattle.geo_laws_making.specs.PlaceLaws.{CanTakePlace, IsOpenAssembly, TakesStayFirm}
+use Rattle.geo_laws_making.proofs.OpenAssembly.{is-there, its-class, its-assembly, isnt-dev, isnt-taste, offers-not, only-one, component-there}
+use Rattle.geo_laws_making.proofs.Assembled.{has-places, filled-is, filled_of, filled-cases, filled-differ, in-places, zip-set, zip-among, IsOfAssembly}
+
+-- a geom that is one of the list with another configuration, or is as it was
+configured : (n : ℕ) (config : Config) (xs : List (Geom Config)) (y : Geom Config)
+    → Contains (change_where (λ (x : Geom Config). x.number == n) (λ x. record x { config = config }) xs) y
+    → ComesFrom (λ (x z : Geom Config).
+    ((x.number ≡ n) × (z ≡ record x { config = config })) ⊎ ((x.number ≢ n) × (z ≡ x))) xs y
+configured n config xs y here =
+    let o = map-Contains (λ (x : Geom Config). if x.number == n then record x { config = config } else x) xs y
+    here in
+    record { item = o.item; stands = o.stands; fact = by o.item (o.item.number == n) refl o.fact }
+  where
+    -- by whether it is the one
+    by : (x : Geom Config) (b : Bool) → (x.number == n) ≡ b
+        → (if x.number == n then record x { config = config } else x) ≡ y
+        → ((x.number ≡ n) × (y ≡ record x { config = config })) ⊎ ((x.number ≢ n) × (y ≡ x))
+    by x true e is = inl (eqb-true x.number n e, sym (rw e at is))
+    by x false e is = inr (
+      λ same. let yes : true ≡ false = sym (eq-eqb x.number n same) ∙ e in let no : ⊥ = cc in no,
+      sym (rw e at is),
+    )
+
+module _ (w : World) (p : Provider) (g : Geom Config) (k : ℕ) (firm : Firm w) (can : CanTakePlace w p)
+    (waits : IsOpenAssembly w g) (whole : IsWholeIn g.config p.sector) where
+  -- the graph before
+  abbrev t : Topology Config
+  t = w.topology
+
+  -- the number of the geom
+  abbrev n : ℕ
+  n = g.number
+
+  -- the new consumer
+  abbrev c : ℕ
+  c = t.next_consumer
+
+  -- the size of the component
+  abbrev size : ℕ
+  size = p.size - p.sector
+
+  -- the configuration with the place filled
+  abbrev pub filled : Config
+  filled = fill_place g.config k c size
+
+  -- the geom with it
+  abbrev pub joined : Geom Config
+  joined = record g { config = filled }
+
+  -- the graph with the consumer
+  abbrev v : Topology Config
+  v = add_consumer t n (Some p.number)
+
+  -- and with the configuration
+  abbrev pub u : Topology Config
+  u = set_config v n filled
+
+  -- before, all stood in order
+  order : IsInOrder t
+  order = sound-order w firm.sound.numbers
+
+  -- and lived
+  live : PartsLive t
+  live = steady-parts t firm.steady.parts firm.steady.attached
+
+  -- the geom was one of them
+  here : Contains t.geoms g
+  here = is-there w g firm waits
+
+  -- it lives
+  lives : IsSome (geom_at t n)
+  lives = some-there (geom_at t n) g waits.stands
+
+  -- its class
+  class : IsOfItsClass g
+  class = its-class w g firm waits
+
+  -- which is that of an assembly
+  abbrev of_class : IsOfAssembly g.kind g.config
+  of_class = its-assembly w g firm waits
+
+  -- so it isn't DEV
+  not_dev : n ≢ 1
+  not_dev = isnt-dev w g firm waits
+
+  -- nor TASTE
+  not_taste : n ≢ 2
+  not_taste = isnt-taste w g firm waits
+
+  -- no provider is of it
+  not_of_it : (x : Provider) → Contains t.providers x → x.geom ≢ n
+  not_of_it = offers-not w g firm waits
+
+  -- a consumer that was found is found
+  pub consumer-still : (m : ℕ) (x : Consumer) → consumer_at t m ≡ Some x → consumer_at u m ≡ Some x
+  consumer-still m x e = found-before (λ (z : Consumer). z.number == m) t.consumers _ x e
+
+  -- so is the new one
+  pub new-found : consumer_at u c ≡ Some (new_consumer t n (Some p.number))
+  new-found = added-consumer.new t n (Some p.number) order
+
+  -- no consumer had its number
+  consumer_apart : (m : ℕ) (x : Consumer) → consumer_at t m ≡ Some x → m ≢ c
+  consumer_apart m x e same =
+      none-there (consumer_at t c)
+      (found_fresh (λ (z : Consumer). z.number) c c t.consumers order.consumers (omega arith))
+      (some-there (consumer_at t c) x (subst (λ i. consumer_at t i ≡ Some x) same e))
+
+  -- Ranks
+
+  -- only the rank of the geom rises
+  abbrev rises : OneRankRises t v n × (rank v n ≡ max (rank t n) (1 + rank t p.geom))
+  rises = open-rises t n p.number p firm.sound.ranks.ranked live.geoms lives waits.offers_none can.found
+
+  -- the ranks hold
+  ranks_v : RanksHold v
+  ranks_v = record {
+    ranked = rises.0.ranked;
+    not_deep = all_of (λ (x : Geom Config). x.number ≢ 1 → x.number ≢ 2 → rank v x.number ≤ rank_limit) t.geoms
+        (λ x stands dev taste.
+        let was : rank t x.number ≤ 32 = All-contains (λ (x : Geom Config). x.number ≢ 1 → x.number ≢ 2
+        → rank t x.number ≤ rank_limit) t.geoms x firm.sound.ranks.not_deep stands dev taste in
+        by x.number was (x.number == n) refl);
+    dev = record { stands = firm.sound.ranks.dev.stands; no_provider = firm.sound.ranks.dev.no_provider };
+    taste = record { stands = firm.sound.ranks.taste.stands; no_provider = firm.sound.ranks.taste.no_provider };
+  }
+    where
+      -- by whether it is the one
+      by : (m : ℕ) → rank t m ≤ 32 → (b : Bool) → (m == n) ≡ b → rank v m ≤ 32
+      by m was true e =
+          let same : m ≡ n = eqb-true m n e in
+          let now : rank v n ≡ max (rank t n) (1 + rank t p.geom) = rises.1 in
+          let old : rank t n ≤ 32 = subst (λ i. rank t i ≤ 32) same was in
+          let below : rank t p.geom < 32 = can.low in
+          subst (λ i. rank v i ≤ 32) (sym same) (omega arith)
+      by m was false e =
+          let still : rank v m ≡ rank t m = rises.0.same m (λ same.
+          let yes : true ≡ false = sym (eq-eqb m n same) ∙ e in let no : ⊥ = cc in no) in
+          omega arith
+
+  -- with the configuration as well
+  ranks_u : RanksHold u
+  ranks_u = sound-ranks.configured v n filled ranks_v
+
+  -- another rank stays
+  rank_same : (h : ℕ) → h ≢ n → rank u h ≡ rank t h
+  rank_same h apart = (plain-stay.config v n filled).same h ∙ rises.0.same h apart
+
+  -- Demand
+
+  -- it stays
+  demand : DemandStays (granted_in w) t (granted_in w) u AnyConsumer
+  demand =
+      demand-trans (granted_in w) t v u
+      (over-demand (granted_in w) n g refl of_class.dev of_class.taste (p ∷ []) t waits.stands waits.offers_none)
+      (unseen_config (granted_in w) v n filled)
+
+  -- Parts
+
+  -- a geom that was there, or the one that has changed
+  geom_cases : (y : Geom Config) → Contains u.geoms y → (Contains t.geoms y × (y.number ≢ n)) ⊎ (y ≡ joined)
+  geom_cases y stands =
+      let o = configured n filled t.geoms y stands in
+      elim o.fact [
+        | inl it ↦
+            inr (it.1 ∙ ap (λ (z : Geom Config). record z { config = filled })
+            (only-one w g firm waits o.item o.stands it.0))
+        | inr other ↦
+            inl (
+              subst (Contains t.geoms) (sym other.1) o.stands,
+              subst (λ (z : Geom Config). z.number ≢ n) (sym other.1) other.0,
+            )
+      ]
+
+  -- disks differ
+  disks_differ : AllPairs DifferInDisk u.geoms
+  disks_differ =
+      pairs-from (λ (z : Geom Config). z.number) DifferInDisk
+      (λ (x y : Geom Config). (y.number ≡ x.number) × (disk_of y.config ≡ disk_of x.config)) (λ x y both. both.0)
+      (λ x y a b first second apart d one other. apart d (sym first.1 ∙ one) (sym second.1 ∙ other))
+      t.next_geom u.next_geom t.geoms u.geoms order.geoms
+      (config-found.order v n filled (added-consumer.order t n (Some p.number) order)).geoms
+      (λ y stands.
+      let o = configured n filled t.geoms y stands in
+      record {
+        item = o.item;
+        stands = o.stands;
+        fact = elim o.fact [
+          | inl it ↦ (
+            ap (λ (z : Geom Config). z.number) it.1,
+            ap (λ (z : Geom Config). disk_of z.config) it.1
+                ∙ (has-places filled (filled-is g.config k c size waits.assembly).assembly).no_disk
+                ∙ sym (has-places g.config waits.assembly).no_disk
+                ∙ ap (λ (z : Geom Config). disk_of z.config) (sym (only-one w g firm waits o.item o.stands it.0)),
+          )
+          | inr other ↦ (
+            ap (λ (z : Geom Config). z.number) other.1,
+            ap (λ (z : Geom Config). disk_of z.config) other.1,
+          )
+        ];
+      })
+      firm.sound.numbers.one_geom_of_disk
+
+  -- The geom
+
+  -- the components with the new one
+  pub components-now : components filled ≡ filled_of (slice_set (places_of g.config) k (Some c))
+  components-now =
+      let is = filled-is g.config k c size waits.assembly in
+      (has-places filled is.assembly).components_are ∙ ap (λ xs. filled_of xs) is.places_are
+
+  -- the size of the component is in whole sectors
+  whole_size : size % p.sector ≡ 0
+  whole_size =
+      let media =
+      All-contains (λ (x : Provider). IsMediaSize x.size x.sector) t.providers p firm.sound.providers.sizes
+      (find-Contains (λ (x : Provider). x.number == p.number) t.providers p can.found) in
+      mod-eq-zero_of_dvd p.sector (dvd-sub p.sector (dvd_of_mod-eq-zero p.sector media.whole) (dvd_refl p.sector))
+
+  -- so once the place is filled
+  components_there
+      : All (λ d. IsSomeAnd (consumer_at u d) (λ x. (x.geom ≡ n) × IsSome x.provider)) (components filled)
+  components_there =
+      all_of (λ d. IsSomeAnd (consumer_at u d) (λ x. (x.geom ≡ n) × IsSome x.provider)) (components filled)
+      (λ d stands.
+      elim (filled-cases (places_of g.config) k c d (subst (λ xs. Contains xs d) components-now stands)) [
+        | inl new ↦
+            some-with (consumer_at u d) (λ x. (x.geom ≡ n) × IsSome x.provider) (new_consumer t n (Some p.number))
+            (ap (consumer_at u) new ∙ new-found) (refl, refl)
+        | inr old ↦
+            (let x = found-with (consumer_at t d) (λ x. (x.geom ≡ n) × IsSome x.provider)
+            (component-there w g firm waits d (subst (λ xs. Contains xs d)
+            (sym (has-places g.config waits.assembly).components_are) old)) in
+            some-with (consumer_at u d) (λ x. (x.geom ≡ n) × IsSome x.provider) x.item
+            (consumer-still d x.item x.is) x.fact)
+      ])
+
+  -- its places fit
+  fits_places : FitsPlaces u joined
+  fits_places =
+      let is = filled-is g.config k c size waits.assembly in
+      subst (λ xs. AllZip (FitsPlace u n) xs (sizes_of filled)) (sym is.places_are)
+      (subst (λ ys. AllZip (FitsPlace u n) (slice_set (places_of g.config) k (Some c)) ys) (sym is.sizes_are)
+      (zip-set (FitsPlace u n) (places_of g.config) (sizes_of g.config) k (Some c) size
+      (zip-among (FitsPlace t n) (FitsPlace u n) (places_of g.config) (sizes_of g.config) old
+      (All-contains (FitsPlaces t) t.geoms g firm.fitting.places here)) new))
+    where
+      -- the new place
+      new : FitsPlace u n (Some c) size
+      new =
+          if-found (consumer_at u c) (λ x. x.geom ≡ n → IfSome (option_and_then (provider_at u) x.provider) (λ q.
+          (size ≤ q.size) × (size % q.sector ≡ 0))) (λ x e own.
+          subst (λ (z : Consumer). IfSome (option_and_then (provider_at u) z.provider) (λ q.
+          (size ≤ q.size) × (size % q.sector ≡ 0)))
+          (one-found (consumer_at u c) (new_consumer t n (Some p.number)) x new-found e)
+          (if-found (provider_at t p.number) (λ q. (size ≤ q.size) × (size % q.sector ≡ 0)) (λ q under.
+          subst (λ (z : Provider). (size ≤ z.size) × (size % z.sector ≡ 0))
+          (one-found (provider_at t p.number) p q can.found under)
+          (omega arith, whole_size))))
+
+      -- a place that was filled, or is free
+      old : (a : Option ℕ) (b : ℕ) → Contains (places_of g.config) a → FitsPlace t n a b → FitsPlace u n a b
+      old None b stands fact = tt
+      old (Some d) b stands fact =
+          let x = found-with (consumer_at t d) (λ x. (x.geom ≡ n) × IsSome x.provider)
+          (component-there w g firm waits d (subst (λ xs. Contains xs d)
+          (sym (has-places g.config waits.assembly).components_are)
+          (in-places (places_of g.config) d stands))) in
+          subst (λ o. IfSome o (λ x. x.geom ≡ n → IfSome (option_and_then (provider_at t) x.provider) (λ q.
+          (b ≤ q.size) × (b % q.sector ≡ 0)))) (x.is ∙ sym (consumer-still d x.item x.is)) fact
+
+  -- its places are apart and few
+  places_hold : PlacesHold joined
+  places_hold =
+      let before = All-contains PlacesHold t.geoms g firm.fitting.apart here in
+      let is = filled-is g.config k c size waits.assembly in
+      record {
+        apart = subst (AllPairs (λ a b. a ≢ b)) (sym components-now)
+            (pairs-from_recursion (λ a b. a ≢ b) (filled_of (slice_set (places_of g.config) k (Some c)))
+            (filled-differ (places_of g.config) k c (λ d stands.
+            let x = found-with (consumer_at t d) (λ x. (x.geom ≡ n) × IsSome x.provider)
+            (component-there w g firm waits d (subst (λ xs. Contains xs d)
+            (sym (has-places g.config waits.assembly).components_are) stands)) in
+            consumer_apart d x.item x.is)
+            (recursion-from_pairs (λ a b. a ≢ b) (filled_of (places_of g.config))
+            (subst (AllPairs (λ a b. a ≢ b)) (has-places g.config waits.assembly).components_are before.apart))));
+        few = subst (λ m. m ≤ component_limit)
+            (sym (ap length is.places_are ∙ length-set (places_of g.config) k (Some c))) before.few;
+      }
+
+  -- the geom fits
+  geom_fits : GeomFits w u joined
+  geom_fits = record {
+    dev = not_dev;
+    taste = not_taste;
+    class = record { config = of_class.filled k c size; dev = class.dev; taste = class.taste };
+    upright = waits.upright;
+    disk_sizes = if-found (disk_of filled) _ (λ d e.
+        let none = (has-places filled (filled-is g.config k c size waits.assembly).assembly).no_disk in
+        absurd (let no : ⊥ = cc in no));
+    components = components_there;
+    partial = λ free. waits.offers_none;
+    places = fits_places;
+    one = λ concat. let none : length (providers_of t n) ≡ 0 = ap length waits.offers_none in omega arith;
+    apart = places_hold;
+    sums = λ joined.
+        subst (All (λ (x : Provider). x.size ≡ joined_size filled)) (sym waits.offers_none)
+        (All-nil (λ (x : Provider). x.size ≡ joined_size filled));
+  }
+
+  -- what stood stands as it stood
+  untouched : (m : ℕ) → IsUntouched t u joined m
+  untouched m x e = (e, not_of_it x (find-Contains (λ (z : Provider). z.number == m) t.providers x e))
+
+  -- the taste isn't too high
+  low_still : (o : Option Taste) → IfSome o (IsTasteInOrder w)
+      → IfSome o (λ s. IsSomeAnd (geom_of_provider u s.provider) (λ h. rank u h.number < taste_limit))
+  low_still None old = tt
+  low_still (Some s) old =
+      let h = found-with (geom_of_provider t s.provider) (λ h. rank t h.number < taste_limit) old.rank in
+      let x = through (λ (x : Provider). geom_at t x.geom) (provider_at t s.provider) h.item h.is in
+      let apart =
+      not_of_it x.first (find-Contains (λ (z : Provider). z.number == s.provider) t.providers x.first x.is) in
+      let number : h.item.number ≡ x.first.geom =
+      number_found (λ (z : Geom Config). z.number) t.geoms x.first.geom h.item x.then in
+      let same = rank_same h.item.number (λ e. apart (sym number ∙ e)) in
+      some-with (geom_of_provider u s.provider) (λ h. rank u h.number < taste_limit) h.item
+      (ap (option_and_then (λ (x : Provider). geom_at u x.geom)) x.is
+      ∙ config-found.others v n filled x.first.geom apart ∙ x.then)
+      (subst (λ m. m < taste_limit) (sym same) h.fact)
+
+  -- a consumer was there, or is the new one
+  consumer_cases : (y : Consumer) → Contains u.consumers y
+      → Contains t.consumers y ⊎ (new_consumer t n (Some p.number) ≡ y)
+  consumer_cases y stands = Contains-push_cases t.consumers (new_consumer t n (Some p.number)) y stands
+
+  -- what a consumer of the geom is attached to has whole sectors for it
+  whole_below : (y : Consumer) → Contains u.consumers y → y.geom ≡ n
+      → IfSome (option_and_then (provider_at u) y.provider) (λ q. IsWholeIn filled q.sector)
+  whole_below y stands own =
+      let so = (filled-is g.config k c size waits.assembly).whole in
+      elim (consumer_cases y stands) [
+        | inl old ↦
+            (let fits = at-found (geom_at t y.geom) (λ h. IfSome (option_and_then (provider_at t) y.provider) (λ q.
+            IsWholeIn h.config q.sector)) g (ap (geom_at t) own ∙ waits.stands)
+            (All-contains (FitsBelow t) t.consumers y firm.fitting.wholes old) in
+            if-found (option_and_then (provider_at t) y.provider) (λ q. IsWholeIn filled q.sector) (λ q e.
+            so q.sector (at-found (option_and_then (provider_at t) y.provider)
+            (λ q. IsWholeIn g.config q.sector) q e fits)))
+        | inr new ↦
+            subst (λ (z : Consumer). IfSome (option_and_then (provider_at t) z.provider)
+            (λ q. IsWholeIn filled q.sector)) new
+            (if-found (provider_at t p.number) (λ q. IsWholeIn filled q.sector) (λ q e.
+            subst (λ (z : Provider). IsWholeIn filled z.sector) (one-found (provider_at t p.number) p q can.found e)
+            (so p.sector whole)))
+      ]
+
+  -- the graph has come to more
+  taken-more : IsMore w u joined
+  taken-more = record {
+    order = config-found.order v n filled (added-consumer.order t n (Some p.number) order);
+    live = parts-alive.config v n filled
+        (parts-alive.consumer_added t n (Some p.number) lives
+        (some-there (provider_at t p.number) p can.found) live);
+    ranks = ranks_u;
+    exclusive = demand.exclusive firm.sound.counts.exclusive;
+    limited = demand.limit firm.sound.counts.limited;
+    old_geoms = λ m x apart e. config-found.others v n filled m apart ∙ e;
+    old_providers = λ m x e. record { now = x; found = e; is = record { same = refl; larger = omega arith } };
+    old_consumers = consumer-still;
+    stands = config-found.here v n filled g waits.stands;
+    geoms = geom_cases;
+    providers = λ y stands. inl (stands, not_of_it y stands);
+    consumers = λ y stands.
+        elim (consumer_cases y stands) [
+          | inl old ↦ inl old
+          | inr new ↦
+              inr (subst (ConsumerFits u joined) new
+              (record { geom = refl; attached = some-there (provider_at t p.number) p can.found }))
+        ];
+    others = λ m apart. refl;
+    dev = added-consumer.others_of t n (Some p.number) 1 (λ same. not_dev (sym same));
+    tasting = added-consumer.others_of t n (Some p.number) 2 (λ same. not_taste (sym same));
+    names = firm.sound.providers.names;
+    disks = disks_differ;
+    wholes = whole_below;
+    fits = geom_fits;
+    wants = λ y stands.
+        subst (λ a. IsAtMost (want (granted_in w) t y) a) (sym (demand.wants y tt))
+        (at_most-same (want (granted_in w) t y));
+    opened = λ y stands used. inl (sym (ap is_zero (demand.haves y.number)) ∙ used);
+    bios = λ x stands. untouched x.target;
+    tasted = if-found w.taste (λ s. IsUntouched t u joined s.provider) (λ s e. untouched s.provider);
+    rank = low_still w.taste firm.sound.events.taste;
+  }
+
+  -- so the world is firm
+  pub taken-firm : Firm (record w { topology = u; events = w.events })
+  taken-firm = more-firm w u joined firm taken-more w.events firm.sound.events.living
+
+-- so say all places
+pub takes_stay : TakesStayFirm
+takes_stay = record { take = λ w p g k firm can waits whole. taken-firm w p g k firm can waits whole }

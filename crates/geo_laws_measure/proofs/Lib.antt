@@ -1,9 +1,0 @@
-pub mod Falls
-pub mod Sums
-pub mod Targets
-pub mod Walks
-pub mod Turned
-pub mod Costs
-pub mod Started
-pub mod Risen
-pub mod Gone

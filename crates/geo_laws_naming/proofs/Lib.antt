@@ -1,9 +1,0 @@
-pub mod Lists
-pub mod Words
-pub mod Graphs
-pub mod Worlds
-pub mod Accepted
-pub mod Commanded
-pub mod Tasted
-pub mod Stepped
-pub mod Logs

@@ -1,0 +1,4 @@
+//! Laws of what is offered for taste.
+#![tactic(auto)]
+
+pub mod offering;

@@ -1,6 +1,0 @@
-use Rattle.geo_laws_opening.proofs.Opened.{opening-sound, opening-steady}
-use Rattle.geo_laws_opening.proofs.Fits.{opening-fitting}
-use Rattle.geo_laws_opening.proofs.openings_are_sound.Goals as goal
-
-pub returns : goal.returns
-returns c = record { sound = opening-sound; steady = opening-steady; fitting = opening-fitting }

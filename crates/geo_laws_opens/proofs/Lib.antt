@@ -1,3 +1,0 @@
-pub mod Used
-pub mod Opened
-pub mod Opening

@@ -1,6 +1,0 @@
-use Rattle.geo_laws_rank_changes.proofs.Opens.{made-ranks}
-use Rattle.geo_laws_rank_changes.proofs.rank_changes.made_geoms_are_ranked.Goals as goal
-
-pub returns : goal.returns
-returns c t kind name config ps ranked live offerers order found =
-    made-ranks t kind name config ps ranked live offerers order found

@@ -1,5 +1,0 @@
-use Rattle.geo_laws_rank_changes.proofs.Opens.{open-rises}
-use Rattle.geo_laws_rank_changes.proofs.rank_changes.other_ranks_stay.Goals as goal
-
-pub returns : goal.returns
-returns g c t geom p x ranked live there none found = open-rises t geom p x ranked live there none found

@@ -1,2 +1,0 @@
-pub mod Attach
-pub mod RankChangeLaws

@@ -1,5 +1,0 @@
-pub mod Climbing
-pub mod Paths
-pub mod AddedEdges
-pub mod EdgeRanks
-pub mod Depth

@@ -1,0 +1,5 @@
+use Rattle.geo_laws_rest.proofs.Heard.{events_lower}
+use Rattle.geo_laws_rest.proofs.losses.events_lower.Goals as goal
+
+pub returns : goal.returns
+returns c = events_lower

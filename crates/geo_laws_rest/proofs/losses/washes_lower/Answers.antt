@@ -1,0 +1,5 @@
+use Rattle.geo_laws_rest.proofs.Washing.{washes_lower}
+use Rattle.geo_laws_rest.proofs.losses.washes_lower.Goals as goal
+
+pub returns : goal.returns
+returns c = washes_lower

@@ -1,0 +1,9 @@
+use Rattle.geo_laws_rest.proofs.Gone.{goes_lower}
+use Rattle.geo_laws_rest.proofs.Gone.{reaps_lower}
+use Rattle.geo_laws_rest.proofs.measure.goes_lower.Goals as goal
+
+pub returns-clause-goes : goal.returns-clause-goes
+returns-clause-goes c = goes_lower
+
+pub returns-clause-reaps : goal.returns-clause-reaps
+returns-clause-reaps c = reaps_lower

@@ -1,6 +1,0 @@
-pub mod Kept
-pub mod Followed
-pub mod HeirBios
-pub mod Growths
-pub mod SameMaps
-pub mod Steps

@@ -1,0 +1,111 @@
+use Rattle.std.proofs.Common.{◌≡◌, ◌-◌, None, ◌∙◌, subst, sym}
+use Rattle.std.specs.Prelude.{Some, [], length, ◌<◌, IfSome}
+use Rattle.geo_model.specs.Acceptance.{places_of}
+use Rattle.geo_model.specs.Topology.{Geom, geom_at, providers_of}
+use Rattle.geo_laws_life.proofs.Found.{at-some}
+use Rattle.geo_mesh.specs.Cells.{geom_seen, provider_seen}
+use Rattle.geo_taste.specs.Members.{CanBeOffered, joined_name, member_of, plan_of}
+use Rattle.geo_taste.specs.Standing.{CanStandOn, MayOffer}
+use Rattle.geo_taste.proofs.AcceptLemmas.{of_found}
+use Rattle.geo_taste.proofs.JoinLemmas.{can_join_is, kept_taken, room_kept, standing_joined, standing_may_offer, standing_no, standing_no_bare, standing_no_plan}
+use Rattle.geo_taste.proofs.MemberLemmas.{plan_offers}
+use Rattle.geo_taste.proofs.StandingLemmas.{bare_of}
+use Rattle.geo_taste.proofs.TableLemmas.{is_no, is_yes, unchanged}
+use Rattle.geo_taste.proofs.join.join_standing.Goals as goal
+
+pub returns-then-not-branch-clause-made : goal.returns-then-not-branch-clause-made
+returns-then-not-branch-clause-made c =
+    let t = c.args.topo.now.topology in
+    let p = provider_seen c.args.prov c.args.below.now in
+    let g = geom_seen c.args.geom c.in-Some.standing.now in
+    let inside = at-some (geom_at t c.args.geom)
+    (λ (x : Geom _). c.args.member.now.place < length (places_of x.config)) g c.in-Some.ensures.geom c.requires.place in
+    let cannot = is_no c.in_ok-can_join.field-0 _ (can_join_is t p g c.args.member.now.place
+    c.in_ok-can_join.field-0 inside c.in_ok-can_join.ensures) c.if-not-branch.true in
+    of_found (geom_at t c.args.geom) _ g c.in-Some.ensures.geom (
+      unchanged c.args.topo.now c.args.queue.now,
+      λ may. standing_no c.args.topo.now c.args.queue.now p (member_of c.args.member.now) g cannot,
+    )
+
+pub returns-then-not-is_bare-clause-made : goal.returns-then-not-is_bare-clause-made
+returns-then-not-is_bare-clause-made c =
+    let t = c.args.topo.now.topology in
+    let p = provider_seen c.args.prov c.args.below.now in
+    let g = geom_seen c.args.geom c.in-Some.standing.now in
+    let inside = at-some (geom_at t c.args.geom)
+    (λ (x : Geom _). c.args.member.now.place < length (places_of x.config)) g c.in-Some.ensures.geom c.requires.place in
+    let can = is_yes c.in_ok-can_join.field-0 _ (can_join_is t p g c.args.member.now.place
+    c.in_ok-can_join.field-0 inside c.in_ok-can_join.ensures) c.if-not-branch.false in
+    of_found (geom_at t c.args.geom) _ g c.in-Some.ensures.geom (
+      unchanged c.args.topo.now c.args.queue.now,
+      λ may. standing_no_bare c.args.topo.now c.args.queue.now p (member_of c.args.member.now) g can
+          (is_no c.is_bare.result _ c.is_bare.ensures c.if-not-is_bare.true) may,
+    )
+
+pub place_plan-requires : goal.place_plan-requires
+place_plan-requires c =
+    at-some (geom_at c.args.topo.now.topology c.args.geom)
+    (λ (x : Geom _). c.args.member.now.place < length (places_of x.config))
+    (geom_seen c.args.geom c.in-Some.standing.now) c.in-Some.ensures.geom c.requires.place
+
+pub returns-in_default-2-clause-made : goal.returns-in_default-2-clause-made
+returns-in_default-2-clause-made c =
+    let t = c.args.topo.now.topology in
+    let p = provider_seen c.args.prov c.args.below.now in
+    let g = geom_seen c.args.geom c.in-Some.standing.now in
+    let inside = at-some (geom_at t c.args.geom)
+    (λ (x : Geom _). c.args.member.now.place < length (places_of x.config)) g c.in-Some.ensures.geom c.requires.place in
+    let can = is_yes c.in_ok-can_join.field-0 _ (can_join_is t p g c.args.member.now.place
+    c.in_ok-can_join.field-0 inside c.in_ok-can_join.ensures) c.if-not-branch.false in
+    let plan = subst (λ n. plan_of t (c.args.below.now.size - n) c.args.below.now.sector c.in-Some.standing.now.config
+    c.args.member.now.place (joined_name c.args.member.now.kind c.args.member.now.geom_name) ≡ None)
+    c.from.ensures (sym c.in_ok-plan.ensures ∙ c.in_default-2.is) in
+    of_found (geom_at t c.args.geom) _ g c.in-Some.ensures.geom (
+      unchanged c.args.topo.now c.args.queue.now,
+      standing_no_plan c.args.topo.now c.args.queue.now p (member_of c.args.member.now) g can plan,
+    )
+
+pub take_place-requires-clause-may : goal.take_place-requires-clause-may
+take_place-requires-clause-may c =
+    room_kept (λ t. MayOffer t c.args.geom) c.args.topo.now c.reserve.new.self c.reserve.ensures.same
+    (standing_may_offer c.args.topo.now.topology c.args.geom (geom_seen c.args.geom c.in-Some.standing.now)
+    c.in-Some.ensures.geom c.requires.stays
+    (is_yes c.is_bare.result _ c.is_bare.ensures c.if-not-is_bare.false))
+
+pub take_place-requires-clause-bare : goal.take_place-requires-clause-bare
+take_place-requires-clause-bare c =
+    room_kept (λ t. providers_of t c.args.geom ≡ []) c.args.topo.now c.reserve.new.self c.reserve.ensures.same
+    (bare_of c.args.topo.now.topology c.args.geom
+    (is_yes c.is_bare.result _ c.is_bare.ensures c.if-not-is_bare.false)).bare
+
+pub take_place-requires-clause-stands : goal.take_place-requires-clause-stands
+take_place-requires-clause-stands c =
+    room_kept (λ t. CanStandOn t c.args.prov) c.args.topo.now c.reserve.new.self c.reserve.ensures.same
+    c.requires.stands
+
+pub take_place-requires-clause-offer : goal.take_place-requires-clause-offer
+take_place-requires-clause-offer c =
+    room_kept (λ t. IfSome c.in-Some-2.plan.offer (CanBeOffered t)) c.args.topo.now c.reserve.new.self
+    c.reserve.ensures.same
+    (plan_offers c.args.topo.now.topology _ c.args.below.now.sector c.in-Some.standing.now.config
+    c.args.member.now.place (joined_name c.args.member.now.kind c.args.member.now.geom_name) c.in-Some-2.plan
+    (sym c.in_ok-plan.ensures ∙ c.in-Some-2.is))
+
+pub returns-clause-made : goal.returns-clause-made
+returns-clause-made c =
+    let t = c.args.topo.now.topology in
+    let p = provider_seen c.args.prov c.args.below.now in
+    let g = geom_seen c.args.geom c.in-Some.standing.now in
+    let inside = at-some (geom_at t c.args.geom)
+    (λ (x : Geom _). c.args.member.now.place < length (places_of x.config)) g c.in-Some.ensures.geom c.requires.place in
+    let can = is_yes c.in_ok-can_join.field-0 _ (can_join_is t p g c.args.member.now.place
+    c.in_ok-can_join.field-0 inside c.in_ok-can_join.ensures) c.if-not-branch.false in
+    let plan = subst (λ n. plan_of t (c.args.below.now.size - n) c.args.below.now.sector c.in-Some.standing.now.config
+    c.args.member.now.place (joined_name c.args.member.now.kind c.args.member.now.geom_name) ≡ Some c.in-Some-2.plan)
+    c.from.ensures (sym c.in_ok-plan.ensures ∙ c.in-Some-2.is) in
+    of_found (geom_at t c.args.geom) _ g c.in-Some.ensures.geom
+    (λ may. standing_joined c.args.topo.now c.args.queue.now p (member_of c.args.member.now) g c.take_place.new.topo
+    c.take_place.new.queue c.in-Some-2.plan can plan
+    (kept_taken c.args.topo.now c.reserve.new.self c.take_place.new.topo c.args.queue.now c.reserve-2.new.self
+    c.take_place.new.queue c.args.prov c.args.geom c.in-Some-2.plan c.reserve.ensures.same
+    c.reserve-2.ensures.events_stay c.take_place.ensures.taken))

@@ -1,0 +1,38 @@
+use Rattle.std.proofs.Common.{arith, refl, subst}
+use Rattle.geo_taste.specs.declared.offer.Offer.{Offer}
+use Rattle.geo_taste.specs.Making.{AreBoth, both, with_offer}
+use Rattle.geo_taste.proofs.PartLoops.{offer_step, offer_end, offer_spare}
+use Rattle.geo_taste.proofs.parts.offer_parts.Goals as goal
+
+pub loop-part-init : goal.loop-part-init
+loop-part-init c = record {
+  same = refl;
+  may = c.requires.may;
+  can = c.requires.parts;
+  apart = c.requires.apart;
+  room = c.requires.room;
+  spare = c.requires.spare;
+  left = omega arith;
+}
+
+pub loop-part-preserved : goal.loop-part-preserved
+loop-part-preserved c =
+    offer_step c.args.topo.now c.loop-part.topo c.args.queue.now c.loop-part.queue c.args.geom
+    c.loop-part.part-index c.args.parts.now c.make_offer.new.topo c.make_offer.new.queue c.part-item.result
+    (omega arith) c.part-item.is c.loop-part.invariant (record {
+      made = subst (λ (o : Offer). AreBoth c.make_offer.new.topo c.make_offer.new.queue
+          (with_offer (both c.loop-part.topo c.loop-part.queue) c.args.geom o.name o.size o.sector)) c.offer.ensures
+          c.make_offer.ensures.made;
+      room = c.make_offer.ensures.room;
+      spare = c.make_offer.ensures.spare;
+    })
+
+pub returns-clause-made : goal.returns-clause-made
+returns-clause-made c =
+    offer_end c.args.topo.now c.loop-part.topo c.args.queue.now c.loop-part.queue c.args.geom
+    c.loop-part.part-index c.args.parts.now c.loop-part-test.false c.loop-part.invariant
+
+pub returns-clause-spare : goal.returns-clause-spare
+returns-clause-spare c =
+    offer_spare c.args.topo.now c.loop-part.topo c.args.queue.now c.loop-part.queue c.args.geom
+    c.loop-part.part-index c.args.parts.now c.loop-part-test.false c.loop-part.invariant

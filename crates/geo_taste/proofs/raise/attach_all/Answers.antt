@@ -1,0 +1,28 @@
+use Rattle.std.proofs.Common.{arith, refl}
+use Rattle.geo_taste.proofs.AttachLoop.{attach_step, attach_end}
+use Rattle.geo_taste.proofs.raise.attach_all.Goals as goal
+
+pub loop-prov-init : goal.loop-prov-init
+loop-prov-init c = record {
+  same = refl;
+  stand = c.requires.stand;
+  lives = c.requires.lives;
+  bare = c.requires.bare;
+  room = c.requires.room;
+  other_room = refl;
+}
+
+pub loop-prov-preserved : goal.loop-prov-preserved
+loop-prov-preserved c =
+    attach_step c.args.topo.now c.loop-prov.topo c.args.geom c.loop-prov.prov-index c.args.provs.now
+    c.attach_one.new.topo c.prov-item.result (omega arith) c.prov-item.is c.loop-prov.invariant (record {
+      attached = c.attach_one.ensures.attached;
+      sound = c.attach_one.ensures.sound;
+      room = c.attach_one.ensures.room;
+      other_room = c.attach_one.ensures.other_room;
+    })
+
+pub returns-clause-attached : goal.returns-clause-attached
+returns-clause-attached c =
+    attach_end c.args.topo.now c.loop-prov.topo c.args.geom c.loop-prov.prov-index c.args.provs.now
+    c.loop-prov-test.false c.loop-prov.invariant

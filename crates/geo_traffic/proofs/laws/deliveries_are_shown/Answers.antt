@@ -1,5 +1,0 @@
-use Rattle.geo_traffic.proofs.StepLemmas.{deliveries_are_shown}
-use Rattle.geo_traffic.proofs.laws.deliveries_are_shown.Goals as goal
-
-pub returns : goal.returns
-returns c = deliveries_are_shown

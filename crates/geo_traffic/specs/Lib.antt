@@ -1,4 +1,0 @@
-pub mod Traffic
-pub mod Cursors
-pub mod Shown
-pub mod ShownLaws
