@@ -1,3 +1,4 @@
+-- The headline doesn't rest on this file: it tells which errors a bio met.
 -- The errors that a bio met, read from the log alone: the cause of an error in a reply (g_bio(9)).
 use Rattle.std.specs.Prelude.{ℕ, zero, suc, List, [], ◌∷◌, length, flat_map, Option, Some, None}
 use Rattle.std.specs.List.{range_with_len}

@@ -1,3 +1,4 @@
+-- The headline doesn't rest on this file: its proofs keep these facts beside soundness.
 -- What else holds at every moment of sizes and sectors, of concats and their places, of the taste's read, and of the
 -- commands that are left. Soundness and steadiness alone aren't kept by each step.
 use Rattle.std.specs.Prelude.{◌≡◌, ◌≢◌, ◌⊎◌, ℕ, ◌/◌, ◌%◌, ◌<◌, ◌≤◌, List, [], length, count_by, Option, Some, IsSome, IsSomeAnd, IfSome, IsTrue, All, AllPairs, ⊤, option_and_then}

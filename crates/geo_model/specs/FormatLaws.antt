@@ -1,3 +1,4 @@
+-- The headline doesn't rest on this file: it states laws of the formats.
 -- The laws of the formats: what is written is read again, and what is read keeps its rules.
 use Rattle.std.specs.Prelude.{◌≡◌, ◌↔◌, ℕ, ◌^◌, ◌<◌, ◌≤◌, List, Option, Some, Ok, IsTrue, IfSome, option_and_then}
 use Rattle.geo_base.specs.Name.{is_short_name}

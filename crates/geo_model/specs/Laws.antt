@@ -1,3 +1,4 @@
+-- The headline doesn't rest on this file: it states the laws by which it is proved.
 -- The laws of the definitions that everything else rests on.
 use Rattle.std.specs.Prelude.{◌≡◌, ℕ, ◌+◌, ◌<◌, ◌≤◌, Bool, true, false, ◌&&◌, ◌||◌, List, [], ◌∷◌, ◌++◌, length, map, sum, Option, Some, None, Ok, is_some, IsSome, IsSomeAnd, IsTrue, All, Contains}
 use Rattle.std.specs.List.{AllByRecursion, list_any}

@@ -1,4 +1,5 @@
--- Rest, the fixed order of steps, and the measure that falls along it.
+-- Rest, the fixed order of steps, and the measure that falls along it. The headline rests on `is_at_rest` and `pick`
+-- alone: the measure, at the end, is what shows that an order comes to rest.
 use Rattle.std.specs.Prelude.{ℕ, zero, suc, ◌+◌, ◌-◌, ◌*◌, ◌==◌, nat_lt, nat_le, Bool, true, false, not, ◌&&◌, ◌||◌, List, [], ◌∷◌, length, find, flat_map, sum_by, count_by, Option, Some, None, is_some, is_none, option_map, IsTrue, if◌then◌else◌}
 use Rattle.std.specs.List.{list_all, enumerate_from}
 use Rattle.std.specs.Option.{option_map_or}

@@ -1,3 +1,4 @@
+-- The headline doesn't rest on this file: it tells what a refused demand names, beyond the error.
 -- What a refused demand names: the provider, and the two consumers that stand in each other's way (g_access(9)).
 use Rattle.std.specs.Prelude.{◌≡◌, ◌≢◌, ◌⊎◌, ℕ, ◌<◌, ◌≤◌, Some, IsSomeAnd, IsTrue, All, Contains}
 use Rattle.geo_base.specs.declared.request.Counts.{Counts}

@@ -1,3 +1,4 @@
+-- The headline doesn't rest on this file: its proofs keep these facts beside soundness.
 -- What holds of the mesh at every moment beside soundness, so that each step of a sound mesh leaves it sound.
 use Rattle.std.specs.Prelude.{◌≡◌, ◌⊎◌, ℕ, ◌<◌, ◌==◌, Bool, false, not, ◌||◌, length, ⊤, [], count_by, Some, is_none, IsSome, IsSomeAnd, IsTrue, All, find, option_and_then}
 use Rattle.std.specs.List.{list_any}
