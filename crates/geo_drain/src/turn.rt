@@ -118,8 +118,8 @@ fn request_in(outcome: &Outcome) -> &Request
     }
 }
 
-// The answer of the drive of the request's disk. The bytes of a READ are shared, so that its reply needs no copy, and
-// such as came before stand in memory once.
+// The answer of the drive of the request's disk. The bytes of a READ are shared, so that its reply needs no copy; they
+// share the memory of those in the pool, if these begin with them.
 fn answer<D: Disk>(
     alloc: Global,
     request: &Request,
@@ -143,7 +143,7 @@ fn answer<D: Disk>(
     pooled(pool, got)
 }
 
-// The same answer, with bytes that came before where they do.
+// The same answer, whose bytes share the memory of those in the pool, if these begin with them.
 fn pooled(pool: &mut Pool, got: DeviceResult) -> DeviceResult
     ensures { result ≡ got }
 {

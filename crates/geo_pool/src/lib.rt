@@ -1,4 +1,4 @@
-//! Bytes that are alike stand in memory once.
+//! Bytes that came before, of which later ones may be a part, so that both share their memory.
 #![tactic(auto)]
 
 mod pool;

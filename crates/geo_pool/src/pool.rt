@@ -5,8 +5,9 @@ use geo_base::SharedBytes;
 use std::alloc::Global;
 use std::collections::BTreeMap;
 
-/// Bytes that came before: under each first byte the last ones that had to be kept. What is written and read again and
-/// again stands in memory once, since bytes with which kept ones begin are given as a part of these.
+/// Bytes that came before: under each first byte only the last ones that had to be kept. Bytes with which these begin
+/// are given as a part of them, and share their memory. All others have memory of their own, even if equal bytes came
+/// before the last ones.
 #[derive(Drop)]
 pub struct Pool {
     alloc: Global,
@@ -22,8 +23,8 @@ impl Pool {
         }
     }
 
-    /// The same bytes: a part of known ones that begin with them, else themselves, which are known from now on if there
-    /// is memory for it.
+    /// The same bytes: a part of the known ones with this first byte if those begin with them, else themselves. Then
+    /// they are known from now on, in the place of those, if there is memory for it.
     pub fn once(&mut self, bytes: SharedBytes) -> SharedBytes
         ensures { result ≡ bytes }
     {
@@ -36,7 +37,7 @@ impl Pool {
         }
     }
 
-    // The same bytes, as a part of the known ones with this first byte.
+    // The same bytes, as a part of the known ones with this first byte, if those begin with them.
     fn same(&self, bytes: &SharedBytes) -> Option<SharedBytes>
         ensures { IfSome result (λ same. same ≡ bytes.now) }
     {
@@ -49,7 +50,7 @@ impl Pool {
         }
     }
 
-    // The bytes are known from now on, if there is memory for it.
+    // The bytes are known from now on, in the place of those with this first byte, if there is memory for it.
     fn keep(&mut self, bytes: &SharedBytes) {
         if let Some(first) = bytes.bytes().first() {
             if let Ok(copy) = bytes.copy(self.alloc) {

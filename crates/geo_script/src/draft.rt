@@ -65,7 +65,7 @@ fn is_header_word(word: &[u8]) -> bool
     word == b"ram".as_slice() || word == b"disk".as_slice() || word == b"actor".as_slice()
 }
 
-// The same command, where what a write writes stands in memory once.
+// The same command. The bytes of a write share the memory of those in the pool, if these begin with them.
 fn pooled(pool: &mut Pool, command: Command) -> Command
     ensures { result ≡ command }
 {
