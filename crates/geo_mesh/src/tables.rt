@@ -1,5 +1,5 @@
 //! The tables of a mesh, and what is kept beside them.
-ghost use Rattle.std.specs.Prelude.{◌≡◌, ◌≤◌, ℕ, max, Some, IsSome, IsOk, IfOk, OnOk};
+ghost use Rattle.std.specs.Prelude.{◌≡◌, ◌≤◌, ℕ, max, false, [], ◌∷◌, Some, IsSome, IsOk, IfOk, OnOk};
 ghost use Rattle.std.specs.Borrow.{sem};
 ghost use Rattle.geo_model.specs.Topology.{geom_at, provider_at, consumer_at};
 ghost use Rattle.geo_slots.specs.Slots.{IsRising, value_at};
@@ -148,20 +148,37 @@ pub fn first_notes(alloc: Global, first: &Name, second: &Name) -> Result<Notes, 
 {
     let risen = Marks::new(alloc)?;
     let fallen = Marks::new(alloc)?;
-    let mut withering = Marks::new(alloc)?;
-    withering.reserve(2)?;
-    withering.add();
-    withering.add();
-    let mut named = geo_names::Names::new(alloc);
-    named.reserve(2)?;
-    let _ = named.add(first);
-    let _ = named.add(second);
+    let withering = two_marks(alloc)?;
+    let named = two_names(alloc, first, second)?;
     Ok(Notes {
         risen,
         fallen,
         withering,
         named,
     })
+}
+
+// Two numbers without a mark.
+fn two_marks(alloc: Global) -> Result<Marks, NoMemory>
+    ensures { IfOk result (λ m. m ≡ record { rows = (1, false) ∷ (2, false) ∷ []; next = 3; room = m.room }) }
+{
+    let mut marks = Marks::new(alloc)?;
+    marks.reserve(2)?;
+    marks.add();
+    marks.add();
+    Ok(marks)
+}
+
+// Two numbers with these names.
+fn two_names(alloc: Global, first: &Name, second: &Name) -> Result<geo_names::Names, NoMemory>
+    ensures { IfOk result (λ n. n
+        ≡ record { rows = (1, first.now) ∷ (2, second.now) ∷ []; next = 3; room = n.room }) }
+{
+    let mut names = geo_names::Names::new(alloc);
+    names.reserve(2)?;
+    let _ = names.add(first);
+    let _ = names.add(second);
+    Ok(names)
 }
 
 // The cell under a number that has one.

@@ -58,17 +58,22 @@ impl<C: Drop> Topo<C> {
     pub fn new(alloc: Global, dev: C, taste: C) -> Result<Topo<C>, NoMemory>
         ensures { IfOk result (λ topo. topo ≡ first_mesh dev taste topo.room) }
     {
-        let mut geoms = Slots::new(alloc);
-        let mut index = Index::new(alloc);
-        geoms.reserve(2)?;
-        index.reserve(2, 0, 0)?;
         let first = fixed_name(b"dev");
         let second = fixed_name(b"taste");
+        let mut geoms = Slots::new(alloc);
+        geoms.reserve(2)?;
+        let notes = tables::first_notes(alloc, &first, &second)?;
+        let mut index = Index::new(alloc);
+        if let Err(error) = index.reserve(2, 0, 0) {
+            drop(index);
+            drop(notes);
+            drop(geoms);
+            return Err(error);
+        }
         geoms.insert(new_cell(Kind::Dev, first, dev, false));
         index.add_geom();
         geoms.insert(new_cell(Kind::Taste, second, taste, false));
         index.add_geom();
-        let notes = tables::first_notes(alloc, &first, &second)?;
         let edges = Edges {
             providers: Slots::new(alloc),
             consumers: Slots::new(alloc),
