@@ -3,6 +3,7 @@ ghost use Rattle.std.specs.Prelude.{◌≡◌, ◌<◌, ◌++◌, ◌/◌, ◌%�
 ghost use Rattle.geo_base.specs.Runs.{hex_digit};
 
 use geo_base::{Block, NoMemory};
+use itoa::Buffer;
 use std::alloc::Global;
 use std::marker::Model;
 
@@ -17,7 +18,6 @@ fn hex_digit(n: u8) -> u8
 /// Bytes to be printed, which contracts see as their list.
 #[derive(Drop)]
 pub struct Text {
-    alloc: Global,
     bytes: Vec<u8>,
 }
 
@@ -35,7 +35,6 @@ impl Text {
         ensures { result ≡ [] }
     {
         Text {
-            alloc,
             bytes: Vec::new(alloc),
         }
     }
@@ -52,16 +51,16 @@ impl Text {
     pub fn add_number(&mut self, number: u64) -> Result<(), NoMemory>
         ensures { OnOk result (self.new ≡ self.old ++ decimal number) }
     {
-        let digits = number.to_string(self.alloc)?;
-        self.add(digits.as_bytes())
+        let mut buffer = Buffer::new();
+        self.add(buffer.format(number).as_bytes())
     }
 
     /// A wide number in decimal behind the text.
     pub fn add_wide(&mut self, number: u128) -> Result<(), NoMemory>
         ensures { OnOk result (self.new ≡ self.old ++ decimal number) }
     {
-        let digits = number.to_string(self.alloc)?;
-        self.add(digits.as_bytes())
+        let mut buffer = Buffer::new();
+        self.add(buffer.format(number).as_bytes())
     }
 
     /// A word, and a number in decimal right behind it.
@@ -83,7 +82,6 @@ impl Text {
     pub fn into_block(self) -> Block
         ensures { result ≡ self }
     {
-        let Text { alloc: _, bytes } = self;
-        Block::from_vec(bytes)
+        Block::from_vec(self.bytes)
     }
 }
