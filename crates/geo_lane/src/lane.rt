@@ -1,5 +1,5 @@
 //! A bounded queue of tickets.
-ghost use Rattle.std.specs.Prelude.{◌≡◌, ◌≢◌, ◌+◌, ◌-◌, ◌<◌, ◌^◌, [], ◌∷◌, ◌++◌, length, IfOk, IfErr, OnErr, IfSome, IfNone, MatchOption};
+ghost use Rattle.std.specs.Prelude.{◌≡◌, ◌≢◌, ◌+◌, ◌-◌, ◌<◌, ◌^◌, [], ◌∷◌, ◌++◌, length, IsOk, IfOk, IfErr, OnErr, IfSome, IfNone, MatchOption};
 ghost use mathlib.Core.List.{IsPrefix};
 ghost use Rattle.crossbeam_queue.specs.Fifo.{Held};
 ghost use Rattle.geo_lane.specs.Ticket.{sent_by};
@@ -56,7 +56,8 @@ impl Lane {
         Ok((Lane { tickets }, pass))
     }
 
-    /// Makes one more pass of the pass 0, with the next number, which has put nothing.
+    /// Makes one more pass of the pass 0, with the next number, which has put nothing. It takes no memory, so it is
+    /// never refused.
     pub fn split_pass<R: AllocGlobal>(
         &self,
         rt: &R,
@@ -68,6 +69,7 @@ impl Lane {
         ensures new { IfOk result (λ p. p ≡ next_pass pass.old) }
         ensures same { IfOk result (λ _. pass.new ≡ record pass.old { split = pass.old.split + 1 }) }
         ensures err { OnErr result (pass.new ≡ pass.old) }
+        ensures sure { IsOk result }
     {
         // A split is one load, so nothing can be refused here.
         let _ = rt;

@@ -1,5 +1,6 @@
 mod Closing
 mod Keeps
-mod Prefixes
+pub mod Prefixes
 mod Sounds
 mod TallyLemmas
+pub mod Whole

@@ -1,5 +1,5 @@
 //! The lock.
-ghost use Rattle.std.specs.Prelude.{◌≡◌, ◌+◌, ◌-◌, ◌*◌, ◌<◌, ◌≤◌, ◌^◌, [], ◌∷◌, ◌++◌, true, false, Some, None, Ok, Err, IfOk, IfErr, ℕ, length, map, slice_get};
+ghost use Rattle.std.specs.Prelude.{◌≡◌, ◌+◌, ◌-◌, ◌*◌, ◌<◌, ◌≤◌, ◌^◌, [], ◌∷◌, ◌++◌, true, false, Some, None, Ok, Err, IsOk, IfOk, IfErr, ℕ, length, map, slice_get};
 ghost use mathlib.Core.List.{IsPrefix};
 ghost use mathlib.Core.Option.{some};
 ghost use lib.ListN.{get_elem?};
@@ -39,7 +39,7 @@ pub struct CreateFault<L> {
     pub state: L,
 }
 
-/// There was no memory to close the yard. No pass was joined.
+/// There was no memory to close the yard, and no pass was joined. [`Yard::close`] never answers it.
 #[derive(Drop)]
 pub struct CloseFault<L: Logged> {
     pub yard: Yard<L>,
@@ -230,12 +230,13 @@ impl<L: Logged> Yard<L> {
     /// Ends the yard and gives the state back, with the whole log.
     ///
     /// The passes are all that were made, in order of their numbers. Each is good in the log, and
-    /// each entry of the log has the number of one of them. `CloseFault` is for want of memory
-    /// alone, and comes before anything was joined.
+    /// each entry of the log has the number of one of them. It takes no memory, so it is never
+    /// refused: `CloseFault` stands for an ending that would take some.
     pub fn close<R: AllocGlobal>(self, rt: &R, passes: PassList<L>) -> Result<L, CloseFault<L>>
         requires { IsWhole self passes.items }
         ensures ok { IfOk result (λ x. IsEnd L.start L.log L.lawful L.seat_of self passes.items x) }
         ensures err { IfErr result (λ e. (e.yard ≡ self) × (e.passes ≡ passes)) }
+        ensures sure { IsOk result }
     {
         // The joins are loads, and the table only gives memory back, so nothing can be refused here.
         let _ = rt;
