@@ -1,5 +1,5 @@
 -- A bio that a seat took stays at the seat until the seat makes its next step, so it can be delivered.
-use Rattle.std.specs.Prelude.{◌≡◌, ◌≢◌, ℕ, ◌<◌, ◌==◌, Bool, true, false, List, [], ◌∷◌, ◌++◌, map, Some, None, Ok, is_ok, IsTrue, All, Contains, if◌then◌else◌}
+use Rattle.std.specs.Prelude.{◌≡◌, ◌≢◌, ℕ, ◌<◌, ◌==◌, Bool, true, false, List, [], ◌∷◌, ◌++◌, map, Some, None, Ok, is_ok, IsTrue, All, if◌then◌else◌}
 use Rattle.std.specs.List.{AllByRecursion}
 use Rattle.std.proofs.Common.{append-nil, inl, inr, refl, sym, ◌∙◌, ap, subst, arith}
 use Rattle.std.proofs.lemmas.Bool.{both_ways, eq-eqb, eqb-true}
@@ -140,7 +140,7 @@ holds_along front w (e ∷ log) firm legal before =
     (holds_after front w e firm legal.0 before))
 
 -- a Deliver that fits is enabled for the seat that is at the bio
-can_be_delivered : (w : World) (seat b : ℕ) (x : Bio) (got : DeviceResult) → bio_at w b ≡ Some x
+pub can_be_delivered : (w : World) (seat b : ℕ) (x : Bio) (got : DeviceResult) → bio_at w b ≡ Some x
     → x.phase ≡ phases.Busy seat → IsTrue (is_fitting w x got) → IsTrue (is_enabled w seat (steps.Deliver b got))
 unfolding step
 can_be_delivered w seat b x got at busy fits =

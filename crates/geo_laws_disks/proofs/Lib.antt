@@ -12,3 +12,8 @@ pub mod Requests
 pub mod HeldByDrives
 pub mod Drives
 pub mod Takes
+pub mod Beside
+pub mod Still
+pub mod TakenStands
+pub mod Answerable
+pub mod Answered

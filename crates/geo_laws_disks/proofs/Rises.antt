@@ -1,5 +1,5 @@
 -- Where bios come from after an Up.
-use Rattle.std.specs.Prelude.{◌≡◌, ℕ, ◌==◌, Bool, true, false, not, List, filter, Option, Some, None, Ok, Err, IsSomeAnd, IsTrue, All, Contains, if◌then◌else◌}
+use Rattle.std.specs.Prelude.{◌≡◌, ℕ, ◌==◌, Bool, true, false, not, filter, Option, Some, None, Ok, Err, IsSomeAnd, IsTrue, All, Contains, if◌then◌else◌}
 use Rattle.std.specs.Option.{option_map_or}
 use Rattle.std.proofs.Common.{refl, sym, ◌∙◌, ap, subst, arith}
 use Rattle.std.proofs.lemmas.List.Elements.{All-contains, All-filter}
@@ -22,14 +22,14 @@ use Rattle.geo_laws_requests.proofs.Starts.{in_phase, keeps_phase, keeps_up}
 use Rattle.geo_laws_disks.proofs.Origins.{HasOrigins, IsFree, Origin, all_stay, changed_origins, free_at, not_busy, quiet_phase}
 
 -- the bio that an Up names, where it is enabled
-record RisesIt (w v : World) (b : ℕ) (o : Outcome) : Type 0 where
-  bio : Bio
-  found : bio_at w b ≡ Some bio
-  up : is_up bio.phase ≡ true
-  made : (v, o) ≡ up_to w bio bio.owner
+pub record RisesIt (w v : World) (b : ℕ) (o : Outcome) : Type 0 where
+  pub bio : Bio
+  pub found : bio_at w b ≡ Some bio
+  pub up : is_up bio.phase ≡ true
+  pub made : (v, o) ≡ up_to w bio bio.owner
 
 -- an enabled Up names a bio that is Up
-rises_it : (w v : World) (seat b : ℕ) (o : Outcome) → step w seat (steps.Up b) ≡ Ok (v, o) → RisesIt w v b o
+pub rises_it : (w v : World) (seat b : ℕ) (o : Outcome) → step w seat (steps.Up b) ≡ Ok (v, o) → RisesIt w v b o
 unfolding step up
 rises_it w v seat b o e = by (bio_at w b) refl e
   where
@@ -48,7 +48,7 @@ rises_it w v seat b o e = by (bio_at w b) refl e
     by (Some x) is e = at x is (is_up x.phase) refl e
 
 -- the world after the Up of a child, by whether it is the last
-abbrev gathered_or : World → ℕ → Bool → World
+abbrev pub gathered_or : World → ℕ → Bool → World
 gathered_or done parent c = if c then option_map_or (λ y. complete_parent done y) (bio_at done parent) done else done
 
 module _ (w : World) (seat : ℕ) (firm : Firm w) (x : Bio) (found : bio_at w x.number ≡ Some x)

@@ -1,7 +1,7 @@
 -- Where bios come from after a Start, a Take and a Deliver.
-use Rattle.std.specs.Prelude.{◌≡◌, ℕ, ◌+◌, ◌/◌, ◌==◌, Bool, true, false, List, [], ◌∷◌, ◌++◌, length, map, filter_map, Option, Some, None, Ok, All, option_map, ⊤}
+use Rattle.std.specs.Prelude.{◌≡◌, ℕ, ◌+◌, ◌==◌, Bool, true, false, List, [], ◌∷◌, ◌++◌, length, map, Option, Some, None, Ok, All, ⊤}
 use Rattle.std.specs.List.{AllByRecursion, enumerate_from}
-use Rattle.std.proofs.Common.{inl, inr, refl, sym, ◌∙◌, ap, subst, arith}
+use Rattle.std.proofs.Common.{inr, refl, sym, ◌∙◌, ap, subst, arith}
 use Rattle.std.proofs.lemmas.Bool.{eqb-true}
 use Rattle.std.proofs.lemmas.List.Elements.{All-append, All-from_recursion}
 use Rattle.geo_model.specs.declared.step.BioResult.TheVariants as results
@@ -17,14 +17,14 @@ use Rattle.geo_model.specs.Words.{is_flush}
 use Rattle.geo_model.specs.Topology.{Topology, Geom, Provider, is_errored, provider_with_geom, note_started}
 use Rattle.geo_model.specs.World.{World, Config, Nothing, Disk, Mbr, Ebr, Label, Concat, Stripe, Nop, Bio, bio_at, change_number, is_down, is_sent}
 use Rattle.geo_model.specs.Place.{components}
-use Rattle.geo_model.specs.Bios.{Way, Bounces, Fails, Sends, Splits, Passes, PieceTarget, deliver, empty_piece, is_fitting, is_hit, piece_child, piece_children, piece_targets, result_of_device, start_by, take_bio, up_with, way_at, way_of}
+use Rattle.geo_model.specs.Bios.{Way, Bounces, Fails, Sends, Splits, Passes, PieceTarget, deliver, empty_piece, is_hit, piece_child, piece_children, piece_targets, result_of_device, start_by, take_bio, up_with, way_at, way_of}
 use Rattle.geo_model.specs.Step.{deliver_found, deliver_of, step, unless_found}
 use Rattle.geo_model.specs.Graph.{AreNumbers}
 use Rattle.geo_laws_requests.proofs.Starts.{StartsIt, in_phase, keeps_phase, keeps_up, starts_it}
 use Rattle.geo_laws_requests.proofs.Takes.{TakesIt, takes_it}
 use Rattle.geo_laws_graph.proofs.Numbered.{number_found}
 use Rattle.geo_laws_requests.proofs.Turning.{KeepsRequest}
-use Rattle.geo_laws_disks.proofs.Origins.{HasOrigins, IsFree, IsNew, Origin, all_stay, changed_origins, free_at, not_busy, quiet_phase}
+use Rattle.geo_laws_disks.proofs.Origins.{HasOrigins, IsFree, Origin, all_stay, changed_origins, free_at, not_busy, quiet_phase}
 
 -- Start
 
@@ -176,32 +176,30 @@ takes_origins w v seat disk b o are made =
           (free_at w seat it.bio.number it.bio are found free) w.bios (all_stay w seat));
     }
 
--- where nothing is against a Deliver no other seat is at the bio
-deliver_free : (w : World) (seat : ℕ) (x : Bio) (got : DeviceResult) (p : Phase)
-    → deliver_found w seat x got p ≡ None → IsFree seat p
-deliver_free w seat x got (phases.Busy holder) none other apart is = by (holder == seat) refl
+-- where nothing is against a Deliver the bio is Busy at the seat that delivers
+pub own_phase : (w : World) (seat : ℕ) (x : Bio) (got : DeviceResult) (p : Phase)
+    → deliver_found w seat x got p ≡ None → p ≡ phases.Busy seat
+own_phase w seat x got (phases.Busy holder) none = by (holder == seat) refl
   where
-    by : (c : Bool) → (holder == seat) ≡ c → ⊥
-    by true e =
-        let same : holder ≡ seat = eqb-true holder seat e in
-        let held : holder ≡ other = cc in
-        apart (sym held ∙ same)
-    by false e = let bad : Some (found.OtherSeat holder) ≡ None = rw e at none in (let wrong : ⊥ = cc in wrong)
-deliver_free w seat x got phases.Down none other apart is = not_busy seat phases.Down refl other apart is
-deliver_free w seat x got phases.Sent none other apart is = not_busy seat phases.Sent refl other apart is
-deliver_free w seat x got phases.Waiting none other apart is = not_busy seat phases.Waiting refl other apart is
-deliver_free w seat x got phases.Up none other apart is = not_busy seat phases.Up refl other apart is
-deliver_free w seat x got phases.Done none other apart is = not_busy seat phases.Done refl other apart is
+    by : (c : Bool) → (holder == seat) ≡ c → phases.Busy holder ≡ phases.Busy seat
+    by true e = ap (λ n. phases.Busy n) (eqb-true holder seat e)
+    by false e =
+        absurd (let bad : Some (found.OtherSeat holder) ≡ None = rw e at none in (let wrong : ⊥ = cc in wrong))
+own_phase w seat x got phases.Down none = absurd (let bad : ⊥ = cc in bad)
+own_phase w seat x got phases.Sent none = absurd (let bad : ⊥ = cc in bad)
+own_phase w seat x got phases.Waiting none = absurd (let bad : ⊥ = cc in bad)
+own_phase w seat x got phases.Up none = absurd (let bad : ⊥ = cc in bad)
+own_phase w seat x got phases.Done none = absurd (let bad : ⊥ = cc in bad)
 
 -- the bio that a Deliver names, where it is enabled
-record DeliversIt (w v : World) (seat b : ℕ) (got : DeviceResult) (o : Outcome) : Type 0 where
-  bio : Bio
-  found : bio_at w b ≡ Some bio
-  free : IsFree seat bio.phase
-  made : (v, o) ≡ deliver w bio got
+pub record DeliversIt (w v : World) (seat b : ℕ) (got : DeviceResult) (o : Outcome) : Type 0 where
+  pub bio : Bio
+  pub found : bio_at w b ≡ Some bio
+  pub own : bio.phase ≡ phases.Busy seat
+  pub made : (v, o) ≡ deliver w bio got
 
--- an enabled Deliver names a bio at which no other seat is
-delivers_it : (w v : World) (seat b : ℕ) (got : DeviceResult) (o : Outcome)
+-- an enabled Deliver names a bio at which its seat is
+pub delivers_it : (w v : World) (seat b : ℕ) (got : DeviceResult) (o : Outcome)
     → step w seat (steps.Deliver b got) ≡ Ok (v, o) → DeliversIt w v seat b got o
 unfolding step
 delivers_it w v seat b got o e = by (bio_at w b) refl e
@@ -211,7 +209,7 @@ delivers_it w v seat b got o e = by (bio_at w b) refl e
     at x is None none e = record {
       bio = x;
       found = is;
-      free = deliver_free w seat x got x.phase none;
+      own = own_phase w seat x got x.phase none;
       made = let it : deliver w x got ≡ (v, o) = cc in sym it;
     }
     at x is (Some f) none e = absurd (let bad : ⊥ = cc in bad)
@@ -219,6 +217,12 @@ delivers_it w v seat b got o e = by (bio_at w b) refl e
     by : (z : Option Bio) → bio_at w b ≡ z → deliver_of w seat got z ≡ Ok (v, o) → DeliversIt w v seat b got o
     by None is e = absurd (let bad : ⊥ = cc in bad)
     by (Some x) is e = at x is (deliver_found w seat x got x.phase) refl e
+
+-- no other seat is at a bio that is Busy at a seat
+free_of_others : (seat : ℕ) (p : Phase) → p ≡ phases.Busy seat → IsFree seat p
+free_of_others seat p own other apart is =
+    let same : phases.Busy other ≡ phases.Busy seat = sym is ∙ own in
+    apart (let it : other ≡ seat = cc in it)
 
 -- each Deliver
 pub delivers_origins : (w v : World) (seat b : ℕ) (got : DeviceResult) (o : Outcome)
@@ -234,5 +238,5 @@ delivers_origins w v seat b got o are made =
       disks = ap (λ (m : World × Outcome). m.0.disks) it.made;
       each = subst (λ ys. All (Origin w seat) ys) (sym (ap (λ (m : World × Outcome). m.0.bios) it.made))
           (changed_origins w seat it.bio.number (up_with (result_of_device got)) (keeps_up (result_of_device got))
-          (free_at w seat it.bio.number it.bio are found it.free) w.bios (all_stay w seat));
+          (free_at w seat it.bio.number it.bio are found (free_of_others seat it.bio.phase it.own)) w.bios (all_stay w seat));
     }

@@ -1,2 +1,3 @@
 pub mod DiskLaws
 pub mod DriveLaws
+pub mod TakenLaws

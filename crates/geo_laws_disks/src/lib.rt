@@ -3,3 +3,4 @@
 
 pub mod disks;
 pub mod serving;
+pub mod taken;

@@ -45,7 +45,7 @@ use Rattle.geo_laws_rest.proofs.Sums.{sum_mapped-falls}
 
 module _ (w : World) where
   -- the world has the same commands left
-  abbrev Keeps : World × Outcome → Type 0
+  abbrev pub Keeps : World × Outcome → Type 0
   Keeps made = made.0.actors ≡ w.actors
 
   -- one of two answers
@@ -125,7 +125,7 @@ module _ (w : World) where
   appended line None b = refl
 
   -- each command
-  keeps : (line actor : ℕ) (c : Command) → Keeps (do_command w line actor c)
+  pub keeps : (line actor : ℕ) (c : Command) → Keeps (do_command w line actor c)
   unfolding do_command
   keeps line actor (commands.Open name prov grant) =
       either (is_some (handle_of w actor name)) _ _ refl

@@ -54,13 +54,13 @@ kill_most w c =
     1 0 ≤ cond (is_some h.consumer) 1 0) (λ h. killed_count c h (names_number h.consumer c) refl) w.handles)
 
 -- what is left of a world in which handles die
-record Killed (w v : World) : Type 0 where
+pub record Killed (w v : World) : Type 0 where
   pub actors : v.actors ≡ w.actors
   pub taste : v.taste ≡ w.taste
   pub handles : handles_of v ≤ handles_of w
 
 -- some die
-kills : (cs : List ℕ) (w : World) → Killed w (fold kill_handle w cs)
+pub kills : (cs : List ℕ) (w : World) → Killed w (fold kill_handle w cs)
 kills [] w = record { actors = refl; taste = refl; handles = omega arith }
 kills (c ∷ cs) w =
     let rest = kills cs (kill_handle w c) in

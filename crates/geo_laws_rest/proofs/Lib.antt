@@ -23,3 +23,4 @@ pub mod Picking
 pub mod Endless
 pub mod Quiet
 pub mod Rounds
+pub mod CommandsLeft

@@ -4,4 +4,5 @@
 pub mod judging;
 pub mod losses;
 pub mod measure;
+pub mod others;
 pub mod rest;
