@@ -1,65 +1,26 @@
 -- Where a log is full it is nearly as long as it can be, and where no step is due all is at rest.
-use Rattle.std.specs.Prelude.{◌≡◌, ◌↔◌, ◌+◌, ◌-◌, ◌^◌, ◌<◌, ◌≤◌, Bool, true, false, List, length, Option, Some, None, Ok, Err, IsNone, IsSomeAnd, IsTrue, if◌then◌else◌}
-use Rattle.std.proofs.Common.{refl, sym, ◌∙◌, subst, arith}
-use Rattle.std.proofs.lemmas.Bool.{both_ways, ltb-true}
-use Rattle.geo_model.specs.declared.step.Entry.{Entry}
-use Rattle.geo_model.specs.declared.step.Outcome.{Outcome}
+use Rattle.std.specs.Prelude.{◌≡◌, ◌↔◌, ◌-◌, Bool, true, false, Option, Some, None, IsNone, IsSomeAnd, IsTrue}
+use Rattle.std.proofs.Common.{refl, sym, ◌∙◌, subst}
+use Rattle.std.proofs.lemmas.Bool.{both_ways}
 use Rattle.geo_model.specs.declared.step.Step.{Step}
-use Rattle.geo_model.specs.declared.step.Step.TheVariants as steps
-use Rattle.geo_model.specs.World.{World}
-use Rattle.geo_model.specs.Step.{Answer, is_enabled, step}
-use Rattle.geo_model.specs.Log.{is_full, is_full_after, log_limit, owed}
+use Rattle.geo_model.specs.Step.{is_enabled}
+use Rattle.geo_model.specs.Log.{is_full}
 use Rattle.geo_model.specs.Order.{Rest, is_at_rest, pick}
 use Rattle.geo_model.specs.FixedOrder.{StepOrder, fixed_order}
-use Rattle.geo_model.specs.Fitting.{Firm}
 use Rattle.geo_model.specs.Laws.{Lowers, NoneBusy, OrderEnds, OrderGoesOn}
-use Rattle.geo_model.specs.History.{next_command}
 use Rattle.geo_laws_steps.proofs.Logs.{firm_after}
 use Rattle.geo_model.proofs.RestLemmas.{pick-rest}
 use Rattle.geo_laws_rest.proofs.Picking.{pick_goes_on}
-use Rattle.geo_laws_owed.specs.OwedLaws.{begins_to_owe, is_answered_ok, is_open, pays}
-use Rattle.geo_laws_owed.proofs.OwedSteps.{owed_changes}
+use Rattle.geo_laws_owed.proofs.Full.{full_logs_are_long}
 use Rattle.geo_core.specs.Mesh.{IsHistory, MeshView, world_of}
 use Rattle.geo_drain.specs.Drain.{RanFull}
-
--- a step begins to owe at most one place
-begins_one : (w : World) (s : Step) (outcome : Outcome) → begins_to_owe w s outcome ≤ 1
-begins_one w (steps.Take disk b) outcome = omega arith
-begins_one w (steps.Go actor) outcome = by (is_answered_ok is_open (next_command w actor) outcome)
-  where
-    by : (c : Bool) → (if c then 1 else 0) ≤ 1
-    by true = omega arith
-    by false = omega arith
-begins_one w steps.Event outcome = omega arith
-begins_one w steps.Judge outcome = omega arith
-begins_one w steps.Reap outcome = omega arith
-begins_one w steps.Wash outcome = omega arith
-begins_one w (steps.Start b) outcome = omega arith
-begins_one w (steps.Deliver b got) outcome = omega arith
-begins_one w (steps.Up b) outcome = omega arith
-
--- where a step has no place, the log with what is owed is at its limit but for one place
-nearly_full : (log : List Entry) (w : World) (s : Step) → Firm w → IsTrue (is_full log w 0 s)
-    → 2 ^ 32 - 1 ≤ length log + owed w
-unfolding is_full
-nearly_full log w s firm full = by (step w 0 s) refl full
-  where
-    by : (a : Answer) → step w 0 s ≡ a → IsTrue (is_full_after (length log) a) → 2 ^ 32 - 1 ≤ length log + owed w
-    by (Ok made) is above =
-        let changes : owed made.0 + pays w s made.1 ≡ owed w + begins_to_owe w s made.1 =
-        owed_changes w 0 s made.0 made.1 firm is in
-        let one : begins_to_owe w s made.1 ≤ 1 = begins_one w s made.1 in
-        let over : log_limit < length log + 1 + owed made.0 =
-        ltb-true log_limit (length log + 1 + owed made.0) above in
-        omega (arith, changes, one, over)
-    by (Err found) is above = absurd (let bad : ⊥ = cc in bad)
 
 -- a step that is due and has no place
 pub ran_full : (order : StepOrder) (m : MeshView) (s : Step) → IsHistory m → order (world_of m) m.log ≡ Some s
     → IsTrue (is_full m.log (world_of m) 0 s) → RanFull order m
 ran_full order m s history due full = record {
   due = subst (λ o. IsSomeAnd o (λ t. IsTrue (is_full m.log (world_of m) 0 t))) (sym due) full;
-  nearly = nearly_full m.log (world_of m) s (firm_after m.plan m.facts history.plan history.facts m.log) full;
+  nearly = full_logs_are_long m.log (world_of m) 0 s (firm_after m.plan m.facts history.plan history.facts m.log) full;
 }
 
 -- where none is due all is at rest

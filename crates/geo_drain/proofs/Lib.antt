@@ -1,4 +1,3 @@
-pub mod Opened
 pub mod Taking
 pub mod Going
 pub mod Full

@@ -1,18 +1,17 @@
 -- What a disk holds after a log in two parts.
-use Rattle.std.specs.Prelude.{◌≡◌, ℕ, ◌==◌, Bool, true, false, List, [], ◌∷◌, ◌++◌, find, fold, Option, Some, None, IsSome, option_and_then}
-use Rattle.std.proofs.Common.{refl, sym, ◌∙◌, ap, subst, append-nil}
+use Rattle.std.specs.Prelude.{◌≡◌, ℕ, Bool, true, false, List, [], ◌∷◌, ◌++◌, find, Option, Some, None, IsSome, option_and_then}
+use Rattle.std.proofs.Common.{refl, sym, ◌∙◌, ap, subst}
 use Rattle.std.proofs.lemmas.Bool.{eq-eqb}
 use Rattle.std.proofs.lemmas.List.{append_assoc}
 use Rattle.std.proofs.lemmas.List.Sums.{fold-append}
 use Rattle.geo_model.specs.declared.step.DeviceResult.{DeviceResult}
 use Rattle.geo_model.specs.declared.step.Entry.{Entry}
-use Rattle.geo_model.specs.declared.step.Request.{Request}
 use Rattle.geo_model.specs.declared.step.Step.{Step}
 use Rattle.geo_model.specs.declared.step.Step.TheVariants as steps
-use Rattle.geo_model.specs.World.{World, Plan}
+use Rattle.geo_model.specs.World.{Plan}
 use Rattle.geo_model.specs.Plans.{IsPlan, FactsFit}
 use Rattle.geo_model.specs.Opening.{opening}
-use Rattle.geo_model.specs.Log.{Legal, moments, after_entry, replay}
+use Rattle.geo_model.specs.Log.{Legal, moments, replay}
 use Rattle.geo_model.specs.Results.{device_answer_of, device_answer_in, entries_of, is_deliver_of, is_take_of, request_in, request_of}
 use Rattle.geo_model.specs.Contents.{after_answer, after_step, contents}
 use Rattle.geo_model.proofs.LogLemmas.{Legal-front}
@@ -21,13 +20,9 @@ use Rattle.geo_laws_requests.proofs.Looks.{find_in_front}
 use Rattle.geo_laws_steps.proofs.Logs.{opened_firm}
 use Rattle.geo_laws_requests.specs.Ledger.{Ledger}
 use Rattle.geo_laws_requests.proofs.Along.{ledger_along}
+use Rattle.geo_laws_requests.proofs.Complete.{entries_back}
 use Rattle.geo_laws_requests.proofs.Opened.{opened_ledger}
 use Rattle.geo_laws_disks.specs.DiskLaws.{contents_from, ContentsFollow, ContentsJoin, DeliversFollowTakes}
-
--- the entries of the moments of a log are those of the log
-entries_back : (w : World) (log : List Entry) → entries_of (moments w log) ≡ log
-entries_back w [] = refl
-entries_back w (e ∷ log) = ap (λ es. e ∷ es) (entries_back (after_entry w e) log)
 
 -- in a legal log each bio that was answered was taken
 answered_taken : (plan : Plan) (facts : List (ℕ × ℕ)) → IsPlan plan → FactsFit plan facts → (log : List Entry)

@@ -17,3 +17,4 @@ pub mod Still
 pub mod TakenStands
 pub mod Answerable
 pub mod Answered
+pub mod Opened

@@ -3,3 +3,4 @@ pub mod OwedBios
 pub mod OwedCommands
 pub mod OwedSteps
 pub mod Room
+pub mod Full

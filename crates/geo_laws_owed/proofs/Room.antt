@@ -80,7 +80,7 @@ no_shorter w seat s firm (Ok made) is =
 no_shorter w seat s firm (Err found) is = omega arith
 
 -- along further entries
-never_shorter : (w : World) (log : List Entry) → Firm w → owed w ≤ length log + owed (replay w log)
+pub never_shorter : (w : World) (log : List Entry) → Firm w → owed w ≤ length log + owed (replay w log)
 never_shorter w [] firm = omega arith
 never_shorter w (e ∷ log) firm =
     let one = no_shorter w e.seat e.step firm (step w e.seat e.step) refl in

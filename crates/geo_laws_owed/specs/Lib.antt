@@ -1,1 +1,2 @@
 pub mod OwedLaws
+pub mod FullLaws

@@ -2,6 +2,7 @@
 //! Each step changes it by just what it begins to owe and what it pays, and a log within its limit stays within it.
 #![tactic(auto)]
 
+ghost use Rattle.geo_laws_owed.specs.FullLaws.{FullLogsAreLong, OwedNeverFalls};
 ghost use Rattle.geo_laws_owed.specs.OwedLaws.{LogsFitExactly, LogsStayLawful, OwedChanges};
 
 /// Each step owes just the places more that it begins to owe, and just the places less that it pays.
@@ -14,4 +15,12 @@ pub fn steps_change_what_is_owed()
 pub fn logs_stay_lawful()
     ensures stay { LogsStayLawful }
     ensures exactly { LogsFitExactly }
+{}
+
+/// Where a step has no place in the log, the log with the places that are owed is at its limit but for one place; and
+/// the length with the places that are owed doesn't fall as the log grows.
+#[tactic(auto, using(crate::proofs::Full::full_logs_are_long, crate::proofs::Full::owed_never_falls))]
+pub fn full_logs_stay_long()
+    ensures long { FullLogsAreLong }
+    ensures never { OwedNeverFalls }
 {}

@@ -48,7 +48,7 @@ ledger_of plan facts is fit log legal =
     ledger_along [] (opening plan facts) log (opened_ledger plan facts) (opened_firm plan facts is fit) legal
 
 -- the entries of the moments of a log are those of the log
-entries_back : (w : World) (log : List Entry) → entries_of (moments w log) ≡ log
+pub entries_back : (w : World) (log : List Entry) → entries_of (moments w log) ≡ log
 entries_back w [] = refl
 entries_back w (e ∷ log) = ap (λ es. e ∷ es) (entries_back (after_entry w e) log)
 

@@ -21,3 +21,4 @@ pub mod Stepped
 pub mod Opened
 pub mod Along
 pub mod Complete
+pub mod AllDelivered

@@ -3,3 +3,4 @@ pub mod Arrivals
 pub mod Covering
 pub mod Ledger
 pub mod RequestLaws
+pub mod DeliveredLaws
