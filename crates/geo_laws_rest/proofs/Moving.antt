@@ -83,25 +83,25 @@ module _ (w : World) (firm : Firm w) (idle : NoneBusy w) where
   child_above y b (owners.Line handle line) comes child = absurd (let no : ⊥ = cc in no)
   child_above y b owners.Taste comes child = absurd (let no : ⊥ = cc in no)
 
+  -- no bio is Busy
+  pub not_busy : (x : Bio) → Contains w.bios x → is_busy x.phase ≡ false
+  not_busy x here = All-contains (λ (y : Bio). is_busy y.phase ≡ false) w.bios x idle here
+
+  -- so no disk has one, by what is found
+  pub free_by : (d : ℕ) (o : Option Bio) → busy_bio w d ≡ o → is_none o ≡ true
+  free_by d None e = refl
+  free_by d (Some y) e =
+      let here = find-Contains (λ (x : Bio). is_busy x.phase && option_map_or (λ (n : ℕ). n == d)
+      (disk_of_bio w x) false) w.bios y e in
+      let passes = find_passes (λ (x : Bio). is_busy x.phase && option_map_or (λ (n : ℕ). n == d) (disk_of_bio w x)
+      false) w.bios y e in
+      let busy = (and_parts (is_busy y.phase) (option_map_or (λ (n : ℕ). n == d) (disk_of_bio w y) false) passes).0 in
+      let quiet = not_busy y here in
+      absurd (let no : ⊥ = cc in no)
+
   module _ (no_up : AllByRecursion (λ (x : Bio). is_up x.phase ≡ false) w.bios)
       (no_take : AllByRecursion (λ (x : Bio). is_to_take w x ≡ false) w.bios)
       (no_down : AllByRecursion (λ (x : Bio). is_down x.phase ≡ false) w.bios) where
-    -- no bio is Busy
-    not_busy : (x : Bio) → Contains w.bios x → is_busy x.phase ≡ false
-    not_busy x here = All-contains (λ (y : Bio). is_busy y.phase ≡ false) w.bios x idle here
-
-    -- so no disk has one, by what is found
-    free_by : (d : ℕ) (o : Option Bio) → busy_bio w d ≡ o → is_none o ≡ true
-    free_by d None e = refl
-    free_by d (Some y) e =
-        let here = find-Contains (λ (x : Bio). is_busy x.phase && option_map_or (λ (n : ℕ). n == d)
-        (disk_of_bio w x) false) w.bios y e in
-        let passes = find_passes (λ (x : Bio). is_busy x.phase && option_map_or (λ (n : ℕ). n == d) (disk_of_bio w x)
-        false) w.bios y e in
-        let busy = (and_parts (is_busy y.phase) (option_map_or (λ (n : ℕ). n == d) (disk_of_bio w y) false) passes).0 in
-        let quiet = not_busy y here in
-        absurd (let no : ⊥ = cc in no)
-
     -- nor is any Sent: it could be taken
     sent_by : (x : Bio) → Contains w.bios x → (b : Bool) → is_sent x.phase ≡ b → b ≡ false
     sent_by x here false e = refl

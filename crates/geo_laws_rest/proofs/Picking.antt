@@ -38,30 +38,30 @@ abbrev pub IsGood : World → Step → Type 0
 IsGood w s = IsTrue (is_enabled w 0 s) × Lowers w 0 s
 
 -- the first of two, where each that may come first is good
-first_of : (w : World) (a b : Option Step) → ((s : Step) → a ≡ Some s → IsGood w s)
+pub first_of : (w : World) (a b : Option Step) → ((s : Step) → a ≡ Some s → IsGood w s)
     → (a ≡ None → IsSomeAnd b (IsGood w)) → IsSomeAnd (option_or a b) (IsGood w)
 first_of w None b one rest = rest refl
 first_of w (Some s) b one rest = one s refl
 
 -- what is made of something is made of what is there
-from_some : {X : Type 0} (f : X → Step) (o : Option X) (P : Step → Type 0) → ((x : X) → o ≡ Some x → P (f x))
+pub from_some : {X : Type 0} (f : X → Step) (o : Option X) (P : Step → Type 0) → ((x : X) → o ≡ Some x → P (f x))
     → (s : Step) → option_map f o ≡ Some s → P s
 from_some f None P so s e = absurd (let no : ⊥ = cc in no)
 from_some f (Some x) P so s e = let same : f x ≡ s = cc in subst P same (so x refl)
 
 -- where nothing is made, nothing is there
-from_none : {X : Type 0} (f : X → Step) (o : Option X) → option_map f o ≡ None → o ≡ None
+pub from_none : {X : Type 0} (f : X → Step) (o : Option X) → option_map f o ≡ None → o ≡ None
 from_none f None e = refl
 from_none f (Some x) e = absurd (let no : ⊥ = cc in no)
 
 -- a step that is given where it is enabled
-given : (w : World) (s : Step) (P : Step → Type 0) → (IsTrue (is_enabled w 0 s) → P s) → (b : Bool)
+pub given : (w : World) (s : Step) (P : Step → Type 0) → (IsTrue (is_enabled w 0 s) → P s) → (b : Bool)
     → is_enabled w 0 s ≡ b → (r : Step) → (if b then Some s else None) ≡ Some r → P r
 given w s P so true e r is = let same : s ≡ r = cc in subst P same (so e)
 given w s P so false e r is = absurd (let no : ⊥ = cc in no)
 
 -- one that isn't given isn't enabled
-withheld : (s : Step) (b : Bool) → (if b then Some s else None) ≡ None → b ≡ false
+pub withheld : (s : Step) (b : Bool) → (if b then Some s else None) ≡ None → b ≡ false
 withheld s true e = absurd (let no : ⊥ = cc in no)
 withheld s false e = refl
 
@@ -90,7 +90,7 @@ module _ (w : World) (firm : Firm w) where
       subst (λ (o : Option Bio). is_ok (start_of w o) ≡ true) (sym found) done
 
   -- one that can be taken is taken, by its disk
-  take_by : (x : Bio) → bio_at w x.number ≡ Some x → is_sent x.phase ≡ true → (o : Option ℕ) → disk_of_bio w x ≡ o
+  pub take_by : (x : Bio) → bio_at w x.number ≡ Some x → is_sent x.phase ≡ true → (o : Option ℕ) → disk_of_bio w x ≡ o
       → option_map_or (λ d. is_none (busy_bio w d)) o false ≡ true
       → is_enabled w 0 (steps.Take (option_map_or (λ d. d) o 0) x.number) ≡ true
   unfolding step
@@ -124,7 +124,7 @@ judge_waits w s true e = refl
 judge_waits w s false e = absurd (let no : ⊥ = cc in no)
 
 -- then some bio is the root of the taste, and without bios there is no taste
-no_taste : (w : World) → Firm w → w.bios ≡ [] → (o : Option Taste) → w.taste ≡ o → is_ok (judge_of w o) ≡ false
+pub no_taste : (w : World) → Firm w → w.bios ≡ [] → (o : Option Taste) → w.taste ≡ o → is_ok (judge_of w o) ≡ false
     → w.taste ≡ None
 no_taste w firm none None is e = is
 no_taste w firm none (Some s) is e =
@@ -143,7 +143,7 @@ no_events w [] e = refl
 no_events w (x ∷ es) e = absurd (let no : ⊥ = cc in no)
 
 -- so by whether a taste is under way
-no_events_by : (w : World) → w.taste ≡ None
+pub no_events_by : (w : World) → w.taste ≡ None
     → is_ok {T = World × Outcome} {E = Found}
     (if is_some w.taste then Err refusals.TasteUnderWay else event_of w w.events) ≡ false
     → w.events ≡ []
@@ -171,24 +171,24 @@ no_wash w (Some work) e = absurd (let no : ⊥ = cc in no)
 
 module _ (w : World) where
   -- of a Judge
-  judge_not : is_enabled w 0 steps.Judge ≡ false → is_ok (judge_of w w.taste) ≡ false
+  pub judge_not : is_enabled w 0 steps.Judge ≡ false → is_ok (judge_of w w.taste) ≡ false
   unfolding step judge_next
   judge_not e = e
 
   -- of an Event
-  event_not : is_enabled w 0 steps.Event ≡ false
+  pub event_not : is_enabled w 0 steps.Event ≡ false
       → is_ok {T = World × Outcome} {E = Found}
       (if is_some w.taste then Err refusals.TasteUnderWay else event_of w w.events) ≡ false
   unfolding step event
   event_not e = e
 
   -- of a Reap
-  reap_not : is_enabled w 0 steps.Reap ≡ false → reap_work w ≡ None
+  pub reap_not : is_enabled w 0 steps.Reap ≡ false → reap_work w ≡ None
   unfolding step reap_next
   reap_not e = no_reap w (reap_work w) e
 
   -- of a Wash
-  wash_not : is_enabled w 0 steps.Wash ≡ false → wash_work w ≡ None
+  pub wash_not : is_enabled w 0 steps.Wash ≡ false → wash_work w ≡ None
   unfolding step wash_next
   wash_not e = no_wash w (wash_work w) e
 
@@ -223,7 +223,7 @@ earliest_some item (other ∷ rest) e =
     (list_all (λ (x : ℕ × ℕ). nat_le item.1 x.1) (other ∷ rest)) e
 
 -- where there is none, there are none
-earliest_none : (items : List (ℕ × ℕ)) → earliest items ≡ None → items ≡ []
+pub earliest_none : (items : List (ℕ × ℕ)) → earliest items ≡ None → items ≡ []
 earliest_none [] e = refl
 earliest_none (item ∷ rest) e = absurd (earliest_some item rest e)
 
@@ -306,7 +306,7 @@ module _ (w : World) where
         (subst (λ (n : ℕ). slice_get w.actors n ≡ Some (c ∷ rest)) number (at 0 (c ∷ rest) refl)) none)
 
     -- and all is at rest
-    at_rest : ready_actors w ≡ [] → Rest w
+    pub at_rest : ready_actors w ≡ [] → Rest w
     unfolding is_at_rest
     at_rest none =
         let all = none_left 0 w.actors (λ j cs e.
@@ -318,11 +318,11 @@ module _ (w : World) where
 
 module _ (w : World) (firm : Firm w) (idle : NoneBusy w) (busy : Rest w → ⊥) where
   -- a step that isn't a Wash is good where it is enabled
-  good : (s : Step) → is_early_wash w s ≡ false → is_enabled w 0 s ≡ true → IsGood w s
+  pub good : (s : Step) → is_early_wash w s ≡ false → is_enabled w 0 s ≡ true → IsGood w s
   good s late enabled = (enabled, steps_lower w 0 s firm enabled late)
 
   -- a bio goes up
-  goes_up : (s : Step) → first_bio w (λ x. is_up x.phase) (λ x. steps.Up x.number) ≡ Some s → IsGood w s
+  pub goes_up : (s : Step) → first_bio w (λ x. is_up x.phase) (λ x. steps.Up x.number) ≡ Some s → IsGood w s
   goes_up =
       from_some (λ (x : Bio). steps.Up x.number) (find (λ (x : Bio). is_up x.phase) w.bios) (IsGood w)
       (λ x found. good (steps.Up x.number) refl
@@ -337,7 +337,7 @@ module _ (w : World) (firm : Firm w) (idle : NoneBusy w) (busy : Rest w → ⊥)
       (take_enabled w firm x (itself w firm (is_to_take w) x found) (find_passes (is_to_take w) w.bios x found)))
 
   -- it starts
-  starts : (s : Step) → first_bio w (λ x. is_down x.phase) (λ x. steps.Start x.number) ≡ Some s → IsGood w s
+  pub starts : (s : Step) → first_bio w (λ x. is_down x.phase) (λ x. steps.Start x.number) ≡ Some s → IsGood w s
   starts =
       from_some (λ (x : Bio). steps.Start x.number) (find (λ (x : Bio). is_down x.phase) w.bios) (IsGood w)
       (λ x found. good (steps.Start x.number) refl
@@ -345,17 +345,17 @@ module _ (w : World) (firm : Firm w) (idle : NoneBusy w) (busy : Rest w → ⊥)
       (find_passes (λ (y : Bio). is_down y.phase) w.bios x found)))
 
   -- a step that is tried, but a Wash
-  tried : (s : Step) → is_early_wash w s ≡ false → (r : Step) → if_enabled w s ≡ Some r → IsGood w r
+  pub tried : (s : Step) → is_early_wash w s ≡ false → (r : Step) → if_enabled w s ≡ Some r → IsGood w r
   tried s late = given w s (IsGood w) (good s late) (is_enabled w 0 s) refl
 
   -- without bios, tastes and events a Wash isn't early
-  late : w.taste ≡ None → w.events ≡ [] → is_early_wash w steps.Wash ≡ false
+  pub late : w.taste ≡ None → w.events ≡ [] → is_early_wash w steps.Wash ≡ false
   late taste events =
       and_right (is_of_consumer (wash_work w)) (is_some w.taste || list_any is_offer w.events)
       (rw (taste, events) refl)
 
   -- an actor goes
-  goes : (s : Step) → option_map (λ actor. steps.Go actor) (earliest (ready_actors w)) ≡ Some s → IsGood w s
+  pub goes : (s : Step) → option_map (λ actor. steps.Go actor) (earliest (ready_actors w)) ≡ Some s → IsGood w s
   goes =
       from_some (λ (actor : ℕ). steps.Go actor) (earliest (ready_actors w)) (IsGood w)
       (λ actor found. good (steps.Go actor) refl

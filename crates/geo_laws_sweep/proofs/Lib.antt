@@ -1,0 +1,3 @@
+pub mod ElevatorFacts
+pub mod Sweeping
+pub mod SweepRest

@@ -1,0 +1,37 @@
+//! Laws of the elevator order (geom(4)): it goes on until rest and ends there; while nothing comes, the place at which a
+//! disk takes its requests falls at most once; and no bio passes a FLUSH.
+#![tactic(auto)]
+
+ghost use Rattle.geo_laws_sweep.specs.Elevator.{NextIsAmong, SomeIsNext, TakesFallOnce};
+ghost use Rattle.geo_laws_sweep.specs.SweepLaws.{SweepEnds, SweepGoesOn};
+
+/// Where something waits, something is next.
+#[tactic(auto, using(crate::proofs::ElevatorFacts::some_is_next))]
+pub fn some_is_next()
+    ensures { SomeIsNext }
+{}
+
+/// What holds of all that waits holds of what is next.
+#[tactic(auto, using(crate::proofs::ElevatorFacts::next_is_among))]
+pub fn next_is_among()
+    ensures { NextIsAmong }
+{}
+
+/// While nothing comes, the place at which a disk takes its requests falls at most once.
+#[tactic(auto, using(crate::proofs::ElevatorFacts::takes_fall_once))]
+pub fn takes_fall_once()
+    ensures { TakesFallOnce }
+{}
+
+/// Where a legal log leads without a Busy bio, and not to rest, the elevator order gives an enabled step that lowers
+/// the measure.
+#[tactic(auto, using(crate::proofs::Sweeping::sweep_goes_on))]
+pub fn sweep_goes_on()
+    ensures { SweepGoesOn }
+{}
+
+/// At rest the elevator order gives no step.
+#[tactic(auto, using(crate::proofs::SweepRest::sweep_ends))]
+pub fn sweep_ends()
+    ensures { SweepEnds }
+{}
