@@ -1,3 +1,7 @@
 pub mod ElevatorFacts
 pub mod Sweeping
 pub mod SweepRest
+pub mod Outcomes
+pub mod SentBios
+pub mod Looks
+pub mod WaitingFacts

@@ -3,7 +3,7 @@
 #![tactic(auto)]
 
 ghost use Rattle.geo_laws_sweep.specs.Elevator.{NextIsAmong, SomeIsNext, TakesFallOnce};
-ghost use Rattle.geo_laws_sweep.specs.SweepLaws.{SweepEnds, SweepGoesOn};
+ghost use Rattle.geo_laws_sweep.specs.SweepLaws.{StepsChangeWaiting, SweepEnds, SweepGoesOn, TakesAskWaiting};
 
 /// Where something waits, something is next.
 #[tactic(auto, using(crate::proofs::ElevatorFacts::some_is_next))]
@@ -34,4 +34,16 @@ pub fn sweep_goes_on()
 #[tactic(auto, using(crate::proofs::SweepRest::sweep_ends))]
 pub fn sweep_ends()
     ensures { SweepEnds }
+{}
+
+/// What waits for a disk grows by a Start that queues to it, shrinks by a Take of it, and stays at each other step.
+#[tactic(auto, using(crate::proofs::WaitingFacts::steps_change_waiting))]
+pub fn steps_change_waiting()
+    ensures { StepsChangeWaiting }
+{}
+
+/// A Take asks its disk for what the bio waited for.
+#[tactic(auto, using(crate::proofs::WaitingFacts::takes_ask_waiting))]
+pub fn takes_ask_waiting()
+    ensures { TakesAskWaiting }
 {}

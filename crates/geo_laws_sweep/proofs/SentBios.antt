@@ -1,0 +1,370 @@
+-- The bios that are Sent, along a step: a Start that queues brings one, a Take takes one, and each other step leaves
+-- them.
+use Rattle.std.specs.Prelude.{◌≡◌, ℕ, ◌+◌, ◌≤◌, ◌==◌, Bool, true, false, not, List, [], ◌∷◌, ◌++◌, filter, map, find, Option, Some, None, Ok, Err, Contains, IsSomeAnd, IsTrue, if◌then◌else◌}
+use Rattle.std.specs.List.{AllByRecursion, enumerate_from}
+use Rattle.std.specs.Option.{option_map_or}
+use Rattle.std.proofs.Common.{inl, inr, refl, sym, ◌∙◌, ap, subst, arith, append-nil}
+use Rattle.std.proofs.lemmas.Bool.{eqb-true}
+use Rattle.std.proofs.lemmas.List.Elements.{All-contains, filter-append}
+use Rattle.geo_model.specs.declared.step.BioResult.{BioResult}
+use Rattle.geo_model.specs.declared.step.DeviceResult.{DeviceResult}
+use Rattle.geo_model.specs.declared.step.Found.{Found}
+use Rattle.geo_model.specs.declared.step.Found.TheVariants as refusals
+use Rattle.geo_model.specs.declared.step.Outcome.{Outcome}
+use Rattle.geo_model.specs.declared.step.Owner.{Owner}
+use Rattle.geo_model.specs.declared.step.Owner.TheVariants as owners
+use Rattle.geo_model.specs.declared.step.Phase.{Phase}
+use Rattle.geo_model.specs.declared.step.Phase.TheVariants as phases
+use Rattle.geo_model.specs.declared.step.Step.{Step}
+use Rattle.geo_model.specs.declared.step.Step.TheVariants as steps
+use Rattle.geo_model.specs.Topology.{Topology}
+use Rattle.geo_model.specs.Graph.{AreNumbers}
+use Rattle.geo_model.specs.World.{World, Config, Bio, bio_at, change_number, children_of, is_sent, is_busy, is_up, is_done, is_waiting, is_child_of}
+use Rattle.geo_model.specs.Bios.{PieceTarget, piece_child, up_with, up, up_to, deliver, result_of_device, complete_parent, is_complete, joined_result, child_results}
+use Rattle.geo_model.specs.Step.{Answer, unless_found, deliver_found, deliver_of, up_of, step}
+use Rattle.geo_model.specs.SoundBios.{IsFamilyInOrder}
+use Rattle.geo_model.specs.Fitting.{Firm}
+use Rattle.geo_model.specs.Log.{world_after}
+use Rattle.geo_laws_graph.proofs.Lists.{Rise, rise-from, all-changed, none_outside, unhit}
+use Rattle.geo_laws_graph.proofs.Members.{All-from_contained, Contains-cases, Contains-filter, filter-Contains, find-Contains, nothing_in}
+use Rattle.geo_laws_graph.proofs.Numbered.{filter-pushed, number_found, unique}
+use Rattle.geo_laws_life.proofs.Found.{found-with}
+use Rattle.geo_laws_counts.proofs.LimitFacts.{all_true}
+use Rattle.geo_laws_bios.proofs.Phases.{can_deliver}
+use Rattle.geo_laws_requests.specs.Arrivals.{StayOrArrive}
+use Rattle.geo_laws_requests.proofs.Arrivals.{bios_stay_or_arrive}
+use Rattle.geo_laws_sweep.proofs.Outcomes.{starts_or_takes}
+
+-- the bios that are Sent
+abbrev pub sent_in : List Bio → List Bio
+sent_in bios = filter (λ (x : Bio). is_sent x.phase) bios
+
+-- those of this number aren't
+abbrev pub NotSentAt : ℕ → List Bio → Type 0
+NotSentAt n bios = AllByRecursion (λ (x : Bio). (x.number == n) ≡ true → is_sent x.phase ≡ false) bios
+
+-- Lists of bios
+
+-- a fact of each that follows from another
+pub weaker : {X : Type 0} (P Q : X → Type 0) → ((x : X) → P x → Q x) → (xs : List X) → AllByRecursion P xs
+    → AllByRecursion Q xs
+weaker P Q so [] facts = tt
+weaker P Q so (x ∷ xs) facts = (so x facts.0, weaker P Q so xs facts.1)
+
+-- one more bio, that is changed or stays
+changed_step : (n : ℕ) (change : Bio → Bio) (x : Bio) (xs : List Bio) (b : Bool) → (x.number == n) ≡ b
+    → is_sent (change x).phase ≡ false → (b ≡ true → is_sent x.phase ≡ false)
+    → sent_in (change_number n change xs) ≡ sent_in xs
+    → sent_in (change_number n change (x ∷ xs)) ≡ sent_in (x ∷ xs)
+changed_step n change x xs true e after before rest = let was = before refl in rw (e, after, was) rest
+changed_step n change x xs false e after before rest = rw (e, rest) refl
+
+-- where one changes that wasn't Sent and isn't, the same are Sent
+pub changed_same : (n : ℕ) (change : Bio → Bio) → ((x : Bio) → is_sent (change x).phase ≡ false) → (xs : List Bio)
+    → NotSentAt n xs → sent_in (change_number n change xs) ≡ sent_in xs
+changed_same n change after [] before = refl
+changed_same n change after (x ∷ xs) before =
+    changed_step n change x xs (x.number == n) refl (after x) before.0 (changed_same n change after xs before.1)
+
+-- one more bio, that is kept or goes
+kept_step : (keep : Bio → Bool) (x : Bio) (xs : List Bio) (b c : Bool) → is_sent x.phase ≡ b → keep x ≡ c
+    → (is_sent x.phase ≡ true → keep x ≡ true) → sent_in (filter keep xs) ≡ sent_in xs
+    → sent_in (filter keep (x ∷ xs)) ≡ sent_in (x ∷ xs)
+kept_step keep x xs true true e f so rest = rw (f, e, rest) refl
+kept_step keep x xs true false e f so rest = let stays : keep x ≡ true = so e in absurd (let no : ⊥ = cc in no)
+kept_step keep x xs false true e f so rest = rw (f, e) rest
+kept_step keep x xs false false e f so rest = rw (f, e) rest
+
+-- where none goes that is Sent, the same are Sent
+pub kept_same : (keep : Bio → Bool) (xs : List Bio)
+    → AllByRecursion (λ (x : Bio). is_sent x.phase ≡ true → keep x ≡ true) xs
+    → sent_in (filter keep xs) ≡ sent_in xs
+kept_same keep [] so = refl
+kept_same keep (x ∷ xs) so = kept_step keep x xs (is_sent x.phase) (keep x) refl refl so.0 (kept_same keep xs so.1)
+
+-- one that is Sent doesn't have the number
+passes_by : (n : ℕ) (x : Bio) (b : Bool) → (x.number == n) ≡ b → (b ≡ true → is_sent x.phase ≡ false)
+    → is_sent x.phase ≡ true → not (x.number == n) ≡ true
+passes_by n x true e so sent = let quiet : is_sent x.phase ≡ false = so refl in absurd (let no : ⊥ = cc in no)
+passes_by n x false e so sent = rw e refl
+
+-- where those of a number go, none of which is Sent
+pub gone_same : (n : ℕ) (xs : List Bio) → NotSentAt n xs
+    → sent_in (filter (λ (x : Bio). not (x.number == n)) xs) ≡ sent_in xs
+gone_same n xs before =
+    kept_same (λ (x : Bio). not (x.number == n)) xs
+    (weaker (λ (x : Bio). (x.number == n) ≡ true → is_sent x.phase ≡ false)
+    (λ (x : Bio). is_sent x.phase ≡ true → not (x.number == n) ≡ true)
+    (λ x so. passes_by n x (x.number == n) refl so) xs before)
+
+-- a bio that is found and isn't Sent is the only one of its number
+pub found_not_sent : (next n : ℕ) (xs : List Bio) (x : Bio) → AreNumbers (map (λ (y : Bio). y.number) xs) next
+    → find (λ (y : Bio). y.number == n) xs ≡ Some x → is_sent x.phase ≡ false → NotSentAt n xs
+found_not_sent next n xs x are found quiet =
+    weaker (λ (y : Bio). (y.number == n) ≡ true → y ≡ x)
+    (λ (y : Bio). (y.number == n) ≡ true → is_sent y.phase ≡ false)
+    (λ y only e. subst (λ (z : Bio). is_sent z.phase ≡ false) (sym (only e)) quiet) xs
+    (unique (λ (y : Bio). y.number) next n xs x are found)
+
+-- new children aren't Sent
+pub no_child_sent : (t : Topology Config) (next : ℕ) (x : Bio) (items : List (ℕ × PieceTarget))
+    → sent_in (map (λ item. piece_child t next x item.0 item.1) items) ≡ []
+no_child_sent t next x [] = refl
+no_child_sent t next x (item ∷ items) = no_child_sent t next x items
+
+-- Phases
+
+-- one that passes a test which Sent doesn't, isn't Sent
+pub not_sent : (test : Phase → Bool) → test phases.Sent ≡ false → (p : Phase) → test p ≡ true → is_sent p ≡ false
+not_sent test out phases.Down e = refl
+not_sent test out phases.Sent e = absurd (let no : ⊥ = cc in no)
+not_sent test out (phases.Busy seat) e = refl
+not_sent test out phases.Waiting e = refl
+not_sent test out phases.Up e = refl
+not_sent test out phases.Done e = refl
+
+-- Steps that send and take none
+
+-- where a step was made, the same are Sent
+abbrev Same : World → Answer → Type 0
+Same w a = sent_in (world_after w a).bios ≡ sent_in w.bios
+
+module _ (w : World) (firm : Firm w) where
+  -- one that is found and isn't Sent
+  alone : (n : ℕ) (x : Bio) → bio_at w n ≡ Some x → is_sent x.phase ≡ false → NotSentAt n w.bios
+  alone n x found quiet = found_not_sent w.next_bio n w.bios x firm.sound.numbers.bios found quiet
+
+  -- a Deliver, by what is against it
+  deliver_by : (seat b : ℕ) (x : Bio) → bio_at w x.number ≡ Some x → (got : DeviceResult) (o : Option Found)
+      → deliver_found w seat x got x.phase ≡ o → Same w (unless_found o (deliver w x got))
+  unfolding deliver
+  deliver_by seat b x found got (Some f) against = refl
+  deliver_by seat b x found got None against =
+      changed_same x.number (up_with (result_of_device got)) (λ y. refl) w.bios
+      (alone x.number x found (not_sent is_busy refl x.phase (can_deliver w seat x got x.phase against).0))
+
+  -- by the bio
+  deliver_at : (seat b : ℕ) (got : DeviceResult) (o : Option Bio) → bio_at w b ≡ o → Same w (deliver_of w seat got o)
+  deliver_at seat b got None found = refl
+  deliver_at seat b got (Some x) found =
+      let same : x.number ≡ b = number_found (λ (y : Bio). y.number) w.bios b x found in
+      deliver_by seat b x (ap (bio_at w) same ∙ found) got (deliver_found w seat x got x.phase) refl
+
+  module _ (x : Bio) (found : bio_at w x.number ≡ Some x) (rising : is_up x.phase ≡ true) where
+    -- it isn't Sent
+    quiet : NotSentAt x.number w.bios
+    quiet = alone x.number x found (not_sent is_up refl x.phase rising)
+
+    -- the world in which it is Done
+    abbrev gathered : World
+    gathered = record w { bios = change_number x.number (λ y. record y { phase = phases.Done }) w.bios }
+
+    -- in which the same are Sent
+    gathered_same : sent_in gathered.bios ≡ sent_in w.bios
+    gathered_same = changed_same x.number (λ y. record y { phase = phases.Done }) (λ y. refl) w.bios quiet
+
+    module _ (parent index : ℕ) (own : x.owner ≡ owners.Child parent index) where
+      -- its parent waits
+      parent_quiet : NotSentAt parent w.bios
+      parent_quiet =
+          let family : IsFamilyInOrder w x =
+          All-contains (IsFamilyInOrder w) w.bios x firm.sound.families
+          (find-Contains (λ (y : Bio). y.number == x.number) w.bios x found) in
+          let waits : IsSomeAnd (bio_at w parent) (λ y. IsTrue (is_waiting y.phase)) = rw own at family.parent in
+          let y = found-with (bio_at w parent) (λ y. IsTrue (is_waiting y.phase)) waits in
+          alone parent y.item y.is (not_sent is_waiting refl y.item.phase y.fact)
+
+      -- also then
+      still_quiet : NotSentAt parent gathered.bios
+      still_quiet =
+          all-changed (λ (y : Bio). y.number == x.number) (λ (y : Bio). record y { phase = phases.Done })
+          (λ (y : Bio). (y.number == parent) ≡ true → is_sent y.phase ≡ false) (λ y e was here. refl) w.bios
+          parent_quiet
+
+      -- where all children are Done, none is Sent
+      abbrev NoChild : ℕ → Bio → Type 0
+      NoChild n y = is_sent y.phase ≡ true → not (is_child_of y.owner n) ≡ true
+
+      child_by : (n : ℕ) → is_complete gathered n ≡ true → (y : Bio) → Contains gathered.bios y → (b : Bool)
+          → is_child_of y.owner n ≡ b → NoChild n y
+      child_by n complete y here false e sent = rw e refl
+      child_by n complete y here true e sent =
+          let done : is_done y.phase ≡ true =
+          all_true (λ (z : Bio). is_done z.phase) (children_of gathered n) complete y
+          (Contains-filter (λ (z : Bio). is_child_of z.owner n) gathered.bios y here e) in
+          let quiet : is_sent y.phase ≡ false = not_sent is_done refl y.phase done in
+          absurd (let no : ⊥ = cc in no)
+
+      -- the parent goes up and its children go
+      parent_same : (y : Bio) → y.number ≡ parent → is_complete gathered y.number ≡ true
+          → sent_in (complete_parent gathered y).bios ≡ sent_in w.bios
+      parent_same y number complete =
+          let result : BioResult = joined_result y.cmd (child_results gathered y.number) in
+          kept_same (λ (z : Bio). not (is_child_of z.owner y.number)) (change_number y.number (up_with result) gathered.bios)
+          (all-changed (λ (z : Bio). z.number == y.number) (up_with result) (NoChild y.number)
+          (λ z e was sent. absurd (let no : ⊥ = cc in no)) gathered.bios
+          (All-from_contained (NoChild y.number) gathered.bios (λ z here.
+          child_by y.number complete z here (is_child_of z.owner y.number) refl)))
+          ∙ changed_same y.number (up_with result) (λ z. refl) gathered.bios
+          (subst (λ (n : ℕ). NotSentAt n gathered.bios) (sym number) still_quiet)
+          ∙ gathered_same
+
+      -- by whether it was the last, and the parent that is found
+      up_child_by : (b : Bool) → is_complete gathered parent ≡ b → (o : Option Bio) → bio_at gathered parent ≡ o
+          → sent_in (if b then option_map_or (λ y. complete_parent gathered y) o gathered else gathered).bios
+          ≡ sent_in w.bios
+      up_child_by false e o at = gathered_same
+      up_child_by true e None at = gathered_same
+      up_child_by true e (Some y) at =
+          let number : y.number ≡ parent = number_found (λ (z : Bio). z.number) gathered.bios parent y at in
+          parent_same y number (ap (is_complete gathered) number ∙ e)
+
+    -- an Up, by the owner
+    owner_same : (o : Owner) → x.owner ≡ o → sent_in (up_to w x o).0.bios ≡ sent_in w.bios
+    owner_same (owners.Line handle line) own = gone_same x.number w.bios quiet
+    owner_same owners.Taste own = gone_same x.number w.bios quiet
+    owner_same (owners.Child parent index) own =
+        up_child_by parent index own (is_complete gathered parent) refl (bio_at gathered parent) refl
+
+  -- an Up
+  up_by : (x : Bio) → bio_at w x.number ≡ Some x → (b : Bool) → is_up x.phase ≡ b
+      → Same w (if b then Ok (up w x) else Err (refusals.InPhase x.phase))
+  unfolding up
+  up_by x found true e = owner_same x found e x.owner refl
+  up_by x found false e = refl
+
+  -- by the bio
+  up_at : (b : ℕ) (o : Option Bio) → bio_at w b ≡ o → Same w (up_of w o)
+  up_at b None found = refl
+  up_at b (Some x) found =
+      let same : x.number ≡ b = number_found (λ (y : Bio). y.number) w.bios b x found in
+      up_by x (ap (bio_at w) same ∙ found) (is_up x.phase) refl
+
+  -- where all bios stay, or one arrives
+  come_by : (v : World) (o : Outcome) → StayOrArrive w v o → sent_in v.bios ≡ sent_in w.bios
+  come_by v o (inl stay) = ap sent_in stay.0.bios
+  come_by v o (inr come) =
+      let quiet : is_sent come.0.phase ≡ false = ap is_sent come.1.0.phase in
+      ap sent_in come.1.0.bios ∙ filter-pushed (λ (x : Bio). is_sent x.phase) w.bios come.0 quiet
+
+  -- each step but a Start and a Take
+  pub sent_same : (v : World) (seat : ℕ) (s : Step) (o : Outcome) → starts_or_takes s ≡ false
+      → step w seat s ≡ Ok (v, o) → sent_in v.bios ≡ sent_in w.bios
+  unfolding step
+  sent_same v seat (steps.Go actor) o other made = come_by v o (bios_stay_or_arrive.go w v seat actor o made)
+  sent_same v seat steps.Event o other made = come_by v o (bios_stay_or_arrive.event w v seat o made)
+  sent_same v seat steps.Judge o other made = come_by v o (bios_stay_or_arrive.judge w v seat o made)
+  sent_same v seat steps.Reap o other made = come_by v o (bios_stay_or_arrive.reap w v seat o made)
+  sent_same v seat steps.Wash o other made = come_by v o (bios_stay_or_arrive.wash w v seat o made)
+  sent_same v seat (steps.Start b) o other made = absurd (let no : ⊥ = cc in no)
+  sent_same v seat (steps.Take disk b) o other made = absurd (let no : ⊥ = cc in no)
+  sent_same v seat (steps.Deliver b got) o other made =
+      subst (Same w) made (deliver_at seat b got (bio_at w b) refl)
+  sent_same v seat (steps.Up b) o other made = subst (Same w) made (up_at b (bio_at w b) refl)
+
+-- One more, and one less
+
+-- one more is Sent, at the place of its number
+pub record OneSent (n : ℕ) (one : Bio) (before after : List Bio) : Type 0 where
+  pub front : List Bio
+  pub back : List Bio
+  pub was : before ≡ front ++ back
+  pub is : after ≡ front ++ one ∷ back
+  pub below : AllByRecursion (λ (y : Bio). y.number ≤ n) front
+  pub above : AllByRecursion (λ (y : Bio). n ≤ y.number) back
+
+-- a bio in phase Sent
+abbrev pub as_sent : Bio → Bio
+as_sent x = record x { phase = phases.Sent }
+
+-- one more in front, that is Sent or isn't
+sent_front : (n : ℕ) (one y : Bio) (ys zs : List Bio) (b : Bool) → is_sent y.phase ≡ b → y.number ≤ n
+    → OneSent n one (sent_in ys) (sent_in zs) → OneSent n one (sent_in (y ∷ ys)) (sent_in (y ∷ zs))
+sent_front n one y ys zs true e low o = rw e (record {
+  front = y ∷ o.front;
+  back = o.back;
+  was = ap (λ (xs : List Bio). y ∷ xs) o.was;
+  is = ap (λ (xs : List Bio). y ∷ xs) o.is;
+  below = (low, o.below);
+  above = o.above;
+})
+sent_front n one y ys zs false e low o = rw e o
+
+-- where numbers rise from one on, none is lower
+above_low : (low high : ℕ) (xs : List Bio) (y : Bio) → Rise low (map (λ (x : Bio). x.number) xs) high → Contains xs y
+    → low ≤ y.number
+above_low low high [] y rise here = absurd (nothing_in y here)
+above_low low high (x ∷ xs) y rise here =
+    elim (Contains-cases x y xs here) [
+      | inl same ↦ (let e : x.number ≡ y.number = ap (λ (z : Bio). z.number) same in omega (arith, rise.0, e))
+      | inr rest ↦
+          (let above = above_low (x.number + 1) high xs y rise.2 rest in omega (arith, rise.0, above))
+    ]
+
+-- what is Sent of those with greater numbers
+high_sent : (low high n : ℕ) (xs : List Bio) → Rise low (map (λ (x : Bio). x.number) xs) high → n ≤ low
+    → AllByRecursion (λ (y : Bio). n ≤ y.number) (sent_in xs)
+high_sent low high n xs rise most =
+    All-from_contained (λ (y : Bio). n ≤ y.number) (sent_in xs) (λ y here.
+    let among = filter-Contains (λ (x : Bio). is_sent x.phase) xs y here in
+    let above = above_low low high xs y rise among.0 in
+    omega (arith, most, above))
+
+module _ (n high : ℕ) (x : Bio) (quiet : is_sent x.phase ≡ false) where
+  -- one more bio, by whether it is the one
+  queued_step : (low : ℕ) (y : Bio) (ys : List Bio) → Rise low (map (λ (z : Bio). z.number) (y ∷ ys)) high → (b : Bool)
+      → (y.number == n) ≡ b → find (λ (z : Bio). z.number == n) (y ∷ ys) ≡ Some x
+      → (find (λ (z : Bio). z.number == n) ys ≡ Some x
+      → OneSent n (as_sent x) (sent_in ys) (sent_in (change_number n as_sent ys)))
+      → OneSent n (as_sent x) (sent_in (y ∷ ys)) (sent_in (change_number n as_sent (y ∷ ys)))
+  queued_step low y ys rise true e found rest =
+      let first : Some y ≡ Some x = rw e at found in
+      let same : y ≡ x = cc in
+      let number : y.number ≡ n = eqb-true y.number n e in
+      let others : change_number n as_sent ys ≡ ys =
+      unhit (λ (z : Bio). z.number == n) as_sent ys
+      (none_outside (λ (z : Bio). z.number) (y.number + 1) high n ys rise.2 (inl (omega (arith, number)))) in
+      let not_yet : is_sent y.phase ≡ false = ap (λ (z : Bio). is_sent z.phase) same ∙ quiet in
+      record {
+        front = [];
+        back = sent_in ys;
+        was = rw not_yet refl;
+        is = rw (e, others) (ap (λ (z : Bio). as_sent z ∷ sent_in ys) same);
+        below = tt;
+        above = high_sent (y.number + 1) high n ys rise.2 (omega (arith, number));
+      }
+  queued_step low y ys rise false e found rest =
+      let there : find (λ (z : Bio). z.number == n) ys ≡ Some x = rw e at found in
+      let number : x.number ≡ n = number_found (λ (z : Bio). z.number) ys n x there in
+      let above : y.number + 1 ≤ x.number =
+      above_low (y.number + 1) high ys x rise.2
+      (find-Contains (λ (z : Bio). z.number == n) ys x there) in
+      rw e (sent_front n (as_sent x) y ys (change_number n as_sent ys) (is_sent y.phase) refl
+      (omega (arith, number, above)) (rest there))
+
+  -- one that wasn't Sent is
+  pub queued_in : (low : ℕ) (xs : List Bio) → Rise low (map (λ (z : Bio). z.number) xs) high
+      → find (λ (z : Bio). z.number == n) xs ≡ Some x
+      → OneSent n (as_sent x) (sent_in xs) (sent_in (change_number n as_sent xs))
+  queued_in low [] rise found = absurd (let no : ⊥ = cc in no)
+  queued_in low (y ∷ ys) rise found =
+      queued_step low y ys rise (y.number == n) refl found (queued_in (y.number + 1) ys rise.2)
+
+-- one more bio, that is taken or stays
+taken_step : (n seat : ℕ) (x : Bio) (xs : List Bio) (b c : Bool) → (x.number == n) ≡ b → is_sent x.phase ≡ c
+    → sent_in (change_number n (λ y. record y { phase = phases.Busy seat }) xs)
+    ≡ filter (λ (y : Bio). not (y.number == n)) (sent_in xs)
+    → sent_in (change_number n (λ y. record y { phase = phases.Busy seat }) (x ∷ xs))
+    ≡ filter (λ (y : Bio). not (y.number == n)) (sent_in (x ∷ xs))
+taken_step n seat x xs true true e f rest = rw (e, f, e) rest
+taken_step n seat x xs true false e f rest = rw (e, f) rest
+taken_step n seat x xs false true e f rest = rw (e, f, e, rest) refl
+taken_step n seat x xs false false e f rest = rw (e, f) rest
+
+-- where one is taken, it alone isn't Sent any more
+pub taken_in_list : (n seat : ℕ) (xs : List Bio)
+    → sent_in (change_number n (λ y. record y { phase = phases.Busy seat }) xs)
+    ≡ filter (λ (y : Bio). not (y.number == n)) (sent_in xs)
+taken_in_list n seat [] = refl
+taken_in_list n seat (x ∷ xs) =
+    taken_step n seat x xs (x.number == n) (is_sent x.phase) refl refl (taken_in_list n seat xs)
