@@ -160,12 +160,17 @@ holds_of : (P : Waiting → Type 0) (xs ys : List Waiting) (x : Waiting) (a : Op
 holds_of P xs ys x None one all is or = least_holds P ys x all or
 holds_of P xs ys x (Some y) one all is or = least_holds P xs x one (is ∙ or)
 
+-- what holds of all candidates holds of the next
+pub among_candidates : (P : Waiting → Type 0) (head : ℕ) (xs : List Waiting) (x : Waiting) → AllByRecursion P xs
+    → next_of head xs ≡ Some x → P x
+among_candidates P head xs x all is =
+    holds_of P (ahead_of head xs) xs x (least_place (ahead_of head xs))
+    (kept_all (λ z. nat_le head z.first) P xs all) all refl is
+
+-- what holds of all that waits
 pub next_holds : (P : Waiting → Type 0) (head : ℕ) (xs : List Waiting) (x : Waiting) → AllByRecursion P xs
     → next_of head (candidates xs) ≡ Some x → P x
-next_holds P head xs x all is =
-    let some = candidates_all P xs all in
-    holds_of P (ahead_of head (candidates xs)) (candidates xs) x (least_place (ahead_of head (candidates xs)))
-    (kept_all (λ z. nat_le head z.first) P (candidates xs) some) some refl is
+next_holds P head xs x all is = among_candidates P head (candidates xs) x (candidates_all P xs all) is
 
 pub next_is_among : NextIsAmong
 next_is_among test head xs x all is =

@@ -5,3 +5,4 @@ pub mod Outcomes
 pub mod SentBios
 pub mod Looks
 pub mod WaitingFacts
+pub mod Places

@@ -1,12 +1,12 @@
 -- What a disk sees of a bio in a graph, and so what waits for it: no step changes what it sees of a bio that stands.
-use Rattle.std.specs.Prelude.{◌≡◌, ℕ, ◌/◌, ◌==◌, Bool, true, false, not, ◌&&◌, List, [], ◌∷◌, filter, filter_map, map, Option, Some, None, Ok, Contains, if◌then◌else◌}
+use Rattle.std.specs.Prelude.{◌≡◌, ℕ, ◌/◌, ◌==◌, Bool, true, false, not, List, [], ◌∷◌, filter, filter_map, map, Option, Some, None, Ok, Contains, if◌then◌else◌}
 use Rattle.std.specs.List.{AllByRecursion}
 use Rattle.std.specs.Option.{option_map_or}
 use Rattle.std.proofs.Common.{refl, sym, ◌∙◌, ap, subst}
 use Rattle.geo_model.specs.declared.step.Outcome.{Outcome}
 use Rattle.geo_model.specs.declared.step.Step.{Step}
 use Rattle.geo_model.specs.Words.{is_flush}
-use Rattle.geo_model.specs.Topology.{Topology, Geom, Provider, geom_at, provider_at}
+use Rattle.geo_model.specs.Topology.{Topology, Provider, geom_at, provider_at}
 use Rattle.geo_model.specs.World.{World, Config, Bio, is_sent}
 use Rattle.geo_model.specs.Place.{disk_of}
 use Rattle.geo_model.specs.Bios.{disk_at, sector_at}

@@ -27,7 +27,7 @@ use Rattle.geo_model.specs.Topology.{Geom, Provider, find_provider}
 use Rattle.geo_model.specs.Opens.{open_refusal}
 use Rattle.geo_model.specs.World.{World, Config, Handle, HeaderDisk, Bio, Taste, bio_at, granted_in, handle_of, is_active, is_up, is_read_out}
 use Rattle.geo_model.specs.Bios.{up, up_to, deliver}
-use Rattle.geo_model.specs.WorldEvents.{queued_of, do_event}
+use Rattle.geo_model.specs.WorldEvents.{queued_of}
 use Rattle.geo_model.specs.HandleCommands.{answer, open_answered, close_handle, request_answered, do_request}
 use Rattle.geo_model.specs.Requests.{Asking, request_refusal}
 use Rattle.geo_model.specs.GeomCommands.{header_disk, is_geom_of_disk, insert_tests, stand, do_insert, wither_found, do_pull, nop_tests, do_nop, destroy_tests, do_destroy, found_provider, named_geom}

@@ -1,11 +1,11 @@
 -- The bios that are Sent, along a step: a Start that queues brings one, a Take takes one, and each other step leaves
 -- them.
 use Rattle.std.specs.Prelude.{◌≡◌, ℕ, ◌+◌, ◌≤◌, ◌==◌, Bool, true, false, not, List, [], ◌∷◌, ◌++◌, filter, map, find, Option, Some, None, Ok, Err, Contains, IsSomeAnd, IsTrue, if◌then◌else◌}
-use Rattle.std.specs.List.{AllByRecursion, enumerate_from}
+use Rattle.std.specs.List.{AllByRecursion}
 use Rattle.std.specs.Option.{option_map_or}
-use Rattle.std.proofs.Common.{inl, inr, refl, sym, ◌∙◌, ap, subst, arith, append-nil}
+use Rattle.std.proofs.Common.{inl, inr, refl, sym, ◌∙◌, ap, subst, arith}
 use Rattle.std.proofs.lemmas.Bool.{eqb-true}
-use Rattle.std.proofs.lemmas.List.Elements.{All-contains, filter-append}
+use Rattle.std.proofs.lemmas.List.Elements.{All-contains}
 use Rattle.geo_model.specs.declared.step.BioResult.{BioResult}
 use Rattle.geo_model.specs.declared.step.DeviceResult.{DeviceResult}
 use Rattle.geo_model.specs.declared.step.Found.{Found}
@@ -25,7 +25,7 @@ use Rattle.geo_model.specs.Step.{Answer, unless_found, deliver_found, deliver_of
 use Rattle.geo_model.specs.SoundBios.{IsFamilyInOrder}
 use Rattle.geo_model.specs.Fitting.{Firm}
 use Rattle.geo_model.specs.Log.{world_after}
-use Rattle.geo_laws_graph.proofs.Lists.{Rise, rise-from, all-changed, none_outside, unhit}
+use Rattle.geo_laws_graph.proofs.Lists.{Rise, all-changed, none_outside, unhit}
 use Rattle.geo_laws_graph.proofs.Members.{All-from_contained, Contains-cases, Contains-filter, filter-Contains, find-Contains, nothing_in}
 use Rattle.geo_laws_graph.proofs.Numbered.{filter-pushed, number_found, unique}
 use Rattle.geo_laws_life.proofs.Found.{found-with}

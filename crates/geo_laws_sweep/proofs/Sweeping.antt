@@ -35,13 +35,13 @@ use Rattle.geo_laws_rest.proofs.Picking.{IsGood, first_of, from_some, from_none,
 -- The first of some
 
 -- of two, by which is there
-one_of : (P : Step → Type 0) (a b : Option Step) → ((s : Step) → a ≡ Some s → P s) → ((s : Step) → b ≡ Some s → P s)
+pub one_of : (P : Step → Type 0) (a b : Option Step) → ((s : Step) → a ≡ Some s → P s) → ((s : Step) → b ≡ Some s → P s)
     → (s : Step) → option_or a b ≡ Some s → P s
 one_of P None b one rest s e = rest s e
 one_of P (Some x) b one rest s e = one s e
 
 -- it has what they all have
-first_holds : (P : Step → Type 0) (f : ℕ → Option Step) → ((d : ℕ) (s : Step) → f d ≡ Some s → P s) → (ds : List ℕ)
+pub first_holds : (P : Step → Type 0) (f : ℕ → Option Step) → ((d : ℕ) (s : Step) → f d ≡ Some s → P s) → (ds : List ℕ)
     → (s : Step) → first_some (map f ds) ≡ Some s → P s
 first_holds P f so [] s e = absurd (let no : ⊥ = cc in no)
 first_holds P f so (d ∷ ds) s e = one_of P (f d) (first_some (map f ds)) (so d) (first_holds P f so ds) s e

@@ -1,20 +1,18 @@
 -- What waits for a disk, step by step; and what a Take asks for.
-use Rattle.std.specs.Prelude.{◌≡◌, ℕ, ◌+◌, ◌≤◌, ◌==◌, Bool, true, false, not, List, [], ◌∷◌, ◌++◌, filter, filter_map, map, Option, Some, None, Ok, All, Contains, IsTrue}
-use Rattle.std.specs.List.{AllByRecursion, enumerate_from}
+use Rattle.std.specs.Prelude.{◌≡◌, ℕ, ◌≤◌, ◌==◌, Bool, true, false, List, ◌∷◌, ◌++◌, filter, filter_map, map, Some, None, Ok, Contains, IsTrue}
+use Rattle.std.specs.List.{enumerate_from}
 use Rattle.std.proofs.Common.{refl, sym, ◌∙◌, ap, subst, append-nil}
 use Rattle.std.proofs.lemmas.Bool.{eqb-true, eq-eqb}
 use Rattle.std.proofs.lemmas.List.Elements.{All-from_recursion, filter-append, filter_map-append}
-use Rattle.geo_base.specs.declared.errno.Errno.{Errno}
 use Rattle.geo_base.specs.declared.errno.Errno.TheVariants.{EIO}
 use Rattle.geo_model.specs.declared.step.BioResult.TheVariants as results
-use Rattle.geo_model.specs.declared.step.DeviceResult.{DeviceResult}
 use Rattle.geo_model.specs.declared.step.Outcome.{Outcome}
 use Rattle.geo_model.specs.declared.step.Outcome.TheVariants as outcomes
 use Rattle.geo_model.specs.declared.step.Phase.TheVariants as phases
 use Rattle.geo_model.specs.declared.step.Step.{Step}
 use Rattle.geo_model.specs.declared.step.Step.TheVariants as steps
 use Rattle.geo_model.specs.Topology.{Topology, note_started}
-use Rattle.geo_model.specs.World.{World, Config, Bio, bio_at, change_number, is_sent, is_down}
+use Rattle.geo_model.specs.World.{World, Config, Bio, bio_at, change_number, is_sent}
 use Rattle.geo_model.specs.Bios.{PieceTarget, Way, Bounces, Fails, Sends, Splits, Passes, piece_child, up_with, start_by, way_of, take_bio, request_of_bio, disk_of_bio, disk_at}
 use Rattle.geo_model.specs.Step.{step}
 use Rattle.geo_model.specs.Fitting.{Firm}
@@ -25,10 +23,10 @@ use Rattle.geo_laws_bios.proofs.Turning.{sent_disk}
 use Rattle.geo_laws_requests.proofs.Starts.{StartsIt, starts_it}
 use Rattle.geo_laws_requests.proofs.Takes.{TakesIt, takes_it}
 use Rattle.geo_headline.specs.Sweep.{Waiting, waiting_of, is_sent_to, waiting_for}
-use Rattle.geo_laws_sweep.specs.SweepLaws.{is_queued, is_asked, OneMore, WaitingChanges, StepsChangeWaiting, Asks, TakesAskWaiting}
+use Rattle.geo_laws_sweep.specs.SweepLaws.{is_queued, is_asked, OneMore, StepsChangeWaiting, Asks, TakesAskWaiting}
 use Rattle.geo_laws_sweep.proofs.Outcomes.{is_to_disk, starts_or_takes, others_not_to_disk}
-use Rattle.geo_laws_sweep.proofs.SentBios.{sent_in, NotSentAt, OneSent, as_sent, changed_same, found_not_sent, no_child_sent, not_sent, queued_in, sent_same, taken_in_list}
-use Rattle.geo_laws_sweep.proofs.Looks.{is_disk, seen_in, look, look_by, look_number, waiting_seen, kept_looks, is_other_bio, is_other, gone_looks, all_looks, looks_stay}
+use Rattle.geo_laws_sweep.proofs.SentBios.{sent_in, NotSentAt, OneSent, as_sent, changed_same, found_not_sent, no_child_sent, queued_in, sent_same, taken_in_list}
+use Rattle.geo_laws_sweep.proofs.Looks.{look, look_number, waiting_seen, kept_looks, is_other_bio, is_other, gone_looks, all_looks, looks_stay}
 
 -- A Start
 
@@ -293,6 +291,57 @@ module _ (w v : World) (firm : Firm w) (seat disk : ℕ) (o : Outcome) where
   stay (steps.Deliver b got) made queued asked = others_stay (steps.Deliver b got) refl made
   stay (steps.Up b) made queued asked = others_stay (steps.Up b) refl made
 
+  -- only a Start queues to the disk
+  not_queued : (s : Step) → starts_or_takes s ≡ false → step w seat s ≡ Ok (v, o) → IsTrue (is_queued disk o) → ⊥
+  not_queued s other made = quiet_queues o (others_not_to_disk w v seat s o other made)
+    where
+      quiet_queues : (p : Outcome) → is_to_disk p ≡ false → IsTrue (is_queued disk p) → ⊥
+      quiet_queues (outcomes.Queued d) none queued = let no : ⊥ = cc in no
+      quiet_queues _ none queued = let no : ⊥ = cc in no
+
+  by_start : (s : Step) → step w seat s ≡ Ok (v, o) → IsTrue (is_queued disk o) → (b : ℕ) × (s ≡ steps.Start b)
+  by_start (steps.Start b) made queued = (b, refl)
+  by_start (steps.Take other b) made queued =
+      let no : IsTrue false =
+      subst (λ (p : Outcome). IsTrue (is_queued disk p)) (taken_asks w v firm seat other b o made) queued in
+      absurd (let bad : ⊥ = cc in bad)
+  by_start (steps.Go actor) made queued = absurd (not_queued (steps.Go actor) refl made queued)
+  by_start steps.Event made queued = absurd (not_queued steps.Event refl made queued)
+  by_start steps.Judge made queued = absurd (not_queued steps.Judge refl made queued)
+  by_start steps.Reap made queued = absurd (not_queued steps.Reap refl made queued)
+  by_start steps.Wash made queued = absurd (not_queued steps.Wash refl made queued)
+  by_start (steps.Deliver b got) made queued = absurd (not_queued (steps.Deliver b got) refl made queued)
+  by_start (steps.Up b) made queued = absurd (not_queued (steps.Up b) refl made queued)
+
+  -- only a Take asks it
+  quiet_asks : (p : Outcome) → is_to_disk p ≡ false → IsTrue (is_asked disk p) → ⊥
+  quiet_asks (outcomes.Asked q) none asked = let no : ⊥ = cc in no
+  quiet_asks _ none asked = let no : ⊥ = cc in no
+
+  not_asked : (s : Step) → starts_or_takes s ≡ false → step w seat s ≡ Ok (v, o) → IsTrue (is_asked disk o) → ⊥
+  not_asked s other made = quiet_asks o (others_not_to_disk w v seat s o other made)
+
+  start_asks : (b : ℕ) (made : step w seat (steps.Start b) ≡ Ok (v, o)) → Starts w v firm seat b o made
+      → IsTrue (is_asked disk o) → ⊥
+  start_asks b made (Stays same none) asked = quiet_asks o none asked
+  start_asks b made (Comes d to at graph one) asked =
+      let no : IsTrue false = subst (λ (p : Outcome). IsTrue (is_asked disk p)) to asked in let bad : ⊥ = cc in bad
+
+  by_take : (s : Step) → step w seat s ≡ Ok (v, o) → IsTrue (is_asked disk o) → (b : ℕ) × (s ≡ steps.Take disk b)
+  by_take (steps.Take other b) made asked =
+      let here : (other == disk) ≡ true =
+      subst (λ (p : Outcome). IsTrue (is_asked disk p)) (taken_asks w v firm seat other b o made) asked in
+      (b, ap (λ (d : ℕ). steps.Take d b) (eqb-true other disk here))
+  by_take (steps.Start b) made asked =
+      absurd (start_asks b made (starts w v firm seat b o made) asked)
+  by_take (steps.Go actor) made asked = absurd (not_asked (steps.Go actor) refl made asked)
+  by_take steps.Event made asked = absurd (not_asked steps.Event refl made asked)
+  by_take steps.Judge made asked = absurd (not_asked steps.Judge refl made asked)
+  by_take steps.Reap made asked = absurd (not_asked steps.Reap refl made asked)
+  by_take steps.Wash made asked = absurd (not_asked steps.Wash refl made asked)
+  by_take (steps.Deliver b got) made asked = absurd (not_asked (steps.Deliver b got) refl made asked)
+  by_take (steps.Up b) made asked = absurd (not_asked (steps.Up b) refl made asked)
+
 -- so by each step what waits changes
 pub steps_change_waiting : StepsChangeWaiting
 steps_change_waiting w v seat disk s o firm made = record {
@@ -302,5 +351,7 @@ steps_change_waiting w v seat disk s o firm made = record {
       queued_by w v firm seat b o starting disk (starts w v firm seat b o starting) queues;
   taken = λ b is.
       take_waits w v firm seat disk b o (subst (λ (r : Step). step w seat r ≡ Ok (v, o)) is made) disk;
+  queued_by_start = by_start w v firm seat disk o s made;
+  asked_by_take = by_take w v firm seat disk o s made;
   stays = stay w v firm seat disk o s made;
 }

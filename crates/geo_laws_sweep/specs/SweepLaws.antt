@@ -47,10 +47,13 @@ pub record OneMore (b : ℕ) (before after : List Waiting) : Type 0 where
   pub below : All (λ x. x.bio ≤ b) front
   pub above : All (λ x. b ≤ x.bio) back
 
--- by a Start that queues to the disk one more waits, by a Take of it one less, and by each other step the same
+-- by a Start that queues to the disk one more waits, by a Take of it one less, and by each other step the same; only a
+-- Start queues, and only a Take asks
 pub record WaitingChanges (disk : ℕ) (s : Step) (o : Outcome) (before after : List Waiting) : Type 0 where
   pub queued : (b : ℕ) → s ≡ steps.Start b → IsTrue (is_queued disk o) → OneMore b before after
   pub taken : (b : ℕ) → s ≡ steps.Take disk b → after ≡ filter (λ x. not (x.bio == b)) before
+  pub queued_by_start : IsTrue (is_queued disk o) → (b : ℕ) × (s ≡ steps.Start b)
+  pub asked_by_take : IsTrue (is_asked disk o) → (b : ℕ) × (s ≡ steps.Take disk b)
   pub stays : is_queued disk o ≡ false → is_asked disk o ≡ false → after ≡ before
 
 abbrev pub StepsChangeWaiting : Type 0

@@ -3,7 +3,7 @@
 #![tactic(auto)]
 
 ghost use Rattle.geo_laws_sweep.specs.Elevator.{NextIsAmong, SomeIsNext, TakesFallOnce};
-ghost use Rattle.geo_laws_sweep.specs.SweepLaws.{StepsChangeWaiting, SweepEnds, SweepGoesOn, TakesAskWaiting};
+ghost use Rattle.geo_laws_sweep.specs.SweepLaws.{StepsChangeWaiting, SweepEnds, SweepGoesOn, SweepsKeepPlaces, TakesAskWaiting};
 
 /// Where something waits, something is next.
 #[tactic(auto, using(crate::proofs::ElevatorFacts::some_is_next))]
@@ -46,4 +46,11 @@ pub fn steps_change_waiting()
 #[tactic(auto, using(crate::proofs::WaitingFacts::takes_ask_waiting))]
 pub fn takes_ask_waiting()
     ensures { TakesAskWaiting }
+{}
+
+/// Along a legal log in the elevator order the place at which a disk takes its requests falls at most once between the
+/// FLUSHes that it takes and the requests that come to it, and no request is taken before a FLUSH that waits for longer.
+#[tactic(auto, using(crate::proofs::Places::sweeps_keep_places))]
+pub fn sweeps_keep_places()
+    ensures { SweepsKeepPlaces }
 {}
