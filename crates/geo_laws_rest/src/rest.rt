@@ -1,6 +1,6 @@
 //! Laws of the measure of a mesh: each step lowers it but an early wash, so the fixed order comes to rest (geom(4)).
 ghost use Rattle.geo_model.specs.Laws.{PickGoesOn, StepsLower};
-ghost use Rattle.geo_laws_rest.specs.RestLaws.{FixedOrderEnds, NoneFallsForEver};
+ghost use Rattle.geo_laws_rest.specs.RestLaws.{FixedOrderEnds, NoneFallsForEver, OrdersEnd};
 
 /// Each enabled step lowers the measure, a Take together with a Deliver that fits; but for a Wash of a consumer while a
 /// taste is under way or to come.
@@ -23,4 +23,10 @@ pub fn measures_do_not_fall_for_ever()
 /// followed by its Deliver.
 pub fn fixed_order_ends()
     ensures { FixedOrderEnds }
+{}
+
+/// An order that goes on until rest, by steps that lower the measure, and ends there comes to an end, from each legal
+/// log without a Busy bio, whatever disks answer, where each Take is followed by its Deliver.
+pub fn orders_end()
+    ensures { OrdersEnd }
 {}

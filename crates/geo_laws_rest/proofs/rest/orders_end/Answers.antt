@@ -1,0 +1,5 @@
+use Rattle.geo_laws_rest.proofs.Rounds.{orders_end}
+use Rattle.geo_laws_rest.proofs.rest.orders_end.Goals as goal
+
+pub returns : goal.returns
+returns c = orders_end
