@@ -17,6 +17,7 @@ fails_step : (test : Waiting → Bool) (P : Waiting → Type 0) (Q : Type 0) (x 
 fails_step test P Q x xs true e none here f rest = rest (rw e at none)
 fails_step test P Q x xs false e none here f rest = f x here e
 
+-- so in the whole list
 one_fails : (test : Waiting → Bool) (P : Waiting → Type 0) (Q : Type 0) (xs : List Waiting) → list_all test xs ≡ false
     → AllByRecursion P xs → ((x : Waiting) → P x → test x ≡ false → Q) → Q
 one_fails test P Q [] none all f = absurd (let no : ⊥ = cc in no)
@@ -31,6 +32,7 @@ tell_step test P f x xs true e all rest = (f x e, rest (rw e at all))
 tell_step test P f x xs false e all rest =
     absurd (let no : false ≡ true = rw e at all in let bad : ⊥ = cc in bad)
 
+-- so for the whole list
 all_tell : (test : Waiting → Bool) (P : Waiting → Type 0) → ((x : Waiting) → test x ≡ true → P x) → (xs : List Waiting)
     → list_all test xs ≡ true → AllByRecursion P xs
 all_tell test P f [] all = tt
@@ -42,6 +44,7 @@ keep_step : (test : Waiting → Bool) (P : Waiting → Type 0) (x : Waiting) (xs
 keep_step test P x xs true e here rest = rw e (here refl, rest)
 keep_step test P x xs false e here rest = rw e rest
 
+-- so of the whole list
 kept_tell : (test : Waiting → Bool) (P : Waiting → Type 0) → ((x : Waiting) → test x ≡ true → P x) → (xs : List Waiting)
     → AllByRecursion P (filter test xs)
 kept_tell test P f [] = tt
@@ -90,6 +93,7 @@ some_if : (b : Bool) (x : Waiting) (o : Option Waiting) → IsSome o → IsSome 
 some_if true x o some = refl
 some_if false x o some = some
 
+-- so of some there is a least
 least_some : (x : Waiting) (xs : List Waiting) → IsSome (least_place (x ∷ xs))
 least_some x [] = refl
 least_some x (y ∷ ys) =
@@ -97,17 +101,21 @@ least_some x (y ∷ ys) =
 
 -- The next
 
+-- the second of two makes up for the first
 or_some : (a b : Option Waiting) → IsSome b → IsSome (option_or a b)
 or_some None b some = some
 or_some (Some x) b some = refl
 
+-- so of some there is a next
 next_some : (head : ℕ) (x : Waiting) (xs : List Waiting) → IsSome (next_of head (x ∷ xs))
 next_some head x xs = or_some (least_place (ahead_of head (x ∷ xs))) (least_place (x ∷ xs)) (least_some x xs)
 
+-- by whether the first is a FLUSH
 some_by : (b : Bool) (head : ℕ) (x : Waiting) (xs : List Waiting) → IsSome (next_of head (if b then x ∷ [] else x ∷ xs))
 some_by true head x xs = next_some head x []
 some_by false head x xs = next_some head x xs
 
+-- so of what waits there is a next
 pub some_is_next : SomeIsNext
 some_is_next head x xs = some_by x.flush head x (before_flush xs)
 
@@ -126,6 +134,7 @@ before_by true head y x xs e is not_flush =
     absurd (let no : false ≡ true = sym not_flush ∙ flush in let bad : ⊥ = cc in bad)
 before_by false head y x xs e is not_flush = is
 
+-- so of what waits
 before : (head : ℕ) (xs : List Waiting) (x : Waiting) → next_of head (candidates xs) ≡ Some x → x.flush ≡ false
     → next_of head (before_flush xs) ≡ Some x
 before head [] x is not_flush = is
@@ -137,24 +146,29 @@ kept_all : (test : Waiting → Bool) (P : Waiting → Type 0) (xs : List Waiting
 kept_all test P [] all = tt
 kept_all test P (x ∷ xs) all = keep_step test P x xs (test x) refl (λ e. all.0) (kept_all test P xs all.1)
 
+-- by whether the first is a FLUSH
 front_by : (b : Bool) (P : Waiting → Type 0) (x : Waiting) (xs : List Waiting) → P x → AllByRecursion P xs
     → AllByRecursion P (if b then [] else x ∷ xs)
 front_by true P x xs one all = tt
 front_by false P x xs one all = (one, all)
 
+-- what holds of all holds of those before the first FLUSH
 front_all : (P : Waiting → Type 0) (xs : List Waiting) → AllByRecursion P xs → AllByRecursion P (before_flush xs)
 front_all P [] all = tt
 front_all P (x ∷ xs) all = front_by x.flush P x (before_flush xs) all.0 (front_all P xs all.1)
 
+-- by whether the first is a FLUSH
 some_all : (b : Bool) (P : Waiting → Type 0) (x : Waiting) (xs : List Waiting) → P x → AllByRecursion P xs
     → AllByRecursion P (if b then x ∷ [] else x ∷ xs)
 some_all true P x xs one all = (one, tt)
 some_all false P x xs one all = (one, all)
 
+-- what holds of all that waits holds of the candidates
 candidates_all : (P : Waiting → Type 0) (xs : List Waiting) → AllByRecursion P xs → AllByRecursion P (candidates xs)
 candidates_all P [] all = tt
 candidates_all P (x ∷ xs) all = some_all x.flush P x (before_flush xs) all.0 (front_all P xs all.1)
 
+-- what holds of two lists holds of the least of the first, or else of the second
 holds_of : (P : Waiting → Type 0) (xs ys : List Waiting) (x : Waiting) (a : Option Waiting) → AllByRecursion P xs
     → AllByRecursion P ys → least_place xs ≡ a → option_or a (least_place ys) ≡ Some x → P x
 holds_of P xs ys x None one all is or = least_holds P ys x all or
@@ -172,6 +186,7 @@ pub next_holds : (P : Waiting → Type 0) (head : ℕ) (xs : List Waiting) (x : 
     → next_of head (candidates xs) ≡ Some x → P x
 next_holds P head xs x all is = among_candidates P head (candidates xs) x (candidates_all P xs all) is
 
+-- so for a test
 pub next_is_among : NextIsAmong
 next_is_among test head xs x all is =
     next_holds (λ y. test y ≡ true) head xs x (all_tell test (λ y. test y ≡ true) (λ y e. e) xs all) is
@@ -183,6 +198,7 @@ data Turn (head : ℕ) (xs : List Waiting) (x : Waiting) : Type 0 where
   -- the smallest of all
   Turns : (least : AreAhead x.first xs) → Turn head xs x
 
+-- by what is least ahead, and what is least of all
 turn_of : (head : ℕ) (xs : List Waiting) (x : Waiting) (a b : Option Waiting) → least_place (ahead_of head xs) ≡ a
     → least_place xs ≡ b → option_or a b ≡ Some x → Turn head xs x
 turn_of head xs x (Some y) b one all is =
@@ -193,6 +209,7 @@ turn_of head xs x (Some y) b one all is =
     (kept_tell (λ z. nat_le head z.first) (λ z. head ≤ z.first) (λ z. leb-true head z.first) xs) one))
 turn_of head xs x None b one all is = Turns (least_is xs x (all ∙ is))
 
+-- so of the next
 turn : (head : ℕ) (xs : List Waiting) (x : Waiting) → next_of head xs ≡ Some x → Turn head xs x
 turn head xs x is = turn_of head xs x (least_place (ahead_of head xs)) (least_place xs) refl refl is
 
@@ -201,6 +218,7 @@ or_same : (a : Option Waiting) → option_or a a ≡ a
 or_same None = refl
 or_same (Some x) = refl
 
+-- so the next is the least of all
 least_ahead : (head : ℕ) (xs : List Waiting) (x : Waiting) → AreAhead head xs → next_of head xs ≡ Some x
     → least_place xs ≡ Some x
 least_ahead head xs x high is =
@@ -216,13 +234,16 @@ least_ahead head xs x high is =
 no_fall : (m n : ℕ) (ps : List ℕ) → m ≤ n → falls (m ∷ n ∷ ps) ≡ falls (n ∷ ps)
 no_fall m n ps high = let not : nat_lt n m ≡ false = le-ltb n m high in rw not (omega arith)
 
+-- by whether it falls
 fall_by : (b : Bool) (k : ℕ) → (if b then 1 else 0) + k ≤ 1 + k
 fall_by true k = omega arith
 fall_by false k = omega arith
 
+-- one place more falls at most once more
 one_fall : (m n : ℕ) (ps : List ℕ) → falls (m ∷ n ∷ ps) ≤ 1 + falls (n ∷ ps)
 one_fall m n ps = fall_by (nat_lt n m) (falls (n ∷ ps))
 
+-- by whether it falls
 fewer_by : (b : Bool) (k : ℕ) → k ≤ (if b then 1 else 0) + k
 fewer_by true k = omega arith
 fewer_by false k = omega arith
@@ -258,12 +279,14 @@ fall_step head p xs ys x ps place shrinks rest most (Turns least) =
     let one = one_fall head p ps in
     omega (arith, none, one)
 
+-- so for all the places
 falls_once : (head : ℕ) (xs : List Waiting) (ps : List ℕ) → TakesFrom head xs ps → falls (head ∷ ps) ≤ 1
 falls_once head xs [] takes = omega arith
 falls_once head xs (p ∷ ps) (x, ys, next, not_flush, place, shrinks, rest) =
     fall_step head p xs ys x ps place shrinks rest (falls_once p ys ps rest)
     (turn head (before_flush xs) x (before head xs x next not_flush))
 
+-- so without the head
 pub takes_fall_once : TakesFallOnce
 takes_fall_once head xs ps takes =
     let most = falls_once head xs ps takes in

@@ -48,6 +48,7 @@ number_by disk o sector x z true e is =
 number_by disk o sector x z false e is =
     let none : None ≡ Some z = rw e at is in absurd (let no : ⊥ = cc in no)
 
+-- so in a graph
 pub look_number : (t : Topology Config) (disk : ℕ) (x : Bio) (z : Waiting) → look t disk x ≡ Some z → z.bio ≡ x.number
 look_number t disk x z is =
     number_by disk (disk_at t x.target) (sector_at t x.target) x z (is_disk disk (disk_at t x.target)) refl is
@@ -70,6 +71,7 @@ seen_by w disk [] = refl
 seen_by w disk (x ∷ xs) =
     split_step w disk x xs (is_sent x.phase) (is_disk disk (disk_at w.topology x.target)) refl refl (seen_by w disk xs)
 
+-- so in a mesh
 pub waiting_seen : (w : World) (disk : ℕ) → waiting_for w disk ≡ filter_map (look w.topology disk) (sent_in w.bios)
 waiting_seen w disk = seen_by w disk w.bios
 
@@ -96,6 +98,7 @@ kept_looks f keep (x ∷ xs) so = kept_step f keep x xs (keep x) refl so.0 (kept
 abbrev pub is_other_bio : ℕ → Bio → Bool
 is_other_bio n y = not (y.number == n)
 
+-- whether what waits has another number
 abbrev pub is_other : ℕ → Waiting → Bool
 is_other n z = not (z.bio == n)
 
@@ -151,6 +154,7 @@ module _ (w : World) (firm : Firm w) (v : World) (keeps : KeepsWays (Used w) w.t
       found-with (provider_at v.topology x.target) (IsSameProvider down.provider)
       (keeps.provider x.target down.provider used down.found)
 
+  -- and its geom does
   geom : FoundWith (geom_at v.topology down.provider.geom) (IsSameGeom down.geom)
   geom =
       found-with (geom_at v.topology down.provider.geom) (IsSameGeom down.geom)
@@ -160,9 +164,11 @@ module _ (w : World) (firm : Firm w) (v : World) (keeps : KeepsWays (Used w) w.t
   disk_before : disk_at w.topology x.target ≡ disk_of down.geom.config
   disk_before = rw (down.found, down.of) refl
 
+  -- the disk, then
   disk_then : disk_at v.topology x.target ≡ disk_of geom.item.config
   disk_then = rw (provider.is, provider.fact.geom, geom.is) refl
 
+  -- so it is the same
   disk_same : disk_at v.topology x.target ≡ disk_at w.topology x.target
   disk_same = disk_then ∙ ap disk_of geom.fact.config ∙ sym disk_before
 

@@ -1,6 +1,6 @@
--- Along a log in the elevator order the place at which a disk takes its requests falls at most once between requests
--- that come, and none is taken before a FLUSH that waits for longer.
-use Rattle.std.specs.Prelude.{◌≡◌, ℕ, ◌+◌, ◌≤◌, ◌<◌, ◌==◌, Bool, true, false, List, [], ◌∷◌, ◌++◌, filter, find, map, length, Option, Some, None, Ok, Contains, IsSome, IsTrue, if◌then◌else◌}
+-- Along a log in the elevator order the place at which a disk takes its requests falls at most once where none comes,
+-- and none is taken before a FLUSH that waits for longer.
+use Rattle.std.specs.Prelude.{◌≡◌, ℕ, ◌+◌, ◌≤◌, ◌<◌, ◌==◌, Bool, true, false, List, [], ◌∷◌, ◌++◌, filter, find, map, length, Option, Some, None, Ok, All, Contains, IsSome, IsTrue, if◌then◌else◌}
 use Rattle.std.specs.List.{AllByRecursion, range_with_len}
 use Rattle.std.proofs.Common.{inl, inr, refl, sym, ◌∙◌, ap, subst, arith}
 use Rattle.std.proofs.lemmas.Bool.{eq-eqb}
@@ -106,6 +106,7 @@ front_step low high x xs false e rise rest =
     (sym (ap (λ (b : Bool). if b then [] else x ∷ before_flush xs) e))
     (first_none low high x xs rise, behind_none x xs (before_flush xs) e rest)
 
+-- so of the whole list
 front_none : (low high : ℕ) (xs : List Waiting) → RisesFrom low xs high
     → AllByRecursion (NoneEarlier xs) (before_flush xs)
 front_none low high [] rise = tt
@@ -123,6 +124,7 @@ candidates_by low high x xs false e rise =
     (sym (ap (λ (b : Bool). if b then x ∷ [] else x ∷ before_flush xs) e))
     (first_none low high x xs rise, behind_none x xs (before_flush xs) e (front_none (x.bio + 1) high xs rise.2))
 
+-- so of what waits
 candidates_none : (low high : ℕ) (xs : List Waiting) → RisesFrom low xs high
     → AllByRecursion (NoneEarlier xs) (candidates xs)
 candidates_none low high [] rise = tt
@@ -208,7 +210,7 @@ not_delivered earlier disk b (start, e, is, some, same) =
 
 -- One entry
 
--- what waits doesn't change, and nothing is taken
+-- what the disk takes by it, where its bio is the next, and what then waits
 module _ (w : World) (firm : Firm w) (log : List Entry) (e : Entry) (disk : ℕ)
     (made : step w e.seat e.step ≡ Ok (after_entry w e, e.outcome))
     (next : (b : ℕ) → e.step ≡ steps.Take disk b → IsNext w log disk b) where
@@ -216,15 +218,19 @@ module _ (w : World) (firm : Firm w) (log : List Entry) (e : Entry) (disk : ℕ)
   abbrev before : List Waiting
   before = waiting_for w disk
 
+  -- what waits then
   abbrev waiting_then : List Waiting
   waiting_then = waiting_for (after_entry w e) disk
 
+  -- the head before
   abbrev head : ℕ
   head = head_of log disk
 
+  -- how what waits changes
   changes : WaitingChanges disk e.step e.outcome before waiting_then
   changes = steps_change_waiting w (after_entry w e) e.seat disk e.step e.outcome firm made
 
+  -- its numbers rise
   rises : RisesFrom 0 before w.next_bio
   rises =
       waiting_rises w disk 0 w.next_bio w.bios
@@ -246,14 +252,17 @@ module _ (w : World) (firm : Firm w) (log : List Entry) (e : Entry) (disk : ℕ)
     by_take : (b : ℕ) × (e.step ≡ steps.Take disk b)
     by_take = changes.asked_by_take (subst (λ (o : Outcome). IsTrue (is_asked disk o)) (sym is) here)
 
+    -- the number of it
     abbrev b : ℕ
     b = by_take.0
 
+    -- it waited, and is asked for
     asks : (x : Waiting) × Contains before x × (x.bio ≡ b) × Asks x e.outcome
     asks =
         takes_ask_waiting w (after_entry w e) e.seat disk b e.outcome firm
         (subst (λ (s : Step). step w e.seat s ≡ Ok (after_entry w e, e.outcome)) by_take.1 made)
 
+    -- with its first sector and its kind
     asks_so : (q.first ≡ asks.0.first) × (is_flush q.cmd ≡ asks.0.flush)
     asks_so = subst (Asks asks.0) is asks.3
 
@@ -261,6 +270,7 @@ module _ (w : World) (firm : Firm w) (log : List Entry) (e : Entry) (disk : ℕ)
     its_next : IsNext w log disk b
     its_next = next b by_take.1
 
+    -- so it is the one that is asked for
     same : its_next.one ≡ asks.0
     same =
         next_holds (λ (y : Waiting). (y.bio == b) ≡ true → y ≡ asks.0) head before its_next.one
@@ -331,36 +341,47 @@ module _ (w : World) (firm : Firm w) (log : List Entry) (e : Entry) (disk : ℕ)
 
 -- Along a log
 
-module _ (plan : Plan) (facts : List (ℕ × ℕ)) (is_plan : IsPlan plan) (fit : FactsFit plan facts) (log : List Entry)
-    (legal : Legal (opening plan facts) log) (follows : FollowsOrder sweep_order (opening plan facts) [] log) where
+module _ (plan : Plan) (facts : List (ℕ × ℕ)) (is_plan : IsPlan plan) (fit : FactsFit plan facts)
+    (first_part log : List Entry) (legal : Legal (opening plan facts) (first_part ++ log))
+    (follows : FollowsOrder sweep_order (opening plan facts) first_part log) where
+  -- the mesh before all
   abbrev opened : World
   opened = opening plan facts
 
-  -- the mesh before an entry
-  abbrev world_at : List Entry → World
-  world_at earlier = replay opened earlier
+  -- all that was done before an entry
+  abbrev so_far : List Entry → List Entry
+  so_far earlier = first_part ++ earlier
 
+  -- the mesh before it
+  abbrev world_at : List Entry → World
+  world_at earlier = replay opened (so_far earlier)
+
+  -- it is firm
   firm_at : (earlier : List Entry) → Firm (world_at earlier)
-  firm_at earlier = firm_after plan facts is_plan fit earlier
+  firm_at earlier = firm_after plan facts is_plan fit (so_far earlier)
 
   module _ (earlier : List Entry) (e : Entry) (split : IsSplitBy log earlier e) where
     -- the bio of a Take is next
-    next_at : (disk b : ℕ) → e.step ≡ steps.Take disk b → IsNext (world_at earlier) earlier disk b
+    next_at : (disk b : ℕ) → e.step ≡ steps.Take disk b → IsNext (world_at earlier) (so_far earlier) disk b
     next_at disk b is =
         elim ((follows earlier e split).was_due) [
-          | inl due_now ↦ due (world_at earlier) earlier e.step due_now disk b is
-          | inr behind ↦ absurd (not_delivered earlier disk b (subst (FollowsTake earlier) is behind))
+          | inl due_now ↦ due (world_at earlier) (so_far earlier) e.step due_now disk b is
+          | inr behind ↦ absurd (not_delivered (so_far earlier) disk b (subst (FollowsTake (so_far earlier)) is behind))
         ]
 
     -- the entry is what its step does
     made_at : step (world_at earlier) e.seat e.step ≡ Ok (after_entry (world_at earlier) e, e.outcome)
     made_at =
+        let all : first_part ++ log ≡ so_far earlier ++ (e ∷ split.0) =
+        ap (λ (xs : List Entry). first_part ++ xs) split.1 ∙ sym (append_assoc first_part earlier (e ∷ split.0)) in
         entry_made (world_at earlier) e
-        (Legal-back opened earlier (e ∷ split.0) (subst (Legal opened) split.1 legal)).0
+        (Legal-back opened (so_far earlier) (e ∷ split.0) (subst (Legal opened) all legal)).0
 
   -- no FLUSH that waits for longer is passed
-  none_passes_flush : NonePassesFlush opened log
-  none_passes_flush earlier e split disk b is =
+  passes_none : (earlier : List Entry) (e : Entry) → IsSplitBy log earlier e → (disk b : ℕ)
+      → e.step ≡ steps.Take disk b
+      → All (λ x. IsTrue x.flush → b ≤ x.bio) (waiting_for (world_at earlier) disk)
+  passes_none earlier e split disk b is =
       let w : World = world_at earlier in
       let one = next_at earlier e split disk b is in
       let rise : RisesFrom 0 (waiting_for w disk) w.next_bio =
@@ -369,40 +390,52 @@ module _ (plan : Plan) (facts : List (ℕ × ℕ)) (is_plan : IsPlan plan) (fit 
       All-from_recursion (λ (x : Waiting). IsTrue x.flush → b ≤ x.bio) (waiting_for w disk)
       (weaker (λ (x : Waiting). x.flush ≡ true → one.one.bio ≤ x.bio) (λ (x : Waiting). IsTrue x.flush → b ≤ x.bio)
       (λ x low flush. subst (λ (n : ℕ). n ≤ x.bio) one.number (low flush)) (waiting_for w disk)
-      (among_candidates (NoneEarlier (waiting_for w disk)) (head_of earlier disk) (candidates (waiting_for w disk))
-      one.one (candidates_none 0 w.next_bio (waiting_for w disk) rise) one.next))
+      (among_candidates (NoneEarlier (waiting_for w disk)) (head_of (so_far earlier) disk)
+      (candidates (waiting_for w disk)) one.one (candidates_none 0 w.next_bio (waiting_for w disk) rise) one.next))
+
+  -- so from the mesh on with which the part begins
+  none_passes_flush : NonePassesFlush (replay opened first_part) log
+  none_passes_flush earlier e split disk b is =
+      subst (λ (w : World). All (λ x. IsTrue x.flush → b ≤ x.bio) (waiting_for w disk))
+      (replay-append opened first_part earlier) (passes_none earlier e split disk b is)
 
   -- what a disk takes of what waits
   takes_from : (disk : ℕ) (run earlier later : List Entry) → log ≡ earlier ++ (run ++ later)
       → AllByRecursion (λ (e : Entry). breaks_run disk e.outcome ≡ false) run
-      → TakesFrom (head_of earlier disk) (waiting_for (world_at earlier) disk) (places_asked disk run)
+      → TakesFrom (head_of (so_far earlier) disk) (waiting_for (world_at earlier) disk) (places_asked disk run)
   takes_from disk [] earlier later is quiet = tt
   takes_from disk (e ∷ run) earlier later is quiet =
       let w : World = world_at earlier in
       let split : IsSplitBy log earlier e = (run ++ later, is) in
-      let further : log ≡ (earlier ++ e ∷ []) ++ (run ++ later) = is ∙ sym (append_assoc earlier (e ∷ []) (run ++ later)) in
+      let further : log ≡ (earlier ++ e ∷ []) ++ (run ++ later) =
+      is ∙ sym (append_assoc earlier (e ∷ []) (run ++ later)) in
+      let more : so_far (earlier ++ e ∷ []) ≡ so_far earlier ++ e ∷ [] =
+      sym (append_assoc first_part earlier (e ∷ [])) in
       let rest = takes_from disk run (earlier ++ e ∷ []) later further quiet.1 in
-      let head_then : head_of (earlier ++ e ∷ []) disk ≡ head_after disk (head_of earlier disk) e.outcome =
-      fold-append (λ head (x : Entry). head_after disk head x.outcome) 0 earlier (e ∷ []) in
-      let world_then : world_at (earlier ++ e ∷ []) ≡ after_entry w e = replay-append opened earlier (e ∷ []) in
-      let rest_then : TakesFrom (head_after disk (head_of earlier disk) e.outcome)
+      let head_then : head_of (so_far (earlier ++ e ∷ [])) disk
+      ≡ head_after disk (head_of (so_far earlier) disk) e.outcome =
+      ap (λ (xs : List Entry). head_of xs disk) more
+      ∙ fold-append (λ head (x : Entry). head_after disk head x.outcome) 0 (so_far earlier) (e ∷ []) in
+      let world_then : world_at (earlier ++ e ∷ []) ≡ after_entry w e =
+      ap (replay opened) more ∙ replay-append opened (so_far earlier) (e ∷ []) in
+      let rest_then : TakesFrom (head_after disk (head_of (so_far earlier) disk) e.outcome)
       (waiting_for (after_entry w e) disk) (places_asked disk run) =
       subst (λ (n : ℕ). TakesFrom n (waiting_for (after_entry w e) disk) (places_asked disk run)) head_then
-      (subst (λ (v : World). TakesFrom (head_of (earlier ++ e ∷ []) disk) (waiting_for v disk) (places_asked disk run))
-      world_then rest) in
-      entry_by w (firm_at earlier) earlier e disk (made_at earlier e split) (next_at earlier e split disk) e.outcome
-      refl quiet.0 run rest_then
+      (subst (λ (v : World). TakesFrom (head_of (so_far (earlier ++ e ∷ [])) disk) (waiting_for v disk)
+      (places_asked disk run)) world_then rest) in
+      entry_by w (firm_at earlier) (so_far earlier) e disk (made_at earlier e split) (next_at earlier e split disk)
+      e.outcome refl quiet.0 run rest_then
 
   -- so the place falls at most once
   falls_once : FallsOnce log
   falls_once disk earlier run later is quiet =
-      takes_fall_once (head_of earlier disk) (waiting_for (world_at earlier) disk) (places_asked disk run)
+      takes_fall_once (head_of (so_far earlier) disk) (waiting_for (world_at earlier) disk) (places_asked disk run)
       (takes_from disk run earlier later (is ∙ append_assoc earlier run later)
       (recursion_from_All (λ (e : Entry). breaks_run disk e.outcome ≡ false) run quiet))
 
 -- the elevator order keeps places
 pub sweeps_keep_places : SweepsKeepPlaces
-sweeps_keep_places plan facts is fit log legal follows = record {
-  falls_once = falls_once plan facts is fit log legal follows;
-  none_passes = none_passes_flush plan facts is fit log legal follows;
+sweeps_keep_places plan facts is fit first_part log legal follows = record {
+  falls_once = falls_once plan facts is fit first_part log legal follows;
+  none_passes = none_passes_flush plan facts is fit first_part log legal follows;
 }

@@ -185,6 +185,7 @@ module _ (w : World) (firm : Firm w) where
       abbrev NoChild : ℕ → Bio → Type 0
       NoChild n y = is_sent y.phase ≡ true → not (is_child_of y.owner n) ≡ true
 
+      -- by whether it is a child
       child_by : (n : ℕ) → is_complete gathered n ≡ true → (y : Bio) → Contains gathered.bios y → (b : Bool)
           → is_child_of y.owner n ≡ b → NoChild n y
       child_by n complete y here false e sent = rw e refl

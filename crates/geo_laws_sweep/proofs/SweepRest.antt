@@ -17,6 +17,7 @@ use Rattle.std.specs.List.{range_with_len}
 use Rattle.geo_headline.specs.Sweep.{pick_sweep, next_take, first_take, enabled_one}
 use Rattle.geo_laws_sweep.specs.SweepLaws.{SweepEnds}
 
+-- an option that is empty
 none : {X : Type 0} (o : Option X) → is_none o ≡ true → o ≡ None
 none None e = refl
 none (Some x) e = cc
@@ -31,6 +32,7 @@ ready-cons w k rest others true e all so =
     let is : rest ≡ [] = nil_from_length rest (eqb-true (length rest) 0 e) in rw is (so (rw e at all))
 ready-cons w k rest others false e all so = let no : false ≡ true = rw e at all in cc
 
+-- so none of them is
 none-ready : (w : World) (k : ℕ) (actors : List (List LineCommand))
     → list_all (λ (xs : List LineCommand). length xs == 0) actors ≡ true
     → flat_map (ready_actor w) (enumerate_from k actors) ≡ []
@@ -38,30 +40,37 @@ none-ready w k [] all = refl
 none-ready w k (rest ∷ others) all =
     ready-cons w k rest others (length rest == 0) refl all (none-ready w (k + 1) others)
 
+-- of eight options that are empty none is first
 all-none : (a b c d e f g h : Option Step) → a ≡ None → b ≡ None → c ≡ None → d ≡ None → e ≡ None → f ≡ None
     → g ≡ None → h ≡ None
     → first_some (a ∷ b ∷ c ∷ d ∷ e ∷ f ∷ g ∷ h ∷ []) ≡ None
 all-none a b c d e f g h ea eb ec ed ee ef eg eh = rw (ea, eb, ec, ed, ee, ef, eg, eh) refl
 
+-- without bios no bio makes a step
 no-bio : (w : World) (test : Bio → Bool) (to_step : Bio → Step) → w.bios ≡ [] → first_bio w test to_step ≡ None
 no-bio w test to_step e = rw e refl
 
+-- without a taste there is no Judge
 no-judge : (w : World) → w.taste ≡ None → if_enabled w steps.Judge ≡ None
 unfolding step judge_next
 no-judge w e = rw e refl
 
+-- without events there is no Event
 no-event : (w : World) → w.taste ≡ None → w.events ≡ [] → if_enabled w steps.Event ≡ None
 unfolding step event
 no-event w t e = rw (t, e) refl
 
+-- where nothing can be reaped there is no Reap
 no-reap : (w : World) → reap_work w ≡ None → if_enabled w steps.Reap ≡ None
 unfolding step reap_next
 no-reap w e = rw e refl
 
+-- where nothing can be washed there is no Wash
 no-wash : (w : World) → wash_work w ≡ None → if_enabled w steps.Wash ≡ None
 unfolding step wash_next
 no-wash w e = rw e refl
 
+-- where none is ready there is no Go
 no-go : (w : World) → ready_actors w ≡ [] → option_map (λ actor. steps.Go actor) (earliest (ready_actors w)) ≡ None
 no-go w e = rw e refl
 
@@ -69,18 +78,22 @@ no-go w e = rw e refl
 none-first : (a : Option Step) (rest : List (Option Step)) → a ≡ None → first_some rest ≡ None → first_some (a ∷ rest) ≡ None
 none-first a rest e so = rw e so
 
+-- so of all disks
 no-takes : (w : World) (log : List Entry) (disks : List ℕ) → w.bios ≡ []
     → first_some (map (next_take w log) disks) ≡ None
 no-takes w log [] e = refl
 no-takes w log (d ∷ ds) e =
     none-first (next_take w log d) (map (next_take w log) ds) (rw e refl) (no-takes w log ds e)
 
+-- where there is no step, none is enabled
 one-none : (w : World) (o : Option Step) → o ≡ None → enabled_one w o ≡ None
 one-none w o e = rw e refl
 
+-- without bios there is no Take
 no-take : (w : World) (log : List Entry) → w.bios ≡ [] → enabled_one w (first_take w log) ≡ None
 no-take w log e = one-none w (first_take w log) (no-takes w log (range_with_len 0 (length w.disks)) e)
 
+-- so at rest there is no step
 pub sweep_ends : SweepEnds
 unfolding is_at_rest pick_sweep
 sweep_ends w log rest =

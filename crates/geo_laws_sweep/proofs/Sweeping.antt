@@ -54,6 +54,7 @@ none_of : (f : ℕ → Option Step) (d : ℕ) (ds : List ℕ) (o : Option Step) 
 none_of f d ds None is e rest = (is, rest e)
 none_of f d ds (Some s) is e rest = absurd (let no : ⊥ = cc in no)
 
+-- so for all disks
 first_none : (f : ℕ → Option Step) (ds : List ℕ) → first_some (map f ds) ≡ None
     → AllByRecursion (λ (d : ℕ). f d ≡ None) ds
 first_none f [] e = tt
@@ -69,6 +70,7 @@ range_step P a d false e here low rest =
     let same : a ≡ d = omega (arith, low, less) in
     subst P same here
 
+-- so for the whole range
 range_at : (P : ℕ → Type 0) (a n d : ℕ) → AllByRecursion P (range_with_len a n) → a ≤ d → d < a + n → P d
 range_at P a zero d all low high = absurd (omega (arith, low, high))
 range_at P a (suc n) d all low high =
@@ -173,6 +175,7 @@ module _ (w : World) (firm : Firm w) where
         subst (λ (n : ℕ). is_enabled w 0 (steps.Take n x.number) ≡ true) same
         (take_by w firm x found sent (Some d) at (free_by w firm idle d (busy_bio w d) refl))
 
+    -- so what waits for a disk
     sent_to : (disk : ℕ) (x : Bio) → Contains w.bios x → is_sent_to w disk x ≡ true
         → is_enabled w 0 (steps.Take disk x.number) ≡ true
     sent_to disk x here is =
@@ -183,6 +186,7 @@ module _ (w : World) (firm : Firm w) where
     abbrev CanBeTaken : ℕ → Waiting → Type 0
     CanBeTaken disk y = is_enabled w 0 (steps.Take disk y.bio) ≡ true
 
+    -- each can be taken
     all_can : (disk : ℕ) → AllByRecursion (CanBeTaken disk) (waiting_for w disk)
     all_can disk =
         All-from_contained (CanBeTaken disk) (waiting_for w disk) (λ y waits.

@@ -35,15 +35,19 @@ module _ (w v : World) (firm : Firm w) (seat b : ℕ) (o : Outcome) (made : step
   it : StartsIt w v b o
   it = starts_it w v seat b o made
 
+  -- it itself
   abbrev started : Bio
   started = it.bio
 
+  -- it has the number
   its_number : started.number ≡ b
   its_number = number_found (λ (y : Bio). y.number) w.bios b started it.found
 
+  -- it is not Sent
   not_yet : is_sent started.phase ≡ false
   not_yet = ap is_sent it.down
 
+  -- nor is another of its number
   quiet : NotSentAt started.number w.bios
   quiet =
       found_not_sent w.next_bio started.number w.bios started firm.sound.numbers.bios
@@ -100,6 +104,7 @@ module _ (w v : World) (firm : Firm w) (seat b : ℕ) (o : Outcome) (made : step
       Stays (split_same (note_started w.topology g) targets (ap (λ (m : World × Outcome). m.0.bios) is))
       (ap (λ (m : World × Outcome). is_to_disk m.1) is)
 
+  -- so by its way
   starts : Starts
   starts = starts_by (way_of w.topology started) refl it.made
 
@@ -114,12 +119,14 @@ module _ (w v : World) (firm : Firm w) (seat b : ℕ) (o : Outcome) (made : step
     abbrev seen_of : List Bio → List Waiting
     seen_of xs = filter_map (look w.topology disk) xs
 
+    -- what waited
     before_is : (one : OneSent started.number (as_sent started) (sent_in w.bios) (sent_in v.bios))
         → waiting_for w disk ≡ seen_of one.front ++ seen_of one.back
     before_is one =
         waiting_seen w disk ∙ ap seen_of one.was
         ∙ filter_map-append (look w.topology disk) one.front one.back
 
+    -- what waits then
     after_is : (one : OneSent started.number (as_sent started) (sent_in w.bios) (sent_in v.bios))
         → v.topology ≡ w.topology
         → waiting_for v disk ≡ seen_of one.front ++ seen_of (as_sent started ∷ one.back)
@@ -166,6 +173,7 @@ module _ (w v : World) (firm : Firm w) (seat b : ℕ) (o : Outcome) (made : step
     queued_by : Starts → IsTrue (is_queued disk o) → OneMore b (waiting_for w disk) (waiting_for v disk)
     queued_by (Stays same none) queued = absurd (quiet_queues o none queued)
       where
+        -- an outcome that is neither
         quiet_queues : (p : Outcome) → is_to_disk p ≡ false → IsTrue (is_queued disk p) → ⊥
         quiet_queues (outcomes.Queued d) none queued = let no : ⊥ = cc in no
         quiet_queues (outcomes.Asked q) none queued = let no : ⊥ = cc in no
@@ -187,16 +195,20 @@ module _ (w v : World) (firm : Firm w) (seat other b : ℕ) (o : Outcome)
   taking : TakesIt w v seat other b o
   taking = takes_it w v seat other b o made
 
+  -- it itself
   abbrev taken : Bio
   taken = taking.bio
 
+  -- it has the number
   taken_number : taken.number ≡ b
   taken_number = number_found (λ (y : Bio). y.number) w.bios b taken taking.found
 
+  -- it is Busy then
   taken_bios : v.bios ≡ change_number taken.number (λ y. record y { phase = phases.Busy seat }) w.bios
   unfolding take_bio
   taken_bios = ap (λ (m : World × Outcome). m.0.bios) taking.made
 
+  -- the disk is asked for it
   taken_asks : o ≡ outcomes.Asked (request_of_bio w other taken)
   unfolding take_bio
   taken_asks = ap (λ (m : World × Outcome). m.1) taking.made
@@ -227,6 +239,7 @@ module _ (w v : World) (firm : Firm w) (seat other b : ℕ) (o : Outcome)
         ap (λ (y : Bio). disk_at w.topology y.target) only ∙ taking.can.disk_is in
         rw goes (rw apart refl)
 
+    -- by whether it has the number
     unseen : (x : Bio) (c : Bool) → (x.number == b) ≡ c → Contains w.bios x → (other == disk) ≡ false
         → is_other_bio b x ≡ false → look w.topology disk x ≡ None
     unseen x true hit here apart goes = not_seen_by x hit here apart
@@ -295,10 +308,12 @@ module _ (w v : World) (firm : Firm w) (seat disk : ℕ) (o : Outcome) where
   not_queued : (s : Step) → starts_or_takes s ≡ false → step w seat s ≡ Ok (v, o) → IsTrue (is_queued disk o) → ⊥
   not_queued s other made = quiet_queues o (others_not_to_disk w v seat s o other made)
     where
+      -- an outcome that is neither
       quiet_queues : (p : Outcome) → is_to_disk p ≡ false → IsTrue (is_queued disk p) → ⊥
       quiet_queues (outcomes.Queued d) none queued = let no : ⊥ = cc in no
       quiet_queues _ none queued = let no : ⊥ = cc in no
 
+  -- so by the step
   by_start : (s : Step) → step w seat s ≡ Ok (v, o) → IsTrue (is_queued disk o) → (b : ℕ) × (s ≡ steps.Start b)
   by_start (steps.Start b) made queued = (b, refl)
   by_start (steps.Take other b) made queued =
@@ -318,15 +333,18 @@ module _ (w v : World) (firm : Firm w) (seat disk : ℕ) (o : Outcome) where
   quiet_asks (outcomes.Asked q) none asked = let no : ⊥ = cc in no
   quiet_asks _ none asked = let no : ⊥ = cc in no
 
+  -- nor does a step that is neither
   not_asked : (s : Step) → starts_or_takes s ≡ false → step w seat s ≡ Ok (v, o) → IsTrue (is_asked disk o) → ⊥
   not_asked s other made = quiet_asks o (others_not_to_disk w v seat s o other made)
 
+  -- nor does a Start
   start_asks : (b : ℕ) (made : step w seat (steps.Start b) ≡ Ok (v, o)) → Starts w v firm seat b o made
       → IsTrue (is_asked disk o) → ⊥
   start_asks b made (Stays same none) asked = quiet_asks o none asked
   start_asks b made (Comes d to at graph one) asked =
       let no : IsTrue false = subst (λ (p : Outcome). IsTrue (is_asked disk p)) to asked in let bad : ⊥ = cc in bad
 
+  -- so by the step
   by_take : (s : Step) → step w seat s ≡ Ok (v, o) → IsTrue (is_asked disk o) → (b : ℕ) × (s ≡ steps.Take disk b)
   by_take (steps.Take other b) made asked =
       let here : (other == disk) ≡ true =

@@ -1,5 +1,5 @@
 -- What the elevator order keeps.
-use Rattle.std.specs.Prelude.{◌≡◌, ℕ, ◌+◌, ◌≤◌, ◌==◌, nat_lt, Bool, false, not, ◌&&◌, List, [], ◌∷◌, ◌++◌, filter, filter_map, Option, Some, None, Ok, IsTrue, All, Contains, if◌then◌else◌}
+use Rattle.std.specs.Prelude.{◌≡◌, ℕ, ◌+◌, ◌≤◌, ◌==◌, nat_lt, Bool, false, not, ◌&&◌, List, ◌∷◌, ◌++◌, filter, filter_map, Option, Some, None, Ok, IsTrue, All, Contains, if◌then◌else◌}
 use Rattle.geo_model.specs.declared.step.Entry.{Entry}
 use Rattle.geo_model.specs.declared.step.Outcome.{Outcome}
 use Rattle.geo_model.specs.declared.step.Outcome.TheVariants as outcomes
@@ -10,7 +10,7 @@ use Rattle.geo_model.specs.World.{World, Plan}
 use Rattle.geo_model.specs.Opening.{opening}
 use Rattle.geo_model.specs.Plans.{IsPlan, FactsFit}
 use Rattle.geo_model.specs.Step.{step}
-use Rattle.geo_model.specs.Log.{Legal}
+use Rattle.geo_model.specs.Log.{Legal, replay}
 use Rattle.geo_model.specs.Fitting.{Firm}
 use Rattle.geo_model.specs.History.{AtEachEntry}
 use Rattle.geo_model.specs.FixedOrder.{FollowsOrder}
@@ -32,6 +32,7 @@ abbrev pub is_queued : ℕ → Outcome → Bool
 is_queued disk (outcomes.Queued d) = d == disk
 is_queued disk _ = false
 
+-- whether it is a request that was taken for the disk
 abbrev pub is_asked : ℕ → Outcome → Bool
 is_asked disk (outcomes.Asked q) = q.disk == disk
 is_asked disk _ = false
@@ -56,6 +57,7 @@ pub record WaitingChanges (disk : ℕ) (s : Step) (o : Outcome) (before after : 
   pub asked_by_take : IsTrue (is_asked disk o) → (b : ℕ) × (s ≡ steps.Take disk b)
   pub stays : is_queued disk o ≡ false → is_asked disk o ≡ false → after ≡ before
 
+-- so by each step of a firm mesh, by any seat
 abbrev pub StepsChangeWaiting : Type 0
 StepsChangeWaiting =
     (w v : World) (seat disk : ℕ) (s : Step) (o : Outcome) → Firm w → step w seat s ≡ Ok (v, o)
@@ -66,6 +68,7 @@ abbrev pub Asks : Waiting → Outcome → Type 0
 Asks x (outcomes.Asked q) = (q.first ≡ x.first) × (is_flush q.cmd ≡ x.flush)
 Asks x _ = ⊥
 
+-- so does each Take of a firm mesh
 abbrev pub TakesAskWaiting : Type 0
 TakesAskWaiting =
     (w v : World) (seat disk b : ℕ) (o : Outcome) → Firm w → step w seat (steps.Take disk b) ≡ Ok (v, o)
@@ -101,17 +104,19 @@ FallsOnce log =
 
 -- no bio is taken before a FLUSH that waits for the same disk and has a smaller number
 abbrev pub NonePassesFlush : World → List Entry → Type 0
-NonePassesFlush opened log =
-    AtEachEntry opened log (λ w e.
+NonePassesFlush began log =
+    AtEachEntry began log (λ w e.
     (disk b : ℕ) → e.step ≡ steps.Take disk b → All (λ x. IsTrue x.flush → b ≤ x.bio) (waiting_for w disk))
 
--- so in each legal log in this order
-pub record KeepsPlaces (opened : World) (log : List Entry) : Type 0 where
+-- so of a log from a mesh on
+pub record KeepsPlaces (began : World) (log : List Entry) : Type 0 where
   pub falls_once : FallsOnce log
-  pub none_passes : NonePassesFlush opened log
+  pub none_passes : NonePassesFlush began log
 
+-- so in each legal log, for what comes in this order after a first part
 abbrev pub SweepsKeepPlaces : Type 0
 SweepsKeepPlaces =
     (plan : Plan) (facts : List (ℕ × ℕ)) → IsPlan plan → FactsFit plan facts
-    → (log : List Entry) → Legal (opening plan facts) log → FollowsOrder sweep_order (opening plan facts) [] log
-    → KeepsPlaces (opening plan facts) log
+    → (first_part log : List Entry) → Legal (opening plan facts) (first_part ++ log)
+    → FollowsOrder sweep_order (opening plan facts) first_part log
+    → KeepsPlaces (replay (opening plan facts) first_part) log
