@@ -1,0 +1,2 @@
+pub mod MadeAgain
+pub mod YesMeans
