@@ -1,8 +1,7 @@
 -- The steps of a legal log make it again, what steps make is legal, and what a Yes means.
-use Rattle.std.specs.Prelude.{◌≡◌, ℕ, ◌+◌, ◌<◌, ◌≤◌, nat_lt, Bool, true, false, not, List, [], ◌∷◌, length, Option, Some, None, Result, Ok, Err, IsOkAnd, IsTrue, bytes_eq, if◌then◌else◌}
-use Rattle.std.proofs.Common.{refl, sym, ◌∙◌, ap, subst, arith}
+use Rattle.std.specs.Prelude.{◌≡◌, ℕ, List, [], ◌∷◌, Ok, Err, IsOkAnd}
+use Rattle.std.proofs.Common.{refl, sym, subst}
 use Rattle.geo_model.specs.declared.step.Entry.{Entry}
-use Rattle.geo_model.specs.declared.step.Outcome.{Outcome}
 use Rattle.geo_model.specs.declared.step.Step.{Step}
 use Rattle.geo_model.specs.World.{World}
 use Rattle.geo_model.specs.Step.{Answer, step}

@@ -5,12 +5,12 @@ use Rattle.std.proofs.lemmas.Bool.{le-ltb}
 use Rattle.std.proofs.lemmas.List.{length-map}
 use Rattle.geo_base.proofs.Tests.{bytes_eq-same}
 use Rattle.geo_model.specs.declared.step.Entry.{Entry}
-use Rattle.geo_model.specs.World.{World, Plan}
+use Rattle.geo_model.specs.World.{World}
 use Rattle.geo_model.specs.Opening.{opening}
-use Rattle.geo_model.specs.Log.{Legal, replay}
-use Rattle.geo_model.specs.Order.{Rest, is_at_rest}
+use Rattle.geo_model.specs.Log.{replay}
+use Rattle.geo_model.specs.Order.{is_at_rest}
 use Rattle.geo_model.specs.Report.{report}
-use Rattle.geo_headline.specs.Traces.{Trace, ReadTrace, IsTrace, read_trace, steps_of}
+use Rattle.geo_headline.specs.Traces.{Trace, ReadTrace, read_trace, steps_of}
 use Rattle.geo_headline.specs.Verifying.{Yes, verified, found_of, found_read, opened_of, log_of}
 use Rattle.geo_laws_traces.specs.TraceLaws.{LegalIsVerified}
 use Rattle.geo_laws_traces.proofs.MadeAgain.{made_again}

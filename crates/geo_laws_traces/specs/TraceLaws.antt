@@ -1,5 +1,5 @@
 -- What the grammar of traces keeps, and what it means that a trace is verified.
-use Rattle.std.specs.Prelude.{◌≡◌, ℕ, ◌+◌, ◌^◌, ◌<◌, ◌≤◌, List, length, Option, Some, None, Ok, All, IsSomeAnd, ⊤}
+use Rattle.std.specs.Prelude.{◌≡◌, ℕ, ◌+◌, ◌^◌, ◌<◌, ◌≤◌, List, length, Ok, All, ⊤}
 use Rattle.geo_model.specs.declared.step.DeviceResult.{DeviceResult}
 use Rattle.geo_model.specs.declared.step.DeviceResult.TheVariants as devices
 use Rattle.geo_model.specs.declared.step.Entry.{Entry}
@@ -8,15 +8,14 @@ use Rattle.geo_model.specs.declared.step.Step.TheVariants as steps
 use Rattle.geo_model.specs.World.{World, Plan}
 use Rattle.geo_model.specs.Opening.{opening}
 use Rattle.geo_model.specs.Plans.{FactsFit}
-use Rattle.geo_model.specs.Log.{Legal, replay, owed, world_after}
-use Rattle.geo_model.specs.Step.{step}
+use Rattle.geo_model.specs.Log.{Legal, replay, owed}
 use Rattle.geo_model.specs.Order.{Rest}
 use Rattle.geo_model.specs.Report.{report}
 use Rattle.geo_model.specs.Script.{IsScript}
 use Rattle.geo_model.specs.Laws.{OfEachLegalLog, world_by}
 use Rattle.geo_model.specs.Fitting.{Firm}
-use Rattle.geo_headline.specs.Traces.{Trace, ReadTrace, IsTrace, trace_text, read_trace, script_part, steps_of}
-use Rattle.geo_headline.specs.Verifying.{Yes, verified, IsVerified, opened_of, log_of}
+use Rattle.geo_headline.specs.Traces.{Trace, IsTrace, trace_text, script_part, steps_of}
+use Rattle.geo_headline.specs.Verifying.{Yes, verified, IsVerified}
 
 -- Both ways
 
@@ -53,11 +52,15 @@ WrittenIsRead =
 abbrev pub ReadIsWritten : Type 0
 ReadIsWritten = (text : List ℕ) (t : Trace) → IsTrace text t → text ≡ trace_text (script_part text) t
 
--- what is read of a text fits its plan
+-- a trace fits the script before it: the plan is that of the script, the sizes fit the plan, and the steps can be written
+pub record FitsItsScript (text : List ℕ) (t : Trace) : Type 0 where
+  pub reads : IsScript (script_part text) t.plan
+  pub facts : FactsFit t.plan t.facts
+  pub steps : AreWritable t.steps
+
+-- what is read of a text fits its script
 abbrev pub ReadFits : Type 0
-ReadFits =
-    (text : List ℕ) (t : Trace) → IsTrace text t
-    → IsScript (script_part text) t.plan × FactsFit t.plan t.facts × AreWritable t.steps
+ReadFits = (text : List ℕ) (t : Trace) → IsTrace text t → FitsItsScript text t
 
 -- Verified
 

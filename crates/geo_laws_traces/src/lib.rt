@@ -3,7 +3,7 @@
 #![tactic(auto)]
 
 ghost use Rattle.geo_headline.specs.Verifying.{MadeAgain, MadeIsLegal};
-ghost use Rattle.geo_laws_traces.specs.TraceLaws.{LegalIsVerified};
+ghost use Rattle.geo_laws_traces.specs.TraceLaws.{LegalIsVerified, ReadFits, ReadIsWritten, WrittenIsRead};
 
 /// The steps of a legal log make it again.
 #[tactic(auto, using(crate::proofs::MadeAgain::made_again))]
@@ -21,4 +21,21 @@ pub fn what_steps_make_is_legal()
 #[tactic(auto, using(crate::proofs::YesMeans::legal_is_verified))]
 pub fn traces_of_legal_logs_are_verified()
     ensures { LegalIsVerified }
+{}
+
+/// What is written as a trace is read as it, whatever report it has.
+#[tactic(auto, using(crate::proofs::Written::written_is_read))]
+pub fn what_is_written_is_read()
+    ensures { WrittenIsRead }
+{}
+
+/// What is read as a trace was written as it, so that a trace has one text for each text of its script.
+#[tactic(auto, using(crate::proofs::Told::read_is_written))]
+pub fn what_is_read_was_written()
+    ensures { ReadIsWritten }
+{}
+
+/// What is read as a trace is a script, with sizes that fit its plan and steps whose numbers are within their ranges.
+pub fn what_is_read_fits()
+    ensures { ReadFits }
 {}

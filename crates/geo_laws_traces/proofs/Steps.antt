@@ -1,0 +1,202 @@
+-- The lines of steps: those that are written are read, and the other way round.
+use Rattle.std.specs.Prelude.{◌≡◌, ℕ, ◌^◌, ◌<◌, ◌≤◌, nat_lt, true, List, [], ◌∷◌, ◌++◌, length, Ok, codes, decimal}
+use Rattle.std.specs.List.{AllByRecursion}
+use Rattle.std.proofs.Common.{refl, sym, ◌∙◌, ap, arith, rules}
+use Rattle.std.proofs.lemmas.Bool.{lt-ltb}
+use Rattle.std.proofs.lemmas.List.{append_assoc}
+use Rattle.geo_base.specs.Runs.{runs_text}
+use Rattle.geo_model.specs.declared.step.DeviceResult.{DeviceResult}
+use Rattle.geo_model.specs.declared.step.DeviceResult.TheVariants as devices
+use Rattle.geo_model.specs.declared.step.Step.{Step}
+use Rattle.geo_model.specs.declared.step.Step.TheVariants as steps
+use Rattle.geo_model.specs.Script.{◌>>=◌, Words, any_number, at_end, by_word, words_of}
+use Rattle.geo_headline.specs.Traces.{answer_text, step_text, step_line, small_number, answer_table, step_table, seat_and_step, marked}
+use Rattle.geo_laws_traces.specs.TraceLaws.{IsWritable, IsWritableAnswer}
+use Rattle.geo_laws_traces.proofs.Words.{IsWord, AreWords, line_of, some_word, are_words, words_back, line_back, number_word, number_unended, ranged_back}
+use Rattle.geo_laws_traces.proofs.Runs.{IsUnended, runs_back, text_unended, line_unended}
+
+-- The words that are written
+
+-- the words of a device's answer
+abbrev pub answer_words : DeviceResult → Words
+answer_words devices.Done = codes "done" ∷ []
+answer_words (devices.Failed done) = codes "failed" ∷ decimal done ∷ []
+answer_words (devices.Bytes bytes) = codes "bytes" ∷ words_of (runs_text bytes)
+
+-- those of a step
+abbrev pub step_words : Step → Words
+step_words (steps.Go actor) = codes "go" ∷ decimal actor ∷ []
+step_words steps.Event = codes "event" ∷ []
+step_words steps.Judge = codes "judge" ∷ []
+step_words steps.Reap = codes "reap" ∷ []
+step_words steps.Wash = codes "wash" ∷ []
+step_words (steps.Start b) = codes "start" ∷ decimal b ∷ []
+step_words (steps.Take disk b) = codes "take" ∷ decimal disk ∷ decimal b ∷ []
+step_words (steps.Deliver b got) = codes "deliver" ∷ decimal b ∷ answer_words got
+step_words (steps.Up b) = codes "up" ∷ decimal b ∷ []
+
+-- those of a seat and its step, behind the mark
+abbrev pub item_words : ℕ × Step → Words
+item_words item = codes "%" ∷ decimal item.0 ∷ step_words item.1
+
+-- a word before others in a line
+pub line_more : (word : List ℕ) (words : Words) → 1 ≤ length words → line_of (word ∷ words) ≡ word ++ 32 ∷ line_of words
+line_more word [] some = absurd (omega arith)
+line_more word (next ∷ words) some = refl
+
+-- a text behind a space
+behind_space : (front back : List ℕ) → front ++ codes " " ++ back ≡ front ++ 32 ∷ back
+behind_space front back = append_assoc front (32 ∷ []) back
+
+-- an answer's text is the line of its words
+answer_spelled : (got : DeviceResult) → answer_text got ≡ line_of (answer_words got)
+answer_spelled devices.Done = refl
+answer_spelled (devices.Failed done) = refl
+answer_spelled (devices.Bytes bytes) =
+    sym (line_more (codes "bytes") (words_of (runs_text bytes)) (some_word (runs_text bytes))
+    ∙ ap (λ (xs : List ℕ). codes "bytes" ++ 32 ∷ xs) (line_back (runs_text bytes)))
+
+-- an answer has a word
+some_answer : (got : DeviceResult) → 1 ≤ length (answer_words got)
+some_answer devices.Done = omega arith
+some_answer (devices.Failed done) = omega arith
+some_answer (devices.Bytes bytes) = omega arith
+
+-- a step's text is the line of its words
+step_spelled : (s : Step) → step_text s ≡ line_of (step_words s)
+step_spelled (steps.Go actor) = refl
+step_spelled steps.Event = refl
+step_spelled steps.Judge = refl
+step_spelled steps.Reap = refl
+step_spelled steps.Wash = refl
+step_spelled (steps.Start b) = refl
+step_spelled (steps.Take disk b) = ap (λ (xs : List ℕ). codes "take " ++ xs) (behind_space (decimal disk) (decimal b))
+step_spelled (steps.Deliver b got) =
+    ap (λ (xs : List ℕ). codes "deliver " ++ xs)
+    (behind_space (decimal b) (answer_text got)
+    ∙ ap (λ (xs : List ℕ). decimal b ++ 32 ∷ xs) (answer_spelled got)
+    ∙ sym (line_more (decimal b) (answer_words got) (some_answer got)))
+step_spelled (steps.Up b) = refl
+
+-- a step has a word
+some_step : (s : Step) → 1 ≤ length (step_words s)
+some_step (steps.Go actor) = omega arith
+some_step steps.Event = omega arith
+some_step steps.Judge = omega arith
+some_step steps.Reap = omega arith
+some_step steps.Wash = omega arith
+some_step (steps.Start b) = omega arith
+some_step (steps.Take disk b) = omega arith
+some_step (steps.Deliver b got) = omega arith
+some_step (steps.Up b) = omega arith
+
+-- the line of a step is that of its words
+pub line_spelled : (item : ℕ × Step) → step_line item ≡ line_of (item_words item) ++ 10 ∷ []
+line_spelled item =
+    ap (λ (xs : List ℕ). codes "% " ++ xs ++ 10 ∷ [])
+    (behind_space (decimal item.0) (step_text item.1)
+    ∙ ap (λ (xs : List ℕ). decimal item.0 ++ 32 ∷ xs) (step_spelled item.1)
+    ∙ sym (line_more (decimal item.0) (step_words item.1) (some_step item.1)))
+
+-- Each is a word, with no line feed in it
+
+-- words of which none has a space or a line feed
+pub record AreClean (words : Words) : Type 0 where
+  pub spaceless : AreWords words
+  pub unended : AllByRecursion IsUnended words
+
+-- words behind a word that is known
+clean_behind : (word : List ℕ) (words : Words) → IsWord word → IsUnended word → AreClean words → AreClean (word ∷ words)
+clean_behind word words is unended are = record { spaceless = (is, are.spaceless); unended = (unended, are.unended) }
+
+-- words behind a number
+clean_number : (n : ℕ) (words : Words) → n < 2 ^ 64 → AreClean words → AreClean (decimal n ∷ words)
+clean_number n words fits are = clean_behind (decimal n) words (number_word n fits) (number_unended n fits) are
+
+-- no words
+clean_none : AreClean []
+clean_none = record { spaceless = tt; unended = tt }
+
+-- those of an answer
+clean_answer : (got : DeviceResult) → IsWritableAnswer got → AreClean (answer_words got)
+clean_answer devices.Done fits = record { spaceless = search rules; unended = search rules }
+clean_answer (devices.Failed done) fits =
+    clean_behind (codes "failed") (decimal done ∷ []) (search rules) (search rules)
+    (clean_number done [] (omega (arith, fits)) clean_none)
+clean_answer (devices.Bytes bytes) fits =
+    clean_behind (codes "bytes") (words_of (runs_text bytes)) (search rules) (search rules)
+    (record { spaceless = are_words (runs_text bytes); unended = text_unended bytes fits })
+
+-- those of a step
+clean_step : (s : Step) → IsWritable s → AreClean (step_words s)
+clean_step (steps.Go actor) fits =
+    clean_behind (codes "go") (decimal actor ∷ []) (search rules) (search rules)
+    (clean_number actor [] (omega (arith, fits)) clean_none)
+clean_step steps.Event fits = record { spaceless = search rules; unended = search rules }
+clean_step steps.Judge fits = record { spaceless = search rules; unended = search rules }
+clean_step steps.Reap fits = record { spaceless = search rules; unended = search rules }
+clean_step steps.Wash fits = record { spaceless = search rules; unended = search rules }
+clean_step (steps.Start b) fits =
+    clean_behind (codes "start") (decimal b ∷ []) (search rules) (search rules) (clean_number b [] fits clean_none)
+clean_step (steps.Take disk b) fits =
+    clean_behind (codes "take") (decimal disk ∷ decimal b ∷ []) (search rules) (search rules)
+    (clean_number disk (decimal b ∷ []) (omega (arith, fits.0)) (clean_number b [] fits.1 clean_none))
+clean_step (steps.Deliver b got) fits =
+    clean_behind (codes "deliver") (decimal b ∷ answer_words got) (search rules) (search rules)
+    (clean_number b (answer_words got) fits.0 (clean_answer got fits.1))
+clean_step (steps.Up b) fits =
+    clean_behind (codes "up") (decimal b ∷ []) (search rules) (search rules) (clean_number b [] fits clean_none)
+
+-- a seat and a step that can be written
+abbrev pub IsWritableItem : ℕ × Step → Type 0
+IsWritableItem item = (item.0 < 2 ^ 32) × IsWritable item.1
+
+-- those of a seat and its step
+pub clean_item : (item : ℕ × Step) → IsWritableItem item → AreClean (item_words item)
+clean_item item fits =
+    clean_behind (codes "%") (decimal item.0 ∷ step_words item.1) (search rules) (search rules)
+    (clean_number item.0 (step_words item.1) (omega (arith, fits.0)) (clean_step item.1 fits.1))
+
+-- What is written is read
+
+-- a small number
+small_back : (n : ℕ) (words : Words) → n < 2 ^ 32 → small_number (decimal n ∷ words) ≡ Ok (n, words)
+small_back n words fits = ranged_back (λ n. nat_lt n (2 ^ 32)) n words (omega (arith, fits)) (lt-ltb n (2 ^ 32) fits)
+
+-- any number
+any_back : (n : ℕ) (words : Words) → n < 2 ^ 64 → any_number (decimal n ∷ words) ≡ Ok (n, words)
+any_back n words fits = ranged_back (λ n. true) n words fits refl
+
+-- a device's answer
+answer_back : (got : DeviceResult) → IsWritableAnswer got → by_word answer_table (answer_words got) ≡ Ok got
+answer_back devices.Done fits = refl
+answer_back (devices.Failed done) fits = ap (λ r. r >>= λ n. at_end (devices.Failed n.0) n.1) (small_back done [] fits)
+answer_back (devices.Bytes bytes) fits = ap (λ r. r >>= λ b. at_end (devices.Bytes b.0) b.1) (runs_back bytes fits)
+
+-- a step
+step_back : (s : Step) → IsWritable s → by_word step_table (step_words s) ≡ Ok s
+step_back (steps.Go actor) fits = ap (λ r. r >>= λ a. at_end (steps.Go a.0) a.1) (small_back actor [] fits)
+step_back steps.Event fits = refl
+step_back steps.Judge fits = refl
+step_back steps.Reap fits = refl
+step_back steps.Wash fits = refl
+step_back (steps.Start b) fits = ap (λ r. r >>= λ n. at_end (steps.Start n.0) n.1) (any_back b [] fits)
+step_back (steps.Take disk b) fits =
+    ap (λ r. r >>= λ d. any_number d.1 >>= λ n. at_end (steps.Take d.0 n.0) n.1) (small_back disk (decimal b ∷ []) fits.0)
+    ∙ ap (λ r. r >>= λ n. at_end (steps.Take disk n.0) n.1) (any_back b [] fits.1)
+step_back (steps.Deliver b got) fits =
+    ap (λ r. r >>= λ n. by_word answer_table n.1 >>= λ x. Ok (steps.Deliver n.0 x)) (any_back b (answer_words got) fits.0)
+    ∙ ap (λ r. r >>= λ x. Ok (steps.Deliver b x)) (answer_back got fits.1)
+step_back (steps.Up b) fits = ap (λ r. r >>= λ n. at_end (steps.Up n.0) n.1) (any_back b [] fits)
+
+-- the line of a seat and its step, without its line feed
+pub item_back : (item : ℕ × Step) → IsWritableItem item → marked seat_and_step (line_of (item_words item)) ≡ Ok item
+item_back item fits =
+    ap (λ ws. by_word ((codes "%", seat_and_step) ∷ []) ws)
+    (words_back (codes "%") (decimal item.0 ∷ step_words item.1) (clean_item item fits).spaceless)
+    ∙ ap (λ r. r >>= λ n. by_word step_table n.1 >>= λ s. Ok (n.0, s)) (small_back item.0 (step_words item.1) fits.0)
+    ∙ ap (λ r. r >>= λ s. Ok (item.0, s)) (step_back item.1 fits.1)
+
+-- it has no line feed
+pub item_unended : (item : ℕ × Step) → IsWritableItem item → IsUnended (line_of (item_words item))
+item_unended item fits = line_unended (item_words item) (clean_item item fits).unended
