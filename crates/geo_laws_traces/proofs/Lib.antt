@@ -9,3 +9,5 @@ pub mod Sizes
 pub mod Unmarked
 pub mod Written
 pub mod Told
+pub mod Delivers
+pub mod Owes

@@ -7,24 +7,24 @@ use Rattle.std.proofs.lemmas.Bool.Decides.{nat_tests}
 use Rattle.geo_base.specs.Runs.{ByteRun, runs_text, IsRuns}
 use Rattle.geo_model.specs.declared.command.Cause.TheVariants as causes
 use Rattle.geo_model.specs.Script.{Words, is_digit, is_decimal, value_of, hex_value, run_of, add_run, runs_in, fitting_bytes, found_or, runs_words, words_of}
+use Rattle.geo_model.specs.Plans.{IsRunsBytes}
 use Rattle.geo_script.proofs.RunsAgree.{runs-agree}
 use Rattle.geo_script.proofs.FormLemmas.{runs_words-some}
-use Rattle.geo_laws_traces.specs.TraceLaws.{AreRunBytes}
 use Rattle.geo_laws_traces.proofs.Words.{AreWords, line_of, words_back, each_digit}
 
 -- the one text of some bytes is one of runs
-is_runs : (bytes : List ℕ) → AreRunBytes bytes → IsRuns (runs_text bytes) bytes
-is_runs bytes are = record { spelled = refl; some_byte = are.some; not_long = are.few; are_bytes = are.small }
+is_runs : (bytes : List ℕ) → IsRunsBytes bytes → IsRuns (runs_text bytes) bytes
+is_runs bytes are = record { spelled = refl; some_byte = are.some; not_long = are.not_long; are_bytes = are.each }
 
 -- the words of that text are read as the bytes
-pub runs_back : (bytes : List ℕ) → AreRunBytes bytes → runs_words (words_of (runs_text bytes)) ≡ Ok (bytes, [])
+pub runs_back : (bytes : List ℕ) → IsRunsBytes bytes → runs_words (words_of (runs_text bytes)) ≡ Ok (bytes, [])
 runs_back bytes are = runs_words-some (runs_text bytes) bytes (is_runs bytes are)
 
 -- words that are read as bytes are those of their text
 pub record IsRead (words : Words) (found : List ℕ × Words) : Type 0 where
   pub stands : words ≡ words_of (runs_text found.0)
   pub none : found.1 ≡ []
-  pub fits : AreRunBytes found.0
+  pub fits : IsRunsBytes found.0
 
 pub runs_tell : (words : Words) (found : List ℕ × Words) → AreWords words → runs_words words ≡ Ok found
     → IsRead words found
@@ -43,7 +43,7 @@ runs_tell (word ∷ words) found are e = by (option_and_then fitting_bytes (runs
         let here : IsRead (word ∷ words) (bytes, []) = record {
           stands = sym back ∙ ap words_of told.spelled;
           none = refl;
-          fits = record { some = told.some_byte; few = told.not_long; small = told.are_bytes };
+          fits = record { some = told.some_byte; not_long = told.not_long; each = told.are_bytes };
         } in
         subst (λ (f : List ℕ × Words). IsRead (word ∷ words) f) same here
 
@@ -114,7 +114,7 @@ runs_unended (word ∷ words) xs e =
     by (Some x) is (Some ys) e rest = (run_unended word x is, rest ys refl)
 
 -- so the text of some bytes has none
-pub text_unended : (bytes : List ℕ) → AreRunBytes bytes → AllByRecursion IsUnended (words_of (runs_text bytes))
+pub text_unended : (bytes : List ℕ) → IsRunsBytes bytes → AllByRecursion IsUnended (words_of (runs_text bytes))
 text_unended bytes are =
     by (runs_in (words_of (runs_text bytes))) refl ((runs-agree (runs_text bytes) bytes).1 (is_runs bytes are))
   where

@@ -1,18 +1,20 @@
--- A trace of a legal log that ends at rest, with its report, is verified.
-use Rattle.std.specs.Prelude.{◌≡◌, ℕ, nat_lt, true, false, List, length, Ok, bytes_eq}
+-- What a Yes means, and that it is said of the trace of a legal log that ends at rest.
+use Rattle.std.specs.Prelude.{◌≡◌, ℕ, ◌+◌, ◌≤◌, nat_lt, Bool, true, false, not, List, [], ◌∷◌, length, Some, None, Ok, Err, bytes_eq, if◌then◌else◌}
 use Rattle.std.proofs.Common.{refl, sym, ◌∙◌, ap, subst, arith}
-use Rattle.std.proofs.lemmas.Bool.{le-ltb}
+use Rattle.std.proofs.lemmas.Bool.{le-ltb, ltb-false}
 use Rattle.std.proofs.lemmas.List.{length-map}
-use Rattle.geo_base.proofs.Tests.{bytes_eq-same}
+use Rattle.std.proofs.lemmas.Slice.Eq.{bytes_eq-Decides}
 use Rattle.geo_model.specs.declared.step.Entry.{Entry}
+use Rattle.geo_model.specs.declared.step.Step.{Step}
 use Rattle.geo_model.specs.World.{World}
 use Rattle.geo_model.specs.Opening.{opening}
-use Rattle.geo_model.specs.Log.{replay}
-use Rattle.geo_model.specs.Order.{is_at_rest}
+use Rattle.geo_model.specs.Step.{Answer, step}
+use Rattle.geo_model.specs.Log.{made, entry_by, replay, world_after}
+use Rattle.geo_model.specs.Order.{Rest, is_at_rest}
 use Rattle.geo_model.specs.Report.{report}
 use Rattle.geo_headline.specs.Traces.{Trace, ReadTrace, read_trace, steps_of}
-use Rattle.geo_headline.specs.Verifying.{Yes, verified, found_of, found_read, opened_of, log_of}
-use Rattle.geo_laws_traces.specs.TraceLaws.{LegalIsVerified}
+use Rattle.geo_headline.specs.Verifying.{Yes, NotAtRest, OtherReport, verified, found_of, found_unless, found_read, opened_of, log_of, IsVerified}
+use Rattle.geo_laws_traces.specs.TraceLaws.{YesIsVerified, LegalIsVerified}
 use Rattle.geo_laws_traces.proofs.MadeAgain.{made_again}
 
 -- the answer to a text that was read
@@ -20,11 +22,62 @@ answer_is : (text : List ℕ) (r : ReadTrace) → read_trace text ≡ Ok r → v
 unfolding verified
 answer_is text r is = ap found_read is
 
--- a whole log at rest with the same report
-finds_yes : (r : ReadTrace) → nat_lt (length (log_of r.trace)) (length r.trace.steps) ≡ false
-    → is_at_rest (replay (opened_of r.trace) (log_of r.trace)) ≡ true
-    → bytes_eq (report r.trace.plan (opened_of r.trace) (log_of r.trace)) r.trace.report ≡ true → found_of r ≡ Yes
-finds_yes r whole rest same = rw (whole, rest, same) refl
+-- steps make no more entries than they are
+made_short : (w : World) (items : List (ℕ × Step)) → length (made w items) ≤ length items
+made_short w [] = omega arith
+made_short w (item ∷ items) =
+    by (step w item.0 item.1) (made (world_after w (step w item.0 item.1)) items)
+    (made_short (world_after w (step w item.0 item.1)) items)
+  where
+    by : (a : Answer) (rest : List Entry) → length rest ≤ length items
+        → length (entry_by item a rest) ≤ length (item ∷ items)
+    by (Ok answer) rest few = omega (arith, few)
+    by (Err found) rest few = omega arith
+
+-- a whole log at rest with the same report finds a Yes
+finds_yes : (r : ReadTrace) → IsVerified r.trace → found_of r ≡ Yes
+finds_yes r is =
+    let whole : nat_lt (length (log_of r.trace)) (length r.trace.steps) ≡ false =
+    le-ltb (length (log_of r.trace)) (length r.trace.steps) (omega (arith, is.whole)) in
+    let rest : is_at_rest (replay (opened_of r.trace) (log_of r.trace)) ≡ true = is.rest in
+    let same : bytes_eq (report r.trace.plan (opened_of r.trace) (log_of r.trace)) r.trace.report ≡ true =
+    (bytes_eq-Decides (report r.trace.plan (opened_of r.trace) (log_of r.trace)) r.trace.report).1 is.same in
+    rw (whole, rest, same) refl
+
+-- and a Yes is found of no other
+yes_found : (r : ReadTrace) → found_of r ≡ Yes → IsVerified r.trace
+yes_found r is =
+    by (nat_lt (length (log_of r.trace)) (length r.trace.steps)) refl
+    (is_at_rest (replay (opened_of r.trace) (log_of r.trace))) refl
+    (bytes_eq (report r.trace.plan (opened_of r.trace) (log_of r.trace)) r.trace.report) refl is
+  where
+    by : (stops : Bool) → nat_lt (length (log_of r.trace)) (length r.trace.steps) ≡ stops
+        → (rest : Bool) → is_at_rest (replay (opened_of r.trace) (log_of r.trace)) ≡ rest
+        → (same : Bool)
+        → bytes_eq (report r.trace.plan (opened_of r.trace) (log_of r.trace)) r.trace.report ≡ same
+        → found_unless (if stops then Some (r.line + length (log_of r.trace)) else None)
+        (if not rest then NotAtRest else (if same then Yes else OtherReport)) ≡ Yes
+        → IsVerified r.trace
+    by true stops rest at_rest same same_is e = absurd (let bad : ⊥ = cc in bad)
+    by false stops false at_rest same same_is e = absurd (let bad : ⊥ = cc in bad)
+    by false stops true at_rest false same_is e = absurd (let bad : ⊥ = cc in bad)
+    by false stops true at_rest true same_is e =
+        let long = ltb-false (length (log_of r.trace)) (length r.trace.steps) stops in
+        let short = made_short (opened_of r.trace) r.trace.steps in
+        record {
+          whole = omega (arith, long, short);
+          rest = at_rest;
+          same = (bytes_eq-Decides (report r.trace.plan (opened_of r.trace) (log_of r.trace)) r.trace.report).0 same_is;
+        }
+
+pub yes_is_verified : YesIsVerified
+yes_is_verified text t is =
+    let r : ReadTrace = record { trace = t; line = is.0 } in
+    let answer : verified text ≡ Ok (found_of r) = answer_is text r is.1 in
+    record {
+      says = λ yes. let same : found_of r ≡ Yes = let e = sym answer ∙ yes in cc in yes_found r same;
+      said = λ verified_is. answer ∙ ap Ok (finds_yes r verified_is);
+    }
 
 pub legal_is_verified : LegalIsVerified
 legal_is_verified plan facts log text legal rest is =
@@ -32,12 +85,9 @@ legal_is_verified plan facts log text legal rest is =
     let t : Trace = record { plan = plan; facts = facts; steps = steps_of log; report = report plan opened log } in
     let again : log_of t ≡ log = made_again opened log legal in
     let long : length log ≡ length t.steps = sym (length-map log (λ (e : Entry). (e.seat, e.step))) in
-    let whole : nat_lt (length (log_of t)) (length t.steps) ≡ false =
-    le-ltb (length (log_of t)) (length t.steps) (omega (arith, ap (λ (l : List Entry). length l) again, long)) in
-    let at_rest : is_at_rest (replay opened (log_of t)) ≡ true =
-    subst (λ (l : List Entry). is_at_rest (replay opened l) ≡ true) (sym again) rest in
-    let same : bytes_eq (report plan opened (log_of t)) t.report ≡ true =
-    subst (λ (l : List Entry). bytes_eq (report plan opened l) t.report ≡ true) (sym again)
-    (bytes_eq-same (report plan opened log)) in
-    answer_is text (record { trace = t; line = is.0 }) is.1
-    ∙ ap Ok (finds_yes (record { trace = t; line = is.0 }) whole at_rest same)
+    (yes_is_verified text t is).said
+    (record {
+      whole = ap (λ (l : List Entry). length l) again ∙ long;
+      rest = subst (λ (l : List Entry). Rest (replay opened l)) (sym again) rest;
+      same = ap (report plan opened) again;
+    })

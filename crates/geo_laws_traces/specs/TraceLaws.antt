@@ -7,7 +7,7 @@ use Rattle.geo_model.specs.declared.step.Step.{Step}
 use Rattle.geo_model.specs.declared.step.Step.TheVariants as steps
 use Rattle.geo_model.specs.World.{World, Plan}
 use Rattle.geo_model.specs.Opening.{opening}
-use Rattle.geo_model.specs.Plans.{FactsFit}
+use Rattle.geo_model.specs.Plans.{IsRunsBytes, FactsFit}
 use Rattle.geo_model.specs.Log.{Legal, replay, owed}
 use Rattle.geo_model.specs.Order.{Rest}
 use Rattle.geo_model.specs.Report.{report}
@@ -19,16 +19,11 @@ use Rattle.geo_headline.specs.Verifying.{Yes, verified, IsVerified}
 
 -- Both ways
 
--- bytes that a text of runs can stand for
-pub record AreRunBytes (bytes : List ℕ) : Type 0 where
-  pub some : 1 ≤ length bytes
-  pub few : length bytes ≤ 65536
-  pub small : All (λ b. b < 256) bytes
-
+-- a device's answer whose number or bytes are within their ranges
 abbrev pub IsWritableAnswer : DeviceResult → Type 0
 IsWritableAnswer devices.Done = ⊤
 IsWritableAnswer (devices.Failed done) = done < 2 ^ 32
-IsWritableAnswer (devices.Bytes bytes) = AreRunBytes bytes
+IsWritableAnswer (devices.Bytes bytes) = IsRunsBytes bytes
 
 -- a step whose numbers are within their ranges
 abbrev pub IsWritable : Step → Type 0
@@ -39,6 +34,7 @@ IsWritable (steps.Deliver b got) = (b < 2 ^ 64) × IsWritableAnswer got
 IsWritable (steps.Up b) = b < 2 ^ 64
 IsWritable _ = ⊤
 
+-- steps that can be written, each with a seat that can
 abbrev pub AreWritable : List (ℕ × Step) → Type 0
 AreWritable items = All (λ item. (item.0 < 2 ^ 32) × IsWritable item.1) items
 
@@ -52,7 +48,7 @@ WrittenIsRead =
 abbrev pub ReadIsWritten : Type 0
 ReadIsWritten = (text : List ℕ) (t : Trace) → IsTrace text t → text ≡ trace_text (script_part text) t
 
--- a trace fits the script before it: the plan is that of the script, the sizes fit the plan, and the steps can be written
+-- a trace fits the script before it: the plan is the script's, the sizes fit the plan, and the steps can be written
 pub record FitsItsScript (text : List ℕ) (t : Trace) : Type 0 where
   pub reads : IsScript (script_part text) t.plan
   pub facts : FactsFit t.plan t.facts
@@ -90,6 +86,10 @@ FewBytes _ = ⊤
 abbrev pub DeliversAreShort : Type 0
 DeliversAreShort = OfEachLegalLog (λ opened log. All (λ e. FewBytes e.step) log)
 
--- a step begins to owe one place at most, so a log of few steps is never full
+-- a step begins to owe one place at most
 abbrev pub OwesOneMore : Type 0
 OwesOneMore = (w : World) (seat : ℕ) (s : Step) → Firm w → owed (world_by w seat s) ≤ owed w + 1
+
+-- so a legal log owes no more places than it has entries, and one of few entries is never full
+abbrev pub OwesFew : Type 0
+OwesFew = OfEachLegalLog (λ opened log. owed (replay opened log) ≤ length log)
