@@ -33,6 +33,7 @@ pub use below::{
 pub use decisions::{Decision, decide, owed_after};
 pub use destroys::{destroy, pull};
 pub use dispatch::do_command;
+pub use geo_opens::{reap, reap_found};
 pub use geoms::listing;
 pub use growths::{append_refusal, grow_provider, join_new};
 pub use inserts::insert;

@@ -25,9 +25,9 @@ pub fn begin(alloc: Global, plan: Plan, disks: &DiskFacts) -> Result<Running, No
     ensures began { IfOk result (λ r. seen r ≡ record { plan = plan; facts = disks.now.items; log = [] }) }
     ensures mesh { IfOk result IsMesh }
 {
-    let state = opening(alloc, &plan, disks)?;
     let left = Left::all(alloc, &plan)?;
     let facts = disks.copy(alloc)?;
+    let state = opening(alloc, &plan, disks)?;
     Ok(Running {
         plan,
         facts,

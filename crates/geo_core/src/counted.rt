@@ -83,7 +83,7 @@ fn reap_with<L: Ledger>(state: &mut State, blank: Blank)
     ensures logged { (log : List Entry) → HasBytes log state.old → HasBytes log state.new }
 {
     let mut steps: Steps<L> = Steps::new(blank);
-    geo_opens::reap(state, &mut steps);
+    geo_commands::reap(state, &mut steps);
 }
 
 /// A bio that is Up goes up to its owner. Where memory is wanting all stays.

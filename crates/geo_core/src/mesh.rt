@@ -23,6 +23,7 @@ use geo_model::{MeshList, Outcome, Step};
 use geo_script::Plan;
 use std::alloc::Global;
 use std::marker::Model;
+use std::mem;
 
 /// A mesh under way. Contracts see what it began with, its plan and the sizes of its disks, and its log: its world is
 /// that to which the log leads from the opening.
@@ -173,7 +174,10 @@ impl Mesh {
         ensures log { result.items ≡ self.log }
         ensures history { IsHistory self }
     {
-        let Mesh { running, .. } = self;
-        running.log
+        let Mesh { alloc, running } = self;
+        let mut rest = running;
+        let log = mem::replace(&mut rest.log, Log::new(alloc));
+        drop(rest);
+        log
     }
 }

@@ -22,12 +22,25 @@ pub fn opening(alloc: Global, plan: &Plan, disks: &DiskFacts) -> Result<State, N
     ensures opened { IfOk result (λ s. IsOpened (opening plan.now disks.now.items) s) }
     ensures plan { IsPlan plan.now }
 {
-    let count = plan.disks().len();
     let mut state = bare(alloc, plan, disks)?;
-    for disk in 0..count {
-        stand_next(plan, disks, &mut state, disk)?;
+    if let Err(error) = stand_all(plan, disks, &mut state) {
+        drop(state);
+        return Err(error);
     }
     Ok(state)
+}
+
+// The disks that don't come later stand, in header order.
+fn stand_all(plan: &Plan, disks: &DiskFacts, state: &mut State) -> Result<(), NoMemory>
+    requires fit { FactsFit plan.now disks.now.items }
+    requires opened { IsOpened (stood plan.now disks.now.items 0) state.old }
+    ensures opened { OnOk result (IsOpened (opening plan.now disks.now.items) state.new) }
+{
+    let count = plan.disks().len();
+    for disk in 0..count {
+        stand_next(plan, disks, state, disk)?;
+    }
+    Ok(())
 }
 
 // The next disk stands, if it doesn't come later.

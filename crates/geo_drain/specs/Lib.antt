@@ -1,3 +1,4 @@
+pub mod Meshes
 pub mod Drain
 pub mod Turns
 pub mod Earliest

@@ -9,6 +9,7 @@ mod refusal;
 mod turn;
 
 pub use drain::run_to_rest;
+pub use geo_core::Mesh;
 pub use order::{FixedOrder, Order};
 pub use picking::pick;
 pub use refusal::DrainRefusal;

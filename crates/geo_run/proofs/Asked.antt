@@ -11,7 +11,7 @@ use Rattle.geo_model.specs.History.{RanToItsEnd}
 use Rattle.geo_model.specs.Order.{Rest}
 use Rattle.geo_serve.specs.Drives as asked
 use Rattle.geo_serve.specs.Served.{AreServed, IsServed, IsServedAt}
-use Rattle.geo_core.specs.Mesh.{IsHistory, MeshView, opened, world_of}
+use Rattle.geo_drain.specs.Meshes.{IsHistory, MeshView, opened, world_of}
 use Rattle.geo_drain.specs.Drain as drain
 use Rattle.geo_laws_requests.proofs.Complete.{legal_logs_complete_requests}
 use Rattle.geo_run.specs.Drives.{DriveView, Serves, ServeAll, drive_view}

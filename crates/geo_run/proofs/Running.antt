@@ -12,7 +12,7 @@ use Rattle.geo_model.specs.FixedOrder.{FollowsOrder, fixed_order}
 use Rattle.geo_model.specs.History.{KeepsHistory, RanToItsEnd}
 use Rattle.geo_headline.specs.Outside.{ShelfView}
 use Rattle.geo_headline.specs.Endings.{OutOfMemory, IsWhole, reported, reported_by}
-use Rattle.geo_core.specs.Mesh.{MeshView, opened, world_of}
+use Rattle.geo_drain.specs.Meshes.{MeshView, opened, world_of}
 use Rattle.geo_drain.specs.declared.refusal.DrainRefusal.{DrainRefusal}
 use Rattle.geo_drain.specs.declared.refusal.DrainRefusal.TheVariants as refusals
 use Rattle.geo_run.specs.Drives.{DriveView, ServeAll}

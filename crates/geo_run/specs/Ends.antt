@@ -15,7 +15,7 @@ use Rattle.geo_headline.specs.Outside.{ShelfView, IsShelf, IsThere, IsMissing, I
 use Rattle.geo_headline.specs.Endings.{Ending, Reported, ReportedButFault, ShelfFault, NoDisk, BadSize, OutOfMemory, LogFull, IsWhole, HasLog, StopsAt, first_kept_back, reported_by}
 use Rattle.geo_headline.specs.Headline.{LentAfter}
 use Rattle.geo_headline.specs.Modes.{Mode}
-use Rattle.geo_core.specs.Mesh.{MeshView, opened}
+use Rattle.geo_drain.specs.Meshes.{MeshView, opened}
 use Rattle.geo_drain.specs.declared.refusal.DrainRefusal.{DrainRefusal}
 use Rattle.geo_drain.specs.declared.refusal.DrainRefusal.TheVariants as refusals
 use Rattle.geo_run.specs.declared.due.Due.{Due}

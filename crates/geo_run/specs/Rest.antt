@@ -6,7 +6,7 @@ use Rattle.geo_model.specs.World.{World, Plan}
 use Rattle.geo_model.specs.Log.{replay, owed}
 use Rattle.geo_model.specs.FixedOrder.{FollowsOrder, fixed_order}
 use Rattle.geo_headline.specs.Endings.{NextIsFull}
-use Rattle.geo_core.specs.Mesh.{MeshView, opened}
+use Rattle.geo_drain.specs.Meshes.{MeshView, opened}
 use Rattle.geo_drain.specs.Drain.{with_entries}
 use Rattle.geo_run.specs.Drives.{DriveView, ServeAll}
 

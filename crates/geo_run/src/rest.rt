@@ -3,13 +3,12 @@ ghost use Rattle.std.specs.Prelude.{map, OnOk, IsErrOf};
 ghost use Rattle.geo_model.specs.History.{KeepsHistory, RanToItsEnd};
 ghost use Rattle.geo_model.specs.Laws.{NoneBusy};
 ghost use Rattle.geo_model.specs.Log.{Fits};
-ghost use Rattle.geo_core.specs.Mesh.{opened, world_of};
+ghost use Rattle.geo_drain.specs.Meshes.{opened, world_of};
 ghost use Rattle.geo_run.specs.Drives.{drive_view};
 ghost use Rattle.geo_run.specs.Rest.{Adds, DrivesFit, RanFull};
 
-use geo_core::Mesh;
 use geo_disk::{Disk, Drive};
-use geo_drain::{DrainRefusal, FixedOrder, run_to_rest};
+use geo_drain::{DrainRefusal, FixedOrder, Mesh, run_to_rest};
 use std::alloc::Global;
 
 /// Makes the steps of the fixed order with seat 0 until the mesh is at rest; each Take is served by the drive of its

@@ -29,12 +29,12 @@ pub fn empty(alloc: Global, disks: Vec<DiskSeat>, own: Vec<OwnBios>) -> Result<S
     ensures empty { IfOk result (λ s. IsEmpty s disks.items own.items) }
     ensures kept { IfOk result (λ s. Holds s) }
 {
-    let dev = Config::nothing();
-    let tasting = Config::nothing();
-    let topo = Topo::new(alloc, dev, tasting)?;
     let handles = Handles::new(alloc)?;
     let queue = EventQueue::new(alloc);
     let traffic = Traffic::new(alloc);
+    let dev = Config::nothing();
+    let tasting = Config::nothing();
+    let topo = Topo::new(alloc, dev, tasting)?;
     Ok(State {
         topo,
         queue,

@@ -1,7 +1,7 @@
 use Rattle.std.proofs.Common.{ap, length, arith}
 use Rattle.std.proofs.lemmas.Result.{err_from_is_err_and}
 use Rattle.geo_core.proofs.Stands.{opened_end}
-use Rattle.geo_core.proofs.opening.opening.Goals as goal
+use Rattle.geo_core.proofs.opening.stand_all.Goals as goal
 
 pub returns-clause-opened : goal.returns-clause-opened
 returns-clause-opened c =

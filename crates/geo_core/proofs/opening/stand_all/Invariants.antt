@@ -1,5 +1,5 @@
 use Rattle.geo_core.specs.Openings.{IsOpened, stood}
-use Rattle.geo_core.proofs.opening.opening.Given as goal
+use Rattle.geo_core.proofs.opening.stand_all.Given as goal
 
 abbrev pub invariant-loop-disk : goal.invariant-loop-disk
 invariant-loop-disk l = IsOpened (stood l.plan l.disks.items l.disk) l.state
