@@ -1,4 +1,5 @@
-//! The grammar of scripts: the plan of a text, or the line and the cause of its first fault.
+//! The grammar of scripts: the plan of a text, or the line and the cause of its first fault; with the readers of words,
+//! for other grammars of lines.
 #![tactic(auto)]
 
 mod command;
@@ -14,6 +15,8 @@ mod text;
 mod words;
 
 pub use laws::{runs_agree, scripts_are_plans};
+pub use number::{any_number, small_number};
 pub use plan::Plan;
-pub use refusal::ParseRefusal;
-pub use text::parse;
+pub use refusal::{LineRefusal, ParseRefusal};
+pub use text::{first_line, parse};
+pub use words::{Words, at_end, find_byte, next_word, runs};

@@ -119,6 +119,18 @@ pub fn record_id<'a>(words: Words<'a>) -> Result<(u64, Words<'a>), Cause>
     }
 }
 
+/// A number below 2^32.
+pub fn small_number<'a>(words: Words<'a>) -> Result<(u32, Words<'a>), Cause>
+    ensures { result ≡ record_id words.entry }
+{
+    let (word, words) = next_word(words)?;
+    match number_of(word) {
+        Some(n) if n < 0x1_0000_0000 => Ok((n as u32, words)),
+        Some(_) => Err(Cause::Range),
+        None => Err(Cause::Number),
+    }
+}
+
 /// The count of a record: 1 to 16.
 pub fn record_count<'a>(words: Words<'a>) -> Result<(u64, Words<'a>), Cause>
     ensures { result ≡ record_count words.entry }

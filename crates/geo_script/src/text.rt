@@ -12,7 +12,7 @@ use crate::words::find_byte;
 use std::alloc::Global;
 
 /// The first line of a text that isn't empty, and what stands behind its line feed.
-fn first_line(text: &[u8]) -> (&[u8], &[u8])
+pub fn first_line(text: &[u8]) -> (&[u8], &[u8])
     requires { 1 ≤ length text.now }
     ensures lines { lines_of text.now ≡ result.0.now ∷ lines_of result.1.now }
     ensures shorter { length result.1.now < length text.now }
