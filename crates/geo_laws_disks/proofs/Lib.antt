@@ -18,3 +18,8 @@ pub mod TakenStands
 pub mod Answerable
 pub mod Answered
 pub mod Opened
+pub mod Delivering
+pub mod InOrder
+pub mod TakenOnce
+pub mod Seats
+pub mod ServedBy
