@@ -3,4 +3,4 @@ mod Keeps
 pub mod Prefixes
 mod Sounds
 mod TallyLemmas
-pub mod Whole
+pub mod EachOwn

@@ -5,3 +5,4 @@ pub mod Tally
 pub mod Turns
 pub mod View
 pub mod Yard
+pub mod Whole

@@ -14,10 +14,12 @@ mod pass_list;
 mod tally;
 mod turns;
 mod view;
+mod whole;
 mod yard;
 
 pub use logged::Logged;
 pub use pass::Pass;
 pub use pass_list::PassList;
 pub use tally::{Added, Tally, TallyRefusal};
+pub use whole::each_entry_is_own;
 pub use yard::{CloseFault, CreateFault, Yard};
