@@ -17,3 +17,4 @@ pub mod Founds
 pub mod Admitting
 pub mod Beginning
 pub mod Seats
+pub mod LoggedAnswers

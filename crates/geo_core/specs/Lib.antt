@@ -6,3 +6,4 @@ pub mod Twins
 pub mod Openings
 pub mod Goes
 pub mod Places
+pub mod Logged

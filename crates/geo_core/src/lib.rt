@@ -7,6 +7,7 @@ mod carry;
 mod counted;
 mod found;
 mod left;
+mod logged;
 mod mesh;
 mod opening;
 mod owed;
@@ -17,5 +18,6 @@ mod turns;
 mod twin;
 
 pub use geo_log::{DiskFacts, Log};
+pub use logged::{MeshStart, answers_tell, delivers_are_sure, made_is_answered, passes_are_good};
 pub use mesh::Mesh;
 pub use refusal::ApplyRefusal;

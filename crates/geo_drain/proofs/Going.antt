@@ -43,9 +43,9 @@ begins order m drives none_busy history fit = record {
     added = [];
     grown = ap (λ l. record m { log = l }) (sym (append-nil m.log));
     follows = λ earlier e split. absurd (none_in earlier e split.0 split.1);
+    taken = tt;
     served = all_served_none drives;
   };
-  taken = tt;
   none_busy = none_busy;
   history = history;
   fit = fit;
@@ -93,11 +93,11 @@ plain_turn order old new next before after later s takes delivers run due histor
     grown = grown_more order old new run.runs.added run.runs.grown next e turn.made.logged;
     follows = follows_more order old run.runs.added e run.runs.follows
         (due_then order old new run.runs.added run.runs.grown e refl due);
+    taken = taken_more run.runs.added e run.runs.taken
+        (subst (λ o. IfSome o (λ b. IsSome (request_of run.runs.added b))) (sym delivers) tt);
     served = subst (λ ds. AreServed (run.runs.added ++ e ∷ []) before ds) (sym turn.drives)
-        (all_served_quiet run.runs.added e before after run.taken delivers run.runs.served);
+        (all_served_quiet run.runs.added e before after run.runs.taken delivers run.runs.served);
   };
-  taken = taken_more run.runs.added e run.taken
-      (subst (λ o. IfSome o (λ b. IsSome (request_of run.runs.added b))) (sym delivers) tt);
   none_busy = subst (λ (w : World). NoneBusy w) (sym (made_world new next s turn.outcome turn.made))
       (All-from_recursion (λ (x : Bio). is_busy x.phase ≡ false) (world_by (world_of new) 0 s).bios
       (step_idle (world_of new)
@@ -166,12 +166,12 @@ take_turn order old new next before after later disk b run due history turn = re
     added = two;
     grown = grown_more order old turn.taken one grown_one next d turn.deliver.logged;
     follows = follows_more order old one d follows_one (record { seat = refl; was_due = inr follows_take });
+    taken = taken_more one d taken_one (subst (λ (o : Option Request). IsSome o) (sym asked) refl);
     served = subst (λ ds. AreServed two before ds) (sym turn.answers.drives)
         (all_served_answered one d b turn.got turn.request before after turn.answers.old turn.answers.new taken_one refl
         asked turn.answers.is_its turn.answers.serves
-        (all_served_quiet run.runs.added t before after run.taken refl run.runs.served));
+        (all_served_quiet run.runs.added t before after run.runs.taken refl run.runs.served));
   };
-  taken = taken_more one d taken_one (subst (λ (o : Option Request). IsSome o) (sym asked) refl);
   none_busy = subst (λ (w : World). NoneBusy w) (sym world_next)
       (All-from_recursion (λ (x : Bio). is_busy x.phase ≡ false)
       (world_by (world_by (world_of new) 0 (steps.Take disk b)) 0 (steps.Deliver b turn.got)).bios
@@ -210,7 +210,7 @@ take_turn order old new next before after later disk b run due history turn = re
         (old.log ++ run.runs.added, t, sym (append_assoc old.log run.runs.added (t ∷ [])), refl, refl)
 
     taken_one : AreTaken one one
-    taken_one = taken_more run.runs.added t run.taken tt
+    taken_one = taken_more run.runs.added t run.runs.taken tt
 
     facts_next : with_entries old two ≡ next
     facts_next = sym (grown_more order old turn.taken one grown_one next d turn.deliver.logged)

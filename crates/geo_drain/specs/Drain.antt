@@ -6,6 +6,7 @@ use Rattle.geo_model.specs.FixedOrder.{StepOrder, FollowsOrder}
 use Rattle.geo_headline.specs.Endings.{NextIsFull}
 use Rattle.geo_serve.specs.Drives.{DriveView}
 use Rattle.geo_serve.specs.Served.{AreServed}
+use Rattle.geo_laws_disks.specs.DriveLaws.{AreTaken}
 use Rattle.geo_core.specs.Mesh.{MeshView, opened, world_of}
 
 -- the mesh with more entries
@@ -16,11 +17,13 @@ with_entries m added = record m { log = m.log ++ added }
 abbrev pub DrivesFit : MeshView → List DriveView → Type 0
 DrivesFit m drives = map (λ (d : DriveView). (d.sector, d.count)) drives ≡ m.facts
 
--- a run of one thread: what it added to the log follows the order, and each drive served what that says
+-- a run of one thread: what it added to the log follows the order, with the Take of each of its Delivers, and each
+-- drive served what that says
 pub record Runs (order : StepOrder) (old new : MeshView) (before after : List DriveView) : Type 0 where
   pub added : List Entry
   pub grown : new ≡ with_entries old added
   pub follows : FollowsOrder order (opened old) old.log added
+  pub taken : AreTaken added added
   pub served : AreServed added before after
 
 -- there is no place in the log for the step that is due, so the log is full but for what is owed
