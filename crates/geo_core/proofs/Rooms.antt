@@ -1,5 +1,5 @@
 -- How many bytes a bio reads, by the state.
-use Rattle.std.specs.Prelude.{◌≡◌, ℕ, ◌==◌, ◌≤◌, true, false, List, find, Option, Some, None, Contains, IsSomeAnd}
+use Rattle.std.specs.Prelude.{◌≡◌, ℕ, ◌==◌, ◌≤◌, true, false, List, Option, Some, None, Contains, IsSomeAnd}
 use Rattle.std.specs.Option.{option_map, option_map_or}
 use Rattle.std.proofs.Common.{refl, sym, ◌∙◌, ap, subst}
 use Rattle.std.proofs.lemmas.List.Elements.{All-contains}

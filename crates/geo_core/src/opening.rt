@@ -34,7 +34,7 @@ pub fn opening(alloc: Global, plan: &Plan, disks: &DiskFacts) -> Result<State, N
 fn stand_all(plan: &Plan, disks: &DiskFacts, state: &mut State) -> Result<(), NoMemory>
     requires fit { FactsFit plan.now disks.now.items }
     requires opened { IsOpened (stood plan.now disks.now.items 0) state.old }
-    ensures opened { OnOk result (IsOpened (opening plan.now disks.now.items) state.new) }
+    ensures { OnOk result (IsOpened (opening plan.now disks.now.items) state.new) }
 {
     let count = plan.disks().len();
     for disk in 0..count {
@@ -75,6 +75,7 @@ fn is_later(disks: &[DiskDecl], disk: usize) -> bool
 fn bare(alloc: Global, plan: &Plan, disks: &DiskFacts) -> Result<State, NoMemory>
     requires { FactsFit plan.now disks.now.items }
     ensures opened { IfOk result (λ s. IsOpened (stood plan.now disks.now.items 0) s) }
+    ensures plan { IsPlan plan.now }
 {
     let seats = seats_of(alloc, plan.disks(), disks.items())?;
     let own = no_requests(alloc, plan.actors().len())?;

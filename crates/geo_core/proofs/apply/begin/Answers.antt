@@ -1,4 +1,3 @@
-use Rattle.std.proofs.lemmas.Result.{err_from_is_err_and}
 use Rattle.geo_core.proofs.Beginning.{begun}
 use Rattle.geo_core.proofs.apply.begin.Goals as goal
 

@@ -13,4 +13,4 @@ returns c =
     (c.in_ok-seats.ensures.disks
     ∙ ap (λ (ds : List DiskDecl). map disk_in_size (zip ds c.items.result.now)) c.disks.ensures.disks
     ∙ ap (λ (fs : List (ℕ × ℕ)). map disk_in_size (zip c.args.plan.now.disks fs)) c.items.ensures) in
-    record { opened = opened }
+    record { opened = opened; plan = c.disks.ensures.plan }
