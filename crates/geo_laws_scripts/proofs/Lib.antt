@@ -1,0 +1,5 @@
+pub mod PlanTests
+pub mod WordForms
+pub mod CommandWords
+pub mod LinesRead
+pub mod PlansRead
