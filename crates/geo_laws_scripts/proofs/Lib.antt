@@ -3,3 +3,4 @@ pub mod WordForms
 pub mod CommandWords
 pub mod LinesRead
 pub mod PlansRead
+pub mod PlansFit

@@ -230,7 +230,7 @@ no_comment : (b : ℕ) → is_word_byte b ≡ true → (b == 35) ≡ false
 no_comment b e = grind (arith, nat_tests)
 
 -- a line that begins with a short name isn't skipped
-name_shown : (name : List ℕ) (words : Words) → is_short_name name ≡ true → is_skipped (line_of (name ∷ words)) ≡ false
+pub name_shown : (name : List ℕ) (words : Words) → is_short_name name ≡ true → is_skipped (line_of (name ∷ words)) ≡ false
 name_shown [] words is = absurd (let bad : ⊥ = cc in bad)
 name_shown (b ∷ bs) [] is =
     let all = (and_parts (nat_le 1 (length (b ∷ bs)) && nat_le (length (b ∷ bs)) 16) (list_all is_word_byte (b ∷ bs)) is).1 in

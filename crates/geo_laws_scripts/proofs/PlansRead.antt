@@ -22,7 +22,7 @@ use Rattle.geo_model.specs.World.{Plan}
 use Rattle.geo_model.specs.Script.{add_actor, add_disk, drop_empty_end, empty_plan, header_words, lines_of, next_line, script}
 use Rattle.geo_laws_scripts.specs.PlanTexts.{actor_line, command_line, command_lines, disk_line, plan_lines, plan_text}
 use Rattle.geo_laws_scripts.specs.ScriptLaws.{HasRoom, HeaderFits, LinesFit, PlansAreRead, StandsBehind}
-use Rattle.geo_laws_scripts.proofs.LinesRead.{IsUnended, actor_read, actor_unended, command_read, command_unended, disk_read, disk_unended, turned}
+use Rattle.geo_laws_scripts.proofs.LinesRead.{IsUnended, actor_read, actor_unended, command_read, command_unended, disk_read, disk_unended, turned, with_command}
 
 -- Lists
 
@@ -81,7 +81,7 @@ no_disk (d ∷ ds) name all =
 abbrev of_disks : List DiskDecl → Plan
 of_disks disks = record { disks = disks; actors = []; commands = [] }
 
-abbrev of_header : List DiskDecl → List (List ℕ) → Plan
+abbrev pub of_header : List DiskDecl → List (List ℕ) → Plan
 of_header disks actors = record { disks = disks; actors = actors; commands = [] }
 
 -- fewer than sixteen
@@ -171,7 +171,7 @@ actor_place actors k pairs inside =
 -- Commands
 
 -- empty lines are skipped
-blank : (plan : Plan) (k n : ℕ) (more : List (List ℕ))
+pub blank : (plan : Plan) (k n : ℕ) (more : List (List ℕ))
     → fold next_line (Ok plan) (enumerate_from n (replicate k [] ++ more))
     ≡ fold next_line (Ok plan) (enumerate_from (n + k) more)
 blank plan zero n more =
@@ -182,17 +182,17 @@ blank plan (suc k) n more =
     (let same : (n + 1) + k ≡ n + suc k = omega arith in same)
 
 -- a command that can be written for the actors
-record IsWritable (actors : List (List ℕ)) (c : LineCommand) : Type 0 where
-  is : IsCommandLine (length actors) c
-  fits : HasRoom c.command (length (command_line actors c))
+pub record IsWritable (actors : List (List ℕ)) (c : LineCommand) : Type 0 where
+  pub is : IsCommandLine (length actors) c
+  pub fits : HasRoom c.command (length (command_line actors c))
 
 -- lines that rise from a number on
-abbrev Rising : ℕ → List LineCommand → Type 0
+abbrev pub Rising : ℕ → List LineCommand → Type 0
 Rising from [] = Unit {0}
 Rising from (c ∷ cs) = (from ≤ c.line) × Rising (c.line + 1) cs
 
 -- the lines of a plan do
-rising : (from : ℕ) (c : LineCommand) (cs : List LineCommand) → from ≤ c.line
+pub rising : (from : ℕ) (c : LineCommand) (cs : List LineCommand) → from ≤ c.line
     → AllPairs (λ x y. x < y) (map (λ (x : LineCommand). x.line) (c ∷ cs)) → Rising from (c ∷ cs)
 rising from c [] first pairs = (first, tt)
 rising from c (d ∷ cs) first pairs =
@@ -208,6 +208,22 @@ rising from c (d ∷ cs) first pairs =
 named : (actors : List (List ℕ)) (k : ℕ) → entry_at actors k ≡ get_or actors k []
 named actors k = unwrap_or-slice_get actors k []
 
+-- it is one
+pub actor_named : (actors : List (List ℕ)) (k : ℕ) → All IsActor actors → k < length actors → IsActor (entry_at actors k)
+actor_named actors k are inside = subst IsActor (sym (named actors k)) (are k [] inside)
+
+-- a command's line adds it, at whatever number it stands
+pub step_read : (plan : Plan) (n : ℕ) (c : LineCommand) → n ≤ 4096 → All IsActor plan.actors
+    → AllPairs Differ plan.actors → IsWritable plan.actors c
+    → next_line (Ok plan) (n, command_line plan.actors c) ≡ Ok (with_command plan n c.actor c.command)
+step_read plan n c few are apart is =
+    let inside = is.is.actor in
+    let place : position (same_name (entry_at plan.actors c.actor)) plan.actors ≡ Some c.actor =
+    ap (λ w. position (same_name w) plan.actors) (named plan.actors c.actor)
+    ∙ actor_place plan.actors c.actor apart inside in
+    command_read plan n c.actor (entry_at plan.actors c.actor) c.command few
+    (actor_named plan.actors c.actor are inside) place is.is.command is.fits
+
 -- the lines of commands add them
 commands_read : (disks : List DiskDecl) (actors : List (List ℕ)) (done rest : List LineCommand) (n : ℕ)
     → All IsActor actors → AllPairs Differ actors → AllByRecursion (IsWritable actors) rest → Rising n rest
@@ -218,16 +234,12 @@ commands_read disks actors done [] n are apart all up =
     ap (λ cs. Ok (record { disks = disks; actors = actors; commands = cs })) (sym (append-nil done))
 commands_read disks actors done (c ∷ cs) n are apart all up =
     let plan : Plan = record { disks = disks; actors = actors; commands = done } in
-    let inside = all.0.is.actor in
     let first = up.0 in
     let whole : (done ++ c ∷ []) ++ cs ≡ done ++ c ∷ cs = append_assoc done (c ∷ []) cs in
     let reached : n + (c.line - n) ≡ c.line = omega (arith, first) in
-    let name : IsActor (entry_at actors c.actor) = subst IsActor (sym (named actors c.actor)) (are c.actor [] inside) in
-    let place : position (same_name (entry_at actors c.actor)) actors ≡ Some c.actor =
-    ap (λ w. position (same_name w) actors) (named actors c.actor) ∙ actor_place actors c.actor apart inside in
     let step : next_line (Ok plan) (c.line, command_line actors c)
     ≡ Ok (record { disks = disks; actors = actors; commands = done ++ c ∷ [] }) =
-    command_read plan c.line c.actor (entry_at actors c.actor) c.command all.0.is.line name place all.0.is.command all.0.fits in
+    step_read plan c.line c all.0.is.line are apart all.0 in
     blank plan (c.line - n) n (command_line actors c ∷ command_lines actors (c.line + 1) cs)
     ∙ ap (λ k. fold next_line (Ok plan) (enumerate_from k (command_line actors c ∷ command_lines actors (c.line + 1) cs))) reached
     ∙ ap (λ r. fold next_line r (enumerate_from (c.line + 1) (command_lines actors (c.line + 1) cs))) step
@@ -253,14 +265,12 @@ blanks_unended (suc k) = (All-nil (λ b. (b == 10) ≡ false), blanks_unended k)
 
 -- nor lines of commands
 commands_unended : (actors : List (List ℕ)) (n : ℕ) (cs : List LineCommand) → All IsActor actors
-    → AllByRecursion (IsWritable actors) cs → AllByRecursion IsUnended (command_lines actors n cs)
+    → AllByRecursion (IsCommandLine (length actors)) cs → AllByRecursion IsUnended (command_lines actors n cs)
 commands_unended actors n [] are all = tt
 commands_unended actors n (c ∷ cs) are all =
-    let name : IsActor (entry_at actors c.actor) =
-    subst IsActor (sym (named actors c.actor)) (are c.actor [] all.0.is.actor) in
     all_both IsUnended (replicate (c.line - n) []) (command_line actors c ∷ command_lines actors (c.line + 1) cs)
     (blanks_unended (c.line - n)) (
-      command_unended (entry_at actors c.actor) c.command name.short all.0.is.command,
+      command_unended (entry_at actors c.actor) c.command (actor_named actors c.actor are all.0.actor).short all.0.command,
       commands_unended actors (c.line + 1) cs are all.1,
     )
 
@@ -273,28 +283,35 @@ writable plan is fits =
     (λ k d inside. record { is = is.commands k d inside; fits = fits k d inside })
 
 -- and rise behind the header
-behind : (n : ℕ) (cs : List LineCommand) → StandsBehind n cs → IsStrictlyIncreasing (map (λ (c : LineCommand). c.line) cs)
+pub behind : (n : ℕ) (cs : List LineCommand) → StandsBehind n cs → IsStrictlyIncreasing (map (λ (c : LineCommand). c.line) cs)
     → Rising (n + 1) cs
 behind n [] stands up = tt
 behind n (c ∷ cs) stands up =
     rising (n + 1) c cs (omega (arith, stands)) (AllPairs-from_increasing (map (λ (x : LineCommand). x.line) (c ∷ cs)) up)
 
-pub plans_are_read : PlansAreRead
+-- the line at which the first command of a plan may stand
+abbrev pub first_line : Plan → ℕ
+first_line plan = length plan.disks + length plan.actors + 1
+
+-- what a plan's text says is what the lines of its commands say behind its header
+pub header_read : (plan : Plan) → IsPlan plan
+    → script (plan_text plan)
+    ≡ fold next_line (Ok (of_header plan.disks plan.actors))
+    (enumerate_from (first_line plan) (command_lines plan.actors (first_line plan) plan.commands))
 unfolding script plan_text
-plans_are_read plan is header fits =
+header_read plan is =
     let disks = recursion_from_All IsDiskDecl plan.disks is.disks in
     let actors = recursion_from_All IsActor plan.actors is.actors in
-    let commands = writable plan is fits in
+    let commands = recursion_from_All (IsCommandLine (length plan.actors)) plan.commands is.commands in
     let few_disks = is.few_disks in
     let few_actors = is.few_actors in
-    let n : ℕ = length plan.disks + length plan.actors + 1 in
-    let last : List (List ℕ) = command_lines plan.actors n plan.commands in
-    let reached : (1 + length plan.disks) + length plan.actors ≡ n = omega arith in
+    let last : List (List ℕ) = command_lines plan.actors (first_line plan) plan.commands in
+    let reached : (1 + length plan.disks) + length plan.actors ≡ first_line plan = omega arith in
     let unended : AllByRecursion IsUnended (plan_lines plan) =
     all_both IsUnended (map disk_line plan.disks ++ map actor_line plan.actors) last
     (all_both IsUnended (map disk_line plan.disks) (map actor_line plan.actors) (disks_unended plan.disks disks)
     (actors_unended plan.actors actors))
-    (commands_unended plan.actors n plan.commands is.actors commands) in
+    (commands_unended plan.actors (first_line plan) plan.commands is.actors commands) in
     ap (λ ls. fold next_line (Ok empty_plan) (enumerate_from 1 ls))
     (lines_back (plan_lines plan) unended ∙ append_assoc (map disk_line plan.disks) (map actor_line plan.actors) last)
     ∙ disks_read [] plan.disks 1 (map actor_line plan.actors ++ last) (omega (arith, few_disks)) (omega (arith, few_disks))
@@ -302,5 +319,9 @@ plans_are_read plan is header fits =
     ∙ actors_read plan.disks [] plan.actors (1 + length plan.disks) last (omega (arith, few_actors))
     (omega (arith, few_disks, few_actors)) actors is.actor_names
     ∙ ap (λ k. fold next_line (Ok (of_header plan.disks plan.actors)) (enumerate_from k last)) reached
-    ∙ commands_read plan.disks plan.actors [] plan.commands n is.actors is.actor_names commands
-    (behind (length plan.disks + length plan.actors) plan.commands header is.lines)
+
+pub plans_are_read : PlansAreRead
+plans_are_read plan is header fits =
+    header_read plan is
+    ∙ commands_read plan.disks plan.actors [] plan.commands (first_line plan) is.actors is.actor_names
+    (writable plan is fits) (behind (length plan.disks + length plan.actors) plan.commands header is.lines)

@@ -31,3 +31,8 @@ LinesFit plan = All (λ c. HasRoom c.command (length (command_line plan.actors c
 -- a plan whose text has room for its header and its commands is read from that text
 abbrev pub PlansAreRead : Type 0
 PlansAreRead = (plan : Plan) → IsPlan plan → HeaderFits plan → LinesFit plan → script (plan_text plan) ≡ Ok plan
+
+-- and no other plan is read from its text: the room is just what is wanted
+abbrev pub ReadPlansHaveRoom : Type 0
+ReadPlansHaveRoom =
+    (plan : Plan) → IsPlan plan → script (plan_text plan) ≡ Ok plan → HeaderFits plan × LinesFit plan
