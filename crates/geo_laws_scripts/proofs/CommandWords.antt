@@ -1,25 +1,24 @@
 -- The words of each command are clean, are read as the command, and are few where nothing says how many there are.
-use Rattle.std.specs.Prelude.{◌≡◌, ◌⊎◌, ℕ, zero, suc, ◌+◌, ◌^◌, ◌<◌, ◌≤◌, ◌&&◌, nat_le, nat_lt, Bool, true, false, List, [], ◌∷◌, length, map, codes, decimal, All, Some, Ok, Err, if◌then◌else◌}
+use Rattle.std.specs.Prelude.{◌≡◌, ◌⊎◌, ℕ, zero, suc, ◌+◌, ◌^◌, ◌<◌, ◌≤◌, ◌&&◌, nat_le, nat_lt, Bool, true, List, [], ◌∷◌, length, map, codes, decimal, Some, Ok, Err, if◌then◌else◌}
 use Rattle.std.specs.List.{AllByRecursion, list_all}
 use Rattle.std.proofs.Common.{refl, ◌∙◌, ap, arith, inl, inr}
 use Rattle.std.proofs.lemmas.Bool.{and_parts, le-leb, leb-true, lt-ltb}
 use Rattle.std.proofs.lemmas.List.{length-append}
 use Rattle.std.proofs.lemmas.List.Elements.{recursion_from_All}
-use Rattle.geo_base.specs.Name.{is_name, is_short_name}
+use Rattle.geo_base.specs.Name.{is_name}
 use Rattle.geo_base.specs.Runs.{run_text, runs_of}
 use Rattle.geo_base.specs.declared.kind.Kind.{Kind}
 use Rattle.geo_base.specs.declared.kind.Kind.TheVariants as kinds
 use Rattle.geo_base.specs.declared.request.Counts.{Counts}
-use Rattle.geo_model.specs.declared.command.Cause.{Cause}
 use Rattle.geo_model.specs.declared.command.Cause.TheVariants as causes
 use Rattle.geo_model.specs.declared.command.Command.{Command}
 use Rattle.geo_model.specs.declared.command.Command.TheVariants as commands
-use Rattle.geo_model.specs.Plans.{AreComponents, IsCommand, IsGrant, IsMark, IsNamedClass, IsRunsBytes, IsStripe}
+use Rattle.geo_model.specs.Plans.{AreComponents, IsCommand, IsMark, IsNamedClass, IsStripe}
 use Rattle.geo_model.specs.Report.{counts_text}
-use Rattle.geo_model.specs.Script.{◌>>=◌, Words, any_number, at_end, beside, by_word, class_names, command_table, counts_of, in_range, long_names, names_within, number_of, ranged, record_count, record_id, record_place, runs_words, stripe_size}
+use Rattle.geo_model.specs.Script.{◌>>=◌, Words, any_number, beside, by_word, class_names, command_table, counts_of, in_range, long_names, names_within, number_of, ranged, record_count, record_id, record_place, runs_words, stripe_size}
 use Rattle.geo_laws_texts.proofs.Clean.{IsClean, is_clean_byte, line_of}
 use Rattle.geo_laws_texts.proofs.Numbers.{number_read}
-use Rattle.geo_laws_scripts.specs.PlanTexts.{class_text, command_in_words, concat_in_words, destroy_in_words, mark_concat_in_words, mark_stripe_in_words, nop_in_words, open_in_words, read_in_words, stripe_in_words, write_in_words}
+use Rattle.geo_laws_scripts.specs.PlanTexts.{class_text, command_in_words}
 use Rattle.geo_laws_scripts.specs.ScriptLaws.{HasRoom}
 use Rattle.geo_laws_scripts.proofs.WordForms.{IsWordWithin, counts_read, counts_within, name_within, number_within, run_words, short_within}
 

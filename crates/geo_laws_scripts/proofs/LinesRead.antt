@@ -1,8 +1,8 @@
 -- Each line that is written adds to the plan what it was written for.
-use Rattle.std.specs.Prelude.{◌≡◌, ◌≢◌, ◌⊎◌, ℕ, zero, suc, ◌+◌, ◌*◌, ◌<◌, ◌≤◌, ◌==◌, ◌&&◌, ◌||◌, nat_le, nat_lt, Bool, true, false, not, List, [], ◌∷◌, ◌++◌, length, codes, decimal, position, slice_get, Option, None, Some, Ok, Err, All, AllPairs}
+use Rattle.std.specs.Prelude.{◌≡◌, ℕ, ◌+◌, ◌*◌, ◌≤◌, ◌==◌, ◌&&◌, ◌||◌, nat_le, nat_lt, Bool, true, false, not, List, [], ◌∷◌, ◌++◌, length, codes, decimal, position, slice_get, None, Some, Ok, All}
 use Rattle.std.specs.List.{AllByRecursion, list_all, list_any}
 use Rattle.std.specs.Option.{option_map_or}
-use Rattle.std.proofs.Common.{refl, sym, ◌∙◌, ap, arith, get_or, inl, inr, subst}
+use Rattle.std.proofs.Common.{refl, sym, ◌∙◌, ap, arith, inl, inr, subst}
 use Rattle.std.proofs.lemmas.Bool.{and_parts, le-leb, not-true, or_parts}
 use Rattle.std.proofs.lemmas.Bool.Decides.{nat_tests}
 use Rattle.std.proofs.lemmas.List.{length-append}
@@ -17,7 +17,7 @@ use Rattle.geo_model.specs.declared.command.DiskKind.TheVariants as disk_kinds
 use Rattle.geo_model.specs.Plans.{HasSectors, IsActor, IsCommand, IsDiskDecl}
 use Rattle.geo_model.specs.Words.{first_error, same_name}
 use Rattle.geo_model.specs.World.{Plan}
-use Rattle.geo_model.specs.Script.{◌>>=◌, Words, actor_words, add_actor, add_command, add_disk, at_end, before_commands, beside, by_word, command_table, disk_words, header_table, header_words, is_long, is_skipped, later_word, line_tests, next_line, ram_words, sector_count, sector_size, words_line, words_of}
+use Rattle.geo_model.specs.Script.{Words, add_actor, add_disk, beside, header_table, header_words, is_long, is_skipped, later_word, line_tests, next_line, sector_count, sector_size, words_line, words_of}
 use Rattle.geo_laws_texts.proofs.Clean.{IsClean, line_in_range, line_no_feed, line_of, none_empty, words_back}
 use Rattle.geo_laws_scripts.specs.PlanTexts.{actor_line, command_in_words, disk_in_words, disk_line, later_in_words, spaced}
 use Rattle.geo_laws_scripts.specs.ScriptLaws.{HasRoom}

@@ -1,10 +1,9 @@
 -- A plan that is read from its text has room in it.
-use Rattle.std.specs.Prelude.{◌≡◌, ◌⊎◌, ℕ, zero, suc, ◌+◌, ◌-◌, ◌<◌, ◌≤◌, ◌==◌, ◌&&◌, ◌||◌, nat_le, nat_lt, Bool, true, false, not, List, [], ◌∷◌, ◌++◌, length, map, fold, position, slice_get, codes, Option, Some, None, Result, Ok, Err, All, AllPairs, if◌then◌else◌, ⊤}
+use Rattle.std.specs.Prelude.{◌≡◌, ℕ, ◌+◌, ◌-◌, ◌<◌, ◌≤◌, ◌==◌, ◌&&◌, nat_lt, Bool, true, false, not, List, [], ◌∷◌, ◌++◌, length, fold, position, slice_get, codes, Option, Some, None, Result, Ok, Err, All, AllPairs, if◌then◌else◌, ⊤}
 use Rattle.std.specs.List.{AllByRecursion, enumerate_from}
 use Rattle.std.specs.Option.{option_map_or}
 use Rattle.std.proofs.Common.{refl, sym, ◌∙◌, ap, arith, inl, inr, subst}
 use Rattle.std.proofs.lemmas.Bool.{ltb-false, ltb-true, ne_eqb, or_parts}
-use Rattle.std.proofs.lemmas.List.{append_assoc}
 use Rattle.std.proofs.lemmas.List.Elements.{All-from_recursion, recursion_from_All}
 use Rattle.std.proofs.lemmas.Slice.Eq.{bytes_eq-Decides}
 use Rattle.geo_model.specs.declared.command.Cause.{Cause}
@@ -17,10 +16,10 @@ use Rattle.geo_model.specs.Generator.{entry_at}
 use Rattle.geo_model.specs.Plans.{Differ, IsActor, IsCommandLine, IsPlan}
 use Rattle.geo_model.specs.Words.{first_error, same_name, unless}
 use Rattle.geo_model.specs.World.{Plan}
-use Rattle.geo_model.specs.Script.{◌>>=◌, Fault, Words, actor_line, add_command, at_line, before_commands, beside, by_word, command_table, header_table, is_long, is_skipped, line_by, line_tests, next_line, plan_with_line, script, words_line, words_of}
+use Rattle.geo_model.specs.Script.{◌>>=◌, Fault, Words, actor_line, add_command, at_line, beside, by_word, command_table, header_table, is_long, is_skipped, line_by, line_tests, next_line, plan_with_line, words_line, words_of}
 use Rattle.geo_laws_texts.proofs.Clean.{line_of, words_back}
-use Rattle.geo_laws_scripts.specs.PlanTexts.{command_in_words, command_line, command_lines, plan_text, spaced}
-use Rattle.geo_laws_scripts.specs.ScriptLaws.{HasRoom, HeaderFits, LinesFit, ReadPlansHaveRoom, StandsBehind}
+use Rattle.geo_laws_scripts.specs.PlanTexts.{command_in_words, command_line, command_lines, spaced}
+use Rattle.geo_laws_scripts.specs.ScriptLaws.{HasRoom, HeaderFits, ReadPlansHaveRoom, StandsBehind}
 use Rattle.geo_laws_scripts.proofs.WordForms.{short_within}
 use Rattle.geo_laws_scripts.proofs.CommandWords.{AreCommandWords, IsLength, command_words}
 use Rattle.geo_laws_scripts.proofs.LinesRead.{name_shown, with_command}

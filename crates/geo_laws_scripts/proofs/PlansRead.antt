@@ -1,5 +1,5 @@
 -- The text of a plan is read as the plan.
-use Rattle.std.specs.Prelude.{◌≡◌, ℕ, zero, suc, ◌+◌, ◌-◌, ◌<◌, ◌≤◌, ◌==◌, ◌&&◌, ◌||◌, nat_le, nat_lt, Bool, true, false, not, List, [], ◌∷◌, ◌++◌, length, map, flat_map, fold, replicate, position, Some, Ok, All, AllPairs}
+use Rattle.std.specs.Prelude.{◌≡◌, ℕ, zero, suc, ◌+◌, ◌-◌, ◌<◌, ◌≤◌, ◌==◌, nat_le, nat_lt, true, false, List, [], ◌∷◌, ◌++◌, length, map, flat_map, fold, replicate, position, Some, Ok, All, AllPairs}
 use Rattle.std.specs.List.{AllByRecursion, enumerate_from, list_any, slice_split, position_or_len}
 use Rattle.std.specs.List.Sorted.{IsStrictlyIncreasing}
 use Rattle.std.proofs.Common.{refl, sym, ◌∙◌, ap, arith, get_or, subst}
@@ -21,7 +21,7 @@ use Rattle.geo_model.specs.Words.{same_name}
 use Rattle.geo_model.specs.World.{Plan}
 use Rattle.geo_model.specs.Script.{add_actor, add_disk, drop_empty_end, empty_plan, header_words, lines_of, next_line, script}
 use Rattle.geo_laws_scripts.specs.PlanTexts.{actor_line, command_line, command_lines, disk_line, plan_lines, plan_text}
-use Rattle.geo_laws_scripts.specs.ScriptLaws.{HasRoom, HeaderFits, LinesFit, PlansAreRead, StandsBehind}
+use Rattle.geo_laws_scripts.specs.ScriptLaws.{HasRoom, LinesFit, PlansAreRead, StandsBehind}
 use Rattle.geo_laws_scripts.proofs.LinesRead.{IsUnended, actor_read, actor_unended, command_read, command_unended, disk_read, disk_unended, turned, with_command}
 
 -- Lists
