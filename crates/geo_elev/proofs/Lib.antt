@@ -1,0 +1,4 @@
+pub mod Candidates
+pub mod Keys
+pub mod Entries
+pub mod Kept

@@ -1,0 +1,74 @@
+-- What waits for a disk, as it is kept: by numbers, and what is next by places.
+use Rattle.std.specs.Prelude.{◌≡◌, ℕ, ◌+◌, ◌*◌, ◌^◌, ◌<◌, ◌≤◌, ◌==◌, nat_lt, Bool, true, false, not, ◌&&◌, List, [], ◌∷◌, Option, Some, None, filter, map, IsTrue, ⊤}
+use Rattle.std.specs.List.{list_all, list_any}
+use Rattle.std.specs.Ordering.{nat_cmp}
+use Rattle.std.specs.BTreeMap.{is_at}
+use Rattle.geo_headline.specs.Sweep.{Waiting, candidates}
+use Rattle.geo_elev.specs.declared.lists.Place.{Place}
+
+-- a bio that waits, by its number and its place
+abbrev pub one_at : ℕ → Place → Waiting
+one_at bio place = record { bio = bio; flush = place.flush; first = place.first }
+
+-- an entry of those that wait
+abbrev pub waiting_at : ℕ × Place → Waiting
+waiting_at entry = one_at entry.0 entry.1
+
+-- those that wait, in order of numbers
+abbrev pub waiting_in : List (ℕ × Place) → List Waiting
+waiting_in entries = map waiting_at entries
+
+-- a number that rises with the first sector, and among equal ones with the number of the bio
+abbrev pub key_of : Waiting → ℕ
+key_of x = x.first * 2 ^ 64 + x.bio
+
+-- whether one has this key
+abbrev pub has_key : ℕ → List Waiting → Bool
+has_key key xs = list_any (λ x. key_of x == key) xs
+
+-- whether it is among the keys of a set
+abbrev pub is_kept : ℕ → List ℕ → Bool
+is_kept key keys = list_any (is_at (nat_cmp key)) keys
+
+-- no FLUSH waits
+abbrev pub is_open : List Waiting → Bool
+is_open xs = list_all (λ x. not x.flush) xs
+
+-- whether one more at the end may be taken next
+abbrev pub joins : List Waiting → Bool → Bool
+joins [] flush = true
+joins (x ∷ xs) flush = is_open (x ∷ xs) && not flush
+
+-- there are none
+abbrev pub is_none_of : {X : Type 0} → List X → Bool
+is_none_of [] = true
+is_none_of (x ∷ xs) = false
+
+-- those that are another bio
+abbrev pub without : ℕ → List Waiting → List Waiting
+without bio xs = filter (λ x. not (x.bio == bio)) xs
+
+-- all have smaller numbers
+abbrev pub are_below : ℕ → List Waiting → Bool
+are_below bio xs = list_all (λ x. nat_lt x.bio bio) xs
+
+-- the numbers rise from one on, and fit 64 bits
+abbrev pub Rises : ℕ → List Waiting → Type 0
+Rises low [] = ⊤
+Rises low (x ∷ xs) = (low ≤ x.bio) × (x.bio < 2 ^ 64) × Rises (x.bio + 1) xs
+
+-- the set has the keys of these
+abbrev pub HasKeys : List ℕ → List Waiting → Type 0
+HasKeys keys xs = (key : ℕ) → is_kept key keys ≡ has_key key xs
+
+-- the least key from one on
+abbrev pub IsNextKey : List ℕ → ℕ → Option ℕ → Type 0
+IsNextKey keys low (Some k) =
+    IsTrue (is_kept k keys) × (low ≤ k) × ((key : ℕ) → IsTrue (is_kept key keys) → low ≤ key → k ≤ key)
+IsNextKey keys low None = (key : ℕ) → low ≤ key → is_kept key keys ≡ false
+
+-- the numbers rise, the set has the keys of what may be taken next, and it is known whether a FLUSH waits
+pub record AreLists (entries : List (ℕ × Place)) (keys : List ℕ) (open_end : Bool) : Type 0 where
+  pub rises : Rises 0 (waiting_in entries)
+  pub front : HasKeys keys (candidates (waiting_in entries))
+  pub is_open : open_end ≡ is_open (waiting_in entries)
