@@ -2,8 +2,10 @@
 //! next Take is found without a walk over all requests.
 #![tactic(auto)]
 
+mod disks;
 mod lists;
 mod queue;
 
+pub use disks::DiskHead;
 pub use lists::Place;
 pub use queue::Queue;

@@ -1,0 +1,84 @@
+//! The heads of disks, and what waits for them.
+ghost use Rattle.std.specs.Prelude.{◌≡◌, IfOk, IsTrue, OnOk, length};
+ghost use Rattle.geo_elev.specs.Disks.{ChangesOne, Moves, Queues, asked_of};
+ghost use Rattle.geo_elev.specs.Lists.{one_at};
+
+use crate::lists::Place;
+use crate::queue::Queue;
+use geo_base::{BioCmd, BioId, NoMemory};
+use geo_model::Request;
+
+/// A disk's head, which is the sector where its last request that wasn't a FLUSH began (0 before one), and what waits
+/// for it.
+#[derive(Drop)]
+pub struct DiskHead {
+    pub head: u64,
+    pub waiting: Queue,
+}
+
+/// The disk of a request was asked for a bio, which waits no longer. On `NoMemory` the disks are as many.
+pub fn asked(disks: &mut [DiskHead], request: &Request, bio: BioId) -> Result<(), NoMemory>
+    ensures asked { OnOk result (ChangesOne request.now.disk (λ d e. e ≡ asked_of request.now bio d)
+        disks.old disks.new) }
+    ensures length { length disks.new ≡ length disks.old }
+{
+    let at = request.disk as usize;
+    if at < disks.len() {
+        ask(&mut disks[at], request, bio)?;
+    }
+    Ok(())
+}
+
+// The same of its disk.
+fn ask(disk: &mut DiskHead, request: &Request, bio: BioId) -> Result<(), NoMemory>
+    ensures { OnOk result (disk.new ≡ asked_of request.now bio disk.old) }
+{
+    disk.waiting.take(bio)?;
+    if request.cmd != BioCmd::Flush {
+        disk.head = request.first;
+    }
+    Ok(())
+}
+
+/// The disk of a request was asked, which moves its head alone.
+pub fn move_head(disks: &mut [DiskHead], request: &Request)
+    ensures { ChangesOne request.now.disk (Moves request.now) disks.old disks.new }
+{
+    let at = request.disk as usize;
+    if at < disks.len() {
+        move_to(&mut disks[at], request);
+    }
+}
+
+// The same of its disk.
+fn move_to(disk: &mut DiskHead, request: &Request)
+    ensures { Moves request.now disk.old disk.new }
+{
+    if request.cmd != BioCmd::Flush {
+        disk.head = request.first;
+    }
+}
+
+/// One more bio waits for a disk: true, if all that waited has smaller numbers; else nothing changes. On `NoMemory`
+/// the disks are as many.
+pub fn queued(disks: &mut [DiskHead], disk: u32, bio: BioId, place: Place) -> Result<bool, NoMemory>
+    ensures queued { IfOk result (λ b. ChangesOne disk (Queues b (one_at bio place)) disks.old disks.new) }
+    ensures length { length disks.new ≡ length disks.old }
+{
+    let at = disk as usize;
+    if at < disks.len() {
+        return queue(&mut disks[at], bio, place);
+    }
+    Ok(true)
+}
+
+// The same of the disk.
+fn queue(disk: &mut DiskHead, bio: BioId, place: Place) -> Result<bool, NoMemory>
+    ensures { IfOk result (λ b. Queues b (one_at bio place) disk.old disk.new) }
+{
+    if !disk.waiting.is_below(bio) {
+        return Ok(false);
+    }
+    disk.waiting.put(bio, place)?;
+    Ok(true)
+}
