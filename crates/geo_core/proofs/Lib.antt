@@ -18,3 +18,4 @@ pub mod Admitting
 pub mod Beginning
 pub mod Seats
 pub mod LoggedAnswers
+pub mod Spots

@@ -7,3 +7,4 @@ pub mod Openings
 pub mod Goes
 pub mod Places
 pub mod Logged
+pub mod Sent

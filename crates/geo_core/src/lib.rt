@@ -14,6 +14,7 @@ mod owed;
 mod refusal;
 mod rest;
 mod running;
+mod sent;
 mod turns;
 mod twin;
 
@@ -21,3 +22,4 @@ pub use geo_log::{DiskFacts, Log};
 pub use logged::{MeshStart, answers_tell, delivers_are_sure, made_is_answered, passes_are_good};
 pub use mesh::Mesh;
 pub use refusal::ApplyRefusal;
+pub use sent::Spot;

@@ -1,5 +1,5 @@
 //! The mesh: its plan, what it is now, and its log.
-ghost use Rattle.std.specs.Prelude.{◌≡◌, ℕ, [], ◌∷◌, ◌++◌, length, find, nat_le, IfOk, IsOk, IsTrue};
+ghost use Rattle.std.specs.Prelude.{◌≡◌, ℕ, ◌<◌, ◌^◌, [], ◌∷◌, ◌++◌, length, find, nat_le, IfOk, IsOk, IsTrue};
 ghost use Rattle.std.specs.Option.{option_map};
 ghost use Rattle.geo_model.specs.declared.step.Step.TheVariants as steps;
 ghost use Rattle.geo_model.specs.Laws.{NoneBusy};
@@ -10,12 +10,14 @@ ghost use Rattle.geo_model.specs.Plans.{FactsFit};
 ghost use Rattle.geo_model.specs.Step.{is_enabled};
 ghost use Rattle.geo_model.specs.World.{is_up, is_down};
 ghost use Rattle.geo_core.specs.Mesh.{MeshView, IsHistory, world_of, room_of, Applies, Advances, IsSure};
+ghost use Rattle.geo_core.specs.Sent.{spot_of};
 
 use crate::apply::{advance, apply, begin};
 use crate::found::found_against;
 use crate::refusal::ApplyRefusal;
 use crate::rest::{first_down, first_to_take, first_up, is_at_rest, next_bio, room};
 use crate::running::Running;
+use crate::sent::{Spot, sent};
 use geo_base::{BioId, NoMemory};
 use geo_commands::listing;
 use geo_log::{DiskFacts, Log};
@@ -134,6 +136,14 @@ impl Mesh {
         ensures { result ≡ room_of (world_of self.now) bio }
     {
         room(&self.running, bio)
+    }
+
+    /// Where a bio goes that waits for its disk: Some exactly where it is Sent. The numbers of bios fit 64 bits.
+    pub fn sent(&self, bio: BioId) -> Option<Spot>
+        ensures spot { result ≡ spot_of (world_of self.now) bio }
+        ensures bound { (world_of self.now).next_bio < 2 ^ 64 }
+    {
+        sent(&self.running, bio)
     }
 
     /// How many actors there are.

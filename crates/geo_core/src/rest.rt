@@ -100,8 +100,8 @@ fn disk_of(running: &Running, bio: BioId) -> u32
     }
 }
 
-// The disk of a provider, if it is one of a DISK geom.
-fn disk_at(topo: &Topo<Config>, prov: ProvId) -> Option<u32>
+/// The disk of a provider, if it is one of a DISK geom.
+pub fn disk_at(topo: &Topo<Config>, prov: ProvId) -> Option<u32>
     ensures { result ≡ disk_at topo.now.topology prov }
 {
     match topo.provider(prov) {
