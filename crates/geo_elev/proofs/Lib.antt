@@ -3,3 +3,4 @@ pub mod Keys
 pub mod Entries
 pub mod Kept
 pub mod Following
+pub mod Walking
