@@ -1,7 +1,7 @@
 -- Bytes added to a sink.
 use Rattle.std.proofs.Common.{ℕ, ◌+◌, ◌-◌, List, [], ◌++◌, length, take, drop, Option, Some, None, sym, ◌∙◌, ap, append_assoc, append-nil}
 use Rattle.std.proofs.Math.Seq.{take-add}
-use Rattle.geo_io.specs.Sink.{Basin, Grows, Takes}
+use Rattle.geo_io.specs.Sink.{Grows, SinkView, Takes}
 use Rattle.geo_io.proofs.SourceLemmas.{tail_range}
 
 -- added, and then more
@@ -19,18 +19,18 @@ Grows-none None = tt
 Grows-none (Some a) = sym (append-nil a)
 
 -- taken, and then more
-pub Takes-more : (a b c : Basin) (x y : List ℕ) → Takes a x b → Takes b y c → Takes a (x ++ y) c
+pub Takes-more : (a b c : SinkView) (x y : List ℕ) → Takes a x b → Takes b y c → Takes a (x ++ y) c
 Takes-more a b c x y h k = record {
   taken = k.taken ∙ ap (λ t. t ++ y) h.taken ∙ append_assoc a.taken x y;
   grows = Grows-more a.held b.held c.held x y h.grows k.grows;
 }
 
 -- nothing was taken
-pub Takes-none : (a : Basin) → Takes a [] a
+pub Takes-none : (a : SinkView) → Takes a [] a
 Takes-none a = record { taken = sym (append-nil a.taken); grows = Grows-none a.held }
 
 -- one more part of the bytes was taken
-pub Takes-part : (a b c : Basin) (n k : ℕ) (xs : List ℕ) → Takes a (take n xs) b
+pub Takes-part : (a b c : SinkView) (n k : ℕ) (xs : List ℕ) → Takes a (take n xs) b
     → Takes b (take k (take (length xs - n) (drop n xs))) c → Takes a (take (n + k) xs) c
 Takes-part a b c n k xs h m =
     rw (take-add n k xs) (Takes-more a b c (take n xs) (take k (drop n xs)) h (rw tail_range at m))

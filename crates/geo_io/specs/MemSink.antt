@@ -1,7 +1,7 @@
 -- A sink in memory.
 use Rattle.std.specs.Prelude.{ℕ, ◌-◌, min, List, ◌++◌, length, Some}
 use Rattle.geo_io.specs.Counts.{raised}
-use Rattle.geo_io.specs.Sink.{Basin}
+use Rattle.geo_io.specs.Sink.{SinkView}
 
 -- the bytes written, how many it can hold, how many a call takes at most, the numbers of the calls that fail, and the
 -- calls and faults so far
@@ -14,8 +14,8 @@ pub record Store : Type 0 where
   pub faults : ℕ
 
 -- a sink in memory holds what it took
-abbrev pub basin_of : Store → Basin
-basin_of s = record { taken = s.written; held = Some s.written }
+abbrev pub sink_view : Store → SinkView
+sink_view s = record { taken = s.written; held = Some s.written; faults = s.faults }
 
 -- how many of so many bytes a call takes
 abbrev pub stored_count : Store → ℕ → ℕ

@@ -1,7 +1,7 @@
 -- A source in memory.
 use Rattle.std.specs.Prelude.{ℕ, ◌==◌, min, Bool, List, ◌++◌, length, take, drop, Some}
 use Rattle.geo_io.specs.Counts.{raised}
-use Rattle.geo_io.specs.Source.{Stream}
+use Rattle.geo_io.specs.Source.{SourceView}
 
 -- the bytes given and those left, whether a read found the end, how many a call gives at most, the numbers of the calls
 -- that fail, and the calls and faults so far
@@ -14,9 +14,15 @@ pub record Feed : Type 0 where
   pub calls : ℕ
   pub faults : ℕ
 
--- a source in memory tells what is left
-abbrev pub stream_of : Feed → Stream
-stream_of f = record { given = f.given; ended = f.ended; left = Some f.left }
+-- a source in memory tells what is left, and counts its reads
+abbrev pub source_view : Feed → SourceView
+source_view f = record {
+  given = f.given;
+  ended = f.ended;
+  left = Some f.left;
+  reads = f.calls;
+  faults = f.faults;
+}
 
 -- how many bytes a call with so much room gives
 abbrev pub fed_count : Feed → ℕ → ℕ

@@ -1,12 +1,18 @@
 -- A source as its calls show it: what it gave, and what is left in it where it tells that.
 use Rattle.std.specs.Prelude.{◌≡◌, ℕ, ◌<◌, ◌≤◌, Bool, IsTrue, List, [], ◌++◌, length, Option, Some, None}
 
--- what its reads gave so far in order, whether the last one that didn't fail found the end, and the bytes left where it
--- tells them
-pub record Stream : Type 0 where
+-- a source at one moment
+pub record SourceView : Type 0 where
+  -- the bytes that its reads gave so far, in order
   pub given : List ℕ
+  -- whether the last read that didn't fail found the end
   pub ended : Bool
+  -- the bytes left, where it tells them
   pub left : Option (List ℕ)
+  -- how often it was read, as far as it counts that
+  pub reads : ℕ
+  -- how many reads failed; no call that went through counts
+  pub faults : ℕ
 
 -- these bytes were taken from the front; a source that doesn't tell what is left goes on not telling
 abbrev pub Goes : Option (List ℕ) → List ℕ → Option (List ℕ) → Type 0
@@ -16,9 +22,15 @@ Goes (Some old) bytes None = ⊥
 Goes (Some old) bytes (Some new) = old ≡ bytes ++ new
 
 -- these bytes were given, and taken from the front of what was left
-pub record Gives (old : Stream) (bytes : List ℕ) (new : Stream) : Type 0 where
+pub record Gives (old : SourceView) (bytes : List ℕ) (new : SourceView) : Type 0 where
   pub given : new.given ≡ old.given ++ bytes
   pub goes : Goes old.left bytes new.left
+
+-- nothing was given, found or taken
+pub record GivesNothing (old new : SourceView) : Type 0 where
+  pub given : new.given ≡ old.given
+  pub ended : new.ended ≡ old.ended
+  pub left : new.left ≡ old.left
 
 -- nothing is left
 abbrev pub IsEnd : Option (List ℕ) → Type 0
@@ -31,18 +43,18 @@ IsMore None = Unit {0}
 IsMore (Some left) = 0 < length left
 
 -- its end was found, and nothing is left
-pub record IsAtEnd (stream : Stream) : Type 0 where
-  pub ended : IsTrue stream.ended
-  pub none_left : IsEnd stream.left
+pub record IsAtEnd (source : SourceView) : Type 0 where
+  pub ended : IsTrue source.ended
+  pub none_left : IsEnd source.left
 
 -- so many bytes were given
-pub record GivesMany (old : Stream) (count : ℕ) (new : Stream) : Type 0 where
+pub record GivesMany (old : SourceView) (count : ℕ) (new : SourceView) : Type 0 where
   pub bytes : List ℕ
   pub many : length bytes ≡ count
   pub gives : Gives old bytes new
 
 -- at most so many bytes were given
-pub record GivesAtMost (old : Stream) (limit : ℕ) (new : Stream) : Type 0 where
+pub record GivesAtMost (old : SourceView) (limit : ℕ) (new : SourceView) : Type 0 where
   pub bytes : List ℕ
   pub few : length bytes ≤ limit
   pub gives : Gives old bytes new

@@ -1,9 +1,9 @@
 //! A sink in memory.
-ghost use Rattle.std.specs.Prelude.{◌≡◌, ◌≤◌, ◌<◌, ◌↔◌, ◌⊎◌, ◌++◌, [], Contains, IsErr, IfOk, OnErr, length, take};
+ghost use Rattle.std.specs.Prelude.{◌≡◌, ◌≤◌, ◌<◌, ◌↔◌, ◌⊎◌, ◌++◌, [], Contains, IsErr, IfOk, OnErr, OnOk, length, take};
 ghost use Rattle.geo_base.specs.Faults.{HasCause};
 ghost use Rattle.geo_io.specs.Counts.{raised};
-ghost use Rattle.geo_io.specs.MemSink.{basin_of, stored_count, after_write, after_failed_write};
-ghost use Rattle.geo_io.specs.Sink.{Takes};
+ghost use Rattle.geo_io.specs.MemSink.{sink_view, stored_count, after_write, after_failed_write};
+ghost use Rattle.geo_io.specs.Sink.{Takes, TakesNothing};
 
 use crate::sink::Sink;
 use crate::source::Failed;
@@ -68,17 +68,16 @@ impl MemSink {
 }
 
 impl Sink for MemSink {
-    ghost basin = { basin_of };
-
-    ghost faults = { λ s. s.faults };
+    ghost view = { sink_view };
 
     fn write(&mut self, bytes: &[u8]) -> Result<usize, Failed>
         requires { 0 < length bytes.now }
         ensures some { IfOk result (λ n. 1 ≤ n) }
         ensures bound { IfOk result (λ n. n ≤ length bytes.now) }
-        ensures bytes { IfOk result (λ n. Takes (basin_of self.old) (take n bytes.now) (basin_of self.new)) }
-        ensures err { OnErr result (basin_of self.new ≡ basin_of self.old) }
+        ensures bytes { IfOk result (λ n. Takes (sink_view self.old) (take n bytes.now) (sink_view self.new)) }
+        ensures err { OnErr result (TakesNothing (sink_view self.old) (sink_view self.new)) }
         ensures cause { HasCause self.old.faults self.new.faults result }
+        ensures told { OnOk result (self.new.faults ≡ self.old.faults) }
 
         // It fails exactly where the call's number is in the list or the room is used up, and else takes as much as
         // fits.

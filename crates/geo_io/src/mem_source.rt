@@ -1,9 +1,9 @@
 //! A source in memory.
-ghost use Rattle.std.specs.Prelude.{◌≡◌, ◌+◌, ◌≤◌, ◌<◌, ◌==◌, ◌↔◌, ◌++◌, [], false, Contains, IsErr, IfOk, OnErr, length, take, drop};
+ghost use Rattle.std.specs.Prelude.{◌≡◌, ◌+◌, ◌≤◌, ◌<◌, ◌==◌, ◌↔◌, ◌++◌, [], false, Contains, IsErr, IfOk, OnErr, OnOk, length, take, drop};
 ghost use Rattle.geo_base.specs.Faults.{HasCause};
 ghost use Rattle.geo_io.specs.Counts.{CountsOnce, raised};
-ghost use Rattle.geo_io.specs.Source.{Gives};
-ghost use Rattle.geo_io.specs.MemSource.{stream_of, fed_count, after_read, after_failed_read};
+ghost use Rattle.geo_io.specs.Source.{Gives, GivesNothing};
+ghost use Rattle.geo_io.specs.MemSource.{source_view, fed_count, after_read, after_failed_read};
 
 use crate::source::{Failed, Source};
 use geo_base::{Block, Calls};
@@ -68,21 +68,18 @@ impl MemSource {
 }
 
 impl Source for MemSource {
-    ghost stream = { stream_of };
-
-    ghost faults = { λ s. s.faults };
-
-    ghost reads = { λ s. s.calls };
+    ghost view = { source_view };
 
     fn read(&mut self, out: &mut [u8]) -> Result<usize, Failed>
         requires { 0 < length out.old }
         ensures bound { IfOk result (λ n. n ≤ length out.new) }
-        ensures bytes { IfOk result (λ n. Gives (stream_of self.old) (take n out.new) (stream_of self.new)) }
+        ensures bytes { IfOk result (λ n. Gives (source_view self.old) (take n out.new) (source_view self.new)) }
         ensures end { IfOk result (λ n. n ≡ 0 → self.old.left ≡ []) }
         ensures more { IfOk result (λ n. 0 < n → 0 < length self.old.left) }
         ensures ended { IfOk result (λ n. self.new.ended ≡ (n == 0)) }
-        ensures err { OnErr result (stream_of self.new ≡ stream_of self.old) }
+        ensures err { OnErr result (GivesNothing (source_view self.old) (source_view self.new)) }
         ensures cause { HasCause self.old.faults self.new.faults result }
+        ensures told { OnOk result (self.new.faults ≡ self.old.faults) }
         ensures once { CountsOnce self.old.calls self.new.calls }
 
         // It fails exactly where the call's number is in the list, and else gives as much as there is room for.

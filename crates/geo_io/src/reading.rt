@@ -1,7 +1,7 @@
 //! Reading a source to its end.
 ghost use Rattle.std.specs.Prelude.{◌≡◌, ◌+◌, ◌≤◌, ◌<◌, ◌^◌, [], length, vec_len, IfOk, OnOk, IsErrOf};
 ghost use Rattle.geo_base.specs.Faults.{Rose};
-ghost use Rattle.geo_io.specs.Source.{Gives, GivesAtMost, GivesMany, IsAtEnd, Stream};
+ghost use Rattle.geo_io.specs.Source.{Gives, GivesAtMost, GivesMany, GivesNothing, IsAtEnd, SourceView};
 
 use crate::source::Source;
 use geo_base::Block;
@@ -32,18 +32,19 @@ fn read_piece<S: Source>(
     bytes: &mut Vec<u8>,
 ) -> Result<usize, ReadRefusal>
     requires { 0 < length piece.old }
-    ensures taken { IfOk result (λ _. (first : Stream) → Gives first bytes.old.items (S.stream source.old)
-        → Gives first bytes.new.items (S.stream source.new)) }
+    ensures taken { IfOk result (λ _. (first : SourceView) → Gives first bytes.old.items (S.view source.old)
+        → Gives first bytes.new.items (S.view source.new)) }
     ensures grown { IfOk result (λ n. vec_len bytes.new ≡ vec_len bytes.old + n) }
     ensures bound { IfOk result (λ n. n ≤ length piece.old) }
-    ensures end { IfOk result (λ n. n ≡ 0 → IsAtEnd (S.stream source.new)) }
+    ensures end { IfOk result (λ n. n ≡ 0 → IsAtEnd (S.view source.new)) }
     ensures not_long { IsErrOf result ReadRefusal.TooLong → ⊥ }
-    ensures fault { IsErrOf result ReadRefusal.ReadFault → Rose (S.faults source.old) (S.faults source.new) }
-    ensures fault_left { IsErrOf result ReadRefusal.ReadFault → S.stream source.new ≡ S.stream source.old }
-    ensures lost { IsErrOf result ReadRefusal.NoMemory → GivesAtMost (S.stream source.old) (length piece.old)
-        (S.stream source.new) }
-    ensures later { S.faults source.old ≤ S.faults source.new }
-    ensures once { S.reads source.new ≤ S.reads source.old + 1 }
+    ensures fault { IsErrOf result ReadRefusal.ReadFault → Rose (S.view source.old).faults (S.view source.new).faults }
+    ensures fault_left { IsErrOf result ReadRefusal.ReadFault → GivesNothing (S.view source.old) (S.view source.new) }
+    ensures lost { IsErrOf result ReadRefusal.NoMemory → GivesAtMost (S.view source.old) (length piece.old)
+        (S.view source.new) }
+    ensures later { (S.view source.old).faults ≤ (S.view source.new).faults }
+    ensures told { (IsErrOf result ReadRefusal.ReadFault → ⊥) → (S.view source.new).faults ≡ (S.view source.old).faults }
+    ensures once { (S.view source.new).reads ≤ (S.view source.old).reads + 1 }
 {
     match source.read(piece) {
         Ok(count) => match bytes.extend_from_slice(&piece[..count]) {
@@ -64,18 +65,19 @@ fn read_through<S: Source>(
     requires whole { length piece.old ≡ PIECE }
     requires empty { bytes.old.items ≡ [] }
     requires small { limit < 2 ^ 32 }
-    ensures all { OnOk result (Gives (S.stream source.old) bytes.new.items (S.stream source.new)) }
-    ensures end { OnOk result (IsAtEnd (S.stream source.new)) }
+    ensures all { OnOk result (Gives (S.view source.old) bytes.new.items (S.view source.new)) }
+    ensures end { OnOk result (IsAtEnd (S.view source.new)) }
     ensures within { OnOk result (vec_len bytes.new ≤ limit) }
-    ensures too_long { IsErrOf result ReadRefusal.TooLong → GivesMany (S.stream source.old) (limit + 1)
-        (S.stream source.new) }
-    ensures fault { IsErrOf result ReadRefusal.ReadFault → Rose (S.faults source.old) (S.faults source.new) }
+    ensures too_long { IsErrOf result ReadRefusal.TooLong → GivesMany (S.view source.old) (limit + 1)
+        (S.view source.new) }
+    ensures fault { IsErrOf result ReadRefusal.ReadFault → Rose (S.view source.old).faults (S.view source.new).faults }
     ensures fault_taken { IsErrOf result ReadRefusal.ReadFault
-        → GivesAtMost (S.stream source.old) limit (S.stream source.new) }
-    ensures lost { IsErrOf result ReadRefusal.NoMemory → GivesAtMost (S.stream source.old) (limit + 1)
-        (S.stream source.new) }
-    ensures later { S.faults source.old ≤ S.faults source.new }
-    ensures reads { S.reads source.new ≤ S.reads source.old + (limit + 2) }
+        → GivesAtMost (S.view source.old) limit (S.view source.new) }
+    ensures lost { IsErrOf result ReadRefusal.NoMemory → GivesAtMost (S.view source.old) (limit + 1)
+        (S.view source.new) }
+    ensures later { (S.view source.old).faults ≤ (S.view source.new).faults }
+    ensures told { (IsErrOf result ReadRefusal.ReadFault → ⊥) → (S.view source.new).faults ≡ (S.view source.old).faults }
+    ensures reads { (S.view source.new).reads ≤ (S.view source.old).reads + (limit + 2) }
 {
     for turn in 0..limit + 2 {
         let room = PIECE.min(limit + 1 - bytes.len());
@@ -93,21 +95,22 @@ fn read_through<S: Source>(
 /// All the bytes that are left, if they are at most `limit`. It reads at most `limit + 2` times, and takes at most
 /// `limit + 1` bytes: `TooLong` exactly where it took so many.
 pub fn read_all<S: Source>(alloc: Global, source: &mut S, limit: u32) -> Result<Block, ReadRefusal>
-    ensures all { IfOk result (λ block. Gives (S.stream source.old) block (S.stream source.new)) }
-    ensures end { OnOk result (IsAtEnd (S.stream source.new)) }
+    ensures all { IfOk result (λ block. Gives (S.view source.old) block (S.view source.new)) }
+    ensures end { OnOk result (IsAtEnd (S.view source.new)) }
     ensures within { IfOk result (λ block. length block ≤ limit) }
-    ensures too_long { IsErrOf result ReadRefusal.TooLong → GivesMany (S.stream source.old) (limit + 1)
-        (S.stream source.new) }
-    ensures fault { IsErrOf result ReadRefusal.ReadFault → Rose (S.faults source.old) (S.faults source.new) }
+    ensures too_long { IsErrOf result ReadRefusal.TooLong → GivesMany (S.view source.old) (limit + 1)
+        (S.view source.new) }
+    ensures fault { IsErrOf result ReadRefusal.ReadFault → Rose (S.view source.old).faults (S.view source.new).faults }
 
     // What was taken is lost.
     ensures fault_taken { IsErrOf result ReadRefusal.ReadFault
-        → GivesAtMost (S.stream source.old) limit (S.stream source.new) }
-    ensures lost { IsErrOf result ReadRefusal.NoMemory → GivesAtMost (S.stream source.old) (limit + 1)
-        (S.stream source.new) }
+        → GivesAtMost (S.view source.old) limit (S.view source.new) }
+    ensures lost { IsErrOf result ReadRefusal.NoMemory → GivesAtMost (S.view source.old) (limit + 1)
+        (S.view source.new) }
 
-    ensures later { S.faults source.old ≤ S.faults source.new }
-    ensures reads { S.reads source.new ≤ S.reads source.old + (limit + 2) }
+    ensures later { (S.view source.old).faults ≤ (S.view source.new).faults }
+    ensures told { (IsErrOf result ReadRefusal.ReadFault → ⊥) → (S.view source.new).faults ≡ (S.view source.old).faults }
+    ensures reads { (S.view source.new).reads ≤ (S.view source.old).reads + (limit + 2) }
 {
     let Ok(mut piece) = vec![in alloc; 0u8; PIECE] else {
         return Err(ReadRefusal::NoMemory);

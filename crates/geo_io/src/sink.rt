@@ -1,25 +1,24 @@
 //! What bytes go to.
-ghost use Rattle.std.specs.Prelude.{◌≡◌, ℕ, ◌≤◌, ◌<◌, length, take, IfOk, OnErr};
+ghost use Rattle.std.specs.Prelude.{◌≡◌, ◌≤◌, ◌<◌, length, take, IfOk, OnErr, OnOk};
 ghost use Rattle.geo_base.specs.Faults.{HasCause};
-ghost use Rattle.geo_io.specs.Sink.{Basin, Takes};
+ghost use Rattle.geo_io.specs.Sink.{SinkView, Takes, TakesNothing};
 
 use crate::source::Failed;
 
 /// What bytes go to, as a file or a stream.
 pub trait Sink {
-    /// What its writes took so far, and the bytes that it holds, where the sink tells them.
-    ghost basin: { Self → Basin };
-
-    /// How often it failed.
-    ghost faults: { Self → ℕ };
+    /// What its calls show: what its writes took so far, the bytes that it holds, where the sink tells them, and how
+    /// often a write failed.
+    ghost view: { Self → SinkView };
 
     /// Appends bytes from the front of `bytes`, and says how many: one or more. After a failure it holds what it held
-    /// before.
+    /// before. A call that goes through counts no fault.
     fn write(&mut self, bytes: &[u8]) -> Result<usize, Failed>
         requires { 0 < length bytes.now }
         ensures some { IfOk result (λ n. 1 ≤ n) }
         ensures bound { IfOk result (λ n. n ≤ length bytes.now) }
-        ensures bytes { IfOk result (λ n. Takes (basin self.old) (take n bytes.now) (basin self.new)) }
-        ensures err { OnErr result (basin self.new ≡ basin self.old) }
-        ensures cause { HasCause (faults self.old) (faults self.new) result };
+        ensures bytes { IfOk result (λ n. Takes (view self.old) (take n bytes.now) (view self.new)) }
+        ensures err { OnErr result (TakesNothing (view self.old) (view self.new)) }
+        ensures cause { HasCause (view self.old).faults (view self.new).faults result }
+        ensures told { OnOk result ((view self.new).faults ≡ (view self.old).faults) };
 }

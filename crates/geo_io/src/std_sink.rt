@@ -29,9 +29,7 @@ impl<W: Write + Drop> StdSink<W> {
 }
 
 impl<W: Write + Drop> Sink for StdSink<W> {
-    ghost basin = { λ s. record { taken = s.taken.bytes; held = None } };
-
-    ghost faults = { λ s. s.faults };
+    ghost view = { λ s. record { taken = s.taken.bytes; held = None; faults = s.faults } };
 
     /// A write of nothing is a failure.
     fn write(&mut self, bytes: &[u8]) -> Result<usize, Failed> {

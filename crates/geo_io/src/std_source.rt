@@ -34,11 +34,13 @@ impl<R: Read + Drop> StdSource<R> {
 }
 
 impl<R: Read + Drop> Source for StdSource<R> {
-    ghost stream = { λ s. record { given = s.given.bytes; ended = s.ended; left = None } };
-
-    ghost faults = { λ s. s.faults };
-
-    ghost reads = { λ s. s.reads };
+    ghost view = { λ s. record {
+      given = s.given.bytes;
+      ended = s.ended;
+      left = None;
+      reads = s.reads;
+      faults = s.faults;
+    } };
 
     fn read(&mut self, out: &mut [u8]) -> Result<usize, Failed> {
         self.reads = self.reads.saturating_add(1);

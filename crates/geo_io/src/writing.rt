@@ -13,12 +13,14 @@ pub struct WriteFault {
     pub written: u64,
 }
 
-/// Appends all the bytes. Where a write fails, exactly the first `written` bytes were appended.
+/// Appends all the bytes. Where a write fails, exactly the first `written` bytes were appended, and it isn't tried
+/// again.
 pub fn write_out<K: Sink>(sink: &mut K, bytes: &[u8]) -> Result<(), WriteFault>
-    ensures ok { OnOk result (Takes (K.basin sink.old) bytes.now (K.basin sink.new)) }
+    ensures ok { OnOk result (Takes (K.view sink.old) bytes.now (K.view sink.new)) }
     ensures some_left { IfErr result (λ fault. fault.written < length bytes.now) }
-    ensures err { IfErr result (λ fault. Takes (K.basin sink.old) (take fault.written bytes.now) (K.basin sink.new)) }
-    ensures cause { HasCause (K.faults sink.old) (K.faults sink.new) result }
+    ensures err { IfErr result (λ fault. Takes (K.view sink.old) (take fault.written bytes.now) (K.view sink.new)) }
+    ensures cause { HasCause (K.view sink.old).faults (K.view sink.new).faults result }
+    ensures told { OnOk result ((K.view sink.new).faults ≡ (K.view sink.old).faults) }
 {
     let mut done = 0;
     while done < bytes.len() {

@@ -16,3 +16,8 @@ pub returns-in_err-read_through-clause-lost : goal.returns-in_err-read_through-c
 returns-in_err-read_through-clause-lost g c =
     let p = err_from_is_err_and c.from_residual.result c.from_residual.ensures.1 in
     rw (p.1, p.2) (λ e. c.in_err-read_through.ensures.lost (IsErrOf-passed _ _ e))
+
+pub returns-in_err-read_through-clause-told : goal.returns-in_err-read_through-clause-told
+returns-in_err-read_through-clause-told g c =
+    let p = err_from_is_err_and c.from_residual.result c.from_residual.ensures.1 in
+    rw (p.1, p.2) (λ no. c.in_err-read_through.ensures.told (λ e. no (IsErrOf-passed _ _ e)))

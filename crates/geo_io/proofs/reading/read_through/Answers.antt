@@ -8,15 +8,15 @@ pub returns-in_err-count-clause-fault_taken : goal.returns-in_err-count-clause-f
 returns-in_err-count-clause-fault_taken g c =
     let p = err_from_is_err_and c.from_residual.result c.from_residual.ensures.1 in
     rw (p.1, p.2)
-    (λ fault. GivesAtMost-same (g.S.Source.stream c.args.source.now) (g.S.Source.stream c.loop-turn.source)
-    (g.S.Source.stream c.read_piece.new.source) c.loop-turn.bytes.items c.args.limit
+    (λ fault. GivesAtMost-same (g.S.Source.view c.args.source.now) (g.S.Source.view c.loop-turn.source)
+    (g.S.Source.view c.read_piece.new.source) c.loop-turn.bytes.items c.args.limit
     c.loop-turn.invariant.taken (omega arith) (c.in_err-count.ensures.fault_left (IsErrOf-passed _ _ fault)))
 
 pub returns-in_err-count-clause-lost : goal.returns-in_err-count-clause-lost
 returns-in_err-count-clause-lost g c =
     let p = err_from_is_err_and c.from_residual.result c.from_residual.ensures.1 in
     rw (p.1, p.2)
-    (λ lost. GivesAtMost-more (g.S.Source.stream c.args.source.now) (g.S.Source.stream c.loop-turn.source)
-    (g.S.Source.stream c.read_piece.new.source) c.loop-turn.bytes.items _ (c.args.limit + 1)
+    (λ lost. GivesAtMost-more (g.S.Source.view c.args.source.now) (g.S.Source.view c.loop-turn.source)
+    (g.S.Source.view c.read_piece.new.source) c.loop-turn.bytes.items _ (c.args.limit + 1)
     c.loop-turn.invariant.taken (c.in_err-count.ensures.lost (IsErrOf-passed _ _ lost))
     (omega (arith, length-take c.min-room.result c.loop-turn.piece)))

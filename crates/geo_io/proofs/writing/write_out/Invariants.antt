@@ -1,12 +1,12 @@
-use Rattle.std.proofs.Common.{◌≤◌, ◌-◌, length, take}
+use Rattle.std.proofs.Common.{◌≡◌, ◌≤◌, ◌-◌, length, take}
 use Rattle.geo_io.specs.Sink.{Takes}
 use Rattle.geo_io.proofs.writing.write_out.Given as goal
 
 abbrev pub invariant-loop-done : goal.invariant-loop-done
 invariant-loop-done g l = record {
-  grown : Takes (g.K.Sink.basin l.fn.sink) (take l.done l.bytes) (g.K.Sink.basin l.sink);
+  grown : Takes (g.K.Sink.view l.fn.sink) (take l.done l.bytes) (g.K.Sink.view l.sink);
   inside : l.done ≤ length l.bytes;
-  later : g.K.Sink.faults l.fn.sink ≤ g.K.Sink.faults l.sink;
+  told : (g.K.Sink.view l.sink).faults ≡ (g.K.Sink.view l.fn.sink).faults;
 }
 
 abbrev pub decreases-loop-done : goal.decreases-loop-done
