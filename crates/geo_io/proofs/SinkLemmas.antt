@@ -29,8 +29,8 @@ Takes-more a b c x y h k = record {
 pub Takes-none : (a : SinkView) → Takes a [] a
 Takes-none a = record { taken = sym (append-nil a.taken); grows = Grows-none a.held }
 
--- one more part of the bytes was taken
-pub Takes-part : (a b c : SinkView) (n k : ℕ) (xs : List ℕ) → Takes a (take n xs) b
-    → Takes b (take k (take (length xs - n) (drop n xs))) c → Takes a (take (n + k) xs) c
-Takes-part a b c n k xs h m =
-    rw (take-add n k xs) (Takes-more a b c (take n xs) (take k (drop n xs)) h (rw tail_range at m))
+-- one more part of the bytes was taken, whatever was taken before
+pub takes_on : (b c : SinkView) (n k : ℕ) (xs : List ℕ) → Takes b (take k (take (length xs - n) (drop n xs))) c
+    → (first : SinkView) → Takes first (take n xs) b → Takes first (take (n + k) xs) c
+takes_on b c n k xs m first h =
+    rw (take-add n k xs) (Takes-more first b c (take n xs) (take k (drop n xs)) h (rw tail_range at m))
