@@ -1,8 +1,10 @@
 -- Counts under names.
-use Rattle.std.proofs.Common.{◌≡◌, ℕ, Bool, true, false, List, [], ◌∷◌, ◌++◌, Option, Some, None, refl, cond, bytes_eq}
+use Rattle.std.proofs.Common.{◌≡◌, ◌+◌, ◌-◌, ◌^◌, ◌<◌, ◌≤◌, min, arith, inl, inr, ℕ, Bool, true, false, List, [], ◌∷◌, ◌++◌, Option, Some, None, refl, cond, bytes_eq}
 use Rattle.std.specs.Option.{option_map_or, option_or}
 use Rattle.std.specs.List.{find}
 use Rattle.std.proofs.lemmas.List.Folds.{find-append}
+use Rattle.std.proofs.lemmas.Bool.{cases_lt, le-ltb, lt-ltb}
+use Rattle.geo_disk.specs.Counts.{counted_on}
 use Rattle.geo_disk.specs.Lending.{no_faults, tally_in}
 use Rattle.geo_disk.specs.Names.{is_named}
 use Rattle.geo_disk.specs.declared.lending.Count.{Count}
@@ -22,3 +24,17 @@ tally_after_push counts other name =
     rw (find-append (is_named (λ (c : Count). c.name) other) counts ((record { name = name; tally = no_faults }) ∷ []))
     (tally_of_zero (find (is_named (λ (c : Count). c.name) other) counts) (bytes_eq other name)
     (record { name = name; tally = no_faults }) refl)
+
+-- adding 1 up to the end of the type is one more
+pub counted_on_saturates : (n : ℕ) → n < 2 ^ 64 → min (n + 1) (2 ^ 64 - 1) ≡ counted_on n
+counted_on_saturates n fits = elim (cases_lt n (2 ^ 64 - 1)) [
+  | inl below ↦ rw (lt-ltb n (2 ^ 64 - 1) below) (omega arith)
+  | inr end ↦ rw (le-ltb n (2 ^ 64 - 1) end) (omega arith)
+]
+
+-- a count never falls
+pub counted_on_later : (n : ℕ) → n ≤ counted_on n
+counted_on_later n = elim (cases_lt n (2 ^ 64 - 1)) [
+  | inl below ↦ rw (lt-ltb n (2 ^ 64 - 1) below) (omega arith)
+  | inr end ↦ rw (le-ltb n (2 ^ 64 - 1) end) (omega arith)
+]

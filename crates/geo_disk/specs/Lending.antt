@@ -1,15 +1,21 @@
--- What is lent, and how often the disks of each name failed, and the takes and gives of it.
-use Rattle.std.specs.Prelude.{◌≡◌, ℕ, List, Option, true, is_some}
+-- What is lent, how often the disks of each name failed, and the takes and gives of it, and with what each came back.
+use Rattle.std.specs.Prelude.{◌≡◌, ℕ, List, [], Option, true, is_some}
 use Rattle.std.specs.Option.{option_map_or}
-use Rattle.geo_disk.specs.Memory.{counted_on}
+use Rattle.geo_disk.specs.Counts.{counted_on}
 use Rattle.geo_disk.specs.Names.{is_among, named}
+use Rattle.geo_disk.specs.declared.calls.DiskCall.{DiskCall}
 use Rattle.geo_disk.specs.declared.lending.Count.{Count}
+use Rattle.geo_disk.specs.declared.lending.Returned.{Returned}
 use Rattle.geo_disk.specs.declared.lending.Tally.{Tally}
 
--- the names that are lent, in the order in which they were taken, and the counts of names
+-- what a shelf keeps of its names
 pub record Loans : Type 0 where
+  -- the names that are lent, in the order in which they were taken
   pub lent : List (List ℕ)
+  -- the counts of names
   pub counts : List Count
+  -- the disks that came back, the last one first
+  pub returned : List Returned
 
 -- the count that stands under a name
 abbrev pub count_of : List Count → List ℕ → Option Count
@@ -53,3 +59,18 @@ take_failed tally = record tally { take_faults = counted_on tally.take_faults }
 
 abbrev pub give_failed : Tally → Tally
 give_failed tally = record tally { give_faults = counted_on tally.give_faults }
+
+-- what the disk of a name had been asked when it came back last: nothing where none came back
+abbrev pub asked_in : List Returned → List ℕ → List DiskCall
+asked_in returned name = option_map_or (λ r. r.asked.items) (named (λ r. r.name) name returned) []
+
+-- with how many sectors it came back last: 0 where none came back
+abbrev pub sectors_in : List Returned → List ℕ → ℕ
+sectors_in returned name = option_map_or (λ r. r.sectors) (named (λ r. r.name) name returned) 0
+
+-- the same, as the calls know them
+abbrev pub returned_asked : Loans → List ℕ → List DiskCall
+returned_asked loans name = asked_in loans.returned name
+
+abbrev pub returned_sectors : Loans → List ℕ → ℕ
+returned_sectors loans name = sectors_in loans.returned name

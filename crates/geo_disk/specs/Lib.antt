@@ -1,3 +1,5 @@
+pub mod Counts
+pub mod Calls
 pub mod Disk
 pub mod Memory
 pub mod Names

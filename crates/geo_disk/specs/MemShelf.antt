@@ -1,5 +1,5 @@
 -- A shelf in memory as contracts see it.
-use Rattle.std.specs.Prelude.{◌≡◌, ℕ, Bool, List, [], ◌∷◌, ◌++◌, slice_index_or, Option, None, true, is_some, if◌then◌else◌, bytes_eq, refl, Contains}
+use Rattle.std.specs.Prelude.{◌≡◌, ℕ, Bool, List, [], ◌∷◌, ◌++◌, slice_index_or, Option, Some, None, true, is_some, if◌then◌else◌, bytes_eq, refl, Contains}
 use Rattle.std.specs.Cmp.{IsEquivalence}
 use Rattle.std.specs.Option.{option_map}
 use Rattle.std.proofs.Common.{ap, sym}
@@ -7,9 +7,12 @@ use Rattle.std.proofs.lemmas.Bool.Decides.{same_from_decides}
 use Rattle.std.proofs.lemmas.Map.Views.{list_any-from_Contains}
 use Rattle.std.proofs.lemmas.Slice.Eq.{bytes_eq-Decides}
 use Rattle.geo_base.specs.Sectors.{joined_sectors, sectors_of}
-use Rattle.geo_disk.specs.Lending.{Loans}
-use Rattle.geo_disk.specs.Memory.{Memory, counted_on}
+use Rattle.geo_disk.specs.Counts.{counted_if, counted_on}
+use Rattle.geo_disk.specs.Lending.{Loans, faults_of, give_faults_of, returned_asked, returned_sectors, take_faults_of}
+use Rattle.geo_disk.specs.Memory.{Memory}
 use Rattle.geo_disk.specs.Names.{is_among, named}
+use Rattle.geo_disk.specs.Shelf.{ShelfView}
+use Rattle.geo_disk.specs.declared.calls.DiskCall.{DiskCall}
 use Rattle.geo_disk.specs.declared.mem_shelf.Slot.{Slot}
 
 -- the test of names is an equivalence
@@ -21,11 +24,12 @@ same_names = record {
   congr = λ a b q e. ap (λ n. bytes_eq n q) ((bytes_eq-Decides a b).0 e);
 }
 
--- what a shelf in memory is: the places of its names, what is lent, which of its calls are to fail, how many it had,
--- and how many failed
+-- what a shelf in memory is
 pub record Store : Type 0 where
+  -- the places of its names, and what is lent
   pub slots : List Slot
   pub loans : Loans
+  -- the numbers of the calls that are to fail, how many calls there were, and how many failed
   pub fails : List ℕ
   pub calls : ℕ
   pub faults : ℕ
@@ -38,15 +42,16 @@ emptied_slot name = record { name = name; bytes = []; fails = []; calls = 0; par
 abbrev pub slot_at : List Slot → ℕ → Slot
 slot_at slots at = slice_index_or slots at (emptied_slot [])
 
--- the disk of a place
-abbrev pub disk_of : ℕ → ℕ → Slot → Memory
-disk_of sector faults slot = record {
+-- the disk of a place, which failed so often and was asked this before
+abbrev pub disk_of : ℕ → ℕ → List DiskCall → Slot → Memory
+disk_of sector faults asked slot = record {
   sector = sector;
   sectors = sectors_of sector slot.bytes;
   fails = slot.fails;
   calls = slot.calls;
   faults = faults;
   part = slot.part;
+  asked = asked;
 }
 
 -- the place of a disk that came back
@@ -72,6 +77,19 @@ image_in slots lent name = if is_among name lent then None else option_map (λ s
 abbrev pub images_of : Store → List ℕ → Option (List ℕ)
 images_of s name = image_in s.slots s.loans.lent name
 
+-- a shelf in memory tells what it has
+abbrev pub shelf_view : Store → ShelfView
+shelf_view s = record {
+  told = Some (images_of s);
+  lent = s.loans.lent;
+  faults = s.faults;
+  faults_of = faults_of s.loans;
+  take_faults = take_faults_of s.loans;
+  give_faults = give_faults_of s.loans;
+  asked_of = returned_asked s.loans;
+  sectors_of = returned_sectors s.loans;
+}
+
 -- each name that is lent has its place
 abbrev pub HasSlots : List (List ℕ) → List Slot → Type 0
 HasSlots lent slots = (name : List ℕ) → is_among name lent ≡ true → is_some (slot_of slots name) ≡ true
@@ -87,7 +105,7 @@ with_slot s slot = record s { slots = s.slots ++ slot ∷ [] }
 -- the shelf after one more call, which failed or didn't
 abbrev pub shelf_called : Bool → Store → Store
 shelf_called failed s =
-    record s { calls = counted_on s.calls; faults = if failed then counted_on s.faults else s.faults }
+    record s { calls = counted_on s.calls; faults = counted_if failed s.faults }
 
 -- no call was counted, and those that are to fail are the same
 pub record AreSameCalls (old new : Store) : Type 0 where

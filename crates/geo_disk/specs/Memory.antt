@@ -1,16 +1,34 @@
 -- A disk in memory as contracts see it.
-use Rattle.std.specs.Prelude.{◌≡◌, ℕ, ◌+◌, ◌-◌, ◌^◌, ◌%◌, ◌<◌, min, Bool, List, length, if◌then◌else◌}
+use Rattle.std.specs.Prelude.{◌≡◌, ℕ, ◌-◌, ◌%◌, ◌<◌, min, List, ◌∷◌, [], ◌++◌, length, Some, is_some}
 use Rattle.geo_base.specs.Sectors.{cut_into, with_sectors, zero_sectors}
+use Rattle.geo_disk.specs.Counts.{counted_if, counted_on}
+use Rattle.geo_disk.specs.Disk.{DiskView}
+use Rattle.geo_disk.specs.declared.calls.DiskCall.{DiskCall}
 
--- what a disk in memory is: its sector size, the bytes of its sectors, which of its calls are to fail, how many it
--- had and how many failed, and how many sectors of a write or zero a failure still does
+-- what a disk in memory is
 pub record Memory : Type 0 where
+  -- its sector size, and the bytes of its sectors
   pub sector : ℕ
   pub sectors : List (List ℕ)
+  -- the numbers of the calls that are to fail, and how many calls there were
   pub fails : List ℕ
   pub calls : ℕ
+  -- how many calls failed
   pub faults : ℕ
+  -- how many sectors a write or zero that fails still does
   pub part : ℕ
+  -- what it was asked and what it answered, in order
+  pub asked : List DiskCall
+
+-- a disk in memory tells its sectors
+abbrev pub memory_view : Memory → DiskView
+memory_view m = record {
+  held = Some m.sectors;
+  sector = m.sector;
+  count = length m.sectors;
+  faults = m.faults;
+  asked = m.asked;
+}
 
 -- the bytes of a disk are one or more whole sectors
 pub record AreWhole (sector : ℕ) (bytes : List ℕ) : Type 0 where
@@ -18,13 +36,13 @@ pub record AreWhole (sector : ℕ) (bytes : List ℕ) : Type 0 where
   pub some_byte : 0 < length bytes
   pub whole : length bytes % sector ≡ 0
 
--- one more, up to the end of the type
-abbrev pub counted_on : ℕ → ℕ
-counted_on n = min (n + 1) (2 ^ 64 - 1)
-
--- the disk after one more call, which failed or didn't
-abbrev pub called : Bool → Memory → Memory
-called failed m = record m { calls = counted_on m.calls; faults = if failed then counted_on m.faults else m.faults }
+-- the disk after one more call
+abbrev pub called : DiskCall → Memory → Memory
+called call m = record m {
+  calls = counted_on m.calls;
+  faults = counted_if (is_some call.failed) m.faults;
+  asked = m.asked ++ call ∷ [];
+}
 
 -- how many sectors of so many a failing write or zero does: as many as was said, but never all
 abbrev pub part_of : ℕ → ℕ → ℕ

@@ -1,13 +1,34 @@
 -- What a shelf tells, and what its calls do to it.
-use Rattle.std.specs.Prelude.{◌≡◌, ◌≢◌, ℕ, ◌*◌, ◌^◌, ◌≤◌, List, ◌∷◌, [], ◌++◌, length, Option, Some, None, Result, Ok, Err, IfSome, IsSomeAnd, Bool, true, false, if◌then◌else◌}
+use Rattle.std.specs.Prelude.{◌≡◌, ◌≢◌, ℕ, ◌*◌, ◌^◌, ◌≤◌, List, ◌∷◌, [], ◌++◌, length, Option, Some, None, Result, Ok, Err, IfSome, IsSomeAnd, Bool, true, false}
 use Rattle.geo_base.specs.Images.{Images, IsDiskSize}
 use Rattle.geo_base.specs.Sectors.{joined_sectors, sectors_of}
+use Rattle.geo_disk.specs.Disk.{DiskView}
 use Rattle.geo_disk.specs.Names.{without}
+use Rattle.geo_disk.specs.declared.calls.DiskCall.{DiskCall}
 use Rattle.geo_disk.specs.declared.shelf.Taken.{Taken}
 use Rattle.geo_disk.specs.declared.shelf.Taken.TheVariants.{Disk, Missing, BadSize}
-use Rattle.geo_disk.specs.Memory.{counted_on}
+use Rattle.geo_disk.specs.Counts.{counted_if}
 use Rattle.geo_disk.specs.declared.shelf.ShelfFault.{ShelfFault}
 use Rattle.geo_disk.specs.declared.shelf.ShelfFault.TheVariants.{Failed, NoMemory}
+
+-- a shelf at one moment. No count of it falls
+pub record ShelfView : Type 0 where
+  -- the bytes under each name, where the shelf tells them; under a name that is lent there are none
+  pub told : Option Images
+  -- the names that are lent, in the order in which they were taken
+  pub lent : List (List ℕ)
+  -- how many calls of the shelf failed; no call that went through counts
+  pub faults : ℕ
+  -- of each name, how many calls of its disk had failed when that came back last
+  pub faults_of : List ℕ → ℕ
+  -- how many takes of each name failed
+  pub take_faults : List ℕ → ℕ
+  -- how many gives of each name failed
+  pub give_faults : List ℕ → ℕ
+  -- of each name, what its disk had been asked, and what it had answered, when it came back last
+  pub asked_of : List ℕ → List DiskCall
+  -- of each name, how many sectors its disk had when it came back last
+  pub sectors_of : List ℕ → ℕ
 
 -- a disk has sectors of the size that was asked for, one or more, and at most 2 ^ 40 bytes
 pub record IsOfSize (sector bytes count : ℕ) : Type 0 where
@@ -61,11 +82,11 @@ MatchTaken (Ok BadSize) disk missing bad fault = bad
 MatchTaken (Err _) disk missing bad fault = fault
 
 -- what `take` does to what a shelf tells
-abbrev pub Takes : {D : Type 0} → (D → Option (List (List ℕ))) → List ℕ → ℕ → Result (Taken D) ShelfFault
+abbrev pub Takes : {D : Type 0} → (D → DiskView) → List ℕ → ℕ → Result (Taken D) ShelfFault
     → Option Images → Option Images → Type 0
-Takes held name sector result old new =
+Takes view name sector result old new =
     MatchTaken result
-    (λ d. WhereTold (IsTakenFrom name sector (held d)) old new)
+    (λ d. WhereTold (IsTakenFrom name sector (view d).held) old new)
     (WhereTold (IsMissing name) old new)
     (WhereTold (IsOfBadSize name sector) old new)
     (WhereTold IsAsBefore old new)
@@ -88,10 +109,10 @@ abbrev pub lent_without : {E : Type 0} → Result (Unit {0}) E → List ℕ → 
 lent_without (Ok _) name lent = without name lent
 lent_without (Err _) name lent = lent
 
--- the counts of faults after a call of `give`: a disk that came back has brought its count
-abbrev pub Counts : {E : Type 0} → Result (Unit {0}) E → List ℕ → ℕ → (List ℕ → ℕ) → (List ℕ → ℕ) → Type 0
-Counts (Ok _) name faults old new = (new name ≡ faults) × ((other : List ℕ) → other ≢ name → new other ≡ old other)
-Counts (Err _) name faults old new = (other : List ℕ) → new other ≡ old other
+-- what is known of each name after a call of `give`: a disk that came back has brought what is known of its own
+abbrev pub Brings : {E X : Type 0} → Result (Unit {0}) E → List ℕ → X → (List ℕ → X) → (List ℕ → X) → Type 0
+Brings (Ok _) name own old new = (new name ≡ own) × ((other : List ℕ) → other ≢ name → new other ≡ old other)
+Brings (Err _) name own old new = (other : List ℕ) → new other ≡ old other
 
 -- whether the answer of `take` is a failure of the shelf
 abbrev pub is_failure : ShelfFault → Bool
@@ -104,7 +125,7 @@ is_failed (Err fault) = is_failure fault
 
 -- a call of a name counts for it where it failed, and for no other name
 pub record CountsCall (failed : Bool) (name : List ℕ) (old new : List ℕ → ℕ) : Type 0 where
-  pub own : new name ≡ (if failed then counted_on (old name) else old name)
+  pub own : new name ≡ counted_if failed (old name)
   pub others : (other : List ℕ) → other ≢ name → new other ≡ old other
 
 -- a fact wherever no disk was taken

@@ -1,9 +1,11 @@
 //! The disk under a provider of class DISK.
-ghost use Rattle.std.specs.Prelude.{◌≡◌, ◌+◌, ◌/◌, ◌≤◌, ◌↔◌, length, Contains, IfErr, IsErr, OnOk, is_err};
-ghost use Rattle.geo_base.specs.Faults.{HasCause};
+ghost use Rattle.std.specs.Prelude.{◌≡◌, ◌+◌, ◌/◌, ◌≤◌, ◌↔◌, ◌∷◌, [], ◌++◌, length, Contains, IfErr, IsErr, OnOk, is_err};
+ghost use Rattle.geo_base.specs.declared.request.BioCmd.TheVariants as cmds;
+ghost use Rattle.geo_disk.specs.Calls.{call_of};
+ghost use Rattle.geo_disk.specs.Counts.{counted_if, counted_on};
 ghost use Rattle.geo_disk.specs.Disk.{AreSectors, IsRead, done_of, written, zeroed};
-ghost use Rattle.geo_disk.specs.Memory.{after_write, after_zero, called, counted_on};
-ghost use Rattle.geo_disk.specs.Drive.{IfRam, bytes_by, calls_by, count_by, counted_by, faults_by, held_by};
+ghost use Rattle.geo_disk.specs.Memory.{after_write, after_zero, called};
+ghost use Rattle.geo_disk.specs.Drive.{IfRam, counted_by, view_by};
 
 use crate::disk::{Disk, DiskFailed};
 use crate::mem_disk::MemDisk;
@@ -17,15 +19,7 @@ pub enum Drive<D> {
 }
 
 impl<D: Disk> Disk for Drive<D> {
-    ghost held = { held_by D.held };
-
-    ghost sector_bytes = { bytes_by D.sector_bytes };
-
-    ghost sector_count = { count_by D.sector_count };
-
-    ghost faults = { faults_by D.faults };
-
-    ghost calls = { calls_by D.calls };
+    ghost view = { view_by D.view };
 
     fn sector_size(&self) -> u32 {
         match self {
@@ -42,19 +36,19 @@ impl<D: Disk> Disk for Drive<D> {
     }
 
     fn read(&mut self, first: u64, out: &mut [u8]) -> Result<(), DiskFailed>
-        requires { AreSectors (bytes_by D.sector_bytes self.old) (count_by D.sector_count self.old) first
+        requires { AreSectors (view_by D.view self.old).sector (view_by D.view self.old).count first
             (length out.old) }
-        ensures bytes { bytes_by D.sector_bytes self.new ≡ bytes_by D.sector_bytes self.old }
-        ensures count { count_by D.sector_count self.new ≡ count_by D.sector_count self.old }
-        ensures held { held_by D.held self.new ≡ held_by D.held self.old }
-        ensures read { OnOk result (IsRead (held_by D.held self.old) (bytes_by D.sector_bytes self.old) first out.new) }
+        ensures bytes { (view_by D.view self.new).sector ≡ (view_by D.view self.old).sector }
+        ensures count { (view_by D.view self.new).count ≡ (view_by D.view self.old).count }
+        ensures held { (view_by D.view self.new).held ≡ (view_by D.view self.old).held }
+        ensures read { OnOk result (IsRead (view_by D.view self.old).held (view_by D.view self.old).sector first out.new) }
         ensures none_done { IfErr result (λ e. e.done ≡ 0) }
-        ensures cause { HasCause (faults_by D.faults self.old) (faults_by D.faults self.new) result }
-        ensures told { OnOk result (faults_by D.faults self.new ≡ faults_by D.faults self.old) }
-        ensures called { calls_by D.calls self.new ≡ counted_on (calls_by D.calls self.old) }
+        ensures faults { (view_by D.view self.new).faults ≡ counted_if (is_err result) (view_by D.view self.old).faults }
+        ensures asked { (view_by D.view self.new).asked
+            ≡ (view_by D.view self.old).asked ++ call_of cmds.Read first (length out.old / (view_by D.view self.old).sector) result ∷ [] }
 
         // A disk in memory is as after this call, which fails exactly where its number is in the list.
-        ensures ram { IfRam self.old self.new (λ old new. new ≡ called (is_err result) old) }
+        ensures ram { IfRam self.old self.new (λ old new. new ≡ called (call_of cmds.Read first (length out.old / old.sector) result) old) }
         ensures fails { IfRam self.old self.new (λ old _. IsErr result ↔ Contains old.fails (counted_on old.calls)) }
     {
         match self {
@@ -64,19 +58,19 @@ impl<D: Disk> Disk for Drive<D> {
     }
 
     fn write(&mut self, first: u64, bytes: &[u8]) -> Result<(), DiskFailed>
-        requires { AreSectors (bytes_by D.sector_bytes self.old) (count_by D.sector_count self.old) first
+        requires { AreSectors (view_by D.view self.old).sector (view_by D.view self.old).count first
             (length bytes.now) }
-        ensures bytes { bytes_by D.sector_bytes self.new ≡ bytes_by D.sector_bytes self.old }
-        ensures count { count_by D.sector_count self.new ≡ count_by D.sector_count self.old }
-        ensures held { held_by D.held self.new
-            ≡ written (bytes_by D.sector_bytes self.old) first
-            (done_of result (length bytes.now / bytes_by D.sector_bytes self.old)) bytes.now (held_by D.held self.old) }
-        ensures part_done { IfErr result (λ e. e.done ≤ length bytes.now / bytes_by D.sector_bytes self.old) }
-        ensures cause { HasCause (faults_by D.faults self.old) (faults_by D.faults self.new) result }
-        ensures told { OnOk result (faults_by D.faults self.new ≡ faults_by D.faults self.old) }
-        ensures called { calls_by D.calls self.new ≡ counted_on (calls_by D.calls self.old) }
+        ensures bytes { (view_by D.view self.new).sector ≡ (view_by D.view self.old).sector }
+        ensures count { (view_by D.view self.new).count ≡ (view_by D.view self.old).count }
+        ensures held { (view_by D.view self.new).held
+            ≡ written (view_by D.view self.old).sector first
+            (done_of result (length bytes.now / (view_by D.view self.old).sector)) bytes.now (view_by D.view self.old).held }
+        ensures part_done { IfErr result (λ e. e.done ≤ length bytes.now / (view_by D.view self.old).sector) }
+        ensures faults { (view_by D.view self.new).faults ≡ counted_if (is_err result) (view_by D.view self.old).faults }
+        ensures asked { (view_by D.view self.new).asked
+            ≡ (view_by D.view self.old).asked ++ call_of cmds.Write first (length bytes.now / (view_by D.view self.old).sector) result ∷ [] }
         ensures ram { IfRam self.old self.new (λ old new.
-            new ≡ called (is_err result)
+            new ≡ called (call_of cmds.Write first (length bytes.now / old.sector) result)
             (after_write old first (done_of result (length bytes.now / old.sector)) bytes.now)) }
         ensures fails { IfRam self.old self.new (λ old _. IsErr result ↔ Contains old.fails (counted_on old.calls)) }
     {
@@ -87,17 +81,17 @@ impl<D: Disk> Disk for Drive<D> {
     }
 
     fn zero(&mut self, first: u64, count: u64) -> Result<(), DiskFailed>
-        requires { first + count ≤ count_by D.sector_count self.old }
-        ensures bytes { bytes_by D.sector_bytes self.new ≡ bytes_by D.sector_bytes self.old }
-        ensures count { count_by D.sector_count self.new ≡ count_by D.sector_count self.old }
-        ensures held { held_by D.held self.new
-            ≡ zeroed (bytes_by D.sector_bytes self.old) first (done_of result count) (held_by D.held self.old) }
+        requires { first + count ≤ (view_by D.view self.old).count }
+        ensures bytes { (view_by D.view self.new).sector ≡ (view_by D.view self.old).sector }
+        ensures count { (view_by D.view self.new).count ≡ (view_by D.view self.old).count }
+        ensures held { (view_by D.view self.new).held
+            ≡ zeroed (view_by D.view self.old).sector first (done_of result count) (view_by D.view self.old).held }
         ensures part_done { IfErr result (λ e. e.done ≤ count) }
-        ensures cause { HasCause (faults_by D.faults self.old) (faults_by D.faults self.new) result }
-        ensures told { OnOk result (faults_by D.faults self.new ≡ faults_by D.faults self.old) }
-        ensures called { calls_by D.calls self.new ≡ counted_on (calls_by D.calls self.old) }
+        ensures faults { (view_by D.view self.new).faults ≡ counted_if (is_err result) (view_by D.view self.old).faults }
+        ensures asked { (view_by D.view self.new).asked
+            ≡ (view_by D.view self.old).asked ++ call_of cmds.Delete first count result ∷ [] }
         ensures ram { IfRam self.old self.new (λ old new. new
-            ≡ called (is_err result) (after_zero old first (done_of result count))) }
+            ≡ called (call_of cmds.Delete first count result) (after_zero old first (done_of result count))) }
         ensures fails { IfRam self.old self.new (λ old _. IsErr result ↔ Contains old.fails (counted_on old.calls)) }
     {
         match self {
@@ -107,14 +101,14 @@ impl<D: Disk> Disk for Drive<D> {
     }
 
     fn flush(&mut self) -> Result<(), DiskFailed>
-        ensures bytes { bytes_by D.sector_bytes self.new ≡ bytes_by D.sector_bytes self.old }
-        ensures count { count_by D.sector_count self.new ≡ count_by D.sector_count self.old }
-        ensures held { held_by D.held self.new ≡ held_by D.held self.old }
+        ensures bytes { (view_by D.view self.new).sector ≡ (view_by D.view self.old).sector }
+        ensures count { (view_by D.view self.new).count ≡ (view_by D.view self.old).count }
+        ensures held { (view_by D.view self.new).held ≡ (view_by D.view self.old).held }
         ensures none_done { IfErr result (λ e. e.done ≡ 0) }
-        ensures cause { HasCause (faults_by D.faults self.old) (faults_by D.faults self.new) result }
-        ensures told { OnOk result (faults_by D.faults self.new ≡ faults_by D.faults self.old) }
-        ensures called { calls_by D.calls self.new ≡ counted_on (calls_by D.calls self.old) }
-        ensures ram { IfRam self.old self.new (λ old new. new ≡ called (is_err result) old) }
+        ensures faults { (view_by D.view self.new).faults ≡ counted_if (is_err result) (view_by D.view self.old).faults }
+        ensures asked { (view_by D.view self.new).asked
+            ≡ (view_by D.view self.old).asked ++ call_of cmds.Flush 0 0 result ∷ [] }
+        ensures ram { IfRam self.old self.new (λ old new. new ≡ called (call_of cmds.Flush 0 0 result) old) }
         ensures fails { IfRam self.old self.new (λ old _. IsErr result ↔ Contains old.fails (counted_on old.calls)) }
     {
         match self {
@@ -123,5 +117,5 @@ impl<D: Disk> Disk for Drive<D> {
         }
     }
 
-    ghost counted = { counted_by D.held D.sector_count D.counted };
+    ghost counted = { counted_by D.view D.counted };
 }

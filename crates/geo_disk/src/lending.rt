@@ -1,9 +1,12 @@
-//! Which names of a shelf are lent, and how often the disks of each name failed.
+//! Which names of a shelf are lent, how often the disks of each name failed, and with what they came back.
 ghost use Rattle.std.specs.Prelude.{◌≡◌, ◌≢◌, ℕ, ◌↔◌, [], ◌∷◌, ◌++◌, List, true, Contains, IsTrue, OnErr, OnOk, bytes_eq, is_some};
 ghost use Rattle.std.specs.List.{position};
 ghost use Rattle.geo_disk.specs.Names.{is_among, is_named, without};
-ghost use Rattle.geo_disk.specs.Lending.{HasCount, count_of, faults_of, give_failed, take_failed, tally_in, tally_of, with_faults};
+ghost use Rattle.geo_disk.specs.Lending.{HasCount, asked_in, count_of, faults_of, give_failed, returned_asked, returned_sectors, take_failed, tally_in, tally_of, with_faults};
 
+use crate::calls::DiskCall;
+use crate::counts::one_more;
+use crate::notes::{Notes, picked};
 use geo_base::{Name, NoMemory};
 use std::alloc::Global;
 use std::marker::Model;
@@ -23,11 +26,21 @@ struct Count {
     tally: Tally,
 }
 
-/// The names of a shelf that are lent, and the counts of each name. A shelf keeps it beside its disks.
+/// A disk that came back: its name, what it had been asked, and how many sectors it had.
+#[derive(Drop)]
+struct Returned {
+    name: Name,
+    asked: Notes<DiskCall>,
+    sectors: u64,
+}
+
+/// The names of a shelf that are lent, the counts of each name, and, for clauses alone, with what its disks came back.
+/// A shelf keeps it beside its disks.
 #[derive(Drop)]
 pub struct Lending {
     lent: Vec<Name>,
     counts: Vec<Count>,
+    returned: Notes<Returned>,
 }
 
 impl Model for Lending {
@@ -35,7 +48,7 @@ impl Model for Lending {
 
     ghost Value = { Loans };
 
-    ghost view = { λ l. record { lent = l.lent.items; counts = l.counts.items } };
+    ghost view = { λ l. record { lent = l.lent.items; counts = l.counts.items; returned = l.returned.items } };
 
     ghost invariant = { λ l. HasCounts l.lent.items l.counts.items };
 }
@@ -90,14 +103,29 @@ fn set_count(counts: &mut Vec<Count>, name: &Name, tally: Tally)
     counts[at] = Count { name: *name, tally };
 }
 
+/// What the disk of a name had been asked when it came back last.
+fn asked_before(returned: &Notes<Returned>, name: &Name) -> Notes<DiskCall>
+    ensures { result.items ≡ asked_in returned.now.items name.now }
+{
+    picked(returned, name)
+}
+
+/// One more disk came back.
+fn returned_by(returned: &Notes<Returned>, last: &Returned) -> Notes<Returned>
+    ensures { result.items ≡ last.now ∷ returned.now.items }
+{
+    picked(returned, last)
+}
+
 impl Lending {
-    /// Nothing is lent, and each count is 0.
+    /// Nothing is lent, each count is 0, and no disk came back.
     pub fn new(alloc: Global) -> Lending
-        ensures { result ≡ record { lent = []; counts = [] } }
+        ensures { result ≡ record { lent = []; counts = []; returned = [] } }
     {
         Lending {
             lent: Vec::new(alloc),
             counts: Vec::new(alloc),
+            returned: Notes::none(),
         }
     }
 
@@ -130,9 +158,17 @@ impl Lending {
         self.tally_of(name).faults
     }
 
+    /// What the disk of a name had been asked when it came back last.
+    pub fn asked_of(&self, name: &Name) -> Notes<DiskCall>
+        ensures { result.items ≡ returned_asked self.now name.now }
+    {
+        asked_before(&self.returned, name)
+    }
+
     /// Makes room for the counts of a name. No count changes.
     pub fn make_room(&mut self, name: &Name) -> Result<(), NoMemory>
         ensures lent { self.new.lent ≡ self.old.lent }
+        ensures returned { self.new.returned ≡ self.old.returned }
         ensures tallies { (other : List ℕ) → tally_of self.new other ≡ tally_of self.old other }
         ensures room { OnOk result (HasCount self.new name.now) }
     {
@@ -143,11 +179,12 @@ impl Lending {
     pub fn count_failed_take(&mut self, name: &Name)
         requires { HasCount self.old name.now }
         ensures lent { self.new.lent ≡ self.old.lent }
+        ensures returned { self.new.returned ≡ self.old.returned }
         ensures own { tally_of self.new name.now ≡ take_failed (tally_of self.old name.now) }
         ensures others { (other : List ℕ) → other ≢ name.now → tally_of self.new other ≡ tally_of self.old other }
     {
         let mut tally = self.tally_of(name);
-        tally.take_faults = tally.take_faults.saturating_add(1);
+        tally.take_faults = one_more(tally.take_faults);
         set_count(&mut self.counts, name, tally);
     }
 
@@ -155,11 +192,12 @@ impl Lending {
     pub fn count_failed_give(&mut self, name: &Name)
         requires { Contains self.old.lent name.now }
         ensures lent { self.new.lent ≡ self.old.lent }
+        ensures returned { self.new.returned ≡ self.old.returned }
         ensures own { tally_of self.new name.now ≡ give_failed (tally_of self.old name.now) }
         ensures others { (other : List ℕ) → other ≢ name.now → tally_of self.new other ≡ tally_of self.old other }
     {
         let mut tally = self.tally_of(name);
-        tally.give_faults = tally.give_faults.saturating_add(1);
+        tally.give_faults = one_more(tally.give_faults);
         set_count(&mut self.counts, name, tally);
     }
 
@@ -167,6 +205,7 @@ impl Lending {
     pub fn lend(&mut self, name: &Name) -> Result<(), NoMemory>
         ensures ok { OnOk result (self.new.lent ≡ self.old.lent ++ name.now ∷ []) }
         ensures err { OnErr result (self.new.lent ≡ self.old.lent) }
+        ensures returned { self.new.returned ≡ self.old.returned }
         ensures tallies { (other : List ℕ) → tally_of self.new other ≡ tally_of self.old other }
     {
         ensure_count(&mut self.counts, name)?;
@@ -174,16 +213,29 @@ impl Lending {
         Ok(())
     }
 
-    /// A name is lent no more, and has this count of faults. It takes no memory.
-    pub fn give_back(&mut self, name: &Name, faults: u64)
+    /// A name is lent no more: its disk came back with this count of faults, after it was asked this, and with so many
+    /// sectors. It takes no memory.
+    pub fn give_back(&mut self, name: &Name, faults: u64, asked: Notes<DiskCall>, sectors: u64)
         requires { Contains self.old.lent name.now }
         ensures lent { self.new.lent ≡ without name.now self.old.lent }
         ensures own { tally_of self.new name.now ≡ with_faults faults (tally_of self.old name.now) }
         ensures others { (other : List ℕ) → other ≢ name.now → tally_of self.new other ≡ tally_of self.old other }
+        ensures asked { returned_asked self.new name.now ≡ asked.items }
+        ensures asked_others { (other : List ℕ) → other ≢ name.now
+            → returned_asked self.new other ≡ returned_asked self.old other }
+        ensures sectors { returned_sectors self.new name.now ≡ sectors }
+        ensures sectors_others { (other : List ℕ) → other ≢ name.now
+            → returned_sectors self.new other ≡ returned_sectors self.old other }
     {
         let mut tally = self.tally_of(name);
         tally.faults = faults;
         set_count(&mut self.counts, name, tally);
+        let last = Returned {
+            name: *name,
+            asked,
+            sectors,
+        };
+        self.returned = returned_by(&self.returned, &last);
         self.lent.retain(|lent| !is_same(name, lent));
     }
 }

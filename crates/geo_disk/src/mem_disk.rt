@@ -1,14 +1,18 @@
 //! A disk in memory.
-ghost use Rattle.std.specs.Prelude.{◌≡◌, ℕ, ◌+◌, ◌*◌, ◌/◌, ◌≤◌, ◌<◌, ◌↔◌, length, replicate, Some, Contains, IfErr, IsErr, IsTrue, OnOk, is_err, refl};
-ghost use Rattle.geo_base.specs.Faults.{HasCause, Rose};
-ghost use Rattle.std.specs.Bool.{OnTrue};
+ghost use Rattle.std.specs.Prelude.{◌≡◌, ◌+◌, ◌*◌, ◌/◌, ◌≤◌, ◌<◌, ◌↔◌, [], length, replicate, Some, Contains, IfErr, IsErr, IsTrue, OnOk, is_err, refl};
+ghost use Rattle.geo_base.specs.declared.request.BioCmd.TheVariants as cmds;
 ghost use Rattle.std.specs.List.{replace_range};
 ghost use Rattle.geo_base.specs.Sectors.{joined_sectors, sectors_of};
+ghost use Rattle.geo_disk.specs.Calls.{call_of};
+ghost use Rattle.geo_disk.specs.Counts.{counted_if, counted_on};
 ghost use Rattle.geo_disk.specs.Disk.{AreSectors, IsRead, done_of};
-ghost use Rattle.geo_disk.specs.Memory.{AreWhole, after_write, after_zero, called, counted_on, part_of};
+ghost use Rattle.geo_disk.specs.Memory.{AreWhole, after_write, after_zero, called, memory_view, part_of};
 
+use crate::calls::DiskCall;
+use crate::counts::one_more;
 use crate::disk::{Disk, DiskFailed};
-use geo_base::{Block, Calls};
+use crate::notes::Notes;
+use geo_base::{BioCmd, Block, Calls};
 use std::marker::Model;
 
 /// A disk whose sectors are kept in memory, with the numbers of the calls that are to fail.
@@ -20,6 +24,7 @@ pub struct MemDisk {
     calls: u64,
     faults: u64,
     part: u64,
+    asked: Notes<DiskCall>,
 }
 
 impl Model for MemDisk {
@@ -36,6 +41,7 @@ impl Model for MemDisk {
           d.calls;
       faults = d.faults;
       part = d.part;
+      asked = d.asked.items;
     } };
 
     ghost invariant = { λ d. AreWhole d.sector d.bytes };
@@ -52,6 +58,7 @@ impl MemDisk {
           calls = 0;
           faults = 0;
           part = 0;
+          asked = [];
         } }
     {
         MemDisk {
@@ -61,10 +68,11 @@ impl MemDisk {
             calls: 0,
             faults: 0,
             part: 0,
+            asked: Notes::none(),
         }
     }
 
-    /// A disk that goes on where its calls, faults and failing part stood.
+    /// A disk that goes on where its calls, faults and failing part stood, and that was asked this before.
     pub(crate) fn resumed(
         bytes: Block,
         sector: u32,
@@ -72,6 +80,7 @@ impl MemDisk {
         calls: u64,
         faults: u64,
         part: u64,
+        asked: Notes<DiskCall>,
     ) -> MemDisk
         requires { AreWhole sector bytes }
         ensures { result ≡ record {
@@ -82,6 +91,7 @@ impl MemDisk {
               calls;
           faults = faults;
           part = part;
+          asked = asked.items;
         } }
     {
         MemDisk {
@@ -91,6 +101,7 @@ impl MemDisk {
             calls,
             faults,
             part,
+            asked,
         }
     }
 
@@ -99,6 +110,13 @@ impl MemDisk {
         ensures { result ≡ self.now.faults }
     {
         self.faults
+    }
+
+    /// What it was asked.
+    pub(crate) fn asked(&self) -> Notes<DiskCall>
+        ensures { result.items ≡ self.now.asked }
+    {
+        self.asked.same()
     }
 
     /// What goes on where the disk is taken again: its bytes, the calls that are to fail, how many it had, and its
@@ -116,6 +134,7 @@ impl MemDisk {
             calls,
             faults: _,
             part,
+            asked: _,
         } = self;
         (bytes, fails, calls, part)
     }
@@ -127,19 +146,31 @@ impl MemDisk {
         self.part = done;
     }
 
-    /// Counts a call, and says whether it is to fail.
-    fn next_fails(&mut self) -> bool
-        ensures fails { IsTrue result ↔ Contains self.old.fails (counted_on self.old.calls) }
-        ensures called { self.new ≡ called result self.old }
-        ensures later { self.old.faults ≤ self.new.faults }
-        ensures rose { OnTrue result (Rose self.old.faults self.new.faults) }
+    /// Whether the next call is to fail.
+    fn next_fails(&self) -> bool
+        ensures { IsTrue result ↔ Contains self.now.fails (counted_on self.now.calls) }
     {
-        self.calls = self.calls.saturating_add(1);
-        let fails = self.fails.has(self.calls);
-        if fails {
-            self.faults = self.faults.saturating_add(1);
+        self.fails.has(one_more(self.calls))
+    }
+
+    /// A call that asked for `count` sectors from `first` on was answered so: it is counted, and so is its failure.
+    fn answered(
+        &mut self,
+        cmd: BioCmd,
+        first: u64,
+        count: u64,
+        answer: Result<(), DiskFailed>,
+    ) -> Result<(), DiskFailed>
+        ensures same { result ≡ answer }
+        ensures called { self.new ≡ called (call_of cmd first count answer) self.old }
+        ensures faults { self.new.faults ≡ counted_if (is_err answer) self.old.faults }
+    {
+        self.asked = self.asked.and(&DiskCall::new(cmd, first, count, &answer));
+        self.calls = one_more(self.calls);
+        if answer.is_err() {
+            self.faults = one_more(self.faults);
         }
-        fails
+        answer
     }
 
     /// How many sectors of `all` a failing write or zero does.
@@ -203,15 +234,7 @@ fn zero_over(bytes: &mut [u8], from: usize, count: usize)
 }
 
 impl Disk for MemDisk {
-    ghost held = { λ d. Some d.sectors };
-
-    ghost sector_bytes = { λ d. d.sector };
-
-    ghost sector_count = { λ d. length d.sectors };
-
-    ghost faults = { λ d. d.faults };
-
-    ghost calls = { λ d. d.calls };
+    ghost view = { memory_view };
 
     fn sector_size(&self) -> u32 {
         self.sector
@@ -224,72 +247,70 @@ impl Disk for MemDisk {
 
     fn read(&mut self, first: u64, out: &mut [u8]) -> Result<(), DiskFailed>
         requires { AreSectors self.old.sector (length self.old.sectors) first (length out.old) }
-        ensures memory { self.new ≡ called (is_err result) self.old }
+        ensures memory { self.new
+            ≡ called (call_of cmds.Read first (length out.old / self.old.sector) result) self.old }
         ensures fails { IsErr result ↔ Contains self.old.fails (counted_on self.old.calls) }
         ensures read { OnOk result (IsRead (Some self.old.sectors) self.old.sector first out.new) }
         ensures none_done { IfErr result (λ e. e.done ≡ 0) }
-        ensures cause { HasCause self.old.faults self.new.faults result }
-        ensures told { OnOk result (self.new.faults ≡ self.old.faults) }
+        ensures faults { self.new.faults ≡ counted_if (is_err result) self.old.faults }
     {
+        let count = out.len() as u64 / u64::from(self.sector);
         if self.next_fails() {
-            return Err(DiskFailed { done: 0 });
+            return self.answered(BioCmd::Read, first, count, Err(DiskFailed { done: 0 }));
         }
         let from = byte_place(self.sector, self.bytes.len(), first, out.len());
         out.copy_from_slice(&self.bytes.bytes()[from..from + out.len()]);
-        Ok(())
+        self.answered(BioCmd::Read, first, count, Ok(()))
     }
 
     fn write(&mut self, first: u64, bytes: &[u8]) -> Result<(), DiskFailed>
         requires { AreSectors self.old.sector (length self.old.sectors) first (length bytes.now) }
-        ensures memory { let n = done_of result (length bytes.now / self.old.sector) in self.new
-            ≡ called (is_err result) (after_write self.old first n bytes.now) }
+        ensures memory { let all = length bytes.now / self.old.sector in self.new
+            ≡ called (call_of cmds.Write first all result)
+            (after_write self.old first (done_of result all) bytes.now) }
         ensures count { length self.new.sectors ≡ length self.old.sectors }
         ensures fails { IsErr result ↔ Contains self.old.fails (counted_on self.old.calls) }
         ensures done { IfErr result (λ e. e.done ≡ part_of self.old.part (length bytes.now / self.old.sector)) }
-        ensures cause { HasCause self.old.faults self.new.faults result }
-        ensures told { OnOk result (self.new.faults ≡ self.old.faults) }
+        ensures faults { self.new.faults ≡ counted_if (is_err result) self.old.faults }
     {
         let all = bytes.len() as u64 / u64::from(self.sector);
-        let failed = self.next_fails();
-        let done = if failed { self.part(all) } else { all };
-        self.write_sectors(first, done, bytes);
-        if failed {
-            Err(DiskFailed { done })
-        } else {
-            Ok(())
+        if self.next_fails() {
+            let done = self.part(all);
+            self.write_sectors(first, done, bytes);
+            return self.answered(BioCmd::Write, first, all, Err(DiskFailed { done }));
         }
+        self.write_sectors(first, all, bytes);
+        self.answered(BioCmd::Write, first, all, Ok(()))
     }
 
     fn zero(&mut self, first: u64, count: u64) -> Result<(), DiskFailed>
         requires { first + count ≤ length self.old.sectors }
-        ensures memory { self.new ≡ called (is_err result) (after_zero self.old first (done_of result count)) }
+        ensures memory { self.new
+            ≡ called (call_of cmds.Delete first count result) (after_zero self.old first (done_of result count)) }
         ensures count { length self.new.sectors ≡ length self.old.sectors }
         ensures fails { IsErr result ↔ Contains self.old.fails (counted_on self.old.calls) }
         ensures done { IfErr result (λ e. e.done ≡ part_of self.old.part count) }
-        ensures cause { HasCause self.old.faults self.new.faults result }
-        ensures told { OnOk result (self.new.faults ≡ self.old.faults) }
+        ensures faults { self.new.faults ≡ counted_if (is_err result) self.old.faults }
     {
-        let failed = self.next_fails();
-        let done = if failed { self.part(count) } else { count };
-        self.zero_sectors(first, done);
-        if failed {
-            Err(DiskFailed { done })
-        } else {
-            Ok(())
+        if self.next_fails() {
+            let done = self.part(count);
+            self.zero_sectors(first, done);
+            return self.answered(BioCmd::Delete, first, count, Err(DiskFailed { done }));
         }
+        self.zero_sectors(first, count);
+        self.answered(BioCmd::Delete, first, count, Ok(()))
     }
 
     fn flush(&mut self) -> Result<(), DiskFailed>
-        ensures memory { self.new ≡ called (is_err result) self.old }
+        ensures memory { self.new ≡ called (call_of cmds.Flush 0 0 result) self.old }
         ensures fails { IsErr result ↔ Contains self.old.fails (counted_on self.old.calls) }
         ensures none_done { IfErr result (λ e. e.done ≡ 0) }
-        ensures cause { HasCause self.old.faults self.new.faults result }
-        ensures told { OnOk result (self.new.faults ≡ self.old.faults) }
+        ensures faults { self.new.faults ≡ counted_if (is_err result) self.old.faults }
     {
         if self.next_fails() {
-            return Err(DiskFailed { done: 0 });
+            return self.answered(BioCmd::Flush, 0, 0, Err(DiskFailed { done: 0 }));
         }
-        Ok(())
+        self.answered(BioCmd::Flush, 0, 0, Ok(()))
     }
 
     ghost counted = { λ d. refl };

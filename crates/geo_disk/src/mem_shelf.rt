@@ -5,14 +5,19 @@ ghost use Rattle.std.specs.Option.{option_copied};
 ghost use Rattle.std.specs.List.{position};
 ghost use Rattle.geo_base.specs.Faults.{HasCause, Rose};
 ghost use Rattle.geo_base.specs.Sectors.{joined_sectors, IsSectorSize};
-ghost use Rattle.geo_disk.specs.Memory.{AreWhole, counted_on};
+ghost use Rattle.geo_disk.specs.Counts.{counted_if, counted_on};
+ghost use Rattle.geo_disk.specs.Memory.{AreWhole, memory_view};
 ghost use Rattle.geo_disk.specs.Names.{is_named, without};
-ghost use Rattle.geo_disk.specs.Lending.{faults_of, give_faults_of, take_faults_of, tally_of, with_faults};
-ghost use Rattle.geo_disk.specs.Shelf.{Counts, CountsCall, Gives, IfTaken, IsGivenTo, IsOfSize, Takes, UnlessTaken, is_failed, is_failure, lent_by, lent_without};
-ghost use Rattle.geo_disk.specs.MemShelf.{AreSameCalls, disk_of, emptied_slot, images_of, kept_slot, lent_has_nothing, shelf_called, slot_at, slot_of, with_slot};
+ghost use Rattle.geo_disk.specs.Lending.{faults_of, give_faults_of, returned_asked, returned_sectors, take_faults_of, tally_of, with_faults};
+ghost use Rattle.geo_disk.specs.Shelf.{Brings, CountsCall, Gives, IfTaken, IsGivenTo, IsOfSize, Takes, UnlessTaken, is_failed, is_failure, lent_by, lent_without};
+ghost use Rattle.geo_disk.specs.MemShelf.{AreSameCalls, disk_of, emptied_slot, images_of, kept_slot, lent_has_nothing, shelf_called, shelf_view, slot_at, slot_of, with_slot};
 
+use crate::calls::DiskCall;
+use crate::counts::one_more;
+use crate::disk::Disk;
 use crate::lending::{Lending, is_same};
 use crate::mem_disk::MemDisk;
+use crate::notes::Notes;
 use crate::shelf::{GiveFault, Shelf, ShelfFault, Taken, is_disk_size};
 use geo_base::{Block, Calls, Name, NoMemory};
 use std::alloc::Global;
@@ -77,16 +82,23 @@ fn emptied(alloc: Global, name: Name) -> Slot
 }
 
 /// Takes the disk out of the place of a name, which stays.
-fn lend_out(alloc: Global, slots: &mut Vec<Slot>, at: usize, sector: u32, faults: u64) -> MemDisk
+fn lend_out(
+    alloc: Global,
+    slots: &mut Vec<Slot>,
+    at: usize,
+    sector: u32,
+    faults: u64,
+    asked: Notes<DiskCall>,
+) -> MemDisk
     requires inside { at < length slots.old.items }
     requires whole { AreWhole sector (slot_at slots.old.items at).bytes }
-    ensures disk { result ≡ disk_of sector faults (slot_at slots.old.items at) }
+    ensures disk { result ≡ disk_of sector faults asked.items (slot_at slots.old.items at) }
     ensures slots { slots.new.items ≡ slice_set slots.old.items at (emptied_slot (slot_at slots.old.items at).name) }
 {
     let name = slots[at].name;
     let slot = mem::replace(&mut slots[at], emptied(alloc, name));
     MemDisk::resumed(
-        slot.bytes, sector, slot.fails, slot.calls, faults, slot.part,
+        slot.bytes, sector, slot.fails, slot.calls, faults, slot.part, asked,
     )
 }
 
@@ -113,7 +125,7 @@ impl MemShelf {
     pub fn new(alloc: Global) -> MemShelf
         ensures { result ≡ record {
           slots = [];
-          loans = record { lent = []; counts = [] };
+          loans = record { lent = []; counts = []; returned = [] };
           fails = [];
           calls = 0;
           faults = 0;
@@ -178,10 +190,10 @@ impl MemShelf {
         ensures later { self.old.faults ≤ self.new.faults }
         ensures rose { OnTrue result (Rose self.old.faults self.new.faults) }
     {
-        self.calls = self.calls.saturating_add(1);
+        self.calls = one_more(self.calls);
         let fails = self.fails.has(self.calls);
         if fails {
-            self.faults = self.faults.saturating_add(1);
+            self.faults = one_more(self.faults);
         }
         fails
     }
@@ -190,6 +202,7 @@ impl MemShelf {
     fn fail_take(&mut self, name: &Name) -> ShelfFault
         ensures rest { self.new ≡ record self.old { loans = self.new.loans } }
         ensures lent { self.new.loans.lent ≡ self.old.loans.lent }
+        ensures returned { self.new.loans.returned ≡ self.old.loans.returned }
         ensures disks { (other : List ℕ) → faults_of self.new.loans other ≡ faults_of self.old.loans other }
         ensures takes { CountsCall (is_failure result) name.now (take_faults_of self.old.loans)
             (take_faults_of self.new.loans) }
@@ -209,6 +222,7 @@ impl MemShelf {
         requires { Contains self.old.loans.lent name.now }
         ensures rest { self.new ≡ record self.old { loans = self.new.loans } }
         ensures lent { self.new.loans.lent ≡ self.old.loans.lent }
+        ensures returned { self.new.loans.returned ≡ self.old.loans.returned }
         ensures disks { (other : List ℕ) → faults_of self.new.loans other ≡ faults_of self.old.loans other }
         ensures takes { (other : List ℕ) → take_faults_of self.new.loans other ≡ take_faults_of self.old.loans other }
         ensures gives { CountsCall true name.now (give_faults_of self.old.loans) (give_faults_of self.new.loans) }
@@ -219,16 +233,18 @@ impl MemShelf {
     /// Takes a disk, where the call doesn't fail.
     fn take_now(&mut self, name: &Name, sector: u32) -> Result<Taken<MemDisk>, ShelfFault>
         requires { IsSectorSize sector }
-        ensures found { Takes (λ d. Some d.sectors) name.now sector result (Some (images_of self.old)) (Some
+        ensures found { Takes memory_view name.now sector result (Some (images_of self.old)) (Some
             (images_of self.new)) }
         ensures not_lent { IfTaken result (λ d. Contains self.old.loans.lent name.now → ⊥) }
         ensures size { IfTaken result (λ d. IsOfSize sector d.sector (length d.sectors)) }
         ensures brought { IfTaken result (λ d. d.faults ≡ faults_of self.old.loans name.now) }
+        ensures asked { IfTaken result (λ d. d.asked ≡ returned_asked self.old.loans name.now) }
         ensures lent { self.new.loans.lent ≡ lent_by result name.now self.old.loans.lent }
         ensures counts { (other : List ℕ) → tally_of self.new.loans other ≡ tally_of self.old.loans other }
+        ensures returned { self.new.loans.returned ≡ self.old.loans.returned }
         ensures not_failed { IsErrOf result ShelfFault.Failed → ⊥ }
         ensures disk { IfTaken result (λ d. IfSome (slot_of self.old.slots name.now) (λ slot. d
-            ≡ disk_of sector (faults_of self.old.loans name.now) slot)) }
+            ≡ disk_of sector (faults_of self.old.loans name.now) (returned_asked self.old.loans name.now) slot)) }
         ensures emptied { IfTaken result (λ d. slot_of self.new.slots name.now ≡ Some (emptied_slot name.now)) }
         ensures others { (other : List ℕ) → other ≢ name.now → slot_of self.new.slots other
             ≡ slot_of self.old.slots other }
@@ -245,10 +261,11 @@ impl MemShelf {
             return Ok(Taken::BadSize);
         }
         let faults = self.lending.faults_of(name);
+        let asked = self.lending.asked_of(name);
         let Ok(()) = self.lending.lend(name) else {
             return Err(ShelfFault::NoMemory);
         };
-        Ok(Taken::Disk(lend_out(self.alloc, &mut self.slots, at, sector, faults)))
+        Ok(Taken::Disk(lend_out(self.alloc, &mut self.slots, at, sector, faults, asked)))
     }
 
     /// Takes a disk back, where the call doesn't fail.
@@ -259,12 +276,19 @@ impl MemShelf {
         ensures count { tally_of self.new.loans name.now ≡ with_faults disk.faults (tally_of self.old.loans name.now) }
         ensures counts { (other : List ℕ) → other ≢ name.now → tally_of self.new.loans other
             ≡ tally_of self.old.loans other }
+        ensures asked { returned_asked self.new.loans name.now ≡ disk.asked }
+        ensures asked_others { (other : List ℕ) → other ≢ name.now → returned_asked self.new.loans other
+            ≡ returned_asked self.old.loans other }
+        ensures sectors { returned_sectors self.new.loans name.now ≡ length disk.sectors }
+        ensures sectors_others { (other : List ℕ) → other ≢ name.now → returned_sectors self.new.loans other
+            ≡ returned_sectors self.old.loans other }
         ensures kept { slot_of self.new.slots name.now ≡ Some (kept_slot name.now disk) }
         ensures others { (other : List ℕ) → other ≢ name.now → slot_of self.new.slots other
             ≡ slot_of self.old.slots other }
         ensures same { AreSameCalls self.old self.new }
     {
-        self.lending.give_back(name, disk.faults());
+        self.lending
+            .give_back(name, disk.faults(), disk.asked(), disk.sectors());
         keep(&mut self.slots, name, disk);
     }
 }
@@ -272,29 +296,22 @@ impl MemShelf {
 impl Shelf for MemShelf {
     type D = MemDisk;
 
-    ghost told = { λ s. Some (images_of s) };
-
-    ghost lent = { λ s. s.loans.lent };
-
-    ghost faults_of = { λ s. faults_of s.loans };
-
-    ghost faults = { λ s. s.faults };
-
-    ghost take_faults = { λ s. take_faults_of s.loans };
-
-    ghost give_faults = { λ s. give_faults_of s.loans };
+    ghost view = { shelf_view };
 
     fn take(&mut self, name: &Name, sector: u32) -> Result<Taken<MemDisk>, ShelfFault>
         requires { IsSectorSize sector }
-        ensures found { Takes (λ d. Some d.sectors) name.now sector result (Some (images_of self.old)) (Some
+        ensures found { Takes memory_view name.now sector result (Some (images_of self.old)) (Some
             (images_of self.new)) }
         ensures not_lent { IfTaken result (λ d. Contains self.old.loans.lent name.now → ⊥) }
         ensures size { IfTaken result (λ d. IsOfSize sector d.sector (length d.sectors)) }
         ensures brought { IfTaken result (λ d. d.faults ≡ faults_of self.old.loans name.now) }
+        ensures asked { IfTaken result (λ d. d.asked ≡ returned_asked self.old.loans name.now) }
         ensures lent { self.new.loans.lent ≡ lent_by result name.now self.old.loans.lent }
         ensures counts { (other : List ℕ) → faults_of self.new.loans other ≡ faults_of self.old.loans other }
+        ensures returned { self.new.loans.returned ≡ self.old.loans.returned }
         ensures later { self.old.faults ≤ self.new.faults }
         ensures failed { IsErrOf result ShelfFault.Failed → Rose self.old.faults self.new.faults }
+        ensures no_fault { OnOk result (self.new.faults ≡ self.old.faults) }
         ensures takes { CountsCall (is_failed result) name.now (take_faults_of self.old.loans)
             (take_faults_of self.new.loans) }
         ensures gives { (other : List ℕ) → give_faults_of self.new.loans other ≡ give_faults_of self.old.loans other }
@@ -308,7 +325,7 @@ impl Shelf for MemShelf {
             ≡ slot_of self.old.slots other }
         ensures slots { UnlessTaken result (self.new.slots ≡ self.old.slots) }
         ensures disk { IfTaken result (λ d. IfSome (slot_of self.old.slots name.now) (λ slot. d
-            ≡ disk_of sector (faults_of self.old.loans name.now) slot)) }
+            ≡ disk_of sector (faults_of self.old.loans name.now) (returned_asked self.old.loans name.now) slot)) }
         ensures calls { (self.new.fails ≡ self.old.fails) × (self.new.calls ≡ counted_on self.old.calls) }
     {
         if self.next_fails() {
@@ -322,10 +339,15 @@ impl Shelf for MemShelf {
         ensures given { Gives (Some disk.sectors) name.now result (Some (images_of self.old)) (Some
             (images_of self.new)) }
         ensures lent { self.new.loans.lent ≡ lent_without result name.now self.old.loans.lent }
-        ensures counts { Counts result name.now disk.faults (faults_of self.old.loans) (faults_of self.new.loans) }
+        ensures counts { Brings result name.now disk.faults (faults_of self.old.loans) (faults_of self.new.loans) }
+        ensures asked { Brings result name.now disk.asked (returned_asked self.old.loans)
+            (returned_asked self.new.loans) }
+        ensures sectors { Brings result name.now (length disk.sectors) (returned_sectors self.old.loans)
+            (returned_sectors self.new.loans) }
         ensures name { IfErr result (λ e. e.name ≡ name.now) }
         ensures disk { IfErr result (λ e. e.disk ≡ disk) }
         ensures cause { HasCause self.old.faults self.new.faults result }
+        ensures no_fault { OnOk result (self.new.faults ≡ self.old.faults) }
         ensures takes { (other : List ℕ) → take_faults_of self.new.loans other ≡ take_faults_of self.old.loans other }
         ensures gives { CountsCall (is_err result) name.now (give_faults_of self.old.loans)
             (give_faults_of self.new.loans) }

@@ -1,9 +1,9 @@
 //! Where disks are taken from and given back.
-ghost use Rattle.std.specs.Prelude.{◌≡◌, ℕ, ◌≤◌, ◌<◌, ◌↔◌, List, Option, Contains, IfErr, IfSome, IsErrOf, IsTrue, None, is_err};
+ghost use Rattle.std.specs.Prelude.{◌≡◌, ℕ, ◌≤◌, ◌<◌, ◌↔◌, List, Contains, IfErr, IfSome, IsErrOf, IsTrue, None, OnOk, is_err};
 ghost use Rattle.geo_base.specs.Faults.{HasCause, Rose};
-ghost use Rattle.geo_base.specs.Images.{Images, IsDiskSize};
+ghost use Rattle.geo_base.specs.Images.{IsDiskSize};
 ghost use Rattle.geo_base.specs.Sectors.{IsSectorSize};
-ghost use Rattle.geo_disk.specs.Shelf.{Counts, CountsCall, Gives, IfTaken, IsOfSize, Takes, is_failed, lent_by, lent_without};
+ghost use Rattle.geo_disk.specs.Shelf.{Brings, CountsCall, Gives, IfTaken, IsOfSize, ShelfView, Takes, is_failed, lent_by, lent_without};
 
 use crate::disk::Disk;
 use geo_base::Name;
@@ -52,51 +52,51 @@ pub trait Shelf {
     /// The disks of the shelf.
     type D: Disk;
 
-    /// The bytes under each name, where the shelf tells them. Under a name that is lent there are none.
-    ghost told: { Self → Option Images };
+    /// What its calls show: the bytes under each name, where the shelf tells them, the names that are lent, how many of
+    /// its calls failed, and of each name how many takes and gives failed, and with how many faults, after which calls,
+    /// and with how many sectors its disk came back last.
+    ghost view: { Self → ShelfView };
 
-    /// The names that are lent, in the order in which they were taken.
-    ghost lent: { Self → List (List ℕ) };
-
-    /// The count of faults of each name: that with which its disk came back last.
-    ghost faults_of: { Self → List ℕ → ℕ };
-
-    /// How many calls of the shelf failed.
-    ghost faults: { Self → ℕ };
-
-    /// How many takes of each name failed, and how many gives.
-    ghost take_faults: { Self → List ℕ → ℕ };
-
-    ghost give_faults: { Self → List ℕ → ℕ };
-
-    /// Takes the disk of a name, to be used in sectors of this size.
+    /// Takes the disk of a name, to be used in sectors of this size. A call that goes through counts no fault.
     fn take(&mut self, name: &Name, sector: u32) -> Result<Taken<Self::D>, ShelfFault>
         requires { IsSectorSize sector }
-        ensures found { Takes Self.D.held name.now sector result (told self.old) (told self.new) }
-        ensures not_lent { IfTaken result (λ d. Contains (lent self.old) name.now → ⊥) }
-        ensures size { IfTaken result (λ d. IsOfSize sector (Self.D.sector_bytes d) (Self.D.sector_count d)) }
-        ensures brought { IfTaken result (λ d. Self.D.faults d ≡ faults_of self.old name.now) }
-        ensures lent { lent self.new ≡ lent_by result name.now (lent self.old) }
-        ensures counts { (other : List ℕ) → faults_of self.new other ≡ faults_of self.old other }
-        ensures later { faults self.old ≤ faults self.new }
-        ensures failed { IsErrOf result ShelfFault.Failed → Rose (faults self.old) (faults self.new) }
-        ensures takes { CountsCall (is_failed result) name.now (take_faults self.old) (take_faults self.new) }
-        ensures gives { (other : List ℕ) → give_faults self.new other ≡ give_faults self.old other };
+        ensures found { Takes Self.D.view name.now sector result (view self.old).told (view self.new).told }
+        ensures not_lent { IfTaken result (λ d. Contains (view self.old).lent name.now → ⊥) }
+        ensures size { IfTaken result (λ d. IsOfSize sector (Self.D.view d).sector (Self.D.view d).count) }
+        ensures brought { IfTaken result (λ d. (Self.D.view d).faults ≡ (view self.old).faults_of name.now) }
+        ensures asked { IfTaken result (λ d. (Self.D.view d).asked ≡ (view self.old).asked_of name.now) }
+        ensures lent { (view self.new).lent ≡ lent_by result name.now (view self.old).lent }
+        ensures counts { (other : List ℕ) → (view self.new).faults_of other ≡ (view self.old).faults_of other }
+        ensures asked_before { (other : List ℕ) → (view self.new).asked_of other ≡ (view self.old).asked_of other }
+        ensures sectors { (other : List ℕ) → (view self.new).sectors_of other ≡ (view self.old).sectors_of other }
+        ensures later { (view self.old).faults ≤ (view self.new).faults }
+        ensures failed { IsErrOf result ShelfFault.Failed → Rose (view self.old).faults (view self.new).faults }
+        ensures no_fault { OnOk result ((view self.new).faults ≡ (view self.old).faults) }
+        ensures takes { CountsCall (is_failed result) name.now (view self.old).take_faults
+            (view self.new).take_faults }
+        ensures gives { (other : List ℕ) → (view self.new).give_faults other ≡ (view self.old).give_faults other };
 
-    /// Gives back the disk that was taken under a name. After a fault it is still lent.
+    /// Gives back the disk that was taken under a name. After a fault it is still lent. A call that goes through counts
+    /// no fault.
     fn give(&mut self, name: &Name, disk: Self::D) -> Result<(), GiveFault<Self::D>>
-        requires is_lent { Contains (lent self.old) name.now }
-        requires counted { faults_of self.old name.now ≤ Self.D.faults disk }
-        ensures given { Gives (Self.D.held disk) name.now result (told self.old) (told self.new) }
-        ensures lent { lent self.new ≡ lent_without result name.now (lent self.old) }
-        ensures counts { Counts result name.now (Self.D.faults disk) (faults_of self.old) (faults_of self.new) }
+        requires is_lent { Contains (view self.old).lent name.now }
+        requires counted { (view self.old).faults_of name.now ≤ (Self.D.view disk).faults }
+        ensures given { Gives (Self.D.view disk).held name.now result (view self.old).told (view self.new).told }
+        ensures lent { (view self.new).lent ≡ lent_without result name.now (view self.old).lent }
+        ensures counts { Brings result name.now (Self.D.view disk).faults (view self.old).faults_of
+            (view self.new).faults_of }
+        ensures asked { Brings result name.now (Self.D.view disk).asked (view self.old).asked_of
+            (view self.new).asked_of }
+        ensures sectors { Brings result name.now (Self.D.view disk).count (view self.old).sectors_of
+            (view self.new).sectors_of }
         ensures name { IfErr result (λ e. e.name ≡ name.now) }
         ensures disk { IfErr result (λ e. e.disk ≡ disk) }
-        ensures cause { HasCause (faults self.old) (faults self.new) result }
-        ensures takes { (other : List ℕ) → take_faults self.new other ≡ take_faults self.old other }
-        ensures gives { CountsCall (is_err result) name.now (give_faults self.old) (give_faults self.new) };
+        ensures cause { HasCause (view self.old).faults (view self.new).faults result }
+        ensures no_fault { OnOk result ((view self.new).faults ≡ (view self.old).faults) }
+        ensures takes { (other : List ℕ) → (view self.new).take_faults other ≡ (view self.old).take_faults other }
+        ensures gives { CountsCall (is_err result) name.now (view self.old).give_faults (view self.new).give_faults };
 
     /// Under a name that is lent the shelf has nothing.
-    ghost lent_is_missing: { (shelf : Self) (name : List ℕ) → Contains (lent shelf) name
-        → IfSome (told shelf) (λ images. images name ≡ None) };
+    ghost lent_is_missing: { (shelf : Self) (name : List ℕ) → Contains (view shelf).lent name
+        → IfSome (view shelf).told (λ images. images name ≡ None) };
 }

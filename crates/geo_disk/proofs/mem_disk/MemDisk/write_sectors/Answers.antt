@@ -47,6 +47,7 @@ returns-clause-written c =
           c.self.inside.calls;
       faults = c.self.inside.faults;
       part = c.self.inside.part;
+      asked = c.self.inside.asked.items;
     })
     (sectors_are c))
 

@@ -55,6 +55,7 @@ returns-clause-zeroed c =
           c.self.inside.calls;
       faults = c.self.inside.faults;
       part = c.self.inside.part;
+      asked = c.self.inside.asked.items;
     })
     (sectors_are c))
 

@@ -12,9 +12,9 @@ asked : (c : goal.After-len)
     (length c.args.out.now)
 asked c =
     let size : c.self.inside.sector ≡ c.args.self.now.sector =
-    ap (λ (m : Memory). m.sector) (c.self.view_is ∙ c.if-next_fails.ensures.called) in
+    ap (λ (m : Memory). m.sector) c.self.view_is in
     let held : sectors_of c.self.inside.sector c.self.inside.bytes ≡ c.args.self.now.sectors =
-    ap (λ (m : Memory). m.sectors) (c.self.view_is ∙ c.if-next_fails.ensures.called) in
+    ap (λ (m : Memory). m.sectors) c.self.view_is in
     rw (← sectors_length c.self.inside.sector c.self.inside.bytes, held, size) c.requires
 
 pub byte_place-from-requires-clause-sectors : goal.byte_place-from-requires-clause-sectors
@@ -23,9 +23,9 @@ byte_place-from-requires-clause-sectors c = rw c.len.ensures (asked c)
 pub returns-clause-read : goal.returns-clause-read
 returns-clause-read c =
     let size : c.self.inside.sector ≡ c.args.self.now.sector =
-    ap (λ (m : Memory). m.sector) (c.self.view_is ∙ c.if-next_fails.ensures.called) in
+    ap (λ (m : Memory). m.sector) c.self.view_is in
     let held : sectors_of c.self.inside.sector c.self.inside.bytes ≡ c.args.self.now.sectors =
-    ap (λ (m : Memory). m.sectors) (c.self.view_is ∙ c.if-next_fails.ensures.called) in
+    ap (λ (m : Memory). m.sectors) c.self.view_is in
     let count : ℕ = length c.args.out.now / c.self.inside.sector in
     let asked_now : AreSectors c.self.inside.sector (length c.self.inside.bytes / c.self.inside.sector)
     c.args.first (length c.args.out.now) =
@@ -33,6 +33,6 @@ returns-clause-read c =
     let many : c.byte_place-from.result + length c.args.out.now - c.byte_place-from.result
     ≡ count * c.self.inside.sector =
     omega (arith, asked_now.whole, asked_now.some_size, mul_comm c.self.inside.sector count) in
-    rw (← size, ← held, c.copy_from_slice.ensures.len)
+    rw (c.answered-2.ensures.same, ← size, ← held, c.copy_from_slice.ensures.len)
     (c.copy_from_slice.ensures.after ∙ rw (many, c.byte_place-from.ensures.place, c.bytes.ensures) refl
     ∙ sym (bytes_between-sectors_of c.self.inside.sector c.args.first count c.self.inside.bytes asked_now.inside))

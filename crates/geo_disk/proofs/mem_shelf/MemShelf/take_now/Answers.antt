@@ -1,5 +1,6 @@
 use Rattle.std.proofs.Common.{◌≡◌, List, [], length, Some, true, get_or, set, refl, ap, ◌∙◌, sym}
 use Rattle.geo_disk.specs.MemShelf.{disk_of, emptied_slot, slot_at, slot_of}
+use Rattle.geo_disk.specs.Lending.{faults_of}
 use Rattle.geo_base.specs.Images.{IsDiskSize}
 use Rattle.geo_disk.specs.declared.mem_shelf.Slot.{Slot}
 use Rattle.geo_disk.proofs.ImageLemmas.{after_take, image_none, image_there, size_of_disk, slots_after_take, some_bytes}
@@ -92,8 +93,10 @@ returns-clause-disk c =
           (emptied_slot []) (place c),
     )
     (c.lend_out.ensures.disk
-    ∙ ap (λ faults. disk_of c.args.sector faults (slot_at c.self.inside.slots.items c.in-Some.at))
-    c.faults_of-faults.ensures)
+    ∙ ap (λ faults. disk_of c.args.sector faults c.asked_of-asked.result.items
+    (slot_at c.self.inside.slots.items c.in-Some.at)) c.faults_of-faults.ensures
+    ∙ ap (λ asked. disk_of c.args.sector (faults_of c.self.inside.lending c.args.name.now) asked
+    (slot_at c.self.inside.slots.items c.in-Some.at)) c.asked_of-asked.ensures)
 
 pub returns-clause-emptied : goal.returns-clause-emptied
 returns-clause-emptied c =
