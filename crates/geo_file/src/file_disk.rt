@@ -1,9 +1,11 @@
 //! An image file as a disk.
-ghost use Rattle.std.specs.Prelude.{◌≡◌, ℕ, ◌+◌, ◌*◌, ◌/◌, ◌^◌, ◌≤◌, ◌<◌, None, Err, length};
-ghost use Rattle.geo_base.specs.Faults.{Rose};
-ghost use Rattle.geo_file.specs.Files.{IsReachable};
+ghost use Rattle.std.specs.Prelude.{◌≡◌, ◌+◌, ◌^◌, ◌≤◌, ◌<◌, ◌∷◌, [], ◌++◌, length, is_err};
+ghost use Rattle.geo_disk.specs.Calls.{call_of};
+ghost use Rattle.geo_disk.specs.Counts.{counted_if};
+ghost use Rattle.geo_file.specs.Files.{IsReachable, image_view};
 
-use geo_disk::{Disk, DiskFailed};
+use geo_base::BioCmd;
+use geo_disk::{Disk, DiskCall, DiskFailed, Notes, one_more};
 use std::fs::File;
 use std::io;
 use std::marker::Model;
@@ -19,8 +21,8 @@ pub struct FileDisk {
     file: File,
     sector: u32,
     sectors: u64,
-    calls: u64,
     faults: u64,
+    asked: Notes<DiskCall>,
 }
 
 impl Model for FileDisk {
@@ -28,23 +30,29 @@ impl Model for FileDisk {
 
     ghost Value = { Image };
 
-    ghost view = { λ d. record { sector = d.sector; sectors = d.sectors; calls = d.calls; faults = d.faults } };
+    ghost view = { λ d. record { sector = d.sector; sectors = d.sectors; faults = d.faults; asked = d.asked.items } };
 
     ghost invariant = { λ d. IsReachable d.sector d.sectors };
 }
 
 impl FileDisk {
-    /// The disk of an open file, of this many sectors, that failed so often before.
-    pub fn new(file: File, sector: u32, sectors: u64, faults: u64) -> FileDisk
+    /// The disk of an open file, of this many sectors, that failed so often and was asked this before.
+    pub fn new(
+        file: File,
+        sector: u32,
+        sectors: u64,
+        faults: u64,
+        asked: Notes<DiskCall>,
+    ) -> FileDisk
         requires { IsReachable sector sectors }
-        ensures { result ≡ record { sector = sector; sectors = sectors; calls = 0; faults = faults } }
+        ensures { result ≡ record { sector = sector; sectors = sectors; faults = faults; asked = asked.items } }
     {
         FileDisk {
             file,
             sector,
             sectors,
-            calls: 0,
             faults,
+            asked,
         }
     }
 
@@ -55,20 +63,36 @@ impl FileDisk {
         self.faults
     }
 
+    /// What it was asked.
+    pub(crate) fn asked(&self) -> Notes<DiskCall>
+        ensures { result.items ≡ self.now.asked }
+    {
+        self.asked.same()
+    }
+
     /// Has the system keep what was written. A failure is one of the shelf that asks for it, which counts it.
     pub(crate) fn sync(&self) -> io::Result<()> {
         self.file.sync_all()
     }
 
-    /// Counts a failure, before which so many sectors were done.
-    fn failed_after(&mut self, done: u64) -> Result<(), DiskFailed>
-        ensures failed { result ≡ Err (record { done = done }) }
-        ensures disk { self.new ≡ record self.old { faults = self.new.faults } }
-        ensures later { self.old.faults ≤ self.new.faults }
-        ensures rose { Rose self.old.faults self.new.faults }
+    /// A call that asked for `count` sectors from `first` on was answered so: where it failed, that is counted.
+    fn answered(
+        &mut self,
+        cmd: BioCmd,
+        first: u64,
+        count: u64,
+        answer: Result<(), DiskFailed>,
+    ) -> Result<(), DiskFailed>
+        ensures same { result ≡ answer }
+        ensures size { (self.new.sector ≡ self.old.sector) × (self.new.sectors ≡ self.old.sectors) }
+        ensures faults { self.new.faults ≡ counted_if (is_err answer) self.old.faults }
+        ensures asked { self.new.asked ≡ self.old.asked ++ call_of cmd first count answer ∷ [] }
     {
-        self.faults = self.faults.saturating_add(1);
-        Err(DiskFailed { done })
+        self.asked = self.asked.and(&DiskCall::new(cmd, first, count, &answer));
+        if answer.is_err() {
+            self.faults = one_more(self.faults);
+        }
+        answer
     }
 }
 
@@ -106,15 +130,7 @@ fn write_zeros(file: &File, at: u64, size: u64) -> u64
 }
 
 impl Disk for FileDisk {
-    ghost held = { λ _. None };
-
-    ghost sector_bytes = { λ d. d.sector };
-
-    ghost sector_count = { λ d. d.sectors };
-
-    ghost faults = { λ d. d.faults };
-
-    ghost calls = { λ d. d.calls };
+    ghost view = { image_view };
 
     fn sector_size(&self) -> u32 {
         self.sector
@@ -125,41 +141,41 @@ impl Disk for FileDisk {
     }
 
     fn read(&mut self, first: u64, out: &mut [u8]) -> Result<(), DiskFailed> {
-        self.calls = self.calls.saturating_add(1);
-        let at = first * u64::from(self.sector);
-        match self.file.read_exact_at(out, at) {
-            Ok(()) => Ok(()),
-            Err(_) => self.failed_after(0),
+        let sector = u64::from(self.sector);
+        let count = out.len() as u64 / sector;
+        match self.file.read_exact_at(out, first * sector) {
+            Ok(()) => self.answered(BioCmd::Read, first, count, Ok(())),
+            Err(_) => self.answered(BioCmd::Read, first, count, Err(DiskFailed { done: 0 })),
         }
     }
 
     /// A write of nothing is a failure.
     fn write(&mut self, first: u64, bytes: &[u8]) -> Result<(), DiskFailed> {
-        self.calls = self.calls.saturating_add(1);
         let sector = u64::from(self.sector);
-        let done = write_bytes(&self.file, first * sector, bytes);
-        if done < bytes.len() {
-            return self.failed_after(done as u64 / sector);
+        let count = bytes.len() as u64 / sector;
+        let written = write_bytes(&self.file, first * sector, bytes);
+        if written < bytes.len() {
+            let done = written as u64 / sector;
+            return self.answered(BioCmd::Write, first, count, Err(DiskFailed { done }));
         }
-        Ok(())
+        self.answered(BioCmd::Write, first, count, Ok(()))
     }
 
     fn zero(&mut self, first: u64, count: u64) -> Result<(), DiskFailed> {
-        self.calls = self.calls.saturating_add(1);
         let sector = u64::from(self.sector);
         let size = count * sector;
-        let done = write_zeros(&self.file, first * sector, size);
-        if done < size {
-            return self.failed_after(done / sector);
+        let written = write_zeros(&self.file, first * sector, size);
+        if written < size {
+            let done = written / sector;
+            return self.answered(BioCmd::Delete, first, count, Err(DiskFailed { done }));
         }
-        Ok(())
+        self.answered(BioCmd::Delete, first, count, Ok(()))
     }
 
     fn flush(&mut self) -> Result<(), DiskFailed> {
-        self.calls = self.calls.saturating_add(1);
         match self.file.sync_data() {
-            Ok(()) => Ok(()),
-            Err(_) => self.failed_after(0),
+            Ok(()) => self.answered(BioCmd::Flush, 0, 0, Ok(())),
+            Err(_) => self.answered(BioCmd::Flush, 0, 0, Err(DiskFailed { done: 0 })),
         }
     }
 

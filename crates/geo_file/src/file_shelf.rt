@@ -1,13 +1,13 @@
 //! A folder of image files as a shelf.
-ghost use Rattle.std.specs.Prelude.{◌≡◌, ℕ, ◌<◌, ◌≤◌, ◌↔◌, [], None, List, Contains, IfOk, IsTrue, is_err};
+ghost use Rattle.std.specs.Prelude.{◌≡◌, ℕ, ◌<◌, ◌≤◌, ◌↔◌, [], None, List, Contains, IfOk, IsTrue, OnOk, is_err};
 ghost use Rattle.geo_base.specs.Faults.{HasCause, Rose};
 ghost use Rattle.geo_disk.specs.Lending.{faults_of, give_faults_of, take_faults_of};
 ghost use Rattle.geo_disk.specs.Shelf.{CountsCall, is_failure};
-ghost use Rattle.geo_file.specs.Files.{tells_nothing};
+ghost use Rattle.geo_file.specs.Files.{folder_view, tells_nothing};
 
 use crate::file_disk::FileDisk;
 use geo_base::{Name, NoMemory};
-use geo_disk::{Disk, GiveFault, Lending, Shelf, ShelfFault, Taken, is_disk_size};
+use geo_disk::{Disk, GiveFault, Lending, Shelf, ShelfFault, Taken, is_disk_size, one_more};
 use std::alloc::Global;
 use std::fs::File;
 use std::io;
@@ -37,7 +37,7 @@ impl<R: Files<File = File> + Drop> Model for FileShelf<R> {
 impl<R: Files<File = File> + Drop> FileShelf<R> {
     /// The shelf of this folder, of which nothing is lent.
     pub fn new(rt: R, alloc: Global, folder: &str) -> Result<FileShelf<R>, NoMemory>
-        ensures { IfOk result (λ shelf. shelf ≡ record { loans = record { lent = []; counts = [] }; faults = 0 }) }
+        ensures { IfOk result (λ shelf. shelf ≡ record { loans = record { lent = []; counts = []; returned = [] }; faults = 0 }) }
     {
         Ok(FileShelf {
             rt,
@@ -51,6 +51,7 @@ impl<R: Files<File = File> + Drop> FileShelf<R> {
     /// Counts a take that failed. Where there is no memory for the count of its name, that is the answer.
     fn fail_take(&mut self, name: &Name) -> ShelfFault
         ensures lent { self.new.loans.lent ≡ self.old.loans.lent }
+        ensures returned { self.new.loans.returned ≡ self.old.loans.returned }
         ensures disks { (other : List ℕ) → faults_of self.new.loans other ≡ faults_of self.old.loans other }
         ensures takes { CountsCall (is_failure result) name.now (take_faults_of self.old.loans)
             (take_faults_of self.new.loans) }
@@ -61,7 +62,7 @@ impl<R: Files<File = File> + Drop> FileShelf<R> {
         match self.lending.make_room(name) {
             Ok(()) => {
                 self.lending.count_failed_take(name);
-                self.faults = self.faults.saturating_add(1);
+                self.faults = one_more(self.faults);
                 ShelfFault::Failed
             }
             Err(_) => ShelfFault::NoMemory,
@@ -72,15 +73,17 @@ impl<R: Files<File = File> + Drop> FileShelf<R> {
     fn sync(&mut self, name: &Name, disk: &FileDisk) -> Result<(), ShelfFault>
         requires { Contains self.old.loans.lent name.now }
         ensures lent { self.new.loans.lent ≡ self.old.loans.lent }
+        ensures returned { self.new.loans.returned ≡ self.old.loans.returned }
         ensures disks { (other : List ℕ) → faults_of self.new.loans other ≡ faults_of self.old.loans other }
         ensures takes { (other : List ℕ) → take_faults_of self.new.loans other ≡ take_faults_of self.old.loans other }
         ensures gives { CountsCall (is_err result) name.now (give_faults_of self.old.loans)
             (give_faults_of self.new.loans) }
         ensures cause { HasCause self.old.faults self.new.faults result }
+        ensures no_fault { OnOk result (self.new.faults ≡ self.old.faults) }
     {
         if disk.sync().is_err() {
             self.lending.count_failed_give(name);
-            self.faults = self.faults.saturating_add(1);
+            self.faults = one_more(self.faults);
             return Err(ShelfFault::Failed);
         }
         Ok(())
@@ -119,17 +122,7 @@ fn path_of(alloc: Global, folder: &str, name: &Name) -> Result<String, NoMemory>
 impl<R: Files<File = File> + Drop> Shelf for FileShelf<R> {
     type D = FileDisk;
 
-    ghost told = { λ _. None };
-
-    ghost lent = { λ s. s.loans.lent };
-
-    ghost faults_of = { λ s. faults_of s.loans };
-
-    ghost faults = { λ s. s.faults };
-
-    ghost take_faults = { λ s. take_faults_of s.loans };
-
-    ghost give_faults = { λ s. give_faults_of s.loans };
+    ghost view = { folder_view };
 
     fn take(&mut self, name: &Name, sector: u32) -> Result<Taken<FileDisk>, ShelfFault> {
         if self.lending.has(name) || has_slash(name) {
@@ -147,18 +140,20 @@ impl<R: Files<File = File> + Drop> Shelf for FileShelf<R> {
             return Ok(Taken::BadSize);
         }
         let faults = self.lending.faults_of(name);
+        let asked = self.lending.asked_of(name);
         let Ok(()) = self.lending.lend(name) else {
             return Err(ShelfFault::NoMemory);
         };
         let sectors = size / u64::from(sector);
-        Ok(Taken::Disk(FileDisk::new(file, sector, sectors, faults)))
+        Ok(Taken::Disk(FileDisk::new(file, sector, sectors, faults, asked)))
     }
 
     fn give(&mut self, name: &Name, disk: FileDisk) -> Result<(), GiveFault<FileDisk>> {
         if self.sync(name, &disk).is_err() {
             return Err(GiveFault { name: *name, disk });
         }
-        self.lending.give_back(name, disk.faults());
+        self.lending
+            .give_back(name, disk.faults(), disk.asked(), disk.sectors());
         Ok(())
     }
 
