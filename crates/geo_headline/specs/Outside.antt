@@ -1,47 +1,29 @@
 -- What a call finds outside, and what it leaves there: source, sink, and the shelf with its disks.
-use Rattle.std.specs.Prelude.{◌≡◌, ◌≢◌, ℕ, ◌*◌, ◌==◌, Bool, true, false, not, ◌&&◌, List, length, map, count_by, filter, Option, Some, None, IsSomeAnd, IfSome, IsTrue, All, Contains, option_and_then}
+use Rattle.std.specs.Prelude.{◌≡◌, ◌≢◌, ℕ, ◌*◌, ◌==◌, Bool, true, false, not, ◌&&◌, List, [], ◌∷◌, ◌++◌, length, map, flat_map, count_by, filter, Option, Some, None, IsSomeAnd, IfSome, IsTrue, All, Contains, option_and_then, if◌then◌else◌}
 use Rattle.std.specs.List.{list_any, enumerate_from}
-use Rattle.geo_base.specs.Faults.{RoseBy}
 use Rattle.geo_base.specs.Images.{Images, IsDiskSize}
 use Rattle.geo_base.specs.Sectors.{sectors_of, joined_sectors, zero_sectors}
+use Rattle.geo_disk.specs.declared.calls.DiskCall.{DiskCall}
+use Rattle.geo_disk.specs.Counts.{counted_many}
 use Rattle.geo_model.specs.declared.command.DiskDecl.{DiskDecl}
 use Rattle.geo_model.specs.declared.command.DiskKind.{DiskKind}
 use Rattle.geo_model.specs.declared.command.DiskKind.TheVariants as disk_kinds
+use Rattle.geo_model.specs.declared.step.DeviceResult.{DeviceResult}
 use Rattle.geo_model.specs.declared.step.DeviceResult.TheVariants as devices
 use Rattle.geo_model.specs.declared.step.Entry.{Entry}
 use Rattle.geo_model.specs.declared.step.Request.{Request}
 use Rattle.geo_model.specs.declared.step.Step.{Step}
 use Rattle.geo_model.specs.declared.step.Step.TheVariants as steps
-use Rattle.geo_model.specs.Words.{same_name}
+use Rattle.geo_model.specs.Words.{is_flush, same_name}
 use Rattle.geo_model.specs.World.{Plan}
 use Rattle.geo_model.specs.Results.{request_of}
 use Rattle.geo_model.specs.Contents.{contents, AreTrue}
 use Rattle.geo_model.specs.FixedOrder.{delivered_in}
+pub use Rattle.geo_io.specs.Source.{SourceView}
+pub use Rattle.geo_io.specs.Sink.{SinkView}
+pub use Rattle.geo_disk.specs.Shelf.{ShelfView}
 
--- a source at one moment: what its reads gave so far, whether the last one that didn't fail found the end, the bytes
--- left where it tells them, how often it was read as far as it counts that, and how often it failed
-pub record SourceView : Type 0 where
-  pub given : List ℕ
-  pub ended : Bool
-  pub left : Option (List ℕ)
-  pub reads : ℕ
-  pub faults : ℕ
-
--- a sink at one moment: what its writes took so far, and how often it failed
-pub record SinkView : Type 0 where
-  pub taken : List ℕ
-  pub faults : ℕ
-
--- a shelf at one moment: what it tells, the names that are lent, and counts that never fall: its faults, and for each
--- name the faults of its disks, its takes that failed, and its gives that failed
-pub record ShelfView : Type 0 where
-  pub told : Option Images
-  pub lent : List (List ℕ)
-  pub faults : ℕ
-  pub faults_of : List ℕ → ℕ
-  pub take_faults : List ℕ → ℕ
-  pub give_faults : List ℕ → ℕ
-
+-- what a call finds, or leaves, at one moment
 pub record Outside : Type 0 where
   pub source : SourceView
   pub sink : SinkView
@@ -132,13 +114,44 @@ failures_of log disk =
     count_by (λ e.
     is_failed_answer e.step && is_of_disk disk (option_and_then (request_of log) (delivered_in e.step))) log
 
+-- how many sectors were done where a disk failed
+abbrev pub failed_in : DeviceResult → Option ℕ
+failed_in (devices.Failed done) = Some done
+failed_in _ = None
+
+-- the one call of a disk that serves a request, with the answer that it had; a FLUSH is of no sectors
+abbrev pub call_served : Request → DeviceResult → DiskCall
+call_served q got = record {
+  cmd = q.cmd;
+  first = if is_flush q.cmd then 0 else q.first;
+  count = if is_flush q.cmd then 0 else q.count;
+  failed = failed_in got;
+}
+
+-- the call of a disk for an answer to a request, if it is one to this disk
+abbrev pub call_for : ℕ → DeviceResult → Option Request → List DiskCall
+call_for disk got None = []
+call_for disk got (Some q) = if q.disk == disk then call_served q got ∷ [] else []
+
+-- the call of a disk that a step delivers the answer of, in a log that has the requests
+abbrev pub call_in : List Entry → ℕ → Step → List DiskCall
+call_in log disk (steps.Deliver b got) = call_for disk got (request_of log b)
+call_in log disk _ = []
+
+-- the calls of a disk whose answers the log delivers, in its order
+abbrev pub calls_logged : List Entry → ℕ → List DiskCall
+calls_logged log disk = flat_map (λ e. call_in log disk e.step) log
+
 -- the bytes that an image of these bytes has after the log
 abbrev pub image_after : List Entry → PlannedDisk → List ℕ → List ℕ
 image_after log d bytes = joined_sectors (contents d.decl.sector (sectors_of d.decl.sector bytes) log d.number)
 
--- a disk that was given back: its failures are faults; where the shelf tells it, it holds and gave what the log says
+-- a disk that was given back: it was asked exactly what the log says, in that order, and answered so; exactly the
+-- failures of the log are its faults; where the shelf tells it, it holds and gave what the log says
 pub record HoldsWhatIsLogged (before after : ShelfView) (log : List Entry) (d : PlannedDisk) : Type 0 where
-  pub failures : RoseBy (failures_of log d.number) (before.faults_of d.decl.name) (after.faults_of d.decl.name)
+  pub asked : after.asked_of d.decl.name ≡ before.asked_of d.decl.name ++ calls_logged log d.number
+  pub failures : after.faults_of d.decl.name
+      ≡ counted_many (failures_of log d.number) (before.faults_of d.decl.name)
   pub bytes : WhereTold before after d.decl.name (λ had has.
       IsSomeAnd had (λ bytes. has ≡ Some (image_after log d bytes)))
   pub reads : WhereTold before after d.decl.name (λ had has.
@@ -158,11 +171,13 @@ IsDiskKept before after log d disk_kinds.Shelf =
 abbrev pub DisksAreKept : Plan → ShelfView → ShelfView → List Entry → Type 0
 DisksAreKept plan before after log = All (λ d. IsDiskKept before after log d d.decl.kind) (planned_disks plan)
 
--- no count of a name changed
+-- nothing that is known of a name changed: its counts, what its disk was asked, and how many sectors that had
 pub record CountsStay (before after : ShelfView) (name : List ℕ) : Type 0 where
   pub disk : after.faults_of name ≡ before.faults_of name
   pub takes : after.take_faults name ≡ before.take_faults name
   pub gives : after.give_faults name ≡ before.give_faults name
+  pub asked : after.asked_of name ≡ before.asked_of name
+  pub sectors : after.sectors_of name ≡ before.sectors_of name
 
 -- everything else of the shelf stays: foreign names, names lent before, and no foreign name is kept back
 pub record OthersStay (plan : Plan) (before after : ShelfView) : Type 0 where
