@@ -1,16 +1,16 @@
 -- A request to a disk, and what comes of it (g_bio(9)).
-use Rattle.std.specs.Prelude.{◌≡◌, ◌↔◌, ℕ, ◌+◌, ◌*◌, ◌==◌, ◌<◌, ◌≤◌, nat_le, Bool, true, false, not, ◌&&◌, ◌||◌, List, length, Option, Result, Ok, Err, IfSome, IsTrue, IsFalse, Contains, if◌then◌else◌, ⊤}
+use Rattle.std.specs.Prelude.{◌≡◌, ◌↔◌, ℕ, ◌+◌, ◌*◌, ◌==◌, ◌<◌, ◌≤◌, nat_le, Bool, true, false, not, ◌&&◌, ◌||◌, List, [], ◌∷◌, ◌++◌, length, Option, Result, Ok, Err, IfSome, IsTrue, Contains, if◌then◌else◌, ⊤}
 use Rattle.std.specs.Option.{option_map}
-use Rattle.geo_base.specs.Faults.{Rose}
 use Rattle.geo_disk.specs.declared.disk.DiskFailed.{DiskFailed}
-use Rattle.geo_disk.specs.Memory.{counted_on}
+use Rattle.geo_disk.specs.Counts.{counted_if, counted_on}
+use Rattle.geo_headline.specs.Outside.{call_served}
 use Rattle.geo_model.specs.declared.step.DeviceResult.{DeviceResult}
 use Rattle.geo_model.specs.declared.step.DeviceResult.TheVariants as devices
 use Rattle.geo_model.specs.declared.step.Request.{Request}
 use Rattle.geo_model.specs.Words.{is_flush, is_read, is_write}
 use Rattle.geo_model.specs.Requests.{request_limit}
 use Rattle.geo_model.specs.Contents.{after_command, bytes_at, done_sectors}
-use Rattle.geo_serve.specs.Drives.{DriveView, HasAllSectors, HasWholeSectors}
+use Rattle.geo_serve.specs.Drives.{DriveView, HasAllSectors, HasWholeSectors, RamCalls, called_once}
 
 -- a disk of so many sectors can be asked: the request lies inside it and isn't too long, and a WRITE has the bytes of
 -- its sectors
@@ -46,13 +46,12 @@ abbrev pub TellsWhatIsHeld : Request → DeviceResult → List (List ℕ) → Ty
 TellsWhatIsHeld q (devices.Bytes bytes) held = bytes ≡ bytes_at held q
 TellsWhatIsHeld q _ held = ⊤
 
--- a disk in memory failed exactly if the number of this call is one of those that fail, and counts that
-pub record FailsAsTold (old new : DriveView) (got : DeviceResult) (fails : List ℕ) : Type 0 where
-  pub told : IsTrue (is_failed got) ↔ Contains fails (counted_on old.calls)
-  pub faults : new.faults ≡ (if is_failed got then counted_on old.faults else old.faults)
+-- a disk in memory failed exactly if the number of this call is one of those that fail
+abbrev pub FailsAsTold : DeviceResult → RamCalls → Type 0
+FailsAsTold got c = IsTrue (is_failed got) ↔ Contains c.fails (counted_on c.calls)
 
--- one call of the disk served the request with this answer; the sectors stay whole, and as many as they are; a fault
--- is told, and nothing else
+-- one call of the disk served the request with this answer: it is what the disk was asked, and nothing else was; the
+-- sectors stay whole, and as many as they are; a failure is one fault more, and nothing else is
 pub record Serves (q : Request) (old new : DriveView) (got : DeviceResult) : Type 0 where
   pub fits : IsTrue (fits_request old.sector q got)
   pub tells : IfSome old.held (TellsWhatIsHeld q got)
@@ -61,12 +60,10 @@ pub record Serves (q : Request) (old new : DriveView) (got : DeviceResult) : Typ
   pub all : HasAllSectors old → HasAllSectors new
   pub sector : new.sector ≡ old.sector
   pub count : new.count ≡ old.count
-  pub called : new.calls ≡ counted_on old.calls
-  pub later : old.faults ≤ new.faults
-  pub cause : IsTrue (is_failed got) → Rose old.faults new.faults
-  pub told : IsFalse (is_failed got) → new.faults ≡ old.faults
-  pub kind : new.fails ≡ old.fails
-  pub memory : IfSome old.fails (FailsAsTold old new got)
+  pub asked : new.asked ≡ old.asked ++ call_served q got ∷ []
+  pub faults : new.faults ≡ counted_if (is_failed got) old.faults
+  pub ram : new.ram ≡ option_map called_once old.ram
+  pub fails : IfSome old.ram (FailsAsTold got)
 
 -- the answer by how a call ended that reads nothing
 abbrev pub answer_of : Result (Unit {0}) DiskFailed → DeviceResult

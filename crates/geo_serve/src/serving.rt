@@ -11,11 +11,11 @@ use geo_model::{DeviceResult, Request};
 /// Serves a request by exactly one call of the disk, and answers what came of it. A READ is read into the room, which
 /// is cut to its length.
 pub fn serve<D: Disk>(disk: &mut Drive<D>, request: &Request, room: Block) -> DeviceResult
-    requires room { HasRoom (drive_view D.held D.sector_bytes D.sector_count D.calls D.faults disk.old) request.now room }
-    requires can { CanServe (drive_view D.held D.sector_bytes D.sector_count D.calls D.faults disk.old) request.now }
+    requires room { HasRoom (drive_view D.view disk.old) request.now room }
+    requires can { CanServe (drive_view D.view disk.old) request.now }
     ensures { Serves request.now
-        (drive_view D.held D.sector_bytes D.sector_count D.calls D.faults disk.old)
-        (drive_view D.held D.sector_bytes D.sector_count D.calls D.faults disk.new) result }
+        (drive_view D.view disk.old)
+        (drive_view D.view disk.new) result }
 {
     match request.cmd {
         BioCmd::Read => read(disk, request, room),
@@ -27,12 +27,12 @@ pub fn serve<D: Disk>(disk: &mut Drive<D>, request: &Request, room: Block) -> De
 
 // A READ.
 fn read<D: Disk>(disk: &mut Drive<D>, request: &Request, mut room: Block) -> DeviceResult
-    requires room { HasRoom (drive_view D.held D.sector_bytes D.sector_count D.calls D.faults disk.old) request.now room }
-    requires can { CanServe (drive_view D.held D.sector_bytes D.sector_count D.calls D.faults disk.old) request.now }
+    requires room { HasRoom (drive_view D.view disk.old) request.now room }
+    requires can { CanServe (drive_view D.view disk.old) request.now }
     requires cmd { request.now.cmd ≡ cmds.Read }
     ensures { Serves request.now
-        (drive_view D.held D.sector_bytes D.sector_count D.calls D.faults disk.old)
-        (drive_view D.held D.sector_bytes D.sector_count D.calls D.faults disk.new) result }
+        (drive_view D.view disk.old)
+        (drive_view D.view disk.new) result }
 {
     let len = request.count * disk.sector_size();
     room.cut(len);
@@ -44,11 +44,11 @@ fn read<D: Disk>(disk: &mut Drive<D>, request: &Request, mut room: Block) -> Dev
 
 // A WRITE.
 fn write<D: Disk>(disk: &mut Drive<D>, request: &Request) -> DeviceResult
-    requires can { CanServe (drive_view D.held D.sector_bytes D.sector_count D.calls D.faults disk.old) request.now }
+    requires can { CanServe (drive_view D.view disk.old) request.now }
     requires cmd { request.now.cmd ≡ cmds.Write }
     ensures { Serves request.now
-        (drive_view D.held D.sector_bytes D.sector_count D.calls D.faults disk.old)
-        (drive_view D.held D.sector_bytes D.sector_count D.calls D.faults disk.new) result }
+        (drive_view D.view disk.old)
+        (drive_view D.view disk.new) result }
 {
     let done = disk.write(request.first, request.bytes.bytes());
     answer(done)
@@ -56,11 +56,11 @@ fn write<D: Disk>(disk: &mut Drive<D>, request: &Request) -> DeviceResult
 
 // A DELETE, after which the sectors are zero.
 fn delete<D: Disk>(disk: &mut Drive<D>, request: &Request) -> DeviceResult
-    requires can { CanServe (drive_view D.held D.sector_bytes D.sector_count D.calls D.faults disk.old) request.now }
+    requires can { CanServe (drive_view D.view disk.old) request.now }
     requires cmd { request.now.cmd ≡ cmds.Delete }
     ensures { Serves request.now
-        (drive_view D.held D.sector_bytes D.sector_count D.calls D.faults disk.old)
-        (drive_view D.held D.sector_bytes D.sector_count D.calls D.faults disk.new) result }
+        (drive_view D.view disk.old)
+        (drive_view D.view disk.new) result }
 {
     let done = disk.zero(request.first, request.count as u64);
     answer(done)
@@ -70,8 +70,8 @@ fn delete<D: Disk>(disk: &mut Drive<D>, request: &Request) -> DeviceResult
 fn flush<D: Disk>(disk: &mut Drive<D>, request: &Request) -> DeviceResult
     requires cmd { request.now.cmd ≡ cmds.Flush }
     ensures { Serves request.now
-        (drive_view D.held D.sector_bytes D.sector_count D.calls D.faults disk.old)
-        (drive_view D.held D.sector_bytes D.sector_count D.calls D.faults disk.new) result }
+        (drive_view D.view disk.old)
+        (drive_view D.view disk.new) result }
 {
     let done = disk.flush();
     answer(done)

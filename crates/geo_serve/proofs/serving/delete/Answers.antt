@@ -7,10 +7,8 @@ use Rattle.geo_serve.proofs.serving.delete.Goals as goal
 
 pub returns : goal.returns
 returns g c =
-    let old : DriveView = drive_view g.D.Disk.held g.D.Disk.sector_bytes g.D.Disk.sector_count g.D.Disk.calls
-    g.D.Disk.faults c.args.disk.now in
-    let new : DriveView = drive_view g.D.Disk.held g.D.Disk.sector_bytes g.D.Disk.sector_count g.D.Disk.calls
-    g.D.Disk.faults c.zero-done.new.self in
+    let old : DriveView = drive_view g.D.Disk.view c.args.disk.now in
+    let new : DriveView = drive_view g.D.Disk.view c.zero-done.new.self in
     let fits : IsTrue (fits_request old.sector c.args.request.now c.answer.result) = search rules in
     let held : new.held ≡ held_after old.sector c.args.request.now c.answer.result old.held = search rules in
     let stays : HasWholeSectors old → HasWholeSectors new =

@@ -1,5 +1,5 @@
-use Rattle.std.proofs.Common.{◌≡◌, ℕ, ◌*◌, ◌/◌, ◌≤◌, length, rules, ◌∙◌, ap}
-use Rattle.geo_disk.specs.Drive.{bytes_by, count_by}
+use Rattle.std.proofs.Common.{◌≡◌, ℕ, ◌*◌, ◌/◌, ◌≤◌, length, arith, rules, ◌∙◌, ap}
+use Rattle.geo_disk.specs.Drive.{view_by}
 use Rattle.geo_base.specs.Written.{written_over}
 use Rattle.geo_model.specs.Words.{is_read}
 use Rattle.geo_serve.proofs.Whole.{all_written, are_sectors, cut_length, sectors_in}
@@ -7,17 +7,17 @@ use Rattle.geo_serve.proofs.serving.read.Goals as goal
 
 pub read-requires : goal.read-requires
 read-requires g c =
-    let sector : ℕ = bytes_by g.D.Disk.sector_bytes c.args.disk.now in
+    let sector : ℕ = (view_by g.D.Disk.view c.args.disk.now).sector in
     let short : c.args.request.now.count * sector ≤ length c.args.room =
     c.requires.room (ap is_read c.requires.cmd) in
-    are_sectors sector (count_by g.D.Disk.sector_count c.args.disk.now) c.args.request.now.first
-    c.args.request.now.count (length c.bytes_mut.result.now) c.requires.can.some_size c.requires.can.inside
+    are_sectors sector (view_by g.D.Disk.view c.args.disk.now).count _ c.args.request.now.count
+    (length c.bytes_mut.result.now) c.requires.can.some_size (omega (arith, c.requires.can.inside))
     (cut_length c.args.request.now.count sector c.sector_size.result c.args.room c.cut.new.self c.bytes_mut.result.now
     c.bytes_mut.ensures.value c.cut.ensures c.sector_size.ensures short)
 
 pub returns-in-Ok : goal.returns-in-Ok
 returns-in-Ok g c =
-    let sector : ℕ = bytes_by g.D.Disk.sector_bytes c.args.disk.now in
+    let sector : ℕ = (view_by g.D.Disk.view c.args.disk.now).sector in
     let short : c.args.request.now.count * sector ≤ length c.args.room =
     c.requires.room (ap is_read c.requires.cmd) in
     let lent : length c.bytes_mut.result.now ≡ c.args.request.now.count * sector =
@@ -31,3 +31,15 @@ returns-in-Ok g c =
     let many : length c.read.new.out / sector ≡ c.args.request.now.count =
     sectors_in sector c.args.request.now.count (length c.read.new.out) c.requires.can.some_size bytes in
     rw (c.from_block.ensures ∙ all) (search rules)
+
+pub returns-in-Err : goal.returns-in-Err
+returns-in-Err g c =
+    let sector : ℕ = (view_by g.D.Disk.view c.args.disk.now).sector in
+    let short : c.args.request.now.count * sector ≤ length c.args.room =
+    c.requires.room (ap is_read c.requires.cmd) in
+    let lent : length c.bytes_mut.result.now ≡ c.args.request.now.count * sector =
+    cut_length c.args.request.now.count sector c.sector_size.result c.args.room c.cut.new.self c.bytes_mut.result.now
+    c.bytes_mut.ensures.value c.cut.ensures c.sector_size.ensures short in
+    let many : length c.bytes_mut.result.now / sector ≡ c.args.request.now.count =
+    sectors_in sector c.args.request.now.count (length c.bytes_mut.result.now) c.requires.can.some_size lent in
+    search rules

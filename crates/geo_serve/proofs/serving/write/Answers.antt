@@ -1,6 +1,6 @@
 use Rattle.std.proofs.Common.{◌≡◌, ◌/◌, length, rules, ap}
 use Rattle.std.specs.Prelude.{IsTrue}
-use Rattle.geo_disk.specs.Drive.{bytes_by}
+use Rattle.geo_disk.specs.Drive.{view_by}
 use Rattle.geo_model.specs.Words.{is_write}
 use Rattle.geo_serve.specs.Drives.{DriveView, HasAllSectors, HasWholeSectors, drive_view}
 use Rattle.geo_serve.specs.Serve.{fits_request, held_after}
@@ -10,14 +10,12 @@ use Rattle.geo_serve.proofs.serving.write.Goals as goal
 
 pub returns : goal.returns
 returns g c =
-    let whole : length c.args.request.now.bytes / bytes_by g.D.Disk.sector_bytes c.args.disk.now
+    let whole : length c.args.request.now.bytes / (view_by g.D.Disk.view c.args.disk.now).sector
     ≡ c.args.request.now.count =
-    sectors_in (bytes_by g.D.Disk.sector_bytes c.args.disk.now) c.args.request.now.count
+    sectors_in (view_by g.D.Disk.view c.args.disk.now).sector c.args.request.now.count
     (length c.args.request.now.bytes) c.requires.can.some_size (c.requires.can.bytes (ap is_write c.requires.cmd)) in
-    let old : DriveView = drive_view g.D.Disk.held g.D.Disk.sector_bytes g.D.Disk.sector_count g.D.Disk.calls
-    g.D.Disk.faults c.args.disk.now in
-    let new : DriveView = drive_view g.D.Disk.held g.D.Disk.sector_bytes g.D.Disk.sector_count g.D.Disk.calls
-    g.D.Disk.faults c.write-done.new.self in
+    let old : DriveView = drive_view g.D.Disk.view c.args.disk.now in
+    let new : DriveView = drive_view g.D.Disk.view c.write-done.new.self in
     let fits : IsTrue (fits_request old.sector c.args.request.now c.answer.result) = search rules in
     let held : new.held ≡ held_after old.sector c.args.request.now c.answer.result old.held = search rules in
     let stays : HasWholeSectors old → HasWholeSectors new =
