@@ -1,11 +1,10 @@
 -- Drives that serve what the entries of a log say, with one entry more.
-use Rattle.std.specs.Prelude.{◌≡◌, ◌≢◌, ℕ, zero, suc, ◌+◌, ◌-◌, ◌^◌, ◌==◌, min, Bool, true, false, cond, ◌&&◌, List, [], ◌∷◌, ◌++◌, Option, Some, None, IfSome, slice_get, slice_set, if◌then◌else◌}
+use Rattle.std.specs.Prelude.{◌≡◌, ◌≢◌, ℕ, zero, suc, ◌+◌, ◌==◌, Bool, true, false, cond, ◌&&◌, Contains, List, [], ◌∷◌, ◌++◌, Option, Some, None, IfSome, slice_get, slice_set, if◌then◌else◌}
 use Rattle.std.specs.Option.{option_map}
-use Rattle.std.proofs.Common.{add-zero, refl, sym, ◌∙◌, ap, subst, arith}
+use Rattle.std.proofs.Common.{add-zero, append-nil, append_assoc, refl, sym, ◌∙◌, ap, subst, arith}
 use Rattle.std.proofs.lemmas.Bool.{both_ways, eqb-true, eq-eqb, ne_eqb}
 use Rattle.geo_laws_graph.proofs.Members.{nothing_in}
-use Rattle.geo_disk.specs.Memory.{counted_on}
-use Rattle.geo_base.specs.Faults.{Rose, RoseBy}
+use Rattle.geo_disk.specs.Counts.{counted_if, counted_many, counted_on}
 use Rattle.geo_model.specs.declared.step.DeviceResult.{DeviceResult}
 use Rattle.geo_model.specs.declared.step.Entry.{Entry}
 use Rattle.geo_model.specs.declared.step.Request.{Request}
@@ -13,13 +12,13 @@ use Rattle.geo_model.specs.declared.step.Step.TheVariants as steps
 use Rattle.geo_model.specs.FixedOrder.{delivered_in}
 use Rattle.geo_model.specs.Results.{request_of}
 use Rattle.geo_model.specs.Contents.{after_command, contents, done_sectors, AreTrue}
-use Rattle.geo_headline.specs.Outside.{failures_of}
-use Rattle.geo_serve.specs.Drives.{DriveView}
+use Rattle.geo_headline.specs.Outside.{call_served, calls_logged, failures_of}
+use Rattle.geo_serve.specs.Drives.{DriveView, RamCalls, called_once, fails_of}
 use Rattle.geo_serve.specs.Serve.{FailsAsTold, Serves, TellsWhatIsHeld, held_after, is_failed}
-use Rattle.geo_serve.specs.Served.{AreServed, IsServed, IsServedAt, answers_of}
+use Rattle.geo_serve.specs.Served.{AreServed, IsServed, IsServedAt}
 use Rattle.geo_laws_disks.proofs.Splits.{none_in}
 use Rattle.geo_laws_disks.specs.DriveLaws.{AreTaken, DrivesFollow}
-use Rattle.geo_laws_disks.proofs.HeldByDrives.{answered_answers, answered_contents, answered_failures, answered_true, quiet_answers, quiet_contents, quiet_failures, quiet_true}
+use Rattle.geo_laws_disks.proofs.HeldByDrives.{answered_calls, answered_contents, answered_failures, answered_true, quiet_calls, quiet_contents, quiet_failures, quiet_true}
 
 -- what a told disk holds, by equal functions
 map_same : {A B : Type 0} (f g : A → B) (o : Option A) → ((x : A) → f x ≡ g x) → option_map f o ≡ option_map g o
@@ -39,10 +38,8 @@ served_none disk before = record {
   reads = reads before.held;
   whole = λ w. w;
   all = λ a. a;
-  calls = ap (λ n. min n (2 ^ 64 - 1)) (sym (add-zero before.calls));
-  failures = omega arith;
-  told = λ none. refl;
-  later = omega arith;
+  asked = sym (append-nil before.asked);
+  failures = refl;
   sector = refl;
   count = refl;
   kind = refl;
@@ -68,12 +65,9 @@ served_quiet xs e disk before after taken quiet served = record {
       before.held (λ held. quiet_true xs e taken quiet before.sector disk held) served.reads;
   whole = served.whole;
   all = served.all;
-  calls = served.calls
-      ∙ ap (λ n. min (before.calls + n) (2 ^ 64 - 1)) (sym (quiet_answers xs e taken quiet disk));
-  failures = subst (λ n. RoseBy n before.faults after.faults) (sym (quiet_failures xs e taken quiet disk))
-      served.failures;
-  told = λ none. served.told (sym (quiet_failures xs e taken quiet disk) ∙ none);
-  later = served.later;
+  asked = served.asked ∙ ap (λ cs. before.asked ++ cs) (sym (quiet_calls xs e taken quiet disk));
+  failures = served.failures
+      ∙ ap (λ n. counted_many n before.faults) (sym (quiet_failures xs e taken quiet disk));
   sector = served.sector;
   count = served.count;
   kind = served.kind;
@@ -95,10 +89,8 @@ served_other xs e b got q disk before after taken delivers asked other served = 
       served.reads;
   whole = served.whole;
   all = served.all;
-  calls = served.calls ∙ ap (λ n. min (before.calls + n) (2 ^ 64 - 1)) (sym answers);
-  failures = subst (λ n. RoseBy n before.faults after.faults) (sym fails) served.failures;
-  told = λ none. served.told (sym fails ∙ none);
-  later = served.later;
+  asked = served.asked ∙ ap (λ cs. before.asked ++ cs) (sym calls);
+  failures = served.failures ∙ ap (λ n. counted_many n before.faults) (sym fails);
   sector = served.sector;
   count = served.count;
   kind = served.kind;
@@ -115,10 +107,11 @@ served_other xs e b got q disk before after taken delivers asked other served = 
         ∙ ap (λ (c : Bool). if c then after_command size q.cmd q (done_sectors q got) (contents size held xs disk)
         else contents size held xs disk) apart
 
-    answers : answers_of (xs ++ e ∷ []) disk ≡ answers_of xs disk
-    answers =
-        answered_answers xs e b got q taken delivers asked disk
-        ∙ ap (λ c. answers_of xs disk + cond c 1 0) apart ∙ add-zero (answers_of xs disk)
+    calls : calls_logged (xs ++ e ∷ []) disk ≡ calls_logged xs disk
+    calls =
+        answered_calls xs e b got q taken delivers asked disk
+        ∙ ap (λ (c : Bool). calls_logged xs disk ++ (if c then call_served q got ∷ [] else [])) apart
+        ∙ append-nil (calls_logged xs disk)
 
     fails : failures_of (xs ++ e ∷ []) disk ≡ failures_of xs disk
     fails = answered_failures xs e b got q taken delivers asked disk ∙ none (is_failed got)
@@ -128,15 +121,22 @@ served_other xs e b got q disk before after taken delivers asked other served = 
         none false = omega arith
 
 -- a disk in memory without a call to fail doesn't fail
-never : (old new : DriveView) (got : DeviceResult) → IfSome old.fails (FailsAsTold old new got) → old.fails ≡ Some []
-    → is_failed got ≡ false
-never old new got told none = by (is_failed got) refl
+never : (ram : Option RamCalls) (got : DeviceResult) → IfSome ram (FailsAsTold got)
+    → option_map (λ (c : RamCalls). c.fails) ram ≡ Some [] → is_failed got ≡ false
+never None got told none = absurd (let bad : ⊥ = cc in bad)
+never (Some c) got told none = by (is_failed got) refl
   where
-    by : (c : Bool) → is_failed got ≡ c → is_failed got ≡ false
+    by : (failed : Bool) → is_failed got ≡ failed → is_failed got ≡ false
     by false is = is
     by true is =
-        let its : FailsAsTold old new got [] = subst (λ o. IfSome o (FailsAsTold old new got)) none told in
-        absurd (nothing_in (counted_on old.calls) (its.told.0 is))
+        let empty : c.fails ≡ [] = cc in
+        absurd (nothing_in (counted_on c.calls) (subst (λ fails. Contains fails (counted_on c.calls)) empty (told.0 is)))
+
+-- a call more leaves the numbers of those that are to fail
+same_fails : (ram : Option RamCalls)
+    → option_map (λ (c : RamCalls). c.fails) (option_map called_once ram) ≡ option_map (λ (c : RamCalls). c.fails) ram
+same_fails None = refl
+same_fails (Some c) = refl
 
 -- the drive of the disk that answered
 pub served_own : (xs : List Entry) (e : Entry) (b : ℕ) (got : DeviceResult) (q : Request) (before mid after : DriveView)
@@ -151,13 +151,15 @@ served_own xs e b got q before mid after taken delivers asked served serves = re
       (subst (λ o. IfSome o (TellsWhatIsHeld q got)) served.held serves.tells);
   whole = λ w. serves.whole (served.whole w);
   all = λ a. serves.all (served.all a);
-  calls = one_more;
-  failures = by (is_failed got) refl;
-  told = λ none. told_by_all (is_failed got) refl (sym fails ∙ none);
-  later = omega (arith, served.later, serves.later);
+  asked = serves.asked ∙ ap (λ cs. cs ++ call_served q got ∷ []) served.asked
+      ∙ append_assoc before.asked (calls_logged xs q.disk) (call_served q got ∷ [])
+      ∙ ap (λ cs. before.asked ++ cs) (sym calls);
+  failures = serves.faults ∙ ap (λ n. counted_if (is_failed got) n) served.failures
+      ∙ counted (is_failed got)
+      ∙ ap (λ n. counted_many n before.faults) (sym fails);
   sector = serves.sector ∙ served.sector;
   count = serves.count ∙ served.count;
-  kind = serves.kind ∙ served.kind;
+  kind = ap (λ o. option_map (λ (c : RamCalls). c.fails) o) serves.ram ∙ same_fails mid.ram ∙ served.kind;
   memory = λ none. fails ∙ quiet none;
 }
   where
@@ -185,12 +187,10 @@ served_own xs e b got q before mid after taken delivers asked served serves = re
     reads (Some held) so_far tells =
         answered_true xs e b got q taken delivers asked before.sector q.disk held so_far (λ its. tells)
 
-    one_more : min after.calls (2 ^ 64 - 1) ≡ min (before.calls + answers_of (xs ++ e ∷ []) q.disk) (2 ^ 64 - 1)
-    one_more =
-        let more : answers_of (xs ++ e ∷ []) q.disk ≡ answers_of xs q.disk + 1 =
-        answered_answers xs e b got q taken delivers asked q.disk
-        ∙ ap (λ c. answers_of xs q.disk + cond c 1 0) own in
-        omega (arith, more, serves.called, served.calls)
+    calls : calls_logged (xs ++ e ∷ []) q.disk ≡ calls_logged xs q.disk ++ call_served q got ∷ []
+    calls =
+        answered_calls xs e b got q taken delivers asked q.disk
+        ∙ ap (λ (c : Bool). calls_logged xs q.disk ++ (if c then call_served q got ∷ [] else [])) own
 
     fails : failures_of (xs ++ e ∷ []) q.disk ≡ failures_of xs q.disk + cond (is_failed got) 1 0
     fails =
@@ -202,29 +202,14 @@ served_own xs e b got q before mid after taken delivers asked served serves = re
         both true = refl
         both false = refl
 
-    quiet : before.fails ≡ Some [] → failures_of xs q.disk + cond (is_failed got) 1 0 ≡ 0
-    quiet none =
-        rw (never mid after got serves.memory (served.kind ∙ none), served.memory none) refl
+    quiet : fails_of before ≡ Some [] → failures_of xs q.disk + cond (is_failed got) 1 0 ≡ 0
+    quiet none = rw (never mid.ram got serves.fails (served.kind ∙ none), served.memory none) refl
 
-    by : (c : Bool) → is_failed got ≡ c → RoseBy (failures_of (xs ++ e ∷ []) q.disk) before.faults after.faults
-    by true is =
-        let more : failures_of (xs ++ e ∷ []) q.disk ≡ failures_of xs q.disk + 1 =
-        fails ∙ ap (λ c. failures_of xs q.disk + cond c 1 0) is in
-        let rose : Rose mid.faults after.faults = serves.cause is in
-        omega (arith, more, rose, served.failures)
-    by false is =
-        let more : failures_of (xs ++ e ∷ []) q.disk ≡ failures_of xs q.disk + 0 =
-        fails ∙ ap (λ c. failures_of xs q.disk + cond c 1 0) is in
-        omega (arith, more, served.failures, serves.later)
-
-    told_by_all : (c : Bool) → is_failed got ≡ c → failures_of xs q.disk + cond (is_failed got) 1 0 ≡ 0
-        → after.faults ≡ before.faults
-    told_by_all true is none =
-        let more : failures_of xs q.disk + 1 ≡ 0 = ap (λ c. failures_of xs q.disk + cond c 1 0) (sym is) ∙ none in
-        absurd (omega (arith, more))
-    told_by_all false is none =
-        let so_far : failures_of xs q.disk ≡ 0 = omega (arith, none) in
-        serves.told is ∙ served.told so_far
+    counted : (c : Bool) → counted_if c (counted_many (failures_of xs q.disk) before.faults)
+        ≡ counted_many (failures_of xs q.disk + cond c 1 0) before.faults
+    counted true = let more : suc (failures_of xs q.disk) ≡ failures_of xs q.disk + 1 = omega arith in
+        ap (λ n. counted_many n before.faults) more
+    counted false = ap (λ n. counted_many n before.faults) (sym (add-zero (failures_of xs q.disk)))
 
 -- All drives
 

@@ -1,8 +1,9 @@
 -- What disks hold, tell and fail along a log with one entry more.
-use Rattle.std.specs.Prelude.{◌≡◌, ℕ, ◌+◌, ◌==◌, Bool, false, cond, ◌&&◌, List, [], ◌∷◌, ◌++◌, fold, Option, Some, None, IsSome, IfSome, option_and_then}
+use Rattle.std.specs.Prelude.{◌≡◌, ℕ, ◌+◌, ◌==◌, Bool, false, cond, ◌&&◌, List, [], ◌∷◌, ◌++◌, flat_map, fold, Option, Some, None, IsSome, IfSome, option_and_then}
 use Rattle.std.specs.List.{AllByRecursion}
-use Rattle.std.proofs.Common.{refl, sym, ◌∙◌, ap, subst, add-zero}
+use Rattle.std.proofs.Common.{refl, sym, ◌∙◌, ap, subst, add-zero, append-nil}
 use Rattle.std.proofs.lemmas.List.Sums.{fold-append}
+use Rattle.std.proofs.lemmas.Grind.{flat_map-append}
 use Rattle.geo_model.specs.declared.step.DeviceResult.{DeviceResult}
 use Rattle.geo_model.specs.declared.step.DeviceResult.TheVariants as devices
 use Rattle.geo_model.specs.declared.step.Entry.{Entry}
@@ -12,9 +13,8 @@ use Rattle.geo_model.specs.declared.step.Step.TheVariants as steps
 use Rattle.geo_model.specs.FixedOrder.{delivered_in}
 use Rattle.geo_model.specs.Results.{request_of}
 use Rattle.geo_model.specs.Contents.{after_answer, after_step, bytes_at, contents, AreTrue, ReadsWhatIsHeld}
-use Rattle.geo_headline.specs.Outside.{failures_of, is_failed_answer, is_of_disk}
+use Rattle.geo_headline.specs.Outside.{call_for, call_in, calls_logged, failures_of, is_failed_answer, is_of_disk}
 use Rattle.geo_serve.specs.Serve.{TellsWhatIsHeld, is_failed}
-use Rattle.geo_serve.specs.Served.{answers_of}
 use Rattle.geo_laws_disks.proofs.Splits.{each_more}
 use Rattle.geo_laws_disks.specs.DriveLaws.{AreTaken, IsTaken}
 use Rattle.geo_laws_disks.proofs.Requests.{delivered_same, request_same}
@@ -121,24 +121,45 @@ failures_more disk xs e taken =
     ∙ ap (λ n. n + cond (fails_in (xs ++ e ∷ []) disk e) 1 0)
     (counted_same (fails_in (xs ++ e ∷ []) disk) (fails_in xs disk) xs (fails_same xs (e ∷ []) disk xs taken) 0)
 
--- whether an entry delivers an answer of a disk
-abbrev answers_in : List Entry → ℕ → Entry → Bool
-answers_in log disk e = is_of_disk disk (option_and_then (request_of log) (delivered_in e.step))
+-- the call that a step delivers the answer of is the same by a longer log
+call_same : (xs ys : List Entry) (disk : ℕ) (s : Step) → IsTaken xs s → call_in (xs ++ ys) disk s ≡ call_in xs disk s
+call_same xs ys disk (steps.Deliver b got) taken = ap (λ o. call_for disk got o) (request_same xs ys b taken)
+call_same xs ys disk (steps.Go actor) taken = refl
+call_same xs ys disk steps.Event taken = refl
+call_same xs ys disk steps.Judge taken = refl
+call_same xs ys disk steps.Reap taken = refl
+call_same xs ys disk steps.Wash taken = refl
+call_same xs ys disk (steps.Start b) taken = refl
+call_same xs ys disk (steps.Take other b) taken = refl
+call_same xs ys disk (steps.Up b) taken = refl
 
--- the answers of entries are the same by a longer log
-answers_same : (xs ys : List Entry) (disk : ℕ) (es : List Entry) → AreTaken xs es
-    → AllByRecursion (λ e. answers_in (xs ++ ys) disk e ≡ answers_in xs disk e) es
-answers_same xs ys disk [] taken = tt
-answers_same xs ys disk (e ∷ es) taken =
-    (ap (λ o. is_of_disk disk o) (delivered_same xs ys e.step taken.0), answers_same xs ys disk es taken.1)
+-- so are those of entries
+calls_same : (xs ys : List Entry) (disk : ℕ) (es : List Entry) → AreTaken xs es
+    → flat_map (λ (e : Entry). call_in (xs ++ ys) disk e.step) es ≡ flat_map (λ (e : Entry). call_in xs disk e.step) es
+calls_same xs ys disk [] taken = refl
+calls_same xs ys disk (e ∷ es) taken =
+    ap (λ c. c ++ flat_map (λ (e : Entry). call_in (xs ++ ys) disk e.step) es) (call_same xs ys disk e.step taken.0)
+    ∙ ap (λ cs. call_in xs disk e.step ++ cs) (calls_same xs ys disk es taken.1)
 
--- the answers with one entry more
-answers_more : (disk : ℕ) (xs : List Entry) (e : Entry) → AreTaken xs xs
-    → answers_of (xs ++ e ∷ []) disk ≡ answers_of xs disk + cond (answers_in (xs ++ e ∷ []) disk e) 1 0
-answers_more disk xs e taken =
-    fold-append (λ (a : ℕ) (x : Entry). a + cond (answers_in (xs ++ e ∷ []) disk x) 1 0) 0 xs (e ∷ [])
-    ∙ ap (λ n. n + cond (answers_in (xs ++ e ∷ []) disk e) 1 0)
-    (counted_same (answers_in (xs ++ e ∷ []) disk) (answers_in xs disk) xs (answers_same xs (e ∷ []) disk xs taken) 0)
+-- the calls with one entry more
+calls_more : (disk : ℕ) (xs : List Entry) (e : Entry) → AreTaken xs xs
+    → calls_logged (xs ++ e ∷ []) disk ≡ calls_logged xs disk ++ call_in (xs ++ e ∷ []) disk e.step
+calls_more disk xs e taken =
+    flat_map-append (λ (x : Entry). call_in (xs ++ e ∷ []) disk x.step) xs (e ∷ [])
+    ∙ ap (λ cs. cs ++ (call_in (xs ++ e ∷ []) disk e.step ++ [])) (calls_same xs (e ∷ []) disk xs taken)
+    ∙ ap (λ c. calls_logged xs disk ++ c) (append-nil (call_in (xs ++ e ∷ []) disk e.step))
+
+-- a step that delivers nothing answers no call
+quiet_call : (log : List Entry) (disk : ℕ) (s : Step) → delivered_in s ≡ None → call_in log disk s ≡ []
+quiet_call log disk (steps.Deliver b got) none = absurd (let bad : ⊥ = cc in bad)
+quiet_call log disk (steps.Go actor) none = refl
+quiet_call log disk steps.Event none = refl
+quiet_call log disk steps.Judge none = refl
+quiet_call log disk steps.Reap none = refl
+quiet_call log disk steps.Wash none = refl
+quiet_call log disk (steps.Start b) none = refl
+quiet_call log disk (steps.Take other b) none = refl
+quiet_call log disk (steps.Up b) none = refl
 
 -- An entry that delivers nothing
 
@@ -157,11 +178,11 @@ module _ (xs : List Entry) (e : Entry) (taken : AreTaken xs xs) (quiet : deliver
       (quiet_answer e.step quiet)
       ∙ add-zero (failures_of xs disk)
 
-  pub quiet_answers : (disk : ℕ) → answers_of (xs ++ e ∷ []) disk ≡ answers_of xs disk
-  quiet_answers disk =
-      answers_more disk xs e taken
-      ∙ ap (λ o. answers_of xs disk + cond (is_of_disk disk (option_and_then (request_of (xs ++ e ∷ [])) o)) 1 0) quiet
-      ∙ add-zero (answers_of xs disk)
+  pub quiet_calls : (disk : ℕ) → calls_logged (xs ++ e ∷ []) disk ≡ calls_logged xs disk
+  quiet_calls disk =
+      calls_more disk xs e taken
+      ∙ ap (λ c. calls_logged xs disk ++ c) (quiet_call (xs ++ e ∷ []) disk e.step quiet)
+      ∙ append-nil (calls_logged xs disk)
 
   pub quiet_true : (size disk : ℕ) (held : List (List ℕ)) → AreTrue size held xs disk
       → AreTrue size held (xs ++ e ∷ []) disk
@@ -211,13 +232,12 @@ module _ (xs : List Entry) (e : Entry) (b : ℕ) (got : DeviceResult) (q : Reque
       (failed_answer b got)
       ∙ ap (λ o. failures_of xs disk + cond (is_failed got && is_of_disk disk o) 1 0) asked_more
 
-  pub answered_answers : (disk : ℕ)
-      → answers_of (xs ++ e ∷ []) disk ≡ answers_of xs disk + cond (q.disk == disk) 1 0
-  answered_answers disk =
-      answers_more disk xs e taken
-      ∙ ap (λ s. answers_of xs disk
-      + cond (is_of_disk disk (option_and_then (request_of (xs ++ e ∷ [])) (delivered_in s))) 1 0) delivers
-      ∙ ap (λ o. answers_of xs disk + cond (is_of_disk disk o) 1 0) asked_more
+  pub answered_calls : (disk : ℕ)
+      → calls_logged (xs ++ e ∷ []) disk ≡ calls_logged xs disk ++ call_for disk got (Some q)
+  answered_calls disk =
+      calls_more disk xs e taken
+      ∙ ap (λ s. calls_logged xs disk ++ call_in (xs ++ e ∷ []) disk s) delivers
+      ∙ ap (λ o. calls_logged xs disk ++ call_for disk got o) asked_more
 
   pub answered_true : (size disk : ℕ) (held : List (List ℕ)) → AreTrue size held xs disk
       → (q.disk ≡ disk → TellsWhatIsHeld q got (contents size held xs disk))
