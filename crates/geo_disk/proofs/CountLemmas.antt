@@ -1,10 +1,11 @@
 -- Counts under names.
-use Rattle.std.proofs.Common.{◌≡◌, ◌+◌, ◌-◌, ◌^◌, ◌<◌, ◌≤◌, min, arith, inl, inr, ℕ, Bool, true, false, List, [], ◌∷◌, ◌++◌, Option, Some, None, refl, cond, bytes_eq}
+use Rattle.std.proofs.Common.{◌≡◌, ◌+◌, ◌-◌, ◌^◌, ◌<◌, ◌≤◌, min, arith, inl, inr, ℕ, zero, suc, Bool, true, false, List, [], ◌∷◌, ◌++◌, Option, Some, None, refl, cond, bytes_eq}
 use Rattle.std.specs.Option.{option_map_or, option_or}
 use Rattle.std.specs.List.{find}
 use Rattle.std.proofs.lemmas.List.Folds.{find-append}
 use Rattle.std.proofs.lemmas.Bool.{cases_lt, le-ltb, lt-ltb}
-use Rattle.geo_disk.specs.Counts.{counted_on}
+use Rattle.geo_base.specs.Faults.{RoseBy}
+use Rattle.geo_disk.specs.Counts.{counted_if, counted_many, counted_on}
 use Rattle.geo_disk.specs.Lending.{no_faults, tally_in}
 use Rattle.geo_disk.specs.Names.{is_named}
 use Rattle.geo_disk.specs.declared.lending.Count.{Count}
@@ -38,3 +39,24 @@ counted_on_later n = elim (cases_lt n (2 ^ 64 - 1)) [
   | inl below ↦ rw (lt-ltb n (2 ^ 64 - 1) below) (omega arith)
   | inr end ↦ rw (le-ltb n (2 ^ 64 - 1) end) (omega arith)
 ]
+
+pub counted_if_later : (more : Bool) (n : ℕ) → n ≤ counted_if more n
+counted_if_later true n = counted_on_later n
+counted_if_later false n = omega arith
+
+pub counted_many_later : (k n : ℕ) → n ≤ counted_many k n
+counted_many_later zero n = omega arith
+counted_many_later (suc k) n =
+    omega (arith, counted_many_later k n, counted_on_later (counted_many k n))
+
+-- it rises by what is counted, or stands at the end of its type
+counted_on_rose : (n : ℕ) → min (n + 1) (2 ^ 64 - 1) ≤ counted_on n
+counted_on_rose n = elim (cases_lt n (2 ^ 64 - 1)) [
+  | inl below ↦ rw (lt-ltb n (2 ^ 64 - 1) below) (omega arith)
+  | inr end ↦ rw (le-ltb n (2 ^ 64 - 1) end) (omega arith)
+]
+
+pub counted_many_rose : (k n : ℕ) → RoseBy k n (counted_many k n)
+counted_many_rose zero n = omega arith
+counted_many_rose (suc k) n =
+    omega (arith, counted_many_rose k n, counted_on_rose (counted_many k n), counted_on_later (counted_many k n))

@@ -25,10 +25,10 @@ pub fn run_to_rest<D: Disk, O: Order>(
 ) -> Result<(), DrainRefusal>
     requires none_busy { NoneBusy (world_of mesh.old) }
     requires fit { DrivesFit mesh.old
-        (map (drive_view D.held D.sector_bytes D.sector_count D.calls D.faults) disks.old) }
+        (map (drive_view D.view) disks.old) }
     ensures runs { Runs (O.due order.now) mesh.old mesh.new
-        (map (drive_view D.held D.sector_bytes D.sector_count D.calls D.faults) disks.old)
-        (map (drive_view D.held D.sector_bytes D.sector_count D.calls D.faults) disks.new) }
+        (map (drive_view D.view) disks.old)
+        (map (drive_view D.view) disks.new) }
     ensures rest { OnOk result (Rest (world_of mesh.new)) }
     ensures full { IsErrOf result DrainRefusal.LogFull → RanFull (O.due order.now) mesh.new }
     ensures none_busy { NoneBusy (world_of mesh.new) }

@@ -33,10 +33,10 @@ pub fn turn<D: Disk>(
     requires history { IsHistory mesh.old }
     requires enabled { IsTrue (is_enabled (world_of mesh.old) 0 step) }
     requires fit { DrivesFit mesh.old
-        (map (drive_view D.held D.sector_bytes D.sector_count D.calls D.faults) disks.old) }
+        (map (drive_view D.view) disks.old) }
     ensures made { OnOk result (Turns mesh.old mesh.new
-        (map (drive_view D.held D.sector_bytes D.sector_count D.calls D.faults) disks.old)
-        (map (drive_view D.held D.sector_bytes D.sector_count D.calls D.faults) disks.new) step) }
+        (map (drive_view D.view) disks.old)
+        (map (drive_view D.view) disks.new) step) }
     ensures full { IsErrOf result DrainRefusal.LogFull → IsTrue (is_full mesh.old.log (world_of mesh.old) 0 step) }
     ensures mesh { OnErr result (mesh.new ≡ mesh.old) }
     ensures disks { OnErr result (disks.new ≡ disks.old) }
@@ -77,10 +77,10 @@ fn take<D: Disk>(
     requires history { IsHistory mesh.old }
     requires enabled { IsTrue (is_enabled (world_of mesh.old) 0 (steps.Take disk bio)) }
     requires fit { DrivesFit mesh.old
-        (map (drive_view D.held D.sector_bytes D.sector_count D.calls D.faults) disks.old) }
+        (map (drive_view D.view) disks.old) }
     ensures made { OnOk result (ServesTake mesh.old mesh.new
-        (map (drive_view D.held D.sector_bytes D.sector_count D.calls D.faults) disks.old)
-        (map (drive_view D.held D.sector_bytes D.sector_count D.calls D.faults) disks.new) disk bio) }
+        (map (drive_view D.view) disks.old)
+        (map (drive_view D.view) disks.new) disk bio) }
     ensures full { IsErrOf result DrainRefusal.LogFull
         → IsTrue (is_full mesh.old.log (world_of mesh.old) 0 (steps.Take disk bio)) }
     ensures mesh { OnErr result (mesh.new ≡ mesh.old) }
@@ -129,14 +129,14 @@ fn answer<D: Disk>(
 ) -> DeviceResult
     requires inside { request.now.disk < length disks.old }
     requires can { IsSomeAnd
-        (slice_get (map (drive_view D.held D.sector_bytes D.sector_count D.calls D.faults) disks.old) request.now.disk)
+        (slice_get (map (drive_view D.view) disks.old) request.now.disk)
         (λ d. CanServe d request.now) }
     requires room { IsSomeAnd
-        (slice_get (map (drive_view D.held D.sector_bytes D.sector_count D.calls D.faults) disks.old) request.now.disk)
+        (slice_get (map (drive_view D.view) disks.old) request.now.disk)
         (λ d. HasRoom d request.now room) }
     ensures { AnswersRequest request.now
-        (map (drive_view D.held D.sector_bytes D.sector_count D.calls D.faults) disks.old)
-        (map (drive_view D.held D.sector_bytes D.sector_count D.calls D.faults) disks.new) result }
+        (map (drive_view D.view) disks.old)
+        (map (drive_view D.view) disks.new) result }
 {
     let drive = &mut disks[request.disk as usize];
     let got = serve(drive, request, room).share(alloc);

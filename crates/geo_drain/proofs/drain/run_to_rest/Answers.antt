@@ -10,13 +10,13 @@ use Rattle.geo_drain.proofs.drain.run_to_rest.Goals as goal
 
 pub loop-step-init : goal.loop-step-init
 loop-step-init g c =
-    let seen = drive_view g.D.Disk.held g.D.Disk.sector_bytes g.D.Disk.sector_count g.D.Disk.calls g.D.Disk.faults in
+    let seen = drive_view g.D.Disk.view in
     begins (g.O.Order.due c.args.order.now) c.args.mesh.now (map seen c.args.disks.now) c.requires.none_busy
     c.log-log.ensures.history c.requires.fit
 
 pub loop-step-preserved : goal.loop-step-preserved
 loop-step-preserved g c =
-    let seen = drive_view g.D.Disk.held g.D.Disk.sector_bytes g.D.Disk.sector_count g.D.Disk.calls g.D.Disk.faults in
+    let seen = drive_view g.D.Disk.view in
     goes_on (g.O.Order.due c.args.order.now) c.args.mesh.now c.loop-step.mesh c.turn.new.mesh
     (map seen c.args.disks.now) (map seen c.loop-step.disks) (map seen c.turn.new.disks) c.in-Some.step
     c.loop-step.invariant (sym c.in-Some.ensures) c.in_ok-turn.ensures.history c.in_ok-turn.ensures.made

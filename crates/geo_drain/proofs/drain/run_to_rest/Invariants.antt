@@ -7,9 +7,9 @@ use Rattle.geo_drain.proofs.drain.run_to_rest.Given as goal
 abbrev pub invariant-loop-step : goal.invariant-loop-step
 invariant-loop-step g l =
     IsRunning (g.O.Order.due l.order) l.fn.mesh l.mesh
-    (map (drive_view g.D.Disk.held g.D.Disk.sector_bytes g.D.Disk.sector_count g.D.Disk.calls g.D.Disk.faults)
+    (map (drive_view g.D.Disk.view)
     l.fn.disks)
-    (map (drive_view g.D.Disk.held g.D.Disk.sector_bytes g.D.Disk.sector_count g.D.Disk.calls g.D.Disk.faults) l.disks)
+    (map (drive_view g.D.Disk.view) l.disks)
 
 abbrev pub decreases-loop-step : goal.decreases-loop-step
 decreases-loop-step g l = log_limit - length l.mesh.log

@@ -7,19 +7,19 @@ use Rattle.geo_drain.proofs.turn.answer.Goals as goal
 
 pub serve-requires-clause-can : goal.serve-requires-clause-can
 serve-requires-clause-can g c =
-    holds_at (drive_view g.D.Disk.held g.D.Disk.sector_bytes g.D.Disk.sector_count g.D.Disk.calls g.D.Disk.faults)
+    holds_at (drive_view g.D.Disk.view)
     (λ d. CanServe d c.args.request.now) c.args.disks.now c.args.request.now.disk c.index-disks-request.result
     c.requires.inside c.requires.can
 
 pub serve-requires-clause-room : goal.serve-requires-clause-room
 serve-requires-clause-room g c =
-    holds_at (drive_view g.D.Disk.held g.D.Disk.sector_bytes g.D.Disk.sector_count g.D.Disk.calls g.D.Disk.faults)
+    holds_at (drive_view g.D.Disk.view)
     (λ d. HasRoom d c.args.request.now c.args.room) c.args.disks.now c.args.request.now.disk
     c.index-disks-request.result c.requires.inside c.requires.room
 
 pub returns : goal.returns
 returns g c =
-    let seen = drive_view g.D.Disk.held g.D.Disk.sector_bytes g.D.Disk.sector_count g.D.Disk.calls g.D.Disk.faults in
+    let seen = drive_view g.D.Disk.view in
     record {
       old = seen (slice_index_or c.args.disks.now c.args.request.now.disk c.index-disks-request.result);
       is_its = seen_at seen c.args.disks.now c.args.request.now.disk c.index-disks-request.result c.requires.inside;

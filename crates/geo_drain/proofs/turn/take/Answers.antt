@@ -11,7 +11,7 @@ use Rattle.geo_drain.proofs.turn.take.Goals as goal
 
 pub last_request-requires : goal.last_request-requires
 last_request-requires g c =
-    let seen = drive_view g.D.Disk.held g.D.Disk.sector_bytes g.D.Disk.sector_count g.D.Disk.calls g.D.Disk.faults in
+    let seen = drive_view g.D.Disk.view in
     let o : Outcome = c.in_ok-make.ensures.made.0 in
     let it : (q : Request) × TakesRequest c.args.mesh.now c.make.new.mesh (map seen c.args.disks.now) c.args.bio o q =
     takes_request c.args.mesh.now c.make.new.mesh (map seen c.args.disks.now) c.args.disk c.args.bio o
@@ -23,7 +23,7 @@ last_request-requires g c =
 
 pub answer-got-requires-clause-inside : goal.answer-got-requires-clause-inside
 answer-got-requires-clause-inside g c =
-    let seen = drive_view g.D.Disk.held g.D.Disk.sector_bytes g.D.Disk.sector_count g.D.Disk.calls g.D.Disk.faults in
+    let seen = drive_view g.D.Disk.view in
     let it : TakesRequest c.args.mesh.now c.make.new.mesh (map seen c.args.disks.now) c.args.bio c.in_ok-make.ensures.made.0
     c.last_request.result.now =
     takes_last c.args.mesh.now c.make.new.mesh (map seen c.args.disks.now) c.args.disk c.args.bio
@@ -33,7 +33,7 @@ answer-got-requires-clause-inside g c =
 
 pub answer-got-requires-clause-can : goal.answer-got-requires-clause-can
 answer-got-requires-clause-can g c =
-    let seen = drive_view g.D.Disk.held g.D.Disk.sector_bytes g.D.Disk.sector_count g.D.Disk.calls g.D.Disk.faults in
+    let seen = drive_view g.D.Disk.view in
     last_can c.args.mesh.now c.make.new.mesh (map seen c.args.disks.now) c.args.bio c.in_ok-make.ensures.made.0
     c.last_request.result.now
     (takes_last c.args.mesh.now c.make.new.mesh (map seen c.args.disks.now) c.args.disk c.args.bio
@@ -42,7 +42,7 @@ answer-got-requires-clause-can g c =
 
 pub answer-got-requires-clause-room : goal.answer-got-requires-clause-room
 answer-got-requires-clause-room g c =
-    let seen = drive_view g.D.Disk.held g.D.Disk.sector_bytes g.D.Disk.sector_count g.D.Disk.calls g.D.Disk.faults in
+    let seen = drive_view g.D.Disk.view in
     last_room c.args.mesh.now c.make.new.mesh (map seen c.args.disks.now) c.args.bio c.in_ok-make.ensures.made.0
     c.last_request.result.now c.in-Ok.room
     (takes_last c.args.mesh.now c.make.new.mesh (map seen c.args.disks.now) c.args.disk c.args.bio
@@ -52,7 +52,7 @@ answer-got-requires-clause-room g c =
 
 pub deliver-requires : goal.deliver-requires
 deliver-requires g c =
-    let seen = drive_view g.D.Disk.held g.D.Disk.sector_bytes g.D.Disk.sector_count g.D.Disk.calls g.D.Disk.faults in
+    let seen = drive_view g.D.Disk.view in
     last_enabled c.args.mesh.now c.make.new.mesh (map seen c.args.disks.now) (map seen c.answer-got.new.disks) c.args.bio
     c.in_ok-make.ensures.made.0 c.last_request.result.now c.answer-got.result
     (takes_last c.args.mesh.now c.make.new.mesh (map seen c.args.disks.now) c.args.disk c.args.bio
@@ -62,7 +62,7 @@ deliver-requires g c =
 
 pub returns-clause-made : goal.returns-clause-made
 returns-clause-made g c =
-    let seen = drive_view g.D.Disk.held g.D.Disk.sector_bytes g.D.Disk.sector_count g.D.Disk.calls g.D.Disk.faults in
+    let seen = drive_view g.D.Disk.view in
     let it : TakesRequest c.args.mesh.now c.make.new.mesh (map seen c.args.disks.now) c.args.bio c.in_ok-make.ensures.made.0
     c.last_request.result.now =
     takes_last c.args.mesh.now c.make.new.mesh (map seen c.args.disks.now) c.args.disk c.args.bio
