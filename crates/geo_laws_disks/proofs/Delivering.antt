@@ -1,8 +1,9 @@
--- What a disk holds, fails and answers along a log is told by what the log delivers of it.
-use Rattle.std.specs.Prelude.{◌≡◌, ℕ, ◌+◌, ◌==◌, Bool, true, false, cond, ◌&&◌, List, [], ◌∷◌, ◌++◌, fold, count_by, Option, Some, None, option_and_then}
-use Rattle.std.specs.Option.{option_map_or}
+-- What a disk holds, fails and is asked along a log is told by what the log delivers of it.
+use Rattle.std.specs.Prelude.{◌≡◌, ℕ, ◌+◌, ◌==◌, Bool, true, false, cond, ◌&&◌, List, [], ◌∷◌, ◌++◌, flat_map, fold, map, count_by, Option, Some, None, option_and_then}
+use Rattle.std.specs.Option.{option_map_or, option_to_list}
 use Rattle.std.proofs.Common.{refl, sym, ◌∙◌, ap, arith}
 use Rattle.std.proofs.lemmas.List.Sums.{fold-append, sum_by-cons}
+use Rattle.geo_disk.specs.declared.calls.DiskCall.{DiskCall}
 use Rattle.geo_model.specs.declared.step.DeviceResult.{DeviceResult}
 use Rattle.geo_model.specs.declared.step.DeviceResult.TheVariants as devices
 use Rattle.geo_model.specs.declared.step.Entry.{Entry}
@@ -12,10 +13,13 @@ use Rattle.geo_model.specs.declared.step.Step.TheVariants as steps
 use Rattle.geo_model.specs.Contents.{after_answer, after_step, contents}
 use Rattle.geo_model.specs.FixedOrder.{delivered_in}
 use Rattle.geo_model.specs.Results.{request_of}
-use Rattle.geo_headline.specs.Outside.{failures_of, is_failed_answer, is_of_disk}
+use Rattle.geo_headline.specs.Outside.{call_for, call_in, call_served, calls_logged, failures_of, is_failed_answer, is_of_disk}
 use Rattle.geo_serve.specs.Serve.{is_failed}
-use Rattle.geo_serve.specs.Served.{answers_of}
 use Rattle.geo_laws_disks.specs.Deliveries.{AreTold, Delivery, after_delivery, deliveries, deliveries_by, delivery_in, delivery_of, held_by}
+
+-- the call of a delivery
+abbrev pub call_delivered : Delivery → DiskCall
+call_delivered d = call_served d.request d.got
 
 -- What a disk holds
 
@@ -94,29 +98,46 @@ counted asked disk test of same (e ∷ es) =
     by None is rest = rw (same e.step, is, rest) (omega arith)
     by (Some d) is rest = rw (same e.step, is, rest) (sym (count_cons of d (deliveries_by asked disk es)))
 
--- a step delivers an answer of a disk
-answers_step : (asked : ℕ → Option Request) (disk : ℕ) (s : Step)
-    → is_of_disk disk (option_and_then asked (delivered_in s))
-    ≡ option_map_or (λ d. true) (delivery_in asked disk s) false
-answers_step asked disk (steps.Deliver b got) = by (asked b)
+-- a step answers the call that it delivers
+calls_step : (log : List Entry) (disk : ℕ) (s : Step)
+    → call_in log disk s ≡ map call_delivered (option_to_list (delivery_in (request_of log) disk s))
+calls_step log disk (steps.Deliver b got) = by (request_of log b)
   where
     at : (q : Request) (c : Bool) → (q.disk == disk) ≡ c
-        → is_of_disk disk (Some q) ≡ option_map_or (λ (d : Delivery). true) (delivery_of disk got (Some q)) false
+        → call_for disk got (Some q) ≡ map call_delivered (option_to_list (delivery_of disk got (Some q)))
     at q true is = rw is refl
     at q false is = rw is refl
 
     by : (o : Option Request)
-        → is_of_disk disk o ≡ option_map_or (λ (d : Delivery). true) (delivery_of disk got o) false
+        → call_for disk got o ≡ map call_delivered (option_to_list (delivery_of disk got o))
     by None = refl
     by (Some q) = at q (q.disk == disk) refl
-answers_step asked disk (steps.Go actor) = refl
-answers_step asked disk steps.Event = refl
-answers_step asked disk steps.Judge = refl
-answers_step asked disk steps.Reap = refl
-answers_step asked disk steps.Wash = refl
-answers_step asked disk (steps.Start b) = refl
-answers_step asked disk (steps.Take other b) = refl
-answers_step asked disk (steps.Up b) = refl
+calls_step log disk (steps.Go actor) = refl
+calls_step log disk steps.Event = refl
+calls_step log disk steps.Judge = refl
+calls_step log disk steps.Reap = refl
+calls_step log disk steps.Wash = refl
+calls_step log disk (steps.Start b) = refl
+calls_step log disk (steps.Take other b) = refl
+calls_step log disk (steps.Up b) = refl
+
+-- entries answer the calls that they deliver
+calls_in : (log : List Entry) (disk : ℕ) (es : List Entry)
+    → flat_map (λ (e : Entry). call_in log disk e.step) es
+    ≡ map call_delivered (deliveries_by (request_of log) disk es)
+calls_in log disk [] = refl
+calls_in log disk (e ∷ es) =
+    ap (λ cs. cs ++ flat_map (λ (e : Entry). call_in log disk e.step) es) (calls_step log disk e.step)
+    ∙ by (delivery_in (request_of log) disk e.step) refl (calls_in log disk es)
+  where
+    by : (o : Option Delivery) → delivery_in (request_of log) disk e.step ≡ o
+        → flat_map (λ (e : Entry). call_in log disk e.step) es
+        ≡ map call_delivered (deliveries_by (request_of log) disk es)
+        → map call_delivered (option_to_list (delivery_in (request_of log) disk e.step))
+        ++ flat_map (λ (e : Entry). call_in log disk e.step) es
+        ≡ map call_delivered (deliveries_by (request_of log) disk (e ∷ es))
+    by None is rest = rw is rest
+    by (Some d) is rest = rw is (ap (λ cs. call_delivered d ∷ cs) rest)
 
 -- a step delivers a failure
 failed_step : (b : ℕ) (got : DeviceResult) → is_failed_answer (steps.Deliver b got) ≡ is_failed got
@@ -158,11 +179,9 @@ fails_step asked disk (steps.Start b) = refl
 fails_step asked disk (steps.Take other b) = refl
 fails_step asked disk (steps.Up b) = refl
 
--- as many answers as the log delivers
-pub answers_by : (log : List Entry) (disk : ℕ) → answers_of log disk ≡ count_by (λ d. true) (deliveries log disk)
-answers_by log disk =
-    counted (request_of log) disk (λ s. is_of_disk disk (option_and_then (request_of log) (delivered_in s)))
-    (λ d. true) (answers_step (request_of log) disk) log
+-- the calls of a log are those that it delivers
+pub calls_by : (log : List Entry) (disk : ℕ) → calls_logged log disk ≡ map call_delivered (deliveries log disk)
+calls_by log disk = calls_in log disk log
 
 -- as many failures
 pub failures_by : (log : List Entry) (disk : ℕ)

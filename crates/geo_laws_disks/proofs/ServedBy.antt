@@ -1,9 +1,11 @@
 -- What a drive did along a log is told by what the log delivers of its disk, so drives serve seats and parts.
-use Rattle.std.specs.Prelude.{◌≡◌, ℕ, ◌+◌, ◌-◌, ◌^◌, ◌≤◌, min, true, cond, List, [], ◌++◌, count_by, Option, Some, None, IfSome}
+use Rattle.std.specs.Prelude.{◌≡◌, ℕ, zero, suc, ◌+◌, cond, List, [], ◌++◌, map, count_by, Option, Some, None, IfSome}
 use Rattle.std.specs.Option.{option_map}
-use Rattle.std.proofs.Common.{refl, sym, ◌∙◌, ap, subst, arith}
+use Rattle.std.proofs.Common.{add-zero, append_assoc, refl, sym, ◌∙◌, ap, subst, arith}
+use Rattle.std.proofs.lemmas.List.{map-append}
 use Rattle.std.proofs.lemmas.List.Sums.{sum_by-append}
-use Rattle.geo_base.specs.Faults.{RoseBy}
+use Rattle.geo_disk.specs.declared.calls.DiskCall.{DiskCall}
+use Rattle.geo_disk.specs.Counts.{counted_many, counted_on}
 use Rattle.geo_model.specs.declared.step.Entry.{Entry}
 use Rattle.geo_model.specs.declared.step.Request.{Request}
 use Rattle.geo_model.specs.Contents.{AreTrue, contents}
@@ -11,22 +13,23 @@ use Rattle.geo_model.specs.Opening.{opening}
 use Rattle.geo_model.specs.Log.{Legal}
 use Rattle.geo_model.specs.Passes.{entries_of_seat}
 use Rattle.geo_model.specs.Results.{request_of}
-use Rattle.geo_headline.specs.Outside.{failures_of}
-use Rattle.geo_serve.specs.Drives.{DriveView, HasAllSectors, HasWholeSectors}
+use Rattle.geo_headline.specs.Outside.{calls_logged, failures_of}
+use Rattle.geo_serve.specs.Drives.{DriveView, HasAllSectors, HasWholeSectors, fails_of}
 use Rattle.geo_serve.specs.Serve.{is_failed}
-use Rattle.geo_serve.specs.Served.{IsServed, answers_of}
+use Rattle.geo_serve.specs.Served.{IsServed}
 use Rattle.geo_laws_disks.specs.Deliveries.{AreTold, Delivery, deliveries, deliveries_by, held_by}
 use Rattle.geo_laws_disks.specs.SeatLaws.{PartsServe, SeatsServe}
-use Rattle.geo_laws_disks.proofs.Delivering.{answers_by, contents_by, failures_by, held_by_both, told_by_both}
+use Rattle.geo_laws_disks.proofs.Delivering.{call_delivered, calls_by, contents_by, failures_by, held_by_both, told_by_both}
 use Rattle.geo_laws_disks.proofs.InOrder.{InOrder, deliveries_in_order, order_in_front, told_by_true, true_by_told}
 use Rattle.geo_laws_disks.proofs.Seats.{later_in_order, log_in_order, mine_deliver, mine_in_order, parts_deliver}
 
--- how many of some deliveries are failures, and how many there are
+-- how many of some deliveries are failures
 abbrev failures : List Delivery → ℕ
 failures ds = count_by (λ d. is_failed d.got) ds
 
-abbrev answers : List Delivery → ℕ
-answers ds = count_by (λ d. true) ds
+-- the calls of some deliveries
+abbrev calls : List Delivery → List DiskCall
+calls ds = map call_delivered ds
 
 -- a drive did what these deliveries say
 record IsServedBy (ds : List Delivery) (before after : DriveView) : Type 0 where
@@ -34,14 +37,12 @@ record IsServedBy (ds : List Delivery) (before after : DriveView) : Type 0 where
   reads : IfSome before.held (λ sectors. AreTold before.sector sectors ds)
   whole : HasWholeSectors before → HasWholeSectors after
   all : HasAllSectors before → HasAllSectors after
-  calls : min after.calls (2 ^ 64 - 1) ≡ min (before.calls + answers ds) (2 ^ 64 - 1)
-  failed : RoseBy (failures ds) before.faults after.faults
-  told : failures ds ≡ 0 → after.faults ≡ before.faults
-  later : before.faults ≤ after.faults
+  asked : after.asked ≡ before.asked ++ calls ds
+  failed : after.faults ≡ counted_many (failures ds) before.faults
   sector : after.sector ≡ before.sector
   count : after.count ≡ before.count
-  kind : after.fails ≡ before.fails
-  memory : before.fails ≡ Some [] → failures ds ≡ 0
+  kind : fails_of after ≡ fails_of before
+  memory : fails_of before ≡ Some [] → failures ds ≡ 0
 
 -- what a told disk holds, by equal functions
 held_same : {A : Type 0} (f g : A → A) (o : Option A) → ((x : A) → f x ≡ g x) → option_map f o ≡ option_map g o
@@ -64,8 +65,8 @@ module _ (table : ℕ → Option Request) (log : List Entry) (disk : ℕ) (order
   contents_same : (size : ℕ) (held : List (List ℕ)) → contents size held log disk ≡ held_by size held ds
   contents_same size held = contents_by log size disk held ∙ ap (λ xs. held_by size held xs) same
 
-  answers_same : answers_of log disk ≡ answers ds
-  answers_same = answers_by log disk ∙ ap answers same
+  calls_same : calls_logged log disk ≡ calls ds
+  calls_same = calls_by log disk ∙ ap calls same
 
   failures_same : failures_of log disk ≡ failures ds
   failures_same = failures_by log disk ∙ ap failures same
@@ -80,10 +81,8 @@ module _ (table : ℕ → Option Request) (log : List Entry) (disk : ℕ) (order
         (λ held reads. told_by_true table before.sector disk held log order reads) served.reads;
     whole = served.whole;
     all = served.all;
-    calls = served.calls ∙ ap (λ n. min (before.calls + n) (2 ^ 64 - 1)) answers_same;
-    failed = subst (λ n. RoseBy n before.faults after.faults) failures_same served.failures;
-    told = λ none. served.told (failures_same ∙ none);
-    later = served.later;
+    asked = served.asked ∙ ap (λ cs. before.asked ++ cs) calls_same;
+    failed = served.failures ∙ ap (λ n. counted_many n before.faults) failures_same;
     sector = served.sector;
     count = served.count;
     kind = served.kind;
@@ -100,15 +99,20 @@ module _ (table : ℕ → Option Request) (log : List Entry) (disk : ℕ) (order
         (λ held told. true_by_told table before.sector disk held log order told) served.reads;
     whole = served.whole;
     all = served.all;
-    calls = served.calls ∙ ap (λ n. min (before.calls + n) (2 ^ 64 - 1)) (sym answers_same);
-    failures = subst (λ n. RoseBy n before.faults after.faults) (sym failures_same) served.failed;
-    told = λ none. served.told (sym failures_same ∙ none);
-    later = served.later;
+    asked = served.asked ∙ ap (λ cs. before.asked ++ cs) (sym calls_same);
+    failures = served.failed ∙ ap (λ n. counted_many n before.faults) (sym failures_same);
     sector = served.sector;
     count = served.count;
     kind = served.kind;
     memory = λ none. failures_same ∙ served.memory none;
   }
+
+-- so many more, and then so many
+counted_both : (j k n : ℕ) → counted_many j (counted_many k n) ≡ counted_many (k + j) n
+counted_both zero k n = ap (λ i. counted_many i n) (sym (add-zero k))
+counted_both (suc j) k n =
+    let more : suc (k + j) ≡ k + suc j = omega arith in
+    ap counted_on (counted_both j k n) ∙ ap (λ i. counted_many i n) more
 
 -- what a drive did by some deliveries and then by others, it did by both
 both_served : (ds es : List Delivery) (before mid after : DriveView) → IsServedBy ds before mid
@@ -125,20 +129,17 @@ both_served ds es before mid after first second = record {
       (subst (λ o. IfSome o (λ held. AreTold mid.sector held es)) first.held second.reads));
   whole = λ w. second.whole (first.whole w);
   all = λ a. second.all (first.all a);
-  calls = omega (arith, first.calls, second.calls, answers_both);
-  failed = omega (arith, first.failed, second.failed, failures_both);
-  told = λ none.
-      second.told (omega (arith, none, failures_both)) ∙ first.told (omega (arith, none, failures_both));
-  later = omega (arith, first.later, second.later);
+  asked = second.asked ∙ ap (λ cs. cs ++ calls es) first.asked ∙ append_assoc before.asked (calls ds) (calls es)
+      ∙ ap (λ cs. before.asked ++ cs) (sym (map-append call_delivered ds es));
+  failed = second.failed ∙ ap (λ n. counted_many (failures es) n) first.failed
+      ∙ counted_both (failures es) (failures ds) before.faults
+      ∙ ap (λ n. counted_many n before.faults) (sym failures_both);
   sector = second.sector ∙ first.sector;
   count = second.count ∙ first.count;
   kind = second.kind ∙ first.kind;
   memory = λ none. failures_both ∙ (rw (first.memory none, second.memory (first.kind ∙ none)) refl);
 }
   where
-    answers_both : answers (ds ++ es) ≡ answers ds + answers es
-    answers_both = sum_by-append (λ (d : Delivery). cond true 1 0) ds es
-
     failures_both : failures (ds ++ es) ≡ failures ds + failures es
     failures_both = sum_by-append (λ (d : Delivery). cond (is_failed d.got) 1 0) ds es
 

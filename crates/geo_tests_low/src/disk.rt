@@ -167,6 +167,7 @@ fn a_disk_that_is_not_taken_back_stays_lent(rt: HostRuntime) {
 }
 
 /// Writes a sector, and fails to zero one.
+#[tactic(auto, using(geo_disk::proofs::CountLemmas::counted_if_later))]
 fn write_one(rt: &impl Abort, disk: &mut MemDisk)
     ensures { disk.old.faults ≤ disk.new.faults }
 {

@@ -1,5 +1,5 @@
 use geo_base::Name;
-use geo_disk::{Disk, DiskFailed, Shelf, Taken};
+use geo_disk::{Disk, DiskFailed, Notes, Shelf, Taken};
 use geo_file::{FileDisk, FileShelf};
 use std::env::Env;
 use std::fs::File;
@@ -25,7 +25,7 @@ fn bytes_that_a_disk_wrote_are_read_by_another_handle(rt: HostRuntime) -> Result
         .read(true)
         .write(true)
         .open(&rt, path.as_str())?;
-    let mut disk = FileDisk::new(file, 512, 4, 0);
+    let mut disk = FileDisk::new(file, 512, 4, 0, Notes::none());
     assert!(rt; disk.sector_size() == 512 && disk.sectors() == 4);
     assert!(rt; disk.write(1, [7u8; 512].as_slice()).is_ok());
     assert!(rt; disk.zero(2, 1).is_ok() && disk.flush().is_ok());
@@ -43,7 +43,13 @@ fn bytes_that_a_disk_wrote_are_read_by_another_handle(rt: HostRuntime) -> Result
     // A file that was cut short has nothing to read, and one that is open for reading alone takes nothing.
     fs::write(&rt, path.as_str(), b"short".as_slice())?;
     assert!(rt; disk.read(1, out.as_mut_slice()) == Err(DiskFailed { done: 0 }));
-    let mut closed = FileDisk::new(File::open(&rt, path.as_str())?, 512, 1, disk.faults());
+    let mut closed = FileDisk::new(
+        File::open(&rt, path.as_str())?,
+        512,
+        1,
+        disk.faults(),
+        Notes::none(),
+    );
     assert!(rt; closed.write(0, [7u8; 512].as_slice()) == Err(DiskFailed { done: 0 }));
     assert!(rt; closed.zero(0, 1) == Err(DiskFailed { done: 0 }) && closed.faults() == 3);
     fs::remove_dir_all(&rt, folder.as_str())?;
