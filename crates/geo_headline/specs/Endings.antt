@@ -1,5 +1,5 @@
 -- How a call of the program ends: its status, its text, and the cause of each ending.
-use Rattle.std.specs.Prelude.{◌≡◌, ◌≢◌, ◌⊎◌, ℕ, ◌+◌, ◌-◌, ◌^◌, ◌<◌, ◌≤◌, ◌&&◌, List, [], ◌∷◌, ◌++◌, length, find, Option, Some, None, IsSome, IsNone, IsSomeAnd, IfSome, IsTrue, All, Contains, codes, decimal, ⊤, zip}
+use Rattle.std.specs.Prelude.{◌≡◌, ◌≢◌, ◌⊎◌, ℕ, ◌+◌, ◌-◌, ◌^◌, ◌<◌, ◌≤◌, ◌&&◌, List, [], ◌∷◌, ◌++◌, length, find, Ok, Err, Option, Some, None, IsSome, IsNone, IsSomeAnd, IfSome, IsTrue, All, Contains, codes, decimal, ⊤, zip}
 use Rattle.std.specs.List.{list_any}
 use Rattle.geo_base.specs.Faults.{Rose}
 use Rattle.geo_model.specs.declared.command.Cause.{Cause}
@@ -14,7 +14,11 @@ use Rattle.geo_model.specs.Script.{IsScript, IsFault, cause_text}
 use Rattle.geo_model.specs.Plans.{FactsFit}
 use Rattle.geo_model.specs.Opening.{opening}
 use Rattle.geo_model.specs.Generator.{generated}
-use Rattle.geo_headline.specs.Modes.{Mode, StepMode, RunMode, GenMode, Accepts}
+use Rattle.geo_headline.specs.Modes.{Mode, GenMode, SweepMode, WatchMode, TraceMode, VerifyMode, Accepts, StartsThreads, OpensMesh, source_limit}
+use Rattle.geo_headline.specs.Sweep.{sweep_order}
+use Rattle.geo_headline.specs.Traces.{InTrace, trace_text, steps_of, script_part}
+use Rattle.geo_headline.specs.Verifying.{Verified, Yes, NotEnabled, NotAtRest, OtherReport, verified}
+use Rattle.geo_headline.specs.Viewing.{view_text}
 use Rattle.geo_model.specs.FixedOrder.{StepOrder, fixed_order, IsOfItsJob, FoundFull}
 use Rattle.geo_base.specs.Images.{Images}
 use Rattle.geo_headline.specs.Outside.{Outside, ShelfView, IsThere, IsMissing, IsBadSize, HasToldSize, IsShelf, is_shelf, kept_back}
@@ -36,6 +40,9 @@ pub data Ending : Type 0 where
   OutOfMemory : Ending
   LogFull : Ending
   TooLong : Ending
+  -- what was found of a trace, and a line of it that isn't of the form
+  Answered : (found : Verified) → Ending
+  NoTrace : (line : ℕ) → Ending
 
 abbrev pub status_of : Ending → ℕ
 status_of Reported = 0
@@ -49,12 +56,22 @@ status_of (BadSize name) = 5
 status_of OutOfMemory = 6
 status_of LogFull = 7
 status_of TooLong = 8
+status_of (Answered Yes) = 0
+status_of (Answered found) = 9
+status_of (NoTrace line) = 2
+
+-- what is found of a trace, as it is printed
+abbrev pub found_text : Verified → List ℕ
+found_text Yes = codes "yes"
+found_text (NotEnabled line) = codes "no: line " ++ decimal line
+found_text NotAtRest = codes "no: not at rest"
+found_text OtherReport = codes "no: report"
 
 -- the text of an ending, where the report is this one
 abbrev pub due_text : List ℕ → Ending → List ℕ
 due_text reported Reported = reported
 due_text reported (ReportedButFault name) = reported ++ codes "shelf fault " ++ name ++ end_line
-due_text reported BadWords = codes "usage: geomrun step | run | gen START COUNT" ++ end_line
+due_text reported BadWords = codes "usage: geomrun step | run | gen START COUNT | sweep | watch | trace | verify" ++ end_line
 due_text reported (NoScript line cause) = codes "line " ++ decimal line ++ codes ": " ++ cause_text cause ++ end_line
 due_text reported ReadFault = codes "read fault" ++ end_line
 due_text reported (ShelfFault name) = codes "shelf fault " ++ name ++ end_line
@@ -63,6 +80,8 @@ due_text reported (BadSize name) = codes "bad size " ++ name ++ end_line
 due_text reported OutOfMemory = codes "out of memory" ++ end_line
 due_text reported LogFull = codes "log full" ++ end_line
 due_text reported TooLong = codes "script too long" ++ end_line
+due_text reported (Answered found) = found_text found ++ end_line
+due_text reported (NoTrace line) = codes "line " ++ decimal line ++ codes ": trace" ++ end_line
 
 -- a call that ends so went to rest and wrote its report
 abbrev pub IsWhole : Ending → Type 0
@@ -100,49 +119,51 @@ pub record BytesPass (call : Call) : Type 0 where
 
 -- the order in which one thread makes the steps, or those that are left after the threads
 abbrev pub order_of : Mode → StepOrder
-order_of StepMode = fixed_order
-order_of RunMode = fixed_order
-order_of (GenMode start count) = fixed_order
+order_of SweepMode = sweep_order
+order_of _ = fixed_order
 
--- the text from which the plan comes
+-- the text from which the plan comes: for a trace, that before its first marked line
 abbrev pub script_of : Mode → List ℕ → List ℕ
 script_of (GenMode start count) text = generated start count
+script_of VerifyMode text = script_part text
 script_of _ text = text
 
--- what is reported of a log
-abbrev pub reported_by : Mode → Plan → World → List Entry → List ℕ
-reported_by (GenMode start count) plan opened log = summary plan opened log
-reported_by _ plan opened log = report plan opened log
+-- what is reported of a log that came of a text: the report; the summary; the report with what a watcher saw; a trace
+abbrev pub reported_by : Mode → List ℕ → Plan → List (ℕ × ℕ) → List Entry → List ℕ
+reported_by (GenMode start count) text plan facts log = summary plan (opening plan facts) log
+reported_by WatchMode text plan facts log =
+    report plan (opening plan facts) log ++ view_text plan (opening plan facts) log
+reported_by TraceMode text plan facts log =
+    trace_text text
+    (record { plan = plan; facts = facts; steps = steps_of log; report = report plan (opening plan facts) log })
+reported_by _ text plan facts log = report plan (opening plan facts) log
 
 -- the same where there is a log; the endings that report have one
-abbrev pub reported : Mode → Plan → World → Option (List Entry) → List ℕ
-reported mode plan opened None = []
-reported mode plan opened (Some log) = reported_by mode plan opened log
+abbrev pub reported : Mode → List ℕ → Plan → List (ℕ × ℕ) → Option (List Entry) → List ℕ
+reported mode text plan facts None = []
+reported mode text plan facts (Some log) = reported_by mode text plan facts log
 
 -- Steps on the way
 
--- the greatest length of a script
-abbrev pub script_limit : ℕ
-script_limit = 4194304
-
--- the words ask for a script to be read
+-- the words ask for a script, or a trace, to be read
 abbrev pub ReadsScript : Call → Mode → Type 0
 ReadsScript call (GenMode start count) = ⊥
 ReadsScript call mode = Accepts call.words mode
 
 -- the source was read to its end, and that wasn't too much
-pub record IsReadWhole (call : Call) : Type 0 where
-  pub few : length call.text ≤ script_limit
+pub record IsReadWhole (call : Call) (mode : Mode) : Type 0 where
+  pub few : length call.text ≤ source_limit mode
   pub ended : IsTrue call.after.source.ended
   pub none_left : IfSome call.after.source.left (λ left. left ≡ [])
 
 abbrev pub WasReadWhole : Call → Mode → Type 0
 WasReadWhole call (GenMode start count) = ⊤
-WasReadWhole call _ = IsReadWhole call
+WasReadWhole call mode = IsReadWhole call mode
 
--- the words were accepted, and the text is a script with this plan
+-- the words were accepted and ask for a mesh, and the text is a script with this plan
 pub record IsParsed (call : Call) (mode : Mode) (plan : Plan) : Type 0 where
   pub accepted : Accepts call.words mode
+  pub mesh : OpensMesh mode
   pub read : WasReadWhole call mode
   pub script : IsScript (script_of mode call.text) plan
 
@@ -178,10 +199,10 @@ pub record JobWasFull (plan : Plan) (opened : World) (log : List Entry) : Type 0
   pub own_kind : IsOfItsJob plan seat tried
   pub full : FoundFull opened seen seat tried
 
--- a step that was due had no place
+-- a step that was due had no place: the next in the order, or one that a job tried
 abbrev pub DueIsFull : Mode → Plan → World → List Entry → Type 0
-DueIsFull RunMode plan opened log = NextIsFull (order_of RunMode) opened log ⊎ JobWasFull plan opened log
-DueIsFull mode plan opened log = NextIsFull (order_of mode) opened log
+DueIsFull mode plan opened log =
+    NextIsFull (order_of mode) opened log ⊎ (StartsThreads mode × JobWasFull plan opened log)
 
 pub record LogRanFull (mode : Mode) (plan : Plan) (opened : World) (log : List Entry) : Type 0 where
   pub due : DueIsFull mode plan opened log
@@ -203,9 +224,9 @@ CauseOf call mode plan (ReportedButFault name) =
     × Rose (call.before.shelf.give_faults name) (call.after.shelf.give_faults name)
 CauseOf call mode plan BadWords = (other : Mode) → Accepts call.words other → ⊥
 CauseOf call mode plan (NoScript line cause) =
-    ReadsScript call mode × WasReadWhole call mode × IsFault call.text line cause
+    ReadsScript call mode × WasReadWhole call mode × IsFault (script_of mode call.text) line cause
 CauseOf call mode plan ReadFault =
-    ReadsScript call mode × (length call.text ≤ script_limit) × Rose call.before.source.faults call.after.source.faults
+    ReadsScript call mode × (length call.text ≤ source_limit mode) × Rose call.before.source.faults call.after.source.faults
 CauseOf call mode plan (ShelfFault name) =
     IsParsed call mode plan × StopsAt call.before.shelf plan name (λ d images. ⊤)
     × Rose (call.before.shelf.take_faults name) (call.after.shelf.take_faults name)
@@ -213,7 +234,11 @@ CauseOf call mode plan (NoDisk name) = IsParsed call mode plan × StopsAt call.b
 CauseOf call mode plan (BadSize name) = IsParsed call mode plan × StopsAt call.before.shelf plan name IsBadSize
 CauseOf call mode plan OutOfMemory = ⊤
 CauseOf call mode plan LogFull = IsSomeAnd call.log (LogRanFull mode plan (opening plan call.facts))
-CauseOf call mode plan TooLong = ReadsScript call mode × (script_limit < length call.text)
+CauseOf call mode plan TooLong = ReadsScript call mode × (source_limit mode < length call.text)
+CauseOf call mode plan (Answered found) =
+    Accepts call.words VerifyMode × IsReadWhole call VerifyMode × (verified call.text ≡ Ok found)
+CauseOf call mode plan (NoTrace line) =
+    Accepts call.words VerifyMode × IsReadWhole call VerifyMode × (verified call.text ≡ Err (InTrace line))
 
 -- how many takes failed in a call that ends so
 abbrev pub failed_takes : Ending → ℕ
@@ -238,4 +263,6 @@ IsBeforeDisks BadWords = ⊤
 IsBeforeDisks (NoScript line cause) = ⊤
 IsBeforeDisks ReadFault = ⊤
 IsBeforeDisks TooLong = ⊤
+IsBeforeDisks (Answered found) = ⊤
+IsBeforeDisks (NoTrace line) = ⊤
 IsBeforeDisks _ = ⊥

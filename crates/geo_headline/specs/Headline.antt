@@ -1,5 +1,5 @@
 -- What a whole run keeps, and when it has to succeed.
-use Rattle.std.specs.Prelude.{◌≡◌, ◌≢◌, ◌⊎◌, ℕ, ◌+◌, ◌≤◌, List, [], ◌++◌, length, unwrap_or, IsSome, IsSomeAnd, IfSome, IfNone, All, Err, ⊤}
+use Rattle.std.specs.Prelude.{◌≡◌, ◌≢◌, ◌⊎◌, ℕ, ◌+◌, ◌≤◌, Bool, true, false, List, [], ◌++◌, length, unwrap_or, IsSome, IsSomeAnd, IfSome, IfNone, All, Err, ⊤}
 use Rattle.geo_base.specs.Faults.{Rose, RoseBy}
 use Rattle.geo_model.specs.declared.command.DiskDecl.{DiskDecl}
 use Rattle.geo_model.specs.declared.step.Entry.{Entry}
@@ -7,11 +7,11 @@ use Rattle.geo_model.specs.World.{World, Plan}
 use Rattle.geo_model.specs.Opening.{opening}
 use Rattle.geo_model.specs.Log.{Fits}
 use Rattle.geo_model.specs.Script.{script, Fault, IsScript, empty_plan}
-use Rattle.geo_headline.specs.Modes.{Mode, RunMode, GenMode, Accepts}
+use Rattle.geo_headline.specs.Modes.{Mode, GenMode, VerifyMode, Accepts, IsAlone, starts_threads, TakesNoDisk, source_limit}
 use Rattle.geo_model.specs.History.{KeepsHistory, RanToItsEnd}
 use Rattle.geo_model.specs.FixedOrder.{StepOrder, FollowsOrder, FollowsJobs, JobsEndedIdle}
 use Rattle.geo_headline.specs.Outside.{Outside, ShelfView, kept_back, IsShelf, HasImage, DisksAreKept, OthersStay, ImagesStay, ImagesStand}
-use Rattle.geo_headline.specs.Endings.{Ending, BadWords, OutOfMemory, Call, status_of, due_text, BytesPass, order_of, script_of, script_limit, reported, IsWhole, HasLog, WasReadWhole, IsOpened, CauseOf, failed_takes, IsBeforeDisks}
+use Rattle.geo_headline.specs.Endings.{Ending, BadWords, OutOfMemory, Call, status_of, due_text, BytesPass, order_of, script_of, reported, IsWhole, HasLog, WasReadWhole, IsOpened, CauseOf, failed_takes, IsBeforeDisks}
 
 -- the mode and the plan are those of the words and of the text; a source that wasn't read to its end gives no plan
 pub record ReadAs (call : Call) (mode : Mode) (plan : Plan) : Type 0 where
@@ -51,14 +51,17 @@ pub record FollowsRun (order : StepOrder) (plan : Plan) (opened : World) (ending
   pub jobs : FollowsJobs order plan opened threads rest
   pub idle : IsWhole ending → JobsEndedIdle plan opened threads rest
 
--- the log stands in the order of the mode
+-- the log stands in the order of the mode; with threads what was left after them does
 abbrev pub FollowsMode : Mode → Plan → World → Ending → List Entry → Type 0
-FollowsMode RunMode plan opened ending log = FollowsRun (order_of RunMode) plan opened ending log
-FollowsMode mode plan opened ending log = FollowsOrder (order_of mode) opened [] log
+FollowsMode mode plan opened ending log = follows (starts_threads mode)
+  where
+    follows : Bool → Type 0
+    follows true = FollowsRun (order_of mode) plan opened ending log
+    follows false = FollowsOrder (order_of mode) opened [] log
 
 -- the images stay where no log came; with threads nothing is said of them where memory ran out
 abbrev pub ImagesStayAt : Call → Ending → Type 0
-ImagesStayAt call OutOfMemory = (Accepts call.words RunMode → ⊥) → ImagesStay call.before.shelf call.after.shelf
+ImagesStayAt call OutOfMemory = IsAlone call.words → ImagesStay call.before.shelf call.after.shelf
 ImagesStayAt call _ = ImagesStay call.before.shelf call.after.shelf
 
 abbrev pub IsGen : Mode → Type 0
@@ -72,7 +75,7 @@ IsBadWords _ = ⊥
 -- the source stays where it isn't read, and the shelf where no disk is taken
 pub record LeavesOutside (mode : Mode) (ending : Ending) (before after : Outside) : Type 0 where
   pub source : IsGen mode ⊎ IsBadWords ending → after.source ≡ before.source
-  pub shelf : IsGen mode ⊎ IsBeforeDisks ending → after.shelf ≡ before.shelf
+  pub shelf : TakesNoDisk mode ⊎ IsBeforeDisks ending → after.shelf ≡ before.shelf
 
 -- Whatever the interleaving, everything printed is the report of the history kept under the topology lock, which
 -- replays from the opening; at every prefix counts are sums of open demands and no writer stands beside another's
@@ -82,7 +85,7 @@ pub record KeepsAll (call : Call) (mode : Mode) (plan : Plan) (ending : Ending) 
   pub read_as : ReadAs call mode plan
   pub bytes : BytesPass call
   pub cause : CauseOf call mode plan ending
-  pub prints : Prints call ending (due_text (reported mode plan (opening plan call.facts) call.log) ending)
+  pub prints : Prints call ending (due_text (reported mode call.text plan call.facts call.log) ending)
   pub has_log : HasLog ending call.log
   pub is_opened : IsSome call.log → IsOpened call mode plan
   pub history : IfSome call.log (KeepsHistory (opening plan call.facts))
@@ -115,12 +118,27 @@ text_to_give call = unwrap_or call.before.source.left call.text
 -- the source has a script to give that isn't too long, and each of its disks is there
 abbrev pub GivesScript : Call → Mode → Type 0
 GivesScript call (GenMode start count) = ⊤
-GivesScript call _ =
-    (length (text_to_give call) ≤ script_limit)
+GivesScript call mode =
+    (length (text_to_give call) ≤ source_limit mode)
     × ((p : Plan) × IsScript (text_to_give call) p × All (IsToldThere call.before.shelf) p.disks)
 
--- where the words are accepted, nothing fails and all is there, the status is 0, or 6 or 7
-abbrev pub IsComplete : Call → Type 0
-IsComplete call =
-    (mode : Mode) → Accepts call.words mode → NoFault call.before call.after → GivesScript call mode
+-- of a script: where nothing fails and all is there, the status is 0, or 6 or 7
+abbrev pub RunIsComplete : Call → Mode → Type 0
+RunIsComplete call mode =
+    NoFault call.before call.after → GivesScript call mode
     → (call.status ≡ 0) ⊎ (call.status ≡ 6) ⊎ (call.status ≡ 7)
+
+-- of a trace: where neither the source nor the sink fails, the status is 0, 2, 6, 8 or 9
+abbrev pub VerifyIsComplete : Call → Type 0
+VerifyIsComplete call =
+    (Rose call.before.source.faults call.after.source.faults → ⊥)
+    → (Rose call.before.sink.faults call.after.sink.faults → ⊥)
+    → (call.status ≡ 0) ⊎ (call.status ≡ 2) ⊎ (call.status ≡ 6) ⊎ (call.status ≡ 8) ⊎ (call.status ≡ 9)
+
+abbrev pub ModeIsComplete : Call → Mode → Type 0
+ModeIsComplete call VerifyMode = VerifyIsComplete call
+ModeIsComplete call mode = RunIsComplete call mode
+
+-- where the words are accepted
+abbrev pub IsComplete : Call → Type 0
+IsComplete call = (mode : Mode) → Accepts call.words mode → ModeIsComplete call mode
