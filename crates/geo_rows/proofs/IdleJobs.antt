@@ -1,5 +1,5 @@
 -- A run of threads in which no job made a step is refused, and an event worker that doesn't look.
-use Rattle.std.specs.Prelude.{◌≡◌, ◌≢◌, true, false, List, [], ◌∷◌, ◌++◌, length, Option, Some, None, Ok, IsSome, IfSome, All, refl, codes}
+use Rattle.std.specs.Prelude.{◌≡◌, ◌≢◌, ℕ, true, false, List, [], ◌∷◌, ◌++◌, length, Option, Some, None, Ok, IsSome, IfSome, All, refl, codes}
 use Rattle.std.proofs.Common.{sym, ◌∙◌, subst, arith, ap}
 use Rattle.std.proofs.lemmas.List.{append-nil, length-append, nil_from_length}
 use Rattle.geo_model.specs.declared.step.Step.TheVariants as steps
@@ -11,12 +11,12 @@ use Rattle.geo_model.specs.Opening.{opening}
 use Rattle.geo_model.specs.Log.{replay, IsPrefixOf}
 use Rattle.geo_model.specs.Step.{step, event, is_enabled}
 use Rattle.geo_model.specs.WorldEvents.{do_event}
-use Rattle.geo_headline.specs.Modes.{Mode, RunMode}
-use Rattle.geo_model.specs.FixedOrder.{JobsEndedIdle, EndedIdle, WasIdle, event_seat, IsOfItsJob}
-use Rattle.geo_headline.specs.Endings.{Call, Ending, Reported, ReportedButFault, BadWords, NoScript, ReadFault, ShelfFault, NoDisk, BadSize, OutOfMemory, LogFull, TooLong, status_of, IsWhole, WasReadWhole, HasLog}
-use Rattle.geo_headline.specs.Headline.{KeepsAll, FollowsMode}
+use Rattle.geo_headline.specs.Modes.{Mode, StepMode, RunMode, GenMode, SweepMode, WatchMode, TraceMode, VerifyMode, StartsThreads}
+use Rattle.geo_model.specs.FixedOrder.{StepOrder, fixed_order, JobsEndedIdle, EndedIdle, WasIdle, event_seat, IsOfItsJob}
+use Rattle.geo_headline.specs.Endings.{Call, Ending, Reported, ReportedButFault, BadWords, NoScript, ReadFault, ShelfFault, NoDisk, BadSize, OutOfMemory, LogFull, TooLong, Answered, NoTrace, status_of, script_of, IsWhole, HasLog}
+use Rattle.geo_headline.specs.Headline.{KeepsAll, FollowsMode, FollowsRun}
 use Rattle.geo_rows.specs.WrongPrograms.{IsRefused, LeavesAllToTheDrain, IdlesAtEvent}
-use Rattle.geo_rows.proofs.WrongPrograms.{ends}
+use Rattle.geo_rows.proofs.WrongPrograms.{answers_verify, ends}
 
 -- one disk that stands at the opening
 abbrev one_disk_plan : Plan
@@ -35,18 +35,23 @@ event-due : is_enabled (opening one_disk_plan ((512, 4) ∷ [])) 1 steps.Event �
 unfolding opening step event do_event
 event-due = refl
 
-whole : (ending : Ending) → status_of ending ≡ 0 → IsWhole ending
-whole Reported s = tt
-whole (ReportedButFault name) s = tt
-whole BadWords s = absurd (omega (arith, s))
-whole (NoScript line c) s = absurd (omega (arith, s))
-whole ReadFault s = absurd (omega (arith, s))
-whole (ShelfFault name) s = absurd (omega (arith, s))
-whole (NoDisk name) s = absurd (omega (arith, s))
-whole (BadSize name) s = absurd (omega (arith, s))
-whole OutOfMemory s = absurd (omega (arith, s))
-whole LogFull s = absurd (omega (arith, s))
-whole TooLong s = absurd (omega (arith, s))
+whole : (call : Call) (mode : Mode) (plan : Plan) (ending : Ending) → status_of ending ≡ 0 → StartsThreads mode
+    → KeepsAll call mode plan ending → IsWhole ending
+whole call mode plan Reported s threads kept = tt
+whole call mode plan (ReportedButFault name) s threads kept = tt
+whole call mode plan BadWords s threads kept = absurd (omega (arith, s))
+whole call mode plan (NoScript line c) s threads kept = absurd (omega (arith, s))
+whole call mode plan ReadFault s threads kept = absurd (omega (arith, s))
+whole call mode plan (ShelfFault name) s threads kept = absurd (omega (arith, s))
+whole call mode plan (NoDisk name) s threads kept = absurd (omega (arith, s))
+whole call mode plan (BadSize name) s threads kept = absurd (omega (arith, s))
+whole call mode plan OutOfMemory s threads kept = absurd (omega (arith, s))
+whole call mode plan LogFull s threads kept = absurd (omega (arith, s))
+whole call mode plan TooLong s threads kept = absurd (omega (arith, s))
+whole call mode plan (Answered found) s threads kept =
+    let no : StartsThreads VerifyMode = subst StartsThreads (sym (answers_verify call mode plan found kept)) threads in
+    let bad : ⊥ = cc in absurd bad
+whole call mode plan (NoTrace line) s threads kept = absurd (omega (arith, s))
 
 at_nothing : (seen : List Entry) → IsPrefixOf seen []
     → is_enabled (replay (opening one_disk_plan ((512, 4) ∷ [])) seen) 1 steps.Event ≡ false → ⊥
@@ -68,6 +73,8 @@ logged (BadSize name) log w h = elim w [ ]
 logged OutOfMemory log w h = elim w [ ]
 logged LogFull log w h = elim w [ ]
 logged TooLong log w h = elim w [ ]
+logged (Answered found) log w h = elim w [ ]
+logged (NoTrace line) log w h = elim w [ ]
 
 -- a log of seat 0 alone has no entry of a job in front
 none-of-jobs : (plan : Plan) (threads rest : List Entry) → All (λ e. e.seat ≡ 0) (threads ++ rest)
@@ -82,47 +89,65 @@ by_jobs threads rest zero own idle =
     not-idle (subst (λ t. EndedIdle (opening one_disk_plan ((512, 4) ∷ [])) t (event_seat one_disk_plan) steps.Event)
     (none-of-jobs one_disk_plan threads rest zero own) idle.event)
 
-by_log : (ending : Ending) (log : Option (List Entry)) → IsWhole ending → IsSome log
-    → IfSome log (λ l. All (λ e. e.seat ≡ 0) l)
-    → IfSome log (FollowsMode RunMode one_disk_plan (opening one_disk_plan ((512, 4) ∷ [])) ending) → ⊥
-by_log ending None w some zero order = let e : false ≡ true = some in let no : ⊥ = cc in no
-by_log ending (Some log) w some zero order =
-    by_jobs order.threads order.rest (subst (λ l. All (λ e. e.seat ≡ 0) l) order.parts zero) order.jobs.own_kind
-    (order.idle w)
+-- a log of threads is the jobs' and what was left
+by_threads : (order : StepOrder) (ending : Ending) (log : List Entry) → IsWhole ending → All (λ e. e.seat ≡ 0) log
+    → FollowsRun order one_disk_plan (opening one_disk_plan ((512, 4) ∷ [])) ending log → ⊥
+by_threads order ending log w zero follows =
+    by_jobs follows.threads follows.rest (subst (λ l. All (λ e. e.seat ≡ 0) l) follows.parts zero)
+    follows.jobs.own_kind (follows.idle w)
 
-by_plan : (call : Call) (plan : Plan) (ending : Ending) → plan ≡ one_disk_plan → LeavesAllToTheDrain call
-    → IsWhole ending
-    → KeepsAll call RunMode plan ending → ⊥
-by_plan call plan ending p wrong w kept =
-    let some : IsSome call.log = logged ending call.log w kept.has_log in
-    let order : IfSome call.log (FollowsMode RunMode one_disk_plan (opening one_disk_plan call.facts) ending) =
-    subst (λ x. IfSome call.log (FollowsMode RunMode x (opening x call.facts) ending)) p kept.order in
-    let fixed : IfSome call.log (FollowsMode RunMode one_disk_plan (opening one_disk_plan ((512, 4) ∷ [])) ending) =
-    subst (λ f. IfSome call.log (FollowsMode RunMode one_disk_plan (opening one_disk_plan f) ending))
+by_mode : (mode : Mode) (ending : Ending) (log : List Entry) → StartsThreads mode → IsWhole ending
+    → All (λ e. e.seat ≡ 0) log
+    → FollowsMode mode one_disk_plan (opening one_disk_plan ((512, 4) ∷ [])) ending log → ⊥
+by_mode StepMode ending log threads w zero follows = let no : ⊥ = cc in no
+by_mode RunMode ending log threads w zero follows = by_threads fixed_order ending log w zero follows
+by_mode (GenMode start count) ending log threads w zero follows = let no : ⊥ = cc in no
+by_mode SweepMode ending log threads w zero follows = let no : ⊥ = cc in no
+by_mode WatchMode ending log threads w zero follows = by_threads fixed_order ending log w zero follows
+by_mode TraceMode ending log threads w zero follows = by_threads fixed_order ending log w zero follows
+by_mode VerifyMode ending log threads w zero follows = let no : ⊥ = cc in no
+
+by_log : (mode : Mode) (ending : Ending) (log : Option (List Entry)) → StartsThreads mode → IsWhole ending
+    → IsSome log → IfSome log (λ l. All (λ e. e.seat ≡ 0) l)
+    → IfSome log (FollowsMode mode one_disk_plan (opening one_disk_plan ((512, 4) ∷ [])) ending) → ⊥
+by_log mode ending None threads w some zero order = let e : false ≡ true = some in let no : ⊥ = cc in no
+by_log mode ending (Some log) threads w some zero order = by_mode mode ending log threads w zero order
+
+-- with threads the text is the script
+text_is : (mode : Mode) (text : List ℕ) → StartsThreads mode → script_of mode text ≡ text
+text_is StepMode text threads = refl
+text_is RunMode text threads = refl
+text_is (GenMode start count) text threads = let no : ⊥ = cc in absurd no
+text_is SweepMode text threads = refl
+text_is WatchMode text threads = refl
+text_is TraceMode text threads = refl
+text_is VerifyMode text threads = let no : ⊥ = cc in absurd no
+
+plan-of : (call : Call) (mode : Mode) (plan : Plan) (ending : Ending) → StartsThreads mode → IsSome call.log
+    → call.text ≡ codes "ram md0 512 4" → KeepsAll call mode plan ending → plan ≡ one_disk_plan
+plan-of call mode plan ending threads some text kept =
+    let good : script (script_of mode call.text) ≡ Ok one_disk_plan =
+    subst (λ t. script t ≡ Ok one_disk_plan) (sym (text_is mode call.text threads ∙ text)) script-is in
+    sym (kept.read_as.plan_is (kept.is_opened some).parsed.read one_disk_plan good)
+
+by_plan : (call : Call) (mode : Mode) (plan : Plan) (ending : Ending) → StartsThreads mode
+    → LeavesAllToTheDrain call → IsSome call.log → IsWhole ending → KeepsAll call mode plan ending → ⊥
+by_plan call mode plan ending threads wrong some w kept =
+    let order : IfSome call.log (FollowsMode mode one_disk_plan (opening one_disk_plan call.facts) ending) =
+    subst (λ x. IfSome call.log (FollowsMode mode x (opening x call.facts) ending))
+    (plan-of call mode plan ending threads some wrong.text kept) kept.order in
+    let fixed : IfSome call.log (FollowsMode mode one_disk_plan (opening one_disk_plan ((512, 4) ∷ [])) ending) =
+    subst (λ f. IfSome call.log (FollowsMode mode one_disk_plan (opening one_disk_plan f) ending))
     wrong.facts order in
-    by_log ending call.log w some wrong.seats fixed
-
-read_whole : (call : Call) (plan : Plan) (ending : Ending) → IsWhole ending → KeepsAll call RunMode plan ending
-    → WasReadWhole call RunMode
-read_whole call plan ending w kept = (kept.is_opened (logged ending call.log w kept.has_log)).parsed.read
-
-plan-of : (call : Call) (plan : Plan) (ending : Ending) → LeavesAllToTheDrain call → IsWhole ending
-    → KeepsAll call RunMode plan ending → plan ≡ one_disk_plan
-plan-of call plan ending wrong w kept =
-    let good : script call.text ≡ Ok one_disk_plan =
-    subst (λ t. script t ≡ Ok one_disk_plan) (sym wrong.text) script-is in
-    sym (kept.read_as.plan_is (read_whole call plan ending w kept) one_disk_plan good)
-
-by_mode : (call : Call) (mode : Mode) (plan : Plan) (ending : Ending) → RunMode ≡ mode → LeavesAllToTheDrain call
-    → KeepsAll call mode plan ending → ⊥
-by_mode call mode plan ending m wrong kept =
-    let run : KeepsAll call RunMode plan ending = subst (λ x. KeepsAll call x plan ending) (sym m) kept in
-    let w : IsWhole ending = whole ending (ends 0 call RunMode plan ending run (λ e. omega (arith, e)) wrong.status) in
-    by_plan call plan ending (plan-of call plan ending wrong w run) wrong w run
+    by_log mode ending call.log threads w some wrong.seats fixed
 
 pub drain_refused : IsRefused LeavesAllToTheDrain
 drain_refused call mode plan ending wrong kept =
-    by_mode call mode plan ending (kept.read_as.mode_is RunMode wrong.words) wrong kept
+    let threads : StartsThreads mode =
+    subst StartsThreads (kept.read_as.mode_is wrong.mode wrong.words) wrong.threads in
+    let w : IsWhole ending =
+    whole call mode plan ending (ends 0 call mode plan ending kept (λ e. omega (arith, e)) wrong.status) threads kept in
+    by_plan call mode plan ending threads wrong (logged ending call.log w kept.has_log) w kept
 
 -- what lies between a log and itself is that log
 between : (log seen : List Entry) → IsPrefixOf log seen → IsPrefixOf seen log → seen ≡ log

@@ -24,3 +24,6 @@ pub mod TestFacts
 pub mod FittingTests
 pub mod SteadyTests
 pub mod SoundTests
+pub mod SweptRuns
+pub mod WatchedRuns
+pub mod TracedRuns

@@ -6,7 +6,7 @@ use Rattle.geo_model.specs.declared.command.DiskKind.TheVariants.{Shelf}
 use Rattle.geo_model.specs.declared.step.Entry.{Entry}
 use Rattle.geo_model.specs.World.{Plan, World}
 use Rattle.geo_model.specs.Script.{script, IsScript, Fault, empty_plan}
-use Rattle.geo_headline.specs.Modes.{Mode, StepMode, RunMode, GenMode, Accepts, words_for}
+use Rattle.geo_headline.specs.Modes.{Mode, StepMode, RunMode, GenMode, SweepMode, WatchMode, TraceMode, VerifyMode, Accepts, words_for}
 use Rattle.geo_model.specs.Opening.{opening}
 use Rattle.geo_model.specs.Plans.{IsPlan, FactsFit, IsDiskDecl}
 use Rattle.geo_model.specs.Sound.{Sound}
@@ -28,6 +28,14 @@ step-only StepMode a = refl
 step-only RunMode a = absurd (let e : words_for StepMode ≡ words_for RunMode = a.spelled in let no : ⊥ = cc in no)
 step-only (GenMode s n) a =
     absurd (let e : words_for StepMode ≡ words_for (GenMode s n) = a.spelled in let no : ⊥ = cc in no)
+step-only SweepMode a =
+    absurd (let e : words_for StepMode ≡ words_for SweepMode = a.spelled in let no : ⊥ = cc in no)
+step-only WatchMode a =
+    absurd (let e : words_for StepMode ≡ words_for WatchMode = a.spelled in let no : ⊥ = cc in no)
+step-only TraceMode a =
+    absurd (let e : words_for StepMode ≡ words_for TraceMode = a.spelled in let no : ⊥ = cc in no)
+step-only VerifyMode a =
+    absurd (let e : words_for StepMode ≡ words_for VerifyMode = a.spelled in let no : ⊥ = cc in no)
 
 accepts : Accepts (codes "step" ∷ []) StepMode
 accepts = record { spelled = refl; in_range = tt }
@@ -111,6 +119,7 @@ opened : IsOpened quiet_call StepMode later_plan
 opened = record {
   parsed = record {
     accepted = accepts;
+    mesh = tt;
     read = record { few = omega arith; ended = refl; none_left = tt };
     script = later-script;
   };

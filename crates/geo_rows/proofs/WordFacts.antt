@@ -1,33 +1,84 @@
 -- Which words are accepted.
 use Rattle.std.specs.Fmt.{digits}
-use Rattle.std.specs.Prelude.{◌≡◌, ℕ, zero, suc, ◌+◌, ◌<◌, ◌≤◌, List, [], ◌∷◌, get_or, codes, decimal}
-use Rattle.std.proofs.Common.{refl, sym, ◌∙◌, ap, arith}
+use Rattle.std.specs.Prelude.{◌≡◌, ◌≢◌, ◌⊎◌, ℕ, zero, suc, ◌+◌, ◌<◌, ◌≤◌, List, [], ◌∷◌, length, get_or, codes, decimal}
+use Rattle.std.proofs.Common.{refl, sym, ◌∙◌, ap, arith, inl, inr}
 use Rattle.std.proofs.lemmas.Fmt.{decimal_digit, first_decimal, decimal_injective}
-use Rattle.geo_headline.specs.Modes.{StepMode, RunMode, GenMode, Accepts, words_for}
+use Rattle.geo_headline.specs.Modes.{Mode, StepMode, RunMode, GenMode, SweepMode, WatchMode, TraceMode, VerifyMode, Accepts, words_for}
 use Rattle.geo_rows.specs.WorkedWords.{AskNothing, gen_words}
 
 pub gen-accepted : Accepts (gen_words (codes "1") (codes "3")) (GenMode 1 3)
 unfolding digits
 gen-accepted = record { spelled = refl; in_range = (omega arith, omega arith) }
 
+pub sweep-accepted : Accepts (codes "sweep" ∷ []) SweepMode
+sweep-accepted = record { spelled = refl; in_range = tt }
+
+pub watch-accepted : Accepts (codes "watch" ∷ []) WatchMode
+watch-accepted = record { spelled = refl; in_range = tt }
+
+pub trace-accepted : Accepts (codes "trace" ∷ []) TraceMode
+trace-accepted = record { spelled = refl; in_range = tt }
+
+pub verify-accepted : Accepts (codes "verify" ∷ []) VerifyMode
+verify-accepted = record { spelled = refl; in_range = tt }
+
+-- each mode but `gen` is asked for by one word, and `gen` by three
+one_or_three : (mode : Mode) → (length (words_for mode) ≡ 1) ⊎ (length (words_for mode) ≡ 3)
+one_or_three StepMode = inl refl
+one_or_three RunMode = inl refl
+one_or_three (GenMode s c) = inr refl
+one_or_three SweepMode = inl refl
+one_or_three WatchMode = inl refl
+one_or_three TraceMode = inl refl
+one_or_three VerifyMode = inl refl
+
+-- so no other number of words is accepted
+other_number : (words : List (List ℕ)) → length words ≢ 1 → length words ≢ 3 → AskNothing words
+other_number words not_one not_three mode a =
+    elim (one_or_three mode) [
+      | inl one ↦ not_one (ap (λ ws. length ws) a.spelled ∙ one)
+      | inr three ↦ not_three (ap (λ ws. length ws) a.spelled ∙ three)
+    ]
+
 pub no_word-refused : AskNothing []
-no_word-refused StepMode a = let no : [] ≡ codes "step" ∷ [] = a.spelled in let bad : ⊥ = cc in bad
-no_word-refused RunMode a = let no : [] ≡ codes "run" ∷ [] = a.spelled in let bad : ⊥ = cc in bad
-no_word-refused (GenMode s c) a = let no : [] ≡ words_for (GenMode s c) = a.spelled in let bad : ⊥ = cc in bad
+no_word-refused = other_number [] (λ e. omega (arith, e)) (λ e. omega (arith, e))
 
 pub two_words-refused : AskNothing (codes "step" ∷ codes "step" ∷ [])
-two_words-refused StepMode a = let no : codes "step" ∷ codes "step" ∷ [] ≡ codes "step" ∷ [] = a.spelled in
-    let bad : ⊥ = cc in bad
-two_words-refused RunMode a = let no : codes "step" ∷ codes "step" ∷ [] ≡ codes "run" ∷ [] = a.spelled in
-    let bad : ⊥ = cc in bad
-two_words-refused (GenMode s c) a = let no : codes "step" ∷ codes "step" ∷ [] ≡ words_for (GenMode s c) =
-    a.spelled in let bad : ⊥ = cc in bad
+two_words-refused =
+    other_number (codes "step" ∷ codes "step" ∷ []) (λ e. omega (arith, e)) (λ e. omega (arith, e))
+
+-- the first letter of the first word, which is a small letter in each mode
+letter : List (List ℕ) → ℕ
+letter ((c ∷ cs) ∷ words) = c
+letter words = 0
+
+small_letter : (mode : Mode) → 97 ≤ letter (words_for mode)
+unfolding letter
+small_letter StepMode = omega arith
+small_letter RunMode = omega arith
+small_letter (GenMode s c) = omega arith
+small_letter SweepMode = omega arith
+small_letter WatchMode = omega arith
+small_letter TraceMode = omega arith
+small_letter VerifyMode = omega arith
 
 pub dash-refused : AskNothing (codes "--help" ∷ [])
-dash-refused StepMode a = let no : codes "--help" ∷ [] ≡ codes "step" ∷ [] = a.spelled in let bad : ⊥ = cc in bad
-dash-refused RunMode a = let no : codes "--help" ∷ [] ≡ codes "run" ∷ [] = a.spelled in let bad : ⊥ = cc in bad
-dash-refused (GenMode s c) a = let no : codes "--help" ∷ [] ≡ words_for (GenMode s c) = a.spelled in
-    let bad : ⊥ = cc in bad
+unfolding letter
+dash-refused mode a =
+    let dash : 45 ≡ letter (words_for mode) = ap letter a.spelled in
+    let small : 97 ≤ letter (words_for mode) = small_letter mode in
+    omega (arith, dash, small)
+
+-- three words are those of `gen`
+only_gen : (words : List (List ℕ)) (mode : Mode) → length words ≡ 3 → Accepts words mode
+    → (s : ℕ) × (c : ℕ) × Accepts words (GenMode s c)
+only_gen words StepMode three a = absurd (omega (arith, three, ap (λ ws. length ws) a.spelled))
+only_gen words RunMode three a = absurd (omega (arith, three, ap (λ ws. length ws) a.spelled))
+only_gen words (GenMode s c) three a = (s, c, a)
+only_gen words SweepMode three a = absurd (omega (arith, three, ap (λ ws. length ws) a.spelled))
+only_gen words WatchMode three a = absurd (omega (arith, three, ap (λ ws. length ws) a.spelled))
+only_gen words TraceMode three a = absurd (omega (arith, three, ap (λ ws. length ws) a.spelled))
+only_gen words VerifyMode three a = absurd (omega (arith, three, ap (λ ws. length ws) a.spelled))
 
 second : List (List ℕ) → List ℕ
 second (a ∷ b ∷ rest) = b
@@ -47,11 +98,9 @@ zero_in_front (suc s) low e =
 
 pub zero_in_front-refused : AskNothing (gen_words (codes "01") (codes "3"))
 unfolding second
-zero_in_front-refused StepMode a = let no : gen_words (codes "01") (codes "3") ≡ codes "step" ∷ [] = a.spelled in
-    let bad : ⊥ = cc in bad
-zero_in_front-refused RunMode a = let no : gen_words (codes "01") (codes "3") ≡ codes "run" ∷ [] = a.spelled in
-    let bad : ⊥ = cc in bad
-zero_in_front-refused (GenMode s c) a = zero_in_front s a.in_range.0 (ap second a.spelled)
+zero_in_front-refused mode a =
+    let gen = only_gen (gen_words (codes "01") (codes "3")) mode refl a in
+    zero_in_front gen.0 gen.2.in_range.0 (ap second gen.2.spelled)
 
 large : decimal 4001 ≡ codes "4001"
 unfolding digits
@@ -59,15 +108,23 @@ large = refl
 
 pub too_many-refused : AskNothing (gen_words (codes "1") (codes "4001"))
 unfolding third
-too_many-refused StepMode a = let no : gen_words (codes "1") (codes "4001") ≡ codes "step" ∷ [] = a.spelled in
-    let bad : ⊥ = cc in bad
-too_many-refused RunMode a = let no : gen_words (codes "1") (codes "4001") ≡ codes "run" ∷ [] = a.spelled in
-    let bad : ⊥ = cc in bad
-too_many-refused (GenMode s c) a =
-    let same : 4001 ≡ c =
-    decimal_injective 4001 c (omega arith) (omega (arith, a.in_range.1)) (large ∙ ap third a.spelled) in
-    omega (arith, same, a.in_range.1)
+too_many-refused mode a =
+    let gen = only_gen (gen_words (codes "1") (codes "4001")) mode refl a in
+    let few : gen.1 ≤ 4000 = gen.2.in_range.1 in
+    let same : 4001 ≡ gen.1 =
+    decimal_injective 4001 gen.1 (omega arith) (omega (arith, few)) (large ∙ ap third gen.2.spelled) in
+    omega (arith, same, few)
 
 -- what `worked_words` says
-pub ruleset worked_words =
-    (gen-accepted, no_word-refused, two_words-refused, dash-refused, zero_in_front-refused, too_many-refused)
+pub ruleset worked_words = (
+  gen-accepted,
+  sweep-accepted,
+  watch-accepted,
+  trace-accepted,
+  verify-accepted,
+  no_word-refused,
+  two_words-refused,
+  dash-refused,
+  zero_in_front-refused,
+  too_many-refused,
+)

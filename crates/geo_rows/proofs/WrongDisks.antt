@@ -8,15 +8,14 @@ use Rattle.geo_base.specs.Faults.{Rose}
 use Rattle.geo_model.specs.declared.command.DiskDecl.{DiskDecl}
 use Rattle.geo_model.specs.World.{Plan}
 use Rattle.geo_model.specs.Words.{same_name}
-use Rattle.geo_model.specs.Opening.{opening}
 use Rattle.geo_model.specs.Report.{end_line}
 use Rattle.geo_model.specs.Script.{IsScript}
-use Rattle.geo_headline.specs.Modes.{Mode, StepMode}
+use Rattle.geo_headline.specs.Modes.{Mode, StepMode, VerifyMode, Accepts}
 use Rattle.geo_headline.specs.Outside.{is_shelf, IsThere, KeepsLength, WhereTold}
-use Rattle.geo_headline.specs.Endings.{Call, Ending, Reported, ReportedButFault, BadWords, NoScript, ReadFault, ShelfFault, NoDisk, BadSize, OutOfMemory, LogFull, TooLong, status_of, due_text, reported, HasLog, CauseOf, IsOpened, script_of}
+use Rattle.geo_headline.specs.Endings.{Call, Ending, Reported, ReportedButFault, BadWords, NoScript, ReadFault, ShelfFault, NoDisk, BadSize, OutOfMemory, LogFull, TooLong, Answered, NoTrace, status_of, due_text, reported, CauseOf, IsOpened, script_of}
 use Rattle.geo_headline.specs.Headline.{KeepsAll}
 use Rattle.geo_rows.specs.WrongPrograms.{IsRefused, KeepsDisk, DropsDisk, BlamesAnotherDisk, LosesImage, ReportsDisk, InventsDisk, InventsLentDisk}
-use Rattle.geo_rows.proofs.WrongPrograms.{ends}
+use Rattle.geo_rows.proofs.WrongPrograms.{answered, answers_verify, ends}
 
 pub keeps_disk-refused : IsRefused KeepsDisk
 keeps_disk-refused call mode plan ending wrong kept =
@@ -62,10 +61,13 @@ by_blame call mode plan (BadSize name) text s wrong cause e =
 by_blame call mode plan OutOfMemory text s wrong cause e = omega (arith, s)
 by_blame call mode plan LogFull text s wrong cause e = omega (arith, s)
 by_blame call mode plan TooLong text s wrong cause e = omega (arith, s)
+by_blame call mode plan (Answered found) text s wrong cause e =
+    answered 5 found s (λ z. omega (arith, z)) (λ z. omega (arith, z))
+by_blame call mode plan (NoTrace line) text s wrong cause e = omega (arith, s)
 
 pub blames_another-refused : IsRefused BlamesAnotherDisk
 blames_another-refused call mode plan ending wrong kept =
-    by_blame call mode plan ending (reported mode plan (opening plan call.facts) call.log)
+    by_blame call mode plan ending (reported mode call.text plan call.facts call.log)
     (ends 5 call mode plan ending kept (λ e. omega (arith, e)) wrong.status) wrong kept.cause
     ((kept.prints.whole (λ four. omega (arith, four, wrong.status))).written)
 
@@ -75,25 +77,32 @@ loses_image-refused call mode plan ending wrong kept =
     kept.images_stand wrong.name wrong.not_kept in
     rw (wrong.told_before, wrong.told_after, wrong.there, wrong.gone) at stand
 
-by_report : (call : Call) (ending : Ending) → status_of ending ≡ 0 → HasLog ending call.log → IsSome call.log
-by_report call Reported s has = has
-by_report call (ReportedButFault name) s has = absurd (omega (arith, s))
-by_report call BadWords s has = absurd (omega (arith, s))
-by_report call (NoScript line c) s has = absurd (omega (arith, s))
-by_report call ReadFault s has = absurd (omega (arith, s))
-by_report call (ShelfFault name) s has = absurd (omega (arith, s))
-by_report call (NoDisk name) s has = absurd (omega (arith, s))
-by_report call (BadSize name) s has = absurd (omega (arith, s))
-by_report call OutOfMemory s has = absurd (omega (arith, s))
-by_report call LogFull s has = absurd (omega (arith, s))
-by_report call TooLong s has = absurd (omega (arith, s))
+by_report : (call : Call) (mode : Mode) (plan : Plan) (ending : Ending) → status_of ending ≡ 0
+    → Accepts call.words StepMode → KeepsAll call mode plan ending → IsSome call.log
+by_report call mode plan Reported s words kept = kept.has_log
+by_report call mode plan (ReportedButFault name) s words kept = absurd (omega (arith, s))
+by_report call mode plan BadWords s words kept = absurd (omega (arith, s))
+by_report call mode plan (NoScript line c) s words kept = absurd (omega (arith, s))
+by_report call mode plan ReadFault s words kept = absurd (omega (arith, s))
+by_report call mode plan (ShelfFault name) s words kept = absurd (omega (arith, s))
+by_report call mode plan (NoDisk name) s words kept = absurd (omega (arith, s))
+by_report call mode plan (BadSize name) s words kept = absurd (omega (arith, s))
+by_report call mode plan OutOfMemory s words kept = absurd (omega (arith, s))
+by_report call mode plan LogFull s words kept = absurd (omega (arith, s))
+by_report call mode plan TooLong s words kept = absurd (omega (arith, s))
+by_report call mode plan (Answered found) s words kept =
+    let both : StepMode ≡ VerifyMode =
+    kept.read_as.mode_is StepMode words ∙ sym (answers_verify call mode plan found kept) in
+    let no : ⊥ = cc in absurd no
+by_report call mode plan (NoTrace line) s words kept = absurd (omega (arith, s))
 
 -- a disk that is reported on can be taken
 was_there : (call : Call) (mode : Mode) (plan : Plan) (ending : Ending) (disk : DiskDecl) → ReportsDisk call disk
     → KeepsAll call mode plan ending → IsThere call.before.shelf disk
 was_there call mode plan ending disk wrong kept =
     let has_log =
-    by_report call ending (ends 0 call mode plan ending kept (λ e. omega (arith, e)) wrong.status) kept.has_log in
+    by_report call mode plan ending (ends 0 call mode plan ending kept (λ e. omega (arith, e)) wrong.status) wrong.words
+    kept in
     let opened : IsOpened call mode plan = kept.is_opened has_log in
     let as_step : StepMode ≡ mode = kept.read_as.mode_is StepMode wrong.words in
     let read : IsScript (script_of mode call.text) plan = opened.parsed.script in

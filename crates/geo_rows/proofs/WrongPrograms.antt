@@ -10,13 +10,16 @@ use Rattle.geo_model.specs.declared.step.Entry.{Entry}
 use Rattle.geo_model.specs.World.{World, Plan}
 use Rattle.geo_model.specs.Opening.{opening}
 use Rattle.geo_model.specs.Log.{owed, replay}
-use Rattle.geo_model.specs.Script.{IsScript}
-use Rattle.geo_headline.specs.Modes.{Mode, Accepts}
+use Rattle.geo_model.specs.declared.command.Cause.{Cause}
+use Rattle.geo_model.specs.Script.{Fault, IsScript, IsFault}
+use Rattle.geo_headline.specs.Modes.{Mode, StepMode, RunMode, GenMode, SweepMode, WatchMode, TraceMode, VerifyMode, Accepts, OpensMesh, source_limit}
 use Rattle.geo_headline.specs.Outside.{ShelfView, IsShelf, HasImage, IsMissing, IsBadSize}
-use Rattle.geo_headline.specs.Endings.{Call, Ending, Reported, ReportedButFault, BadWords, NoScript, ReadFault, ShelfFault, NoDisk, BadSize, OutOfMemory, LogFull, TooLong, status_of, HasLog, CauseOf, LogRanFull, script_limit}
+use Rattle.geo_headline.specs.Endings.{Call, Ending, Reported, ReportedButFault, BadWords, NoScript, ReadFault, ShelfFault, NoDisk, BadSize, OutOfMemory, LogFull, TooLong, Answered, NoTrace, status_of, HasLog, CauseOf, LogRanFull, ReadsScript, script_of}
+use Rattle.geo_headline.specs.Traces.{TraceFault, InScript, InTrace, read_after, read_trace, script_part}
+use Rattle.geo_headline.specs.Verifying.{Verified, Yes, NotEnabled, NotAtRest, OtherReport, found_read, verified}
 use Rattle.geo_headline.specs.Headline.{KeepsAll}
 use Rattle.geo_laws_life.proofs.Standing.{opening-stood}
-use Rattle.geo_rows.specs.WrongPrograms.{IsRefused, AnswersUsage, AnswersFaultOfScript, AnswersReadFault, AnswersWriteFault, AnswersDiskFault, AnswersFullWithoutLog, AnswersFullAtOnce, AnswersFullTooEarly, AnswersTooLong}
+use Rattle.geo_rows.specs.WrongPrograms.{IsRefused, AnswersUsage, AnswersFaultOfScript, AnswersFaultOfTrace, AnswersReadFault, AnswersWriteFault, AnswersDiskFault, AnswersFullWithoutLog, AnswersFullAtOnce, AnswersFullTooEarly, AnswersTooLong, AnswersNo, SaysYes, RunsTrace}
 
 -- at a status other than 4 the ending has that status
 pub ends : (n : ℕ) (call : Call) (mode : Mode) (plan : Plan) (ending : Ending) → KeepsAll call mode plan ending
@@ -24,6 +27,18 @@ pub ends : (n : ℕ) (call : Call) (mode : Mode) (plan : Plan) (ending : Ending)
     → status_of ending ≡ n
 ends n call mode plan ending kept other status =
     sym ((kept.prints.whole (λ four. other (sym status ∙ four))).status) ∙ status
+
+-- what was found of a trace has status 0 or 9
+pub answered : {A : Type 0} (n : ℕ) (found : Verified) → status_of (Answered found) ≡ n → n ≢ 0 → n ≢ 9 → A
+answered n Yes s zero nine = absurd (zero (sym s))
+answered n (NotEnabled line) s zero nine = absurd (nine (sym s))
+answered n NotAtRest s zero nine = absurd (nine (sym s))
+answered n OtherReport s zero nine = absurd (nine (sym s))
+
+-- what was found is told only where it was asked
+pub answers_verify : (call : Call) (mode : Mode) (plan : Plan) (found : Verified)
+    → KeepsAll call mode plan (Answered found) → VerifyMode ≡ mode
+answers_verify call mode plan found kept = kept.read_as.mode_is VerifyMode kept.cause.0
 
 by_usage : (call : Call) (mode : Mode) (plan : Plan) (ending : Ending) → status_of ending ≡ 1
     → ((m : Mode) × Accepts call.words m)
@@ -39,33 +54,91 @@ by_usage call mode plan (BadSize name) s words cause = omega (arith, s)
 by_usage call mode plan OutOfMemory s words cause = omega (arith, s)
 by_usage call mode plan LogFull s words cause = omega (arith, s)
 by_usage call mode plan TooLong s words cause = omega (arith, s)
+by_usage call mode plan (Answered found) s words cause = answered 1 found s (λ e. omega (arith, e)) (λ e. omega (arith, e))
+by_usage call mode plan (NoTrace line) s words cause = omega (arith, s)
 
 pub usage-refused : IsRefused AnswersUsage
 usage-refused call mode plan ending wrong kept =
     by_usage call mode plan ending (ends 1 call mode plan ending kept (λ e. omega (arith, e)) wrong.0)
     wrong.1 kept.cause
 
-by_fault : (call : Call) (mode : Mode) (plan : Plan) (ending : Ending) (p : Plan) → status_of ending ≡ 2
-    → IsScript call.text p
-    → CauseOf call mode plan ending → ⊥
-by_fault call mode plan Reported p s good cause = omega (arith, s)
-by_fault call mode plan (ReportedButFault name) p s good cause = omega (arith, s)
-by_fault call mode plan BadWords p s good cause = omega (arith, s)
-by_fault call mode plan (NoScript line c) p s good cause =
-    let both : Ok p ≡ Err (record { line = line; cause = c }) = sym good ∙ cause.2 in
+-- a script has no fault, and no trace has one
+no_fault : (text : List ℕ) (p : Plan) (line : ℕ) (c : Cause) → IsScript text p → IsFault text line c → ⊥
+no_fault text p line c good bad = plan_or_fault p (record { line = line; cause = c }) (sym good ∙ bad)
+  where
+    plan_or_fault : (plan : Plan) (fault : Fault) → Ok plan ≡ Err fault → ⊥
+    plan_or_fault plan fault both = cc
+
+no_trace_fault : (text : List ℕ) (found : Verified) (fault : TraceFault) → verified text ≡ Ok found
+    → verified text ≡ Err fault → ⊥
+no_trace_fault text found fault good bad =
+    let both : Ok found ≡ Err fault = sym good ∙ bad in
     let no : ⊥ = cc in no
-by_fault call mode plan ReadFault p s good cause = omega (arith, s)
-by_fault call mode plan (ShelfFault name) p s good cause = omega (arith, s)
-by_fault call mode plan (NoDisk name) p s good cause = omega (arith, s)
-by_fault call mode plan (BadSize name) p s good cause = omega (arith, s)
-by_fault call mode plan OutOfMemory p s good cause = omega (arith, s)
-by_fault call mode plan LogFull p s good cause = omega (arith, s)
-by_fault call mode plan TooLong p s good cause = omega (arith, s)
+
+-- a fault of the script in a trace is a fault of the trace
+script_fault : (text : List ℕ) (line : ℕ) (c : Cause) → IsFault (script_part text) line c
+    → verified text ≡ Err (InScript line c)
+unfolding verified read_trace
+script_fault text line c bad = ap (λ r. found_read (read_after text r)) bad
+
+-- in a script that was asked for
+by_script : (call : Call) (mode : Mode) (p : Plan) (line : ℕ) (c : Cause) → (Accepts call.words VerifyMode → ⊥)
+    → IsScript call.text p → ReadsScript call mode → IsFault (script_of mode call.text) line c → ⊥
+by_script call StepMode p line c other good reads bad = no_fault call.text p line c good bad
+by_script call RunMode p line c other good reads bad = no_fault call.text p line c good bad
+by_script call (GenMode start count) p line c other good reads bad = reads
+by_script call SweepMode p line c other good reads bad = no_fault call.text p line c good bad
+by_script call WatchMode p line c other good reads bad = no_fault call.text p line c good bad
+by_script call TraceMode p line c other good reads bad = no_fault call.text p line c good bad
+by_script call VerifyMode p line c other good reads bad = other reads
+
+by_fault : (call : Call) (mode : Mode) (plan : Plan) (ending : Ending) (p : Plan) → status_of ending ≡ 2
+    → (Accepts call.words VerifyMode → ⊥) → IsScript call.text p
+    → CauseOf call mode plan ending → ⊥
+by_fault call mode plan Reported p s other good cause = omega (arith, s)
+by_fault call mode plan (ReportedButFault name) p s other good cause = omega (arith, s)
+by_fault call mode plan BadWords p s other good cause = omega (arith, s)
+by_fault call mode plan (NoScript line c) p s other good cause =
+    by_script call mode p line c other good cause.0 cause.2
+by_fault call mode plan ReadFault p s other good cause = omega (arith, s)
+by_fault call mode plan (ShelfFault name) p s other good cause = omega (arith, s)
+by_fault call mode plan (NoDisk name) p s other good cause = omega (arith, s)
+by_fault call mode plan (BadSize name) p s other good cause = omega (arith, s)
+by_fault call mode plan OutOfMemory p s other good cause = omega (arith, s)
+by_fault call mode plan LogFull p s other good cause = omega (arith, s)
+by_fault call mode plan TooLong p s other good cause = omega (arith, s)
+by_fault call mode plan (Answered found) p s other good cause = other cause.0
+by_fault call mode plan (NoTrace line) p s other good cause = other cause.0
 
 pub fault_of_script-refused : IsRefused AnswersFaultOfScript
 fault_of_script-refused call mode plan ending wrong kept =
-    by_fault call mode plan ending wrong.1.0 (ends 2 call mode plan ending kept (λ e. omega (arith, e)) wrong.0)
-    wrong.1.1 kept.cause
+    by_fault call mode plan ending wrong.2.0 (ends 2 call mode plan ending kept (λ e. omega (arith, e)) wrong.0)
+    wrong.1 wrong.2.1 kept.cause
+
+-- of a trace
+by_trace : (call : Call) (plan : Plan) (ending : Ending) (found : Verified) → status_of ending ≡ 2
+    → verified call.text ≡ Ok found → CauseOf call VerifyMode plan ending → ⊥
+by_trace call plan Reported found s good cause = omega (arith, s)
+by_trace call plan (ReportedButFault name) found s good cause = omega (arith, s)
+by_trace call plan BadWords found s good cause = omega (arith, s)
+by_trace call plan (NoScript line c) found s good cause =
+    no_trace_fault call.text found (InScript line c) good (script_fault call.text line c cause.2)
+by_trace call plan ReadFault found s good cause = omega (arith, s)
+by_trace call plan (ShelfFault name) found s good cause = omega (arith, s)
+by_trace call plan (NoDisk name) found s good cause = omega (arith, s)
+by_trace call plan (BadSize name) found s good cause = omega (arith, s)
+by_trace call plan OutOfMemory found s good cause = omega (arith, s)
+by_trace call plan LogFull found s good cause = omega (arith, s)
+by_trace call plan TooLong found s good cause = omega (arith, s)
+by_trace call plan (Answered other) found s good cause =
+    answered 2 other s (λ e. omega (arith, e)) (λ e. omega (arith, e))
+by_trace call plan (NoTrace line) found s good cause = no_trace_fault call.text found (InTrace line) good cause.2
+
+pub fault_of_trace-refused : IsRefused AnswersFaultOfTrace
+fault_of_trace-refused call mode plan ending wrong kept =
+    by_trace call plan ending wrong.2.0 (ends 2 call mode plan ending kept (λ e. omega (arith, e)) wrong.0)
+    wrong.2.1
+    (subst (λ m. CauseOf call m plan ending) (sym (kept.read_as.mode_is VerifyMode wrong.1)) kept.cause)
 
 by_read : (call : Call) (mode : Mode) (plan : Plan) (ending : Ending) → status_of ending ≡ 3
     → (Rose call.before.source.faults call.after.source.faults → ⊥) → CauseOf call mode plan ending → ⊥
@@ -80,6 +153,8 @@ by_read call mode plan (BadSize name) s none cause = omega (arith, s)
 by_read call mode plan OutOfMemory s none cause = omega (arith, s)
 by_read call mode plan LogFull s none cause = omega (arith, s)
 by_read call mode plan TooLong s none cause = omega (arith, s)
+by_read call mode plan (Answered found) s none cause = answered 3 found s (λ e. omega (arith, e)) (λ e. omega (arith, e))
+by_read call mode plan (NoTrace line) s none cause = omega (arith, s)
 
 pub read_fault-refused : IsRefused AnswersReadFault
 read_fault-refused call mode plan ending wrong kept =
@@ -100,6 +175,8 @@ by_log call (BadSize name) s e has = omega (arith, s)
 by_log call OutOfMemory s e has = omega (arith, s)
 by_log call LogFull s e has = let no : IsSome {T = List Entry} None = rw e at has in (let bad : ⊥ = cc in bad)
 by_log call TooLong s e has = omega (arith, s)
+by_log call (Answered found) s e has = answered 7 found s (λ e. omega (arith, e)) (λ e. omega (arith, e))
+by_log call (NoTrace line) s e has = omega (arith, s)
 
 pub full_without_log-refused : IsRefused AnswersFullWithoutLog
 full_without_log-refused call mode plan ending wrong kept =
@@ -120,6 +197,8 @@ by_full call mode plan (BadSize name) s cause = absurd (omega (arith, s))
 by_full call mode plan OutOfMemory s cause = absurd (omega (arith, s))
 by_full call mode plan LogFull s cause = cause
 by_full call mode plan TooLong s cause = absurd (omega (arith, s))
+by_full call mode plan (Answered found) s cause = answered 7 found s (λ e. omega (arith, e)) (λ e. omega (arith, e))
+by_full call mode plan (NoTrace line) s cause = absurd (omega (arith, s))
 
 ran_full : (call : Call) (mode : Mode) (plan : Plan) (ending : Ending) → call.status ≡ 7
     → KeepsAll call mode plan ending
@@ -146,8 +225,18 @@ pub full_too_early-refused : IsRefused AnswersFullTooEarly
 full_too_early-refused call mode plan ending wrong kept =
     too_early mode plan (opening plan call.facts) call.log (ran_full call mode plan ending wrong.0 kept) (wrong.1 plan)
 
+-- where a text is read, the words are accepted
+accepted_by : (call : Call) (mode : Mode) → ReadsScript call mode → Accepts call.words mode
+accepted_by call StepMode reads = reads
+accepted_by call RunMode reads = reads
+accepted_by call (GenMode start count) reads = absurd reads
+accepted_by call SweepMode reads = reads
+accepted_by call WatchMode reads = reads
+accepted_by call TraceMode reads = reads
+accepted_by call VerifyMode reads = reads
+
 by_length : (call : Call) (mode : Mode) (plan : Plan) (ending : Ending) → status_of ending ≡ 8
-    → length call.text ≤ script_limit
+    → ((m : Mode) → Accepts call.words m → length call.text ≤ source_limit m)
     → CauseOf call mode plan ending → ⊥
 by_length call mode plan Reported s short cause = omega (arith, s)
 by_length call mode plan (ReportedButFault name) s short cause = omega (arith, s)
@@ -159,11 +248,42 @@ by_length call mode plan (NoDisk name) s short cause = omega (arith, s)
 by_length call mode plan (BadSize name) s short cause = omega (arith, s)
 by_length call mode plan OutOfMemory s short cause = omega (arith, s)
 by_length call mode plan LogFull s short cause = omega (arith, s)
-by_length call mode plan TooLong s short cause = omega (arith, short, cause.1)
+by_length call mode plan TooLong s short cause =
+    let few : length call.text ≤ source_limit mode = short mode (accepted_by call mode cause.0) in
+    let long : source_limit mode < length call.text = cause.1 in
+    omega (arith, few, long)
+by_length call mode plan (Answered found) s short cause =
+    answered 8 found s (λ e. omega (arith, e)) (λ e. omega (arith, e))
+by_length call mode plan (NoTrace line) s short cause = omega (arith, s)
 
 pub too_long-refused : IsRefused AnswersTooLong
 too_long-refused call mode plan ending wrong kept =
     by_length call mode plan ending (ends 8 call mode plan ending kept (λ e. omega (arith, e)) wrong.0)
+    wrong.1 kept.cause
+
+-- only what was found of a trace has status 9
+by_no : (call : Call) (mode : Mode) (plan : Plan) (ending : Ending) → status_of ending ≡ 9
+    → ((found : Verified) → verified call.text ≡ Ok found → found ≡ Yes)
+    → CauseOf call mode plan ending → ⊥
+by_no call mode plan Reported s only cause = omega (arith, s)
+by_no call mode plan (ReportedButFault name) s only cause = omega (arith, s)
+by_no call mode plan BadWords s only cause = omega (arith, s)
+by_no call mode plan (NoScript line c) s only cause = omega (arith, s)
+by_no call mode plan ReadFault s only cause = omega (arith, s)
+by_no call mode plan (ShelfFault name) s only cause = omega (arith, s)
+by_no call mode plan (NoDisk name) s only cause = omega (arith, s)
+by_no call mode plan (BadSize name) s only cause = omega (arith, s)
+by_no call mode plan OutOfMemory s only cause = omega (arith, s)
+by_no call mode plan LogFull s only cause = omega (arith, s)
+by_no call mode plan TooLong s only cause = omega (arith, s)
+by_no call mode plan (Answered found) s only cause =
+    let is : status_of (Answered found) ≡ 0 = ap (λ f. status_of (Answered f)) (only found cause.2) in
+    omega (arith, s, is)
+by_no call mode plan (NoTrace line) s only cause = omega (arith, s)
+
+pub no-refused : IsRefused AnswersNo
+no-refused call mode plan ending wrong kept =
+    by_no call mode plan ending (ends 9 call mode plan ending kept (λ e. omega (arith, e)) wrong.0)
     wrong.1 kept.cause
 
 -- taking the disks stopped at a disk of the plan
@@ -213,16 +333,58 @@ by_disk call mode plan (BadSize name) s wrong cause =
 by_disk call mode plan OutOfMemory s wrong cause = omega (arith, s)
 by_disk call mode plan LogFull s wrong cause = omega (arith, s)
 by_disk call mode plan TooLong s wrong cause = omega (arith, s)
+by_disk call mode plan (Answered found) s wrong cause = answered 5 found s (λ e. omega (arith, e)) (λ e. omega (arith, e))
+by_disk call mode plan (NoTrace line) s wrong cause = omega (arith, s)
 
 pub disk_fault-refused : IsRefused AnswersDiskFault
 disk_fault-refused call mode plan ending wrong kept =
     by_disk call mode plan ending (ends 5 call mode plan ending kept (λ e. omega (arith, e)) wrong.status)
     wrong kept.cause
 
+-- Traces
+
+-- where a trace is to be verified no mesh was run
+pub no_log : (call : Call) (mode : Mode) (plan : Plan) (ending : Ending) → Accepts call.words VerifyMode
+    → KeepsAll call mode plan ending → IsSome call.log → ⊥
+no_log call mode plan ending words kept some =
+    subst OpensMesh (sym (kept.read_as.mode_is VerifyMode words)) (kept.is_opened some).parsed.mesh
+
+by_yes : (call : Call) (mode : Mode) (plan : Plan) (ending : Ending) → status_of ending ≡ 0
+    → (IsSome call.log → ⊥) → (verified call.text ≡ Ok Yes → ⊥)
+    → CauseOf call mode plan ending → ⊥
+by_yes call mode plan Reported s none not_yes cause = none cause.0
+by_yes call mode plan (ReportedButFault name) s none not_yes cause = omega (arith, s)
+by_yes call mode plan BadWords s none not_yes cause = omega (arith, s)
+by_yes call mode plan (NoScript line c) s none not_yes cause = omega (arith, s)
+by_yes call mode plan ReadFault s none not_yes cause = omega (arith, s)
+by_yes call mode plan (ShelfFault name) s none not_yes cause = omega (arith, s)
+by_yes call mode plan (NoDisk name) s none not_yes cause = omega (arith, s)
+by_yes call mode plan (BadSize name) s none not_yes cause = omega (arith, s)
+by_yes call mode plan OutOfMemory s none not_yes cause = omega (arith, s)
+by_yes call mode plan LogFull s none not_yes cause = omega (arith, s)
+by_yes call mode plan TooLong s none not_yes cause = omega (arith, s)
+by_yes call mode plan (Answered Yes) s none not_yes cause = not_yes cause.2
+by_yes call mode plan (Answered (NotEnabled line)) s none not_yes cause = omega (arith, s)
+by_yes call mode plan (Answered NotAtRest) s none not_yes cause = omega (arith, s)
+by_yes call mode plan (Answered OtherReport) s none not_yes cause = omega (arith, s)
+by_yes call mode plan (NoTrace line) s none not_yes cause = omega (arith, s)
+
+pub yes-refused : IsRefused SaysYes
+yes-refused call mode plan ending wrong kept =
+    by_yes call mode plan ending (ends 0 call mode plan ending kept (λ e. omega (arith, e)) wrong.status)
+    (no_log call mode plan ending wrong.words kept) wrong.false_trace kept.cause
+
+pub run-refused : IsRefused RunsTrace
+run-refused call mode plan ending wrong kept = no_log call mode plan ending wrong.words kept wrong.ran
+
+-- what `wrong_verdicts_are_refused` says
+pub ruleset wrong_verdicts_are_refused = (yes-refused, run-refused)
+
 -- what `constant_answers_are_refused` says
 pub ruleset constant_answers_are_refused = (
   usage-refused,
   fault_of_script-refused,
+  fault_of_trace-refused,
   read_fault-refused,
   write_fault-refused,
   disk_fault-refused,
@@ -230,4 +392,5 @@ pub ruleset constant_answers_are_refused = (
   full_at_once-refused,
   full_too_early-refused,
   too_long-refused,
+  no-refused,
 )

@@ -18,3 +18,6 @@ pub mod WorkedFitting
 pub mod LooseWorlds
 pub mod WorkedChains
 pub mod ChainWorlds
+pub mod WorkedSweeps
+pub mod WorkedViews
+pub mod WorkedTraces

@@ -1,5 +1,5 @@
 -- Programs that don't do what they should, and that what a run keeps refuses.
-use Rattle.std.specs.Prelude.{◌≡◌, ℕ, ◌+◌, ◌-◌, ◌^◌, ◌<◌, ◌≤◌, true, List, [], ◌∷◌, ◌++◌, length, Some, None, IfSome, All, Contains, codes}
+use Rattle.std.specs.Prelude.{◌≡◌, ℕ, ◌+◌, ◌-◌, ◌^◌, ◌<◌, ◌≤◌, true, List, [], ◌∷◌, ◌++◌, length, Ok, Some, None, IsSome, IfSome, All, Contains, codes}
 use Rattle.geo_base.specs.Faults.{Rose}
 use Rattle.geo_base.specs.Images.{Images}
 use Rattle.geo_model.specs.declared.command.DiskDecl.{DiskDecl}
@@ -11,10 +11,11 @@ use Rattle.geo_model.specs.Step.{is_enabled}
 use Rattle.geo_model.specs.Log.{replay, owed}
 use Rattle.geo_model.specs.Report.{end_line}
 use Rattle.geo_model.specs.Script.{IsScript}
-use Rattle.geo_headline.specs.Modes.{Mode, StepMode, RunMode, Accepts}
+use Rattle.geo_headline.specs.Modes.{Mode, StepMode, VerifyMode, Accepts, StartsThreads, source_limit}
 use Rattle.geo_model.specs.FixedOrder.{EventWorkerIdle, event_seat}
 use Rattle.geo_headline.specs.Outside.{IsShelf, HasImage, IsKeptBack, kept_back}
-use Rattle.geo_headline.specs.Endings.{Call, Ending, script_of, script_limit}
+use Rattle.geo_headline.specs.Endings.{Call, Ending, script_of}
+use Rattle.geo_headline.specs.Verifying.{Verified, Yes, verified}
 use Rattle.geo_headline.specs.Headline.{KeepsAll}
 
 -- no call of the kind keeps what a run keeps, whatever mode, plan and ending are said of it
@@ -28,9 +29,15 @@ IsRefused IsKind =
 abbrev pub AnswersUsage : Call → Type 0
 AnswersUsage call = (call.status ≡ 1) × ((mode : Mode) × Accepts call.words mode)
 
--- the text is a script, and yet a fault of it is printed
+-- the text is a script and no trace is asked for, and yet a fault of it is printed
 abbrev pub AnswersFaultOfScript : Call → Type 0
-AnswersFaultOfScript call = (call.status ≡ 2) × ((p : Plan) × IsScript call.text p)
+AnswersFaultOfScript call =
+    (call.status ≡ 2) × (Accepts call.words VerifyMode → ⊥) × ((p : Plan) × IsScript call.text p)
+
+-- the text is a trace, and yet a fault of it is printed
+abbrev pub AnswersFaultOfTrace : Call → Type 0
+AnswersFaultOfTrace call =
+    (call.status ≡ 2) × Accepts call.words VerifyMode × ((found : Verified) × (verified call.text ≡ Ok found))
 
 -- no read failed, and yet it says so
 abbrev pub AnswersReadFault : Call → Type 0
@@ -64,9 +71,27 @@ AnswersFullTooEarly call =
     (call.status ≡ 7)
     × ((plan : Plan) → IfSome call.log (λ log. length log + owed (replay (opening plan call.facts) log) < 2 ^ 32 - 1))
 
--- the script isn't too long, and yet it says so
+-- the text isn't too long for what the words ask, and yet it says so
 abbrev pub AnswersTooLong : Call → Type 0
-AnswersTooLong call = (call.status ≡ 8) × (length call.text ≤ script_limit)
+AnswersTooLong call =
+    (call.status ≡ 8) × ((mode : Mode) → Accepts call.words mode → length call.text ≤ source_limit mode)
+
+-- the text is a trace that holds, or none, and yet it says that a trace doesn't hold
+abbrev pub AnswersNo : Call → Type 0
+AnswersNo call = (call.status ≡ 9) × ((found : Verified) → verified call.text ≡ Ok found → found ≡ Yes)
+
+-- Traces
+
+-- a trace is to be verified that doesn't hold, and yet all is well
+pub record SaysYes (call : Call) : Type 0 where
+  pub words : Accepts call.words VerifyMode
+  pub status : call.status ≡ 0
+  pub false_trace : verified call.text ≡ Ok Yes → ⊥
+
+-- a trace is to be verified, and yet a mesh is run
+pub record RunsTrace (call : Call) : Type 0 where
+  pub words : Accepts call.words VerifyMode
+  pub ran : IsSome call.log
 
 -- Disks
 
@@ -127,9 +152,11 @@ pub record InventsLentDisk (call : Call) : Type 0 where
 
 -- Threads
 
--- on the word `run` no job made a step, though a disk stands whose event is due
+-- on a word that starts threads no job made a step, though a disk stands whose event is due
 pub record LeavesAllToTheDrain (call : Call) : Type 0 where
-  pub words : Accepts call.words RunMode
+  pub mode : Mode
+  pub threads : StartsThreads mode
+  pub words : Accepts call.words mode
   pub status : call.status ≡ 0
   pub text : call.text ≡ codes "ram md0 512 4"
   pub facts : call.facts ≡ (512, 4) ∷ []

@@ -5,4 +5,5 @@ pub mod chains;
 pub mod fitting;
 pub mod growth;
 pub mod rows;
+pub mod words;
 pub mod wrong;

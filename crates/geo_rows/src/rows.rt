@@ -2,7 +2,7 @@
 ghost use Rattle.geo_base.specs.declared.decline.DeclineCause.TheVariants as declines;
 ghost use Rattle.geo_base.specs.declared.errno.Errno.TheVariants.{EBUSY, EDEEP, EEXIST, EIO, ELOOP, ENXIO, EOVERFLOW, EPERM};
 ghost use Rattle.geo_model.specs.Generator.{draws};
-ghost use Rattle.geo_headline.specs.Modes.{Accepts, GenMode};
+ghost use Rattle.geo_headline.specs.Modes.{Accepts, GenMode, SweepMode, TraceMode, VerifyMode, WatchMode};
 ghost use Rattle.geo_model.specs.Log.{made, replay};
 ghost use Rattle.geo_model.specs.Opening.{opening};
 ghost use Rattle.geo_model.specs.Place.{pieces, place};
@@ -264,6 +264,10 @@ pub fn worked_steadiness()
 #[tactic(auto, using(crate::proofs::WordFacts::worked_words))]
 pub fn worked_words()
     ensures accepted { Accepts (gen_words (codes "1") (codes "3")) (GenMode 1 3) }
+    ensures sweep { Accepts (codes "sweep" ∷ []) SweepMode }
+    ensures watch { Accepts (codes "watch" ∷ []) WatchMode }
+    ensures trace { Accepts (codes "trace" ∷ []) TraceMode }
+    ensures verify { Accepts (codes "verify" ∷ []) VerifyMode }
     ensures no_word { AskNothing [] }
     ensures two_words { AskNothing (codes "step" ∷ codes "step" ∷ []) }
     ensures dash { AskNothing (codes "--help" ∷ []) }

@@ -5,15 +5,16 @@ ghost use Rattle.geo_headline.specs.Headline.{KeepsAll};
 ghost use Rattle.geo_model.specs.World.{Plan, World};
 ghost use Rattle.geo_model.specs.declared.step.Entry.{Entry};
 ghost use Rattle.geo_rows.specs.RightCalls.{later_plan, quiet_call};
-ghost use Rattle.geo_rows.specs.WrongPrograms.{AnswersDiskFault, AnswersFaultOfScript, AnswersFullAtOnce, AnswersFullTooEarly, AnswersFullWithoutLog, AnswersReadFault, AnswersTooLong, AnswersUsage, AnswersWriteFault, BlamesAnotherDisk, DropsDisk, IdlesAtEvent, InventsDisk, InventsLentDisk, IsRefused, KeepsDisk, LeavesAllToTheDrain, LosesImage};
+ghost use Rattle.geo_rows.specs.WrongPrograms.{AnswersDiskFault, AnswersFaultOfScript, AnswersFaultOfTrace, AnswersFullAtOnce, AnswersFullTooEarly, AnswersFullWithoutLog, AnswersNo, AnswersReadFault, AnswersTooLong, AnswersUsage, AnswersWriteFault, BlamesAnotherDisk, DropsDisk, IdlesAtEvent, InventsDisk, InventsLentDisk, IsRefused, KeepsDisk, LeavesAllToTheDrain, LosesImage, RunsTrace, SaysYes};
 ghost use Rattle.std.specs.Prelude.{List};
 
-/// A program that always answers with one of the statuses 1 to 5, 7 and 8 doesn't keep what a run keeps, whatever it
+/// A program that always answers with one of the statuses 1 to 5 and 7 to 9 doesn't keep what a run keeps, whatever it
 /// prints, since each of them has its cause. Want of memory (6) needs none.
 #[tactic(auto, using(crate::proofs::WrongPrograms::constant_answers_are_refused))]
 pub fn constant_answers_are_refused()
     ensures usage { IsRefused AnswersUsage }
     ensures fault_of_script { IsRefused AnswersFaultOfScript }
+    ensures fault_of_trace { IsRefused AnswersFaultOfTrace }
     ensures read_fault { IsRefused AnswersReadFault }
     ensures write_fault { IsRefused AnswersWriteFault }
     ensures disk_fault { IsRefused AnswersDiskFault }
@@ -21,6 +22,14 @@ pub fn constant_answers_are_refused()
     ensures full_at_once { IsRefused AnswersFullAtOnce }
     ensures full_too_early { IsRefused AnswersFullTooEarly }
     ensures too_long { IsRefused AnswersTooLong }
+    ensures no { IsRefused AnswersNo }
+{}
+
+/// Neither does one that answers `yes` to a trace that doesn't hold, or runs a trace as a script.
+#[tactic(auto, using(crate::proofs::WrongPrograms::wrong_verdicts_are_refused))]
+pub fn wrong_verdicts_are_refused()
+    ensures says_yes { IsRefused SaysYes }
+    ensures runs_trace { IsRefused RunsTrace }
 {}
 
 /// Neither does one that keeps a disk which it could give back, blames another, loses an image, or invents a disk.
@@ -34,7 +43,7 @@ pub fn lost_disks_are_refused()
     ensures invents_lent_disk { IsRefused InventsLentDisk }
 {}
 
-/// Neither does one that starts no job on the word `run`; and an event worker that doesn't look isn't idle.
+/// Neither does one that starts no job on a word that asks for threads; and an event worker that doesn't look isn't idle.
 #[tactic(auto, using(crate::proofs::IdleJobs::drain_refused, crate::proofs::IdleJobs::event_worker_refused))]
 pub fn idle_jobs_are_refused()
     ensures drain { IsRefused LeavesAllToTheDrain }
