@@ -120,11 +120,11 @@ pub adds_by : {D : Type 0} (held : D → Option (List (List ℕ))) (bytes count 
     (ds es : List (Drive D)) (old new : MeshView)
     → drain.Runs fixed_order old new (map (asked.drive_view held bytes count calls faults) ds)
     (map (asked.drive_view held bytes count calls faults) es)
-    → Adds old new (map (drive_view held bytes count faults) ds) (map (drive_view held bytes count faults) es)
+    → Adds fixed_order old new (map (drive_view held bytes count faults) ds) (map (drive_view held bytes count faults) es)
 adds_by held bytes count calls faults ds es old new runs = record {
   added = runs.added;
   mesh = runs.grown;
-  order = runs.follows;
+  follows = runs.follows;
   drives =
       subst (λ (xs : List DriveView). ServeAll runs.added 0 xs (map (drive_view held bytes count faults) es))
       (all_seen held bytes count calls faults ds)
@@ -144,5 +144,5 @@ ran_to_rest (Ok u) m history rest = record {
 }
 ran_to_rest (Err e) m history rest = tt
 
-pub ran_full : (m : MeshView) → drain.RanFull fixed_order m → RanFull (opened m) m.log
+pub ran_full : (m : MeshView) → drain.RanFull fixed_order m → RanFull fixed_order (opened m) m.log
 ran_full m full = record { due = full.due; nearly = full.nearly }

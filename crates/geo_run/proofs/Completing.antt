@@ -1,5 +1,5 @@
--- Where nothing fails and all is there, the status is 0, or 6 or 7.
-use Rattle.std.proofs.Common.{◌≡◌, ◌⊎◌, ℕ, ◌+◌, ◌-◌, ◌^◌, ◌<◌, ◌≤◌, min, false, List, [], ◌∷◌, ◌++◌, length, find, All, Option, Some, None, Ok, Err, unwrap_or, refl, sym, ◌∙◌, ap, subst, inl, inr, arith, IfSome, IsSomeAnd, ◌&&◌, bytes_eq, if◌then◌else◌}
+-- Where nothing fails and all is there, the status is 0, or 6 or 7; that of a verified trace is one of a verdict.
+use Rattle.std.proofs.Common.{◌≡◌, ◌⊎◌, ℕ, ◌+◌, ◌-◌, ◌^◌, ◌<◌, ◌≤◌, min, false, List, [], ◌∷◌, ◌++◌, length, find, All, Option, Some, None, Ok, Err, unwrap_or, refl, sym, ◌∙◌, ap, subst, inl, inr, arith, IfSome, IsSome, IsSomeAnd, ◌&&◌, bytes_eq, if◌then◌else◌}
 use Rattle.std.specs.List.{AllByRecursion, list_any}
 use Rattle.std.proofs.lemmas.List.{append-nil, length-append}
 use Rattle.std.proofs.lemmas.List.Elements.{recursion_from_All}
@@ -9,11 +9,13 @@ use Rattle.geo_model.specs.declared.command.DiskDecl.{DiskDecl}
 use Rattle.geo_model.specs.declared.command.DiskKind.{DiskKind}
 use Rattle.geo_model.specs.declared.command.DiskKind.TheVariants as disk_kinds
 use Rattle.geo_model.specs.World.{Plan}
+use Rattle.geo_model.specs.Opening.{opening}
 use Rattle.geo_model.specs.Script.{Fault, script}
-use Rattle.geo_headline.specs.Modes.{Mode, StepMode, RunMode, GenMode, Accepts}
+use Rattle.geo_headline.specs.Modes.{Mode, StepMode, RunMode, GenMode, SweepMode, WatchMode, TraceMode, VerifyMode, Accepts, source_limit}
 use Rattle.geo_headline.specs.Outside.{ShelfView, IsShelf, is_shelf, kept_back, HasImage, IsMissing, IsBadSize}
-use Rattle.geo_headline.specs.Endings.{Ending, Reported, ReportedButFault, BadWords, NoScript, ReadFault, ShelfFault, NoDisk, BadSize, OutOfMemory, LogFull, TooLong, Call, StopsAt, failed_takes, first_kept_back, script_limit, status_of}
-use Rattle.geo_headline.specs.Headline.{GivesScript, IsComplete, IsToldThere, KeepsAll, NoFault, text_to_give}
+use Rattle.geo_headline.specs.Endings.{Ending, Reported, ReportedButFault, BadWords, NoScript, ReadFault, ShelfFault, NoDisk, BadSize, OutOfMemory, LogFull, TooLong, Answered, NoTrace, Call, IsReadWhole, LogRanFull, StopsAt, WasReadWhole, failed_takes, first_kept_back, script_of, status_of}
+use Rattle.geo_headline.specs.Verifying.{Yes, NotEnabled, NotAtRest, OtherReport}
+use Rattle.geo_headline.specs.Headline.{GivesScript, IsComplete, IsToldThere, KeepsAll, ModeIsComplete, NoFault, RunIsComplete, text_to_give}
 use Rattle.geo_run.proofs.Generated.{generated_in_memory, one_plan, plan_or_fault}
 use Rattle.geo_run.proofs.Tests.{is_or_not}
 
@@ -107,10 +109,10 @@ no_fault_there text to_give p fault e a b = plan_or_fault p fault (script to_giv
 
 -- Each mode
 
--- what a source has to give where it isn't read for nothing
-abbrev HasScript : Call → Type 0
-HasScript call =
-    (length (text_to_give call) ≤ script_limit)
+-- what a source has to give where its text is the script
+abbrev HasScript : Call → Mode → Type 0
+HasScript call mode =
+    (length (text_to_give call) ≤ source_limit mode)
     × ((p : Plan) × (script (text_to_give call) ≡ Ok p) × All (IsToldThere call.before.shelf) p.disks)
 
 -- an ending that can't be where nothing fails, or one with its status
@@ -127,42 +129,57 @@ kept_rose call plan ending name first rose =
     rose_from (failed_takes ending) (length (kept_back call.before.shelf call.after.shelf)) call.before.shelf.faults
     call.after.shelf.faults (omega (arith, some)) rose
 
--- where a source gives a script
-step_ends : (call : Call) (plan : Plan) (ending : Ending) → Accepts call.words StepMode → KeepsAll call StepMode plan ending
-    → NoFault call.before call.after → HasScript call → IsGood ending
-step_ends call plan Reported a k fine s = inl refl
-step_ends call plan (ReportedButFault name) a k fine s =
+-- where a trace is verified, another mode isn't
+not_verified : (call : Call) (mode : Mode) (plan : Plan) (ending : Ending) → (VerifyMode ≡ mode → ⊥)
+    → KeepsAll call mode plan ending → Accepts call.words VerifyMode → ⊥
+not_verified call mode plan ending other k a = other (k.read_as.mode_is VerifyMode a)
+
+-- where the text that a source gives is the script
+script_ends : (call : Call) (mode : Mode) (plan : Plan) (ending : Ending) → (VerifyMode ≡ mode → ⊥)
+    → (WasReadWhole call mode → IsReadWhole call mode) → script_of mode call.text ≡ call.text
+    → Accepts call.words mode → KeepsAll call mode plan ending
+    → NoFault call.before call.after → HasScript call mode → IsGood ending
+script_ends call mode plan Reported other whole text a k fine s = inl refl
+script_ends call mode plan (ReportedButFault name) other whole text a k fine s =
     absurd (fine.shelf (kept_rose call plan (ReportedButFault name) name k.cause.1 k.lent.faults))
-step_ends call plan BadWords a k fine s = absurd (k.cause StepMode a)
-step_ends call plan (NoScript line c) a k fine s =
+script_ends call mode plan BadWords other whole text a k fine s = absurd (k.cause mode a)
+script_ends call mode plan (NoScript line c) other whole text a k fine s =
+    let all : IsReadWhole call mode = whole k.cause.1 in
     absurd (no_fault_there call.text (text_to_give call) s.1.0 (record { line = line; cause = c })
-    (all_given call.before.source.left call.after.source.left call.text k.bytes.had_left k.cause.1.none_left) s.1.1 k.cause.2)
-step_ends call plan ReadFault a k fine s = absurd (fine.source k.cause.2)
-step_ends call plan (ShelfFault name) a k fine s =
+    (all_given call.before.source.left call.after.source.left call.text k.bytes.had_left all.none_left) s.1.1
+    (sym (ap script text) ∙ k.cause.2))
+script_ends call mode plan ReadFault other whole text a k fine s = absurd (fine.source k.cause.2)
+script_ends call mode plan (ShelfFault name) other whole text a k fine s =
     absurd (fine.shelf (rose_from 1 (length (kept_back call.before.shelf call.after.shelf)) call.before.shelf.faults
     call.after.shelf.faults (omega arith) k.lent.faults))
-step_ends call plan (NoDisk name) a k fine s =
+script_ends call mode plan (NoDisk name) other whole text a k fine s =
+    let all : IsReadWhole call mode = whole k.cause.0.read in
     let same : s.1.0 ≡ plan = same_plan call.text (text_to_give call) s.1.0 plan
-    (all_given call.before.source.left call.after.source.left call.text k.bytes.had_left k.cause.0.read.none_left)
-    s.1.1 k.cause.0.script in
+    (all_given call.before.source.left call.after.source.left call.text k.bytes.had_left all.none_left)
+    s.1.1 (sym (ap script text) ∙ k.cause.0.script) in
     absurd (not_missing k.cause.1.disk call.before.shelf.told
     (stopped_there call.before.shelf plan name IsMissing k.cause.1
     (subst (λ (p : Plan). All (IsToldThere call.before.shelf) p.disks) same s.1.2)) k.cause.1.cause)
-step_ends call plan (BadSize name) a k fine s =
+script_ends call mode plan (BadSize name) other whole text a k fine s =
+    let all : IsReadWhole call mode = whole k.cause.0.read in
     let same : s.1.0 ≡ plan = same_plan call.text (text_to_give call) s.1.0 plan
-    (all_given call.before.source.left call.after.source.left call.text k.bytes.had_left k.cause.0.read.none_left)
-    s.1.1 k.cause.0.script in
+    (all_given call.before.source.left call.after.source.left call.text k.bytes.had_left all.none_left)
+    s.1.1 (sym (ap script text) ∙ k.cause.0.script) in
     absurd (not_bad k.cause.1.disk call.before.shelf.told
     (stopped_there call.before.shelf plan name IsBadSize k.cause.1
     (subst (λ (p : Plan). All (IsToldThere call.before.shelf) p.disks) same s.1.2)) k.cause.1.cause)
-step_ends call plan OutOfMemory a k fine s = inr (inl refl)
-step_ends call plan LogFull a k fine s = inr (inr refl)
-step_ends call plan TooLong a k fine s =
+script_ends call mode plan OutOfMemory other whole text a k fine s = inr (inl refl)
+script_ends call mode plan LogFull other whole text a k fine s = inr (inr refl)
+script_ends call mode plan TooLong other whole text a k fine s =
     let more : length call.text ≤ length (text_to_give call) =
     no_longer call.before.source.left call.after.source.left call.text k.bytes.had_left in
-    let long : script_limit < length call.text = k.cause.1 in
-    let few : length (text_to_give call) ≤ script_limit = s.0 in
+    let long : source_limit mode < length call.text = k.cause.1 in
+    let few : length (text_to_give call) ≤ source_limit mode = s.0 in
     absurd (omega (arith, more, long, few))
+script_ends call mode plan (Answered found) other whole text a k fine s =
+    absurd (not_verified call mode plan (Answered found) other k k.cause.0)
+script_ends call mode plan (NoTrace line) other whole text a k fine s =
+    absurd (not_verified call mode plan (NoTrace line) other k k.cause.0)
 
 -- where the script is made
 generated_ends : (call : Call) (plan : Plan) (ending : Ending) (start count : ℕ) → Accepts call.words (GenMode start count)
@@ -183,6 +200,46 @@ generated_ends call plan (BadSize name) s c a k fine =
 generated_ends call plan OutOfMemory s c a k fine = inr (inl refl)
 generated_ends call plan LogFull s c a k fine = inr (inr refl)
 generated_ends call plan TooLong s c a k fine = absurd k.cause.0
+generated_ends call plan (Answered found) s c a k fine =
+    absurd (not_verified call (GenMode s c) plan (Answered found) (λ e. let bad : VerifyMode ≡ GenMode s c = e in cc) k k.cause.0)
+generated_ends call plan (NoTrace line) s c a k fine =
+    absurd (not_verified call (GenMode s c) plan (NoTrace line) (λ e. let bad : VerifyMode ≡ GenMode s c = e in cc) k k.cause.0)
+
+-- an ending that can be where a trace is verified and neither the source nor the sink fails
+abbrev IsVerdict : Ending → Type 0
+IsVerdict ending =
+    (status_of ending ≡ 0) ⊎ (status_of ending ≡ 2) ⊎ (status_of ending ≡ 6) ⊎ (status_of ending ≡ 8)
+    ⊎ (status_of ending ≡ 9)
+
+-- where a trace is verified no mesh is run
+no_mesh : (call : Call) (plan : Plan) (ending : Ending) → KeepsAll call VerifyMode plan ending → IsSome call.log → ⊥
+no_mesh call plan ending k some = (k.is_opened some).parsed.mesh
+
+some_log : {A : Type 0} (log : Option A) (P : A → Type 0) → IsSomeAnd log P → IsSome log
+some_log None P h = absurd h
+some_log (Some l) P h = refl
+
+verify_ends : (call : Call) (plan : Plan) (ending : Ending) → Accepts call.words VerifyMode
+    → KeepsAll call VerifyMode plan ending → (Rose call.before.source.faults call.after.source.faults → ⊥)
+    → IsVerdict ending
+verify_ends call plan Reported a k fine = absurd (no_mesh call plan Reported k k.cause.0)
+verify_ends call plan (ReportedButFault name) a k fine =
+    absurd (no_mesh call plan (ReportedButFault name) k k.cause.0)
+verify_ends call plan BadWords a k fine = absurd (k.cause VerifyMode a)
+verify_ends call plan (NoScript line c) a k fine = inr (inl refl)
+verify_ends call plan ReadFault a k fine = absurd (fine k.cause.2)
+verify_ends call plan (ShelfFault name) a k fine = absurd k.cause.0.mesh
+verify_ends call plan (NoDisk name) a k fine = absurd k.cause.0.mesh
+verify_ends call plan (BadSize name) a k fine = absurd k.cause.0.mesh
+verify_ends call plan OutOfMemory a k fine = inr (inr (inl refl))
+verify_ends call plan LogFull a k fine =
+    absurd (no_mesh call plan LogFull k (some_log call.log (LogRanFull VerifyMode plan (opening plan call.facts)) k.cause))
+verify_ends call plan TooLong a k fine = inr (inr (inr (inl refl)))
+verify_ends call plan (Answered Yes) a k fine = inl refl
+verify_ends call plan (Answered (NotEnabled line)) a k fine = inr (inr (inr (inr refl)))
+verify_ends call plan (Answered NotAtRest) a k fine = inr (inr (inr (inr refl)))
+verify_ends call plan (Answered OtherReport) a k fine = inr (inr (inr (inr refl)))
+verify_ends call plan (NoTrace line) a k fine = inr (inl refl)
 
 good_status : (call : Call) (ending : Ending) → call.status ≡ status_of ending → IsGood ending
     → (call.status ≡ 0) ⊎ (call.status ≡ 6) ⊎ (call.status ≡ 7)
@@ -190,17 +247,56 @@ good_status call ending e (inl z) = inl (e ∙ z)
 good_status call ending e (inr (inl z)) = inr (inl (e ∙ z))
 good_status call ending e (inr (inr z)) = inr (inr (e ∙ z))
 
--- a call that keeps all is complete, where it starts fine thread
-pub complete : (call : Call) (mode : Mode) (plan : Plan) (ending : Ending) → (Accepts call.words RunMode → ⊥)
-    → KeepsAll call mode plan ending → IsComplete call
-complete call mode plan ending alone k m accepts fine gives =
+verdict_status : (call : Call) (ending : Ending) → call.status ≡ status_of ending → IsVerdict ending
+    → (call.status ≡ 0) ⊎ (call.status ≡ 2) ⊎ (call.status ≡ 6) ⊎ (call.status ≡ 8) ⊎ (call.status ≡ 9)
+verdict_status call ending e (inl z) = inl (e ∙ z)
+verdict_status call ending e (inr (inl z)) = inr (inl (e ∙ z))
+verdict_status call ending e (inr (inr (inl z))) = inr (inr (inl (e ∙ z)))
+verdict_status call ending e (inr (inr (inr (inl z)))) = inr (inr (inr (inl (e ∙ z))))
+verdict_status call ending e (inr (inr (inr (inr z)))) = inr (inr (inr (inr (e ∙ z))))
+
+-- what is written whole has the status of its ending
+status_is : (call : Call) (mode : Mode) (plan : Plan) (ending : Ending) → KeepsAll call mode plan ending
+    → (Rose call.before.sink.faults call.after.sink.faults → ⊥) → call.status ≡ status_of ending
+status_is call mode plan ending k fine =
     elim (is_or_not call.status 4) [
-      | inl cut ↦ absurd (fine.sink (k.prints.cut_off cut).fault)
-      | inr ne ↦ good_status call ending (k.prints.whole ne).status
-          (by m accepts gives (subst (λ (z : Mode). KeepsAll call z plan ending) (sym (k.read_as.mode_is m accepts)) k))
+      | inl cut ↦ absurd (fine (k.prints.cut_off cut).fault)
+      | inr ne ↦ (k.prints.whole ne).status
     ]
-  where
-    by : (z : Mode) → Accepts call.words z → GivesScript call z → KeepsAll call z plan ending → IsGood ending
-    by StepMode a g h = step_ends call plan ending a h fine g
-    by RunMode a g h = absurd (alone a)
-    by (GenMode s c) a g h = generated_ends call plan ending s c a h fine
+
+-- a call that keeps all is complete where its text is the script
+run_complete : (call : Call) (mode : Mode) (plan : Plan) (ending : Ending) → KeepsAll call mode plan ending
+    → (NoFault call.before call.after → GivesScript call mode → IsGood ending) → RunIsComplete call mode
+run_complete call mode plan ending k ends =
+    λ fine gives. good_status call ending (status_is call mode plan ending k fine.sink) (ends fine gives)
+
+-- a call that keeps all is complete in its mode
+in_mode : (call : Call) (mode : Mode) (plan : Plan) (ending : Ending) → Accepts call.words mode
+    → KeepsAll call mode plan ending → ModeIsComplete call mode
+in_mode call StepMode plan ending a k =
+    run_complete call StepMode plan ending k (λ fine gives. script_ends call StepMode plan ending
+    (λ e. let bad : VerifyMode ≡ StepMode = e in cc) (λ w. w) refl a k fine gives)
+in_mode call RunMode plan ending a k =
+    run_complete call RunMode plan ending k (λ fine gives. script_ends call RunMode plan ending
+    (λ e. let bad : VerifyMode ≡ RunMode = e in cc) (λ w. w) refl a k fine gives)
+in_mode call (GenMode s c) plan ending a k =
+    run_complete call (GenMode s c) plan ending k (λ fine gives. generated_ends call plan ending s c a k fine)
+in_mode call SweepMode plan ending a k =
+    run_complete call SweepMode plan ending k (λ fine gives. script_ends call SweepMode plan ending
+    (λ e. let bad : VerifyMode ≡ SweepMode = e in cc) (λ w. w) refl a k fine gives)
+in_mode call WatchMode plan ending a k =
+    run_complete call WatchMode plan ending k (λ fine gives. script_ends call WatchMode plan ending
+    (λ e. let bad : VerifyMode ≡ WatchMode = e in cc) (λ w. w) refl a k fine gives)
+in_mode call TraceMode plan ending a k =
+    run_complete call TraceMode plan ending k (λ fine gives. script_ends call TraceMode plan ending
+    (λ e. let bad : VerifyMode ≡ TraceMode = e in cc) (λ w. w) refl a k fine gives)
+in_mode call VerifyMode plan ending a k =
+    λ source sink. verdict_status call ending (status_is call VerifyMode plan ending k sink)
+    (verify_ends call plan ending a k source)
+
+-- a call that keeps all is complete
+pub complete : (call : Call) (mode : Mode) (plan : Plan) (ending : Ending) → KeepsAll call mode plan ending
+    → IsComplete call
+complete call mode plan ending k = λ m accepts.
+    in_mode call m plan ending accepts
+    (subst (λ (z : Mode). KeepsAll call z plan ending) (sym (k.read_as.mode_is m accepts)) k)

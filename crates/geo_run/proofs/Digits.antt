@@ -1,5 +1,5 @@
 -- Words that are written as numbers, and lists of words.
-use Rattle.std.proofs.Common.{◌≡◌, ℕ, zero, suc, ◌^◌, ◌<◌, ◌≤◌, true, List, [], ◌∷◌, length, Option, Some, None, Ok, Err, sym, ◌∙◌, ap, subst, arith, get_or, decimal, codes, bytes_eq, lit≤, Bool, IsTrue}
+use Rattle.std.proofs.Common.{◌≡◌, ◌↔◌, ℕ, not, ◌&&◌, ◌||◌, zero, suc, ◌^◌, ◌<◌, ◌≤◌, true, false, List, [], ◌∷◌, length, Option, Some, None, Ok, Err, refl, sym, ◌∙◌, ap, subst, arith, get_or, decimal, codes, bytes_eq, lit≤, Bool, IsTrue}
 use Rattle.std.specs.Fmt.{digits}
 use Rattle.std.specs.Str.{all_ascii_digits}
 use Rattle.std.specs.Str.Parse.{ParsesUnsigned, digits_value, without_leading_plus}
@@ -10,16 +10,16 @@ use Rattle.std.proofs.lemmas.Fmt.{digits_decimal, digits_value-decimal, decimal-
 use Rattle.std.proofs.lemmas.Str.Parse.{IsNumeralModel, numerals_by_value, tells_all_ascii_digits, not_in_digits, parse_plain}
 use Rattle.std.specs.Cmp.Lexicographic.{same_text}
 use Rattle.std.proofs.lemmas.Slice.Eq.{bytes_eq-Decides}
-use Rattle.geo_headline.specs.Modes.{Accepts, GenMode, Mode, RunMode, StepMode}
+use Rattle.geo_headline.specs.Modes.{Accepts, GenMode, IsAlone, Mode, StartsThreads, RunMode, StepMode, SweepMode, TraceMode, VerifyMode, WatchMode}
 use Rattle.geo_run.specs.Numbers.{IsNumberWithin, IsPlain}
 use Rattle.geo_run.specs.declared.words.Work.{Work}
-use Rattle.geo_run.specs.Work.{AsksCount, AsksFor, mode_of, word_bytes}
+use Rattle.geo_run.specs.Work.{AskThreads, AsksCount, AsksFor, IsBuilt, IsToCome, mode_of, word_bytes}
 
 -- texts of digits
-abbrev AreDigits : List ℕ → Type 0
+abbrev pub AreDigits : List ℕ → Type 0
 AreDigits ds = all_ascii_digits ds ≡ true
 
-own : IsNumeralModel AreDigits (digits_value 10)
+pub own : IsNumeralModel AreDigits (digits_value 10)
 own = numerals_by_value AreDigits tells_all_ascii_digits
 
 -- what is written for a number is plain
@@ -78,11 +78,18 @@ none_is_some x xs e = cc
 not_generated : (first start count : List ℕ)
     → ((s c : ℕ) → s ≤ 2147483647 → c ≤ 4000 → start ≡ decimal s → count ≡ decimal c → ⊥)
     → AsksFor (first ∷ start ∷ count ∷ []) None
-not_generated first start count h = λ alone mode a. by mode a
+not_generated first start count h = λ alone built mode a. by mode a
   where
+    one_word : (word : List ℕ) → first ∷ start ∷ count ∷ [] ≡ word ∷ [] → ⊥
+    one_word word e = none_is_some start (count ∷ []) (rest_same first word (start ∷ count ∷ []) [] e)
+
     by : (m : Mode) → Accepts (first ∷ start ∷ count ∷ []) m → ⊥
-    by StepMode a = none_is_some start (count ∷ []) (rest_same first (codes "step") (start ∷ count ∷ []) [] a.spelled)
-    by RunMode a = none_is_some start (count ∷ []) (rest_same first (codes "run") (start ∷ count ∷ []) [] a.spelled)
+    by StepMode a = one_word (codes "step") a.spelled
+    by RunMode a = one_word (codes "run") a.spelled
+    by SweepMode a = one_word (codes "sweep") a.spelled
+    by WatchMode a = one_word (codes "watch") a.spelled
+    by TraceMode a = one_word (codes "trace") a.spelled
+    by VerifyMode a = one_word (codes "verify") a.spelled
     by (GenMode s c) a =
         let both = rest_same first (codes "gen") (start ∷ count ∷ []) (decimal s ∷ decimal c ∷ []) a.spelled in
         h s c a.in_range.0 a.in_range.1 (first_same start (decimal s) (count ∷ []) (decimal c ∷ []) both)
@@ -131,17 +138,74 @@ pub asks_generation : (first text start count : List ℕ) (r : Option Work) → 
 asks_generation first text start count r is e asks =
     subst (λ (w : List ℕ). AsksFor (w ∷ start ∷ count ∷ []) r) (sym (sym is ∙ same_text text (codes "gen") e)) asks
 
--- the one word `run`
-pub asks_run : (words : List (String Global)) (w : String Global) (text : List ℕ) (b : Bool) → 1 ≤ length words
-    → length words < 2 → w ≡ get_or words 0 w → text ≡ string_bytes w → b ≡ bytes_eq text (codes "run")
-    → (IsTrue b → Accepts (word_bytes words) RunMode) × (Accepts (word_bytes words) RunMode → IsTrue b)
-asks_run [] w text b some few at is e = absurd (omega (arith, some))
-asks_run (x ∷ []) w text b some few at is e = (
-  λ t. record {
-    spelled = ap (λ z. z ∷ []) (ap (λ (s : String Global). string_bytes s) (sym at) ∙ sym is ∙ same_text text (codes "run") (sym t ∙ e));
-    in_range = tt;
-  },
-  λ a. e ∙ (bytes_eq-Decides text (codes "run")).1
-      (is ∙ ap (λ (s : String Global). string_bytes s) at ∙ first_same (string_bytes x) (codes "run") [] [] a.spelled),
+-- another word asks for no work
+pub asks_no_step : (word text : List ℕ) → text ≡ word → false ≡ bytes_eq text (codes "step") → AsksFor (word ∷ []) None
+asks_no_step word text is e = λ alone built mode a. by alone built mode a
+  where
+    differs : word ≡ codes "step" → ⊥
+    differs same = let bad : false ≡ true = e ∙ (bytes_eq-Decides text (codes "step")).1 (is ∙ same) in cc
+
+    by : IsAlone (word ∷ []) → IsBuilt (word ∷ []) → (m : Mode) → Accepts (word ∷ []) m → ⊥
+    by alone built StepMode a = differs (first_same word (codes "step") [] [] a.spelled)
+    by alone built RunMode a = alone RunMode refl a
+    by alone built (GenMode s c) a =
+        none_is_some (decimal s) (decimal c ∷ [])
+        (sym (rest_same word (codes "gen") [] (decimal s ∷ decimal c ∷ []) a.spelled))
+    by alone built SweepMode a = built SweepMode tt a
+    by alone built WatchMode a = alone WatchMode refl a
+    by alone built TraceMode a = alone TraceMode refl a
+    by alone built VerifyMode a = built VerifyMode tt a
+
+-- the words are one word, or they aren't
+pub is_word : (words : List (String Global)) (w : String Global) (text only : List ℕ) (b : Bool) → 1 ≤ length words
+    → length words < 2 → w ≡ get_or words 0 w → text ≡ string_bytes w → b ≡ bytes_eq text only
+    → (IsTrue b → word_bytes words ≡ only ∷ []) × (word_bytes words ≡ only ∷ [] → IsTrue b)
+is_word [] w text only b some few at is e = absurd (omega (arith, some))
+is_word (x ∷ []) w text only b some few at is e = (
+  λ t. ap (λ z. z ∷ []) (ap (λ (s : String Global). string_bytes s) (sym at) ∙ sym is ∙ same_text text only (sym t ∙ e)),
+  λ a. e ∙ (bytes_eq-Decides text only).1
+      (is ∙ ap (λ (s : String Global). string_bytes s) at ∙ first_same (string_bytes x) only [] [] a),
 )
-asks_run (x ∷ y ∷ zs) w text b some few at is e = absurd (omega (arith, few))
+is_word (x ∷ y ∷ zs) w text only b some few at is e = absurd (omega (arith, few))
+
+no_false : {A : Type 0} → IsTrue false → A
+no_false e = absurd (let bad : false ≡ true = e in cc)
+
+-- a word of threads stands alone, or none does
+pub asks_threads : (words : List (List ℕ)) (run watch trace : Bool) → IsTrue run ↔ (words ≡ codes "run" ∷ [])
+    → IsTrue watch ↔ (words ≡ codes "watch" ∷ []) → IsTrue trace ↔ (words ≡ codes "trace" ∷ [])
+    → IsTrue (run || watch || trace) ↔ AskThreads words
+asks_threads words true watch trace r w t =
+    (λ e. (RunMode, refl, record { spelled = r.0 refl; in_range = tt }), λ asks. refl)
+asks_threads words false true trace r w t =
+    (λ e. (WatchMode, refl, record { spelled = w.0 refl; in_range = tt }), λ asks. refl)
+asks_threads words false false true r w t =
+    (λ e. (TraceMode, refl, record { spelled = t.0 refl; in_range = tt }), λ asks. refl)
+asks_threads words false false false r w t = (λ e. no_false e, λ asks. by asks.0 asks.1 asks.2)
+  where
+    by : (mode : Mode) → StartsThreads mode → Accepts words mode → IsTrue false
+    by StepMode threads a = threads
+    by RunMode threads a = r.1 a.spelled
+    by (GenMode s c) threads a = threads
+    by SweepMode threads a = threads
+    by WatchMode threads a = w.1 a.spelled
+    by TraceMode threads a = t.1 a.spelled
+    by VerifyMode threads a = threads
+
+-- a word that is to come stands alone, or none does
+pub asks_built : (words : List (List ℕ)) (sweep verify : Bool) → IsTrue sweep ↔ (words ≡ codes "sweep" ∷ [])
+    → IsTrue verify ↔ (words ≡ codes "verify" ∷ []) → IsTrue (not sweep && not verify) ↔ IsBuilt words
+asks_built words true verify s v =
+    (λ e. no_false e, λ built. absurd (built SweepMode tt (record { spelled = s.0 refl; in_range = tt })))
+asks_built words false true s v =
+    (λ e. no_false e, λ built. absurd (built VerifyMode tt (record { spelled = v.0 refl; in_range = tt })))
+asks_built words false false s v = (λ e mode to_come a. by mode to_come a, λ built. refl)
+  where
+    by : (mode : Mode) → IsToCome mode → Accepts words mode → ⊥
+    by StepMode to_come a = to_come
+    by RunMode to_come a = to_come
+    by (GenMode start count) to_come a = to_come
+    by SweepMode to_come a = no_false (s.1 a.spelled)
+    by WatchMode to_come a = to_come
+    by TraceMode to_come a = to_come
+    by VerifyMode to_come a = no_false (v.1 a.spelled)

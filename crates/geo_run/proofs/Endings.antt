@@ -15,9 +15,10 @@ use Rattle.geo_model.specs.World.{World, Plan}
 use Rattle.geo_model.specs.Opening.{opening}
 use Rattle.geo_model.specs.Plans.{IsPlan, IsDiskDecl, FactsFit}
 use Rattle.geo_headline.specs.Outside.{ShelfView, IsShelf, is_shelf, kept_back, IsThere, IsMissing, IsBadSize, HasToldSize, ImagesStay, ImagesStand, OthersStay, DisksAreKept, KeepsLength, PlannedDisk, planned_disk, IsDiskKept, CountsStay, is_of_plan, IsForeign as IsForeignName}
-use Rattle.geo_headline.specs.Endings.{Ending, Reported, ReportedButFault, BadWords, NoScript, ReadFault, ShelfFault, NoDisk, BadSize, OutOfMemory, LogFull, TooLong, HasLog, StopsAt, failed_takes}
+use Rattle.geo_headline.specs.Endings.{Ending, Reported, ReportedButFault, BadWords, NoScript, ReadFault, ShelfFault, NoDisk, BadSize, OutOfMemory, LogFull, TooLong, Answered, NoTrace, HasLog, StopsAt, failed_takes}
 use Rattle.geo_headline.specs.Headline.{LentAfter}
 use Rattle.geo_run.specs.Drives.{DriveView}
+use Rattle.geo_model.specs.FixedOrder.{StepOrder}
 use Rattle.geo_run.specs.Rest.{RanFull}
 use Rattle.geo_run.specs.declared.stop.Stop.{Stop}
 use Rattle.geo_run.specs.declared.stop.Stop.TheVariants as stops
@@ -135,43 +136,47 @@ foreign_counts a m b ds xs ys kept c name takes foreign =
 -- Over drives
 
 -- no take failed where the drives were had
-no_failed : (opened : World) (log : Option (List Entry)) (kept : List (List ℕ)) (ending : Ending)
-    → LentCause opened log kept ending → failed_takes ending ≡ 0
-no_failed opened log kept Reported h = refl
-no_failed opened log kept (ReportedButFault name) h = refl
-no_failed opened log kept BadWords h = refl
-no_failed opened log kept (NoScript line cause) h = refl
-no_failed opened log kept ReadFault h = refl
-no_failed opened log kept (ShelfFault name) h = absurd h
-no_failed opened log kept (NoDisk name) h = refl
-no_failed opened log kept (BadSize name) h = refl
-no_failed opened log kept OutOfMemory h = refl
-no_failed opened log kept LogFull h = refl
-no_failed opened log kept TooLong h = refl
+no_failed : (order : StepOrder) (opened : World) (log : Option (List Entry)) (kept : List (List ℕ)) (ending : Ending)
+    → LentCause order opened log kept ending → failed_takes ending ≡ 0
+no_failed order opened log kept Reported h = refl
+no_failed order opened log kept (ReportedButFault name) h = refl
+no_failed order opened log kept BadWords h = refl
+no_failed order opened log kept (NoScript line cause) h = refl
+no_failed order opened log kept ReadFault h = refl
+no_failed order opened log kept (ShelfFault name) h = absurd h
+no_failed order opened log kept (NoDisk name) h = refl
+no_failed order opened log kept (BadSize name) h = refl
+no_failed order opened log kept OutOfMemory h = refl
+no_failed order opened log kept LogFull h = refl
+no_failed order opened log kept TooLong h = refl
+no_failed order opened log kept (Answered found) h = refl
+no_failed order opened log kept (NoTrace line) h = refl
 
-some_log : (opened : World) (log : Option (List Entry)) → IsSomeAnd log (RanFull opened) → IsSome log
-some_log opened None h = absurd h
-some_log opened (Some l) h = refl
+some_log : (order : StepOrder) (opened : World) (log : Option (List Entry)) → IsSomeAnd log (RanFull order opened) → IsSome log
+some_log order opened None h = absurd h
+some_log order opened (Some l) h = refl
 
-has_log : (opened : World) (log : Option (List Entry)) (kept : List (List ℕ)) (ending : Ending)
-    → LentCause opened log kept ending → HasLog ending log
-has_log opened log kept Reported h = h.0
-has_log opened log kept (ReportedButFault name) h = h.0
-has_log opened log kept BadWords h = absurd h
-has_log opened log kept (NoScript line cause) h = absurd h
-has_log opened log kept ReadFault h = absurd h
-has_log opened log kept (ShelfFault name) h = absurd h
-has_log opened log kept (NoDisk name) h = absurd h
-has_log opened log kept (BadSize name) h = absurd h
-has_log opened log kept OutOfMemory h = tt
-has_log opened log kept LogFull h = some_log opened log h
-has_log opened log kept TooLong h = absurd h
+has_log : (order : StepOrder) (opened : World) (log : Option (List Entry)) (kept : List (List ℕ)) (ending : Ending)
+    → LentCause order opened log kept ending → HasLog ending log
+has_log order opened log kept Reported h = h.0
+has_log order opened log kept (ReportedButFault name) h = h.0
+has_log order opened log kept BadWords h = absurd h
+has_log order opened log kept (NoScript line cause) h = absurd h
+has_log order opened log kept ReadFault h = absurd h
+has_log order opened log kept (ShelfFault name) h = absurd h
+has_log order opened log kept (NoDisk name) h = absurd h
+has_log order opened log kept (BadSize name) h = absurd h
+has_log order opened log kept OutOfMemory h = tt
+has_log order opened log kept LogFull h = some_log order opened log h
+has_log order opened log kept TooLong h = absurd h
+has_log order opened log kept (Answered found) h = absurd h
+has_log order opened log kept (NoTrace line) h = absurd h
 
-plan_cause : (plan : Plan) (opened : World) (log : Option (List Entry)) (a m b : ShelfView) (xs ys : List DriveView)
+plan_cause : (order : StepOrder) (plan : Plan) (opened : World) (log : Option (List Entry)) (a m b : ShelfView) (xs ys : List DriveView)
     (kept : List (List ℕ)) (ending : Ending) → Course a m b plan.disks xs ys kept
-    → LentCause opened log kept ending → PlanCause plan opened log a b ending
-plan_cause plan opened log a m b xs ys kept Reported c h = (h.0, course_back a m b plan.disks xs ys kept c ∙ h.1)
-plan_cause plan opened log a m b xs ys kept (ReportedButFault name) c h = (
+    → LentCause order opened log kept ending → PlanCause order plan opened log a b ending
+plan_cause order plan opened log a m b xs ys kept Reported c h = (h.0, course_back a m b plan.disks xs ys kept c ∙ h.1)
+plan_cause order plan opened log a m b xs ys kept (ReportedButFault name) c h = (
   h.0,
   subst (λ (ks : List (List ℕ)). IsSomeAnd (first_of plan.disks ks) (λ d. d.name ≡ name))
       (sym (course_back a m b plan.disks xs ys kept c))
@@ -188,15 +193,17 @@ plan_cause plan opened log a m b xs ys kept (ReportedButFault name) c h = (
     rose (n ∷ names) e all =
         let same : n ≡ name = (let got : Some n ≡ Some name = e in cc) in
         subst (λ (k : List ℕ). Rose (a.give_faults k) (b.give_faults k)) same all.0
-plan_cause plan opened log a m b xs ys kept BadWords c h = absurd h
-plan_cause plan opened log a m b xs ys kept (NoScript line cause) c h = absurd h
-plan_cause plan opened log a m b xs ys kept ReadFault c h = absurd h
-plan_cause plan opened log a m b xs ys kept (ShelfFault name) c h = absurd h
-plan_cause plan opened log a m b xs ys kept (NoDisk name) c h = absurd h
-plan_cause plan opened log a m b xs ys kept (BadSize name) c h = absurd h
-plan_cause plan opened log a m b xs ys kept OutOfMemory c h = tt
-plan_cause plan opened log a m b xs ys kept LogFull c h = h
-plan_cause plan opened log a m b xs ys kept TooLong c h = absurd h
+plan_cause order plan opened log a m b xs ys kept BadWords c h = absurd h
+plan_cause order plan opened log a m b xs ys kept (NoScript line cause) c h = absurd h
+plan_cause order plan opened log a m b xs ys kept ReadFault c h = absurd h
+plan_cause order plan opened log a m b xs ys kept (ShelfFault name) c h = absurd h
+plan_cause order plan opened log a m b xs ys kept (NoDisk name) c h = absurd h
+plan_cause order plan opened log a m b xs ys kept (BadSize name) c h = absurd h
+plan_cause order plan opened log a m b xs ys kept OutOfMemory c h = tt
+plan_cause order plan opened log a m b xs ys kept LogFull c h = h
+plan_cause order plan opened log a m b xs ys kept TooLong c h = absurd h
+plan_cause order plan opened log a m b xs ys kept (Answered found) c h = absurd h
+plan_cause order plan opened log a m b xs ys kept (NoTrace line) c h = absurd h
 
 -- each disk, where there is a log
 disks_by : (plan : Plan) (log : Option (List Entry)) (a m b : ShelfView) (xs ys : List DriveView)
@@ -223,12 +230,12 @@ stand_by plan None a m b xs ys kept c served =
 stand_by plan (Some log) a m b xs ys kept c served = images_stand a m b log plan.disks xs ys kept c served
 
 -- a plan whose drives were had and served
-pub runs_plan : (plan : Plan) (facts : List (ℕ × ℕ)) (log : Option (List Entry)) (ending : Ending)
+pub runs_plan : (order : StepOrder) (plan : Plan) (facts : List (ℕ × ℕ)) (log : Option (List Entry)) (ending : Ending)
     (xs : List DriveView) (a m b : ShelfView) → IsPlan plan → OpensDrives a plan.disks xs m
-    → RunsDrives plan (names_of plan.disks) xs facts log ending m b → RunsPlan plan facts log ending a b
-runs_plan plan facts log ending xs a m b is opens r = record {
-  cause = plan_cause plan (opening plan facts) log a m b xs r.served r.kept ending course r.cause;
-  has_log = has_log (opening plan facts) log r.kept ending r.cause;
+    → RunsDrives order plan (names_of plan.disks) xs facts log ending m b → RunsPlan order plan facts log ending a b
+runs_plan order plan facts log ending xs a m b is opens r = record {
+  cause = plan_cause order plan (opening plan facts) log a m b xs r.served r.kept ending course r.cause;
+  has_log = has_log order (opening plan facts) log r.kept ending r.cause;
   opens = λ some. record {
     there = All-from_recursion (IsThere a) plan.disks (all_there a m plan.disks xs course.had);
     facts_fit = subst (λ (fs : List (ℕ × ℕ)). FactsFit plan fs) (sym (r.sizes some))
@@ -240,7 +247,7 @@ runs_plan plan facts log ending xs a m b is opens r = record {
   mesh = r.mesh;
   disks = disks_by plan log a m b xs r.served r.kept course r.serves;
   lent = lent_after ending a m b plan.disks xs r.served r.kept course
-      (rose_none (failed_takes ending) a.faults m.faults (no_failed (opening plan facts) log r.kept ending r.cause)
+      (rose_none (failed_takes ending) a.faults m.faults (no_failed order (opening plan facts) log r.kept ending r.cause)
       (takes_later a m plan.disks xs opens));
   others = record {
     bytes = λ name foreign. (course_told a m b plan.disks xs r.served r.kept course name (names_foreign name foreign)).is;
@@ -435,19 +442,19 @@ stops_for plan a front d back name F e shelf named there cause = record {
 }
 
 -- why a plan ends so whose disks couldn't be had
-stopped_cause : (plan : Plan) (facts : List (ℕ × ℕ)) (a m n b : ShelfView) (front : List DiskDecl) (d : DiskDecl)
+stopped_cause : (order : StepOrder) (plan : Plan) (facts : List (ℕ × ℕ)) (a m n b : ShelfView) (front : List DiskDecl) (d : DiskDecl)
     (back : List DiskDecl) (stop : Stop) (kind : DiskKind) → d.kind ≡ kind → plan.disks ≡ front ++ d ∷ back
     → AllByRecursion (IsThere a) front → OfName a.told m.told d.name IsSame → m.take_faults d.name ≡ a.take_faults d.name
     → b.take_faults d.name ≡ n.take_faults d.name → OpensNoDrive m d stop n kind
-    → PlanCause plan (opening plan facts) None a b (ending_of stop)
-stopped_cause plan facts a m n b front d back stop disk_kinds.Ram k e there told before after h =
-    subst (λ (s : Stop). PlanCause plan (opening plan facts) None a b (ending_of s)) (sym h.0) tt
-stopped_cause plan facts a m n b front d back stop disk_kinds.Shelf k e there told before after h = by stop h.cause
+    → PlanCause order plan (opening plan facts) None a b (ending_of stop)
+stopped_cause order plan facts a m n b front d back stop disk_kinds.Ram k e there told before after h =
+    subst (λ (s : Stop). PlanCause order plan (opening plan facts) None a b (ending_of s)) (sym h.0) tt
+stopped_cause order plan facts a m n b front d back stop disk_kinds.Shelf k e there told before after h = by stop h.cause
   where
     shelf : IsShelf d.kind
     shelf = ap is_shelf k
 
-    by : (s : Stop) → TakeCause m d s n → PlanCause plan (opening plan facts) None a b (ending_of s)
+    by : (s : Stop) → TakeCause m d s n → PlanCause order plan (opening plan facts) None a b (ending_of s)
     by (stops.ShelfFault name) c = (
       stops_for plan a front d back name (λ z images. ⊤) e shelf c.0 there (any_fact a.told),
       let rose : Rose (m.take_faults name) (n.take_faults name) = c.2 in
@@ -473,23 +480,25 @@ stopped_cause plan facts a m n b front d back stop disk_kinds.Shelf k e there to
     by stops.LogFull c = absurd c
     by stops.TooLong c = absurd c
 
-no_log : (plan : Plan) (opened : World) (a b : ShelfView) (ending : Ending) → PlanCause plan opened None a b ending
+no_log : (order : StepOrder) (plan : Plan) (opened : World) (a b : ShelfView) (ending : Ending) → PlanCause order plan opened None a b ending
     → HasLog ending None
-no_log plan opened a b Reported c = c.0
-no_log plan opened a b (ReportedButFault name) c = c.0
-no_log plan opened a b BadWords c = absurd c
-no_log plan opened a b (NoScript line cause) c = absurd c
-no_log plan opened a b ReadFault c = absurd c
-no_log plan opened a b (ShelfFault name) c = refl
-no_log plan opened a b (NoDisk name) c = refl
-no_log plan opened a b (BadSize name) c = refl
-no_log plan opened a b OutOfMemory c = tt
-no_log plan opened a b LogFull c = absurd c
-no_log plan opened a b TooLong c = absurd c
+no_log order plan opened a b Reported c = c.0
+no_log order plan opened a b (ReportedButFault name) c = c.0
+no_log order plan opened a b BadWords c = absurd c
+no_log order plan opened a b (NoScript line cause) c = absurd c
+no_log order plan opened a b ReadFault c = absurd c
+no_log order plan opened a b (ShelfFault name) c = refl
+no_log order plan opened a b (NoDisk name) c = refl
+no_log order plan opened a b (BadSize name) c = refl
+no_log order plan opened a b OutOfMemory c = tt
+no_log order plan opened a b LogFull c = absurd c
+no_log order plan opened a b TooLong c = absurd c
+no_log order plan opened a b (Answered found) c = absurd c
+no_log order plan opened a b (NoTrace line) c = absurd c
 
 -- a plan of which nothing was done
-nothing_done : (plan : Plan) (facts : List (ℕ × ℕ)) (a : ShelfView) → RunsPlan plan facts None OutOfMemory a a
-nothing_done plan facts a = record {
+nothing_done : (order : StepOrder) (plan : Plan) (facts : List (ℕ × ℕ)) (a : ShelfView) → RunsPlan order plan facts None OutOfMemory a a
+nothing_done order plan facts a = record {
   cause = tt;
   has_log = tt;
   opens = λ some. absurd (let bad : false ≡ true = some in cc);
@@ -503,11 +512,11 @@ nothing_done plan facts a = record {
 }
 
 -- a plan whose disks couldn't all be had
-gave_up : (plan : Plan) (facts : List (ℕ × ℕ)) (stop : Stop) (a b : ShelfView) → IsPlan plan
-    → GivesUp a plan.disks stop b → RunsPlan plan facts None (ending_of stop) a b
-gave_up plan facts stop a b is g = record {
+gave_up : (order : StepOrder) (plan : Plan) (facts : List (ℕ × ℕ)) (stop : Stop) (a b : ShelfView) → IsPlan plan
+    → GivesUp a plan.disks stop b → RunsPlan order plan facts None (ending_of stop) a b
+gave_up order plan facts stop a b is g = record {
   cause = cause;
-  has_log = no_log plan (opening plan facts) a b (ending_of stop) cause;
+  has_log = no_log order plan (opening plan facts) a b (ending_of stop) cause;
   opens = λ some. absurd (let bad : false ≡ true = some in cc);
   mesh = tt;
   disks = tt;
@@ -584,8 +593,8 @@ gave_up plan facts stop a b is g = record {
     foreign_disk : IsForeign disk.name front
     foreign_disk = foreign_front front disk back apart
 
-    cause : PlanCause plan (opening plan facts) None a b (ending_of stop)
-    cause = stopped_cause plan facts a m n b front disk back stop disk.kind refl e (all_there a m front xs had)
+    cause : PlanCause order plan (opening plan facts) None a b (ending_of stop)
+    cause = stopped_cause order plan facts a m n b front disk back stop disk.kind refl e (all_there a m front xs had)
         (takes_stay a m front xs disk.name g.stops.earlier foreign_disk).told
         ((takes_count a m front xs g.stops.earlier).takes disk.name)
         (gives_stay n b front xs g.kept disk.name course.given foreign_disk).takes g.stops.stopped
@@ -612,9 +621,9 @@ gave_up plan facts stop a b is g = record {
     no_stop disk_kinds.Shelf never h = absurd (never refl)
 
 -- a plan whose disks weren't all had
-pub runs_stopped : (plan : Plan) (facts : List (ℕ × ℕ)) (stop : Stop) (a b : ShelfView) → IsPlan plan
-    → TakesBack a plan.disks stop b → RunsPlan plan facts None (ending_of stop) a b
-runs_stopped plan facts stop a b is (inl same_shelf) =
-    subst (λ (s : Stop). RunsPlan plan facts None (ending_of s) a b) (sym same_shelf.0)
-    (subst (λ (v : ShelfView). RunsPlan plan facts None OutOfMemory a v) (sym same_shelf.1) (nothing_done plan facts a))
-runs_stopped plan facts stop a b is (inr g) = gave_up plan facts stop a b is g
+pub runs_stopped : (order : StepOrder) (plan : Plan) (facts : List (ℕ × ℕ)) (stop : Stop) (a b : ShelfView) → IsPlan plan
+    → TakesBack a plan.disks stop b → RunsPlan order plan facts None (ending_of stop) a b
+runs_stopped order plan facts stop a b is (inl same_shelf) =
+    subst (λ (s : Stop). RunsPlan order plan facts None (ending_of s) a b) (sym same_shelf.0)
+    (subst (λ (v : ShelfView). RunsPlan order plan facts None OutOfMemory a v) (sym same_shelf.1) (nothing_done order plan facts a))
+runs_stopped order plan facts stop a b is (inr g) = gave_up order plan facts stop a b is g

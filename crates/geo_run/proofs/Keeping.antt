@@ -1,7 +1,8 @@
 -- What a call keeps, from how its run finished.
-use Rattle.std.proofs.Common.{◌≡◌, ◌≢◌, ◌⊎◌, ℕ, ◌≤◌, nat_le, Bool, true, false, List, [], ◌∷◌, ◌++◌, length, drop, Option, Some, None, Result, Ok, Err, refl, sym, ◌∙◌, ap, subst, inl, inr, arith, codes, decimal, IfSome, IfNone, IsSome, IsSomeAnd, IsTrue}
+use Rattle.std.proofs.Common.{◌≡◌, ◌⊎◌, ℕ, ◌≤◌, nat_le, Bool, true, false, List, [], ◌∷◌, ◌++◌, length, drop, Option, Some, None, Result, Ok, Err, refl, sym, ◌∙◌, ap, subst, inl, inr, arith, bytes_eq, codes, decimal, if◌then◌else◌, IfSome, IfNone, IsSome, IsSomeAnd, IsTrue}
 use Rattle.std.proofs.Math.Seq.{drop-append_seam, drop-length}
-use Rattle.std.proofs.lemmas.Fmt.{decimal_injective}
+use Rattle.std.specs.Str.Parse.{digits_value}
+use Rattle.std.proofs.lemmas.Fmt.{digits_value-decimal}
 use Rattle.std.proofs.lemmas.List.{append-nil}
 use Rattle.std.proofs.lemmas.Bool.Decides.{nat_tests}
 use Rattle.geo_laws_texts.proofs.Texts.{generated_plans}
@@ -10,12 +11,13 @@ use Rattle.geo_model.specs.World.{World, Plan}
 use Rattle.geo_model.specs.Opening.{opening}
 use Rattle.geo_model.specs.Script.{Fault, empty_plan, script}
 use Rattle.geo_model.specs.Generator.{generated}
-use Rattle.geo_headline.specs.Modes.{Mode, StepMode, RunMode, GenMode, IsMode, Accepts}
+use Rattle.geo_headline.specs.Modes.{Mode, StepMode, RunMode, GenMode, SweepMode, WatchMode, TraceMode, VerifyMode, IsMode, Accepts, StartsThreads, OpensMesh, TakesNoDisk, source_limit, words_for}
 use Rattle.geo_model.specs.Log.{Fits}
 use Rattle.geo_model.specs.History.{KeepsHistory, RanToItsEnd}
 use Rattle.geo_headline.specs.Outside.{ShelfView, SinkView, SourceView, ImagesStay, ImagesStand, OthersStay, DisksAreKept}
-use Rattle.geo_headline.specs.Endings.{Ending, Reported, ReportedButFault, BadWords, NoScript, ReadFault, ShelfFault, NoDisk, BadSize, OutOfMemory, LogFull, TooLong, Call, CauseOf, HasLog, IsBeforeDisks, IsParsed, IsReadWhole, IsWhole, LogRanFull, ReadsScript, WasReadWhole, failed_takes, reported, script_limit, script_of}
+use Rattle.geo_headline.specs.Endings.{Ending, Reported, ReportedButFault, BadWords, NoScript, ReadFault, ShelfFault, NoDisk, BadSize, OutOfMemory, LogFull, TooLong, Answered, NoTrace, Call, CauseOf, HasLog, IsBeforeDisks, IsParsed, IsReadWhole, IsWhole, LogRanFull, ReadsScript, WasReadWhole, failed_takes, order_of, reported, script_of}
 use Rattle.geo_headline.specs.Headline.{FollowsMode, ImagesStayAt, IsBadWords, IsGen, LentAfter, ReadAs}
+use Rattle.geo_model.specs.FixedOrder.{StepOrder}
 use Rattle.geo_run.specs.Rest.{RanFull}
 use Rattle.geo_run.specs.declared.due.Due.{Due}
 use Rattle.geo_run.specs.declared.due.Due.TheVariants as dues
@@ -25,47 +27,49 @@ use Rattle.geo_run.specs.declared.stop.Stop.TheVariants as stops
 use Rattle.geo_run.specs.declared.words.Work.{Work}
 use Rattle.geo_run.specs.declared.words.Work.TheVariants as works
 use Rattle.geo_run.specs.Calls.{EndsEarly, EndsRead, EndsUnread, Finishes, FinishesPlan, FinishesSource, FinishesText, Gave, KeepsInside, UnreadCause, added_to, call_of, outside_of}
-use Rattle.geo_run.specs.Ends.{HasNoShelfDisk, MeshRan, PlanCause, RunsPlan, entries_in}
+use Rattle.geo_run.specs.Ends.{HasNoShelfDisk, MeshRan, PlanCause, RunsPlan, entries_in, reported_alone}
 use Rattle.geo_run.specs.Stops.{IsDue, ending_by, ending_of}
 use Rattle.geo_run.specs.Work.{mode_of}
-use Rattle.geo_run.proofs.Digits.{first_same, none_is_some, rest_same}
+use Rattle.geo_run.proofs.Digits.{own}
 use Rattle.geo_run.proofs.Endings.{images_stand_same, images_stay_same, lent_still, others_still}
 use Rattle.geo_run.proofs.Generated.{generated_in_memory, one_plan, plan_in, plan_or_fault}
 
 -- Modes
 
-longer : (x y : List ℕ) (m n : ℕ) → length x ≡ m → length y ≡ n → m ≢ n → x ≡ y → ⊥
-longer x y m n p q ne e = ne (sym p ∙ ap (λ (zs : List ℕ). length zs) e ∙ q)
+-- the mode that a first word asks for, where it stands alone
+mode_of_word : List ℕ → Mode
+mode_of_word word =
+    if bytes_eq word (codes "step") then StepMode
+    else if bytes_eq word (codes "run") then RunMode
+    else if bytes_eq word (codes "sweep") then SweepMode
+    else if bytes_eq word (codes "watch") then WatchMode
+    else if bytes_eq word (codes "trace") then TraceMode
+    else VerifyMode
 
-step_run : codes "step" ∷ [] ≡ codes "run" ∷ [] → ⊥
-step_run e = longer (codes "step") (codes "run") 4 3 refl refl (omega arith) (first_same (codes "step") (codes "run") [] [] e)
+-- the mode that words ask for, if they are accepted
+mode_asked : List (List ℕ) → Mode
+mode_asked [] = StepMode
+mode_asked (word ∷ []) = mode_of_word word
+mode_asked (word ∷ start ∷ []) = StepMode
+mode_asked (word ∷ start ∷ count ∷ rest) = GenMode (digits_value 10 start) (digits_value 10 count)
+
+-- the words of a mode ask for it
+asked_back : (mode : Mode) → IsMode mode → mode_asked (words_for mode) ≡ mode
+unfolding mode_asked mode_of_word
+asked_back StepMode range = refl
+asked_back RunMode range = refl
+asked_back (GenMode s c) range =
+    ap (λ n. GenMode n (digits_value 10 (decimal c))) (digits_value-decimal own s (omega (arith, range.0)))
+    ∙ ap (λ n. GenMode s n) (digits_value-decimal own c (omega (arith, range.1)))
+asked_back SweepMode range = refl
+asked_back WatchMode range = refl
+asked_back TraceMode range = refl
+asked_back VerifyMode range = refl
 
 -- words are accepted for one mode at most
 pub modes_same : (words : List (List ℕ)) (m n : Mode) → Accepts words m → Accepts words n → m ≡ n
-modes_same words StepMode StepMode a b = refl
-modes_same words StepMode RunMode a b = absurd (step_run (sym a.spelled ∙ b.spelled))
-modes_same words StepMode (GenMode s c) a b =
-    absurd (none_is_some (decimal s) (decimal c ∷ [])
-    (sym (rest_same (codes "step") (codes "gen") [] (decimal s ∷ decimal c ∷ []) (sym a.spelled ∙ b.spelled))))
-modes_same words RunMode StepMode a b = absurd (step_run (sym b.spelled ∙ a.spelled))
-modes_same words RunMode RunMode a b = refl
-modes_same words RunMode (GenMode s c) a b =
-    absurd (none_is_some (decimal s) (decimal c ∷ [])
-    (sym (rest_same (codes "run") (codes "gen") [] (decimal s ∷ decimal c ∷ []) (sym a.spelled ∙ b.spelled))))
-modes_same words (GenMode s c) StepMode a b =
-    absurd (none_is_some (decimal s) (decimal c ∷ [])
-    (sym (rest_same (codes "step") (codes "gen") [] (decimal s ∷ decimal c ∷ []) (sym b.spelled ∙ a.spelled))))
-modes_same words (GenMode s c) RunMode a b =
-    absurd (none_is_some (decimal s) (decimal c ∷ [])
-    (sym (rest_same (codes "run") (codes "gen") [] (decimal s ∷ decimal c ∷ []) (sym b.spelled ∙ a.spelled))))
-modes_same words (GenMode s c) (GenMode t d) a b =
-    let both : decimal s ∷ decimal c ∷ [] ≡ decimal t ∷ decimal d ∷ [] =
-    rest_same (codes "gen") (codes "gen") (decimal s ∷ decimal c ∷ []) (decimal t ∷ decimal d ∷ []) (sym a.spelled ∙ b.spelled) in
-    let starts : s ≡ t = decimal_injective s t (omega (arith, a.in_range.0)) (omega (arith, b.in_range.0))
-    (first_same (decimal s) (decimal t) (decimal c ∷ []) (decimal d ∷ []) both) in
-    let counts : c ≡ d = decimal_injective c d (omega (arith, a.in_range.1)) (omega (arith, b.in_range.1))
-    (first_same (decimal c) (decimal d) [] [] (rest_same (decimal s) (decimal t) (decimal c ∷ []) (decimal d ∷ []) both)) in
-    cc
+modes_same words m n a b =
+    sym (asked_back m a.in_range) ∙ ap mode_asked (sym a.spelled ∙ b.spelled) ∙ asked_back n b.in_range
 
 -- What was read
 
@@ -86,9 +90,9 @@ few_or_not n m = by (nat_le n m) refl
     by true e = inl (grind (arith, nat_tests))
     by false e = inr (λ le. absurd (grind (arith, nat_tests)))
 
-read_or_not : (call : Call) → IsReadWhole call ⊎ (IsReadWhole call → ⊥)
-read_or_not call =
-    elim (few_or_not (length call.text) script_limit) [
+read_or_not : (call : Call) (mode : Mode) → IsReadWhole call mode ⊎ (IsReadWhole call mode → ⊥)
+read_or_not call mode =
+    elim (few_or_not (length call.text) (source_limit mode)) [
       | inr many ↦ inr (λ w. many w.few)
       | inl few ↦ elim (ended_or_not call.after.source.ended) [
         | inr goes_on ↦ inr (λ w. goes_on w.ended)
@@ -100,9 +104,13 @@ read_or_not call =
     ]
 
 whole_or_not : (call : Call) (mode : Mode) → WasReadWhole call mode ⊎ (WasReadWhole call mode → ⊥)
-whole_or_not call StepMode = read_or_not call
-whole_or_not call RunMode = read_or_not call
+whole_or_not call StepMode = read_or_not call StepMode
+whole_or_not call RunMode = read_or_not call RunMode
 whole_or_not call (GenMode s c) = inl tt
+whole_or_not call SweepMode = read_or_not call SweepMode
+whole_or_not call WatchMode = read_or_not call WatchMode
+whole_or_not call TraceMode = read_or_not call TraceMode
+whole_or_not call VerifyMode = read_or_not call VerifyMode
 
 read_as_whole : (call : Call) (mode : Mode) (r : Result Plan Fault) → Accepts call.words mode → WasReadWhole call mode
     → script (script_of mode call.text) ≡ r → ReadAs call mode (plan_in r)
@@ -178,19 +186,19 @@ early call mode plan ending read gave cause none shelf has not_whole no_take sou
     stay_at (BadSize name) h = h
     stay_at LogFull h = h
     stay_at TooLong h = h
+    stay_at (Answered found) h = h
+    stay_at (NoTrace line) h = h
 
 -- Where a plan was run
 
 -- why a call ends so, from why the run of its plan does
-full_log : (mode : Mode) (plan : Plan) (opened : World) (log : Option (List Entry)) → IsSomeAnd log (RanFull opened)
-    → IsSomeAnd log (LogRanFull mode plan opened)
+full_log : (mode : Mode) (plan : Plan) (opened : World) (log : Option (List Entry))
+    → IsSomeAnd log (RanFull (order_of mode) opened) → IsSomeAnd log (LogRanFull mode plan opened)
 full_log mode plan opened None h = h
-full_log StepMode plan opened (Some l) h = record { due = h.due; nearly = h.nearly }
-full_log RunMode plan opened (Some l) h = record { due = inl h.due; nearly = h.nearly }
-full_log (GenMode s c) plan opened (Some l) h = record { due = h.due; nearly = h.nearly }
+full_log mode plan opened (Some l) h = record { due = inl h.due; nearly = h.nearly }
 
 plan_cause : (call : Call) (mode : Mode) (plan : Plan) (ending : Ending) → IsParsed call mode plan
-    → PlanCause plan (opening plan call.facts) call.log call.before.shelf call.after.shelf ending
+    → PlanCause (order_of mode) plan (opening plan call.facts) call.log call.before.shelf call.after.shelf ending
     → CauseOf call mode plan ending
 plan_cause call mode plan Reported p h = h
 plan_cause call mode plan (ReportedButFault name) p h = h
@@ -203,21 +211,25 @@ plan_cause call mode plan (BadSize name) p h = (p, h)
 plan_cause call mode plan OutOfMemory p h = tt
 plan_cause call mode plan LogFull p h = full_log mode plan (opening plan call.facts) call.log h
 plan_cause call mode plan TooLong p h = absurd h
+plan_cause call mode plan (Answered found) p h = absurd h
+plan_cause call mode plan (NoTrace line) p h = absurd h
 
 -- a run of a plan doesn't end before disks are taken
-not_before : (plan : Plan) (opened : World) (log : Option (List Entry)) (a b : ShelfView) (ending : Ending)
-    → PlanCause plan opened log a b ending → IsBeforeDisks ending → ⊥
-not_before plan opened log a b Reported h before = before
-not_before plan opened log a b (ReportedButFault name) h before = before
-not_before plan opened log a b BadWords h before = h
-not_before plan opened log a b (NoScript line c) h before = h
-not_before plan opened log a b ReadFault h before = h
-not_before plan opened log a b (ShelfFault name) h before = before
-not_before plan opened log a b (NoDisk name) h before = before
-not_before plan opened log a b (BadSize name) h before = before
-not_before plan opened log a b OutOfMemory h before = before
-not_before plan opened log a b LogFull h before = before
-not_before plan opened log a b TooLong h before = h
+not_before : (order : StepOrder) (plan : Plan) (opened : World) (log : Option (List Entry)) (a b : ShelfView) (ending : Ending)
+    → PlanCause order plan opened log a b ending → IsBeforeDisks ending → ⊥
+not_before order plan opened log a b Reported h before = before
+not_before order plan opened log a b (ReportedButFault name) h before = before
+not_before order plan opened log a b BadWords h before = h
+not_before order plan opened log a b (NoScript line c) h before = h
+not_before order plan opened log a b ReadFault h before = h
+not_before order plan opened log a b (ShelfFault name) h before = before
+not_before order plan opened log a b (NoDisk name) h before = before
+not_before order plan opened log a b (BadSize name) h before = before
+not_before order plan opened log a b OutOfMemory h before = before
+not_before order plan opened log a b LogFull h before = before
+not_before order plan opened log a b TooLong h before = h
+not_before order plan opened log a b (Answered found) h before = h
+not_before order plan opened log a b (NoTrace line) h before = h
 
 bad_is_before : (ending : Ending) → IsBadWords ending → IsBeforeDisks ending
 bad_is_before Reported h = h
@@ -231,6 +243,8 @@ bad_is_before (BadSize name) h = h
 bad_is_before OutOfMemory h = h
 bad_is_before LogFull h = h
 bad_is_before TooLong h = tt
+bad_is_before (Answered found) h = tt
+bad_is_before (NoTrace line) h = tt
 
 images_at : (call : Call) (ending : Ending) (log : Option (List Entry))
     → IfNone log (ImagesStay call.before.shelf call.after.shelf) → IfNone log (ImagesStayAt call ending)
@@ -246,35 +260,38 @@ images_at call (NoDisk name) None h = h
 images_at call (BadSize name) None h = h
 images_at call LogFull None h = h
 images_at call TooLong None h = h
+images_at call (Answered found) None h = h
+images_at call (NoTrace line) None h = h
 
 -- the parts of what a mesh did
-history_of : (plan : Plan) (facts : List (ℕ × ℕ)) (ending : Ending) (log : Option (List Entry))
-    → IfSome log (MeshRan plan facts ending) → IfSome log (KeepsHistory (opening plan facts))
-history_of plan facts ending None h = tt
-history_of plan facts ending (Some l) h = h.history
+history_of : (order : StepOrder) (plan : Plan) (facts : List (ℕ × ℕ)) (ending : Ending) (log : Option (List Entry))
+    → IfSome log (MeshRan order plan facts ending) → IfSome log (KeepsHistory (opening plan facts))
+history_of order plan facts ending None h = tt
+history_of order plan facts ending (Some l) h = h.history
 
-fits_of : (plan : Plan) (facts : List (ℕ × ℕ)) (ending : Ending) (log : Option (List Entry))
-    → IfSome log (MeshRan plan facts ending) → IfSome log (Fits (opening plan facts))
-fits_of plan facts ending None h = tt
-fits_of plan facts ending (Some l) h = h.fits
+fits_of : (order : StepOrder) (plan : Plan) (facts : List (ℕ × ℕ)) (ending : Ending) (log : Option (List Entry))
+    → IfSome log (MeshRan order plan facts ending) → IfSome log (Fits (opening plan facts))
+fits_of order plan facts ending None h = tt
+fits_of order plan facts ending (Some l) h = h.fits
 
-end_of : (plan : Plan) (facts : List (ℕ × ℕ)) (ending : Ending) (log : Option (List Entry))
-    → IfSome log (MeshRan plan facts ending) → IsWhole ending → IfSome log (RanToItsEnd (opening plan facts))
-end_of plan facts ending None h whole = tt
-end_of plan facts ending (Some l) h whole = h.to_its_end whole
+end_of : (order : StepOrder) (plan : Plan) (facts : List (ℕ × ℕ)) (ending : Ending) (log : Option (List Entry))
+    → IfSome log (MeshRan order plan facts ending) → IsWhole ending → IfSome log (RanToItsEnd (opening plan facts))
+end_of order plan facts ending None h whole = tt
+end_of order plan facts ending (Some l) h whole = h.to_its_end whole
 
 order_by : (work : Work) (plan : Plan) (facts : List (ℕ × ℕ)) (ending : Ending) (log : Option (List Entry))
-    → IfSome log (MeshRan plan facts ending) → IfSome log (FollowsMode (mode_of work) plan (opening plan facts) ending)
+    → IfSome log (MeshRan (order_of (mode_of work)) plan facts ending)
+    → IfSome log (FollowsMode (mode_of work) plan (opening plan facts) ending)
 order_by work plan facts ending None h = tt
-order_by works.Step plan facts ending (Some l) h = h.order
-order_by (works.Generate s c) plan facts ending (Some l) h = h.order
+order_by works.Step plan facts ending (Some l) h = h.follows
+order_by (works.Generate s c) plan facts ending (Some l) h = h.follows
 
 -- a call whose plan was run
 planned : (call : Call) (work : Work) (plan : Plan) (ending : Ending) → ReadAs call (mode_of work) plan
     → Gave call.before.source call.text call.after.source → IsParsed call (mode_of work) plan
-    → RunsPlan plan call.facts call.log ending call.before.shelf call.after.shelf
+    → RunsPlan (order_of (mode_of work)) plan call.facts call.log ending call.before.shelf call.after.shelf
     → (IsGen (mode_of work) → call.after.source ≡ call.before.source)
-    → (IsGen (mode_of work) → HasNoShelfDisk plan)
+    → (TakesNoDisk (mode_of work) → HasNoShelfDisk plan)
     → KeepsInside call (mode_of work) plan ending
 planned call work plan ending read gave parsed ran source none = record {
   read_as = read;
@@ -283,10 +300,10 @@ planned call work plan ending read gave parsed ran source none = record {
   has_log = ran.has_log;
   is_opened = λ some. let o = ran.opens some in
       record { parsed = parsed; there = o.there; facts_fit = o.facts_fit; told_sizes = o.told_sizes };
-  history = history_of plan call.facts ending call.log ran.mesh;
-  to_its_end = λ whole. end_of plan call.facts ending call.log ran.mesh whole;
+  history = history_of (order_of (mode_of work)) plan call.facts ending call.log ran.mesh;
+  to_its_end = λ whole. end_of (order_of (mode_of work)) plan call.facts ending call.log ran.mesh whole;
   order = order_by work plan call.facts ending call.log ran.mesh;
-  fits = fits_of plan call.facts ending call.log ran.mesh;
+  fits = fits_of (order_of (mode_of work)) plan call.facts ending call.log ran.mesh;
   disks = ran.disks;
   lent = ran.lent;
   others = ran.others;
@@ -295,11 +312,11 @@ planned call work plan ending read gave parsed ran source none = record {
   outside = record {
     source = λ which. elim which [
       | inl gen ↦ source gen
-      | inr bad ↦ absurd (not_before plan (opening plan call.facts) call.log call.before.shelf call.after.shelf ending ran.cause (bad_is_before ending bad))
+      | inr bad ↦ absurd (not_before (order_of (mode_of work)) plan (opening plan call.facts) call.log call.before.shelf call.after.shelf ending ran.cause (bad_is_before ending bad))
     ];
     shelf = λ which. elim which [
       | inl gen ↦ ran.untouched (none gen)
-      | inr before ↦ absurd (not_before plan (opening plan call.facts) call.log call.before.shelf call.after.shelf ending ran.cause before)
+      | inr before ↦ absurd (not_before (order_of (mode_of work)) plan (opening plan call.facts) call.log call.before.shelf call.after.shelf ending ran.cause before)
     ];
   };
 }
@@ -312,6 +329,27 @@ finished words finish source source_after shelf shelf_after status sink sink_aft
     call_of words (record { status = status; log = finish.log; facts = finish.facts }) (outside_of source sink shelf)
     (outside_of source_after sink_after shelf_after)
 
+-- whether the source was read whole doesn't depend on what is written
+read_again : (words : List (List ℕ)) (finish : Finish) (source source_after : SourceView) (shelf shelf_after : ShelfView)
+    (m n : ℕ) (sink other sink_after other_after : SinkView) (mode : Mode)
+    → WasReadWhole (finished words finish source source_after shelf shelf_after m sink sink_after) mode
+    → WasReadWhole (finished words finish source source_after shelf shelf_after n other other_after) mode
+read_again words finish source source_after shelf shelf_after m n sink other sink_after other_after mode w = by mode w
+  where
+    same : (z : Mode) → IsReadWhole (finished words finish source source_after shelf shelf_after m sink sink_after) z
+        → IsReadWhole (finished words finish source source_after shelf shelf_after n other other_after) z
+    same z w = record { few = w.few; ended = w.ended; none_left = w.none_left }
+
+    by : (z : Mode) → WasReadWhole (finished words finish source source_after shelf shelf_after m sink sink_after) z
+        → WasReadWhole (finished words finish source source_after shelf shelf_after n other other_after) z
+    by StepMode w = same StepMode w
+    by RunMode w = same RunMode w
+    by (GenMode s c) w = tt
+    by SweepMode w = same SweepMode w
+    by WatchMode w = same WatchMode w
+    by TraceMode w = same TraceMode w
+    by VerifyMode w = same VerifyMode w
+
 -- the log of a finish that has none
 no_entries : (finish : Finish) → finish.log ≡ None → entries_in finish.log ≡ None
 no_entries finish e = ap (λ l. entries_in l) e
@@ -323,13 +361,14 @@ stops_early : (words : List (List ℕ)) (finish : Finish) (source source_after :
     → ((status : ℕ) (sink sink_after : SinkView) (plan : Plan)
     → CauseOf (finished words finish source source_after shelf shelf_after status sink sink_after) mode plan (ending_of stop))
     → HasLog (ending_of stop) None → (IsWhole (ending_of stop) → ⊥) → failed_takes (ending_of stop) ≡ 0
-    → (IsGen mode ⊎ IsBadWords (ending_of stop) → source_after ≡ source) → (mode ≡ RunMode → ⊥)
+    → (IsGen mode ⊎ IsBadWords (ending_of stop) → source_after ≡ source) → (StartsThreads mode → ⊥)
     → Finishes words finish source source_after shelf shelf_after
 stops_early words finish source source_after shelf shelf_after mode stop accepts ends gave cause has not_whole no_take same alone = record {
   mode = mode;
   plan = (read_as (finished words finish source source_after shelf shelf_after 0 none_yet none_yet) mode accepts).0;
   alone = alone;
-  due = subst (λ (due : Due). IsDue due (reported mode plan (opening plan finish.facts.items) (entries_in finish.log))) (sym ends.due) tt;
+  due = subst (λ (due : Due). IsDue due (reported mode (added_to source.given source_after.given) plan finish.facts.items (entries_in finish.log)))
+      (sym ends.due) tt;
   keeps = λ status sink sink_after.
       let e : ending_by finish.due ≡ ending_of stop = ap ending_by ends.due in
       let call = finished words finish source source_after shelf shelf_after status sink sink_after in
@@ -350,42 +389,44 @@ stops_early words finish source source_after shelf shelf_after mode stop accepts
     again : (status : ℕ) (sink sink_after : SinkView)
         → ReadAs (finished words finish source source_after shelf shelf_after 0 none_yet none_yet) mode plan
         → ReadAs (finished words finish source source_after shelf shelf_after status sink sink_after) mode plan
-    again status sink sink_after r = same_reading mode r
-      where
-        same_reading : (m : Mode)
-            → ReadAs (finished words finish source source_after shelf shelf_after 0 none_yet none_yet) m plan
-            → ReadAs (finished words finish source source_after shelf shelf_after status sink sink_after) m plan
-        same_reading StepMode r = record {
-          mode_is = r.mode_is;
-          plan_is = λ w. r.plan_is (record { few = w.few; ended = w.ended; none_left = w.none_left });
-          no_plan = r.no_plan;
-          not_read = λ unread. r.not_read (λ w. unread (record { few = w.few; ended = w.ended; none_left = w.none_left }));
-        }
-        same_reading RunMode r = record {
-          mode_is = r.mode_is;
-          plan_is = λ w. r.plan_is (record { few = w.few; ended = w.ended; none_left = w.none_left });
-          no_plan = r.no_plan;
-          not_read = λ unread. r.not_read (λ w. unread (record { few = w.few; ended = w.ended; none_left = w.none_left }));
-        }
-        same_reading (GenMode s c) r = record {
-          mode_is = r.mode_is;
-          plan_is = r.plan_is;
-          no_plan = r.no_plan;
-          not_read = r.not_read;
-        }
+    again status sink sink_after r = record {
+      mode_is = r.mode_is;
+      plan_is = λ w. r.plan_is
+          (read_again words finish source source_after shelf shelf_after status 0 sink none_yet sink_after none_yet mode w);
+      no_plan = r.no_plan;
+      not_read = λ unread. r.not_read (λ w. unread
+          (read_again words finish source source_after shelf shelf_after 0 status none_yet sink none_yet sink_after mode w));
+    }
 
--- no work is that of threads
-work_alone : (work : Work) → mode_of work ≡ RunMode → ⊥
-work_alone works.Step e = cc
-work_alone (works.Generate s c) e = cc
+-- no work starts threads
+work_alone : (work : Work) → StartsThreads (mode_of work) → ⊥
+work_alone works.Step threads = cc
+work_alone (works.Generate s c) threads = cc
+
+-- each opens a mesh
+work_opens : (work : Work) → OpensMesh (mode_of work)
+work_opens works.Step = tt
+work_opens (works.Generate s c) = tt
+
+-- one that takes no disk makes its script
+no_disk_taken : (work : Work) → TakesNoDisk (mode_of work) → IsGen (mode_of work)
+no_disk_taken works.Step none = none
+no_disk_taken (works.Generate s c) none = none
+
+-- none reports the text that was read
+text_aside : (work : Work) (text : List ℕ) (plan : Plan) (facts : List (ℕ × ℕ)) (log : Option (List Entry))
+    → reported_alone (mode_of work) plan facts log ≡ reported (mode_of work) text plan facts log
+text_aside work text plan facts None = refl
+text_aside works.Step text plan facts (Some l) = refl
+text_aside (works.Generate s c) text plan facts (Some l) = refl
 
 -- a run whose plan was run
 runs_text : (words : List (List ℕ)) (finish : Finish) (source source_after : SourceView) (shelf shelf_after : ShelfView)
     (work : Work) (plan : Plan) → Accepts words (mode_of work)
     → script (script_of (mode_of work) (added_to source.given source_after.given)) ≡ Ok plan
     → Gave source (added_to source.given source_after.given) source_after
-    → RunsPlan plan finish.facts.items (entries_in finish.log) (ending_by finish.due) shelf shelf_after
-    → IsDue finish.due (reported (mode_of work) plan (opening plan finish.facts.items) (entries_in finish.log))
+    → RunsPlan (order_of (mode_of work)) plan finish.facts.items (entries_in finish.log) (ending_by finish.due) shelf shelf_after
+    → IsDue finish.due (reported_alone (mode_of work) plan finish.facts.items (entries_in finish.log))
     → ((status : ℕ) (sink sink_after : SinkView)
     → WasReadWhole (finished words finish source source_after shelf shelf_after status sink sink_after) (mode_of work))
     → (IsGen (mode_of work) → source_after ≡ source) → (IsGen (mode_of work) → HasNoShelfDisk plan)
@@ -394,14 +435,15 @@ runs_text words finish source source_after shelf shelf_after work plan accepts i
   mode = mode_of work;
   plan = plan;
   alone = work_alone work;
-  due = due;
+  due = subst (λ text. IsDue finish.due text)
+      (text_aside work (added_to source.given source_after.given) plan finish.facts.items (entries_in finish.log)) due;
   keeps = λ status sink sink_after.
       let call = finished words finish source source_after shelf shelf_after status sink sink_after in
       planned call work plan (ending_by finish.due)
       (read_as_whole call (mode_of work) (Ok plan) accepts (whole status sink sink_after) is)
       gave
-      (record { accepted = accepts; read = whole status sink sink_after; script = is })
-      ran same none;
+      (record { accepted = accepts; mesh = work_opens work; read = whole status sink sink_after; script = is })
+      ran same (λ no_disk. none (no_disk_taken work no_disk));
 }
 
 -- the end of a text by its reading
@@ -417,24 +459,23 @@ of_text : (words : List (List ℕ)) (finish : Finish) (source source_after : Sou
     → (IsGen (mode_of work) → (fault : Fault) → r ≡ Err fault → ⊥)
     → (IsGen (mode_of work) ⊎ ((status : ℕ) (sink sink_after : SinkView)
     → ReadsScript (finished words finish source source_after shelf shelf_after status sink sink_after) (mode_of work)))
-    → ((fault : Fault) → (IsGen (mode_of work) → ⊥) → r ≡ Err fault → script (added_to source.given source_after.given) ≡ Err fault)
     → Finishes words finish source source_after shelf shelf_after
-of_text words finish source source_after shelf shelf_after work (Ok plan) accepts is gave ends whole same none no_fault reads fault_is =
+of_text words finish source source_after shelf shelf_after work (Ok plan) accepts is gave ends whole same none no_fault reads =
     runs_text words finish source source_after shelf shelf_after work plan accepts is gave ends.0 ends.1 whole same
     (λ gen. none gen plan refl)
-of_text words finish source source_after shelf shelf_after work (Err fault) accepts is gave ends whole same none no_fault (inl gen) fault_is =
+of_text words finish source source_after shelf shelf_after work (Err fault) accepts is gave ends whole same none no_fault (inl gen) =
     absurd (no_fault gen fault refl)
-of_text words finish source source_after shelf shelf_after work (Err fault) accepts is gave ends whole same none no_fault (inr reads) fault_is =
+of_text words finish source source_after shelf shelf_after work (Err fault) accepts is gave ends whole same none no_fault (inr reads) =
     stops_early words finish source source_after shelf shelf_after (mode_of work) (stops.NoScript fault.line fault.cause)
     accepts ends gave
-    (λ status sink sink_after plan. (reads status sink sink_after, whole status sink sink_after, fault_is fault (λ gen. no_fault gen fault refl) refl))
+    (λ status sink sink_after plan. (reads status sink sink_after, whole status sink sink_after, is))
     refl (λ w. w) refl (λ which. elim which [ inl gen ↦ same gen | inr bad ↦ absurd bad ]) (work_alone work)
 
 -- memory ran out before the mesh opened
 no_memory : (words : List (List ℕ)) (finish : Finish) (source source_after : SourceView) (shelf shelf_after : ShelfView)
     (mode : Mode) → Accepts words mode → EndsEarly finish stops.NoMemory shelf shelf_after
     → Gave source (added_to source.given source_after.given) source_after
-    → (IsGen mode → source_after ≡ source) → (mode ≡ RunMode → ⊥)
+    → (IsGen mode → source_after ≡ source) → (StartsThreads mode → ⊥)
     → Finishes words finish source source_after shelf shelf_after
 no_memory words finish source source_after shelf shelf_after mode accepts ends gave same alone =
     stops_early words finish source source_after shelf shelf_after mode stops.NoMemory accepts ends gave
@@ -445,6 +486,20 @@ text_is : (source source_after : SourceView) (text : List ℕ) → Gave source t
     → text ≡ added_to source.given source_after.given
 text_is source source_after text gave =
     sym (ap (λ bytes. drop (length source.given) bytes) gave.given ∙ drop-append_seam source.given text)
+
+-- where the source gives the script, it is read
+script_read : (work : Work) (text : List ℕ) → (IsGen (mode_of work) → ⊥) → script_of (mode_of work) text ≡ text
+script_read works.Step text not_gen = refl
+script_read (works.Generate s c) text not_gen = absurd (not_gen tt)
+
+whole_read : (call : Call) (work : Work) → IsReadWhole call (mode_of work) → WasReadWhole call (mode_of work)
+whole_read call works.Step w = w
+whole_read call (works.Generate s c) w = tt
+
+reads_script : (call : Call) (work : Work) → (IsGen (mode_of work) → ⊥) → Accepts call.words (mode_of work)
+    → ReadsScript call (mode_of work)
+reads_script call works.Step not_gen accepts = accepts
+reads_script call (works.Generate s c) not_gen accepts = absurd (not_gen tt)
 
 -- a source that wasn't read gave nothing
 pub gave_nothing : (source : SourceView) → Gave source (added_to source.given source.given) source
@@ -458,48 +513,53 @@ gave_nothing source = record {
     by None text e = tt
     by (Some l) text e = sym (ap (λ bs. bs ++ l) e)
 
--- `step`
-pub finishes_source : (words : List (List ℕ)) (finish : Finish) (source source_after : SourceView)
-    (shelf shelf_after : ShelfView) → Accepts words StepMode → FinishesSource source source_after finish shelf shelf_after
+-- a work whose script the source gives
+pub finishes_source : (words : List (List ℕ)) (work : Work) (finish : Finish) (source source_after : SourceView)
+    (shelf shelf_after : ShelfView) → (IsGen (mode_of work) → ⊥) → Accepts words (mode_of work)
+    → FinishesSource (mode_of work) source source_after finish shelf shelf_after
     → Finishes words finish source source_after shelf shelf_after
-finishes_source words finish source source_after shelf shelf_after accepts f = by moved.0 moved.1
+finishes_source words work finish source source_after shelf shelf_after not_gen accepts f = by moved.0 moved.1
   where
     text : List ℕ
     text = added_to source.given source_after.given
 
     moved : Gave source text source_after
-        × (EndsRead text source_after finish shelf shelf_after ⊎ EndsUnread text source source_after finish shelf shelf_after)
+        × (EndsRead (mode_of work) text source_after finish shelf shelf_after
+        ⊎ EndsUnread (mode_of work) text source source_after finish shelf shelf_after)
     moved =
         subst (λ (t : List ℕ). Gave source t source_after
-        × (EndsRead t source_after finish shelf shelf_after ⊎ EndsUnread t source source_after finish shelf shelf_after))
+        × (EndsRead (mode_of work) t source_after finish shelf shelf_after
+        ⊎ EndsUnread (mode_of work) t source source_after finish shelf shelf_after))
         (text_is source source_after f.text f.gave) (f.gave, f.ends)
 
-    read : Gave source text source_after → EndsRead text source_after finish shelf shelf_after
+    read : Gave source text source_after → EndsRead (mode_of work) text source_after finish shelf shelf_after
         → Finishes words finish source source_after shelf shelf_after
     read gave ends = elim ends.of_text [
-      | inl out ↦ no_memory words finish source source_after shelf shelf_after StepMode accepts out gave (λ gen. absurd gen) (work_alone works.Step)
-      | inr done ↦ of_text words finish source source_after shelf shelf_after works.Step (script text) accepts refl gave done
-          (λ status sink sink_after. record { few = ends.few; ended = ends.ended; none_left = ends.none_left })
-          (λ gen. absurd gen) (λ gen. absurd gen) (λ gen. absurd gen)
-          (inr (λ status sink sink_after. accepts)) (λ fault not_gen e. e)
+      | inl out ↦ no_memory words finish source source_after shelf shelf_after (mode_of work) accepts out gave (λ gen. absurd (not_gen gen)) (work_alone work)
+      | inr done ↦ of_text words finish source source_after shelf shelf_after work (script text) accepts
+          (ap script (script_read work text not_gen)) gave done
+          (λ status sink sink_after. whole_read (finished words finish source source_after shelf shelf_after status sink sink_after) work
+          (record { few = ends.few; ended = ends.ended; none_left = ends.none_left }))
+          (λ gen. absurd (not_gen gen)) (λ gen. absurd (not_gen gen)) (λ gen. absurd (not_gen gen))
+          (inr (λ status sink sink_after. reads_script (finished words finish source source_after shelf shelf_after status sink sink_after) work not_gen accepts))
     ]
 
-    unread : Gave source text source_after → EndsUnread text source source_after finish shelf shelf_after
+    unread : Gave source text source_after → EndsUnread (mode_of work) text source source_after finish shelf shelf_after
         → Finishes words finish source source_after shelf shelf_after
     unread gave ends = why ends.stop ends.cause ends.early
       where
-        why : (stop : Stop) → UnreadCause text source source_after stop → EndsEarly finish stop shelf shelf_after
-            → Finishes words finish source source_after shelf shelf_after
+        why : (stop : Stop) → UnreadCause (mode_of work) text source source_after stop
+            → EndsEarly finish stop shelf shelf_after → Finishes words finish source source_after shelf shelf_after
         why stops.ReadFault cause early_end =
-            stops_early words finish source source_after shelf shelf_after StepMode stops.ReadFault accepts early_end gave
-            (λ status sink sink_after plan. (accepts, cause.0, cause.1)) refl (λ w. w) refl
-            (λ which. elim which [ inl gen ↦ absurd gen | inr bad ↦ absurd bad ]) (work_alone works.Step)
+            stops_early words finish source source_after shelf shelf_after (mode_of work) stops.ReadFault accepts early_end gave
+            (λ status sink sink_after plan. (reads_script (finished words finish source source_after shelf shelf_after status sink sink_after) work not_gen accepts, cause.0, cause.1)) refl (λ w. w) refl
+            (λ which. elim which [ inl gen ↦ absurd (not_gen gen) | inr bad ↦ absurd bad ]) (work_alone work)
         why stops.TooLong cause early_end =
-            stops_early words finish source source_after shelf shelf_after StepMode stops.TooLong accepts early_end gave
-            (λ status sink sink_after plan. (accepts, cause)) refl (λ w. w) refl
-            (λ which. elim which [ inl gen ↦ absurd gen | inr bad ↦ absurd bad ]) (work_alone works.Step)
+            stops_early words finish source source_after shelf shelf_after (mode_of work) stops.TooLong accepts early_end gave
+            (λ status sink sink_after plan. (reads_script (finished words finish source source_after shelf shelf_after status sink sink_after) work not_gen accepts, cause)) refl (λ w. w) refl
+            (λ which. elim which [ inl gen ↦ absurd (not_gen gen) | inr bad ↦ absurd bad ]) (work_alone work)
         why stops.NoMemory cause early_end =
-            no_memory words finish source source_after shelf shelf_after StepMode accepts early_end gave (λ gen. absurd gen) (work_alone works.Step)
+            no_memory words finish source source_after shelf shelf_after (mode_of work) accepts early_end gave (λ gen. absurd (not_gen gen)) (work_alone work)
         why stops.BadWords cause early_end = absurd cause
         why (stops.NoScript line c) cause early_end = absurd cause
         why (stops.ShelfFault name) cause early_end = absurd cause
@@ -508,7 +568,8 @@ finishes_source words finish source source_after shelf shelf_after accepts f = b
         why stops.LogFull cause early_end = absurd cause
 
     by : Gave source text source_after
-        → EndsRead text source_after finish shelf shelf_after ⊎ EndsUnread text source source_after finish shelf shelf_after
+        → EndsRead (mode_of work) text source_after finish shelf shelf_after
+        ⊎ EndsUnread (mode_of work) text source source_after finish shelf shelf_after
         → Finishes words finish source source_after shelf shelf_after
     by gave (inl ends) = read gave ends
     by gave (inr ends) = unread gave ends
@@ -525,7 +586,7 @@ finishes_generated words finish source shelf shelf_after start count accepts (in
     accepts refl (gave_nothing source) done (λ status sink sink_after. tt) (λ gen. refl)
     (λ gen plan e. generated_in_memory start count accepts.in_range plan e)
     (λ gen fault e. no_fault fault e)
-    (inl tt) (λ fault not_gen e. absurd (not_gen tt))
+    (inl tt)
   where
     no_fault : (fault : Fault) → script (generated start count) ≡ Err fault → ⊥
     no_fault fault e =
@@ -545,7 +606,7 @@ finishes_none words finish source shelf none due_is log_is = record {
   mode = StepMode;
   plan = empty_plan;
   alone = work_alone works.Step;
-  due = subst (λ (due : Due). IsDue due (reported StepMode empty_plan (opening empty_plan finish.facts.items) (entries_in finish.log)))
+  due = subst (λ (due : Due). IsDue due (reported StepMode (added_to source.given source.given) empty_plan finish.facts.items (entries_in finish.log)))
       (sym due_is) tt;
   keeps = λ status sink sink_after.
       let call = finished words finish source source shelf shelf status sink sink_after in
@@ -571,10 +632,10 @@ finishes_none words finish source shelf none due_is log_is = record {
 -- the words ask for `step`, whose source was run
 pub step_finishes : (words : List (List ℕ)) (work : Work) (finish : Finish) (source source_after : SourceView)
     (shelf shelf_after : ShelfView) → work ≡ works.Step → Accepts words (mode_of work)
-    → FinishesSource source source_after finish shelf shelf_after
+    → FinishesSource StepMode source source_after finish shelf shelf_after
     → Finishes words finish source source_after shelf shelf_after
 step_finishes words work finish source source_after shelf shelf_after is accepts f =
-    finishes_source words finish source source_after shelf shelf_after
+    finishes_source words works.Step finish source source_after shelf shelf_after (λ gen. gen)
     (subst (λ (w : Work). Accepts words (mode_of w)) is accepts) f
 
 -- the words ask for `gen START COUNT`, whose script was run

@@ -1,16 +1,15 @@
 -- Runs of texts and of sources.
-use Rattle.std.proofs.Common.{◌≡◌, ℕ, ◌+◌, ◌≤◌, List, [], ◌++◌, length, Option, Some, None, Result, Ok, Err, refl, sym, ap, subst, inl, inr, arith, IfSome, IsSomeAnd, IsErrOf}
+use Rattle.std.proofs.Common.{◌≡◌, ℕ, ◌≤◌, List, [], ◌++◌, length, Option, Some, None, Result, Ok, Err, refl, sym, ap, subst, inl, inr, arith, IfSome, IsSomeAnd, IsErrOf}
 use Rattle.geo_base.specs.Faults.{Rose}
 use Rattle.geo_io.specs.declared.reading.ReadRefusal.{ReadRefusal}
 use Rattle.geo_io.specs.declared.reading.ReadRefusal.TheVariants as reads_refused
 use Rattle.geo_io.specs.Source.{Gives, GivesAtMost, GivesMany, Goes, IsAtEnd, IsEnd, Stream}
 use Rattle.geo_model.specs.declared.command.Cause.{Cause}
 use Rattle.geo_model.specs.World.{Plan}
-use Rattle.geo_model.specs.Opening.{opening}
-use Rattle.geo_headline.specs.Modes.{Mode, StepMode}
+use Rattle.geo_headline.specs.Modes.{Mode, source_limit}
 use Rattle.geo_model.specs.Script.{Fault, script}
 use Rattle.geo_headline.specs.Outside.{ShelfView}
-use Rattle.geo_headline.specs.Endings.{reported, script_limit}
+use Rattle.geo_headline.specs.Endings.{order_of}
 use Rattle.geo_script.specs.declared.refusal.ParseRefusal.{ParseRefusal}
 use Rattle.geo_script.specs.declared.refusal.ParseRefusal.TheVariants as refusals
 use Rattle.geo_script.specs.Draft.{Parses}
@@ -19,9 +18,12 @@ use Rattle.geo_run.specs.declared.finish.Finish.{Finish}
 use Rattle.geo_run.specs.declared.stop.Stop.{Stop}
 use Rattle.geo_run.specs.declared.stop.Stop.TheVariants as stops
 use Rattle.geo_run.specs.Calls.{EndsEarly, FinishesPlan, FinishesSource, FinishesText, Gave, UnreadCause}
-use Rattle.geo_run.specs.Ends.{RunsPlan, entries_in}
+use Rattle.geo_run.specs.Ends.{RunsPlan, entries_in, reported_alone}
 use Rattle.geo_run.specs.Stops.{IsDue, ending_by}
 use Rattle.geo_run.specs.Views.{source_view}
+use Rattle.geo_run.specs.Work.{mode_of}
+use Rattle.geo_run.specs.declared.words.Work.{Work}
+use Rattle.geo_run.specs.declared.words.Work.TheVariants as works
 
 -- Texts
 
@@ -32,8 +34,8 @@ early_end finish stop a due log = record { due = due; log = log; shelf = refl }
 
 -- the plan of a text was run
 pub text_ran : (text : List ℕ) (mode : Mode) (finish : Finish) (plan : Plan) (a b : ShelfView) → script text ≡ Ok plan
-    → RunsPlan plan finish.facts.items (entries_in finish.log) (ending_by finish.due) a b
-    → IsDue finish.due (reported mode plan (opening plan finish.facts.items) (entries_in finish.log))
+    → RunsPlan (order_of mode) plan finish.facts.items (entries_in finish.log) (ending_by finish.due) a b
+    → IsDue finish.due (reported_alone mode plan finish.facts.items (entries_in finish.log))
     → FinishesText text mode finish a b
 text_ran text mode finish plan a b is ran due =
     inr (subst (λ (r : Result Plan Fault). FinishesPlan r mode finish a b) (sym is) (ran, due))
@@ -75,64 +77,69 @@ none_left : (left : Option (List ℕ)) → IsEnd left → IfSome left (λ l. l �
 none_left None h = tt
 none_left (Some l) h = h
 
+-- how much a source may give for the works of one thread
+limit_is : (work : Work) → source_limit (mode_of work) ≡ 4194304
+limit_is works.Step = refl
+limit_is (works.Generate s c) = refl
+
 -- the source was read to its end
-pub source_read : (s t : Stream) (reads reads_after faults faults_after : ℕ) (text bytes : List ℕ) (finish : Finish)
-    (a b : ShelfView) → Gives s text t → IsAtEnd t → length text ≤ script_limit → bytes ≡ text
-    → FinishesText bytes StepMode finish a b
-    → FinishesSource (source_view s reads faults) (source_view t reads_after faults_after) finish a b
-source_read s t reads reads_after faults faults_after text bytes finish a b gives end few is ends = record {
+pub source_read : (work : Work) (s t : Stream) (reads reads_after faults faults_after : ℕ) (text bytes : List ℕ) (finish : Finish)
+    (a b : ShelfView) → Gives s text t → IsAtEnd t → length text ≤ 4194304 → bytes ≡ text
+    → FinishesText bytes (mode_of work) finish a b
+    → FinishesSource (mode_of work) (source_view s reads faults) (source_view t reads_after faults_after) finish a b
+source_read work s t reads reads_after faults faults_after text bytes finish a b gives end few is ends = record {
   text = text;
   gave = gives_gave s t reads reads_after faults faults_after text gives;
   ends = inl (record {
-    few = few;
+    few = let limit : source_limit (mode_of work) ≡ 4194304 = limit_is work in omega (arith, limit, few);
     ended = end.ended;
     none_left = none_left t.left end.none_left;
-    of_text = subst (λ (bs : List ℕ). FinishesText bs StepMode finish a b) is ends;
+    of_text = subst (λ (bs : List ℕ). FinishesText bs (mode_of work) finish a b) is ends;
   });
 }
 
 -- the source wasn't read to its end
-pub source_unread : (s t : Stream) (reads reads_after faults faults_after : ℕ) (text : List ℕ) (finish : Finish)
+pub source_unread : (work : Work) (s t : Stream) (reads reads_after faults faults_after : ℕ) (text : List ℕ) (finish : Finish)
     (stop : Stop) (a : ShelfView) → Gives s text t
-    → UnreadCause text (source_view s reads faults) (source_view t reads_after faults_after) stop
+    → UnreadCause (mode_of work) text (source_view s reads faults) (source_view t reads_after faults_after) stop
     → finish.due ≡ dues.Stopped stop → finish.log ≡ None
-    → FinishesSource (source_view s reads faults) (source_view t reads_after faults_after) finish a a
-source_unread s t reads reads_after faults faults_after text finish stop a gives cause due log = record {
+    → FinishesSource (mode_of work) (source_view s reads faults) (source_view t reads_after faults_after) finish a a
+source_unread work s t reads reads_after faults faults_after text finish stop a gives cause due log = record {
   text = text;
   gave = gives_gave s t reads reads_after faults faults_after text gives;
   ends = inr (record { stop = stop; cause = cause; early = early_end finish stop a due log });
 }
 
 -- a read failed
-pub read_fault : {T : Type 0} (s t : Stream) (reads reads_after faults faults_after : ℕ) (finish : Finish) (a : ShelfView)
+pub read_fault : {T : Type 0} (work : Work) (s t : Stream) (reads reads_after faults faults_after : ℕ) (finish : Finish) (a : ShelfView)
     (refusal : ReadRefusal) → refusal ≡ reads_refused.ReadFault
-    → (IsErrOf {T = T} (Err refusal) reads_refused.ReadFault → GivesAtMost s script_limit t)
+    → (IsErrOf {T = T} (Err refusal) reads_refused.ReadFault → GivesAtMost s 4194304 t)
     → (IsErrOf {T = T} (Err refusal) reads_refused.ReadFault → Rose faults faults_after)
     → finish.due ≡ dues.Stopped stops.ReadFault → finish.log ≡ None
-    → FinishesSource (source_view s reads faults) (source_view t reads_after faults_after) finish a a
-read_fault s t reads reads_after faults faults_after finish a refusal is taken rose due log =
-    let gives : GivesAtMost s script_limit t = taken (ap (λ e. Err e) is) in
-    source_unread s t reads reads_after faults faults_after gives.bytes finish stops.ReadFault a gives.gives
-    (gives.few, rose (ap (λ e. Err e) is)) due log
+    → FinishesSource (mode_of work) (source_view s reads faults) (source_view t reads_after faults_after) finish a a
+read_fault work s t reads reads_after faults faults_after finish a refusal is taken rose due log =
+    let gives : GivesAtMost s 4194304 t = taken (ap (λ e. Err e) is) in
+    source_unread work s t reads reads_after faults faults_after gives.bytes finish stops.ReadFault a gives.gives
+    ((let limit : source_limit (mode_of work) ≡ 4194304 = limit_is work in omega (arith, limit, gives.few)), rose (ap (λ e. Err e) is)) due log
 
 -- the text is too long
-pub read_long : {T : Type 0} (s t : Stream) (reads reads_after faults faults_after : ℕ) (finish : Finish) (a : ShelfView)
+pub read_long : {T : Type 0} (work : Work) (s t : Stream) (reads reads_after faults faults_after : ℕ) (finish : Finish) (a : ShelfView)
     (refusal : ReadRefusal) → refusal ≡ reads_refused.TooLong
-    → (IsErrOf {T = T} (Err refusal) reads_refused.TooLong → GivesMany s (script_limit + 1) t)
+    → (IsErrOf {T = T} (Err refusal) reads_refused.TooLong → GivesMany s 4194305 t)
     → finish.due ≡ dues.Stopped stops.TooLong → finish.log ≡ None
-    → FinishesSource (source_view s reads faults) (source_view t reads_after faults_after) finish a a
-read_long s t reads reads_after faults faults_after finish a refusal is taken due log =
-    let gives : GivesMany s (script_limit + 1) t = taken (ap (λ e. Err e) is) in
-    let many : length gives.bytes ≡ script_limit + 1 = gives.many in
-    source_unread s t reads reads_after faults faults_after gives.bytes finish stops.TooLong a gives.gives
-    (omega (arith, many)) due log
+    → FinishesSource (mode_of work) (source_view s reads faults) (source_view t reads_after faults_after) finish a a
+read_long work s t reads reads_after faults faults_after finish a refusal is taken due log =
+    let gives : GivesMany s 4194305 t = taken (ap (λ e. Err e) is) in
+    let many : length gives.bytes ≡ 4194305 = gives.many in
+    source_unread work s t reads reads_after faults faults_after gives.bytes finish stops.TooLong a gives.gives
+    (let limit : source_limit (mode_of work) ≡ 4194304 = limit_is work in omega (arith, limit, many)) due log
 
 -- memory ran out
-pub read_lost : {T : Type 0} (s t : Stream) (reads reads_after faults faults_after : ℕ) (finish : Finish) (a : ShelfView)
+pub read_lost : {T : Type 0} (work : Work) (s t : Stream) (reads reads_after faults faults_after : ℕ) (finish : Finish) (a : ShelfView)
     (refusal : ReadRefusal) → refusal ≡ reads_refused.NoMemory
-    → (IsErrOf {T = T} (Err refusal) reads_refused.NoMemory → GivesAtMost s (script_limit + 1) t)
+    → (IsErrOf {T = T} (Err refusal) reads_refused.NoMemory → GivesAtMost s 4194305 t)
     → finish.due ≡ dues.Stopped stops.NoMemory → finish.log ≡ None
-    → FinishesSource (source_view s reads faults) (source_view t reads_after faults_after) finish a a
-read_lost s t reads reads_after faults faults_after finish a refusal is taken due log =
-    let gives : GivesAtMost s (script_limit + 1) t = taken (ap (λ e. Err e) is) in
-    source_unread s t reads reads_after faults faults_after gives.bytes finish stops.NoMemory a gives.gives tt due log
+    → FinishesSource (mode_of work) (source_view s reads faults) (source_view t reads_after faults_after) finish a a
+read_lost work s t reads reads_after faults faults_after finish a refusal is taken due log =
+    let gives : GivesAtMost s 4194305 t = taken (ap (λ e. Err e) is) in
+    source_unread work s t reads reads_after faults faults_after gives.bytes finish stops.NoMemory a gives.gives tt due log

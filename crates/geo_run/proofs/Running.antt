@@ -7,11 +7,10 @@ use Rattle.geo_model.specs.World.{World, Plan}
 use Rattle.geo_headline.specs.Modes.{Mode}
 use Rattle.geo_model.specs.Listing.{listing}
 use Rattle.geo_model.specs.Log.{Fits}
-use Rattle.geo_model.specs.Opening.{opening}
-use Rattle.geo_model.specs.FixedOrder.{FollowsOrder, fixed_order}
+use Rattle.geo_model.specs.FixedOrder.{FollowsOrder, StepOrder, fixed_order}
 use Rattle.geo_model.specs.History.{KeepsHistory, RanToItsEnd}
 use Rattle.geo_headline.specs.Outside.{ShelfView}
-use Rattle.geo_headline.specs.Endings.{OutOfMemory, IsWhole, reported, reported_by}
+use Rattle.geo_headline.specs.Endings.{OutOfMemory, IsWhole, order_of}
 use Rattle.geo_drain.specs.Meshes.{MeshView, opened, world_of}
 use Rattle.geo_drain.specs.declared.refusal.DrainRefusal.{DrainRefusal}
 use Rattle.geo_drain.specs.declared.refusal.DrainRefusal.TheVariants as refusals
@@ -24,12 +23,28 @@ use Rattle.geo_run.specs.declared.stop.Stop.{Stop}
 use Rattle.geo_run.specs.declared.stop.Stop.TheVariants as stops
 use Rattle.geo_run.specs.declared.words.Work.{Work}
 use Rattle.geo_run.specs.declared.words.Work.TheVariants as works
-use Rattle.geo_run.specs.Ends.{IsDueOf, LentCause, MeshRan, RunsDrives, entries_in}
+use Rattle.geo_run.specs.Ends.{IsDueOf, LentCause, MeshRan, RunsDrives, entries_in, reported_alone}
 use Rattle.geo_run.specs.Views.{size_of}
 use Rattle.geo_run.specs.Lending.{AreOut, GivesBack}
 use Rattle.geo_run.specs.Stops.{IsDue, ending_by, ending_with}
 use Rattle.geo_run.specs.Work.{mode_of}
 use Rattle.geo_run.proofs.Loops.{none_kept, out_served}
+
+-- The order
+
+-- the works of one thread that stand so far go to rest in the fixed order
+order_is : (work : Work) → fixed_order ≡ order_of (mode_of work)
+order_is works.Step = refl
+order_is (works.Generate s c) = refl
+
+pub adds_in : (work : Work) (old new : MeshView) (xs ys : List DriveView) → Adds fixed_order old new xs ys
+    → Adds (order_of (mode_of work)) old new xs ys
+adds_in work old new xs ys a = subst (λ (o : StepOrder). Adds o old new xs ys) (order_is work) a
+
+pub full_in : {E : Type 0} (work : Work) (m : MeshView) (r : Result (Unit {0}) E) (e : E)
+    → (IsErrOf r e → RanFull fixed_order (opened m) m.log)
+    → IsErrOf r e → RanFull (order_of (mode_of work)) (opened m) m.log
+full_in work m r e full is = subst (λ (o : StepOrder). RanFull o (opened m) m.log) (order_is work) (full is)
 
 -- The report
 
@@ -37,25 +52,25 @@ use Rattle.geo_run.proofs.Loops.{none_kept, out_served}
 pub report_is : {E : Type 0} (m : MeshView) (plan : Plan) (log : List Entry) (lines : List GeomLine)
     (r : Result (List ℕ) E) (work : Work) → work ≡ works.Step → plan ≡ m.plan → log ≡ m.log
     → lines ≡ listing (world_of m) → IfOk r (IsReport plan log lines)
-    → IfOk r (λ text. text ≡ reported_by (mode_of work) m.plan (opened m) m.log)
+    → IfOk r (λ text. text ≡ reported_alone (mode_of work) m.plan m.facts (Some m.log))
 report_is m plan log lines (Err e) work is p l at h = tt
 report_is m plan log lines (Ok text) work is p l at h =
     let of_mesh : IsReport m.plan m.log lines text =
     subst (λ (es : List Entry). IsReport m.plan es lines text) l
     (subst (λ (q : Plan). IsReport q log lines text) p h) in
-    subst (λ (w : Work). text ≡ reported_by (mode_of w) m.plan (opened m) m.log) (sym is) (of_mesh (opened m) at)
+    subst (λ (w : Work). text ≡ reported_alone (mode_of w) m.plan m.facts (Some m.log)) (sym is) (of_mesh (opened m) at)
 
 -- and a summary of it is its summary
 pub summary_is : {E : Type 0} (m : MeshView) (plan : Plan) (log : List Entry) (lines : List GeomLine)
     (r : Result (List ℕ) E) (work : Work) (s c : ℕ) → work ≡ works.Generate s c → plan ≡ m.plan → log ≡ m.log
     → lines ≡ listing (world_of m) → IfOk r (IsSummary plan log lines)
-    → IfOk r (λ text. text ≡ reported_by (mode_of work) m.plan (opened m) m.log)
+    → IfOk r (λ text. text ≡ reported_alone (mode_of work) m.plan m.facts (Some m.log))
 summary_is m plan log lines (Err e) work s c is p l at h = tt
 summary_is m plan log lines (Ok text) work s c is p l at h =
     let of_mesh : IsSummary m.plan m.log lines text =
     subst (λ (es : List Entry). IsSummary m.plan es lines text) l
     (subst (λ (q : Plan). IsSummary q log lines text) p h) in
-    subst (λ (w : Work). text ≡ reported_by (mode_of w) m.plan (opened m) m.log) (sym is) (of_mesh (opened m) at)
+    subst (λ (w : Work). text ≡ reported_alone (mode_of w) m.plan m.facts (Some m.log)) (sym is) (of_mesh (opened m) at)
 
 -- A mesh that ran
 
@@ -69,71 +84,71 @@ ran_to_end mode m (Err refusals.LogFull) kept due is rest whole =
 ran_to_end mode m (Err refusals.NoMemory) kept due is rest whole =
     absurd (subst (λ (d : Due). IsWhole (ending_by d)) is whole)
 
-report_cause : (w : World) (log : List Entry) (names : List (List ℕ)) (kept : Option (List ℕ)) → kept ≡ slice_get names 0
-    → LentCause w (Some log) names (ending_with kept)
-report_cause w log names None e = (refl, none_kept names (sym e))
-report_cause w log names (Some name) e = (refl, sym e)
+report_cause : (order : StepOrder) (w : World) (log : List Entry) (names : List (List ℕ)) (kept : Option (List ℕ)) → kept ≡ slice_get names 0
+    → LentCause order w (Some log) names (ending_with kept)
+report_cause order w log names None e = (refl, none_kept names (sym e))
+report_cause order w log names (Some name) e = (refl, sym e)
 
-cause_of : (mode : Mode) (m : MeshView) (drained : Result (Unit {0}) DrainRefusal) (kept : Option (List ℕ))
+cause_of : (order : StepOrder) (mode : Mode) (m : MeshView) (drained : Result (Unit {0}) DrainRefusal) (kept : Option (List ℕ))
     (names : List (List ℕ)) (due : Due) → IsDueOf mode m drained kept due → kept ≡ slice_get names 0
-    → (IsErrOf drained refusals.LogFull → RanFull (opened m) m.log)
-    → LentCause (opened m) (Some m.log) names (ending_by due)
-cause_of mode m (Ok u) kept names (dues.Report text back) is first full =
-    report_cause (opened m) m.log names back (is.1 ∙ first)
-cause_of mode m (Ok u) kept names (dues.Stopped stop) is first full =
-    subst (λ (s : Stop). LentCause (opened m) (Some m.log) names (ending_by (dues.Stopped s))) (sym is) tt
-cause_of mode m (Err refusals.LogFull) kept names due is first full =
-    subst (λ (d : Due). LentCause (opened m) (Some m.log) names (ending_by d)) (sym is) (full refl)
-cause_of mode m (Err refusals.NoMemory) kept names due is first full =
-    subst (λ (d : Due). LentCause (opened m) (Some m.log) names (ending_by d)) (sym is) tt
+    → (IsErrOf drained refusals.LogFull → RanFull order (opened m) m.log)
+    → LentCause order (opened m) (Some m.log) names (ending_by due)
+cause_of order mode m (Ok u) kept names (dues.Report text back) is first full =
+    report_cause order (opened m) m.log names back (is.1 ∙ first)
+cause_of order mode m (Ok u) kept names (dues.Stopped stop) is first full =
+    subst (λ (s : Stop). LentCause order (opened m) (Some m.log) names (ending_by (dues.Stopped s))) (sym is) tt
+cause_of order mode m (Err refusals.LogFull) kept names due is first full =
+    subst (λ (d : Due). LentCause order (opened m) (Some m.log) names (ending_by d)) (sym is) (full refl)
+cause_of order mode m (Err refusals.NoMemory) kept names due is first full =
+    subst (λ (d : Due). LentCause order (opened m) (Some m.log) names (ending_by d)) (sym is) tt
 
 -- the text that is due is that of the mesh
 pub due_is : (mode : Mode) (m : MeshView) (drained : Result (Unit {0}) DrainRefusal) (kept : Option (List ℕ)) (due : Due)
-    → IsDueOf mode m drained kept due → IsDue due (reported mode m.plan (opened m) (Some m.log))
+    → IsDueOf mode m drained kept due → IsDue due (reported_alone mode m.plan m.facts (Some m.log))
 due_is mode m (Ok u) kept (dues.Report text back) is = is.0
 due_is mode m (Ok u) kept (dues.Stopped stop) is = tt
 due_is mode m (Err refusals.LogFull) kept due is =
-    subst (λ (d : Due). IsDue d (reported mode m.plan (opened m) (Some m.log))) (sym is) tt
+    subst (λ (d : Due). IsDue d (reported_alone mode m.plan m.facts (Some m.log))) (sym is) tt
 due_is mode m (Err refusals.NoMemory) kept due is =
-    subst (λ (d : Due). IsDue d (reported mode m.plan (opened m) (Some m.log))) (sym is) tt
+    subst (λ (d : Due). IsDue d (reported_alone mode m.plan m.facts (Some m.log))) (sym is) tt
 
 -- an order from an empty log
-order_from : (w : World) (earlier log added : List Entry) → earlier ≡ [] → log ≡ earlier ++ added
-    → FollowsOrder fixed_order w earlier added → FollowsOrder fixed_order w [] log
-order_from w earlier log added none e order =
-    subst (λ (l : List Entry). FollowsOrder fixed_order w [] l) (sym (e ∙ ap (λ es. es ++ added) none))
-    (subst (λ (es : List Entry). FollowsOrder fixed_order w es added) none order)
+order_from : (order : StepOrder) (w : World) (earlier log added : List Entry) → earlier ≡ [] → log ≡ earlier ++ added
+    → FollowsOrder order w earlier added → FollowsOrder order w [] log
+order_from order w earlier log added none e follows =
+    subst (λ (l : List Entry). FollowsOrder order w [] l) (sym (e ∙ ap (λ es. es ++ added) none))
+    (subst (λ (es : List Entry). FollowsOrder order w es added) none follows)
 
 -- what a mesh did that began with an empty log
-mesh_ran : (mode : Mode) (old new : MeshView) (xs ys : List DriveView) (drained : Result (Unit {0}) DrainRefusal)
-    (kept : Option (List ℕ)) (due : Due) → old.log ≡ [] → (a : Adds old new xs ys)
+mesh_ran : (order : StepOrder) (mode : Mode) (old new : MeshView) (xs ys : List DriveView) (drained : Result (Unit {0}) DrainRefusal)
+    (kept : Option (List ℕ)) (due : Due) → old.log ≡ [] → (a : Adds order old new xs ys)
     → KeepsHistory (opened new) new.log → Fits (opened new) new.log → OnOk drained (RanToItsEnd (opened new) new.log)
-    → IsDueOf mode new drained kept due → MeshRan new.plan new.facts (ending_by due) new.log
-mesh_ran mode old new xs ys drained kept due none a history fits rest is = record {
+    → IsDueOf mode new drained kept due → MeshRan order new.plan new.facts (ending_by due) new.log
+mesh_ran order mode old new xs ys drained kept due none a history fits rest is = record {
   history = history;
   fits = fits;
-  order = order_from (opened new) old.log new.log a.added none (ap (λ (m : MeshView). m.log) a.mesh)
-      (subst (λ (w : World). FollowsOrder fixed_order w old.log a.added) (sym (ap (λ (m : MeshView). opened m) a.mesh)) a.order);
+  follows = order_from order (opened new) old.log new.log a.added none (ap (λ (m : MeshView). m.log) a.mesh)
+      (subst (λ (w : World). FollowsOrder order w old.log a.added) (sym (ap (λ (m : MeshView). opened m) a.mesh)) a.follows);
   to_its_end = λ whole. ran_to_end mode new drained kept due is rest whole;
 }
 
 -- the drives did what the log of a mesh says that began with an empty one
-served_log : (old new : MeshView) (xs ys : List DriveView) → old.log ≡ [] → (a : Adds old new xs ys)
+served_log : (order : StepOrder) (old new : MeshView) (xs ys : List DriveView) → old.log ≡ [] → (a : Adds order old new xs ys)
     → ServeAll new.log 0 xs ys
-served_log old new xs ys none a =
+served_log order old new xs ys none a =
     subst (λ (l : List Entry). ServeAll l 0 xs ys)
     (sym (ap (λ (m : MeshView). m.log) a.mesh ∙ ap (λ es. es ++ a.added) none)) a.drives
 
 -- the drives are out after they served
-pub out_after : (s : ShelfView) (old new : MeshView) (names : List (List ℕ)) (xs ys : List DriveView)
-    → AreOut s names xs → Adds old new xs ys → AreOut s names ys
-out_after s old new names xs ys out a = out_served s a.added 0 names xs ys out a.drives
+pub out_after : (order : StepOrder) (s : ShelfView) (old new : MeshView) (names : List (List ℕ)) (xs ys : List DriveView)
+    → AreOut s names xs → Adds order old new xs ys → AreOut s names ys
+out_after order s old new names xs ys out a = out_served s a.added 0 names xs ys out a.drives
 
 -- the drives are out after they served, under names that stay
-pub still_out : (s : ShelfView) (old new : MeshView) (names names_after : List (List ℕ)) (xs ys : List DriveView)
-    → names_after ≡ names → AreOut s names xs → Adds old new xs ys → AreOut s names_after ys
-still_out s old new names names_after xs ys e out adds =
-    subst (λ (ns : List (List ℕ)). AreOut s ns ys) (sym e) (out_after s old new names xs ys out adds)
+pub still_out : (order : StepOrder) (s : ShelfView) (old new : MeshView) (names names_after : List (List ℕ)) (xs ys : List DriveView)
+    → names_after ≡ names → AreOut s names xs → Adds order old new xs ys → AreOut s names_after ys
+still_out order s old new names names_after xs ys e out adds =
+    subst (λ (ns : List (List ℕ)). AreOut s ns ys) (sym e) (out_after order s old new names xs ys out adds)
 
 -- what is given back under names that stayed
 pub given_under : (first : Option (List ℕ)) (names names_after : List (List ℕ)) (ys : List DriveView) (a b : ShelfView)
@@ -143,17 +158,17 @@ given_under first names names_after ys a b e given =
     (given.0, given.1, subst (λ (ns : List (List ℕ)). GivesBack a ns ys given.0 b) e given.2)
 
 -- a run over drives
-pub ran_drives : (mode : Mode) (old new : MeshView) (xs ys : List DriveView)
+pub ran_drives : (order : StepOrder) (mode : Mode) (old new : MeshView) (xs ys : List DriveView)
     (drained : Result (Unit {0}) DrainRefusal) (first : Option (List ℕ)) (due : Due) (names : List (List ℕ))
     (facts : List (ℕ × ℕ)) (log : Option (Room Entry)) (entries : Room Entry) (a b : ShelfView)
-    → old.log ≡ [] → Adds old new xs ys
+    → old.log ≡ [] → Adds order old new xs ys
     → KeepsHistory (opened new) new.log → Fits (opened new) new.log → OnOk drained (RanToItsEnd (opened new) new.log)
-    → (IsErrOf drained refusals.LogFull → RanFull (opened new) new.log)
+    → (IsErrOf drained refusals.LogFull → RanFull order (opened new) new.log)
     → IsDueOf mode new drained first due
     → (kept : List (List ℕ)) × (first ≡ slice_get kept 0) × GivesBack a names ys kept b
     → facts ≡ old.facts → old.facts ≡ map size_of xs → log ≡ Some entries → entries.items ≡ new.log
-    → RunsDrives old.plan names xs facts (entries_in log) (ending_by due) a b
-ran_drives mode old new xs ys drained first due names facts log entries a b none adds history fits rest full is given same_facts sizes log_is items =
+    → RunsDrives order old.plan names xs facts (entries_in log) (ending_by due) a b
+ran_drives order mode old new xs ys drained first due names facts log entries a b none adds history fits rest full is given same_facts sizes log_is items =
     moved (ap (λ l. entries_in l) log_is ∙ ap (λ (l : List Entry). Some l) items) (same_facts ∙ facts_kept)
   where
     plan_kept : old.plan ≡ new.plan
@@ -162,46 +177,46 @@ ran_drives mode old new xs ys drained first due names facts log entries a b none
     facts_kept : old.facts ≡ new.facts
     facts_kept = sym (ap (λ (m : MeshView). m.facts) adds.mesh)
 
-    ran : RunsDrives new.plan names xs new.facts (Some new.log) (ending_by due) a b
+    ran : RunsDrives order new.plan names xs new.facts (Some new.log) (ending_by due) a b
     ran = record {
       served = ys;
       kept = given.0;
-      serves = served_log old new xs ys none adds;
+      serves = served_log order old new xs ys none adds;
       given = given.2;
       sizes = λ some. sym facts_kept ∙ sizes;
-      mesh = mesh_ran mode old new xs ys drained first due none adds history fits rest is;
-      cause = cause_of mode new drained first given.0 due is given.1 full;
+      mesh = mesh_ran order mode old new xs ys drained first due none adds history fits rest is;
+      cause = cause_of order mode new drained first given.0 due is given.1 full;
     }
 
     moved : entries_in log ≡ Some new.log → facts ≡ new.facts
-        → RunsDrives old.plan names xs facts (entries_in log) (ending_by due) a b
+        → RunsDrives order old.plan names xs facts (entries_in log) (ending_by due) a b
     moved e f =
-        subst (λ (l : Option (List Entry)). RunsDrives old.plan names xs facts l (ending_by due) a b) (sym e)
-        (subst (λ (fs : List (ℕ × ℕ)). RunsDrives old.plan names xs fs (Some new.log) (ending_by due) a b) (sym f)
-        (subst (λ (p : Plan). RunsDrives p names xs new.facts (Some new.log) (ending_by due) a b) (sym plan_kept) ran))
+        subst (λ (l : Option (List Entry)). RunsDrives order old.plan names xs facts l (ending_by due) a b) (sym e)
+        (subst (λ (fs : List (ℕ × ℕ)). RunsDrives order old.plan names xs fs (Some new.log) (ending_by due) a b) (sym f)
+        (subst (λ (p : Plan). RunsDrives order p names xs new.facts (Some new.log) (ending_by due) a b) (sym plan_kept) ran))
 
 -- and what is due of it
-pub ran_due : (mode : Mode) (old new : MeshView) (xs ys : List DriveView) (drained : Result (Unit {0}) DrainRefusal)
+pub ran_due : (order : StepOrder) (mode : Mode) (old new : MeshView) (xs ys : List DriveView) (drained : Result (Unit {0}) DrainRefusal)
     (first : Option (List ℕ)) (due : Due) (facts : List (ℕ × ℕ)) (log : Option (Room Entry)) (entries : Room Entry)
-    → Adds old new xs ys → IsDueOf mode new drained first due → facts ≡ old.facts → log ≡ Some entries
-    → entries.items ≡ new.log → IsDue due (reported mode old.plan (opening old.plan facts) (entries_in log))
-ran_due mode old new xs ys drained first due facts log entries adds is same_facts log_is items =
-    subst (λ (l : Option (List Entry)). IsDue due (reported mode old.plan (opening old.plan facts) l))
+    → Adds order old new xs ys → IsDueOf mode new drained first due → facts ≡ old.facts → log ≡ Some entries
+    → entries.items ≡ new.log → IsDue due (reported_alone mode old.plan facts (entries_in log))
+ran_due order mode old new xs ys drained first due facts log entries adds is same_facts log_is items =
+    subst (λ (l : Option (List Entry)). IsDue due (reported_alone mode old.plan facts l))
     (sym (ap (λ l. entries_in l) log_is ∙ ap (λ (l : List Entry). Some l) items))
-    (subst (λ (fs : List (ℕ × ℕ)). IsDue due (reported mode old.plan (opening old.plan fs) (Some new.log)))
+    (subst (λ (fs : List (ℕ × ℕ)). IsDue due (reported_alone mode old.plan fs (Some new.log)))
     (sym (same_facts ∙ sym (ap (λ (m : MeshView). m.facts) adds.mesh)))
-    (subst (λ (p : Plan). IsDue due (reported mode p (opening p new.facts) (Some new.log)))
+    (subst (λ (p : Plan). IsDue due (reported_alone mode p new.facts (Some new.log)))
     (ap (λ (m : MeshView). m.plan) adds.mesh)
     (due_is mode new drained first due is)))
 
 -- drives of which no mesh was opened
-pub gave_back : (plan : Plan) (names : List (List ℕ)) (xs : List DriveView) (facts : List (ℕ × ℕ))
+pub gave_back : (order : StepOrder) (plan : Plan) (names : List (List ℕ)) (xs : List DriveView) (facts : List (ℕ × ℕ))
     (log : Option (Room Entry)) (due : Due) (a b : ShelfView) → due ≡ dues.Stopped stops.NoMemory → log ≡ None
     → (first : Option (List ℕ)) → (kept : List (List ℕ)) × (first ≡ slice_get kept 0) × GivesBack a names xs kept b
-    → RunsDrives plan names xs facts (entries_in log) (ending_by due) a b
-gave_back plan names xs facts log due a b due_is log_is first given =
-    subst (λ (d : Due). RunsDrives plan names xs facts (entries_in log) (ending_by d) a b) (sym due_is)
-    (subst (λ (l : Option (Room Entry)). RunsDrives plan names xs facts (entries_in l) OutOfMemory a b) (sym log_is)
+    → RunsDrives order plan names xs facts (entries_in log) (ending_by due) a b
+gave_back order plan names xs facts log due a b due_is log_is first given =
+    subst (λ (d : Due). RunsDrives order plan names xs facts (entries_in log) (ending_by d) a b) (sym due_is)
+    (subst (λ (l : Option (Room Entry)). RunsDrives order plan names xs facts (entries_in l) OutOfMemory a b) (sym log_is)
     (record {
       served = xs;
       kept = given.0;

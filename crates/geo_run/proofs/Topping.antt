@@ -5,30 +5,33 @@ use Rattle.geo_base.specs.Faults.{RoseBy}
 use Rattle.geo_model.specs.declared.step.Entry.{Entry}
 use Rattle.geo_model.specs.World.{World, Plan}
 use Rattle.geo_model.specs.Opening.{opening}
-use Rattle.geo_headline.specs.Modes.{Mode, StepMode, RunMode, GenMode, Accepts}
+use Rattle.geo_headline.specs.Modes.{Mode, StepMode, RunMode, GenMode, SweepMode, WatchMode, TraceMode, VerifyMode, StartsThreads}
 use Rattle.geo_headline.specs.Outside.{ShelfView, SinkView, SourceView, kept_back}
-use Rattle.geo_headline.specs.Endings.{Ending, Reported, ReportedButFault, BadWords, NoScript, ReadFault, ShelfFault, NoDisk, BadSize, OutOfMemory, LogFull, TooLong, Call, due_text, failed_takes, reported, status_of}
+use Rattle.geo_headline.specs.Endings.{Ending, Reported, ReportedButFault, BadWords, NoScript, ReadFault, ShelfFault, NoDisk, BadSize, OutOfMemory, LogFull, TooLong, Answered, NoTrace, Call, due_text, failed_takes, reported, status_of}
 use Rattle.geo_headline.specs.Headline.{FollowsMode, ImagesStayAt, IsComplete, KeepsAll, Prints}
 use Rattle.geo_run.specs.declared.finish.Finish.{Finish}
 use Rattle.geo_run.specs.Calls.{Finishes, Keeps, KeepsInside, added_to, call_of, outside_of}
 use Rattle.geo_run.specs.Ends.{entries_in}
 use Rattle.geo_run.specs.Stops.{IsDue, ending_by}
-use Rattle.geo_run.specs.Work.{IsAlone}
 use Rattle.geo_run.specs.Writes.{Writes, WritesEnding}
 use Rattle.geo_run.proofs.Completing.{complete}
 
 -- Where memory ran out at the end
 
-order_at : (mode : Mode) (plan : Plan) (opened : World) (ending : Ending) (log : List Entry) → (mode ≡ RunMode → ⊥)
+order_at : (mode : Mode) (plan : Plan) (opened : World) (ending : Ending) (log : List Entry) → (StartsThreads mode → ⊥)
     → FollowsMode mode plan opened ending log → FollowsMode mode plan opened OutOfMemory log
-order_at StepMode plan opened ending log other h = h
-order_at RunMode plan opened ending log other h = absurd (other refl)
-order_at (GenMode s c) plan opened ending log other h = h
+order_at StepMode plan opened ending log alone h = h
+order_at RunMode plan opened ending log alone h = absurd (alone refl)
+order_at (GenMode s c) plan opened ending log alone h = h
+order_at SweepMode plan opened ending log alone h = h
+order_at WatchMode plan opened ending log alone h = absurd (alone refl)
+order_at TraceMode plan opened ending log alone h = absurd (alone refl)
+order_at VerifyMode plan opened ending log alone h = h
 
-orders_at : (mode : Mode) (plan : Plan) (opened : World) (ending : Ending) (log : Option (List Entry)) → (mode ≡ RunMode → ⊥)
+orders_at : (mode : Mode) (plan : Plan) (opened : World) (ending : Ending) (log : Option (List Entry)) → (StartsThreads mode → ⊥)
     → IfSome log (FollowsMode mode plan opened ending) → IfSome log (FollowsMode mode plan opened OutOfMemory)
-orders_at mode plan opened ending None other h = h
-orders_at mode plan opened ending (Some l) other h = order_at mode plan opened ending l other h
+orders_at mode plan opened ending None alone h = h
+orders_at mode plan opened ending (Some l) alone h = order_at mode plan opened ending l alone h
 
 stay_at : (call : Call) (ending : Ending) → ImagesStayAt call ending → ImagesStayAt call OutOfMemory
 stay_at call OutOfMemory h = h
@@ -42,6 +45,8 @@ stay_at call (NoDisk name) h = λ alone. h
 stay_at call (BadSize name) h = λ alone. h
 stay_at call LogFull h = λ alone. h
 stay_at call TooLong h = λ alone. h
+stay_at call (Answered found) h = λ alone. h
+stay_at call (NoTrace line) h = λ alone. h
 
 stays_at : (call : Call) (ending : Ending) (log : Option (List Entry)) → IfNone log (ImagesStayAt call ending)
     → IfNone log (ImagesStayAt call OutOfMemory)
@@ -49,9 +54,9 @@ stays_at call ending None h = stay_at call ending h
 stays_at call ending (Some l) h = h
 
 -- what a call keeps it keeps where memory runs out at its end
-out_of_memory : (call : Call) (mode : Mode) (plan : Plan) (ending : Ending) → (mode ≡ RunMode → ⊥)
+out_of_memory : (call : Call) (mode : Mode) (plan : Plan) (ending : Ending) → (StartsThreads mode → ⊥)
     → KeepsInside call mode plan ending → KeepsInside call mode plan OutOfMemory
-out_of_memory call mode plan ending other k = record {
+out_of_memory call mode plan ending alone k = record {
   read_as = k.read_as;
   gave = k.gave;
   cause = tt;
@@ -59,7 +64,7 @@ out_of_memory call mode plan ending other k = record {
   is_opened = k.is_opened;
   history = k.history;
   to_its_end = λ whole. absurd whole;
-  order = orders_at mode plan (opening plan call.facts) ending call.log other k.order;
+  order = orders_at mode plan (opening plan call.facts) ending call.log alone k.order;
   fits = k.fits;
   disks = k.disks;
   lent = record {
@@ -109,7 +114,7 @@ took call status due text w e =
 
 -- both
 keeps_all : (call : Call) (mode : Mode) (plan : Plan) (ending : Ending) → KeepsInside call mode plan ending
-    → Writes call.status (status_of ending) (due_text (reported mode plan (opening plan call.facts) call.log) ending)
+    → Writes call.status (status_of ending) (due_text (reported mode call.text plan call.facts call.log) ending)
     call.before.sink call.after.sink
     → call.written ≡ added_to call.before.sink.taken call.after.sink.taken
     → KeepsAll call mode plan ending
@@ -118,10 +123,10 @@ keeps_all call mode plan ending k w e = record {
   bytes = record {
     gave = k.gave.given;
     had_left = k.gave.had_left;
-    took = took call call.status (status_of ending) (due_text (reported mode plan (opening plan call.facts) call.log) ending) w e;
+    took = took call call.status (status_of ending) (due_text (reported mode call.text plan call.facts call.log) ending) w e;
   };
   cause = k.cause;
-  prints = prints call ending (due_text (reported mode plan (opening plan call.facts) call.log) ending) w e;
+  prints = prints call ending (due_text (reported mode call.text plan call.facts call.log) ending) w e;
   has_log = k.has_log;
   is_opened = k.is_opened;
   history = k.history;
@@ -138,12 +143,12 @@ keeps_all call mode plan ending k w e = record {
 
 -- a run that finished and wrote what is due keeps all that it has to
 pub keeps : (words : List (List ℕ)) (finish : Finish) (status : ℕ) (source source_after : SourceView)
-    (sink sink_after : SinkView) (shelf shelf_after : ShelfView) → IsAlone words
+    (sink sink_after : SinkView) (shelf shelf_after : ShelfView)
     → (f : Finishes words finish source source_after shelf shelf_after)
     → ((reported : List ℕ) → IsDue finish.due reported → WritesEnding reported (ending_by finish.due) status sink sink_after)
     → Keeps (call_of words (record { status = status; log = finish.log; facts = finish.facts })
     (outside_of source sink shelf) (outside_of source_after sink_after shelf_after))
-keeps words finish status source source_after sink sink_after shelf shelf_after alone f writes =
+keeps words finish status source source_after sink sink_after shelf shelf_after f writes =
     by written.actual written.is written.writes
   where
     call : Call
@@ -151,7 +156,7 @@ keeps words finish status source source_after sink sink_after shelf shelf_after 
         (outside_of source sink shelf) (outside_of source_after sink_after shelf_after)
 
     text : List ℕ
-    text = reported f.mode f.plan (opening f.plan finish.facts.items) (entries_in finish.log)
+    text = reported f.mode call.text f.plan finish.facts.items (entries_in finish.log)
 
     written : WritesEnding text (ending_by finish.due) status sink sink_after
     written = writes text f.due
@@ -178,6 +183,5 @@ keeps words finish status source source_after sink sink_after shelf shelf_after 
     }
 
 -- and is complete
-pub completes : (words : List (List ℕ)) (call : Call) → call.words ≡ words → IsAlone words → Keeps call → IsComplete call
-completes words call e alone k =
-    complete call k.mode k.plan k.ending (λ a. alone (subst (λ (ws : List (List ℕ)). Accepts ws RunMode) e a)) k.all
+pub completes : (call : Call) → Keeps call → IsComplete call
+completes call k = complete call k.mode k.plan k.ending k.all

@@ -1,21 +1,21 @@
 -- The calls of the program as they are seen from outside.
 use Rattle.std.specs.Prelude.{◌≡◌, ◌⊎◌, ℕ, ◌<◌, ◌≤◌, List, [], ◌++◌, drop, length, None, Result, Ok, Err, IfSome, IfNone, IsSome, IsSomeAnd, IsTrue, ⊤}
 use Rattle.geo_base.specs.Faults.{Rose}
-use Rattle.geo_headline.specs.Modes.{Mode, StepMode, RunMode}
+use Rattle.geo_headline.specs.Modes.{Mode, StartsThreads, source_limit}
 use Rattle.geo_model.specs.Script.{Fault, script}
 use Rattle.geo_model.specs.World.{Plan}
 use Rattle.geo_model.specs.Opening.{opening}
 use Rattle.geo_headline.specs.Outside.{Outside, ShelfView, SinkView, SourceView, DisksAreKept, OthersStay, ImagesStand}
 use Rattle.geo_model.specs.Log.{Fits}
 use Rattle.geo_model.specs.History.{KeepsHistory, RanToItsEnd}
-use Rattle.geo_headline.specs.Endings.{Ending, Call, CauseOf, HasLog, IsOpened, IsWhole, reported, script_limit}
+use Rattle.geo_headline.specs.Endings.{Ending, Call, CauseOf, HasLog, IsOpened, IsWhole, order_of, reported}
 use Rattle.geo_headline.specs.Headline.{FollowsMode, ImagesStayAt, KeepsAll, LeavesOutside, LentAfter, ReadAs}
 use Rattle.geo_run.specs.declared.top.Ended.{Ended}
 use Rattle.geo_run.specs.declared.finish.Finish.{Finish}
 use Rattle.geo_run.specs.declared.due.Due.TheVariants as dues
 use Rattle.geo_run.specs.declared.stop.Stop.{Stop}
 use Rattle.geo_run.specs.declared.stop.Stop.TheVariants as stops
-use Rattle.geo_run.specs.Ends.{RunsPlan, entries_in}
+use Rattle.geo_run.specs.Ends.{RunsPlan, entries_in, reported_alone}
 use Rattle.geo_run.specs.Stops.{ending_by, IsDue}
 
 -- what came behind so many bytes
@@ -76,8 +76,9 @@ pub record Finishes (words : List (List ℕ)) (finish : Finish) (source source_a
     (shelf shelf_after : ShelfView) : Type 0 where
   pub mode : Mode
   pub plan : Plan
-  pub alone : mode ≡ RunMode → ⊥
-  pub due : IsDue finish.due (reported mode plan (opening plan finish.facts.items) (entries_in finish.log))
+  pub alone : StartsThreads mode → ⊥
+  pub due : IsDue finish.due
+      (reported mode (added_to source.given source_after.given) plan finish.facts.items (entries_in finish.log))
   pub keeps : (status : ℕ) (sink sink_after : SinkView)
       → KeepsInside
       (call_of words (record { status = status; log = finish.log; facts = finish.facts }) (outside_of source sink shelf)
@@ -95,8 +96,8 @@ pub record EndsEarly (finish : Finish) (stop : Stop) (before after : ShelfView) 
 -- the plan of a text was run, or the first fault of the text is told
 abbrev pub FinishesPlan : Result Plan Fault → Mode → Finish → ShelfView → ShelfView → Type 0
 FinishesPlan (Ok plan) mode finish before after =
-    RunsPlan plan finish.facts.items (entries_in finish.log) (ending_by finish.due) before after
-    × IsDue finish.due (reported mode plan (opening plan finish.facts.items) (entries_in finish.log))
+    RunsPlan (order_of mode) plan finish.facts.items (entries_in finish.log) (ending_by finish.due) before after
+    × IsDue finish.due (reported_alone mode plan finish.facts.items (entries_in finish.log))
 FinishesPlan (Err fault) mode finish before after =
     EndsEarly finish (stops.NoScript fault.line fault.cause) before after
 
@@ -108,28 +109,32 @@ FinishesText text mode finish before after =
 -- Of a source
 
 -- why a source wasn't read to its end
-abbrev pub UnreadCause : List ℕ → SourceView → SourceView → Stop → Type 0
-UnreadCause text before after stops.ReadFault = (length text ≤ script_limit) × Rose before.faults after.faults
-UnreadCause text before after stops.TooLong = script_limit < length text
-UnreadCause text before after stops.NoMemory = ⊤
-UnreadCause text before after _ = ⊥
+abbrev pub UnreadCause : Mode → List ℕ → SourceView → SourceView → Stop → Type 0
+UnreadCause mode text before after stops.ReadFault =
+    (length text ≤ source_limit mode) × Rose before.faults after.faults
+UnreadCause mode text before after stops.TooLong = source_limit mode < length text
+UnreadCause mode text before after stops.NoMemory = ⊤
+UnreadCause mode text before after _ = ⊥
 
 -- a source gave this text, but wasn't read to its end
-pub record EndsUnread (text : List ℕ) (source source_after : SourceView) (finish : Finish)
+pub record EndsUnread (mode : Mode) (text : List ℕ) (source source_after : SourceView) (finish : Finish)
     (before after : ShelfView) : Type 0 where
   pub stop : Stop
-  pub cause : UnreadCause text source source_after stop
+  pub cause : UnreadCause mode text source source_after stop
   pub early : EndsEarly finish stop before after
 
 -- a source was read to its end, and its text was run
-pub record EndsRead (text : List ℕ) (source_after : SourceView) (finish : Finish) (before after : ShelfView) : Type 0 where
-  pub few : length text ≤ script_limit
+pub record EndsRead (mode : Mode) (text : List ℕ) (source_after : SourceView) (finish : Finish)
+    (before after : ShelfView) : Type 0 where
+  pub few : length text ≤ source_limit mode
   pub ended : IsTrue source_after.ended
   pub none_left : IfSome source_after.left (λ left. left ≡ [])
-  pub of_text : FinishesText text StepMode finish before after
+  pub of_text : FinishesText text mode finish before after
 
 -- a source gave a text, which was run if it is all of it
-pub record FinishesSource (source source_after : SourceView) (finish : Finish) (before after : ShelfView) : Type 0 where
+pub record FinishesSource (mode : Mode) (source source_after : SourceView) (finish : Finish)
+    (before after : ShelfView) : Type 0 where
   pub text : List ℕ
   pub gave : Gave source text source_after
-  pub ends : EndsRead text source_after finish before after ⊎ EndsUnread text source source_after finish before after
+  pub ends : EndsRead mode text source_after finish before after
+      ⊎ EndsUnread mode text source source_after finish before after

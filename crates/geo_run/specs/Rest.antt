@@ -1,10 +1,10 @@
--- How a mesh goes to rest in the fixed order.
+-- How a mesh goes to rest in an order.
 use Rattle.std.specs.Prelude.{◌≡◌, ℕ, ◌+◌, ◌-◌, ◌^◌, ◌≤◌, List, [], ◌∷◌, length, ⊤}
 use Rattle.geo_model.specs.declared.command.DiskDecl.{DiskDecl}
 use Rattle.geo_model.specs.declared.step.Entry.{Entry}
 use Rattle.geo_model.specs.World.{World, Plan}
 use Rattle.geo_model.specs.Log.{replay, owed}
-use Rattle.geo_model.specs.FixedOrder.{FollowsOrder, fixed_order}
+use Rattle.geo_model.specs.FixedOrder.{FollowsOrder, StepOrder}
 use Rattle.geo_headline.specs.Endings.{NextIsFull}
 use Rattle.geo_drain.specs.Meshes.{MeshView, opened}
 use Rattle.geo_drain.specs.Drain.{with_entries}
@@ -25,14 +25,14 @@ AreDrivesOf _ _ _ = ⊥
 abbrev pub DrivesFit : Plan → List (ℕ × ℕ) → List DriveView → Type 0
 DrivesFit plan facts xs = AreDrivesOf plan.disks facts xs
 
--- the mesh made more steps, in the fixed order with seat 0, and the drives did what its log says
-pub record Adds (old new : MeshView) (before after : List DriveView) : Type 0 where
+-- the mesh made more steps, in the order with seat 0, and the drives did what its log says
+pub record Adds (order : StepOrder) (old new : MeshView) (before after : List DriveView) : Type 0 where
   pub added : List Entry
   pub mesh : new ≡ with_entries old added
-  pub order : FollowsOrder fixed_order (opened old) old.log added
+  pub follows : FollowsOrder order (opened old) old.log added
   pub drives : ServeAll added 0 before after
 
 -- the step that is due has no place in the log, which with the places owed is as long as it may be, or one shorter
-pub record RanFull (opened : World) (log : List Entry) : Type 0 where
-  pub due : NextIsFull fixed_order opened log
+pub record RanFull (order : StepOrder) (opened : World) (log : List Entry) : Type 0 where
+  pub due : NextIsFull order opened log
   pub nearly : 2 ^ 32 - 1 ≤ length log + owed (replay opened log)

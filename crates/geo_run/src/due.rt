@@ -20,7 +20,8 @@ pub enum Due {
     Stopped(Stop),
 }
 
-const USAGE: &[u8] = b"usage: geomrun step | run | gen START COUNT\n";
+const USAGE: &[u8] =
+    b"usage: geomrun step | run | gen START COUNT | sweep | watch | trace | verify\n";
 
 const OUT_OF_MEMORY: &[u8] = b"out of memory\n";
 

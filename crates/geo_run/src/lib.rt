@@ -12,4 +12,4 @@ mod top;
 mod words;
 
 pub use top::{Ended, refuse_words, run_alone, without_memory};
-pub use words::starts_threads;
+pub use words::{is_built, starts_threads};

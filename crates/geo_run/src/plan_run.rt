@@ -1,10 +1,10 @@
 //! The run of a plan: its disks are taken, its mesh goes to rest, the disks are given back, and the report is made.
 ghost use Rattle.std.specs.Prelude.{◌≡◌, [], List, Some, None, map, IfOk, IsErrOf, OnOk, IsErr};
-ghost use Rattle.geo_headline.specs.Endings.{reported, reported_by};
+ghost use Rattle.geo_headline.specs.Endings.{order_of};
+ghost use Rattle.geo_model.specs.FixedOrder.{fixed_order};
 ghost use Rattle.geo_model.specs.History.{KeepsHistory, RanToItsEnd};
 ghost use Rattle.geo_model.specs.Laws.{NoneBusy};
 ghost use Rattle.geo_model.specs.Log.{Fits};
-ghost use Rattle.geo_model.specs.Opening.{opening};
 ghost use Rattle.geo_model.specs.Plans.{FactsFit, IsPlan};
 ghost use Rattle.geo_drain.specs.Meshes.{MeshView, opened, world_of};
 ghost use Rattle.geo_run.specs.Drives.{drive_view};
@@ -12,7 +12,7 @@ ghost use Rattle.geo_run.specs.Rest.{Adds, DrivesFit, RanFull};
 ghost use Rattle.geo_run.specs.Views.{shelf_view, size_of};
 ghost use Rattle.geo_run.specs.Lending.{AreOut};
 ghost use Rattle.geo_run.specs.Stops.{IsDue, ending_by};
-ghost use Rattle.geo_run.specs.Ends.{IsDueOf, RunsDrives, RunsPlan, entries_in};
+ghost use Rattle.geo_run.specs.Ends.{IsDueOf, RunsDrives, RunsPlan, entries_in, reported_alone};
 ghost use Rattle.geo_run.specs.Work.{mode_of};
 
 use crate::due::Due;
@@ -66,7 +66,7 @@ fn open_mesh<D: Disk>(
 /// The report of a mesh, or its summary.
 fn report_of(alloc: Global, mesh: &Mesh, work: &Work) -> Result<Block, NoMemory>
     ensures { IfOk result (λ text. text
-        ≡ reported_by (mode_of work.now) mesh.now.plan (opened mesh.now) mesh.now.log) }
+        ≡ reported_alone (mode_of work.now) mesh.now.plan mesh.now.facts (Some mesh.now.log)) }
 {
     let lines = mesh.listing(alloc)?;
     match work {
@@ -101,13 +101,13 @@ fn drain<D: Disk>(alloc: Global, mesh: &mut Mesh, lent: &mut Lent<D>) -> Result<
     requires drives { DrivesFit mesh.old.plan mesh.old.facts
         (map (drive_view D.held D.sector_bytes D.sector_count D.faults) lent.old.drives.items) }
     ensures names { lent.new.names.items ≡ lent.old.names.items }
-    ensures added { Adds mesh.old mesh.new
+    ensures added { Adds fixed_order mesh.old mesh.new
         (map (drive_view D.held D.sector_bytes D.sector_count D.faults) lent.old.drives.items)
         (map (drive_view D.held D.sector_bytes D.sector_count D.faults) lent.new.drives.items) }
     ensures history { KeepsHistory (opened mesh.new) mesh.new.log }
     ensures fits { Fits (opened mesh.new) mesh.new.log }
     ensures rest { OnOk result (RanToItsEnd (opened mesh.new) mesh.new.log) }
-    ensures full { IsErrOf result DrainRefusal.LogFull → RanFull (opened mesh.new) mesh.new.log }
+    ensures full { IsErrOf result DrainRefusal.LogFull → RanFull fixed_order (opened mesh.new) mesh.new.log }
 {
     come_to_rest(alloc, mesh, lent.drives.as_mut_slice())
 }
@@ -134,13 +134,13 @@ where
     requires out { AreOut
         (shelf_view H.told H.lent H.faults H.faults_of H.take_faults H.give_faults shelf.old) lent.names.items
         (map (drive_view H.D.held H.D.sector_bytes H.D.sector_count H.D.faults) lent.drives.items) }
-    ensures runs { RunsDrives mesh.plan lent.names.items
+    ensures runs { RunsDrives (order_of (mode_of work.now)) mesh.plan lent.names.items
         (map (drive_view H.D.held H.D.sector_bytes H.D.sector_count H.D.faults) lent.drives.items)
         result.facts.items (entries_in result.log) (ending_by result.due)
         (shelf_view H.told H.lent H.faults H.faults_of H.take_faults H.give_faults shelf.old)
         (shelf_view H.told H.lent H.faults H.faults_of H.take_faults H.give_faults shelf.new) }
     ensures due { IsDue result.due
-        (reported (mode_of work.now) mesh.plan (opening mesh.plan result.facts.items) (entries_in result.log)) }
+        (reported_alone (mode_of work.now) mesh.plan result.facts.items (entries_in result.log)) }
 {
     let mut mesh = mesh;
     let mut lent = lent;
@@ -173,13 +173,13 @@ where
     requires out { AreOut
         (shelf_view H.told H.lent H.faults H.faults_of H.take_faults H.give_faults shelf.old) lent.names.items
         (map (drive_view H.D.held H.D.sector_bytes H.D.sector_count H.D.faults) lent.drives.items) }
-    ensures runs { RunsDrives plan lent.names.items
+    ensures runs { RunsDrives (order_of (mode_of work.now)) plan lent.names.items
         (map (drive_view H.D.held H.D.sector_bytes H.D.sector_count H.D.faults) lent.drives.items)
         result.facts.items (entries_in result.log) (ending_by result.due)
         (shelf_view H.told H.lent H.faults H.faults_of H.take_faults H.give_faults shelf.old)
         (shelf_view H.told H.lent H.faults H.faults_of H.take_faults H.give_faults shelf.new) }
     ensures due { IsDue result.due
-        (reported (mode_of work.now) plan (opening plan result.facts.items) (entries_in result.log)) }
+        (reported_alone (mode_of work.now) plan result.facts.items (entries_in result.log)) }
 {
     match open_mesh(alloc, plan, lent.drives.as_slice()) {
         Ok((mesh, facts)) => run_mesh(alloc, mesh, facts, lent, work, shelf),
@@ -194,11 +194,11 @@ where
 pub fn run_plan<H: Shelf>(alloc: Global, plan: Plan, work: &Work, shelf: &mut H) -> Finish
 where
     H::D: Drop,
-    ensures runs { RunsPlan plan result.facts.items (entries_in result.log) (ending_by result.due)
+    ensures runs { RunsPlan (order_of (mode_of work.now)) plan result.facts.items (entries_in result.log) (ending_by result.due)
         (shelf_view H.told H.lent H.faults H.faults_of H.take_faults H.give_faults shelf.old)
         (shelf_view H.told H.lent H.faults H.faults_of H.take_faults H.give_faults shelf.new) }
     ensures due { IsDue result.due
-        (reported (mode_of work.now) plan (opening plan result.facts.items) (entries_in result.log)) }
+        (reported_alone (mode_of work.now) plan result.facts.items (entries_in result.log)) }
 {
     match take_disks(alloc, plan.disks(), shelf) {
         Ok(lent) => run_drives(alloc, plan, lent, work, shelf),

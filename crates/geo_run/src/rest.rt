@@ -1,5 +1,6 @@
 //! A mesh that goes to rest in the fixed order.
 ghost use Rattle.std.specs.Prelude.{map, OnOk, IsErrOf};
+ghost use Rattle.geo_model.specs.FixedOrder.{fixed_order};
 ghost use Rattle.geo_model.specs.History.{KeepsHistory, RanToItsEnd};
 ghost use Rattle.geo_model.specs.Laws.{NoneBusy};
 ghost use Rattle.geo_model.specs.Log.{Fits};
@@ -21,13 +22,13 @@ pub fn come_to_rest<D: Disk>(
     requires idle { NoneBusy (world_of mesh.old) }
     requires drives { DrivesFit mesh.old.plan mesh.old.facts
         (map (drive_view D.held D.sector_bytes D.sector_count D.faults) drives.old) }
-    ensures added { Adds mesh.old mesh.new
+    ensures added { Adds fixed_order mesh.old mesh.new
         (map (drive_view D.held D.sector_bytes D.sector_count D.faults) drives.old)
         (map (drive_view D.held D.sector_bytes D.sector_count D.faults) drives.new) }
     ensures history { KeepsHistory (opened mesh.new) mesh.new.log }
     ensures fits { Fits (opened mesh.new) mesh.new.log }
     ensures rest { OnOk result (RanToItsEnd (opened mesh.new) mesh.new.log) }
-    ensures full { IsErrOf result DrainRefusal.LogFull → RanFull (opened mesh.new) mesh.new.log }
+    ensures full { IsErrOf result DrainRefusal.LogFull → RanFull fixed_order (opened mesh.new) mesh.new.log }
 {
     run_to_rest(alloc, mesh, drives, &FixedOrder)
 }

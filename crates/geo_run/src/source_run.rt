@@ -1,9 +1,9 @@
 //! The runs of the program: of the script that the source gives, and of the one that is made from a number.
 ghost use Rattle.std.specs.Prelude.{◌<◌, ◌^◌, length};
 ghost use Rattle.geo_model.specs.Generator.{generated};
-ghost use Rattle.geo_headline.specs.Modes.{IsMode, GenMode};
+ghost use Rattle.geo_headline.specs.Modes.{IsAlone, IsMode, GenMode};
 ghost use Rattle.geo_run.specs.Views.{shelf_view, source_view};
-ghost use Rattle.geo_run.specs.Work.{IsAlone, mode_of, word_bytes};
+ghost use Rattle.geo_run.specs.Work.{IsBuilt, mode_of, word_bytes};
 ghost use Rattle.geo_run.specs.Calls.{Finishes, FinishesText, FinishesSource};
 
 use crate::finish::{Finish, unopened};
@@ -36,16 +36,22 @@ where
 }
 
 /// Reads the source to its end, and runs its text.
-fn run_source<S: Source, H: Shelf>(alloc: Global, source: &mut S, shelf: &mut H) -> Finish
+fn run_source<S: Source, H: Shelf>(
+    alloc: Global,
+    source: &mut S,
+    work: &Work,
+    shelf: &mut H,
+) -> Finish
 where
     H::D: Drop,
-    ensures { FinishesSource (source_view (S.stream source.old) (S.reads source.old) (S.faults source.old))
+    ensures { FinishesSource (mode_of work.now)
+        (source_view (S.stream source.old) (S.reads source.old) (S.faults source.old))
         (source_view (S.stream source.new) (S.reads source.new) (S.faults source.new)) result
         (shelf_view H.told H.lent H.faults H.faults_of H.take_faults H.give_faults shelf.old)
         (shelf_view H.told H.lent H.faults H.faults_of H.take_faults H.give_faults shelf.new) }
 {
     match read_all(alloc, source, LONGEST) {
-        Ok(text) => run_text(alloc, text.bytes(), &Work::Step, shelf),
+        Ok(text) => run_text(alloc, text.bytes(), work, shelf),
         Err(ReadRefusal::ReadFault) => unopened(alloc, Stop::ReadFault),
         Err(ReadRefusal::TooLong) => unopened(alloc, Stop::TooLong),
         Err(ReadRefusal::NoMemory) => unopened(alloc, Stop::NoMemory),
@@ -76,7 +82,8 @@ pub fn run_words<S: Source, H: Shelf>(
 ) -> Finish
 where
     H::D: Drop,
-    requires { IsAlone (word_bytes words.now) }
+    requires alone { IsAlone (word_bytes words.now) }
+    requires built { IsBuilt (word_bytes words.now) }
     ensures { Finishes (word_bytes words.now) result
         (source_view (S.stream source.old) (S.reads source.old) (S.faults source.old))
         (source_view (S.stream source.new) (S.reads source.new) (S.faults source.new))
@@ -84,7 +91,7 @@ where
         (shelf_view H.told H.lent H.faults H.faults_of H.take_faults H.give_faults shelf.new) }
 {
     match work_of(words) {
-        Some(Work::Step) => run_source(alloc, source, shelf),
+        Some(Work::Step) => run_source(alloc, source, &Work::Step, shelf),
         Some(Work::Generate { start, count }) => run_generated(alloc, start, count, shelf),
         None => unopened(alloc, Stop::BadWords),
     }

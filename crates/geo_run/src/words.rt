@@ -1,8 +1,7 @@
 //! The words of the program.
-ghost use Rattle.std.specs.Prelude.{◌↔◌, [], ◌∷◌, IsTrue, codes, string_bytes};
-ghost use Rattle.geo_headline.specs.Modes.{Accepts, RunMode};
+ghost use Rattle.std.specs.Prelude.{◌≡◌, ◌↔◌, [], ◌∷◌, IsTrue, codes, string_bytes};
 ghost use Rattle.geo_run.specs.Numbers.{IsNumberWithin, IsPlain};
-ghost use Rattle.geo_run.specs.Work.{AsksCount, AsksFor, word_bytes};
+ghost use Rattle.geo_run.specs.Work.{AskThreads, AsksCount, AsksFor, IsBuilt, word_bytes};
 
 /// What the words ask for.
 #[derive(Clone, Copy, Debug, PartialEq, Eq)]
@@ -92,17 +91,36 @@ fn generation_of(first: &String, start: &String, count: &String) -> Option<Work>
     }
 }
 
-/// Whether the words are the one word `run`, which asks for threads.
-pub fn starts_threads(words: &[String]) -> bool
-    ensures { IsTrue result ↔ Accepts (word_bytes words.now) RunMode }
+/// Whether the words are this one word.
+fn is_only(words: &[String], only: &str) -> bool
+    ensures { IsTrue result ↔ (word_bytes words.now ≡ only.now ∷ []) }
 {
     match words {
-        [word] => word.as_str() == "run",
+        [word] => word.as_str() == only,
         _ => false,
     }
 }
 
-/// What the words ask for, if they are accepted. The one word `run` asks for threads, and isn't looked at here.
+/// Whether the words ask for threads: whether they are the one word `run`, `watch` or `trace`.
+pub fn starts_threads(words: &[String]) -> bool
+    ensures { IsTrue result ↔ AskThreads (word_bytes words.now) }
+{
+    let run = is_only(words, "run");
+    let watch = is_only(words, "watch");
+    let trace = is_only(words, "trace");
+    run | watch | trace
+}
+
+/// Whether the words don't ask for what one thread can't do yet: whether they aren't the one word `sweep` or `verify`.
+pub fn is_built(words: &[String]) -> bool
+    ensures { IsTrue result ↔ IsBuilt (word_bytes words.now) }
+{
+    let sweep = is_only(words, "sweep");
+    let verify = is_only(words, "verify");
+    !sweep & !verify
+}
+
+/// What the words ask for, if they are accepted. Words that ask for threads, or for what isn't built, ask for no work.
 pub fn work_of(words: &[String]) -> Option<Work>
     ensures { AsksFor (word_bytes words.now) result }
 {

@@ -1,4 +1,5 @@
 -- The disks of the plan were had, or not.
+use Rattle.geo_headline.specs.Endings.{order_of}
 use Rattle.geo_run.specs.Work.{mode_of}
 use Rattle.geo_run.proofs.Plans.{decls_all, drives_fit, drives_out, names_apart, plan_ran, plan_stopped, sizes_fit, stopped_due}
 use Rattle.geo_run.proofs.plan_run.run_plan.Goals as goal
@@ -24,12 +25,12 @@ run_drives-requires-clause-out g c =
 
 pub returns-in-Ok-clause-runs : goal.returns-in-Ok-clause-runs
 returns-in-Ok-clause-runs g c =
-    plan_ran c.args.plan c.disks.result.now c.in-Ok.lent.names.items c.run_drives.result.facts.items _ _ _ _ _ _
+    plan_ran (order_of (mode_of c.args.work.now)) c.args.plan c.disks.result.now c.in-Ok.lent.names.items c.run_drives.result.facts.items _ _ _ _ _ _
     c.disks.ensures.plan c.disks.ensures.disks c.in-Ok.ensures.named c.in-Ok.ensures.taken c.run_drives.ensures.runs
 
 pub returns-in-Err-clause-runs : goal.returns-in-Err-clause-runs
 returns-in-Err-clause-runs g c =
-    plan_stopped c.args.plan c.disks.result.now c.unopened.result.facts.items c.unopened.result.log c.unopened.result.due
+    plan_stopped (order_of (mode_of c.args.work.now)) c.args.plan c.disks.result.now c.unopened.result.facts.items c.unopened.result.log c.unopened.result.due
     c.in-Err.stop _ _ c.disks.ensures.plan c.disks.ensures.disks c.in-Err.ensures.stopped c.unopened.ensures.due
     c.unopened.ensures.log
 

@@ -13,4 +13,4 @@ returns-in-Some-Generate g c =
 
 pub returns-in-None : goal.returns-in-None
 returns-in-None g c =
-    finishes_none _ c.unopened.result _ _ (c.in-None.ensures c.requires) c.unopened.ensures.due c.unopened.ensures.log
+    finishes_none _ c.unopened.result _ _ (c.in-None.ensures c.requires.alone c.requires.built) c.unopened.ensures.due c.unopened.ensures.log

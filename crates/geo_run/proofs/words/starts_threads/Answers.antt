@@ -1,8 +1,6 @@
--- The one word is `run`.
-use Rattle.geo_run.proofs.Digits.{asks_run}
+-- A word of threads stands alone, or none does.
+use Rattle.geo_run.proofs.Digits.{asks_threads}
 use Rattle.geo_run.proofs.words.starts_threads.Goals as goal
 
-pub returns-in-len1 : goal.returns-in-len1
-returns-in-len1 c =
-    asks_run c.args.words.now c.word-item.result c.as_str.result.now c.eq.result c.in-len1.len_at_least c.in-len1.len_below
-    c.word-item.is c.as_str.ensures.value c.eq.ensures
+pub returns : goal.returns
+returns c = asks_threads _ _ _ _ c.is_only-run.ensures c.is_only-watch.ensures c.is_only-trace.ensures
