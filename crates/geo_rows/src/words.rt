@@ -24,8 +24,8 @@ pub fn worked_sweeps()
     ensures synced_slice_report { swept_report 400 synced_slice_plan synced_slice_facts ≡ synced_slice_text }
 {}
 
-/// What a watched run prints: the report, and behind it the mesh as it was listed last to the client of the first actor;
-/// at the opening where none was, also where the drain made the listing.
+/// What a watched run prints: the report, and behind it the mesh as it was listed last to the client of the first
+/// actor, or that of the opening where it was listed to no client.
 #[tactic(auto, using(crate::proofs::WatchedRuns::worked_views))]
 pub fn worked_views()
     ensures first { watched 0 400 first_script first_plan first_facts ≡ first_watched }

@@ -43,7 +43,8 @@ pub fn lost_disks_are_refused()
     ensures invents_lent_disk { IsRefused InventsLentDisk }
 {}
 
-/// Neither does one that starts no job on a word that asks for threads; and an event worker that doesn't look isn't idle.
+/// Neither does one that starts no job on a word that asks for threads; and an event worker that doesn't look isn't
+/// idle.
 #[tactic(auto, using(crate::proofs::IdleJobs::drain_refused, crate::proofs::IdleJobs::event_worker_refused))]
 pub fn idle_jobs_are_refused()
     ensures drain { IsRefused LeavesAllToTheDrain }

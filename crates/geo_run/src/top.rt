@@ -26,8 +26,8 @@ pub struct Ended {
 
 /// All work of the program on words that start no thread and whose code stands: on the word `step` the script that the
 /// source gives is run over the disks of the shelf, and its report is written to the sink; on `gen START COUNT` the
-/// script that is made from these numbers is run, and its summary written. Each disk that is taken is given back, unless
-/// the shelf fails to take it.
+/// script that is made from these numbers is run, and its summary written. Each disk that is taken is given back,
+/// unless the shelf fails to take it.
 pub fn run_alone<S: Source, K: Sink, H: Shelf>(
     alloc: Global,
     words: &[String],
