@@ -11,7 +11,9 @@ use Rattle.geo_model.specs.declared.step.Entry.{Entry}
 use Rattle.geo_model.specs.Contents.{contents}
 use Rattle.geo_model.specs.Plans.{IsDiskDecl}
 use Rattle.geo_headline.specs.Outside.{ShelfView, IsShelf, kept_back, ImagesStay, ImagesStand, KeepsLength}
-use Rattle.geo_run.specs.Drives.{DriveView, HasWholeSectors, Serves, ServeAll}
+use Rattle.geo_serve.specs.Served.{IsServed}
+use Rattle.geo_serve.specs.Drives.{HasWholeSectors}
+use Rattle.geo_run.specs.Drives.{DriveView, ServeAll}
 use Rattle.geo_run.specs.Lending.{AreApart, AreOther, names_of}
 use Rattle.geo_run.proofs.Tests.{other-contains, other-from, same_or_other}
 use Rattle.geo_run.proofs.Told.{OfName, IsSame, chain, weaker}
@@ -30,6 +32,8 @@ pub record Course (before between after : ShelfView) (ds : List DiskDecl) (xs ys
   pub lent : between.lent ≡ before.lent ++ shelf_names ds
   pub disks : (name : List ℕ) → between.faults_of name ≡ before.faults_of name
   pub gives : (name : List ℕ) → between.give_faults name ≡ before.give_faults name
+  pub asked : (name : List ℕ) → between.asked_of name ≡ before.asked_of name
+  pub sectors : (name : List ℕ) → between.sectors_of name ≡ before.sectors_of name
   pub foreign : (name : List ℕ) → IsForeign name ds → OfName before.told between.told name IsSame
   pub given : GivesAll between ds ys kept after
 
@@ -180,7 +184,7 @@ same_length (Some bytes) w e = subst (λ o. IsSomeAnd o (λ now. length now ≡ 
 -- what a drive that served holds is as long as what it held
 length_after : (log : List Entry) (n : ℕ) (d : DiskDecl) (x y : DriveView) → IsSectorSize d.sector
     → x.sector ≡ d.sector → IfSome x.held (λ sectors. length sectors ≡ x.count)
-    → IfSome y.held (λ sectors. length sectors ≡ y.count) → Serves log n x y
+    → IfSome y.held (λ sectors. length sectors ≡ y.count) → IsServed log n x y
     → (u v w : Option (List ℕ)) → WentInto d x u v → HasSectors y v w → KeepsLength u w
 length_after log n d x y is asked counted counted_after served None v w p q = absurd p.0
 length_after log n d x y is asked counted counted_after served (Some bytes) v w p q =

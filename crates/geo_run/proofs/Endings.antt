@@ -6,7 +6,7 @@ use Rattle.std.proofs.lemmas.List.{append-nil, map-append}
 use Rattle.std.proofs.lemmas.List.Elements.{All-from_recursion, recursion_from_All, Contains-append_left}
 use Rattle.geo_base.specs.Faults.{Rose, RoseBy}
 use Rattle.geo_base.specs.Images.{Images, IsDiskSize}
-use Rattle.geo_disk.specs.Shelf.{IsAsBefore}
+use Rattle.geo_disk.specs.Shelf.{CountsCall, IsAsBefore}
 use Rattle.geo_model.specs.declared.command.DiskDecl.{DiskDecl}
 use Rattle.geo_model.specs.declared.command.DiskKind.{DiskKind}
 use Rattle.geo_model.specs.declared.command.DiskKind.TheVariants as disk_kinds
@@ -17,20 +17,19 @@ use Rattle.geo_model.specs.Plans.{IsPlan, IsDiskDecl, FactsFit}
 use Rattle.geo_headline.specs.Outside.{ShelfView, IsShelf, is_shelf, kept_back, IsThere, IsMissing, IsBadSize, HasToldSize, ImagesStay, ImagesStand, OthersStay, DisksAreKept, KeepsLength, PlannedDisk, planned_disk, IsDiskKept, CountsStay, is_of_plan, IsForeign as IsForeignName}
 use Rattle.geo_headline.specs.Endings.{Ending, Reported, ReportedButFault, BadWords, NoScript, ReadFault, ShelfFault, NoDisk, BadSize, OutOfMemory, LogFull, TooLong, Answered, NoTrace, HasLog, StopsAt, failed_takes}
 use Rattle.geo_headline.specs.Headline.{LentAfter}
-use Rattle.geo_run.specs.Drives.{DriveView}
+use Rattle.geo_run.specs.Drives.{DriveView, size_of}
 use Rattle.geo_model.specs.FixedOrder.{StepOrder}
 use Rattle.geo_run.specs.Rest.{RanFull}
 use Rattle.geo_run.specs.declared.stop.Stop.{Stop}
 use Rattle.geo_run.specs.declared.stop.Stop.TheVariants as stops
 use Rattle.geo_run.specs.Stops.{ending_of}
-use Rattle.geo_run.specs.Lending.{AreApart, AreOther, GivesBack, GivesDrive, GivesUp, OpensDrive, OpensDrives, OpensNoDrive, TakeCause, TakesBack, names_of}
+use Rattle.geo_run.specs.Lending.{AreApart, AreOther, GivesBack, GivesDrive, GivesUp, OpensDrive, OpensDrives, OpensNoDrive, TakeCause, TakesBack, is_blamed, names_of}
 use Rattle.geo_run.specs.Ends.{LentCause, PlanCause, RunsDrives, RunsPlan, Served}
-use Rattle.geo_run.specs.Views.{size_of}
 use Rattle.geo_run.proofs.Tests.{contains_none}
 use Rattle.geo_run.proofs.Told.{OfName, IsSame, chain, of_name, same, same_twice, weaker}
-use Rattle.geo_run.proofs.Taking.{EachHad, IsForeign, IsHad, each_had, takes_count, takes_later, takes_lend, takes_stay}
+use Rattle.geo_run.proofs.Taking.{EachHad, IsForeign, IsHad, each_had, takes_count, takes_no_fault, takes_lend, takes_stay}
 use Rattle.geo_run.proofs.Giving.{GivesAll, SameKinds, gives_all, gives_stay}
-use Rattle.geo_run.proofs.Fates.{first_kept, first_of, gives_fault, is_of, kept_of_plan, kept_back_is}
+use Rattle.geo_run.proofs.Fates.{counted_rose, first_kept, first_of, gives_fault, is_of, kept_of_plan, kept_back_is}
 use Rattle.geo_run.proofs.Outs.{apart_front}
 use Rattle.geo_run.proofs.Planned.{all_there, apart_from, disks_kept, facts_had, kinds_had, kinds_served, sizes_told}
 use Rattle.geo_run.proofs.Courses.{Course, course_back, course_fate, course_lent, course_rose, course_told, images_stand, images_stand_still, images_stay, same_length}
@@ -54,6 +53,8 @@ taken_course a m b ds xs ys kept decls apart opens gives = record {
   lent = takes_lend a m ds xs opens;
   disks = (takes_count a m ds xs opens).disks;
   gives = (takes_count a m ds xs opens).gives;
+  asked = (takes_count a m ds xs opens).asked;
+  sectors = (takes_count a m ds xs opens).sectors;
   foreign = λ name foreign. (takes_stay a m ds xs name opens foreign).told;
   given = gives;
 }
@@ -63,6 +64,9 @@ served_kinds : (log : Option (List Entry)) (ds : List DiskDecl) (xs ys : List Dr
     → Served log xs ys → SameKinds ds ys
 served_kinds None ds xs ys kinds served = subst (λ (zs : List DriveView). SameKinds ds zs) (sym served) kinds
 served_kinds (Some log) ds xs ys kinds served = kinds_served log 0 ds xs ys kinds served
+
+not_less : {x y : ℕ} → y ≡ x → x ≤ y
+not_less {x} {y} e = omega (arith, e)
 
 -- at least no fault came where none is due
 rose_none : (f x y : ℕ) → f ≡ 0 → x ≤ y → RoseBy f x y
@@ -131,6 +135,8 @@ foreign_counts a m b ds xs ys kept c name takes foreign =
       disk = stays.disks ∙ c.disks name;
       takes = stays.takes ∙ takes;
       gives = stays.gives ∙ c.gives name;
+      asked = stays.asked ∙ c.asked name;
+      sectors = stays.sectors ∙ c.sectors name;
     }
 
 -- Over drives
@@ -248,7 +254,7 @@ runs_plan order plan facts log ending xs a m b is opens r = record {
   disks = disks_by plan log a m b xs r.served r.kept course r.serves;
   lent = lent_after ending a m b plan.disks xs r.served r.kept course
       (rose_none (failed_takes ending) a.faults m.faults (no_failed order (opening plan facts) log r.kept ending r.cause)
-      (takes_later a m plan.disks xs opens));
+      (not_less (takes_no_fault a m plan.disks xs opens)));
   others = record {
     bytes = λ name foreign. (course_told a m b plan.disks xs r.served r.kept course name (names_foreign name foreign)).is;
     counts = λ name foreign. foreign_counts a m b plan.disks xs r.served r.kept course name
@@ -295,7 +301,7 @@ lent_still ending a none = record {
 pub others_still : (plan : Plan) (a : ShelfView) → OthersStay plan a a
 others_still plan a = record {
   bytes = λ name foreign. (same a.told name).is;
-  counts = λ name foreign. record { disk = refl; takes = refl; gives = refl };
+  counts = λ name foreign. record { disk = refl; takes = refl; gives = refl; asked = refl; sectors = refl };
   still_lent = λ name lent. lent;
   of_plan = subst (λ (ks : List (List ℕ)). All (λ name. IsTrue (is_of_plan plan name)) ks) (sym (nothing_back a))
       (All-from_recursion (λ name. IsTrue (is_of_plan plan name)) [] tt);
@@ -326,6 +332,8 @@ record Stopped (a b : ShelfView) (d : DiskDecl) (stop : Stop) (kind : DiskKind) 
   lent : b.lent ≡ a.lent
   disks : (name : List ℕ) → b.faults_of name ≡ a.faults_of name
   gives : (name : List ℕ) → b.give_faults name ≡ a.give_faults name
+  asked : (name : List ℕ) → b.asked_of name ≡ a.asked_of name
+  sectors : (name : List ℕ) → b.sectors_of name ≡ a.sectors_of name
   takes : (name : List ℕ) → (IsShelf kind → d.name ≢ name) → b.take_faults name ≡ a.take_faults name
   faults : RoseBy (failed_takes (ending_of stop)) a.faults b.faults
 
@@ -336,6 +344,8 @@ take_stopped a b d stop disk_kinds.Ram h = record {
   lent = ap (λ (v : ShelfView). v.lent) h.1;
   disks = λ name. ap (λ (v : ShelfView). v.faults_of name) h.1;
   gives = λ name. ap (λ (v : ShelfView). v.give_faults name) h.1;
+  asked = λ name. ap (λ (v : ShelfView). v.asked_of name) h.1;
+  sectors = λ name. ap (λ (v : ShelfView). v.sectors_of name) h.1;
   takes = λ name foreign. ap (λ (v : ShelfView). v.take_faults name) h.1;
   faults = none_rose (failed_takes (ending_of stop)) a.faults b.faults (ap (λ s. failed_takes (ending_of s)) h.0)
       (ap (λ (v : ShelfView). v.faults) h.1);
@@ -348,7 +358,9 @@ take_stopped a b d stop disk_kinds.Shelf h = record {
   lent = h.lent;
   disks = h.disks;
   gives = h.gives;
-  takes = λ name foreign. h.takes name (λ e. foreign refl (sym e));
+  asked = h.asked;
+  sectors = h.sectors;
+  takes = λ name foreign. h.takes.others name (λ e. foreign refl (sym e));
   faults = by stop h.cause;
 }
   where
@@ -378,6 +390,7 @@ had_along a m n (d ∷ ds) (x ∷ xs) told h = (one d.kind h.0, had_along a m n 
       not_lent = had.not_lent;
       size = had.size;
       brought = had.brought;
+      asked = had.asked;
       counted = had.counted;
       image = chain a.told m.told n.told d.name (λ u v w p q. (p.0, q ∙ p.1)) had.image (told d.name);
     }
@@ -449,36 +462,36 @@ stopped_cause : (order : StepOrder) (plan : Plan) (facts : List (ℕ × ℕ)) (a
     → PlanCause order plan (opening plan facts) None a b (ending_of stop)
 stopped_cause order plan facts a m n b front d back stop disk_kinds.Ram k e there told before after h =
     subst (λ (s : Stop). PlanCause order plan (opening plan facts) None a b (ending_of s)) (sym h.0) tt
-stopped_cause order plan facts a m n b front d back stop disk_kinds.Shelf k e there told before after h = by stop h.cause
+stopped_cause order plan facts a m n b front d back stop disk_kinds.Shelf k e there told before after h = by stop h.cause h.takes
   where
     shelf : IsShelf d.kind
     shelf = ap is_shelf k
 
-    by : (s : Stop) → TakeCause m d s n → PlanCause order plan (opening plan facts) None a b (ending_of s)
-    by (stops.ShelfFault name) c = (
+    by : (s : Stop) → TakeCause m d s n → CountsCall (is_blamed s) d.name m.take_faults n.take_faults
+        → PlanCause order plan (opening plan facts) None a b (ending_of s)
+    by (stops.ShelfFault name) c takes = (
       stops_for plan a front d back name (λ z images. ⊤) e shelf c.0 there (any_fact a.told),
-      let rose : Rose (m.take_faults name) (n.take_faults name) = c.2 in
-          let own : Rose (m.take_faults d.name) (n.take_faults d.name) =
-          subst (λ (z : List ℕ). Rose (m.take_faults z) (n.take_faults z)) c.0 rose in
+      let own : Rose (m.take_faults d.name) (n.take_faults d.name) =
+          counted_rose (m.take_faults d.name) (n.take_faults d.name) (n.take_faults d.name) takes.own refl in
           let moved : Rose (a.take_faults d.name) (b.take_faults d.name) =
           subst (λ (k : ℕ). Rose k (b.take_faults d.name)) before
           (subst (λ (k : ℕ). Rose (m.take_faults d.name) k) (sym after) own) in
           subst (λ (z : List ℕ). Rose (a.take_faults z) (b.take_faults z)) (sym c.0) moved,
     )
-    by (stops.NoDisk name) c =
+    by (stops.NoDisk name) c takes =
         stops_for plan a front d back name IsMissing e shelf c.0 there
         (told_before a.told m.told d.name (λ o. o ≡ None) told
         (subst (λ (z : List ℕ). IfSome m.told (λ images. images z ≡ None)) c.0 c.1))
-    by (stops.BadSize name) c =
+    by (stops.BadSize name) c takes =
         stops_for plan a front d back name IsBadSize e shelf c.0 there
         (told_before a.told m.told d.name (λ o. IsSomeAnd o (λ bytes. IsDiskSize d.sector (length bytes) → ⊥)) told
         (subst (λ (z : List ℕ). IfSome m.told (λ images. IsSomeAnd (images z) (λ bytes. IsDiskSize d.sector (length bytes) → ⊥))) c.0 c.1))
-    by stops.NoMemory c = tt
-    by stops.BadWords c = absurd c
-    by (stops.NoScript line cause) c = absurd c
-    by stops.ReadFault c = absurd c
-    by stops.LogFull c = absurd c
-    by stops.TooLong c = absurd c
+    by stops.NoMemory c takes = tt
+    by stops.BadWords c takes = absurd c
+    by (stops.NoScript line cause) c takes = absurd c
+    by stops.ReadFault c takes = absurd c
+    by stops.LogFull c takes = absurd c
+    by stops.TooLong c takes = absurd c
 
 no_log : (order : StepOrder) (plan : Plan) (opened : World) (a b : ShelfView) (ending : Ending) → PlanCause order plan opened None a b ending
     → HasLog ending None
@@ -521,7 +534,7 @@ gave_up order plan facts stop a b is g = record {
   mesh = tt;
   disks = tt;
   lent = lent_after (ending_of stop) a n b front xs xs g.kept course
-      (later (failed_takes (ending_of stop)) a.faults m.faults n.faults (takes_later a m front xs g.stops.earlier) left.faults);
+      (later (failed_takes (ending_of stop)) a.faults m.faults n.faults (not_less (takes_no_fault a m front xs g.stops.earlier)) left.faults);
   others = record {
     bytes = λ name foreign. (course_told a n b front xs xs g.kept course name (names_foreign name foreign)).is;
     counts = λ name foreign. foreign_counts a n b front xs xs g.kept course name
@@ -585,6 +598,8 @@ gave_up order plan facts stop a b is g = record {
       lent = left.lent ∙ takes_lend a m front xs g.stops.earlier;
       disks = λ name. left.disks name ∙ (takes_count a m front xs g.stops.earlier).disks name;
       gives = λ name. left.gives name ∙ (takes_count a m front xs g.stops.earlier).gives name;
+      asked = λ name. left.asked name ∙ (takes_count a m front xs g.stops.earlier).asked name;
+      sectors = λ name. left.sectors name ∙ (takes_count a m front xs g.stops.earlier).sectors name;
       foreign = λ name foreign. same_twice a.told m.told n.told name (takes_stay a m front xs name g.stops.earlier foreign).told (left.told name);
       given = gives_all n b front xs g.kept (kinds_had a m front xs had)
           (subst (λ (ns : List (List ℕ)). GivesBack n ns xs g.kept b) g.stops.named g.given);

@@ -7,7 +7,8 @@ use Rattle.std.proofs.lemmas.Bool.{or_right}
 use Rattle.std.proofs.lemmas.List.Elements.{Contains-append_right}
 use Rattle.geo_base.specs.Faults.{Rose, RoseBy}
 use Rattle.geo_base.specs.Sectors.{joined_sectors}
-use Rattle.geo_disk.specs.Memory.{counted_on}
+use Rattle.geo_disk.proofs.CountLemmas.{counted_many_rose}
+use Rattle.geo_disk.specs.Counts.{counted_on}
 use Rattle.geo_disk.specs.Names.{without}
 use Rattle.geo_model.specs.declared.command.DiskDecl.{DiskDecl}
 use Rattle.geo_model.specs.declared.command.DiskKind.{DiskKind}
@@ -32,6 +33,8 @@ pub record WasGiven (a b : ShelfView) (name : List ℕ) (x : DriveView) (kept : 
   pub told : OfName a.told b.told name (HasSectors x)
   pub counted : IfSome x.held (λ sectors. length sectors ≡ x.count)
   pub faults : b.faults_of name ≡ x.faults
+  pub asked : b.asked_of name ≡ x.asked
+  pub sectors : b.sectors_of name ≡ x.count
 
 -- a disk wasn't given back
 pub record WasKept (a b : ShelfView) (name : List ℕ) (kept : List (List ℕ)) : Type 0 where
@@ -60,6 +63,8 @@ fate_before a m b name x first rest kept disk_kinds.Shelf e others stays fate =
         told = chain a.told m.told b.told name (λ u v w p q. q) stays.told given.told;
         counted = given.counted;
         faults = given.faults;
+        asked = given.asked;
+        sectors = given.sectors;
       })
       | inr held ↦ inr (record {
         among = subst (λ ks. Contains ks name) (sym e) (Contains-append_right first rest name held.among);
@@ -88,15 +93,19 @@ one_stays a b n x k name disk_kinds.Shelf h other =
     elim h [
       | inl given ↦ record {
         told = of_name a.told b.told name (IsGivenTo n x.held) (λ o v p. p.others name (λ e. other (sym e))) given.1.told;
-        disks = given.1.others name (λ e. other (sym e));
+        disks = given.1.disks.others name (λ e. other (sym e));
         takes = given.1.takes name;
         gives = given.1.gives name;
+        asked = given.1.asked.others name (λ e. other (sym e));
+        sectors = given.1.sectors.others name (λ e. other (sym e));
       }
       | inr kept ↦ record {
         told = of_name a.told b.told name IsAsBefore (λ o v p. p name) kept.1.told;
         disks = kept.1.disks name;
         takes = kept.1.takes name;
         gives = kept.1.gives.others name (λ e. other (sym e));
+        asked = kept.1.asked name;
+        sectors = kept.1.sectors name;
       }
     ]
 
@@ -114,8 +123,9 @@ each_before a m b n x first rest kept kind (d ∷ ds) (y ∷ ys) h e others each
     )
 
 -- a count that was counted on rose
-counted_rose : (before now after : ℕ) → now ≡ counted_on before → after ≡ now → Rose before after
-counted_rose before now after e s = omega arith
+pub counted_rose : (before now after : ℕ) → now ≡ counted_on before → after ≡ now → Rose before after
+counted_rose before now after e s =
+    subst (λ (k : ℕ). Rose before k) (sym (s ∙ e)) (counted_many_rose 1 before)
 
 -- the first disk
 fate_first : (a m b : ShelfView) (name : List ℕ) (x : DriveView) (first rest kept : List (List ℕ)) (kind : DiskKind)
@@ -129,7 +139,9 @@ fate_first a m b name x first rest kept disk_kinds.Shelf h e others stays =
         told = chain a.told m.told b.told name (λ u v w p q. subst (λ o. HasSectors x u o) (sym q) p)
             (of_name a.told m.told name (IsGivenTo name x.held) {F = HasSectors x} (λ o v p. p.bytes) given.1.told) stays.told;
         counted = given.1.counted;
-        faults = stays.disks ∙ given.1.own;
+        faults = stays.disks ∙ given.1.disks.own;
+        asked = stays.asked ∙ given.1.asked.own;
+        sectors = stays.sectors ∙ given.1.sectors.own;
       })
       | inr held ↦ inr (record {
         among = subst (λ ks. Contains ks name) (sym (e ∙ ap (λ ks. ks ++ rest) held.0)) (contains_first name rest);
@@ -342,8 +354,8 @@ gives_fault a b (d ∷ ds) (x ∷ xs) kept h = by d.kind h.4 (gives_fault h.0 b 
     by disk_kinds.Shelf g rest = elim g [
       | inl given ↦
           let few : length kept ≡ length h.2 = ap (λ (ks : List (List ℕ)). length ks) (h.3 ∙ ap (λ ks. ks ++ h.2) given.0) in
-          let later : a.faults ≤ h.0.faults = given.1.later in
-          let r : min (h.0.faults + length h.2) (2 ^ 64 - 1) ≤ b.faults = rest in omega (arith, few, later, r)
+          let same : h.0.faults ≡ a.faults = given.1.no_fault in
+          let r : min (h.0.faults + length h.2) (2 ^ 64 - 1) ≤ b.faults = rest in omega (arith, few, same, r)
       | inr held ↦
           let more : length kept ≡ suc (length h.2) = ap (λ (ks : List (List ℕ)). length ks) (h.3 ∙ ap (λ ks. ks ++ h.2) held.0) in
           let rose : min (a.faults + 1) (2 ^ 64 - 1) ≤ h.0.faults = held.1.rose in

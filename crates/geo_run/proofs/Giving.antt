@@ -8,7 +8,7 @@ use Rattle.geo_model.specs.declared.command.DiskDecl.{DiskDecl}
 use Rattle.geo_model.specs.declared.command.DiskKind.{DiskKind}
 use Rattle.geo_model.specs.declared.command.DiskKind.TheVariants as disk_kinds
 use Rattle.geo_headline.specs.Outside.{ShelfView, IsShelf}
-use Rattle.geo_run.specs.Drives.{DriveView}
+use Rattle.geo_run.specs.Drives.{DriveView, kind_of}
 use Rattle.geo_run.specs.Lending.{AreOther, AreOut, GivesBack, GivesDrive, IsOut, names_of}
 use Rattle.geo_run.proofs.Tests.{contains_first, contains_more, contains_none, contains_cases, same_names, other-append}
 use Rattle.geo_run.proofs.Told.{of_name}
@@ -17,14 +17,14 @@ use Rattle.geo_run.proofs.Taking.{IsForeign, NameStays, stays_along, stays_twice
 -- One drive more
 
 pub gives_more : (a b c : ShelfView) (ns : List (List ℕ)) (n : List ℕ) (xs : List DriveView) (x : DriveView)
-    (kept k : List (List ℕ)) → GivesBack a ns xs kept b → GivesDrive b n x k c x.kind
+    (kept k : List (List ℕ)) → GivesBack a ns xs kept b → GivesDrive b n x k c (kind_of x)
     → GivesBack a (ns ++ n ∷ []) (xs ++ x ∷ []) (kept ++ k) c
 gives_more a b c [] n [] x kept k h g = (
   c,
   k,
   [],
   ap (λ ks. ks ++ k) h.0 ∙ sym (append-nil k),
-  subst (λ (v : ShelfView). GivesDrive v n x k c x.kind) h.1 g,
+  subst (λ (v : ShelfView). GivesDrive v n x k c (kind_of x)) h.1 g,
   (refl, refl),
 )
 gives_more a b c [] n (y ∷ ys) x kept k h g = absurd h
@@ -62,7 +62,7 @@ still_out : (a b : ShelfView) (n m : List ℕ) (x y : DriveView) (k : List (List
 still_out a b n m x y k disk_kinds.Ram h other out = subst (λ (v : ShelfView). IsOut v m y) (sym h.1) out
 still_out a b n m x y k disk_kinds.Shelf h other out =
     elim h [
-      | inl given ↦ let fewer : b.faults_of m ≡ a.faults_of m = given.1.others m other in record {
+      | inl given ↦ let fewer : b.faults_of m ≡ a.faults_of m = given.1.disks.others m other in record {
         lent = subst (λ names. Contains names m) (sym given.1.lent) (without_contains n m a.lent other out.lent);
         counted = let c : a.faults_of m ≤ y.faults = out.counted in omega (arith, c, fewer);
       }
@@ -87,15 +87,15 @@ all_still_out a b n x k kind (m ∷ ms) (y ∷ ys) h others out = (
 -- the others are still out after one was given back
 pub out_next : (a b : ShelfView) (n : List ℕ) (x : DriveView) (k : List (List ℕ))
     (ms : List (List ℕ)) (ys : List DriveView)
-    → AreOut a (n ∷ ms) (x ∷ ys) → GivesDrive a n x k b x.kind → AreOut b ms ys
-out_next a b n x k ms ys out h = all_still_out a b n x k x.kind ms ys h out.1 out.2
+    → AreOut a (n ∷ ms) (x ∷ ys) → GivesDrive a n x k b (kind_of x) → AreOut b ms ys
+out_next a b n x k ms ys out h = all_still_out a b n x k (kind_of x) ms ys h out.1 out.2
 
 -- By declarations
 
 -- each drive is of the kind of its disk
 abbrev pub SameKinds : List DiskDecl → List DriveView → Type 0
 SameKinds [] [] = ⊤
-SameKinds (d ∷ ds) (x ∷ xs) = (x.kind ≡ d.kind) × SameKinds ds xs
+SameKinds (d ∷ ds) (x ∷ xs) = (kind_of x ≡ d.kind) × SameKinds ds xs
 SameKinds _ _ = ⊥
 
 -- the drives of disks are given back
@@ -130,15 +130,19 @@ give_stays a b n x k name disk_kinds.Shelf h other =
     elim h [
       | inl given ↦ record {
         told = of_name a.told b.told name (IsGivenTo n x.held) (λ o v p. p.others name (λ e. other refl (sym e))) given.1.told;
-        disks = given.1.others name (λ e. other refl (sym e));
+        disks = given.1.disks.others name (λ e. other refl (sym e));
         takes = given.1.takes name;
         gives = given.1.gives name;
+        asked = given.1.asked.others name (λ e. other refl (sym e));
+        sectors = given.1.sectors.others name (λ e. other refl (sym e));
       }
       | inr kept ↦ record {
         told = of_name a.told b.told name IsAsBefore (λ o v p. p name) kept.1.told;
         disks = kept.1.disks name;
         takes = kept.1.takes name;
         gives = kept.1.gives.others name (λ e. other refl (sym e));
+        asked = kept.1.asked name;
+        sectors = kept.1.sectors name;
       }
     ]
 

@@ -380,7 +380,7 @@ stops_early words finish source source_after shelf shelf_after mode stop accepts
 }
   where
     none_yet : SinkView
-    none_yet = record { taken = []; faults = 0 }
+    none_yet = record { taken = []; held = None; faults = 0 }
 
     plan : Plan
     plan = (read_as (finished words finish source source_after shelf shelf_after 0 none_yet none_yet) mode accepts).0

@@ -3,8 +3,10 @@ use Rattle.std.proofs.Common.{◌≡◌, ℕ, ◌+◌, ◌-◌, ◌<◌, ◌≤�
 use Rattle.std.proofs.lemmas.List.{append-nil, drop_more, map-append, length-drop, take-append-drop, take_more, length_push, nil_from_length}
 use Rattle.geo_model.specs.declared.command.DiskDecl.{DiskDecl}
 use Rattle.geo_model.specs.declared.step.Entry.{Entry}
-use Rattle.geo_headline.specs.Outside.{ShelfView}
-use Rattle.geo_run.specs.Drives.{DriveView, ServeAll}
+use Rattle.geo_disk.proofs.CountLemmas.{counted_many_later}
+use Rattle.geo_headline.specs.Outside.{ShelfView, failures_of}
+use Rattle.geo_serve.specs.Served.{IsServed}
+use Rattle.geo_run.specs.Drives.{DriveView, kind_by, ServeAll, kind_of}
 use Rattle.geo_run.specs.declared.stop.Stop.{Stop}
 use Rattle.geo_run.specs.Lending.{AreOut, GivesBack, GivesDrive, OpensDrive, OpensDrives, OpensNoDrive, StopsOpening, first_kept, kept_name, names_of}
 use Rattle.geo_run.proofs.Taking.{opens_more}
@@ -78,7 +80,7 @@ next_out s names n name x xs lt at out =
 -- one more was given back
 pub gives_next : (a b c : ShelfView) (names : List (List ℕ)) (n : ℕ) (name : List ℕ) (xs : List DriveView) (x : DriveView)
     (kept k : List (List ℕ)) → n < length names → name ≡ get_or names n name
-    → GivesBack a (take n names) xs kept b → GivesDrive b name x k c x.kind
+    → GivesBack a (take n names) xs kept b → GivesDrive b name x k c (kind_of x)
     → GivesBack a (take (n + 1) names) (xs ++ x ∷ []) (kept ++ k) c
 gives_next a b c names n name xs x kept k lt at given one =
     subst (λ (ns : List (List ℕ)). GivesBack a ns (xs ++ x ∷ []) (kept ++ k) c)
@@ -111,7 +113,7 @@ pub gave_next : (a b c : ShelfView) (names : List (List ℕ)) (n : ℕ) (name : 
     (first next : Option (List ℕ)) (given : Bool) → n < length names → name ≡ get_or names n name
     → next ≡ first_kept first given name
     → (kept : List (List ℕ)) × (first ≡ slice_get kept 0) × GivesBack a (take n names) xs kept b
-    → GivesDrive b name x (kept_name given name) c x.kind
+    → GivesDrive b name x (kept_name given name) c (kind_of x)
     → (kept : List (List ℕ)) × (next ≡ slice_get kept 0) × GivesBack a (take (n + 1) names) (xs ++ x ∷ []) kept c
 gave_next a b c names n name xs x first next given lt at is so_far one = (
   so_far.0 ++ kept_name given name,
@@ -120,6 +122,11 @@ gave_next a b c names n name xs x first next given lt at is so_far one = (
 )
 
 -- Serving
+
+-- the faults of a drive that served don't fall
+served_later : (log : List Entry) (n : ℕ) (x y : DriveView) → IsServed log n x y → x.faults ≤ y.faults
+served_later log n x y s =
+    subst (λ (k : ℕ). x.faults ≤ k) (sym s.failures) (counted_many_later (failures_of log n) x.faults)
 
 -- drives that served are still out
 pub out_served : (s : ShelfView) (log : List Entry) (n : ℕ) (names : List (List ℕ)) (xs ys : List DriveView)
@@ -130,10 +137,10 @@ out_served s log n [] (x ∷ xs) ys out served = absurd out
 out_served s log n (m ∷ ms) [] ys out served = absurd out
 out_served s log n (m ∷ ms) (x ∷ xs) [] out served = absurd served
 out_served s log n (m ∷ ms) (x ∷ xs) (y ∷ ys) out served = (
-  λ kind. let was = out.0 (sym served.0.kind ∙ kind) in record {
+  λ kind. let was = out.0 (sym (ap kind_by served.0.kind) ∙ kind) in record {
     lent = was.lent;
     counted = let c : s.faults_of m ≤ x.faults = was.counted in
-        let later : x.faults ≤ y.faults = served.0.later in omega (arith, c, later);
+        let later : x.faults ≤ y.faults = served_later log n x y served.0 in omega (arith, c, later);
   },
   out.1,
   out_served s log (n + 1) ms xs ys out.2 served.1,
@@ -160,7 +167,7 @@ pub gave_item : {X : Type 0} (f : X → DriveView) (a b c : ShelfView) (names : 
     (name : List ℕ) (first next : Option (List ℕ)) (given : Bool) → length items < length names
     → name ≡ get_or names (length items) name → next ≡ first_kept first given name
     → (kept : List (List ℕ)) × (first ≡ slice_get kept 0) × GivesBack a (take (length items) names) (map f items) kept b
-    → GivesDrive b name (f x) (kept_name given name) c (f x).kind
+    → GivesDrive b name (f x) (kept_name given name) c (kind_of (f x))
     → (kept : List (List ℕ)) × (next ≡ slice_get kept 0)
     × GivesBack a (take (length (items ++ x ∷ [])) names) (map f (items ++ x ∷ [])) kept c
 gave_item f a b c names items x name first next given lt at is so_far one =
@@ -176,7 +183,7 @@ gave_item f a b c names items x name first next given lt at is so_far one =
 pub rest_out : {X : Type 0} (f : X → DriveView) (b c : ShelfView) (names : List (List ℕ)) (items : List X) (x : X)
     (rest : List X) (name : List ℕ) (k : List (List ℕ)) → length items < length names
     → name ≡ get_or names (length items) name → AreOut b (drop (length items) names) (f x ∷ map f rest)
-    → GivesDrive b name (f x) k c (f x).kind → AreOut c (drop (length (items ++ x ∷ [])) names) (map f rest)
+    → GivesDrive b name (f x) k c (kind_of (f x)) → AreOut c (drop (length (items ++ x ∷ [])) names) (map f rest)
 rest_out f b c names items x rest name k lt at out one =
     subst (λ (n : ℕ). AreOut c (drop n names) (map f rest)) (sym (length_push items x))
     (out_next b c name (f x) k (drop (length items + 1) names) (map f rest)

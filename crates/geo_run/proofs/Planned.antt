@@ -1,8 +1,8 @@
 -- Disks that were taken for a plan, served its mesh, and were given back.
-use Rattle.std.proofs.Common.{◌≡◌, ℕ, suc, ◌+◌, ◌*◌, ◌/◌, ◌<◌, ◌≤◌, true, false, not, List, [], ◌∷◌, length, map, Option, Some, None, refl, sym, ◌∙◌, ap, subst, inl, inr, arith, bytes_eq, Contains, IfSome, IsSomeAnd, get_or, zip}
+use Rattle.std.proofs.Common.{◌≡◌, ℕ, suc, ◌+◌, ◌*◌, ◌/◌, ◌<◌, ◌≤◌, true, false, not, List, [], ◌∷◌, ◌++◌, length, map, Option, Some, None, refl, sym, ◌∙◌, ap, subst, inl, inr, arith, bytes_eq, Contains, IfSome, IsSomeAnd, get_or, zip}
 use Rattle.std.specs.List.{AllByRecursion, AllPairs, AllZip, enumerate_from}
 use Rattle.std.specs.Option.{option_map}
-use Rattle.geo_base.specs.Faults.{RoseBy}
+use Rattle.geo_disk.specs.Counts.{counted_many}
 use Rattle.geo_base.specs.Images.{Images, IsDiskSize}
 use Rattle.geo_base.specs.Sectors.{IsSectorSize, joined_sectors, sectors_of, zero_sectors}
 use Rattle.geo_model.specs.declared.command.DiskDecl.{DiskDecl}
@@ -11,9 +11,9 @@ use Rattle.geo_model.specs.declared.command.DiskKind.TheVariants as disk_kinds
 use Rattle.geo_model.specs.declared.step.Entry.{Entry}
 use Rattle.geo_model.specs.Contents.{contents, AreTrue}
 use Rattle.geo_model.specs.Plans.{Differ, HasPlanSectors, HasSectors as HasHeaderSectors, IsDiskDecl, IsFact}
-use Rattle.geo_headline.specs.Outside.{ShelfView, IsShelf, IsThere, HasImage, HasToldSize, CanBeTaken, PlannedDisk, planned_disk, failures_of, image_after, HoldsWhatIsLogged, IsMemory, IsDiskKept, kept_back}
-use Rattle.geo_run.specs.Drives.{DriveView, Serves, ServeAll}
-use Rattle.geo_run.specs.Views.{size_of}
+use Rattle.geo_headline.specs.Outside.{ShelfView, IsShelf, IsThere, HasImage, HasToldSize, CanBeTaken, PlannedDisk, planned_disk, failures_of, calls_logged, image_after, HoldsWhatIsLogged, IsMemory, IsDiskKept, kept_back}
+use Rattle.geo_serve.specs.Served.{IsServed}
+use Rattle.geo_run.specs.Drives.{DriveView, kind_by, ServeAll, size_of, kind_of}
 use Rattle.geo_run.specs.Lending.{AreApart, AreOther, IsMade}
 use Rattle.geo_run.proofs.Tests.{same_itself}
 use Rattle.geo_run.proofs.Told.{OfName, chain}
@@ -44,7 +44,7 @@ apart_from (x ∷ names) h = (
 
 -- Kinds and sizes
 
-kind_had : (a b : ShelfView) (d : DiskDecl) (x : DriveView) (kind : DiskKind) → IsHad a b d x kind → x.kind ≡ kind
+kind_had : (a b : ShelfView) (d : DiskDecl) (x : DriveView) (kind : DiskKind) → IsHad a b d x kind → kind_of x ≡ kind
 kind_had a b d x disk_kinds.Ram h = h.kind
 kind_had a b d x disk_kinds.Shelf h = h.kind
 
@@ -61,7 +61,7 @@ kinds_served log n [] [] (y ∷ ys) k s = absurd s
 kinds_served log n [] (x ∷ xs) ys k s = absurd k
 kinds_served log n (d ∷ ds) [] ys k s = absurd k
 kinds_served log n (d ∷ ds) (x ∷ xs) [] k s = absurd s
-kinds_served log n (d ∷ ds) (x ∷ xs) (y ∷ ys) k s = (s.0.kind ∙ k.0, kinds_served log (n + 1) ds xs ys k.1 s.1)
+kinds_served log n (d ∷ ds) (x ∷ xs) (y ∷ ys) k s = (ap kind_by s.0.kind ∙ k.0, kinds_served log (n + 1) ds xs ys k.1 s.1)
 
 fact_had : (a b : ShelfView) (d : DiskDecl) (x : DriveView) (kind : DiskKind) → d.kind ≡ kind → IsDiskDecl d
     → IsHad a b d x kind → IsFact d (size_of x)
@@ -160,9 +160,9 @@ sizes_told a b (d ∷ ds) (x ∷ xs) decls h =
 
 -- the disk of a declaration in memory fails never, and is read as it was written
 memory_kept : (a b : ShelfView) (log : List Entry) (n : ℕ) (d : DiskDecl) (x y : DriveView)
-    → IsMade d x → Serves log n x y → IsMemory log (record { number = n; decl = d })
+    → IsMade d x → IsServed log n x y → IsMemory log (record { number = n; decl = d })
 memory_kept a b log n d x y made served = record {
-  no_failure = served.no_failures (record { kind = made.kind; fails = made.fails });
+  no_failure = served.memory made.fails;
   reads =
       let reads : IfSome (Some (zero_sectors d.sectors d.sector)) (λ sectors. AreTrue x.sector sectors log n) =
       subst (λ o. IfSome o (λ sectors. AreTrue x.sector sectors log n)) made.held served.reads in
@@ -171,13 +171,13 @@ memory_kept a b log n d x y made served = record {
 
 -- what a drive holds after the log, by the bytes that its disk had
 pub held_after : (log : List Entry) (n : ℕ) (d : DiskDecl) (x y : DriveView) (bytes : List ℕ) → x.sector ≡ d.sector
-    → x.held ≡ Some (sectors_of d.sector bytes) → Serves log n x y
+    → x.held ≡ Some (sectors_of d.sector bytes) → IsServed log n x y
     → y.held ≡ Some (contents d.sector (sectors_of d.sector bytes) log n)
 held_after log n d x y bytes same held served =
     served.held ∙ ap (λ o. option_map (λ sectors. contents x.sector sectors log n) o) held
     ∙ ap (λ (s : ℕ). Some (contents s (sectors_of d.sector bytes) log n)) same
 
-bytes_after : (log : List Entry) (n : ℕ) (d : DiskDecl) (x y : DriveView) → x.sector ≡ d.sector → Serves log n x y
+bytes_after : (log : List Entry) (n : ℕ) (d : DiskDecl) (x y : DriveView) → x.sector ≡ d.sector → IsServed log n x y
     → (u v w : Option (List ℕ)) → WentInto d x u v → HasSectors y v w
     → IsSomeAnd u (λ bytes. w ≡ Some (image_after log (record { number = n; decl = d }) bytes))
 bytes_after log n d x y same served None v w p q = p.0
@@ -185,7 +185,7 @@ bytes_after log n d x y same served (Some bytes) v w p q =
     subst (λ o. IfSome o (λ sectors. w ≡ Some (joined_sectors sectors)))
     (held_after log n d x y bytes same p.0.1 served) q
 
-reads_after : (log : List Entry) (n : ℕ) (d : DiskDecl) (x y : DriveView) → x.sector ≡ d.sector → Serves log n x y
+reads_after : (log : List Entry) (n : ℕ) (d : DiskDecl) (x y : DriveView) → x.sector ≡ d.sector → IsServed log n x y
     → (u v : Option (List ℕ)) → WentInto d x u v
     → IsSomeAnd u (λ bytes. AreTrue d.sector (sectors_of d.sector bytes) log n)
 reads_after log n d x y same served None v p = p.0
@@ -195,11 +195,11 @@ reads_after log n d x y same served (Some bytes) v p =
     subst (λ (s : ℕ). AreTrue s (sectors_of d.sector bytes) log n) same reads
 
 shelf_kept : (a m b : ShelfView) (log : List Entry) (n : ℕ) (d : DiskDecl) (x y : DriveView) (kept : List (List ℕ))
-    → IsTaken a m d x → Serves log n x y → WasGiven m b d.name y kept
+    → IsTaken a m d x → IsServed log n x y → WasGiven m b d.name y kept
     → HoldsWhatIsLogged a b log (record { number = n; decl = d })
 shelf_kept a m b log n d x y kept had served given = record {
-  failures = subst (λ (f : ℕ). RoseBy (failures_of log n) f (b.faults_of d.name)) had.brought
-      (subst (λ (f : ℕ). RoseBy (failures_of log n) x.faults f) (sym given.faults) served.failures);
+  asked = given.asked ∙ served.asked ∙ ap (λ calls. calls ++ calls_logged log n) had.asked;
+  failures = given.faults ∙ served.failures ∙ ap (λ k. counted_many (failures_of log n) k) had.brought;
   bytes = (told (bytes_after log n d x y had.size.asked served)).is;
   reads = (told_too (λ u v w p q. reads_after log n d x y had.size.asked served u v p)).is;
 }
@@ -215,7 +215,7 @@ shelf_kept a m b log n d x y kept had served given = record {
     told_too f = chain a.told m.told b.told d.name f had.image given.told
 
 disk_kept : (a m b : ShelfView) (log : List Entry) (n : ℕ) (d : DiskDecl) (x y : DriveView) (kept : List (List ℕ))
-    (kind : DiskKind) → kept_back a b ≡ kept → IsHad a m d x kind → Serves log n x y → Fate m b d.name y kept kind
+    (kind : DiskKind) → kept_back a b ≡ kept → IsHad a m d x kind → IsServed log n x y → Fate m b d.name y kept kind
     → IsDiskKept a b log (record { number = n; decl = d }) kind
 disk_kept a m b log n d x y kept disk_kinds.Ram e had served fate = memory_kept a b log n d x y had served
 disk_kept a m b log n d x y kept disk_kinds.Shelf e had served fate =

@@ -1,5 +1,5 @@
 -- What the run of a plan needs and gives, where the disks are read from the plan.
-use Rattle.std.proofs.Common.{◌≡◌, ℕ, List, [], ◌∷◌, map, Option, None, refl, sym, ◌∙◌, ap, subst, All}
+use Rattle.std.proofs.Common.{◌≡◌, ℕ, List, map, Option, None, refl, sym, ◌∙◌, ap, subst, All}
 use Rattle.std.proofs.lemmas.List.Elements.{recursion_from_All}
 use Rattle.geo_log.specs.Room.{Room}
 use Rattle.geo_model.specs.declared.command.DiskDecl.{DiskDecl}
@@ -10,27 +10,17 @@ use Rattle.geo_headline.specs.Modes.{Mode}
 use Rattle.geo_model.specs.Plans.{FactsFit, IsDiskDecl, IsPlan}
 use Rattle.geo_headline.specs.Outside.{ShelfView}
 use Rattle.geo_headline.specs.Endings.{Ending}
-use Rattle.geo_run.specs.Drives.{DriveView}
-use Rattle.geo_run.specs.Rest.{AreDrivesOf, DrivesFit}
+use Rattle.geo_run.specs.Drives.{DriveView, size_of}
 use Rattle.geo_run.specs.declared.due.Due.{Due}
 use Rattle.geo_run.specs.declared.due.Due.TheVariants as dues
 use Rattle.geo_run.specs.declared.stop.Stop.{Stop}
 use Rattle.geo_run.specs.Ends.{RunsDrives, RunsPlan, entries_in, reported_alone}
-use Rattle.geo_run.specs.Views.{size_of}
 use Rattle.geo_run.specs.Lending.{AreApart, AreOut, OpensDrives, TakesBack, names_of}
 use Rattle.geo_run.specs.Stops.{IsDue, ending_by}
 use Rattle.geo_run.proofs.Taking.{each_had}
 use Rattle.geo_run.proofs.Outs.{taken_out}
-use Rattle.geo_run.proofs.Giving.{SameKinds}
-use Rattle.geo_run.proofs.Planned.{facts_had, kinds_had}
+use Rattle.geo_run.proofs.Planned.{facts_had}
 use Rattle.geo_run.proofs.Endings.{apart_of, runs_plan, runs_stopped}
-
--- drives of the kinds of disks are those of a mesh over them
-pub drives_had : (ds : List DiskDecl) (xs : List DriveView) → SameKinds ds xs → AreDrivesOf ds (map size_of xs) xs
-drives_had [] [] k = tt
-drives_had [] (x ∷ xs) k = absurd k
-drives_had (d ∷ ds) [] k = absurd k
-drives_had (d ∷ ds) (x ∷ xs) k = (record { kind = k.0; sector = refl; count = refl }, drives_had ds xs k.1)
 
 -- the names of the disks of a plan differ
 pub names_apart : (plan : Plan) (ds : List DiskDecl) → IsPlan plan → ds ≡ plan.disks → AreApart (names_of ds)
@@ -47,13 +37,6 @@ sizes_fit plan ds xs a m is e opens =
     let moved : OpensDrives a plan.disks xs m = subst (λ (es : List DiskDecl). OpensDrives a es xs m) e opens in
     facts_had a m plan.disks xs (recursion_from_All IsDiskDecl plan.disks is.disks)
     (each_had a m plan.disks xs (apart_of plan is) moved)
-
--- the drives are those of the plan
-pub drives_fit : (plan : Plan) (ds : List DiskDecl) (xs : List DriveView) (a m : ShelfView) → IsPlan plan → ds ≡ plan.disks
-    → OpensDrives a ds xs m → DrivesFit plan (map size_of xs) xs
-drives_fit plan ds xs a m is e opens =
-    let moved : OpensDrives a plan.disks xs m = subst (λ (es : List DiskDecl). OpensDrives a es xs m) e opens in
-    drives_had plan.disks xs (kinds_had a m plan.disks xs (each_had a m plan.disks xs (apart_of plan is) moved))
 
 -- drives that were taken are out
 pub drives_out : (plan : Plan) (ds : List DiskDecl) (names : List (List ℕ)) (xs : List DriveView) (a m : ShelfView)

@@ -3,7 +3,7 @@ use Rattle.std.proofs.Common.{◌≡◌, ℕ, ◌≤◌, List, [], ◌++◌, len
 use Rattle.geo_base.specs.Faults.{Rose}
 use Rattle.geo_io.specs.declared.reading.ReadRefusal.{ReadRefusal}
 use Rattle.geo_io.specs.declared.reading.ReadRefusal.TheVariants as reads_refused
-use Rattle.geo_io.specs.Source.{Gives, GivesAtMost, GivesMany, Goes, IsAtEnd, IsEnd, Stream}
+use Rattle.geo_io.specs.Source.{Gives, GivesAtMost, GivesMany, Goes, IsAtEnd, IsEnd, SourceView}
 use Rattle.geo_model.specs.declared.command.Cause.{Cause}
 use Rattle.geo_model.specs.World.{Plan}
 use Rattle.geo_headline.specs.Modes.{Mode, source_limit}
@@ -20,7 +20,6 @@ use Rattle.geo_run.specs.declared.stop.Stop.TheVariants as stops
 use Rattle.geo_run.specs.Calls.{EndsEarly, FinishesPlan, FinishesSource, FinishesText, Gave, UnreadCause}
 use Rattle.geo_run.specs.Ends.{RunsPlan, entries_in, reported_alone}
 use Rattle.geo_run.specs.Stops.{IsDue, ending_by}
-use Rattle.geo_run.specs.Views.{source_view}
 use Rattle.geo_run.specs.Work.{mode_of}
 use Rattle.geo_run.specs.declared.words.Work.{Work}
 use Rattle.geo_run.specs.declared.words.Work.TheVariants as works
@@ -68,9 +67,9 @@ goes_left None new text h = tt
 goes_left (Some u) None text h = absurd h
 goes_left (Some u) (Some v) text h = h
 
-gives_gave : (s t : Stream) (reads reads_after faults faults_after : ℕ) (text : List ℕ) → Gives s text t
-    → Gave (source_view s reads faults) text (source_view t reads_after faults_after)
-gives_gave s t reads reads_after faults faults_after text h =
+gives_gave : (s t : SourceView) (text : List ℕ) → Gives s text t
+    → Gave s text t
+gives_gave s t text h =
     record { given = h.given; had_left = goes_left s.left t.left text h.goes }
 
 none_left : (left : Option (List ℕ)) → IsEnd left → IfSome left (λ l. l ≡ [])
@@ -83,13 +82,13 @@ limit_is works.Step = refl
 limit_is (works.Generate s c) = refl
 
 -- the source was read to its end
-pub source_read : (work : Work) (s t : Stream) (reads reads_after faults faults_after : ℕ) (text bytes : List ℕ) (finish : Finish)
+pub source_read : (work : Work) (s t : SourceView) (text bytes : List ℕ) (finish : Finish)
     (a b : ShelfView) → Gives s text t → IsAtEnd t → length text ≤ 4194304 → bytes ≡ text
     → FinishesText bytes (mode_of work) finish a b
-    → FinishesSource (mode_of work) (source_view s reads faults) (source_view t reads_after faults_after) finish a b
-source_read work s t reads reads_after faults faults_after text bytes finish a b gives end few is ends = record {
+    → FinishesSource (mode_of work) s t finish a b
+source_read work s t text bytes finish a b gives end few is ends = record {
   text = text;
-  gave = gives_gave s t reads reads_after faults faults_after text gives;
+  gave = gives_gave s t text gives;
   ends = inl (record {
     few = let limit : source_limit (mode_of work) ≡ 4194304 = limit_is work in omega (arith, limit, few);
     ended = end.ended;
@@ -99,47 +98,47 @@ source_read work s t reads reads_after faults faults_after text bytes finish a b
 }
 
 -- the source wasn't read to its end
-pub source_unread : (work : Work) (s t : Stream) (reads reads_after faults faults_after : ℕ) (text : List ℕ) (finish : Finish)
+pub source_unread : (work : Work) (s t : SourceView) (text : List ℕ) (finish : Finish)
     (stop : Stop) (a : ShelfView) → Gives s text t
-    → UnreadCause (mode_of work) text (source_view s reads faults) (source_view t reads_after faults_after) stop
+    → UnreadCause (mode_of work) text s t stop
     → finish.due ≡ dues.Stopped stop → finish.log ≡ None
-    → FinishesSource (mode_of work) (source_view s reads faults) (source_view t reads_after faults_after) finish a a
-source_unread work s t reads reads_after faults faults_after text finish stop a gives cause due log = record {
+    → FinishesSource (mode_of work) s t finish a a
+source_unread work s t text finish stop a gives cause due log = record {
   text = text;
-  gave = gives_gave s t reads reads_after faults faults_after text gives;
+  gave = gives_gave s t text gives;
   ends = inr (record { stop = stop; cause = cause; early = early_end finish stop a due log });
 }
 
 -- a read failed
-pub read_fault : {T : Type 0} (work : Work) (s t : Stream) (reads reads_after faults faults_after : ℕ) (finish : Finish) (a : ShelfView)
+pub read_fault : {T : Type 0} (work : Work) (s t : SourceView) (finish : Finish) (a : ShelfView)
     (refusal : ReadRefusal) → refusal ≡ reads_refused.ReadFault
     → (IsErrOf {T = T} (Err refusal) reads_refused.ReadFault → GivesAtMost s 4194304 t)
-    → (IsErrOf {T = T} (Err refusal) reads_refused.ReadFault → Rose faults faults_after)
+    → (IsErrOf {T = T} (Err refusal) reads_refused.ReadFault → Rose s.faults t.faults)
     → finish.due ≡ dues.Stopped stops.ReadFault → finish.log ≡ None
-    → FinishesSource (mode_of work) (source_view s reads faults) (source_view t reads_after faults_after) finish a a
-read_fault work s t reads reads_after faults faults_after finish a refusal is taken rose due log =
+    → FinishesSource (mode_of work) s t finish a a
+read_fault work s t finish a refusal is taken rose due log =
     let gives : GivesAtMost s 4194304 t = taken (ap (λ e. Err e) is) in
-    source_unread work s t reads reads_after faults faults_after gives.bytes finish stops.ReadFault a gives.gives
+    source_unread work s t gives.bytes finish stops.ReadFault a gives.gives
     ((let limit : source_limit (mode_of work) ≡ 4194304 = limit_is work in omega (arith, limit, gives.few)), rose (ap (λ e. Err e) is)) due log
 
 -- the text is too long
-pub read_long : {T : Type 0} (work : Work) (s t : Stream) (reads reads_after faults faults_after : ℕ) (finish : Finish) (a : ShelfView)
+pub read_long : {T : Type 0} (work : Work) (s t : SourceView) (finish : Finish) (a : ShelfView)
     (refusal : ReadRefusal) → refusal ≡ reads_refused.TooLong
     → (IsErrOf {T = T} (Err refusal) reads_refused.TooLong → GivesMany s 4194305 t)
     → finish.due ≡ dues.Stopped stops.TooLong → finish.log ≡ None
-    → FinishesSource (mode_of work) (source_view s reads faults) (source_view t reads_after faults_after) finish a a
-read_long work s t reads reads_after faults faults_after finish a refusal is taken due log =
+    → FinishesSource (mode_of work) s t finish a a
+read_long work s t finish a refusal is taken due log =
     let gives : GivesMany s 4194305 t = taken (ap (λ e. Err e) is) in
     let many : length gives.bytes ≡ 4194305 = gives.many in
-    source_unread work s t reads reads_after faults faults_after gives.bytes finish stops.TooLong a gives.gives
+    source_unread work s t gives.bytes finish stops.TooLong a gives.gives
     (let limit : source_limit (mode_of work) ≡ 4194304 = limit_is work in omega (arith, limit, many)) due log
 
 -- memory ran out
-pub read_lost : {T : Type 0} (work : Work) (s t : Stream) (reads reads_after faults faults_after : ℕ) (finish : Finish) (a : ShelfView)
+pub read_lost : {T : Type 0} (work : Work) (s t : SourceView) (finish : Finish) (a : ShelfView)
     (refusal : ReadRefusal) → refusal ≡ reads_refused.NoMemory
     → (IsErrOf {T = T} (Err refusal) reads_refused.NoMemory → GivesAtMost s 4194305 t)
     → finish.due ≡ dues.Stopped stops.NoMemory → finish.log ≡ None
-    → FinishesSource (mode_of work) (source_view s reads faults) (source_view t reads_after faults_after) finish a a
-read_lost work s t reads reads_after faults faults_after finish a refusal is taken due log =
+    → FinishesSource (mode_of work) s t finish a a
+read_lost work s t finish a refusal is taken due log =
     let gives : GivesAtMost s 4194305 t = taken (ap (λ e. Err e) is) in
-    source_unread work s t reads reads_after faults faults_after gives.bytes finish stops.NoMemory a gives.gives tt due log
+    source_unread work s t gives.bytes finish stops.NoMemory a gives.gives tt due log

@@ -14,7 +14,7 @@ use Rattle.geo_headline.specs.Endings.{OutOfMemory, IsWhole, order_of}
 use Rattle.geo_drain.specs.Meshes.{MeshView, opened, world_of}
 use Rattle.geo_drain.specs.declared.refusal.DrainRefusal.{DrainRefusal}
 use Rattle.geo_drain.specs.declared.refusal.DrainRefusal.TheVariants as refusals
-use Rattle.geo_run.specs.Drives.{DriveView, ServeAll}
+use Rattle.geo_run.specs.Drives.{DriveView, ServeAll, size_of}
 use Rattle.geo_run.specs.Rest.{Adds, RanFull}
 use Rattle.geo_report.specs.Texts.{IsReport, IsSummary}
 use Rattle.geo_run.specs.declared.due.Due.{Due}
@@ -24,7 +24,6 @@ use Rattle.geo_run.specs.declared.stop.Stop.TheVariants as stops
 use Rattle.geo_run.specs.declared.words.Work.{Work}
 use Rattle.geo_run.specs.declared.words.Work.TheVariants as works
 use Rattle.geo_run.specs.Ends.{IsDueOf, LentCause, MeshRan, RunsDrives, entries_in, reported_alone}
-use Rattle.geo_run.specs.Views.{size_of}
 use Rattle.geo_run.specs.Lending.{AreOut, GivesBack}
 use Rattle.geo_run.specs.Stops.{IsDue, ending_by, ending_with}
 use Rattle.geo_run.specs.Work.{mode_of}

@@ -113,6 +113,7 @@ pub made_zero : (d : DiskDecl) (m : Memory) (bytes fails : List ℕ) → IsDiskD
       calls = 0;
       faults = 0;
       part = 0;
+      asked = [];
     } → IsZeroDisk d m
 made_zero d m bytes fails decl e none is = record {
   sector = ap (λ (x : Memory). x.sector) is;

@@ -11,7 +11,7 @@ use Rattle.geo_model.specs.declared.command.DiskDecl.{DiskDecl}
 use Rattle.geo_model.specs.declared.command.DiskKind.{DiskKind}
 use Rattle.geo_model.specs.declared.command.DiskKind.TheVariants as disk_kinds
 use Rattle.geo_headline.specs.Outside.{ShelfView, IsShelf}
-use Rattle.geo_run.specs.Drives.{DriveView}
+use Rattle.geo_run.specs.Drives.{DriveView, kind_of}
 use Rattle.geo_run.specs.Lending.{AreApart, AreOther, IsMade, OpensDrive, OpensDrives, SameCounts, names_of}
 use Rattle.geo_run.proofs.Told.{OfName, IsSame, of_name, chain, same, same_twice}
 
@@ -36,15 +36,24 @@ opens_more a b c ds d xs x h k = opens_both a b c ds (d ∷ []) xs (x ∷ []) h 
 abbrev pub IsForeign : List ℕ → List DiskDecl → Type 0
 IsForeign name ds = AllByRecursion (λ (d : DiskDecl). IsShelf d.kind → d.name ≢ name) ds
 
--- a name has what it had, and no count of it changed
+-- a name has what it had, and nothing that is known of it changed
 pub record NameStays (before after : ShelfView) (name : List ℕ) : Type 0 where
   pub told : OfName before.told after.told name IsSame
   pub disks : after.faults_of name ≡ before.faults_of name
   pub takes : after.take_faults name ≡ before.take_faults name
   pub gives : after.give_faults name ≡ before.give_faults name
+  pub asked : after.asked_of name ≡ before.asked_of name
+  pub sectors : after.sectors_of name ≡ before.sectors_of name
 
 pub stays : (s : ShelfView) (name : List ℕ) → NameStays s s name
-stays s name = record { told = same s.told name; disks = refl; takes = refl; gives = refl }
+stays s name = record {
+  told = same s.told name;
+  disks = refl;
+  takes = refl;
+  gives = refl;
+  asked = refl;
+  sectors = refl;
+}
 
 pub stays_along : (a b : ShelfView) (name : List ℕ) → b ≡ a → NameStays a b name
 stays_along a b name e = subst (λ (v : ShelfView). NameStays a v name) (sym e) (stays a name)
@@ -55,6 +64,8 @@ stays_twice a b c name p q = record {
   disks = q.disks ∙ p.disks;
   takes = q.takes ∙ p.takes;
   gives = q.gives ∙ p.gives;
+  asked = q.asked ∙ p.asked;
+  sectors = q.sectors ∙ p.sectors;
 }
 
 -- a take changes nothing of another name
@@ -66,6 +77,8 @@ take_stays a b d x name disk_kinds.Shelf h other = record {
   disks = h.counts.disks name;
   takes = h.counts.takes name;
   gives = h.counts.gives name;
+  asked = h.counts.asked name;
+  sectors = h.counts.sectors name;
 }
 
 -- nor do all takes
@@ -117,6 +130,8 @@ same_counts a b e = record {
   disks = λ name. ap (λ (v : ShelfView). v.faults_of name) e;
   takes = λ name. ap (λ (v : ShelfView). v.take_faults name) e;
   gives = λ name. ap (λ (v : ShelfView). v.give_faults name) e;
+  asked = λ name. ap (λ (v : ShelfView). v.asked_of name) e;
+  sectors = λ name. ap (λ (v : ShelfView). v.sectors_of name) e;
 }
 
 take_counts : (a b : ShelfView) (d : DiskDecl) (x : DriveView) (kind : DiskKind)
@@ -137,24 +152,22 @@ takes_count a b (d ∷ ds) (x ∷ xs) h =
       disks = λ name. more.disks name ∙ one.disks name;
       takes = λ name. more.takes name ∙ one.takes name;
       gives = λ name. more.gives name ∙ one.gives name;
+      asked = λ name. more.asked name ∙ one.asked name;
+      sectors = λ name. more.sectors name ∙ one.sectors name;
     }
 
-take_later : (a b : ShelfView) (d : DiskDecl) (x : DriveView) (kind : DiskKind)
-    → OpensDrive a d x b kind → a.faults ≤ b.faults
-take_later a b d x disk_kinds.Ram h =
-    let e : b.faults ≡ a.faults = ap (λ (v : ShelfView). v.faults) h.1 in omega (arith, e)
-take_later a b d x disk_kinds.Shelf h = h.later
+take_no_fault : (a b : ShelfView) (d : DiskDecl) (x : DriveView) (kind : DiskKind)
+    → OpensDrive a d x b kind → b.faults ≡ a.faults
+take_no_fault a b d x disk_kinds.Ram h = ap (λ (v : ShelfView). v.faults) h.1
+take_no_fault a b d x disk_kinds.Shelf h = h.no_fault
 
--- the faults of the shelf don't fall
-pub takes_later : (a b : ShelfView) (ds : List DiskDecl) (xs : List DriveView)
-    → OpensDrives a ds xs b → a.faults ≤ b.faults
-takes_later a b [] [] h = let e : b.faults ≡ a.faults = ap (λ (v : ShelfView). v.faults) h in omega (arith, e)
-takes_later a b [] (x ∷ xs) h = absurd h
-takes_later a b (d ∷ ds) [] h = absurd h
-takes_later a b (d ∷ ds) (x ∷ xs) h =
-    let one : a.faults ≤ h.0.faults = take_later a h.0 d x d.kind h.1 in
-    let more : h.0.faults ≤ b.faults = takes_later h.0 b ds xs h.2 in
-    omega (arith, one, more)
+-- takes that go through are no fault
+pub takes_no_fault : (a b : ShelfView) (ds : List DiskDecl) (xs : List DriveView)
+    → OpensDrives a ds xs b → b.faults ≡ a.faults
+takes_no_fault a b [] [] h = ap (λ (v : ShelfView). v.faults) h
+takes_no_fault a b [] (x ∷ xs) h = absurd h
+takes_no_fault a b (d ∷ ds) [] h = absurd h
+takes_no_fault a b (d ∷ ds) (x ∷ xs) h = takes_no_fault h.0 b ds xs h.2 ∙ take_no_fault a h.0 d x d.kind h.1
 
 -- What each drive is
 
@@ -166,10 +179,11 @@ WentInto d x had has =
 
 -- a drive is the disk of the shelf that a declaration names, by the shelf before and after all were taken
 pub record IsTaken (before after : ShelfView) (d : DiskDecl) (x : DriveView) : Type 0 where
-  pub kind : x.kind ≡ disk_kinds.Shelf
+  pub kind : kind_of x ≡ disk_kinds.Shelf
   pub not_lent : Contains before.lent d.name → ⊥
   pub size : IsOfSize d.sector x.sector x.count
   pub brought : x.faults ≡ before.faults_of d.name
+  pub asked : x.asked ≡ before.asked_of d.name
   pub counted : IfSome x.held (λ sectors. length sectors ≡ x.count)
   pub image : OfName before.told after.told d.name (WentInto d x)
 
@@ -193,6 +207,7 @@ had_before a b c d x e y disk_kinds.Shelf h other had =
       not_lent = λ lent. had.not_lent (take_keeps_lent a b d x e.name d.kind h lent);
       size = had.size;
       brought = had.brought ∙ kept.disks;
+      asked = had.asked ∙ kept.asked;
       counted = had.counted;
       image = chain a.told b.told c.told e.name
           (λ u v w p q. (subst (λ o. IsSomeAnd o (λ bytes. IsDiskSize e.sector (length bytes) × (y.held ≡ Some (sectors_of e.sector bytes)))) p q.0, q.1))
@@ -221,6 +236,7 @@ had_first a b c d x disk_kinds.Shelf h kept = record {
   not_lent = h.not_lent;
   size = h.size;
   brought = h.brought;
+  asked = h.asked;
   counted = h.counted;
   image = chain a.told b.told c.told d.name (λ u v w p q. (p.0, q ∙ p.1))
       (of_name a.told b.told d.name (IsTakenFrom d.name d.sector x.held) {F = WentInto d x} (λ o n p. (p.bytes, p.gone)) h.told) kept.told;

@@ -21,10 +21,9 @@ use Rattle.geo_drain.specs.declared.refusal.DrainRefusal.TheVariants as refusals
 use Rattle.geo_run.specs.declared.due.Due.{Due}
 use Rattle.geo_run.specs.declared.due.Due.TheVariants as dues
 use Rattle.geo_run.specs.declared.stop.Stop.TheVariants as stops
-use Rattle.geo_run.specs.Drives.{DriveView, ServeAll}
+use Rattle.geo_run.specs.Drives.{DriveView, ServeAll, size_of}
 use Rattle.geo_run.specs.Rest.{RanFull}
 use Rattle.geo_run.specs.Lending.{GivesBack}
-use Rattle.geo_run.specs.Views.{size_of}
 
 -- the entries of a log that may be there
 abbrev pub entries_in : Option (Room Entry) → Option (List Entry)

@@ -3,45 +3,50 @@ use Rattle.std.specs.Prelude.{◌≡◌, ◌≢◌, ◌⊎◌, ℕ, ◌≤◌, L
 use Rattle.geo_base.specs.Faults.{Rose}
 use Rattle.geo_base.specs.Images.{IsDiskSize}
 use Rattle.geo_base.specs.Sectors.{zero_sectors}
+use Rattle.geo_disk.specs.Disk.{DiskView}
 use Rattle.geo_disk.specs.Memory.{Memory}
+use Rattle.geo_disk.specs.declared.drive.Drive.TheVariants.{Shelved}
 use Rattle.geo_disk.specs.Names.{without}
 use Rattle.geo_disk.specs.Shelf.{WhereTold, IsTakenFrom, IsGivenTo, IsAsBefore, IsOfSize, CountsCall}
 use Rattle.geo_model.specs.declared.command.DiskDecl.{DiskDecl}
 use Rattle.geo_model.specs.declared.command.DiskKind.{DiskKind}
 use Rattle.geo_model.specs.declared.command.DiskKind.TheVariants as disk_kinds
 use Rattle.geo_headline.specs.Outside.{ShelfView}
-use Rattle.geo_run.specs.Drives.{DriveView}
+use Rattle.geo_run.specs.Drives.{DriveView, drive_view, fails_of, kind_of}
 use Rattle.geo_run.specs.declared.stop.Stop.{Stop}
 use Rattle.geo_run.specs.declared.stop.Stop.TheVariants as stops
 
 -- One disk is taken
 
--- no count of a name changed
+-- nothing that is known of a name changed
 pub record SameCounts (before after : ShelfView) : Type 0 where
   pub disks : (name : List ℕ) → after.faults_of name ≡ before.faults_of name
   pub takes : (name : List ℕ) → after.take_faults name ≡ before.take_faults name
   pub gives : (name : List ℕ) → after.give_faults name ≡ before.give_faults name
+  pub asked : (name : List ℕ) → after.asked_of name ≡ before.asked_of name
+  pub sectors : (name : List ℕ) → after.sectors_of name ≡ before.sectors_of name
 
 -- the disk of a declaration was taken from the shelf, and is this drive
 pub record TakesDisk (before : ShelfView) (d : DiskDecl) (x : DriveView) (after : ShelfView) : Type 0 where
-  pub kind : x.kind ≡ disk_kinds.Shelf
+  pub kind : kind_of x ≡ disk_kinds.Shelf
   pub told : WhereTold (IsTakenFrom d.name d.sector x.held) before.told after.told
   pub counted : IfSome x.held (λ sectors. length sectors ≡ x.count)
   pub not_lent : Contains before.lent d.name → ⊥
   pub size : IsOfSize d.sector x.sector x.count
   pub brought : x.faults ≡ before.faults_of d.name
+  pub asked : x.asked ≡ before.asked_of d.name
   pub lent : after.lent ≡ before.lent ++ d.name ∷ []
   pub counts : SameCounts before after
-  pub later : before.faults ≤ after.faults
+  pub no_fault : after.faults ≡ before.faults
 
 -- a disk in memory, of zeros, none of whose calls is to fail
 pub record IsMade (d : DiskDecl) (x : DriveView) : Type 0 where
-  pub kind : x.kind ≡ disk_kinds.Ram
+  pub kind : kind_of x ≡ disk_kinds.Ram
   pub sector : x.sector ≡ d.sector
   pub count : x.count ≡ d.sectors
   pub held : x.held ≡ Some (zero_sectors d.sectors d.sector)
   pub faults : x.faults ≡ 0
-  pub fails : x.fails ≡ []
+  pub fails : fails_of x ≡ Some []
 
 -- the same as a disk
 pub record IsZeroDisk (d : DiskDecl) (m : Memory) : Type 0 where
@@ -55,14 +60,19 @@ abbrev pub OpensDrive : ShelfView → DiskDecl → DriveView → ShelfView → D
 OpensDrive before d x after disk_kinds.Ram = IsMade d x × (after ≡ before)
 OpensDrive before d x after disk_kinds.Shelf = TakesDisk before d x after
 
--- why a take stops: the shelf failed, the disk is missing or of a bad size, or memory ran out
+-- whether a take failed where it stops so
+abbrev pub is_blamed : Stop → Bool
+is_blamed (stops.ShelfFault name) = true
+is_blamed _ = false
+
+-- why a take stops: the shelf failed, the disk is missing or of a bad size, or memory ran out; nothing else is a fault
 abbrev pub TakeCause : ShelfView → DiskDecl → Stop → ShelfView → Type 0
 TakeCause before d (stops.ShelfFault name) after = (name ≡ d.name) × Rose before.faults after.faults
-    × Rose (before.take_faults name) (after.take_faults name)
 TakeCause before d (stops.NoDisk name) after =
-    (name ≡ d.name) × IfSome before.told (λ images. images name ≡ None)
+    (name ≡ d.name) × IfSome before.told (λ images. images name ≡ None) × (after.faults ≡ before.faults)
 TakeCause before d (stops.BadSize name) after =
     (name ≡ d.name) × IfSome before.told (λ images. IsSomeAnd (images name) (λ bytes. IsDiskSize d.sector (length bytes) → ⊥))
+    × (after.faults ≡ before.faults)
 TakeCause before d stops.NoMemory after = ⊤
 TakeCause before d _ after = ⊥
 
@@ -72,7 +82,9 @@ pub record TakesNothing (before : ShelfView) (d : DiskDecl) (stop : Stop) (after
   pub told : WhereTold IsAsBefore before.told after.told
   pub lent : after.lent ≡ before.lent
   pub disks : (name : List ℕ) → after.faults_of name ≡ before.faults_of name
-  pub takes : (name : List ℕ) → name ≢ d.name → after.take_faults name ≡ before.take_faults name
+  pub asked : (name : List ℕ) → after.asked_of name ≡ before.asked_of name
+  pub sectors : (name : List ℕ) → after.sectors_of name ≡ before.sectors_of name
+  pub takes : CountsCall (is_blamed stop) d.name before.take_faults after.take_faults
   pub gives : (name : List ℕ) → after.give_faults name ≡ before.give_faults name
   pub later : before.faults ≤ after.faults
 
@@ -108,22 +120,30 @@ pub record StopsOpening (before : ShelfView) (disks : List DiskDecl) (names : Li
 
 -- Disks are given back
 
+-- of its own name a disk brought this; what is known of others stays
+pub record IsBrought {X : Type 0} (name : List ℕ) (known : X) (old new : List ℕ → X) : Type 0 where
+  pub own : new name ≡ known
+  pub others : (other : List ℕ) → other ≢ name → new other ≡ old other
+
 -- the disk of a name was given back
 pub record GivesDisk (before : ShelfView) (name : List ℕ) (x : DriveView) (after : ShelfView) : Type 0 where
   pub told : WhereTold (IsGivenTo name x.held) before.told after.told
   pub counted : IfSome x.held (λ sectors. length sectors ≡ x.count)
   pub lent : after.lent ≡ without name before.lent
-  pub own : after.faults_of name ≡ x.faults
-  pub others : (other : List ℕ) → other ≢ name → after.faults_of other ≡ before.faults_of other
+  pub disks : IsBrought name x.faults before.faults_of after.faults_of
+  pub asked : IsBrought name x.asked before.asked_of after.asked_of
+  pub sectors : IsBrought name x.count before.sectors_of after.sectors_of
   pub takes : (other : List ℕ) → after.take_faults other ≡ before.take_faults other
   pub gives : (other : List ℕ) → after.give_faults other ≡ before.give_faults other
-  pub later : before.faults ≤ after.faults
+  pub no_fault : after.faults ≡ before.faults
 
 -- the disk of a name couldn't be given back: it stays lent
 pub record KeepsDisk (before : ShelfView) (name : List ℕ) (after : ShelfView) : Type 0 where
   pub told : WhereTold IsAsBefore before.told after.told
   pub lent : after.lent ≡ before.lent
   pub disks : (other : List ℕ) → after.faults_of other ≡ before.faults_of other
+  pub asked : (other : List ℕ) → after.asked_of other ≡ before.asked_of other
+  pub sectors : (other : List ℕ) → after.sectors_of other ≡ before.sectors_of other
   pub takes : (other : List ℕ) → after.take_faults other ≡ before.take_faults other
   pub gives : CountsCall true name before.give_faults after.give_faults
   pub rose : Rose before.faults after.faults
@@ -139,7 +159,7 @@ abbrev pub GivesBack : ShelfView → List (List ℕ) → List DriveView → List
 GivesBack before [] [] kept after = (kept ≡ []) × (after ≡ before)
 GivesBack before (name ∷ names) (x ∷ xs) kept after =
     (between : ShelfView) × (first : List (List ℕ)) × (rest : List (List ℕ)) × (kept ≡ first ++ rest)
-    × GivesDrive before name x first between x.kind × GivesBack between names xs rest after
+    × GivesDrive before name x first between (kind_of x) × GivesBack between names xs rest after
 GivesBack before _ _ kept after = ⊥
 
 -- a drive of the shelf is out under its name, which has no more faults than the drive
@@ -167,7 +187,7 @@ AreOther name (other ∷ names) = (other ≢ name) × AreOther name names
 abbrev pub AreOut : ShelfView → List (List ℕ) → List DriveView → Type 0
 AreOut shelf [] [] = ⊤
 AreOut shelf (name ∷ names) (x ∷ xs) =
-    (x.kind ≡ disk_kinds.Shelf → IsOut shelf name x) × AreOther name names × AreOut shelf names xs
+    (kind_of x ≡ disk_kinds.Shelf → IsOut shelf name x) × AreOther name names × AreOut shelf names xs
 AreOut shelf _ _ = ⊥
 
 -- each name is another
@@ -189,12 +209,5 @@ abbrev pub TakesBack : ShelfView → List DiskDecl → Stop → ShelfView → Ty
 TakesBack before disks stop after = ((stop ≡ stops.NoMemory) × (after ≡ before)) ⊎ GivesUp before disks stop after
 
 -- a disk of a shelf as a drive
-abbrev pub shelved_view : {D : Type 0} → (D → Option (List (List ℕ))) → (D → ℕ) → (D → ℕ) → (D → ℕ) → D → DriveView
-shelved_view held bytes count faults d = record {
-  kind = disk_kinds.Shelf;
-  sector = bytes d;
-  count = count d;
-  held = held d;
-  faults = faults d;
-  fails = [];
-}
+abbrev pub shelved_view : {D : Type 0} → (D → DiskView) → D → DriveView
+shelved_view view d = drive_view view (Shelved d)

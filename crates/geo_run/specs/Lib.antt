@@ -1,6 +1,5 @@
 pub mod Drives
 pub mod Rest
-pub mod Views
 pub mod Numbers
 pub mod Work
 pub mod Lending

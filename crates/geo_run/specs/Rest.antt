@@ -1,29 +1,13 @@
 -- How a mesh goes to rest in an order.
-use Rattle.std.specs.Prelude.{◌≡◌, ℕ, ◌+◌, ◌-◌, ◌^◌, ◌≤◌, List, [], ◌∷◌, length, ⊤}
-use Rattle.geo_model.specs.declared.command.DiskDecl.{DiskDecl}
+use Rattle.std.specs.Prelude.{◌≡◌, ◌+◌, ◌-◌, ◌^◌, ◌≤◌, List, length}
 use Rattle.geo_model.specs.declared.step.Entry.{Entry}
-use Rattle.geo_model.specs.World.{World, Plan}
+use Rattle.geo_model.specs.World.{World}
 use Rattle.geo_model.specs.Log.{replay, owed}
 use Rattle.geo_model.specs.FixedOrder.{FollowsOrder, StepOrder}
 use Rattle.geo_headline.specs.Endings.{NextIsFull}
 use Rattle.geo_drain.specs.Meshes.{MeshView, opened}
 use Rattle.geo_drain.specs.Drain.{with_entries}
 use Rattle.geo_run.specs.Drives.{DriveView, ServeAll}
-
--- a drive is that of a disk of the header in the size that it has
-pub record DriveFits (d : DiskDecl) (fact : ℕ × ℕ) (x : DriveView) : Type 0 where
-  pub kind : x.kind ≡ d.kind
-  pub sector : x.sector ≡ fact.0
-  pub count : x.count ≡ fact.1
-
--- one drive for each disk of the header, in its order
-abbrev pub AreDrivesOf : List DiskDecl → List (ℕ × ℕ) → List DriveView → Type 0
-AreDrivesOf [] [] [] = ⊤
-AreDrivesOf (d ∷ ds) (fact ∷ facts) (x ∷ xs) = DriveFits d fact x × AreDrivesOf ds facts xs
-AreDrivesOf _ _ _ = ⊥
-
-abbrev pub DrivesFit : Plan → List (ℕ × ℕ) → List DriveView → Type 0
-DrivesFit plan facts xs = AreDrivesOf plan.disks facts xs
 
 -- the mesh made more steps, in the order with seat 0, and the drives did what its log says
 pub record Adds (order : StepOrder) (old new : MeshView) (before after : List DriveView) : Type 0 where

@@ -2,7 +2,6 @@
 ghost use Rattle.std.specs.Prelude.{◌≡◌, ◌≢◌, ℕ, List, [], IfOk, codes};
 ghost use Rattle.geo_headline.specs.Endings.{BadWords, ReportedButFault, due_text};
 ghost use Rattle.geo_run.specs.Stops.{IsDue, ending_by, ending_of, ending_with};
-ghost use Rattle.geo_run.specs.Views.{sink_view};
 ghost use Rattle.geo_run.specs.Writes.{Writes, WritesEnding, WritesMade};
 
 use crate::stop::{Stop, fault_text, named_text};
@@ -28,8 +27,8 @@ const OUT_OF_MEMORY: &[u8] = b"out of memory\n";
 /// Writes the due text. A fault of the sink turns the status into 4.
 fn written<K: Sink>(sink: &mut K, status: u8, text: &[u8]) -> u8
     requires { status ≢ 4 }
-    ensures { Writes result status text.now (sink_view (K.basin sink.old) (K.faults sink.old))
-        (sink_view (K.basin sink.new) (K.faults sink.new)) }
+    ensures { Writes result status text.now (K.view sink.old)
+        (K.view sink.new) }
 {
     match write_out(sink, text) {
         Ok(()) => status,
@@ -40,8 +39,8 @@ fn written<K: Sink>(sink: &mut K, status: u8, text: &[u8]) -> u8
 /// Writes a text that was made, or, where it couldn't be made, that memory ran out.
 fn written_made<K: Sink>(sink: &mut K, status: u8, text: Result<Block, NoMemory>) -> u8
     requires { status ≢ 4 }
-    ensures { WritesMade status text result (sink_view (K.basin sink.old) (K.faults sink.old))
-        (sink_view (K.basin sink.new) (K.faults sink.new)) }
+    ensures { WritesMade status text result (K.view sink.old)
+        (K.view sink.new) }
 {
     match text {
         Ok(text) => written(sink, status, text.bytes()),
@@ -51,8 +50,8 @@ fn written_made<K: Sink>(sink: &mut K, status: u8, text: Result<Block, NoMemory>
 
 /// Writes why there is no report.
 fn write_stop<K: Sink>(alloc: Global, stop: &Stop, sink: &mut K) -> u8
-    ensures { WritesEnding [] (ending_of stop.now) result (sink_view (K.basin sink.old) (K.faults sink.old))
-        (sink_view (K.basin sink.new) (K.faults sink.new)) }
+    ensures { WritesEnding [] (ending_of stop.now) result (K.view sink.old)
+        (K.view sink.new) }
 {
     match stop {
         Stop::BadWords => written(sink, 1, USAGE),
@@ -83,8 +82,8 @@ fn with_fault(alloc: Global, report: &[u8], name: &Name) -> Result<Block, NoMemo
 
 /// Writes the report, and behind it the line of the disk that couldn't be given back, if there is one.
 fn write_report<K: Sink>(alloc: Global, text: &[u8], kept: &Option<Name>, sink: &mut K) -> u8
-    ensures { WritesEnding text.now (ending_with kept.now) result (sink_view (K.basin sink.old) (K.faults sink.old))
-        (sink_view (K.basin sink.new) (K.faults sink.new)) }
+    ensures { WritesEnding text.now (ending_with kept.now) result (K.view sink.old)
+        (K.view sink.new) }
 {
     match kept {
         None => written(sink, 0, text),
@@ -96,7 +95,7 @@ fn write_report<K: Sink>(alloc: Global, text: &[u8], kept: &Option<Name>, sink: 
 /// so.
 pub fn write_due<K: Sink>(alloc: Global, due: &Due, sink: &mut K) -> u8
     ensures { (reported : List ℕ) → IsDue due.now reported → WritesEnding reported (ending_by due.now) result
-        (sink_view (K.basin sink.old) (K.faults sink.old)) (sink_view (K.basin sink.new) (K.faults sink.new)) }
+        (K.view sink.old) (K.view sink.new) }
 {
     match due {
         Due::Report { text, kept } => write_report(alloc, text.bytes(), kept, sink),
@@ -106,16 +105,16 @@ pub fn write_due<K: Sink>(alloc: Global, due: &Due, sink: &mut K) -> u8
 
 /// Writes how the program is used, and gives the status, which is 1, or 4 where the sink fails.
 pub fn write_usage<K: Sink>(sink: &mut K) -> u8
-    ensures { Writes result 1 (due_text [] BadWords) (sink_view (K.basin sink.old) (K.faults sink.old))
-        (sink_view (K.basin sink.new) (K.faults sink.new)) }
+    ensures { Writes result 1 (due_text [] BadWords) (K.view sink.old)
+        (K.view sink.new) }
 {
     written(sink, 1, USAGE)
 }
 
 /// Writes that memory ran out, and gives the status, which is 6, or 4 where the sink fails.
 pub fn write_out_of_memory<K: Sink>(sink: &mut K) -> u8
-    ensures { Writes result 6 (codes "out of memory\n") (sink_view (K.basin sink.old) (K.faults sink.old))
-        (sink_view (K.basin sink.new) (K.faults sink.new)) }
+    ensures { Writes result 6 (codes "out of memory\n") (K.view sink.old)
+        (K.view sink.new) }
 {
     written(sink, 6, OUT_OF_MEMORY)
 }

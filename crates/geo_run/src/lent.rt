@@ -2,8 +2,7 @@
 ghost use Rattle.std.specs.Prelude.{◌≡◌, ◌≢◌, ◌⊎◌, ◌<◌, ◌≤◌, ◌+◌, [], ◌∷◌, ◌++◌, ℕ, List, All, Some, None, length, map, vec_len, vec_capacity, slice_get, IfOk, IfErr, OnOk, IsTrue};
 ghost use Rattle.geo_model.specs.declared.command.DiskKind.TheVariants as disk_kinds;
 ghost use Rattle.geo_model.specs.Plans.{IsDiskDecl};
-ghost use Rattle.geo_run.specs.Drives.{drive_view};
-ghost use Rattle.geo_run.specs.Views.{shelf_view};
+ghost use Rattle.geo_run.specs.Drives.{drive_view, kind_of};
 ghost use Rattle.geo_run.specs.Lending.{AreApart, AreOut, GivesBack, GivesDrive, IsOut, IsZeroDisk, OpensDrive, OpensDrives, OpensNoDrive, StopsOpening, TakesBack, TakesDisk, TakesNothing, first_kept, kept_name, names_of, shelved_view};
 
 use crate::stop::Stop;
@@ -48,12 +47,12 @@ fn memory_disk(alloc: Global, decl: &DiskDecl) -> Result<MemDisk, NoMemory>
 fn take_disk<H: Shelf>(decl: &DiskDecl, shelf: &mut H) -> Result<H::D, Stop>
     requires decl { IsDiskDecl decl.now }
     ensures taken { IfOk result (λ d. TakesDisk
-        (shelf_view H.told H.lent H.faults H.faults_of H.take_faults H.give_faults shelf.old) decl.now
-        (shelved_view H.D.held H.D.sector_bytes H.D.sector_count H.D.faults d)
-        (shelf_view H.told H.lent H.faults H.faults_of H.take_faults H.give_faults shelf.new)) }
+        (H.view shelf.old) decl.now
+        (shelved_view H.D.view d)
+        (H.view shelf.new)) }
     ensures stopped { IfErr result (λ stop. TakesNothing
-        (shelf_view H.told H.lent H.faults H.faults_of H.take_faults H.give_faults shelf.old) decl.now stop
-        (shelf_view H.told H.lent H.faults H.faults_of H.take_faults H.give_faults shelf.new)) }
+        (H.view shelf.old) decl.now stop
+        (H.view shelf.new)) }
 {
     match shelf.take(&decl.name, decl.sector) {
         Ok(Taken::Disk(disk)) => Ok(disk),
@@ -68,12 +67,12 @@ fn take_disk<H: Shelf>(decl: &DiskDecl, shelf: &mut H) -> Result<H::D, Stop>
 fn open_drive<H: Shelf>(alloc: Global, decl: &DiskDecl, shelf: &mut H) -> Result<Drive<H::D>, Stop>
     requires decl { IsDiskDecl decl.now }
     ensures opened { IfOk result (λ drive. OpensDrive
-        (shelf_view H.told H.lent H.faults H.faults_of H.take_faults H.give_faults shelf.old) decl.now
-        (drive_view H.D.held H.D.sector_bytes H.D.sector_count H.D.faults drive)
-        (shelf_view H.told H.lent H.faults H.faults_of H.take_faults H.give_faults shelf.new) decl.now.kind) }
+        (H.view shelf.old) decl.now
+        (drive_view H.D.view drive)
+        (H.view shelf.new) decl.now.kind) }
     ensures stopped { IfErr result (λ stop. OpensNoDrive
-        (shelf_view H.told H.lent H.faults H.faults_of H.take_faults H.give_faults shelf.old) decl.now stop
-        (shelf_view H.told H.lent H.faults H.faults_of H.take_faults H.give_faults shelf.new) decl.now.kind) }
+        (H.view shelf.old) decl.now stop
+        (H.view shelf.new) decl.now.kind) }
 {
     match decl.kind {
         DiskKind::Ram => Ok(Drive::Ram(memory_disk(alloc, decl)?)),
@@ -111,15 +110,15 @@ fn take_into<H: Shelf>(
     requires room { length decls.now ≤ vec_capacity lent.old.drives }
     requires name_room { length decls.now ≤ vec_capacity lent.old.names }
     ensures taken { OnOk result (OpensDrives
-        (shelf_view H.told H.lent H.faults H.faults_of H.take_faults H.give_faults shelf.old) decls.now
-        (map (drive_view H.D.held H.D.sector_bytes H.D.sector_count H.D.faults) lent.new.drives.items)
-        (shelf_view H.told H.lent H.faults H.faults_of H.take_faults H.give_faults shelf.new)) }
+        (H.view shelf.old) decls.now
+        (map (drive_view H.D.view) lent.new.drives.items)
+        (H.view shelf.new)) }
     ensures named { OnOk result (lent.new.names.items ≡ names_of decls.now) }
     ensures stopped { IfErr result (λ stop. StopsOpening
-        (shelf_view H.told H.lent H.faults H.faults_of H.take_faults H.give_faults shelf.old) decls.now
+        (H.view shelf.old) decls.now
         lent.new.names.items
-        (map (drive_view H.D.held H.D.sector_bytes H.D.sector_count H.D.faults) lent.new.drives.items) stop
-        (shelf_view H.told H.lent H.faults H.faults_of H.take_faults H.give_faults shelf.new)) }
+        (map (drive_view H.D.view) lent.new.drives.items) stop
+        (H.view shelf.new)) }
 {
     for decl in decls {
         match open_drive(alloc, decl, shelf) {
@@ -134,14 +133,14 @@ fn take_into<H: Shelf>(
 fn give_drive<H: Shelf>(shelf: &mut H, name: &Name, drive: Drive<H::D>) -> bool
 where
     H::D: Drop,
-    requires out { (drive_view H.D.held H.D.sector_bytes H.D.sector_count H.D.faults drive).kind ≡ disk_kinds.Shelf
-        → IsOut (shelf_view H.told H.lent H.faults H.faults_of H.take_faults H.give_faults shelf.old) name.now
-        (drive_view H.D.held H.D.sector_bytes H.D.sector_count H.D.faults drive) }
+    requires out { kind_of (drive_view H.D.view drive) ≡ disk_kinds.Shelf
+        → IsOut (H.view shelf.old) name.now
+        (drive_view H.D.view drive) }
     ensures { GivesDrive
-        (shelf_view H.told H.lent H.faults H.faults_of H.take_faults H.give_faults shelf.old) name.now
-        (drive_view H.D.held H.D.sector_bytes H.D.sector_count H.D.faults drive) (kept_name result name.now)
-        (shelf_view H.told H.lent H.faults H.faults_of H.take_faults H.give_faults shelf.new)
-        (drive_view H.D.held H.D.sector_bytes H.D.sector_count H.D.faults drive).kind }
+        (H.view shelf.old) name.now
+        (drive_view H.D.view drive) (kept_name result name.now)
+        (H.view shelf.new)
+        (kind_of (drive_view H.D.view drive)) }
 {
     match drive {
         Drive::Ram(_) => true,
@@ -164,12 +163,12 @@ pub fn give_back<H: Shelf>(lent: Lent<H::D>, shelf: &mut H) -> Option<Name>
 where
     H::D: Drop,
     requires out { AreOut
-        (shelf_view H.told H.lent H.faults H.faults_of H.take_faults H.give_faults shelf.old) lent.names.items
-        (map (drive_view H.D.held H.D.sector_bytes H.D.sector_count H.D.faults) lent.drives.items) }
+        (H.view shelf.old) lent.names.items
+        (map (drive_view H.D.view) lent.drives.items) }
     ensures { (kept : List (List ℕ)) × (result ≡ slice_get kept 0) × GivesBack
-        (shelf_view H.told H.lent H.faults H.faults_of H.take_faults H.give_faults shelf.old) lent.names.items
-        (map (drive_view H.D.held H.D.sector_bytes H.D.sector_count H.D.faults) lent.drives.items) kept
-        (shelf_view H.told H.lent H.faults H.faults_of H.take_faults H.give_faults shelf.new) }
+        (H.view shelf.old) lent.names.items
+        (map (drive_view H.D.view) lent.drives.items) kept
+        (H.view shelf.new) }
 {
     let Lent { names, drives } = lent;
     let mut kept: Option<Name> = None;
@@ -194,13 +193,13 @@ where
     requires decls { All IsDiskDecl decls.now }
     requires names { AreApart (names_of decls.now) }
     ensures taken { IfOk result (λ lent. OpensDrives
-        (shelf_view H.told H.lent H.faults H.faults_of H.take_faults H.give_faults shelf.old) decls.now
-        (map (drive_view H.D.held H.D.sector_bytes H.D.sector_count H.D.faults) lent.drives.items)
-        (shelf_view H.told H.lent H.faults H.faults_of H.take_faults H.give_faults shelf.new)) }
+        (H.view shelf.old) decls.now
+        (map (drive_view H.D.view) lent.drives.items)
+        (H.view shelf.new)) }
     ensures named { IfOk result (λ lent. lent.names.items ≡ names_of decls.now) }
     ensures stopped { IfErr result (λ stop. TakesBack
-        (shelf_view H.told H.lent H.faults H.faults_of H.take_faults H.give_faults shelf.old) decls.now stop
-        (shelf_view H.told H.lent H.faults H.faults_of H.take_faults H.give_faults shelf.new)) }
+        (H.view shelf.old) decls.now stop
+        (H.view shelf.new)) }
 {
     let mut lent = with_room(alloc, decls.len())?;
     match take_into(alloc, decls, shelf, &mut lent) {

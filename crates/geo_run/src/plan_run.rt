@@ -7,9 +7,9 @@ ghost use Rattle.geo_model.specs.Laws.{NoneBusy};
 ghost use Rattle.geo_model.specs.Log.{Fits};
 ghost use Rattle.geo_model.specs.Plans.{FactsFit, IsPlan};
 ghost use Rattle.geo_drain.specs.Meshes.{MeshView, opened, world_of};
-ghost use Rattle.geo_run.specs.Drives.{drive_view};
-ghost use Rattle.geo_run.specs.Rest.{Adds, DrivesFit, RanFull};
-ghost use Rattle.geo_run.specs.Views.{shelf_view, size_of};
+ghost use Rattle.geo_drain.specs.Drain.{DrivesFit};
+ghost use Rattle.geo_run.specs.Drives.{drive_view, size_of};
+ghost use Rattle.geo_run.specs.Rest.{Adds, RanFull};
 ghost use Rattle.geo_run.specs.Lending.{AreOut};
 ghost use Rattle.geo_run.specs.Stops.{IsDue, ending_by};
 ghost use Rattle.geo_run.specs.Ends.{IsDueOf, RunsDrives, RunsPlan, entries_in, reported_alone};
@@ -32,7 +32,7 @@ use std::alloc::Global;
 /// The sizes of the drives.
 fn facts_of<D: Disk>(alloc: Global, drives: &[Drive<D>]) -> Result<DiskFacts, NoMemory>
     ensures { IfOk result (λ facts. facts.items
-        ≡ map size_of (map (drive_view D.held D.sector_bytes D.sector_count D.faults) drives.now)) }
+        ≡ map size_of (map (drive_view D.view) drives.now)) }
 {
     let mut facts = DiskFacts::new(alloc);
     facts.reserve(drives.len() as u64)?;
@@ -49,14 +49,14 @@ fn open_mesh<D: Disk>(
     drives: &[Drive<D>],
 ) -> Result<(Mesh, DiskFacts), NoMemory>
     requires { FactsFit plan
-        (map size_of (map (drive_view D.held D.sector_bytes D.sector_count D.faults) drives.now)) }
+        (map size_of (map (drive_view D.view) drives.now)) }
     ensures mesh { IfOk result (λ made. made.0 ≡ record {
       plan = plan;
-      facts = map size_of (map (drive_view D.held D.sector_bytes D.sector_count D.faults) drives.now);
+      facts = map size_of (map (drive_view D.view) drives.now);
       log = [];
     }) }
     ensures facts { IfOk result (λ made. made.1.items
-        ≡ map size_of (map (drive_view D.held D.sector_bytes D.sector_count D.faults) drives.now)) }
+        ≡ map size_of (map (drive_view D.view) drives.now)) }
 {
     let facts = facts_of(alloc, drives)?;
     let mesh = Mesh::begin(alloc, plan, &facts)?;
@@ -98,12 +98,11 @@ fn due_of(
 /// Runs an open mesh to rest over its drives.
 fn drain<D: Disk>(alloc: Global, mesh: &mut Mesh, lent: &mut Lent<D>) -> Result<(), DrainRefusal>
     requires idle { NoneBusy (world_of mesh.old) }
-    requires drives { DrivesFit mesh.old.plan mesh.old.facts
-        (map (drive_view D.held D.sector_bytes D.sector_count D.faults) lent.old.drives.items) }
+    requires drives { DrivesFit mesh.old (map (drive_view D.view) lent.old.drives.items) }
     ensures names { lent.new.names.items ≡ lent.old.names.items }
     ensures added { Adds fixed_order mesh.old mesh.new
-        (map (drive_view D.held D.sector_bytes D.sector_count D.faults) lent.old.drives.items)
-        (map (drive_view D.held D.sector_bytes D.sector_count D.faults) lent.new.drives.items) }
+        (map (drive_view D.view) lent.old.drives.items)
+        (map (drive_view D.view) lent.new.drives.items) }
     ensures history { KeepsHistory (opened mesh.new) mesh.new.log }
     ensures fits { Fits (opened mesh.new) mesh.new.log }
     ensures rest { OnOk result (RanToItsEnd (opened mesh.new) mesh.new.log) }
@@ -128,17 +127,15 @@ where
     requires fit { FactsFit mesh.plan mesh.facts }
     requires facts { facts.items ≡ mesh.facts }
     requires sizes { mesh.facts
-        ≡ map size_of (map (drive_view H.D.held H.D.sector_bytes H.D.sector_count H.D.faults) lent.drives.items) }
-    requires drives { DrivesFit mesh.plan mesh.facts
-        (map (drive_view H.D.held H.D.sector_bytes H.D.sector_count H.D.faults) lent.drives.items) }
+        ≡ map size_of (map (drive_view H.D.view) lent.drives.items) }
     requires out { AreOut
-        (shelf_view H.told H.lent H.faults H.faults_of H.take_faults H.give_faults shelf.old) lent.names.items
-        (map (drive_view H.D.held H.D.sector_bytes H.D.sector_count H.D.faults) lent.drives.items) }
+        (H.view shelf.old) lent.names.items
+        (map (drive_view H.D.view) lent.drives.items) }
     ensures runs { RunsDrives (order_of (mode_of work.now)) mesh.plan lent.names.items
-        (map (drive_view H.D.held H.D.sector_bytes H.D.sector_count H.D.faults) lent.drives.items)
+        (map (drive_view H.D.view) lent.drives.items)
         result.facts.items (entries_in result.log) (ending_by result.due)
-        (shelf_view H.told H.lent H.faults H.faults_of H.take_faults H.give_faults shelf.old)
-        (shelf_view H.told H.lent H.faults H.faults_of H.take_faults H.give_faults shelf.new) }
+        (H.view shelf.old)
+        (H.view shelf.new) }
     ensures due { IsDue result.due
         (reported_alone (mode_of work.now) mesh.plan result.facts.items (entries_in result.log)) }
 {
@@ -166,18 +163,15 @@ where
     H::D: Drop,
     requires plan { IsPlan plan }
     requires fit { FactsFit plan
-        (map size_of (map (drive_view H.D.held H.D.sector_bytes H.D.sector_count H.D.faults) lent.drives.items)) }
-    requires drives { DrivesFit plan
-        (map size_of (map (drive_view H.D.held H.D.sector_bytes H.D.sector_count H.D.faults) lent.drives.items))
-        (map (drive_view H.D.held H.D.sector_bytes H.D.sector_count H.D.faults) lent.drives.items) }
+        (map size_of (map (drive_view H.D.view) lent.drives.items)) }
     requires out { AreOut
-        (shelf_view H.told H.lent H.faults H.faults_of H.take_faults H.give_faults shelf.old) lent.names.items
-        (map (drive_view H.D.held H.D.sector_bytes H.D.sector_count H.D.faults) lent.drives.items) }
+        (H.view shelf.old) lent.names.items
+        (map (drive_view H.D.view) lent.drives.items) }
     ensures runs { RunsDrives (order_of (mode_of work.now)) plan lent.names.items
-        (map (drive_view H.D.held H.D.sector_bytes H.D.sector_count H.D.faults) lent.drives.items)
+        (map (drive_view H.D.view) lent.drives.items)
         result.facts.items (entries_in result.log) (ending_by result.due)
-        (shelf_view H.told H.lent H.faults H.faults_of H.take_faults H.give_faults shelf.old)
-        (shelf_view H.told H.lent H.faults H.faults_of H.take_faults H.give_faults shelf.new) }
+        (H.view shelf.old)
+        (H.view shelf.new) }
     ensures due { IsDue result.due
         (reported_alone (mode_of work.now) plan result.facts.items (entries_in result.log)) }
 {
@@ -195,8 +189,8 @@ pub fn run_plan<H: Shelf>(alloc: Global, plan: Plan, work: &Work, shelf: &mut H)
 where
     H::D: Drop,
     ensures runs { RunsPlan (order_of (mode_of work.now)) plan result.facts.items (entries_in result.log) (ending_by result.due)
-        (shelf_view H.told H.lent H.faults H.faults_of H.take_faults H.give_faults shelf.old)
-        (shelf_view H.told H.lent H.faults H.faults_of H.take_faults H.give_faults shelf.new) }
+        (H.view shelf.old)
+        (H.view shelf.new) }
     ensures due { IsDue result.due
         (reported_alone (mode_of work.now) plan result.facts.items (entries_in result.log)) }
 {

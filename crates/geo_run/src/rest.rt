@@ -5,8 +5,9 @@ ghost use Rattle.geo_model.specs.History.{KeepsHistory, RanToItsEnd};
 ghost use Rattle.geo_model.specs.Laws.{NoneBusy};
 ghost use Rattle.geo_model.specs.Log.{Fits};
 ghost use Rattle.geo_drain.specs.Meshes.{opened, world_of};
+ghost use Rattle.geo_drain.specs.Drain.{DrivesFit};
 ghost use Rattle.geo_run.specs.Drives.{drive_view};
-ghost use Rattle.geo_run.specs.Rest.{Adds, DrivesFit, RanFull};
+ghost use Rattle.geo_run.specs.Rest.{Adds, RanFull};
 
 use geo_disk::{Disk, Drive};
 use geo_drain::{DrainRefusal, FixedOrder, Mesh, run_to_rest};
@@ -20,11 +21,10 @@ pub fn come_to_rest<D: Disk>(
     drives: &mut [Drive<D>],
 ) -> Result<(), DrainRefusal>
     requires idle { NoneBusy (world_of mesh.old) }
-    requires drives { DrivesFit mesh.old.plan mesh.old.facts
-        (map (drive_view D.held D.sector_bytes D.sector_count D.faults) drives.old) }
+    requires drives { DrivesFit mesh.old (map (drive_view D.view) drives.old) }
     ensures added { Adds fixed_order mesh.old mesh.new
-        (map (drive_view D.held D.sector_bytes D.sector_count D.faults) drives.old)
-        (map (drive_view D.held D.sector_bytes D.sector_count D.faults) drives.new) }
+        (map (drive_view D.view) drives.old)
+        (map (drive_view D.view) drives.new) }
     ensures history { KeepsHistory (opened mesh.new) mesh.new.log }
     ensures fits { Fits (opened mesh.new) mesh.new.log }
     ensures rest { OnOk result (RanToItsEnd (opened mesh.new) mesh.new.log) }

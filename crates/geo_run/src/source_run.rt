@@ -2,7 +2,6 @@
 ghost use Rattle.std.specs.Prelude.{◌<◌, ◌^◌, length};
 ghost use Rattle.geo_model.specs.Generator.{generated};
 ghost use Rattle.geo_headline.specs.Modes.{IsAlone, IsMode, GenMode};
-ghost use Rattle.geo_run.specs.Views.{shelf_view, source_view};
 ghost use Rattle.geo_run.specs.Work.{IsBuilt, mode_of, word_bytes};
 ghost use Rattle.geo_run.specs.Calls.{Finishes, FinishesText, FinishesSource};
 
@@ -25,8 +24,8 @@ where
     H::D: Drop,
     requires { length text.now < 2 ^ 32 }
     ensures { FinishesText text.now (mode_of work.now) result
-        (shelf_view H.told H.lent H.faults H.faults_of H.take_faults H.give_faults shelf.old)
-        (shelf_view H.told H.lent H.faults H.faults_of H.take_faults H.give_faults shelf.new) }
+        (H.view shelf.old)
+        (H.view shelf.new) }
 {
     match parse(alloc, text) {
         Ok(plan) => run_plan(alloc, plan, work, shelf),
@@ -45,10 +44,10 @@ fn run_source<S: Source, H: Shelf>(
 where
     H::D: Drop,
     ensures { FinishesSource (mode_of work.now)
-        (source_view (S.stream source.old) (S.reads source.old) (S.faults source.old))
-        (source_view (S.stream source.new) (S.reads source.new) (S.faults source.new)) result
-        (shelf_view H.told H.lent H.faults H.faults_of H.take_faults H.give_faults shelf.old)
-        (shelf_view H.told H.lent H.faults H.faults_of H.take_faults H.give_faults shelf.new) }
+        (S.view source.old)
+        (S.view source.new) result
+        (H.view shelf.old)
+        (H.view shelf.new) }
 {
     match read_all(alloc, source, LONGEST) {
         Ok(text) => run_text(alloc, text.bytes(), work, shelf),
@@ -64,8 +63,8 @@ where
     H::D: Drop,
     requires { IsMode (GenMode start count) }
     ensures { FinishesText (generated start count) (GenMode start count) result
-        (shelf_view H.told H.lent H.faults H.faults_of H.take_faults H.give_faults shelf.old)
-        (shelf_view H.told H.lent H.faults H.faults_of H.take_faults H.give_faults shelf.new) }
+        (H.view shelf.old)
+        (H.view shelf.new) }
 {
     match make_script(alloc, start, count) {
         Ok(text) => run_text(alloc, text.bytes(), &Work::Generate { start, count }, shelf),
@@ -85,10 +84,10 @@ where
     requires alone { IsAlone (word_bytes words.now) }
     requires built { IsBuilt (word_bytes words.now) }
     ensures { Finishes (word_bytes words.now) result
-        (source_view (S.stream source.old) (S.reads source.old) (S.faults source.old))
-        (source_view (S.stream source.new) (S.reads source.new) (S.faults source.new))
-        (shelf_view H.told H.lent H.faults H.faults_of H.take_faults H.give_faults shelf.old)
-        (shelf_view H.told H.lent H.faults H.faults_of H.take_faults H.give_faults shelf.new) }
+        (S.view source.old)
+        (S.view source.new)
+        (H.view shelf.old)
+        (H.view shelf.new) }
 {
     match work_of(words) {
         Some(Work::Step) => run_source(alloc, source, &Work::Step, shelf),

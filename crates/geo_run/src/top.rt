@@ -3,7 +3,6 @@ ghost use Rattle.std.specs.Prelude.{[], codes};
 ghost use Rattle.geo_headline.specs.Endings.{BadWords, due_text};
 ghost use Rattle.geo_headline.specs.Headline.{IsComplete};
 ghost use Rattle.geo_run.specs.Calls.{Keeps, call_of, outside_of};
-ghost use Rattle.geo_run.specs.Views.{shelf_view, sink_view, source_view};
 ghost use Rattle.geo_headline.specs.Modes.{IsAlone};
 ghost use Rattle.geo_run.specs.Work.{IsBuilt, word_bytes};
 ghost use Rattle.geo_run.specs.Writes.{Writes};
@@ -40,19 +39,19 @@ where
     requires alone { IsAlone (word_bytes words.now) }
     requires built { IsBuilt (word_bytes words.now) }
     ensures keeps { Keeps (call_of (word_bytes words.now) result
-        (outside_of (source_view (S.stream source.old) (S.reads source.old) (S.faults source.old))
-        (sink_view (K.basin sink.old) (K.faults sink.old))
-        (shelf_view H.told H.lent H.faults H.faults_of H.take_faults H.give_faults shelf.old))
-        (outside_of (source_view (S.stream source.new) (S.reads source.new) (S.faults source.new))
-        (sink_view (K.basin sink.new) (K.faults sink.new))
-        (shelf_view H.told H.lent H.faults H.faults_of H.take_faults H.give_faults shelf.new))) }
+        (outside_of (S.view source.old)
+        (K.view sink.old)
+        (H.view shelf.old))
+        (outside_of (S.view source.new)
+        (K.view sink.new)
+        (H.view shelf.new))) }
     ensures complete { IsComplete (call_of (word_bytes words.now) result
-        (outside_of (source_view (S.stream source.old) (S.reads source.old) (S.faults source.old))
-        (sink_view (K.basin sink.old) (K.faults sink.old))
-        (shelf_view H.told H.lent H.faults H.faults_of H.take_faults H.give_faults shelf.old))
-        (outside_of (source_view (S.stream source.new) (S.reads source.new) (S.faults source.new))
-        (sink_view (K.basin sink.new) (K.faults sink.new))
-        (shelf_view H.told H.lent H.faults H.faults_of H.take_faults H.give_faults shelf.new))) }
+        (outside_of (S.view source.old)
+        (K.view sink.old)
+        (H.view shelf.old))
+        (outside_of (S.view source.new)
+        (K.view sink.new)
+        (H.view shelf.new))) }
 {
     let Finish { due, log, facts } = run_words(alloc, words, source, shelf);
     Ended {
@@ -65,8 +64,8 @@ where
 /// The end of a program that has no memory even for its words: it writes `out of memory`, and gives the exit status,
 /// which is 6, or 4 where the sink fails.
 pub fn without_memory<K: Sink>(sink: &mut K) -> u8
-    ensures { Writes result 6 (codes "out of memory\n") (sink_view (K.basin sink.old) (K.faults sink.old))
-        (sink_view (K.basin sink.new) (K.faults sink.new)) }
+    ensures { Writes result 6 (codes "out of memory\n") (K.view sink.old)
+        (K.view sink.new) }
 {
     write_out_of_memory(sink)
 }
@@ -74,8 +73,8 @@ pub fn without_memory<K: Sink>(sink: &mut K) -> u8
 /// The end of a program whose words aren't its own: it writes how the program is used, and gives the exit status, which
 /// is 1, or 4 where the sink fails.
 pub fn refuse_words<K: Sink>(sink: &mut K) -> u8
-    ensures { Writes result 1 (due_text [] BadWords) (sink_view (K.basin sink.old) (K.faults sink.old))
-        (sink_view (K.basin sink.new) (K.faults sink.new)) }
+    ensures { Writes result 1 (due_text [] BadWords) (K.view sink.old)
+        (K.view sink.new) }
 {
     write_usage(sink)
 }

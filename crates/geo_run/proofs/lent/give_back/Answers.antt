@@ -3,15 +3,14 @@ use Rattle.std.proofs.Common.{◌≡◌, ◌<◌, ℕ, ◌∷◌, [], ◌++◌, 
 use Rattle.std.proofs.lemmas.List.{length-append}
 use Rattle.std.specs.Vec.Iter.{into_iter_items}
 use Rattle.geo_run.specs.Drives.{drive_view}
-use Rattle.geo_run.specs.Views.{shelf_view}
 use Rattle.geo_run.specs.Lending.{AreOut}
 use Rattle.geo_run.proofs.Loops.{gave_all, gave_item, item_out, name_left, next_out, rest_out}
 use Rattle.geo_run.proofs.lent.give_back.Goals as goal
 
 pub index-name-requires : goal.index-name-requires
 index-name-requires g c =
-    let f = drive_view g.H.D.Disk.held g.H.D.Disk.sector_bytes g.H.D.Disk.sector_count g.H.D.Disk.faults in
-    let s = shelf_view g.H.Shelf.told g.H.Shelf.lent g.H.Shelf.faults g.H.Shelf.faults_of g.H.Shelf.take_faults g.H.Shelf.give_faults c.loop-drive.shelf in
+    let f = drive_view g.H.D.Disk.view in
+    let s = g.H.Shelf.view c.loop-drive.shelf in
     let names = c.args.lent.names.items in
     let lt : length c.loop-drive.yielded < length names =
     name_left s names (length c.loop-drive.yielded) (f c.in-Some.drive) (map f (into_iter_items c.next.new.self))
@@ -21,8 +20,8 @@ index-name-requires g c =
 
 pub give_drive-given-requires : goal.give_drive-given-requires
 give_drive-given-requires g c =
-    let f = drive_view g.H.D.Disk.held g.H.D.Disk.sector_bytes g.H.D.Disk.sector_count g.H.D.Disk.faults in
-    let s = shelf_view g.H.Shelf.told g.H.Shelf.lent g.H.Shelf.faults g.H.Shelf.faults_of g.H.Shelf.take_faults g.H.Shelf.give_faults c.loop-drive.shelf in
+    let f = drive_view g.H.D.Disk.view in
+    let s = g.H.Shelf.view c.loop-drive.shelf in
     let names = c.args.lent.names.items in
     let n = length c.loop-drive.yielded in
     let here = item_out f s names n (into_iter_items c.loop-drive.drive-iterator) c.in-Some.drive
@@ -34,8 +33,8 @@ give_drive-given-requires g c =
 
 pub loop-drive-init : goal.loop-drive-init
 loop-drive-init g c =
-    let f = drive_view g.H.D.Disk.held g.H.D.Disk.sector_bytes g.H.D.Disk.sector_count g.H.D.Disk.faults in
-    let s = shelf_view g.H.Shelf.told g.H.Shelf.lent g.H.Shelf.faults g.H.Shelf.faults_of g.H.Shelf.take_faults g.H.Shelf.give_faults c.args.shelf.now in
+    let f = drive_view g.H.D.Disk.view in
+    let s = g.H.Shelf.view c.args.shelf.now in
     let gives : into_iter_items c.into_iter-drive-iterator.result ≡ c.args.lent.drives.items =
     c.into_iter-drive-iterator.ensures.into_iter_gives.0 in
     record {
@@ -47,8 +46,8 @@ loop-drive-init g c =
 
 pub loop-drive-preserved : goal.loop-drive-preserved
 loop-drive-preserved g c =
-    let f = drive_view g.H.D.Disk.held g.H.D.Disk.sector_bytes g.H.D.Disk.sector_count g.H.D.Disk.faults in
-    let v = shelf_view g.H.Shelf.told g.H.Shelf.lent g.H.Shelf.faults g.H.Shelf.faults_of g.H.Shelf.take_faults g.H.Shelf.give_faults in
+    let f = drive_view g.H.D.Disk.view in
+    let v = g.H.Shelf.view in
     let names = c.args.lent.names.items in
     let items = c.loop-drive.yielded in
     let rest = into_iter_items c.next.new.self in
@@ -70,8 +69,8 @@ loop-drive-preserved g c =
 
 pub returns : goal.returns
 returns g c =
-    let f = drive_view g.H.D.Disk.held g.H.D.Disk.sector_bytes g.H.D.Disk.sector_count g.H.D.Disk.faults in
-    let v = shelf_view g.H.Shelf.told g.H.Shelf.lent g.H.Shelf.faults g.H.Shelf.faults_of g.H.Shelf.take_faults g.H.Shelf.give_faults in
+    let f = drive_view g.H.D.Disk.view in
+    let v = g.H.Shelf.view in
     let none : length (into_iter_items c.loop-drive.drive-iterator) ≡ 0 =
     omega (arith, c.loop-drive.drive-iterator.rest.ok.0, c.in-None.ensures.steps.0) in (
       c.loop-drive.invariant.given.0,

@@ -1,7 +1,6 @@
 use Rattle.std.proofs.Common.{◌≡◌, ◌++◌, ℕ, List, length, map, take, drop, slice_get}
 use Rattle.std.specs.Vec.Iter.{into_iter_items}
 use Rattle.geo_run.specs.Drives.{drive_view}
-use Rattle.geo_run.specs.Views.{shelf_view}
 use Rattle.geo_run.specs.Lending.{AreOut, GivesBack}
 use Rattle.geo_run.proofs.lent.give_back.Given as goal
 
@@ -11,16 +10,13 @@ invariant-loop-drive g l = record {
   place : l.place ≡ length l.yielded;
   all : l.fn.lent.drives.items ≡ l.yielded ++ into_iter_items l.drive-iterator;
   given : (kept : List (List ℕ)) × (l.kept ≡ slice_get kept 0) × GivesBack
-      (shelf_view g.H.Shelf.told g.H.Shelf.lent g.H.Shelf.faults g.H.Shelf.faults_of g.H.Shelf.take_faults
-      g.H.Shelf.give_faults l.fn.shelf)
+      (g.H.Shelf.view l.fn.shelf)
       (take (length l.yielded) l.names.items)
-      (map (drive_view g.H.D.Disk.held g.H.D.Disk.sector_bytes g.H.D.Disk.sector_count g.H.D.Disk.faults) l.yielded) kept
-      (shelf_view g.H.Shelf.told g.H.Shelf.lent g.H.Shelf.faults g.H.Shelf.faults_of g.H.Shelf.take_faults
-      g.H.Shelf.give_faults l.shelf);
+      (map (drive_view g.H.D.Disk.view) l.yielded) kept
+      (g.H.Shelf.view l.shelf);
   out : AreOut
-      (shelf_view g.H.Shelf.told g.H.Shelf.lent g.H.Shelf.faults g.H.Shelf.faults_of g.H.Shelf.take_faults
-      g.H.Shelf.give_faults l.shelf)
+      (g.H.Shelf.view l.shelf)
       (drop (length l.yielded) l.names.items)
-      (map (drive_view g.H.D.Disk.held g.H.D.Disk.sector_bytes g.H.D.Disk.sector_count g.H.D.Disk.faults)
+      (map (drive_view g.H.D.Disk.view)
       (into_iter_items l.drive-iterator));
 }

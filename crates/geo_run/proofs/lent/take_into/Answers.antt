@@ -1,21 +1,20 @@
 -- One disk more, and the one that couldn't be had.
 use Rattle.std.proofs.Common.{◌∙◌, arith}
 use Rattle.geo_run.specs.Drives.{drive_view}
-use Rattle.geo_run.specs.Views.{shelf_view}
 use Rattle.geo_run.proofs.Loops.{named_next, opens_item, stops_at}
 use Rattle.geo_run.proofs.lent.take_into.Goals as goal
 
 pub returns-in-Err-clause-stopped : goal.returns-in-Err-clause-stopped
 returns-in-Err-clause-stopped g c =
-    let v = shelf_view g.H.Shelf.told g.H.Shelf.lent g.H.Shelf.faults g.H.Shelf.faults_of g.H.Shelf.take_faults g.H.Shelf.give_faults in
+    let v = g.H.Shelf.view in
     stops_at (v c.args.shelf.now) (v c.loop-decl.shelf) (v c.open_drive.new.shelf) c.args.decls.now c.loop-decl.decl-index
     c.decl-item.result c.loop-decl.lent.names.items _ c.in-Err.stop c.loop-decl-test.true c.decl-item.is
     c.loop-decl.invariant.named c.loop-decl.invariant.opened c.in-Err.ensures.stopped
 
 pub loop-decl-preserved : goal.loop-decl-preserved
 loop-decl-preserved g c =
-    let f = drive_view g.H.D.Disk.held g.H.D.Disk.sector_bytes g.H.D.Disk.sector_count g.H.D.Disk.faults in
-    let v = shelf_view g.H.Shelf.told g.H.Shelf.lent g.H.Shelf.faults g.H.Shelf.faults_of g.H.Shelf.take_faults g.H.Shelf.give_faults in
+    let f = drive_view g.H.D.Disk.view in
+    let v = g.H.Shelf.view in
     record {
       opened = opens_item f (v c.args.shelf.now) (v c.loop-decl.shelf) (v c.open_drive.new.shelf) c.args.decls.now
           c.loop-decl.decl-index c.decl-item.result c.loop-decl.lent.drives.items _ c.in-Ok.drive c.loop-decl-test.true

@@ -1,6 +1,5 @@
 use Rattle.std.proofs.Common.{◌≡◌, ◌≤◌, length, map, take, vec_capacity, vec_len}
 use Rattle.geo_run.specs.Drives.{drive_view}
-use Rattle.geo_run.specs.Views.{shelf_view}
 use Rattle.geo_run.specs.Lending.{OpensDrives, names_of}
 use Rattle.geo_run.proofs.lent.take_into.Given as goal
 
@@ -8,12 +7,10 @@ use Rattle.geo_run.proofs.lent.take_into.Given as goal
 abbrev pub invariant-loop-decl : goal.invariant-loop-decl
 invariant-loop-decl g l = record {
   opened : OpensDrives
-      (shelf_view g.H.Shelf.told g.H.Shelf.lent g.H.Shelf.faults g.H.Shelf.faults_of g.H.Shelf.take_faults
-      g.H.Shelf.give_faults l.fn.shelf)
+      (g.H.Shelf.view l.fn.shelf)
       (take l.decl-index l.decls)
-      (map (drive_view g.H.D.Disk.held g.H.D.Disk.sector_bytes g.H.D.Disk.sector_count g.H.D.Disk.faults) l.lent.drives.items)
-      (shelf_view g.H.Shelf.told g.H.Shelf.lent g.H.Shelf.faults g.H.Shelf.faults_of g.H.Shelf.take_faults
-      g.H.Shelf.give_faults l.shelf);
+      (map (drive_view g.H.D.Disk.view) l.lent.drives.items)
+      (g.H.Shelf.view l.shelf);
   named : l.lent.names.items ≡ names_of (take l.decl-index l.decls);
   count : vec_len l.lent.drives ≡ l.decl-index;
   name_count : vec_len l.lent.names ≡ l.decl-index;

@@ -1,5 +1,5 @@
 -- The mesh goes to rest, and the drives are given back.
-use Rattle.std.proofs.Common.{Some, refl}
+use Rattle.std.proofs.Common.{Some, refl, sym}
 use Rattle.geo_headline.specs.Endings.{order_of}
 use Rattle.geo_model.specs.FixedOrder.{fixed_order}
 use Rattle.geo_run.specs.Work.{mode_of}
@@ -9,6 +9,9 @@ use Rattle.geo_run.proofs.plan_run.run_mesh.Goals as goal
 
 pub drain-drained-requires-clause-idle : goal.drain-drained-requires-clause-idle
 drain-drained-requires-clause-idle g c = idle_mesh c.args.mesh c.requires.new
+
+pub drain-drained-requires-clause-drives : goal.drain-drained-requires-clause-drives
+drain-drained-requires-clause-drives g c = sym c.requires.sizes
 
 pub give_back-kept-requires : goal.give_back-kept-requires
 give_back-kept-requires g c = record {

@@ -1,7 +1,7 @@
 -- The disks of the plan were had, or not.
 use Rattle.geo_headline.specs.Endings.{order_of}
 use Rattle.geo_run.specs.Work.{mode_of}
-use Rattle.geo_run.proofs.Plans.{decls_all, drives_fit, drives_out, names_apart, plan_ran, plan_stopped, sizes_fit, stopped_due}
+use Rattle.geo_run.proofs.Plans.{decls_all, drives_out, names_apart, plan_ran, plan_stopped, sizes_fit, stopped_due}
 use Rattle.geo_run.proofs.plan_run.run_plan.Goals as goal
 
 pub take_disks-requires-clause-decls : goal.take_disks-requires-clause-decls
@@ -13,10 +13,6 @@ take_disks-requires-clause-names g c = names_apart c.args.plan _ c.disks.ensures
 pub run_drives-requires-clause-fit : goal.run_drives-requires-clause-fit
 run_drives-requires-clause-fit g c =
     sizes_fit c.args.plan c.disks.result.now _ _ _ c.disks.ensures.plan c.disks.ensures.disks c.in-Ok.ensures.taken
-
-pub run_drives-requires-clause-drives : goal.run_drives-requires-clause-drives
-run_drives-requires-clause-drives g c =
-    drives_fit c.args.plan c.disks.result.now _ _ _ c.disks.ensures.plan c.disks.ensures.disks c.in-Ok.ensures.taken
 
 pub run_drives-requires-clause-out : goal.run_drives-requires-clause-out
 run_drives-requires-clause-out g c =

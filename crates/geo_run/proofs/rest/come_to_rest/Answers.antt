@@ -1,16 +1,9 @@
 -- The mesh goes to rest in the fixed order.
-use Rattle.geo_run.proofs.Asked.{adds_by, drives_ready, ran_full, ran_to_rest}
+use Rattle.geo_run.proofs.Asked.{adds_by, ran_full, ran_to_rest}
 use Rattle.geo_run.proofs.rest.come_to_rest.Goals as goal
 
-pub run_to_rest-requires-clause-fit : goal.run_to_rest-requires-clause-fit
-run_to_rest-requires-clause-fit g c =
-    drives_ready g.D.Disk.held g.D.Disk.sector_bytes g.D.Disk.sector_count g.D.Disk.calls g.D.Disk.faults
-    c.args.drives.now c.args.mesh.now c.requires.drives
-
 pub returns-clause-added : goal.returns-clause-added
-returns-clause-added g c =
-    adds_by g.D.Disk.held g.D.Disk.sector_bytes g.D.Disk.sector_count g.D.Disk.calls g.D.Disk.faults
-    c.args.drives.now c.run_to_rest.new.disks c.args.mesh.now c.run_to_rest.new.mesh c.run_to_rest.ensures.runs
+returns-clause-added g c = adds_by _ _ c.args.mesh.now c.run_to_rest.new.mesh c.run_to_rest.ensures.runs
 
 pub returns-clause-history : goal.returns-clause-history
 returns-clause-history g c = c.run_to_rest.ensures.history.keeps
