@@ -245,6 +245,11 @@ abbrev pub failed_takes : Ending → ℕ
 failed_takes (ShelfFault name) = 1
 failed_takes _ = 0
 
+-- the name whose take failed, where the ending says so
+abbrev pub blamed_by : Ending → Option (List ℕ)
+blamed_by (ShelfFault name) = Some name
+blamed_by _ = None
+
 -- what a job answered at last
 pub data JobAnswer : Type 0 where
   StaysIdle : JobAnswer

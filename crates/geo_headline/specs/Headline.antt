@@ -1,8 +1,11 @@
 -- What a whole run keeps, and when it has to succeed.
-use Rattle.std.specs.Prelude.{◌≡◌, ◌≢◌, ◌⊎◌, ℕ, ◌+◌, ◌≤◌, Bool, true, false, List, [], ◌++◌, length, unwrap_or, IsSome, IsSomeAnd, IfSome, IfNone, All, Err, ⊤}
+use Rattle.std.specs.Prelude.{◌≡◌, ◌≢◌, ◌⊎◌, ℕ, ◌+◌, ◌≤◌, Bool, true, false, List, [], ◌++◌, length, unwrap_or, Option, Some, None, IsSome, IsSomeAnd, IfSome, IfNone, All, Err, ⊤}
+use Rattle.std.specs.List.{list_any}
 use Rattle.geo_base.specs.Faults.{Rose, RoseBy}
+use Rattle.geo_disk.specs.Counts.{counted_if}
 use Rattle.geo_model.specs.declared.command.DiskDecl.{DiskDecl}
 use Rattle.geo_model.specs.declared.step.Entry.{Entry}
+use Rattle.geo_model.specs.Words.{same_name}
 use Rattle.geo_model.specs.World.{World, Plan}
 use Rattle.geo_model.specs.Opening.{opening}
 use Rattle.geo_model.specs.Log.{Fits}
@@ -11,7 +14,7 @@ use Rattle.geo_headline.specs.Modes.{Mode, GenMode, VerifyMode, Accepts, IsAlone
 use Rattle.geo_model.specs.History.{KeepsHistory, RanToItsEnd}
 use Rattle.geo_model.specs.FixedOrder.{StepOrder, FollowsOrder, FollowsJobs, JobsEndedIdle}
 use Rattle.geo_headline.specs.Outside.{Outside, ShelfView, kept_back, IsShelf, HasImage, DisksAreKept, OthersStay, ImagesStay, ImagesStand}
-use Rattle.geo_headline.specs.Endings.{Ending, BadWords, OutOfMemory, Call, status_of, due_text, BytesPass, order_of, script_of, reported, IsWhole, HasLog, WasReadWhole, IsOpened, CauseOf, failed_takes, IsBeforeDisks}
+use Rattle.geo_headline.specs.Endings.{Ending, BadWords, ReadFault, OutOfMemory, Call, status_of, due_text, BytesPass, order_of, script_of, reported, IsWhole, HasLog, WasReadWhole, IsOpened, CauseOf, blamed_by, failed_takes, IsBeforeDisks}
 
 -- the mode and the plan are those of the words and of the text; a source that wasn't read to its end gives no plan
 pub record ReadAs (call : Call) (mode : Mode) (plan : Plan) : Type 0 where
@@ -41,6 +44,40 @@ pub record Prints (call : Call) (ending : Ending) (due : List ℕ) : Type 0 wher
 pub record LentAfter (ending : Ending) (before after : ShelfView) : Type 0 where
   pub faults : RoseBy (failed_takes ending + length (kept_back before after)) before.faults after.faults
   pub gives : All (λ name. Rose (before.give_faults name) (after.give_faults name)) (kept_back before after)
+
+-- a write or read that failed is told: by a status of 4, or by `read fault`
+pub record StreamsAreTold (call : Call) (ending : Ending) : Type 0 where
+  pub writes : call.status ≢ 4 → call.after.sink.faults ≡ call.before.sink.faults
+  pub reads : ending ≢ ReadFault → call.after.source.faults ≡ call.before.source.faults
+
+-- whether a take of the name is blamed
+abbrev pub is_blamed : Option (List ℕ) → List ℕ → Bool
+is_blamed None name = false
+is_blamed (Some blamed) name = same_name blamed name
+
+-- of the name that is blamed one take failed, and of each other none
+abbrev pub TakesAreTold : Option (List ℕ) → ShelfView → ShelfView → Type 0
+TakesAreTold blamed before after =
+    (name : List ℕ) → after.take_faults name ≡ counted_if (is_blamed blamed name) (before.take_faults name)
+
+-- the take that failed is the one that the ending blames; where memory runs out that may be told of none
+abbrev pub TakesAreToldAt : Ending → ShelfView → ShelfView → Type 0
+TakesAreToldAt OutOfMemory before after = (blamed : Option (List ℕ)) × TakesAreTold blamed before after
+TakesAreToldAt ending before after = TakesAreTold (blamed_by ending) before after
+
+-- of each name that was kept back one give failed, and of each other none
+abbrev pub GivesAreTold : ShelfView → ShelfView → Type 0
+GivesAreTold before after =
+    (name : List ℕ) → after.give_faults name
+    ≡ counted_if (list_any (same_name name) (kept_back before after)) (before.give_faults name)
+
+-- takes and gives that failed are told, each once; where none failed the shelf has no more faults, unless memory ran
+-- out
+pub record CallsAreTold (ending : Ending) (before after : ShelfView) : Type 0 where
+  pub takes : TakesAreToldAt ending before after
+  pub gives : GivesAreTold before after
+  pub no_fault : ending ≢ OutOfMemory → failed_takes ending ≡ 0 → kept_back before after ≡ []
+      → after.faults ≡ before.faults
 
 -- with threads the log is what the jobs did and then what was left, and in a run to its end it says why the jobs ended
 pub record FollowsRun (order : StepOrder) (plan : Plan) (opened : World) (ending : Ending)
@@ -94,6 +131,8 @@ pub record KeepsAll (call : Call) (mode : Mode) (plan : Plan) (ending : Ending) 
   pub fits : IfSome call.log (Fits (opening plan call.facts))
   pub disks : IfSome call.log (DisksAreKept plan call.before.shelf call.after.shelf)
   pub lent : LentAfter ending call.before.shelf call.after.shelf
+  pub streams : StreamsAreTold call ending
+  pub calls : CallsAreTold ending call.before.shelf call.after.shelf
   pub others : OthersStay plan call.before.shelf call.after.shelf
   pub images : IfNone call.log (ImagesStayAt call ending)
   pub images_stand : ImagesStand call.before.shelf call.after.shelf

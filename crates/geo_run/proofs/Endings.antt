@@ -1,11 +1,12 @@
 -- How the run of a plan ends, from what each part of it did.
 use Rattle.std.proofs.Common.{◌≡◌, ◌≢◌, ℕ, ◌+◌, ◌-◌, ◌^◌, ◌≤◌, min, Bool, true, false, List, [], ◌∷◌, ◌++◌, length, map, All, Option, Some, None, refl, sym, ◌∙◌, ap, subst, inl, inr, arith, Contains, IfSome, IfNone, IsSome, IsSomeAnd, IsTrue, bytes_eq, ◌&&◌, ◌||◌, slice_get, zip}
 use Rattle.std.specs.Prelude.{⊤}
-use Rattle.std.specs.List.{AllByRecursion, enumerate_from}
+use Rattle.std.specs.List.{AllByRecursion, enumerate_from, list_any}
 use Rattle.std.proofs.lemmas.List.{append-nil, map-append}
 use Rattle.std.proofs.lemmas.List.Elements.{All-from_recursion, recursion_from_All, Contains-append_left}
 use Rattle.geo_base.specs.Faults.{Rose, RoseBy}
 use Rattle.geo_base.specs.Images.{Images, IsDiskSize}
+use Rattle.geo_disk.specs.Counts.{counted_if}
 use Rattle.geo_disk.specs.Shelf.{CountsCall, IsAsBefore}
 use Rattle.geo_model.specs.declared.command.DiskDecl.{DiskDecl}
 use Rattle.geo_model.specs.declared.command.DiskKind.{DiskKind}
@@ -16,7 +17,7 @@ use Rattle.geo_model.specs.Opening.{opening}
 use Rattle.geo_model.specs.Plans.{IsPlan, IsDiskDecl, FactsFit}
 use Rattle.geo_headline.specs.Outside.{ShelfView, IsShelf, is_shelf, kept_back, IsThere, IsMissing, IsBadSize, HasToldSize, ImagesStay, ImagesStand, OthersStay, DisksAreKept, KeepsLength, PlannedDisk, planned_disk, IsDiskKept, CountsStay, is_of_plan, IsForeign as IsForeignName}
 use Rattle.geo_headline.specs.Endings.{Ending, Reported, ReportedButFault, BadWords, NoScript, ReadFault, ShelfFault, NoDisk, BadSize, OutOfMemory, LogFull, TooLong, Answered, NoTrace, HasLog, StopsAt, failed_takes}
-use Rattle.geo_headline.specs.Headline.{LentAfter}
+use Rattle.geo_headline.specs.Headline.{CallsAreTold, GivesAreTold, LentAfter, TakesAreToldAt}
 use Rattle.geo_run.specs.Drives.{DriveView, size_of}
 use Rattle.geo_model.specs.FixedOrder.{StepOrder}
 use Rattle.geo_run.specs.Rest.{RanFull}
@@ -25,12 +26,13 @@ use Rattle.geo_run.specs.declared.stop.Stop.TheVariants as stops
 use Rattle.geo_run.specs.Stops.{ending_of}
 use Rattle.geo_run.specs.Lending.{AreApart, AreOther, GivesBack, GivesDrive, GivesUp, OpensDrive, OpensDrives, OpensNoDrive, TakeCause, TakesBack, is_blamed, names_of}
 use Rattle.geo_run.specs.Ends.{LentCause, PlanCause, RunsDrives, RunsPlan, Served}
-use Rattle.geo_run.proofs.Tests.{contains_none}
+use Rattle.geo_run.proofs.Tests.{contains_none, other_names, same_itself, same_or_other}
 use Rattle.geo_run.proofs.Told.{OfName, IsSame, chain, of_name, same, same_twice, weaker}
 use Rattle.geo_run.proofs.Taking.{EachHad, IsForeign, IsHad, each_had, takes_count, takes_no_fault, takes_lend, takes_stay}
 use Rattle.geo_run.proofs.Giving.{GivesAll, SameKinds, gives_all, gives_stay}
 use Rattle.geo_run.proofs.Fates.{counted_rose, first_kept, first_of, gives_fault, is_of, kept_of_plan, kept_back_is}
 use Rattle.geo_run.proofs.Outs.{apart_front}
+use Rattle.geo_run.proofs.Telling.{gives_no_fault, gives_take_none, gives_told, none_blamed}
 use Rattle.geo_run.proofs.Planned.{all_there, apart_from, disks_kept, facts_had, kinds_had, kinds_served, sizes_told}
 use Rattle.geo_run.proofs.Courses.{Course, course_back, course_fate, course_lent, course_rose, course_told, images_stand, images_stand_still, images_stay, same_length}
 
@@ -113,6 +115,15 @@ lent_after ending a m b ds xs ys kept c rose = record {
     both : (f n k x y z : ℕ) → n ≡ k → min (x + f) (2 ^ 64 - 1) ≤ y → min (y + k) (2 ^ 64 - 1) ≤ z
         → min (x + (f + n)) (2 ^ 64 - 1) ≤ z
     both f n k x y z e p q = omega arith
+
+-- of each name that was kept back one give failed, and of each other none
+course_gives : (a m b : ShelfView) (ds : List DiskDecl) (xs ys : List DriveView)
+    (kept : List (List ℕ)) → Course a m b ds xs ys kept → GivesAreTold a b
+course_gives a m b ds xs ys kept c name =
+    gives_told m b ds ys kept name c.apart c.given
+    ∙ ap (λ (k : ℕ). counted_if (list_any (bytes_eq name) kept) k) (c.gives name)
+    ∙ ap (λ (ks : List (List ℕ)). counted_if (list_any (bytes_eq name) ks) (a.give_faults name))
+    (sym (course_back a m b ds xs ys kept c))
 
 -- the names that are kept are of these disks
 kept_of : (a m b : ShelfView) (ds : List DiskDecl) (xs ys : List DriveView) (kept : List (List ℕ))
@@ -255,6 +266,14 @@ runs_plan order plan facts log ending xs a m b is opens r = record {
   lent = lent_after ending a m b plan.disks xs r.served r.kept course
       (rose_none (failed_takes ending) a.faults m.faults (no_failed order (opening plan facts) log r.kept ending r.cause)
       (not_less (takes_no_fault a m plan.disks xs opens)));
+  calls = record {
+    takes = none_blamed ending a b (no_failed order (opening plan facts) log r.kept ending r.cause)
+        (λ name. gives_take_none m b plan.disks r.served r.kept name course.given
+        ∙ (takes_count a m plan.disks xs opens).takes name);
+    gives = course_gives a m b plan.disks xs r.served r.kept course;
+    no_fault = λ other no_take none. gives_no_fault m b plan.disks r.served r.kept course.given
+        (sym (course_back a m b plan.disks xs r.served r.kept course) ∙ none) ∙ takes_no_fault a m plan.disks xs opens;
+  };
   others = record {
     bytes = λ name foreign. (course_told a m b plan.disks xs r.served r.kept course name (names_foreign name foreign)).is;
     counts = λ name foreign. foreign_counts a m b plan.disks xs r.served r.kept course name
@@ -297,6 +316,13 @@ lent_still ending a none = record {
   where
     none_rose : (f n x : ℕ) → f ≡ 0 → n ≡ 0 → RoseBy (f + n) x x
     none_rose f n x e z = omega arith
+
+pub told_still : (ending : Ending) (a : ShelfView) → failed_takes ending ≡ 0 → CallsAreTold ending a a
+told_still ending a none = record {
+  takes = none_blamed ending a a none (λ name. refl);
+  gives = λ name. sym (ap (λ (ks : List (List ℕ)). counted_if (list_any (bytes_eq name) ks) (a.give_faults name)) (nothing_back a));
+  no_fault = λ other no_take none_kept. refl;
+}
 
 pub others_still : (plan : Plan) (a : ShelfView) → OthersStay plan a a
 others_still plan a = record {
@@ -374,6 +400,65 @@ take_stopped a b d stop disk_kinds.Shelf h = record {
     by stops.ReadFault c = absurd c
     by stops.LogFull c = absurd c
     by stops.TooLong c = absurd c
+
+-- the take that failed is the one that is blamed
+stopped_takes : (a m n b : ShelfView) (d : DiskDecl) (stop : Stop) (kind : DiskKind)
+    → OpensNoDrive m d stop n kind → ((name : List ℕ) → m.take_faults name ≡ a.take_faults name)
+    → ((name : List ℕ) → b.take_faults name ≡ n.take_faults name) → TakesAreToldAt (ending_of stop) a b
+stopped_takes a m n b d stop disk_kinds.Ram h before after =
+    none_blamed (ending_of stop) a b (ap (λ s. failed_takes (ending_of s)) h.0)
+    (λ name. after name ∙ ap (λ (v : ShelfView). v.take_faults name) h.1 ∙ before name)
+stopped_takes a m n b d stop disk_kinds.Shelf h before after = by stop h.cause h.takes
+  where
+    -- what is counted of the name, and what of each other
+    counted : (t : Bool) (name : List ℕ) → CountsCall t d.name m.take_faults n.take_faults
+        → b.take_faults name ≡ counted_if (t && bytes_eq d.name name) (a.take_faults name)
+    counted t name c = elim (same_or_other d.name name) [
+      | inl e ↦ subst (λ (z : List ℕ). b.take_faults z ≡ counted_if (t && bytes_eq d.name z) (a.take_faults z)) e
+          (after d.name ∙ c.own ∙ ap (λ (k : ℕ). counted_if t k) (before d.name)
+          ∙ ap (λ (u : Bool). counted_if u (a.take_faults d.name)) (sym (and_true t) ∙ ap (λ (u : Bool). t && u) (sym (same_itself d.name))))
+      | inr other ↦ after name ∙ c.others name (λ e. other (sym e)) ∙ before name
+          ∙ ap (λ (u : Bool). counted_if u (a.take_faults name)) (sym (and_false t) ∙ ap (λ (u : Bool). t && u) (sym (other_names d.name name other)))
+    ]
+      where
+        and_true : (t : Bool) → (t && true) ≡ t
+        and_true true = refl
+        and_true false = refl
+
+        and_false : (t : Bool) → (t && false) ≡ false
+        and_false true = refl
+        and_false false = refl
+
+    by : (s : Stop) → TakeCause m d s n → CountsCall (is_blamed s) d.name m.take_faults n.take_faults
+        → TakesAreToldAt (ending_of s) a b
+    by (stops.ShelfFault name) c takes = λ z.
+        subst (λ (k : List ℕ). b.take_faults z ≡ counted_if (bytes_eq k z) (a.take_faults z)) (sym c.0) (counted true z takes)
+    by (stops.NoDisk name) c takes = λ z. counted false z takes
+    by (stops.BadSize name) c takes = λ z. counted false z takes
+    by stops.NoMemory c takes = (None, λ z. counted false z takes)
+    by stops.BadWords c takes = absurd c
+    by (stops.NoScript line cause) c takes = absurd c
+    by stops.ReadFault c takes = absurd c
+    by stops.LogFull c takes = absurd c
+    by stops.TooLong c takes = absurd c
+
+-- a take that didn't fail is no fault, unless memory ran out
+stopped_no_fault : (m n : ShelfView) (d : DiskDecl) (stop : Stop) (kind : DiskKind) → OpensNoDrive m d stop n kind
+    → ending_of stop ≢ OutOfMemory → failed_takes (ending_of stop) ≡ 0 → n.faults ≡ m.faults
+stopped_no_fault m n d stop disk_kinds.Ram h other none = ap (λ (v : ShelfView). v.faults) h.1
+stopped_no_fault m n d stop disk_kinds.Shelf h other none = by stop h.cause other none
+  where
+    by : (s : Stop) → TakeCause m d s n → ending_of s ≢ OutOfMemory → failed_takes (ending_of s) ≡ 0
+        → n.faults ≡ m.faults
+    by (stops.ShelfFault name) c other none = absurd (let bad : 1 ≡ 0 = none in omega (arith, bad))
+    by (stops.NoDisk name) c other none = c.2
+    by (stops.BadSize name) c other none = c.2
+    by stops.NoMemory c other none = absurd (other refl)
+    by stops.BadWords c other none = absurd c
+    by (stops.NoScript line cause) c other none = absurd c
+    by stops.ReadFault c other none = absurd c
+    by stops.LogFull c other none = absurd c
+    by stops.TooLong c other none = absurd c
 
 -- the drives that were had, by the shelf after the failed take
 had_along : (a m n : ShelfView) (ds : List DiskDecl) (xs : List DriveView)
@@ -518,6 +603,7 @@ nothing_done order plan facts a = record {
   mesh = tt;
   disks = tt;
   lent = lent_still OutOfMemory a refl;
+  calls = told_still OutOfMemory a refl;
   others = others_still plan a;
   images = images_stay_same a;
   images_stand = images_stand_same a;
@@ -535,6 +621,16 @@ gave_up order plan facts stop a b is g = record {
   disks = tt;
   lent = lent_after (ending_of stop) a n b front xs xs g.kept course
       (later (failed_takes (ending_of stop)) a.faults m.faults n.faults (not_less (takes_no_fault a m front xs g.stops.earlier)) left.faults);
+  calls = record {
+    takes = stopped_takes a m n b disk stop disk.kind g.stops.stopped
+        (λ name. (takes_count a m front xs g.stops.earlier).takes name)
+        (λ name. gives_take_none n b front xs g.kept name course.given);
+    gives = course_gives a n b front xs xs g.kept course;
+    no_fault = λ other no_take none. gives_no_fault n b front xs g.kept course.given
+        (sym (course_back a n b front xs xs g.kept course) ∙ none)
+        ∙ stopped_no_fault m n disk stop disk.kind g.stops.stopped other no_take
+        ∙ takes_no_fault a m front xs g.stops.earlier;
+  };
   others = record {
     bytes = λ name foreign. (course_told a n b front xs xs g.kept course name (names_foreign name foreign)).is;
     counts = λ name foreign. foreign_counts a n b front xs xs g.kept course name

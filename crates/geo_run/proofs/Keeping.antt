@@ -16,7 +16,7 @@ use Rattle.geo_model.specs.Log.{Fits}
 use Rattle.geo_model.specs.History.{KeepsHistory, RanToItsEnd}
 use Rattle.geo_headline.specs.Outside.{ShelfView, SinkView, SourceView, ImagesStay, ImagesStand, OthersStay, DisksAreKept}
 use Rattle.geo_headline.specs.Endings.{Ending, Reported, ReportedButFault, BadWords, NoScript, ReadFault, ShelfFault, NoDisk, BadSize, OutOfMemory, LogFull, TooLong, Answered, NoTrace, Call, CauseOf, HasLog, IsBeforeDisks, IsParsed, IsReadWhole, IsWhole, LogRanFull, ReadsScript, WasReadWhole, failed_takes, order_of, reported, script_of}
-use Rattle.geo_headline.specs.Headline.{FollowsMode, ImagesStayAt, IsBadWords, IsGen, LentAfter, ReadAs}
+use Rattle.geo_headline.specs.Headline.{CallsAreTold, FollowsMode, ImagesStayAt, IsBadWords, IsGen, LentAfter, ReadAs}
 use Rattle.geo_model.specs.FixedOrder.{StepOrder}
 use Rattle.geo_run.specs.Rest.{RanFull}
 use Rattle.geo_run.specs.declared.due.Due.{Due}
@@ -31,7 +31,7 @@ use Rattle.geo_run.specs.Ends.{HasNoShelfDisk, MeshRan, PlanCause, RunsPlan, ent
 use Rattle.geo_run.specs.Stops.{IsDue, ending_by, ending_of}
 use Rattle.geo_run.specs.Work.{mode_of}
 use Rattle.geo_run.proofs.Digits.{own}
-use Rattle.geo_run.proofs.Endings.{images_stand_same, images_stay_same, lent_still, others_still}
+use Rattle.geo_run.proofs.Endings.{images_stand_same, images_stay_same, lent_still, others_still, told_still}
 use Rattle.geo_run.proofs.Generated.{generated_in_memory, one_plan, plan_in, plan_or_fault}
 
 -- Modes
@@ -154,8 +154,9 @@ early : (call : Call) (mode : Mode) (plan : Plan) (ending : Ending) → ReadAs c
     → Gave call.before.source call.text call.after.source → CauseOf call mode plan ending
     → call.log ≡ None → call.after.shelf ≡ call.before.shelf → HasLog ending None → (IsWhole ending → ⊥)
     → failed_takes ending ≡ 0 → (IsGen mode ⊎ IsBadWords ending → call.after.source ≡ call.before.source)
+    → (ending ≢ ReadFault → call.after.source.faults ≡ call.before.source.faults)
     → KeepsInside call mode plan ending
-early call mode plan ending read gave cause none shelf has not_whole no_take source = record {
+early call mode plan ending read gave cause none shelf has not_whole no_take source reads = record {
   read_as = read;
   gave = gave;
   cause = cause;
@@ -167,6 +168,8 @@ early call mode plan ending read gave cause none shelf has not_whole no_take sou
   fits = subst (λ (l : Option (List Entry)). IfSome l (Fits (opening plan call.facts))) (sym none) tt;
   disks = subst (λ (l : Option (List Entry)). IfSome l (DisksAreKept plan call.before.shelf call.after.shelf)) (sym none) tt;
   lent = subst (λ (v : ShelfView). LentAfter ending call.before.shelf v) (sym shelf) (lent_still ending call.before.shelf no_take);
+  reads = reads;
+  calls = subst (λ (v : ShelfView). CallsAreTold ending call.before.shelf v) (sym shelf) (told_still ending call.before.shelf no_take);
   others = subst (λ (v : ShelfView). OthersStay plan call.before.shelf v) (sym shelf) (others_still plan call.before.shelf);
   images = subst (λ (l : Option (List Entry)). IfNone l (ImagesStayAt call ending)) (sym none)
       (stay_at ending (subst (λ (v : ShelfView). ImagesStay call.before.shelf v) (sym shelf) (images_stay_same call.before.shelf)));
@@ -291,9 +294,10 @@ planned : (call : Call) (work : Work) (plan : Plan) (ending : Ending) → ReadAs
     → Gave call.before.source call.text call.after.source → IsParsed call (mode_of work) plan
     → RunsPlan (order_of (mode_of work)) plan call.facts call.log ending call.before.shelf call.after.shelf
     → (IsGen (mode_of work) → call.after.source ≡ call.before.source)
+    → call.after.source.faults ≡ call.before.source.faults
     → (TakesNoDisk (mode_of work) → HasNoShelfDisk plan)
     → KeepsInside call (mode_of work) plan ending
-planned call work plan ending read gave parsed ran source none = record {
+planned call work plan ending read gave parsed ran source told none = record {
   read_as = read;
   gave = gave;
   cause = plan_cause call (mode_of work) plan ending parsed ran.cause;
@@ -306,6 +310,8 @@ planned call work plan ending read gave parsed ran source none = record {
   fits = fits_of (order_of (mode_of work)) plan call.facts ending call.log ran.mesh;
   disks = ran.disks;
   lent = ran.lent;
+  reads = λ other. told;
+  calls = ran.calls;
   others = ran.others;
   images = images_at call ending call.log ran.images;
   images_stand = ran.images_stand;
@@ -362,8 +368,9 @@ stops_early : (words : List (List ℕ)) (finish : Finish) (source source_after :
     → CauseOf (finished words finish source source_after shelf shelf_after status sink sink_after) mode plan (ending_of stop))
     → HasLog (ending_of stop) None → (IsWhole (ending_of stop) → ⊥) → failed_takes (ending_of stop) ≡ 0
     → (IsGen mode ⊎ IsBadWords (ending_of stop) → source_after ≡ source) → (StartsThreads mode → ⊥)
+    → (ending_of stop ≢ ReadFault → source_after.faults ≡ source.faults)
     → Finishes words finish source source_after shelf shelf_after
-stops_early words finish source source_after shelf shelf_after mode stop accepts ends gave cause has not_whole no_take same alone = record {
+stops_early words finish source source_after shelf shelf_after mode stop accepts ends gave cause has not_whole no_take same alone told = record {
   mode = mode;
   plan = (read_as (finished words finish source source_after shelf shelf_after 0 none_yet none_yet) mode accepts).0;
   alone = alone;
@@ -376,7 +383,7 @@ stops_early words finish source source_after shelf shelf_after mode stop accepts
       (read_as (finished words finish source source_after shelf shelf_after 0 none_yet none_yet) mode accepts).1 in
       subst (λ (ending : Ending). KeepsInside call mode plan ending) (sym e)
       (early call mode plan (ending_of stop) reading gave (cause status sink sink_after plan)
-      (no_entries finish ends.log) ends.shelf has not_whole no_take same);
+      (no_entries finish ends.log) ends.shelf has not_whole no_take same told);
 }
   where
     none_yet : SinkView
@@ -429,9 +436,10 @@ runs_text : (words : List (List ℕ)) (finish : Finish) (source source_after : S
     → IsDue finish.due (reported_alone (mode_of work) plan finish.facts.items (entries_in finish.log))
     → ((status : ℕ) (sink sink_after : SinkView)
     → WasReadWhole (finished words finish source source_after shelf shelf_after status sink sink_after) (mode_of work))
-    → (IsGen (mode_of work) → source_after ≡ source) → (IsGen (mode_of work) → HasNoShelfDisk plan)
+    → (IsGen (mode_of work) → source_after ≡ source) → source_after.faults ≡ source.faults
+    → (IsGen (mode_of work) → HasNoShelfDisk plan)
     → Finishes words finish source source_after shelf shelf_after
-runs_text words finish source source_after shelf shelf_after work plan accepts is gave ran due whole same none = record {
+runs_text words finish source source_after shelf shelf_after work plan accepts is gave ran due whole same told none = record {
   mode = mode_of work;
   plan = plan;
   alone = work_alone work;
@@ -443,7 +451,7 @@ runs_text words finish source source_after shelf shelf_after work plan accepts i
       (read_as_whole call (mode_of work) (Ok plan) accepts (whole status sink sink_after) is)
       gave
       (record { accepted = accepts; mesh = work_opens work; read = whole status sink sink_after; script = is })
-      ran same (λ no_disk. none (no_disk_taken work no_disk));
+      ran same told (λ no_disk. none (no_disk_taken work no_disk));
 }
 
 -- the end of a text by its reading
@@ -454,32 +462,33 @@ of_text : (words : List (List ℕ)) (finish : Finish) (source source_after : Sou
     → FinishesPlan r (mode_of work) finish shelf shelf_after
     → ((status : ℕ) (sink sink_after : SinkView)
     → WasReadWhole (finished words finish source source_after shelf shelf_after status sink sink_after) (mode_of work))
-    → (IsGen (mode_of work) → source_after ≡ source)
+    → (IsGen (mode_of work) → source_after ≡ source) → source_after.faults ≡ source.faults
     → (IsGen (mode_of work) → (plan : Plan) → r ≡ Ok plan → HasNoShelfDisk plan)
     → (IsGen (mode_of work) → (fault : Fault) → r ≡ Err fault → ⊥)
     → (IsGen (mode_of work) ⊎ ((status : ℕ) (sink sink_after : SinkView)
     → ReadsScript (finished words finish source source_after shelf shelf_after status sink sink_after) (mode_of work)))
     → Finishes words finish source source_after shelf shelf_after
-of_text words finish source source_after shelf shelf_after work (Ok plan) accepts is gave ends whole same none no_fault reads =
-    runs_text words finish source source_after shelf shelf_after work plan accepts is gave ends.0 ends.1 whole same
+of_text words finish source source_after shelf shelf_after work (Ok plan) accepts is gave ends whole same told none no_fault reads =
+    runs_text words finish source source_after shelf shelf_after work plan accepts is gave ends.0 ends.1 whole same told
     (λ gen. none gen plan refl)
-of_text words finish source source_after shelf shelf_after work (Err fault) accepts is gave ends whole same none no_fault (inl gen) =
+of_text words finish source source_after shelf shelf_after work (Err fault) accepts is gave ends whole same told none no_fault (inl gen) =
     absurd (no_fault gen fault refl)
-of_text words finish source source_after shelf shelf_after work (Err fault) accepts is gave ends whole same none no_fault (inr reads) =
+of_text words finish source source_after shelf shelf_after work (Err fault) accepts is gave ends whole same told none no_fault (inr reads) =
     stops_early words finish source source_after shelf shelf_after (mode_of work) (stops.NoScript fault.line fault.cause)
     accepts ends gave
     (λ status sink sink_after plan. (reads status sink sink_after, whole status sink sink_after, is))
-    refl (λ w. w) refl (λ which. elim which [ inl gen ↦ same gen | inr bad ↦ absurd bad ]) (work_alone work)
+    refl (λ w. w) refl (λ which. elim which [ inl gen ↦ same gen | inr bad ↦ absurd bad ]) (work_alone work) (λ other. told)
 
 -- memory ran out before the mesh opened
 no_memory : (words : List (List ℕ)) (finish : Finish) (source source_after : SourceView) (shelf shelf_after : ShelfView)
     (mode : Mode) → Accepts words mode → EndsEarly finish stops.NoMemory shelf shelf_after
     → Gave source (added_to source.given source_after.given) source_after
-    → (IsGen mode → source_after ≡ source) → (StartsThreads mode → ⊥)
+    → (IsGen mode → source_after ≡ source) → source_after.faults ≡ source.faults → (StartsThreads mode → ⊥)
     → Finishes words finish source source_after shelf shelf_after
-no_memory words finish source source_after shelf shelf_after mode accepts ends gave same alone =
+no_memory words finish source source_after shelf shelf_after mode accepts ends gave same told alone =
     stops_early words finish source source_after shelf shelf_after mode stops.NoMemory accepts ends gave
     (λ status sink sink_after plan. tt) tt (λ w. w) refl (λ which. elim which [ inl gen ↦ same gen | inr bad ↦ absurd bad ]) alone
+    (λ other. told)
 
 -- the text that a source gave is what came behind what it had given
 text_is : (source source_after : SourceView) (text : List ℕ) → Gave source text source_after
@@ -524,23 +533,23 @@ finishes_source words work finish source source_after shelf shelf_after not_gen 
     text = added_to source.given source_after.given
 
     moved : Gave source text source_after
-        × (EndsRead (mode_of work) text source_after finish shelf shelf_after
+        × (EndsRead (mode_of work) text source source_after finish shelf shelf_after
         ⊎ EndsUnread (mode_of work) text source source_after finish shelf shelf_after)
     moved =
         subst (λ (t : List ℕ). Gave source t source_after
-        × (EndsRead (mode_of work) t source_after finish shelf shelf_after
+        × (EndsRead (mode_of work) t source source_after finish shelf shelf_after
         ⊎ EndsUnread (mode_of work) t source source_after finish shelf shelf_after))
         (text_is source source_after f.text f.gave) (f.gave, f.ends)
 
-    read : Gave source text source_after → EndsRead (mode_of work) text source_after finish shelf shelf_after
+    read : Gave source text source_after → EndsRead (mode_of work) text source source_after finish shelf shelf_after
         → Finishes words finish source source_after shelf shelf_after
     read gave ends = elim ends.of_text [
-      | inl out ↦ no_memory words finish source source_after shelf shelf_after (mode_of work) accepts out gave (λ gen. absurd (not_gen gen)) (work_alone work)
+      | inl out ↦ no_memory words finish source source_after shelf shelf_after (mode_of work) accepts out gave (λ gen. absurd (not_gen gen)) ends.told (work_alone work)
       | inr done ↦ of_text words finish source source_after shelf shelf_after work (script text) accepts
           (ap script (script_read work text not_gen)) gave done
           (λ status sink sink_after. whole_read (finished words finish source source_after shelf shelf_after status sink sink_after) work
           (record { few = ends.few; ended = ends.ended; none_left = ends.none_left }))
-          (λ gen. absurd (not_gen gen)) (λ gen. absurd (not_gen gen)) (λ gen. absurd (not_gen gen))
+          (λ gen. absurd (not_gen gen)) ends.told (λ gen. absurd (not_gen gen)) (λ gen. absurd (not_gen gen))
           (inr (λ status sink sink_after. reads_script (finished words finish source source_after shelf shelf_after status sink sink_after) work not_gen accepts))
     ]
 
@@ -554,12 +563,14 @@ finishes_source words work finish source source_after shelf shelf_after not_gen 
             stops_early words finish source source_after shelf shelf_after (mode_of work) stops.ReadFault accepts early_end gave
             (λ status sink sink_after plan. (reads_script (finished words finish source source_after shelf shelf_after status sink sink_after) work not_gen accepts, cause.0, cause.1)) refl (λ w. w) refl
             (λ which. elim which [ inl gen ↦ absurd (not_gen gen) | inr bad ↦ absurd bad ]) (work_alone work)
+            (λ other. absurd (other refl))
         why stops.TooLong cause early_end =
             stops_early words finish source source_after shelf shelf_after (mode_of work) stops.TooLong accepts early_end gave
-            (λ status sink sink_after plan. (reads_script (finished words finish source source_after shelf shelf_after status sink sink_after) work not_gen accepts, cause)) refl (λ w. w) refl
+            (λ status sink sink_after plan. (reads_script (finished words finish source source_after shelf shelf_after status sink sink_after) work not_gen accepts, cause.0)) refl (λ w. w) refl
             (λ which. elim which [ inl gen ↦ absurd (not_gen gen) | inr bad ↦ absurd bad ]) (work_alone work)
+            (λ other. cause.1)
         why stops.NoMemory cause early_end =
-            no_memory words finish source source_after shelf shelf_after (mode_of work) accepts early_end gave (λ gen. absurd (not_gen gen)) (work_alone work)
+            no_memory words finish source source_after shelf shelf_after (mode_of work) accepts early_end gave (λ gen. absurd (not_gen gen)) cause (work_alone work)
         why stops.BadWords cause early_end = absurd cause
         why (stops.NoScript line c) cause early_end = absurd cause
         why (stops.ShelfFault name) cause early_end = absurd cause
@@ -568,7 +579,7 @@ finishes_source words work finish source source_after shelf shelf_after not_gen 
         why stops.LogFull cause early_end = absurd cause
 
     by : Gave source text source_after
-        → EndsRead (mode_of work) text source_after finish shelf shelf_after
+        → EndsRead (mode_of work) text source source_after finish shelf shelf_after
         ⊎ EndsUnread (mode_of work) text source source_after finish shelf shelf_after
         → Finishes words finish source source_after shelf shelf_after
     by gave (inl ends) = read gave ends
@@ -580,10 +591,10 @@ pub finishes_generated : (words : List (List ℕ)) (finish : Finish) (source : S
     → FinishesText (generated start count) (GenMode start count) finish shelf shelf_after
     → Finishes words finish source source shelf shelf_after
 finishes_generated words finish source shelf shelf_after start count accepts (inl out) =
-    no_memory words finish source source shelf shelf_after (GenMode start count) accepts out (gave_nothing source) (λ gen. refl) (work_alone (works.Generate start count))
+    no_memory words finish source source shelf shelf_after (GenMode start count) accepts out (gave_nothing source) (λ gen. refl) refl (work_alone (works.Generate start count))
 finishes_generated words finish source shelf shelf_after start count accepts (inr done) =
     of_text words finish source source shelf shelf_after (works.Generate start count) (script (generated start count))
-    accepts refl (gave_nothing source) done (λ status sink sink_after. tt) (λ gen. refl)
+    accepts refl (gave_nothing source) done (λ status sink sink_after. tt) (λ gen. refl) refl
     (λ gen plan e. generated_in_memory start count accepts.in_range plan e)
     (λ gen fault e. no_fault fault e)
     (inl tt)
@@ -612,7 +623,7 @@ finishes_none words finish source shelf none due_is log_is = record {
       let call = finished words finish source source shelf shelf status sink sink_after in
       subst (λ (ending : Ending). KeepsInside call StepMode empty_plan ending) (sym (ap ending_by due_is))
       (early call StepMode empty_plan BadWords (reading call refl refl) (gave_nothing source) none (no_entries finish log_is) refl
-      refl (λ w. w) refl (λ which. refl));
+      refl (λ w. w) refl (λ which. refl) (λ other. refl));
 }
   where
     nothing : added_to source.given source.given ≡ []

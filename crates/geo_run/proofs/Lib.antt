@@ -4,6 +4,7 @@ pub mod Told
 pub mod Taking
 pub mod Giving
 pub mod Fates
+pub mod Telling
 pub mod Loops
 pub mod Sizes
 pub mod Digits

@@ -83,13 +83,14 @@ limit_is (works.Generate s c) = refl
 
 -- the source was read to its end
 pub source_read : (work : Work) (s t : SourceView) (text bytes : List ℕ) (finish : Finish)
-    (a b : ShelfView) → Gives s text t → IsAtEnd t → length text ≤ 4194304 → bytes ≡ text
+    (a b : ShelfView) → Gives s text t → t.faults ≡ s.faults → IsAtEnd t → length text ≤ 4194304 → bytes ≡ text
     → FinishesText bytes (mode_of work) finish a b
     → FinishesSource (mode_of work) s t finish a b
-source_read work s t text bytes finish a b gives end few is ends = record {
+source_read work s t text bytes finish a b gives told end few is ends = record {
   text = text;
   gave = gives_gave s t text gives;
   ends = inl (record {
+    told = told;
     few = let limit : source_limit (mode_of work) ≡ 4194304 = limit_is work in omega (arith, limit, few);
     ended = end.ended;
     none_left = none_left t.left end.none_left;
@@ -121,24 +122,37 @@ read_fault work s t finish a refusal is taken rose due log =
     source_unread work s t gives.bytes finish stops.ReadFault a gives.gives
     ((let limit : source_limit (mode_of work) ≡ 4194304 = limit_is work in omega (arith, limit, gives.few)), rose (ap (λ e. Err e) is)) due log
 
+-- neither is a read that failed
+long_is_no_fault : {T : Type 0} (refusal : ReadRefusal) → refusal ≡ reads_refused.TooLong
+    → IsErrOf {T = T} (Err refusal) reads_refused.ReadFault → ⊥
+long_is_no_fault refusal is fault = cc
+
+lost_is_no_fault : {T : Type 0} (refusal : ReadRefusal) → refusal ≡ reads_refused.NoMemory
+    → IsErrOf {T = T} (Err refusal) reads_refused.ReadFault → ⊥
+lost_is_no_fault refusal is fault = cc
+
 -- the text is too long
 pub read_long : {T : Type 0} (work : Work) (s t : SourceView) (finish : Finish) (a : ShelfView)
     (refusal : ReadRefusal) → refusal ≡ reads_refused.TooLong
     → (IsErrOf {T = T} (Err refusal) reads_refused.TooLong → GivesMany s 4194305 t)
+    → ((IsErrOf {T = T} (Err refusal) reads_refused.ReadFault → ⊥) → t.faults ≡ s.faults)
     → finish.due ≡ dues.Stopped stops.TooLong → finish.log ≡ None
     → FinishesSource (mode_of work) s t finish a a
-read_long work s t finish a refusal is taken due log =
+read_long work s t finish a refusal is taken told due log =
     let gives : GivesMany s 4194305 t = taken (ap (λ e. Err e) is) in
     let many : length gives.bytes ≡ 4194305 = gives.many in
-    source_unread work s t gives.bytes finish stops.TooLong a gives.gives
-    (let limit : source_limit (mode_of work) ≡ 4194304 = limit_is work in omega (arith, limit, many)) due log
+    source_unread work s t gives.bytes finish stops.TooLong a gives.gives (
+      (let limit : source_limit (mode_of work) ≡ 4194304 = limit_is work in omega (arith, limit, many)),
+      told (λ fault. long_is_no_fault refusal is fault),
+    ) due log
 
 -- memory ran out
 pub read_lost : {T : Type 0} (work : Work) (s t : SourceView) (finish : Finish) (a : ShelfView)
     (refusal : ReadRefusal) → refusal ≡ reads_refused.NoMemory
     → (IsErrOf {T = T} (Err refusal) reads_refused.NoMemory → GivesAtMost s 4194305 t)
+    → ((IsErrOf {T = T} (Err refusal) reads_refused.ReadFault → ⊥) → t.faults ≡ s.faults)
     → finish.due ≡ dues.Stopped stops.NoMemory → finish.log ≡ None
     → FinishesSource (mode_of work) s t finish a a
-read_lost work s t finish a refusal is taken due log =
+read_lost work s t finish a refusal is taken told due log =
     let gives : GivesAtMost s 4194305 t = taken (ap (λ e. Err e) is) in
-    source_unread work s t gives.bytes finish stops.NoMemory a gives.gives tt due log
+    source_unread work s t gives.bytes finish stops.NoMemory a gives.gives (told (λ fault. lost_is_no_fault refusal is fault)) due log

@@ -8,12 +8,12 @@ use Rattle.geo_model.specs.Opening.{opening}
 use Rattle.geo_headline.specs.Modes.{Mode, StepMode, RunMode, GenMode, SweepMode, WatchMode, TraceMode, VerifyMode, StartsThreads}
 use Rattle.geo_headline.specs.Outside.{ShelfView, SinkView, SourceView, kept_back}
 use Rattle.geo_headline.specs.Endings.{Ending, Reported, ReportedButFault, BadWords, NoScript, ReadFault, ShelfFault, NoDisk, BadSize, OutOfMemory, LogFull, TooLong, Answered, NoTrace, Call, due_text, failed_takes, reported, status_of}
-use Rattle.geo_headline.specs.Headline.{FollowsMode, ImagesStayAt, IsComplete, KeepsAll, Prints}
+use Rattle.geo_headline.specs.Headline.{FollowsMode, ImagesStayAt, IsComplete, KeepsAll, Prints, TakesAreToldAt}
 use Rattle.geo_run.specs.declared.finish.Finish.{Finish}
 use Rattle.geo_run.specs.Calls.{Finishes, Keeps, KeepsInside, added_to, call_of, outside_of}
 use Rattle.geo_run.specs.Ends.{entries_in}
 use Rattle.geo_run.specs.Stops.{IsDue, ending_by}
-use Rattle.geo_run.specs.Writes.{Writes, WritesEnding}
+use Rattle.geo_run.specs.Writes.{IsTextMade, Writes, WritesEnding}
 use Rattle.geo_run.proofs.Completing.{complete}
 
 -- Where memory ran out at the end
@@ -53,10 +53,26 @@ stays_at : (call : Call) (ending : Ending) (log : Option (List Entry)) → IfNon
 stays_at call ending None h = stay_at call ending h
 stays_at call ending (Some l) h = h
 
+-- a take that failed stays the one that failed
+takes_at : (ending : Ending) (a b : ShelfView) → TakesAreToldAt ending a b → TakesAreToldAt OutOfMemory a b
+takes_at OutOfMemory a b h = h
+takes_at Reported a b h = (None, h)
+takes_at (ReportedButFault name) a b h = (None, h)
+takes_at BadWords a b h = (None, h)
+takes_at (NoScript line c) a b h = (None, h)
+takes_at ReadFault a b h = (None, h)
+takes_at (ShelfFault name) a b h = (Some name, h)
+takes_at (NoDisk name) a b h = (None, h)
+takes_at (BadSize name) a b h = (None, h)
+takes_at LogFull a b h = (None, h)
+takes_at TooLong a b h = (None, h)
+takes_at (Answered found) a b h = (None, h)
+takes_at (NoTrace line) a b h = (None, h)
+
 -- what a call keeps it keeps where memory runs out at its end
 out_of_memory : (call : Call) (mode : Mode) (plan : Plan) (ending : Ending) → (StartsThreads mode → ⊥)
-    → KeepsInside call mode plan ending → KeepsInside call mode plan OutOfMemory
-out_of_memory call mode plan ending alone k = record {
+    → IsTextMade ending → KeepsInside call mode plan ending → KeepsInside call mode plan OutOfMemory
+out_of_memory call mode plan ending alone made k = record {
   read_as = k.read_as;
   gave = k.gave;
   cause = tt;
@@ -71,6 +87,12 @@ out_of_memory call mode plan ending alone k = record {
     faults = fewer (failed_takes ending) (length (kept_back call.before.shelf call.after.shelf))
         call.before.shelf.faults call.after.shelf.faults k.lent.faults;
     gives = k.lent.gives;
+  };
+  reads = λ other. k.reads (λ e. subst IsTextMade e made);
+  calls = record {
+    takes = takes_at ending call.before.shelf call.after.shelf k.calls.takes;
+    gives = k.calls.gives;
+    no_fault = λ other. absurd (other refl);
   };
   others = k.others;
   images = stays_at call ending call.log k.images;
@@ -135,6 +157,8 @@ keeps_all call mode plan ending k w e = record {
   fits = k.fits;
   disks = k.disks;
   lent = k.lent;
+  streams = record { writes = w.told; reads = k.reads };
+  calls = k.calls;
   others = k.others;
   images = k.images;
   images_stand = k.images_stand;
@@ -164,7 +188,7 @@ keeps words finish status source source_after sink sink_after shelf shelf_after 
     inside : KeepsInside call f.mode f.plan (ending_by finish.due)
     inside = f.keeps status sink sink_after
 
-    by : (actual : Ending) → (actual ≡ ending_by finish.due) ⊎ (actual ≡ OutOfMemory)
+    by : (actual : Ending) → (actual ≡ ending_by finish.due) ⊎ ((actual ≡ OutOfMemory) × IsTextMade (ending_by finish.due))
         → Writes status (status_of actual) (due_text text actual) sink sink_after → Keeps call
     by actual (inl e) w = record {
       mode = f.mode;
@@ -178,8 +202,8 @@ keeps words finish status source source_after sink sink_after shelf shelf_after 
       plan = f.plan;
       ending = actual;
       all = keeps_all call f.mode f.plan actual
-          (subst (λ (z : Ending). KeepsInside call f.mode f.plan z) (sym e)
-          (out_of_memory call f.mode f.plan (ending_by finish.due) f.alone inside)) w refl;
+          (subst (λ (z : Ending). KeepsInside call f.mode f.plan z) (sym e.0)
+          (out_of_memory call f.mode f.plan (ending_by finish.due) f.alone e.1 inside)) w refl;
     }
 
 -- and is complete

@@ -8,7 +8,7 @@ use Rattle.geo_headline.specs.Outside.{SinkView}
 use Rattle.geo_run.specs.declared.stop.Stop.{Stop}
 use Rattle.geo_run.specs.declared.stop.Stop.TheVariants as stops
 use Rattle.geo_run.specs.Stops.{ending_of}
-use Rattle.geo_run.specs.Writes.{Writes, WritesEnding, WritesMade}
+use Rattle.geo_run.specs.Writes.{IsTextMade, Writes, WritesEnding, WritesMade}
 
 -- only a first part is written
 pub cut_off : (due n : ℕ) (text : List ℕ) (before after : SinkView) → n < length text
@@ -18,6 +18,7 @@ cut_off due n text before after less took rose = record {
   took = took;
   cut_off = λ e. record { fault = rose; rest = drop n text; some_left = some_left; front = take-append-drop n text };
   whole = λ ne. absurd (ne refl);
+  told = λ ne. absurd (ne refl);
 }
   where
     some_left : drop n text ≢ []
@@ -31,13 +32,13 @@ ends reported ending status before after writes = record { actual = ending; is =
 
 -- a text that was made is the due text of an ending
 pub made_ends : {E : Type 0} (reported : List ℕ) (ending : Ending) (made : Result (List ℕ) E) (status : ℕ)
-    (before after : SinkView) → IfOk made (λ block. block ≡ due_text reported ending)
+    (before after : SinkView) → IsTextMade ending → IfOk made (λ block. block ≡ due_text reported ending)
     → WritesMade (status_of ending) made status before after → WritesEnding reported ending status before after
-made_ends reported ending (Ok text) status before after is writes =
+made_ends reported ending (Ok text) status before after takes is writes =
     ends reported ending status before after
     (subst (λ (t : List ℕ). Writes status (status_of ending) t before after) is writes)
-made_ends reported ending (Err e) status before after is writes =
-    record { actual = OutOfMemory; is = inr refl; writes = writes }
+made_ends reported ending (Err e) status before after takes is writes =
+    record { actual = OutOfMemory; is = inr (refl, takes); writes = writes }
 
 -- where the report is another name for the text
 pub reported_ends : (text reported : List ℕ) (ending : Ending) (status : ℕ) (before after : SinkView) → text ≡ reported
@@ -67,7 +68,7 @@ stop_ends reported stop status before after w = by w.actual w.is w.writes
     due_same stops.LogFull = refl
     due_same stops.TooLong = refl
 
-    by : (actual : Ending) → (actual ≡ ending_of stop) ⊎ (actual ≡ OutOfMemory)
+    by : (actual : Ending) → (actual ≡ ending_of stop) ⊎ ((actual ≡ OutOfMemory) × IsTextMade (ending_of stop))
         → Writes status (status_of actual) (due_text [] actual) before after
         → WritesEnding reported (ending_of stop) status before after
     by actual (inl e) writes = record {
@@ -78,6 +79,6 @@ stop_ends reported stop status before after w = by w.actual w.is w.writes
     }
     by actual (inr e) writes = record {
       actual = OutOfMemory;
-      is = inr refl;
-      writes = subst (λ (z : Ending). Writes status (status_of z) (due_text [] z) before after) e writes;
+      is = inr (refl, e.1);
+      writes = subst (λ (z : Ending). Writes status (status_of z) (due_text [] z) before after) e.0 writes;
     }

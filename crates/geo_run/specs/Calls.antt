@@ -1,5 +1,5 @@
 -- The calls of the program as they are seen from outside.
-use Rattle.std.specs.Prelude.{◌≡◌, ◌⊎◌, ℕ, ◌<◌, ◌≤◌, List, [], ◌++◌, drop, length, None, Result, Ok, Err, IfSome, IfNone, IsSome, IsSomeAnd, IsTrue, ⊤}
+use Rattle.std.specs.Prelude.{◌≡◌, ◌≢◌, ◌⊎◌, ℕ, ◌<◌, ◌≤◌, List, [], ◌++◌, drop, length, None, Result, Ok, Err, IfSome, IfNone, IsSome, IsSomeAnd, IsTrue, ⊤}
 use Rattle.geo_base.specs.Faults.{Rose}
 use Rattle.geo_headline.specs.Modes.{Mode, StartsThreads, source_limit}
 use Rattle.geo_model.specs.Script.{Fault, script}
@@ -8,8 +8,8 @@ use Rattle.geo_model.specs.Opening.{opening}
 use Rattle.geo_headline.specs.Outside.{Outside, ShelfView, SinkView, SourceView, DisksAreKept, OthersStay, ImagesStand}
 use Rattle.geo_model.specs.Log.{Fits}
 use Rattle.geo_model.specs.History.{KeepsHistory, RanToItsEnd}
-use Rattle.geo_headline.specs.Endings.{Ending, Call, CauseOf, HasLog, IsOpened, IsWhole, order_of, reported}
-use Rattle.geo_headline.specs.Headline.{FollowsMode, ImagesStayAt, KeepsAll, LeavesOutside, LentAfter, ReadAs}
+use Rattle.geo_headline.specs.Endings.{Ending, ReadFault, Call, CauseOf, HasLog, IsOpened, IsWhole, order_of, reported}
+use Rattle.geo_headline.specs.Headline.{CallsAreTold, FollowsMode, ImagesStayAt, KeepsAll, LeavesOutside, LentAfter, ReadAs}
 use Rattle.geo_run.specs.declared.top.Ended.{Ended}
 use Rattle.geo_run.specs.declared.finish.Finish.{Finish}
 use Rattle.geo_run.specs.declared.due.Due.TheVariants as dues
@@ -62,6 +62,8 @@ pub record KeepsInside (call : Call) (mode : Mode) (plan : Plan) (ending : Endin
   pub fits : IfSome call.log (Fits (opening plan call.facts))
   pub disks : IfSome call.log (DisksAreKept plan call.before.shelf call.after.shelf)
   pub lent : LentAfter ending call.before.shelf call.after.shelf
+  pub reads : ending ≢ ReadFault → call.after.source.faults ≡ call.before.source.faults
+  pub calls : CallsAreTold ending call.before.shelf call.after.shelf
   pub others : OthersStay plan call.before.shelf call.after.shelf
   pub images : IfNone call.log (ImagesStayAt call ending)
   pub images_stand : ImagesStand call.before.shelf call.after.shelf
@@ -112,8 +114,8 @@ FinishesText text mode finish before after =
 abbrev pub UnreadCause : Mode → List ℕ → SourceView → SourceView → Stop → Type 0
 UnreadCause mode text before after stops.ReadFault =
     (length text ≤ source_limit mode) × Rose before.faults after.faults
-UnreadCause mode text before after stops.TooLong = source_limit mode < length text
-UnreadCause mode text before after stops.NoMemory = ⊤
+UnreadCause mode text before after stops.TooLong = (source_limit mode < length text) × (after.faults ≡ before.faults)
+UnreadCause mode text before after stops.NoMemory = after.faults ≡ before.faults
 UnreadCause mode text before after _ = ⊥
 
 -- a source gave this text, but wasn't read to its end
@@ -124,8 +126,9 @@ pub record EndsUnread (mode : Mode) (text : List ℕ) (source source_after : Sou
   pub early : EndsEarly finish stop before after
 
 -- a source was read to its end, and its text was run
-pub record EndsRead (mode : Mode) (text : List ℕ) (source_after : SourceView) (finish : Finish)
+pub record EndsRead (mode : Mode) (text : List ℕ) (source source_after : SourceView) (finish : Finish)
     (before after : ShelfView) : Type 0 where
+  pub told : source_after.faults ≡ source.faults
   pub few : length text ≤ source_limit mode
   pub ended : IsTrue source_after.ended
   pub none_left : IfSome source_after.left (λ left. left ≡ [])
@@ -136,5 +139,5 @@ pub record FinishesSource (mode : Mode) (source source_after : SourceView) (fini
     (before after : ShelfView) : Type 0 where
   pub text : List ℕ
   pub gave : Gave source text source_after
-  pub ends : EndsRead mode text source_after finish before after
+  pub ends : EndsRead mode text source source_after finish before after
       ⊎ EndsUnread mode text source source_after finish before after

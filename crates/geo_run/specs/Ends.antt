@@ -13,7 +13,7 @@ use Rattle.geo_model.specs.FixedOrder.{FollowsOrder, StepOrder}
 use Rattle.geo_model.specs.History.{KeepsHistory, RanToItsEnd}
 use Rattle.geo_headline.specs.Outside.{ShelfView, IsShelf, IsThere, IsMissing, IsBadSize, HasToldSize, kept_back, DisksAreKept, OthersStay, ImagesStay, ImagesStand}
 use Rattle.geo_headline.specs.Endings.{Ending, Reported, ReportedButFault, ShelfFault, NoDisk, BadSize, OutOfMemory, LogFull, IsWhole, HasLog, StopsAt, first_kept_back, reported}
-use Rattle.geo_headline.specs.Headline.{LentAfter}
+use Rattle.geo_headline.specs.Headline.{CallsAreTold, LentAfter}
 use Rattle.geo_headline.specs.Modes.{Mode}
 use Rattle.geo_drain.specs.Meshes.{MeshView}
 use Rattle.geo_drain.specs.declared.refusal.DrainRefusal.{DrainRefusal}
@@ -98,6 +98,7 @@ pub record RunsPlan (order : StepOrder) (plan : Plan) (facts : List (ℕ × ℕ)
   pub mesh : IfSome log (MeshRan order plan facts ending)
   pub disks : IfSome log (DisksAreKept plan before after)
   pub lent : LentAfter ending before after
+  pub calls : CallsAreTold ending before after
   pub others : OthersStay plan before after
   pub images : IfNone log (ImagesStay before after)
   pub images_stand : ImagesStand before after

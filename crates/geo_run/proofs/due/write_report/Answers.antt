@@ -12,4 +12,4 @@ returns-in-None g c =
 pub returns-in-Some : goal.returns-in-Some
 returns-in-Some g c =
     same_ends _ (ReportedButFault c.in-Some.name) _ _ _ _ (ap ending_with c.in-Some.is)
-    (made_ends _ (ReportedButFault c.in-Some.name) _ _ _ _ c.with_fault.ensures c.written_made.ensures)
+    (made_ends _ (ReportedButFault c.in-Some.name) _ _ _ _ tt c.with_fault.ensures c.written_made.ensures)

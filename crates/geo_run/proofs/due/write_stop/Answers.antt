@@ -12,7 +12,7 @@ returns-in-BadWords g c =
 pub returns-in-NoScript : goal.returns-in-NoScript
 returns-in-NoScript g c =
     same_ends _ (NoScript c.in-NoScript.line c.in-NoScript.cause) _ _ _ _ (ap ending_of c.in-NoScript.is)
-    (made_ends _ (NoScript c.in-NoScript.line c.in-NoScript.cause) _ _ _ _ c.fault_text.ensures c.written_made.ensures)
+    (made_ends _ (NoScript c.in-NoScript.line c.in-NoScript.cause) _ _ _ _ tt c.fault_text.ensures c.written_made.ensures)
 
 pub returns-in-ReadFault : goal.returns-in-ReadFault
 returns-in-ReadFault g c =
@@ -21,17 +21,17 @@ returns-in-ReadFault g c =
 pub returns-in-ShelfFault : goal.returns-in-ShelfFault
 returns-in-ShelfFault g c =
     same_ends _ (ShelfFault c.in-ShelfFault.name) _ _ _ _ (ap ending_of c.in-ShelfFault.is)
-    (made_ends _ (ShelfFault c.in-ShelfFault.name) _ _ _ _ c.named_text.ensures c.written_made-in-ShelfFault.ensures)
+    (made_ends _ (ShelfFault c.in-ShelfFault.name) _ _ _ _ tt c.named_text.ensures c.written_made-in-ShelfFault.ensures)
 
 pub returns-in-NoDisk : goal.returns-in-NoDisk
 returns-in-NoDisk g c =
     same_ends _ (NoDisk c.in-NoDisk.name) _ _ _ _ (ap ending_of c.in-NoDisk.is)
-    (made_ends _ (NoDisk c.in-NoDisk.name) _ _ _ _ c.named_text-in-NoDisk.ensures c.written_made-in-NoDisk.ensures)
+    (made_ends _ (NoDisk c.in-NoDisk.name) _ _ _ _ tt c.named_text-in-NoDisk.ensures c.written_made-in-NoDisk.ensures)
 
 pub returns-in-BadSize : goal.returns-in-BadSize
 returns-in-BadSize g c =
     same_ends _ (BadSize c.in-BadSize.name) _ _ _ _ (ap ending_of c.in-BadSize.is)
-    (made_ends _ (BadSize c.in-BadSize.name) _ _ _ _ c.named_text-in-BadSize.ensures c.written_made-in-BadSize.ensures)
+    (made_ends _ (BadSize c.in-BadSize.name) _ _ _ _ tt c.named_text-in-BadSize.ensures c.written_made-in-BadSize.ensures)
 
 pub returns-in-NoMemory : goal.returns-in-NoMemory
 returns-in-NoMemory g c =

@@ -1,0 +1,112 @@
+-- Takes and gives that failed, each once.
+use Rattle.std.proofs.Common.{◌≡◌, ◌≢◌, ◌⊎◌, ℕ, Bool, true, false, ◌||◌, List, [], ◌∷◌, ◌++◌, Option, None, refl, sym, ◌∙◌, ap, subst, inl, inr, arith, bytes_eq}
+use Rattle.std.specs.List.{list_any}
+use Rattle.geo_disk.specs.Counts.{counted_if}
+use Rattle.geo_model.specs.declared.command.DiskDecl.{DiskDecl}
+use Rattle.geo_model.specs.declared.command.DiskKind.{DiskKind}
+use Rattle.geo_model.specs.declared.command.DiskKind.TheVariants as disk_kinds
+use Rattle.geo_headline.specs.Outside.{ShelfView}
+use Rattle.geo_headline.specs.Endings.{Ending, Reported, ReportedButFault, BadWords, NoScript, ReadFault, ShelfFault, NoDisk, BadSize, OutOfMemory, LogFull, TooLong, Answered, NoTrace, failed_takes}
+use Rattle.geo_headline.specs.Headline.{TakesAreToldAt}
+use Rattle.geo_run.specs.Drives.{DriveView}
+use Rattle.geo_run.specs.Lending.{AreApart, GivesDrive, names_of}
+use Rattle.geo_run.proofs.Tests.{other-among, other_names, same_itself, same_or_other}
+use Rattle.geo_run.proofs.Taking.{foreign_from}
+use Rattle.geo_run.proofs.Giving.{GivesAll, gives_stay, kept_other}
+
+-- of each name that is kept one give failed, and of each other none
+pub gives_told : (a b : ShelfView) (ds : List DiskDecl) (xs : List DriveView) (kept : List (List ℕ)) (name : List ℕ)
+    → AreApart (names_of ds) → GivesAll a ds xs kept b
+    → b.give_faults name ≡ counted_if (list_any (bytes_eq name) kept) (a.give_faults name)
+gives_told a b [] [] kept name apart h =
+    ap (λ (v : ShelfView). v.give_faults name) h.1
+    ∙ ap (λ (ks : List (List ℕ)). counted_if (list_any (bytes_eq name) ks) (a.give_faults name)) (sym h.0)
+gives_told a b [] (x ∷ xs) kept name apart h = absurd h
+gives_told a b (d ∷ ds) [] kept name apart h = absurd h
+gives_told a b (d ∷ ds) (x ∷ xs) kept name apart h =
+    by d.kind h.4 (gives_told h.0 b ds xs h.2 name apart.1 h.5)
+  where
+    -- where this give kept nothing and failed not
+    passed : kept ≡ h.2 → h.0.give_faults name ≡ a.give_faults name
+        → b.give_faults name ≡ counted_if (list_any (bytes_eq name) h.2) (h.0.give_faults name)
+        → b.give_faults name ≡ counted_if (list_any (bytes_eq name) kept) (a.give_faults name)
+    passed fewer same more =
+        more ∙ ap (λ (n : ℕ). counted_if (list_any (bytes_eq name) h.2) n) same
+        ∙ ap (λ (ks : List (List ℕ)). counted_if (list_any (bytes_eq name) ks) (a.give_faults name)) (sym fewer)
+
+    -- where it failed
+    failed : kept ≡ d.name ∷ h.2 → (d.name ≡ name) ⊎ (d.name ≢ name)
+        → h.0.give_faults d.name ≡ counted_if true (a.give_faults d.name)
+        → ((other : List ℕ) → other ≢ d.name → h.0.give_faults other ≡ a.give_faults other)
+        → b.give_faults name ≡ counted_if (list_any (bytes_eq name) h.2) (h.0.give_faults name)
+        → b.give_faults name ≡ counted_if (list_any (bytes_eq name) kept) (a.give_faults name)
+    failed one_more (inl e) own others more =
+        subst (λ (n : List ℕ). b.give_faults n ≡ counted_if (list_any (bytes_eq n) kept) (a.give_faults n)) e
+        ((gives_stay h.0 b ds xs h.2 d.name h.5 (foreign_from d.name ds apart.0)).gives ∙ own
+        ∙ ap (λ (t : Bool). counted_if (t || list_any (bytes_eq d.name) h.2) (a.give_faults d.name)) (sym (same_itself d.name))
+        ∙ ap (λ (ks : List (List ℕ)). counted_if (list_any (bytes_eq d.name) ks) (a.give_faults d.name)) (sym one_more))
+    failed one_more (inr other) own others more =
+        more ∙ ap (λ (n : ℕ). counted_if (list_any (bytes_eq name) h.2) n) (others name (λ e. other (sym e)))
+        ∙ ap (λ (t : Bool). counted_if (t || list_any (bytes_eq name) h.2) (a.give_faults name))
+        (sym (other_names name d.name (λ e. other (sym e))))
+        ∙ ap (λ (ks : List (List ℕ)). counted_if (list_any (bytes_eq name) ks) (a.give_faults name)) (sym one_more)
+
+    by : (kind : DiskKind) → GivesDrive a d.name x h.1 h.0 kind
+        → b.give_faults name ≡ counted_if (list_any (bytes_eq name) h.2) (h.0.give_faults name)
+        → b.give_faults name ≡ counted_if (list_any (bytes_eq name) kept) (a.give_faults name)
+    by disk_kinds.Ram g more =
+        passed (h.3 ∙ ap (λ ks. ks ++ h.2) g.0) (ap (λ (v : ShelfView). v.give_faults name) g.1) more
+    by disk_kinds.Shelf g more = elim g [
+      | inl given ↦ passed (h.3 ∙ ap (λ ks. ks ++ h.2) given.0) (given.1.gives name) more
+      | inr held ↦ failed (h.3 ∙ ap (λ ks. ks ++ h.2) held.0) (same_or_other d.name name) held.1.gives.own
+          held.1.gives.others more
+    ]
+
+-- a give is no take
+pub gives_take_none : (a b : ShelfView) (ds : List DiskDecl) (xs : List DriveView) (kept : List (List ℕ)) (name : List ℕ)
+    → GivesAll a ds xs kept b → b.take_faults name ≡ a.take_faults name
+gives_take_none a b [] [] kept name h = ap (λ (v : ShelfView). v.take_faults name) h.1
+gives_take_none a b [] (x ∷ xs) kept name h = absurd h
+gives_take_none a b (d ∷ ds) [] kept name h = absurd h
+gives_take_none a b (d ∷ ds) (x ∷ xs) kept name h = gives_take_none h.0 b ds xs h.2 name h.5 ∙ one d.kind h.4
+  where
+    one : (kind : DiskKind) → GivesDrive a d.name x h.1 h.0 kind → h.0.take_faults name ≡ a.take_faults name
+    one disk_kinds.Ram g = ap (λ (v : ShelfView). v.take_faults name) g.1
+    one disk_kinds.Shelf g = elim g [ inl given ↦ given.1.takes name | inr held ↦ held.1.takes name ]
+
+-- where nothing is kept no give was a fault
+pub gives_no_fault : (a b : ShelfView) (ds : List DiskDecl) (xs : List DriveView) (kept : List (List ℕ))
+    → GivesAll a ds xs kept b → kept ≡ [] → b.faults ≡ a.faults
+gives_no_fault a b [] [] kept h none = ap (λ (v : ShelfView). v.faults) h.1
+gives_no_fault a b [] (x ∷ xs) kept h none = absurd h
+gives_no_fault a b (d ∷ ds) [] kept h none = absurd h
+gives_no_fault a b (d ∷ ds) (x ∷ xs) kept h none = by d.kind h.4 (λ e. gives_no_fault h.0 b ds xs h.2 h.5 e)
+  where
+    nothing_first : (n : List ℕ) (ks : List (List ℕ)) → n ∷ ks ≡ [] → ⊥
+    nothing_first n ks e = cc
+
+    by : (kind : DiskKind) → GivesDrive a d.name x h.1 h.0 kind → (h.2 ≡ [] → b.faults ≡ h.0.faults)
+        → b.faults ≡ a.faults
+    by disk_kinds.Ram g more =
+        more (sym (h.3 ∙ ap (λ ks. ks ++ h.2) g.0) ∙ none) ∙ ap (λ (v : ShelfView). v.faults) g.1
+    by disk_kinds.Shelf g more = elim g [
+      | inl given ↦ more (sym (h.3 ∙ ap (λ ks. ks ++ h.2) given.0) ∙ none) ∙ given.1.no_fault
+      | inr held ↦ absurd (nothing_first d.name h.2 (sym (h.3 ∙ ap (λ ks. ks ++ h.2) held.0) ∙ none))
+    ]
+
+-- where no take failed none is told
+pub none_blamed : (ending : Ending) (a b : ShelfView) → failed_takes ending ≡ 0
+    → ((name : List ℕ) → b.take_faults name ≡ a.take_faults name) → TakesAreToldAt ending a b
+none_blamed Reported a b e h = h
+none_blamed (ReportedButFault name) a b e h = h
+none_blamed BadWords a b e h = h
+none_blamed (NoScript line c) a b e h = h
+none_blamed ReadFault a b e h = h
+none_blamed (ShelfFault name) a b e h = absurd (let bad : 1 ≡ 0 = e in omega (arith, bad))
+none_blamed (NoDisk name) a b e h = h
+none_blamed (BadSize name) a b e h = h
+none_blamed OutOfMemory a b e h = (None, h)
+none_blamed LogFull a b e h = h
+none_blamed TooLong a b e h = h
+none_blamed (Answered found) a b e h = h
+none_blamed (NoTrace line) a b e h = h
