@@ -1,5 +1,5 @@
 -- What a whole run keeps, and when it has to succeed.
-use Rattle.std.specs.Prelude.{◌≡◌, ◌≢◌, ◌⊎◌, ℕ, ◌+◌, ◌≤◌, Bool, true, false, List, [], ◌++◌, length, unwrap_or, Option, Some, None, IsSome, IsSomeAnd, IfSome, IfNone, All, Err, ⊤}
+use Rattle.std.specs.Prelude.{◌≡◌, ◌≢◌, ◌⊎◌, ℕ, ◌+◌, ◌≤◌, Bool, true, false, List, [], ◌++◌, length, unwrap_or, Option, Some, None, IsSome, IsSomeAnd, IfSome, IfNone, All, Err, zip, ⊤}
 use Rattle.std.specs.List.{list_any}
 use Rattle.geo_base.specs.Faults.{Rose, RoseBy}
 use Rattle.geo_disk.specs.Counts.{counted_if}
@@ -13,7 +13,7 @@ use Rattle.geo_model.specs.Script.{script, Fault, IsScript, empty_plan}
 use Rattle.geo_headline.specs.Modes.{Mode, GenMode, VerifyMode, Accepts, IsAlone, starts_threads, TakesNoDisk, source_limit}
 use Rattle.geo_model.specs.History.{KeepsHistory, RanToItsEnd}
 use Rattle.geo_model.specs.FixedOrder.{StepOrder, FollowsOrder, FollowsJobs, JobsEndedIdle}
-use Rattle.geo_headline.specs.Outside.{Outside, ShelfView, kept_back, IsShelf, HasImage, DisksAreKept, OthersStay, ImagesStay, ImagesStand}
+use Rattle.geo_headline.specs.Outside.{Outside, ShelfView, kept_back, IsKeptBack, IsUnasked, DiskStays, HasFactSectors, IsShelf, HasImage, DisksAreKept, OthersStay, ImagesStay, ImagesStand}
 use Rattle.geo_headline.specs.Endings.{Ending, BadWords, ReadFault, OutOfMemory, Call, status_of, due_text, BytesPass, order_of, script_of, reported, IsWhole, HasLog, WasReadWhole, IsOpened, CauseOf, blamed_by, failed_takes, IsBeforeDisks}
 
 -- the mode and the plan are those of the words and of the text; a source that wasn't read to its end gives no plan
@@ -101,6 +101,23 @@ abbrev pub ImagesStayAt : Call → Ending → Type 0
 ImagesStayAt call OutOfMemory = IsAlone call.words → ImagesStay call.before.shelf call.after.shelf
 ImagesStayAt call _ = ImagesStay call.before.shelf call.after.shelf
 
+-- no disk was asked
+abbrev pub NoneAsked : ShelfView → ShelfView → Type 0
+NoneAsked before after = (name : List ℕ) → IsUnasked before after name
+
+-- no disk was asked where no log came; with threads nothing is said of that where memory ran out
+abbrev pub NoneAskedAt : Call → Ending → Type 0
+NoneAskedAt call OutOfMemory = IsAlone call.words → NoneAsked call.before.shelf call.after.shelf
+NoneAskedAt call _ = NoneAsked call.before.shelf call.after.shelf
+
+-- of the disks that were kept back nothing more is known
+abbrev pub KeptDisksStay : ShelfView → ShelfView → Type 0
+KeptDisksStay before after = (name : List ℕ) → IsKeptBack before after name → DiskStays before after name
+
+-- the disks that were given back had the sectors with which the mesh began
+abbrev pub HaveFactSectors : Plan → List (ℕ × ℕ) → ShelfView → ShelfView → Type 0
+HaveFactSectors plan facts before after = All (HasFactSectors before after) (zip plan.disks facts)
+
 abbrev pub IsGen : Mode → Type 0
 IsGen (GenMode start count) = ⊤
 IsGen _ = ⊥
@@ -134,6 +151,9 @@ pub record KeepsAll (call : Call) (mode : Mode) (plan : Plan) (ending : Ending) 
   pub streams : StreamsAreTold call ending
   pub calls : CallsAreTold ending call.before.shelf call.after.shelf
   pub others : OthersStay plan call.before.shelf call.after.shelf
+  pub unasked : IfNone call.log (NoneAskedAt call ending)
+  pub sizes : IsSome call.log → HaveFactSectors plan call.facts call.before.shelf call.after.shelf
+  pub kept_stay : KeptDisksStay call.before.shelf call.after.shelf
   pub images : IfNone call.log (ImagesStayAt call ending)
   pub images_stand : ImagesStand call.before.shelf call.after.shelf
   pub outside : LeavesOutside mode ending call.before call.after

@@ -179,6 +179,22 @@ pub record CountsStay (before after : ShelfView) (name : List ℕ) : Type 0 wher
   pub asked : after.asked_of name ≡ before.asked_of name
   pub sectors : after.sectors_of name ≡ before.sectors_of name
 
+-- nothing more is known of the disk of a name: its faults, what it was asked, and how many sectors it had
+pub record DiskStays (before after : ShelfView) (name : List ℕ) : Type 0 where
+  pub faults : after.faults_of name ≡ before.faults_of name
+  pub asked : after.asked_of name ≡ before.asked_of name
+  pub sectors : after.sectors_of name ≡ before.sectors_of name
+
+-- the disk of a name wasn't asked, and had no fault
+pub record IsUnasked (before after : ShelfView) (name : List ℕ) : Type 0 where
+  pub faults : after.faults_of name ≡ before.faults_of name
+  pub asked : after.asked_of name ≡ before.asked_of name
+
+-- a disk that was given back had as many sectors as the facts say
+abbrev pub HasFactSectors : ShelfView → ShelfView → DiskDecl × (ℕ × ℕ) → Type 0
+HasFactSectors before after item =
+    IsShelf item.0.kind → (IsKeptBack before after item.0.name → ⊥) → after.sectors_of item.0.name ≡ item.1.1
+
 -- everything else of the shelf stays: foreign names, names lent before, and no foreign name is kept back
 pub record OthersStay (plan : Plan) (before after : ShelfView) : Type 0 where
   pub bytes : (name : List ℕ) → IsForeign plan name → WhereTold before after name (λ had has. has ≡ had)

@@ -1,5 +1,5 @@
 -- What a shelf keeps over a course: disks are taken, perhaps they serve a mesh, and they are given back.
-use Rattle.std.proofs.Common.{◌≡◌, ◌≢◌, ◌⊎◌, ℕ, ◌+◌, ◌*◌, true, false, List, [], ◌∷◌, ◌++◌, length, All, Option, Some, None, refl, sym, ◌∙◌, ap, subst, inl, inr, Contains, IfSome, IsSomeAnd}
+use Rattle.std.proofs.Common.{◌≡◌, ◌≢◌, ◌⊎◌, ℕ, ◌+◌, ◌*◌, true, false, List, [], ◌∷◌, ◌++◌, length, All, Option, Some, None, refl, sym, ◌∙◌, ap, subst, inl, inr, Contains, IfSome, IsSomeAnd, map, zip}
 use Rattle.std.specs.List.{AllByRecursion}
 use Rattle.std.proofs.lemmas.List.Elements.{All-from_recursion}
 use Rattle.geo_base.specs.Faults.{Rose}
@@ -10,10 +10,11 @@ use Rattle.geo_model.specs.declared.command.DiskKind.TheVariants as disk_kinds
 use Rattle.geo_model.specs.declared.step.Entry.{Entry}
 use Rattle.geo_model.specs.Contents.{contents}
 use Rattle.geo_model.specs.Plans.{IsDiskDecl}
-use Rattle.geo_headline.specs.Outside.{ShelfView, IsShelf, kept_back, ImagesStay, ImagesStand, KeepsLength}
+use Rattle.geo_headline.specs.Outside.{ShelfView, DiskStays, IsUnasked, HasFactSectors, IsShelf, kept_back, ImagesStay, ImagesStand, KeepsLength}
 use Rattle.geo_serve.specs.Served.{IsServed}
 use Rattle.geo_serve.specs.Drives.{HasWholeSectors}
-use Rattle.geo_run.specs.Drives.{DriveView, ServeAll}
+use Rattle.geo_headline.specs.Headline.{KeptDisksStay, NoneAsked}
+use Rattle.geo_run.specs.Drives.{size_of, DriveView, ServeAll}
 use Rattle.geo_run.specs.Lending.{AreApart, AreOther, names_of}
 use Rattle.geo_run.proofs.Tests.{other-contains, other-from, same_or_other}
 use Rattle.geo_run.proofs.Told.{OfName, IsSame, chain, weaker}
@@ -275,3 +276,92 @@ pub images_stand_still : (a m b : ShelfView) (ds : List DiskDecl) (xs : List Dri
 images_stand_still a m b ds xs kept c =
     images_stand_by a m b ds xs xs kept c
     (still_stand a b kept ds (images_fate a m b ds xs kept c.decls c.had (course_fate a m b ds xs xs kept c)))
+
+-- What is known of disks
+
+-- a name isn't kept, or nothing more is known of its disk
+abbrev KnownFate : ShelfView → ShelfView → List (List ℕ) → List ℕ → Type 0
+KnownFate a b kept name = AreOther name kept ⊎ DiskStays a b name
+
+known_fates : (a m b : ShelfView) (ds : List DiskDecl) (ys : List DriveView) (kept : List (List ℕ))
+    → ((name : List ℕ) → DiskStays a m name) → EachFate m b ds ys kept
+    → AllByRecursion (λ (d : DiskDecl). IsShelf d.kind → KnownFate a b kept d.name) ds
+known_fates a m b [] ys kept same f = tt
+known_fates a m b (d ∷ ds) [] kept same f = absurd f
+known_fates a m b (d ∷ ds) (y ∷ ys) kept same f = (one d.kind f.0, known_fates a m b ds ys kept same f.1)
+  where
+    one : (kind : DiskKind) → Fate m b d.name y kept kind → IsShelf kind → KnownFate a b kept d.name
+    one disk_kinds.Ram fate is = absurd (let bad : false ≡ true = is in cc)
+    one disk_kinds.Shelf fate is = elim fate [
+      | inl given ↦ inl given.not_kept
+      | inr held ↦ inr (record {
+        faults = held.stays.faults ∙ (same d.name).faults;
+        asked = held.stays.asked ∙ (same d.name).asked;
+        sectors = held.stays.sectors ∙ (same d.name).sectors;
+      })
+    ]
+
+-- of the disks that were kept nothing more is known
+pub kept_stay : (a m b : ShelfView) (ds : List DiskDecl) (xs ys : List DriveView) (kept : List (List ℕ))
+    → Course a m b ds xs ys kept → KeptDisksStay a b
+kept_stay a m b ds xs ys kept c name back =
+    by (lookup (KnownFate a b kept) ds
+    (known_fates a m b ds ys kept
+    (λ n. record { faults = c.disks n; asked = c.asked n; sectors = c.sectors n })
+    (course_fate a m b ds xs ys kept c)) name)
+  where
+    by : IsForeign name ds ⊎ KnownFate a b kept name → DiskStays a b name
+    by (inl foreign) = absurd (course_foreign a m b ds xs ys kept c name foreign back)
+    by (inr (inl other)) =
+        absurd (other-contains name kept other
+        (subst (λ ks. Contains ks name) (course_back a m b ds xs ys kept c) back))
+    by (inr (inr stays)) = stays
+
+unasked_fates : (a m b : ShelfView) (ds : List DiskDecl) (xs : List DriveView) (kept : List (List ℕ))
+    → ((name : List ℕ) → DiskStays a m name) → EachHad a m ds xs → EachFate m b ds xs kept
+    → AllByRecursion (λ (d : DiskDecl). IsShelf d.kind → IsUnasked a b d.name) ds
+unasked_fates a m b [] xs kept same h f = tt
+unasked_fates a m b (d ∷ ds) [] kept same h f = absurd f
+unasked_fates a m b (d ∷ ds) (x ∷ xs) kept same h f = (one d.kind h.0 f.0, unasked_fates a m b ds xs kept same h.1 f.1)
+  where
+    one : (kind : DiskKind) → IsHad a m d x kind → Fate m b d.name x kept kind → IsShelf kind → IsUnasked a b d.name
+    one disk_kinds.Ram had fate is = absurd (let bad : false ≡ true = is in cc)
+    one disk_kinds.Shelf had fate is = elim fate [
+      | inl given ↦ record { faults = given.faults ∙ had.brought; asked = given.asked ∙ had.asked }
+      | inr held ↦ record {
+        faults = held.stays.faults ∙ (same d.name).faults;
+        asked = held.stays.asked ∙ (same d.name).asked;
+      }
+    ]
+
+-- disks that served no mesh weren't asked
+pub none_asked : (a m b : ShelfView) (ds : List DiskDecl) (xs : List DriveView) (kept : List (List ℕ))
+    → Course a m b ds xs xs kept → NoneAsked a b
+none_asked a m b ds xs kept c name =
+    by (lookup (λ n. IsUnasked a b n) ds
+    (unasked_fates a m b ds xs kept
+    (λ n. record { faults = c.disks n; asked = c.asked n; sectors = c.sectors n })
+    c.had (course_fate a m b ds xs xs kept c)) name)
+  where
+    by : IsForeign name ds ⊎ IsUnasked a b name → IsUnasked a b name
+    by (inl foreign) = let stays = gives_stay m b ds xs kept name c.given foreign in
+        record { faults = stays.disks ∙ c.disks name; asked = stays.asked ∙ c.asked name }
+    by (inr unasked) = unasked
+
+-- disks that served and were given back have the sizes that they had
+pub sizes_back : (a m b : ShelfView) (log : List Entry) (n : ℕ) (ds : List DiskDecl) (xs ys : List DriveView)
+    (kept : List (List ℕ)) → kept_back a b ≡ kept → ServeAll log n xs ys → EachFate m b ds ys kept
+    → AllByRecursion (HasFactSectors a b) (zip ds (map size_of xs))
+sizes_back a m b log n [] xs ys kept e s f = tt
+sizes_back a m b log n (d ∷ ds) [] ys kept e s f = tt
+sizes_back a m b log n (d ∷ ds) (x ∷ xs) [] kept e s f = absurd s
+sizes_back a m b log n (d ∷ ds) (x ∷ xs) (y ∷ ys) kept e s f =
+    (one d.kind f.0, sizes_back a m b log (n + 1) ds xs ys kept e s.1 f.1)
+  where
+    one : (kind : DiskKind) → Fate m b d.name y kept kind → IsShelf kind → (Contains (kept_back a b) d.name → ⊥)
+        → b.sectors_of d.name ≡ x.count
+    one disk_kinds.Ram fate is not_back = absurd (let bad : false ≡ true = is in cc)
+    one disk_kinds.Shelf fate is not_back = elim fate [
+      | inl given ↦ given.sectors ∙ s.0.count
+      | inr held ↦ absurd (not_back (subst (λ ks. Contains ks d.name) (sym e) held.among))
+    ]

@@ -15,9 +15,9 @@ use Rattle.geo_model.specs.declared.step.Entry.{Entry}
 use Rattle.geo_model.specs.World.{World, Plan}
 use Rattle.geo_model.specs.Opening.{opening}
 use Rattle.geo_model.specs.Plans.{IsPlan, IsDiskDecl, FactsFit}
-use Rattle.geo_headline.specs.Outside.{ShelfView, IsShelf, is_shelf, kept_back, IsThere, IsMissing, IsBadSize, HasToldSize, ImagesStay, ImagesStand, OthersStay, DisksAreKept, KeepsLength, PlannedDisk, planned_disk, IsDiskKept, CountsStay, is_of_plan, IsForeign as IsForeignName}
+use Rattle.geo_headline.specs.Outside.{ShelfView, HasFactSectors, IsShelf, is_shelf, kept_back, IsThere, IsMissing, IsBadSize, HasToldSize, ImagesStay, ImagesStand, OthersStay, DisksAreKept, KeepsLength, PlannedDisk, planned_disk, IsDiskKept, CountsStay, is_of_plan, IsForeign as IsForeignName}
 use Rattle.geo_headline.specs.Endings.{Ending, Reported, ReportedButFault, BadWords, NoScript, ReadFault, ShelfFault, NoDisk, BadSize, OutOfMemory, LogFull, TooLong, Answered, NoTrace, HasLog, StopsAt, failed_takes}
-use Rattle.geo_headline.specs.Headline.{CallsAreTold, GivesAreTold, LentAfter, TakesAreToldAt}
+use Rattle.geo_headline.specs.Headline.{CallsAreTold, GivesAreTold, HaveFactSectors, LentAfter, NoneAsked, TakesAreToldAt}
 use Rattle.geo_run.specs.Drives.{DriveView, size_of}
 use Rattle.geo_model.specs.FixedOrder.{StepOrder}
 use Rattle.geo_run.specs.Rest.{RanFull}
@@ -34,7 +34,7 @@ use Rattle.geo_run.proofs.Fates.{counted_rose, first_kept, first_of, gives_fault
 use Rattle.geo_run.proofs.Outs.{apart_front}
 use Rattle.geo_run.proofs.Telling.{gives_no_fault, gives_take_none, gives_told, none_blamed}
 use Rattle.geo_run.proofs.Planned.{all_there, apart_from, disks_kept, facts_had, kinds_had, kinds_served, sizes_told}
-use Rattle.geo_run.proofs.Courses.{Course, course_back, course_fate, course_lent, course_rose, course_told, images_stand, images_stand_still, images_stay, same_length}
+use Rattle.geo_run.proofs.Courses.{Course, course_back, course_fate, course_lent, course_rose, course_told, images_stand, images_stand_still, images_stay, kept_stay, none_asked, same_length, sizes_back}
 
 -- The parts of a course
 
@@ -239,6 +239,21 @@ images_by plan None a m b xs ys kept c served =
     images_stay a m b plan.disks xs kept (subst (λ (zs : List DriveView). Course a m b plan.disks xs zs kept) served c)
 images_by plan (Some log) a m b xs ys kept c served = tt
 
+unasked_by : (plan : Plan) (log : Option (List Entry)) (a m b : ShelfView) (xs ys : List DriveView)
+    (kept : List (List ℕ)) → Course a m b plan.disks xs ys kept → Served log xs ys → IfNone log (NoneAsked a b)
+unasked_by plan None a m b xs ys kept c served =
+    none_asked a m b plan.disks xs kept (subst (λ (zs : List DriveView). Course a m b plan.disks xs zs kept) served c)
+unasked_by plan (Some log) a m b xs ys kept c served = tt
+
+sizes_by : (plan : Plan) (log : Option (List Entry)) (a m b : ShelfView) (xs ys : List DriveView)
+    (kept : List (List ℕ)) → Course a m b plan.disks xs ys kept → Served log xs ys → IsSome log
+    → HaveFactSectors plan (map size_of xs) a b
+sizes_by plan None a m b xs ys kept c served some = absurd (let bad : false ≡ true = some in cc)
+sizes_by plan (Some log) a m b xs ys kept c served some =
+    All-from_recursion (HasFactSectors a b) (zip plan.disks (map size_of xs))
+    (sizes_back a m b log 0 plan.disks xs ys kept (course_back a m b plan.disks xs ys kept c) served
+    (course_fate a m b plan.disks xs ys kept c))
+
 stand_by : (plan : Plan) (log : Option (List Entry)) (a m b : ShelfView) (xs ys : List DriveView)
     (kept : List (List ℕ)) → Course a m b plan.disks xs ys kept → Served log xs ys → ImagesStand a b
 stand_by plan None a m b xs ys kept c served =
@@ -282,6 +297,10 @@ runs_plan order plan facts log ending xs a m b is opens r = record {
     of_plan = All-from_recursion (λ name. IsTrue (is_of_plan plan name)) (kept_back a b)
         (kept_of a m b plan.disks xs r.served r.kept course);
   };
+  unasked = unasked_by plan log a m b xs r.served r.kept course r.serves;
+  sizes = λ some. subst (λ (fs : List (ℕ × ℕ)). HaveFactSectors plan fs a b) (sym (r.sizes some))
+      (sizes_by plan log a m b xs r.served r.kept course r.serves some);
+  kept_stay = kept_stay a m b plan.disks xs r.served r.kept course;
   images = images_by plan log a m b xs r.served r.kept course r.serves;
   images_stand = stand_by plan log a m b xs r.served r.kept course r.serves;
   untouched = λ none.
@@ -605,6 +624,9 @@ nothing_done order plan facts a = record {
   lent = lent_still OutOfMemory a refl;
   calls = told_still OutOfMemory a refl;
   others = others_still plan a;
+  unasked = λ name. record { faults = refl; asked = refl };
+  sizes = λ some. absurd (let bad : false ≡ true = some in cc);
+  kept_stay = λ name back. record { faults = refl; asked = refl; sectors = refl };
   images = images_stay_same a;
   images_stand = images_stand_same a;
   untouched = λ none. refl;
@@ -641,6 +663,9 @@ gave_up order plan facts stop a b is g = record {
         (subst (λ (ds : List DiskDecl). AllByRecursion (λ name. is_of ds name ≡ true) (kept_back a b)) (sym e)
         (more_of front (disk ∷ back) (kept_back a b) (kept_of a n b front xs xs g.kept course)));
   };
+  unasked = none_asked a n b front xs g.kept course;
+  sizes = λ some. absurd (let bad : false ≡ true = some in cc);
+  kept_stay = kept_stay a n b front xs xs g.kept course;
   images = images_stay a n b front xs g.kept course;
   images_stand = images_stand_still a n b front xs g.kept course;
   untouched = λ none.

@@ -13,7 +13,7 @@ use Rattle.geo_disk.specs.Names.{without}
 use Rattle.geo_model.specs.declared.command.DiskDecl.{DiskDecl}
 use Rattle.geo_model.specs.declared.command.DiskKind.{DiskKind}
 use Rattle.geo_model.specs.declared.command.DiskKind.TheVariants as disk_kinds
-use Rattle.geo_headline.specs.Outside.{ShelfView, IsShelf, is_shelf, kept_back}
+use Rattle.geo_headline.specs.Outside.{ShelfView, DiskStays, IsShelf, is_shelf, kept_back}
 use Rattle.geo_run.specs.Drives.{DriveView}
 use Rattle.geo_run.specs.Lending.{AreApart, AreOther, GivesDrive, names_of}
 use Rattle.geo_run.proofs.Tests.{contains_first, contains-among, same_itself, other-append, other-among, without_none, without_first, without_both}
@@ -41,6 +41,7 @@ pub record WasKept (a b : ShelfView) (name : List ℕ) (kept : List (List ℕ)) 
   pub among : Contains kept name
   pub told : OfName a.told b.told name IsSame
   pub gives : Rose (a.give_faults name) (b.give_faults name)
+  pub stays : DiskStays a b name
 
 abbrev pub Fate : ShelfView → ShelfView → List ℕ → DriveView → List (List ℕ) → DiskKind → Type 0
 Fate a b name x kept disk_kinds.Ram = ⊤
@@ -72,6 +73,11 @@ fate_before a m b name x first rest kept disk_kinds.Shelf e others stays fate =
         gives = let g : Rose (m.give_faults name) (b.give_faults name) = held.gives in
             let s : m.give_faults name ≡ a.give_faults name = stays.gives in
             subst (λ (n : ℕ). Rose n (b.give_faults name)) s g;
+        stays = record {
+          faults = held.stays.faults ∙ stays.disks;
+          asked = held.stays.asked ∙ stays.asked;
+          sectors = held.stays.sectors ∙ stays.sectors;
+        };
       })
     ]
 
@@ -147,6 +153,11 @@ fate_first a m b name x first rest kept disk_kinds.Shelf h e others stays =
         among = subst (λ ks. Contains ks name) (sym (e ∙ ap (λ ks. ks ++ rest) held.0)) (contains_first name rest);
         told = chain a.told m.told b.told name (λ u v w p q. q ∙ p) (of_name a.told m.told name IsAsBefore {F = IsSame} (λ o v p. p name) held.1.told) stays.told;
         gives = counted_rose (a.give_faults name) (m.give_faults name) (b.give_faults name) held.1.gives.own stays.gives;
+        stays = record {
+          faults = stays.disks ∙ held.1.disks name;
+          asked = stays.asked ∙ held.1.asked name;
+          sectors = stays.sectors ∙ held.1.sectors name;
+        };
       })
     ]
 

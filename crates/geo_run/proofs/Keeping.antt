@@ -16,7 +16,7 @@ use Rattle.geo_model.specs.Log.{Fits}
 use Rattle.geo_model.specs.History.{KeepsHistory, RanToItsEnd}
 use Rattle.geo_headline.specs.Outside.{ShelfView, SinkView, SourceView, ImagesStay, ImagesStand, OthersStay, DisksAreKept}
 use Rattle.geo_headline.specs.Endings.{Ending, Reported, ReportedButFault, BadWords, NoScript, ReadFault, ShelfFault, NoDisk, BadSize, OutOfMemory, LogFull, TooLong, Answered, NoTrace, Call, CauseOf, HasLog, IsBeforeDisks, IsParsed, IsReadWhole, IsWhole, LogRanFull, ReadsScript, WasReadWhole, failed_takes, order_of, reported, script_of}
-use Rattle.geo_headline.specs.Headline.{CallsAreTold, FollowsMode, ImagesStayAt, IsBadWords, IsGen, LentAfter, ReadAs}
+use Rattle.geo_headline.specs.Headline.{CallsAreTold, FollowsMode, ImagesStayAt, IsBadWords, IsGen, LentAfter, NoneAsked, ReadAs}
 use Rattle.geo_model.specs.FixedOrder.{StepOrder}
 use Rattle.geo_run.specs.Rest.{RanFull}
 use Rattle.geo_run.specs.declared.due.Due.{Due}
@@ -171,6 +171,17 @@ early call mode plan ending read gave cause none shelf has not_whole no_take sou
   reads = reads;
   calls = subst (λ (v : ShelfView). CallsAreTold ending call.before.shelf v) (sym shelf) (told_still ending call.before.shelf no_take);
   others = subst (λ (v : ShelfView). OthersStay plan call.before.shelf v) (sym shelf) (others_still plan call.before.shelf);
+  unasked = subst (λ (l : Option (List Entry)). IfNone l (NoneAsked call.before.shelf call.after.shelf)) (sym none)
+      (λ name. record {
+        faults = ap (λ (v : ShelfView). v.faults_of name) shelf;
+        asked = ap (λ (v : ShelfView). v.asked_of name) shelf;
+      });
+  sizes = λ some. absurd (let bad : false ≡ true = subst (λ (l : Option (List Entry)). IsSome l) none some in cc);
+  kept_stay = λ name back. record {
+    faults = ap (λ (v : ShelfView). v.faults_of name) shelf;
+    asked = ap (λ (v : ShelfView). v.asked_of name) shelf;
+    sectors = ap (λ (v : ShelfView). v.sectors_of name) shelf;
+  };
   images = subst (λ (l : Option (List Entry)). IfNone l (ImagesStayAt call ending)) (sym none)
       (stay_at ending (subst (λ (v : ShelfView). ImagesStay call.before.shelf v) (sym shelf) (images_stay_same call.before.shelf)));
   images_stand = subst (λ (v : ShelfView). ImagesStand call.before.shelf v) (sym shelf) (images_stand_same call.before.shelf);
@@ -313,6 +324,9 @@ planned call work plan ending read gave parsed ran source told none = record {
   reads = λ other. told;
   calls = ran.calls;
   others = ran.others;
+  unasked = ran.unasked;
+  sizes = ran.sizes;
+  kept_stay = ran.kept_stay;
   images = images_at call ending call.log ran.images;
   images_stand = ran.images_stand;
   outside = record {

@@ -8,7 +8,7 @@ use Rattle.geo_model.specs.Opening.{opening}
 use Rattle.geo_headline.specs.Modes.{Mode, StepMode, RunMode, GenMode, SweepMode, WatchMode, TraceMode, VerifyMode, StartsThreads}
 use Rattle.geo_headline.specs.Outside.{ShelfView, SinkView, SourceView, kept_back}
 use Rattle.geo_headline.specs.Endings.{Ending, Reported, ReportedButFault, BadWords, NoScript, ReadFault, ShelfFault, NoDisk, BadSize, OutOfMemory, LogFull, TooLong, Answered, NoTrace, Call, due_text, failed_takes, reported, status_of}
-use Rattle.geo_headline.specs.Headline.{FollowsMode, ImagesStayAt, IsComplete, KeepsAll, Prints, TakesAreToldAt}
+use Rattle.geo_headline.specs.Headline.{FollowsMode, ImagesStayAt, IsComplete, KeepsAll, NoneAsked, NoneAskedAt, Prints, TakesAreToldAt}
 use Rattle.geo_run.specs.declared.finish.Finish.{Finish}
 use Rattle.geo_run.specs.Calls.{Finishes, Keeps, KeepsInside, added_to, call_of, outside_of}
 use Rattle.geo_run.specs.Ends.{entries_in}
@@ -95,6 +95,9 @@ out_of_memory call mode plan ending alone made k = record {
     no_fault = λ other. absurd (other refl);
   };
   others = k.others;
+  unasked = k.unasked;
+  sizes = k.sizes;
+  kept_stay = k.kept_stay;
   images = stays_at call ending call.log k.images;
   images_stand = k.images_stand;
   outside = record {
@@ -134,6 +137,24 @@ took call status due text w e =
     w.took ∙ ap (λ bs. call.before.sink.taken ++ bs)
     (sym (e ∙ ap (λ bs. drop (length call.before.sink.taken) bs) w.took ∙ drop-append_seam call.before.sink.taken w.written))
 
+-- no disk was asked, whatever the ending
+unasked_at : (call : Call) (ending : Ending) (log : Option (List Entry))
+    → IfNone log (NoneAsked call.before.shelf call.after.shelf) → IfNone log (NoneAskedAt call ending)
+unasked_at call ending (Some l) h = tt
+unasked_at call OutOfMemory None h = λ alone. h
+unasked_at call Reported None h = h
+unasked_at call (ReportedButFault name) None h = h
+unasked_at call BadWords None h = h
+unasked_at call (NoScript line c) None h = h
+unasked_at call ReadFault None h = h
+unasked_at call (ShelfFault name) None h = h
+unasked_at call (NoDisk name) None h = h
+unasked_at call (BadSize name) None h = h
+unasked_at call LogFull None h = h
+unasked_at call TooLong None h = h
+unasked_at call (Answered found) None h = h
+unasked_at call (NoTrace line) None h = h
+
 -- both
 keeps_all : (call : Call) (mode : Mode) (plan : Plan) (ending : Ending) → KeepsInside call mode plan ending
     → Writes call.status (status_of ending) (due_text (reported mode call.text plan call.facts call.log) ending)
@@ -160,6 +181,9 @@ keeps_all call mode plan ending k w e = record {
   streams = record { writes = w.told; reads = k.reads };
   calls = k.calls;
   others = k.others;
+  unasked = unasked_at call ending call.log k.unasked;
+  sizes = k.sizes;
+  kept_stay = k.kept_stay;
   images = k.images;
   images_stand = k.images_stand;
   outside = k.outside;

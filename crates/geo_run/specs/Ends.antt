@@ -13,7 +13,7 @@ use Rattle.geo_model.specs.FixedOrder.{FollowsOrder, StepOrder}
 use Rattle.geo_model.specs.History.{KeepsHistory, RanToItsEnd}
 use Rattle.geo_headline.specs.Outside.{ShelfView, IsShelf, IsThere, IsMissing, IsBadSize, HasToldSize, kept_back, DisksAreKept, OthersStay, ImagesStay, ImagesStand}
 use Rattle.geo_headline.specs.Endings.{Ending, Reported, ReportedButFault, ShelfFault, NoDisk, BadSize, OutOfMemory, LogFull, IsWhole, HasLog, StopsAt, first_kept_back, reported}
-use Rattle.geo_headline.specs.Headline.{CallsAreTold, LentAfter}
+use Rattle.geo_headline.specs.Headline.{CallsAreTold, HaveFactSectors, KeptDisksStay, LentAfter, NoneAsked}
 use Rattle.geo_headline.specs.Modes.{Mode}
 use Rattle.geo_drain.specs.Meshes.{MeshView}
 use Rattle.geo_drain.specs.declared.refusal.DrainRefusal.{DrainRefusal}
@@ -100,6 +100,9 @@ pub record RunsPlan (order : StepOrder) (plan : Plan) (facts : List (ℕ × ℕ)
   pub lent : LentAfter ending before after
   pub calls : CallsAreTold ending before after
   pub others : OthersStay plan before after
+  pub unasked : IfNone log (NoneAsked before after)
+  pub sizes : IsSome log → HaveFactSectors plan facts before after
+  pub kept_stay : KeptDisksStay before after
   pub images : IfNone log (ImagesStay before after)
   pub images_stand : ImagesStand before after
   pub untouched : HasNoShelfDisk plan → after ≡ before
