@@ -16,9 +16,9 @@ use Rattle.geo_model.specs.Listing.{listing}
 use Rattle.geo_model.specs.Report.{report, mesh_text}
 use Rattle.geo_model.specs.Log.{IsSplitBy, IsPrefixOf, replay, Fits}
 use Rattle.geo_model.specs.History.{KeepsHistory, RanToItsEnd}
-use Rattle.geo_headline.specs.Outside.{IsThere, HasToldSize, IsDiskKept, DisksAreKept}
+use Rattle.geo_headline.specs.Outside.{HasFactSectors, IsThere, HasToldSize, IsDiskKept, DisksAreKept}
 use Rattle.geo_headline.specs.Endings.{Reported, IsOpened}
-use Rattle.geo_headline.specs.Headline.{KeepsAll}
+use Rattle.geo_headline.specs.Headline.{HaveFactSectors, KeepsAll}
 use Rattle.geo_laws_life.proofs.Opened.{opening-sound}
 use Rattle.geo_rows.specs.RightCalls.{quiet_call, later_plan, later_text, silent_shelf}
 
@@ -150,7 +150,7 @@ kept : IsDiskKept silent_shelf silent_shelf []
       decl =
           record { kind = Shelf; name = codes "d"; sector = 512; sectors = 0; later = true };
     }) Shelf
-kept not_back = record { failures = omega arith; bytes = tt; reads = tt }
+kept not_back = record { asked = refl; failures = refl; bytes = tt; reads = tt }
 
 kept_disks : DisksAreKept later_plan silent_shelf silent_shelf []
 kept_disks =
@@ -160,6 +160,20 @@ kept_disks =
       decl =
           record { kind = Shelf; name = codes "d"; sector = 512; sectors = 0; later = true };
     }) kept
+
+-- the disk had 1,000 sectors
+fact-sectors : HaveFactSectors later_plan ((512, 1000) ∷ []) silent_shelf silent_shelf
+fact-sectors =
+    one (HasFactSectors silent_shelf silent_shelf) (
+      record {
+        kind = Shelf;
+        name = codes "d";
+        sector = 512;
+        sectors = 0;
+        later = true;
+      },
+      (512, 1000),
+    ) (λ of_shelf not_back. refl)
 
 fitting : Fits (opening later_plan ((512, 1000) ∷ [])) []
 unfolding opening
@@ -189,10 +203,15 @@ quiet = record {
   lent = record { faults = omega arith; gives = All-nil _ };
   others = record {
     bytes = λ name foreign. tt;
-    counts = λ name foreign. record { disk = refl; takes = refl; gives = refl };
+    counts = λ name foreign. record { disk = refl; takes = refl; gives = refl; asked = refl; sectors = refl };
     still_lent = λ name in_lent. in_lent;
     of_plan = All-nil _;
   };
+  streams = record { writes = λ _. refl; reads = λ _. refl };
+  calls = record { takes = λ name. refl; gives = λ name. refl; no_fault = λ _ _ _. refl };
+  unasked = tt;
+  sizes = λ _. fact-sectors;
+  kept_stay = λ name back. record { faults = refl; asked = refl; sectors = refl };
   images = tt;
   images_stand = λ name not_kept. tt;
   outside = record {

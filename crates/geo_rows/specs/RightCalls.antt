@@ -16,7 +16,7 @@ later_plan = record {
   commands = [];
 }
 
--- a shelf that tells nothing, of which nothing is lent and nothing failed
+-- a shelf that tells nothing, of which nothing is lent and nothing failed; no disk was asked, and each had 1,000 sectors
 abbrev pub silent_shelf : ShelfView
 silent_shelf = record {
   told = None;
@@ -25,6 +25,8 @@ silent_shelf = record {
   faults_of = λ name. 0;
   take_faults = λ name. 0;
   give_faults = λ name. 0;
+  asked_of = λ name. [];
+  sectors_of = λ name. 1000;
 }
 
 -- a stream that gave these bytes so far
@@ -43,6 +45,6 @@ quiet_call = record {
   status = 0;
   written = [];
   log = Some [];
-  before = record { source = stream_before; sink = record { taken = []; faults = 0 }; shelf = silent_shelf };
-  after = record { source = stream_after; sink = record { taken = []; faults = 0 }; shelf = silent_shelf };
+  before = record { source = stream_before; sink = record { taken = []; held = None; faults = 0 }; shelf = silent_shelf };
+  after = record { source = stream_after; sink = record { taken = []; held = None; faults = 0 }; shelf = silent_shelf };
 }
