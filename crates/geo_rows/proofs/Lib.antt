@@ -7,6 +7,7 @@ pub mod PartFacts
 pub mod RunSound
 pub mod WrongPrograms
 pub mod WrongDisks
+pub mod WrongCalls
 pub mod IdleJobs
 pub mod RightCalls
 pub mod RunSteady

@@ -77,7 +77,7 @@ loses_image-refused call mode plan ending wrong kept =
     kept.images_stand wrong.name wrong.not_kept in
     rw (wrong.told_before, wrong.told_after, wrong.there, wrong.gone) at stand
 
-by_report : (call : Call) (mode : Mode) (plan : Plan) (ending : Ending) → status_of ending ≡ 0
+pub by_report : (call : Call) (mode : Mode) (plan : Plan) (ending : Ending) → status_of ending ≡ 0
     → Accepts call.words StepMode → KeepsAll call mode plan ending → IsSome call.log
 by_report call mode plan Reported s words kept = kept.has_log
 by_report call mode plan (ReportedButFault name) s words kept = absurd (omega (arith, s))

@@ -1,5 +1,5 @@
 -- Programs that don't do what they should, and that what a run keeps refuses.
-use Rattle.std.specs.Prelude.{◌≡◌, ℕ, ◌+◌, ◌-◌, ◌^◌, ◌<◌, ◌≤◌, true, List, [], ◌∷◌, ◌++◌, length, Ok, Some, None, IsSome, IfSome, All, Contains, codes}
+use Rattle.std.specs.Prelude.{◌≡◌, ◌≢◌, ℕ, ◌+◌, ◌-◌, ◌^◌, ◌<◌, ◌≤◌, true, List, [], ◌∷◌, ◌++◌, length, Ok, Some, None, IsSome, IfSome, All, Contains, codes}
 use Rattle.geo_base.specs.Faults.{Rose}
 use Rattle.geo_base.specs.Images.{Images}
 use Rattle.geo_model.specs.declared.command.DiskDecl.{DiskDecl}
@@ -11,9 +11,9 @@ use Rattle.geo_model.specs.Step.{is_enabled}
 use Rattle.geo_model.specs.Log.{replay, owed}
 use Rattle.geo_model.specs.Report.{end_line}
 use Rattle.geo_model.specs.Script.{IsScript}
-use Rattle.geo_headline.specs.Modes.{Mode, StepMode, VerifyMode, Accepts, StartsThreads, source_limit}
+use Rattle.geo_headline.specs.Modes.{Mode, StepMode, VerifyMode, Accepts, IsAlone, StartsThreads, source_limit}
 use Rattle.geo_model.specs.FixedOrder.{EventWorkerIdle, event_seat}
-use Rattle.geo_headline.specs.Outside.{IsShelf, HasImage, IsKeptBack, kept_back}
+use Rattle.geo_headline.specs.Outside.{IsShelf, HasImage, IsKeptBack, IsUnasked, calls_logged, failures_of, kept_back}
 use Rattle.geo_headline.specs.Endings.{Call, Ending, script_of}
 use Rattle.geo_headline.specs.Verifying.{Verified, Yes, verified}
 use Rattle.geo_headline.specs.Headline.{KeepsAll}
@@ -149,6 +149,63 @@ pub record InventsLentDisk (call : Call) : Type 0 where
   pub disk : DiskDecl
   pub reports : ReportsDisk call disk
   pub lent : Contains call.before.shelf.lent disk.name
+
+-- Failures and calls that are kept secret
+
+-- a write failed, and the status isn't that of a write fault
+abbrev pub HidesWriteFault : Call → Type 0
+HidesWriteFault call = (call.status ≢ 4) × (call.after.sink.faults ≢ call.before.sink.faults)
+
+-- a read failed, and the status isn't that of a read fault, nor of a write fault
+abbrev pub HidesReadFault : Call → Type 0
+HidesReadFault call =
+    (call.status ≢ 3) × (call.status ≢ 4) × (call.after.source.faults ≢ call.before.source.faults)
+
+-- all disks were given back, and yet a give of a name failed on the way
+pub record GivesAgain (call : Call) : Type 0 where
+  pub name : List ℕ
+  pub all_back : kept_back call.before.shelf call.after.shelf ≡ []
+  pub failed : call.after.shelf.give_faults name ≢ call.before.shelf.give_faults name
+
+-- all is well, and yet a take of a name failed on the way
+pub record TakesAgain (call : Call) : Type 0 where
+  pub status : call.status ≡ 0
+  pub name : List ℕ
+  pub failed : call.after.shelf.take_faults name ≢ call.before.shelf.take_faults name
+
+-- no mesh was run, and yet the disk of a name was asked, or failed
+pub record AsksInSecret (call : Call) : Type 0 where
+  pub words : IsAlone call.words
+  pub no_log : call.log ≡ None
+  pub name : List ℕ
+  pub asked : IsUnasked call.before.shelf call.after.shelf name → ⊥
+
+-- the first disk was given back, and was asked something else than the log says, or in another order
+pub record AsksOtherwise (call : Call) : Type 0 where
+  pub disk : DiskDecl
+  pub reports : ReportsDisk call disk
+  pub given_back : IsKeptBack call.before.shelf call.after.shelf disk.name → ⊥
+  pub otherwise : IfSome call.log (λ log.
+      call.after.shelf.asked_of disk.name ≢ call.before.shelf.asked_of disk.name ++ calls_logged log 0)
+
+-- the first disk was given back, and failed, though the log says of no failure
+pub record HidesDiskFault (call : Call) : Type 0 where
+  pub disk : DiskDecl
+  pub reports : ReportsDisk call disk
+  pub given_back : IsKeptBack call.before.shelf call.after.shelf disk.name → ⊥
+  pub none_told : IfSome call.log (λ log. failures_of log 0 ≡ 0)
+  pub failed : call.after.shelf.faults_of disk.name ≢ call.before.shelf.faults_of disk.name
+
+-- the first disk was given back, and had other sectors than the mesh began with, also where the shelf tells nothing
+pub record InventsSize (call : Call) : Type 0 where
+  pub disk : DiskDecl
+  pub reports : ReportsDisk call disk
+  pub given_back : IsKeptBack call.before.shelf call.after.shelf disk.name → ⊥
+  pub bytes : ℕ
+  pub sectors : ℕ
+  pub rest : List (ℕ × ℕ)
+  pub facts : call.facts ≡ (bytes, sectors) ∷ rest
+  pub other : call.after.shelf.sectors_of disk.name ≢ sectors
 
 -- Threads
 

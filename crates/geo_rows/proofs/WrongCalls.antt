@@ -1,0 +1,168 @@
+-- The programs that keep failures or calls of the outside to themselves are refused.
+use Rattle.std.specs.Prelude.{◌≡◌, ◌≢◌, ℕ, true, false, List, [], ◌∷◌, ◌++◌, Option, Some, None, IsSome, IfSome, IfNone, All, map, zip, refl}
+use Rattle.std.specs.List.{enumerate_from, list_any}
+use Rattle.std.proofs.Common.{sym, ◌∙◌, ap, subst, arith}
+use Rattle.geo_disk.specs.Counts.{counted_if, counted_many}
+use Rattle.geo_model.specs.declared.command.DiskDecl.{DiskDecl}
+use Rattle.geo_model.specs.declared.step.Entry.{Entry}
+use Rattle.geo_model.specs.World.{Plan}
+use Rattle.geo_model.specs.Words.{same_name}
+use Rattle.geo_model.specs.Script.{IsScript}
+use Rattle.geo_headline.specs.Modes.{Mode, StepMode, IsAlone}
+use Rattle.geo_headline.specs.Outside.{ShelfView, calls_logged, failures_of, DisksAreKept, HasFactSectors, HoldsWhatIsLogged, IsDiskKept, IsKeptBack, IsShelf, IsUnasked, PlannedDisk, planned_disk}
+use Rattle.geo_headline.specs.Endings.{Call, Ending, Reported, ReportedButFault, BadWords, NoScript, ReadFault, ShelfFault, NoDisk, BadSize, OutOfMemory, LogFull, TooLong, Answered, NoTrace, status_of, script_of}
+use Rattle.geo_headline.specs.Headline.{KeepsAll, NoneAskedAt, TakesAreToldAt}
+use Rattle.geo_model.specs.declared.command.DiskKind.{DiskKind}
+use Rattle.geo_model.specs.declared.command.DiskKind.TheVariants as disk_kinds
+use Rattle.geo_rows.specs.WrongPrograms.{IsRefused, AsksInSecret, AsksOtherwise, GivesAgain, HidesDiskFault, HidesReadFault, HidesWriteFault, InventsSize, ReportsDisk, TakesAgain}
+use Rattle.geo_rows.proofs.WrongPrograms.{ends}
+use Rattle.geo_rows.proofs.WrongDisks.{by_report}
+
+pub hides_write-refused : IsRefused HidesWriteFault
+hides_write-refused call mode plan ending wrong kept = wrong.1 (kept.streams.writes wrong.0)
+
+pub hides_read-refused : IsRefused HidesReadFault
+hides_read-refused call mode plan ending wrong kept =
+    wrong.2 (kept.streams.reads (λ e. wrong.0 ((kept.prints.whole wrong.1).status ∙ ap status_of e)))
+
+pub gives_again-refused : IsRefused GivesAgain
+gives_again-refused call mode plan ending wrong kept =
+    wrong.failed (kept.calls.gives wrong.name
+    ∙ ap (λ (names : List (List ℕ)). counted_if (list_any (same_name wrong.name) names) (call.before.shelf.give_faults wrong.name))
+    wrong.all_back)
+
+-- at status 0 no take failed
+no_take : (ending : Ending) (before after : ShelfView) (name : List ℕ) → status_of ending ≡ 0
+    → TakesAreToldAt ending before after → after.take_faults name ≡ before.take_faults name
+no_take Reported before after name s told = told name
+no_take (ReportedButFault blamed) before after name s told = absurd (omega (arith, s))
+no_take BadWords before after name s told = absurd (omega (arith, s))
+no_take (NoScript line c) before after name s told = absurd (omega (arith, s))
+no_take ReadFault before after name s told = absurd (omega (arith, s))
+no_take (ShelfFault blamed) before after name s told = absurd (omega (arith, s))
+no_take (NoDisk blamed) before after name s told = absurd (omega (arith, s))
+no_take (BadSize blamed) before after name s told = absurd (omega (arith, s))
+no_take OutOfMemory before after name s told = absurd (omega (arith, s))
+no_take LogFull before after name s told = absurd (omega (arith, s))
+no_take TooLong before after name s told = absurd (omega (arith, s))
+no_take (Answered found) before after name s told = told name
+no_take (NoTrace line) before after name s told = absurd (omega (arith, s))
+
+pub takes_again-refused : IsRefused TakesAgain
+takes_again-refused call mode plan ending wrong kept =
+    wrong.failed (no_take ending call.before.shelf call.after.shelf wrong.name
+    (ends 0 call mode plan ending kept (λ e. omega (arith, e)) wrong.status) kept.calls.takes)
+
+-- no disk was asked, whatever the ending, where no threads are asked for
+unasked : (call : Call) (ending : Ending) (name : List ℕ) → IsAlone call.words → NoneAskedAt call ending
+    → IsUnasked call.before.shelf call.after.shelf name
+unasked call OutOfMemory name alone h = h alone name
+unasked call Reported name alone h = h name
+unasked call (ReportedButFault blamed) name alone h = h name
+unasked call BadWords name alone h = h name
+unasked call (NoScript line c) name alone h = h name
+unasked call ReadFault name alone h = h name
+unasked call (ShelfFault blamed) name alone h = h name
+unasked call (NoDisk blamed) name alone h = h name
+unasked call (BadSize blamed) name alone h = h name
+unasked call LogFull name alone h = h name
+unasked call TooLong name alone h = h name
+unasked call (Answered found) name alone h = h name
+unasked call (NoTrace line) name alone h = h name
+
+pub asks_in_secret-refused : IsRefused AsksInSecret
+asks_in_secret-refused call mode plan ending wrong kept =
+    let none : NoneAskedAt call ending =
+    subst (λ (log : Option (List Entry)). IfNone log (NoneAskedAt call ending)) wrong.no_log kept.unasked in
+    wrong.asked (unasked call ending wrong.name wrong.words none)
+
+-- Of the first disk
+
+-- the disks of the plan, where the call reports one
+first_disk : (call : Call) (mode : Mode) (plan : Plan) (ending : Ending) (disk : DiskDecl) → (reports : ReportsDisk call disk)
+    → KeepsAll call mode plan ending → plan.disks ≡ disk ∷ reports.rest
+first_disk call mode plan ending disk reports kept =
+    let has_log =
+    by_report call mode plan ending (ends 0 call mode plan ending kept (λ e. omega (arith, e)) reports.status)
+    reports.words kept in
+    let as_step : StepMode ≡ mode = kept.read_as.mode_is StepMode reports.words in
+    let read : IsScript (script_of mode call.text) plan = (kept.is_opened has_log).parsed.script in
+    let good : IsScript (script_of StepMode call.text) plan =
+    subst (λ m. IsScript (script_of m call.text) plan) (sym as_step) read in
+    reports.text plan good
+
+-- the log of such a call
+log_of_first : (call : Call) (mode : Mode) (plan : Plan) (ending : Ending) (disk : DiskDecl) → (reports : ReportsDisk call disk)
+    → KeepsAll call mode plan ending → IsSome call.log
+log_of_first call mode plan ending disk reports kept =
+    by_report call mode plan ending (ends 0 call mode plan ending kept (λ e. omega (arith, e)) reports.status)
+    reports.words kept
+
+-- it holds and was asked what the log says, unless it was kept back
+first_kept : (plan : Plan) (disk : DiskDecl) (rest : List DiskDecl) (before after : ShelfView) (log : List Entry)
+    → plan.disks ≡ disk ∷ rest → DisksAreKept plan before after log → IsShelf disk.kind
+    → (IsKeptBack before after disk.name → ⊥)
+    → HoldsWhatIsLogged before after log (record { number = 0; decl = disk })
+first_kept plan disk rest before after log e all is given =
+    let moved : All (λ (d : PlannedDisk). IsDiskKept before after log d d.decl.kind)
+    (map planned_disk (enumerate_from 0 (disk ∷ rest))) =
+    subst (λ (ds : List DiskDecl). All (λ (d : PlannedDisk). IsDiskKept before after log d d.decl.kind)
+    (map planned_disk (enumerate_from 0 ds))) e all in
+    by disk.kind is (moved 0 (record { number = 0; decl = disk }) (omega arith))
+  where
+    by : (kind : DiskKind) → IsShelf kind → IsDiskKept before after log (record { number = 0; decl = disk }) kind
+        → HoldsWhatIsLogged before after log (record { number = 0; decl = disk })
+    by disk_kinds.Ram s h = absurd (let bad : false ≡ true = s in cc)
+    by disk_kinds.Shelf s h = h given
+
+otherwise : (call : Call) (mode : Mode) (plan : Plan) (ending : Ending) (wrong : AsksOtherwise call)
+    → KeepsAll call mode plan ending → (log : Option (List Entry)) → IsSome log
+    → IfSome log (DisksAreKept plan call.before.shelf call.after.shelf)
+    → IfSome log (λ l. call.after.shelf.asked_of wrong.disk.name
+    ≢ call.before.shelf.asked_of wrong.disk.name ++ calls_logged l 0) → ⊥
+otherwise call mode plan ending wrong kept None some disks other = let bad : ⊥ = cc in bad
+otherwise call mode plan ending wrong kept (Some l) some disks other =
+    other (first_kept plan wrong.disk wrong.reports.rest call.before.shelf call.after.shelf l
+    (first_disk call mode plan ending wrong.disk wrong.reports kept) disks wrong.reports.of_shelf wrong.given_back).asked
+
+pub asks_otherwise-refused : IsRefused AsksOtherwise
+asks_otherwise-refused call mode plan ending wrong kept =
+    otherwise call mode plan ending wrong kept call.log
+    (log_of_first call mode plan ending wrong.disk wrong.reports kept) kept.disks wrong.otherwise
+
+hidden : (call : Call) (mode : Mode) (plan : Plan) (ending : Ending) (wrong : HidesDiskFault call)
+    → KeepsAll call mode plan ending → (log : Option (List Entry)) → IsSome log
+    → IfSome log (DisksAreKept plan call.before.shelf call.after.shelf) → IfSome log (λ l. failures_of l 0 ≡ 0) → ⊥
+hidden call mode plan ending wrong kept None some disks none = let bad : ⊥ = cc in bad
+hidden call mode plan ending wrong kept (Some l) some disks none =
+    wrong.failed ((first_kept plan wrong.disk wrong.reports.rest call.before.shelf call.after.shelf l
+    (first_disk call mode plan ending wrong.disk wrong.reports kept) disks wrong.reports.of_shelf wrong.given_back).failures
+    ∙ ap (λ (k : ℕ). counted_many k (call.before.shelf.faults_of wrong.disk.name)) none)
+
+pub hides_disk_fault-refused : IsRefused HidesDiskFault
+hides_disk_fault-refused call mode plan ending wrong kept =
+    hidden call mode plan ending wrong kept call.log
+    (log_of_first call mode plan ending wrong.disk wrong.reports kept) kept.disks wrong.none_told
+
+pub invents_size-refused : IsRefused InventsSize
+invents_size-refused call mode plan ending wrong kept =
+    let sizes : All (HasFactSectors call.before.shelf call.after.shelf) (zip plan.disks call.facts) =
+    kept.sizes (log_of_first call mode plan ending wrong.disk wrong.reports kept) in
+    let disks : plan.disks ≡ wrong.disk ∷ wrong.reports.rest =
+    first_disk call mode plan ending wrong.disk wrong.reports kept in
+    let moved : All (HasFactSectors call.before.shelf call.after.shelf)
+    ((wrong.disk, (wrong.bytes, wrong.sectors)) ∷ zip wrong.reports.rest wrong.rest) =
+    rw (disks, wrong.facts) at sizes in
+    wrong.other (moved 0 (wrong.disk, (wrong.bytes, wrong.sectors)) (omega arith) wrong.reports.of_shelf wrong.given_back)
+
+-- what `hidden_calls_are_refused` says
+pub ruleset hidden_calls_are_refused = (
+  hides_write-refused,
+  hides_read-refused,
+  gives_again-refused,
+  takes_again-refused,
+  asks_in_secret-refused,
+  asks_otherwise-refused,
+  hides_disk_fault-refused,
+  invents_size-refused,
+)
