@@ -9,3 +9,4 @@ mod runs;
 mod tally;
 
 pub use print::{report, summary};
+pub use runs::add_runs;

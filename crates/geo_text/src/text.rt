@@ -1,5 +1,5 @@
 //! Bytes that are written one part behind the other.
-ghost use Rattle.std.specs.Prelude.{◌≡◌, ◌<◌, ◌++◌, ◌/◌, ◌%◌, [], ◌∷◌, OnOk, decimal};
+ghost use Rattle.std.specs.Prelude.{◌≡◌, ◌<◌, ◌++◌, ◌/◌, ◌%◌, [], ◌∷◌, IfOk, OnOk, decimal};
 ghost use Rattle.geo_base.specs.Runs.{hex_digit};
 
 use geo_base::{Block, NoMemory};
@@ -37,6 +37,15 @@ impl Text {
         Text {
             bytes: Vec::new(alloc),
         }
+    }
+
+    /// No text, with memory for so many bytes.
+    pub fn with_room(alloc: Global, bytes: usize) -> Result<Text, NoMemory>
+        ensures { IfOk result (λ text. text ≡ []) }
+    {
+        Ok(Text {
+            bytes: Vec::with_capacity(alloc, bytes)?,
+        })
     }
 
     /// These bytes behind the text.
