@@ -1,0 +1,12 @@
+use Rattle.std.proofs.Common.{List, ℕ, ◌≡◌, sym, subst, ap, ◌∙◌}
+use Rattle.geo_model.specs.Script.{words_of, next_word}
+use Rattle.geo_script.proofs.WordsLemmas.{next_word-cons}
+use Rattle.geo_headline.specs.Traces.{size_words}
+use Rattle.geo_verify.proofs.line.size_of_line.Goals as goal
+use Rattle.geo_verify.proofs.Marks.{read_size}
+
+pub returns : goal.returns
+returns c =
+    rw c.size_behind.ensures
+    (read_size c.args.sector c.args.line.now c.in_ok-word.word.now c.in_ok-word.words
+    (rw c.of.ensures at c.in_ok-word.ensures))
