@@ -1,5 +1,5 @@
 //! Bytes that are written one part behind the other.
-ghost use Rattle.std.specs.Prelude.{◌≡◌, ◌<◌, ◌++◌, ◌/◌, ◌%◌, [], ◌∷◌, IfOk, OnOk, decimal};
+ghost use Rattle.std.specs.Prelude.{◌≡◌, ◌<◌, ◌++◌, ◌/◌, ◌%◌, [], ◌∷◌, length, IfOk, OnOk, decimal};
 ghost use Rattle.geo_base.specs.Runs.{hex_digit};
 
 use geo_base::{Block, NoMemory};
@@ -46,6 +46,20 @@ impl Text {
         Ok(Text {
             bytes: Vec::with_capacity(alloc, bytes)?,
         })
+    }
+
+    /// The number of bytes.
+    pub fn len(&self) -> usize
+        ensures { result ≡ length self.now }
+    {
+        self.bytes.len()
+    }
+
+    /// The text is taken out; its memory stays.
+    pub fn clear(&mut self)
+        ensures { self.new ≡ [] }
+    {
+        self.bytes.clear();
     }
 
     /// These bytes behind the text.
