@@ -1,1 +1,4 @@
 pub mod Marks
+pub mod SizesRead
+pub mod StepsRead
+pub mod WrittenOut

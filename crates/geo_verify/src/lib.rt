@@ -3,5 +3,14 @@
 
 mod answer;
 mod cut;
+mod fits;
 mod line;
+mod place;
+mod refusal;
+mod sizes;
 mod step;
+mod steps;
+mod write;
+
+pub use refusal::VerifyRefusal;
+pub use write::trace_text;
