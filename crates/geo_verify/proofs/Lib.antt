@@ -2,3 +2,4 @@ pub mod Marks
 pub mod SizesRead
 pub mod StepsRead
 pub mod WrittenOut
+pub mod Makings

@@ -5,6 +5,7 @@ mod answer;
 mod cut;
 mod fits;
 mod line;
+mod make;
 mod place;
 mod refusal;
 mod sizes;

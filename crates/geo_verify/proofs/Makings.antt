@@ -1,0 +1,225 @@
+-- Steps that are made one after the other.
+use Rattle.std.specs.Prelude.{◌≡◌, ℕ, ◌+◌, ◌<◌, ◌≤◌, nat_lt, true, false, Bool, List, [], ◌∷◌, ◌++◌, length, Option, Some, None, Result, Ok, Err, IsErr, IsTrue, if◌then◌else◌}
+use Rattle.std.proofs.Common.{refl, sym, ◌∙◌, ap, arith, subst}
+use Rattle.std.proofs.lemmas.Bool.{le-ltb, lt-ltb}
+use Rattle.std.proofs.lemmas.List.{append_assoc, append-nil, length-append}
+use Rattle.geo_model.specs.declared.step.Entry.{Entry}
+use Rattle.geo_model.specs.declared.step.Outcome.{Outcome}
+use Rattle.geo_model.specs.declared.step.Step.{Step}
+use Rattle.geo_model.specs.Words.{same_name}
+use Rattle.geo_model.specs.World.{World}
+use Rattle.geo_model.specs.Log.{made, entry_by, replay, world_after, owed, log_limit, is_full, is_full_after}
+use Rattle.geo_model.specs.Step.{Answer, step}
+use Rattle.geo_model.specs.Fitting.{Firm}
+use Rattle.geo_laws_steps.proofs.Logs.{firm_after}
+use Rattle.geo_laws_traces.proofs.Owes.{owes_one_more, owes_few}
+use Rattle.geo_headline.specs.Traces.{read_steps, report_mark, parts_of, marked, seat_and_step, then_read}
+use Rattle.geo_core.specs.Mesh.{MeshView, opened, world_of, IsHistory, Made, Advances, entry_of}
+use Rattle.geo_core.specs.declared.refusal.ApplyRefusal.{ApplyRefusal}
+use Rattle.geo_core.specs.declared.refusal.ApplyRefusal.TheVariants as refusals
+use Rattle.geo_verify.specs.declared.place.Place.{Place}
+use Rattle.geo_verify.specs.Forms.{steps_from}
+use Rattle.geo_verify.specs.Making.{MakesSteps, Tries, TriesLine, stop_of}
+use Rattle.geo_verify.proofs.StepsRead.{Rest, line_read, mark_read}
+
+-- a log of few entries has a place for each step
+room_by : (n : ℕ) (w : World) (a : Answer) → n + 1 + owed (world_after w a) ≤ log_limit → is_full_after n a ≡ false
+room_by n w (Ok m) fits = le-ltb log_limit (n + 1 + owed m.0) fits
+room_by n w (Err found) fits = refl
+
+pub never_full : (m : MeshView) (seat : ℕ) (s : Step) → IsHistory m → length m.log ≤ 67108865
+    → is_full m.log (world_of m) seat s ≡ false
+unfolding is_full
+never_full m seat s history few =
+    let w : World = world_of m in
+    let firm : Firm w = firm_after m.plan m.facts history.plan history.facts m.log in
+    let all : owed w ≤ length m.log = owes_few m.plan m.facts history.plan history.facts m.log history.lawful.0 in
+    let one : owed (world_after w (step w seat s)) ≤ owed w + 1 = owes_one_more w seat s firm in
+    room_by (length m.log) w (step w seat s) (omega (arith, few, all, one))
+
+-- so no step of it is refused for want of one
+pub full_never : (result : Result (Unit {0}) ApplyRefusal) (old new : MeshView) (seat : ℕ) (s : Step) → IsHistory old
+    → length old.log ≤ 67108865 → result ≡ Err refusals.LogFull → Advances result old new seat s → ⊥
+full_never result old new seat s history few is advances =
+    let refuses : IsTrue (is_full old.log (world_of old) seat s) × (new ≡ old) =
+    subst (λ (x : Result (Unit {0}) ApplyRefusal). Advances x old new seat s) is advances in
+    let full : is_full old.log (world_of old) seat s ≡ true = refuses.0 in
+    let room = never_full old seat s history few in
+    let bad : true ≡ false = sym full ∙ room in
+    absurd (let none : ⊥ = cc in none)
+
+-- where a mesh stands that has made some of the steps of a trace, and what is left of them
+pub record Going (old now : MeshView) (start : Place) (number : ℕ) (rest : List ℕ) : Type 0 where
+  pub plan : now.plan ≡ old.plan
+  pub facts : now.facts ≡ old.facts
+  pub items : List (ℕ × Step)
+  pub left : List (ℕ × Step)
+  pub report : List ℕ
+  pub read : steps_from start ≡ Ok (items, report)
+  pub reads : read_steps number (parts_of rest) ≡ Ok (left, report)
+  pub makes : made (opened old) items ≡ now.log ++ made (world_of now) left
+  pub long : length items ≡ length now.log + length left
+  pub line : number ≡ start.line + length now.log
+
+-- none yet
+pub begins : (old : MeshView) (start : Place) (report : List ℕ) (items : List (ℕ × Step)) → old.log ≡ []
+    → steps_from start ≡ Ok (items, report) → Going old old start start.line start.text.now
+begins old start report items empty read = record {
+  plan = refl;
+  facts = refl;
+  items = items;
+  left = items;
+  report = report;
+  read = read;
+  reads = read;
+  makes = rw empty refl;
+  long = rw empty (omega arith);
+  line = rw empty (omega arith);
+}
+
+-- the steps that are read, and the report
+abbrev left_of : Result Rest ℕ → List (ℕ × Step)
+left_of (Ok more) = more.0
+left_of (Err n) = []
+
+abbrev report_of : Result Rest ℕ → List ℕ
+report_of (Ok more) = more.1
+report_of (Err n) = []
+
+-- behind the mark no step is left
+no_more : (left : List (ℕ × Step)) (report behind : List ℕ) (r : Result Rest ℕ) → r ≡ Ok (left, report)
+    → r ≡ Ok ([], behind) → left ≡ []
+no_more left report behind r is mark = ap left_of (sym is ∙ mark)
+
+pub ends : (old now : MeshView) (start : Place) (number : ℕ) (text line behind : List ℕ)
+    → Going old now start number text → parts_of text ≡ line ∷ parts_of behind → same_name line report_mark ≡ true
+    → MakesSteps old now start None
+ends old now start number text line behind going parts mark =
+    let none : going.left ≡ [] =
+    no_more going.left going.report behind (read_steps number (parts_of text)) going.reads
+    (mark_read number text line behind parts mark) in
+    let log : made (opened old) going.items ≡ now.log =
+    going.makes ∙ ap (λ (l : List (ℕ × Step)). now.log ++ made (world_of now) l) none ∙ append-nil now.log in
+    let long : length going.items ≡ length (made (opened old) going.items) =
+    going.long ∙ ap (λ (l : List (ℕ × Step)). length now.log + length l) none
+    ∙ (let same : length now.log + 0 ≡ length now.log = omega arith in same) ∙ ap length (sym log) in
+    record {
+      plan = going.plan;
+      facts = going.facts;
+      items = going.items;
+      report = going.report;
+      read = going.read;
+      log = sym log;
+      stops =
+          let all : nat_lt (length (made (opened old) going.items)) (length going.items) ≡ false =
+          le-ltb (length (made (opened old) going.items)) (length going.items) (omega (arith, long)) in
+          rw all refl;
+    }
+
+-- the step of the next line is the first that is left
+record IsNext (left : List (ℕ × Step)) (report : List ℕ) (item : ℕ × Step) (rest : Result Rest ℕ) : Type 0 where
+  further : List (ℕ × Step)
+  left_is : left ≡ item ∷ further
+  reads : rest ≡ Ok (further, report)
+
+next_is : (left : List (ℕ × Step)) (report : List ℕ) (item : ℕ × Step) (rest : Result Rest ℕ)
+    → then_read {A = Rest} {B = Rest} rest (λ more. Ok (item ∷ more.0, more.1)) ≡ Ok (left, report) → IsNext left report item rest
+next_is left report item (Ok more) is =
+    let same : (item ∷ more.0) ≡ left = ap left_of is in
+    let same_report : more.1 ≡ report = ap report_of is in
+    record { further = more.0; left_is = sym same; reads = ap (λ (x : List ℕ). Ok (more.0, x)) same_report }
+next_is left report item (Err n) is = absurd (let bad : ⊥ = cc in bad)
+
+next_step : (old now : MeshView) (start : Place) (number : ℕ) (text line behind : List ℕ) (item : ℕ × Step)
+    → (going : Going old now start number text) → parts_of text ≡ line ∷ parts_of behind
+    → same_name line report_mark ≡ false → marked seat_and_step line ≡ Ok item
+    → IsNext going.left going.report item (read_steps (number + 1) (parts_of behind))
+next_step old now start number text line behind item going parts other is =
+    next_is going.left going.report item (read_steps (number + 1) (parts_of behind))
+    (sym (line_read number text line behind item parts other is) ∙ going.reads)
+
+-- what a step that isn't enabled makes
+none_made : (item : ℕ × Step) (a : Answer) (log : List Entry) → IsErr a → entry_by item a log ≡ []
+none_made item (Ok m) log is = absurd (let bad : ⊥ = cc in bad)
+none_made item (Err found) log is = refl
+
+pub stops : (old now new : MeshView) (start : Place) (number : ℕ) (text line behind : List ℕ)
+    → Going old now start number text → parts_of text ≡ line ∷ parts_of behind → same_name line report_mark ≡ false
+    → TriesLine false now new line → MakesSteps old new start (Some number)
+stops old now new start number text line behind going parts other tries =
+    let item : ℕ × Step = tries.0 in
+    let next = next_step old now start number text line behind item going parts other tries.1.0 in
+    let none : made (world_of now) going.left ≡ [] =
+    ap (made (world_of now)) next.left_is
+    ∙ none_made item (step (world_of now) item.0 item.1)
+    (made (world_after (world_of now) (step (world_of now) item.0 item.1)) next.further) tries.1.1.0 in
+    let log : made (opened old) going.items ≡ now.log =
+    going.makes ∙ ap (λ (l : List Entry). now.log ++ l) none ∙ append-nil now.log in
+    let some : length going.left ≡ 1 + length next.further =
+    ap length next.left_is ∙ (let one : length (item ∷ next.further) ≡ 1 + length next.further = omega arith in one) in
+    let short : length (made (opened old) going.items) < length going.items =
+    omega (arith, going.long, some, ap length log) in
+    let line_is : number ≡ start.line + length (made (opened old) going.items) =
+    going.line ∙ ap (λ (l : List Entry). start.line + length l) (sym log) in
+    let same : new ≡ now = tries.1.1.1 in
+    subst (λ (m : MeshView). MakesSteps old m start (Some number)) (sym same)
+    (record {
+      plan = going.plan;
+      facts = going.facts;
+      items = going.items;
+      report = going.report;
+      read = going.read;
+      log = sym log;
+      stops =
+          let less : nat_lt (length (made (opened old) going.items)) (length going.items) ≡ true =
+          lt-ltb (length (made (opened old) going.items)) (length going.items) short in
+          rw less (ap Some line_is);
+    })
+
+-- a step was made
+entry_made : (item : ℕ × Step) (a : Answer) (w : World) (outcome : Outcome) (log : List Entry) → a ≡ Ok (w, outcome)
+    → entry_by item a log ≡ entry_of item.0 item.1 outcome ∷ log
+entry_made item a w outcome log is = rw is refl
+
+pub goes_on : (old now new : MeshView) (start : Place) (number : ℕ) (text line behind : List ℕ)
+    → Going old now start number text → parts_of text ≡ line ∷ parts_of behind → same_name line report_mark ≡ false
+    → TriesLine true now new line → Going old new start (number + 1) behind
+goes_on old now new start number text line behind going parts other tries =
+    let item : ℕ × Step = tries.0 in
+    let next = next_step old now start number text line behind item going parts other tries.1.0 in
+    let outcome : Outcome = tries.1.1.0 in
+    let one : Made now new item.0 item.1 outcome = tries.1.1.1 in
+    let e : Entry = entry_of item.0 item.1 outcome in
+    let w : World = world_of now in
+    let after : world_after w (step w item.0 item.1) ≡ world_of new = ap (world_after w) one.does in
+    let rest : made w going.left ≡ e ∷ made (world_of new) next.further =
+    ap (made w) next.left_is
+    ∙ entry_made item (step w item.0 item.1) (world_of new) outcome
+    (made (world_after w (step w item.0 item.1)) next.further) one.does
+    ∙ ap (λ (v : World). e ∷ made v next.further) after in
+    let log : new.log ≡ now.log ++ e ∷ [] = ap (λ (m : MeshView). m.log) one.logged in
+    let longer : length new.log ≡ length now.log + 1 = ap length log ∙ length-append now.log (e ∷ []) in
+    let some : length going.left ≡ 1 + length next.further =
+    ap length next.left_is ∙ (let more : length (item ∷ next.further) ≡ 1 + length next.further = omega arith in more) in
+    record {
+      plan = ap (λ (m : MeshView). m.plan) one.logged ∙ going.plan;
+      facts = ap (λ (m : MeshView). m.facts) one.logged ∙ going.facts;
+      items = going.items;
+      left = next.further;
+      report = going.report;
+      read = going.read;
+      reads = next.reads;
+      makes =
+          going.makes ∙ ap (λ (l : List Entry). now.log ++ l) rest
+          ∙ sym (append_assoc now.log (e ∷ []) (made (world_of new) next.further))
+          ∙ ap (λ (l : List Entry). l ++ made (world_of new) next.further) (sym log);
+      long = omega (arith, going.long, some, longer);
+      line = omega (arith, going.line, longer);
+    }
+
+-- the log has its entry
+pub log_longer : (now new : MeshView) (line : List ℕ) → TriesLine true now new line
+    → length new.log ≡ length now.log + 1
+log_longer now new line tries =
+    let e : Entry = entry_of tries.0.0 tries.0.1 tries.1.1.0 in
+    ap (λ (m : MeshView). length m.log) tries.1.1.1.logged ∙ length-append now.log (e ∷ [])
