@@ -1,5 +1,5 @@
 -- What the run of a plan needs and gives, where the disks are read from the plan.
-use Rattle.std.proofs.Common.{◌≡◌, ℕ, List, map, Option, None, refl, sym, ◌∙◌, ap, subst, All}
+use Rattle.std.proofs.Common.{◌≡◌, ℕ, List, map, Option, None, sym, ◌∙◌, ap, subst, All}
 use Rattle.std.proofs.lemmas.List.Elements.{recursion_from_All}
 use Rattle.geo_log.specs.Room.{Room}
 use Rattle.geo_model.specs.declared.command.DiskDecl.{DiskDecl}

@@ -1,5 +1,5 @@
 -- Takes and gives that failed, each once.
-use Rattle.std.proofs.Common.{◌≡◌, ◌≢◌, ◌⊎◌, ℕ, Bool, true, false, ◌||◌, List, [], ◌∷◌, ◌++◌, Option, None, refl, sym, ◌∙◌, ap, subst, inl, inr, arith, bytes_eq}
+use Rattle.std.proofs.Common.{◌≡◌, ◌≢◌, ◌⊎◌, ℕ, Bool, true, ◌||◌, List, [], ◌∷◌, ◌++◌, None, sym, ◌∙◌, ap, subst, inl, inr, arith, bytes_eq}
 use Rattle.std.specs.List.{list_any}
 use Rattle.geo_disk.specs.Counts.{counted_if}
 use Rattle.geo_model.specs.declared.command.DiskDecl.{DiskDecl}
@@ -10,9 +10,9 @@ use Rattle.geo_headline.specs.Endings.{Ending, Reported, ReportedButFault, BadWo
 use Rattle.geo_headline.specs.Headline.{TakesAreToldAt}
 use Rattle.geo_run.specs.Drives.{DriveView}
 use Rattle.geo_run.specs.Lending.{AreApart, GivesDrive, names_of}
-use Rattle.geo_run.proofs.Tests.{other-among, other_names, same_itself, same_or_other}
+use Rattle.geo_run.proofs.Tests.{other_names, same_itself, same_or_other}
 use Rattle.geo_run.proofs.Taking.{foreign_from}
-use Rattle.geo_run.proofs.Giving.{GivesAll, gives_stay, kept_other}
+use Rattle.geo_run.proofs.Giving.{GivesAll, gives_stay}
 
 -- of each name that is kept one give failed, and of each other none
 pub gives_told : (a b : ShelfView) (ds : List DiskDecl) (xs : List DriveView) (kept : List (List ℕ)) (name : List ℕ)

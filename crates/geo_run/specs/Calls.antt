@@ -1,5 +1,5 @@
 -- The calls of the program as they are seen from outside.
-use Rattle.std.specs.Prelude.{◌≡◌, ◌≢◌, ◌⊎◌, ℕ, ◌<◌, ◌≤◌, List, [], ◌++◌, drop, length, None, Result, Ok, Err, IfSome, IfNone, IsSome, IsSomeAnd, IsTrue, ⊤}
+use Rattle.std.specs.Prelude.{◌≡◌, ◌≢◌, ◌⊎◌, ℕ, ◌<◌, ◌≤◌, List, [], ◌++◌, drop, length, None, Result, Ok, Err, IfSome, IfNone, IsSome, IsSomeAnd, IsTrue}
 use Rattle.geo_base.specs.Faults.{Rose}
 use Rattle.geo_headline.specs.Modes.{Mode, StartsThreads, source_limit}
 use Rattle.geo_model.specs.Script.{Fault, script}
