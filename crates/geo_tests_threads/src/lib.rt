@@ -5,3 +5,5 @@
 mod lane;
 #[cfg(test)]
 mod lock;
+#[cfg(test)]
+mod mesh;
