@@ -1,15 +1,14 @@
 -- How the heads of disks, and what waits for them, follow one entry of the log.
-use Rattle.std.specs.Prelude.{◌≡◌, ◌≢◌, ℕ, zero, suc, ◌+◌, ◌<◌, ◌≤◌, ◌==◌, nat_lt, Bool, true, false, not, ◌&&◌, List, [], ◌∷◌, ◌++◌, find, filter, map, length, Option, Some, None, Ok, IsTrue, All, MatchOption, slice_get, slice_set, if◌then◌else◌}
+use Rattle.std.specs.Prelude.{◌≡◌, ◌≢◌, ℕ, zero, suc, ◌+◌, ◌<◌, ◌≤◌, ◌==◌, nat_lt, Bool, true, false, not, ◌&&◌, List, [], ◌∷◌, ◌++◌, find, filter, map, Option, Some, None, Ok, IsTrue, MatchOption, slice_get, slice_set, if◌then◌else◌}
 use Rattle.std.specs.List.{AllByRecursion, range_with_len}
-use Rattle.std.proofs.Common.{refl, sym, ◌∙◌, ap, subst, arith, inl, inr}
-use Rattle.std.proofs.lemmas.Bool.{cases_eq, eqb-true, eq-eqb, ne_eqb, ltb-true}
+use Rattle.std.proofs.Common.{refl, sym, ◌∙◌, ap, subst, arith}
+use Rattle.std.proofs.lemmas.Bool.{eq-eqb, ne_eqb, ltb-true}
 use Rattle.std.proofs.lemmas.List.Elements.{recursion_from_All}
 use Rattle.std.proofs.lemmas.List.Sums.{fold-append}
 use Rattle.geo_model.specs.declared.step.Entry.{Entry}
 use Rattle.geo_model.specs.declared.step.Outcome.{Outcome}
 use Rattle.geo_model.specs.declared.step.Outcome.TheVariants as outcomes
 use Rattle.geo_model.specs.declared.step.Request.{Request}
-use Rattle.geo_model.specs.declared.step.Step.{Step}
 use Rattle.geo_model.specs.declared.step.Step.TheVariants as steps
 use Rattle.geo_model.specs.Words.{is_flush}
 use Rattle.geo_model.specs.World.{World, Bio}
@@ -64,7 +63,7 @@ module _ {X : Type 0} (f g : ℕ → X) where
       rw (same low (λ e. omega (arith, e, is)), none_there i (low + 1) n k (omega (arith, is)) same here) refl
 
 -- one disk changes, and the others are the same
-change_one : (f g : ℕ → DiskHead) (R : DiskHead → DiskHead → Type 0) (i n : ℕ) → ((j : ℕ) → j ≢ i → f j ≡ g j)
+pub change_one : (f g : ℕ → DiskHead) (R : DiskHead → DiskHead → Type 0) (i n : ℕ) → ((j : ℕ) → j ≢ i → f j ≡ g j)
     → ((e : DiskHead) → R (f i) e → e ≡ g i) → (new : List DiskHead)
     → ChangesOne i R (map f (range_with_len 0 n)) new → new ≡ map g (range_with_len 0 n)
 change_one f g R i n same gives new changes = by (slice_get (map f (range_with_len 0 n)) i) refl changes

@@ -4,3 +4,6 @@ pub mod Entries
 pub mod Kept
 pub mod Following
 pub mod Walking
+pub mod Spots
+pub mod Histories
+pub mod Gathered

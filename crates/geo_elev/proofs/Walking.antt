@@ -1,19 +1,12 @@
 -- What waits for a disk, gathered by a walk over the bios in order of numbers.
-use Rattle.std.specs.Prelude.{◌≡◌, ℕ, ◌+◌, ◌<◌, ◌≤◌, nat_le, nat_lt, Bool, true, false, List, [], ◌∷◌, ◌++◌, find, filter, map, Option, Some, None, if◌then◌else◌}
+use Rattle.std.specs.Prelude.{◌≡◌, ℕ, ◌+◌, ◌<◌, ◌≤◌, nat_le, nat_lt, Bool, true, false, List, [], ◌∷◌, ◌++◌, find, filter, map, Some, None, if◌then◌else◌}
 use Rattle.std.proofs.Common.{refl, sym, ◌∙◌, ap, subst, arith}
 use Rattle.std.proofs.lemmas.Bool.{leb-true, leb-false, lt-ltb, le-ltb, ltb-true}
 use Rattle.geo_model.specs.World.{World, Bio}
-use Rattle.geo_headline.specs.Sweep.{Waiting, waiting_of, is_sent_to}
+use Rattle.geo_headline.specs.Sweep.{waiting_of, is_sent_to}
 use Rattle.geo_laws_graph.proofs.Lists.{Rise}
 use Rattle.geo_elev.specs.Lists.{are_below}
-
--- the bios with smaller numbers
-abbrev pub below : ℕ → List Bio → List Bio
-below n xs = filter (λ x. nat_lt x.number n) xs
-
--- of those that wait for a disk, what has smaller numbers
-abbrev pub waiting_below : World → ℕ → ℕ → List Waiting
-waiting_below w n disk = map (waiting_of w) (filter (is_sent_to w disk) (below n w.bios))
+use Rattle.geo_elev.specs.Gathering.{below}
 
 -- those whose numbers rise
 abbrev Rising : ℕ → List Bio → ℕ → Type 0
@@ -32,7 +25,7 @@ high_none n low high (x ∷ xs) rise most =
     (high_none n (x.number + 1) high xs rise.2 (omega (arith, rise.0, most)))
 
 -- what is found passes
-found_passes : (test : Bio → Bool) (y : Bio) (xs : List Bio) → find test xs ≡ Some y → test y ≡ true
+pub found_passes : (test : Bio → Bool) (y : Bio) (xs : List Bio) → find test xs ≡ Some y → test y ≡ true
 found_passes test y [] found = absurd (let bad : ⊥ = cc in bad)
 found_passes test y (x ∷ xs) found = by (test x) refl (found_passes test y xs)
   where

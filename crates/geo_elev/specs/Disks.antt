@@ -18,10 +18,10 @@ asked_of q bio d = record { head = moved q d.head; waiting = without bio d.waiti
 abbrev pub Moves : Request → DiskHead → DiskHead → Type 0
 Moves q d e = e ≡ record d { head = moved q d.head }
 
--- one more waits, behind all; or as before
+-- one more waits, behind all; or as before, where not all have smaller numbers
 abbrev pub Queues : Bool → Waiting → DiskHead → DiskHead → Type 0
 Queues true x d e = IsTrue (are_below x.bio d.waiting) × (e ≡ record d { waiting = d.waiting ++ x ∷ [] })
-Queues false x d e = e ≡ d
+Queues false x d e = (are_below x.bio d.waiting ≡ false) × (e ≡ d)
 
 -- one disk changes so, if there is one of this number
 abbrev pub ChangesOne : ℕ → (DiskHead → DiskHead → Type 0) → List DiskHead → List DiskHead → Type 0

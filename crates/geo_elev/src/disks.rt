@@ -42,7 +42,8 @@ fn ask(disk: &mut DiskHead, request: &Request, bio: BioId) -> Result<(), NoMemor
 
 /// The disk of a request was asked, which moves its head alone.
 pub fn move_head(disks: &mut [DiskHead], request: &Request)
-    ensures { ChangesOne request.now.disk (Moves request.now) disks.old disks.new }
+    ensures moves { ChangesOne request.now.disk (Moves request.now) disks.old disks.new }
+    ensures length { length disks.new ≡ length disks.old }
 {
     let at = request.disk as usize;
     if at < disks.len() {

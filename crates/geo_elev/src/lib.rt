@@ -3,9 +3,13 @@
 #![tactic(auto)]
 
 mod disks;
+mod elevator;
+mod gathering;
+mod heads;
 mod lists;
 mod queue;
 
 pub use disks::DiskHead;
+pub use elevator::Heads;
 pub use lists::Place;
 pub use queue::Queue;

@@ -1,0 +1,240 @@
+-- The heads of disks, and what waits for them, gathered anew.
+use Rattle.std.specs.Prelude.{◌≡◌, ℕ, zero, suc, ◌+◌, ◌<◌, ◌≤◌, nat_le, Bool, true, false, not, ◌&&◌, List, [], ◌∷◌, ◌++◌, find, filter, map, length, Option, Some, None, option_map, slice_set, if◌then◌else◌}
+use Rattle.std.specs.List.{range_with_len}
+use Rattle.std.proofs.Common.{refl, sym, ◌∙◌, ap, subst, arith}
+use Rattle.std.proofs.lemmas.Bool.{eq-eqb, ne_eqb, leb-true}
+use Rattle.std.proofs.lemmas.List.Sums.{fold-append}
+use Rattle.geo_model.specs.declared.step.Entry.{Entry}
+use Rattle.geo_model.specs.declared.step.Outcome.{Outcome}
+use Rattle.geo_model.specs.declared.step.Outcome.TheVariants as outcomes
+use Rattle.geo_model.specs.declared.step.Request.{Request}
+use Rattle.geo_model.specs.Words.{is_flush}
+use Rattle.geo_model.specs.World.{World, Bio, bio_at}
+use Rattle.geo_model.specs.Fitting.{Firm}
+use Rattle.geo_headline.specs.Sweep.{Waiting, waiting_of, is_sent_to, head_after, head_of}
+use Rattle.geo_laws_graph.proofs.Lists.{Rise, rise-from, found_itself}
+use Rattle.geo_laws_graph.proofs.Members.{find-Contains}
+use Rattle.geo_laws_steps.proofs.Logs.{firm_after}
+use Rattle.geo_core.specs.declared.sent.Spot.{Spot}
+use Rattle.geo_core.specs.Sent.{spot_in, spot_of}
+use Rattle.geo_core.specs.Mesh.{MeshView, IsHistory, world_of}
+use Rattle.geo_elev.specs.declared.disks.DiskHead.{DiskHead}
+use Rattle.geo_elev.specs.Lists.{are_below, one_at}
+use Rattle.geo_elev.specs.Disks.{ChangesOne, Moves, Queues}
+use Rattle.geo_elev.specs.Heads.{disk_head, disk_heads, no_head}
+use Rattle.geo_elev.specs.Following.{place_of}
+use Rattle.geo_elev.specs.Gathering.{below, waiting_below, bare_head, bare_heads, head_below, heads_below, Puts}
+use Rattle.geo_elev.proofs.Following.{all_same, change_one}
+use Rattle.geo_elev.proofs.Spots.{spot_says, no_spot_says}
+use Rattle.geo_elev.proofs.Walking.{none_below, below_more, all_below, one_more, gathered_below, found_passes}
+
+-- Forgetting
+
+-- so many of the disks are forgotten
+abbrev pub gone : ℕ → List DiskHead → List DiskHead
+gone zero xs = xs
+gone (suc n) [] = []
+gone (suc n) (x ∷ xs) = no_head 0 ∷ gone n xs
+
+-- one more
+gone_one : (n : ℕ) (xs : List DiskHead) → slice_set (gone n xs) n (no_head 0) ≡ gone (suc n) xs
+gone_one zero [] = refl
+gone_one zero (x ∷ xs) = refl
+gone_one (suc n) [] = refl
+gone_one (suc n) (x ∷ xs) = ap (λ ys. no_head 0 ∷ ys) (gone_one n xs)
+
+pub gone_next : (n : ℕ) (xs : List DiskHead) → slice_set (gone n xs) n (no_head 0) ≡ gone (n + 1) xs
+gone_next n xs = let next : suc n ≡ n + 1 = omega arith in gone_one n xs ∙ ap (λ k. gone k xs) next
+
+-- they are as many
+pub gone_length : (n : ℕ) (xs : List DiskHead) → length (gone n xs) ≡ length xs
+gone_length zero xs = refl
+gone_length (suc n) [] = refl
+gone_length (suc n) (x ∷ xs) = ap suc (gone_length n xs)
+
+-- all
+pub gone_all : (n low : ℕ) (xs : List DiskHead) → length xs ≤ n → gone n xs ≡ map no_head (range_with_len low (length xs))
+gone_all zero low [] most = refl
+gone_all zero low (x ∷ xs) most = absurd (omega (arith, most))
+gone_all (suc n) low [] most = refl
+gone_all (suc n) low (x ∷ xs) most = ap (λ ys. no_head 0 ∷ ys) (gone_all n (low + 1) xs (omega (arith, most)))
+
+-- The heads of a log
+
+module _ (log : List Entry) (e : Entry) (n : ℕ) where
+  head_then : (disk : ℕ) → head_of (log ++ e ∷ []) disk ≡ head_after disk (head_of log disk) e.outcome
+  head_then disk = fold-append (λ head (x : Entry). head_after disk head x.outcome) 0 log (e ∷ [])
+
+  bare_same : (o : Outcome) → e.outcome ≡ o → (disk : ℕ) → head_after disk (head_of log disk) o ≡ head_of log disk
+      → bare_head log disk ≡ bare_head (log ++ e ∷ []) disk
+  bare_same o is disk same =
+      ap (λ (k : ℕ). record { head = k; waiting = [] })
+      (sym (head_then disk ∙ ap (head_after disk (head_of log disk)) is ∙ same))
+
+  -- a request moves the head of its disk
+  pub moved_then : (q : Request) → e.outcome ≡ outcomes.Asked q → (new : List DiskHead)
+      → ChangesOne q.disk (Moves q) (bare_heads log n) new → new ≡ bare_heads (log ++ e ∷ []) n
+  moved_then q is new does =
+      change_one (bare_head log) (bare_head (log ++ e ∷ [])) (Moves q) q.disk n
+      (λ j other. bare_same (outcomes.Asked q) is j
+      (ap (λ (c : Bool). if c && not (is_flush q.cmd) then q.first else head_of log j)
+      (ne_eqb q.disk j (λ same. other (sym same)))))
+      (λ y so. so ∙ ap (λ (k : ℕ). record { head = k; waiting = [] })
+      (sym (head_then q.disk ∙ ap (head_after q.disk (head_of log q.disk)) is
+      ∙ ap (λ (c : Bool). if c && not (is_flush q.cmd) then q.first else head_of log q.disk)
+      (eq-eqb q.disk q.disk refl)))) new does
+
+  -- another outcome moves none
+  pub still_then : ((q : Request) → e.outcome ≡ outcomes.Asked q → ⊥) → bare_heads log n ≡ bare_heads (log ++ e ∷ []) n
+  still_then not_asked = all_same (bare_head log) (bare_head (log ++ e ∷ [])) (λ j. by j e.outcome refl) 0 n
+    where
+      by : (j : ℕ) (o : Outcome) → e.outcome ≡ o → bare_head log j ≡ bare_head (log ++ e ∷ []) j
+      by j (outcomes.Asked q) is = absurd (not_asked q is)
+      by j (outcomes.Queued d) is = bare_same (outcomes.Queued d) is j refl
+      by j (outcomes.Replied line reply) is = bare_same (outcomes.Replied line reply) is j refl
+      by j (outcomes.Accepted line bio) is = bare_same (outcomes.Accepted line bio) is j refl
+      by j (outcomes.Reading bio) is = bare_same (outcomes.Reading bio) is j refl
+      by j outcomes.Ran is = bare_same outcomes.Ran is j refl
+      by j (outcomes.Split first count) is = bare_same (outcomes.Split first count) is j refl
+      by j outcomes.Bounced is = bare_same outcomes.Bounced is j refl
+      by j outcomes.Delivered is = bare_same outcomes.Delivered is j refl
+      by j (outcomes.Gathered parent complete) is = bare_same (outcomes.Gathered parent complete) is j refl
+      by j outcomes.TasteBack is = bare_same outcomes.TasteBack is j refl
+
+-- The walk
+
+-- the bio of a number that was found
+found_as : (b : ℕ) (o : Option Bio) → Some b ≡ option_map (λ x. x.number) o → (y : Bio) × (o ≡ Some y) × (y.number ≡ b)
+found_as b None is = absurd (let bad : ⊥ = cc in bad)
+found_as b (Some y) is = (y, refl, cc)
+
+module _ (m : MeshView) (history : IsHistory m) where
+  abbrev w : World
+  w = world_of m
+
+  firm : Firm w
+  firm = firm_after m.plan m.facts history.plan history.facts m.log
+
+  rising : Rise 0 (map (λ (x : Bio). x.number) w.bios) w.next_bio
+  rising = rise-from w.next_bio (map (λ (x : Bio). x.number) w.bios) firm.sound.numbers.bios
+
+  -- none is gathered at first
+  pub walk_begins : (log : List Entry) (n : ℕ) → bare_heads log n ≡ heads_below w log 0 n
+  walk_begins log n =
+      all_same (bare_head log) (head_below w log 0)
+      (λ j. ap (λ (xs : List Bio). record { head = head_of log j; waiting = map (waiting_of w) (filter (is_sent_to w j) xs) })
+      (sym (none_below w.bios))) 0 n
+
+  -- all are at the end
+  pub walk_ends : (from : ℕ) → None ≡ option_map (λ (x : Bio). x.number) (find (λ x. nat_le from x.number) w.bios)
+      → (log : List Entry) (n : ℕ) → heads_below w log from n ≡ disk_heads w log n
+  walk_ends from is log n =
+      all_same (head_below w log from) (disk_head w log)
+      (λ j. ap (λ (xs : List Bio). record { head = head_of log j; waiting = map (waiting_of w) (filter (is_sent_to w j) xs) })
+      (all_below from w.bios (none_found (find (λ x. nat_le from x.number) w.bios) is))) 0 n
+    where
+      none_found : (o : Option Bio) → None ≡ option_map (λ (x : Bio). x.number) o → o ≡ None
+      none_found None is = refl
+      none_found (Some y) is = absurd (let bad : ⊥ = cc in bad)
+
+  module _ (from b : ℕ) (next : Some b ≡ option_map (λ (x : Bio). x.number) (find (λ x. nat_le from x.number) w.bios)) where
+    found : (y : Bio) × (find (λ x. nat_le from x.number) w.bios ≡ Some y) × (y.number ≡ b)
+    found = found_as b (find (λ x. nat_le from x.number) w.bios) next
+
+    abbrev y : Bio
+    y = found.0
+
+    -- it isn't below
+    pub not_before : from ≤ b
+    not_before =
+        subst (λ (k : ℕ). from ≤ k) found.2
+        (leb-true from y.number (found_passes (λ (x : Bio). nat_le from x.number) y w.bios found.1))
+
+    -- it is the bio of its number
+    here : bio_at w b ≡ Some y
+    here =
+        subst (λ (k : ℕ). bio_at w k ≡ Some y) found.2
+        (found_itself (λ (x : Bio). x.number) w.next_bio w.bios y firm.sound.numbers.bios
+        (find-Contains (λ (x : Bio). nat_le from x.number) w.bios y found.1))
+
+    -- its number was given out
+    pub was_given : b < w.next_bio
+    was_given =
+        subst (λ (k : ℕ). k < w.next_bio) found.2 (within 0 w.bios rising found.1)
+      where
+        within : (low : ℕ) (xs : List Bio) → Rise low (map (λ (x : Bio). x.number) xs) w.next_bio
+            → find (λ x. nat_le from x.number) xs ≡ Some y → y.number < w.next_bio
+        within low [] rise is = absurd (let bad : ⊥ = cc in bad)
+        within low (x ∷ xs) rise is = by (nat_le from x.number) refl (within (x.number + 1) xs rise.2)
+          where
+            by : (c : Bool) → nat_le from x.number ≡ c
+                → (find (λ z. nat_le from z.number) xs ≡ Some y → y.number < w.next_bio) → y.number < w.next_bio
+            by true e rest =
+                let it : x ≡ y = let so : Some x ≡ Some y = rw e at is in cc in
+                subst (λ (z : Bio). z.number < w.next_bio) it rise.1
+            by false e rest = rest (rw e at is)
+
+    append_nil : (xs : List Waiting) → xs ++ [] ≡ xs
+    append_nil [] = refl
+    append_nil (x ∷ xs) = ap (λ zs. x ∷ zs) (append_nil xs)
+
+    -- what was gathered then
+    then_waits : (disk : ℕ) (c : Bool) → is_sent_to w disk y ≡ c
+        → waiting_below w (b + 1) disk ≡ waiting_below w from disk ++ (if c then waiting_of w y ∷ [] else [])
+    then_waits disk c e =
+        ap (λ (xs : List Bio). map (waiting_of w) (filter (is_sent_to w disk) xs))
+        (subst (λ (k : ℕ). below (k + 1) w.bios ≡ below from w.bios ++ y ∷ []) found.2
+        (below_more from 0 w.next_bio y w.bios rising found.1))
+        ∙ one_more w disk y c e (below from w.bios)
+
+    not_there : (log : List Entry) (disk : ℕ) → is_sent_to w disk y ≡ false
+        → head_below w log from disk ≡ head_below w log (b + 1) disk
+    not_there log disk e =
+        ap (λ (xs : List Waiting). record { head = head_of log disk; waiting = xs })
+        (sym (then_waits disk false e ∙ append_nil (waiting_below w from disk)))
+
+    -- the bio is put in
+    pub walk_goes_on : (log : List Entry) (n : ℕ) (new : List DiskHead) → Puts (spot_of w b) b (heads_below w log from n) new
+        → new ≡ heads_below w log (b + 1) n
+    walk_goes_on log n new puts = by (spot_in w.topology y) refl
+      where
+        spot_is : spot_of w b ≡ spot_in w.topology y
+        spot_is = rw here refl
+
+        by : (o : Option Spot) → spot_in w.topology y ≡ o → new ≡ heads_below w log (b + 1) n
+        by None e =
+            let did : new ≡ heads_below w log from n =
+            subst (λ (o : Option Spot). Puts o b (heads_below w log from n) new) (spot_is ∙ e) puts in
+            did ∙ all_same (head_below w log from) (head_below w log (b + 1)) (λ j. not_there log j (no_spot_says w y e j)) 0 n
+        by (Some spot) e =
+            let did : Puts (Some spot) b (heads_below w log from n) new =
+            subst (λ (o : Option Spot). Puts o b (heads_below w log from n) new) (spot_is ∙ e) puts in
+            let says = spot_says w y spot e in
+            let one : waiting_of w y ≡ one_at b (place_of spot) =
+            says.1 ∙ ap (λ (k : ℕ). one_at k (place_of spot)) found.2 in
+            change_one (head_below w log from) (head_below w log (b + 1)) (Queues did.0 (one_at b (place_of spot))) spot.disk n
+            (λ j other. not_there log j (says.0 j ∙ ne_eqb spot.disk j (λ same. other (sym same))))
+            (λ z so. this spot (says.0 spot.disk ∙ eq-eqb spot.disk spot.disk refl) one z did.0 so) new did.1
+          where
+            this : (spot : Spot) → is_sent_to w spot.disk y ≡ true → waiting_of w y ≡ one_at b (place_of spot) → (z : DiskHead)
+                (c : Bool) → Queues c (one_at b (place_of spot)) (head_below w log from spot.disk) z
+                → z ≡ head_below w log (b + 1) spot.disk
+            this spot sent one z true so =
+                so.1 ∙ ap (λ (xs : List Waiting). record { head = head_of log spot.disk; waiting = xs })
+                (ap (λ (x : Waiting). waiting_below w from spot.disk ++ x ∷ []) (sym one)
+                ∙ sym (then_waits spot.disk true sent))
+            this spot sent one z false so =
+                absurd (let low : are_below b (waiting_below w from spot.disk) ≡ true =
+                gathered_below w spot.disk from b w.bios not_before in
+                let bad : ⊥ = cc (so.0, low) in bad)
+
+-- Forgotten from the first on
+
+-- one more of which nothing is known
+none_more : (low n : ℕ) → map no_head (range_with_len low n) ++ no_head 0 ∷ [] ≡ map no_head (range_with_len low (suc n))
+none_more low zero = refl
+none_more low (suc n) = ap (λ ds. no_head 0 ∷ ds) (none_more (low + 1) n)
+
+pub none_one : (n : ℕ) → map no_head (range_with_len 0 n) ++ no_head 0 ∷ [] ≡ map no_head (range_with_len 0 (n + 1))
+none_one n =
+    let next : suc n ≡ n + 1 = omega arith in none_more 0 n ∙ ap (λ k. map no_head (range_with_len 0 k)) next

@@ -1,0 +1,193 @@
+-- How the heads of disks, and what waits for them, follow the log of a mesh.
+use Rattle.std.specs.Prelude.{◌≡◌, ℕ, zero, suc, ◌+◌, ◌<◌, ◌≤◌, ◌==◌, Bool, true, false, List, [], ◌∷◌, ◌++◌, Result, Ok, Err, Some, IfOk, IsOkAnd, IsTrue, drop, get_or, length, slice_get, take}
+use Rattle.std.specs.List.{AllByRecursion}
+use Rattle.std.proofs.Common.{refl, sym, ◌∙◌, ap, subst, arith}
+use Rattle.std.proofs.lemmas.Bool.{eqb-true}
+use Rattle.std.proofs.lemmas.List.FromFn.{length-map-range_with_len}
+use Rattle.std.proofs.Math.Seq.{take-append_seam}
+use Rattle.geo_model.specs.declared.step.Entry.{Entry}
+use Rattle.geo_model.specs.declared.step.Outcome.{Outcome}
+use Rattle.geo_model.specs.declared.step.Outcome.TheVariants as outcomes
+use Rattle.geo_model.specs.declared.step.Request.{Request}
+use Rattle.geo_model.specs.World.{World}
+use Rattle.geo_model.specs.Step.{Answer, step}
+use Rattle.geo_model.specs.Log.{IsPrefixOf, Legal, after_entry, world_after, replay}
+use Rattle.geo_model.specs.Fitting.{Firm}
+use Rattle.geo_model.proofs.LogLemmas.{replay-append, Legal-back}
+use Rattle.geo_laws_steps.proofs.Logs.{firm_after}
+use Rattle.geo_headline.specs.Sweep.{waiting_for, head_of, head_after}
+use Rattle.geo_laws_sweep.specs.SweepLaws.{is_queued, is_asked}
+use Rattle.geo_core.specs.Sent.{spot_of}
+use Rattle.geo_core.specs.Mesh.{MeshView, IsHistory, opened, world_of}
+use Rattle.geo_elev.specs.declared.disks.DiskHead.{DiskHead}
+use Rattle.geo_elev.specs.Lists.{one_at}
+use Rattle.geo_elev.specs.Heads.{AreHeads, HeadsView, disk_head, disk_heads}
+use Rattle.geo_elev.specs.Following.{ComesAfter, Followed, Starts, Takes, heads_at, is_quiet, place_of}
+use Rattle.geo_elev.proofs.Following.{all_stay, asked_then, queued_then}
+use Rattle.geo_elev.proofs.Spots.{spot_waits}
+
+-- what holds where all went well, by what does
+pub if_ok : {A E : Type 0} (P Q : A → Type 0) (r : Result A E) → ((a : A) → P a → Q a) → IfOk r P → IfOk r Q
+if_ok P Q (Ok a) gives is = gives a is
+if_ok P Q (Err e) gives is = tt
+
+-- an answer that is made as the entry says
+made_so : (w : World) (o : Outcome) (a : Answer) → IsOkAnd a (λ made. made.1 ≡ o) → a ≡ Ok (world_after w a, o)
+made_so w o (Ok made) is = ap (λ (x : Outcome). Ok (made.0, x)) is
+made_so w o (Err found) is = absurd is
+
+module _ (m : MeshView) (history : IsHistory m) (seen : List Entry) (e : Entry) (is_last : Bool)
+    (comes : ComesAfter m.log seen e is_last) (n : ℕ) where
+  -- the world before the entry
+  abbrev w : World
+  w = replay (opened m) seen
+
+  firm : Firm w
+  firm = firm_after m.plan m.facts history.plan history.facts seen
+
+  made : step w e.seat e.step ≡ Ok (after_entry w e, e.outcome)
+  made =
+      made_so w e.outcome (step w e.seat e.step)
+      (Legal-back (opened m) seen (e ∷ comes.later)
+      (subst (λ (log : List Entry). Legal (opened m) log) comes.split history.lawful.0)).0
+
+  -- the heads after it
+  then_at : disk_heads (after_entry w e) (seen ++ e ∷ []) n ≡ heads_at (opened m) (seen ++ e ∷ []) n
+  then_at = ap (λ (v : World). disk_heads v (seen ++ e ∷ []) n) (sym (replay-append (opened m) seen (e ∷ [])))
+
+  -- an outcome that neither asks nor queues
+  pub quiet_then : is_quiet e.outcome ≡ true → heads_at (opened m) seen n ≡ heads_at (opened m) (seen ++ e ∷ []) n
+  quiet_then quiet = by e.outcome refl quiet
+    where
+      stay : (o : Outcome) → e.outcome ≡ o
+          → ((disk : ℕ) → (is_queued disk o ≡ false) × (is_asked disk o ≡ false)
+          × (head_after disk (head_of seen disk) o ≡ head_of seen disk))
+          → heads_at (opened m) seen n ≡ heads_at (opened m) (seen ++ e ∷ []) n
+      stay o is still = all_stay w firm seen e made n o is still ∙ then_at
+
+      by : (o : Outcome) → e.outcome ≡ o → is_quiet o ≡ true
+          → heads_at (opened m) seen n ≡ heads_at (opened m) (seen ++ e ∷ []) n
+      by (outcomes.Asked q) is wrong = absurd (let bad : ⊥ = cc in bad)
+      by (outcomes.Queued d) is wrong = absurd (let bad : ⊥ = cc in bad)
+      by (outcomes.Replied line reply) is yes_quiet = stay (outcomes.Replied line reply) is (λ d. (refl, refl, refl))
+      by (outcomes.Accepted line bio) is yes_quiet = stay (outcomes.Accepted line bio) is (λ d. (refl, refl, refl))
+      by (outcomes.Reading bio) is yes_quiet = stay (outcomes.Reading bio) is (λ d. (refl, refl, refl))
+      by outcomes.Ran is yes_quiet = stay outcomes.Ran is (λ d. (refl, refl, refl))
+      by (outcomes.Split first count) is yes_quiet = stay (outcomes.Split first count) is (λ d. (refl, refl, refl))
+      by outcomes.Bounced is yes_quiet = stay outcomes.Bounced is (λ d. (refl, refl, refl))
+      by outcomes.Delivered is yes_quiet = stay outcomes.Delivered is (λ d. (refl, refl, refl))
+      by (outcomes.Gathered parent complete) is yes_quiet =
+          stay (outcomes.Gathered parent complete) is (λ d. (refl, refl, refl))
+      by outcomes.TasteBack is yes_quiet = stay outcomes.TasteBack is (λ d. (refl, refl, refl))
+
+  -- a request that a disk was asked for
+  pub take_then : (b : Bool) (q : Request) (new : List DiskHead) → e.outcome ≡ outcomes.Asked q
+      → Takes b q e.step (heads_at (opened m) seen n) new
+      → Followed b (opened m) seen e n new
+  take_then true q new is (d, b, take, does) = asked_then w firm seen e made n q d b is take new does ∙ then_at
+  take_then false q new is does = tt
+
+  -- a bio that came to a disk
+  pub start_then : (b : Bool) (d : ℕ) (new : List DiskHead) → e.outcome ≡ outcomes.Queued d → IsTrue is_last
+      → Starts b (world_of m) d e.step (heads_at (opened m) seen n) new
+      → Followed b (opened m) seen e n new
+  start_then false d new is last does = tt
+  start_then true d new is last (b, spot, start, spots, at_disk, does) =
+      queued_then w firm seen e made n d b (one_at b (place_of spot)) is start refl
+      (λ P all. spot_waits (after_entry w e) b spot
+      (subst (λ (v : World). spot_of v b ≡ Some spot) world_is spots) P
+      (subst (λ (k : ℕ). AllByRecursion P (waiting_for (after_entry w e) k)) (sym at_disk) all))
+      new does ∙ then_at
+    where
+      world_is : world_of m ≡ after_entry w e
+      world_is =
+          ap (replay (opened m)) (comes.split ∙ ap (λ (es : List Entry). seen ++ e ∷ es) (comes.last last))
+          ∙ replay-append (opened m) seen (e ∷ [])
+
+-- From an entry on
+
+-- the entry at a place, with what is before and behind it
+split_at : {X : Type 0} (k : ℕ) (xs : List X) (x : X) → slice_get xs k ≡ Some x → xs ≡ take k xs ++ x ∷ drop (suc k) xs
+split_at k [] x here = absurd (let bad : ⊥ = cc in bad)
+split_at zero (y ∷ ys) x here = ap (λ z. z ∷ ys) (let it : y ≡ x = cc in it)
+split_at (suc k) (y ∷ ys) x here = ap (λ zs. y ∷ zs) (split_at k ys x here)
+
+take_then_one : {X : Type 0} (k : ℕ) (xs : List X) (x : X) → slice_get xs k ≡ Some x
+    → take (suc k) xs ≡ take k xs ++ x ∷ []
+take_then_one k [] x here = absurd (let bad : ⊥ = cc in bad)
+take_then_one zero (y ∷ ys) x here = ap (λ z. z ∷ []) (let it : y ≡ x = cc in it)
+take_then_one (suc k) (y ∷ ys) x here = ap (λ zs. y ∷ zs) (take_then_one k ys x here)
+
+-- nothing is behind the last
+none_behind : {X : Type 0} (k : ℕ) (xs : List X) → length xs ≤ k → drop k xs ≡ []
+none_behind zero [] most = refl
+none_behind zero (x ∷ xs) most = absurd (omega (arith, most))
+none_behind (suc k) [] most = refl
+none_behind (suc k) (x ∷ xs) most = none_behind k xs (omega (arith, most))
+
+-- all of them
+pub take_all : {X : Type 0} (k : ℕ) (xs : List X) → length xs ≤ k → take k xs ≡ xs
+take_all zero [] most = refl
+take_all zero (x ∷ xs) most = absurd (omega (arith, most))
+take_all (suc k) [] most = refl
+take_all (suc k) (x ∷ xs) most = ap (λ zs. x ∷ zs) (take_all k xs (omega (arith, most)))
+
+-- what stands within a list
+pub there : {X : Type 0} (k : ℕ) (xs : List X) (x : X) → k < length xs → get_or xs k x ≡ x → slice_get xs k ≡ Some x
+there k [] x within is = absurd (omega (arith, within))
+there zero (y ∷ ys) x within is = ap Some is
+there (suc k) (y ∷ ys) x within is = there k ys x (omega (arith, within)) is
+
+-- where it was followed, so is one entry more
+pub follows_on : (m : MeshView) (at n : ℕ) (e : Entry) (is_last : Bool) → slice_get m.log at ≡ Some e
+    → is_last ≡ (at + 1 == length m.log) → (old new : List DiskHead) (b : Bool) → b ≡ true
+    → ((seen : List Entry) (k : ℕ) → ComesAfter m.log seen e is_last → old ≡ heads_at (opened m) seen k
+    → Followed b (opened m) seen e k new)
+    → old ≡ heads_at (opened m) (take at m.log) n → new ≡ heads_at (opened m) (take (at + 1) m.log) n
+follows_on m at n e is_last here last old new b went follows was =
+    let after : ComesAfter m.log (take at m.log) e is_last = record {
+      later = drop (suc at) m.log;
+      split = split_at at m.log e here;
+      last = λ is. none_behind (suc at) m.log
+          (let end : at + 1 ≡ length m.log = eqb-true (at + 1) (length m.log) (sym last ∙ is) in omega (arith, end));
+    } in
+    let did : new ≡ heads_at (opened m) (take at m.log ++ e ∷ []) n =
+    subst (λ (c : Bool). Followed c (opened m) (take at m.log) e n new) went (follows (take at m.log) n after was) in
+    let next : suc at ≡ at + 1 = omega arith in
+    did ∙ ap (λ (es : List Entry). heads_at (opened m) es n)
+    (sym (take_then_one at m.log e here) ∙ ap (λ k. take k m.log) next)
+
+-- so the heads of the log noted so far become those of the whole log
+pub noted_then : (m : MeshView) (old : HeadsView) (ds : List DiskHead) (k : ℕ) → record { disks = ds; noted = k } ≡ old
+    → ((seen : List Entry) × IsPrefixOf seen m.log × AreHeads (opened m) seen old) → (new : List DiskHead)
+    → (ds ≡ heads_at (opened m) (take k m.log) (length ds) → new ≡ heads_at (opened m) m.log (length ds))
+    → (n : ℕ) → n ≡ length m.log → AreHeads (opened m) m.log (record { disks = new; noted = n })
+noted_then m old ds k view (seen, begins, are) new gives n all = record {
+  noted = all;
+  disks = gives this ∙ ap (heads_at (opened m) m.log) count;
+}
+  where
+    disks_are : ds ≡ heads_at (opened m) seen (length (opened m).disks)
+    disks_are = ap (λ (h : HeadsView). h.disks) view ∙ are.disks
+
+    count : length ds ≡ length (opened m).disks
+    count =
+        ap (λ (xs : List DiskHead). length xs) disks_are
+        ∙ length-map-range_with_len (disk_head (replay (opened m) seen) seen) 0 (length (opened m).disks)
+
+    noted_is : k ≡ length seen
+    noted_is = ap (λ (h : HeadsView). h.noted) view ∙ are.noted
+
+    part : take k m.log ≡ seen
+    part =
+        ap (λ (i : ℕ). take i m.log) noted_is ∙ ap (λ (es : List Entry). take (length seen) es) begins.1
+        ∙ take-append_seam seen begins.0
+
+    this : ds ≡ heads_at (opened m) (take k m.log) (length ds)
+    this =
+        disks_are ∙ ap (heads_at (opened m) seen) (sym count)
+        ∙ ap (λ (es : List Entry). heads_at (opened m) es (length ds)) (sym part)
+
+-- a list that is written over one of its length is there whole
+pub written_whole : {X : Type 0} (k : ℕ) (xs ys : List X) → length xs ≡ k → take k (xs ++ ys) ≡ xs
+written_whole k xs ys same = ap (λ (i : ℕ). take i (xs ++ ys)) (sym same) ∙ take-append_seam xs ys

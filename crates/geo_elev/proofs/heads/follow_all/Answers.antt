@@ -1,0 +1,21 @@
+use Rattle.std.proofs.Common.{◌≡◌, ◌∙◌, ◌==◌, ◌+◌, List, Some, length, slice_get, sym, subst, ap}
+use Rattle.geo_model.specs.declared.step.Entry.{Entry}
+use Rattle.geo_elev.proofs.Histories.{follows_on, there}
+use Rattle.geo_elev.proofs.heads.follow_all.Goals as goal
+
+pub loop-at-preserved : goal.loop-at-preserved
+loop-at-preserved c =
+    let m = c.args.mesh.now in
+    let all : c.entries-entries.result.now ≡ m.log = c.entries-entries.ensures ∙ c.log.ensures.log in
+    record {
+      followed = λ n old.
+          follows_on m c.loop-at.at n c.index-entries-at.result
+          (c.loop-at.at + 1 == length c.entries-entries.result.now)
+          (subst (λ (es : List Entry). slice_get es c.loop-at.at ≡ Some c.index-entries-at.result) all
+          (there c.loop-at.at c.entries-entries.result.now c.index-entries-at.result c.loop-at-test.true
+          (sym c.index-entries-at.is)))
+          (ap (λ (es : List Entry). c.loop-at.at + 1 == length es) all)
+          c.loop-at.disks c.follow.new.disks c.in_ok-follow.field-0 c.if-not-branch.false c.in_ok-follow.ensures.followed
+          (c.loop-at.invariant.followed n old);
+      length = c.in_ok-follow.ensures.length ∙ c.loop-at.invariant.length;
+    }
