@@ -7,3 +7,4 @@ pub mod Walking
 pub mod Spots
 pub mod Histories
 pub mod Gathered
+pub mod Nexts

@@ -4,7 +4,8 @@ ghost use Rattle.std.specs.List.{enumerate_from};
 ghost use Rattle.geo_model.specs.Words.{first_some};
 ghost use Rattle.geo_model.specs.declared.step.Entry.{Entry as EntryValue};
 ghost use Rattle.geo_model.specs.Log.{IsPrefixOf};
-ghost use Rattle.geo_core.specs.Mesh.{opened};
+ghost use Rattle.geo_headline.specs.Sweep.{first_take};
+ghost use Rattle.geo_core.specs.Mesh.{IsHistory, MeshView, opened, world_of};
 ghost use Rattle.geo_elev.specs.Following.{heads_at};
 ghost use Rattle.geo_elev.specs.Heads.{AreHeads, first_by, no_heads, take_by};
 
@@ -70,6 +71,15 @@ impl Heads {
 
     /// The Take of the first disk, in header order, for which something waits: of what is next there.
     pub fn next_take(&self) -> Option<Step>
+        ensures kept { result ≡ first_by self.now }
+        ensures next { (m : MeshView) → IsHistory m → AreHeads (opened m) m.log self.now
+            → result ≡ first_take (world_of m) m.log }
+    {
+        self.kept_take()
+    }
+
+    // The same by what is kept.
+    fn kept_take(&self) -> Option<Step>
         ensures { result ≡ first_by self.now }
     {
         first_take(&self.disks)
