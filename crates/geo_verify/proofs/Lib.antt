@@ -3,3 +3,4 @@ pub mod SizesRead
 pub mod StepsRead
 pub mod WrittenOut
 pub mod Makings
+pub mod TracesRead

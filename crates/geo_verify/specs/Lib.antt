@@ -2,3 +2,4 @@ pub mod Tables
 pub mod Forms
 pub mod Written
 pub mod Making
+pub mod Replays

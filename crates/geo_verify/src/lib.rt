@@ -8,10 +8,12 @@ mod line;
 mod make;
 mod place;
 mod refusal;
+mod replaying;
 mod sizes;
 mod step;
 mod steps;
 mod write;
 
 pub use refusal::VerifyRefusal;
+pub use replaying::{Replayed, replay};
 pub use write::trace_text;

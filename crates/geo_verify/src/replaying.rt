@@ -1,0 +1,75 @@
+//! A trace is read, and its steps are made again.
+ghost use Rattle.std.specs.Prelude.{◌≤◌, ◌+◌, length, MatchResult};
+ghost use Rattle.geo_model.specs.Plans.{FactsFit};
+ghost use Rattle.geo_headline.specs.Traces.{parts_of, read_behind, read_trace};
+ghost use Rattle.geo_verify.specs.Replays.{IsVerifyRefusal, ReplaysRead, IsReplayOf, trace_from};
+
+use crate::cut::{cut, line_count};
+use crate::make::make_steps;
+use crate::place::Place;
+use crate::refusal::VerifyRefusal;
+use crate::sizes::read_sizes;
+use crate::steps::read_report;
+use geo_base::Block;
+use geo_core::Mesh;
+use geo_log::DiskFacts;
+use geo_script::{ParseRefusal, Plan, parse};
+use std::alloc::Global;
+
+/// What the steps of a trace made: the mesh, the line of the first step that isn't enabled, if there is one, and the
+/// report that stands behind the steps.
+#[derive(Drop)]
+pub struct Replayed {
+    pub mesh: Mesh,
+    pub stopped: Option<u32>,
+    pub report: Block,
+}
+
+/// Judges the lines of the steps of a trace from a place on, and makes them.
+fn replay_steps(
+    alloc: Global,
+    plan: Plan,
+    facts: &DiskFacts,
+    place: Place<'_>,
+) -> Result<Replayed, VerifyRefusal>
+    requires fit { FactsFit plan facts.now.items }
+    requires few { place.line + length place.text.now ≤ 67108865 }
+    ensures { ReplaysRead (trace_from plan facts.now.items place.entry) result }
+{
+    let behind = read_report(alloc, place)?;
+    let report = Block::from_slice(alloc, behind)?;
+    let mut mesh = Mesh::begin(alloc, plan, facts)?;
+    let stopped = make_steps(alloc, &mut mesh, place)?;
+    Ok(Replayed {
+        mesh,
+        stopped,
+        report,
+    })
+}
+
+/// Reads the sizes of the disks of a plan from a place on, and then the steps, which are made.
+fn replay_behind(alloc: Global, plan: Plan, place: Place<'_>) -> Result<Replayed, VerifyRefusal>
+    requires few { place.line + length place.text.now ≤ 67108865 }
+    ensures { ReplaysRead (read_behind place.entry.line plan (parts_of place.entry.text.now)) result }
+{
+    let mut facts = DiskFacts::new(alloc);
+    facts.reserve(plan.disks().len() as u64)?;
+    let steps = read_sizes(plan.disks(), &mut facts, place)?;
+    replay_steps(alloc, plan, &facts, steps)
+}
+
+/// Reads a trace, and makes its steps up to the first that isn't enabled. The form of the whole text is judged before
+/// any step is made, so there are two passes over it, and no list of steps. `Script` where what stands before the first
+/// line with a mark isn't a script, with its first fault; `Trace` only else, with the first line that isn't of the form.
+pub fn replay(alloc: Global, text: &[u8]) -> Result<Replayed, VerifyRefusal>
+    requires few { length text.now ≤ 67108864 }
+    ensures { MatchResult result (λ r. IsReplayOf (read_trace text.now) r) (IsVerifyRefusal (read_trace text.now)) }
+{
+    let (script, marked) = cut(text);
+    let line = line_count(script) + 1;
+    match parse(alloc, script) {
+        Ok(plan) => replay_behind(alloc, plan, Place { line, text: marked }),
+        Err(ParseRefusal::Fault { line, cause }) => Err(VerifyRefusal::Script { line, cause }),
+        Err(ParseRefusal::NoMemory) => Err(VerifyRefusal::NoMemory),
+    }
+}
