@@ -2,6 +2,7 @@
 use Rattle.std.specs.Prelude.{◌≡◌, ℕ, zero, suc, ◌+◌, ◌<◌, ◌≤◌, ◌==◌, Bool, true, false, List, [], ◌∷◌, ◌++◌, Result, Ok, Err, Some, IfOk, IsOkAnd, IsTrue, drop, get_or, length, slice_get, take}
 use Rattle.std.specs.List.{AllByRecursion}
 use Rattle.std.proofs.Common.{refl, sym, ◌∙◌, ap, subst, arith}
+use Rattle.std.proofs.lemmas.List.{drop_all}
 use Rattle.std.proofs.lemmas.Bool.{eqb-true}
 use Rattle.std.proofs.lemmas.List.FromFn.{length-map-range_with_len}
 use Rattle.std.proofs.Math.Seq.{take-append_seam}
@@ -118,13 +119,6 @@ take_then_one k [] x here = absurd (let bad : ⊥ = cc in bad)
 take_then_one zero (y ∷ ys) x here = ap (λ z. z ∷ []) (let it : y ≡ x = cc in it)
 take_then_one (suc k) (y ∷ ys) x here = ap (λ zs. y ∷ zs) (take_then_one k ys x here)
 
--- nothing is behind the last
-none_behind : {X : Type 0} (k : ℕ) (xs : List X) → length xs ≤ k → drop k xs ≡ []
-none_behind zero [] most = refl
-none_behind zero (x ∷ xs) most = absurd (omega (arith, most))
-none_behind (suc k) [] most = refl
-none_behind (suc k) (x ∷ xs) most = none_behind k xs (omega (arith, most))
-
 -- all of them
 pub take_all : {X : Type 0} (k : ℕ) (xs : List X) → length xs ≤ k → take k xs ≡ xs
 take_all zero [] most = refl
@@ -148,7 +142,7 @@ follows_on m at n e is_last here last old new b went follows was =
     let after : ComesAfter m.log (take at m.log) e is_last = record {
       later = drop (suc at) m.log;
       split = split_at at m.log e here;
-      last = λ is. none_behind (suc at) m.log
+      last = λ is. drop_all (suc at) m.log
           (let end : at + 1 ≡ length m.log = eqb-true (at + 1) (length m.log) (sym last ∙ is) in omega (arith, end));
     } in
     let did : new ≡ heads_at (opened m) (take at m.log ++ e ∷ []) n =

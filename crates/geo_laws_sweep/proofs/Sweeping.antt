@@ -4,6 +4,7 @@ use Rattle.std.specs.Prelude.{◌≡◌, ℕ, zero, suc, ◌+◌, ◌<◌, ◌�
 use Rattle.std.specs.List.{AllByRecursion, range_with_len}
 use Rattle.std.specs.Option.{option_map_or, option_or}
 use Rattle.std.proofs.Common.{refl, sym, ◌∙◌, subst, arith}
+use Rattle.std.proofs.lemmas.Option.{slice_get_within}
 use Rattle.std.proofs.lemmas.Bool.{eqb-true, eq-eqb, leb-true, leb-false, and_parts}
 use Rattle.std.proofs.lemmas.List.Elements.{All-contains}
 use Rattle.geo_model.specs.declared.step.Entry.{Entry}
@@ -77,12 +78,6 @@ range_at P a (suc n) d all low high =
     range_step P a d (nat_le (a + 1) d) refl all.0 low (λ more.
     range_at P (a + 1) n d all.1 more (omega (arith, high)))
 
--- what stands at a place of a list stands within it
-some_within : {X : Type 0} (xs : List X) (i : ℕ) (x : X) → slice_get xs i ≡ Some x → i < length xs
-some_within [] i x e = absurd (let no : ⊥ = cc in no)
-some_within (y ∷ xs) zero x e = omega arith
-some_within (y ∷ xs) (suc i) x e = let less = some_within xs i x e in omega (arith, less)
-
 -- where nothing is next, nothing waits
 none_is_next : (head : ℕ) (xs : List Waiting) → next_of head (candidates xs) ≡ None → xs ≡ []
 none_is_next head [] e = refl
@@ -107,7 +102,7 @@ module _ (w : World) (firm : Firm w) where
       is sizes in
       let y = found-with (slice_get w.disks d) (λ (disk : HeaderDisk).
       All (λ (p : Provider). (p.sector ≡ disk.sector) × (p.size ≡ disk.size)) (providers_of w.topology g.number)) at in
-      some_within w.disks d y.item y.is
+      slice_get_within w.disks d y.item y.is
 
   -- by the geom that is found
   by_geom : (n d : ℕ) (o : Option (Geom Config)) → geom_at w.topology n ≡ o
