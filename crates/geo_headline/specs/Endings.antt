@@ -14,10 +14,12 @@ use Rattle.geo_model.specs.Script.{IsScript, IsFault, cause_text}
 use Rattle.geo_model.specs.Plans.{FactsFit}
 use Rattle.geo_model.specs.Opening.{opening}
 use Rattle.geo_model.specs.Generator.{generated}
+use Rattle.geo_headline.specs.declared.verified.Verified.{Verified}
+use Rattle.geo_headline.specs.declared.verified.Verified.TheVariants as found
 use Rattle.geo_headline.specs.Modes.{Mode, GenMode, SweepMode, WatchMode, TraceMode, VerifyMode, Accepts, StartsThreads, OpensMesh, source_limit}
 use Rattle.geo_headline.specs.Sweep.{sweep_order}
 use Rattle.geo_headline.specs.Traces.{InTrace, trace_text, steps_of, script_part}
-use Rattle.geo_headline.specs.Verifying.{Verified, Yes, NotEnabled, NotAtRest, OtherReport, verified}
+use Rattle.geo_headline.specs.Verifying.{verified}
 use Rattle.geo_headline.specs.Viewing.{view_text}
 use Rattle.geo_model.specs.FixedOrder.{StepOrder, fixed_order, IsOfItsJob, FoundFull}
 use Rattle.geo_base.specs.Images.{Images}
@@ -41,7 +43,7 @@ pub data Ending : Type 0 where
   LogFull : Ending
   TooLong : Ending
   -- what was found of a trace, and a line of it that isn't of the form
-  Answered : (found : Verified) → Ending
+  Answered : (answer : Verified) → Ending
   NoTrace : (line : ℕ) → Ending
 
 abbrev pub status_of : Ending → ℕ
@@ -56,16 +58,16 @@ status_of (BadSize name) = 5
 status_of OutOfMemory = 6
 status_of LogFull = 7
 status_of TooLong = 8
-status_of (Answered Yes) = 0
-status_of (Answered found) = 9
+status_of (Answered found.Yes) = 0
+status_of (Answered answer) = 9
 status_of (NoTrace line) = 2
 
 -- what is found of a trace, as it is printed
 abbrev pub found_text : Verified → List ℕ
-found_text Yes = codes "yes"
-found_text (NotEnabled line) = codes "no: line " ++ decimal line
-found_text NotAtRest = codes "no: not at rest"
-found_text OtherReport = codes "no: report"
+found_text found.Yes = codes "yes"
+found_text (found.NotEnabled line) = codes "no: line " ++ decimal line
+found_text found.NotAtRest = codes "no: not at rest"
+found_text found.OtherReport = codes "no: report"
 
 -- the text of an ending, where the report is this one
 abbrev pub due_text : List ℕ → Ending → List ℕ
@@ -80,7 +82,7 @@ due_text reported (BadSize name) = codes "bad size " ++ name ++ end_line
 due_text reported OutOfMemory = codes "out of memory" ++ end_line
 due_text reported LogFull = codes "log full" ++ end_line
 due_text reported TooLong = codes "script too long" ++ end_line
-due_text reported (Answered found) = found_text found ++ end_line
+due_text reported (Answered answer) = found_text answer ++ end_line
 due_text reported (NoTrace line) = codes "line " ++ decimal line ++ codes ": trace" ++ end_line
 
 -- a call that ends so went to rest and wrote its report
@@ -235,8 +237,8 @@ CauseOf call mode plan (BadSize name) = IsParsed call mode plan × StopsAt call.
 CauseOf call mode plan OutOfMemory = ⊤
 CauseOf call mode plan LogFull = IsSomeAnd call.log (LogRanFull mode plan (opening plan call.facts))
 CauseOf call mode plan TooLong = ReadsScript call mode × (source_limit mode < length call.text)
-CauseOf call mode plan (Answered found) =
-    Accepts call.words VerifyMode × IsReadWhole call VerifyMode × (verified call.text ≡ Ok found)
+CauseOf call mode plan (Answered answer) =
+    Accepts call.words VerifyMode × IsReadWhole call VerifyMode × (verified call.text ≡ Ok answer)
 CauseOf call mode plan (NoTrace line) =
     Accepts call.words VerifyMode × IsReadWhole call VerifyMode × (verified call.text ≡ Err (InTrace line))
 
@@ -268,6 +270,6 @@ IsBeforeDisks BadWords = ⊤
 IsBeforeDisks (NoScript line cause) = ⊤
 IsBeforeDisks ReadFault = ⊤
 IsBeforeDisks TooLong = ⊤
-IsBeforeDisks (Answered found) = ⊤
+IsBeforeDisks (Answered answer) = ⊤
 IsBeforeDisks (NoTrace line) = ⊤
 IsBeforeDisks _ = ⊥

@@ -131,24 +131,34 @@ pub record LeavesOutside (mode : Mode) (ending : Ending) (before after : Outside
   pub source : IsGen mode ⊎ IsBadWords ending → after.source ≡ before.source
   pub shelf : TakesNoDisk mode ⊎ IsBeforeDisks ending → after.shelf ≡ before.shelf
 
--- Whatever the interleaving, everything printed is the report of the history kept under the topology lock, which
--- replays from the opening; at every prefix counts are sums of open demands and no writer stands beside another's
--- exclusive right; opens are refused exactly where the mesh forbids; every accepted bio completes once, and if
--- successful through exactly its flat map's sectors; geoms are freed only closed, detached and idle.
-pub record KeepsAll (call : Call) (mode : Mode) (plan : Plan) (ending : Ending) : Type 0 where
+-- what was read and written: mode and plan are those of the words and of the text, the source gave this text, the sink
+-- took what is due, and a write or read that failed is told
+pub record KeepsTexts (call : Call) (mode : Mode) (plan : Plan) (ending : Ending) : Type 0 where
   pub read_as : ReadAs call mode plan
   pub bytes : BytesPass call
-  pub cause : CauseOf call mode plan ending
   pub prints : Prints call ending (due_text (reported mode call.text plan call.facts call.log) ending)
+  pub streams : StreamsAreTold call ending
+
+-- why it ended so: the ending has its cause, and a log where it has to have one; and a log is only there where the
+-- mesh of the plan could be opened
+pub record KeepsEnding (call : Call) (mode : Mode) (plan : Plan) (ending : Ending) : Type 0 where
+  pub cause : CauseOf call mode plan ending
   pub has_log : HasLog ending call.log
   pub is_opened : IsSome call.log → IsOpened call mode plan
+
+-- what the log is: the history of the opened mesh, which runs to its end where a report is due, stands in the order of
+-- the mode, and has places left for what it owes
+pub record KeepsLog (call : Call) (mode : Mode) (plan : Plan) (ending : Ending) : Type 0 where
   pub history : IfSome call.log (KeepsHistory (opening plan call.facts))
   pub to_its_end : IsWhole ending → IfSome call.log (RanToItsEnd (opening plan call.facts))
   pub order : IfSome call.log (FollowsMode mode plan (opening plan call.facts) ending)
   pub fits : IfSome call.log (Fits (opening plan call.facts))
+
+-- what is outside: each disk that wasn't kept back did and holds what the log says, each call that failed is told, and
+-- everything else is as it was before
+pub record KeepsOutside (call : Call) (mode : Mode) (plan : Plan) (ending : Ending) : Type 0 where
   pub disks : IfSome call.log (DisksAreKept plan call.before.shelf call.after.shelf)
   pub lent : LentAfter ending call.before.shelf call.after.shelf
-  pub streams : StreamsAreTold call ending
   pub calls : CallsAreTold ending call.before.shelf call.after.shelf
   pub others : OthersStay plan call.before.shelf call.after.shelf
   pub unasked : IfNone call.log (NoneAskedAt call ending)
@@ -156,7 +166,17 @@ pub record KeepsAll (call : Call) (mode : Mode) (plan : Plan) (ending : Ending) 
   pub kept_stay : KeptDisksStay call.before.shelf call.after.shelf
   pub images : IfNone call.log (ImagesStayAt call ending)
   pub images_stand : ImagesStand call.before.shelf call.after.shelf
-  pub outside : LeavesOutside mode ending call.before call.after
+  pub untouched : LeavesOutside mode ending call.before call.after
+
+-- Whatever the interleaving, everything printed is the report of the history kept under the topology lock, which
+-- replays from the opening; at every prefix counts are sums of open demands and no writer stands beside another's
+-- exclusive right; opens are refused exactly where the mesh forbids; every accepted bio completes once, and if
+-- successful through exactly its flat map's sectors; geoms are freed only closed, detached and idle.
+pub record KeepsAll (call : Call) (mode : Mode) (plan : Plan) (ending : Ending) : Type 0 where
+  pub texts : KeepsTexts call mode plan ending
+  pub ends : KeepsEnding call mode plan ending
+  pub log : KeepsLog call mode plan ending
+  pub outside : KeepsOutside call mode plan ending
 
 -- Completeness
 

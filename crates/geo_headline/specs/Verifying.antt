@@ -1,15 +1,15 @@
 -- What is found of a trace: whether its steps can be made, end at rest, and give its report.
-use Rattle.std.specs.Prelude.{◌≡◌, ℕ, ◌+◌, ◌<◌, ◌≤◌, nat_lt, Bool, true, false, not, List, length, bytes_eq, Option, Some, None, Result, Ok, Err, All, IsTrue, codes, decimal, ◌++◌, if◌then◌else◌}
+use Rattle.std.specs.Prelude.{◌≡◌, ℕ, ◌+◌, nat_lt, not, List, length, bytes_eq, Option, Some, None, Result, Ok, Err, if◌then◌else◌}
 use Rattle.geo_model.specs.declared.step.Entry.{Entry}
 use Rattle.geo_model.specs.declared.step.Step.{Step}
-use Rattle.geo_model.specs.World.{World, Plan}
+use Rattle.geo_model.specs.World.{World}
 use Rattle.geo_model.specs.Opening.{opening}
-use Rattle.geo_model.specs.Plans.{IsPlan, FactsFit}
 use Rattle.geo_model.specs.Log.{made, replay, Legal}
 use Rattle.geo_model.specs.Order.{Rest, is_at_rest}
-use Rattle.geo_model.specs.Report.{report, end_line}
-use Rattle.geo_model.specs.Script.{IsScript}
-use Rattle.geo_headline.specs.Traces.{Trace, ReadTrace, TraceFault, read_trace, trace_text, steps_of}
+use Rattle.geo_model.specs.Report.{report}
+use Rattle.geo_headline.specs.declared.verified.Verified.{Verified}
+use Rattle.geo_headline.specs.declared.verified.Verified.TheVariants as found
+use Rattle.geo_headline.specs.Traces.{Trace, ReadTrace, TraceFault, read_trace, steps_of}
 
 -- the opening of a trace, and the log that its steps make
 abbrev pub opened_of : Trace → World
@@ -17,13 +17,6 @@ opened_of t = opening t.plan t.facts
 
 abbrev pub log_of : Trace → List Entry
 log_of t = made (opened_of t) t.steps
-
-pub data Verified : Type 0 where
-  Yes : Verified
-  -- the step of this line isn't enabled
-  NotEnabled : (line : ℕ) → Verified
-  NotAtRest : Verified
-  OtherReport : Verified
 
 -- the line of the first step that isn't enabled, where there is one
 abbrev pub stopped_at : ℕ → Trace → Option ℕ
@@ -34,12 +27,12 @@ stopped_at line t =
 abbrev pub found_of_log : Trace → List Entry → Verified
 found_of_log t log =
     if not (is_at_rest (replay (opened_of t) log))
-    then NotAtRest
-    else if bytes_eq (report t.plan (opened_of t) log) t.report then Yes else OtherReport
+    then found.NotAtRest
+    else if bytes_eq (report t.plan (opened_of t) log) t.report then found.Yes else found.OtherReport
 
 abbrev pub found_unless : Option ℕ → Verified → Verified
-found_unless None found = found
-found_unless (Some line) found = NotEnabled line
+found_unless None answer = answer
+found_unless (Some line) answer = found.NotEnabled line
 
 -- what is found of a trace whose steps begin at a line
 abbrev pub found_of : ReadTrace → Verified

@@ -12,8 +12,9 @@ use Rattle.geo_model.specs.Step.{Answer, step}
 use Rattle.geo_model.specs.Log.{made, entry_by, replay, world_after}
 use Rattle.geo_model.specs.Order.{Rest, is_at_rest}
 use Rattle.geo_model.specs.Report.{report}
+use Rattle.geo_headline.specs.declared.verified.Verified.TheVariants as found
 use Rattle.geo_headline.specs.Traces.{Trace, ReadTrace, read_trace, steps_of}
-use Rattle.geo_headline.specs.Verifying.{Yes, NotAtRest, OtherReport, verified, found_of, found_unless, found_read, opened_of, log_of, IsVerified}
+use Rattle.geo_headline.specs.Verifying.{verified, found_of, found_unless, found_read, opened_of, log_of, IsVerified}
 use Rattle.geo_laws_traces.specs.TraceLaws.{YesIsVerified, LegalIsVerified}
 use Rattle.geo_laws_traces.proofs.MadeAgain.{made_again}
 
@@ -35,7 +36,7 @@ made_short w (item ∷ items) =
     by (Err found) rest few = omega arith
 
 -- a whole log at rest with the same report finds a Yes
-finds_yes : (r : ReadTrace) → IsVerified r.trace → found_of r ≡ Yes
+finds_yes : (r : ReadTrace) → IsVerified r.trace → found_of r ≡ found.Yes
 finds_yes r is =
     let whole : nat_lt (length (log_of r.trace)) (length r.trace.steps) ≡ false =
     le-ltb (length (log_of r.trace)) (length r.trace.steps) (omega (arith, is.whole)) in
@@ -45,7 +46,7 @@ finds_yes r is =
     rw (whole, rest, same) refl
 
 -- and a Yes is found of no other
-yes_found : (r : ReadTrace) → found_of r ≡ Yes → IsVerified r.trace
+yes_found : (r : ReadTrace) → found_of r ≡ found.Yes → IsVerified r.trace
 yes_found r is =
     by (nat_lt (length (log_of r.trace)) (length r.trace.steps)) refl
     (is_at_rest (replay (opened_of r.trace) (log_of r.trace))) refl
@@ -56,7 +57,7 @@ yes_found r is =
         → (same : Bool)
         → bytes_eq (report r.trace.plan (opened_of r.trace) (log_of r.trace)) r.trace.report ≡ same
         → found_unless (if stops then Some (r.line + length (log_of r.trace)) else None)
-        (if not rest then NotAtRest else (if same then Yes else OtherReport)) ≡ Yes
+        (if not rest then found.NotAtRest else (if same then found.Yes else found.OtherReport)) ≡ found.Yes
         → IsVerified r.trace
     by true stops rest at_rest same same_is e = absurd (let bad : ⊥ = cc in bad)
     by false stops false at_rest same same_is e = absurd (let bad : ⊥ = cc in bad)
@@ -75,7 +76,7 @@ yes_is_verified text t is =
     let r : ReadTrace = record { trace = t; line = is.0 } in
     let answer : verified text ≡ Ok (found_of r) = answer_is text r is.1 in
     record {
-      says = λ yes. let same : found_of r ≡ Yes = let e = sym answer ∙ yes in cc in yes_found r same;
+      says = λ yes. let same : found_of r ≡ found.Yes = let e = sym answer ∙ yes in cc in yes_found r same;
       said = λ verified_is. answer ∙ ap Ok (finds_yes r verified_is);
     }
 

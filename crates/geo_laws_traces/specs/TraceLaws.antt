@@ -14,8 +14,9 @@ use Rattle.geo_model.specs.Report.{report}
 use Rattle.geo_model.specs.Script.{IsScript}
 use Rattle.geo_model.specs.Laws.{OfEachLegalLog, world_by}
 use Rattle.geo_model.specs.Fitting.{Firm}
+use Rattle.geo_headline.specs.declared.verified.Verified.TheVariants as found
 use Rattle.geo_headline.specs.Traces.{Trace, IsTrace, trace_text, script_part, steps_of}
-use Rattle.geo_headline.specs.Verifying.{Yes, verified, IsVerified}
+use Rattle.geo_headline.specs.Verifying.{verified, IsVerified}
 
 -- Both ways
 
@@ -62,8 +63,8 @@ ReadFits = (text : List ℕ) (t : Trace) → IsTrace text t → FitsItsScript te
 
 -- yes is said exactly where the steps make a whole log that ends at rest and has this report
 pub record YesMeans (text : List ℕ) (t : Trace) : Type 0 where
-  pub says : verified text ≡ Ok Yes → IsVerified t
-  pub said : IsVerified t → verified text ≡ Ok Yes
+  pub says : verified text ≡ Ok found.Yes → IsVerified t
+  pub said : IsVerified t → verified text ≡ Ok found.Yes
 
 abbrev pub YesIsVerified : Type 0
 YesIsVerified = (text : List ℕ) (t : Trace) → IsTrace text t → YesMeans text t
@@ -74,7 +75,7 @@ LegalIsVerified =
     (plan : Plan) (facts : List (ℕ × ℕ)) (log : List Entry) (text : List ℕ) → Legal (opening plan facts) log
     → Rest (replay (opening plan facts) log)
     → IsTrace text (record { plan = plan; facts = facts; steps = steps_of log; report = report plan (opening plan facts) log })
-    → verified text ≡ Ok Yes
+    → verified text ≡ Ok found.Yes
 
 -- What legal logs give a writer and a verifier
 

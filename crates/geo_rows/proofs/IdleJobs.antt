@@ -128,14 +128,14 @@ plan-of : (call : Call) (mode : Mode) (plan : Plan) (ending : Ending) → Starts
 plan-of call mode plan ending threads some text kept =
     let good : script (script_of mode call.text) ≡ Ok one_disk_plan =
     subst (λ t. script t ≡ Ok one_disk_plan) (sym (text_is mode call.text threads ∙ text)) script-is in
-    sym (kept.read_as.plan_is (kept.is_opened some).parsed.read one_disk_plan good)
+    sym (kept.texts.read_as.plan_is (kept.ends.is_opened some).parsed.read one_disk_plan good)
 
 by_plan : (call : Call) (mode : Mode) (plan : Plan) (ending : Ending) → StartsThreads mode
     → LeavesAllToTheDrain call → IsSome call.log → IsWhole ending → KeepsAll call mode plan ending → ⊥
 by_plan call mode plan ending threads wrong some w kept =
     let order : IfSome call.log (FollowsMode mode one_disk_plan (opening one_disk_plan call.facts) ending) =
     subst (λ x. IfSome call.log (FollowsMode mode x (opening x call.facts) ending))
-    (plan-of call mode plan ending threads some wrong.text kept) kept.order in
+    (plan-of call mode plan ending threads some wrong.text kept) kept.log.order in
     let fixed : IfSome call.log (FollowsMode mode one_disk_plan (opening one_disk_plan ((512, 4) ∷ [])) ending) =
     subst (λ f. IfSome call.log (FollowsMode mode one_disk_plan (opening one_disk_plan f) ending))
     wrong.facts order in
@@ -144,10 +144,10 @@ by_plan call mode plan ending threads wrong some w kept =
 pub drain_refused : IsRefused LeavesAllToTheDrain
 drain_refused call mode plan ending wrong kept =
     let threads : StartsThreads mode =
-    subst StartsThreads (kept.read_as.mode_is wrong.mode wrong.words) wrong.threads in
+    subst StartsThreads (kept.texts.read_as.mode_is wrong.mode wrong.words) wrong.threads in
     let w : IsWhole ending =
     whole call mode plan ending (ends 0 call mode plan ending kept (λ e. omega (arith, e)) wrong.status) threads kept in
-    by_plan call mode plan ending threads wrong (logged ending call.log w kept.has_log) w kept
+    by_plan call mode plan ending threads wrong (logged ending call.log w kept.ends.has_log) w kept
 
 -- what lies between a log and itself is that log
 between : (log seen : List Entry) → IsPrefixOf log seen → IsPrefixOf seen log → seen ≡ log

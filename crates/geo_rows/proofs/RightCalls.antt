@@ -181,45 +181,40 @@ fitting = omega arith
 
 pub quiet : KeepsAll quiet_call StepMode later_plan Reported
 quiet = record {
-  read_as = record {
-    mode_is = step-only;
-    plan_is = λ whole. the-plan later_text later_plan later-script;
-    no_plan = no-fault later_text later_plan later-script;
-    not_read = λ none. absurd (none (record { few = omega arith; ended = refl; none_left = tt }));
+  texts = record {
+    read_as = record {
+      mode_is = step-only;
+      plan_is = λ whole. the-plan later_text later_plan later-script;
+      no_plan = no-fault later_text later_plan later-script;
+      not_read = λ none. absurd (none (record { few = omega arith; ended = refl; none_left = tt }));
+    };
+    bytes = record { gave = refl; had_left = tt; took = refl };
+    prints = record {
+      cut_off = λ e. absurd (omega (arith, e));
+      whole = λ _. record { status = refl; written = sym nothing-printed };
+    };
+    streams = record { writes = λ _. refl; reads = λ _. refl };
   };
-  bytes = record { gave = refl; had_left = tt; took = refl };
-  cause = (refl, refl);
-  prints = record {
-    cut_off = λ e. absurd (omega (arith, e));
-    whole = λ _. record { status = refl; written = sym nothing-printed };
-  };
-  has_log = refl;
-  is_opened = λ _. opened;
-  history = history;
-  to_its_end = λ _. at-end;
-  order = λ xs e s. no-more xs e s;
-  fits = fitting;
-  disks = kept_disks;
-  lent = record { faults = omega arith; gives = All-nil _ };
-  others = record {
-    bytes = λ name foreign. tt;
-    counts = λ name foreign. record { disk = refl; takes = refl; gives = refl; asked = refl; sectors = refl };
-    still_lent = λ name in_lent. in_lent;
-    of_plan = All-nil _;
-  };
-  streams = record { writes = λ _. refl; reads = λ _. refl };
-  calls = record { takes = λ name. refl; gives = λ name. refl; no_fault = λ _ _ _. refl };
-  unasked = tt;
-  sizes = λ _. fact-sectors;
-  kept_stay = λ name back. record { faults = refl; asked = refl; sectors = refl };
-  images = tt;
-  images_stand = λ name not_kept. tt;
+  ends = record { cause = (refl, refl); has_log = refl; is_opened = λ _. opened };
+  log = record { history = history; to_its_end = λ _. at-end; order = λ xs e s. no-more xs e s; fits = fitting };
   outside = record {
-    source = λ e. elim e [
-      | inl x ↦
-          absurd x
-      | inr x ↦ absurd x
-    ];
-    shelf = λ e. elim e [ inl x ↦ absurd x | inr x ↦ absurd x ];
+    disks = kept_disks;
+    lent = record { faults = omega arith; gives = All-nil _ };
+    calls = record { takes = λ name. refl; gives = λ name. refl; no_fault = λ _ _ _. refl };
+    others = record {
+      bytes = λ name foreign. tt;
+      counts = λ name foreign. record { disk = refl; takes = refl; gives = refl; asked = refl; sectors = refl };
+      still_lent = λ name in_lent. in_lent;
+      of_plan = All-nil _;
+    };
+    unasked = tt;
+    sizes = λ _. fact-sectors;
+    kept_stay = λ name back. record { faults = refl; asked = refl; sectors = refl };
+    images = tt;
+    images_stand = λ name not_kept. tt;
+    untouched = record {
+      source = λ e. elim e [ inl x ↦ absurd x | inr x ↦ absurd x ];
+      shelf = λ e. elim e [ inl x ↦ absurd x | inr x ↦ absurd x ];
+    };
   };
 }

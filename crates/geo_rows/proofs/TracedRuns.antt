@@ -13,9 +13,10 @@ use Rattle.geo_model.specs.Order.{is_at_rest, pick}
 use Rattle.geo_model.specs.Script.{script}
 use Rattle.geo_base.specs.Runs.{runs_text}
 use Rattle.geo_model.specs.Report.{mesh_text, report}
+use Rattle.geo_headline.specs.declared.verified.Verified.TheVariants as found
 use Rattle.geo_headline.specs.Endings.{Answered, BadWords, NoTrace, due_text}
 use Rattle.geo_headline.specs.Traces.{InTrace, read_trace, trace_text}
-use Rattle.geo_headline.specs.Verifying.{Yes, NotEnabled, NotAtRest, OtherReport, verified}
+use Rattle.geo_headline.specs.Verifying.{verified}
 use Rattle.geo_rows.specs.FixedRuns.{run_fixed}
 use Rattle.geo_rows.specs.Rows.{assembling_facts, assembling_plan, large_users_facts, pulling_facts, pulling_plan}
 use Rattle.geo_rows.specs.Scripts.{assembling_script, pulling_script}
@@ -27,25 +28,25 @@ unfolding start take_bio deliver up do_event judge_step reap wash_work wash do_c
     verified is_at_rest
 whole-trace = refl
 
-pub whole-answer : verified whole_trace ≡ Ok Yes
+pub whole-answer : verified whole_trace ≡ Ok found.Yes
 unfolding start take_bio deliver up do_event judge_step reap wash_work wash do_command listing go event judge_next
     reap_next wash_next step opening pick runs_text mesh_text report run_fixed digits script trace_text read_trace
     verified is_at_rest
 whole-answer = refl
 
-pub short-answer : verified short_trace ≡ Ok NotAtRest
+pub short-answer : verified short_trace ≡ Ok found.NotAtRest
 unfolding start take_bio deliver up do_event judge_step reap wash_work wash do_command listing go event judge_next
     reap_next wash_next step opening pick runs_text mesh_text report run_fixed digits script trace_text read_trace
     verified is_at_rest
 short-answer = refl
 
-pub long-answer : verified long_trace ≡ Ok (NotEnabled 11)
+pub long-answer : verified long_trace ≡ Ok (found.NotEnabled 11)
 unfolding start take_bio deliver up do_event judge_step reap wash_work wash do_command listing go event judge_next
     reap_next wash_next step opening pick runs_text mesh_text report run_fixed digits script trace_text read_trace
     verified is_at_rest
 long-answer = refl
 
-pub other_report-answer : verified other_report_trace ≡ Ok OtherReport
+pub other_report-answer : verified other_report_trace ≡ Ok found.OtherReport
 unfolding start take_bio deliver up do_event judge_step reap wash_work wash do_command listing go event judge_next
     reap_next wash_next step opening pick runs_text mesh_text report run_fixed digits script trace_text read_trace
     verified is_at_rest
@@ -57,19 +58,19 @@ unfolding start take_bio deliver up do_event judge_step reap wash_work wash do_c
     verified is_at_rest
 jump-answer = refl
 
-pub pulling-answer : verified (traced 400 pulling_script pulling_plan pulling_facts) ≡ Ok Yes
+pub pulling-answer : verified (traced 400 pulling_script pulling_plan pulling_facts) ≡ Ok found.Yes
 unfolding start take_bio deliver up do_event judge_step reap wash_work wash do_command listing go event judge_next
     reap_next wash_next step opening pick runs_text mesh_text report run_fixed digits script trace_text read_trace
     verified is_at_rest
 pulling-answer = refl
 
-pub assembling-answer : verified (traced 400 assembling_script assembling_plan assembling_facts) ≡ Ok Yes
+pub assembling-answer : verified (traced 400 assembling_script assembling_plan assembling_facts) ≡ Ok found.Yes
 unfolding start take_bio deliver up do_event judge_step reap wash_work wash do_command listing go event judge_next
     reap_next wash_next step opening pick runs_text mesh_text report run_fixed digits script trace_text read_trace
     verified is_at_rest
 assembling-answer = refl
 
-pub image_users-answer : verified (traced 400 image_users_script image_users_plan large_users_facts) ≡ Ok Yes
+pub image_users-answer : verified (traced 400 image_users_script image_users_plan large_users_facts) ≡ Ok found.Yes
 unfolding start take_bio deliver up do_event judge_step reap wash_work wash do_command listing go event judge_next
     reap_next wash_next step opening pick runs_text mesh_text report run_fixed digits script trace_text read_trace
     verified is_at_rest
@@ -89,17 +90,17 @@ pub ruleset worked_traces = (
 )
 
 -- what is printed of an answer
-pub yes-text : due_text [] (Answered Yes) ≡ codes "yes\n"
+pub yes-text : due_text [] (Answered found.Yes) ≡ codes "yes\n"
 yes-text = refl
 
-pub line-text : due_text [] (Answered (NotEnabled 11)) ≡ codes "no: line 11\n"
+pub line-text : due_text [] (Answered (found.NotEnabled 11)) ≡ codes "no: line 11\n"
 unfolding digits
 line-text = refl
 
-pub rest-text : due_text [] (Answered NotAtRest) ≡ codes "no: not at rest\n"
+pub rest-text : due_text [] (Answered found.NotAtRest) ≡ codes "no: not at rest\n"
 rest-text = refl
 
-pub report-text : due_text [] (Answered OtherReport) ≡ codes "no: report\n"
+pub report-text : due_text [] (Answered found.OtherReport) ≡ codes "no: report\n"
 report-text = refl
 
 pub trace-text : due_text [] (NoTrace 5) ≡ codes "line 5: trace\n"

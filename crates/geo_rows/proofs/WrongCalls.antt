@@ -19,15 +19,15 @@ use Rattle.geo_rows.proofs.WrongPrograms.{ends}
 use Rattle.geo_rows.proofs.WrongDisks.{by_report}
 
 pub hides_write-refused : IsRefused HidesWriteFault
-hides_write-refused call mode plan ending wrong kept = wrong.1 (kept.streams.writes wrong.0)
+hides_write-refused call mode plan ending wrong kept = wrong.1 (kept.texts.streams.writes wrong.0)
 
 pub hides_read-refused : IsRefused HidesReadFault
 hides_read-refused call mode plan ending wrong kept =
-    wrong.2 (kept.streams.reads (λ e. wrong.0 ((kept.prints.whole wrong.1).status ∙ ap status_of e)))
+    wrong.2 (kept.texts.streams.reads (λ e. wrong.0 ((kept.texts.prints.whole wrong.1).status ∙ ap status_of e)))
 
 pub gives_again-refused : IsRefused GivesAgain
 gives_again-refused call mode plan ending wrong kept =
-    wrong.failed (kept.calls.gives wrong.name
+    wrong.failed (kept.outside.calls.gives wrong.name
     ∙ ap (λ (names : List (List ℕ)). counted_if (list_any (same_name wrong.name) names) (call.before.shelf.give_faults wrong.name))
     wrong.all_back)
 
@@ -51,7 +51,7 @@ no_take (NoTrace line) before after name s told = absurd (omega (arith, s))
 pub takes_again-refused : IsRefused TakesAgain
 takes_again-refused call mode plan ending wrong kept =
     wrong.failed (no_take ending call.before.shelf call.after.shelf wrong.name
-    (ends 0 call mode plan ending kept (λ e. omega (arith, e)) wrong.status) kept.calls.takes)
+    (ends 0 call mode plan ending kept (λ e. omega (arith, e)) wrong.status) kept.outside.calls.takes)
 
 -- no disk was asked, whatever the ending, where no threads are asked for
 unasked : (call : Call) (ending : Ending) (name : List ℕ) → IsAlone call.words → NoneAskedAt call ending
@@ -73,7 +73,7 @@ unasked call (NoTrace line) name alone h = h name
 pub asks_in_secret-refused : IsRefused AsksInSecret
 asks_in_secret-refused call mode plan ending wrong kept =
     let none : NoneAskedAt call ending =
-    subst (λ (log : Option (List Entry)). IfNone log (NoneAskedAt call ending)) wrong.no_log kept.unasked in
+    subst (λ (log : Option (List Entry)). IfNone log (NoneAskedAt call ending)) wrong.no_log kept.outside.unasked in
     wrong.asked (unasked call ending wrong.name wrong.words none)
 
 -- Of the first disk
@@ -85,8 +85,8 @@ first_disk call mode plan ending disk reports kept =
     let has_log =
     by_report call mode plan ending (ends 0 call mode plan ending kept (λ e. omega (arith, e)) reports.status)
     reports.words kept in
-    let as_step : StepMode ≡ mode = kept.read_as.mode_is StepMode reports.words in
-    let read : IsScript (script_of mode call.text) plan = (kept.is_opened has_log).parsed.script in
+    let as_step : StepMode ≡ mode = kept.texts.read_as.mode_is StepMode reports.words in
+    let read : IsScript (script_of mode call.text) plan = (kept.ends.is_opened has_log).parsed.script in
     let good : IsScript (script_of StepMode call.text) plan =
     subst (λ m. IsScript (script_of m call.text) plan) (sym as_step) read in
     reports.text plan good
@@ -128,7 +128,7 @@ otherwise call mode plan ending wrong kept (Some l) some disks other =
 pub asks_otherwise-refused : IsRefused AsksOtherwise
 asks_otherwise-refused call mode plan ending wrong kept =
     otherwise call mode plan ending wrong kept call.log
-    (log_of_first call mode plan ending wrong.disk wrong.reports kept) kept.disks wrong.otherwise
+    (log_of_first call mode plan ending wrong.disk wrong.reports kept) kept.outside.disks wrong.otherwise
 
 hidden : (call : Call) (mode : Mode) (plan : Plan) (ending : Ending) (wrong : HidesDiskFault call)
     → KeepsAll call mode plan ending → (log : Option (List Entry)) → IsSome log
@@ -142,12 +142,12 @@ hidden call mode plan ending wrong kept (Some l) some disks none =
 pub hides_disk_fault-refused : IsRefused HidesDiskFault
 hides_disk_fault-refused call mode plan ending wrong kept =
     hidden call mode plan ending wrong kept call.log
-    (log_of_first call mode plan ending wrong.disk wrong.reports kept) kept.disks wrong.none_told
+    (log_of_first call mode plan ending wrong.disk wrong.reports kept) kept.outside.disks wrong.none_told
 
 pub invents_size-refused : IsRefused InventsSize
 invents_size-refused call mode plan ending wrong kept =
     let sizes : All (HasFactSectors call.before.shelf call.after.shelf) (zip plan.disks call.facts) =
-    kept.sizes (log_of_first call mode plan ending wrong.disk wrong.reports kept) in
+    kept.outside.sizes (log_of_first call mode plan ending wrong.disk wrong.reports kept) in
     let disks : plan.disks ≡ wrong.disk ∷ wrong.reports.rest =
     first_disk call mode plan ending wrong.disk wrong.reports kept in
     let moved : All (HasFactSectors call.before.shelf call.after.shelf)

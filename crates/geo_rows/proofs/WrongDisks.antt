@@ -19,12 +19,12 @@ use Rattle.geo_rows.proofs.WrongPrograms.{answered, answers_verify, ends}
 
 pub keeps_disk-refused : IsRefused KeepsDisk
 keeps_disk-refused call mode plan ending wrong kept =
-    omega (arith, kept.lent.faults, wrong.kept.1, wrong.no_fault, wrong.counted)
+    omega (arith, kept.outside.lent.faults, wrong.kept.1, wrong.no_fault, wrong.counted)
 
 pub drops_disk-refused : IsRefused DropsDisk
 drops_disk-refused call mode plan ending wrong kept =
     let P : List ℕ → Type 0 = λ n. Rose (call.before.shelf.give_faults n) (call.after.shelf.give_faults n) in
-    wrong.not_given (subst P wrong.kept.2 (kept.lent.gives wrong.kept.0 wrong.name wrong.kept.1))
+    wrong.not_given (subst P wrong.kept.2 (kept.outside.lent.gives wrong.kept.0 wrong.name wrong.kept.1))
 
 -- where nothing was kept back there is no first disk that was
 no_first : (disks : List DiskDecl) → find (λ d. is_shelf d.kind && list_any (same_name d.name) []) disks ≡ None
@@ -68,18 +68,18 @@ by_blame call mode plan (NoTrace line) text s wrong cause e = omega (arith, s)
 pub blames_another-refused : IsRefused BlamesAnotherDisk
 blames_another-refused call mode plan ending wrong kept =
     by_blame call mode plan ending (reported mode call.text plan call.facts call.log)
-    (ends 5 call mode plan ending kept (λ e. omega (arith, e)) wrong.status) wrong kept.cause
-    ((kept.prints.whole (λ four. omega (arith, four, wrong.status))).written)
+    (ends 5 call mode plan ending kept (λ e. omega (arith, e)) wrong.status) wrong kept.ends.cause
+    ((kept.texts.prints.whole (λ four. omega (arith, four, wrong.status))).written)
 
 pub loses_image-refused : IsRefused LosesImage
 loses_image-refused call mode plan ending wrong kept =
     let stand : WhereTold call.before.shelf call.after.shelf wrong.name KeepsLength =
-    kept.images_stand wrong.name wrong.not_kept in
+    kept.outside.images_stand wrong.name wrong.not_kept in
     rw (wrong.told_before, wrong.told_after, wrong.there, wrong.gone) at stand
 
 pub by_report : (call : Call) (mode : Mode) (plan : Plan) (ending : Ending) → status_of ending ≡ 0
     → Accepts call.words StepMode → KeepsAll call mode plan ending → IsSome call.log
-by_report call mode plan Reported s words kept = kept.has_log
+by_report call mode plan Reported s words kept = kept.ends.has_log
 by_report call mode plan (ReportedButFault name) s words kept = absurd (omega (arith, s))
 by_report call mode plan BadWords s words kept = absurd (omega (arith, s))
 by_report call mode plan (NoScript line c) s words kept = absurd (omega (arith, s))
@@ -92,7 +92,7 @@ by_report call mode plan LogFull s words kept = absurd (omega (arith, s))
 by_report call mode plan TooLong s words kept = absurd (omega (arith, s))
 by_report call mode plan (Answered found) s words kept =
     let both : StepMode ≡ VerifyMode =
-    kept.read_as.mode_is StepMode words ∙ sym (answers_verify call mode plan found kept) in
+    kept.texts.read_as.mode_is StepMode words ∙ sym (answers_verify call mode plan found kept) in
     let no : ⊥ = cc in absurd no
 by_report call mode plan (NoTrace line) s words kept = absurd (omega (arith, s))
 
@@ -103,8 +103,8 @@ was_there call mode plan ending disk wrong kept =
     let has_log =
     by_report call mode plan ending (ends 0 call mode plan ending kept (λ e. omega (arith, e)) wrong.status) wrong.words
     kept in
-    let opened : IsOpened call mode plan = kept.is_opened has_log in
-    let as_step : StepMode ≡ mode = kept.read_as.mode_is StepMode wrong.words in
+    let opened : IsOpened call mode plan = kept.ends.is_opened has_log in
+    let as_step : StepMode ≡ mode = kept.texts.read_as.mode_is StepMode wrong.words in
     let read : IsScript (script_of mode call.text) plan = opened.parsed.script in
     let good : IsScript (script_of StepMode call.text) plan =
     subst (λ m. IsScript (script_of m call.text) plan) (sym as_step) read in

@@ -12,11 +12,13 @@ use Rattle.geo_model.specs.Opening.{opening}
 use Rattle.geo_model.specs.Log.{owed, replay}
 use Rattle.geo_model.specs.declared.command.Cause.{Cause}
 use Rattle.geo_model.specs.Script.{Fault, IsScript, IsFault}
+use Rattle.geo_headline.specs.declared.verified.Verified.{Verified}
+use Rattle.geo_headline.specs.declared.verified.Verified.TheVariants as found
 use Rattle.geo_headline.specs.Modes.{Mode, StepMode, RunMode, GenMode, SweepMode, WatchMode, TraceMode, VerifyMode, Accepts, OpensMesh, source_limit}
 use Rattle.geo_headline.specs.Outside.{ShelfView, IsShelf, HasImage, IsMissing, IsBadSize}
 use Rattle.geo_headline.specs.Endings.{Call, Ending, Reported, ReportedButFault, BadWords, NoScript, ReadFault, ShelfFault, NoDisk, BadSize, OutOfMemory, LogFull, TooLong, Answered, NoTrace, status_of, HasLog, CauseOf, LogRanFull, ReadsScript, script_of}
 use Rattle.geo_headline.specs.Traces.{TraceFault, InScript, InTrace, read_after, read_trace, script_part}
-use Rattle.geo_headline.specs.Verifying.{Verified, Yes, NotEnabled, NotAtRest, OtherReport, found_read, verified}
+use Rattle.geo_headline.specs.Verifying.{found_read, verified}
 use Rattle.geo_headline.specs.Headline.{KeepsAll}
 use Rattle.geo_laws_life.proofs.Standing.{opening-stood}
 use Rattle.geo_rows.specs.WrongPrograms.{IsRefused, AnswersUsage, AnswersFaultOfScript, AnswersFaultOfTrace, AnswersReadFault, AnswersWriteFault, AnswersDiskFault, AnswersFullWithoutLog, AnswersFullAtOnce, AnswersFullTooEarly, AnswersTooLong, AnswersNo, SaysYes, RunsTrace}
@@ -26,19 +28,19 @@ pub ends : (n : ℕ) (call : Call) (mode : Mode) (plan : Plan) (ending : Ending)
     → n ≢ 4 → call.status ≡ n
     → status_of ending ≡ n
 ends n call mode plan ending kept other status =
-    sym ((kept.prints.whole (λ four. other (sym status ∙ four))).status) ∙ status
+    sym ((kept.texts.prints.whole (λ four. other (sym status ∙ four))).status) ∙ status
 
 -- what was found of a trace has status 0 or 9
 pub answered : {A : Type 0} (n : ℕ) (found : Verified) → status_of (Answered found) ≡ n → n ≢ 0 → n ≢ 9 → A
-answered n Yes s zero nine = absurd (zero (sym s))
-answered n (NotEnabled line) s zero nine = absurd (nine (sym s))
-answered n NotAtRest s zero nine = absurd (nine (sym s))
-answered n OtherReport s zero nine = absurd (nine (sym s))
+answered n found.Yes s zero nine = absurd (zero (sym s))
+answered n (found.NotEnabled line) s zero nine = absurd (nine (sym s))
+answered n found.NotAtRest s zero nine = absurd (nine (sym s))
+answered n found.OtherReport s zero nine = absurd (nine (sym s))
 
 -- what was found is told only where it was asked
 pub answers_verify : (call : Call) (mode : Mode) (plan : Plan) (found : Verified)
     → KeepsAll call mode plan (Answered found) → VerifyMode ≡ mode
-answers_verify call mode plan found kept = kept.read_as.mode_is VerifyMode kept.cause.0
+answers_verify call mode plan found kept = kept.texts.read_as.mode_is VerifyMode kept.ends.cause.0
 
 by_usage : (call : Call) (mode : Mode) (plan : Plan) (ending : Ending) → status_of ending ≡ 1
     → ((m : Mode) × Accepts call.words m)
@@ -60,7 +62,7 @@ by_usage call mode plan (NoTrace line) s words cause = omega (arith, s)
 pub usage-refused : IsRefused AnswersUsage
 usage-refused call mode plan ending wrong kept =
     by_usage call mode plan ending (ends 1 call mode plan ending kept (λ e. omega (arith, e)) wrong.0)
-    wrong.1 kept.cause
+    wrong.1 kept.ends.cause
 
 -- a script has no fault, and no trace has one
 no_fault : (text : List ℕ) (p : Plan) (line : ℕ) (c : Cause) → IsScript text p → IsFault text line c → ⊥
@@ -113,7 +115,7 @@ by_fault call mode plan (NoTrace line) p s other good cause = other cause.0
 pub fault_of_script-refused : IsRefused AnswersFaultOfScript
 fault_of_script-refused call mode plan ending wrong kept =
     by_fault call mode plan ending wrong.2.0 (ends 2 call mode plan ending kept (λ e. omega (arith, e)) wrong.0)
-    wrong.1 wrong.2.1 kept.cause
+    wrong.1 wrong.2.1 kept.ends.cause
 
 -- of a trace
 by_trace : (call : Call) (plan : Plan) (ending : Ending) (found : Verified) → status_of ending ≡ 2
@@ -138,7 +140,7 @@ pub fault_of_trace-refused : IsRefused AnswersFaultOfTrace
 fault_of_trace-refused call mode plan ending wrong kept =
     by_trace call plan ending wrong.2.0 (ends 2 call mode plan ending kept (λ e. omega (arith, e)) wrong.0)
     wrong.2.1
-    (subst (λ m. CauseOf call m plan ending) (sym (kept.read_as.mode_is VerifyMode wrong.1)) kept.cause)
+    (subst (λ m. CauseOf call m plan ending) (sym (kept.texts.read_as.mode_is VerifyMode wrong.1)) kept.ends.cause)
 
 by_read : (call : Call) (mode : Mode) (plan : Plan) (ending : Ending) → status_of ending ≡ 3
     → (Rose call.before.source.faults call.after.source.faults → ⊥) → CauseOf call mode plan ending → ⊥
@@ -158,10 +160,11 @@ by_read call mode plan (NoTrace line) s none cause = omega (arith, s)
 
 pub read_fault-refused : IsRefused AnswersReadFault
 read_fault-refused call mode plan ending wrong kept =
-    by_read call mode plan ending (ends 3 call mode plan ending kept (λ e. omega (arith, e)) wrong.0) wrong.1 kept.cause
+    by_read call mode plan ending (ends 3 call mode plan ending kept (λ e. omega (arith, e)) wrong.0) wrong.1
+    kept.ends.cause
 
 pub write_fault-refused : IsRefused AnswersWriteFault
-write_fault-refused call mode plan ending wrong kept = wrong.1 ((kept.prints.cut_off wrong.0).fault)
+write_fault-refused call mode plan ending wrong kept = wrong.1 ((kept.texts.prints.cut_off wrong.0).fault)
 
 by_log : (call : Call) (ending : Ending) → status_of ending ≡ 7 → call.log ≡ None → HasLog ending call.log → ⊥
 by_log call Reported s e has = omega (arith, s)
@@ -180,7 +183,7 @@ by_log call (NoTrace line) s e has = omega (arith, s)
 
 pub full_without_log-refused : IsRefused AnswersFullWithoutLog
 full_without_log-refused call mode plan ending wrong kept =
-    by_log call ending (ends 7 call mode plan ending kept (λ e. omega (arith, e)) wrong.0) wrong.1 kept.has_log
+    by_log call ending (ends 7 call mode plan ending kept (λ e. omega (arith, e)) wrong.0) wrong.1 kept.ends.has_log
 
 -- a full log comes from an ending that has its cause
 by_full : (call : Call) (mode : Mode) (plan : Plan) (ending : Ending) → status_of ending ≡ 7
@@ -204,7 +207,7 @@ ran_full : (call : Call) (mode : Mode) (plan : Plan) (ending : Ending) → call.
     → KeepsAll call mode plan ending
     → IsSomeAnd call.log (LogRanFull mode plan (opening plan call.facts))
 ran_full call mode plan ending status kept =
-    by_full call mode plan ending (ends 7 call mode plan ending kept (λ e. omega (arith, e)) status) kept.cause
+    by_full call mode plan ending (ends 7 call mode plan ending kept (λ e. omega (arith, e)) status) kept.ends.cause
 
 -- at the opening no place is owed
 nothing_owed : (plan : Plan) (facts : List (ℕ × ℕ)) → owed (opening plan facts) ≡ 0
@@ -259,11 +262,11 @@ by_length call mode plan (NoTrace line) s short cause = omega (arith, s)
 pub too_long-refused : IsRefused AnswersTooLong
 too_long-refused call mode plan ending wrong kept =
     by_length call mode plan ending (ends 8 call mode plan ending kept (λ e. omega (arith, e)) wrong.0)
-    wrong.1 kept.cause
+    wrong.1 kept.ends.cause
 
 -- only what was found of a trace has status 9
 by_no : (call : Call) (mode : Mode) (plan : Plan) (ending : Ending) → status_of ending ≡ 9
-    → ((found : Verified) → verified call.text ≡ Ok found → found ≡ Yes)
+    → ((answer : Verified) → verified call.text ≡ Ok answer → answer ≡ found.Yes)
     → CauseOf call mode plan ending → ⊥
 by_no call mode plan Reported s only cause = omega (arith, s)
 by_no call mode plan (ReportedButFault name) s only cause = omega (arith, s)
@@ -284,7 +287,7 @@ by_no call mode plan (NoTrace line) s only cause = omega (arith, s)
 pub no-refused : IsRefused AnswersNo
 no-refused call mode plan ending wrong kept =
     by_no call mode plan ending (ends 9 call mode plan ending kept (λ e. omega (arith, e)) wrong.0)
-    wrong.1 kept.cause
+    wrong.1 kept.ends.cause
 
 -- taking the disks stopped at a disk of the plan
 stopped_at : (P : DiskDecl → Type 0) (plan : Plan) (front back : List DiskDecl) (disk : DiskDecl)
@@ -339,7 +342,7 @@ by_disk call mode plan (NoTrace line) s wrong cause = omega (arith, s)
 pub disk_fault-refused : IsRefused AnswersDiskFault
 disk_fault-refused call mode plan ending wrong kept =
     by_disk call mode plan ending (ends 5 call mode plan ending kept (λ e. omega (arith, e)) wrong.status)
-    wrong kept.cause
+    wrong kept.ends.cause
 
 -- Traces
 
@@ -347,10 +350,10 @@ disk_fault-refused call mode plan ending wrong kept =
 pub no_log : (call : Call) (mode : Mode) (plan : Plan) (ending : Ending) → Accepts call.words VerifyMode
     → KeepsAll call mode plan ending → IsSome call.log → ⊥
 no_log call mode plan ending words kept some =
-    subst OpensMesh (sym (kept.read_as.mode_is VerifyMode words)) (kept.is_opened some).parsed.mesh
+    subst OpensMesh (sym (kept.texts.read_as.mode_is VerifyMode words)) (kept.ends.is_opened some).parsed.mesh
 
 by_yes : (call : Call) (mode : Mode) (plan : Plan) (ending : Ending) → status_of ending ≡ 0
-    → (IsSome call.log → ⊥) → (verified call.text ≡ Ok Yes → ⊥)
+    → (IsSome call.log → ⊥) → (verified call.text ≡ Ok found.Yes → ⊥)
     → CauseOf call mode plan ending → ⊥
 by_yes call mode plan Reported s none not_yes cause = none cause.0
 by_yes call mode plan (ReportedButFault name) s none not_yes cause = omega (arith, s)
@@ -363,16 +366,16 @@ by_yes call mode plan (BadSize name) s none not_yes cause = omega (arith, s)
 by_yes call mode plan OutOfMemory s none not_yes cause = omega (arith, s)
 by_yes call mode plan LogFull s none not_yes cause = omega (arith, s)
 by_yes call mode plan TooLong s none not_yes cause = omega (arith, s)
-by_yes call mode plan (Answered Yes) s none not_yes cause = not_yes cause.2
-by_yes call mode plan (Answered (NotEnabled line)) s none not_yes cause = omega (arith, s)
-by_yes call mode plan (Answered NotAtRest) s none not_yes cause = omega (arith, s)
-by_yes call mode plan (Answered OtherReport) s none not_yes cause = omega (arith, s)
+by_yes call mode plan (Answered found.Yes) s none not_yes cause = not_yes cause.2
+by_yes call mode plan (Answered (found.NotEnabled line)) s none not_yes cause = omega (arith, s)
+by_yes call mode plan (Answered found.NotAtRest) s none not_yes cause = omega (arith, s)
+by_yes call mode plan (Answered found.OtherReport) s none not_yes cause = omega (arith, s)
 by_yes call mode plan (NoTrace line) s none not_yes cause = omega (arith, s)
 
 pub yes-refused : IsRefused SaysYes
 yes-refused call mode plan ending wrong kept =
     by_yes call mode plan ending (ends 0 call mode plan ending kept (λ e. omega (arith, e)) wrong.status)
-    (no_log call mode plan ending wrong.words kept) wrong.false_trace kept.cause
+    (no_log call mode plan ending wrong.words kept) wrong.false_trace kept.ends.cause
 
 pub run-refused : IsRefused RunsTrace
 run-refused call mode plan ending wrong kept = no_log call mode plan ending wrong.words kept wrong.ran

@@ -11,11 +11,13 @@ use Rattle.geo_model.specs.Step.{is_enabled}
 use Rattle.geo_model.specs.Log.{replay, owed}
 use Rattle.geo_model.specs.Report.{end_line}
 use Rattle.geo_model.specs.Script.{IsScript}
+use Rattle.geo_headline.specs.declared.verified.Verified.{Verified}
+use Rattle.geo_headline.specs.declared.verified.Verified.TheVariants as found
 use Rattle.geo_headline.specs.Modes.{Mode, StepMode, VerifyMode, Accepts, IsAlone, StartsThreads, source_limit}
 use Rattle.geo_model.specs.FixedOrder.{EventWorkerIdle, event_seat}
 use Rattle.geo_headline.specs.Outside.{IsShelf, HasImage, IsKeptBack, IsUnasked, calls_logged, failures_of, kept_back}
 use Rattle.geo_headline.specs.Endings.{Call, Ending, script_of}
-use Rattle.geo_headline.specs.Verifying.{Verified, Yes, verified}
+use Rattle.geo_headline.specs.Verifying.{verified}
 use Rattle.geo_headline.specs.Headline.{KeepsAll}
 
 -- no call of the kind keeps what a run keeps, whatever mode, plan and ending are said of it
@@ -78,7 +80,7 @@ AnswersTooLong call =
 
 -- the text is a trace that holds, or none, and yet it says that a trace doesn't hold
 abbrev pub AnswersNo : Call → Type 0
-AnswersNo call = (call.status ≡ 9) × ((found : Verified) → verified call.text ≡ Ok found → found ≡ Yes)
+AnswersNo call = (call.status ≡ 9) × ((answer : Verified) → verified call.text ≡ Ok answer → answer ≡ found.Yes)
 
 -- Traces
 
@@ -86,7 +88,7 @@ AnswersNo call = (call.status ≡ 9) × ((found : Verified) → verified call.te
 pub record SaysYes (call : Call) : Type 0 where
   pub words : Accepts call.words VerifyMode
   pub status : call.status ≡ 0
-  pub false_trace : verified call.text ≡ Ok Yes → ⊥
+  pub false_trace : verified call.text ≡ Ok found.Yes → ⊥
 
 -- a trace is to be verified, and yet a mesh is run
 pub record RunsTrace (call : Call) : Type 0 where

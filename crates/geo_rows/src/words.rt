@@ -1,7 +1,8 @@
 //! Worked examples of the words `sweep`, `watch`, `trace` and `verify`, proved by computation.
 ghost use Rattle.geo_headline.specs.Endings.{Answered, BadWords, NoTrace, due_text};
 ghost use Rattle.geo_headline.specs.Traces.{InTrace};
-ghost use Rattle.geo_headline.specs.Verifying.{NotAtRest, NotEnabled, OtherReport, Yes, verified};
+ghost use Rattle.geo_headline.specs.Verifying.{verified};
+ghost use Rattle.geo_headline.specs.declared.verified.Verified.TheVariants as found;
 ghost use Rattle.geo_model.specs.Script.{script};
 ghost use Rattle.geo_base.specs.declared.request.BioCmd.TheVariants as cmds;
 ghost use Rattle.geo_rows.specs.WorkedSweeps.{changes_asked, sweeping_facts, sweeping_plan, sweeping_script, sweeping_text, swept_log, swept_report, swept_slice_text, synced_slice_facts, synced_slice_plan, synced_slice_script, synced_slice_text};
@@ -45,23 +46,23 @@ pub fn worked_views()
 #[tactic(auto, using(crate::proofs::TracedRuns::worked_traces))]
 pub fn worked_traces()
     ensures whole_trace { traced 400 taste_script taste_plan taste_facts ≡ whole_trace }
-    ensures whole { verified whole_trace ≡ Ok Yes }
-    ensures short { verified short_trace ≡ Ok NotAtRest }
-    ensures long { verified long_trace ≡ Ok (NotEnabled 11) }
-    ensures other_report { verified other_report_trace ≡ Ok OtherReport }
+    ensures whole { verified whole_trace ≡ Ok found.Yes }
+    ensures short { verified short_trace ≡ Ok found.NotAtRest }
+    ensures long { verified long_trace ≡ Ok (found.NotEnabled 11) }
+    ensures other_report { verified other_report_trace ≡ Ok found.OtherReport }
     ensures jump { verified jump_trace ≡ Err (InTrace 5) }
-    ensures pulling { verified (traced 400 pulling_script pulling_plan pulling_facts) ≡ Ok Yes }
-    ensures assembling { verified (traced 400 assembling_script assembling_plan assembling_facts) ≡ Ok Yes }
-    ensures image_users { verified (traced 400 image_users_script image_users_plan large_users_facts) ≡ Ok Yes }
+    ensures pulling { verified (traced 400 pulling_script pulling_plan pulling_facts) ≡ Ok found.Yes }
+    ensures assembling { verified (traced 400 assembling_script assembling_plan assembling_facts) ≡ Ok found.Yes }
+    ensures image_users { verified (traced 400 image_users_script image_users_plan large_users_facts) ≡ Ok found.Yes }
 {}
 
 /// What is printed of an answer, of a line that is no step, and how the program is used.
 #[tactic(auto, using(crate::proofs::TracedRuns::worked_endings))]
 pub fn worked_endings()
-    ensures yes { due_text [] (Answered Yes) ≡ codes "yes\n" }
-    ensures line { due_text [] (Answered (NotEnabled 11)) ≡ codes "no: line 11\n" }
-    ensures rest { due_text [] (Answered NotAtRest) ≡ codes "no: not at rest\n" }
-    ensures report { due_text [] (Answered OtherReport) ≡ codes "no: report\n" }
+    ensures yes { due_text [] (Answered found.Yes) ≡ codes "yes\n" }
+    ensures line { due_text [] (Answered (found.NotEnabled 11)) ≡ codes "no: line 11\n" }
+    ensures rest { due_text [] (Answered found.NotAtRest) ≡ codes "no: not at rest\n" }
+    ensures report { due_text [] (Answered found.OtherReport) ≡ codes "no: report\n" }
     ensures no_trace { due_text [] (NoTrace 5) ≡ codes "line 5: trace\n" }
     ensures usage { due_text [] BadWords
         ≡ codes "usage: geomrun step | run | gen START COUNT | sweep | watch | trace | verify\n" }
