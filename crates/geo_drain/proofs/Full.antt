@@ -5,12 +5,10 @@ use Rattle.std.proofs.lemmas.Bool.{both_ways}
 use Rattle.geo_model.specs.declared.step.Step.{Step}
 use Rattle.geo_model.specs.Step.{is_enabled}
 use Rattle.geo_model.specs.Log.{is_full}
-use Rattle.geo_model.specs.Order.{Rest, is_at_rest, pick}
-use Rattle.geo_model.specs.FixedOrder.{StepOrder, fixed_order}
+use Rattle.geo_model.specs.Order.{Rest, is_at_rest}
+use Rattle.geo_model.specs.FixedOrder.{StepOrder}
 use Rattle.geo_model.specs.Laws.{Lowers, NoneBusy, OrderEnds, OrderGoesOn}
 use Rattle.geo_laws_steps.proofs.Logs.{firm_after}
-use Rattle.geo_model.proofs.RestLemmas.{pick-rest}
-use Rattle.geo_laws_rest.proofs.Picking.{pick_goes_on}
 use Rattle.geo_laws_owed.proofs.Full.{full_logs_are_long}
 use Rattle.geo_core.specs.Mesh.{IsHistory, MeshView, world_of}
 use Rattle.geo_drain.specs.Drain.{RanFull}
@@ -50,13 +48,14 @@ due_enabled order m s goes_on ends history none_busy due =
     (λ rest. let none : order (world_of m) m.log ≡ None = ends (world_of m) m.log rest in (let bad : ⊥ = cc in bad)) in
     (subst (λ o. IsSomeAnd o Good) due some).0
 
--- the fixed order gives none exactly at rest
-pub pick_none : (m : MeshView) → IsHistory m → NoneBusy (world_of m) → (o : Option Step) → o ≡ pick (world_of m)
+-- an order gives none exactly at rest
+pub none_at_rest : (order : StepOrder) (m : MeshView) → OrderGoesOn order → OrderEnds order → IsHistory m
+    → NoneBusy (world_of m) → (o : Option Step) → o ≡ order (world_of m) m.log
     → IsNone o ↔ Rest (world_of m)
-pick_none m history none_busy o is = (to o is, λ rest. from o (is ∙ pick-rest (world_of m) rest))
+none_at_rest order m goes_on ends history none_busy o is = (to o is, λ rest. from o (is ∙ ends (world_of m) m.log rest))
   where
-    to : (x : Option Step) → x ≡ pick (world_of m) → IsNone x → Rest (world_of m)
-    to None same none = none_due fixed_order m pick_goes_on history none_busy (sym same)
+    to : (x : Option Step) → x ≡ order (world_of m) m.log → IsNone x → Rest (world_of m)
+    to None same none = none_due order m goes_on history none_busy (sym same)
     to (Some s) same none = absurd (let bad : ⊥ = cc in bad)
 
     from : (x : Option Step) → x ≡ None → IsNone x

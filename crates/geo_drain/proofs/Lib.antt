@@ -1,4 +1,5 @@
 pub mod Taking
 pub mod Going
+pub mod Noting
 pub mod Full
 pub mod Lines

@@ -1,44 +1,67 @@
 //! The run to rest.
-ghost use Rattle.std.specs.Prelude.{◌≡◌, IsErrOf, OnOk, map};
+ghost use Rattle.std.specs.Prelude.{◌≡◌, IfErr, IfOk, IsErrOf, OnErr, OnOk, map};
 ghost use Rattle.geo_model.specs.Laws.{NoneBusy};
 ghost use Rattle.geo_model.specs.Order.{Rest};
 ghost use Rattle.geo_serve.specs.Drives.{drive_view};
 ghost use Rattle.geo_core.specs.Mesh.{IsHistory, world_of};
 ghost use Rattle.geo_drain.specs.Drain.{DrivesFit, RanFull, Runs};
+ghost use Rattle.geo_drain.specs.Noted.{KnowsAll, KnowsPart};
 
 use crate::order::Order;
 use crate::refusal::DrainRefusal;
 use crate::turn::turn;
 use geo_core::Mesh;
 use geo_disk::{Disk, Drive};
+use geo_model::Step;
 use geo_pool::Pool;
 use std::alloc::Global;
 
 /// Makes the steps that are due in an order, with seat 0, until the mesh is at rest. After each Take the drive of its
-/// disk serves the request, and the answer is delivered. The drives are those of the mesh, in header order.
-/// `LogFull` only where the step that is due has no place in the log; after a refusal too no bio is Busy.
+/// disk serves the request, and the answer is delivered. The drives are those of the mesh, in header order. The order
+/// notes what the mesh did, at first and after each turn.
+/// `LogFull` only where the step that is due has no place in the log; after a refusal too no bio is Busy, and the order
+/// knows a part of the log.
 pub fn run_to_rest<D: Disk, O: Order>(
     alloc: Global,
     mesh: &mut Mesh,
     disks: &mut [Drive<D>],
-    order: &O,
+    order: &mut O,
 ) -> Result<(), DrainRefusal>
     requires none_busy { NoneBusy (world_of mesh.old) }
     requires fit { DrivesFit mesh.old
         (map (drive_view D.view) disks.old) }
-    ensures runs { Runs (O.due order.now) mesh.old mesh.new
+    requires known { KnowsPart (O.knows order.old) mesh.old }
+    ensures runs { Runs (O.due order.old) mesh.old mesh.new
         (map (drive_view D.view) disks.old)
         (map (drive_view D.view) disks.new) }
     ensures rest { OnOk result (Rest (world_of mesh.new)) }
-    ensures full { IsErrOf result DrainRefusal.LogFull → RanFull (O.due order.now) mesh.new }
+    ensures full { IsErrOf result DrainRefusal.LogFull → RanFull (O.due order.old) mesh.new }
     ensures none_busy { NoneBusy (world_of mesh.new) }
     ensures history { IsHistory mesh.new }
+    ensures known { OnOk result (KnowsAll (O.knows order.new) mesh.new) }
+    ensures part { OnErr result (KnowsPart (O.knows order.new) mesh.new) }
 {
     // The log is one that a mesh can have, so each step that is due can be made.
     let _log = mesh.log();
     let mut pool = Pool::new(alloc);
-    while let Some(step) = order.next(mesh) {
+    while let Some(step) = next_step(mesh, order)? {
         turn(alloc, mesh, disks, &mut pool, step)?;
     }
     Ok(())
+}
+
+// Notes what the mesh did, and gives the step that is due.
+fn next_step<O: Order>(mesh: &Mesh, order: &mut O) -> Result<Option<Step>, DrainRefusal>
+    requires none_busy { NoneBusy (world_of mesh.now) }
+    requires known { KnowsPart (O.knows order.old) mesh.now }
+    ensures due { IfOk result (λ step. step ≡ O.due order.old (world_of mesh.now) mesh.now.log) }
+    ensures known { OnOk result (KnowsAll (O.knows order.new) mesh.now) }
+    ensures same { O.due order.new ≡ O.due order.old }
+    ensures refused { IfErr result (λ refusal. refusal ≡ DrainRefusal.NoMemory) }
+    ensures part { OnErr result (KnowsPart (O.knows order.new) mesh.now) }
+{
+    match order.note(mesh) {
+        Ok(()) => Ok(order.next(mesh)),
+        Err(_) => Err(DrainRefusal::NoMemory),
+    }
 }

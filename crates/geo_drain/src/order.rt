@@ -1,25 +1,40 @@
 //! Orders in which one thread makes the steps of a mesh.
-ghost use Rattle.std.specs.Prelude.{◌≡◌};
+ghost use Rattle.std.specs.Prelude.{◌≡◌, [], List, OnErr, OnOk, ⊤};
+ghost use Rattle.geo_model.specs.declared.step.Entry.{Entry as EntryValue};
 ghost use Rattle.geo_model.specs.FixedOrder.{StepOrder, fixed_order};
 ghost use Rattle.geo_model.specs.Laws.{NoneBusy, OrderEnds, OrderGoesOn};
+ghost use Rattle.geo_model.specs.World.{World};
 ghost use Rattle.geo_model.proofs.RestLemmas.{pick-rest};
 ghost use Rattle.geo_laws_rest.proofs.Picking.{pick_goes_on};
-ghost use Rattle.geo_core.specs.Mesh.{world_of};
+ghost use Rattle.geo_core.specs.Mesh.{opened, world_of};
+ghost use Rattle.geo_drain.specs.Noted.{KnowsAll, KnowsPart};
 
 use crate::picking::pick;
+use geo_base::NoMemory;
 use geo_core::Mesh;
 use geo_model::Step;
 
 /// An order in which one thread makes the steps of a mesh. Where a legal log leads without a Busy bio, and not to rest,
-/// it gives an enabled step.
+/// it gives an enabled step. It may keep what it needs of what the mesh did, and notes that after each turn.
 pub trait Order {
     /// The step that is due in a world after its log, if there is one.
     ghost due: { Self → StepOrder };
 
-    /// The step that is due, where no bio is Busy.
+    /// What the order has noted is right for a mesh that opened so and has this log.
+    ghost knows: { Self → World → List EntryValue → Type 0 };
+
+    /// The step that is due, where no bio is Busy and all that the mesh did is noted.
     fn next(&self, mesh: &Mesh) -> Option<Step>
-        requires { NoneBusy (world_of mesh.now) }
+        requires none_busy { NoneBusy (world_of mesh.now) }
+        requires known { KnowsAll (knows self.now) mesh.now }
         ensures { result ≡ due self.now (world_of mesh.now) mesh.now.log };
+
+    /// Notes what the mesh did since. On `NoMemory` it may know nothing, as before the first entry.
+    fn note(&mut self, mesh: &Mesh) -> Result<(), NoMemory>
+        requires earlier { KnowsPart (knows self.old) mesh.now }
+        ensures noted { OnOk result (KnowsAll (knows self.new) mesh.now) }
+        ensures forgot { OnErr result (knows self.new (opened mesh.now) []) }
+        ensures due { due self.new ≡ due self.old };
 
     /// Where a legal log leads without a Busy bio, the step that is due is enabled and lowers the measure.
     ghost goes_on: { (order : Self) → OrderGoesOn (due order) };
@@ -29,15 +44,21 @@ pub trait Order {
 }
 
 /// The fixed order: Up, Take and Start of the smallest bio, Judge, Event, Reap, Wash, and then the Go of the actor
-/// whose next line is the smallest.
+/// whose next line is the smallest. It notes nothing.
 #[derive(Clone, Copy, Debug)]
 pub struct FixedOrder;
 
 impl Order for FixedOrder {
     ghost due = { λ _. fixed_order };
 
+    ghost knows = { λ _ _ _. ⊤ };
+
     fn next(&self, mesh: &Mesh) -> Option<Step> {
         pick(mesh)
+    }
+
+    fn note(&mut self, _mesh: &Mesh) -> Result<(), NoMemory> {
+        Ok(())
     }
 
     ghost goes_on = { λ _. pick_goes_on };

@@ -57,8 +57,8 @@ fn first_enabled(mesh: &Mesh) -> Option<Step>
     }
 }
 
-// A step, if it is enabled.
-fn if_enabled(mesh: &Mesh, step: Step) -> Option<Step>
+/// A step, if seat 0 can make it.
+pub fn if_enabled(mesh: &Mesh, step: Step) -> Option<Step>
     ensures { result ≡ if_enabled (world_of mesh.now) step }
 {
     if mesh.enabled(0, &step) {
@@ -68,8 +68,8 @@ fn if_enabled(mesh: &Mesh, step: Step) -> Option<Step>
     }
 }
 
-// The actor whose next line is the smallest among those whose next command is enabled.
-fn earliest(mesh: &Mesh) -> Option<u32>
+/// The actor whose next line is the smallest among those whose next command is enabled, if there is one.
+pub fn earliest(mesh: &Mesh) -> Option<u32>
     ensures { result ≡ earliest (ready_actors (world_of mesh.now)) }
 {
     let mut best: Option<(u32, u32)> = None;

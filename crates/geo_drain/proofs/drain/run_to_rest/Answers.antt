@@ -1,32 +1,51 @@
-use Rattle.std.proofs.Common.{◌≡◌, ◌∙◌, Err, map, sym, subst, ap}
+use Rattle.std.proofs.Common.{◌≡◌, ◌∙◌, Err, Some, map, refl, sym, subst, ap}
 use Rattle.std.proofs.lemmas.Result.{err_from_is_err_and}
 use Rattle.geo_serve.specs.Drives.{drive_view}
-use Rattle.geo_core.specs.Mesh.{MeshView}
+use Rattle.geo_core.specs.Mesh.{MeshView, world_of}
 use Rattle.geo_drain.specs.declared.refusal.DrainRefusal.TheVariants.{LogFull}
 use Rattle.geo_drain.specs.Drain.{RanFull}
 use Rattle.geo_drain.proofs.Full.{ran_full}
 use Rattle.geo_drain.proofs.Going.{begins, goes_on}
+use Rattle.geo_drain.proofs.Noting.{due_same, part_after}
 use Rattle.geo_drain.proofs.drain.run_to_rest.Goals as goal
 
-pub loop-step-init : goal.loop-step-init
-loop-step-init g c =
-    let seen = drive_view g.D.Disk.view in
-    begins (g.O.Order.due c.args.order.now) c.args.mesh.now (map seen c.args.disks.now) c.requires.none_busy
-    c.log-log.ensures.history c.requires.fit
+pub loop-pool-init : goal.loop-pool-init
+loop-pool-init g c =
+    let seen = drive_view g.D.Disk.view in (
+      begins (g.O.Order.due c.args.order.now) c.args.mesh.now (map seen c.args.disks.now) c.requires.none_busy
+          c.log-log.ensures.history c.requires.fit,
+      record { same = refl; part = c.requires.known },
+    )
 
-pub loop-step-preserved : goal.loop-step-preserved
-loop-step-preserved g c =
+pub loop-pool-preserved : goal.loop-pool-preserved
+loop-pool-preserved g c =
     let seen = drive_view g.D.Disk.view in
-    goes_on (g.O.Order.due c.args.order.now) c.args.mesh.now c.loop-step.mesh c.turn.new.mesh
-    (map seen c.args.disks.now) (map seen c.loop-step.disks) (map seen c.turn.new.disks) c.in-Some.step
-    c.loop-step.invariant (sym c.in-Some.ensures) c.in_ok-turn.ensures.history c.in_ok-turn.ensures.made
+    let order = g.O.Order.due c.args.order.now in
+    let l = c.loop-pool in
+    let run = l.invariant.0 in
+    let due : order (world_of l.mesh) l.mesh.log ≡ Some c.in-Some.step =
+    due_same order (g.O.Order.due l.order) (world_of l.mesh) l.mesh.log c.in_ok-step.field-0 c.in-Some.step
+    l.invariant.1.same c.in_ok-step.ensures.due c.in-Some.is in (
+      goes_on order c.args.mesh.now l.mesh c.turn.new.mesh (map seen c.args.disks.now) (map seen l.disks)
+          (map seen c.turn.new.disks) c.in-Some.step run due c.in_ok-turn.ensures.history c.in_ok-turn.ensures.made,
+      record {
+        same = c.in_ok-step.ensures.same ∙ l.invariant.1.same;
+        part = part_after (g.O.Order.knows c.next_step.new.order) order l.mesh c.turn.new.mesh (map seen l.disks)
+            (map seen c.turn.new.disks) c.in-Some.step run.none_busy run.history run.fit due
+            c.in_ok-turn.ensures.history c.in_ok-turn.ensures.made c.in_ok-step.ensures.known;
+      },
+    )
 
 pub returns-in_err-turn-clause-full : goal.returns-in_err-turn-clause-full
 returns-in_err-turn-clause-full g c =
-    let p = err_from_is_err_and c.from_residual.result c.from_residual.ensures.1 in
+    let l = c.loop-pool in
+    let order = g.O.Order.due c.args.order.now in
+    let due : order (world_of l.mesh) l.mesh.log ≡ Some c.in-Some.step =
+    due_same order (g.O.Order.due l.order) (world_of l.mesh) l.mesh.log c.in_ok-step.field-0 c.in-Some.step
+    l.invariant.1.same c.in_ok-step.ensures.due c.in-Some.is in
+    let p = err_from_is_err_and c.from_residual-in_err-turn.result c.from_residual-in_err-turn.ensures.1 in
     λ e.
     let same = sym p.1 ∙ e in
     let full : c.in_err-turn.field-0.0 ≡ LogFull = cc (same, p.2) in
-    subst (λ (m : MeshView). RanFull (g.O.Order.due c.args.order.now) m) (sym c.in_err-turn.ensures.mesh)
-    (ran_full (g.O.Order.due c.args.order.now) c.loop-step.mesh c.in-Some.step c.loop-step.invariant.history
-    (sym c.in-Some.ensures) (c.in_err-turn.ensures.full (ap Err full)))
+    subst (λ (m : MeshView). RanFull order m) (sym c.in_err-turn.ensures.mesh)
+    (ran_full order l.mesh c.in-Some.step l.invariant.0.history due (c.in_err-turn.ensures.full (ap Err full)))

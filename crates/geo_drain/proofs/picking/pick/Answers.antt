@@ -1,7 +1,9 @@
 use Rattle.std.proofs.Common.{sym, ◌∙◌}
+use Rattle.geo_model.specs.FixedOrder.{fixed_order}
 use Rattle.geo_model.proofs.RestLemmas.{pick-rest}
+use Rattle.geo_laws_rest.proofs.Picking.{pick_goes_on}
 use Rattle.geo_core.specs.Mesh.{world_of}
-use Rattle.geo_drain.proofs.Full.{pick_none}
+use Rattle.geo_drain.proofs.Full.{none_at_rest}
 use Rattle.geo_drain.proofs.picking.pick.Goals as goal
 
 pub returns-then-at_rest-clause-picked : goal.returns-then-at_rest-clause-picked
@@ -10,4 +12,5 @@ returns-then-at_rest-clause-picked c =
 
 pub returns-clause-rest : goal.returns-clause-rest
 returns-clause-rest c =
-    pick_none c.args.mesh.now c.at_rest.ensures.history c.requires c.first_enabled.result c.first_enabled.ensures
+    none_at_rest fixed_order c.args.mesh.now pick_goes_on (λ w _ rest. pick-rest w rest) c.at_rest.ensures.history
+    c.requires c.first_enabled.result c.first_enabled.ensures
