@@ -18,8 +18,7 @@ use Rattle.geo_model.proofs.LogLemmas.{replay-append, Legal-back}
 use Rattle.geo_laws_steps.proofs.Logs.{firm_after}
 use Rattle.geo_headline.specs.Sweep.{waiting_for, head_of, head_after}
 use Rattle.geo_laws_sweep.specs.SweepLaws.{is_queued, is_asked}
-use Rattle.geo_core.specs.Sent.{spot_of}
-use Rattle.geo_core.specs.Mesh.{MeshView, IsHistory, opened, world_of}
+use Rattle.geo_drain.specs.Meshes.{MeshView, IsHistory, opened, world_of, spot_of}
 use Rattle.geo_elev.specs.declared.disks.DiskHead.{DiskHead}
 use Rattle.geo_elev.specs.Lists.{one_at}
 use Rattle.geo_elev.specs.Heads.{AreHeads, HeadsView, disk_head, disk_heads}

@@ -8,3 +8,4 @@ pub mod Spots
 pub mod Histories
 pub mod Gathered
 pub mod Nexts
+pub mod Forgetting

@@ -7,7 +7,7 @@ use Rattle.geo_model.specs.Words.{first_some}
 use Rattle.geo_model.specs.World.{World, HeaderDisk}
 use Rattle.geo_headline.specs.Sweep.{first_take, next_take}
 use Rattle.geo_laws_disks.proofs.Inside.{disks_are_asked}
-use Rattle.geo_core.specs.Mesh.{MeshView, IsHistory, opened, world_of}
+use Rattle.geo_drain.specs.Meshes.{MeshView, IsHistory, opened, world_of}
 use Rattle.geo_elev.specs.declared.disks.DiskHead.{DiskHead}
 use Rattle.geo_elev.specs.Heads.{AreHeads, HeadsView, disk_head, first_by, take_by}
 

@@ -6,8 +6,7 @@ use Rattle.std.proofs.lemmas.Bool.{eqb-true, eq-eqb}
 use Rattle.geo_model.specs.World.{World, Bio, bio_at, is_sent}
 use Rattle.geo_model.specs.Bios.{disk_at, sector_at}
 use Rattle.geo_headline.specs.Sweep.{Waiting, waiting_of, is_sent_to, waiting_for}
-use Rattle.geo_core.specs.declared.sent.Spot.{Spot}
-use Rattle.geo_core.specs.Sent.{spot_in, spot_of}
+use Rattle.geo_drain.specs.Meshes.{Spot, spot_in, spot_of}
 use Rattle.geo_elev.specs.Lists.{one_at}
 use Rattle.geo_elev.specs.Following.{place_of}
 use Rattle.geo_elev.proofs.Following.{of_waiting}

@@ -9,8 +9,7 @@ use Rattle.geo_model.specs.declared.step.Step.TheVariants as steps
 use Rattle.geo_model.specs.Words.{is_flush}
 use Rattle.geo_model.specs.World.{World}
 use Rattle.geo_model.specs.Log.{replay}
-use Rattle.geo_core.specs.declared.sent.Spot.{Spot}
-use Rattle.geo_core.specs.Sent.{spot_of}
+use Rattle.geo_drain.specs.Meshes.{Spot, spot_of}
 use Rattle.geo_elev.specs.declared.disks.DiskHead.{DiskHead}
 use Rattle.geo_elev.specs.declared.lists.Place.{Place}
 use Rattle.geo_elev.specs.Lists.{one_at}

@@ -4,7 +4,7 @@ use Rattle.std.specs.List.{range_with_len}
 use Rattle.geo_model.specs.declared.step.Entry.{Entry}
 use Rattle.geo_model.specs.World.{World, Bio}
 use Rattle.geo_headline.specs.Sweep.{Waiting, waiting_of, is_sent_to, head_of}
-use Rattle.geo_core.specs.declared.sent.Spot.{Spot}
+use Rattle.geo_drain.specs.Meshes.{Spot}
 use Rattle.geo_elev.specs.declared.disks.DiskHead.{DiskHead}
 use Rattle.geo_elev.specs.Lists.{one_at}
 use Rattle.geo_elev.specs.Disks.{ChangesOne, Queues}

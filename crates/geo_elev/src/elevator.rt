@@ -1,11 +1,11 @@
 //! What the elevator keeps beside a mesh.
-ghost use Rattle.std.specs.Prelude.{◌≡◌, ◌<◌, ◌≤◌, ◌^◌, List, IfOk, OnErr, OnOk, length, map, take};
+ghost use Rattle.std.specs.Prelude.{◌≡◌, ◌<◌, ◌≤◌, ◌^◌, List, [], IfOk, OnErr, OnOk, length, map, take};
 ghost use Rattle.std.specs.List.{enumerate_from};
 ghost use Rattle.geo_model.specs.Words.{first_some};
 ghost use Rattle.geo_model.specs.declared.step.Entry.{Entry as EntryValue};
 ghost use Rattle.geo_model.specs.Log.{IsPrefixOf};
 ghost use Rattle.geo_headline.specs.Sweep.{first_take};
-ghost use Rattle.geo_core.specs.Mesh.{IsHistory, MeshView, opened, world_of};
+ghost use Rattle.geo_drain.specs.Meshes.{MeshView, IsHistory, opened, world_of};
 ghost use Rattle.geo_elev.specs.Following.{heads_at};
 ghost use Rattle.geo_elev.specs.Heads.{AreHeads, first_by, no_heads, take_by};
 
@@ -13,7 +13,7 @@ use crate::disks::DiskHead;
 use crate::gathering::{forget_all, gather, none};
 use crate::heads::follow_all;
 use geo_base::NoMemory;
-use geo_core::Mesh;
+use geo_drain::Mesh;
 use geo_model::Step;
 use std::alloc::Global;
 use std::marker::Model;
@@ -37,9 +37,11 @@ impl Model for Heads {
 }
 
 impl Heads {
-    /// Of so many disks, with nothing known of them.
+    /// Of so many disks, with nothing known of them, as a mesh of so many is before its first entry.
     pub fn new(alloc: Global, disks: u32) -> Result<Heads, NoMemory>
-        ensures { IfOk result (λ h. h ≡ no_heads disks) }
+        ensures none { IfOk result (λ h. h ≡ no_heads disks) }
+        ensures begin { IfOk result (λ h. (m : MeshView) → IsHistory m → disks ≡ length m.plan.disks
+            → AreHeads (opened m) [] h) }
     {
         Ok(Heads {
             disks: none(alloc, disks)?,

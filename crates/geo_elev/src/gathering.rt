@@ -2,8 +2,7 @@
 ghost use Rattle.std.specs.Prelude.{◌≡◌, ◌<◌, ◌^◌, ℕ, List, [], ◌∷◌, ◌++◌, IfOk, OnOk, length, map};
 ghost use Rattle.std.specs.List.{range_with_len};
 ghost use Rattle.geo_model.specs.declared.step.Entry.{Entry as EntryValue};
-ghost use Rattle.geo_core.specs.Mesh.{IsHistory, opened, world_of};
-ghost use Rattle.geo_core.specs.Sent.{spot_of};
+ghost use Rattle.geo_drain.specs.Meshes.{IsHistory, opened, world_of, spot_of};
 ghost use Rattle.geo_elev.specs.Heads.{disk_heads, no_head};
 ghost use Rattle.geo_elev.specs.Gathering.{Puts, bare_heads};
 
@@ -11,7 +10,7 @@ use crate::disks::{DiskHead, move_head, queued};
 use crate::heads::place_of;
 use crate::queue::Queue;
 use geo_base::{BioId, NoMemory};
-use geo_core::Mesh;
+use geo_drain::Mesh;
 use geo_model::{Entry, Outcome};
 use std::alloc::Global;
 

@@ -3,13 +3,13 @@ ghost use Rattle.std.specs.Prelude.{◌≡◌, ◌≤◌, ℕ, List, IfOk, IfSom
 ghost use Rattle.geo_model.specs.declared.step.Entry.{Entry as EntryValue};
 ghost use Rattle.geo_model.specs.declared.step.Step.TheVariants as steps;
 ghost use Rattle.geo_model.specs.Words.{is_flush};
-ghost use Rattle.geo_core.specs.Mesh.{IsHistory, opened, world_of};
+ghost use Rattle.geo_drain.specs.Meshes.{IsHistory, opened, world_of};
 ghost use Rattle.geo_elev.specs.Following.{ComesAfter, Followed, Starts, Takes, heads_at, is_quiet, place_of};
 
 use crate::disks::{DiskHead, asked, queued};
 use crate::lists::Place;
 use geo_base::{BioCmd, BioId, NoMemory};
-use geo_core::{Mesh, Spot};
+use geo_drain::{Mesh, Spot};
 use geo_model::{Entry, Outcome, Request, Step};
 
 /// Follows an entry of the log; false, where what waits has to be gathered anew. On `NoMemory` the disks are as many.

@@ -1,6 +1,5 @@
 use Rattle.std.proofs.Common.{◌≡◌, ◌∙◌, ◌<◌, ◌≤◌, ◌+◌, ℕ, List, sym, subst, refl, arith}
-use Rattle.geo_core.specs.Mesh.{world_of}
-use Rattle.geo_core.specs.Sent.{spot_of}
+use Rattle.geo_drain.specs.Meshes.{world_of, spot_of}
 use Rattle.geo_elev.specs.declared.disks.DiskHead.{DiskHead}
 use Rattle.geo_elev.specs.Gathering.{Puts, heads_below}
 use Rattle.geo_elev.proofs.Gathered.{walk_begins, walk_ends, walk_goes_on, not_before, was_given}

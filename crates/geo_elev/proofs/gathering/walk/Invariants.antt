@@ -1,7 +1,7 @@
 -- What waits of the bios that were passed.
 use Rattle.std.proofs.Common.{◌≡◌, ◌-◌, ℕ, List, length}
 use Rattle.geo_model.specs.declared.step.Entry.{Entry}
-use Rattle.geo_core.specs.Mesh.{world_of}
+use Rattle.geo_drain.specs.Meshes.{world_of}
 use Rattle.geo_elev.specs.Gathering.{bare_heads, heads_below}
 use Rattle.geo_elev.proofs.gathering.walk.Given as goal
 

@@ -1,6 +1,6 @@
 use Rattle.std.proofs.Common.{◌≡◌, ◌∙◌, ℕ, List, sym, subst}
 use Rattle.geo_model.specs.declared.step.Entry.{Entry}
-use Rattle.geo_core.specs.Mesh.{opened, world_of}
+use Rattle.geo_drain.specs.Meshes.{opened, world_of}
 use Rattle.geo_elev.specs.declared.disks.DiskHead.{DiskHead}
 use Rattle.geo_elev.specs.Following.{ComesAfter, Followed, Starts, Takes, heads_at}
 use Rattle.geo_elev.proofs.Histories.{if_ok, quiet_then, take_then, start_then}

@@ -1,6 +1,6 @@
 -- The disks after the entries so far.
 use Rattle.std.proofs.Common.{◌≡◌, ◌-◌, ℕ, length, take}
-use Rattle.geo_core.specs.Mesh.{opened}
+use Rattle.geo_drain.specs.Meshes.{opened}
 use Rattle.geo_elev.specs.Following.{heads_at}
 use Rattle.geo_elev.proofs.heads.follow_all.Given as goal
 

@@ -1,7 +1,9 @@
-use Rattle.std.proofs.Common.{◌≡◌, ◌∙◌, List, length, ap, arith}
+use Rattle.std.proofs.Common.{◌≡◌, ◌∙◌, List, [], length, ap, arith, subst, sym}
 use Rattle.std.proofs.lemmas.List.FromFn.{length-map-range_with_len}
 use Rattle.geo_elev.specs.declared.disks.DiskHead.{DiskHead}
-use Rattle.geo_elev.specs.Heads.{no_head}
+use Rattle.geo_drain.specs.Meshes.{opened}
+use Rattle.geo_elev.specs.Heads.{AreHeads, no_head}
+use Rattle.geo_elev.proofs.Forgetting.{new_heads}
 use Rattle.geo_elev.proofs.elevator.Heads.new.Goals as goal
 
 pub invariant_of-result : goal.invariant_of-result
@@ -10,3 +12,8 @@ invariant_of-result c =
     ap (λ (ds : List DiskHead). length ds) c.in_ok-none.ensures ∙ length-map-range_with_len no_head 0 c.args.disks in
     let fits = c.ranges.disks.fits in
     omega (arith, count, fits)
+
+pub returns-clause-begin : goal.returns-clause-begin
+returns-clause-begin c = λ m history is.
+    subst (λ (ds : List DiskHead). AreHeads (opened m) [] (record { disks = ds; noted = 0 }))
+    (sym c.in_ok-none.ensures) (new_heads m history c.args.disks is)

@@ -1,7 +1,7 @@
 use Rattle.std.proofs.Common.{◌≡◌, ◌∙◌, List, drop, length, sym, subst, ap}
 use Rattle.geo_model.specs.declared.step.Entry.{Entry}
 use Rattle.geo_elev.specs.declared.disks.DiskHead.{DiskHead}
-use Rattle.geo_core.specs.Mesh.{opened}
+use Rattle.geo_drain.specs.Meshes.{opened}
 use Rattle.geo_elev.specs.Heads.{AreHeads}
 use Rattle.geo_elev.proofs.Histories.{noted_then, written_whole}
 use Rattle.geo_elev.proofs.elevator.Heads.note.Goals as goal
