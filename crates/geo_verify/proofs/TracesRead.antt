@@ -7,8 +7,9 @@ use Rattle.geo_model.specs.World.{Plan}
 use Rattle.geo_model.specs.Log.{made}
 use Rattle.geo_model.specs.Plans.{IsDiskDecl, FactsFit}
 use Rattle.geo_model.specs.Script.{Fault, script, lines_of}
+use Rattle.geo_headline.specs.declared.verified.Verified.{Verified}
 use Rattle.geo_headline.specs.Traces.{Trace, ReadTrace, TraceFault, InScript, Reading, then_read, Sized, read_sizes, read_steps, read_behind, read_after, read_trace, told_line, script_part, marked_part, parts_of}
-use Rattle.geo_headline.specs.Verifying.{Verified, found_of, found_read, verified, found_unless, log_of, stopped_at, found_of_log}
+use Rattle.geo_headline.specs.Verifying.{found_of, found_read, verified, found_unless, log_of, stopped_at, found_of_log}
 use Rattle.geo_laws_traces.proofs.Lines.{some_part}
 use Rattle.geo_laws_traces.proofs.Sizes.{AreSizes, sizes_tell}
 use Rattle.geo_core.specs.Mesh.{MeshView, opened}
@@ -152,3 +153,23 @@ pub text_found : (text : List ℕ) (r : Replayed) (found : Verified) → IsRepla
 unfolding verified
 text_found text r found replays is =
     ap found_read replays.1.0 ∙ ap Ok (sym (is ∙ found_is replays.0 r replays.1.1))
+
+-- what is refused when it is read is refused of what is found
+fault_found : (read : Result ReadTrace TraceFault) (refusal : VerifyRefusal) → IsVerifyRefusal read refusal
+    → IsVerifyRefusal (found_read read) refusal
+fault_found read (refusals.Script line cause) fault = ap found_read fault
+fault_found read (refusals.Trace line) fault = ap found_read fault
+fault_found read refusals.NoMemory fault = tt
+
+pub text_unfound : (text : List ℕ) (refusal : VerifyRefusal) → IsVerifyRefusal (read_trace text) refusal
+    → IsVerifyRefusal (verified text) refusal
+unfolding verified
+text_unfound text refusal fault = fault_found (read_trace text) refusal fault
+
+-- what is found of a text by what was made of it, or want of memory
+pub text_judged : (text : List ℕ) (r : Replayed) (result : Result Verified VerifyRefusal)
+    → IsReplayOf (read_trace text) r
+    → MatchResult result (λ answer. answer ≡ found_with r) (λ refusal. refusal ≡ refusals.NoMemory)
+    → MatchResult result (λ answer. verified text ≡ Ok answer) (IsVerifyRefusal (verified text))
+text_judged text r (Ok answer) replays is = text_found text r answer replays is
+text_judged text r (Err refusal) replays is = subst (IsVerifyRefusal (verified text)) (sym is) tt

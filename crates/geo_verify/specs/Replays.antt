@@ -3,8 +3,10 @@ use Rattle.std.specs.Prelude.{◌≡◌, ℕ, List, Bool, not, Option, Result, O
 use Rattle.geo_model.specs.World.{Plan}
 use Rattle.geo_model.specs.Order.{is_at_rest}
 use Rattle.geo_model.specs.Report.{report}
+use Rattle.geo_headline.specs.declared.verified.Verified.{Verified}
+use Rattle.geo_headline.specs.declared.verified.Verified.TheVariants as found
 use Rattle.geo_headline.specs.Traces.{Trace, ReadTrace, TraceFault, InScript, InTrace, Reading, then_read}
-use Rattle.geo_headline.specs.Verifying.{Verified, Yes, NotEnabled, NotAtRest, OtherReport, log_of, stopped_at, found_unless}
+use Rattle.geo_headline.specs.Verifying.{log_of, stopped_at, found_unless}
 use Rattle.geo_core.specs.Mesh.{MeshView, opened, world_of}
 use Rattle.geo_verify.specs.declared.place.Place.{Place}
 use Rattle.geo_verify.specs.declared.refusal.VerifyRefusal.{VerifyRefusal}
@@ -12,8 +14,8 @@ use Rattle.geo_verify.specs.declared.refusal.VerifyRefusal.TheVariants as refusa
 use Rattle.geo_verify.specs.declared.replaying.Replayed.{Replayed}
 use Rattle.geo_verify.specs.Forms.{IsFormFault, steps_from}
 
--- a refusal names the first fault of a text, unless memory ran out
-abbrev pub IsVerifyRefusal : Result ReadTrace TraceFault → VerifyRefusal → Type 0
+-- a refusal names the first fault of what is read or found of a text, unless memory ran out
+abbrev pub IsVerifyRefusal : {A : Type 0} → Result A TraceFault → VerifyRefusal → Type 0
 IsVerifyRefusal read (refusals.Script line cause) = read ≡ Err (InScript line cause)
 IsVerifyRefusal read (refusals.Trace line) = read ≡ Err (InTrace line)
 IsVerifyRefusal read refusals.NoMemory = Unit {0}
@@ -45,8 +47,8 @@ trace_from plan facts place =
 abbrev pub found_from : MeshView → List ℕ → Verified
 found_from m expected =
     if not (is_at_rest (world_of m))
-    then NotAtRest
-    else if bytes_eq (report m.plan (opened m) m.log) expected then Yes else OtherReport
+    then found.NotAtRest
+    else if bytes_eq (report m.plan (opened m) m.log) expected then found.Yes else found.OtherReport
 
 -- the same where steps may have stopped
 abbrev pub found_with : Replayed → Verified

@@ -62,8 +62,8 @@ fn entry_fits(entry: &Entry)
     step_fits(&entry.step);
 }
 
-/// The entries of a log that delivers no more bytes at once than a request can ask for can be written as they are: their
-/// numbers and bytes are within the ranges of their types.
+/// The entries of a log that delivers no more bytes at once than a request can ask for can be written as they are:
+/// their numbers and bytes are within the ranges of their types.
 pub fn are_writable(entries: &[Entry])
     ensures { All (λ e. FewBytes e.step) entries.now → AreWritable (steps_of entries.now) }
 {

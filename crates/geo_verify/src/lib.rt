@@ -1,8 +1,22 @@
-//! Traces as texts: a trace of a log is written, one is read and its steps are made again, and what is found of it.
+//! Traces: the run of a mesh as a text, which is written, made again, and verified.
+//!
+//! A trace has all that a run was made of: who made which steps, and what disks answered. Each of its lines ends with a
+//! line feed. They are, in this order:
+//!
+//! - the lines of a script. No line of a script begins with `%`, and each line behind it does.
+//! - `% disk SECTORS`, for each disk of the shelf in the order of the script: 1 or more, and at most 2^40 bytes.
+//! - `% SEAT STEP`, for each entry of the log. STEP is `go ACTOR`, `event`, `judge`, `reap`, `wash`, `start BIO`,
+//!   `take DISK BIO`, `up BIO`, or `deliver BIO` with what the disk answered: `done`, `failed SECTORS` with how many it
+//!   had done by then, or `bytes RUNS` with what it had read, as `write` has bytes in a script.
+//! - `% report`. All that stands behind it, to the end of the text, is the report, byte by byte.
+//!
+//! Words are separated by one space. Numbers are decimal, actors and disks counted from 0 in the order of the script;
+//! those of bios are below 2^64, all others below 2^32. A trace has one text alone for each text of its script.
 #![tactic(auto)]
 
 mod answer;
 mod cut;
+mod finding;
 mod fits;
 mod line;
 mod make;
@@ -14,6 +28,8 @@ mod step;
 mod steps;
 mod write;
 
+pub use finding::verify;
+pub use geo_headline::Verified;
 pub use refusal::VerifyRefusal;
 pub use replaying::{Replayed, replay};
 pub use write::trace_text;

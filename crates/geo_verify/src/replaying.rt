@@ -58,9 +58,10 @@ fn replay_behind(alloc: Global, plan: Plan, place: Place<'_>) -> Result<Replayed
     replay_steps(alloc, plan, &facts, steps)
 }
 
-/// Reads a trace, and makes its steps up to the first that isn't enabled. The form of the whole text is judged before
-/// any step is made, so there are two passes over it, and no list of steps. `Script` where what stands before the first
-/// line with a mark isn't a script, with its first fault; `Trace` only else, with the first line that isn't of the form.
+/// Reads a trace of at most 64 MiB, and makes its steps up to the first that isn't enabled; the mesh is as it was
+/// before that one. The form of the whole text is judged before any step is made, so there are two passes over it, and
+/// no list of steps. `Script` where what stands before the first line with a mark isn't a script, with its first fault;
+/// `Trace` only else, with the first line that isn't of the form.
 pub fn replay(alloc: Global, text: &[u8]) -> Result<Replayed, VerifyRefusal>
     requires few { length text.now ≤ 67108864 }
     ensures { MatchResult result (λ r. IsReplayOf (read_trace text.now) r) (IsVerifyRefusal (read_trace text.now)) }

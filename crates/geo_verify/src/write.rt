@@ -137,7 +137,8 @@ fn add_front(
     facts: &[(u32, u64)],
 ) -> Result<(), NoMemory>
     requires { length disks.now ≡ length facts.now }
-    ensures { OnOk result (text.new ≡ text.old ++ ended_script script.now ++ flat_map size_line (zip disks.now facts.now)) }
+    ensures { OnOk result (text.new
+        ≡ text.old ++ ended_script script.now ++ flat_map size_line (zip disks.now facts.now)) }
 {
     add_script(text, script)?;
     add_sizes(text, disks, facts)
@@ -182,8 +183,8 @@ fn lines_len(alloc: Global, entries: &[Entry]) -> Result<usize, NoMemory> {
 }
 
 /// A trace is written: a script with its last line ended, the sizes of the disks of its plan, the steps of a log with
-/// their seats, and a report. What its lines take is counted first, so that the memory is taken once. It is read as
-/// what it was written of, since the log is one that the script can have.
+/// their seats, and a report. Any mesh that began with this plan and these sizes has such a log, at each moment. What
+/// its lines take is counted first, so that the memory is taken once. It is read as what it was written of.
 pub fn trace_text(
     alloc: Global,
     plan: &Plan,
