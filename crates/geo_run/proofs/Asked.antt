@@ -1,15 +1,23 @@
 -- What a run to rest did with all drives.
-use Rattle.std.proofs.Common.{◌≡◌, ℕ, ◌+◌, List, [], ◌∷◌, suc, Result, Ok, Err, OnOk, slice_get, subst, arith}
+use Rattle.std.proofs.Common.{◌≡◌, ℕ, ◌+◌, List, [], ◌∷◌, suc, Result, Ok, Err, OnOk, IsErrOf, slice_get, refl, sym, ap, subst, arith}
+use Rattle.std.proofs.lemmas.List.{append-nil}
 use Rattle.geo_model.specs.declared.step.Entry.{Entry}
-use Rattle.geo_model.specs.FixedOrder.{fixed_order}
+use Rattle.geo_model.specs.FixedOrder.{StepOrder, fixed_order}
 use Rattle.geo_model.specs.History.{RanToItsEnd}
 use Rattle.geo_model.specs.Order.{Rest}
+use Rattle.geo_headline.specs.Endings.{order_of}
+use Rattle.geo_headline.specs.Sweep.{sweep_order}
 use Rattle.geo_serve.specs.Served.{AreServed, IsServedAt}
-use Rattle.geo_drain.specs.Meshes.{IsHistory, MeshView, opened, world_of}
-use Rattle.geo_drain.specs.Drain as drain
+use Rattle.geo_elev.specs.Meshes.{IsHistory, MeshView, opened, world_of}
+use Rattle.geo_elev.specs.Drain as drain
 use Rattle.geo_laws_requests.proofs.Complete.{legal_logs_complete_requests}
+use Rattle.geo_laws_disks.proofs.Drives.{all_served_none}
+use Rattle.geo_laws_disks.proofs.Splits.{none_in}
 use Rattle.geo_run.specs.Drives.{DriveView, ServeAll}
 use Rattle.geo_run.specs.Rest.{Adds, RanFull}
+use Rattle.geo_run.specs.Work.{mode_of}
+use Rattle.geo_run.specs.declared.words.Work.{Work}
+use Rattle.geo_run.specs.declared.words.Work.TheVariants as works
 
 serve_all : (log : List Entry) (n : ℕ) (xs ys : List DriveView)
     → ((i k : ℕ) → k ≡ n + i → IsServedAt log k (slice_get xs i) (slice_get ys i)) → ServeAll log n xs ys
@@ -26,13 +34,22 @@ served_all log xs ys h = serve_all log 0 xs ys (λ i k e.
 
 -- A run to rest
 
-pub adds_by : (xs ys : List DriveView) (old new : MeshView) → drain.Runs fixed_order old new xs ys
-    → Adds fixed_order old new xs ys
-adds_by xs ys old new runs = record {
+pub adds_by : (order : StepOrder) (xs ys : List DriveView) (old new : MeshView) → drain.Runs order old new xs ys
+    → Adds order old new xs ys
+adds_by order xs ys old new runs = record {
   added = runs.added;
   mesh = runs.grown;
   follows = runs.follows;
   drives = served_all runs.added xs ys runs.served;
+}
+
+-- nothing was done
+pub adds_nothing : (order : StepOrder) (m : MeshView) (xs : List DriveView) → Adds order m m xs xs
+adds_nothing order m xs = record {
+  added = [];
+  mesh = ap (λ (l : List Entry). record m { log = l }) (sym (append-nil m.log));
+  follows = λ earlier e split. absurd (none_in earlier e split.0 split.1);
+  drives = served_all [] xs xs (all_served_none xs);
 }
 
 -- at rest a mesh ran to its end
@@ -44,5 +61,26 @@ ran_to_rest (Ok u) m history rest = record {
 }
 ran_to_rest (Err e) m history rest = tt
 
-pub ran_full : (m : MeshView) → drain.RanFull fixed_order m → RanFull fixed_order (opened m) m.log
-ran_full m full = record { due = full.due; nearly = full.nearly }
+pub ran_full : (order : StepOrder) (m : MeshView) → drain.RanFull order m → RanFull order (opened m) m.log
+ran_full order m full = record { due = full.due; nearly = full.nearly }
+
+-- The order
+
+-- all works but one go to rest in the fixed order
+pub fixed_in : (work : Work) → (work ≡ works.Sweep → ⊥) → order_of (mode_of work) ≡ fixed_order
+fixed_in works.Step other = refl
+fixed_in (works.Generate s c) other = refl
+fixed_in works.Sweep other = absurd (other refl)
+fixed_in works.Verify other = refl
+
+pub swept_in : (work : Work) → work ≡ works.Sweep → order_of (mode_of work) ≡ sweep_order
+swept_in work is = ap (λ (w : Work). order_of (mode_of w)) is
+
+-- an order by another name
+pub adds_in : (order other : StepOrder) (old new : MeshView) (xs ys : List DriveView) → other ≡ order
+    → Adds order old new xs ys → Adds other old new xs ys
+adds_in order other old new xs ys is a = subst (λ (o : StepOrder). Adds o old new xs ys) (sym is) a
+
+pub full_in : {E : Type 0} (order other : StepOrder) (m : MeshView) (r : Result (Unit {0}) E) (e : E) → other ≡ order
+    → (IsErrOf r e → RanFull order (opened m) m.log) → IsErrOf r e → RanFull other (opened m) m.log
+full_in order other m r e is full told = subst (λ (o : StepOrder). RanFull o (opened m) m.log) (sym is) (full told)

@@ -14,7 +14,7 @@ use Rattle.geo_model.specs.Script.{Fault, script}
 use Rattle.geo_headline.specs.Modes.{Mode, StepMode, RunMode, GenMode, SweepMode, WatchMode, TraceMode, VerifyMode, Accepts, source_limit}
 use Rattle.geo_headline.specs.Outside.{ShelfView, IsShelf, is_shelf, kept_back, HasImage, IsMissing, IsBadSize}
 use Rattle.geo_headline.specs.Endings.{Ending, Reported, ReportedButFault, BadWords, NoScript, ReadFault, ShelfFault, NoDisk, BadSize, OutOfMemory, LogFull, TooLong, Answered, NoTrace, Call, IsReadWhole, LogRanFull, StopsAt, WasReadWhole, failed_takes, first_kept_back, script_of, status_of}
-use Rattle.geo_headline.specs.Verifying.{Yes, NotEnabled, NotAtRest, OtherReport}
+use Rattle.geo_headline.specs.declared.verified.Verified.TheVariants as found
 use Rattle.geo_headline.specs.Headline.{GivesScript, IsComplete, IsToldThere, KeepsAll, ModeIsComplete, NoFault, RunIsComplete, text_to_give}
 use Rattle.geo_run.proofs.Generated.{generated_in_memory, one_plan, plan_or_fault}
 use Rattle.geo_run.proofs.Tests.{is_or_not}
@@ -132,7 +132,7 @@ kept_rose call plan ending name first rose =
 -- where a trace is verified, another mode isn't
 not_verified : (call : Call) (mode : Mode) (plan : Plan) (ending : Ending) → (VerifyMode ≡ mode → ⊥)
     → KeepsAll call mode plan ending → Accepts call.words VerifyMode → ⊥
-not_verified call mode plan ending other k a = other (k.read_as.mode_is VerifyMode a)
+not_verified call mode plan ending other k a = other (k.texts.read_as.mode_is VerifyMode a)
 
 -- where the text that a source gives is the script
 script_ends : (call : Call) (mode : Mode) (plan : Plan) (ending : Ending) → (VerifyMode ≡ mode → ⊥)
@@ -141,69 +141,73 @@ script_ends : (call : Call) (mode : Mode) (plan : Plan) (ending : Ending) → (V
     → NoFault call.before call.after → HasScript call mode → IsGood ending
 script_ends call mode plan Reported other whole text a k fine s = inl refl
 script_ends call mode plan (ReportedButFault name) other whole text a k fine s =
-    absurd (fine.shelf (kept_rose call plan (ReportedButFault name) name k.cause.1 k.lent.faults))
-script_ends call mode plan BadWords other whole text a k fine s = absurd (k.cause mode a)
+    absurd (fine.shelf (kept_rose call plan (ReportedButFault name) name k.ends.cause.1 k.outside.lent.faults))
+script_ends call mode plan BadWords other whole text a k fine s = absurd (k.ends.cause mode a)
 script_ends call mode plan (NoScript line c) other whole text a k fine s =
-    let all : IsReadWhole call mode = whole k.cause.1 in
+    let all : IsReadWhole call mode = whole k.ends.cause.1 in
     absurd (no_fault_there call.text (text_to_give call) s.1.0 (record { line = line; cause = c })
-    (all_given call.before.source.left call.after.source.left call.text k.bytes.had_left all.none_left) s.1.1
-    (sym (ap script text) ∙ k.cause.2))
-script_ends call mode plan ReadFault other whole text a k fine s = absurd (fine.source k.cause.2)
+    (all_given call.before.source.left call.after.source.left call.text k.texts.bytes.had_left all.none_left) s.1.1
+    (sym (ap script text) ∙ k.ends.cause.2))
+script_ends call mode plan ReadFault other whole text a k fine s = absurd (fine.source k.ends.cause.2)
 script_ends call mode plan (ShelfFault name) other whole text a k fine s =
     absurd (fine.shelf (rose_from 1 (length (kept_back call.before.shelf call.after.shelf)) call.before.shelf.faults
-    call.after.shelf.faults (omega arith) k.lent.faults))
+    call.after.shelf.faults (omega arith) k.outside.lent.faults))
 script_ends call mode plan (NoDisk name) other whole text a k fine s =
-    let all : IsReadWhole call mode = whole k.cause.0.read in
+    let all : IsReadWhole call mode = whole k.ends.cause.0.read in
     let same : s.1.0 ≡ plan = same_plan call.text (text_to_give call) s.1.0 plan
-    (all_given call.before.source.left call.after.source.left call.text k.bytes.had_left all.none_left)
-    s.1.1 (sym (ap script text) ∙ k.cause.0.script) in
-    absurd (not_missing k.cause.1.disk call.before.shelf.told
-    (stopped_there call.before.shelf plan name IsMissing k.cause.1
-    (subst (λ (p : Plan). All (IsToldThere call.before.shelf) p.disks) same s.1.2)) k.cause.1.cause)
+    (all_given call.before.source.left call.after.source.left call.text k.texts.bytes.had_left all.none_left)
+    s.1.1 (sym (ap script text) ∙ k.ends.cause.0.script) in
+    absurd (not_missing k.ends.cause.1.disk call.before.shelf.told
+    (stopped_there call.before.shelf plan name IsMissing k.ends.cause.1
+    (subst (λ (p : Plan). All (IsToldThere call.before.shelf) p.disks) same s.1.2)) k.ends.cause.1.cause)
 script_ends call mode plan (BadSize name) other whole text a k fine s =
-    let all : IsReadWhole call mode = whole k.cause.0.read in
+    let all : IsReadWhole call mode = whole k.ends.cause.0.read in
     let same : s.1.0 ≡ plan = same_plan call.text (text_to_give call) s.1.0 plan
-    (all_given call.before.source.left call.after.source.left call.text k.bytes.had_left all.none_left)
-    s.1.1 (sym (ap script text) ∙ k.cause.0.script) in
-    absurd (not_bad k.cause.1.disk call.before.shelf.told
-    (stopped_there call.before.shelf plan name IsBadSize k.cause.1
-    (subst (λ (p : Plan). All (IsToldThere call.before.shelf) p.disks) same s.1.2)) k.cause.1.cause)
+    (all_given call.before.source.left call.after.source.left call.text k.texts.bytes.had_left all.none_left)
+    s.1.1 (sym (ap script text) ∙ k.ends.cause.0.script) in
+    absurd (not_bad k.ends.cause.1.disk call.before.shelf.told
+    (stopped_there call.before.shelf plan name IsBadSize k.ends.cause.1
+    (subst (λ (p : Plan). All (IsToldThere call.before.shelf) p.disks) same s.1.2)) k.ends.cause.1.cause)
 script_ends call mode plan OutOfMemory other whole text a k fine s = inr (inl refl)
 script_ends call mode plan LogFull other whole text a k fine s = inr (inr refl)
 script_ends call mode plan TooLong other whole text a k fine s =
     let more : length call.text ≤ length (text_to_give call) =
-    no_longer call.before.source.left call.after.source.left call.text k.bytes.had_left in
-    let long : source_limit mode < length call.text = k.cause.1 in
+    no_longer call.before.source.left call.after.source.left call.text k.texts.bytes.had_left in
+    let long : source_limit mode < length call.text = k.ends.cause.1 in
     let few : length (text_to_give call) ≤ source_limit mode = s.0 in
     absurd (omega (arith, more, long, few))
 script_ends call mode plan (Answered found) other whole text a k fine s =
-    absurd (not_verified call mode plan (Answered found) other k k.cause.0)
+    absurd (not_verified call mode plan (Answered found) other k k.ends.cause.0)
 script_ends call mode plan (NoTrace line) other whole text a k fine s =
-    absurd (not_verified call mode plan (NoTrace line) other k k.cause.0)
+    absurd (not_verified call mode plan (NoTrace line) other k k.ends.cause.0)
 
 -- where the script is made
 generated_ends : (call : Call) (plan : Plan) (ending : Ending) (start count : ℕ) → Accepts call.words (GenMode start count)
     → KeepsAll call (GenMode start count) plan ending → NoFault call.before call.after → IsGood ending
 generated_ends call plan Reported s c a k fine = inl refl
 generated_ends call plan (ReportedButFault name) s c a k fine =
-    absurd (fine.shelf (kept_rose call plan (ReportedButFault name) name k.cause.1 k.lent.faults))
-generated_ends call plan BadWords s c a k fine = absurd (k.cause (GenMode s c) a)
-generated_ends call plan (NoScript line cause) s c a k fine = absurd k.cause.0
-generated_ends call plan ReadFault s c a k fine = absurd k.cause.0
+    absurd (fine.shelf (kept_rose call plan (ReportedButFault name) name k.ends.cause.1 k.outside.lent.faults))
+generated_ends call plan BadWords s c a k fine = absurd (k.ends.cause (GenMode s c) a)
+generated_ends call plan (NoScript line cause) s c a k fine = absurd k.ends.cause.0
+generated_ends call plan ReadFault s c a k fine = absurd k.ends.cause.0
 generated_ends call plan (ShelfFault name) s c a k fine =
     absurd (fine.shelf (rose_from 1 (length (kept_back call.before.shelf call.after.shelf)) call.before.shelf.faults
-    call.after.shelf.faults (omega arith) k.lent.faults))
+    call.after.shelf.faults (omega arith) k.outside.lent.faults))
 generated_ends call plan (NoDisk name) s c a k fine =
-    absurd (in_memory plan name IsMissing call.before.shelf k.cause.1 (generated_in_memory s c a.in_range plan k.cause.0.script))
+    absurd (in_memory plan name IsMissing call.before.shelf k.ends.cause.1
+    (generated_in_memory s c a.in_range plan k.ends.cause.0.script))
 generated_ends call plan (BadSize name) s c a k fine =
-    absurd (in_memory plan name IsBadSize call.before.shelf k.cause.1 (generated_in_memory s c a.in_range plan k.cause.0.script))
+    absurd (in_memory plan name IsBadSize call.before.shelf k.ends.cause.1
+    (generated_in_memory s c a.in_range plan k.ends.cause.0.script))
 generated_ends call plan OutOfMemory s c a k fine = inr (inl refl)
 generated_ends call plan LogFull s c a k fine = inr (inr refl)
-generated_ends call plan TooLong s c a k fine = absurd k.cause.0
+generated_ends call plan TooLong s c a k fine = absurd k.ends.cause.0
 generated_ends call plan (Answered found) s c a k fine =
-    absurd (not_verified call (GenMode s c) plan (Answered found) (λ e. let bad : VerifyMode ≡ GenMode s c = e in cc) k k.cause.0)
+    absurd (not_verified call (GenMode s c) plan (Answered found)
+    (λ e. let bad : VerifyMode ≡ GenMode s c = e in cc) k k.ends.cause.0)
 generated_ends call plan (NoTrace line) s c a k fine =
-    absurd (not_verified call (GenMode s c) plan (NoTrace line) (λ e. let bad : VerifyMode ≡ GenMode s c = e in cc) k k.cause.0)
+    absurd (not_verified call (GenMode s c) plan (NoTrace line)
+    (λ e. let bad : VerifyMode ≡ GenMode s c = e in cc) k k.ends.cause.0)
 
 -- an ending that can be where a trace is verified and neither the source nor the sink fails
 abbrev IsVerdict : Ending → Type 0
@@ -213,7 +217,7 @@ IsVerdict ending =
 
 -- where a trace is verified no mesh is run
 no_mesh : (call : Call) (plan : Plan) (ending : Ending) → KeepsAll call VerifyMode plan ending → IsSome call.log → ⊥
-no_mesh call plan ending k some = (k.is_opened some).parsed.mesh
+no_mesh call plan ending k some = (k.ends.is_opened some).parsed.mesh
 
 some_log : {A : Type 0} (log : Option A) (P : A → Type 0) → IsSomeAnd log P → IsSome log
 some_log None P h = absurd h
@@ -222,23 +226,24 @@ some_log (Some l) P h = refl
 verify_ends : (call : Call) (plan : Plan) (ending : Ending) → Accepts call.words VerifyMode
     → KeepsAll call VerifyMode plan ending → (Rose call.before.source.faults call.after.source.faults → ⊥)
     → IsVerdict ending
-verify_ends call plan Reported a k fine = absurd (no_mesh call plan Reported k k.cause.0)
+verify_ends call plan Reported a k fine = absurd (no_mesh call plan Reported k k.ends.cause.0)
 verify_ends call plan (ReportedButFault name) a k fine =
-    absurd (no_mesh call plan (ReportedButFault name) k k.cause.0)
-verify_ends call plan BadWords a k fine = absurd (k.cause VerifyMode a)
+    absurd (no_mesh call plan (ReportedButFault name) k k.ends.cause.0)
+verify_ends call plan BadWords a k fine = absurd (k.ends.cause VerifyMode a)
 verify_ends call plan (NoScript line c) a k fine = inr (inl refl)
-verify_ends call plan ReadFault a k fine = absurd (fine k.cause.2)
-verify_ends call plan (ShelfFault name) a k fine = absurd k.cause.0.mesh
-verify_ends call plan (NoDisk name) a k fine = absurd k.cause.0.mesh
-verify_ends call plan (BadSize name) a k fine = absurd k.cause.0.mesh
+verify_ends call plan ReadFault a k fine = absurd (fine k.ends.cause.2)
+verify_ends call plan (ShelfFault name) a k fine = absurd k.ends.cause.0.mesh
+verify_ends call plan (NoDisk name) a k fine = absurd k.ends.cause.0.mesh
+verify_ends call plan (BadSize name) a k fine = absurd k.ends.cause.0.mesh
 verify_ends call plan OutOfMemory a k fine = inr (inr (inl refl))
 verify_ends call plan LogFull a k fine =
-    absurd (no_mesh call plan LogFull k (some_log call.log (LogRanFull VerifyMode plan (opening plan call.facts)) k.cause))
+    absurd (no_mesh call plan LogFull k
+    (some_log call.log (LogRanFull VerifyMode plan (opening plan call.facts)) k.ends.cause))
 verify_ends call plan TooLong a k fine = inr (inr (inr (inl refl)))
-verify_ends call plan (Answered Yes) a k fine = inl refl
-verify_ends call plan (Answered (NotEnabled line)) a k fine = inr (inr (inr (inr refl)))
-verify_ends call plan (Answered NotAtRest) a k fine = inr (inr (inr (inr refl)))
-verify_ends call plan (Answered OtherReport) a k fine = inr (inr (inr (inr refl)))
+verify_ends call plan (Answered found.Yes) a k fine = inl refl
+verify_ends call plan (Answered (found.NotEnabled line)) a k fine = inr (inr (inr (inr refl)))
+verify_ends call plan (Answered found.NotAtRest) a k fine = inr (inr (inr (inr refl)))
+verify_ends call plan (Answered found.OtherReport) a k fine = inr (inr (inr (inr refl)))
 verify_ends call plan (NoTrace line) a k fine = inr (inl refl)
 
 good_status : (call : Call) (ending : Ending) → call.status ≡ status_of ending → IsGood ending
@@ -260,8 +265,8 @@ status_is : (call : Call) (mode : Mode) (plan : Plan) (ending : Ending) → Keep
     → (Rose call.before.sink.faults call.after.sink.faults → ⊥) → call.status ≡ status_of ending
 status_is call mode plan ending k fine =
     elim (is_or_not call.status 4) [
-      | inl cut ↦ absurd (fine (k.prints.cut_off cut).fault)
-      | inr ne ↦ (k.prints.whole ne).status
+      | inl cut ↦ absurd (fine (k.texts.prints.cut_off cut).fault)
+      | inr ne ↦ (k.texts.prints.whole ne).status
     ]
 
 -- a call that keeps all is complete where its text is the script
@@ -299,4 +304,4 @@ pub complete : (call : Call) (mode : Mode) (plan : Plan) (ending : Ending) → K
     → IsComplete call
 complete call mode plan ending k = λ m accepts.
     in_mode call m plan ending accepts
-    (subst (λ (z : Mode). KeepsAll call z plan ending) (sym (k.read_as.mode_is m accepts)) k)
+    (subst (λ (z : Mode). KeepsAll call z plan ending) (sym (k.texts.read_as.mode_is m accepts)) k)

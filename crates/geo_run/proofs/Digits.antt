@@ -1,5 +1,5 @@
 -- Words that are written as numbers, and lists of words.
-use Rattle.std.proofs.Common.{◌≡◌, ◌↔◌, ℕ, not, ◌&&◌, ◌||◌, zero, suc, ◌^◌, ◌<◌, ◌≤◌, true, false, List, [], ◌∷◌, length, Option, Some, None, Ok, Err, refl, sym, ◌∙◌, ap, subst, arith, get_or, decimal, codes, bytes_eq, lit≤, Bool, IsTrue}
+use Rattle.std.proofs.Common.{◌≡◌, ◌↔◌, ℕ, ◌||◌, zero, suc, ◌^◌, ◌<◌, ◌≤◌, true, false, List, [], ◌∷◌, length, Option, Some, None, Ok, Err, refl, sym, ◌∙◌, ap, subst, arith, get_or, decimal, codes, bytes_eq, lit≤, Bool, IsTrue}
 use Rattle.std.specs.Fmt.{digits}
 use Rattle.std.specs.Str.{all_ascii_digits}
 use Rattle.std.specs.Str.Parse.{ParsesUnsigned, digits_value, without_leading_plus}
@@ -10,10 +10,10 @@ use Rattle.std.proofs.lemmas.Fmt.{digits_decimal, digits_value-decimal, decimal-
 use Rattle.std.proofs.lemmas.Str.Parse.{IsNumeralModel, numerals_by_value, tells_all_ascii_digits, not_in_digits, parse_plain}
 use Rattle.std.specs.Cmp.Lexicographic.{same_text}
 use Rattle.std.proofs.lemmas.Slice.Eq.{bytes_eq-Decides}
-use Rattle.geo_headline.specs.Modes.{Accepts, GenMode, IsAlone, Mode, StartsThreads, RunMode, StepMode, SweepMode, TraceMode, VerifyMode, WatchMode}
+use Rattle.geo_headline.specs.Modes.{Accepts, GenMode, IsAlone, IsMode, Mode, StartsThreads, RunMode, StepMode, SweepMode, TraceMode, VerifyMode, WatchMode, words_for}
 use Rattle.geo_run.specs.Numbers.{IsNumberWithin, IsPlain}
 use Rattle.geo_run.specs.declared.words.Work.{Work}
-use Rattle.geo_run.specs.Work.{AskThreads, AsksCount, AsksFor, IsBuilt, IsToCome, mode_of, word_bytes}
+use Rattle.geo_run.specs.Work.{AskThreads, AsksCount, AsksFor, mode_of, word_bytes}
 
 -- texts of digits
 abbrev pub AreDigits : List ℕ → Type 0
@@ -78,7 +78,7 @@ none_is_some x xs e = cc
 not_generated : (first start count : List ℕ)
     → ((s c : ℕ) → s ≤ 2147483647 → c ≤ 4000 → start ≡ decimal s → count ≡ decimal c → ⊥)
     → AsksFor (first ∷ start ∷ count ∷ []) None
-not_generated first start count h = λ alone built mode a. by mode a
+not_generated first start count h = λ alone mode a. by mode a
   where
     one_word : (word : List ℕ) → first ∷ start ∷ count ∷ [] ≡ word ∷ [] → ⊥
     one_word word e = none_is_some start (count ∷ []) (rest_same first word (start ∷ count ∷ []) [] e)
@@ -128,9 +128,10 @@ three_words (x ∷ y ∷ z ∷ []) f s c some few a b d =
     ∙ ap (λ (v : String Global). string_bytes f ∷ string_bytes s ∷ string_bytes v ∷ []) (sym d)
 three_words (x ∷ y ∷ z ∷ u ∷ us) f s c some few a b d = absurd (omega (arith, few))
 
--- the word `step`
-pub asks_step : (word text : List ℕ) → text ≡ word → true ≡ bytes_eq text (codes "step") → Accepts (word ∷ []) StepMode
-asks_step word text is e = record { spelled = ap (λ w. w ∷ []) (sym is ∙ same_text text (codes "step") e); in_range = tt }
+-- a word that asks for a mode of one word
+pub asks_word : (mode : Mode) (word only : List ℕ) → words_for mode ≡ only ∷ [] → IsMode mode → word ≡ only
+    → Accepts (word ∷ []) mode
+asks_word mode word only e range same = record { spelled = ap (λ w. w ∷ []) same ∙ sym e; in_range = range }
 
 -- the word `gen` and two others
 pub asks_generation : (first text start count : List ℕ) (r : Option Work) → text ≡ first → true ≡ bytes_eq text (codes "gen")
@@ -139,22 +140,20 @@ asks_generation first text start count r is e asks =
     subst (λ (w : List ℕ). AsksFor (w ∷ start ∷ count ∷ []) r) (sym (sym is ∙ same_text text (codes "gen") e)) asks
 
 -- another word asks for no work
-pub asks_no_step : (word text : List ℕ) → text ≡ word → false ≡ bytes_eq text (codes "step") → AsksFor (word ∷ []) None
-asks_no_step word text is e = λ alone built mode a. by alone built mode a
+pub asks_nothing : (word : List ℕ) → (word ≡ codes "step" → ⊥) → (word ≡ codes "sweep" → ⊥)
+    → (word ≡ codes "verify" → ⊥) → AsksFor (word ∷ []) None
+asks_nothing word no_step no_sweep no_verify = λ alone mode a. by alone mode a
   where
-    differs : word ≡ codes "step" → ⊥
-    differs same = let bad : false ≡ true = e ∙ (bytes_eq-Decides text (codes "step")).1 (is ∙ same) in cc
-
-    by : IsAlone (word ∷ []) → IsBuilt (word ∷ []) → (m : Mode) → Accepts (word ∷ []) m → ⊥
-    by alone built StepMode a = differs (first_same word (codes "step") [] [] a.spelled)
-    by alone built RunMode a = alone RunMode refl a
-    by alone built (GenMode s c) a =
+    by : IsAlone (word ∷ []) → (m : Mode) → Accepts (word ∷ []) m → ⊥
+    by alone StepMode a = no_step (first_same word (codes "step") [] [] a.spelled)
+    by alone RunMode a = alone RunMode refl a
+    by alone (GenMode s c) a =
         none_is_some (decimal s) (decimal c ∷ [])
         (sym (rest_same word (codes "gen") [] (decimal s ∷ decimal c ∷ []) a.spelled))
-    by alone built SweepMode a = built SweepMode tt a
-    by alone built WatchMode a = alone WatchMode refl a
-    by alone built TraceMode a = alone TraceMode refl a
-    by alone built VerifyMode a = built VerifyMode tt a
+    by alone SweepMode a = no_sweep (first_same word (codes "sweep") [] [] a.spelled)
+    by alone WatchMode a = alone WatchMode refl a
+    by alone TraceMode a = alone TraceMode refl a
+    by alone VerifyMode a = no_verify (first_same word (codes "verify") [] [] a.spelled)
 
 -- the words are one word, or they aren't
 pub is_word : (words : List (String Global)) (w : String Global) (text only : List ℕ) (b : Bool) → 1 ≤ length words
@@ -191,21 +190,3 @@ asks_threads words false false false r w t = (λ e. no_false e, λ asks. by asks
     by WatchMode threads a = w.1 a.spelled
     by TraceMode threads a = t.1 a.spelled
     by VerifyMode threads a = threads
-
--- a word that is to come stands alone, or none does
-pub asks_built : (words : List (List ℕ)) (sweep verify : Bool) → IsTrue sweep ↔ (words ≡ codes "sweep" ∷ [])
-    → IsTrue verify ↔ (words ≡ codes "verify" ∷ []) → IsTrue (not sweep && not verify) ↔ IsBuilt words
-asks_built words true verify s v =
-    (λ e. no_false e, λ built. absurd (built SweepMode tt (record { spelled = s.0 refl; in_range = tt })))
-asks_built words false true s v =
-    (λ e. no_false e, λ built. absurd (built VerifyMode tt (record { spelled = v.0 refl; in_range = tt })))
-asks_built words false false s v = (λ e mode to_come a. by mode to_come a, λ built. refl)
-  where
-    by : (mode : Mode) → IsToCome mode → Accepts words mode → ⊥
-    by StepMode to_come a = to_come
-    by RunMode to_come a = to_come
-    by (GenMode start count) to_come a = to_come
-    by SweepMode to_come a = no_false (s.1 a.spelled)
-    by WatchMode to_come a = to_come
-    by TraceMode to_come a = to_come
-    by VerifyMode to_come a = no_false (v.1 a.spelled)

@@ -419,6 +419,8 @@ take_stopped a b d stop disk_kinds.Shelf h = record {
     by stops.ReadFault c = absurd c
     by stops.LogFull c = absurd c
     by stops.TooLong c = absurd c
+    by (stops.Answered answer) c = absurd c
+    by (stops.NoTrace line) c = absurd c
 
 -- the take that failed is the one that is blamed
 stopped_takes : (a m n b : ShelfView) (d : DiskDecl) (stop : Stop) (kind : DiskKind)
@@ -460,6 +462,8 @@ stopped_takes a m n b d stop disk_kinds.Shelf h before after = by stop h.cause h
     by stops.ReadFault c takes = absurd c
     by stops.LogFull c takes = absurd c
     by stops.TooLong c takes = absurd c
+    by (stops.Answered answer) c takes = absurd c
+    by (stops.NoTrace line) c takes = absurd c
 
 -- a take that didn't fail is no fault, unless memory ran out
 stopped_no_fault : (m n : ShelfView) (d : DiskDecl) (stop : Stop) (kind : DiskKind) → OpensNoDrive m d stop n kind
@@ -478,6 +482,8 @@ stopped_no_fault m n d stop disk_kinds.Shelf h other none = by stop h.cause othe
     by stops.ReadFault c other none = absurd c
     by stops.LogFull c other none = absurd c
     by stops.TooLong c other none = absurd c
+    by (stops.Answered answer) c other none = absurd c
+    by (stops.NoTrace line) c other none = absurd c
 
 -- the drives that were had, by the shelf after the failed take
 had_along : (a m n : ShelfView) (ds : List DiskDecl) (xs : List DriveView)
@@ -596,6 +602,8 @@ stopped_cause order plan facts a m n b front d back stop disk_kinds.Shelf k e th
     by stops.ReadFault c takes = absurd c
     by stops.LogFull c takes = absurd c
     by stops.TooLong c takes = absurd c
+    by (stops.Answered answer) c takes = absurd c
+    by (stops.NoTrace line) c takes = absurd c
 
 no_log : (order : StepOrder) (plan : Plan) (opened : World) (a b : ShelfView) (ending : Ending) → PlanCause order plan opened None a b ending
     → HasLog ending None

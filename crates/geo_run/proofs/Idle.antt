@@ -9,7 +9,7 @@ use Rattle.geo_model.specs.World.{Bio, World, Plan, is_busy}
 use Rattle.geo_model.specs.Laws.{NoneBusy}
 use Rattle.geo_model.specs.Log.{replay}
 use Rattle.geo_model.specs.Opening.{bare_world, disk_in_size, opening}
-use Rattle.geo_drain.specs.Meshes.{MeshView, opened, world_of}
+use Rattle.geo_elev.specs.Meshes.{MeshView, opened, world_of}
 
 -- disks that stand bring no bio and no handle
 stands_bios : (w : World) (items : List (ℕ × (DiskDecl × (ℕ × ℕ))))

@@ -26,7 +26,7 @@ use Rattle.geo_run.specs.declared.stop.Stop.{Stop}
 use Rattle.geo_run.specs.declared.stop.Stop.TheVariants as stops
 use Rattle.geo_run.specs.declared.words.Work.{Work}
 use Rattle.geo_run.specs.declared.words.Work.TheVariants as works
-use Rattle.geo_run.specs.Calls.{EndsEarly, EndsRead, EndsUnread, Finishes, FinishesPlan, FinishesSource, FinishesText, Gave, KeepsInside, UnreadCause, added_to, call_of, outside_of}
+use Rattle.geo_run.specs.Calls.{EndsEarly, Finishes, FinishesPlan, FinishesText, Gave, KeepsInside, added_to, call_of, outside_of}
 use Rattle.geo_run.specs.Ends.{HasNoShelfDisk, MeshRan, PlanCause, RunsPlan, entries_in, reported_alone}
 use Rattle.geo_run.specs.Stops.{IsDue, ending_by, ending_of}
 use Rattle.geo_run.specs.Work.{mode_of}
@@ -299,6 +299,8 @@ order_by : (work : Work) (plan : Plan) (facts : List (ℕ × ℕ)) (ending : End
 order_by work plan facts ending None h = tt
 order_by works.Step plan facts ending (Some l) h = h.follows
 order_by (works.Generate s c) plan facts ending (Some l) h = h.follows
+order_by works.Sweep plan facts ending (Some l) h = h.follows
+order_by works.Verify plan facts ending (Some l) h = h.follows
 
 -- a call whose plan was run
 planned : (call : Call) (work : Work) (plan : Plan) (ending : Ending) → ReadAs call (mode_of work) plan
@@ -344,7 +346,7 @@ planned call work plan ending read gave parsed ran source told none = record {
 -- How a run finished
 
 -- the call of a run that finished so, whatever is then written
-abbrev finished : List (List ℕ) → Finish → SourceView → SourceView → ShelfView → ShelfView → ℕ → SinkView → SinkView → Call
+abbrev pub finished : List (List ℕ) → Finish → SourceView → SourceView → ShelfView → ShelfView → ℕ → SinkView → SinkView → Call
 finished words finish source source_after shelf shelf_after status sink sink_after =
     call_of words (record { status = status; log = finish.log; facts = finish.facts }) (outside_of source sink shelf)
     (outside_of source_after sink_after shelf_after)
@@ -375,7 +377,7 @@ no_entries : (finish : Finish) → finish.log ≡ None → entries_in finish.log
 no_entries finish e = ap (λ l. entries_in l) e
 
 -- a run that stopped before a disk was taken
-stops_early : (words : List (List ℕ)) (finish : Finish) (source source_after : SourceView) (shelf shelf_after : ShelfView)
+pub stops_early : (words : List (List ℕ)) (finish : Finish) (source source_after : SourceView) (shelf shelf_after : ShelfView)
     (mode : Mode) (stop : Stop) → Accepts words mode → EndsEarly finish stop shelf shelf_after
     → Gave source (added_to source.given source_after.given) source_after
     → ((status : ℕ) (sink sink_after : SinkView) (plan : Plan)
@@ -420,19 +422,18 @@ stops_early words finish source source_after shelf shelf_after mode stop accepts
     }
 
 -- no work starts threads
-work_alone : (work : Work) → StartsThreads (mode_of work) → ⊥
+pub work_alone : (work : Work) → StartsThreads (mode_of work) → ⊥
 work_alone works.Step threads = cc
 work_alone (works.Generate s c) threads = cc
+work_alone works.Sweep threads = cc
+work_alone works.Verify threads = cc
 
--- each opens a mesh
-work_opens : (work : Work) → OpensMesh (mode_of work)
-work_opens works.Step = tt
-work_opens (works.Generate s c) = tt
-
--- one that takes no disk makes its script
-no_disk_taken : (work : Work) → TakesNoDisk (mode_of work) → IsGen (mode_of work)
-no_disk_taken works.Step none = none
-no_disk_taken (works.Generate s c) none = none
+-- one that opens a mesh, and takes no disk, makes its script
+no_disk_taken : (work : Work) → OpensMesh (mode_of work) → TakesNoDisk (mode_of work) → IsGen (mode_of work)
+no_disk_taken works.Step opens none = none
+no_disk_taken (works.Generate s c) opens none = none
+no_disk_taken works.Sweep opens none = none
+no_disk_taken works.Verify opens none = absurd opens
 
 -- none reports the text that was read
 text_aside : (work : Work) (text : List ℕ) (plan : Plan) (facts : List (ℕ × ℕ)) (log : Option (List Entry))
@@ -440,10 +441,12 @@ text_aside : (work : Work) (text : List ℕ) (plan : Plan) (facts : List (ℕ ×
 text_aside work text plan facts None = refl
 text_aside works.Step text plan facts (Some l) = refl
 text_aside (works.Generate s c) text plan facts (Some l) = refl
+text_aside works.Sweep text plan facts (Some l) = refl
+text_aside works.Verify text plan facts (Some l) = refl
 
 -- a run whose plan was run
 runs_text : (words : List (List ℕ)) (finish : Finish) (source source_after : SourceView) (shelf shelf_after : ShelfView)
-    (work : Work) (plan : Plan) → Accepts words (mode_of work)
+    (work : Work) (plan : Plan) → OpensMesh (mode_of work) → Accepts words (mode_of work)
     → script (script_of (mode_of work) (added_to source.given source_after.given)) ≡ Ok plan
     → Gave source (added_to source.given source_after.given) source_after
     → RunsPlan (order_of (mode_of work)) plan finish.facts.items (entries_in finish.log) (ending_by finish.due) shelf shelf_after
@@ -453,7 +456,7 @@ runs_text : (words : List (List ℕ)) (finish : Finish) (source source_after : S
     → (IsGen (mode_of work) → source_after ≡ source) → source_after.faults ≡ source.faults
     → (IsGen (mode_of work) → HasNoShelfDisk plan)
     → Finishes words finish source source_after shelf shelf_after
-runs_text words finish source source_after shelf shelf_after work plan accepts is gave ran due whole same told none = record {
+runs_text words finish source source_after shelf shelf_after work plan opens accepts is gave ran due whole same told none = record {
   mode = mode_of work;
   plan = plan;
   alone = work_alone work;
@@ -464,13 +467,13 @@ runs_text words finish source source_after shelf shelf_after work plan accepts i
       planned call work plan (ending_by finish.due)
       (read_as_whole call (mode_of work) (Ok plan) accepts (whole status sink sink_after) is)
       gave
-      (record { accepted = accepts; mesh = work_opens work; read = whole status sink sink_after; script = is })
-      ran same told (λ no_disk. none (no_disk_taken work no_disk));
+      (record { accepted = accepts; mesh = opens; read = whole status sink sink_after; script = is })
+      ran same told (λ no_disk. none (no_disk_taken work opens no_disk));
 }
 
 -- the end of a text by its reading
-of_text : (words : List (List ℕ)) (finish : Finish) (source source_after : SourceView) (shelf shelf_after : ShelfView)
-    (work : Work) (r : Result Plan Fault) → Accepts words (mode_of work)
+pub of_text : (words : List (List ℕ)) (finish : Finish) (source source_after : SourceView) (shelf shelf_after : ShelfView)
+    (work : Work) (r : Result Plan Fault) → OpensMesh (mode_of work) → Accepts words (mode_of work)
     → script (script_of (mode_of work) (added_to source.given source_after.given)) ≡ r
     → Gave source (added_to source.given source_after.given) source_after
     → FinishesPlan r (mode_of work) finish shelf shelf_after
@@ -482,19 +485,19 @@ of_text : (words : List (List ℕ)) (finish : Finish) (source source_after : Sou
     → (IsGen (mode_of work) ⊎ ((status : ℕ) (sink sink_after : SinkView)
     → ReadsScript (finished words finish source source_after shelf shelf_after status sink sink_after) (mode_of work)))
     → Finishes words finish source source_after shelf shelf_after
-of_text words finish source source_after shelf shelf_after work (Ok plan) accepts is gave ends whole same told none no_fault reads =
-    runs_text words finish source source_after shelf shelf_after work plan accepts is gave ends.0 ends.1 whole same told
+of_text words finish source source_after shelf shelf_after work (Ok plan) opens accepts is gave ends whole same told none no_fault reads =
+    runs_text words finish source source_after shelf shelf_after work plan opens accepts is gave ends.0 ends.1 whole same told
     (λ gen. none gen plan refl)
-of_text words finish source source_after shelf shelf_after work (Err fault) accepts is gave ends whole same told none no_fault (inl gen) =
+of_text words finish source source_after shelf shelf_after work (Err fault) opens accepts is gave ends whole same told none no_fault (inl gen) =
     absurd (no_fault gen fault refl)
-of_text words finish source source_after shelf shelf_after work (Err fault) accepts is gave ends whole same told none no_fault (inr reads) =
+of_text words finish source source_after shelf shelf_after work (Err fault) opens accepts is gave ends whole same told none no_fault (inr reads) =
     stops_early words finish source source_after shelf shelf_after (mode_of work) (stops.NoScript fault.line fault.cause)
     accepts ends gave
     (λ status sink sink_after plan. (reads status sink sink_after, whole status sink sink_after, is))
     refl (λ w. w) refl (λ which. elim which [ inl gen ↦ same gen | inr bad ↦ absurd bad ]) (work_alone work) (λ other. told)
 
 -- memory ran out before the mesh opened
-no_memory : (words : List (List ℕ)) (finish : Finish) (source source_after : SourceView) (shelf shelf_after : ShelfView)
+pub no_memory : (words : List (List ℕ)) (finish : Finish) (source source_after : SourceView) (shelf shelf_after : ShelfView)
     (mode : Mode) → Accepts words mode → EndsEarly finish stops.NoMemory shelf shelf_after
     → Gave source (added_to source.given source_after.given) source_after
     → (IsGen mode → source_after ≡ source) → source_after.faults ≡ source.faults → (StartsThreads mode → ⊥)
@@ -505,24 +508,10 @@ no_memory words finish source source_after shelf shelf_after mode accepts ends g
     (λ other. told)
 
 -- the text that a source gave is what came behind what it had given
-text_is : (source source_after : SourceView) (text : List ℕ) → Gave source text source_after
+pub text_is : (source source_after : SourceView) (text : List ℕ) → Gave source text source_after
     → text ≡ added_to source.given source_after.given
 text_is source source_after text gave =
     sym (ap (λ bytes. drop (length source.given) bytes) gave.given ∙ drop-append_seam source.given text)
-
--- where the source gives the script, it is read
-script_read : (work : Work) (text : List ℕ) → (IsGen (mode_of work) → ⊥) → script_of (mode_of work) text ≡ text
-script_read works.Step text not_gen = refl
-script_read (works.Generate s c) text not_gen = absurd (not_gen tt)
-
-whole_read : (call : Call) (work : Work) → IsReadWhole call (mode_of work) → WasReadWhole call (mode_of work)
-whole_read call works.Step w = w
-whole_read call (works.Generate s c) w = tt
-
-reads_script : (call : Call) (work : Work) → (IsGen (mode_of work) → ⊥) → Accepts call.words (mode_of work)
-    → ReadsScript call (mode_of work)
-reads_script call works.Step not_gen accepts = accepts
-reads_script call (works.Generate s c) not_gen accepts = absurd (not_gen tt)
 
 -- a source that wasn't read gave nothing
 pub gave_nothing : (source : SourceView) → Gave source (added_to source.given source.given) source
@@ -536,69 +525,6 @@ gave_nothing source = record {
     by None text e = tt
     by (Some l) text e = sym (ap (λ bs. bs ++ l) e)
 
--- a work whose script the source gives
-pub finishes_source : (words : List (List ℕ)) (work : Work) (finish : Finish) (source source_after : SourceView)
-    (shelf shelf_after : ShelfView) → (IsGen (mode_of work) → ⊥) → Accepts words (mode_of work)
-    → FinishesSource (mode_of work) source source_after finish shelf shelf_after
-    → Finishes words finish source source_after shelf shelf_after
-finishes_source words work finish source source_after shelf shelf_after not_gen accepts f = by moved.0 moved.1
-  where
-    text : List ℕ
-    text = added_to source.given source_after.given
-
-    moved : Gave source text source_after
-        × (EndsRead (mode_of work) text source source_after finish shelf shelf_after
-        ⊎ EndsUnread (mode_of work) text source source_after finish shelf shelf_after)
-    moved =
-        subst (λ (t : List ℕ). Gave source t source_after
-        × (EndsRead (mode_of work) t source source_after finish shelf shelf_after
-        ⊎ EndsUnread (mode_of work) t source source_after finish shelf shelf_after))
-        (text_is source source_after f.text f.gave) (f.gave, f.ends)
-
-    read : Gave source text source_after → EndsRead (mode_of work) text source source_after finish shelf shelf_after
-        → Finishes words finish source source_after shelf shelf_after
-    read gave ends = elim ends.of_text [
-      | inl out ↦ no_memory words finish source source_after shelf shelf_after (mode_of work) accepts out gave (λ gen. absurd (not_gen gen)) ends.told (work_alone work)
-      | inr done ↦ of_text words finish source source_after shelf shelf_after work (script text) accepts
-          (ap script (script_read work text not_gen)) gave done
-          (λ status sink sink_after. whole_read (finished words finish source source_after shelf shelf_after status sink sink_after) work
-          (record { few = ends.few; ended = ends.ended; none_left = ends.none_left }))
-          (λ gen. absurd (not_gen gen)) ends.told (λ gen. absurd (not_gen gen)) (λ gen. absurd (not_gen gen))
-          (inr (λ status sink sink_after. reads_script (finished words finish source source_after shelf shelf_after status sink sink_after) work not_gen accepts))
-    ]
-
-    unread : Gave source text source_after → EndsUnread (mode_of work) text source source_after finish shelf shelf_after
-        → Finishes words finish source source_after shelf shelf_after
-    unread gave ends = why ends.stop ends.cause ends.early
-      where
-        why : (stop : Stop) → UnreadCause (mode_of work) text source source_after stop
-            → EndsEarly finish stop shelf shelf_after → Finishes words finish source source_after shelf shelf_after
-        why stops.ReadFault cause early_end =
-            stops_early words finish source source_after shelf shelf_after (mode_of work) stops.ReadFault accepts early_end gave
-            (λ status sink sink_after plan. (reads_script (finished words finish source source_after shelf shelf_after status sink sink_after) work not_gen accepts, cause.0, cause.1)) refl (λ w. w) refl
-            (λ which. elim which [ inl gen ↦ absurd (not_gen gen) | inr bad ↦ absurd bad ]) (work_alone work)
-            (λ other. absurd (other refl))
-        why stops.TooLong cause early_end =
-            stops_early words finish source source_after shelf shelf_after (mode_of work) stops.TooLong accepts early_end gave
-            (λ status sink sink_after plan. (reads_script (finished words finish source source_after shelf shelf_after status sink sink_after) work not_gen accepts, cause.0)) refl (λ w. w) refl
-            (λ which. elim which [ inl gen ↦ absurd (not_gen gen) | inr bad ↦ absurd bad ]) (work_alone work)
-            (λ other. cause.1)
-        why stops.NoMemory cause early_end =
-            no_memory words finish source source_after shelf shelf_after (mode_of work) accepts early_end gave (λ gen. absurd (not_gen gen)) cause (work_alone work)
-        why stops.BadWords cause early_end = absurd cause
-        why (stops.NoScript line c) cause early_end = absurd cause
-        why (stops.ShelfFault name) cause early_end = absurd cause
-        why (stops.NoDisk name) cause early_end = absurd cause
-        why (stops.BadSize name) cause early_end = absurd cause
-        why stops.LogFull cause early_end = absurd cause
-
-    by : Gave source text source_after
-        → EndsRead (mode_of work) text source source_after finish shelf shelf_after
-        ⊎ EndsUnread (mode_of work) text source source_after finish shelf shelf_after
-        → Finishes words finish source source_after shelf shelf_after
-    by gave (inl ends) = read gave ends
-    by gave (inr ends) = unread gave ends
-
 -- `gen START COUNT`
 pub finishes_generated : (words : List (List ℕ)) (finish : Finish) (source : SourceView) (shelf shelf_after : ShelfView)
     (start count : ℕ) → Accepts words (GenMode start count)
@@ -608,7 +534,7 @@ finishes_generated words finish source shelf shelf_after start count accepts (in
     no_memory words finish source source shelf shelf_after (GenMode start count) accepts out (gave_nothing source) (λ gen. refl) refl (work_alone (works.Generate start count))
 finishes_generated words finish source shelf shelf_after start count accepts (inr done) =
     of_text words finish source source shelf shelf_after (works.Generate start count) (script (generated start count))
-    accepts refl (gave_nothing source) done (λ status sink sink_after. tt) (λ gen. refl) refl
+    tt accepts refl (gave_nothing source) done (λ status sink sink_after. tt) (λ gen. refl) refl
     (λ gen plan e. generated_in_memory start count accepts.in_range plan e)
     (λ gen fault e. no_fault fault e)
     (inl tt)
@@ -653,15 +579,6 @@ finishes_none words finish source shelf none due_is log_is = record {
     }
 
 -- What the words ask for
-
--- the words ask for `step`, whose source was run
-pub step_finishes : (words : List (List ℕ)) (work : Work) (finish : Finish) (source source_after : SourceView)
-    (shelf shelf_after : ShelfView) → work ≡ works.Step → Accepts words (mode_of work)
-    → FinishesSource StepMode source source_after finish shelf shelf_after
-    → Finishes words finish source source_after shelf shelf_after
-step_finishes words work finish source source_after shelf shelf_after is accepts f =
-    finishes_source words works.Step finish source source_after shelf shelf_after (λ gen. gen)
-    (subst (λ (w : Work). Accepts words (mode_of w)) is accepts) f
 
 -- the words ask for `gen START COUNT`, whose script was run
 pub generation_finishes : (words : List (List ℕ)) (work : Work) (finish : Finish) (source : SourceView)

@@ -18,6 +18,7 @@ pub mod Idle
 pub mod Running
 pub mod Reading
 pub mod Keeping
+pub mod Sources
 pub mod Completing
 pub mod Topping
 pub mod Asked

@@ -1,23 +1,29 @@
 -- Runs of texts and of sources.
-use Rattle.std.proofs.Common.{◌≡◌, ℕ, ◌≤◌, List, [], ◌++◌, length, Option, Some, None, Result, Ok, Err, refl, sym, ap, subst, inl, inr, arith, IfSome, IsSomeAnd, IsErrOf}
+use Rattle.std.proofs.Common.{◌≡◌, ℕ, ◌+◌, ◌≤◌, List, [], ◌++◌, length, Option, Some, None, Result, Ok, Err, refl, sym, ap, subst, inl, inr, arith, IfSome, IsSomeAnd, IsErrOf}
 use Rattle.geo_base.specs.Faults.{Rose}
 use Rattle.geo_io.specs.declared.reading.ReadRefusal.{ReadRefusal}
 use Rattle.geo_io.specs.declared.reading.ReadRefusal.TheVariants as reads_refused
 use Rattle.geo_io.specs.Source.{Gives, GivesAtMost, GivesMany, Goes, IsAtEnd, IsEnd, SourceView}
 use Rattle.geo_model.specs.declared.command.Cause.{Cause}
 use Rattle.geo_model.specs.World.{Plan}
-use Rattle.geo_headline.specs.Modes.{Mode, source_limit}
+use Rattle.geo_headline.specs.Modes.{Mode, VerifyMode, source_limit}
+use Rattle.geo_headline.specs.declared.verified.Verified.{Verified}
+use Rattle.geo_headline.specs.Traces.{TraceFault}
+use Rattle.geo_headline.specs.Verifying.{verified}
 use Rattle.geo_model.specs.Script.{Fault, script}
 use Rattle.geo_headline.specs.Outside.{ShelfView}
 use Rattle.geo_headline.specs.Endings.{order_of}
 use Rattle.geo_script.specs.declared.refusal.ParseRefusal.{ParseRefusal}
 use Rattle.geo_script.specs.declared.refusal.ParseRefusal.TheVariants as refusals
 use Rattle.geo_script.specs.Draft.{Parses}
+use Rattle.geo_verify.specs.declared.refusal.VerifyRefusal.{VerifyRefusal}
+use Rattle.geo_verify.specs.declared.refusal.VerifyRefusal.TheVariants as verify_refusals
+use Rattle.geo_verify.specs.Replays.{IsVerifyRefusal}
 use Rattle.geo_run.specs.declared.due.Due.TheVariants as dues
 use Rattle.geo_run.specs.declared.finish.Finish.{Finish}
 use Rattle.geo_run.specs.declared.stop.Stop.{Stop}
 use Rattle.geo_run.specs.declared.stop.Stop.TheVariants as stops
-use Rattle.geo_run.specs.Calls.{EndsEarly, FinishesPlan, FinishesSource, FinishesText, Gave, UnreadCause}
+use Rattle.geo_run.specs.Calls.{EndsEarly, EndsUnread, FinishesPlan, FinishesSource, FinishesText, FinishesVerified, Gave, IsFoundIn, ReadsPart, ReadsWhole, UnreadCause}
 use Rattle.geo_run.specs.Ends.{RunsPlan, entries_in, reported_alone}
 use Rattle.geo_run.specs.Stops.{IsDue, ending_by}
 use Rattle.geo_run.specs.Work.{mode_of}
@@ -76,53 +82,33 @@ none_left : (left : Option (List ℕ)) → IsEnd left → IfSome left (λ l. l �
 none_left None h = tt
 none_left (Some l) h = h
 
--- how much a source may give for the works of one thread
-limit_is : (work : Work) → source_limit (mode_of work) ≡ 4194304
-limit_is works.Step = refl
-limit_is (works.Generate s c) = refl
+-- A source that is read
 
--- the source was read to its end
-pub source_read : (work : Work) (s t : SourceView) (text bytes : List ℕ) (finish : Finish)
-    (a b : ShelfView) → Gives s text t → t.faults ≡ s.faults → IsAtEnd t → length text ≤ 4194304 → bytes ≡ text
-    → FinishesText bytes (mode_of work) finish a b
-    → FinishesSource (mode_of work) s t finish a b
-source_read work s t text bytes finish a b gives told end few is ends = record {
-  text = text;
+-- all that a source gave
+pub gave_whole : (limit : ℕ) (s t : SourceView) (text : List ℕ) → Gives s text t → t.faults ≡ s.faults → IsAtEnd t
+    → length text ≤ limit → ReadsWhole limit s t text
+gave_whole limit s t text gives told end few = record {
   gave = gives_gave s t text gives;
-  ends = inl (record {
-    told = told;
-    few = let limit : source_limit (mode_of work) ≡ 4194304 = limit_is work in omega (arith, limit, few);
-    ended = end.ended;
-    none_left = none_left t.left end.none_left;
-    of_text = subst (λ (bs : List ℕ). FinishesText bs (mode_of work) finish a b) is ends;
-  });
+  told = told;
+  few = few;
+  ended = end.ended;
+  none_left = none_left t.left end.none_left;
 }
 
--- the source wasn't read to its end
-pub source_unread : (work : Work) (s t : SourceView) (text : List ℕ) (finish : Finish)
-    (stop : Stop) (a : ShelfView) → Gives s text t
-    → UnreadCause (mode_of work) text s t stop
-    → finish.due ≡ dues.Stopped stop → finish.log ≡ None
-    → FinishesSource (mode_of work) s t finish a a
-source_unread work s t text finish stop a gives cause due log = record {
-  text = text;
-  gave = gives_gave s t text gives;
-  ends = inr (record { stop = stop; cause = cause; early = early_end finish stop a due log });
-}
+gave_part : (limit : ℕ) (s t : SourceView) (text : List ℕ) (stop : Stop) → Gives s text t
+    → UnreadCause limit text s t stop → ReadsPart limit s t stop
+gave_part limit s t text stop gives cause = record { text = text; gave = gives_gave s t text gives; cause = cause }
 
 -- a read failed
-pub read_fault : {T : Type 0} (work : Work) (s t : SourceView) (finish : Finish) (a : ShelfView)
-    (refusal : ReadRefusal) → refusal ≡ reads_refused.ReadFault
-    → (IsErrOf {T = T} (Err refusal) reads_refused.ReadFault → GivesAtMost s 4194304 t)
+pub read_fault : {T : Type 0} (limit : ℕ) (s t : SourceView) (refusal : ReadRefusal) → refusal ≡ reads_refused.ReadFault
+    → (IsErrOf {T = T} (Err refusal) reads_refused.ReadFault → GivesAtMost s limit t)
     → (IsErrOf {T = T} (Err refusal) reads_refused.ReadFault → Rose s.faults t.faults)
-    → finish.due ≡ dues.Stopped stops.ReadFault → finish.log ≡ None
-    → FinishesSource (mode_of work) s t finish a a
-read_fault work s t finish a refusal is taken rose due log =
-    let gives : GivesAtMost s 4194304 t = taken (ap (λ e. Err e) is) in
-    source_unread work s t gives.bytes finish stops.ReadFault a gives.gives
-    ((let limit : source_limit (mode_of work) ≡ 4194304 = limit_is work in omega (arith, limit, gives.few)), rose (ap (λ e. Err e) is)) due log
+    → ReadsPart limit s t stops.ReadFault
+read_fault limit s t refusal is taken rose =
+    let gives : GivesAtMost s limit t = taken (ap (λ e. Err e) is) in
+    gave_part limit s t gives.bytes stops.ReadFault gives.gives (gives.few, rose (ap (λ e. Err e) is))
 
--- neither is a read that failed
+-- neither of these is a read that failed
 long_is_no_fault : {T : Type 0} (refusal : ReadRefusal) → refusal ≡ reads_refused.TooLong
     → IsErrOf {T = T} (Err refusal) reads_refused.ReadFault → ⊥
 long_is_no_fault refusal is fault = cc
@@ -132,27 +118,75 @@ lost_is_no_fault : {T : Type 0} (refusal : ReadRefusal) → refusal ≡ reads_re
 lost_is_no_fault refusal is fault = cc
 
 -- the text is too long
-pub read_long : {T : Type 0} (work : Work) (s t : SourceView) (finish : Finish) (a : ShelfView)
-    (refusal : ReadRefusal) → refusal ≡ reads_refused.TooLong
-    → (IsErrOf {T = T} (Err refusal) reads_refused.TooLong → GivesMany s 4194305 t)
+pub read_long : {T : Type 0} (limit : ℕ) (s t : SourceView) (refusal : ReadRefusal) → refusal ≡ reads_refused.TooLong
+    → (IsErrOf {T = T} (Err refusal) reads_refused.TooLong → GivesMany s (limit + 1) t)
     → ((IsErrOf {T = T} (Err refusal) reads_refused.ReadFault → ⊥) → t.faults ≡ s.faults)
-    → finish.due ≡ dues.Stopped stops.TooLong → finish.log ≡ None
-    → FinishesSource (mode_of work) s t finish a a
-read_long work s t finish a refusal is taken told due log =
-    let gives : GivesMany s 4194305 t = taken (ap (λ e. Err e) is) in
-    let many : length gives.bytes ≡ 4194305 = gives.many in
-    source_unread work s t gives.bytes finish stops.TooLong a gives.gives (
-      (let limit : source_limit (mode_of work) ≡ 4194304 = limit_is work in omega (arith, limit, many)),
-      told (λ fault. long_is_no_fault refusal is fault),
-    ) due log
+    → ReadsPart limit s t stops.TooLong
+read_long limit s t refusal is taken told =
+    let gives : GivesMany s (limit + 1) t = taken (ap (λ e. Err e) is) in
+    let many : length gives.bytes ≡ limit + 1 = gives.many in
+    gave_part limit s t gives.bytes stops.TooLong gives.gives
+    (omega (arith, many), told (λ fault. long_is_no_fault refusal is fault))
 
 -- memory ran out
-pub read_lost : {T : Type 0} (work : Work) (s t : SourceView) (finish : Finish) (a : ShelfView)
-    (refusal : ReadRefusal) → refusal ≡ reads_refused.NoMemory
-    → (IsErrOf {T = T} (Err refusal) reads_refused.NoMemory → GivesAtMost s 4194305 t)
+pub read_lost : {T : Type 0} (limit : ℕ) (s t : SourceView) (refusal : ReadRefusal) → refusal ≡ reads_refused.NoMemory
+    → (IsErrOf {T = T} (Err refusal) reads_refused.NoMemory → GivesAtMost s (limit + 1) t)
     → ((IsErrOf {T = T} (Err refusal) reads_refused.ReadFault → ⊥) → t.faults ≡ s.faults)
-    → finish.due ≡ dues.Stopped stops.NoMemory → finish.log ≡ None
-    → FinishesSource (mode_of work) s t finish a a
-read_lost work s t finish a refusal is taken told due log =
-    let gives : GivesAtMost s 4194305 t = taken (ap (λ e. Err e) is) in
-    source_unread work s t gives.bytes finish stops.NoMemory a gives.gives (told (λ fault. lost_is_no_fault refusal is fault)) due log
+    → ReadsPart limit s t stops.NoMemory
+read_lost limit s t refusal is taken told =
+    let gives : GivesAtMost s (limit + 1) t = taken (ap (λ e. Err e) is) in
+    gave_part limit s t gives.bytes stops.NoMemory gives.gives (told (λ fault. lost_is_no_fault refusal is fault))
+
+-- Its text
+
+-- the text of a source that was read to its end was run
+pub source_ran : (work : Work) (limit : ℕ) (s t : SourceView) (text bytes : List ℕ) (finish : Finish) (a b : ShelfView)
+    → limit ≡ source_limit (mode_of work) → ReadsWhole limit s t text → bytes ≡ text
+    → FinishesText bytes (mode_of work) finish a b → FinishesSource (mode_of work) s t finish a b
+source_ran work limit s t text bytes finish a b limit_is whole is ends = inl (record {
+  text = text;
+  whole = subst (λ (n : ℕ). ReadsWhole n s t text) limit_is whole;
+  of_text = subst (λ (bs : List ℕ). FinishesText bs (mode_of work) finish a b) is ends;
+})
+
+-- a source wasn't read to its end
+pub source_unread : (mode : Mode) (limit : ℕ) (s t : SourceView) (finish : Finish) (stop : Stop) (a : ShelfView)
+    → limit ≡ source_limit mode → ReadsPart limit s t stop → finish.due ≡ dues.Stopped stop → finish.log ≡ None
+    → EndsUnread mode s t finish a a
+source_unread mode limit s t finish stop a limit_is part due log = record {
+  stop = stop;
+  part = subst (λ (n : ℕ). ReadsPart n s t stop) limit_is part;
+  early = early_end finish stop a due log;
+}
+
+-- Its trace
+
+-- how long a trace may be
+pub trace_within : (limit : ℕ) (bytes text : List ℕ) → limit ≡ source_limit VerifyMode → bytes ≡ text
+    → length text ≤ limit → length bytes ≤ 67108864
+trace_within limit bytes text limit_is is few =
+    let most : limit ≡ 67108864 = limit_is in
+    let same : length bytes ≡ length text = ap (λ (bs : List ℕ). length bs) is in omega (arith, most, same, few)
+
+-- what was found of the text of a source
+pub source_found : (limit : ℕ) (s t : SourceView) (text bytes : List ℕ) (finish : Finish) (stop : Stop) (a : ShelfView)
+    → limit ≡ source_limit VerifyMode → ReadsWhole limit s t text → bytes ≡ text → IsFoundIn (verified bytes) stop
+    → finish.due ≡ dues.Stopped stop → finish.log ≡ None → FinishesVerified s t finish a a
+source_found limit s t text bytes finish stop a limit_is whole is found due log = inl (record {
+  text = text;
+  whole = subst (λ (n : ℕ). ReadsWhole n s t text) limit_is whole;
+  stop = stop;
+  found = subst (λ (bs : List ℕ). IsFoundIn (verified bs) stop) is found;
+  early = early_end finish stop a due log;
+})
+
+-- what was refused is told
+pub script_refused : (answer : Result Verified TraceFault) (refusal : VerifyRefusal) (line : ℕ) (cause : Cause)
+    → refusal ≡ verify_refusals.Script line cause → IsVerifyRefusal answer refusal
+    → IsFoundIn answer (stops.NoScript line cause)
+script_refused answer refusal line cause is refused =
+    subst (λ (r : VerifyRefusal). IsVerifyRefusal answer r) is refused
+
+pub trace_refused : (answer : Result Verified TraceFault) (refusal : VerifyRefusal) (line : ℕ)
+    → refusal ≡ verify_refusals.Trace line → IsVerifyRefusal answer refusal → IsFoundIn answer (stops.NoTrace line)
+trace_refused answer refusal line is refused = subst (λ (r : VerifyRefusal). IsVerifyRefusal answer r) is refused

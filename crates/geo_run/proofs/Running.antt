@@ -7,13 +7,14 @@ use Rattle.geo_model.specs.World.{World, Plan}
 use Rattle.geo_headline.specs.Modes.{Mode}
 use Rattle.geo_model.specs.Listing.{listing}
 use Rattle.geo_model.specs.Log.{Fits}
-use Rattle.geo_model.specs.FixedOrder.{FollowsOrder, StepOrder, fixed_order}
+use Rattle.geo_model.specs.Report.{report}
+use Rattle.geo_model.specs.FixedOrder.{FollowsOrder, StepOrder}
 use Rattle.geo_model.specs.History.{KeepsHistory, RanToItsEnd}
 use Rattle.geo_headline.specs.Outside.{ShelfView}
-use Rattle.geo_headline.specs.Endings.{OutOfMemory, IsWhole, order_of}
-use Rattle.geo_drain.specs.Meshes.{MeshView, opened, world_of}
-use Rattle.geo_drain.specs.declared.refusal.DrainRefusal.{DrainRefusal}
-use Rattle.geo_drain.specs.declared.refusal.DrainRefusal.TheVariants as refusals
+use Rattle.geo_headline.specs.Endings.{OutOfMemory, IsWhole}
+use Rattle.geo_elev.specs.Meshes.{MeshView, opened, world_of}
+use Rattle.geo_elev.specs.DrainRefusal.{DrainRefusal}
+use Rattle.geo_elev.specs.DrainRefusal.TheVariants as refusals
 use Rattle.geo_run.specs.Drives.{DriveView, ServeAll, size_of}
 use Rattle.geo_run.specs.Rest.{Adds, RanFull}
 use Rattle.geo_report.specs.Texts.{IsReport, IsSummary}
@@ -29,35 +30,26 @@ use Rattle.geo_run.specs.Stops.{IsDue, ending_by, ending_with}
 use Rattle.geo_run.specs.Work.{mode_of}
 use Rattle.geo_run.proofs.Loops.{none_kept, out_served}
 
--- The order
-
--- the works of one thread that stand so far go to rest in the fixed order
-order_is : (work : Work) → fixed_order ≡ order_of (mode_of work)
-order_is works.Step = refl
-order_is (works.Generate s c) = refl
-
-pub adds_in : (work : Work) (old new : MeshView) (xs ys : List DriveView) → Adds fixed_order old new xs ys
-    → Adds (order_of (mode_of work)) old new xs ys
-adds_in work old new xs ys a = subst (λ (o : StepOrder). Adds o old new xs ys) (order_is work) a
-
-pub full_in : {E : Type 0} (work : Work) (m : MeshView) (r : Result (Unit {0}) E) (e : E)
-    → (IsErrOf r e → RanFull fixed_order (opened m) m.log)
-    → IsErrOf r e → RanFull (order_of (mode_of work)) (opened m) m.log
-full_in work m r e full is = subst (λ (o : StepOrder). RanFull o (opened m) m.log) (order_is work) (full is)
-
 -- The report
 
--- a report of what a mesh lists is the report of its log
+-- a report of what a mesh lists is the report of its log, which all works but one print
 pub report_is : {E : Type 0} (m : MeshView) (plan : Plan) (log : List Entry) (lines : List GeomLine)
-    (r : Result (List ℕ) E) (work : Work) → work ≡ works.Step → plan ≡ m.plan → log ≡ m.log
+    (r : Result (List ℕ) E) (work : Work) → ((s c : ℕ) → work ≡ works.Generate s c → ⊥) → plan ≡ m.plan → log ≡ m.log
     → lines ≡ listing (world_of m) → IfOk r (IsReport plan log lines)
     → IfOk r (λ text. text ≡ reported_alone (mode_of work) m.plan m.facts (Some m.log))
-report_is m plan log lines (Err e) work is p l at h = tt
-report_is m plan log lines (Ok text) work is p l at h =
+report_is m plan log lines (Err e) work other p l at h = tt
+report_is m plan log lines (Ok text) work other p l at h =
     let of_mesh : IsReport m.plan m.log lines text =
     subst (λ (es : List Entry). IsReport m.plan es lines text) l
     (subst (λ (q : Plan). IsReport q log lines text) p h) in
-    subst (λ (w : Work). text ≡ reported_alone (mode_of w) m.plan m.facts (Some m.log)) (sym is) (of_mesh (opened m) at)
+    by work other (of_mesh (opened m) at)
+  where
+    by : (w : Work) → ((s c : ℕ) → w ≡ works.Generate s c → ⊥) → text ≡ report m.plan (opened m) m.log
+        → text ≡ reported_alone (mode_of w) m.plan m.facts (Some m.log)
+    by works.Step other e = e
+    by (works.Generate s c) other e = absurd (other s c refl)
+    by works.Sweep other e = e
+    by works.Verify other e = e
 
 -- and a summary of it is its summary
 pub summary_is : {E : Type 0} (m : MeshView) (plan : Plan) (log : List Entry) (lines : List GeomLine)

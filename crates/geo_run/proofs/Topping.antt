@@ -162,31 +162,32 @@ keeps_all : (call : Call) (mode : Mode) (plan : Plan) (ending : Ending) → Keep
     → call.written ≡ added_to call.before.sink.taken call.after.sink.taken
     → KeepsAll call mode plan ending
 keeps_all call mode plan ending k w e = record {
-  read_as = k.read_as;
-  bytes = record {
-    gave = k.gave.given;
-    had_left = k.gave.had_left;
-    took = took call call.status (status_of ending) (due_text (reported mode call.text plan call.facts call.log) ending) w e;
+  texts = record {
+    read_as = k.read_as;
+    bytes = record {
+      gave = k.gave.given;
+      had_left = k.gave.had_left;
+      took =
+          took call call.status (status_of ending)
+          (due_text (reported mode call.text plan call.facts call.log) ending) w e;
+    };
+    prints = prints call ending (due_text (reported mode call.text plan call.facts call.log) ending) w e;
+    streams = record { writes = w.told; reads = k.reads };
   };
-  cause = k.cause;
-  prints = prints call ending (due_text (reported mode call.text plan call.facts call.log) ending) w e;
-  has_log = k.has_log;
-  is_opened = k.is_opened;
-  history = k.history;
-  to_its_end = k.to_its_end;
-  order = k.order;
-  fits = k.fits;
-  disks = k.disks;
-  lent = k.lent;
-  streams = record { writes = w.told; reads = k.reads };
-  calls = k.calls;
-  others = k.others;
-  unasked = unasked_at call ending call.log k.unasked;
-  sizes = k.sizes;
-  kept_stay = k.kept_stay;
-  images = k.images;
-  images_stand = k.images_stand;
-  outside = k.outside;
+  ends = record { cause = k.cause; has_log = k.has_log; is_opened = k.is_opened };
+  log = record { history = k.history; to_its_end = k.to_its_end; order = k.order; fits = k.fits };
+  outside = record {
+    disks = k.disks;
+    lent = k.lent;
+    calls = k.calls;
+    others = k.others;
+    unasked = unasked_at call ending call.log k.unasked;
+    sizes = k.sizes;
+    kept_stay = k.kept_stay;
+    images = k.images;
+    images_stand = k.images_stand;
+    untouched = k.outside;
+  };
 }
 
 -- a run that finished and wrote what is due keeps all that it has to

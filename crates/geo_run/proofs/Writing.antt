@@ -67,6 +67,8 @@ stop_ends reported stop status before after w = by w.actual w.is w.writes
     due_same stops.NoMemory = refl
     due_same stops.LogFull = refl
     due_same stops.TooLong = refl
+    due_same (stops.Answered answer) = refl
+    due_same (stops.NoTrace line) = refl
 
     by : (actual : Ending) → (actual ≡ ending_of stop) ⊎ ((actual ≡ OutOfMemory) × IsTextMade (ending_of stop))
         → Writes status (status_of actual) (due_text [] actual) before after

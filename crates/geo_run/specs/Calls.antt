@@ -1,7 +1,10 @@
 -- The calls of the program as they are seen from outside.
-use Rattle.std.specs.Prelude.{◌≡◌, ◌≢◌, ◌⊎◌, ℕ, ◌<◌, ◌≤◌, List, [], ◌++◌, drop, length, None, Result, Ok, Err, IfSome, IfNone, IsSome, IsSomeAnd, IsTrue}
+use Rattle.std.specs.Prelude.{◌≡◌, ◌≢◌, ◌⊎◌, ℕ, ◌<◌, ◌≤◌, List, [], ◌++◌, drop, length, None, Result, Ok, Err, IfSome, IfNone, IsSome, IsSomeAnd, IsTrue, ⊤}
 use Rattle.geo_base.specs.Faults.{Rose}
-use Rattle.geo_headline.specs.Modes.{Mode, StartsThreads, source_limit}
+use Rattle.geo_headline.specs.declared.verified.Verified.{Verified}
+use Rattle.geo_headline.specs.Modes.{Mode, VerifyMode, StartsThreads, source_limit}
+use Rattle.geo_headline.specs.Traces.{TraceFault, InScript, InTrace}
+use Rattle.geo_headline.specs.Verifying.{verified}
 use Rattle.geo_model.specs.Script.{Fault, script}
 use Rattle.geo_model.specs.World.{Plan}
 use Rattle.geo_model.specs.Opening.{opening}
@@ -113,34 +116,65 @@ FinishesText text mode finish before after =
 
 -- Of a source
 
--- why a source wasn't read to its end
-abbrev pub UnreadCause : Mode → List ℕ → SourceView → SourceView → Stop → Type 0
-UnreadCause mode text before after stops.ReadFault =
-    (length text ≤ source_limit mode) × Rose before.faults after.faults
-UnreadCause mode text before after stops.TooLong = (source_limit mode < length text) × (after.faults ≡ before.faults)
-UnreadCause mode text before after stops.NoMemory = after.faults ≡ before.faults
-UnreadCause mode text before after _ = ⊥
+-- a source gave this text, which is all of it and isn't too long
+pub record ReadsWhole (limit : ℕ) (before after : SourceView) (text : List ℕ) : Type 0 where
+  pub gave : Gave before text after
+  pub told : after.faults ≡ before.faults
+  pub few : length text ≤ limit
+  pub ended : IsTrue after.ended
+  pub none_left : IfSome after.left (λ left. left ≡ [])
 
--- a source gave this text, but wasn't read to its end
-pub record EndsUnread (mode : Mode) (text : List ℕ) (source source_after : SourceView) (finish : Finish)
+-- why a source that gave this text wasn't read to its end
+abbrev pub UnreadCause : ℕ → List ℕ → SourceView → SourceView → Stop → Type 0
+UnreadCause limit text before after stops.ReadFault = (length text ≤ limit) × Rose before.faults after.faults
+UnreadCause limit text before after stops.TooLong = (limit < length text) × (after.faults ≡ before.faults)
+UnreadCause limit text before after stops.NoMemory = after.faults ≡ before.faults
+UnreadCause limit text before after _ = ⊥
+
+-- a source wasn't read to its end
+pub record ReadsPart (limit : ℕ) (before after : SourceView) (stop : Stop) : Type 0 where
+  pub text : List ℕ
+  pub gave : Gave before text after
+  pub cause : UnreadCause limit text before after stop
+
+-- a source wasn't read to its end, and nothing was done
+pub record EndsUnread (mode : Mode) (source source_after : SourceView) (finish : Finish)
     (before after : ShelfView) : Type 0 where
   pub stop : Stop
-  pub cause : UnreadCause mode text source source_after stop
+  pub part : ReadsPart (source_limit mode) source source_after stop
   pub early : EndsEarly finish stop before after
 
 -- a source was read to its end, and its text was run
-pub record EndsRead (mode : Mode) (text : List ℕ) (source source_after : SourceView) (finish : Finish)
-    (before after : ShelfView) : Type 0 where
-  pub told : source_after.faults ≡ source.faults
-  pub few : length text ≤ source_limit mode
-  pub ended : IsTrue source_after.ended
-  pub none_left : IfSome source_after.left (λ left. left ≡ [])
-  pub of_text : FinishesText text mode finish before after
-
--- a source gave a text, which was run if it is all of it
-pub record FinishesSource (mode : Mode) (source source_after : SourceView) (finish : Finish)
+pub record EndsRead (mode : Mode) (source source_after : SourceView) (finish : Finish)
     (before after : ShelfView) : Type 0 where
   pub text : List ℕ
-  pub gave : Gave source text source_after
-  pub ends : EndsRead mode text source source_after finish before after
-      ⊎ EndsUnread mode text source source_after finish before after
+  pub whole : ReadsWhole (source_limit mode) source source_after text
+  pub of_text : FinishesText text mode finish before after
+
+-- what a source gave was run if it is all of it
+abbrev pub FinishesSource : Mode → SourceView → SourceView → Finish → ShelfView → ShelfView → Type 0
+FinishesSource mode source source_after finish before after =
+    EndsRead mode source source_after finish before after ⊎ EndsUnread mode source source_after finish before after
+
+-- Of a trace
+
+-- what was found of a text, or its first fault, unless memory ran out
+abbrev pub IsFoundIn : Result Verified TraceFault → Stop → Type 0
+IsFoundIn answer (stops.Answered found) = answer ≡ Ok found
+IsFoundIn answer (stops.NoScript line cause) = answer ≡ Err (InScript line cause)
+IsFoundIn answer (stops.NoTrace line) = answer ≡ Err (InTrace line)
+IsFoundIn answer stops.NoMemory = ⊤
+IsFoundIn answer _ = ⊥
+
+-- a source was read to its end, and this was found of its text
+pub record EndsFound (source source_after : SourceView) (finish : Finish) (before after : ShelfView) : Type 0 where
+  pub text : List ℕ
+  pub whole : ReadsWhole (source_limit VerifyMode) source source_after text
+  pub stop : Stop
+  pub found : IsFoundIn (verified text) stop
+  pub early : EndsEarly finish stop before after
+
+-- the text of a source was verified if it is all of it
+abbrev pub FinishesVerified : SourceView → SourceView → Finish → ShelfView → ShelfView → Type 0
+FinishesVerified source source_after finish before after =
+    EndsFound source source_after finish before after ⊎ EndsUnread VerifyMode source source_after finish before after

@@ -15,9 +15,9 @@ use Rattle.geo_headline.specs.Outside.{ShelfView, IsShelf, IsThere, IsMissing, I
 use Rattle.geo_headline.specs.Endings.{Ending, Reported, ReportedButFault, ShelfFault, NoDisk, BadSize, OutOfMemory, LogFull, IsWhole, HasLog, StopsAt, first_kept_back, reported}
 use Rattle.geo_headline.specs.Headline.{CallsAreTold, HaveFactSectors, KeptDisksStay, LentAfter, NoneAsked}
 use Rattle.geo_headline.specs.Modes.{Mode}
-use Rattle.geo_drain.specs.Meshes.{MeshView}
-use Rattle.geo_drain.specs.declared.refusal.DrainRefusal.{DrainRefusal}
-use Rattle.geo_drain.specs.declared.refusal.DrainRefusal.TheVariants as refusals
+use Rattle.geo_elev.specs.Meshes.{MeshView}
+use Rattle.geo_elev.specs.DrainRefusal.{DrainRefusal}
+use Rattle.geo_elev.specs.DrainRefusal.TheVariants as refusals
 use Rattle.geo_run.specs.declared.due.Due.{Due}
 use Rattle.geo_run.specs.declared.due.Due.TheVariants as dues
 use Rattle.geo_run.specs.declared.stop.Stop.TheVariants as stops

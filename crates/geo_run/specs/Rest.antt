@@ -5,8 +5,8 @@ use Rattle.geo_model.specs.World.{World}
 use Rattle.geo_model.specs.Log.{replay, owed}
 use Rattle.geo_model.specs.FixedOrder.{FollowsOrder, StepOrder}
 use Rattle.geo_headline.specs.Endings.{NextIsFull}
-use Rattle.geo_drain.specs.Meshes.{MeshView, opened}
-use Rattle.geo_drain.specs.Drain.{with_entries}
+use Rattle.geo_elev.specs.Meshes.{MeshView, opened}
+use Rattle.geo_elev.specs.Drain.{with_entries}
 use Rattle.geo_run.specs.Drives.{DriveView, ServeAll}
 
 -- the mesh made more steps, in the order with seat 0, and the drives did what its log says

@@ -1,6 +1,6 @@
 -- What is due at the end of a run: its report, or why there is none.
 use Rattle.std.specs.Prelude.{◌≡◌, ℕ, List, Option, Some, None, ⊤}
-use Rattle.geo_headline.specs.Endings.{Ending, Reported, ReportedButFault, BadWords, NoScript, ReadFault, ShelfFault, NoDisk, BadSize, OutOfMemory, LogFull, TooLong}
+use Rattle.geo_headline.specs.Endings.{Ending, Reported, ReportedButFault, BadWords, NoScript, ReadFault, ShelfFault, NoDisk, BadSize, OutOfMemory, LogFull, TooLong, Answered, NoTrace}
 use Rattle.geo_run.specs.declared.stop.Stop.{Stop}
 use Rattle.geo_run.specs.declared.stop.Stop.TheVariants as stops
 use Rattle.geo_run.specs.declared.due.Due.{Due}
@@ -17,6 +17,8 @@ ending_of (stops.BadSize name) = BadSize name
 ending_of stops.NoMemory = OutOfMemory
 ending_of stops.LogFull = LogFull
 ending_of stops.TooLong = TooLong
+ending_of (stops.Answered answer) = Answered answer
+ending_of (stops.NoTrace line) = NoTrace line
 
 -- how a run ends whose report this is, where the disk of a name may have been kept back
 abbrev pub ending_with : Option (List ℕ) → Ending

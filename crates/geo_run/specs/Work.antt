@@ -1,5 +1,5 @@
 -- What the words ask for.
-use Rattle.std.specs.Prelude.{◌≡◌, ℕ, List, map, Option, Some, None, string_bytes, ⊤}
+use Rattle.std.specs.Prelude.{◌≡◌, ℕ, List, map, Option, Some, None, string_bytes}
 use Rattle.std.specs.declared.string.String.{String}
 use Rattle.std.specs.declared.alloc.Global.{Global}
 use Rattle.geo_headline.specs.Modes.{Mode, StepMode, GenMode, SweepMode, VerifyMode, Accepts, StartsThreads, IsAlone}
@@ -15,24 +15,16 @@ word_bytes words = map (λ word. string_bytes word) words
 abbrev pub AskThreads : List (List ℕ) → Type 0
 AskThreads words = (mode : Mode) × StartsThreads mode × Accepts words mode
 
--- what one thread can't do yet
-abbrev pub IsToCome : Mode → Type 0
-IsToCome SweepMode = ⊤
-IsToCome VerifyMode = ⊤
-IsToCome _ = ⊥
-
--- the words don't ask for that
-abbrev pub IsBuilt : List (List ℕ) → Type 0
-IsBuilt words = (mode : Mode) → IsToCome mode → Accepts words mode → ⊥
-
 abbrev pub mode_of : Work → Mode
 mode_of works.Step = StepMode
 mode_of (works.Generate start count) = GenMode start count
+mode_of works.Sweep = SweepMode
+mode_of works.Verify = VerifyMode
 
--- words of one thread whose code stands ask for this work, or for none
+-- words that start no thread ask for this work, or for none
 abbrev pub AsksFor : List (List ℕ) → Option Work → Type 0
 AsksFor words (Some work) = Accepts words (mode_of work)
-AsksFor words None = IsAlone words → IsBuilt words → (mode : Mode) → Accepts words mode → ⊥
+AsksFor words None = IsAlone words → (mode : Mode) → Accepts words mode → ⊥
 
 -- COUNT is a number, and with this START the work is to run the script of both, or it isn't one
 abbrev pub AsksCount : ℕ → List ℕ → Option Work → Type 0

@@ -1,11 +1,12 @@
 //! What is due at the end of a run, and how it is written.
 ghost use Rattle.std.specs.Prelude.{◌≡◌, ◌≢◌, ℕ, List, [], IfOk, codes};
-ghost use Rattle.geo_headline.specs.Endings.{BadWords, ReportedButFault, due_text};
+ghost use Rattle.geo_headline.specs.Endings.{Answered, BadWords, ReportedButFault, due_text};
 ghost use Rattle.geo_run.specs.Stops.{IsDue, ending_by, ending_of, ending_with};
 ghost use Rattle.geo_run.specs.Writes.{Writes, WritesEnding, WritesMade};
 
-use crate::stop::{Stop, fault_text, named_text};
+use crate::stop::{Stop, fault_text, named_text, no_step_text, trace_fault_text};
 use geo_base::{Block, Name, NoMemory};
+use geo_headline::Verified;
 use geo_io::{Sink, write_out};
 use geo_text::Text;
 use std::alloc::Global;
@@ -15,7 +16,7 @@ use std::alloc::Global;
 pub enum Due {
     /// The report, or the summary, and the first disk that couldn't be given back.
     Report { text: Block, kept: Option<Name> },
-    /// Why there is none.
+    /// Why there is none, or what is found of a trace.
     Stopped(Stop),
 }
 
@@ -48,6 +49,19 @@ fn written_made<K: Sink>(sink: &mut K, status: u8, text: Result<Block, NoMemory>
     }
 }
 
+/// Writes what is found of a trace.
+fn write_found<K: Sink>(alloc: Global, found: &Verified, sink: &mut K) -> u8
+    ensures { WritesEnding [] (Answered found.now) result (K.view sink.old)
+        (K.view sink.new) }
+{
+    match found {
+        Verified::Yes => written(sink, 0, b"yes\n"),
+        Verified::NotEnabled { line } => written_made(sink, 9, no_step_text(alloc, *line)),
+        Verified::NotAtRest => written(sink, 9, b"no: not at rest\n"),
+        Verified::OtherReport => written(sink, 9, b"no: report\n"),
+    }
+}
+
 /// Writes why there is no report.
 fn write_stop<K: Sink>(alloc: Global, stop: &Stop, sink: &mut K) -> u8
     ensures { WritesEnding [] (ending_of stop.now) result (K.view sink.old)
@@ -65,6 +79,8 @@ fn write_stop<K: Sink>(alloc: Global, stop: &Stop, sink: &mut K) -> u8
         Stop::NoMemory => written(sink, 6, OUT_OF_MEMORY),
         Stop::LogFull => written(sink, 7, b"log full\n"),
         Stop::TooLong => written(sink, 8, b"script too long\n"),
+        Stop::Answered(found) => write_found(alloc, found, sink),
+        Stop::NoTrace { line } => written_made(sink, 2, trace_fault_text(alloc, *line)),
     }
 }
 

@@ -1,13 +1,12 @@
 //! The run of a plan: its disks are taken, its mesh goes to rest, the disks are given back, and the report is made.
 ghost use Rattle.std.specs.Prelude.{◌≡◌, [], List, Some, None, map, IfOk, IsErrOf, OnOk, IsErr};
 ghost use Rattle.geo_headline.specs.Endings.{order_of};
-ghost use Rattle.geo_model.specs.FixedOrder.{fixed_order};
 ghost use Rattle.geo_model.specs.History.{KeepsHistory, RanToItsEnd};
 ghost use Rattle.geo_model.specs.Laws.{NoneBusy};
 ghost use Rattle.geo_model.specs.Log.{Fits};
 ghost use Rattle.geo_model.specs.Plans.{FactsFit, IsPlan};
-ghost use Rattle.geo_drain.specs.Meshes.{MeshView, opened, world_of};
-ghost use Rattle.geo_drain.specs.Drain.{DrivesFit};
+ghost use Rattle.geo_elev.specs.Meshes.{MeshView, opened, world_of};
+ghost use Rattle.geo_elev.specs.Drain.{DrivesFit};
 ghost use Rattle.geo_run.specs.Drives.{drive_view, size_of};
 ghost use Rattle.geo_run.specs.Rest.{Adds, RanFull};
 ghost use Rattle.geo_run.specs.Lending.{AreOut};
@@ -23,7 +22,7 @@ use crate::stop::Stop;
 use crate::words::Work;
 use geo_base::{Block, Name, NoMemory};
 use geo_disk::{Disk, Drive, Shelf};
-use geo_drain::{DrainRefusal, Mesh};
+use geo_elev::{DrainRefusal, Mesh};
 use geo_log::DiskFacts;
 use geo_report::{report, summary};
 use geo_script::Plan;
@@ -70,8 +69,8 @@ fn report_of(alloc: Global, mesh: &Mesh, work: &Work) -> Result<Block, NoMemory>
 {
     let lines = mesh.listing(alloc)?;
     match work {
-        Work::Step => report(alloc, mesh.plan(), mesh.log(), &lines),
         Work::Generate { .. } => summary(alloc, mesh.plan(), mesh.log(), &lines),
+        _ => report(alloc, mesh.plan(), mesh.log(), &lines),
     }
 }
 
@@ -95,20 +94,26 @@ fn due_of(
     }
 }
 
-/// Runs an open mesh to rest over its drives.
-fn drain<D: Disk>(alloc: Global, mesh: &mut Mesh, lent: &mut Lent<D>) -> Result<(), DrainRefusal>
+/// Runs an open mesh to rest over its drives, in the order of the work.
+fn drain<D: Disk>(
+    alloc: Global,
+    mesh: &mut Mesh,
+    lent: &mut Lent<D>,
+    work: &Work,
+) -> Result<(), DrainRefusal>
     requires idle { NoneBusy (world_of mesh.old) }
     requires drives { DrivesFit mesh.old (map (drive_view D.view) lent.old.drives.items) }
     ensures names { lent.new.names.items ≡ lent.old.names.items }
-    ensures added { Adds fixed_order mesh.old mesh.new
+    ensures added { Adds (order_of (mode_of work.now)) mesh.old mesh.new
         (map (drive_view D.view) lent.old.drives.items)
         (map (drive_view D.view) lent.new.drives.items) }
     ensures history { KeepsHistory (opened mesh.new) mesh.new.log }
     ensures fits { Fits (opened mesh.new) mesh.new.log }
     ensures rest { OnOk result (RanToItsEnd (opened mesh.new) mesh.new.log) }
-    ensures full { IsErrOf result DrainRefusal.LogFull → RanFull fixed_order (opened mesh.new) mesh.new.log }
+    ensures full { IsErrOf result DrainRefusal.LogFull
+        → RanFull (order_of (mode_of work.now)) (opened mesh.new) mesh.new.log }
 {
-    come_to_rest(alloc, mesh, lent.drives.as_mut_slice())
+    come_to_rest(alloc, mesh, lent.drives.as_mut_slice(), work)
 }
 
 /// Runs an open mesh to rest over drives that are out, and gives them back.
@@ -141,7 +146,7 @@ where
 {
     let mut mesh = mesh;
     let mut lent = lent;
-    let drained = drain(alloc, &mut mesh, &mut lent);
+    let drained = drain(alloc, &mut mesh, &mut lent, work);
     let kept = give_back(lent, shelf);
     let due = due_of(alloc, &mesh, drained, kept, work);
     Finish {

@@ -2,21 +2,20 @@
 ghost use Rattle.std.specs.Prelude.{◌<◌, ◌^◌, length};
 ghost use Rattle.geo_model.specs.Generator.{generated};
 ghost use Rattle.geo_headline.specs.Modes.{IsAlone, IsMode, GenMode};
-ghost use Rattle.geo_run.specs.Work.{IsBuilt, mode_of, word_bytes};
+ghost use Rattle.geo_run.specs.Work.{mode_of, word_bytes};
 ghost use Rattle.geo_run.specs.Calls.{Finishes, FinishesText, FinishesSource};
 
 use crate::finish::{Finish, unopened};
 use crate::plan_run::run_plan;
+use crate::read::read_source;
 use crate::stop::Stop;
+use crate::verify_run::run_verify;
 use crate::words::{Work, work_of};
 use geo_disk::Shelf;
 use geo_gen::make_script;
-use geo_io::{ReadRefusal, Source, read_all};
+use geo_io::Source;
 use geo_script::{ParseRefusal, parse};
 use std::alloc::Global;
-
-/// The longest script, in bytes.
-const LONGEST: u32 = 4_194_304;
 
 /// Runs the plan of a text.
 fn run_text<H: Shelf>(alloc: Global, text: &[u8], work: &Work, shelf: &mut H) -> Finish
@@ -49,11 +48,9 @@ where
         (H.view shelf.old)
         (H.view shelf.new) }
 {
-    match read_all(alloc, source, LONGEST) {
+    match read_source(alloc, source, work.source_limit()) {
         Ok(text) => run_text(alloc, text.bytes(), work, shelf),
-        Err(ReadRefusal::ReadFault) => unopened(alloc, Stop::ReadFault),
-        Err(ReadRefusal::TooLong) => unopened(alloc, Stop::TooLong),
-        Err(ReadRefusal::NoMemory) => unopened(alloc, Stop::NoMemory),
+        Err(stop) => unopened(alloc, stop),
     }
 }
 
@@ -82,7 +79,6 @@ pub fn run_words<S: Source, H: Shelf>(
 where
     H::D: Drop,
     requires alone { IsAlone (word_bytes words.now) }
-    requires built { IsBuilt (word_bytes words.now) }
     ensures { Finishes (word_bytes words.now) result
         (S.view source.old)
         (S.view source.new)
@@ -91,7 +87,9 @@ where
 {
     match work_of(words) {
         Some(Work::Step) => run_source(alloc, source, &Work::Step, shelf),
+        Some(Work::Sweep) => run_source(alloc, source, &Work::Sweep, shelf),
         Some(Work::Generate { start, count }) => run_generated(alloc, start, count, shelf),
+        Some(Work::Verify) => run_verify(alloc, source),
         None => unopened(alloc, Stop::BadWords),
     }
 }

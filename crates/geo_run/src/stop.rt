@@ -2,9 +2,11 @@
 ghost use Rattle.std.specs.Prelude.{◌≡◌, ◌∷◌, ◌++◌, [], IfOk, codes};
 ghost use Rattle.geo_model.specs.Report.{end_line};
 ghost use Rattle.geo_model.specs.Script.{cause_text};
-ghost use Rattle.geo_headline.specs.Endings.{NoScript, due_text};
+ghost use Rattle.geo_headline.specs.Endings.{Answered, NoScript, NoTrace, due_text};
+ghost use Rattle.geo_headline.specs.declared.verified.Verified.TheVariants as found;
 
 use geo_base::{Block, Name, NoMemory};
+use geo_headline::Verified;
 use geo_model::Cause;
 use geo_text::Text;
 use std::alloc::Global;
@@ -28,8 +30,12 @@ pub enum Stop {
     NoMemory,
     /// The step that was due had no place in the log.
     LogFull,
-    /// The source gave more than 4,194,304 bytes.
+    /// The source gave more bytes than a script may have, or a trace where one is to be verified.
     TooLong,
+    /// A trace was asked for, and this is what is found of it.
+    Answered(Verified),
+    /// The line of a trace, behind a script without fault, that is the first one that isn't of the form.
+    NoTrace { line: u32 },
 }
 
 impl From<NoMemory> for Stop {
@@ -74,6 +80,27 @@ pub fn fault_text(alloc: Global, line: u32, cause: Cause) -> Result<Block, NoMem
     text.add_labelled(b"line ", u64::from(line))?;
     text.add(b": ")?;
     text.add(cause_text(cause))?;
+    text.add(b"\n")?;
+    Ok(text.into_block())
+}
+
+/// The text of a line of a trace that isn't of the form.
+pub fn trace_fault_text(alloc: Global, line: u32) -> Result<Block, NoMemory>
+    ensures { IfOk result (λ block. block ≡ due_text [] (NoTrace line)) }
+{
+    let mut text = Text::new(alloc);
+    text.add_labelled(b"line ", u64::from(line))?;
+    text.add(b": trace")?;
+    text.add(b"\n")?;
+    Ok(text.into_block())
+}
+
+/// The text of a trace whose step in this line isn't enabled.
+pub fn no_step_text(alloc: Global, line: u32) -> Result<Block, NoMemory>
+    ensures { IfOk result (λ block. block ≡ due_text [] (Answered (found.NotEnabled line))) }
+{
+    let mut text = Text::new(alloc);
+    text.add_labelled(b"no: line ", u64::from(line))?;
     text.add(b"\n")?;
     Ok(text.into_block())
 }

@@ -4,7 +4,7 @@ ghost use Rattle.geo_headline.specs.Endings.{BadWords, due_text};
 ghost use Rattle.geo_headline.specs.Headline.{IsComplete};
 ghost use Rattle.geo_run.specs.Calls.{Keeps, call_of, outside_of};
 ghost use Rattle.geo_headline.specs.Modes.{IsAlone};
-ghost use Rattle.geo_run.specs.Work.{IsBuilt, word_bytes};
+ghost use Rattle.geo_run.specs.Work.{word_bytes};
 ghost use Rattle.geo_run.specs.Writes.{Writes};
 
 use crate::due::{write_due, write_out_of_memory, write_usage};
@@ -23,10 +23,11 @@ pub struct Ended {
     pub facts: DiskFacts,
 }
 
-/// All work of the program on words that start no thread and whose code stands: on the word `step` the script that the
-/// source gives is run over the disks of the shelf, and its report is written to the sink; on `gen START COUNT` the
-/// script that is made from these numbers is run, and its summary written. Each disk that is taken is given back,
-/// unless the shelf fails to take it.
+/// All work of the program on words that start no thread: on the word `step` the script that the source gives is run
+/// over the disks of the shelf, and its report is written to the sink; on `sweep` the same in the elevator order; on
+/// `gen START COUNT` the script that is made from these numbers is run, and its summary written. Each disk that is
+/// taken is given back, unless the shelf fails to take it. On `verify` what is found of the trace that the source gives
+/// is written; no disk is taken, and no log comes.
 pub fn run_alone<S: Source, K: Sink, H: Shelf>(
     alloc: Global,
     words: &[String],
@@ -37,7 +38,6 @@ pub fn run_alone<S: Source, K: Sink, H: Shelf>(
 where
     H::D: Drop,
     requires alone { IsAlone (word_bytes words.now) }
-    requires built { IsBuilt (word_bytes words.now) }
     ensures keeps { Keeps (call_of (word_bytes words.now) result
         (outside_of (S.view source.old)
         (K.view sink.old)

@@ -1,7 +1,8 @@
 //! The words of the program.
 ghost use Rattle.std.specs.Prelude.{◌≡◌, ◌↔◌, [], ◌∷◌, IsTrue, codes, string_bytes};
 ghost use Rattle.geo_run.specs.Numbers.{IsNumberWithin, IsPlain};
-ghost use Rattle.geo_run.specs.Work.{AskThreads, AsksCount, AsksFor, IsBuilt, word_bytes};
+ghost use Rattle.geo_headline.specs.Modes.{source_limit};
+ghost use Rattle.geo_run.specs.Work.{AskThreads, AsksCount, AsksFor, mode_of, word_bytes};
 
 /// What the words ask for.
 #[derive(Clone, Copy, Debug, PartialEq, Eq)]
@@ -10,6 +11,30 @@ pub enum Work {
     Step,
     /// Run the script that is made from the number `start`, with `count` lines that are drawn.
     Generate { start: u32, count: u32 },
+    /// Run the script that the source gives, in the elevator order.
+    Sweep,
+    /// Say what is found of the trace that the source gives.
+    Verify,
+}
+
+/// The longest script, in bytes.
+const LONGEST_SCRIPT: u32 = 4_194_304;
+
+/// The longest trace, in bytes.
+const LONGEST_TRACE: u32 = 67_108_864;
+
+impl Work {
+    /// How many bytes the source may give.
+    pub fn source_limit(&self) -> u32
+        ensures { result ≡ source_limit (mode_of self.now) }
+    {
+        match self {
+            Work::Verify => LONGEST_TRACE,
+            Work::Step => LONGEST_SCRIPT,
+            Work::Generate { .. } => LONGEST_SCRIPT,
+            Work::Sweep => LONGEST_SCRIPT,
+        }
+    }
 }
 
 /// The greatest START.
@@ -70,13 +95,14 @@ fn generation(start: &String, count: &String) -> Option<Work>
 }
 
 /// What one word asks for.
-fn step_of(word: &String) -> Option<Work>
+fn work_by(word: &String) -> Option<Work>
     ensures { AsksFor (string_bytes word.now ∷ []) result }
 {
-    if word.as_str() == "step" {
-        Some(Work::Step)
-    } else {
-        None
+    match word.as_str() {
+        "step" => Some(Work::Step),
+        "sweep" => Some(Work::Sweep),
+        "verify" => Some(Work::Verify),
+        _ => None,
     }
 }
 
@@ -111,21 +137,12 @@ pub fn starts_threads(words: &[String]) -> bool
     run | watch | trace
 }
 
-/// Whether the words don't ask for what one thread can't do yet: whether they aren't the one word `sweep` or `verify`.
-pub fn is_built(words: &[String]) -> bool
-    ensures { IsTrue result ↔ IsBuilt (word_bytes words.now) }
-{
-    let sweep = is_only(words, "sweep");
-    let verify = is_only(words, "verify");
-    !sweep & !verify
-}
-
-/// What the words ask for, if they are accepted. Words that ask for threads, or for what isn't built, ask for no work.
+/// What the words ask for, if they are accepted. Words that ask for threads ask for no work.
 pub fn work_of(words: &[String]) -> Option<Work>
     ensures { AsksFor (word_bytes words.now) result }
 {
     match words {
-        [word] => step_of(word),
+        [word] => work_by(word),
         [first, start, count] => generation_of(first, start, count),
         _ => None,
     }

@@ -5,7 +5,7 @@ use crate::contents::{Failures, failures_of};
 use geo_base::{Block, Calls, Name, NoMemory};
 use geo_disk::MemShelf;
 use geo_io::{MemSink, MemSource};
-use geo_run::{Ended, is_built, run_alone, starts_threads};
+use geo_run::{Ended, run_alone, starts_threads};
 use std::alloc::Global;
 use std::process::Abort;
 use std::test::Fail;
@@ -106,7 +106,6 @@ fn words(alloc: Global) -> Option<Vec<String>> {
 // The run of the words.
 fn run_words(rt: &impl Abort, alloc: Global, words: &[String], outside: &mut Outside) -> Ended {
     assert!(rt; !starts_threads(words));
-    assert!(rt; is_built(words));
     run_alone(
         alloc,
         words,

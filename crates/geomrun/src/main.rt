@@ -4,7 +4,7 @@
 
 use geo_file::FileShelf;
 use geo_io::{StdSink, StdSource};
-use geo_run::{is_built, refuse_words, run_alone, starts_threads, without_memory};
+use geo_run::{refuse_words, run_alone, starts_threads, without_memory};
 use std::alloc::Global;
 use std::process::ExitCode;
 use std::rt::Env;
@@ -29,7 +29,7 @@ fn main(rt: HostRuntime) -> ExitCode {
             Vec::new(alloc)
         }
     };
-    if starts_threads(words.as_slice()) || !is_built(words.as_slice()) {
+    if starts_threads(words.as_slice()) {
         return ExitCode::from(refuse_words(&mut sink));
     }
     let Ok(mut shelf) = FileShelf::new(rt, alloc, ".") else {

@@ -1,6 +1,6 @@
 -- Each ending without a report.
 use Rattle.std.proofs.Common.{ap}
-use Rattle.geo_headline.specs.Endings.{BadWords, NoScript, ReadFault, ShelfFault, NoDisk, BadSize, OutOfMemory, LogFull, TooLong}
+use Rattle.geo_headline.specs.Endings.{BadWords, NoScript, ReadFault, ShelfFault, NoDisk, BadSize, OutOfMemory, LogFull, TooLong, Answered, NoTrace}
 use Rattle.geo_run.specs.Stops.{ending_of}
 use Rattle.geo_run.proofs.Writing.{ends, made_ends, same_ends}
 use Rattle.geo_run.proofs.due.write_stop.Goals as goal
@@ -44,3 +44,12 @@ returns-in-LogFull g c =
 pub returns-in-TooLong : goal.returns-in-TooLong
 returns-in-TooLong g c =
     same_ends _ TooLong _ _ _ _ (ap ending_of c.in-TooLong.is) (ends _ TooLong _ _ _ c.written-in-TooLong.ensures)
+
+pub returns-in-Answered : goal.returns-in-Answered
+returns-in-Answered g c =
+    same_ends _ (Answered c.in-Answered.found) _ _ _ _ (ap ending_of c.in-Answered.is) c.write_found.ensures
+
+pub returns-in-NoTrace : goal.returns-in-NoTrace
+returns-in-NoTrace g c =
+    same_ends _ (NoTrace c.in-NoTrace.line) _ _ _ _ (ap ending_of c.in-NoTrace.is)
+    (made_ends _ (NoTrace c.in-NoTrace.line) _ _ _ _ tt c.trace_fault_text.ensures c.written_made-in-NoTrace.ensures)

@@ -1,10 +1,9 @@
 -- The mesh goes to rest, and the drives are given back.
 use Rattle.std.proofs.Common.{Some, refl, sym}
 use Rattle.geo_headline.specs.Endings.{order_of}
-use Rattle.geo_model.specs.FixedOrder.{fixed_order}
 use Rattle.geo_run.specs.Work.{mode_of}
 use Rattle.geo_run.proofs.Idle.{idle_mesh}
-use Rattle.geo_run.proofs.Running.{adds_in, full_in, given_under, ran_drives, ran_due, still_out}
+use Rattle.geo_run.proofs.Running.{given_under, ran_drives, ran_due, still_out}
 use Rattle.geo_run.proofs.plan_run.run_mesh.Goals as goal
 
 pub drain-drained-requires-clause-idle : goal.drain-drained-requires-clause-idle
@@ -15,7 +14,7 @@ drain-drained-requires-clause-drives g c = sym c.requires.sizes
 
 pub give_back-kept-requires : goal.give_back-kept-requires
 give_back-kept-requires g c = record {
-  out = still_out fixed_order _ c.args.mesh c.drain-drained.new.mesh c.args.lent.names.items c.drain-drained.new.lent.names.items _ _
+  out = still_out (order_of (mode_of c.args.work.now)) _ c.args.mesh c.drain-drained.new.mesh c.args.lent.names.items c.drain-drained.new.lent.names.items _ _
       c.drain-drained.ensures.names c.requires.out c.drain-drained.ensures.added;
 }
 
@@ -24,9 +23,9 @@ returns-clause-runs g c =
     ran_drives (order_of (mode_of c.args.work.now)) (mode_of c.args.work.now) c.args.mesh c.drain-drained.new.mesh _ _ c.drain-drained.result
     c.give_back-kept.result c.due_of-due.result c.args.lent.names.items c.args.facts.items (Some c.into_log.result)
     c.into_log.result _ _ c.requires.new
-    (adds_in c.args.work.now c.args.mesh c.drain-drained.new.mesh _ _ c.drain-drained.ensures.added)
+    c.drain-drained.ensures.added
     c.drain-drained.ensures.history c.drain-drained.ensures.fits c.drain-drained.ensures.rest
-    (full_in c.args.work.now c.drain-drained.new.mesh c.drain-drained.result _ c.drain-drained.ensures.full)
+    c.drain-drained.ensures.full
     c.due_of-due.ensures
     (given_under c.give_back-kept.result c.args.lent.names.items c.drain-drained.new.lent.names.items _ _ _
     c.drain-drained.ensures.names c.give_back-kept.ensures)
@@ -34,6 +33,6 @@ returns-clause-runs g c =
 
 pub returns-clause-due : goal.returns-clause-due
 returns-clause-due g c =
-    ran_due fixed_order (mode_of c.args.work.now) c.args.mesh c.drain-drained.new.mesh _ _ c.drain-drained.result
+    ran_due (order_of (mode_of c.args.work.now)) (mode_of c.args.work.now) c.args.mesh c.drain-drained.new.mesh _ _ c.drain-drained.result
     c.give_back-kept.result c.due_of-due.result c.args.facts.items (Some c.into_log.result) c.into_log.result
     c.drain-drained.ensures.added c.due_of-due.ensures c.requires.facts refl c.into_log.ensures.log

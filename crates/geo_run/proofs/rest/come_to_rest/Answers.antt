@@ -1,18 +1,23 @@
--- The mesh goes to rest in the fixed order.
-use Rattle.geo_run.proofs.Asked.{adds_by, ran_full, ran_to_rest}
+-- The order is that of the work.
+use Rattle.geo_model.specs.FixedOrder.{fixed_order}
+use Rattle.geo_headline.specs.Sweep.{sweep_order}
+use Rattle.geo_run.proofs.Asked.{adds_in, fixed_in, full_in, swept_in}
 use Rattle.geo_run.proofs.rest.come_to_rest.Goals as goal
 
-pub returns-clause-added : goal.returns-clause-added
-returns-clause-added g c = adds_by _ _ c.args.mesh.now c.run_to_rest.new.mesh c.run_to_rest.ensures.runs
+pub returns-in-Sweep-clause-added : goal.returns-in-Sweep-clause-added
+returns-in-Sweep-clause-added g c =
+    adds_in sweep_order _ _ _ _ _ (swept_in c.args.work.now c.in-Sweep.is) c.in_elevator_order.ensures.added
 
-pub returns-clause-history : goal.returns-clause-history
-returns-clause-history g c = c.run_to_rest.ensures.history.keeps
+pub returns-in-Sweep-clause-full : goal.returns-in-Sweep-clause-full
+returns-in-Sweep-clause-full g c =
+    full_in sweep_order _ c.in_elevator_order.new.mesh c.in_elevator_order.result _
+    (swept_in c.args.work.now c.in-Sweep.is) c.in_elevator_order.ensures.full
 
-pub returns-clause-fits : goal.returns-clause-fits
-returns-clause-fits g c = c.run_to_rest.ensures.history.lawful.1
+pub returns-in_default-clause-added : goal.returns-in_default-clause-added
+returns-in_default-clause-added g c =
+    adds_in fixed_order _ _ _ _ _ (fixed_in c.args.work.now c.in_default.not-Sweep) c.in_fixed_order.ensures.added
 
-pub returns-clause-rest : goal.returns-clause-rest
-returns-clause-rest g c = ran_to_rest _ c.run_to_rest.new.mesh c.run_to_rest.ensures.history c.run_to_rest.ensures.rest
-
-pub returns-clause-full : goal.returns-clause-full
-returns-clause-full g c = λ e. ran_full c.run_to_rest.new.mesh (c.run_to_rest.ensures.full e)
+pub returns-in_default-clause-full : goal.returns-in_default-clause-full
+returns-in_default-clause-full g c =
+    full_in fixed_order _ c.in_fixed_order.new.mesh c.in_fixed_order.result _
+    (fixed_in c.args.work.now c.in_default.not-Sweep) c.in_fixed_order.ensures.full

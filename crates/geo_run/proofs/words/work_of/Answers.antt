@@ -6,8 +6,8 @@ use Rattle.geo_run.proofs.words.work_of.Goals as goal
 
 pub returns-in-len1 : goal.returns-in-len1
 returns-in-len1 c =
-    subst (λ (ws : List (List ℕ)). AsksFor ws c.step_of.result)
-    (sym (one_word c.args.words.now c.word-item.result c.in-len1.len_at_least c.in-len1.len_below c.word-item.is)) c.step_of.ensures
+    subst (λ (ws : List (List ℕ)). AsksFor ws c.work_by.result)
+    (sym (one_word c.args.words.now c.word-item.result c.in-len1.len_at_least c.in-len1.len_below c.word-item.is)) c.work_by.ensures
 
 pub returns-in-len3 : goal.returns-in-len3
 returns-in-len3 c =
