@@ -31,8 +31,8 @@ use Rattle.geo_laws_making.proofs.Joined.{concats_stay, stripes_stay}
 use Rattle.geo_laws_making.proofs.NewPlaces.{whole_sizes}
 use Rattle.geo_model.specs.WorldEvents.{with_queued}
 use Rattle.geo_mesh.specs.Topo.{is_provider_size}
-use Rattle.geo_taste.specs.Making.{queued}
-use Rattle.geo_taste.specs.Standing.{CanStandOn}
+use Rattle.geo_requests.specs.Making.{queued}
+use Rattle.geo_requests.specs.Standing.{CanStandOn}
 use Rattle.geo_state.specs.declared.state.State.{State}
 use Rattle.geo_state.specs.Steps.{IsFirm}
 use Rattle.geo_state.specs.World.{world}

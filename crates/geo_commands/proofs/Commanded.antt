@@ -31,11 +31,11 @@ use Rattle.geo_laws_graph.proofs.Members.{All-from_contained, Contains-here, fil
 use Rattle.geo_laws_making.proofs.Made.{through}
 use Rattle.geo_laws_making.proofs.Inserted.{none_refused}
 use Rattle.geo_laws_making.proofs.Nopped.{found_by_number, nopped-firm}
-use Rattle.geo_taste.specs.declared.offer.Offer.{Offer}
-use Rattle.geo_taste.specs.declared.raise.NewGeom.{NewGeom}
-use Rattle.geo_taste.specs.Making.{both, queued}
-use Rattle.geo_taste.specs.Standing.{CanStandOn}
-use Rattle.geo_taste.proofs.ModelLemmas.{makes_as_model}
+use Rattle.geo_requests.specs.Offer.{Offer}
+use Rattle.geo_requests.specs.NewGeom.{NewGeom}
+use Rattle.geo_requests.specs.Making.{both, queued}
+use Rattle.geo_requests.specs.Standing.{CanStandOn}
+use Rattle.geo_requests.proofs.ModelLemmas.{makes_as_model}
 use Rattle.geo_state.specs.declared.state.State.{State}
 use Rattle.geo_state.specs.World.{world}
 use Rattle.geo_commands.specs.declared.below.Below.{Below}

@@ -11,7 +11,7 @@ use Rattle.geo_slots.specs.Slots.{value_at}
 use Rattle.geo_mesh.specs.Graph.{IsSoundGraph}
 use Rattle.geo_mesh.specs.Topo.{TopoView, with_consumer}
 use Rattle.geo_access.specs.Access.{IsCounted, granted_by, holds_grants}
-use Rattle.geo_taste.proofs.Adding.{no_consumer}
+use Rattle.geo_requests.proofs.Adding.{no_consumer}
 use Rattle.geo_state.proofs.GrantLaws.{comers_hold_nothing}
 use Rattle.geo_commands.specs.Appends.{grants_at, new_refusal}
 

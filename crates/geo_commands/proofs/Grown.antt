@@ -19,10 +19,10 @@ use Rattle.geo_mesh.specs.Graph.{IsSoundGraph}
 use Rattle.geo_mesh.specs.Topo.{TopoView}
 use Rattle.geo_laws_graph.proofs.Lists.{found_fresh}
 use Rattle.geo_access.specs.Access.{IsCounted}
-use Rattle.geo_taste.specs.declared.offer.Offer.{Offer}
-use Rattle.geo_taste.specs.declared.raise.NewGeom.{NewGeom}
-use Rattle.geo_taste.specs.Making.{QueuedMesh, AreBoth, both, queued}
-use Rattle.geo_taste.specs.Standing.{CanStandOn}
+use Rattle.geo_requests.specs.Offer.{Offer}
+use Rattle.geo_requests.specs.NewGeom.{NewGeom}
+use Rattle.geo_requests.specs.Making.{QueuedMesh, AreBoth, both, queued}
+use Rattle.geo_requests.specs.Standing.{CanStandOn}
 use Rattle.geo_state.specs.declared.state.State.{State}
 use Rattle.geo_state.specs.Changes.{IsSettled}
 use Rattle.geo_state.specs.Holds.{Holds, owed_events}

@@ -27,3 +27,4 @@ pub mod Lengthened
 pub mod Summed
 pub mod Answering
 pub mod Printing
+pub mod Owed

@@ -22,8 +22,8 @@ use Rattle.geo_mesh.specs.Topo.{is_provider_size}
 use Rattle.geo_laws_graph.proofs.Members.{find-Contains}
 use Rattle.geo_laws_making.proofs.Made.{through}
 use Rattle.geo_laws_making.proofs.Nopped.{found_by_number}
-use Rattle.geo_taste.specs.Making.{queued}
-use Rattle.geo_taste.specs.Standing.{CanStandOn}
+use Rattle.geo_requests.specs.Making.{queued}
+use Rattle.geo_requests.specs.Standing.{CanStandOn}
 use Rattle.geo_state.specs.declared.state.State.{State}
 use Rattle.geo_state.specs.Steps.{IsFirm}
 use Rattle.geo_state.specs.World.{world}

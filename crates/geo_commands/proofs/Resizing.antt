@@ -22,8 +22,8 @@ use Rattle.geo_access.specs.Join.{joined_view}
 use Rattle.geo_access.proofs.Decided.{item_at}
 use Rattle.geo_access.proofs.Granted.{numbers_of}
 use Rattle.geo_life.specs.Life.{without_rises}
-use Rattle.geo_taste.proofs.Adding.{among, config_kept, stood}
-use Rattle.geo_taste.proofs.Kept.{KeepsCounts, holds_of, kept_counted}
+use Rattle.geo_requests.proofs.Adding.{among, config_kept, stood}
+use Rattle.geo_requests.proofs.Kept.{KeepsCounts, holds_of, kept_counted}
 use Rattle.geo_commands.specs.declared.names.Growing.{Growing}
 use Rattle.geo_commands.specs.Appends.{larger, larger_mesh}
 

@@ -22,10 +22,10 @@ use Rattle.geo_laws_graph.specs.LookupLaws.{new_geom, new_provider, new_consumer
 use Rattle.geo_laws_graph.proofs.Found.{added-geom, added-provider, added-consumer}
 use Rattle.geo_laws_counts.proofs.Counters.{nothing_above}
 use Rattle.geo_access.specs.Access.{granted_by, holds_grants, IsCounted, IsQuiet}
-use Rattle.geo_taste.specs.Making.{with_all_attached, with_attached, with_geom_on}
-use Rattle.geo_taste.proofs.Adding.{consumer_kept, geom_kept, no_consumer, no_geom, none_lives, provider_kept}
-use Rattle.geo_taste.proofs.Coming.{bare_of}
-use Rattle.geo_taste.proofs.Kept.{kept_counted}
+use Rattle.geo_requests.specs.Making.{with_all_attached, with_attached, with_geom_on}
+use Rattle.geo_requests.proofs.Adding.{consumer_kept, geom_kept, no_consumer, no_geom, none_lives, provider_kept}
+use Rattle.geo_requests.proofs.Coming.{bare_of}
+use Rattle.geo_requests.proofs.Kept.{kept_counted}
 use Rattle.geo_state.specs.Parts.{disk_row, geom_row}
 use Rattle.geo_state.specs.Sites.{HasComers, no_row}
 use Rattle.geo_state.proofs.GrantLaws.{comers_hold_nothing}

@@ -20,11 +20,11 @@ use Rattle.geo_mesh.specs.Graph.{IsSoundGraph}
 use Rattle.geo_mesh.specs.Topo.{TopoView, is_provider_size}
 use Rattle.geo_access.specs.Access.{granted_by}
 use Rattle.geo_laws_graph.proofs.Members.{Contains-map}
-use Rattle.geo_taste.specs.declared.offer.Offer.{Offer}
-use Rattle.geo_taste.specs.declared.raise.NewGeom.{NewGeom}
-use Rattle.geo_taste.specs.Making.{both, queued}
-use Rattle.geo_taste.specs.Standing.{CanStandOn}
-use Rattle.geo_taste.proofs.ModelLemmas.{makes_as_model}
+use Rattle.geo_requests.specs.Offer.{Offer}
+use Rattle.geo_requests.specs.NewGeom.{NewGeom}
+use Rattle.geo_requests.specs.Making.{both, queued}
+use Rattle.geo_requests.specs.Standing.{CanStandOn}
+use Rattle.geo_requests.proofs.ModelLemmas.{makes_as_model}
 use Rattle.geo_state.specs.declared.state.State.{State}
 use Rattle.geo_state.specs.declared.state.DiskSeat.{DiskSeat}
 use Rattle.geo_state.specs.Changes.{IsSettled}

@@ -6,3 +6,4 @@ pub mod Makes
 pub mod Above
 pub mod Appends
 pub mod Lines
+pub mod Owed

@@ -1,8 +1,8 @@
 -- A geom that comes with a provider of its: what it changes of a state.
 use Rattle.std.specs.Prelude.{◌≡◌, ℕ, ◌+◌, ◌*◌, ◌≤◌, List, length}
-use Rattle.geo_taste.specs.declared.offer.Offer.{Offer}
-use Rattle.geo_taste.specs.declared.raise.NewGeom.{NewGeom}
-use Rattle.geo_taste.specs.Making.{QueuedMesh, AreBoth, both, with_built}
+use Rattle.geo_requests.specs.Offer.{Offer}
+use Rattle.geo_requests.specs.NewGeom.{NewGeom}
+use Rattle.geo_requests.specs.Making.{QueuedMesh, AreBoth, both, with_built}
 use Rattle.geo_state.specs.declared.state.State.{State}
 
 -- the mesh and the events with the geom over some providers, and its provider

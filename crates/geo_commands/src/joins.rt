@@ -10,8 +10,8 @@ ghost use Rattle.geo_model.specs.Place.{disk_of};
 ghost use Rattle.geo_model.specs.WorldEvents.{with_queued};
 ghost use Rattle.geo_model.specs.GeomCommands.{do_concat, do_stripe, found_providers};
 ghost use Rattle.geo_mesh.specs.Topo.{is_provider_size};
-ghost use Rattle.geo_taste.specs.Making.{queued};
-ghost use Rattle.geo_taste.specs.Standing.{CanStandOn};
+ghost use Rattle.geo_requests.specs.Making.{queued};
+ghost use Rattle.geo_requests.specs.Standing.{CanStandOn};
 ghost use Rattle.geo_state.specs.Holds.{Holds};
 ghost use Rattle.geo_state.specs.Steps.{Does, IsFirm, SameWorld};
 ghost use Rattle.geo_state.specs.World.{HasBytes, world};
@@ -26,8 +26,8 @@ use geo_base::{ConsId, Kind, Name, NoMemory, ProvId};
 use geo_class::{Config, concat_size, stripe_size};
 use geo_mesh::Topo;
 use geo_model::Outcome;
+use geo_requests::{NewGeom, Offer};
 use geo_state::State;
-use geo_taste::{NewGeom, Offer};
 use std::alloc::Global;
 
 /// A concat of the providers of the names, in order; its provider has their sizes together. What is against it

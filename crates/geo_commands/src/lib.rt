@@ -34,6 +34,9 @@ pub use decisions::{Decision, decide, owed_after};
 pub use destroys::{destroy, pull};
 pub use dispatch::do_command;
 pub use geo_opens::{reap, reap_found};
+pub use geo_requests::{
+    deliver, deliver_found, start, start_found, take, take_found, up, up_found,
+};
 pub use geoms::listing;
 pub use growths::{append_refusal, grow_provider, join_new};
 pub use inserts::insert;

@@ -7,8 +7,8 @@ ghost use Rattle.geo_model.specs.Topology.{is_name_taken};
 ghost use Rattle.geo_model.specs.Place.{disk_of};
 ghost use Rattle.geo_model.specs.WorldEvents.{with_queued};
 ghost use Rattle.geo_mesh.specs.Topo.{is_provider_size};
-ghost use Rattle.geo_taste.specs.Making.{queued};
-ghost use Rattle.geo_taste.specs.Standing.{CanStandOn};
+ghost use Rattle.geo_requests.specs.Making.{queued};
+ghost use Rattle.geo_requests.specs.Standing.{CanStandOn};
 ghost use Rattle.geo_state.specs.World.{world};
 ghost use Rattle.geo_state.specs.Holds.{Holds};
 ghost use Rattle.geo_state.specs.Steps.{IsFirm, SameWorld};
@@ -16,8 +16,8 @@ ghost use Rattle.geo_commands.specs.Makes.{HasGrown, built};
 
 use crate::names::look;
 use geo_base::{GeomId, NoMemory, ProvId};
+use geo_requests::{NewGeom, Offer, build};
 use geo_state::{State, reserve_events};
-use geo_taste::{NewGeom, Offer, build};
 
 /// More providers than so many can't be counted.
 const MOST: u64 = 0x1000_0000_0000_0000;

@@ -15,8 +15,8 @@ use crate::reply::{done, refused};
 use geo_base::{Errno, Kind, Name, NoMemory};
 use geo_class::Config;
 use geo_model::Outcome;
+use geo_requests::{NewGeom, Offer};
 use geo_state::State;
-use geo_taste::{NewGeom, Offer};
 
 /// A nop over the provider of a name, whose window of `size` bytes begins at `offset`, both in bytes; `fail` says which
 /// of its requests fail. ENOENT where there is no provider of the name, else what `nop_refusal` says. After `NoMemory`

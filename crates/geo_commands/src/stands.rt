@@ -14,8 +14,8 @@ use crate::makes::grow;
 use crate::names::look;
 use geo_base::{Kind, NoMemory};
 use geo_class::Config;
+use geo_requests::{NewGeom, Offer};
 use geo_state::{State, set_geom};
-use geo_taste::{NewGeom, Offer};
 
 /// A disk stands as a DISK geom with one provider of its name, which is offered for taste. After `NoMemory` all is as
 /// before.

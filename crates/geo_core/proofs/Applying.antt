@@ -20,8 +20,8 @@ use Rattle.geo_model.specs.declared.listing.GeomLine.{GeomLine}
 use Rattle.geo_model.specs.Listing.{listing}
 use Rattle.geo_model.specs.Step.{Answer, step}
 use Rattle.geo_model.specs.Log.{owed, log_limit, is_full}
-use Rattle.geo_laws_owed.specs.OwedLaws.{is_answered_ok, is_close, is_open}
-use Rattle.geo_laws_owed.proofs.OwedSteps.{owed_changes}
+use Rattle.geo_commands.specs.Owed.{is_answered_ok, is_close, is_open}
+use Rattle.geo_commands.proofs.Owed.{owed_changes}
 use Rattle.geo_state.specs.Steps.{against}
 use Rattle.geo_state.specs.World.{world}
 use Rattle.geo_commands.specs.declared.decisions.Decision.{Decision}

@@ -14,10 +14,10 @@ use Rattle.geo_model.specs.Plans.{IsCommand}
 use Rattle.geo_model.specs.Step.{Answer, step}
 use Rattle.geo_model.specs.Log.{replay, world_after, owed, is_full, IsMade}
 use Rattle.geo_model.proofs.LogLemmas.{replay-append}
-use Rattle.geo_laws_steps.proofs.Logs.{firm_after}
+use Rattle.geo_laws_requests.proofs.Legal.{firm_after}
 use Rattle.geo_laws_texts.specs.Naming.{HaveNames}
 use Rattle.geo_laws_texts.proofs.Logs.{legal_logs_have_names}
-use Rattle.geo_laws_owed.proofs.Room.{logs_stay_lawful}
+use Rattle.geo_commands.proofs.Owed.{logs_stay_lawful}
 use Rattle.geo_laws_requests.proofs.Complete.{legal_logs_complete_requests}
 use Rattle.geo_log.specs.Places.{delivered_at}
 use Rattle.geo_state.specs.ShownLaws.{LoggedStay}

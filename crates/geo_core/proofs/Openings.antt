@@ -17,7 +17,7 @@ use Rattle.geo_model.specs.Opening.{bare_world, disk_in_size, opening}
 use Rattle.geo_model.specs.Plans.{IsPlan, IsDiskDecl, IsFact, FactsFit, Differ}
 use Rattle.geo_laws_making.proofs.Inserted.{IsNumbered}
 use Rattle.geo_laws_life.proofs.Standing.{Stander}
-use Rattle.geo_laws_steps.proofs.Logs.{opened_firm}
+use Rattle.geo_laws_requests.proofs.Legal.{opened_firm}
 use Rattle.geo_core.specs.Openings.{stand_one, stood}
 
 -- whether a disk stands at the opening

@@ -12,7 +12,7 @@ use Rattle.geo_model.specs.Fitting.{Firm}
 use Rattle.geo_model.specs.Step.{Answer, step, go, go_of}
 use Rattle.geo_model.specs.Commands.{do_command}
 use Rattle.geo_model.specs.Log.{owed, log_limit, world_after}
-use Rattle.geo_laws_owed.proofs.OwedSteps.{owed_changes}
+use Rattle.geo_commands.proofs.Owed.{owed_changes}
 use Rattle.geo_state.specs.Steps.{against}
 use Rattle.geo_state.specs.World.{world}
 use Rattle.geo_commands.specs.declared.decisions.Decision.{Decision}

@@ -121,7 +121,7 @@ fn up_with<L: Ledger>(
     ensures logged { (entries : List Entry) → HasBytes entries state.old → HasBytes entries state.new }
 {
     let mut steps: Steps<L> = Steps::new(blank);
-    geo_requests::up(alloc, state, log, bio, &mut steps)
+    geo_commands::up(alloc, state, log, bio, &mut steps)
 }
 
 /// What is decided of the command of an actor. Nothing changes.

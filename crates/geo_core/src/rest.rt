@@ -14,12 +14,11 @@ ghost use Rattle.geo_core.specs.Running.{seen, is_idle, is_quiet, IsMesh};
 use crate::running::Running;
 use geo_base::{BioCmd, BioId, ProvId};
 use geo_bio::Bio;
-use geo_class::Config;
 use geo_commands::reap_found;
 use geo_events::wash_found;
 use geo_mesh::Topo;
 use geo_model::Step;
-use geo_state::State;
+use geo_state::{Config, State};
 
 /// Whether no command, bio, event or taste is left, and no reap or wash is possible. These two are asked last, since a
 /// wash is sought among the geoms.

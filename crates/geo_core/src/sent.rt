@@ -10,9 +10,9 @@ use crate::rest::disk_at;
 use crate::running::Running;
 use geo_base::{BioCmd, BioId, ProvId};
 use geo_bio::Bio;
-use geo_class::Config;
 use geo_mesh::Topo;
 use geo_model::Phase;
+use geo_state::Config;
 
 // The size of a sector where none is known.
 const SECTOR: u32 = 512;

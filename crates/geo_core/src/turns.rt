@@ -13,10 +13,10 @@ ghost use Rattle.geo_core.specs.Moves.{Turns, IsTurn, IsDeliver};
 
 use crate::counted::{judge, reap, up};
 use geo_base::{BioId, NoMemory};
+use geo_commands::{deliver, start, take};
 use geo_events::{event, wash};
 use geo_log::Log;
 use geo_model::{DeviceResult, Outcome, Step};
-use geo_requests::{deliver, start, take};
 use geo_state::State;
 use std::alloc::Global;
 

@@ -22,7 +22,7 @@ use Rattle.geo_model.specs.Laws.{NoneBusy, world_by}
 use Rattle.geo_model.proofs.LogLemmas.{Legal-front}
 use Rattle.geo_laws_graph.proofs.Members.{find-Contains}
 use Rattle.geo_laws_bios.proofs.Phases.{can_deliver}
-use Rattle.geo_laws_requests.proofs.Complete.{legal_logs_complete_requests}
+use Rattle.geo_laws_disks.proofs.Legal.{legal_logs_complete_requests}
 use Rattle.geo_laws_rest.proofs.Quiet.{step_idle, take_idle}
 use Rattle.geo_serve.specs.Drives.{DriveView}
 use Rattle.geo_serve.specs.Served.{AreServed}

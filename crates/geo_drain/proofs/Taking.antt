@@ -14,7 +14,7 @@ use Rattle.geo_model.specs.World.{Bio, HeaderDisk, bio_at}
 use Rattle.geo_model.specs.Opening.{disk_in_size}
 use Rattle.geo_model.specs.Log.{Legal}
 use Rattle.geo_model.specs.Step.{is_enabled, step}
-use Rattle.geo_laws_steps.proofs.Logs.{firm_after}
+use Rattle.geo_laws_disks.proofs.Legal.{firm_after}
 use Rattle.geo_laws_disks.specs.DiskLaws.{AsksInside, LiesInside}
 use Rattle.geo_laws_disks.proofs.Inside.{disks_are_asked}
 use Rattle.geo_serve.specs.Drives.{DriveView}

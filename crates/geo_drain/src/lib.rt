@@ -9,7 +9,7 @@ mod refusal;
 mod turn;
 
 pub use drain::run_to_rest;
-pub use geo_core::{Mesh, Spot};
+pub use geo_core::{ApplyRefusal, Mesh, Spot};
 pub use order::{FixedOrder, Order};
 pub use picking::{earliest, if_enabled, pick};
 pub use refusal::DrainRefusal;

@@ -10,7 +10,7 @@ use Rattle.geo_model.specs.Opening.{disk_in_size}
 use Rattle.geo_model.specs.Plans.{IsFact}
 use Rattle.geo_model.specs.Log.{IsPrefixOf, replay}
 use Rattle.geo_headline.specs.Sweep.{Waiting, is_sent_to, waiting_for, waiting_of}
-use Rattle.geo_laws_requests.proofs.Opened.{opening_none}
+use Rattle.geo_laws_disks.proofs.Legal.{opening_none}
 use Rattle.geo_laws_disks.proofs.Opened.{opening_disks}
 use Rattle.geo_drain.specs.Meshes.{MeshView, IsHistory, opened}
 use Rattle.geo_elev.specs.declared.disks.DiskHead.{DiskHead}

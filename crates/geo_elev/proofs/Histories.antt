@@ -15,7 +15,7 @@ use Rattle.geo_model.specs.Step.{Answer, step}
 use Rattle.geo_model.specs.Log.{IsPrefixOf, Legal, after_entry, world_after, replay}
 use Rattle.geo_model.specs.Fitting.{Firm}
 use Rattle.geo_model.proofs.LogLemmas.{replay-append, Legal-back}
-use Rattle.geo_laws_steps.proofs.Logs.{firm_after}
+use Rattle.geo_laws_disks.proofs.Legal.{firm_after}
 use Rattle.geo_headline.specs.Sweep.{waiting_for, head_of, head_after}
 use Rattle.geo_laws_sweep.specs.SweepLaws.{is_queued, is_asked}
 use Rattle.geo_drain.specs.Meshes.{MeshView, IsHistory, opened, world_of, spot_of}

@@ -12,7 +12,7 @@ mod sweep;
 
 pub use disks::DiskHead;
 pub use elevator::Heads;
-pub use geo_drain::{DrainRefusal, FixedOrder, Mesh, run_to_rest};
+pub use geo_drain::{ApplyRefusal, DrainRefusal, FixedOrder, Mesh, run_to_rest};
 pub use lists::Place;
 pub use queue::Queue;
 pub use sweep::{pick_sweep, sweep_to_rest};

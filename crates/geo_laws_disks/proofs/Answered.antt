@@ -15,8 +15,8 @@ use Rattle.geo_model.specs.Step.{is_enabled, step}
 use Rattle.geo_model.specs.Log.{Legal, after_entry, replay}
 use Rattle.geo_model.specs.Fitting.{Firm}
 use Rattle.geo_model.proofs.LogLemmas.{Legal-back, Legal-front, replay-append}
-use Rattle.geo_laws_steps.proofs.Logs.{firm_after}
-use Rattle.geo_laws_steps.proofs.Stepped.{steps_stay_firm}
+use Rattle.geo_laws_requests.proofs.Legal.{firm_after}
+use Rattle.geo_laws_requests.proofs.Legal.{steps_stay_firm}
 use Rattle.geo_laws_requests.proofs.Along.{entry_made}
 use Rattle.geo_laws_disks.specs.DiskLaws.{AsksInside, LiesInside}
 use Rattle.geo_laws_disks.proofs.Inside.{disks_are_asked}

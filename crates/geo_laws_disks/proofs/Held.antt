@@ -23,8 +23,8 @@ use Rattle.geo_model.specs.Laws.{TakenCanBeDelivered}
 use Rattle.geo_laws_graph.proofs.Living.{all_members}
 use Rattle.geo_laws_graph.proofs.Members.{Contains-map, find-Contains}
 use Rattle.geo_laws_graph.proofs.Numbered.{filter-pushed, filter-pushed_hit, number_found}
-use Rattle.geo_laws_steps.proofs.Logs.{opened_firm}
-use Rattle.geo_laws_steps.proofs.Stepped.{steps_stay_firm}
+use Rattle.geo_laws_requests.proofs.Legal.{opened_firm}
+use Rattle.geo_laws_requests.proofs.Legal.{steps_stay_firm}
 use Rattle.geo_laws_requests.proofs.Starts.{in_phase}
 use Rattle.geo_laws_requests.proofs.Takes.{TakesIt, takes_it}
 use Rattle.geo_laws_requests.proofs.Along.{entry_made}

@@ -12,8 +12,8 @@ use Rattle.geo_model.specs.Log.{Legal, after_entry, replay}
 use Rattle.geo_model.specs.Fitting.{Firm}
 use Rattle.geo_model.proofs.LogLemmas.{Legal-back, Legal-front}
 use Rattle.geo_laws_graph.proofs.Living.{all_members}
-use Rattle.geo_laws_steps.proofs.Logs.{firm_after, opened_firm}
-use Rattle.geo_laws_steps.proofs.Stepped.{steps_stay_firm}
+use Rattle.geo_laws_requests.proofs.Legal.{firm_after, opened_firm}
+use Rattle.geo_laws_requests.proofs.Legal.{steps_stay_firm}
 use Rattle.geo_laws_requests.proofs.Along.{entry_made}
 use Rattle.geo_laws_requests.proofs.Opened.{opening_none}
 use Rattle.geo_laws_disks.specs.DiskLaws.{AsksInside, DisksAreAsked, DisksStay, LiesInside, TakesLieInside}

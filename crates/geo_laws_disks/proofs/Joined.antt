@@ -17,7 +17,7 @@ use Rattle.geo_model.specs.Contents.{after_answer, after_step, contents}
 use Rattle.geo_model.proofs.LogLemmas.{Legal-front}
 use Rattle.geo_laws_graph.proofs.Numbered.{find-pushed}
 use Rattle.geo_laws_requests.proofs.Looks.{find_in_front}
-use Rattle.geo_laws_steps.proofs.Logs.{opened_firm}
+use Rattle.geo_laws_requests.proofs.Legal.{opened_firm}
 use Rattle.geo_laws_requests.specs.Ledger.{Ledger}
 use Rattle.geo_laws_requests.proofs.Along.{ledger_along}
 use Rattle.geo_laws_requests.proofs.Complete.{entries_back}

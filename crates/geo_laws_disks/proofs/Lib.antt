@@ -23,3 +23,5 @@ pub mod InOrder
 pub mod TakenOnce
 pub mod Seats
 pub mod ServedBy
+pub mod Legal
+pub use Rattle.geo_laws_requests.proofs.AllDelivered

@@ -11,8 +11,8 @@ use Rattle.geo_model.specs.Fitting.{Firm}
 use Rattle.geo_model.specs.Log.{world_after}
 use Rattle.geo_model.specs.Step.{Answer, step}
 use Rattle.geo_laws_graph.proofs.Members.{find-Contains}
-use Rattle.geo_laws_steps.specs.WayLaws.{SameMap, sizes_at}
-use Rattle.geo_laws_steps.proofs.Steps.{steps_keep_used}
+use Rattle.geo_laws_requests.specs.Ways.{SameMap, sizes_at}
+use Rattle.geo_laws_requests.proofs.Legal.{steps_keep_used}
 use Rattle.geo_laws_disks.specs.TakenLaws.{OthersLeaveIt}
 use Rattle.geo_laws_disks.proofs.Still.{stands_still}
 

@@ -22,3 +22,4 @@ pub mod Opened
 pub mod Along
 pub mod Complete
 pub mod AllDelivered
+pub mod Legal

@@ -4,3 +4,4 @@ pub mod Covering
 pub mod Ledger
 pub mod RequestLaws
 pub mod DeliveredLaws
+pub mod Ways

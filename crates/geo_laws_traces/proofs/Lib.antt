@@ -11,3 +11,4 @@ pub mod Written
 pub mod Told
 pub mod Delivers
 pub mod Owes
+pub mod Legal

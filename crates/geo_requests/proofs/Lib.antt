@@ -11,3 +11,8 @@ pub mod Going
 pub mod Asking
 pub mod Rising
 pub mod Returned
+-- handed on to the crates above: how geoms are made
+pub use Rattle.geo_taste.proofs.Adding
+pub use Rattle.geo_taste.proofs.Coming
+pub use Rattle.geo_taste.proofs.Kept
+pub use Rattle.geo_taste.proofs.ModelLemmas

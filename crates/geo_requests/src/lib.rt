@@ -15,6 +15,7 @@ mod ups;
 mod way;
 
 pub use found::{deliver_found, start_found, take_found, up_found};
+pub use geo_taste::{NewGeom, Offer, build};
 pub use mark::Mark;
 pub use requests::{request, write_record};
 pub use serve::{deliver, take};

@@ -17,6 +17,7 @@ mod ups;
 
 pub use bios::{NewBio, bounce, deliver, send, submit_line, submit_read, take};
 pub use geo_bio::{Bio, BioResult, Held, LogBytes, Owner, Phase, Risen, Span, Targets};
+pub use geo_class::Config;
 pub use handles::kill;
 pub use oldest::own_bio;
 pub use opening::{empty, reserve_bio, reserve_events};

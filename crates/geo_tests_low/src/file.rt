@@ -1,5 +1,5 @@
 use geo_base::Name;
-use geo_disk::{Disk, DiskFailed, Notes, Shelf, Taken};
+use geo_disk::{Disk, DiskFailed, Notes, Shelf, ShelfFault, Taken};
 use geo_file::{FileDisk, FileShelf};
 use std::env::Env;
 use std::fs::File;
@@ -85,6 +85,23 @@ fn a_folder_lends_its_images(rt: HostRuntime) -> Result<(), Fail> {
     assert!(rt; shelf.give(&name, disk).is_ok());
     assert!(rt; matches!(shelf.take(&name, 512), Ok(Taken::Disk(_))));
     assert!(rt; matches!(shelf.take(&name, 512), Ok(Taken::Missing)));
+    fs::remove_dir_all(&rt, folder.as_str())?;
+    Ok(())
+}
+
+#[test]
+fn an_image_that_is_locked_is_a_fault_until_it_is_given_back(rt: HostRuntime) -> Result<(), Fail> {
+    let folder = folder(&rt, "geo_file_locks")?;
+    make_image(&rt, folder.as_str(), "da0", 1536)?;
+    let name = Name::new(b"da0")?;
+    let mut shelf = FileShelf::new(&rt, rt.alloc(), folder.as_str())?;
+    let mut other = FileShelf::new(&rt, rt.alloc(), folder.as_str())?;
+    let Ok(Taken::Disk(disk)) = shelf.take(&name, 512) else {
+        return Err(Fail::from("no disk"));
+    };
+    assert!(rt; matches!(other.take(&name, 512), Err(ShelfFault::Failed)));
+    assert!(rt; shelf.give(&name, disk).is_ok());
+    assert!(rt; matches!(other.take(&name, 512), Ok(Taken::Disk(_))));
     fs::remove_dir_all(&rt, folder.as_str())?;
     Ok(())
 }

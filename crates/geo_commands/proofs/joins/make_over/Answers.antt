@@ -3,7 +3,7 @@ use Rattle.std.proofs.Common.{subst}
 use Rattle.geo_model.specs.declared.command.LineCommand.{LineCommand}
 use Rattle.geo_model.specs.declared.step.Entry.{Entry}
 use Rattle.geo_model.specs.WorldEvents.{with_queued}
-use Rattle.geo_taste.specs.Making.{queued}
+use Rattle.geo_requests.specs.Making.{queued}
 use Rattle.geo_state.specs.World.{world}
 use Rattle.geo_commands.specs.Makes.{built}
 use Rattle.geo_commands.proofs.joins.make_over.Goals as goal

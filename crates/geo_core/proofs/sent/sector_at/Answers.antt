@@ -1,5 +1,5 @@
 use Rattle.std.proofs.Common.{arith}
-use Rattle.geo_requests.proofs.Errored.{wide_sector}
+use Rattle.geo_commands.proofs.Owed.{wide_sector}
 use Rattle.geo_core.proofs.sent.sector_at.Goals as goal
 
 pub returns-in-Some-clause-some : goal.returns-in-Some-clause-some
