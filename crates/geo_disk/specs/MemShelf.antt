@@ -14,6 +14,7 @@ use Rattle.geo_disk.specs.Names.{is_among, named}
 use Rattle.geo_disk.specs.Shelf.{ShelfView}
 use Rattle.geo_disk.specs.declared.calls.DiskCall.{DiskCall}
 use Rattle.geo_disk.specs.declared.mem_shelf.Slot.{Slot}
+use Rattle.geo_disk.specs.declared.shelf.ShelfCall.{ShelfCall}
 
 -- the test of names is an equivalence
 same_names : IsEquivalence bytes_eq
@@ -33,6 +34,8 @@ pub record Store : Type 0 where
   pub fails : List ℕ
   pub calls : ℕ
   pub faults : ℕ
+  -- what the calls were, in order
+  pub asked : List ShelfCall
 
 -- a place whose disk was taken out
 abbrev pub emptied_slot : List ℕ → Slot
@@ -88,6 +91,7 @@ shelf_view s = record {
   give_faults = give_faults_of s.loans;
   asked_of = returned_asked s.loans;
   sectors_of = returned_sectors s.loans;
+  calls = s.asked;
 }
 
 -- each name that is lent has its place
@@ -103,12 +107,13 @@ abbrev pub with_slot : Store → Slot → Store
 with_slot s slot = record s { slots = s.slots ++ slot ∷ [] }
 
 -- the shelf after one more call, which failed or didn't
-abbrev pub shelf_called : Bool → Store → Store
-shelf_called failed s =
-    record s { calls = counted_on s.calls; faults = counted_if failed s.faults }
+abbrev pub shelf_called : Bool → ShelfCall → Store → Store
+shelf_called failed call s =
+    record s { calls = counted_on s.calls; faults = counted_if failed s.faults; asked = s.asked ++ call ∷ [] }
 
 -- no call was counted, and those that are to fail are the same
 pub record AreSameCalls (old new : Store) : Type 0 where
   pub fails : new.fails ≡ old.fails
   pub calls : new.calls ≡ old.calls
   pub faults : new.faults ≡ old.faults
+  pub asked : new.asked ≡ old.asked

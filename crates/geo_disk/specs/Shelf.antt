@@ -5,6 +5,7 @@ use Rattle.geo_base.specs.Sectors.{joined_sectors, sectors_of}
 use Rattle.geo_disk.specs.Disk.{DiskView}
 use Rattle.geo_disk.specs.Names.{without}
 use Rattle.geo_disk.specs.declared.calls.DiskCall.{DiskCall}
+use Rattle.geo_disk.specs.declared.shelf.ShelfCall.{ShelfCall}
 use Rattle.geo_disk.specs.declared.shelf.Taken.{Taken}
 use Rattle.geo_disk.specs.declared.shelf.Taken.TheVariants.{Disk, Missing, BadSize}
 use Rattle.geo_disk.specs.Counts.{counted_if}
@@ -29,6 +30,8 @@ pub record ShelfView : Type 0 where
   pub asked_of : List ℕ → List DiskCall
   -- of each name, how many sectors its disk had when it came back last
   pub sectors_of : List ℕ → ℕ
+  -- its takes and gives, in order, those that failed or found nothing among them
+  pub calls : List ShelfCall
 
 -- a disk has sectors of the size that was asked for, one or more, and at most 2 ^ 40 bytes
 pub record IsOfSize (sector bytes count : ℕ) : Type 0 where

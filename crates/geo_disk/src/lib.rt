@@ -19,4 +19,4 @@ pub use lending::Lending;
 pub use mem_disk::MemDisk;
 pub use mem_shelf::MemShelf;
 pub use notes::Notes;
-pub use shelf::{GiveFault, Shelf, ShelfFault, Taken, is_disk_size};
+pub use shelf::{GiveFault, Shelf, ShelfCall, ShelfFault, Taken, is_disk_size};

@@ -18,7 +18,7 @@ use crate::disk::Disk;
 use crate::lending::{Lending, is_same};
 use crate::mem_disk::MemDisk;
 use crate::notes::Notes;
-use crate::shelf::{GiveFault, Shelf, ShelfFault, Taken, is_disk_size};
+use crate::shelf::{GiveFault, Shelf, ShelfCall, ShelfFault, Taken, is_disk_size};
 use geo_base::{Block, Calls, Name, NoMemory};
 use std::alloc::Global;
 use std::marker::Model;
@@ -43,6 +43,7 @@ pub struct MemShelf {
     fails: Calls,
     calls: u64,
     faults: u64,
+    asked: Notes<ShelfCall>,
 }
 
 impl Model for MemShelf {
@@ -56,6 +57,7 @@ impl Model for MemShelf {
       fails = s.fails;
       calls = s.calls;
       faults = s.faults;
+      asked = s.asked.items;
     } };
 
     ghost invariant = { λ s. HasSlots s.lending.lent s.slots.items };
@@ -129,6 +131,7 @@ impl MemShelf {
           fails = [];
           calls = 0;
           faults = 0;
+          asked = [];
         } }
     {
         MemShelf {
@@ -138,6 +141,7 @@ impl MemShelf {
             fails: Calls::none(alloc),
             calls: 0,
             faults: 0,
+            asked: Notes::none(),
         }
     }
 
@@ -184,13 +188,14 @@ impl MemShelf {
     }
 
     /// Counts a call, and says whether it is to fail.
-    fn next_fails(&mut self) -> bool
+    fn next_fails(&mut self, call: &ShelfCall) -> bool
         ensures fails { IsTrue result ↔ Contains self.old.fails (counted_on self.old.calls) }
-        ensures called { self.new ≡ shelf_called result self.old }
+        ensures called { self.new ≡ shelf_called result call.now self.old }
         ensures later { self.old.faults ≤ self.new.faults }
         ensures rose { OnTrue result (Rose self.old.faults self.new.faults) }
     {
         self.calls = one_more(self.calls);
+        self.asked = self.asked.and(call);
         let fails = self.fails.has(self.calls);
         if fails {
             self.faults = one_more(self.faults);
@@ -327,8 +332,9 @@ impl Shelf for MemShelf {
         ensures disk { IfTaken result (λ d. IfSome (slot_of self.old.slots name.now) (λ slot. d
             ≡ disk_of sector (faults_of self.old.loans name.now) (returned_asked self.old.loans name.now) slot)) }
         ensures calls { (self.new.fails ≡ self.old.fails) × (self.new.calls ≡ counted_on self.old.calls) }
+        ensures called { self.new.asked ≡ self.old.asked ++ ShelfCall.Take name.now ∷ [] }
     {
-        if self.next_fails() {
+        if self.next_fails(&ShelfCall::Take(*name)) {
             return Err(self.fail_take(name));
         }
         self.take_now(name, sector)
@@ -360,8 +366,9 @@ impl Shelf for MemShelf {
         ensures fails { IsErr result ↔ Contains self.old.fails (counted_on self.old.calls) }
         ensures kept { OnOk result (slot_of self.new.slots name.now ≡ Some (kept_slot name.now disk)) }
         ensures calls { (self.new.fails ≡ self.old.fails) × (self.new.calls ≡ counted_on self.old.calls) }
+        ensures called { self.new.asked ≡ self.old.asked ++ ShelfCall.Give name.now ∷ [] }
     {
-        if self.next_fails() {
+        if self.next_fails(&ShelfCall::Give(*name)) {
             self.fail_give(name);
             return Err(GiveFault { name: *name, disk });
         }

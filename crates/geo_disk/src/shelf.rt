@@ -1,5 +1,5 @@
 //! Where disks are taken from and given back.
-ghost use Rattle.std.specs.Prelude.{◌≡◌, ℕ, ◌≤◌, ◌<◌, ◌↔◌, List, Contains, IfErr, IfSome, IsErrOf, IsTrue, None, OnOk, is_err};
+ghost use Rattle.std.specs.Prelude.{◌≡◌, ℕ, ◌≤◌, ◌<◌, ◌↔◌, [], ◌∷◌, ◌++◌, List, Contains, IfErr, IfSome, IsErrOf, IsTrue, None, OnOk, is_err};
 ghost use Rattle.geo_base.specs.Faults.{HasCause, Rose};
 ghost use Rattle.geo_base.specs.Images.{IsDiskSize};
 ghost use Rattle.geo_base.specs.Sectors.{IsSectorSize};
@@ -39,6 +39,15 @@ pub struct GiveFault<D> {
     pub disk: D,
 }
 
+/// A call of a shelf, whatever it answers.
+#[derive(Clone, Copy)]
+pub enum ShelfCall {
+    /// The disk of this name was asked for.
+    Take(Name),
+    /// The disk of this name was offered back.
+    Give(Name),
+}
+
 /// Whether so many bytes are one or more whole sectors, and at most 2^40.
 pub fn is_disk_size(size: u64, sector: u32) -> bool
     requires { 0 < sector }
@@ -53,8 +62,8 @@ pub trait Shelf {
     type D: Disk;
 
     /// What its calls show: the bytes under each name, where the shelf tells them, the names that are lent, how many of
-    /// its calls failed, and of each name how many takes and gives failed, and with how many faults, after which calls,
-    /// and with how many sectors its disk came back last.
+    /// its calls failed, what they were, and of each name how many takes and gives failed, and with how many faults,
+    /// after which calls, and with how many sectors its disk came back last.
     ghost view: { Self → ShelfView };
 
     /// Takes the disk of a name, to be used in sectors of this size. A call that goes through counts no fault.
@@ -74,7 +83,8 @@ pub trait Shelf {
         ensures no_fault { OnOk result ((view self.new).faults ≡ (view self.old).faults) }
         ensures takes { CountsCall (is_failed result) name.now (view self.old).take_faults
             (view self.new).take_faults }
-        ensures gives { (other : List ℕ) → (view self.new).give_faults other ≡ (view self.old).give_faults other };
+        ensures gives { (other : List ℕ) → (view self.new).give_faults other ≡ (view self.old).give_faults other }
+        ensures called { (view self.new).calls ≡ (view self.old).calls ++ ShelfCall.Take name.now ∷ [] };
 
     /// Gives back the disk that was taken under a name. After a fault it is still lent. A call that goes through counts
     /// no fault.
@@ -94,7 +104,8 @@ pub trait Shelf {
         ensures cause { HasCause (view self.old).faults (view self.new).faults result }
         ensures no_fault { OnOk result ((view self.new).faults ≡ (view self.old).faults) }
         ensures takes { (other : List ℕ) → (view self.new).take_faults other ≡ (view self.old).take_faults other }
-        ensures gives { CountsCall (is_err result) name.now (view self.old).give_faults (view self.new).give_faults };
+        ensures gives { CountsCall (is_err result) name.now (view self.old).give_faults (view self.new).give_faults }
+        ensures called { (view self.new).calls ≡ (view self.old).calls ++ ShelfCall.Give name.now ∷ [] };
 
     /// Under a name that is lent the shelf has nothing.
     ghost lent_is_missing: { (shelf : Self) (name : List ℕ) → Contains (view shelf).lent name

@@ -247,6 +247,13 @@ abbrev pub failed_takes : Ending → ℕ
 failed_takes (ShelfFault name) = 1
 failed_takes _ = 0
 
+-- the name of the disk that couldn't be had, where the ending says so
+abbrev pub missed_by : Ending → List (List ℕ)
+missed_by (ShelfFault name) = name ∷ []
+missed_by (NoDisk name) = name ∷ []
+missed_by (BadSize name) = name ∷ []
+missed_by _ = []
+
 -- the name whose take failed, where the ending says so
 abbrev pub blamed_by : Ending → Option (List ℕ)
 blamed_by (ShelfFault name) = Some name

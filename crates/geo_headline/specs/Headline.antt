@@ -13,8 +13,8 @@ use Rattle.geo_model.specs.Script.{script, Fault, IsScript, empty_plan}
 use Rattle.geo_headline.specs.Modes.{Mode, GenMode, VerifyMode, Accepts, IsAlone, starts_threads, TakesNoDisk, source_limit}
 use Rattle.geo_model.specs.History.{KeepsHistory, RanToItsEnd}
 use Rattle.geo_model.specs.FixedOrder.{StepOrder, FollowsOrder, FollowsJobs, JobsEndedIdle}
-use Rattle.geo_headline.specs.Outside.{Outside, ShelfView, kept_back, IsKeptBack, IsUnasked, DiskStays, HasFactSectors, IsShelf, HasImage, DisksAreKept, OthersStay, ImagesStay, ImagesStand}
-use Rattle.geo_headline.specs.Endings.{Ending, BadWords, ReadFault, OutOfMemory, Call, status_of, due_text, BytesPass, order_of, script_of, reported, IsWhole, HasLog, WasReadWhole, IsOpened, CauseOf, blamed_by, failed_takes, IsBeforeDisks}
+use Rattle.geo_headline.specs.Outside.{Outside, ShelfView, kept_back, IsKeptBack, IsUnasked, DiskStays, HasFactSectors, IsShelf, HasImage, names_of_shelf, takes_of, gives_of, DisksAreKept, OthersStay, ImagesStay, ImagesStand}
+use Rattle.geo_headline.specs.Endings.{Ending, BadWords, ReadFault, OutOfMemory, Call, status_of, due_text, BytesPass, order_of, script_of, reported, IsWhole, HasLog, WasReadWhole, IsOpened, CauseOf, blamed_by, missed_by, failed_takes, IsBeforeDisks}
 
 -- the mode and the plan are those of the words and of the text; a source that wasn't read to its end gives no plan
 pub record ReadAs (call : Call) (mode : Mode) (plan : Plan) : Type 0 where
@@ -78,6 +78,23 @@ pub record CallsAreTold (ending : Ending) (before after : ShelfView) : Type 0 wh
   pub gives : GivesAreTold before after
   pub no_fault : ending ≢ OutOfMemory → failed_takes ending ≡ 0 → kept_back before after ≡ []
       → after.faults ≡ before.faults
+
+-- the disk that couldn't be had is the one that the ending names; where memory runs out that may be told of none
+abbrev pub IsMissedAt : Ending → List (List ℕ) → Type 0
+IsMissedAt OutOfMemory missed = length missed ≤ 1
+IsMissedAt ending missed = missed ≡ missed_by ending
+
+-- the calls of the shelf: takes of its disks in header order, up to one that couldn't be had, and of all where a mesh
+-- ran; then gives of those that were had, in header order
+pub record CallsInOrder (plan : Plan) (ending : Ending) (log : Option (List Entry))
+    (before after : ShelfView) : Type 0 where
+  pub had : List (List ℕ)
+  pub missed : List (List ℕ)
+  pub left : List (List ℕ)
+  pub names : names_of_shelf plan.disks ≡ had ++ missed ++ left
+  pub missed_is : IsMissedAt ending missed
+  pub all : IsSome log → had ≡ names_of_shelf plan.disks
+  pub calls : after.calls ≡ before.calls ++ takes_of (had ++ missed) ++ gives_of had
 
 -- with threads the log is what the jobs did and then what was left, and in a run to its end it says why the jobs ended
 pub record FollowsRun (order : StepOrder) (plan : Plan) (opened : World) (ending : Ending)
@@ -154,12 +171,13 @@ pub record KeepsLog (call : Call) (mode : Mode) (plan : Plan) (ending : Ending) 
   pub order : IfSome call.log (FollowsMode mode plan (opening plan call.facts) ending)
   pub fits : IfSome call.log (Fits (opening plan call.facts))
 
--- what is outside: each disk that wasn't kept back did and holds what the log says, each call that failed is told, and
--- everything else is as it was before
+-- what is outside: each disk that wasn't kept back did and holds what the log says, the shelf was called in order, each
+-- call that failed is told, and everything else is as it was before
 pub record KeepsOutside (call : Call) (mode : Mode) (plan : Plan) (ending : Ending) : Type 0 where
   pub disks : IfSome call.log (DisksAreKept plan call.before.shelf call.after.shelf)
   pub lent : LentAfter ending call.before.shelf call.after.shelf
   pub calls : CallsAreTold ending call.before.shelf call.after.shelf
+  pub in_order : CallsInOrder plan ending call.log call.before.shelf call.after.shelf
   pub others : OthersStay plan call.before.shelf call.after.shelf
   pub unasked : IfNone call.log (NoneAskedAt call ending)
   pub sizes : IsSome call.log → HaveFactSectors plan call.facts call.before.shelf call.after.shelf

@@ -4,6 +4,8 @@ use Rattle.std.specs.List.{list_any, enumerate_from}
 use Rattle.geo_base.specs.Images.{Images, IsDiskSize}
 use Rattle.geo_base.specs.Sectors.{sectors_of, joined_sectors, zero_sectors}
 use Rattle.geo_disk.specs.declared.calls.DiskCall.{DiskCall}
+use Rattle.geo_disk.specs.declared.shelf.ShelfCall.{ShelfCall}
+use Rattle.geo_disk.specs.declared.shelf.ShelfCall.TheVariants as shelf_calls
 use Rattle.geo_disk.specs.Counts.{counted_many}
 use Rattle.geo_model.specs.declared.command.DiskDecl.{DiskDecl}
 use Rattle.geo_model.specs.declared.command.DiskKind.{DiskKind}
@@ -52,6 +54,17 @@ IsForeign plan name = All (λ d. IsShelf d.kind → d.name ≢ name) plan.disks
 -- whether a shelf disk of the plan has the name
 abbrev pub is_of_plan : Plan → List ℕ → Bool
 is_of_plan plan name = list_any (λ d. is_shelf d.kind && same_name d.name name) plan.disks
+
+-- the names of the disks of the shelf, in header order
+abbrev pub names_of_shelf : List DiskDecl → List (List ℕ)
+names_of_shelf disks = map (λ d. d.name) (filter (λ d. is_shelf d.kind) disks)
+
+-- a take of each of these names, and a give of each, in their order
+abbrev pub takes_of : List (List ℕ) → List ShelfCall
+takes_of names = map (λ name. shelf_calls.Take name) names
+
+abbrev pub gives_of : List (List ℕ) → List ShelfCall
+gives_of names = map (λ name. shelf_calls.Give name) names
 
 -- where the shelf told its images before, it tells them after too, and the fact holds of what the name had and has
 abbrev pub WhereTold : ShelfView → ShelfView → List ℕ → (Option (List ℕ) → Option (List ℕ) → Type 0) → Type 0

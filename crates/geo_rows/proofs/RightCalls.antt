@@ -20,7 +20,7 @@ use Rattle.geo_headline.specs.Outside.{HasFactSectors, IsThere, HasToldSize, IsD
 use Rattle.geo_headline.specs.Endings.{Reported, IsOpened}
 use Rattle.geo_headline.specs.Headline.{HaveFactSectors, KeepsAll}
 use Rattle.geo_laws_life.proofs.Opened.{opening-sound}
-use Rattle.geo_rows.specs.RightCalls.{quiet_call, later_plan, later_text, silent_shelf}
+use Rattle.geo_rows.specs.RightCalls.{quiet_call, later_plan, later_text, silent_shelf, shelf_after}
 
 -- the word `step` has one meaning
 step-only : (m : Mode) → Accepts (codes "step" ∷ []) m → m ≡ StepMode
@@ -144,7 +144,7 @@ opened = record {
       ) told;
 }
 
-kept : IsDiskKept silent_shelf silent_shelf []
+kept : IsDiskKept silent_shelf shelf_after []
     (record {
       number = 0;
       decl =
@@ -152,9 +152,9 @@ kept : IsDiskKept silent_shelf silent_shelf []
     }) Shelf
 kept not_back = record { asked = refl; failures = refl; bytes = tt; reads = tt }
 
-kept_disks : DisksAreKept later_plan silent_shelf silent_shelf []
+kept_disks : DisksAreKept later_plan silent_shelf shelf_after []
 kept_disks =
-    one (λ d. IsDiskKept silent_shelf silent_shelf [] d d.decl.kind)
+    one (λ d. IsDiskKept silent_shelf shelf_after [] d d.decl.kind)
     (record {
       number = 0;
       decl =
@@ -162,9 +162,9 @@ kept_disks =
     }) kept
 
 -- the disk had 1,000 sectors
-fact-sectors : HaveFactSectors later_plan ((512, 1000) ∷ []) silent_shelf silent_shelf
+fact-sectors : HaveFactSectors later_plan ((512, 1000) ∷ []) silent_shelf shelf_after
 fact-sectors =
-    one (HasFactSectors silent_shelf silent_shelf) (
+    one (HasFactSectors silent_shelf shelf_after) (
       record {
         kind = Shelf;
         name = codes "d";
@@ -201,6 +201,15 @@ quiet = record {
     disks = kept_disks;
     lent = record { faults = omega arith; gives = All-nil _ };
     calls = record { takes = λ name. refl; gives = λ name. refl; no_fault = λ _ _ _. refl };
+    in_order = record {
+      had = codes "d" ∷ [];
+      missed = [];
+      left = [];
+      names = refl;
+      missed_is = refl;
+      all = λ _. refl;
+      calls = refl;
+    };
     others = record {
       bytes = λ name foreign. tt;
       counts = λ name foreign. record { disk = refl; takes = refl; gives = refl; asked = refl; sectors = refl };

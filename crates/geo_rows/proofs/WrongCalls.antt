@@ -1,20 +1,23 @@
 -- The programs that keep failures or calls of the outside to themselves are refused.
-use Rattle.std.specs.Prelude.{◌≡◌, ◌≢◌, ℕ, true, false, List, ◌∷◌, ◌++◌, Option, Some, None, IsSome, IfSome, IfNone, All, map, zip}
+use Rattle.std.specs.Prelude.{◌≡◌, ◌≢◌, ℕ, true, false, List, ◌∷◌, ◌++◌, Option, Some, None, IsSome, IfSome, IfNone, All, filter, map, zip, if◌then◌else◌}
 use Rattle.std.specs.List.{enumerate_from, list_any}
-use Rattle.std.proofs.Common.{sym, ◌∙◌, ap, subst, arith}
+use Rattle.std.proofs.Common.{sym, ◌∙◌, ap, append_assoc, subst, arith}
+use Rattle.std.proofs.lemmas.List.{append_cancel_left}
 use Rattle.geo_disk.specs.Counts.{counted_if, counted_many}
+use Rattle.geo_disk.specs.declared.shelf.ShelfCall.{ShelfCall}
+use Rattle.geo_disk.specs.declared.shelf.ShelfCall.TheVariants as shelf_calls
 use Rattle.geo_model.specs.declared.command.DiskDecl.{DiskDecl}
 use Rattle.geo_model.specs.declared.step.Entry.{Entry}
 use Rattle.geo_model.specs.World.{Plan}
 use Rattle.geo_model.specs.Words.{same_name}
 use Rattle.geo_model.specs.Script.{IsScript}
 use Rattle.geo_headline.specs.Modes.{Mode, StepMode, IsAlone}
-use Rattle.geo_headline.specs.Outside.{ShelfView, calls_logged, failures_of, DisksAreKept, HasFactSectors, HoldsWhatIsLogged, IsDiskKept, IsKeptBack, IsShelf, IsUnasked, PlannedDisk, planned_disk}
+use Rattle.geo_headline.specs.Outside.{ShelfView, calls_logged, failures_of, gives_of, is_shelf, names_of_shelf, takes_of, DisksAreKept, HasFactSectors, HoldsWhatIsLogged, IsDiskKept, IsKeptBack, IsShelf, IsUnasked, PlannedDisk, planned_disk}
 use Rattle.geo_headline.specs.Endings.{Call, Ending, Reported, ReportedButFault, BadWords, NoScript, ReadFault, ShelfFault, NoDisk, BadSize, OutOfMemory, LogFull, TooLong, Answered, NoTrace, status_of, script_of}
 use Rattle.geo_headline.specs.Headline.{KeepsAll, NoneAskedAt, TakesAreToldAt}
 use Rattle.geo_model.specs.declared.command.DiskKind.{DiskKind}
 use Rattle.geo_model.specs.declared.command.DiskKind.TheVariants as disk_kinds
-use Rattle.geo_rows.specs.WrongPrograms.{IsRefused, AsksInSecret, AsksOtherwise, GivesAgain, HidesDiskFault, HidesReadFault, HidesWriteFault, InventsSize, ReportsDisk, TakesAgain}
+use Rattle.geo_rows.specs.WrongPrograms.{IsRefused, AsksInSecret, AsksOtherwise, GivesAgain, HidesDiskFault, HidesReadFault, HidesWriteFault, InventsSize, ReportsDisk, TakesAgain, TakesAnotherFirst}
 use Rattle.geo_rows.proofs.WrongPrograms.{ends}
 use Rattle.geo_rows.proofs.WrongDisks.{by_report}
 
@@ -155,6 +158,39 @@ invents_size-refused call mode plan ending wrong kept =
     rw (disks, wrong.facts) at sizes in
     wrong.other (moved 0 (wrong.disk, (wrong.bytes, wrong.sectors)) (omega arith) wrong.reports.of_shelf wrong.given_back)
 
+-- where the first name that was had is this one, so is that of the first take
+first_take : (start calls rest : List ShelfCall) (first other : List ℕ) (had more missed : List (List ℕ))
+    → had ≡ first ∷ more → calls ≡ start ++ takes_of (had ++ missed) ++ gives_of had
+    → calls ≡ start ++ shelf_calls.Take other ∷ rest → other ≡ first
+first_take start calls rest first other had more missed e is told =
+    let moved : calls ≡ start ++ takes_of ((first ∷ more) ++ missed) ++ gives_of (first ∷ more) =
+    subst (λ (ns : List (List ℕ)). calls ≡ start ++ takes_of (ns ++ missed) ++ gives_of ns) e is in
+    let both : shelf_calls.Take other ∷ rest
+    ≡ shelf_calls.Take first ∷ (takes_of (more ++ missed) ++ gives_of (first ∷ more)) =
+    append_cancel_left start (shelf_calls.Take other ∷ rest)
+    (shelf_calls.Take first ∷ (takes_of (more ++ missed) ++ gives_of (first ∷ more)))
+    (sym told ∙ moved ∙ append_assoc start (takes_of ((first ∷ more) ++ missed)) (gives_of (first ∷ more))) in
+    let same : other ≡ first = cc in same
+
+-- the names of the shelf begin with that of the first disk, where it is of the shelf
+first_name : (disk : DiskDecl) (rest : List DiskDecl) → IsShelf disk.kind
+    → names_of_shelf (disk ∷ rest) ≡ disk.name ∷ names_of_shelf rest
+first_name disk rest is =
+    ap (λ t. map (λ (d : DiskDecl). d.name)
+    (if t then disk ∷ filter (λ (d : DiskDecl). is_shelf d.kind) rest
+    else filter (λ (d : DiskDecl). is_shelf d.kind) rest)) is
+
+pub takes_another_first-refused : IsRefused TakesAnotherFirst
+takes_another_first-refused call mode plan ending wrong kept =
+    let order = kept.outside.in_order in
+    let had : order.had ≡ wrong.disk.name ∷ names_of_shelf wrong.reports.rest =
+    order.all (log_of_first call mode plan ending wrong.disk wrong.reports kept)
+    ∙ ap (λ (ds : List DiskDecl). names_of_shelf ds) (first_disk call mode plan ending wrong.disk wrong.reports kept)
+    ∙ first_name wrong.disk wrong.reports.rest wrong.reports.of_shelf in
+    wrong.other
+    (first_take call.before.shelf.calls call.after.shelf.calls wrong.rest wrong.disk.name wrong.name order.had
+    (names_of_shelf wrong.reports.rest) order.missed had order.calls wrong.calls)
+
 -- what `hidden_calls_are_refused` says
 pub ruleset hidden_calls_are_refused = (
   hides_write-refused,
@@ -165,4 +201,5 @@ pub ruleset hidden_calls_are_refused = (
   asks_otherwise-refused,
   hides_disk_fault-refused,
   invents_size-refused,
+  takes_another_first-refused,
 )

@@ -1,8 +1,8 @@
 -- Calls of a right program.
-use Rattle.std.specs.Prelude.{ℕ, false, true, List, [], ◌∷◌, Some, None, codes}
+use Rattle.std.specs.Prelude.{ℕ, false, true, List, [], ◌∷◌, ◌++◌, Some, None, codes}
 use Rattle.geo_model.specs.declared.command.DiskKind.TheVariants.{Shelf}
 use Rattle.geo_model.specs.World.{Plan}
-use Rattle.geo_headline.specs.Outside.{ShelfView, SourceView}
+use Rattle.geo_headline.specs.Outside.{ShelfView, SourceView, gives_of, takes_of}
 use Rattle.geo_headline.specs.Endings.{Call}
 
 -- a disk of the shelf that isn't to stand yet
@@ -16,7 +16,8 @@ later_plan = record {
   commands = [];
 }
 
--- a shelf that tells nothing, of which nothing is lent and nothing failed; no disk was asked, and each had 1,000 sectors
+-- a shelf that tells nothing and wasn't called yet, of which nothing is lent and nothing failed; no disk was asked, and
+-- each had 1,000 sectors
 abbrev pub silent_shelf : ShelfView
 silent_shelf = record {
   told = None;
@@ -27,7 +28,12 @@ silent_shelf = record {
   give_faults = λ name. 0;
   asked_of = λ name. [];
   sectors_of = λ name. 1000;
+  calls = [];
 }
+
+-- the same after its disk was taken and given back
+abbrev pub shelf_after : ShelfView
+shelf_after = record silent_shelf { calls = takes_of (codes "d" ∷ []) ++ gives_of (codes "d" ∷ []) }
 
 -- a stream that gave these bytes so far
 abbrev pub stream_before : SourceView
@@ -46,5 +52,5 @@ quiet_call = record {
   written = [];
   log = Some [];
   before = record { source = stream_before; sink = record { taken = []; held = None; faults = 0 }; shelf = silent_shelf };
-  after = record { source = stream_after; sink = record { taken = []; held = None; faults = 0 }; shelf = silent_shelf };
+  after = record { source = stream_after; sink = record { taken = []; held = None; faults = 0 }; shelf = shelf_after };
 }

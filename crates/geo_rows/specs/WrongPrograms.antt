@@ -2,6 +2,8 @@
 use Rattle.std.specs.Prelude.{◌≡◌, ◌≢◌, ℕ, ◌+◌, ◌-◌, ◌^◌, ◌<◌, ◌≤◌, true, List, [], ◌∷◌, ◌++◌, length, Ok, Some, None, IsSome, IfSome, All, Contains, codes}
 use Rattle.geo_base.specs.Faults.{Rose}
 use Rattle.geo_base.specs.Images.{Images}
+use Rattle.geo_disk.specs.declared.shelf.ShelfCall.{ShelfCall}
+use Rattle.geo_disk.specs.declared.shelf.ShelfCall.TheVariants as shelf_calls
 use Rattle.geo_model.specs.declared.command.DiskDecl.{DiskDecl}
 use Rattle.geo_model.specs.declared.step.Entry.{Entry}
 use Rattle.geo_model.specs.declared.step.Step.TheVariants as steps
@@ -151,6 +153,15 @@ pub record InventsLentDisk (call : Call) : Type 0 where
   pub disk : DiskDecl
   pub reports : ReportsDisk call disk
   pub lent : Contains call.before.shelf.lent disk.name
+
+-- all is well, and yet the first disk that it took of the shelf is another than the first of the header
+pub record TakesAnotherFirst (call : Call) : Type 0 where
+  pub disk : DiskDecl
+  pub reports : ReportsDisk call disk
+  pub name : List ℕ
+  pub other : name ≢ disk.name
+  pub rest : List ShelfCall
+  pub calls : call.after.shelf.calls ≡ call.before.shelf.calls ++ shelf_calls.Take name ∷ rest
 
 -- Failures and calls that are kept secret
 
