@@ -4,6 +4,7 @@ use Rattle.geo_disk.specs.Disk.{DiskView}
 use Rattle.geo_disk.specs.Lending.{Loans, faults_of, give_faults_of, returned_asked, returned_sectors, take_faults_of}
 use Rattle.geo_disk.specs.Shelf.{ShelfView}
 use Rattle.geo_disk.specs.declared.calls.DiskCall.{DiskCall}
+use Rattle.geo_disk.specs.declared.shelf.ShelfCall.{ShelfCall}
 
 -- an image file that is open
 pub record Image : Type 0 where
@@ -30,10 +31,11 @@ pub record IsReachable (sector sectors : ℕ) : Type 0 where
   pub some : 0 < sector
   pub limited : sectors * sector ≤ 2 ^ 40
 
--- a folder: what is lent of it, and how many calls failed
+-- a folder: what is lent of it, how many calls failed, and what its calls were
 pub record Folder : Type 0 where
   pub loans : Loans
   pub faults : ℕ
+  pub asked : List ShelfCall
 
 -- a folder doesn't tell what it holds
 abbrev pub folder_view : Folder → ShelfView
@@ -46,6 +48,7 @@ folder_view s = record {
   give_faults = give_faults_of s.loans;
   asked_of = returned_asked s.loans;
   sectors_of = returned_sectors s.loans;
+  calls = s.asked;
 }
 
 -- where nothing is told, nothing is to be shown of what is told

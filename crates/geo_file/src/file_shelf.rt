@@ -7,7 +7,9 @@ ghost use Rattle.geo_file.specs.Files.{folder_view, tells_nothing};
 
 use crate::file_disk::FileDisk;
 use geo_base::{Name, NoMemory};
-use geo_disk::{Disk, GiveFault, Lending, Shelf, ShelfFault, Taken, is_disk_size, one_more};
+use geo_disk::{
+    Disk, GiveFault, Lending, Notes, Shelf, ShelfCall, ShelfFault, Taken, is_disk_size, one_more,
+};
 use std::alloc::Global;
 use std::fs::File;
 use std::io;
@@ -16,7 +18,9 @@ use std::marker::Model;
 use std::rt::Files;
 
 /// A folder as a shelf: the disk of a name is the file `NAME.img` in it. It doesn't tell what it holds. A name with a
-/// slash isn't one of the folder. No file is made or read here: its size is where its end is.
+/// slash isn't one of the folder. No file is made or read here: its size is where its end is. Each file is locked from
+/// when it is opened until it is closed (flock(2)), so that no other open of it that asks for the lock has it too, be it
+/// of another run or under another name, by a link. A lock that isn't had is a fault.
 #[derive(Drop)]
 pub struct FileShelf<R: Files<File = File> + Drop> {
     rt: R,
@@ -24,6 +28,7 @@ pub struct FileShelf<R: Files<File = File> + Drop> {
     folder: String,
     lending: Lending,
     faults: u64,
+    asked: Notes<ShelfCall>,
 }
 
 impl<R: Files<File = File> + Drop> Model for FileShelf<R> {
@@ -31,13 +36,17 @@ impl<R: Files<File = File> + Drop> Model for FileShelf<R> {
 
     ghost Value = { Folder };
 
-    ghost view = { λ s. record { loans = s.lending; faults = s.faults } };
+    ghost view = { λ s. record { loans = s.lending; faults = s.faults; asked = s.asked.items } };
 }
 
 impl<R: Files<File = File> + Drop> FileShelf<R> {
     /// The shelf of this folder, of which nothing is lent.
     pub fn new(rt: R, alloc: Global, folder: &str) -> Result<FileShelf<R>, NoMemory>
-        ensures { IfOk result (λ shelf. shelf ≡ record { loans = record { lent = []; counts = []; returned = [] }; faults = 0 }) }
+        ensures { IfOk result (λ shelf. shelf ≡ record {
+          loans = record { lent = []; counts = []; returned = [] };
+          faults = 0;
+          asked = [];
+        }) }
     {
         Ok(FileShelf {
             rt,
@@ -45,6 +54,7 @@ impl<R: Files<File = File> + Drop> FileShelf<R> {
             folder: String::from_str(alloc, folder)?,
             lending: Lending::new(alloc),
             faults: 0,
+            asked: Notes::none(),
         })
     }
 
@@ -52,6 +62,7 @@ impl<R: Files<File = File> + Drop> FileShelf<R> {
     fn fail_take(&mut self, name: &Name) -> ShelfFault
         ensures lent { self.new.loans.lent ≡ self.old.loans.lent }
         ensures returned { self.new.loans.returned ≡ self.old.loans.returned }
+        ensures asked { self.new.asked ≡ self.old.asked }
         ensures disks { (other : List ℕ) → faults_of self.new.loans other ≡ faults_of self.old.loans other }
         ensures takes { CountsCall (is_failure result) name.now (take_faults_of self.old.loans)
             (take_faults_of self.new.loans) }
@@ -74,6 +85,7 @@ impl<R: Files<File = File> + Drop> FileShelf<R> {
         requires { Contains self.old.loans.lent name.now }
         ensures lent { self.new.loans.lent ≡ self.old.loans.lent }
         ensures returned { self.new.loans.returned ≡ self.old.loans.returned }
+        ensures asked { self.new.asked ≡ self.old.asked }
         ensures disks { (other : List ℕ) → faults_of self.new.loans other ≡ faults_of self.old.loans other }
         ensures takes { (other : List ℕ) → take_faults_of self.new.loans other ≡ take_faults_of self.old.loans other }
         ensures gives { CountsCall (is_err result) name.now (give_faults_of self.old.loans)
@@ -89,13 +101,14 @@ impl<R: Files<File = File> + Drop> FileShelf<R> {
         Ok(())
     }
 
-    /// Opens the file of a name, and says how long it is. None where there is no such file.
+    /// Opens the file of a name, locks it, and says how long it is. None where there is no such file.
     fn open(&self, path: &str) -> io::Result<Option<(File, u64)>> {
         let mut file = match File::options().read(true).write(true).open(&self.rt, path) {
             Ok(file) => file,
             Err(e) if e.kind() == ErrorKind::NotFound => return Ok(None),
             Err(e) => return Err(e),
         };
+        file.try_lock()?;
         let size = file.seek(SeekFrom::End(0))?;
         Ok(Some((file, size)))
     }
@@ -125,6 +138,7 @@ impl<R: Files<File = File> + Drop> Shelf for FileShelf<R> {
     ghost view = { folder_view };
 
     fn take(&mut self, name: &Name, sector: u32) -> Result<Taken<FileDisk>, ShelfFault> {
+        self.asked = self.asked.and(&ShelfCall::Take(*name));
         if self.lending.has(name) || has_slash(name) {
             return Ok(Taken::Missing);
         }
@@ -149,6 +163,7 @@ impl<R: Files<File = File> + Drop> Shelf for FileShelf<R> {
     }
 
     fn give(&mut self, name: &Name, disk: FileDisk) -> Result<(), GiveFault<FileDisk>> {
+        self.asked = self.asked.and(&ShelfCall::Give(*name));
         if self.sync(name, &disk).is_err() {
             return Err(GiveFault { name: *name, disk });
         }
