@@ -1,0 +1,11 @@
+pub mod Joining
+pub mod Waits
+pub mod Tries
+pub mod Upward
+pub mod Starting
+pub mod Downward
+pub mod Running
+pub mod Rows
+pub mod Ending
+pub mod Zips
+pub use Rattle.geo_disk_job.proofs.Openings

@@ -1,0 +1,12 @@
+use Rattle.geo_work.proofs.Downward.{can_put_down, down_worked}
+use Rattle.geo_work.proofs.down.DownJob.start.Goals as goal
+
+pub hint-requires : goal.hint-requires
+hint-requires g c =
+    can_put_down c.args.yard.now c.args.lanes.now c.args.pass.now c.try_step.new.pass _ c.args.self.now c.requires.own
+    c.try_step.ensures.good c.in-Made.ensures.did.goes c.requires.job
+
+pub returns-in-Made-clause-job : goal.returns-in-Made-clause-job
+returns-in-Made-clause-job g c =
+    down_worked c.args.lanes.now c.args.pass.now c.try_step.new.pass _ c.args.self.now c.hint.new.self c.args.bio
+    c.in-Made.outcome c.in-Made.ensures.did.goes c.requires.job c.hint.ensures.puts c.hint.ensures.few

@@ -1,0 +1,61 @@
+-- A turn of a client.
+use Rattle.std.specs.Prelude.{◌≡◌, ℕ, Bool, true, false, List, IsSomeAnd}
+use Rattle.geo_model.specs.declared.step.Entry.{Entry}
+use Rattle.geo_model.specs.declared.step.Found.{Found}
+use Rattle.geo_model.specs.declared.step.Found.TheVariants as founds
+use Rattle.geo_model.specs.declared.step.Outcome.{Outcome}
+use Rattle.geo_model.specs.declared.step.Outcome.TheVariants as outcomes
+use Rattle.geo_model.specs.declared.step.Step.TheVariants as steps
+use Rattle.geo_model.specs.World.{World}
+use Rattle.geo_model.specs.FixedOrder.{FoundFull, HasFinished, IsWait, WasIdle}
+use Rattle.geo_model.specs.History.{next_command}
+use Rattle.geo_model.specs.Log.{replay}
+use Rattle.geo_disk_job.specs.Lanes.{Lanes}
+use Rattle.geo_disk_job.specs.Turn.{Turn}
+use Rattle.geo_disk_job.specs.Turn.TheVariants as turns
+use Rattle.geo_disk_job.specs.Passes.{MeshPass}
+use Rattle.geo_disk_job.specs.Putting.{PutsAll}
+use Rattle.geo_work.specs.declared.client.ClientJob.{ClientJob}
+use Rattle.geo_work.specs.Hints.{go_hints}
+use Rattle.geo_work.specs.LanePasses.{Adds, IsPassTo, Rests}
+
+-- it puts into the down lane
+abbrev pub IsClientJob : Lanes → List Entry → ClientJob → Type 0
+IsClientJob lanes entries j = IsPassTo lanes.down entries j.down
+
+-- whether what was found is that no command is left
+abbrev pub is_end : Found → Bool
+is_end founds.NoSuchActor = true
+is_end founds.NoCommand = true
+is_end _ = false
+
+-- the line of the last command that was made
+abbrev pub line_after : ℕ → Outcome → ℕ
+line_after line (outcomes.Replied next reply) = next
+line_after line (outcomes.Accepted next bio) = next
+line_after line _ = line
+
+-- the outcome of a command was noted, and the tickets that it names were put
+pub record NotesOutcome (outcome : Outcome) (a b : ClientJob) : Type 0 where
+  pub actor : b.actor ≡ a.actor
+  pub line : b.line ≡ line_after a.line outcome
+  pub puts : PutsAll a.down (go_hints outcome) b.down
+
+-- the next command of the client's actor was made
+pub record ClientWorked (p q : MeshPass) (a b : ClientJob) : Type 0 where
+  pub outcome : Outcome
+  pub adds : Adds p q (steps.Go a.actor) outcome
+  pub noted : NotesOutcome outcome a b
+
+-- at what the pass has seen the actor's next command is a sync or a settle, and what that waits for isn't over
+pub record IsWaiting (opened : World) (q : MeshPass) (actor : ℕ) : Type 0 where
+  pub was_idle : WasIdle opened q.seen q.number (steps.Go actor)
+  pub waits : IsSomeAnd (next_command (replay opened q.seen) actor) (λ c. IsWait c.command)
+
+-- what a turn did, by its answer
+abbrev pub DidClient : World → MeshPass → MeshPass → ClientJob → ClientJob → Turn → Type 0
+DidClient opened p q a b turns.Worked = ClientWorked p q a b
+DidClient opened p q a b turns.Idle = Rests p q a b × IsWaiting opened q a.actor
+DidClient opened p q a b turns.Finished = Rests p q a b × HasFinished opened q.seen a.actor
+DidClient opened p q a b turns.LogFull = Rests p q a b × FoundFull opened q.seen q.number (steps.Go a.actor)
+DidClient opened p q a b turns.NoMemory = Rests p q a b

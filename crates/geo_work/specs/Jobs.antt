@@ -1,0 +1,69 @@
+-- A job: its passes, its drives, its kind of steps, and a turn of it.
+use Rattle.std.specs.Prelude.{ℕ, List, Option, Some, None, ⊤}
+use Rattle.geo_disk.specs.declared.drive.Drive.{Drive}
+use Rattle.geo_model.specs.declared.step.Entry.{Entry}
+use Rattle.geo_model.specs.declared.step.Step.{Step}
+use Rattle.geo_model.specs.World.{World}
+use Rattle.geo_serve.specs.Drives.{DriveView}
+use Rattle.geo_lock.specs.Yard.{IsPassOf, YardView}
+use Rattle.geo_disk_job.specs.Lanes.{Lanes}
+use Rattle.geo_disk_job.specs.Turn.{Turn}
+use Rattle.geo_disk_job.specs.Passes.{MeshPass}
+use Rattle.geo_disk_job.specs.DriveList.{DriveListView}
+use Rattle.geo_disk_job.specs.Drives.{HasDrives, disks_of}
+use Rattle.geo_disk_job.specs.Served.{IsOfDisks}
+use Rattle.geo_disk_job.specs.Turns.{IsDiskJob}
+use Rattle.geo_disk_job.specs.Turns as disks
+use Rattle.geo_work.specs.declared.job.Job.{Job}
+use Rattle.geo_work.specs.declared.job.Role.{Role}
+use Rattle.geo_work.specs.declared.job.Role.TheVariants as roles
+use Rattle.geo_work.specs.Clients.{DidClient, IsClientJob}
+use Rattle.geo_work.specs.Downs.{DidDown, IsDownJob}
+use Rattle.geo_work.specs.Events.{DidEvents, IsEventJob}
+use Rattle.geo_work.specs.Kinds.{IsOfClient, IsOfDown, IsOfEvents, IsOfUp}
+use Rattle.geo_work.specs.Ups.{DidUp, IsUpJob}
+
+-- the lane passes of a role are of the lanes, and have put few tickets for each own entry of the job
+abbrev pub IsRoleOf : {D : Type 0} → Lanes → List Entry → Role D → Type 0
+IsRoleOf lanes entries (roles.Client j) = IsClientJob lanes entries j
+IsRoleOf lanes entries (roles.Events j) = IsEventJob lanes entries j
+IsRoleOf lanes entries (roles.Down j) = IsDownJob lanes entries j
+IsRoleOf lanes entries (roles.Up j) = IsUpJob lanes entries j
+IsRoleOf lanes entries (roles.Disk j) = IsDiskJob lanes entries j
+
+-- a job of the yard and the lanes
+pub record IsJobOf {D : Type 0} (y : YardView _) (lanes : Lanes) (j : Job D) : Type 0 where
+  pub pass : IsPassOf y j.pass
+  pub role : IsRoleOf lanes j.pass.own j.role
+
+-- a disk worker's drives have different numbers, and the sizes that the facts give for their disks
+abbrev pub HasItsDrives : {D : Type 0} → List (ℕ × ℕ) → (Drive D → DriveView) → Role D → Type 0
+HasItsDrives facts seen (roles.Disk j) = HasDrives facts seen j.drives.items
+HasItsDrives facts seen _ = ⊤
+
+-- a disk worker's drives
+abbrev pub drives_of : {D : Type 0} → Role D → Option (DriveListView D)
+drives_of (roles.Disk j) = Some j.drives
+drives_of _ = None
+
+-- the steps of a role
+abbrev pub IsOfRole : {D : Type 0} → Role D → Step → Type 0
+IsOfRole (roles.Client j) step = IsOfClient j.actor step
+IsOfRole (roles.Events j) step = IsOfEvents step
+IsOfRole (roles.Down j) step = IsOfDown step
+IsOfRole (roles.Up j) step = IsOfUp step
+IsOfRole (roles.Disk j) step = IsOfDisks (disks_of j.drives.items) step
+
+-- what a turn of a role did, by its answer
+abbrev pub DidRole : {D : Type 0} → World → (Drive D → DriveView) → MeshPass → MeshPass → Role D → Role D → Turn
+    → Type 0
+DidRole opened seen p q (roles.Client a) (roles.Client b) r = DidClient opened p q a b r
+DidRole opened seen p q (roles.Events a) (roles.Events b) r = DidEvents opened p q a b r
+DidRole opened seen p q (roles.Down a) (roles.Down b) r = DidDown opened p q a b r
+DidRole opened seen p q (roles.Up a) (roles.Up b) r = DidUp opened p q a b r
+DidRole opened seen p q (roles.Disk a) (roles.Disk b) r = disks.DidTurn opened seen p q a b r
+DidRole opened seen p q _ _ r = ⊥
+
+-- what a turn of a job did, by its answer
+unfoldable pub DidTurn : {D : Type 0} → World → (Drive D → DriveView) → Job D → Job D → Turn → Type 0
+DidTurn opened seen a b r = DidRole opened seen a.pass b.pass a.role b.role r

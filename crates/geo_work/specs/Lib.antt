@@ -1,0 +1,24 @@
+pub mod Hints
+pub mod Kinds
+pub mod LanePasses
+pub mod Clients
+pub mod Events
+pub mod Downs
+pub mod Ups
+pub mod Jobs
+pub mod Causes
+pub mod Runs
+pub mod Workers
+-- handed on to the crate above, which starts the jobs
+pub use Rattle.geo_disk_job.specs.Passes
+pub use Rattle.geo_disk_job.specs.Putting
+pub use Rattle.geo_disk_job.specs.Lanes
+pub use Rattle.geo_disk_job.specs.Turn
+pub use Rattle.geo_disk_job.specs.Mesh
+pub use Rattle.geo_disk_job.specs.Logged
+pub use Rattle.geo_disk_job.specs.MeshStart
+pub use Rattle.geo_disk_job.specs.Drives
+pub use Rattle.geo_disk_job.specs.DriveList
+pub use Rattle.geo_disk_job.specs.Served
+pub use Rattle.geo_disk_job.specs.Turns
+pub use Rattle.geo_disk_job.specs.Ran

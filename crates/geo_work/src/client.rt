@@ -1,0 +1,86 @@
+//! A client, and its turn.
+ghost use Rattle.std.specs.Prelude.{◌≡◌};
+ghost use Rattle.geo_lock.specs.Yard.{IsPassOf};
+ghost use Rattle.geo_disk_job.specs.Passes.{IsGoodPass, opened_by};
+ghost use Rattle.geo_work.specs.Clients.{DidClient, IsClientJob, NotesOutcome, is_end};
+ghost use Rattle.geo_work.specs.Hints.{go_hints};
+ghost use Rattle.geo_work.specs.LanePasses.{AreFew, CanPut};
+
+use geo_disk_job::{Gate, GatePlace, Lanes, Mesh, Pass, Tried, Turn, Yard, put, try_step};
+use geo_lane::{LanePass, TicketStep};
+use geo_model::{Found, Outcome, Step};
+use std::sync::Wait;
+
+/// A client: its actor, the line of the actor's last command that was made, or 0 before the first, and the pass by
+/// which it puts tickets into the down lane.
+#[derive(Drop)]
+pub struct ClientJob {
+    pub actor: u32,
+    pub line: u32,
+    pub down: LanePass,
+}
+
+impl ClientJob {
+    /// One turn: the actor's next command is tried, once the gate lets the client go on. After a command that made a
+    /// bio a ticket to start it is put. `Idle` comes only where the next command is a sync or a settle that still
+    /// waits, `Finished` exactly where the actor has no command left.
+    pub fn turn<R: Wait, G: Gate>(
+        &mut self,
+        pass: &mut Pass<Mesh>,
+        rt: &R,
+        yard: &Yard<Mesh>,
+        lanes: &Lanes,
+        gate: &G,
+    ) -> Turn
+        requires own { IsPassOf yard.now pass.old }
+        requires job { IsClientJob lanes.now pass.old.own self.old }
+        ensures job { IsClientJob lanes.now pass.new.own self.new }
+        ensures good { IsGoodPass pass.new }
+        ensures did { DidClient (opened_by yard.now.start) pass.old pass.new self.old self.new result }
+    {
+        let actor = self.actor;
+        let line = self.line;
+        gate.hold(GatePlace::ClientNext { actor, line });
+        match try_step(rt, yard, pass, Step::Go { actor }) {
+            Tried::Made(outcome) => {
+                self.note(rt, lanes, &outcome);
+                Turn::Worked
+            }
+            Tried::NotEnabled(found) => {
+                if is_end(&found) {
+                    Turn::Finished
+                } else {
+                    Turn::Idle
+                }
+            }
+            Tried::LogFull => Turn::LogFull,
+            Tried::NoMemory => Turn::NoMemory,
+        }
+    }
+
+    // Notes the line of an outcome, and puts the ticket that it names.
+    fn note<R: Wait>(&mut self, rt: &R, lanes: &Lanes, outcome: &Outcome)
+        requires { CanPut lanes.now.down self.old.down }
+        ensures noted { NotesOutcome outcome.now self.old self.new }
+        ensures few { AreFew (go_hints outcome.now) }
+    {
+        match outcome {
+            Outcome::Replied { line, .. } => self.line = *line,
+            Outcome::Accepted { line, bio } => {
+                self.line = *line;
+                put(rt, &lanes.down, &mut self.down, TicketStep::Start(*bio));
+            }
+            _ => {}
+        }
+    }
+}
+
+// Whether no command is left.
+fn is_end(found: &Found) -> bool
+    ensures { result ≡ is_end found.now }
+{
+    match found {
+        Found::NoSuchActor | Found::NoCommand => true,
+        _ => false,
+    }
+}
