@@ -1,0 +1,312 @@
+-- What the threads of a run left, by how their workers ended.
+use Rattle.std.specs.Prelude.{◌≡◌, ◌≢◌, ℕ, zero, suc, ◌+◌, ◌<◌, ◌≤◌, ◌%◌, List, [], ◌∷◌, filter_map, length, map, All, Contains, Option, Some, None, slice_get}
+use Rattle.std.specs.List.{AllByRecursion, AllZip}
+use Rattle.std.proofs.Common.{ap, arith, inl, inr, refl, subst, sym, ◌∙◌}
+use Rattle.std.proofs.lemmas.List.{length-map}
+use Rattle.std.proofs.lemmas.List.Elements.{All-weaker}
+use Rattle.std.proofs.lemmas.Slice.Zip.{AllZip-long}
+use Rattle.geo_disk.specs.declared.drive.Drive.{Drive}
+use Rattle.geo_model.specs.declared.step.Entry.{Entry}
+use Rattle.geo_model.specs.World.{Plan}
+use Rattle.geo_model.specs.FixedOrder.{IsOfItsJob, disk_seat, event_seat}
+use Rattle.geo_model.specs.Passes.{entries_of_seat}
+use Rattle.geo_serve.specs.Drives.{DriveView}
+use Rattle.geo_serve.specs.Served.{AreServed, IsServed}
+use Rattle.geo_laws_graph.proofs.Members.{Contains-cases, Contains-here, Contains-there, nothing_in}
+use Rattle.geo_laws_disks.specs.SeatLaws.{AreBySeats}
+use Rattle.geo_laws_disks.proofs.ServedBy.{seats_serve}
+use Rattle.geo_lock.specs.Pass.{IsGoodIn}
+use Rattle.geo_lock.specs.Yard.{IsPassOf, IsWhole}
+use Rattle.geo_work.specs.MeshStart.{MeshStart}
+use Rattle.geo_work.specs.Mesh.{IsHistory, MeshView}
+use Rattle.geo_work.specs.Logged.{mesh_of}
+use Rattle.geo_work.specs.Passes.{MeshPass, opened_by}
+use Rattle.geo_work.specs.DriveList.{DriveListView}
+use Rattle.geo_work.specs.Served.{HasServed}
+use Rattle.geo_work.specs.declared.job.Role.{Role}
+use Rattle.geo_work.specs.declared.job.Role.TheVariants as roles
+use Rattle.geo_work.specs.declared.run.Worker.{Worker}
+use Rattle.geo_work.specs.Jobs.{drives_of}
+use Rattle.geo_threads.specs.declared.left.JobsEnd.{JobsEnd}
+use Rattle.geo_threads.specs.declared.left.JobsEnd.TheVariants as ends
+use Rattle.geo_threads.specs.Closing.{EndsYard, IsEndOf, lists_of, passes_of}
+use Rattle.geo_threads.specs.Deal.{AreTwo, dealt, gathered, gathered_of}
+use Rattle.geo_threads.specs.Ended.{DidAs, EndedAs, HasEnded, HaveEnded, WasFull}
+use Rattle.geo_threads.specs.Left.{DrivesFit, TellsEnd, ThreadsRan, size_of}
+use Rattle.geo_threads.specs.Started.{MeshYard}
+use Rattle.geo_threads.proofs.Dealing.{dealt_long}
+use Rattle.geo_threads.proofs.Drives.{DidServe, are_served, sizes_kept}
+use Rattle.geo_threads.proofs.Ending.{dealt_of_worker}
+use Rattle.geo_threads.proofs.Full.{found_full}
+use Rattle.geo_threads.proofs.Idle.{good_pass, jobs_ended_idle}
+use Rattle.geo_threads.proofs.Owned.{IsMine, are_by_seats, are_of_kind, each_mine, none_is_busy}
+
+-- The lists of the disk workers
+
+-- what a disk worker did for its drives
+pub record ListServed {D : Type 0} (seen : Drive D → DriveView) (actors : ℕ) (drives : List (Drive D)) (worker : ℕ)
+    (ws : List (Worker D)) (items : List (ℕ × Drive D)) : Type 0 where
+  pub worker_of : Worker D
+  pub here : Contains ws worker_of
+  pub number : worker_of.job.pass.number ≡ actors + 4 + worker
+  pub served : HasServed seen worker_of.job.pass.own (dealt worker drives) items
+
+-- the two lists, and what was done for them
+pub record TwoServed {D : Type 0} (seen : Drive D → DriveView) (actors : ℕ) (drives : List (Drive D))
+    (ws : List (Worker D)) (lists : List (DriveListView D)) : Type 0 where
+  pub even : DriveListView D
+  pub odd : DriveListView D
+  pub lists_are : lists ≡ even ∷ odd ∷ []
+  pub evens : ListServed seen actors drives 0 ws even.items
+  pub odds : ListServed seen actors drives 1 ws odd.items
+
+module _ {D : Type 0} (seen : Drive D → DriveView) (actors : ℕ) (drives : List (Drive D)) where
+  -- a job before the disk workers has no list
+  no_list : (n : ℕ) (q : MeshPass) (role : Role D) → n < actors + 4 → DidAs seen actors drives n q role
+      → drives_of role ≡ None
+  no_list n q (roles.Client j) lt did = refl
+  no_list n q (roles.Events j) lt did = refl
+  no_list n q (roles.Down j) lt did = refl
+  no_list n q (roles.Up j) lt did = refl
+  no_list n q (roles.Disk j) lt did = absurd (let e = did.1 in omega (arith, e, lt))
+
+  -- what is known of the list of a disk worker
+  abbrev HasList : ℕ → MeshPass → Role D → Type 0
+  HasList worker q role =
+      (l : DriveListView D) × (drives_of role ≡ Some l) × HasServed seen q.own (dealt worker drives) l.items
+
+  has_list : (n worker : ℕ) (q : MeshPass) (role : Role D) → n ≡ actors + 4 + worker
+      → DidAs seen actors drives n q role → HasList worker q role
+  has_list n worker q (roles.Client j) is did =
+      absurd (let lt = did.0 in let e = did.1 in omega (arith, e, lt, is))
+  has_list n worker q (roles.Events j) is did = absurd (let e = did.0 in omega (arith, e, is))
+  has_list n worker q (roles.Down j) is did = absurd (let e = did.0 in omega (arith, e, is))
+  has_list n worker q (roles.Up j) is did = absurd (let e = did.0 in omega (arith, e, is))
+  has_list n worker q (roles.Disk j) is did =
+      let same : j.worker ≡ worker = (let e = did.1 in omega (arith, e, is)) in
+      (j.drives, refl, subst (λ k. HasServed seen q.own (dealt k drives) j.drives.items) same did.3)
+
+-- what a map with gaps gives of the first
+first_gap : {X Y : Type 0} (f : X → Option Y) (x : X) (xs : List X) → f x ≡ None
+    → filter_map f (x ∷ xs) ≡ filter_map f xs
+first_gap f x xs e = rw e refl
+
+first_some : {X Y : Type 0} (f : X → Option Y) (x : X) (xs : List X) (y : Y) → f x ≡ Some y
+    → filter_map f (x ∷ xs) ≡ y ∷ filter_map f xs
+first_some f x xs y e = rw e refl
+
+module _ {D : Type 0} (y : MeshYard) (seen : Drive D → DriveView) (actors : ℕ) (drives : List (Drive D)) where
+  -- a list that was served, where one more worker stands in front
+  served_behind : (worker : ℕ) (w : Worker D) (ws : List (Worker D)) (items : List (ℕ × Drive D))
+      → ListServed seen actors drives worker ws items → ListServed seen actors drives worker (w ∷ ws) items
+  served_behind worker w ws items at = record {
+    worker_of = at.worker_of;
+    here = Contains-there w at.worker_of ws at.here;
+    number = at.number;
+    served = at.served;
+  }
+
+  -- the two disk workers
+  two_last : (n : ℕ) (ws : List (Worker D)) → HaveEnded y seen actors drives n ws → n ≡ actors + 4 → length ws ≡ 2
+      → TwoServed seen actors drives ws (lists_of ws)
+  two_last n [] ended is long = absurd (omega (arith, long))
+  two_last n (w ∷ []) ended is long = absurd (omega (arith, long))
+  two_last n (w ∷ v ∷ x ∷ ws) ended is long = absurd (omega (arith, long))
+  two_last n (w ∷ v ∷ []) ended is long =
+      let one = has_list seen actors drives n 0 w.job.pass w.job.role (omega (arith, is)) ended.0.did in
+      let two = has_list seen actors drives (n + 1) 1 v.job.pass v.job.role (omega (arith, is)) ended.1.0.did in
+      record {
+        even = one.0;
+        odd = two.0;
+        lists_are = first_some (λ (x : Worker D). drives_of x.job.role) w (v ∷ []) one.0 one.1
+            ∙ ap (λ (l : List (DriveListView D)). one.0 ∷ l)
+            (first_some (λ (x : Worker D). drives_of x.job.role) v [] two.0 two.1);
+        evens = record {
+          worker_of = w;
+          here = Contains-here w (v ∷ []);
+          number = (let m = ended.0.number in omega (arith, m, is));
+          served = one.2;
+        };
+        odds = record {
+          worker_of = v;
+          here = Contains-there w v (v ∷ []) (Contains-here v []);
+          number = (let m = ended.1.0.number in omega (arith, m, is));
+          served = two.2;
+        };
+      }
+
+  -- behind so many others
+  pub two_served : (k n : ℕ) (ws : List (Worker D)) → HaveEnded y seen actors drives n ws → n + k ≡ actors + 4
+      → length ws ≡ k + 2 → TwoServed seen actors drives ws (lists_of ws)
+  two_served zero n ws ended is long = two_last n ws ended (omega (arith, is)) (omega (arith, long))
+  two_served (suc k) n [] ended is long = absurd (omega (arith, long))
+  two_served (suc k) n (w ∷ ws) ended is long =
+      let rest = two_served k (n + 1) ws ended.1 (omega (arith, is)) (omega (arith, long)) in
+      let none = no_list seen actors drives n w.job.pass w.job.role (omega (arith, is)) ended.0.did in
+      record {
+        even = rest.even;
+        odd = rest.odd;
+        lists_are = first_gap (λ (x : Worker D). drives_of x.job.role) w ws none ∙ rest.lists_are;
+        evens = served_behind 0 w ws rest.even.items rest.evens;
+        odds = served_behind 1 w ws rest.odd.items rest.odds;
+      }
+
+  -- they have room
+  pub are_two : (ws : List (Worker D)) (lists : List (DriveListView D)) (count : ℕ)
+      → TwoServed seen actors drives ws lists → length drives ≤ count → AreTwo count lists
+  are_two ws lists count two room =
+      let long = dealt_long 0 drives refl in
+      let one = AllZip-long _ (dealt 0 drives) two.even.items two.evens.served.served in
+      let other = AllZip-long _ (dealt 1 drives) two.odd.items two.odds.served.served in
+      let fewer = long.0 in
+      let all = long.1 in
+      subst (λ (l : List (DriveListView D)). AreTwo count l) (sym two.lists_are)
+      (omega (arith, one, other, fewer), omega (arith, one, other, all, room))
+
+-- All passes
+
+module _ {D : Type 0} (y : MeshYard) (seen : Drive D → DriveView) (actors : ℕ) (drives : List (Drive D)) where
+  -- the pass at a place
+  pass_at : (n : ℕ) (ws : List (Worker D)) (k : ℕ) (p : MeshPass) → HaveEnded y seen actors drives n ws
+      → slice_get (passes_of ws) k ≡ Some p → IsPassOf y p × (p.number ≡ n + k)
+  pass_at n [] k p ended at = absurd (let bad : ⊥ = cc in bad)
+  pass_at n (w ∷ ws) zero p ended at =
+      let same : w.job.pass ≡ p = cc in
+      let number = ended.0.number in
+      subst (λ (q : MeshPass). IsPassOf y q × (q.number ≡ n + 0)) same (ended.0.of_yard, omega (arith, number))
+  pass_at n (w ∷ ws) (suc k) p ended at =
+      let rest = pass_at (n + 1) ws k p ended.1 at in
+      let number = rest.1 in
+      (rest.0, omega (arith, number))
+
+  -- the passes are all that were made
+  pub are_whole : (first : MeshPass) (ws : List (Worker D)) → IsPassOf y first → first.number ≡ 0
+      → first.made ≡ 1 + length ws → HaveEnded y seen actors drives 1 ws → IsWhole y (first ∷ passes_of ws)
+  are_whole first ws own zeroth made ended = record {
+    some_pass = omega arith;
+    of_yard = of_yard;
+    count = λ p at.
+        let same : first ≡ p = cc in
+        let long = length-map ws (λ (w : Worker D). w.job.pass) in
+        ap (λ (q : MeshPass). q.made) (sym same) ∙ made ∙ omega (arith, long);
+  }
+    where
+      of_yard : (k : ℕ) (p : MeshPass) → slice_get (first ∷ passes_of ws) k ≡ Some p → IsPassOf y p × (p.number ≡ k)
+      of_yard zero p at =
+          let same : first ≡ p = cc in subst (λ (q : MeshPass). IsPassOf y q × (q.number ≡ 0)) same (own, zeroth)
+      of_yard (suc k) p at =
+          let rest = pass_at 1 ws k p ended at in
+          let number = rest.1 in
+          (rest.0, omega (arith, number))
+
+  -- each worker has ended
+  pub ended_of : (n : ℕ) (ws : List (Worker D)) (w : Worker D) → HaveEnded y seen actors drives n ws → Contains ws w
+      → (m : ℕ) × HasEnded y seen actors drives m w
+  ended_of n [] w ended here = absurd (nothing_in w here)
+  ended_of n (x ∷ ws) w ended here =
+      elim (Contains-cases x w ws here) [
+        | inl same ↦ (n, subst (λ (v : Worker D). HasEnded y seen actors drives n v) same ended.0)
+        | inr rest ↦ ended_of (n + 1) ws w ended.1 rest
+      ]
+
+-- What was left
+
+-- where a disk worker's drives did what its entries say, they did what the log says
+serve_log : {D : Type 0} (seen : Drive D → DriveView) (plan : Plan) (facts : List (ℕ × ℕ)) (log own : List Entry)
+    (worker : ℕ) → IsHistory (record { plan = plan; facts = facts; log = log }) → AreBySeats (disk_seat plan) log
+    → own ≡ entries_of_seat (length plan.actors + 4 + worker) log → (xs ys : List (ℕ × Drive D))
+    → AllByRecursion (λ (x : ℕ × Drive D). x.0 % 2 ≡ worker) xs
+    → AllZip (λ (x y : ℕ × Drive D). (y.0 ≡ x.0) × IsServed own x.0 (seen x.1) (seen y.1)) xs ys
+    → AllZip (DidServe seen log) xs ys
+serve_log seen plan facts log own worker law seats is [] [] of zip = tt
+serve_log seen plan facts log own worker law seats is [] (y ∷ ys) of zip = absurd zip
+serve_log seen plan facts log own worker law seats is (x ∷ xs) [] of zip = absurd zip
+serve_log seen plan facts log own worker law seats is (x ∷ xs) (y ∷ ys) of zip =
+    let seat : length plan.actors + 4 + worker ≡ disk_seat plan x.0 =
+    (let e : length plan.actors + 4 + worker ≡ event_seat plan + 3 + worker = omega arith in e)
+    ∙ ap (λ k. event_seat plan + 3 + k) (sym of.0) in
+    let mine : IsServed (entries_of_seat (disk_seat plan x.0) log) x.0 (seen x.1) (seen y.1) =
+    subst (λ (l : List Entry). IsServed l x.0 (seen x.1) (seen y.1))
+    (is ∙ ap (λ k. entries_of_seat k log) seat) zip.0.1 in (
+      (
+        zip.0.0,
+        seats_serve plan facts law.plan law.facts log law.lawful.0 (disk_seat plan) x.0 (seen x.1) (seen y.1)
+            seats mine,
+      ),
+      serve_log seen plan facts log own worker law seats is xs ys of.1 zip.1,
+    )
+
+module _ {D : Type 0} (y : MeshYard) (seen : Drive D → DriveView) (drives : List (Drive D)) (log : List Entry)
+    (first : MeshPass) (ws : List (Worker D))
+    (ended : HaveEnded y seen (length y.start.plan.actors) drives 1 ws)
+    (many : length ws ≡ length y.start.plan.actors + 5)
+    (good : All (λ (p : MeshPass). IsGoodIn (λ (e : Entry). e.seat) p log) (first ∷ passes_of ws))
+    (mine : All (λ (e : Entry). IsMine y.start.plan (entries_of_seat e.seat log) e.seat e.step) log)
+    (law : IsHistory (mesh_of y.start log)) where
+  abbrev plan_of_yard : Plan
+  plan_of_yard = y.start.plan
+
+  abbrev count_of_yard : ℕ
+  count_of_yard = length y.start.plan.actors
+
+  -- the drives of a list did what the log says
+  list_served : (worker : ℕ) (items : List (ℕ × Drive D)) → ListServed seen count_of_yard drives worker ws items
+      → AllZip (DidServe seen log) (dealt worker drives) items
+  list_served worker items at =
+      let its = good_pass y seen drives log first ws ended many good mine at.worker_of at.here in
+      serve_log seen plan_of_yard y.start.facts log at.worker_of.job.pass.own worker law
+      (are_by_seats plan_of_yard log mine)
+      (sym its.own ∙ ap (λ k. entries_of_seat k log) at.number) (dealt worker drives) items
+      (dealt_of_worker worker drives) at.served.served
+
+  -- why they ended
+  tells_end : (e : JobsEnd) → IsEndOf ws e → TellsEnd plan_of_yard (opened_by y.start) log e
+  tells_end ends.NoMemory is = tt
+  tells_end ends.Idle is = jobs_ended_idle y seen drives log first ws ended many good mine is
+  tells_end ends.LogFull is =
+      let w : Worker D = is.1.1 in
+      let here : Contains ws w = (is.1.0, is.1.2, is.1.3) in
+      let its = ended_of y seen count_of_yard drives 1 ws w ended here in
+      let full : WasFull (opened_by y.start) plan_of_yard w.job.pass =
+      subst (λ a. EndedAs (opened_by y.start) plan_of_yard w.job.pass w.job.role a) is.1.4 its.1.ended in
+      found_full plan_of_yard y.start.facts law.plan law.facts log
+      (All-weaker (λ (x : Entry). (x.seat ≢ 0) × IsOfItsJob plan_of_yard x.seat x.step) (λ (x : Entry). x.seat ≢ 0)
+      (λ x job. job.0) log (are_of_kind plan_of_yard log mine)) w.job.pass
+      (good_pass y seen drives log first ws ended many good mine w here).seen full
+
+  -- all of it
+  left_so : (back : List (Drive D)) (e : JobsEnd) → DrivesFit (mesh_of y.start []) (map seen drives)
+      → back ≡ gathered_of (lists_of ws) → IsEndOf ws e
+      → ThreadsRan (mesh_of y.start []) (mesh_of y.start log) (map seen drives) (map seen back) e
+  left_so back e fit is how =
+      let two =
+      two_served y seen count_of_yard drives (count_of_yard + 3) 1 ws ended (omega arith) (omega (arith, many)) in
+      let evens = list_served 0 two.even.items two.evens in
+      let odds = list_served 1 two.odd.items two.odds in
+      let back_is : back ≡ gathered two.even.items two.odd.items =
+      is ∙ ap (λ (l : List (DriveListView D)). gathered_of l) two.lists_are in
+      record {
+        plan = refl;
+        facts = refl;
+        history = law;
+        own_kind = are_of_kind plan_of_yard log mine;
+        none_busy = none_is_busy plan_of_yard log mine y.start.facts law.plan law.facts law.lawful.0;
+        served = subst (λ (l : List (Drive D)). AreServed log (map seen drives) (map seen l)) (sym back_is)
+            (are_served seen log drives two.even.items two.odd.items evens odds);
+        fit = ap (λ (l : List (Drive D)). map size_of (map seen l)) back_is
+            ∙ sizes_kept seen log drives two.even.items two.odd.items evens odds ∙ fit;
+        tells = tells_end e how;
+      }
+
+-- what the threads left, by the end of their yard
+pub threads_ran : {D : Type 0} (y : MeshYard) (seen : Drive D → DriveView) (drives back : List (Drive D))
+    (first : MeshPass) (ws : List (Worker D)) (m : MeshView) (e : JobsEnd)
+    → DrivesFit (mesh_of y.start []) (map seen drives) → first.own ≡ []
+    → HaveEnded y seen (length y.start.plan.actors) drives 1 ws → length ws ≡ length y.start.plan.actors + 5
+    → EndsYard y (first ∷ passes_of ws) m → back ≡ gathered_of (lists_of ws) → IsEndOf ws e
+    → ThreadsRan (mesh_of y.start []) m (map seen drives) (map seen back) e
+threads_ran y seen drives back first ws m e fit none ended many end back_is how =
+    let mine = each_mine y seen drives m.log first ws none ended end.good end.numbers in
+    let same : m ≡ mesh_of y.start m.log = ap (λ (s : MeshStart). mesh_of s m.log) end.begun in
+    subst (λ (x : MeshView). ThreadsRan (mesh_of y.start []) x (map seen drives) (map seen back) e) (sym same)
+    (left_so y seen drives m.log first ws ended many end.good mine end.law back e fit back_is how)

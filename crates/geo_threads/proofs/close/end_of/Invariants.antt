@@ -1,0 +1,6 @@
+use Rattle.std.proofs.Common.{take}
+use Rattle.geo_threads.specs.Closing.{IsEndOf}
+use Rattle.geo_threads.proofs.close.end_of.Given as goal
+
+abbrev pub invariant-loop-k : goal.invariant-loop-k
+invariant-loop-k g l = IsEndOf (take l.k l.workers) l.ended

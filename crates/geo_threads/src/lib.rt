@@ -1,0 +1,15 @@
+//! The threads of a run: one job for each thread over a mesh under the topology lock. They are started, run until all
+//! have ended, and taken back, and the lock is closed (geom(4)).
+#![tactic(auto)]
+
+mod close;
+mod deal;
+mod lanes;
+mod left;
+mod room;
+mod start;
+mod threads;
+
+pub use geo_work::{Gate, GatePlace, OpenGate};
+pub use left::{JobsEnd, Left};
+pub use threads::run_threads;

@@ -1,0 +1,74 @@
+//! The memory of a run, which is taken before its first job.
+ghost use Rattle.std.specs.Prelude.{◌≡◌, ◌+◌, ◌<◌, ◌≤◌, ◌^◌, [], IfOk};
+ghost use Rattle.geo_threads.specs.Rooms.{HasRoom};
+
+use crate::lanes::{Takers, open_lanes};
+use geo_base::NoMemory;
+use geo_disk::Drive;
+use geo_lock::PassList;
+use geo_work::{DriveList, Lanes, Mesh, Worker};
+use std::alloc::Global;
+
+/// Room for the workers of a run, for their passes, for the drives of the disk workers and on their way back; and the
+/// lanes.
+#[derive(Drop)]
+pub struct Room<D> {
+    pub passes: PassList<Mesh>,
+    pub workers: Vec<Worker<D>>,
+    pub lists: Vec<DriveList<D>>,
+    pub even: DriveList<D>,
+    pub odd: DriveList<D>,
+    pub back: Vec<Drive<D>>,
+    pub lanes: Lanes,
+    pub takers: Takers,
+}
+
+// A list with room for so many drives.
+fn list_for<D: Drop>(alloc: Global, drives: usize) -> Result<DriveList<D>, NoMemory>
+    ensures none { IfOk result (λ list. list.items ≡ []) }
+    ensures room { IfOk result (λ list. drives ≤ list.spare) }
+{
+    let mut list = DriveList::new(alloc);
+    list.reserve(drives as u64)?;
+    Ok(list)
+}
+
+// Room for so many passes.
+fn passes_for(alloc: Global, passes: u64) -> Result<PassList<Mesh>, NoMemory>
+    ensures none { IfOk result (λ list. list.items ≡ []) }
+    ensures room { IfOk result (λ list. passes ≤ list.spare) }
+{
+    let mut list = PassList::new(alloc);
+    list.reserve(passes)?;
+    Ok(list)
+}
+
+/// The room of a run over so many drives, for so many actors.
+pub fn make_room<D: Drop, R: AllocGlobal>(
+    rt: &R,
+    actors: u32,
+    drives: usize,
+) -> Result<Room<D>, NoMemory>
+    requires { actors ≤ 16 }
+    ensures { IfOk result (λ room. HasRoom actors drives room) }
+{
+    let alloc = rt.alloc();
+    let jobs = actors as usize + 5;
+    let passes = passes_for(alloc, jobs as u64 + 1)?;
+    let workers = Vec::with_capacity(alloc, jobs)?;
+    let lists = Vec::with_capacity(alloc, jobs)?;
+    let even = list_for(alloc, drives)?;
+    let odd = list_for(alloc, drives)?;
+    let back = Vec::with_capacity(alloc, drives)?;
+    let (lanes, takers) = open_lanes(rt)?;
+    Ok(Room {
+        passes,
+        workers,
+        lists,
+        even,
+        odd,
+        back,
+        lanes,
+        takers,
+    })
+}
