@@ -1,0 +1,84 @@
+//! The rule of a view, and the kinds of step that keep it.
+use crate::known::Known;
+use crate::shown::Shown;
+use atomic_table::{Join, Play, Split, TableRule};
+use geo_steps::{Mesh, Pass};
+use std::snapshot::Snapshot;
+
+/// The rule. It holds between any two steps.
+pub struct Keeping;
+
+impl TableRule<Option<Shown>, Known, Snapshot<Pass<Mesh>>> for Keeping {
+    ghost use Rattle.geo_view.specs.Kept.{IsKept};
+    ghost use Rattle.geo_view.specs.Views.{opening_view};
+
+    ghost holds = { λ k. IsKept k.value };
+
+    ghost first = { λ k. opening_view k.value };
+}
+
+/// The publisher takes its slot.
+pub struct TakeBack;
+
+impl Play<Option<Shown>, Known> for TakeBack {
+    ghost use Rattle.geo_view.specs.Kept.{TakesBack};
+
+    ghost then = { TakesBack };
+}
+
+/// The publisher shows what is in its slot, and has the slot that waited.
+pub struct Show;
+
+impl Play<Option<Shown>, Known> for Show {
+    ghost use Rattle.geo_view.specs.Kept.{ShowsIt};
+
+    ghost then = { ShowsIt };
+}
+
+/// The watcher looks whether a newer list waits.
+pub struct Peep;
+
+impl Play<Option<Shown>, Known> for Peep {
+    ghost use Rattle.geo_view.specs.Kept.{Peeps};
+
+    ghost then = { Peeps };
+}
+
+/// The watcher takes the list that waits.
+pub struct Fetch;
+
+impl Play<Option<Shown>, Known> for Fetch {
+    ghost use Rattle.geo_view.specs.Kept.{Fetches};
+
+    ghost then = { Fetches };
+}
+
+/// The watcher comes.
+pub struct Meeting;
+
+impl Split<Known> for Meeting {
+    ghost use Rattle.geo_view.specs.Views.{met, newcomer};
+
+    ghost left = { met };
+
+    ghost right = { newcomer };
+}
+
+/// A note is made, and learned.
+pub struct Notes;
+
+impl Split<Known> for Notes {
+    ghost use Rattle.geo_view.specs.Views.{note};
+
+    ghost left = { λ v. v };
+
+    ghost right = { note };
+}
+
+impl Join<Known> for Notes {
+    ghost use Rattle.geo_view.specs.Views.{informed, nobody};
+
+    ghost both = { informed };
+
+    ghost spent = { nobody };
+}

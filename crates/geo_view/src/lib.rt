@@ -1,0 +1,24 @@
+//! A view of the mesh that is read without waiting (geom(4)): one publisher shows the mesh as it is printed, and one
+//! watcher looks at it.
+//!
+//! A look gives the listing of the world after a beginning of the log. The beginning begins with all that this watcher
+//! saw before and was told of. A look takes no handle of the runtime, so it can't wait. Nor does a publisher ever wait.
+//!
+//! The view is three slots: one is the publisher's, one the watcher's, and the list that was shown last waits in the
+//! third. A publish and a look change slots by one swap.
+#![tactic(auto)]
+
+mod keeping;
+mod known;
+mod laws;
+mod publisher;
+mod role;
+mod shown;
+mod told;
+mod watcher;
+
+pub use geo_steps::{Mesh, Pass, Tried, Yard, try_step};
+pub use laws::replies_can_be_shown;
+pub use publisher::{PublishFault, Publisher, view_create};
+pub use told::Told;
+pub use watcher::Watcher;
