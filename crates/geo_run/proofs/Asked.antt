@@ -1,23 +1,18 @@
 -- What a run to rest did with all drives.
-use Rattle.std.proofs.Common.{◌≡◌, ℕ, ◌+◌, List, [], ◌∷◌, suc, Result, Ok, Err, OnOk, IsErrOf, slice_get, refl, sym, ap, subst, arith}
+use Rattle.std.proofs.Common.{◌≡◌, ℕ, ◌+◌, List, [], ◌∷◌, suc, Result, Ok, Err, OnOk, slice_get, sym, ap, subst, arith}
 use Rattle.std.proofs.lemmas.List.{append-nil}
 use Rattle.geo_model.specs.declared.step.Entry.{Entry}
-use Rattle.geo_model.specs.FixedOrder.{StepOrder, fixed_order}
+use Rattle.geo_model.specs.FixedOrder.{StepOrder}
 use Rattle.geo_model.specs.History.{RanToItsEnd}
 use Rattle.geo_model.specs.Order.{Rest}
-use Rattle.geo_headline.specs.Endings.{order_of}
-use Rattle.geo_headline.specs.Sweep.{sweep_order}
 use Rattle.geo_serve.specs.Served.{AreServed, IsServedAt}
 use Rattle.geo_elev.specs.Meshes.{IsHistory, MeshView, opened, world_of}
 use Rattle.geo_elev.specs.Drain as drain
-use Rattle.geo_laws_requests.proofs.Complete.{legal_logs_complete_requests}
+use Rattle.geo_laws_disks.proofs.Legal.{legal_logs_complete_requests}
 use Rattle.geo_laws_disks.proofs.Drives.{all_served_none}
 use Rattle.geo_laws_disks.proofs.Splits.{none_in}
 use Rattle.geo_run.specs.Drives.{DriveView, ServeAll}
 use Rattle.geo_run.specs.Rest.{Adds, RanFull}
-use Rattle.geo_run.specs.Work.{mode_of}
-use Rattle.geo_run.specs.declared.words.Work.{Work}
-use Rattle.geo_run.specs.declared.words.Work.TheVariants as works
 
 serve_all : (log : List Entry) (n : ℕ) (xs ys : List DriveView)
     → ((i k : ℕ) → k ≡ n + i → IsServedAt log k (slice_get xs i) (slice_get ys i)) → ServeAll log n xs ys
@@ -27,7 +22,7 @@ serve_all log n (x ∷ xs) [] h = absurd (h 0 n (omega arith))
 serve_all log n (x ∷ xs) (y ∷ ys) h =
     (h 0 n (omega arith), serve_all log (n + 1) xs ys (λ i k e. h (suc i) k (omega (arith, e))))
 
-served_all : (log : List Entry) (xs ys : List DriveView) → AreServed log xs ys → ServeAll log 0 xs ys
+pub served_all : (log : List Entry) (xs ys : List DriveView) → AreServed log xs ys → ServeAll log 0 xs ys
 served_all log xs ys h = serve_all log 0 xs ys (λ i k e.
     let same : i ≡ k = omega (arith, e) in
     subst (λ (j : ℕ). IsServedAt log j (slice_get xs i) (slice_get ys i)) same (h i))
@@ -63,24 +58,3 @@ ran_to_rest (Err e) m history rest = tt
 
 pub ran_full : (order : StepOrder) (m : MeshView) → drain.RanFull order m → RanFull order (opened m) m.log
 ran_full order m full = record { due = full.due; nearly = full.nearly }
-
--- The order
-
--- all works but one go to rest in the fixed order
-pub fixed_in : (work : Work) → (work ≡ works.Sweep → ⊥) → order_of (mode_of work) ≡ fixed_order
-fixed_in works.Step other = refl
-fixed_in (works.Generate s c) other = refl
-fixed_in works.Sweep other = absurd (other refl)
-fixed_in works.Verify other = refl
-
-pub swept_in : (work : Work) → work ≡ works.Sweep → order_of (mode_of work) ≡ sweep_order
-swept_in work is = ap (λ (w : Work). order_of (mode_of w)) is
-
--- an order by another name
-pub adds_in : (order other : StepOrder) (old new : MeshView) (xs ys : List DriveView) → other ≡ order
-    → Adds order old new xs ys → Adds other old new xs ys
-adds_in order other old new xs ys is a = subst (λ (o : StepOrder). Adds o old new xs ys) (sym is) a
-
-pub full_in : {E : Type 0} (order other : StepOrder) (m : MeshView) (r : Result (Unit {0}) E) (e : E) → other ≡ order
-    → (IsErrOf r e → RanFull order (opened m) m.log) → IsErrOf r e → RanFull other (opened m) m.log
-full_in order other m r e is full told = subst (λ (o : StepOrder). RanFull o (opened m) m.log) (sym is) (full told)

@@ -1,5 +1,5 @@
 -- Words that are written as numbers, and lists of words.
-use Rattle.std.proofs.Common.{◌≡◌, ◌↔◌, ℕ, ◌||◌, zero, suc, ◌^◌, ◌<◌, ◌≤◌, true, false, List, [], ◌∷◌, length, Option, Some, None, Ok, Err, refl, sym, ◌∙◌, ap, subst, arith, get_or, decimal, codes, bytes_eq, lit≤, Bool, IsTrue}
+use Rattle.std.proofs.Common.{◌≡◌, ◌↔◌, ℕ, zero, suc, ◌^◌, ◌<◌, ◌≤◌, true, false, List, [], ◌∷◌, length, Option, Some, None, Ok, Err, refl, sym, ◌∙◌, ap, subst, arith, get_or, decimal, codes, bytes_eq, lit≤, Bool, IsTrue}
 use Rattle.std.specs.Fmt.{digits}
 use Rattle.std.specs.Str.{all_ascii_digits}
 use Rattle.std.specs.Str.Parse.{ParsesUnsigned, digits_value, without_leading_plus}
@@ -12,8 +12,9 @@ use Rattle.std.specs.Cmp.Lexicographic.{same_text}
 use Rattle.std.proofs.lemmas.Slice.Eq.{bytes_eq-Decides}
 use Rattle.geo_headline.specs.Modes.{Accepts, GenMode, IsAlone, IsMode, Mode, StartsThreads, RunMode, StepMode, SweepMode, TraceMode, VerifyMode, WatchMode, words_for}
 use Rattle.geo_run.specs.Numbers.{IsNumberWithin, IsPlain}
+use Rattle.geo_run.specs.declared.words.Threaded.TheVariants as threads
 use Rattle.geo_run.specs.declared.words.Work.{Work}
-use Rattle.geo_run.specs.Work.{AskThreads, AsksCount, AsksFor, mode_of, word_bytes}
+use Rattle.geo_run.specs.Work.{AsksCount, AsksFor, AsksThreaded, mode_of, word_bytes}
 
 -- texts of digits
 abbrev pub AreDigits : List ℕ → Type 0
@@ -167,26 +168,30 @@ is_word (x ∷ []) w text only b some few at is e = (
 )
 is_word (x ∷ y ∷ zs) w text only b some few at is e = absurd (omega (arith, few))
 
-no_false : {A : Type 0} → IsTrue false → A
-no_false e = absurd (let bad : false ≡ true = e in cc)
+-- the one word `run`, `watch` or `trace` starts threads
+pub asks_run : (words : List (List ℕ)) (is : Bool) → is ≡ true → IsTrue is ↔ (words ≡ codes "run" ∷ [])
+    → AsksThreaded words (Some threads.Run)
+asks_run words is e word = record { spelled = word.0 e; in_range = tt }
 
--- a word of threads stands alone, or none does
-pub asks_threads : (words : List (List ℕ)) (run watch trace : Bool) → IsTrue run ↔ (words ≡ codes "run" ∷ [])
-    → IsTrue watch ↔ (words ≡ codes "watch" ∷ []) → IsTrue trace ↔ (words ≡ codes "trace" ∷ [])
-    → IsTrue (run || watch || trace) ↔ AskThreads words
-asks_threads words true watch trace r w t =
-    (λ e. (RunMode, refl, record { spelled = r.0 refl; in_range = tt }), λ asks. refl)
-asks_threads words false true trace r w t =
-    (λ e. (WatchMode, refl, record { spelled = w.0 refl; in_range = tt }), λ asks. refl)
-asks_threads words false false true r w t =
-    (λ e. (TraceMode, refl, record { spelled = t.0 refl; in_range = tt }), λ asks. refl)
-asks_threads words false false false r w t = (λ e. no_false e, λ asks. by asks.0 asks.1 asks.2)
+pub asks_watch : (words : List (List ℕ)) (is : Bool) → is ≡ true → IsTrue is ↔ (words ≡ codes "watch" ∷ [])
+    → AsksThreaded words (Some threads.Watch)
+asks_watch words is e word = record { spelled = word.0 e; in_range = tt }
+
+pub asks_trace : (words : List (List ℕ)) (is : Bool) → is ≡ true → IsTrue is ↔ (words ≡ codes "trace" ∷ [])
+    → AsksThreaded words (Some threads.Trace)
+asks_trace words is e word = record { spelled = word.0 e; in_range = tt }
+
+-- other words start none
+pub asks_alone : (words : List (List ℕ)) (run watch trace : Bool) → run ≡ false → watch ≡ false → trace ≡ false
+    → IsTrue run ↔ (words ≡ codes "run" ∷ []) → IsTrue watch ↔ (words ≡ codes "watch" ∷ [])
+    → IsTrue trace ↔ (words ≡ codes "trace" ∷ []) → AsksThreaded words None
+asks_alone words run watch trace no_run no_watch no_trace is_run is_watch is_trace = λ mode threads a. by mode threads a
   where
-    by : (mode : Mode) → StartsThreads mode → Accepts words mode → IsTrue false
-    by StepMode threads a = threads
-    by RunMode threads a = r.1 a.spelled
-    by (GenMode s c) threads a = threads
-    by SweepMode threads a = threads
-    by WatchMode threads a = w.1 a.spelled
-    by TraceMode threads a = t.1 a.spelled
-    by VerifyMode threads a = threads
+    by : (mode : Mode) → StartsThreads mode → Accepts words mode → ⊥
+    by StepMode threads a = cc
+    by RunMode threads a = let bad : true ≡ false = sym (is_run.1 a.spelled) ∙ no_run in cc
+    by (GenMode s c) threads a = cc
+    by SweepMode threads a = cc
+    by WatchMode threads a = let bad : true ≡ false = sym (is_watch.1 a.spelled) ∙ no_watch in cc
+    by TraceMode threads a = let bad : true ≡ false = sym (is_trace.1 a.spelled) ∙ no_trace in cc
+    by VerifyMode threads a = cc

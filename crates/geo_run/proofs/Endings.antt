@@ -15,12 +15,11 @@ use Rattle.geo_model.specs.declared.step.Entry.{Entry}
 use Rattle.geo_model.specs.World.{World, Plan}
 use Rattle.geo_model.specs.Opening.{opening}
 use Rattle.geo_model.specs.Plans.{IsPlan, IsDiskDecl, FactsFit}
+use Rattle.geo_headline.specs.Modes.{Mode}
 use Rattle.geo_headline.specs.Outside.{ShelfView, HasFactSectors, IsShelf, is_shelf, kept_back, IsThere, IsMissing, IsBadSize, HasToldSize, ImagesStay, ImagesStand, OthersStay, DisksAreKept, KeepsLength, PlannedDisk, planned_disk, IsDiskKept, CountsStay, is_of_plan, IsForeign as IsForeignName}
-use Rattle.geo_headline.specs.Endings.{Ending, Reported, ReportedButFault, BadWords, NoScript, ReadFault, ShelfFault, NoDisk, BadSize, OutOfMemory, LogFull, TooLong, Answered, NoTrace, HasLog, StopsAt, failed_takes}
-use Rattle.geo_headline.specs.Headline.{CallsAreTold, GivesAreTold, HaveFactSectors, LentAfter, NoneAsked, TakesAreToldAt}
+use Rattle.geo_headline.specs.Endings.{Ending, Reported, ReportedButFault, BadWords, NoScript, ReadFault, ShelfFault, NoDisk, BadSize, OutOfMemory, LogFull, TooLong, Answered, NoTrace, HasLog, LogRanFull, StopsAt, failed_takes}
+use Rattle.geo_headline.specs.Headline.{CallsAreTold, GivesAreTold, HaveFactSectors, IsMissedAt, LentAfter, NoneAsked, TakesAreToldAt}
 use Rattle.geo_run.specs.Drives.{DriveView, size_of}
-use Rattle.geo_model.specs.FixedOrder.{StepOrder}
-use Rattle.geo_run.specs.Rest.{RanFull}
 use Rattle.geo_run.specs.declared.stop.Stop.{Stop}
 use Rattle.geo_run.specs.declared.stop.Stop.TheVariants as stops
 use Rattle.geo_run.specs.Stops.{ending_of}
@@ -32,6 +31,7 @@ use Rattle.geo_run.proofs.Taking.{EachHad, IsForeign, IsHad, each_had, takes_cou
 use Rattle.geo_run.proofs.Giving.{GivesAll, SameKinds, gives_all, gives_stay}
 use Rattle.geo_run.proofs.Fates.{counted_rose, first_kept, first_of, gives_fault, is_of, kept_of_plan, kept_back_is}
 use Rattle.geo_run.proofs.Outs.{apart_front}
+use Rattle.geo_run.proofs.Visits.{all_in_order, none_in_order, stopped_in_order}
 use Rattle.geo_run.proofs.Telling.{gives_no_fault, gives_take_none, gives_told, none_blamed}
 use Rattle.geo_run.proofs.Planned.{all_there, apart_from, disks_kept, facts_had, kinds_had, kinds_served, sizes_told}
 use Rattle.geo_run.proofs.Courses.{Course, course_back, course_fate, course_lent, course_rose, course_told, images_stand, images_stand_still, images_stay, kept_stay, none_asked, same_length, sizes_back}
@@ -153,47 +153,64 @@ foreign_counts a m b ds xs ys kept c name takes foreign =
 -- Over drives
 
 -- no take failed where the drives were had
-no_failed : (order : StepOrder) (opened : World) (log : Option (List Entry)) (kept : List (List ℕ)) (ending : Ending)
-    → LentCause order opened log kept ending → failed_takes ending ≡ 0
-no_failed order opened log kept Reported h = refl
-no_failed order opened log kept (ReportedButFault name) h = refl
-no_failed order opened log kept BadWords h = refl
-no_failed order opened log kept (NoScript line cause) h = refl
-no_failed order opened log kept ReadFault h = refl
-no_failed order opened log kept (ShelfFault name) h = absurd h
-no_failed order opened log kept (NoDisk name) h = refl
-no_failed order opened log kept (BadSize name) h = refl
-no_failed order opened log kept OutOfMemory h = refl
-no_failed order opened log kept LogFull h = refl
-no_failed order opened log kept TooLong h = refl
-no_failed order opened log kept (Answered found) h = refl
-no_failed order opened log kept (NoTrace line) h = refl
+no_failed : (mode : Mode) (plan : Plan) (opened : World) (log : Option (List Entry)) (kept : List (List ℕ)) (ending : Ending)
+    → LentCause mode plan opened log kept ending → failed_takes ending ≡ 0
+no_failed mode plan opened log kept Reported h = refl
+no_failed mode plan opened log kept (ReportedButFault name) h = refl
+no_failed mode plan opened log kept BadWords h = refl
+no_failed mode plan opened log kept (NoScript line cause) h = refl
+no_failed mode plan opened log kept ReadFault h = refl
+no_failed mode plan opened log kept (ShelfFault name) h = absurd h
+no_failed mode plan opened log kept (NoDisk name) h = refl
+no_failed mode plan opened log kept (BadSize name) h = refl
+no_failed mode plan opened log kept OutOfMemory h = refl
+no_failed mode plan opened log kept LogFull h = refl
+no_failed mode plan opened log kept TooLong h = refl
+no_failed mode plan opened log kept (Answered found) h = refl
+no_failed mode plan opened log kept (NoTrace line) h = refl
 
-some_log : (order : StepOrder) (opened : World) (log : Option (List Entry)) → IsSomeAnd log (RanFull order opened) → IsSome log
-some_log order opened None h = absurd h
-some_log order opened (Some l) h = refl
+-- nor was one missed
+none_missed : (mode : Mode) (plan : Plan) (opened : World) (log : Option (List Entry)) (kept : List (List ℕ)) (ending : Ending)
+    → LentCause mode plan opened log kept ending → IsMissedAt ending []
+none_missed mode plan opened log kept Reported h = refl
+none_missed mode plan opened log kept (ReportedButFault name) h = refl
+none_missed mode plan opened log kept BadWords h = refl
+none_missed mode plan opened log kept (NoScript line cause) h = refl
+none_missed mode plan opened log kept ReadFault h = refl
+none_missed mode plan opened log kept (ShelfFault name) h = absurd h
+none_missed mode plan opened log kept (NoDisk name) h = absurd h
+none_missed mode plan opened log kept (BadSize name) h = absurd h
+none_missed mode plan opened log kept OutOfMemory h = omega arith
+none_missed mode plan opened log kept LogFull h = refl
+none_missed mode plan opened log kept TooLong h = refl
+none_missed mode plan opened log kept (Answered found) h = refl
+none_missed mode plan opened log kept (NoTrace line) h = refl
 
-has_log : (order : StepOrder) (opened : World) (log : Option (List Entry)) (kept : List (List ℕ)) (ending : Ending)
-    → LentCause order opened log kept ending → HasLog ending log
-has_log order opened log kept Reported h = h.0
-has_log order opened log kept (ReportedButFault name) h = h.0
-has_log order opened log kept BadWords h = absurd h
-has_log order opened log kept (NoScript line cause) h = absurd h
-has_log order opened log kept ReadFault h = absurd h
-has_log order opened log kept (ShelfFault name) h = absurd h
-has_log order opened log kept (NoDisk name) h = absurd h
-has_log order opened log kept (BadSize name) h = absurd h
-has_log order opened log kept OutOfMemory h = tt
-has_log order opened log kept LogFull h = some_log order opened log h
-has_log order opened log kept TooLong h = absurd h
-has_log order opened log kept (Answered found) h = absurd h
-has_log order opened log kept (NoTrace line) h = absurd h
+some_log : (mode : Mode) (plan : Plan) (opened : World) (log : Option (List Entry)) → IsSomeAnd log (LogRanFull mode plan opened) → IsSome log
+some_log mode plan opened None h = absurd h
+some_log mode plan opened (Some l) h = refl
 
-plan_cause : (order : StepOrder) (plan : Plan) (opened : World) (log : Option (List Entry)) (a m b : ShelfView) (xs ys : List DriveView)
+has_log : (mode : Mode) (plan : Plan) (opened : World) (log : Option (List Entry)) (kept : List (List ℕ)) (ending : Ending)
+    → LentCause mode plan opened log kept ending → HasLog ending log
+has_log mode plan opened log kept Reported h = h.0
+has_log mode plan opened log kept (ReportedButFault name) h = h.0
+has_log mode plan opened log kept BadWords h = absurd h
+has_log mode plan opened log kept (NoScript line cause) h = absurd h
+has_log mode plan opened log kept ReadFault h = absurd h
+has_log mode plan opened log kept (ShelfFault name) h = absurd h
+has_log mode plan opened log kept (NoDisk name) h = absurd h
+has_log mode plan opened log kept (BadSize name) h = absurd h
+has_log mode plan opened log kept OutOfMemory h = tt
+has_log mode plan opened log kept LogFull h = some_log mode plan opened log h
+has_log mode plan opened log kept TooLong h = absurd h
+has_log mode plan opened log kept (Answered found) h = absurd h
+has_log mode plan opened log kept (NoTrace line) h = absurd h
+
+plan_cause : (mode : Mode) (plan : Plan) (opened : World) (log : Option (List Entry)) (a m b : ShelfView) (xs ys : List DriveView)
     (kept : List (List ℕ)) (ending : Ending) → Course a m b plan.disks xs ys kept
-    → LentCause order opened log kept ending → PlanCause order plan opened log a b ending
-plan_cause order plan opened log a m b xs ys kept Reported c h = (h.0, course_back a m b plan.disks xs ys kept c ∙ h.1)
-plan_cause order plan opened log a m b xs ys kept (ReportedButFault name) c h = (
+    → LentCause mode plan opened log kept ending → PlanCause mode plan opened log a b ending
+plan_cause mode plan opened log a m b xs ys kept Reported c h = (h.0, course_back a m b plan.disks xs ys kept c ∙ h.1)
+plan_cause mode plan opened log a m b xs ys kept (ReportedButFault name) c h = (
   h.0,
   subst (λ (ks : List (List ℕ)). IsSomeAnd (first_of plan.disks ks) (λ d. d.name ≡ name))
       (sym (course_back a m b plan.disks xs ys kept c))
@@ -210,17 +227,17 @@ plan_cause order plan opened log a m b xs ys kept (ReportedButFault name) c h = 
     rose (n ∷ names) e all =
         let same : n ≡ name = (let got : Some n ≡ Some name = e in cc) in
         subst (λ (k : List ℕ). Rose (a.give_faults k) (b.give_faults k)) same all.0
-plan_cause order plan opened log a m b xs ys kept BadWords c h = absurd h
-plan_cause order plan opened log a m b xs ys kept (NoScript line cause) c h = absurd h
-plan_cause order plan opened log a m b xs ys kept ReadFault c h = absurd h
-plan_cause order plan opened log a m b xs ys kept (ShelfFault name) c h = absurd h
-plan_cause order plan opened log a m b xs ys kept (NoDisk name) c h = absurd h
-plan_cause order plan opened log a m b xs ys kept (BadSize name) c h = absurd h
-plan_cause order plan opened log a m b xs ys kept OutOfMemory c h = tt
-plan_cause order plan opened log a m b xs ys kept LogFull c h = h
-plan_cause order plan opened log a m b xs ys kept TooLong c h = absurd h
-plan_cause order plan opened log a m b xs ys kept (Answered found) c h = absurd h
-plan_cause order plan opened log a m b xs ys kept (NoTrace line) c h = absurd h
+plan_cause mode plan opened log a m b xs ys kept BadWords c h = absurd h
+plan_cause mode plan opened log a m b xs ys kept (NoScript line cause) c h = absurd h
+plan_cause mode plan opened log a m b xs ys kept ReadFault c h = absurd h
+plan_cause mode plan opened log a m b xs ys kept (ShelfFault name) c h = absurd h
+plan_cause mode plan opened log a m b xs ys kept (NoDisk name) c h = absurd h
+plan_cause mode plan opened log a m b xs ys kept (BadSize name) c h = absurd h
+plan_cause mode plan opened log a m b xs ys kept OutOfMemory c h = tt
+plan_cause mode plan opened log a m b xs ys kept LogFull c h = h
+plan_cause mode plan opened log a m b xs ys kept TooLong c h = absurd h
+plan_cause mode plan opened log a m b xs ys kept (Answered found) c h = absurd h
+plan_cause mode plan opened log a m b xs ys kept (NoTrace line) c h = absurd h
 
 -- each disk, where there is a log
 disks_by : (plan : Plan) (log : Option (List Entry)) (a m b : ShelfView) (xs ys : List DriveView)
@@ -262,12 +279,12 @@ stand_by plan None a m b xs ys kept c served =
 stand_by plan (Some log) a m b xs ys kept c served = images_stand a m b log plan.disks xs ys kept c served
 
 -- a plan whose drives were had and served
-pub runs_plan : (order : StepOrder) (plan : Plan) (facts : List (ℕ × ℕ)) (log : Option (List Entry)) (ending : Ending)
+pub runs_plan : (mode : Mode) (plan : Plan) (facts : List (ℕ × ℕ)) (log : Option (List Entry)) (ending : Ending)
     (xs : List DriveView) (a m b : ShelfView) → IsPlan plan → OpensDrives a plan.disks xs m
-    → RunsDrives order plan (names_of plan.disks) xs facts log ending m b → RunsPlan order plan facts log ending a b
-runs_plan order plan facts log ending xs a m b is opens r = record {
-  cause = plan_cause order plan (opening plan facts) log a m b xs r.served r.kept ending course r.cause;
-  has_log = has_log order (opening plan facts) log r.kept ending r.cause;
+    → RunsDrives mode plan (names_of plan.disks) xs facts log ending m b → RunsPlan mode plan facts log ending a b
+runs_plan mode plan facts log ending xs a m b is opens r = record {
+  cause = plan_cause mode plan (opening plan facts) log a m b xs r.served r.kept ending course r.cause;
+  has_log = has_log mode plan (opening plan facts) log r.kept ending r.cause;
   opens = λ some. record {
     there = All-from_recursion (IsThere a) plan.disks (all_there a m plan.disks xs course.had);
     facts_fit = subst (λ (fs : List (ℕ × ℕ)). FactsFit plan fs) (sym (r.sizes some))
@@ -279,16 +296,18 @@ runs_plan order plan facts log ending xs a m b is opens r = record {
   mesh = r.mesh;
   disks = disks_by plan log a m b xs r.served r.kept course r.serves;
   lent = lent_after ending a m b plan.disks xs r.served r.kept course
-      (rose_none (failed_takes ending) a.faults m.faults (no_failed order (opening plan facts) log r.kept ending r.cause)
+      (rose_none (failed_takes ending) a.faults m.faults (no_failed mode plan (opening plan facts) log r.kept ending r.cause)
       (not_less (takes_no_fault a m plan.disks xs opens)));
   calls = record {
-    takes = none_blamed ending a b (no_failed order (opening plan facts) log r.kept ending r.cause)
+    takes = none_blamed ending a b (no_failed mode plan (opening plan facts) log r.kept ending r.cause)
         (λ name. gives_take_none m b plan.disks r.served r.kept name course.given
         ∙ (takes_count a m plan.disks xs opens).takes name);
     gives = course_gives a m b plan.disks xs r.served r.kept course;
     no_fault = λ other no_take none. gives_no_fault m b plan.disks r.served r.kept course.given
         (sym (course_back a m b plan.disks xs r.served r.kept course) ∙ none) ∙ takes_no_fault a m plan.disks xs opens;
   };
+  in_order = all_in_order plan ending log a m b xs r.served r.kept
+      (none_missed mode plan (opening plan facts) log r.kept ending r.cause) opens course.given;
   others = record {
     bytes = λ name foreign. (course_told a m b plan.disks xs r.served r.kept course name (names_foreign name foreign)).is;
     counts = λ name foreign. foreign_counts a m b plan.disks xs r.served r.kept course name
@@ -565,20 +584,20 @@ stops_for plan a front d back name F e shelf named there cause = record {
 }
 
 -- why a plan ends so whose disks couldn't be had
-stopped_cause : (order : StepOrder) (plan : Plan) (facts : List (ℕ × ℕ)) (a m n b : ShelfView) (front : List DiskDecl) (d : DiskDecl)
+stopped_cause : (mode : Mode) (plan : Plan) (facts : List (ℕ × ℕ)) (a m n b : ShelfView) (front : List DiskDecl) (d : DiskDecl)
     (back : List DiskDecl) (stop : Stop) (kind : DiskKind) → d.kind ≡ kind → plan.disks ≡ front ++ d ∷ back
     → AllByRecursion (IsThere a) front → OfName a.told m.told d.name IsSame → m.take_faults d.name ≡ a.take_faults d.name
     → b.take_faults d.name ≡ n.take_faults d.name → OpensNoDrive m d stop n kind
-    → PlanCause order plan (opening plan facts) None a b (ending_of stop)
-stopped_cause order plan facts a m n b front d back stop disk_kinds.Ram k e there told before after h =
-    subst (λ (s : Stop). PlanCause order plan (opening plan facts) None a b (ending_of s)) (sym h.0) tt
-stopped_cause order plan facts a m n b front d back stop disk_kinds.Shelf k e there told before after h = by stop h.cause h.takes
+    → PlanCause mode plan (opening plan facts) None a b (ending_of stop)
+stopped_cause mode plan facts a m n b front d back stop disk_kinds.Ram k e there told before after h =
+    subst (λ (s : Stop). PlanCause mode plan (opening plan facts) None a b (ending_of s)) (sym h.0) tt
+stopped_cause mode plan facts a m n b front d back stop disk_kinds.Shelf k e there told before after h = by stop h.cause h.takes
   where
     shelf : IsShelf d.kind
     shelf = ap is_shelf k
 
     by : (s : Stop) → TakeCause m d s n → CountsCall (is_blamed s) d.name m.take_faults n.take_faults
-        → PlanCause order plan (opening plan facts) None a b (ending_of s)
+        → PlanCause mode plan (opening plan facts) None a b (ending_of s)
     by (stops.ShelfFault name) c takes = (
       stops_for plan a front d back name (λ z images. ⊤) e shelf c.0 there (any_fact a.told),
       let own : Rose (m.take_faults d.name) (n.take_faults d.name) =
@@ -605,25 +624,25 @@ stopped_cause order plan facts a m n b front d back stop disk_kinds.Shelf k e th
     by (stops.Answered answer) c takes = absurd c
     by (stops.NoTrace line) c takes = absurd c
 
-no_log : (order : StepOrder) (plan : Plan) (opened : World) (a b : ShelfView) (ending : Ending) → PlanCause order plan opened None a b ending
+no_log : (mode : Mode) (plan : Plan) (opened : World) (a b : ShelfView) (ending : Ending) → PlanCause mode plan opened None a b ending
     → HasLog ending None
-no_log order plan opened a b Reported c = c.0
-no_log order plan opened a b (ReportedButFault name) c = c.0
-no_log order plan opened a b BadWords c = absurd c
-no_log order plan opened a b (NoScript line cause) c = absurd c
-no_log order plan opened a b ReadFault c = absurd c
-no_log order plan opened a b (ShelfFault name) c = refl
-no_log order plan opened a b (NoDisk name) c = refl
-no_log order plan opened a b (BadSize name) c = refl
-no_log order plan opened a b OutOfMemory c = tt
-no_log order plan opened a b LogFull c = absurd c
-no_log order plan opened a b TooLong c = absurd c
-no_log order plan opened a b (Answered found) c = absurd c
-no_log order plan opened a b (NoTrace line) c = absurd c
+no_log mode plan opened a b Reported c = c.0
+no_log mode plan opened a b (ReportedButFault name) c = c.0
+no_log mode plan opened a b BadWords c = absurd c
+no_log mode plan opened a b (NoScript line cause) c = absurd c
+no_log mode plan opened a b ReadFault c = absurd c
+no_log mode plan opened a b (ShelfFault name) c = refl
+no_log mode plan opened a b (NoDisk name) c = refl
+no_log mode plan opened a b (BadSize name) c = refl
+no_log mode plan opened a b OutOfMemory c = tt
+no_log mode plan opened a b LogFull c = absurd c
+no_log mode plan opened a b TooLong c = absurd c
+no_log mode plan opened a b (Answered found) c = absurd c
+no_log mode plan opened a b (NoTrace line) c = absurd c
 
 -- a plan of which nothing was done
-nothing_done : (order : StepOrder) (plan : Plan) (facts : List (ℕ × ℕ)) (a : ShelfView) → RunsPlan order plan facts None OutOfMemory a a
-nothing_done order plan facts a = record {
+nothing_done : (mode : Mode) (plan : Plan) (facts : List (ℕ × ℕ)) (a : ShelfView) → RunsPlan mode plan facts None OutOfMemory a a
+nothing_done mode plan facts a = record {
   cause = tt;
   has_log = tt;
   opens = λ some. absurd (let bad : false ≡ true = some in cc);
@@ -631,6 +650,7 @@ nothing_done order plan facts a = record {
   disks = tt;
   lent = lent_still OutOfMemory a refl;
   calls = told_still OutOfMemory a refl;
+  in_order = none_in_order plan OutOfMemory None a refl refl;
   others = others_still plan a;
   unasked = λ name. record { faults = refl; asked = refl };
   sizes = λ some. absurd (let bad : false ≡ true = some in cc);
@@ -641,11 +661,11 @@ nothing_done order plan facts a = record {
 }
 
 -- a plan whose disks couldn't all be had
-gave_up : (order : StepOrder) (plan : Plan) (facts : List (ℕ × ℕ)) (stop : Stop) (a b : ShelfView) → IsPlan plan
-    → GivesUp a plan.disks stop b → RunsPlan order plan facts None (ending_of stop) a b
-gave_up order plan facts stop a b is g = record {
+gave_up : (mode : Mode) (plan : Plan) (facts : List (ℕ × ℕ)) (stop : Stop) (a b : ShelfView) → IsPlan plan
+    → GivesUp a plan.disks stop b → RunsPlan mode plan facts None (ending_of stop) a b
+gave_up mode plan facts stop a b is g = record {
   cause = cause;
-  has_log = no_log order plan (opening plan facts) a b (ending_of stop) cause;
+  has_log = no_log mode plan (opening plan facts) a b (ending_of stop) cause;
   opens = λ some. absurd (let bad : false ≡ true = some in cc);
   mesh = tt;
   disks = tt;
@@ -661,6 +681,8 @@ gave_up order plan facts stop a b is g = record {
         ∙ stopped_no_fault m n disk stop disk.kind g.stops.stopped other no_take
         ∙ takes_no_fault a m front xs g.stops.earlier;
   };
+  in_order =
+      stopped_in_order plan stop a m n b front disk back xs xs g.kept e g.stops.earlier g.stops.stopped course.given;
   others = record {
     bytes = λ name foreign. (course_told a n b front xs xs g.kept course name (names_foreign name foreign)).is;
     counts = λ name foreign. foreign_counts a n b front xs xs g.kept course name
@@ -737,8 +759,8 @@ gave_up order plan facts stop a b is g = record {
     foreign_disk : IsForeign disk.name front
     foreign_disk = foreign_front front disk back apart
 
-    cause : PlanCause order plan (opening plan facts) None a b (ending_of stop)
-    cause = stopped_cause order plan facts a m n b front disk back stop disk.kind refl e (all_there a m front xs had)
+    cause : PlanCause mode plan (opening plan facts) None a b (ending_of stop)
+    cause = stopped_cause mode plan facts a m n b front disk back stop disk.kind refl e (all_there a m front xs had)
         (takes_stay a m front xs disk.name g.stops.earlier foreign_disk).told
         ((takes_count a m front xs g.stops.earlier).takes disk.name)
         (gives_stay n b front xs g.kept disk.name course.given foreign_disk).takes g.stops.stopped
@@ -765,9 +787,9 @@ gave_up order plan facts stop a b is g = record {
     no_stop disk_kinds.Shelf never h = absurd (never refl)
 
 -- a plan whose disks weren't all had
-pub runs_stopped : (order : StepOrder) (plan : Plan) (facts : List (ℕ × ℕ)) (stop : Stop) (a b : ShelfView) → IsPlan plan
-    → TakesBack a plan.disks stop b → RunsPlan order plan facts None (ending_of stop) a b
-runs_stopped order plan facts stop a b is (inl same_shelf) =
-    subst (λ (s : Stop). RunsPlan order plan facts None (ending_of s) a b) (sym same_shelf.0)
-    (subst (λ (v : ShelfView). RunsPlan order plan facts None OutOfMemory a v) (sym same_shelf.1) (nothing_done order plan facts a))
-runs_stopped order plan facts stop a b is (inr g) = gave_up order plan facts stop a b is g
+pub runs_stopped : (mode : Mode) (plan : Plan) (facts : List (ℕ × ℕ)) (stop : Stop) (a b : ShelfView) → IsPlan plan
+    → TakesBack a plan.disks stop b → RunsPlan mode plan facts None (ending_of stop) a b
+runs_stopped mode plan facts stop a b is (inl same_shelf) =
+    subst (λ (s : Stop). RunsPlan mode plan facts None (ending_of s) a b) (sym same_shelf.0)
+    (subst (λ (v : ShelfView). RunsPlan mode plan facts None OutOfMemory a v) (sym same_shelf.1) (nothing_done mode plan facts a))
+runs_stopped mode plan facts stop a b is (inr g) = gave_up mode plan facts stop a b is g

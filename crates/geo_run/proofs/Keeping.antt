@@ -11,14 +11,12 @@ use Rattle.geo_model.specs.World.{World, Plan}
 use Rattle.geo_model.specs.Opening.{opening}
 use Rattle.geo_model.specs.Script.{Fault, empty_plan, script}
 use Rattle.geo_model.specs.Generator.{generated}
-use Rattle.geo_headline.specs.Modes.{Mode, StepMode, RunMode, GenMode, SweepMode, WatchMode, TraceMode, VerifyMode, IsMode, Accepts, StartsThreads, OpensMesh, TakesNoDisk, source_limit, words_for}
+use Rattle.geo_headline.specs.Modes.{Mode, StepMode, RunMode, GenMode, SweepMode, WatchMode, TraceMode, VerifyMode, IsMode, Accepts, OpensMesh, TakesNoDisk, source_limit, words_for}
 use Rattle.geo_model.specs.Log.{Fits}
 use Rattle.geo_model.specs.History.{KeepsHistory, RanToItsEnd}
 use Rattle.geo_headline.specs.Outside.{ShelfView, SinkView, SourceView, ImagesStay, ImagesStand, OthersStay, DisksAreKept}
-use Rattle.geo_headline.specs.Endings.{Ending, Reported, ReportedButFault, BadWords, NoScript, ReadFault, ShelfFault, NoDisk, BadSize, OutOfMemory, LogFull, TooLong, Answered, NoTrace, Call, CauseOf, HasLog, IsBeforeDisks, IsParsed, IsReadWhole, IsWhole, LogRanFull, ReadsScript, WasReadWhole, failed_takes, order_of, reported, script_of}
-use Rattle.geo_headline.specs.Headline.{CallsAreTold, FollowsMode, ImagesStayAt, IsBadWords, IsGen, LentAfter, NoneAsked, ReadAs}
-use Rattle.geo_model.specs.FixedOrder.{StepOrder}
-use Rattle.geo_run.specs.Rest.{RanFull}
+use Rattle.geo_headline.specs.Endings.{Ending, Reported, ReportedButFault, BadWords, NoScript, ReadFault, ShelfFault, NoDisk, BadSize, OutOfMemory, LogFull, TooLong, Answered, NoTrace, Call, CauseOf, HasLog, IsBeforeDisks, IsParsed, IsReadWhole, IsWhole, ReadsScript, WasReadWhole, missed_by, reported, script_of}
+use Rattle.geo_headline.specs.Headline.{CallsAreTold, CallsInOrder, FollowsMode, ImagesStayAt, IsBadWords, IsGen, LentAfter, NoneAsked, ReadAs}
 use Rattle.geo_run.specs.declared.due.Due.{Due}
 use Rattle.geo_run.specs.declared.due.Due.TheVariants as dues
 use Rattle.geo_run.specs.declared.finish.Finish.{Finish}
@@ -27,11 +25,12 @@ use Rattle.geo_run.specs.declared.stop.Stop.TheVariants as stops
 use Rattle.geo_run.specs.declared.words.Work.{Work}
 use Rattle.geo_run.specs.declared.words.Work.TheVariants as works
 use Rattle.geo_run.specs.Calls.{EndsEarly, Finishes, FinishesPlan, FinishesText, Gave, KeepsInside, added_to, call_of, outside_of}
-use Rattle.geo_run.specs.Ends.{HasNoShelfDisk, MeshRan, PlanCause, RunsPlan, entries_in, reported_alone}
+use Rattle.geo_run.specs.Ends.{HasNoShelfDisk, MeshRan, PlanCause, RunsPlan, entries_in}
 use Rattle.geo_run.specs.Stops.{IsDue, ending_by, ending_of}
 use Rattle.geo_run.specs.Work.{mode_of}
 use Rattle.geo_run.proofs.Digits.{own}
 use Rattle.geo_run.proofs.Endings.{images_stand_same, images_stay_same, lent_still, others_still, told_still}
+use Rattle.geo_run.proofs.Visits.{none_failed, none_in_order}
 use Rattle.geo_run.proofs.Generated.{generated_in_memory, one_plan, plan_in, plan_or_fault}
 
 -- Modes
@@ -153,10 +152,10 @@ read_as call mode accepts =
 early : (call : Call) (mode : Mode) (plan : Plan) (ending : Ending) → ReadAs call mode plan
     → Gave call.before.source call.text call.after.source → CauseOf call mode plan ending
     → call.log ≡ None → call.after.shelf ≡ call.before.shelf → HasLog ending None → (IsWhole ending → ⊥)
-    → failed_takes ending ≡ 0 → (IsGen mode ⊎ IsBadWords ending → call.after.source ≡ call.before.source)
+    → missed_by ending ≡ [] → (IsGen mode ⊎ IsBadWords ending → call.after.source ≡ call.before.source)
     → (ending ≢ ReadFault → call.after.source.faults ≡ call.before.source.faults)
     → KeepsInside call mode plan ending
-early call mode plan ending read gave cause none shelf has not_whole no_take source reads = record {
+early call mode plan ending read gave cause none shelf has not_whole none_missed source reads = record {
   read_as = read;
   gave = gave;
   cause = cause;
@@ -167,9 +166,13 @@ early call mode plan ending read gave cause none shelf has not_whole no_take sou
   order = subst (λ (l : Option (List Entry)). IfSome l (FollowsMode mode plan (opening plan call.facts) ending)) (sym none) tt;
   fits = subst (λ (l : Option (List Entry)). IfSome l (Fits (opening plan call.facts))) (sym none) tt;
   disks = subst (λ (l : Option (List Entry)). IfSome l (DisksAreKept plan call.before.shelf call.after.shelf)) (sym none) tt;
-  lent = subst (λ (v : ShelfView). LentAfter ending call.before.shelf v) (sym shelf) (lent_still ending call.before.shelf no_take);
+  lent = subst (λ (v : ShelfView). LentAfter ending call.before.shelf v) (sym shelf)
+      (lent_still ending call.before.shelf (none_failed ending none_missed));
   reads = reads;
-  calls = subst (λ (v : ShelfView). CallsAreTold ending call.before.shelf v) (sym shelf) (told_still ending call.before.shelf no_take);
+  calls = subst (λ (v : ShelfView). CallsAreTold ending call.before.shelf v) (sym shelf)
+      (told_still ending call.before.shelf (none_failed ending none_missed));
+  in_order = subst (λ (v : ShelfView). CallsInOrder plan ending call.log call.before.shelf v) (sym shelf)
+      (none_in_order plan ending call.log call.before.shelf none_missed none);
   others = subst (λ (v : ShelfView). OthersStay plan call.before.shelf v) (sym shelf) (others_still plan call.before.shelf);
   unasked = subst (λ (l : Option (List Entry)). IfNone l (NoneAsked call.before.shelf call.after.shelf)) (sym none)
       (λ name. record {
@@ -206,13 +209,8 @@ early call mode plan ending read gave cause none shelf has not_whole no_take sou
 -- Where a plan was run
 
 -- why a call ends so, from why the run of its plan does
-full_log : (mode : Mode) (plan : Plan) (opened : World) (log : Option (List Entry))
-    → IsSomeAnd log (RanFull (order_of mode) opened) → IsSomeAnd log (LogRanFull mode plan opened)
-full_log mode plan opened None h = h
-full_log mode plan opened (Some l) h = record { due = inl h.due; nearly = h.nearly }
-
 plan_cause : (call : Call) (mode : Mode) (plan : Plan) (ending : Ending) → IsParsed call mode plan
-    → PlanCause (order_of mode) plan (opening plan call.facts) call.log call.before.shelf call.after.shelf ending
+    → PlanCause mode plan (opening plan call.facts) call.log call.before.shelf call.after.shelf ending
     → CauseOf call mode plan ending
 plan_cause call mode plan Reported p h = h
 plan_cause call mode plan (ReportedButFault name) p h = h
@@ -223,27 +221,27 @@ plan_cause call mode plan (ShelfFault name) p h = (p, h.0, h.1)
 plan_cause call mode plan (NoDisk name) p h = (p, h)
 plan_cause call mode plan (BadSize name) p h = (p, h)
 plan_cause call mode plan OutOfMemory p h = tt
-plan_cause call mode plan LogFull p h = full_log mode plan (opening plan call.facts) call.log h
+plan_cause call mode plan LogFull p h = h
 plan_cause call mode plan TooLong p h = absurd h
 plan_cause call mode plan (Answered found) p h = absurd h
 plan_cause call mode plan (NoTrace line) p h = absurd h
 
 -- a run of a plan doesn't end before disks are taken
-not_before : (order : StepOrder) (plan : Plan) (opened : World) (log : Option (List Entry)) (a b : ShelfView) (ending : Ending)
-    → PlanCause order plan opened log a b ending → IsBeforeDisks ending → ⊥
-not_before order plan opened log a b Reported h before = before
-not_before order plan opened log a b (ReportedButFault name) h before = before
-not_before order plan opened log a b BadWords h before = h
-not_before order plan opened log a b (NoScript line c) h before = h
-not_before order plan opened log a b ReadFault h before = h
-not_before order plan opened log a b (ShelfFault name) h before = before
-not_before order plan opened log a b (NoDisk name) h before = before
-not_before order plan opened log a b (BadSize name) h before = before
-not_before order plan opened log a b OutOfMemory h before = before
-not_before order plan opened log a b LogFull h before = before
-not_before order plan opened log a b TooLong h before = h
-not_before order plan opened log a b (Answered found) h before = h
-not_before order plan opened log a b (NoTrace line) h before = h
+not_before : (mode : Mode) (plan : Plan) (opened : World) (log : Option (List Entry)) (a b : ShelfView) (ending : Ending)
+    → PlanCause mode plan opened log a b ending → IsBeforeDisks ending → ⊥
+not_before mode plan opened log a b Reported h before = before
+not_before mode plan opened log a b (ReportedButFault name) h before = before
+not_before mode plan opened log a b BadWords h before = h
+not_before mode plan opened log a b (NoScript line c) h before = h
+not_before mode plan opened log a b ReadFault h before = h
+not_before mode plan opened log a b (ShelfFault name) h before = before
+not_before mode plan opened log a b (NoDisk name) h before = before
+not_before mode plan opened log a b (BadSize name) h before = before
+not_before mode plan opened log a b OutOfMemory h before = before
+not_before mode plan opened log a b LogFull h before = before
+not_before mode plan opened log a b TooLong h before = h
+not_before mode plan opened log a b (Answered found) h before = h
+not_before mode plan opened log a b (NoTrace line) h before = h
 
 bad_is_before : (ending : Ending) → IsBadWords ending → IsBeforeDisks ending
 bad_is_before Reported h = h
@@ -278,53 +276,50 @@ images_at call (Answered found) None h = h
 images_at call (NoTrace line) None h = h
 
 -- the parts of what a mesh did
-history_of : (order : StepOrder) (plan : Plan) (facts : List (ℕ × ℕ)) (ending : Ending) (log : Option (List Entry))
-    → IfSome log (MeshRan order plan facts ending) → IfSome log (KeepsHistory (opening plan facts))
-history_of order plan facts ending None h = tt
-history_of order plan facts ending (Some l) h = h.history
+history_of : (mode : Mode) (plan : Plan) (facts : List (ℕ × ℕ)) (ending : Ending) (log : Option (List Entry))
+    → IfSome log (MeshRan mode plan facts ending) → IfSome log (KeepsHistory (opening plan facts))
+history_of mode plan facts ending None h = tt
+history_of mode plan facts ending (Some l) h = h.history
 
-fits_of : (order : StepOrder) (plan : Plan) (facts : List (ℕ × ℕ)) (ending : Ending) (log : Option (List Entry))
-    → IfSome log (MeshRan order plan facts ending) → IfSome log (Fits (opening plan facts))
-fits_of order plan facts ending None h = tt
-fits_of order plan facts ending (Some l) h = h.fits
+fits_of : (mode : Mode) (plan : Plan) (facts : List (ℕ × ℕ)) (ending : Ending) (log : Option (List Entry))
+    → IfSome log (MeshRan mode plan facts ending) → IfSome log (Fits (opening plan facts))
+fits_of mode plan facts ending None h = tt
+fits_of mode plan facts ending (Some l) h = h.fits
 
-end_of : (order : StepOrder) (plan : Plan) (facts : List (ℕ × ℕ)) (ending : Ending) (log : Option (List Entry))
-    → IfSome log (MeshRan order plan facts ending) → IsWhole ending → IfSome log (RanToItsEnd (opening plan facts))
-end_of order plan facts ending None h whole = tt
-end_of order plan facts ending (Some l) h whole = h.to_its_end whole
+end_of : (mode : Mode) (plan : Plan) (facts : List (ℕ × ℕ)) (ending : Ending) (log : Option (List Entry))
+    → IfSome log (MeshRan mode plan facts ending) → IsWhole ending → IfSome log (RanToItsEnd (opening plan facts))
+end_of mode plan facts ending None h whole = tt
+end_of mode plan facts ending (Some l) h whole = h.to_its_end whole
 
-order_by : (work : Work) (plan : Plan) (facts : List (ℕ × ℕ)) (ending : Ending) (log : Option (List Entry))
-    → IfSome log (MeshRan (order_of (mode_of work)) plan facts ending)
-    → IfSome log (FollowsMode (mode_of work) plan (opening plan facts) ending)
-order_by work plan facts ending None h = tt
-order_by works.Step plan facts ending (Some l) h = h.follows
-order_by (works.Generate s c) plan facts ending (Some l) h = h.follows
-order_by works.Sweep plan facts ending (Some l) h = h.follows
-order_by works.Verify plan facts ending (Some l) h = h.follows
+order_by : (mode : Mode) (plan : Plan) (facts : List (ℕ × ℕ)) (ending : Ending) (log : Option (List Entry))
+    → IfSome log (MeshRan mode plan facts ending) → IfSome log (FollowsMode mode plan (opening plan facts) ending)
+order_by mode plan facts ending None h = tt
+order_by mode plan facts ending (Some l) h = h.follows
 
 -- a call whose plan was run
-planned : (call : Call) (work : Work) (plan : Plan) (ending : Ending) → ReadAs call (mode_of work) plan
-    → Gave call.before.source call.text call.after.source → IsParsed call (mode_of work) plan
-    → RunsPlan (order_of (mode_of work)) plan call.facts call.log ending call.before.shelf call.after.shelf
-    → (IsGen (mode_of work) → call.after.source ≡ call.before.source)
+planned : (call : Call) (mode : Mode) (plan : Plan) (ending : Ending) → ReadAs call mode plan
+    → Gave call.before.source call.text call.after.source → IsParsed call mode plan
+    → RunsPlan mode plan call.facts call.log ending call.before.shelf call.after.shelf
+    → (IsGen mode → call.after.source ≡ call.before.source)
     → call.after.source.faults ≡ call.before.source.faults
-    → (TakesNoDisk (mode_of work) → HasNoShelfDisk plan)
-    → KeepsInside call (mode_of work) plan ending
-planned call work plan ending read gave parsed ran source told none = record {
+    → (TakesNoDisk mode → HasNoShelfDisk plan)
+    → KeepsInside call mode plan ending
+planned call mode plan ending read gave parsed ran source told none = record {
   read_as = read;
   gave = gave;
-  cause = plan_cause call (mode_of work) plan ending parsed ran.cause;
+  cause = plan_cause call mode plan ending parsed ran.cause;
   has_log = ran.has_log;
   is_opened = λ some. let o = ran.opens some in
       record { parsed = parsed; there = o.there; facts_fit = o.facts_fit; told_sizes = o.told_sizes };
-  history = history_of (order_of (mode_of work)) plan call.facts ending call.log ran.mesh;
-  to_its_end = λ whole. end_of (order_of (mode_of work)) plan call.facts ending call.log ran.mesh whole;
-  order = order_by work plan call.facts ending call.log ran.mesh;
-  fits = fits_of (order_of (mode_of work)) plan call.facts ending call.log ran.mesh;
+  history = history_of mode plan call.facts ending call.log ran.mesh;
+  to_its_end = λ whole. end_of mode plan call.facts ending call.log ran.mesh whole;
+  order = order_by mode plan call.facts ending call.log ran.mesh;
+  fits = fits_of mode plan call.facts ending call.log ran.mesh;
   disks = ran.disks;
   lent = ran.lent;
   reads = λ other. told;
   calls = ran.calls;
+  in_order = ran.in_order;
   others = ran.others;
   unasked = ran.unasked;
   sizes = ran.sizes;
@@ -334,11 +329,11 @@ planned call work plan ending read gave parsed ran source told none = record {
   outside = record {
     source = λ which. elim which [
       | inl gen ↦ source gen
-      | inr bad ↦ absurd (not_before (order_of (mode_of work)) plan (opening plan call.facts) call.log call.before.shelf call.after.shelf ending ran.cause (bad_is_before ending bad))
+      | inr bad ↦ absurd (not_before mode plan (opening plan call.facts) call.log call.before.shelf call.after.shelf ending ran.cause (bad_is_before ending bad))
     ];
     shelf = λ which. elim which [
       | inl gen ↦ ran.untouched (none gen)
-      | inr before ↦ absurd (not_before (order_of (mode_of work)) plan (opening plan call.facts) call.log call.before.shelf call.after.shelf ending ran.cause before)
+      | inr before ↦ absurd (not_before mode plan (opening plan call.facts) call.log call.before.shelf call.after.shelf ending ran.cause before)
     ];
   };
 }
@@ -382,25 +377,25 @@ pub stops_early : (words : List (List ℕ)) (finish : Finish) (source source_aft
     → Gave source (added_to source.given source_after.given) source_after
     → ((status : ℕ) (sink sink_after : SinkView) (plan : Plan)
     → CauseOf (finished words finish source source_after shelf shelf_after status sink sink_after) mode plan (ending_of stop))
-    → HasLog (ending_of stop) None → (IsWhole (ending_of stop) → ⊥) → failed_takes (ending_of stop) ≡ 0
-    → (IsGen mode ⊎ IsBadWords (ending_of stop) → source_after ≡ source) → (StartsThreads mode → ⊥)
+    → HasLog (ending_of stop) None → (IsWhole (ending_of stop) → ⊥) → missed_by (ending_of stop) ≡ []
+    → (IsGen mode ⊎ IsBadWords (ending_of stop) → source_after ≡ source)
     → (ending_of stop ≢ ReadFault → source_after.faults ≡ source.faults)
     → Finishes words finish source source_after shelf shelf_after
-stops_early words finish source source_after shelf shelf_after mode stop accepts ends gave cause has not_whole no_take same alone told = record {
-  mode = mode;
-  plan = (read_as (finished words finish source source_after shelf shelf_after 0 none_yet none_yet) mode accepts).0;
-  alone = alone;
-  due = subst (λ (due : Due). IsDue due (reported mode (added_to source.given source_after.given) plan finish.facts.items (entries_in finish.log)))
-      (sym ends.due) tt;
-  keeps = λ status sink sink_after.
-      let e : ending_by finish.due ≡ ending_of stop = ap ending_by ends.due in
-      let call = finished words finish source source_after shelf shelf_after status sink sink_after in
-      let reading : ReadAs call mode plan = again status sink sink_after
-      (read_as (finished words finish source source_after shelf shelf_after 0 none_yet none_yet) mode accepts).1 in
-      subst (λ (ending : Ending). KeepsInside call mode plan ending) (sym e)
-      (early call mode plan (ending_of stop) reading gave (cause status sink sink_after plan)
-      (no_entries finish ends.log) ends.shelf has not_whole no_take same told);
-}
+stops_early words finish source source_after shelf shelf_after mode stop accepts ends gave cause has not_whole none_missed
+    same told = record {
+      mode = mode;
+      plan = (read_as (finished words finish source source_after shelf shelf_after 0 none_yet none_yet) mode accepts).0;
+      due = subst (λ (due : Due). IsDue due (reported mode (added_to source.given source_after.given) plan finish.facts.items (entries_in finish.log)))
+          (sym ends.due) tt;
+      keeps = λ status sink sink_after.
+          let e : ending_by finish.due ≡ ending_of stop = ap ending_by ends.due in
+          let call = finished words finish source source_after shelf shelf_after status sink sink_after in
+          let reading : ReadAs call mode plan = again status sink sink_after
+          (read_as (finished words finish source source_after shelf shelf_after 0 none_yet none_yet) mode accepts).1 in
+          subst (λ (ending : Ending). KeepsInside call mode plan ending) (sym e)
+          (early call mode plan (ending_of stop) reading gave (cause status sink sink_after plan)
+          (no_entries finish ends.log) ends.shelf has not_whole none_missed same told);
+    }
   where
     none_yet : SinkView
     none_yet = record { taken = []; held = None; faults = 0 }
@@ -421,91 +416,81 @@ stops_early words finish source source_after shelf shelf_after mode stop accepts
           (read_again words finish source source_after shelf shelf_after 0 status none_yet sink none_yet sink_after mode w));
     }
 
--- no work starts threads
-pub work_alone : (work : Work) → StartsThreads (mode_of work) → ⊥
-work_alone works.Step threads = cc
-work_alone (works.Generate s c) threads = cc
-work_alone works.Sweep threads = cc
-work_alone works.Verify threads = cc
+-- a mode that opens a mesh, and takes no disk, makes its script
+no_disk_taken : (mode : Mode) → OpensMesh mode → TakesNoDisk mode → IsGen mode
+no_disk_taken StepMode opens none = none
+no_disk_taken RunMode opens none = none
+no_disk_taken (GenMode s c) opens none = tt
+no_disk_taken SweepMode opens none = none
+no_disk_taken WatchMode opens none = none
+no_disk_taken TraceMode opens none = none
+no_disk_taken VerifyMode opens none = absurd opens
 
--- one that opens a mesh, and takes no disk, makes its script
-no_disk_taken : (work : Work) → OpensMesh (mode_of work) → TakesNoDisk (mode_of work) → IsGen (mode_of work)
-no_disk_taken works.Step opens none = none
-no_disk_taken (works.Generate s c) opens none = none
-no_disk_taken works.Sweep opens none = none
-no_disk_taken works.Verify opens none = absurd opens
-
--- none reports the text that was read
-text_aside : (work : Work) (text : List ℕ) (plan : Plan) (facts : List (ℕ × ℕ)) (log : Option (List Entry))
-    → reported_alone (mode_of work) plan facts log ≡ reported (mode_of work) text plan facts log
-text_aside work text plan facts None = refl
-text_aside works.Step text plan facts (Some l) = refl
-text_aside (works.Generate s c) text plan facts (Some l) = refl
-text_aside works.Sweep text plan facts (Some l) = refl
-text_aside works.Verify text plan facts (Some l) = refl
+-- the script of a number is the same whatever was read, and so is what is reported of it
+pub text_aside : (start count : ℕ) (a b : List ℕ) (plan : Plan) (facts : List (ℕ × ℕ)) (log : Option (List Entry))
+    → reported (GenMode start count) a plan facts log ≡ reported (GenMode start count) b plan facts log
+text_aside start count a b plan facts None = refl
+text_aside start count a b plan facts (Some l) = refl
 
 -- a run whose plan was run
 runs_text : (words : List (List ℕ)) (finish : Finish) (source source_after : SourceView) (shelf shelf_after : ShelfView)
-    (work : Work) (plan : Plan) → OpensMesh (mode_of work) → Accepts words (mode_of work)
-    → script (script_of (mode_of work) (added_to source.given source_after.given)) ≡ Ok plan
+    (mode : Mode) (plan : Plan) → OpensMesh mode → Accepts words mode
+    → script (script_of mode (added_to source.given source_after.given)) ≡ Ok plan
     → Gave source (added_to source.given source_after.given) source_after
-    → RunsPlan (order_of (mode_of work)) plan finish.facts.items (entries_in finish.log) (ending_by finish.due) shelf shelf_after
-    → IsDue finish.due (reported_alone (mode_of work) plan finish.facts.items (entries_in finish.log))
+    → RunsPlan mode plan finish.facts.items (entries_in finish.log) (ending_by finish.due) shelf shelf_after
+    → IsDue finish.due (reported mode (added_to source.given source_after.given) plan finish.facts.items (entries_in finish.log))
     → ((status : ℕ) (sink sink_after : SinkView)
-    → WasReadWhole (finished words finish source source_after shelf shelf_after status sink sink_after) (mode_of work))
-    → (IsGen (mode_of work) → source_after ≡ source) → source_after.faults ≡ source.faults
-    → (IsGen (mode_of work) → HasNoShelfDisk plan)
+    → WasReadWhole (finished words finish source source_after shelf shelf_after status sink sink_after) mode)
+    → (IsGen mode → source_after ≡ source) → source_after.faults ≡ source.faults
+    → (IsGen mode → HasNoShelfDisk plan)
     → Finishes words finish source source_after shelf shelf_after
-runs_text words finish source source_after shelf shelf_after work plan opens accepts is gave ran due whole same told none = record {
-  mode = mode_of work;
+runs_text words finish source source_after shelf shelf_after mode plan opens accepts is gave ran due whole same told none = record {
+  mode = mode;
   plan = plan;
-  alone = work_alone work;
-  due = subst (λ text. IsDue finish.due text)
-      (text_aside work (added_to source.given source_after.given) plan finish.facts.items (entries_in finish.log)) due;
+  due = due;
   keeps = λ status sink sink_after.
       let call = finished words finish source source_after shelf shelf_after status sink sink_after in
-      planned call work plan (ending_by finish.due)
-      (read_as_whole call (mode_of work) (Ok plan) accepts (whole status sink sink_after) is)
+      planned call mode plan (ending_by finish.due)
+      (read_as_whole call mode (Ok plan) accepts (whole status sink sink_after) is)
       gave
       (record { accepted = accepts; mesh = opens; read = whole status sink sink_after; script = is })
-      ran same told (λ no_disk. none (no_disk_taken work opens no_disk));
+      ran same told (λ no_disk. none (no_disk_taken mode opens no_disk));
 }
 
 -- the end of a text by its reading
 pub of_text : (words : List (List ℕ)) (finish : Finish) (source source_after : SourceView) (shelf shelf_after : ShelfView)
-    (work : Work) (r : Result Plan Fault) → OpensMesh (mode_of work) → Accepts words (mode_of work)
-    → script (script_of (mode_of work) (added_to source.given source_after.given)) ≡ r
+    (mode : Mode) (r : Result Plan Fault) → OpensMesh mode → Accepts words mode
+    → script (script_of mode (added_to source.given source_after.given)) ≡ r
     → Gave source (added_to source.given source_after.given) source_after
-    → FinishesPlan r (mode_of work) finish shelf shelf_after
+    → FinishesPlan (added_to source.given source_after.given) r mode finish shelf shelf_after
     → ((status : ℕ) (sink sink_after : SinkView)
-    → WasReadWhole (finished words finish source source_after shelf shelf_after status sink sink_after) (mode_of work))
-    → (IsGen (mode_of work) → source_after ≡ source) → source_after.faults ≡ source.faults
-    → (IsGen (mode_of work) → (plan : Plan) → r ≡ Ok plan → HasNoShelfDisk plan)
-    → (IsGen (mode_of work) → (fault : Fault) → r ≡ Err fault → ⊥)
-    → (IsGen (mode_of work) ⊎ ((status : ℕ) (sink sink_after : SinkView)
-    → ReadsScript (finished words finish source source_after shelf shelf_after status sink sink_after) (mode_of work)))
+    → WasReadWhole (finished words finish source source_after shelf shelf_after status sink sink_after) mode)
+    → (IsGen mode → source_after ≡ source) → source_after.faults ≡ source.faults
+    → (IsGen mode → (plan : Plan) → r ≡ Ok plan → HasNoShelfDisk plan)
+    → (IsGen mode → (fault : Fault) → r ≡ Err fault → ⊥)
+    → (IsGen mode ⊎ ((status : ℕ) (sink sink_after : SinkView)
+    → ReadsScript (finished words finish source source_after shelf shelf_after status sink sink_after) mode))
     → Finishes words finish source source_after shelf shelf_after
-of_text words finish source source_after shelf shelf_after work (Ok plan) opens accepts is gave ends whole same told none no_fault reads =
-    runs_text words finish source source_after shelf shelf_after work plan opens accepts is gave ends.0 ends.1 whole same told
+of_text words finish source source_after shelf shelf_after mode (Ok plan) opens accepts is gave ends whole same told none no_fault reads =
+    runs_text words finish source source_after shelf shelf_after mode plan opens accepts is gave ends.0 ends.1 whole same told
     (λ gen. none gen plan refl)
-of_text words finish source source_after shelf shelf_after work (Err fault) opens accepts is gave ends whole same told none no_fault (inl gen) =
+of_text words finish source source_after shelf shelf_after mode (Err fault) opens accepts is gave ends whole same told none no_fault (inl gen) =
     absurd (no_fault gen fault refl)
-of_text words finish source source_after shelf shelf_after work (Err fault) opens accepts is gave ends whole same told none no_fault (inr reads) =
-    stops_early words finish source source_after shelf shelf_after (mode_of work) (stops.NoScript fault.line fault.cause)
+of_text words finish source source_after shelf shelf_after mode (Err fault) opens accepts is gave ends whole same told none no_fault (inr reads) =
+    stops_early words finish source source_after shelf shelf_after mode (stops.NoScript fault.line fault.cause)
     accepts ends gave
     (λ status sink sink_after plan. (reads status sink sink_after, whole status sink sink_after, is))
-    refl (λ w. w) refl (λ which. elim which [ inl gen ↦ same gen | inr bad ↦ absurd bad ]) (work_alone work) (λ other. told)
+    refl (λ w. w) refl (λ which. elim which [ inl gen ↦ same gen | inr bad ↦ absurd bad ]) (λ other. told)
 
 -- memory ran out before the mesh opened
 pub no_memory : (words : List (List ℕ)) (finish : Finish) (source source_after : SourceView) (shelf shelf_after : ShelfView)
     (mode : Mode) → Accepts words mode → EndsEarly finish stops.NoMemory shelf shelf_after
     → Gave source (added_to source.given source_after.given) source_after
-    → (IsGen mode → source_after ≡ source) → source_after.faults ≡ source.faults → (StartsThreads mode → ⊥)
+    → (IsGen mode → source_after ≡ source) → source_after.faults ≡ source.faults
     → Finishes words finish source source_after shelf shelf_after
-no_memory words finish source source_after shelf shelf_after mode accepts ends gave same told alone =
+no_memory words finish source source_after shelf shelf_after mode accepts ends gave same told =
     stops_early words finish source source_after shelf shelf_after mode stops.NoMemory accepts ends gave
-    (λ status sink sink_after plan. tt) tt (λ w. w) refl (λ which. elim which [ inl gen ↦ same gen | inr bad ↦ absurd bad ]) alone
-    (λ other. told)
+    (λ status sink sink_after plan. tt) tt (λ w. w) refl (λ which. elim which [ inl gen ↦ same gen | inr bad ↦ absurd bad ]) (λ other. told)
 
 -- the text that a source gave is what came behind what it had given
 pub text_is : (source source_after : SourceView) (text : List ℕ) → Gave source text source_after
@@ -531,14 +516,24 @@ pub finishes_generated : (words : List (List ℕ)) (finish : Finish) (source : S
     → FinishesText (generated start count) (GenMode start count) finish shelf shelf_after
     → Finishes words finish source source shelf shelf_after
 finishes_generated words finish source shelf shelf_after start count accepts (inl out) =
-    no_memory words finish source source shelf shelf_after (GenMode start count) accepts out (gave_nothing source) (λ gen. refl) refl (work_alone (works.Generate start count))
+    no_memory words finish source source shelf shelf_after (GenMode start count) accepts out (gave_nothing source) (λ gen. refl) refl
 finishes_generated words finish source shelf shelf_after start count accepts (inr done) =
-    of_text words finish source source shelf shelf_after (works.Generate start count) (script (generated start count))
-    tt accepts refl (gave_nothing source) done (λ status sink sink_after. tt) (λ gen. refl) refl
+    of_text words finish source source shelf shelf_after (GenMode start count) (script (generated start count))
+    tt accepts refl (gave_nothing source) (aside (script (generated start count)) done) (λ status sink sink_after. tt) (λ gen. refl) refl
     (λ gen plan e. generated_in_memory start count accepts.in_range plan e)
     (λ gen fault e. no_fault fault e)
     (inl tt)
   where
+    aside : (r : Result Plan Fault) → FinishesPlan (generated start count) r (GenMode start count) finish shelf shelf_after
+        → FinishesPlan (added_to source.given source.given) r (GenMode start count) finish shelf shelf_after
+    aside (Ok plan) h = (
+      h.0,
+      subst (λ text. IsDue finish.due text)
+          (text_aside start count (generated start count) (added_to source.given source.given) plan finish.facts.items
+          (entries_in finish.log)) h.1,
+    )
+    aside (Err fault) h = h
+
     no_fault : (fault : Fault) → script (generated start count) ≡ Err fault → ⊥
     no_fault fault e =
         let made = generated_plans.scripts start count accepts.in_range in
@@ -556,7 +551,6 @@ pub finishes_none : (words : List (List ℕ)) (finish : Finish) (source : Source
 finishes_none words finish source shelf none due_is log_is = record {
   mode = StepMode;
   plan = empty_plan;
-  alone = work_alone works.Step;
   due = subst (λ (due : Due). IsDue due (reported StepMode (added_to source.given source.given) empty_plan finish.facts.items (entries_in finish.log)))
       (sym due_is) tt;
   keeps = λ status sink sink_after.

@@ -12,7 +12,7 @@ use Rattle.geo_headline.specs.Traces.{TraceFault}
 use Rattle.geo_headline.specs.Verifying.{verified}
 use Rattle.geo_model.specs.Script.{Fault, script}
 use Rattle.geo_headline.specs.Outside.{ShelfView}
-use Rattle.geo_headline.specs.Endings.{order_of}
+use Rattle.geo_headline.specs.Endings.{reported}
 use Rattle.geo_script.specs.declared.refusal.ParseRefusal.{ParseRefusal}
 use Rattle.geo_script.specs.declared.refusal.ParseRefusal.TheVariants as refusals
 use Rattle.geo_script.specs.Draft.{Parses}
@@ -24,11 +24,8 @@ use Rattle.geo_run.specs.declared.finish.Finish.{Finish}
 use Rattle.geo_run.specs.declared.stop.Stop.{Stop}
 use Rattle.geo_run.specs.declared.stop.Stop.TheVariants as stops
 use Rattle.geo_run.specs.Calls.{EndsEarly, EndsUnread, FinishesPlan, FinishesSource, FinishesText, FinishesVerified, Gave, IsFoundIn, ReadsPart, ReadsWhole, UnreadCause}
-use Rattle.geo_run.specs.Ends.{RunsPlan, entries_in, reported_alone}
+use Rattle.geo_run.specs.Ends.{RunsPlan, entries_in}
 use Rattle.geo_run.specs.Stops.{IsDue, ending_by}
-use Rattle.geo_run.specs.Work.{mode_of}
-use Rattle.geo_run.specs.declared.words.Work.{Work}
-use Rattle.geo_run.specs.declared.words.Work.TheVariants as works
 
 -- Texts
 
@@ -39,11 +36,11 @@ early_end finish stop a due log = record { due = due; log = log; shelf = refl }
 
 -- the plan of a text was run
 pub text_ran : (text : List ℕ) (mode : Mode) (finish : Finish) (plan : Plan) (a b : ShelfView) → script text ≡ Ok plan
-    → RunsPlan (order_of mode) plan finish.facts.items (entries_in finish.log) (ending_by finish.due) a b
-    → IsDue finish.due (reported_alone mode plan finish.facts.items (entries_in finish.log))
+    → RunsPlan mode plan finish.facts.items (entries_in finish.log) (ending_by finish.due) a b
+    → IsDue finish.due (reported mode text plan finish.facts.items (entries_in finish.log))
     → FinishesText text mode finish a b
 text_ran text mode finish plan a b is ran due =
-    inr (subst (λ (r : Result Plan Fault). FinishesPlan r mode finish a b) (sym is) (ran, due))
+    inr (subst (λ (r : Result Plan Fault). FinishesPlan text r mode finish a b) (sym is) (ran, due))
 
 -- the fault that a reading told
 fault_told : (text : List ℕ) (refusal : ParseRefusal) (line : ℕ) (cause : Cause) → Parses (Err refusal) (script text)
@@ -56,7 +53,7 @@ pub text_faulty : (text : List ℕ) (mode : Mode) (finish : Finish) (refusal : P
     (a : ShelfView) → Parses (Err refusal) (script text) → refusal ≡ refusals.Fault line cause
     → finish.due ≡ dues.Stopped (stops.NoScript line cause) → finish.log ≡ None → FinishesText text mode finish a a
 text_faulty text mode finish refusal line cause a answer is due log =
-    inr (subst (λ (r : Result Plan Fault). FinishesPlan r mode finish a a)
+    inr (subst (λ (r : Result Plan Fault). FinishesPlan text r mode finish a a)
     (sym (fault_told text refusal line cause answer is))
     (early_end finish (stops.NoScript line cause) a due log))
 
@@ -140,13 +137,13 @@ read_lost limit s t refusal is taken told =
 -- Its text
 
 -- the text of a source that was read to its end was run
-pub source_ran : (work : Work) (limit : ℕ) (s t : SourceView) (text bytes : List ℕ) (finish : Finish) (a b : ShelfView)
-    → limit ≡ source_limit (mode_of work) → ReadsWhole limit s t text → bytes ≡ text
-    → FinishesText bytes (mode_of work) finish a b → FinishesSource (mode_of work) s t finish a b
-source_ran work limit s t text bytes finish a b limit_is whole is ends = inl (record {
+pub source_ran : (mode : Mode) (limit : ℕ) (s t : SourceView) (text bytes : List ℕ) (finish : Finish) (a b : ShelfView)
+    → limit ≡ source_limit mode → ReadsWhole limit s t text → bytes ≡ text
+    → FinishesText bytes mode finish a b → FinishesSource mode s t finish a b
+source_ran mode limit s t text bytes finish a b limit_is whole is ends = inl (record {
   text = text;
   whole = subst (λ (n : ℕ). ReadsWhole n s t text) limit_is whole;
-  of_text = subst (λ (bs : List ℕ). FinishesText bs (mode_of work) finish a b) is ends;
+  of_text = subst (λ (bs : List ℕ). FinishesText bs mode finish a b) is ends;
 })
 
 -- a source wasn't read to its end

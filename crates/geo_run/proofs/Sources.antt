@@ -3,7 +3,7 @@ use Rattle.std.proofs.Common.{◌≡◌, ◌⊎◌, ℕ, List, Result, Ok, Err, 
 use Rattle.geo_model.specs.declared.command.Cause.{Cause}
 use Rattle.geo_model.specs.World.{Plan}
 use Rattle.geo_model.specs.Script.{Fault, IsFault, script}
-use Rattle.geo_headline.specs.Modes.{Mode, StepMode, RunMode, GenMode, SweepMode, WatchMode, TraceMode, VerifyMode, Accepts, OpensMesh, StartsThreads, source_limit}
+use Rattle.geo_headline.specs.Modes.{Mode, StepMode, RunMode, GenMode, SweepMode, WatchMode, TraceMode, VerifyMode, Accepts, OpensMesh, source_limit}
 use Rattle.geo_headline.specs.Outside.{ShelfView, SinkView, SourceView}
 use Rattle.geo_headline.specs.Traces.{InScript, InTrace, ReadTrace, Reading, TraceFault, read_after, read_trace, script_part, told_line}
 use Rattle.geo_headline.specs.Verifying.{found_of, found_read, verified}
@@ -16,7 +16,7 @@ use Rattle.geo_run.specs.declared.words.Work.{Work}
 use Rattle.geo_run.specs.declared.words.Work.TheVariants as works
 use Rattle.geo_run.specs.Calls.{EndsEarly, EndsFound, EndsRead, EndsUnread, Finishes, FinishesSource, FinishesText, FinishesVerified, Gave, IsFoundIn, ReadsWhole, UnreadCause, added_to}
 use Rattle.geo_run.specs.Work.{mode_of}
-use Rattle.geo_run.proofs.Keeping.{finished, no_memory, of_text, stops_early, text_is, work_alone}
+use Rattle.geo_run.proofs.Keeping.{finished, no_memory, of_text, stops_early, text_is}
 
 -- What was read
 
@@ -54,18 +54,20 @@ reads_script call TraceMode not_gen accepts = accepts
 reads_script call VerifyMode not_gen accepts = accepts
 
 -- where it gives a script that is run, the text is that script
-script_read : (work : Work) (text : List ℕ) → OpensMesh (mode_of work) → (IsGen (mode_of work) → ⊥)
-    → script_of (mode_of work) text ≡ text
-script_read works.Step text opens not_gen = refl
-script_read (works.Generate s c) text opens not_gen = absurd (not_gen tt)
-script_read works.Sweep text opens not_gen = refl
-script_read works.Verify text opens not_gen = absurd opens
+script_read : (mode : Mode) (text : List ℕ) → OpensMesh mode → (IsGen mode → ⊥) → script_of mode text ≡ text
+script_read StepMode text opens not_gen = refl
+script_read RunMode text opens not_gen = refl
+script_read (GenMode s c) text opens not_gen = absurd (not_gen tt)
+script_read SweepMode text opens not_gen = refl
+script_read WatchMode text opens not_gen = refl
+script_read TraceMode text opens not_gen = refl
+script_read VerifyMode text opens not_gen = absurd opens
 
 -- A source that wasn't read to its end
 
 module _ (words : List (List ℕ)) (mode : Mode) (finish : Finish) (source source_after : SourceView)
     (shelf shelf_after : ShelfView) (accepts : Accepts words mode) (not_gen : IsGen mode → ⊥)
-    (alone : StartsThreads mode → ⊥) (gave : Gave source (added_to source.given source_after.given) source_after) where
+    (gave : Gave source (added_to source.given source_after.given) source_after) where
   no_gen : {A : Type 0} → IsGen mode ⊎ ⊥ → A
   no_gen (inl gen) = absurd (not_gen gen)
   no_gen (inr bad) = absurd bad
@@ -80,15 +82,15 @@ module _ (words : List (List ℕ)) (mode : Mode) (finish : Finish) (source sourc
       → EndsEarly finish stop shelf shelf_after → Finishes words finish source source_after shelf shelf_after
   unread_stops stops.ReadFault cause early =
       stops_early words finish source source_after shelf shelf_after mode stops.ReadFault accepts early gave
-      (λ status sink sink_after plan. (asked status sink sink_after, cause.0, cause.1)) refl (λ w. w) refl no_gen alone
+      (λ status sink sink_after plan. (asked status sink sink_after, cause.0, cause.1)) refl (λ w. w) refl no_gen
       (λ other. absurd (other refl))
   unread_stops stops.TooLong cause early =
       stops_early words finish source source_after shelf shelf_after mode stops.TooLong accepts early gave
-      (λ status sink sink_after plan. (asked status sink sink_after, cause.0)) refl (λ w. w) refl no_gen alone
+      (λ status sink sink_after plan. (asked status sink sink_after, cause.0)) refl (λ w. w) refl no_gen
       (λ other. cause.1)
   unread_stops stops.NoMemory cause early =
       no_memory words finish source source_after shelf shelf_after mode accepts early gave
-      (λ gen. absurd (not_gen gen)) cause alone
+      (λ gen. absurd (not_gen gen)) cause
   unread_stops stops.BadWords cause early = absurd cause
   unread_stops (stops.NoScript line c) cause early = absurd cause
   unread_stops (stops.ShelfFault name) cause early = absurd cause
@@ -99,11 +101,11 @@ module _ (words : List (List ℕ)) (mode : Mode) (finish : Finish) (source sourc
   unread_stops (stops.NoTrace line) cause early = absurd cause
 
 unread_finishes : (words : List (List ℕ)) (mode : Mode) (finish : Finish) (source source_after : SourceView)
-    (shelf shelf_after : ShelfView) → Accepts words mode → (IsGen mode → ⊥) → (StartsThreads mode → ⊥)
+    (shelf shelf_after : ShelfView) → Accepts words mode → (IsGen mode → ⊥)
     → EndsUnread mode source source_after finish shelf shelf_after
     → Finishes words finish source source_after shelf shelf_after
-unread_finishes words mode finish source source_after shelf shelf_after accepts not_gen alone ends =
-    unread_stops words mode finish source source_after shelf shelf_after accepts not_gen alone
+unread_finishes words mode finish source source_after shelf shelf_after accepts not_gen ends =
+    unread_stops words mode finish source source_after shelf shelf_after accepts not_gen
     (gave_added source source_after ends.part.text ends.part.gave) ends.stop
     (subst (λ (t : List ℕ). UnreadCause (source_limit mode) t source source_after ends.stop)
     (text_is source source_after ends.part.text ends.part.gave) ends.part.cause)
@@ -111,11 +113,11 @@ unread_finishes words mode finish source source_after shelf shelf_after accepts 
 
 -- A source whose script was run
 
-read_finishes : (words : List (List ℕ)) (work : Work) (finish : Finish) (source source_after : SourceView)
-    (shelf shelf_after : ShelfView) → OpensMesh (mode_of work) → (IsGen (mode_of work) → ⊥)
-    → Accepts words (mode_of work) → EndsRead (mode_of work) source source_after finish shelf shelf_after
+read_finishes : (words : List (List ℕ)) (mode : Mode) (finish : Finish) (source source_after : SourceView)
+    (shelf shelf_after : ShelfView) → OpensMesh mode → (IsGen mode → ⊥)
+    → Accepts words mode → EndsRead mode source source_after finish shelf shelf_after
     → Finishes words finish source source_after shelf shelf_after
-read_finishes words work finish source source_after shelf shelf_after opens not_gen accepts ends = by moved
+read_finishes words mode finish source source_after shelf shelf_after opens not_gen accepts ends = by moved
   where
     text : List ℕ
     text = added_to source.given source_after.given
@@ -126,45 +128,50 @@ read_finishes words work finish source source_after shelf shelf_after opens not_
     gave : Gave source text source_after
     gave = gave_added source source_after ends.text ends.whole.gave
 
-    moved : FinishesText text (mode_of work) finish shelf shelf_after
-    moved = subst (λ (t : List ℕ). FinishesText t (mode_of work) finish shelf shelf_after) same ends.of_text
+    moved : FinishesText text mode finish shelf shelf_after
+    moved = subst (λ (t : List ℕ). FinishesText t mode finish shelf shelf_after) same ends.of_text
 
     whole : (status : ℕ) (sink sink_after : SinkView)
-        → WasReadWhole (finished words finish source source_after shelf shelf_after status sink sink_after) (mode_of work)
+        → WasReadWhole (finished words finish source source_after shelf shelf_after status sink sink_after) mode
     whole status sink sink_after =
         let call : Call = finished words finish source source_after shelf shelf_after status sink sink_after in
-        was_read_whole call (mode_of work) (read_whole call (mode_of work) ends.text same ends.whole)
+        was_read_whole call mode (read_whole call mode ends.text same ends.whole)
 
     asked : (status : ℕ) (sink sink_after : SinkView)
-        → ReadsScript (finished words finish source source_after shelf shelf_after status sink sink_after) (mode_of work)
+        → ReadsScript (finished words finish source source_after shelf shelf_after status sink sink_after) mode
     asked status sink sink_after =
-        reads_script (finished words finish source source_after shelf shelf_after status sink sink_after) (mode_of work)
+        reads_script (finished words finish source source_after shelf shelf_after status sink sink_after) mode
         not_gen accepts
 
-    by : FinishesText text (mode_of work) finish shelf shelf_after
+    by : FinishesText text mode finish shelf shelf_after
         → Finishes words finish source source_after shelf shelf_after
     by (inl out) =
-        no_memory words finish source source_after shelf shelf_after (mode_of work) accepts out gave
-        (λ gen. absurd (not_gen gen)) ends.whole.told (work_alone work)
+        no_memory words finish source source_after shelf shelf_after mode accepts out gave
+        (λ gen. absurd (not_gen gen)) ends.whole.told
     by (inr done) =
-        of_text words finish source source_after shelf shelf_after work (script text) opens accepts
-        (ap script (script_read work text opens not_gen)) gave done whole
+        of_text words finish source source_after shelf shelf_after mode (script text) opens accepts
+        (ap script (script_read mode text opens not_gen)) gave done whole
         (λ gen. absurd (not_gen gen)) ends.whole.told (λ gen. absurd (not_gen gen)) (λ gen. absurd (not_gen gen))
         (inr asked)
 
--- a work whose script the source gives
-pub source_finishes : (words : List (List ℕ)) (work asked : Work) (finish : Finish) (source source_after : SourceView)
+-- a mode whose script the source gives
+pub source_finishes : (words : List (List ℕ)) (mode : Mode) (finish : Finish) (source source_after : SourceView)
+    (shelf shelf_after : ShelfView) → OpensMesh mode → (IsGen mode → ⊥) → Accepts words mode
+    → FinishesSource mode source source_after finish shelf shelf_after
+    → Finishes words finish source source_after shelf shelf_after
+source_finishes words mode finish source source_after shelf shelf_after opens not_gen accepts (inl read) =
+    read_finishes words mode finish source source_after shelf shelf_after opens not_gen accepts read
+source_finishes words mode finish source source_after shelf shelf_after opens not_gen accepts (inr unread) =
+    unread_finishes words mode finish source source_after shelf shelf_after accepts not_gen unread
+
+-- the same of words that ask for a work
+pub work_finishes : (words : List (List ℕ)) (work asked : Work) (finish : Finish) (source source_after : SourceView)
     (shelf shelf_after : ShelfView) → OpensMesh (mode_of work) → (IsGen (mode_of work) → ⊥) → asked ≡ work
     → Accepts words (mode_of asked) → FinishesSource (mode_of work) source source_after finish shelf shelf_after
     → Finishes words finish source source_after shelf shelf_after
-source_finishes words work asked finish source source_after shelf shelf_after opens not_gen is accepts ends =
-    by (subst (λ (w : Work). Accepts words (mode_of w)) is accepts) ends
-  where
-    by : Accepts words (mode_of work) → FinishesSource (mode_of work) source source_after finish shelf shelf_after
-        → Finishes words finish source source_after shelf shelf_after
-    by a (inl read) = read_finishes words work finish source source_after shelf shelf_after opens not_gen a read
-    by a (inr unread) =
-        unread_finishes words (mode_of work) finish source source_after shelf shelf_after a not_gen (work_alone work) unread
+work_finishes words work asked finish source source_after shelf shelf_after opens not_gen is accepts ends =
+    source_finishes words (mode_of work) finish source source_after shelf shelf_after opens not_gen
+    (subst (λ (w : Work). Accepts words (mode_of w)) is accepts) ends
 
 -- A source whose trace was verified
 
@@ -227,18 +234,18 @@ found_finishes words finish source source_after shelf shelf_after accepts ends =
     by (stops.Answered answer) found early =
         stops_early words finish source source_after shelf shelf_after VerifyMode (stops.Answered answer) accepts early gave
         (λ status sink sink_after plan. (accepts, whole status sink sink_after, found)) refl (λ w. w) refl no_gen
-        (work_alone works.Verify) (λ other. ends.whole.told)
+        (λ other. ends.whole.told)
     by (stops.NoTrace line) found early =
         stops_early words finish source source_after shelf shelf_after VerifyMode (stops.NoTrace line) accepts early gave
         (λ status sink sink_after plan. (accepts, whole status sink sink_after, found)) refl (λ w. w) refl no_gen
-        (work_alone works.Verify) (λ other. ends.whole.told)
+        (λ other. ends.whole.told)
     by (stops.NoScript line c) found early =
         stops_early words finish source source_after shelf shelf_after VerifyMode (stops.NoScript line c) accepts early gave
         (λ status sink sink_after plan. (accepts, whole status sink sink_after, script_first text line c found)) refl
-        (λ w. w) refl no_gen (work_alone works.Verify) (λ other. ends.whole.told)
+        (λ w. w) refl no_gen (λ other. ends.whole.told)
     by stops.NoMemory found early =
         no_memory words finish source source_after shelf shelf_after VerifyMode accepts early gave
-        (λ gen. absurd gen) ends.whole.told (work_alone works.Verify)
+        (λ gen. absurd gen) ends.whole.told
     by stops.BadWords found early = absurd found
     by stops.ReadFault found early = absurd found
     by (stops.ShelfFault name) found early = absurd found
@@ -259,5 +266,4 @@ verified_finishes words asked finish source source_after shelf shelf_after is ac
         → Finishes words finish source source_after shelf shelf_after
     by a (inl found) = found_finishes words finish source source_after shelf shelf_after a found
     by a (inr unread) =
-        unread_finishes words VerifyMode finish source source_after shelf shelf_after a (λ gen. gen)
-        (work_alone works.Verify) unread
+        unread_finishes words VerifyMode finish source source_after shelf shelf_after a (λ gen. gen) unread

@@ -5,33 +5,26 @@ use Rattle.geo_base.specs.Faults.{RoseBy}
 use Rattle.geo_model.specs.declared.step.Entry.{Entry}
 use Rattle.geo_model.specs.World.{World, Plan}
 use Rattle.geo_model.specs.Opening.{opening}
-use Rattle.geo_headline.specs.Modes.{Mode, StepMode, RunMode, GenMode, SweepMode, WatchMode, TraceMode, VerifyMode, StartsThreads}
+use Rattle.geo_headline.specs.Modes.{Mode}
 use Rattle.geo_headline.specs.Outside.{ShelfView, SinkView, SourceView, kept_back}
 use Rattle.geo_headline.specs.Endings.{Ending, Reported, ReportedButFault, BadWords, NoScript, ReadFault, ShelfFault, NoDisk, BadSize, OutOfMemory, LogFull, TooLong, Answered, NoTrace, Call, due_text, failed_takes, reported, status_of}
 use Rattle.geo_headline.specs.Headline.{FollowsMode, ImagesStayAt, IsComplete, KeepsAll, NoneAsked, NoneAskedAt, Prints, TakesAreToldAt}
 use Rattle.geo_run.specs.declared.finish.Finish.{Finish}
+use Rattle.geo_run.specs.declared.top.Ended.{Ended}
 use Rattle.geo_run.specs.Calls.{Finishes, Keeps, KeepsInside, added_to, call_of, outside_of}
 use Rattle.geo_run.specs.Ends.{entries_in}
 use Rattle.geo_run.specs.Stops.{IsDue, ending_by}
 use Rattle.geo_run.specs.Writes.{IsTextMade, Writes, WritesEnding}
 use Rattle.geo_run.proofs.Completing.{complete}
+use Rattle.geo_run.proofs.Running.{follows_at}
+use Rattle.geo_run.proofs.Visits.{order_at_last}
 
 -- Where memory ran out at the end
 
-order_at : (mode : Mode) (plan : Plan) (opened : World) (ending : Ending) (log : List Entry) → (StartsThreads mode → ⊥)
-    → FollowsMode mode plan opened ending log → FollowsMode mode plan opened OutOfMemory log
-order_at StepMode plan opened ending log alone h = h
-order_at RunMode plan opened ending log alone h = absurd (alone refl)
-order_at (GenMode s c) plan opened ending log alone h = h
-order_at SweepMode plan opened ending log alone h = h
-order_at WatchMode plan opened ending log alone h = absurd (alone refl)
-order_at TraceMode plan opened ending log alone h = absurd (alone refl)
-order_at VerifyMode plan opened ending log alone h = h
-
-orders_at : (mode : Mode) (plan : Plan) (opened : World) (ending : Ending) (log : Option (List Entry)) → (StartsThreads mode → ⊥)
+orders_at : (mode : Mode) (plan : Plan) (opened : World) (ending : Ending) (log : Option (List Entry))
     → IfSome log (FollowsMode mode plan opened ending) → IfSome log (FollowsMode mode plan opened OutOfMemory)
-orders_at mode plan opened ending None alone h = h
-orders_at mode plan opened ending (Some l) alone h = order_at mode plan opened ending l alone h
+orders_at mode plan opened ending None h = h
+orders_at mode plan opened ending (Some l) h = follows_at mode plan opened ending OutOfMemory l (λ whole. absurd whole) h
 
 stay_at : (call : Call) (ending : Ending) → ImagesStayAt call ending → ImagesStayAt call OutOfMemory
 stay_at call OutOfMemory h = h
@@ -70,9 +63,9 @@ takes_at (Answered found) a b h = (None, h)
 takes_at (NoTrace line) a b h = (None, h)
 
 -- what a call keeps it keeps where memory runs out at its end
-out_of_memory : (call : Call) (mode : Mode) (plan : Plan) (ending : Ending) → (StartsThreads mode → ⊥)
+out_of_memory : (call : Call) (mode : Mode) (plan : Plan) (ending : Ending)
     → IsTextMade ending → KeepsInside call mode plan ending → KeepsInside call mode plan OutOfMemory
-out_of_memory call mode plan ending alone made k = record {
+out_of_memory call mode plan ending made k = record {
   read_as = k.read_as;
   gave = k.gave;
   cause = tt;
@@ -80,7 +73,7 @@ out_of_memory call mode plan ending alone made k = record {
   is_opened = k.is_opened;
   history = k.history;
   to_its_end = λ whole. absurd whole;
-  order = orders_at mode plan (opening plan call.facts) ending call.log alone k.order;
+  order = orders_at mode plan (opening plan call.facts) ending call.log k.order;
   fits = k.fits;
   disks = k.disks;
   lent = record {
@@ -94,6 +87,7 @@ out_of_memory call mode plan ending alone made k = record {
     gives = k.calls.gives;
     no_fault = λ other. absurd (other refl);
   };
+  in_order = order_at_last plan ending call.log call.before.shelf call.after.shelf k.in_order;
   others = k.others;
   unasked = k.unasked;
   sizes = k.sizes;
@@ -180,6 +174,7 @@ keeps_all call mode plan ending k w e = record {
     disks = k.disks;
     lent = k.lent;
     calls = k.calls;
+    in_order = k.in_order;
     others = k.others;
     unasked = unasked_at call ending call.log k.unasked;
     sizes = k.sizes;
@@ -228,9 +223,33 @@ keeps words finish status source source_after sink sink_after shelf shelf_after 
       ending = actual;
       all = keeps_all call f.mode f.plan actual
           (subst (λ (z : Ending). KeepsInside call f.mode f.plan z) (sym e.0)
-          (out_of_memory call f.mode f.plan (ending_by finish.due) f.alone e.1 inside)) w refl;
+          (out_of_memory call f.mode f.plan (ending_by finish.due) e.1 inside)) w refl;
     }
 
 -- and is complete
 pub completes : (call : Call) → Keeps call → IsComplete call
 completes call k = complete call k.mode k.plan k.ending k.all
+
+-- so does a call that wrote what is due of its run
+pub call_keeps : (words : List (List ℕ)) (finish : Finish) (ended : Ended) (source source_after : SourceView)
+    (sink sink_after : SinkView) (shelf shelf_after : ShelfView)
+    → Finishes words finish source source_after shelf shelf_after → ended.log ≡ finish.log
+    → ended.facts ≡ finish.facts
+    → ((reported : List ℕ) → IsDue finish.due reported
+    → WritesEnding reported (ending_by finish.due) ended.status sink sink_after)
+    → Keeps (call_of words ended (outside_of source sink shelf) (outside_of source_after sink_after shelf_after))
+call_keeps words finish ended source source_after sink sink_after shelf shelf_after f log facts writes =
+    subst (λ (e : Ended). Keeps (call_of words e (outside_of source sink shelf) (outside_of source_after sink_after shelf_after)))
+    (sym (ap (λ l. record ended { log = l }) log ∙ ap (λ fs. record ended { log = finish.log; facts = fs }) facts))
+    (keeps words finish ended.status source source_after sink sink_after shelf shelf_after f writes)
+
+pub call_completes : (words : List (List ℕ)) (finish : Finish) (ended : Ended) (source source_after : SourceView)
+    (sink sink_after : SinkView) (shelf shelf_after : ShelfView)
+    → Finishes words finish source source_after shelf shelf_after → ended.log ≡ finish.log
+    → ended.facts ≡ finish.facts
+    → ((reported : List ℕ) → IsDue finish.due reported
+    → WritesEnding reported (ending_by finish.due) ended.status sink sink_after)
+    → IsComplete (call_of words ended (outside_of source sink shelf) (outside_of source_after sink_after shelf_after))
+call_completes words finish ended source source_after sink sink_after shelf shelf_after f log facts writes =
+    completes _
+    (call_keeps words finish ended source source_after sink sink_after shelf shelf_after f log facts writes)

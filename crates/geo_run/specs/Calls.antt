@@ -2,7 +2,7 @@
 use Rattle.std.specs.Prelude.{◌≡◌, ◌≢◌, ◌⊎◌, ℕ, ◌<◌, ◌≤◌, List, [], ◌++◌, drop, length, None, Result, Ok, Err, IfSome, IfNone, IsSome, IsSomeAnd, IsTrue, ⊤}
 use Rattle.geo_base.specs.Faults.{Rose}
 use Rattle.geo_headline.specs.declared.verified.Verified.{Verified}
-use Rattle.geo_headline.specs.Modes.{Mode, VerifyMode, StartsThreads, source_limit}
+use Rattle.geo_headline.specs.Modes.{Mode, VerifyMode, source_limit}
 use Rattle.geo_headline.specs.Traces.{TraceFault, InScript, InTrace}
 use Rattle.geo_headline.specs.Verifying.{verified}
 use Rattle.geo_model.specs.Script.{Fault, script}
@@ -11,14 +11,14 @@ use Rattle.geo_model.specs.Opening.{opening}
 use Rattle.geo_headline.specs.Outside.{Outside, ShelfView, SinkView, SourceView, DisksAreKept, OthersStay, ImagesStand}
 use Rattle.geo_model.specs.Log.{Fits}
 use Rattle.geo_model.specs.History.{KeepsHistory, RanToItsEnd}
-use Rattle.geo_headline.specs.Endings.{Ending, ReadFault, Call, CauseOf, HasLog, IsOpened, IsWhole, order_of, reported}
-use Rattle.geo_headline.specs.Headline.{CallsAreTold, FollowsMode, HaveFactSectors, ImagesStayAt, KeepsAll, KeptDisksStay, NoneAsked, LeavesOutside, LentAfter, ReadAs}
+use Rattle.geo_headline.specs.Endings.{Ending, ReadFault, Call, CauseOf, HasLog, IsOpened, IsWhole, reported}
+use Rattle.geo_headline.specs.Headline.{CallsAreTold, CallsInOrder, FollowsMode, HaveFactSectors, ImagesStayAt, KeepsAll, KeptDisksStay, NoneAsked, LeavesOutside, LentAfter, ReadAs}
 use Rattle.geo_run.specs.declared.top.Ended.{Ended}
 use Rattle.geo_run.specs.declared.finish.Finish.{Finish}
 use Rattle.geo_run.specs.declared.due.Due.TheVariants as dues
 use Rattle.geo_run.specs.declared.stop.Stop.{Stop}
 use Rattle.geo_run.specs.declared.stop.Stop.TheVariants as stops
-use Rattle.geo_run.specs.Ends.{RunsPlan, entries_in, reported_alone}
+use Rattle.geo_run.specs.Ends.{RunsPlan, entries_in}
 use Rattle.geo_run.specs.Stops.{ending_by, IsDue}
 
 -- what came behind so many bytes
@@ -67,6 +67,7 @@ pub record KeepsInside (call : Call) (mode : Mode) (plan : Plan) (ending : Endin
   pub lent : LentAfter ending call.before.shelf call.after.shelf
   pub reads : ending ≢ ReadFault → call.after.source.faults ≡ call.before.source.faults
   pub calls : CallsAreTold ending call.before.shelf call.after.shelf
+  pub in_order : CallsInOrder plan ending call.log call.before.shelf call.after.shelf
   pub others : OthersStay plan call.before.shelf call.after.shelf
   pub unasked : IfNone call.log (NoneAsked call.before.shelf call.after.shelf)
   pub sizes : IsSome call.log → HaveFactSectors plan call.facts call.before.shelf call.after.shelf
@@ -84,7 +85,6 @@ pub record Finishes (words : List (List ℕ)) (finish : Finish) (source source_a
     (shelf shelf_after : ShelfView) : Type 0 where
   pub mode : Mode
   pub plan : Plan
-  pub alone : StartsThreads mode → ⊥
   pub due : IsDue finish.due
       (reported mode (added_to source.given source_after.given) plan finish.facts.items (entries_in finish.log))
   pub keeps : (status : ℕ) (sink sink_after : SinkView)
@@ -102,17 +102,17 @@ pub record EndsEarly (finish : Finish) (stop : Stop) (before after : ShelfView) 
   pub shelf : after ≡ before
 
 -- the plan of a text was run, or the first fault of the text is told
-abbrev pub FinishesPlan : Result Plan Fault → Mode → Finish → ShelfView → ShelfView → Type 0
-FinishesPlan (Ok plan) mode finish before after =
-    RunsPlan (order_of mode) plan finish.facts.items (entries_in finish.log) (ending_by finish.due) before after
-    × IsDue finish.due (reported_alone mode plan finish.facts.items (entries_in finish.log))
-FinishesPlan (Err fault) mode finish before after =
+abbrev pub FinishesPlan : List ℕ → Result Plan Fault → Mode → Finish → ShelfView → ShelfView → Type 0
+FinishesPlan text (Ok plan) mode finish before after =
+    RunsPlan mode plan finish.facts.items (entries_in finish.log) (ending_by finish.due) before after
+    × IsDue finish.due (reported mode text plan finish.facts.items (entries_in finish.log))
+FinishesPlan text (Err fault) mode finish before after =
     EndsEarly finish (stops.NoScript fault.line fault.cause) before after
 
 -- a text was run, or memory ran out before its mesh opened
 abbrev pub FinishesText : List ℕ → Mode → Finish → ShelfView → ShelfView → Type 0
 FinishesText text mode finish before after =
-    EndsEarly finish stops.NoMemory before after ⊎ FinishesPlan (script text) mode finish before after
+    EndsEarly finish stops.NoMemory before after ⊎ FinishesPlan text (script text) mode finish before after
 
 -- Of a source
 

@@ -6,6 +6,7 @@ use Rattle.geo_base.specs.Sectors.{zero_sectors}
 use Rattle.geo_disk.specs.Disk.{DiskView}
 use Rattle.geo_disk.specs.Memory.{Memory}
 use Rattle.geo_disk.specs.declared.drive.Drive.TheVariants.{Shelved}
+use Rattle.geo_disk.specs.declared.shelf.ShelfCall.TheVariants as shelf_calls
 use Rattle.geo_disk.specs.Names.{without}
 use Rattle.geo_disk.specs.Shelf.{WhereTold, IsTakenFrom, IsGivenTo, IsAsBefore, IsOfSize, CountsCall}
 use Rattle.geo_model.specs.declared.command.DiskDecl.{DiskDecl}
@@ -38,6 +39,7 @@ pub record TakesDisk (before : ShelfView) (d : DiskDecl) (x : DriveView) (after 
   pub lent : after.lent ≡ before.lent ++ d.name ∷ []
   pub counts : SameCounts before after
   pub no_fault : after.faults ≡ before.faults
+  pub called : after.calls ≡ before.calls ++ shelf_calls.Take d.name ∷ []
 
 -- a disk in memory, of zeros, none of whose calls is to fail
 pub record IsMade (d : DiskDecl) (x : DriveView) : Type 0 where
@@ -76,7 +78,7 @@ TakeCause before d (stops.BadSize name) after =
 TakeCause before d stops.NoMemory after = ⊤
 TakeCause before d _ after = ⊥
 
--- nothing was taken of a name: all is as before, but what is counted of it
+-- nothing was taken of a name: all is as before, but that it was asked for, and what is counted of it
 pub record TakesNothing (before : ShelfView) (d : DiskDecl) (stop : Stop) (after : ShelfView) : Type 0 where
   pub cause : TakeCause before d stop after
   pub told : WhereTold IsAsBefore before.told after.told
@@ -87,6 +89,7 @@ pub record TakesNothing (before : ShelfView) (d : DiskDecl) (stop : Stop) (after
   pub takes : CountsCall (is_blamed stop) d.name before.take_faults after.take_faults
   pub gives : (name : List ℕ) → after.give_faults name ≡ before.give_faults name
   pub later : before.faults ≤ after.faults
+  pub called : after.calls ≡ before.calls ++ shelf_calls.Take d.name ∷ []
 
 -- the disk of a declaration couldn't be had
 abbrev pub OpensNoDrive : ShelfView → DiskDecl → Stop → ShelfView → DiskKind → Type 0
@@ -136,6 +139,7 @@ pub record GivesDisk (before : ShelfView) (name : List ℕ) (x : DriveView) (aft
   pub takes : (other : List ℕ) → after.take_faults other ≡ before.take_faults other
   pub gives : (other : List ℕ) → after.give_faults other ≡ before.give_faults other
   pub no_fault : after.faults ≡ before.faults
+  pub called : after.calls ≡ before.calls ++ shelf_calls.Give name ∷ []
 
 -- the disk of a name couldn't be given back: it stays lent
 pub record KeepsDisk (before : ShelfView) (name : List ℕ) (after : ShelfView) : Type 0 where
@@ -147,6 +151,7 @@ pub record KeepsDisk (before : ShelfView) (name : List ℕ) (after : ShelfView) 
   pub takes : (other : List ℕ) → after.take_faults other ≡ before.take_faults other
   pub gives : CountsCall true name before.give_faults after.give_faults
   pub rose : Rose before.faults after.faults
+  pub called : after.calls ≡ before.calls ++ shelf_calls.Give name ∷ []
 
 -- a drive is given back under its name, where it is of the shelf; kept is its name where that failed
 abbrev pub GivesDrive : ShelfView → List ℕ → DriveView → List (List ℕ) → ShelfView → DiskKind → Type 0

@@ -6,4 +6,6 @@ pub mod Lending
 pub mod Stops
 pub mod Writes
 pub mod Ends
+pub mod Runners
 pub mod Calls
+pub mod Opened

@@ -2,8 +2,10 @@
 use Rattle.std.specs.Prelude.{◌≡◌, ℕ, List, map, Option, Some, None, string_bytes}
 use Rattle.std.specs.declared.string.String.{String}
 use Rattle.std.specs.declared.alloc.Global.{Global}
-use Rattle.geo_headline.specs.Modes.{Mode, StepMode, GenMode, SweepMode, VerifyMode, Accepts, StartsThreads, IsAlone}
+use Rattle.geo_headline.specs.Modes.{Mode, StepMode, RunMode, GenMode, SweepMode, WatchMode, TraceMode, VerifyMode, Accepts, IsAlone}
 use Rattle.geo_run.specs.Numbers.{IsNumberWithin}
+use Rattle.geo_run.specs.declared.words.Threaded.{Threaded}
+use Rattle.geo_run.specs.declared.words.Threaded.TheVariants as threads
 use Rattle.geo_run.specs.declared.words.Work.{Work}
 use Rattle.geo_run.specs.declared.words.Work.TheVariants as works
 
@@ -11,9 +13,15 @@ use Rattle.geo_run.specs.declared.words.Work.TheVariants as works
 abbrev pub word_bytes : List (String Global) → List (List ℕ)
 word_bytes words = map (λ word. string_bytes word) words
 
--- the words ask for threads
-abbrev pub AskThreads : List (List ℕ) → Type 0
-AskThreads words = (mode : Mode) × StartsThreads mode × Accepts words mode
+abbrev pub mode_threaded : Threaded → Mode
+mode_threaded threads.Run = RunMode
+mode_threaded threads.Watch = WatchMode
+mode_threaded threads.Trace = TraceMode
+
+-- words that start threads ask for this work; others are for one thread
+abbrev pub AsksThreaded : List (List ℕ) → Option Threaded → Type 0
+AsksThreaded words (Some work) = Accepts words (mode_threaded work)
+AsksThreaded words None = IsAlone words
 
 abbrev pub mode_of : Work → Mode
 mode_of works.Step = StepMode

@@ -2,17 +2,23 @@
 //! read, and what is found of it is written.
 #![tactic(auto)]
 
+mod alone;
 mod due;
 mod finish;
 mod lent;
-mod plan_run;
+mod opened;
 mod read;
 mod rest;
+mod runner;
+mod script_run;
 mod source_run;
 mod stop;
+mod threaded;
 mod top;
 mod verify_run;
 mod words;
 
-pub use top::{Ended, refuse_words, run_alone, without_memory};
-pub use words::starts_threads;
+pub use geo_elev::{ApplyRefusal, Mesh};
+pub use geo_threads::{Gate, GatePlace, OpenGate};
+pub use top::{Ended, refuse_words, run, run_alone, without_memory};
+pub use words::{Threaded, asks_watch, threads_of};

@@ -1,24 +1,22 @@
-//! A mesh that goes to rest in the order of a work.
+//! A mesh that goes to rest in an order. The steps are made with seat 0; each Take is served by the drive of its disk,
+//! and its answer delivered.
 ghost use Rattle.std.specs.Prelude.{map, OnOk, IsErrOf};
 ghost use Rattle.geo_model.specs.FixedOrder.{fixed_order};
 ghost use Rattle.geo_model.specs.History.{KeepsHistory, RanToItsEnd};
 ghost use Rattle.geo_model.specs.Laws.{NoneBusy};
 ghost use Rattle.geo_model.specs.Log.{Fits};
-ghost use Rattle.geo_headline.specs.Endings.{order_of};
 ghost use Rattle.geo_headline.specs.Sweep.{sweep_order};
 ghost use Rattle.geo_elev.specs.Meshes.{opened, world_of};
 ghost use Rattle.geo_elev.specs.Drain.{DrivesFit};
 ghost use Rattle.geo_run.specs.Drives.{drive_view};
 ghost use Rattle.geo_run.specs.Rest.{Adds, RanFull};
-ghost use Rattle.geo_run.specs.Work.{mode_of};
 
-use crate::words::Work;
 use geo_disk::{Disk, Drive};
 use geo_elev::{DrainRefusal, FixedOrder, Heads, Mesh, run_to_rest, sweep_to_rest};
 use std::alloc::Global;
 
 /// Goes to rest in the fixed order.
-fn in_fixed_order<D: Disk>(
+pub fn in_fixed_order<D: Disk>(
     alloc: Global,
     mesh: &mut Mesh,
     drives: &mut [Drive<D>],
@@ -37,7 +35,7 @@ fn in_fixed_order<D: Disk>(
 }
 
 /// Goes to rest in the elevator order. Where memory for the heads is wanting, nothing is done.
-fn in_elevator_order<D: Disk>(
+pub fn in_elevator_order<D: Disk>(
     alloc: Global,
     mesh: &mut Mesh,
     drives: &mut [Drive<D>],
@@ -57,30 +55,5 @@ fn in_elevator_order<D: Disk>(
     match Heads::new(alloc, disks) {
         Ok(mut heads) => sweep_to_rest(alloc, mesh, drives, &mut heads),
         Err(_) => Err(DrainRefusal::NoMemory),
-    }
-}
-
-/// Makes the steps of the order of the work with seat 0 until the mesh is at rest; each Take is served by the drive of
-/// its disk, and its answer delivered.
-pub fn come_to_rest<D: Disk>(
-    alloc: Global,
-    mesh: &mut Mesh,
-    drives: &mut [Drive<D>],
-    work: &Work,
-) -> Result<(), DrainRefusal>
-    requires idle { NoneBusy (world_of mesh.old) }
-    requires drives { DrivesFit mesh.old (map (drive_view D.view) drives.old) }
-    ensures added { Adds (order_of (mode_of work.now)) mesh.old mesh.new
-        (map (drive_view D.view) drives.old)
-        (map (drive_view D.view) drives.new) }
-    ensures history { KeepsHistory (opened mesh.new) mesh.new.log }
-    ensures fits { Fits (opened mesh.new) mesh.new.log }
-    ensures rest { OnOk result (RanToItsEnd (opened mesh.new) mesh.new.log) }
-    ensures full { IsErrOf result DrainRefusal.LogFull
-        → RanFull (order_of (mode_of work.now)) (opened mesh.new) mesh.new.log }
-{
-    match work {
-        Work::Sweep => in_elevator_order(alloc, mesh, drives),
-        _ => in_fixed_order(alloc, mesh, drives),
     }
 }

@@ -1,55 +1,45 @@
 //! The runs of the program: of the script that the source gives, and of the one that is made from a number.
-ghost use Rattle.std.specs.Prelude.{◌<◌, ◌^◌, length};
+ghost use Rattle.std.specs.Prelude.{◌≡◌};
 ghost use Rattle.geo_model.specs.Generator.{generated};
-ghost use Rattle.geo_headline.specs.Modes.{IsAlone, IsMode, GenMode};
-ghost use Rattle.geo_run.specs.Work.{mode_of, word_bytes};
+ghost use Rattle.geo_headline.specs.Modes.{Accepts, IsAlone, IsMode, GenMode, WatchMode, source_limit};
+ghost use Rattle.geo_run.specs.Work.{mode_threaded, word_bytes};
 ghost use Rattle.geo_run.specs.Calls.{Finishes, FinishesText, FinishesSource};
 
+use crate::alone::{Generation, Step, Sweep};
 use crate::finish::{Finish, unopened};
-use crate::plan_run::run_plan;
 use crate::read::read_source;
+use crate::runner::Runner;
+use crate::script_run::run_script;
 use crate::stop::Stop;
+use crate::threaded::{Run, Trace, run_source_in_threads};
 use crate::verify_run::run_verify;
-use crate::words::{Work, work_of};
+use crate::words::{LONGEST_SCRIPT, Threaded, Work, work_of};
 use geo_disk::Shelf;
 use geo_gen::make_script;
 use geo_io::Source;
-use geo_script::{ParseRefusal, parse};
+use geo_threads::Gate;
 use std::alloc::Global;
-
-/// Runs the plan of a text.
-fn run_text<H: Shelf>(alloc: Global, text: &[u8], work: &Work, shelf: &mut H) -> Finish
-where
-    H::D: Drop,
-    requires { length text.now < 2 ^ 32 }
-    ensures { FinishesText text.now (mode_of work.now) result
-        (H.view shelf.old)
-        (H.view shelf.new) }
-{
-    match parse(alloc, text) {
-        Ok(plan) => run_plan(alloc, plan, work, shelf),
-        Err(ParseRefusal::Fault { line, cause }) => unopened(alloc, Stop::NoScript { line, cause }),
-        Err(ParseRefusal::NoMemory) => unopened(alloc, Stop::NoMemory),
-    }
-}
+use std::sync::Wait;
+use std::thread::Threads;
 
 /// Reads the source to its end, and runs its text.
-fn run_source<S: Source, H: Shelf>(
+pub fn run_source<S: Source, H: Shelf, C: Runner<H::D>>(
     alloc: Global,
     source: &mut S,
-    work: &Work,
+    runner: &C,
     shelf: &mut H,
 ) -> Finish
 where
     H::D: Drop,
-    ensures { FinishesSource (mode_of work.now)
+    requires limit { source_limit (C.mode runner.now) ≡ 4194304 }
+    ensures { FinishesSource (C.mode runner.now)
         (S.view source.old)
         (S.view source.new) result
         (H.view shelf.old)
         (H.view shelf.new) }
 {
-    match read_source(alloc, source, work.source_limit()) {
-        Ok(text) => run_text(alloc, text.bytes(), work, shelf),
+    match read_source(alloc, source, LONGEST_SCRIPT) {
+        Ok(text) => run_script(alloc, text.bytes(), runner, shelf),
         Err(stop) => unopened(alloc, stop),
     }
 }
@@ -64,7 +54,7 @@ where
         (H.view shelf.new) }
 {
     match make_script(alloc, start, count) {
-        Ok(text) => run_text(alloc, text.bytes(), &Work::Generate { start, count }, shelf),
+        Ok(text) => run_script(alloc, text.bytes(), &Generation { start, count }, shelf),
         Err(_) => unopened(alloc, Stop::NoMemory),
     }
 }
@@ -86,10 +76,36 @@ where
         (H.view shelf.new) }
 {
     match work_of(words) {
-        Some(Work::Step) => run_source(alloc, source, &Work::Step, shelf),
-        Some(Work::Sweep) => run_source(alloc, source, &Work::Sweep, shelf),
+        Some(Work::Step) => run_source(alloc, source, &Step, shelf),
+        Some(Work::Sweep) => run_source(alloc, source, &Sweep, shelf),
         Some(Work::Generate { start, count }) => run_generated(alloc, start, count, shelf),
         Some(Work::Verify) => run_verify(alloc, source),
         None => unopened(alloc, Stop::BadWords),
+    }
+}
+
+/// Runs what the words ask for in threads.
+pub fn run_threaded<R: Threads + Wait + Sync + AllocGlobal, S: Source, H: Shelf, G: Gate + Sync>(
+    rt: &R,
+    words: &[String],
+    work: Threaded,
+    source: &mut S,
+    shelf: &mut H,
+    gate: &G,
+) -> Finish
+where
+    H::D: Drop + Send,
+    requires asked { Accepts (word_bytes words.now) (mode_threaded work) }
+    requires no_watch { Accepts (word_bytes words.now) WatchMode → ⊥ }
+    ensures { Finishes (word_bytes words.now) result
+        (S.view source.old)
+        (S.view source.new)
+        (H.view shelf.old)
+        (H.view shelf.new) }
+{
+    match work {
+        Threaded::Run => run_source_in_threads(rt, gate, source, &Run, shelf),
+        Threaded::Trace => run_source_in_threads(rt, gate, source, &Trace, shelf),
+        Threaded::Watch => unreachable!(),
     }
 }

@@ -1,19 +1,24 @@
 //! The top call.
-ghost use Rattle.std.specs.Prelude.{[], codes};
+ghost use Rattle.std.specs.Prelude.{◌≡◌, [], ℕ, List, codes};
 ghost use Rattle.geo_headline.specs.Endings.{BadWords, due_text};
 ghost use Rattle.geo_headline.specs.Headline.{IsComplete};
 ghost use Rattle.geo_run.specs.Calls.{Keeps, call_of, outside_of};
-ghost use Rattle.geo_headline.specs.Modes.{IsAlone};
+ghost use Rattle.geo_headline.specs.Modes.{Accepts, IsAlone, WatchMode};
 ghost use Rattle.geo_run.specs.Work.{word_bytes};
-ghost use Rattle.geo_run.specs.Writes.{Writes};
+ghost use Rattle.geo_run.specs.Stops.{IsDue, ending_by};
+ghost use Rattle.geo_run.specs.Writes.{Writes, WritesEnding};
 
 use crate::due::{write_due, write_out_of_memory, write_usage};
 use crate::finish::Finish;
-use crate::source_run::run_words;
+use crate::source_run::{run_threaded, run_words};
+use crate::words::threads_of;
 use geo_disk::Shelf;
 use geo_io::{Sink, Source};
 use geo_log::{DiskFacts, Log};
+use geo_threads::Gate;
 use std::alloc::Global;
+use std::sync::Wait;
+use std::thread::Threads;
 
 /// How a run ended: the exit status, the log where the mesh opened, and the sizes of the disks with which it began.
 #[derive(Drop)]
@@ -53,11 +58,63 @@ where
         (K.view sink.new)
         (H.view shelf.new))) }
 {
-    let Finish { due, log, facts } = run_words(alloc, words, source, shelf);
+    let finish = run_words(alloc, words, source, shelf);
+    write_finish(alloc, finish, sink)
+}
+
+/// Writes what is due at the end of a run.
+fn write_finish<K: Sink>(alloc: Global, finish: Finish, sink: &mut K) -> Ended
+    ensures log { result.log ≡ finish.log }
+    ensures facts { result.facts ≡ finish.facts }
+    ensures writes { (reported : List ℕ) → IsDue finish.due reported
+        → WritesEnding reported (ending_by finish.due) result.status (K.view sink.old) (K.view sink.new) }
+{
+    let Finish { due, log, facts } = finish;
     Ended {
         status: write_due(alloc, &due, sink),
         log,
         facts,
+    }
+}
+
+/// All work of the program. Words that start no thread are run as `run_alone` runs them. On the word `run` the script
+/// that the source gives is run over the disks of the shelf by a thread for each of its actors and five more, and its
+/// report is written; on `trace` the same, and the trace of the run is written. The threads make the steps under one
+/// lock, as far as they come, and are joined; what they leave is made by the caller's. The gate may hold a thread at its
+/// places, for as long as it likes.
+pub fn run<R: Threads + Wait + Sync + AllocGlobal, S: Source, K: Sink, H: Shelf, G: Gate + Sync>(
+    rt: &R,
+    words: &[String],
+    source: &mut S,
+    sink: &mut K,
+    shelf: &mut H,
+    gate: &G,
+) -> Ended
+where
+    H::D: Drop + Send,
+    requires no_watch { Accepts (word_bytes words.now) WatchMode → ⊥ }
+    ensures keeps { Keeps (call_of (word_bytes words.now) result
+        (outside_of (S.view source.old)
+        (K.view sink.old)
+        (H.view shelf.old))
+        (outside_of (S.view source.new)
+        (K.view sink.new)
+        (H.view shelf.new))) }
+    ensures complete { IsComplete (call_of (word_bytes words.now) result
+        (outside_of (S.view source.old)
+        (K.view sink.old)
+        (H.view shelf.old))
+        (outside_of (S.view source.new)
+        (K.view sink.new)
+        (H.view shelf.new))) }
+{
+    let alloc = rt.alloc();
+    match threads_of(words) {
+        None => run_alone(alloc, words, source, sink, shelf),
+        Some(work) => {
+            let finish = run_threaded(rt, words, work, source, shelf, gate);
+            write_finish(alloc, finish, sink)
+        }
     }
 }
 

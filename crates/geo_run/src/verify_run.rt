@@ -7,7 +7,7 @@ ghost use Rattle.geo_run.specs.Calls.{FinishesVerified, IsFoundIn};
 use crate::finish::{Finish, unopened};
 use crate::read::read_source;
 use crate::stop::Stop;
-use crate::words::Work;
+use crate::words::LONGEST_TRACE;
 use geo_io::Source;
 use geo_verify::{VerifyRefusal, verify};
 use std::alloc::Global;
@@ -31,7 +31,7 @@ pub fn run_verify<S: Source>(alloc: Global, source: &mut S) -> Finish
         (S.view source.old)
         (S.view source.new) result shelf shelf }
 {
-    match read_source(alloc, source, Work::Verify.source_limit()) {
+    match read_source(alloc, source, LONGEST_TRACE) {
         Ok(text) => unopened(alloc, found_in(alloc, text.bytes())),
         Err(stop) => unopened(alloc, stop),
     }

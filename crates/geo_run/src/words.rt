@@ -1,8 +1,8 @@
 //! The words of the program.
-ghost use Rattle.std.specs.Prelude.{◌≡◌, ◌↔◌, [], ◌∷◌, IsTrue, codes, string_bytes};
+ghost use Rattle.std.specs.Prelude.{◌≡◌, ◌↔◌, [], ◌∷◌, IsFalse, IsTrue, codes, string_bytes};
+ghost use Rattle.geo_headline.specs.Modes.{Accepts, WatchMode};
 ghost use Rattle.geo_run.specs.Numbers.{IsNumberWithin, IsPlain};
-ghost use Rattle.geo_headline.specs.Modes.{source_limit};
-ghost use Rattle.geo_run.specs.Work.{AskThreads, AsksCount, AsksFor, mode_of, word_bytes};
+ghost use Rattle.geo_run.specs.Work.{AsksCount, AsksFor, AsksThreaded, word_bytes};
 
 /// What the words ask for.
 #[derive(Clone, Copy, Debug, PartialEq, Eq)]
@@ -18,24 +18,10 @@ pub enum Work {
 }
 
 /// The longest script, in bytes.
-const LONGEST_SCRIPT: u32 = 4_194_304;
+pub const LONGEST_SCRIPT: u32 = 4_194_304;
 
 /// The longest trace, in bytes.
-const LONGEST_TRACE: u32 = 67_108_864;
-
-impl Work {
-    /// How many bytes the source may give.
-    pub fn source_limit(&self) -> u32
-        ensures { result ≡ source_limit (mode_of self.now) }
-    {
-        match self {
-            Work::Verify => LONGEST_TRACE,
-            Work::Step => LONGEST_SCRIPT,
-            Work::Generate { .. } => LONGEST_SCRIPT,
-            Work::Sweep => LONGEST_SCRIPT,
-        }
-    }
-}
+pub const LONGEST_TRACE: u32 = 67_108_864;
 
 /// The greatest START.
 const START_LIMIT: u32 = 2_147_483_647;
@@ -127,14 +113,39 @@ fn is_only(words: &[String], only: &str) -> bool
     }
 }
 
-/// Whether the words ask for threads: whether they are the one word `run`, `watch` or `trace`.
-pub fn starts_threads(words: &[String]) -> bool
-    ensures { IsTrue result ↔ AskThreads (word_bytes words.now) }
+/// Whether the words ask to show what a watcher saw: whether they are the one word `watch`.
+pub fn asks_watch(words: &[String]) -> bool
+    ensures yes { IsTrue result → Accepts (word_bytes words.now) WatchMode }
+    ensures no { IsFalse result → Accepts (word_bytes words.now) WatchMode → ⊥ }
 {
-    let run = is_only(words, "run");
-    let watch = is_only(words, "watch");
-    let trace = is_only(words, "trace");
-    run | watch | trace
+    is_only(words, "watch")
+}
+
+/// What words ask for that start threads.
+#[derive(Clone, Copy, Debug, PartialEq, Eq)]
+pub enum Threaded {
+    /// Run the script that the source gives in threads.
+    Run,
+    /// The same, and show what a watcher saw.
+    Watch,
+    /// The same, and report the trace of the run.
+    Trace,
+}
+
+/// What the words ask for, if they start threads: if they are the one word `run`, `watch` or `trace`.
+#[tactic(auto, using(crate::proofs::Digits::asks_run, crate::proofs::Digits::asks_watch, crate::proofs::Digits::asks_trace, crate::proofs::Digits::asks_alone))]
+pub fn threads_of(words: &[String]) -> Option<Threaded>
+    ensures { AsksThreaded (word_bytes words.now) result }
+{
+    if is_only(words, "run") {
+        Some(Threaded::Run)
+    } else if is_only(words, "watch") {
+        Some(Threaded::Watch)
+    } else if is_only(words, "trace") {
+        Some(Threaded::Trace)
+    } else {
+        None
+    }
 }
 
 /// What the words ask for, if they are accepted. Words that ask for threads ask for no work.

@@ -5,7 +5,7 @@ use crate::contents::{Failures, failures_of};
 use geo_base::{Block, Calls, Name, NoMemory};
 use geo_disk::MemShelf;
 use geo_io::{MemSink, MemSource};
-use geo_run::{Ended, run_alone, starts_threads};
+use geo_run::{Ended, run_alone, threads_of};
 use std::alloc::Global;
 use std::process::Abort;
 use std::test::Fail;
@@ -105,7 +105,9 @@ fn words(alloc: Global) -> Option<Vec<String>> {
 
 // The run of the words.
 fn run_words(rt: &impl Abort, alloc: Global, words: &[String], outside: &mut Outside) -> Ended {
-    assert!(rt; !starts_threads(words));
+    let None = threads_of(words) else {
+        panic!(rt; "the words start threads")
+    };
     run_alone(
         alloc,
         words,

@@ -4,7 +4,7 @@
 
 use geo_file::FileShelf;
 use geo_io::{StdSink, StdSource};
-use geo_run::{refuse_words, run_alone, starts_threads, without_memory};
+use geo_run::{OpenGate, asks_watch, refuse_words, run, without_memory};
 use std::alloc::Global;
 use std::process::ExitCode;
 use std::rt::Env;
@@ -29,13 +29,21 @@ fn main(rt: HostRuntime) -> ExitCode {
             Vec::new(alloc)
         }
     };
-    if starts_threads(words.as_slice()) {
+    // What a watcher sees isn't shown yet.
+    if asks_watch(words.as_slice()) {
         return ExitCode::from(refuse_words(&mut sink));
     }
-    let Ok(mut shelf) = FileShelf::new(rt, alloc, ".") else {
+    let Ok(mut shelf) = FileShelf::new(&rt, alloc, ".") else {
         return ExitCode::from(without_memory(&mut sink));
     };
-    let ended = run_alone(alloc, words.as_slice(), &mut source, &mut sink, &mut shelf);
+    let ended = run(
+        &rt,
+        words.as_slice(),
+        &mut source,
+        &mut sink,
+        &mut shelf,
+        &OpenGate,
+    );
     let status = ended.status;
     // The program's memory ends with it, so the log isn't taken apart entry by entry.
     mem::forget(ended);

@@ -1,17 +1,17 @@
 -- What the words ask for.
 use Rattle.geo_run.specs.declared.words.Work.TheVariants as works
 use Rattle.geo_run.proofs.Keeping.{finishes_none, generation_finishes}
-use Rattle.geo_run.proofs.Sources.{source_finishes, verified_finishes}
+use Rattle.geo_run.proofs.Sources.{verified_finishes, work_finishes}
 use Rattle.geo_run.proofs.source_run.run_words.Goals as goal
 
 pub returns-in-Some-Step : goal.returns-in-Some-Step
 returns-in-Some-Step g c =
-    source_finishes _ works.Step c.in-Some-Step.field-0 _ _ _ _ _ tt (λ gen. gen) c.in-Some-Step.field-0-is
+    work_finishes _ works.Step c.in-Some-Step.field-0 _ _ _ _ _ tt (λ gen. gen) c.in-Some-Step.field-0-is
     c.in-Some-Step.ensures c.run_source.ensures
 
 pub returns-in-Some-Sweep : goal.returns-in-Some-Sweep
 returns-in-Some-Sweep g c =
-    source_finishes _ works.Sweep c.in-Some-Sweep.field-0 _ _ _ _ _ tt (λ gen. gen) c.in-Some-Sweep.field-0-is
+    work_finishes _ works.Sweep c.in-Some-Sweep.field-0 _ _ _ _ _ tt (λ gen. gen) c.in-Some-Sweep.field-0-is
     c.in-Some-Sweep.ensures c.run_source-in-Some-Sweep.ensures
 
 pub returns-in-Some-Generate : goal.returns-in-Some-Generate

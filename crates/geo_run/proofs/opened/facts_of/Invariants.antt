@@ -1,6 +1,6 @@
 use Rattle.std.proofs.Common.{◌≡◌, ◌+◌, ◌≤◌, length, map, take}
 use Rattle.geo_run.specs.Drives.{drive_view, size_of}
-use Rattle.geo_run.proofs.plan_run.facts_of.Given as goal
+use Rattle.geo_run.proofs.opened.facts_of.Given as goal
 
 -- the sizes of the drives so far
 abbrev pub invariant-loop-drive : goal.invariant-loop-drive

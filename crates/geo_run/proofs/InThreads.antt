@@ -1,0 +1,154 @@
+-- What threads made of a mesh, and what was made after them.
+use Rattle.std.proofs.Common.{◌≡◌, List, [], ◌++◌, Option, Some, None, Result, Err, OnOk, IsErrOf, refl, sym, subst, inl, inr, slice_get}
+use Rattle.std.proofs.lemmas.List.{append-nil}
+use Rattle.geo_model.specs.declared.step.Entry.{Entry}
+use Rattle.geo_model.specs.FixedOrder.{FollowsOrder, fixed_order}
+use Rattle.geo_model.specs.Order.{Rest}
+use Rattle.geo_headline.specs.Modes.{Mode, StepMode, RunMode, GenMode, SweepMode, WatchMode, TraceMode, VerifyMode, source_limit}
+use Rattle.geo_headline.specs.Endings.{DueIsFull, IsWhole, LogRanFull}
+use Rattle.geo_serve.specs.Served.{AreServed, IsServedAt}
+use Rattle.geo_laws_disks.specs.DriveLaws.{AreTaken}
+use Rattle.geo_laws_disks.proofs.ServedBy.{parts_serve}
+use Rattle.geo_laws_disks.proofs.Splits.{none_in}
+use Rattle.geo_elev.specs.Meshes.{IsHistory, MeshView, opened, world_of}
+use Rattle.geo_elev.specs.Drain as drain
+use Rattle.geo_elev.specs.Drain.{with_entries}
+use Rattle.geo_elev.specs.DrainRefusal.{DrainRefusal}
+use Rattle.geo_elev.specs.DrainRefusal.TheVariants as refusals
+use Rattle.geo_threads.specs.Left.{ThreadsRan}
+use Rattle.geo_threads.specs.declared.left.JobsEnd.{JobsEnd}
+use Rattle.geo_threads.specs.declared.left.JobsEnd.TheVariants as ends
+use Rattle.geo_run.specs.Drives.{DriveView}
+use Rattle.geo_run.specs.Runners.{AfterThreads, IsOfThreads, Ran, RanOrNot, ending_after}
+use Rattle.geo_run.proofs.Asked.{ran_to_rest, served_all}
+
+-- drives that served what threads did, and then what was made after them, served both
+parts_served : (m : MeshView) (added : List Entry) (xs zs ys : List DriveView) → IsHistory (with_entries m added)
+    → AreTaken added added → AreServed m.log xs zs → AreServed added zs ys → AreServed (m.log ++ added) xs ys
+parts_served m added xs zs ys h taken first second disk =
+    by (slice_get xs disk) (slice_get zs disk) (slice_get ys disk) (first disk) (second disk)
+  where
+    by : (x z y : Option DriveView) → IsServedAt m.log disk x z → IsServedAt added disk z y
+        → IsServedAt (m.log ++ added) disk x y
+    by None None None a b = tt
+    by None None (Some y) a b = absurd b
+    by None (Some z) y a b = absurd a
+    by (Some x) None y a b = absurd a
+    by (Some x) (Some z) None a b = absurd b
+    by (Some x) (Some z) (Some y) a b =
+        parts_serve m.plan m.facts h.plan h.facts (m.log ++ added) h.lawful.0 m.log added disk x z y refl taken a b
+
+-- no step was made after the threads
+none_after : (m : MeshView) → FollowsOrder fixed_order (opened m) m.log []
+none_after m earlier e split = absurd (none_in earlier e split.0 split.1)
+
+-- threads that ended idle, and what they left was made
+idle_ran : (old mid : MeshView) (xs zs ys : List DriveView) (answer : Result (Unit {0}) DrainRefusal)
+    (added : List Entry) → ThreadsRan old mid xs zs ends.Idle → IsHistory (with_entries mid added)
+    → FollowsOrder fixed_order (opened mid) mid.log added → AreTaken added added → AreServed added zs ys
+    → OnOk answer (Rest (world_of (with_entries mid added)))
+    → (IsErrOf answer refusals.LogFull → drain.RanFull fixed_order (with_entries mid added))
+    → Ran RunMode old (with_entries mid added) xs ys answer
+idle_ran old mid xs zs ys answer added t h follows taken served rest full = record {
+  plan = t.plan;
+  facts = t.facts;
+  history = h.keeps;
+  fits = h.lawful.1;
+  follows = record {
+    threads = mid.log;
+    rest = added;
+    parts = refl;
+    jobs = record { own_kind = t.own_kind; in_order = follows };
+    idle = λ whole. t.tells added h.lawful.0;
+  };
+  served = served_all (mid.log ++ added) xs ys (parts_served mid added xs zs ys h taken t.served served);
+  rest = ran_to_rest answer (with_entries mid added) h rest;
+  full = λ e. let told = full e in record { due = inl told.due; nearly = told.nearly };
+}
+
+-- threads of which a job found the log full, or lacked memory
+stopped_ran : (old mid : MeshView) (xs zs : List DriveView) (ended : JobsEnd) (refusal : DrainRefusal)
+    → ThreadsRan old mid xs zs ended
+    → (refusal ≡ refusals.LogFull → LogRanFull RunMode mid.plan (opened mid) mid.log)
+    → (IsWhole (ending_after (Err refusal)) → ⊥) → Ran RunMode old mid xs zs (Err refusal)
+stopped_ran old mid xs zs ended refusal t full not_whole = record {
+  plan = t.plan;
+  facts = t.facts;
+  history = t.history.keeps;
+  fits = t.history.lawful.1;
+  follows = record {
+    threads = mid.log;
+    rest = [];
+    parts = sym (append-nil mid.log);
+    jobs = record { own_kind = t.own_kind; in_order = none_after mid };
+    idle = λ whole. absurd (not_whole whole);
+  };
+  served = served_all mid.log xs zs t.served;
+  rest = tt;
+  full = λ e. full (same e);
+}
+  where
+    same : IsErrOf {T = Unit {0}} (Err refusal) refusals.LogFull → refusal ≡ refusals.LogFull
+    same e = cc
+
+-- what threads made of a mesh, and what was made after them
+pub threads_ran : (old mid new : MeshView) (xs zs ys : List DriveView) (ended : JobsEnd)
+    (answer : Result (Unit {0}) DrainRefusal) → ThreadsRan old mid xs zs ended
+    → AfterThreads ended mid new zs ys answer → Ran RunMode old new xs ys answer
+threads_ran old mid new xs zs ys ends.Idle answer t (runs, rest, full, history) =
+    subst (λ (m : MeshView). Ran RunMode old m xs ys answer) (sym runs.grown)
+    (idle_ran old mid xs zs ys answer runs.added t (subst IsHistory runs.grown history) runs.follows runs.taken
+    runs.served (subst (λ (m : MeshView). OnOk answer (Rest (world_of m))) runs.grown rest)
+    (λ e. subst (λ (m : MeshView). drain.RanFull fixed_order m) runs.grown (full e)))
+threads_ran old mid new xs zs ys ends.LogFull answer t (same, drives, is) =
+    subst (λ (m : MeshView). Ran RunMode old m xs ys answer) (sym same)
+    (subst (λ (ds : List DriveView). Ran RunMode old mid xs ds answer) (sym drives)
+    (subst (λ (r : Result (Unit {0}) DrainRefusal). Ran RunMode old mid xs zs r) (sym is)
+    (stopped_ran old mid xs zs ends.LogFull refusals.LogFull t
+    (λ e. record { due = inr (refl, t.tells.job); nearly = t.tells.nearly }) (λ whole. whole))))
+threads_ran old mid new xs zs ys ends.NoMemory answer t (same, drives, is) =
+    subst (λ (m : MeshView). Ran RunMode old m xs ys answer) (sym same)
+    (subst (λ (ds : List DriveView). Ran RunMode old mid xs ds answer) (sym drives)
+    (subst (λ (r : Result (Unit {0}) DrainRefusal). Ran RunMode old mid xs zs r) (sym is)
+    (stopped_ran old mid xs zs ends.NoMemory refusals.NoMemory t (λ e. cc) (λ whole. whole))))
+
+-- a trace is asked of such a run
+pub traced : (old : MeshView) (left : Option MeshView) (xs ys : List DriveView)
+    (answer : Result (Unit {0}) DrainRefusal) → RanOrNot RunMode old left xs ys answer
+    → RanOrNot TraceMode old left xs ys answer
+traced old None xs ys answer ran = ran
+traced old (Some new) xs ys answer ran = record {
+  plan = ran.plan;
+  facts = ran.facts;
+  history = ran.history;
+  fits = ran.fits;
+  follows = ran.follows;
+  served = ran.served;
+  rest = ran.rest;
+  full = λ e. let told = ran.full e in record { due = of_trace told.due; nearly = told.nearly };
+}
+  where
+    of_trace : DueIsFull RunMode new.plan (opened new) new.log → DueIsFull TraceMode new.plan (opened new) new.log
+    of_trace (inl due) = inl due
+    of_trace (inr (threads, job)) = inr (refl, job)
+
+-- so with each mode whose scripts are run so
+pub run_of_mode : (mode : Mode) (old : MeshView) (left : Option MeshView) (xs ys : List DriveView)
+    (answer : Result (Unit {0}) DrainRefusal) → IsOfThreads mode → RanOrNot RunMode old left xs ys answer
+    → RanOrNot mode old left xs ys answer
+run_of_mode RunMode old left xs ys answer is ran = ran
+run_of_mode TraceMode old left xs ys answer is ran = traced old left xs ys answer ran
+run_of_mode StepMode old left xs ys answer is ran = absurd is
+run_of_mode (GenMode s c) old left xs ys answer is ran = absurd is
+run_of_mode SweepMode old left xs ys answer is ran = absurd is
+run_of_mode WatchMode old left xs ys answer is ran = absurd is
+run_of_mode VerifyMode old left xs ys answer is ran = absurd is
+
+pub limit_of_mode : (mode : Mode) → IsOfThreads mode → 4194304 ≡ source_limit mode
+limit_of_mode RunMode is = refl
+limit_of_mode TraceMode is = refl
+limit_of_mode StepMode is = absurd is
+limit_of_mode (GenMode s c) is = absurd is
+limit_of_mode SweepMode is = absurd is
+limit_of_mode WatchMode is = absurd is
+limit_of_mode VerifyMode is = absurd is

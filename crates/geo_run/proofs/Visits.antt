@@ -1,0 +1,252 @@
+-- In which order the shelf is called.
+use Rattle.std.proofs.Common.{◌≡◌, ℕ, ◌≤◌, true, false, List, [], ◌∷◌, ◌++◌, length, map, filter, Option, None, IsSome, refl, sym, inl, inr, ◌∙◌, ap, subst, arith, append_assoc, if◌then◌else◌}
+use Rattle.std.proofs.lemmas.List.{append-nil, map-append}
+use Rattle.geo_disk.specs.declared.shelf.ShelfCall.{ShelfCall}
+use Rattle.geo_disk.specs.declared.shelf.ShelfCall.TheVariants as shelf_calls
+use Rattle.geo_model.specs.declared.command.DiskDecl.{DiskDecl}
+use Rattle.geo_model.specs.declared.command.DiskKind.{DiskKind}
+use Rattle.geo_model.specs.declared.command.DiskKind.TheVariants as disk_kinds
+use Rattle.geo_model.specs.declared.step.Entry.{Entry}
+use Rattle.geo_model.specs.World.{Plan}
+use Rattle.geo_headline.specs.Outside.{ShelfView, is_shelf, names_of_shelf, takes_of, gives_of}
+use Rattle.geo_headline.specs.Endings.{Ending, Reported, ReportedButFault, BadWords, NoScript, ReadFault, ShelfFault, NoDisk, BadSize, OutOfMemory, LogFull, TooLong, Answered, NoTrace, failed_takes, missed_by}
+use Rattle.geo_headline.specs.Headline.{CallsInOrder, IsMissedAt}
+use Rattle.geo_run.specs.Drives.{DriveView}
+use Rattle.geo_run.specs.Lending.{GivesDrive, OpensDrive, OpensDrives, OpensNoDrive, TakeCause}
+use Rattle.geo_run.specs.Stops.{ending_of}
+use Rattle.geo_run.specs.declared.stop.Stop.{Stop}
+use Rattle.geo_run.specs.declared.stop.Stop.TheVariants as stops
+use Rattle.geo_run.proofs.Taking.{shelf_names, with_shelf}
+use Rattle.geo_run.proofs.Giving.{GivesAll}
+
+-- Names
+
+-- the names of the disks of the shelf, by cases of their kind
+names_are : (ds : List DiskDecl) → names_of_shelf ds ≡ shelf_names ds
+names_are [] = refl
+names_are (d ∷ ds) = by d.kind (names_are ds)
+  where
+    by : (kind : DiskKind) → names_of_shelf ds ≡ shelf_names ds
+        → map (λ (z : DiskDecl). z.name)
+        (if is_shelf kind then d ∷ filter (λ (z : DiskDecl). is_shelf z.kind) ds
+        else filter (λ (z : DiskDecl). is_shelf z.kind) ds)
+        ≡ with_shelf kind d.name (shelf_names ds)
+    by disk_kinds.Ram e = e
+    by disk_kinds.Shelf e = ap (λ names. d.name ∷ names) e
+
+-- those before a disk, its own, and those behind it
+names_around : (front : List DiskDecl) (d : DiskDecl) (back : List DiskDecl)
+    → shelf_names (front ++ d ∷ back) ≡ shelf_names front ++ with_shelf d.kind d.name [] ++ shelf_names back
+names_around [] d back = by d.kind
+  where
+    by : (kind : DiskKind)
+        → with_shelf kind d.name (shelf_names back) ≡ [] ++ with_shelf kind d.name [] ++ shelf_names back
+    by disk_kinds.Ram = refl
+    by disk_kinds.Shelf = refl
+names_around (e ∷ front) d back = by e.kind (names_around front d back)
+  where
+    by : (kind : DiskKind)
+        → shelf_names (front ++ d ∷ back) ≡ shelf_names front ++ with_shelf d.kind d.name [] ++ shelf_names back
+        → with_shelf kind e.name (shelf_names (front ++ d ∷ back))
+        ≡ with_shelf kind e.name (shelf_names front) ++ with_shelf d.kind d.name [] ++ shelf_names back
+    by disk_kinds.Ram same = same
+    by disk_kinds.Shelf same = ap (λ names. e.name ∷ names) same
+
+-- Takes
+
+-- a take is one call, where the disk is of the shelf
+take_called : (a b : ShelfView) (d : DiskDecl) (x : DriveView) (rest : List (List ℕ)) (kind : DiskKind)
+    → OpensDrive a d x b kind → b.calls ++ takes_of rest ≡ a.calls ++ takes_of (with_shelf kind d.name rest)
+take_called a b d x rest disk_kinds.Ram h = ap (λ (v : ShelfView). v.calls ++ takes_of rest) h.1
+take_called a b d x rest disk_kinds.Shelf h =
+    ap (λ calls. calls ++ takes_of rest) h.called
+    ∙ append_assoc a.calls (shelf_calls.Take d.name ∷ []) (takes_of rest)
+
+takes_called : (a b : ShelfView) (ds : List DiskDecl) (xs : List DriveView) → OpensDrives a ds xs b
+    → b.calls ≡ a.calls ++ takes_of (shelf_names ds)
+takes_called a b [] [] h = ap (λ (v : ShelfView). v.calls) h ∙ sym (append-nil a.calls)
+takes_called a b [] (x ∷ xs) h = absurd h
+takes_called a b (d ∷ ds) [] h = absurd h
+takes_called a b (d ∷ ds) (x ∷ xs) h =
+    takes_called h.0 b ds xs h.2 ∙ take_called a h.0 d x (shelf_names ds) d.kind h.1
+
+-- so is one by which no disk was had
+stop_called : (a b : ShelfView) (d : DiskDecl) (stop : Stop) (kind : DiskKind) → OpensNoDrive a d stop b kind
+    → b.calls ≡ a.calls ++ takes_of (with_shelf kind d.name [])
+stop_called a b d stop disk_kinds.Ram h = ap (λ (v : ShelfView). v.calls) h.1 ∙ sym (append-nil a.calls)
+stop_called a b d stop disk_kinds.Shelf h = h.called
+
+-- Gives
+
+-- so is a give, whether it fails or not
+give_called : (a b : ShelfView) (n : List ℕ) (x : DriveView) (k : List (List ℕ)) (rest : List (List ℕ)) (kind : DiskKind)
+    → GivesDrive a n x k b kind → b.calls ++ gives_of rest ≡ a.calls ++ gives_of (with_shelf kind n rest)
+give_called a b n x k rest disk_kinds.Ram h = ap (λ (v : ShelfView). v.calls ++ gives_of rest) h.1
+give_called a b n x k rest disk_kinds.Shelf h =
+    elim h [ inl given ↦ one given.1.called | inr kept ↦ one kept.1.called ]
+  where
+    one : b.calls ≡ a.calls ++ shelf_calls.Give n ∷ []
+        → b.calls ++ gives_of rest ≡ a.calls ++ gives_of (with_shelf disk_kinds.Shelf n rest)
+    one called =
+        ap (λ calls. calls ++ gives_of rest) called ∙ append_assoc a.calls (shelf_calls.Give n ∷ []) (gives_of rest)
+
+gives_called : (a b : ShelfView) (ds : List DiskDecl) (xs : List DriveView) (kept : List (List ℕ))
+    → GivesAll a ds xs kept b → b.calls ≡ a.calls ++ gives_of (shelf_names ds)
+gives_called a b [] [] kept h = ap (λ (v : ShelfView). v.calls) h.1 ∙ sym (append-nil a.calls)
+gives_called a b [] (x ∷ xs) kept h = absurd h
+gives_called a b (d ∷ ds) [] kept h = absurd h
+gives_called a b (d ∷ ds) (x ∷ xs) kept h =
+    gives_called h.0 b ds xs h.2 h.5 ∙ give_called a h.0 d.name x h.1 (shelf_names ds) d.kind h.4
+
+-- takes, and then gives
+both_called : (start taken after : List ShelfCall) (tried had : List (List ℕ)) → taken ≡ start ++ takes_of tried
+    → after ≡ taken ++ gives_of had → after ≡ start ++ takes_of tried ++ gives_of had
+both_called start taken after tried had takes gives = gives ∙ ap (λ calls. calls ++ gives_of had) takes
+
+-- In order
+
+-- all disks were had, and given back
+pub all_in_order : (plan : Plan) (ending : Ending) (log : Option (List Entry)) (a m b : ShelfView)
+    (xs ys : List DriveView) (kept : List (List ℕ)) → IsMissedAt ending [] → OpensDrives a plan.disks xs m
+    → GivesAll m plan.disks ys kept b → CallsInOrder plan ending log a b
+all_in_order plan ending log a m b xs ys kept missed opens gives = record {
+  had = shelf_names plan.disks;
+  missed = [];
+  left = [];
+  names = names_are plan.disks ∙ none_more ∙ sym (append-nil (shelf_names plan.disks ++ []));
+  missed_is = missed;
+  all = λ some. sym (names_are plan.disks);
+  calls = both_called a.calls m.calls b.calls (shelf_names plan.disks ++ []) (shelf_names plan.disks)
+      (takes_called a m plan.disks xs opens ∙ ap (λ names. a.calls ++ takes_of names) none_more)
+      (gives_called m b plan.disks ys kept gives);
+}
+  where
+    none_more : shelf_names plan.disks ≡ shelf_names plan.disks ++ []
+    none_more = sym (append-nil (shelf_names plan.disks))
+
+-- the disk that couldn't be had is the one that is told
+missed_told : (a b : ShelfView) (d : DiskDecl) (stop : Stop) (kind : DiskKind) → OpensNoDrive a d stop b kind
+    → IsMissedAt (ending_of stop) (with_shelf kind d.name [])
+missed_told a b d stop disk_kinds.Ram h =
+    subst (λ (s : Stop). IsMissedAt (ending_of s) []) (sym h.0) (omega arith)
+missed_told a b d stop disk_kinds.Shelf h = by stop h.cause
+  where
+    by : (s : Stop) → TakeCause a d s b → IsMissedAt (ending_of s) (d.name ∷ [])
+    by (stops.ShelfFault name) c = ap (λ (n : List ℕ). n ∷ []) (sym c.0)
+    by (stops.NoDisk name) c = ap (λ (n : List ℕ). n ∷ []) (sym c.0)
+    by (stops.BadSize name) c = ap (λ (n : List ℕ). n ∷ []) (sym c.0)
+    by stops.NoMemory c = omega arith
+    by stops.BadWords c = absurd c
+    by (stops.NoScript line cause) c = absurd c
+    by stops.ReadFault c = absurd c
+    by stops.LogFull c = absurd c
+    by stops.TooLong c = absurd c
+    by (stops.Answered answer) c = absurd c
+    by (stops.NoTrace line) c = absurd c
+
+-- a disk couldn't be had, and those before it were given back
+pub stopped_in_order : (plan : Plan) (stop : Stop) (a m n b : ShelfView) (front : List DiskDecl) (d : DiskDecl)
+    (back : List DiskDecl) (xs ys : List DriveView) (kept : List (List ℕ)) → plan.disks ≡ front ++ d ∷ back
+    → OpensDrives a front xs m → OpensNoDrive m d stop n d.kind → GivesAll n front ys kept b
+    → CallsInOrder plan (ending_of stop) None a b
+stopped_in_order plan stop a m n b front d back xs ys kept e opens stopped gives = record {
+  had = had;
+  missed = missed;
+  left = shelf_names back;
+  names = names_are plan.disks ∙ ap (λ (ds : List DiskDecl). shelf_names ds) e ∙ names_around front d back;
+  missed_is = missed_told m n d stop d.kind stopped;
+  all = λ some. absurd (let bad : false ≡ true = some in cc);
+  calls = both_called a.calls n.calls b.calls (had ++ missed) had tried (gives_called n b front ys kept gives);
+}
+  where
+    had : List (List ℕ)
+    had = shelf_names front
+
+    missed : List (List ℕ)
+    missed = with_shelf d.kind d.name []
+
+    tried : n.calls ≡ a.calls ++ takes_of (had ++ missed)
+    tried =
+        stop_called m n d stop d.kind stopped
+        ∙ ap (λ calls. calls ++ takes_of missed) (takes_called a m front xs opens)
+        ∙ append_assoc a.calls (takes_of had) (takes_of missed)
+        ∙ ap (λ calls. a.calls ++ calls) (sym (map-append (λ (name : List ℕ). shelf_calls.Take name) had missed))
+
+-- where no name is told, none was missed
+none_missed : (ending : Ending) → missed_by ending ≡ [] → IsMissedAt ending []
+none_missed Reported e = refl
+none_missed (ReportedButFault name) e = refl
+none_missed BadWords e = refl
+none_missed (NoScript line c) e = refl
+none_missed ReadFault e = refl
+none_missed (ShelfFault name) e = sym e
+none_missed (NoDisk name) e = sym e
+none_missed (BadSize name) e = sym e
+none_missed OutOfMemory e = omega arith
+none_missed LogFull e = refl
+none_missed TooLong e = refl
+none_missed (Answered answer) e = refl
+none_missed (NoTrace line) e = refl
+
+-- the shelf wasn't called
+pub none_in_order : (plan : Plan) (ending : Ending) (log : Option (List Entry)) (a : ShelfView)
+    → missed_by ending ≡ [] → log ≡ None → CallsInOrder plan ending log a a
+none_in_order plan ending log a none_told none = record {
+  had = [];
+  missed = [];
+  left = names_of_shelf plan.disks;
+  names = refl;
+  missed_is = none_missed ending none_told;
+  all = λ some. absurd (let bad : false ≡ true = subst (λ (l : Option (List Entry)). IsSome l) none some in cc);
+  calls = sym (append-nil a.calls) ∙ sym (append-nil (a.calls ++ []));
+}
+
+-- where no disk is told to be missed, no take failed
+pub none_failed : (ending : Ending) → missed_by ending ≡ [] → failed_takes ending ≡ 0
+none_failed Reported e = refl
+none_failed (ReportedButFault name) e = refl
+none_failed BadWords e = refl
+none_failed (NoScript line c) e = refl
+none_failed ReadFault e = refl
+none_failed (ShelfFault name) e =
+    absurd (let bad : length (name ∷ []) ≡ 0 = ap (λ (ns : List (List ℕ)). length ns) e in omega (arith, bad))
+none_failed (NoDisk name) e = refl
+none_failed (BadSize name) e = refl
+none_failed OutOfMemory e = refl
+none_failed LogFull e = refl
+none_failed TooLong e = refl
+none_failed (Answered answer) e = refl
+none_failed (NoTrace line) e = refl
+
+-- so few names were missed as are told
+few : (missed told : List (List ℕ)) → missed ≡ told → length told ≤ 1 → length missed ≤ 1
+few missed told e short = let same : length missed ≡ length told = ap (λ (ns : List (List ℕ)). length ns) e in
+    omega (arith, same, short)
+
+-- whatever was missed, where memory runs out besides
+missed_at : (ending : Ending) (missed : List (List ℕ)) → IsMissedAt ending missed → IsMissedAt OutOfMemory missed
+missed_at OutOfMemory missed h = h
+missed_at Reported missed h = few missed [] h (omega arith)
+missed_at (ReportedButFault name) missed h = few missed [] h (omega arith)
+missed_at BadWords missed h = few missed [] h (omega arith)
+missed_at (NoScript line c) missed h = few missed [] h (omega arith)
+missed_at ReadFault missed h = few missed [] h (omega arith)
+missed_at (ShelfFault name) missed h = few missed (name ∷ []) h (omega arith)
+missed_at (NoDisk name) missed h = few missed (name ∷ []) h (omega arith)
+missed_at (BadSize name) missed h = few missed (name ∷ []) h (omega arith)
+missed_at LogFull missed h = few missed [] h (omega arith)
+missed_at TooLong missed h = few missed [] h (omega arith)
+missed_at (Answered answer) missed h = few missed [] h (omega arith)
+missed_at (NoTrace line) missed h = few missed [] h (omega arith)
+
+pub order_at_last : (plan : Plan) (ending : Ending) (log : Option (List Entry)) (a b : ShelfView)
+    → CallsInOrder plan ending log a b → CallsInOrder plan OutOfMemory log a b
+order_at_last plan ending log a b h = record {
+  had = h.had;
+  missed = h.missed;
+  left = h.left;
+  names = h.names;
+  missed_is = missed_at ending h.missed h.missed_is;
+  all = h.all;
+  calls = h.calls;
+}
