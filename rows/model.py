@@ -635,8 +635,9 @@ def enabled(mesh):
 class Disks:
     """What the disks of a plan hold, and how they answer."""
 
-    def __init__(self, plan):
-        self.held = [bytearray(disk.sector * disk.sectors) for disk in plan.disks]
+    def __init__(self, plan, images=()):
+        """An image holds what is given for its name; else all are zeros."""
+        self.held = [bytearray(dict(images).get(disk.name, disk.sector * disk.sectors)) for disk in plan.disks]
 
     def serve(self, disk, bio):
         held, end = self.held[disk], bio.offset + bio.size
@@ -648,13 +649,20 @@ class Disks:
 
 
 def run(plan, order, disks=None):
-    """One seat makes the steps of an order, each Take followed by its Deliver. Gives the mesh at rest, the steps as
-    (seat, step), and what the disks hold, which are of zeros where none are given."""
-    mesh, disks, heads, steps = Mesh(plan), disks or Disks(plan), [0] * len(plan.disks), []
+    """One seat makes the steps of an order. Gives the mesh at rest, the steps as (seat, step), and what the disks hold,
+    which are of zeros where none are given."""
+    mesh, disks, steps = Mesh(plan), disks or Disks(plan), []
+    finish(mesh, order, disks, steps)
+    return mesh, steps, disks.held
+
+
+def finish(mesh, order, disks, steps):
+    """Seat 0 makes and notes the steps of an order until the mesh is at rest, each Take followed by its Deliver."""
+    heads = [0] * len(mesh.plan.disks)
     while True:
         step = order(mesh, heads)
         if step is None:
-            return mesh, steps, disks.held
+            return
         due = [step]
         if step[0] == 'take':
             bio = mesh.bios[step[2]]

@@ -1,10 +1,12 @@
 """A row: a run of the program, and what it has to print and to leave.
 
 `words` has the words given to the program, one a line; `stdin` is its input, or `script` names a file of the repository
-that is; `stdout` is the exact output and `status` the exit status. `images` has the image files before the run and
-`images-after` those after it, one a line: `NAME zeros LENGTH`, or `NAME` and runs `BB*N`.
+that is; `stdout` is the exact output and `status` the exit status. Where the output isn't fixed, `stdout-pattern` has a
+regular expression for each of its lines. `images` has the image files before the run and `images-after` those after it,
+one a line: `NAME zeros LENGTH`, or `NAME` and runs `BB*N`. `then` has the words of a second run, whose input is the output
+of the first; that ends with status 0, and `stdout` and `status` are those of the second.
 """
-import collections, pathlib, subprocess, tempfile
+import collections, itertools, pathlib, re, subprocess, tempfile
 
 TOP = pathlib.Path(__file__).resolve().parent.parent
 
@@ -46,9 +48,27 @@ class Row:
         path = TOP / script.read_text().strip() if script.exists() else self.folder / 'stdin'
         return path.read_bytes()
 
+    def then(self):
+        """The words of the second run, or none."""
+        path = self.folder / 'then'
+        return path.read_text().splitlines() if path.exists() else None
+
+    def status(self):
+        return int((self.folder / 'status').read_text())
+
     def end(self):
-        """The status that is due, and what has to be printed."""
-        return int((self.folder / 'status').read_text()), (self.folder / 'stdout').read_bytes()
+        """The status that is due, and what has to be printed where that is fixed."""
+        return self.status(), (self.folder / 'stdout').read_bytes()
+
+    def difference(self, printed):
+        """The first line of what was printed that isn't what is due, or none."""
+        pattern = self.folder / 'stdout-pattern'
+        due = (pattern if pattern.exists() else self.folder / 'stdout').read_bytes()
+        fits = re.fullmatch if pattern.exists() else bytes.__eq__
+        for number, (got, wanted) in enumerate(itertools.zip_longest(printed.split(b'\n'), due.split(b'\n')), 1):
+            if got is None or wanted is None or not fits(wanted, got):
+                return f'line {number} of what was printed is {got!r}, not {wanted!r}'
+        return None
 
 
 def run(program, row, env=None):
@@ -57,7 +77,11 @@ def run(program, row, env=None):
         folder = pathlib.Path(folder)
         for name, data in row.images_before().items():
             (folder / f'{name}.img').write_bytes(data)
-        done = subprocess.run([program] + row.words(), input=row.text(), stdout=subprocess.PIPE, cwd=folder, env=env,
-                              timeout=60)
+        def ended(words, text):
+            return subprocess.run([program] + words, input=text, stdout=subprocess.PIPE, cwd=folder, env=env, timeout=60)
+
+        done = ended(row.words(), row.text())
+        if row.then() is not None and done.returncode == 0:
+            done = ended(row.then(), done.stdout)
         left = {path.stem: path.read_bytes() for path in folder.glob('*.img')}
     return Ended(done.returncode, done.stdout, left)
