@@ -9,6 +9,7 @@ use Rattle.std.proofs.lemmas.List.Elements.{All-contains}
 use Rattle.geo_base.specs.declared.request.Counts.{Counts}
 use Rattle.geo_base.specs.declared.errno.Errno.{Errno}
 use Rattle.geo_base.specs.declared.errno.Errno.TheVariants.{ENXIO, EPERM, EOVERFLOW}
+use Rattle.geo_base.specs.declared.limits.TheConstants.{MAX_ACCESS_COUNT}
 use Rattle.geo_model.specs.Words.{first_error, names_number}
 use Rattle.geo_model.specs.Topology.{Topology, Provider, Consumer, provider_at, consumer_at, providers_of, attached_to, providers_under, is_errored}
 use Rattle.geo_model.specs.Demand.{no_counts, add_counts, sum_counts, have, want, is_exclusive, fits_limit}
@@ -92,14 +93,15 @@ sum_zero_e f (y ∷ ys) x there none =
 -- counts that are stopped are within the limit just where the counts are
 not_over : (a : Counts) → is_over (cap a) ≡ false → IsAtMost a greatest_counts
 not_over a e =
-    within (nat_lt 2147483647 (min a.r 4294967295)) (nat_lt 2147483647 (min a.w 4294967295))
-    (nat_lt 2147483647 (min a.e 4294967295)) refl refl refl e
+    within (nat_lt MAX_ACCESS_COUNT (min a.r 4294967295)) (nat_lt MAX_ACCESS_COUNT (min a.w 4294967295))
+    (nat_lt MAX_ACCESS_COUNT (min a.e 4294967295)) refl refl refl e
   where
-    low : (n : ℕ) → nat_lt 2147483647 (min n 4294967295) ≡ false → n ≤ 2147483647
-    low n e = let few : min n 4294967295 ≤ 2147483647 = ltb-false 2147483647 (min n 4294967295) e in omega arith
+    low : (n : ℕ) → nat_lt MAX_ACCESS_COUNT (min n 4294967295) ≡ false → n ≤ MAX_ACCESS_COUNT
+    low n e =
+        let few : min n 4294967295 ≤ MAX_ACCESS_COUNT = ltb-false MAX_ACCESS_COUNT (min n 4294967295) e in omega arith
 
-    within : (x y z : Bool) → nat_lt 2147483647 (min a.r 4294967295) ≡ x
-        → nat_lt 2147483647 (min a.w 4294967295) ≡ y → nat_lt 2147483647 (min a.e 4294967295) ≡ z
+    within : (x y z : Bool) → nat_lt MAX_ACCESS_COUNT (min a.r 4294967295) ≡ x
+        → nat_lt MAX_ACCESS_COUNT (min a.w 4294967295) ≡ y → nat_lt MAX_ACCESS_COUNT (min a.e 4294967295) ≡ z
         → (x || (y || z)) ≡ false → IsAtMost a greatest_counts
     within true y z r w e h = absurd (cc)
     within false true z r w e h = absurd (cc)
@@ -107,17 +109,20 @@ not_over a e =
     within false false false r w e h = record { r = low a.r r; w = low a.w w; e = low a.e e }
 
 -- and past it just where they are
-is_past : (a : Counts) → is_over (cap a) ≡ true → (2147483647 < a.r) ⊎ (2147483647 < a.w) ⊎ (2147483647 < a.e)
+is_past : (a : Counts) → is_over (cap a) ≡ true
+    → (MAX_ACCESS_COUNT < a.r) ⊎ (MAX_ACCESS_COUNT < a.w) ⊎ (MAX_ACCESS_COUNT < a.e)
 is_past a e =
-    past (nat_lt 2147483647 (min a.r 4294967295)) (nat_lt 2147483647 (min a.w 4294967295))
-    (nat_lt 2147483647 (min a.e 4294967295)) refl refl refl e
+    past (nat_lt MAX_ACCESS_COUNT (min a.r 4294967295)) (nat_lt MAX_ACCESS_COUNT (min a.w 4294967295))
+    (nat_lt MAX_ACCESS_COUNT (min a.e 4294967295)) refl refl refl e
   where
-    high : (n : ℕ) → nat_lt 2147483647 (min n 4294967295) ≡ true → 2147483647 < n
-    high n e = let many : 2147483647 < min n 4294967295 = ltb-true 2147483647 (min n 4294967295) e in omega arith
+    high : (n : ℕ) → nat_lt MAX_ACCESS_COUNT (min n 4294967295) ≡ true → MAX_ACCESS_COUNT < n
+    high n e =
+        let many : MAX_ACCESS_COUNT < min n 4294967295 = ltb-true MAX_ACCESS_COUNT (min n 4294967295) e in omega arith
 
-    past : (x y z : Bool) → nat_lt 2147483647 (min a.r 4294967295) ≡ x → nat_lt 2147483647 (min a.w 4294967295) ≡ y
-        → nat_lt 2147483647 (min a.e 4294967295) ≡ z
-        → (x || (y || z)) ≡ true → (2147483647 < a.r) ⊎ (2147483647 < a.w) ⊎ (2147483647 < a.e)
+    past : (x y z : Bool) → nat_lt MAX_ACCESS_COUNT (min a.r 4294967295) ≡ x
+        → nat_lt MAX_ACCESS_COUNT (min a.w 4294967295) ≡ y
+        → nat_lt MAX_ACCESS_COUNT (min a.e 4294967295) ≡ z
+        → (x || (y || z)) ≡ true → (MAX_ACCESS_COUNT < a.r) ⊎ (MAX_ACCESS_COUNT < a.w) ⊎ (MAX_ACCESS_COUNT < a.e)
     past true y z r w e h = inl (high a.r r)
     past false true z r w e h = inr (inl (high a.w w))
     past false false true r w e h = inr (inr (high a.e e))
@@ -481,20 +486,21 @@ module _ {C : Type 0} (v : TopoView C) (p own : ℕ) (add : Counts) (granted aft
     over_stands sound fine z there r false e f = absurd (cc)
     over_stands sound fine z there r true e f =
         let same : Eoverflow z.number ≡ r = cc in
-        let past : (2147483647 < (have after u z.number).r) ⊎ (2147483647 < (have after u z.number).w)
-        ⊎ (2147483647 < (have after u z.number).e) =
+        let past : (MAX_ACCESS_COUNT < (have after u z.number).r) ⊎ (MAX_ACCESS_COUNT < (have after u z.number).w)
+        ⊎ (MAX_ACCESS_COUNT < (have after u z.number).e) =
         is_past (have after u z.number) (sym (ap is_over (totals z there)) ∙ e) in
         subst (λ q. IsVerdict (Some (Named q))) same (
           sound,
           fine,
           never (fits_limit after u) refl past,
-          subst (λ o. IsSomeAnd o (λ (x : Provider). (2147483647 < (have after u z.number).r)
-              ⊎ (2147483647 < (have after u z.number).w) ⊎ (2147483647 < (have after u z.number).e)))
+          subst (λ o. IsSomeAnd o (λ (x : Provider). (MAX_ACCESS_COUNT < (have after u z.number).r)
+              ⊎ (MAX_ACCESS_COUNT < (have after u z.number).w) ⊎ (MAX_ACCESS_COUNT < (have after u z.number).e)))
               (sym (ap (λ ys. find (λ (x : Provider). x.number == z.number) ys) ctx.providers ∙ known z there)) past,
         )
       where
-        never : (b : Bool) → fits_limit after u ≡ b → (2147483647 < (have after u z.number).r)
-            ⊎ (2147483647 < (have after u z.number).w) ⊎ (2147483647 < (have after u z.number).e) → b ≡ false
+        never : (b : Bool) → fits_limit after u ≡ b → (MAX_ACCESS_COUNT < (have after u z.number).r)
+            ⊎ (MAX_ACCESS_COUNT < (have after u z.number).w) ⊎ (MAX_ACCESS_COUNT < (have after u z.number).e)
+            → b ≡ false
         never false is past = refl
         never true is past =
             let most : IsAtMost (have after u z.number) greatest_counts =

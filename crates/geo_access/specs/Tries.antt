@@ -4,6 +4,7 @@ use Rattle.geo_base.specs.declared.request.Counts.{Counts}
 use Rattle.geo_base.specs.declared.kind.Kind.{Kind}
 use Rattle.geo_base.specs.declared.kind.Kind.TheVariants as kinds
 use Rattle.geo_base.specs.Kind.{adds_exclusive}
+use Rattle.geo_base.specs.declared.limits.TheConstants.{MAX_ACCESS_COUNT}
 use Rattle.geo_model.specs.Demand.{no_counts, add_counts, is_zero}
 use Rattle.geo_laws_counts.specs.CountWords.{more_counts}
 use Rattle.geo_laws_counts.specs.WalkWords.{cap}
@@ -13,7 +14,7 @@ use Rattle.geo_access.specs.declared.counts.Weight.{Weight}
 
 -- whether a count is above what a provider may have
 abbrev pub is_over : Counts → Bool
-is_over a = nat_lt 2147483647 a.r || (nat_lt 2147483647 a.w || nat_lt 2147483647 a.e)
+is_over a = nat_lt MAX_ACCESS_COUNT a.r || (nat_lt MAX_ACCESS_COUNT a.w || nat_lt MAX_ACCESS_COUNT a.e)
 
 -- the counts once they are moved by what is gained or lost
 abbrev pub shifted : Way → Counts → Counts → Counts

@@ -5,7 +5,7 @@ ghost use Rattle.geo_laws_counts.specs.CountWords.{more_counts};
 ghost use Rattle.geo_access.specs.Tries.{is_over, had, shifted, made_of, exclusive_where};
 ghost use Rattle.geo_laws_counts.specs.WalkWords.{cap};
 
-use geo_base::{Counts, Kind};
+use geo_base::{Counts, Kind, MAX_ACCESS_COUNT};
 
 /// Whether a demand comes or goes.
 #[derive(Clone, Copy, Debug, PartialEq, Eq)]
@@ -25,9 +25,6 @@ pub struct Weight {
 
 /// No counts.
 pub const NO_COUNTS: Counts = Counts { r: 0, w: 0, e: 0 };
-
-// The greatest count that a provider may have.
-const MOST: u32 = 2147483647;
 
 /// The sum, where no count passes the greatest number of its type.
 pub fn add(a: Counts, b: Counts) -> Counts
@@ -62,7 +59,7 @@ pub fn is_zero(a: Counts) -> bool
 pub fn is_over(a: Counts) -> bool
     ensures { result ≡ is_over a }
 {
-    a.r > MOST || (a.w > MOST || a.e > MOST)
+    a.r > MAX_ACCESS_COUNT || (a.w > MAX_ACCESS_COUNT || a.e > MAX_ACCESS_COUNT)
 }
 
 /// The counts once they are moved by what is gained or lost.

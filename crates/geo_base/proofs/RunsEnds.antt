@@ -11,6 +11,7 @@ use Rattle.geo_base.specs.declared.runs.Place.{Place}
 use Rattle.geo_base.specs.declared.runs.Place.TheVariants.{Start, High, Byte, Times}
 use Rattle.geo_base.proofs.RunsLemmas.{run, text_after, text_after-same, text_after-other, runs_text-after}
 use Rattle.geo_base.proofs.RunsReach.{hex_value-digit, last_of-many}
+use Rattle.geo_base.specs.declared.limits.TheConstants.{MAX_RUNS_BYTES}
 
 abbrev pub at_place : Place → List ℕ → Reading
 at_place place bytes = record { place = place; bytes = bytes }
@@ -57,25 +58,25 @@ read-star : (bytes : List ℕ) (v : ℕ) → read_on (Byte v) bytes 42 ≡ Some 
 unfolding read_on
 read-star bytes v = refl
 
-read-digit : (bytes : List ℕ) (v n m d : ℕ) → d < 10 → m ≡ 10 * n + d → 1 ≤ m → length bytes + m ≤ 65536
+read-digit : (bytes : List ℕ) (v n m d : ℕ) → d < 10 → m ≡ 10 * n + d → 1 ≤ m → length bytes + m ≤ MAX_RUNS_BYTES
     → read_on (Times v n) bytes (48 + d) ≡ Some (at_place (Times v m) bytes)
 unfolding read_on times_place
 read-digit bytes v n m d small e some few =
     let not_space : (48 + d == 32) ≡ false = grind (arith, nat_tests) in
     let value : 10 * n + (48 + d - 48) ≡ m = omega arith in
-    let good : ((nat_le 48 (48 + d) && nat_le (48 + d) 57) && (nat_le 1 m && nat_le (length bytes + m) 65536))
+    let good : ((nat_le 48 (48 + d) && nat_le (48 + d) 57) && (nat_le 1 m && nat_le (length bytes + m) MAX_RUNS_BYTES))
     ≡ true = grind (arith, nat_tests) in
     rw (not_space, value, good) refl
 
-read-space : (bytes : List ℕ) (v n : ℕ) → 1 ≤ n → length bytes + n < 65536
+read-space : (bytes : List ℕ) (v n : ℕ) → 1 ≤ n → length bytes + n < MAX_RUNS_BYTES
     → read_on (Times v n) bytes 32 ≡ Some (at_place Start (bytes ++ replicate n v))
 unfolding read_on ended_run
 read-space bytes v n some few =
-    let good : (nat_le 1 n && nat_lt (length bytes + n) 65536) ≡ true = grind (arith, nat_tests) in
+    let good : (nat_le 1 n && nat_lt (length bytes + n) MAX_RUNS_BYTES) ≡ true = grind (arith, nat_tests) in
     rw good refl
 
 abbrev ReadsDigits : List ℕ → ℕ → ℕ → List ℕ → Type 0
-ReadsDigits bytes v n ds = 1 ≤ n → length bytes + n ≤ 65536
+ReadsDigits bytes v n ds = 1 ≤ n → length bytes + n ≤ MAX_RUNS_BYTES
     → read_more (Some (at_place (Times v 0) bytes)) ds ≡ Some (at_place (Times v n) bytes)
 
 read-decimal : (bytes : List ℕ) (v n : ℕ) → n < 2 ^ 64 → ReadsDigits bytes v n (decimal n)
@@ -94,7 +95,8 @@ read-decimal bytes v n fits = decimal_by_steps (ReadsDigits bytes v) one more n 
         ∙ read-digit bytes v (n / 10) n (n % 10) (omega arith) (omega arith) some few
 
 -- a run is read whole
-read-run : (bytes : List ℕ) (v n : ℕ) → v < 256 → (last_of bytes == v) ≡ false → 1 ≤ n → length bytes + n ≤ 65536
+read-run : (bytes : List ℕ) (v n : ℕ) → v < 256 → (last_of bytes == v) ≡ false → 1 ≤ n
+    → length bytes + n ≤ MAX_RUNS_BYTES
     → read_more (Some (at_place Start bytes)) (run_text (run v n)) ≡ Some (at_place (Times v n) bytes)
 read-run bytes v n byte other some few =
     let ds = decimal n in
@@ -105,7 +107,7 @@ read-run bytes v n byte other some few =
 
 -- a run and the bytes after it
 read-after : (cs : List ℕ) (bytes : List ℕ) (v n : ℕ) → v < 256 → AllByRecursion (λ b. b < 256) cs
-    → (last_of bytes == v) ≡ false → 1 ≤ n → length bytes + n + length cs ≤ 65536 →
+    → (last_of bytes == v) ≡ false → 1 ≤ n → length bytes + n + length cs ≤ MAX_RUNS_BYTES →
     EndsRun (read_more (Some (at_place Start bytes)) (text_after v n cs)) ((bytes ++ replicate n v) ++ cs)
 read-after [] bytes v n byte are other some few = record {
   byte = v;
@@ -123,11 +125,11 @@ read-after (c ∷ cs) bytes v n byte are other some few =
     Whole text all = EndsRun (read_more (Some (at_place Start bytes)) text) all
 
     into : (t : Bool) → (c == v) ≡ t →
-        (1 ≤ n + 1 → length bytes + (n + 1) + length cs ≤ 65536
+        (1 ≤ n + 1 → length bytes + (n + 1) + length cs ≤ MAX_RUNS_BYTES
         → EndsRun (read_more (Some (at_place Start bytes)) (text_after v (n + 1) cs))
         ((bytes ++ replicate (n + 1) v) ++ cs)) →
         ((last_of (bytes ++ replicate n v) == c) ≡ false → 1 ≤ 1
-        → length (bytes ++ replicate n v) + 1 + length cs ≤ 65536
+        → length (bytes ++ replicate n v) + 1 + length cs ≤ MAX_RUNS_BYTES
         → EndsRun (read_more (Some (at_place Start (bytes ++ replicate n v))) (text_after c 1 cs))
         (((bytes ++ replicate n v) ++ replicate 1 c) ++ cs)) →
         EndsRun (read_more (Some (at_place Start bytes)) (text_after v n (c ∷ cs))) ((bytes ++ replicate n v)

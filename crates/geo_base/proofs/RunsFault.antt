@@ -9,6 +9,7 @@ use Rattle.geo_base.specs.declared.runs.Place.{Place}
 use Rattle.geo_base.specs.declared.runs.Place.TheVariants.{Start, High, Byte, Times}
 use Rattle.geo_base.proofs.RunsReach.{Reached, reached-begins, reached-next}
 use Rattle.geo_base.proofs.RunsEnds.{at_place, read_more, read_more-append, read_more-none, runs-end}
+use Rattle.geo_base.specs.declared.limits.TheConstants.{MAX_RUNS_BYTES}
 
 abbrev pub from_start : List ℕ → Option Reading
 from_start text = read_more (Some (at_place Start [])) text
@@ -118,7 +119,8 @@ pub all-ran : (text bytes : List ℕ) (place : Place) (i : ℕ) → length text 
 all-ran text bytes place i le e = sym (ap from_start (take_all i text le)) ∙ e
 
 -- bytes that a text can stand for are those of their text
-pub runs-of-text : (bytes : List ℕ) → 1 ≤ length bytes → length bytes ≤ 65536 → ((k : ℕ) → get_or bytes k 0 < 256)
+pub runs-of-text : (bytes : List ℕ) → 1 ≤ length bytes → length bytes ≤ MAX_RUNS_BYTES
+    → ((k : ℕ) → get_or bytes k 0 < 256)
     → IsRuns (runs_text bytes) bytes
 runs-of-text bytes some few are = record {
   spelled = refl;

@@ -10,6 +10,7 @@ use Rattle.geo_base.specs.RunsReader.{Reading, IsPlace, last_of, hex_value, high
 use Rattle.geo_base.specs.declared.runs.Place.{Place}
 use Rattle.geo_base.specs.declared.runs.Place.TheVariants.{Start, High, Byte, Times}
 use Rattle.geo_base.proofs.RunsLemmas.{run, runs_one, runs_more}
+use Rattle.geo_base.specs.declared.limits.TheConstants.{MAX_RUNS_BYTES}
 
 abbrev pub IsDigits : ℕ → Type 0
 IsDigits b = b < 256
@@ -34,13 +35,13 @@ abbrev pub Fits_place : Place → List ℕ → Type 0
 Fits_place Start bytes = Unit {0}
 Fits_place (High h) bytes = h < 16
 Fits_place (Byte v) bytes = (v < 256) × ((last_of bytes == v) ≡ false)
-Fits_place (Times v n) bytes = (v < 256) × ((last_of bytes == v) ≡ false) × (length bytes + n ≤ 65536)
+Fits_place (Times v n) bytes = (v < 256) × ((last_of bytes == v) ≡ false) × (length bytes + n ≤ MAX_RUNS_BYTES)
 
 pub record Reached (place : Place) (bytes text : List ℕ) : Type 0 where
   pub pre : List ℕ
   pub before : StandsBefore pre bytes
   pub are_bytes : All (λ b. b < 256) bytes
-  pub room : length bytes < 65536
+  pub room : length bytes < MAX_RUNS_BYTES
   pub spelled : text ≡ pre ++ begun place
   pub fits : Fits_place place bytes
 
@@ -136,7 +137,7 @@ byte-on bytes text v b r = into (b == 42) refl
         }
 
 -- a number with one digit more
-number-on : (n b : ℕ) → 48 ≤ b → b ≤ 57 → 1 ≤ 10 * n + (b - 48) → 10 * n + (b - 48) ≤ 65536
+number-on : (n b : ℕ) → 48 ≤ b → b ≤ 57 → 1 ≤ 10 * n + (b - 48) → 10 * n + (b - 48) ≤ MAX_RUNS_BYTES
     → number_so_far n ++ b ∷ [] ≡ number_so_far (10 * n + (b - 48))
 number-on n b low high some few = into (n == 0) refl ((10 * n + (b - 48)) == 0) refl
   where
@@ -161,11 +162,11 @@ times-on : (bytes text : List ℕ) (v n b : ℕ) → Reached (Times v n) bytes t
 unfolding times_place
 times-on bytes text v n b r =
     into ((nat_le 48 b && nat_le b 57)
-    && (nat_le 1 (10 * n + (b - 48)) && nat_le (length bytes + (10 * n + (b - 48))) 65536)) refl
+    && (nat_le 1 (10 * n + (b - 48)) && nat_le (length bytes + (10 * n + (b - 48))) MAX_RUNS_BYTES)) refl
   where
     into : (t : Bool)
         → ((nat_le 48 b && nat_le b 57)
-        && (nat_le 1 (10 * n + (b - 48)) && nat_le (length bytes + (10 * n + (b - 48))) 65536)) ≡ t
+        && (nat_le 1 (10 * n + (b - 48)) && nat_le (length bytes + (10 * n + (b - 48))) MAX_RUNS_BYTES)) ≡ t
         → IfSome (if t then Some (Times v (10 * n + (b - 48))) else None)
         (λ q. Reached q bytes (text ++ b ∷ []))
     into false _ = tt
@@ -173,7 +174,7 @@ times-on bytes text v n b r =
         let low : 48 ≤ b = grind (arith, nat_tests) in
         let high : b ≤ 57 = grind (arith, nat_tests) in
         let some : 1 ≤ 10 * n + (b - 48) = grind (arith, nat_tests) in
-        let few : length bytes + (10 * n + (b - 48)) ≤ 65536 = grind (arith, nat_tests) in
+        let few : length bytes + (10 * n + (b - 48)) ≤ MAX_RUNS_BYTES = grind (arith, nat_tests) in
         record {
           pre = r.pre;
           before = r.before;
@@ -216,14 +217,14 @@ after_run bytes v n = record { place = Start; bytes = bytes ++ replicate n v }
 space-on : (bytes text : List ℕ) (v n : ℕ) → Reached (Times v n) bytes text
     → IfSome (ended_run bytes v n) (λ x. Reached x.place x.bytes (text ++ 32 ∷ []))
 unfolding ended_run
-space-on bytes text v n r = into (nat_le 1 n && nat_lt (length bytes + n) 65536) refl
+space-on bytes text v n r = into (nat_le 1 n && nat_lt (length bytes + n) MAX_RUNS_BYTES) refl
   where
-    into : (t : Bool) → (nat_le 1 n && nat_lt (length bytes + n) 65536) ≡ t
+    into : (t : Bool) → (nat_le 1 n && nat_lt (length bytes + n) MAX_RUNS_BYTES) ≡ t
         → IfSome (if t then Some (after_run bytes v n) else None) (λ x. Reached x.place x.bytes (text ++ 32 ∷ []))
     into false _ = tt
     into true e =
         let some : 1 ≤ n = grind (arith, nat_tests) in
-        let few : length bytes + n < 65536 = grind (arith, nat_tests) in
+        let few : length bytes + n < MAX_RUNS_BYTES = grind (arith, nat_tests) in
         record {
           pre = r.pre ++ (run_text (run v n) ++ 32 ∷ []);
           before = stands-on r.pre bytes v n some r.fits.1 r.before;
@@ -270,7 +271,7 @@ reached-next place next bytes more text b r e =
 
 -- a run behind what stands before it
 whole : (pre bytes : List ℕ) (v n : ℕ) → StandsBefore pre bytes → All (λ b. b < 256) bytes → v < 256
-    → (last_of bytes == v) ≡ false → 1 ≤ n → length bytes + n ≤ 65536
+    → (last_of bytes == v) ≡ false → 1 ≤ n → length bytes + n ≤ MAX_RUNS_BYTES
     → IsRuns (pre ++ run_text (run v n)) (bytes ++ replicate n v)
 whole pre bytes v zero before are_bytes byte other some few = absurd (omega arith)
 whole pre bytes v (suc m) before are_bytes byte other some few =
@@ -295,7 +296,7 @@ reached-runs v n bytes text some r =
 -- what is read begins a text of runs, if this rest ends a run
 ended : (place : Place) (bytes text : List ℕ) → Reached place bytes text → (v n : ℕ) (rest : List ℕ)
     → begun place ++ rest ≡ run_text (run v n) → v < 256 → (last_of bytes == v) ≡ false → 1 ≤ n
-    → length bytes + n ≤ 65536 → BeginsRuns text
+    → length bytes + n ≤ MAX_RUNS_BYTES → BeginsRuns text
 ended place bytes text r v n rest e byte other some few =
     let P : List ℕ → Type 0 = λ t. IsRuns t (bytes ++ replicate n v) in (
       rest,

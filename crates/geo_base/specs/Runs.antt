@@ -3,6 +3,7 @@ use Rattle.std.specs.Prelude.{◌≡◌, ℕ, ◌+◌, ◌/◌, ◌%◌, ◌<◌
 use Rattle.std.specs.List.{join_with_byte}
 use Rattle.geo_base.specs.declared.runs.RunsRefusal.{RunsRefusal}
 use Rattle.geo_base.specs.declared.runs.RunsRefusal.TheVariants.{At, NoMemory}
+use Rattle.geo_base.specs.declared.limits.TheConstants.{MAX_RUNS_BYTES}
 
 -- a run: a byte, and how many times it stands
 pub record ByteRun : Type 0 where
@@ -34,11 +35,11 @@ run_text x = hex_digit (x.byte / 16) ∷ (hex_digit (x.byte % 16) ∷ (codes "*"
 unfoldable pub runs_text : List ℕ → List ℕ
 runs_text bytes = join_with_byte 32 (map run_text (runs_of bytes))
 
--- the text is that of these bytes, 1 to 65,536 of them
+-- the text is that of these bytes, some and no more than the limit
 pub record IsRuns (text bytes : List ℕ) : Type 0 where
   pub spelled : text ≡ runs_text bytes
   pub some_byte : 1 ≤ length bytes
-  pub not_long : length bytes ≤ 65536
+  pub not_long : length bytes ≤ MAX_RUNS_BYTES
   pub are_bytes : All (λ b. b < 256) bytes
 
 -- the text begins a text of runs

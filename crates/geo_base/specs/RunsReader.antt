@@ -2,6 +2,7 @@
 use Rattle.std.specs.Prelude.{ℕ, ◌+◌, ◌-◌, ◌*◌, ◌==◌, ◌&&◌, ◌<◌, nat_lt, nat_le, List, ◌++◌, length, replicate, slice_index_or, Option, Some, None, if◌then◌else◌}
 use Rattle.geo_base.specs.declared.runs.Place.{Place}
 use Rattle.geo_base.specs.declared.runs.Place.TheVariants.{Start, High, Byte, Times}
+use Rattle.geo_base.specs.declared.limits.TheConstants.{MAX_RUNS_BYTES}
 
 -- where reading stands, and the bytes of the runs that ended
 pub record Reading : Type 0 where
@@ -44,7 +45,7 @@ star_place byte b = if b == 42 then Some (Times byte 0) else None
 unfoldable pub times_place : List ℕ → ℕ → ℕ → ℕ → Option Place
 times_place bytes byte times b =
     if (nat_le 48 b && nat_le b 57)
-    && (nat_le 1 (10 * times + (b - 48)) && nat_le (length bytes + (10 * times + (b - 48))) 65536)
+    && (nat_le 1 (10 * times + (b - 48)) && nat_le (length bytes + (10 * times + (b - 48))) MAX_RUNS_BYTES)
     then Some (Times byte (10 * times + (b - 48)))
     else None
 
@@ -56,7 +57,7 @@ inside_run bytes (Some place) = Some (record { place = place; bytes = bytes })
 -- behind the space after a run, where a byte more may stand
 unfoldable pub ended_run : List ℕ → ℕ → ℕ → Option Reading
 ended_run bytes byte times =
-    if nat_le 1 times && nat_lt (length bytes + times) 65536
+    if nat_le 1 times && nat_lt (length bytes + times) MAX_RUNS_BYTES
     then Some (record { place = Start; bytes = bytes ++ replicate times byte })
     else None
 

@@ -16,7 +16,7 @@ pub enum DeclineCause {
     Version,
     /// A record whose name isn't one.
     BadName,
-    /// A record whose count isn't 1 to 16, or whose place isn't below it.
+    /// A record whose count isn't 1 to `MAX_COMPONENTS`, or whose place isn't below it.
     Place,
     /// A record of a stripe whose stripe size doesn't fit.
     Size,
@@ -28,7 +28,7 @@ pub enum DeclineCause {
     Loop,
     /// A link that leads past the media.
     Far,
-    /// A chain of more than 32 links.
+    /// A chain of more than `MAX_LINKS` links.
     Long,
 }
 

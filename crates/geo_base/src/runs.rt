@@ -4,11 +4,9 @@ ghost use Rattle.geo_base.specs.Runs.{hex_digit, run_text, runs_text, IsRuns, Is
 ghost use Rattle.geo_base.specs.RunsReader.{IsPlace, last_of, hex_value, high_place, byte_place, times_place, ended_run, read_on};
 
 use crate::block::{Block, NoMemory};
+use crate::limits::MAX_RUNS_BYTES;
 use std::alloc::Global;
 use thiserror::Error;
-
-/// As many bytes as a text of runs may stand for.
-const MOST: usize = 65_536;
 
 /// Why a text of runs isn't read.
 #[derive(Clone, Copy, Debug, PartialEq, Eq, Error)]
@@ -48,10 +46,10 @@ fn push_run(alloc: Global, text: &mut Vec<u8>, byte: u8, times: u32) -> Result<(
     Ok(())
 }
 
-/// The one text of 1 to 65,536 bytes.
+/// The one text of 1 to `MAX_RUNS_BYTES` bytes.
 pub fn runs_text(alloc: Global, bytes: &[u8]) -> Result<Block, NoMemory>
     requires some_byte { 1 ≤ length bytes.now }
-    requires not_long { length bytes.now ≤ 65536 }
+    requires not_long { length bytes.now ≤ MAX_RUNS_BYTES }
     ensures { IfOk result (λ block. block ≡ runs_text bytes.now) }
 {
     let mut text: Vec<u8> = Vec::new(alloc);
@@ -138,7 +136,7 @@ fn times_place(bytes: &[u8], byte: u8, times: u32, b: u8) -> Option<Place>
         return None;
     }
     let more = times as usize * 10 + (b - b'0') as usize;
-    if 1 <= more && more <= MOST && bytes.len() <= MOST - more {
+    if 1 <= more && more <= MAX_RUNS_BYTES && bytes.len() <= MAX_RUNS_BYTES - more {
         Some(Place::Times(byte, more as u32))
     } else {
         None
@@ -154,7 +152,7 @@ fn end_run(bytes: &mut Vec<u8>, byte: u8, times: u32) -> Result<Option<Place>, N
         ≡ Some (record { place = place; bytes = bytes.new.items }))) }
 {
     let times = times as usize;
-    if times < 1 || MOST <= times || MOST - times <= bytes.len() {
+    if times < 1 || MAX_RUNS_BYTES <= times || MAX_RUNS_BYTES - times <= bytes.len() {
         return Ok(None);
     }
     push_bytes(bytes, byte, times)?;
@@ -163,7 +161,7 @@ fn end_run(bytes: &mut Vec<u8>, byte: u8, times: u32) -> Result<Option<Place>, N
 
 /// The byte stands so many times more behind the others.
 fn push_bytes(bytes: &mut Vec<u8>, byte: u8, times: usize) -> Result<(), NoMemory>
-    requires { times + length bytes.old.items ≤ 65536 }
+    requires { times + length bytes.old.items ≤ MAX_RUNS_BYTES }
     ensures { OnOk result (bytes.new.items ≡ bytes.old.items ++ replicate times byte) }
 {
     bytes.resize(bytes.len() + times, byte)?;
@@ -223,10 +221,10 @@ pub fn runs_have_one_reading(text: &[u8], bytes: &[u8], others: &[u8])
     ensures { bytes.now ≡ others.now }
 {}
 
-/// The text of 1 to 65,536 bytes is one of runs, and stands for them alone: what reads it gives them back.
+/// The text of 1 to `MAX_RUNS_BYTES` bytes is one of runs, and stands for them alone: what reads it gives them back.
 pub fn runs_are_read_back(bytes: &[u8])
     requires some_byte { 1 ≤ length bytes.now }
-    requires not_long { length bytes.now ≤ 65536 }
+    requires not_long { length bytes.now ≤ MAX_RUNS_BYTES }
     ensures read { IsRuns (runs_text bytes.now) bytes.now }
     ensures alone { (others : List ℕ) → IsRuns (runs_text bytes.now) others → others ≡ bytes.now }
 {}

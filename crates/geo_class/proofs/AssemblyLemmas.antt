@@ -1,8 +1,9 @@
 -- Places that are free, and sizes that providers may have.
-use Rattle.std.proofs.Common.{◌≡◌, ℕ, zero, suc, ◌*◌, ◌/◌, ◌^◌, ◌<◌, ◌≤◌, Bool, true, false, ◌||◌, not, List, [], ◌∷◌, ◌++◌, length, Option, Some, None, sum, refl, ap, sym, ◌∙◌, arith}
+use Rattle.std.proofs.Common.{◌≡◌, ℕ, zero, suc, ◌*◌, ◌/◌, ◌<◌, ◌≤◌, Bool, true, false, ◌||◌, not, List, [], ◌∷◌, ◌++◌, length, Option, Some, None, sum, refl, ap, sym, ◌∙◌, arith}
 use Rattle.std.specs.Prelude.{is_none, is_some, if◌then◌else◌}
 use Rattle.std.specs.List.{list_all, list_any}
 use Rattle.std.proofs.lemmas.Bool.Decides.{nat_tests}
+use Rattle.geo_base.specs.declared.limits.TheConstants.{MAX_MEDIA_BYTES}
 use Rattle.geo_model.specs.Acceptance.{is_size, smallest}
 use Rattle.geo_class.specs.Assembly.{size_of}
 use Rattle.geo_class.specs.Places.{IsStriped}
@@ -29,7 +30,7 @@ pub size_is : (n : ℕ) → is_some (size_of n) ≡ is_size n
 size_is n = some-if (is_size n) n
 
 -- such a size has its bounds
-size-bounds : (n : ℕ) → is_size n ≡ true → (1 ≤ n) × (n ≤ 2 ^ 60)
+size-bounds : (n : ℕ) → is_size n ≡ true → (1 ≤ n) × (n ≤ MAX_MEDIA_BYTES)
 size-bounds n so = (grind (arith, nat_tests), grind (arith, nat_tests))
 
 -- where no place is free, what can stand has a size that a provider may have
@@ -41,7 +42,7 @@ stands-sized places n can none =
 
 pub concat_fits : {X : Type 0} (places : List (Option X)) (sizes : List ℕ)
     → (not (list_all is_some places) || is_size (sum sizes)) ≡ true → list_any is_none places ≡ false
-    → sum sizes ≤ 2 ^ 60
+    → sum sizes ≤ MAX_MEDIA_BYTES
 concat_fits places sizes can none = (size-bounds (sum sizes) (stands-sized places (sum sizes) can none)).1
 
 -- strips of no byte make no size
@@ -56,7 +57,7 @@ pub stripe_fits : {X : Type 0} (places : List (Option X)) (stripe : ℕ) (sizes 
     → list_any is_none places ≡ false → IsStriped stripe sizes
 stripe_fits places stripe sizes can none =
     let size : ℕ = length sizes * ((smallest sizes / stripe) * stripe) in
-    let bounds : (1 ≤ size) × (size ≤ 2 ^ 60) = size-bounds size (stands-sized places size can none) in
+    let bounds : (1 ≤ size) × (size ≤ MAX_MEDIA_BYTES) = size-bounds size (stands-sized places size can none) in
     record {
       some_byte = some-strip (length sizes) (smallest sizes) stripe bounds.0;
       fits = bounds.1;

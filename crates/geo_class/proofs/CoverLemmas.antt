@@ -1,9 +1,10 @@
 -- Providers whose offsets have places are covered by the maps of their geoms.
-use Rattle.std.proofs.Common.{◌≡◌, ℕ, ◌+◌, ◌-◌, ◌*◌, ◌^◌, ◌<◌, ◌≤◌, Bool, true, false, List, [], ◌∷◌, Option, Some, None, sum, refl, arith}
+use Rattle.std.proofs.Common.{◌≡◌, ℕ, ◌+◌, ◌-◌, ◌*◌, ◌<◌, ◌≤◌, Bool, true, false, List, [], ◌∷◌, Option, Some, None, sum, refl, arith}
 use Rattle.std.specs.Prelude.{nat_lt, IfSome, IsSomeAnd, if◌then◌else◌}
 use Rattle.std.specs.Option.{option_map}
 use Rattle.std.proofs.lemmas.List.Sums.{sum_by-cons}
 use Rattle.std.proofs.lemmas.Bool.Decides.{nat_tests}
+use Rattle.geo_base.specs.declared.limits.TheConstants.{MAX_MEDIA_BYTES}
 use Rattle.geo_model.specs.declared.class.EbrPart.{EbrPart}
 use Rattle.geo_model.specs.declared.class.Slice.{Slice}
 use Rattle.geo_model.specs.Place.{Spot, concat_spot, slice_at, part_at}
@@ -14,24 +15,25 @@ use Rattle.geo_class.specs.Cover.{WhatLiesIsCovered}
 abbrev at_first : ℕ → Spot
 at_first o = record { component = 0; offset = o }
 
--- the last offset of a slice that lies before 2 ^ 60 tells its end, and so does that of a partition
+-- the last offset of a slice that lies before MAX_MEDIA_BYTES tells its end, and so does that of a partition
 slice-end : (slice : Option Slice) (size : ℕ) → 1 ≤ size
-    → IsSomeAnd (option_map (λ (s : Slice). at_first (s.first * 512 + (size - 1))) slice) (λ spot. spot.offset < 2 ^ 60)
-    → IfSome slice (λ s. s.first * 512 + size ≤ 2 ^ 60)
+    → IsSomeAnd (option_map (λ (s : Slice). at_first (s.first * 512 + (size - 1))) slice)
+    (λ spot. spot.offset < MAX_MEDIA_BYTES)
+    → IfSome slice (λ s. s.first * 512 + size ≤ MAX_MEDIA_BYTES)
 slice-end (Some s) size some before = omega (arith, some, before)
 slice-end None size some before = tt
 
 part-end : (part : Option EbrPart) (size : ℕ) → 1 ≤ size
     → IsSomeAnd (option_map (λ (s : EbrPart). at_first (s.first * 512 + (size - 1))) part)
-    (λ spot. spot.offset < 2 ^ 60)
-    → IfSome part (λ s. s.first * 512 + size ≤ 2 ^ 60)
+    (λ spot. spot.offset < MAX_MEDIA_BYTES)
+    → IfSome part (λ s. s.first * 512 + size ≤ MAX_MEDIA_BYTES)
 part-end (Some s) size some before = omega (arith, some, before)
 part-end None size some before = tt
 
 -- an offset that has a place in components one behind the other is below their sum
 concat-step : (k o size rest : ℕ) (below : Bool) (spot : Option Spot) → nat_lt o size ≡ below
-    → (IsSomeAnd spot (λ x. x.offset < 2 ^ 60) → o - size < rest)
-    → IsSomeAnd (if below then Some (record { component = k; offset = o }) else spot) (λ x. x.offset < 2 ^ 60)
+    → (IsSomeAnd spot (λ x. x.offset < MAX_MEDIA_BYTES) → o - size < rest)
+    → IsSomeAnd (if below then Some (record { component = k; offset = o }) else spot) (λ x. x.offset < MAX_MEDIA_BYTES)
     → o < size + rest
 concat-step k o size rest true spot inside later placed =
     let low : o < size = grind (arith, nat_tests) in
@@ -42,7 +44,7 @@ concat-step k o size rest false spot beyond later placed =
     omega (arith, high, left)
 
 concat-inside : (k : ℕ) (sizes : List ℕ) (o : ℕ)
-    → IsSomeAnd (concat_spot k sizes o) (λ x. x.offset < 2 ^ 60) → o < sum sizes
+    → IsSomeAnd (concat_spot k sizes o) (λ x. x.offset < MAX_MEDIA_BYTES) → o < sum sizes
 concat-inside k [] o never = absurd never
 concat-inside k (size ∷ sizes) o placed =
     let below : o < size + sum sizes =
@@ -58,12 +60,12 @@ what_lies_is_covered (Mbr below slices) name size some lies whole long =
 what_lies_is_covered (Ebr below parts) name size some lies whole long =
     part-end (part_at parts name) size some (lies (size - 1) (omega (arith, some)))
 what_lies_is_covered (Label below) name size some lies whole long =
-    let last : size - 1 < 2 ^ 60 = lies (size - 1) (omega (arith, some)) in
+    let last : size - 1 < MAX_MEDIA_BYTES = lies (size - 1) (omega (arith, some)) in
     omega (arith, some, last)
 what_lies_is_covered (Concat id places sizes) name size some lies whole long =
     let last : size - 1 < sum sizes = concat-inside 0 sizes (size - 1) (lies (size - 1) (omega (arith, some))) in
     (whole, omega (arith, some, last))
 what_lies_is_covered (Stripe id stripe places sizes) name size some lies whole long = (whole, long)
 what_lies_is_covered (Nop below offset fail) name size some lies whole long =
-    let last : offset + (size - 1) < 2 ^ 60 = lies (size - 1) (omega (arith, some)) in
+    let last : offset + (size - 1) < MAX_MEDIA_BYTES = lies (size - 1) (omega (arith, some)) in
     omega (arith, some, last)

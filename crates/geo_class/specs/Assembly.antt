@@ -1,6 +1,7 @@
 -- Assemblies whose places are filled one after another.
-use Rattle.std.specs.Prelude.{ℕ, ◌+◌, ◌<◌, ◌≤◌, ◌^◌, Bool, not, ◌||◌, List, length, sum, Option, Some, None, is_some, if◌then◌else◌}
+use Rattle.std.specs.Prelude.{ℕ, ◌+◌, ◌<◌, ◌≤◌, Bool, not, ◌||◌, List, length, sum, Option, Some, None, is_some, if◌then◌else◌}
 use Rattle.std.specs.List.{list_all}
+use Rattle.geo_base.specs.declared.limits.TheConstants.{MAX_COMPONENTS, MAX_MEDIA_BYTES}
 use Rattle.geo_model.specs.Acceptance.{is_size, joined_size, places_of}
 use Rattle.geo_model.specs.World.{Config, Concat, Nop}
 
@@ -18,8 +19,8 @@ standing config = if can_stand config then Some config else None
 
 -- a concat with room for a component of a size more
 pub record HasRoom (sizes : List ℕ) (size : ℕ) : Type 0 where
-  pub few : length sizes < 16
-  pub fits : sum sizes + size ≤ 2 ^ 60
+  pub few : length sizes < MAX_COMPONENTS
+  pub fits : sum sizes + size ≤ MAX_MEDIA_BYTES
 
 abbrev pub CanGrow : Config → ℕ → Type 0
 CanGrow (Concat id places sizes) size = HasRoom sizes size

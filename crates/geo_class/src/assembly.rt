@@ -9,7 +9,7 @@ ghost use Rattle.geo_class.specs.Assembly.{CanGrow, size_of, standing};
 use crate::config::{Config, Layout};
 use crate::places::Places;
 use crate::sizes::{concat_size, stripe_size};
-use geo_base::{ConsId, NoMemory};
+use geo_base::{ConsId, MAX_COMPONENTS, NoMemory};
 use geo_concat::ConcatRecord;
 use geo_stripe::StripeRecord;
 use std::alloc::Global;
@@ -57,7 +57,7 @@ impl Config {
     /// The assembly that a record of a concat names, while all its places are free.
     pub fn empty_concat(alloc: Global, found: &ConcatRecord) -> Result<Config, NoMemory>
         requires some { 1 ≤ found.now.count }
-        requires few { found.now.count ≤ 16 }
+        requires few { found.now.count ≤ MAX_COMPONENTS }
         ensures { IfOk result (λ config. config ≡ empty_concat found.now) }
     {
         let places = Places::free(alloc, usize::from(found.count))?;
@@ -67,7 +67,7 @@ impl Config {
     /// The assembly that a record of a stripe names, while all its places are free.
     pub fn empty_stripe(alloc: Global, found: &StripeRecord) -> Result<Config, NoMemory>
         requires some { 1 ≤ found.now.count }
-        requires few { found.now.count ≤ 16 }
+        requires few { found.now.count ≤ MAX_COMPONENTS }
         ensures { IfOk result (λ config. config ≡ empty_stripe found.now) }
     {
         let places = Places::free(alloc, usize::from(found.count))?;

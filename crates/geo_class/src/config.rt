@@ -1,5 +1,5 @@
 //! What a geom needs to place an offset, by its class.
-ghost use Rattle.std.specs.Prelude.{◌≡◌, ◌≤◌, ◌^◌, ◌==◌, false, true, None, Some, is_none, sum, IfOk, if◌then◌else◌};
+ghost use Rattle.std.specs.Prelude.{◌≡◌, ◌≤◌, ◌==◌, false, true, None, Some, is_none, sum, IfOk, if◌then◌else◌};
 ghost use Rattle.std.specs.List.{list_any};
 ghost use Rattle.std.specs.Option.{option_to_list};
 ghost use Rattle.geo_model.specs.Place.{component, components, disk_of};
@@ -10,7 +10,7 @@ ghost use Rattle.geo_class.specs.Places.{ArePlaces, IsStriped};
 
 use crate::places::Places;
 use crate::sizes::smallest;
-use geo_base::{ConsId, NoMemory};
+use geo_base::{ConsId, MAX_LINKS, MAX_MEDIA_BYTES, NoMemory};
 use geo_concat::ConcatMap;
 use geo_ebr::EbrPart;
 use geo_mbr::Slice;
@@ -31,7 +31,7 @@ pub enum Layout {
     },
     Ebr {
         below: Option<ConsId>,
-        parts: [Option<EbrPart>; 32],
+        parts: [Option<EbrPart>; MAX_LINKS],
     },
     Label {
         below: Option<ConsId>,
@@ -92,7 +92,7 @@ fn one_below(alloc: Global, below: Option<ConsId>) -> Result<Vec<ConsId>, NoMemo
 
 /// The map of a concat whose places are all filled.
 fn concat_map(places: &Places, sector: u32) -> Option<ConcatMap>
-    requires { list_any is_none places.now.consumers ≡ false → sum places.now.sizes ≤ 2 ^ 60 }
+    requires { list_any is_none places.now.consumers ≡ false → sum places.now.sizes ≤ MAX_MEDIA_BYTES }
     ensures { IsConcatMap places.now result }
 {
     if places.has_free() {
@@ -142,7 +142,7 @@ impl Config {
     }
 
     /// The partitions of a chain, in the order of its links, over the provider to which `below` is attached.
-    pub fn ebr(below: Option<ConsId>, parts: [Option<EbrPart>; 32]) -> Config
+    pub fn ebr(below: Option<ConsId>, parts: [Option<EbrPart>; MAX_LINKS]) -> Config
         ensures { result ≡ Ebr below parts }
     {
         Config {
@@ -162,7 +162,7 @@ impl Config {
     /// The places of a concat, whose components have sectors of `sector` bytes. A complete one has a size that a
     /// provider may have.
     pub(crate) fn concat_of(id: Option<u32>, places: Places, sector: u32) -> Config
-        requires { list_any is_none places.consumers ≡ false → sum places.sizes ≤ 2 ^ 60 }
+        requires { list_any is_none places.consumers ≡ false → sum places.sizes ≤ MAX_MEDIA_BYTES }
         ensures { result ≡ Concat id places.consumers places.sizes }
     {
         let map = concat_map(&places, sector);
@@ -226,7 +226,7 @@ impl Config {
         sector: u32,
     ) -> Config
         requires places { ArePlaces consumers.items sizes.items }
-        requires fits { list_any is_none consumers.items ≡ false → sum sizes.items ≤ 2 ^ 60 }
+        requires fits { list_any is_none consumers.items ≡ false → sum sizes.items ≤ MAX_MEDIA_BYTES }
         ensures { result ≡ Concat id consumers.items sizes.items }
     {
         Config::concat_of(id, Places::new(consumers, sizes), sector)

@@ -4,7 +4,7 @@ ghost use Rattle.std.specs.List.{list_all, list_any};
 ghost use Rattle.std.specs.Option.{option_flatten, option_to_list};
 ghost use Rattle.geo_class.specs.Places.{ArePlaces};
 
-use geo_base::{ConsId, NoMemory};
+use geo_base::{ConsId, MAX_COMPONENTS, NoMemory};
 use std::alloc::Global;
 use std::marker::Model;
 
@@ -40,7 +40,7 @@ impl Places {
     /// The sizes of the components.
     pub fn sizes(&self) -> &[u64]
         ensures sizes { result.now ≡ self.now.sizes }
-        ensures few { length result.now ≤ 16 }
+        ensures few { length result.now ≤ MAX_COMPONENTS }
     {
         self.cells.as_slice()
     }
@@ -75,7 +75,7 @@ impl Places {
 
     /// So many places, all free.
     pub fn free(alloc: Global, count: usize) -> Result<Places, NoMemory>
-        requires { count ≤ 16 }
+        requires { count ≤ MAX_COMPONENTS }
         ensures { IfOk result (λ p. p ≡ record { consumers = replicate count None; sizes = replicate count 0 }) }
     {
         Ok(Places {
@@ -109,7 +109,7 @@ impl Places {
 
     /// The same places, and one more behind them, filled by a consumer that has a component of this size.
     pub fn with_more(&self, alloc: Global, consumer: ConsId, size: u64) -> Result<Places, NoMemory>
-        requires { length self.now.sizes < 16 }
+        requires { length self.now.sizes < MAX_COMPONENTS }
         ensures { IfOk result (λ p. p
             ≡ record { consumers = self.now.consumers ++ Some consumer ∷ []; sizes = self.now.sizes ++ size ∷ [] }) }
     {

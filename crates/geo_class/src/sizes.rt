@@ -1,10 +1,9 @@
 //! The sizes of assemblies.
-ghost use Rattle.std.specs.Prelude.{◌≡◌, ◌*◌, ◌/◌, ◌^◌, ◌≤◌, length, nat_le, None, Some, sum, if◌then◌else◌};
+ghost use Rattle.std.specs.Prelude.{◌≡◌, ◌*◌, ◌/◌, ◌≤◌, length, nat_le, None, Some, sum, if◌then◌else◌};
 ghost use Rattle.geo_model.specs.Acceptance.{smallest};
 ghost use Rattle.geo_class.specs.Assembly.{size_of};
 
-/// The greatest size of a provider.
-const LIMIT: u64 = 1 << 60;
+use geo_base::{MAX_COMPONENTS, MAX_MEDIA_BYTES};
 
 /// The smallest of the sizes, 0 where there are none.
 pub fn smallest(sizes: &[u64]) -> u64
@@ -19,12 +18,12 @@ pub fn smallest(sizes: &[u64]) -> u64
 
 /// The sum of the sizes, where it is at most the greatest size.
 fn total(sizes: &[u64]) -> Option<u64>
-    ensures { result ≡ (if nat_le (sum sizes.now) (2 ^ 60) then Some (sum sizes.now) else None) }
+    ensures { result ≡ (if nat_le (sum sizes.now) MAX_MEDIA_BYTES then Some (sum sizes.now) else None) }
 {
     match sizes {
         [] => Some(0),
         [size, rest @ ..] => match total(rest) {
-            Some(others) if *size <= LIMIT - others => Some(*size + others),
+            Some(others) if *size <= MAX_MEDIA_BYTES - others => Some(*size + others),
             _ => None,
         },
     }
@@ -44,7 +43,7 @@ pub fn concat_size(sizes: &[u64]) -> Option<u64>
 /// The size of a provider whose strips of `stripe` bytes go to components of these sizes in turn, as far as the
 /// smallest goes. None where no provider may have it: it is 0, or above 2^60.
 pub fn stripe_size(stripe: u32, sizes: &[u64]) -> Option<u64>
-    requires { length sizes.now ≤ 16 }
+    requires { length sizes.now ≤ MAX_COMPONENTS }
     ensures { result ≡ size_of (length sizes.now * ((smallest sizes.now / stripe) * stripe)) }
 {
     if stripe == 0 {
@@ -53,7 +52,7 @@ pub fn stripe_size(stripe: u32, sizes: &[u64]) -> Option<u64>
     let stripe = u64::from(stripe);
     let whole = smallest(sizes) / stripe * stripe;
     let size = sizes.len() as u128 * u128::from(whole);
-    if size < 1 || size > u128::from(LIMIT) {
+    if size < 1 || size > u128::from(MAX_MEDIA_BYTES) {
         return None;
     }
     Some(size as u64)

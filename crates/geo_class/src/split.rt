@@ -1,5 +1,5 @@
 //! How a range of a provider is cut, by the address map of its class.
-ghost use Rattle.std.specs.Prelude.{◌≡◌, ◌≢◌, ◌+◌, ◌-◌, ◌*◌, ◌^◌, ◌<◌, ◌≤◌, [], ◌∷◌, ◌++◌, None, map, min, sum, IfOk, OnOk, IfSome, IsSomeAnd, if◌then◌else◌};
+ghost use Rattle.std.specs.Prelude.{◌≡◌, ◌≢◌, ◌+◌, ◌-◌, ◌*◌, ◌<◌, ◌≤◌, [], ◌∷◌, ◌++◌, None, map, min, sum, IfOk, OnOk, IfSome, IsSomeAnd, if◌then◌else◌};
 ghost use Rattle.std.specs.List.{last_or};
 ghost use Rattle.std.specs.Option.{option_map_or, option_to_list};
 ghost use Rattle.geo_model.specs.Bios.{empty_piece};
@@ -12,7 +12,7 @@ ghost use Rattle.geo_class.specs.Targets.{consumers_for};
 ghost use Rattle.geo_class.specs.Split.{Covers, provider_of};
 
 use crate::config::{Config, Layout};
-use geo_base::{ConsId, Name, NoMemory};
+use geo_base::{ConsId, MAX_LINKS, MAX_MEDIA_BYTES, Name, NoMemory};
 use geo_concat::ConcatMap;
 use geo_ebr::EbrPart;
 use geo_label::LabelMap;
@@ -102,7 +102,7 @@ fn slice_at(slices: &[Option<Slice>; 4], name: &Name) -> Option<Slice>
 }
 
 /// The partition of a provider of an EBR geom.
-fn part_at(parts: &[Option<EbrPart>; 32], name: &Name) -> Option<EbrPart>
+fn part_at(parts: &[Option<EbrPart>; MAX_LINKS], name: &Name) -> Option<EbrPart>
     ensures { result ≡ part_at parts.now name.now }
 {
     parts
@@ -115,7 +115,7 @@ fn part_at(parts: &[Option<EbrPart>; 32], name: &Name) -> Option<EbrPart>
 fn split_window(alloc: Global, start: u64, media: &Media, span: Span) -> Result<PieceList, NoMemory>
     requires some_byte { 0 < span.len }
     requires inside { span.offset + span.len ≤ media.now.size }
-    requires covered { start + media.now.size ≤ 2 ^ 60 }
+    requires covered { start + media.now.size ≤ MAX_MEDIA_BYTES }
     ensures { IfOk result (λ list. list.items ≡ cut span.offset span.len (window start media.now.size ∷ [])) }
 {
     Window::new(start, media.size, media.sector).split(alloc, span)
@@ -130,7 +130,8 @@ fn split_slice(
 ) -> Result<PieceList, NoMemory>
     requires some_byte { 0 < span.len }
     requires inside { span.offset + span.len ≤ media.now.size }
-    requires covered { IfSome (slice_at slices.now media.now.name) (λ s. s.first * 512 + media.now.size ≤ 2 ^ 60) }
+    requires covered { IfSome (slice_at slices.now media.now.name)
+        (λ s. s.first * 512 + media.now.size ≤ MAX_MEDIA_BYTES) }
     ensures { IfOk result (λ list. list.items ≡ cut span.offset span.len
         (option_map_or (λ s. window (s.first * 512) media.now.size ∷ []) (slice_at slices.now media.now.name) [])) }
 {
@@ -143,13 +144,14 @@ fn split_slice(
 /// The pieces of a range of a logical partition.
 fn split_part(
     alloc: Global,
-    parts: &[Option<EbrPart>; 32],
+    parts: &[Option<EbrPart>; MAX_LINKS],
     media: &Media,
     span: Span,
 ) -> Result<PieceList, NoMemory>
     requires some_byte { 0 < span.len }
     requires inside { span.offset + span.len ≤ media.now.size }
-    requires covered { IfSome (part_at parts.now media.now.name) (λ s. s.first * 512 + media.now.size ≤ 2 ^ 60) }
+    requires covered { IfSome (part_at parts.now media.now.name)
+        (λ s. s.first * 512 + media.now.size ≤ MAX_MEDIA_BYTES) }
     ensures { IfOk result (λ list. list.items ≡ cut span.offset span.len
         (option_map_or (λ s. window (s.first * 512) media.now.size ∷ []) (part_at parts.now media.now.name) [])) }
 {

@@ -1,5 +1,5 @@
 -- What a concat and a stripe ask, where nothing refuses them.
-use Rattle.std.specs.Prelude.{◌≡◌, ℕ, zero, suc, ◌+◌, ◌-◌, ◌*◌, ◌/◌, ◌%◌, ◌^◌, ◌≤◌, ◌==◌, nat_le, nat_lt, Bool, true, false, not, ◌||◌, List, [], ◌∷◌, ◌++◌, length, map, filter_map, sum, Option, Some, None, All, is_none, option_and_then, if◌then◌else◌}
+use Rattle.std.specs.Prelude.{◌≡◌, ℕ, zero, suc, ◌+◌, ◌-◌, ◌*◌, ◌/◌, ◌%◌, ◌≤◌, ◌==◌, nat_le, nat_lt, Bool, true, false, not, ◌||◌, List, [], ◌∷◌, ◌++◌, length, map, filter_map, sum, Option, Some, None, All, is_none, option_and_then, if◌then◌else◌}
 use Rattle.std.specs.List.{list_any, range_with_len, AllByRecursion}
 use Rattle.std.proofs.Common.{refl, sym, ◌∙◌, ap, subst, arith, inl}
 use Rattle.std.proofs.lemmas.Bool.{and_from, le-leb}
@@ -10,6 +10,7 @@ use Rattle.geo_base.specs.Sectors.{IsSectorSize}
 use Rattle.geo_base.specs.declared.errno.Errno.{Errno}
 use Rattle.geo_base.specs.declared.kind.Kind.{Kind}
 use Rattle.geo_base.specs.declared.kind.Kind.TheVariants as kinds
+use Rattle.geo_base.specs.declared.limits.TheConstants.{MAX_COMPONENTS, MAX_MEDIA_BYTES, MAX_STRIPE_BYTES}
 use Rattle.geo_model.specs.declared.command.LineCommand.{LineCommand}
 use Rattle.geo_model.specs.declared.step.Entry.{Entry}
 use Rattle.geo_model.specs.declared.step.Outcome.{Outcome}
@@ -19,8 +20,7 @@ use Rattle.geo_model.specs.Words.{first_error}
 use Rattle.geo_model.specs.Names.{concat_name, stripe_name}
 use Rattle.geo_model.specs.Topology.{Topology, Provider, provider_at, find_provider, is_name_taken}
 use Rattle.geo_model.specs.World.{World, Config, Concat, Stripe}
-use Rattle.geo_model.specs.Acceptance.{is_size, joined_size, size_limit, smallest}
-use Rattle.geo_model.specs.Requests.{request_limit}
+use Rattle.geo_model.specs.Acceptance.{is_size, joined_size, smallest}
 use Rattle.geo_model.specs.GeomCommands.{concat_config, found_providers, is_invalid_stripe, joined_tests, new_places, sector_of, stripe_config, with_made, do_concat, do_stripe}
 use Rattle.geo_model.specs.HandleCommands.{answer}
 use Rattle.geo_model.specs.Fitting.{Firm}
@@ -53,10 +53,10 @@ told-size n m told = by (is_size n) told
     by false never = absurd (cc)
 
 -- one that a provider may have is told
-pub size-told : (n : ℕ) → 1 ≤ n → n ≤ 2 ^ 60 → size_of n ≡ None → ⊥
+pub size-told : (n : ℕ) → 1 ≤ n → n ≤ MAX_MEDIA_BYTES → size_of n ≡ None → ⊥
 size-told n some limited none =
     let fits : is_size n ≡ true =
-    and_from (nat_le 1 n) (nat_le n size_limit) (le-leb 1 n some) (le-leb n size_limit limited) in
+    and_from (nat_le 1 n) (nat_le n MAX_MEDIA_BYTES) (le-leb 1 n some) (le-leb n MAX_MEDIA_BYTES limited) in
     let never : Some n ≡ None = rw fits at none in absurd (cc)
 
 -- strips of no bytes make none
@@ -111,7 +111,7 @@ module _ (t : Topology Config) (ps : List Provider) (below : List Below) (is : b
 
   -- whether a stripe size is bad
   pub below-stripe : (stripe : ℕ) → is_bad_stripe stripe below ≡ is_invalid_stripe stripe ps
-  below-stripe stripe = ap (λ n. not (stripe % n == 0) || nat_lt request_limit stripe) below-sector
+  below-stripe stripe = ap (λ n. not (stripe % n == 0) || nat_lt MAX_STRIPE_BYTES stripe) below-sector
 
   -- the consumers of its components
   pub below-places : map (λ c. Some c) (range_with_len t.next_consumer (length below)) ≡ new_places t ps
@@ -124,7 +124,7 @@ pub record CanAssemble (w : World) (ps : List Provider) (full : List ℕ) (confi
   pub fits : JoinFits w ps full config
   pub size : is_provider_size (joined_size config) (sector_of ps) ≡ true
 
-module _ (s : State) (firm : IsFirm s) (names : List (List ℕ)) (few : length names ≤ 16) where
+module _ (s : State) (firm : IsFirm s) (names : List (List ℕ)) (few : length names ≤ MAX_COMPONENTS) where
   -- the world, its graph, and the providers of the names
   abbrev w : World
   w = world firm.1.0 firm.0 s
@@ -136,14 +136,14 @@ module _ (s : State) (firm : IsFirm s) (names : List (List ℕ)) (few : length n
   ps = found_providers t names
 
   -- at most 16
-  pub few-named : length ps ≤ 16
+  pub few-named : length ps ≤ MAX_COMPONENTS
   few-named =
       let fewer = few-found (λ (name : List ℕ). option_and_then (provider_at t) (find_provider t name)) names in
       omega (arith, fewer, few)
 
   -- so are their sizes
-  pub sizes-few : length (whole_sizes ps) ≤ 16
-  sizes-few = subst (λ n. n ≤ 16) (sym (length-map ps (λ (p : Provider). p.size))) few-named
+  pub sizes-few : length (whole_sizes ps) ≤ MAX_COMPONENTS
+  sizes-few = subst (λ n. n ≤ MAX_COMPONENTS) (sym (length-map ps (λ (p : Provider). p.size))) few-named
 
   -- the sector size of the first is one
   pub found-sector : IsSectorSize (sector_of ps)
@@ -206,15 +206,15 @@ module _ (s : State) (firm : IsFirm s) (names : List (List ℕ)) (few : length n
           ap (λ (cs : List (Option ℕ)). length cs) places_are
           ∙ length-map-range_with_len (λ c. Some c) t.next_consumer (length ps)
           ∙ sym (ap (λ (ns : List ℕ). length ns) sizes_are ∙ length-map ps (λ (p : Provider). p.size));
-      few = subst (λ n. n ≤ 16)
+      few = subst (λ n. n ≤ MAX_COMPONENTS)
           (sym (ap (λ (ns : List ℕ). length ns) sizes_are ∙ length-map ps (λ (p : Provider). p.size))) few-named;
     }
 
     -- a concat that fits
     pub concat-placed : (full : List ℕ) → CanAssemble w ps full (concat_config t ps)
-        → list_any is_none consumers ≡ false → sum sizes ≤ 2 ^ 60
+        → list_any is_none consumers ≡ false → sum sizes ≤ MAX_MEDIA_BYTES
     concat-placed full can none_free =
-        subst (λ (ns : List ℕ). sum ns ≤ 2 ^ 60) (sym sizes_are) can.fits.limited
+        subst (λ (ns : List ℕ). sum ns ≤ MAX_MEDIA_BYTES) (sym sizes_are) can.fits.limited
 
     -- a stripe that fits
     pub stripe-placed : (full : List ℕ) (stripe : ℕ) → CanAssemble w ps full (stripe_config t stripe ps)

@@ -1,5 +1,5 @@
 -- The answers of commands that make a geom, from what their bodies know.
-use Rattle.std.specs.Prelude.{◌≡◌, ℕ, ◌+◌, ◌^◌, ◌≤◌, ◌<◌, ◌==◌, ◌%◌, nat_lt, max, Bool, true, false, not, ◌||◌, List, [], ◌∷◌, ◌++◌, length, map, Option, Some, None, All, Contains, IsSomeAnd, option_and_then}
+use Rattle.std.specs.Prelude.{◌≡◌, ℕ, ◌+◌, ◌≤◌, ◌<◌, ◌==◌, ◌%◌, nat_lt, max, Bool, true, false, not, ◌||◌, List, [], ◌∷◌, ◌++◌, length, map, Option, Some, None, All, Contains, IsSomeAnd, option_and_then}
 use Rattle.std.specs.List.{AllByRecursion, list_any, list_all}
 use Rattle.std.proofs.Common.{refl, sym, ◌∙◌, ap, subst, arith}
 use Rattle.std.proofs.lemmas.Bool.{or_parts, and_parts, not-false, ltb-false, leb-true}
@@ -10,6 +10,7 @@ use Rattle.geo_base.specs.declared.errno.Errno.{Errno}
 use Rattle.geo_base.specs.declared.errno.Errno.TheVariants.{ENOENT, EEXIST, ENXIO, EINVAL, EDEEP}
 use Rattle.geo_base.specs.declared.kind.Kind.{Kind}
 use Rattle.geo_base.specs.declared.kind.Kind.TheVariants as kinds
+use Rattle.geo_base.specs.declared.limits.TheConstants.{MAX_MEDIA_BYTES, MAX_RANK}
 use Rattle.geo_model.specs.declared.command.LineCommand.{LineCommand}
 use Rattle.geo_model.specs.declared.step.Entry.{Entry}
 use Rattle.geo_model.specs.declared.step.Outcome.{Outcome}
@@ -17,8 +18,8 @@ use Rattle.geo_model.specs.declared.step.Outcome.TheVariants as outcomes
 use Rattle.geo_model.specs.declared.step.Reply.TheVariants as replies
 use Rattle.geo_model.specs.Words.{first_error, largest}
 use Rattle.geo_model.specs.Topology.{Topology, Provider, provider_at, find_provider, is_name_taken}
-use Rattle.geo_model.specs.Rank.{rank, rank_limit}
-use Rattle.geo_model.specs.Acceptance.{joined_size, is_size, size_limit}
+use Rattle.geo_model.specs.Rank.{rank}
+use Rattle.geo_model.specs.Acceptance.{joined_size, is_size}
 use Rattle.geo_model.specs.GeomCommands.{build, do_insert, do_nop, found_providers, header_disk, insert_tests, is_invalid_joined, is_invalid_nop, joined_tests, nop_config, nop_tests, rank_over, sector_of, stand, with_geom_at, with_made}
 use Rattle.geo_model.specs.HandleCommands.{answer}
 use Rattle.geo_model.specs.Fitting.{Firm}
@@ -70,24 +71,24 @@ of-found o p P is fact = subst (λ q. IsSomeAnd q P) (sym is) fact
 pub can-stand : (t : Topology Config) (ps : List Provider)
     → AllByRecursion (λ (p : Provider). provider_at t p.number ≡ Some p) ps
     → list_any (λ (p : Provider). p.errored) ps ≡ false
-    → largest (map (λ (p : Provider). rank t p.geom) ps) < rank_limit
+    → largest (map (λ (p : Provider). rank t p.geom) ps) < MAX_RANK
     → AllByRecursion (CanStandOn t) (map (λ (p : Provider). p.number) ps)
 can-stand t [] found none low = tt
 can-stand t (p ∷ ps) found none low =
     let parts = or_parts p.errored (list_any (λ (x : Provider). x.errored) ps) none in
-    let here : max (rank t p.geom) (largest (map (λ (x : Provider). rank t x.geom) ps)) < rank_limit = low in
-    let mine : rank t p.geom < rank_limit = omega (arith, here) in
-    let rest : largest (map (λ (x : Provider). rank t x.geom) ps) < rank_limit = omega (arith, here) in (
-      of-found (provider_at t p.number) p (λ (x : Provider). (x.errored ≡ false) × (rank t x.geom < rank_limit))
+    let here : max (rank t p.geom) (largest (map (λ (x : Provider). rank t x.geom) ps)) < MAX_RANK = low in
+    let mine : rank t p.geom < MAX_RANK = omega (arith, here) in
+    let rest : largest (map (λ (x : Provider). rank t x.geom) ps) < MAX_RANK = omega (arith, here) in (
+      of-found (provider_at t p.number) p (λ (x : Provider). (x.errored ≡ false) × (rank t x.geom < MAX_RANK))
           found.0 (parts.0, mine),
       can-stand t ps found.1 parts.1 rest,
     )
 
 -- a rank over some providers that isn't above the limit
-pub low-below : (t : Topology Config) (ps : List Provider) → nat_lt rank_limit (rank_over t ps) ≡ false
-    → largest (map (λ (p : Provider). rank t p.geom) ps) < rank_limit
+pub low-below : (t : Topology Config) (ps : List Provider) → nat_lt MAX_RANK (rank_over t ps) ≡ false
+    → largest (map (λ (p : Provider). rank t p.geom) ps) < MAX_RANK
 low-below t ps low =
-    let most : rank_over t ps ≤ rank_limit = ltb-false rank_limit (rank_over t ps) low in omega (arith, most)
+    let most : rank_over t ps ≤ MAX_RANK = ltb-false MAX_RANK (rank_over t ps) low in omega (arith, most)
 
 -- providers that were found by names are found by their numbers
 pub named-found : (w : World) (names : List (List ℕ))
@@ -233,12 +234,12 @@ pub nop-fits : (w : World) → Firm w → (p : Provider) (name : List ℕ) (offs
 nop-fits w firm p name offset size fail found none =
     let a = none_refused p.errored ENXIO ((is_name_taken w.topology name, EEXIST)
     ∷ (is_invalid_nop p name offset size, EINVAL)
-    ∷ (nat_lt rank_limit (rank_over w.topology (p ∷ [])), EDEEP) ∷ []) (sym none) in
+    ∷ (nat_lt MAX_RANK (rank_over w.topology (p ∷ [])), EDEEP) ∷ []) (sym none) in
     let b = none_refused (is_name_taken w.topology name) EEXIST ((is_invalid_nop p name offset size, EINVAL)
-    ∷ (nat_lt rank_limit (rank_over w.topology (p ∷ [])), EDEEP) ∷ []) a.1 in
+    ∷ (nat_lt MAX_RANK (rank_over w.topology (p ∷ [])), EDEEP) ∷ []) a.1 in
     let d = none_refused (is_invalid_nop p name offset size) EINVAL
-    ((nat_lt rank_limit (rank_over w.topology (p ∷ [])), EDEEP) ∷ []) b.1 in
-    let e = none_refused (nat_lt rank_limit (rank_over w.topology (p ∷ []))) EDEEP [] d.1 in
+    ((nat_lt MAX_RANK (rank_over w.topology (p ∷ [])), EDEEP) ∷ []) b.1 in
+    let e = none_refused (nat_lt MAX_RANK (rank_over w.topology (p ∷ []))) EDEEP [] d.1 in
     let f = or_parts (size == 0) (not (offset % p.sector == 0) || (not (size % p.sector == 0)
     || (nat_lt p.size (offset + size) || not (is_name name)))) d.0 in
     let g = or_parts (not (offset % p.sector == 0)) (not (size % p.sector == 0)
@@ -262,14 +263,14 @@ pub record JoinFits (w : World) (ps : List Provider) (full : List ℕ) (config :
   pub stands : All (CanStandOn w.topology) (map (λ (p : Provider). p.number) ps)
   pub free : is_name_taken w.topology full ≡ false
   pub some : 1 ≤ joined_size config
-  pub limited : joined_size config ≤ 2 ^ 60
+  pub limited : joined_size config ≤ MAX_MEDIA_BYTES
 
 pub join-fits : (w : World) (ps : List Provider) (full : List ℕ) (config : Config) (wanted : ℕ) (bad : Bool)
     → AllByRecursion (λ (p : Provider). provider_at w.topology p.number ≡ Some p) ps
     → None ≡ first_error (joined_tests w.topology full config wanted ps bad) → JoinFits w ps full config
 join-fits w ps full config wanted bad found none =
     let wrong : Bool = bad || is_invalid_joined config ps in
-    let deep : Bool = nat_lt rank_limit (rank_over w.topology ps) in
+    let deep : Bool = nat_lt MAX_RANK (rank_over w.topology ps) in
     let a = none_refused (is_name_taken w.topology full) EEXIST ((not (length ps == wanted), ENOENT)
     ∷ (list_any (λ (p : Provider). p.errored) ps, ENXIO) ∷ (wrong, EINVAL) ∷ (deep, EDEEP) ∷ []) (sym none) in
     let b = none_refused (not (length ps == wanted)) ENOENT
@@ -286,5 +287,5 @@ join-fits w ps full config wanted bad found none =
           (can-stand w.topology ps found c.0 (low-below w.topology ps e.0));
       free = a.0;
       some = leb-true 1 (joined_size config) h.0;
-      limited = leb-true (joined_size config) size_limit h.1;
+      limited = leb-true (joined_size config) MAX_MEDIA_BYTES h.1;
     }

@@ -1,11 +1,12 @@
 -- A concat that may grow can hold the size more, by what a firm world keeps of its places.
-use Rattle.std.specs.Prelude.{◌≡◌, ◌≢◌, ℕ, ◌+◌, ◌<◌, ◌≤◌, ◌^◌, ◌==◌, true, false, length, map, flat_map, sum, All, AllPairs, Contains, IsSome, IsSomeAnd, is_none}
+use Rattle.std.specs.Prelude.{◌≡◌, ◌≢◌, ℕ, ◌+◌, ◌<◌, ◌≤◌, ◌==◌, true, false, length, map, flat_map, sum, All, AllPairs, Contains, IsSome, IsSomeAnd, is_none}
 use Rattle.std.specs.List.{AllZip, list_any}
 use Rattle.std.specs.Option.{option_to_list}
 use Rattle.std.proofs.Common.{inl, sym, ◌∙◌, ap, subst, arith}
 use Rattle.std.proofs.lemmas.Bool.{false_from_ne_true, eq-eqb}
 use Rattle.std.proofs.lemmas.List.{length-map}
 use Rattle.std.proofs.lemmas.List.Elements.{All-contains}
+use Rattle.geo_base.specs.declared.limits.TheConstants.{MAX_COMPONENTS, MAX_MEDIA_BYTES}
 use Rattle.geo_model.specs.Topology.{Topology, Consumer, Provider, consumer_at, consumers_of, providers_of}
 use Rattle.geo_model.specs.Place.{components}
 use Rattle.geo_model.specs.Acceptance.{joined_size, places_of}
@@ -87,7 +88,7 @@ module _ (w : World) (x : Growing) (firm : Firm w) (is : IsStanding w.topology x
       omega arith
 
   -- and it can get one more
-  pub can-grow : (size : ℕ) → length (consumers_of t n) < 16 → x.provider.size + size ≤ 2 ^ 60
+  pub can-grow : (size : ℕ) → length (consumers_of t n) < MAX_COMPONENTS → x.provider.size + size ≤ MAX_MEDIA_BYTES
       → CanGrow x.geom.config size
   can-grow size short fits =
       let many = few in

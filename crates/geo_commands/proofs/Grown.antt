@@ -5,11 +5,12 @@ use Rattle.std.specs.Option.{option_map}
 use Rattle.std.proofs.Common.{refl, sym, ◌∙◌, ap, subst, arith}
 use Rattle.std.proofs.lemmas.List.{length-append, length-map}
 use Rattle.std.proofs.lemmas.List.Elements.{recursion_from_All}
+use Rattle.geo_base.specs.declared.limits.TheConstants.{MAX_RANK}
 use Rattle.geo_model.specs.declared.command.LineCommand.{LineCommand}
 use Rattle.geo_model.specs.declared.step.Entry.{Entry}
 use Rattle.geo_model.specs.Words.{is_granted_kind}
 use Rattle.geo_model.specs.Topology.{Topology, Provider, Consumer, provider_at}
-use Rattle.geo_model.specs.Rank.{rank, rank_limit}
+use Rattle.geo_model.specs.Rank.{rank}
 use Rattle.geo_model.specs.Place.{disk_of}
 use Rattle.geo_model.specs.World.{Config}
 use Rattle.geo_model.specs.WorldEvents.{with_queued}
@@ -92,7 +93,7 @@ fresh-from s kept sound (p ∷ ps) n past = (
 -- what a new consumer can be attached to is there
 stands-there : (t : Topology Config) (p : ℕ) → CanStandOn t p → IsSome (provider_at t p)
 stands-there t p stands =
-    there (λ (x : Provider). (x.errored ≡ false) × (rank t x.geom < rank_limit)) (provider_at t p) stands
+    there (λ (x : Provider). (x.errored ≡ false) × (rank t x.geom < MAX_RANK)) (provider_at t p) stands
   where
     there : (P : Provider → Type 0) (o : Option Provider) → IsSomeAnd o P → IsSome o
     there P None never = absurd never

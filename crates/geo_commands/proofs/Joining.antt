@@ -10,11 +10,12 @@ use Rattle.std.proofs.lemmas.List.{length-map}
 use Rattle.geo_base.specs.Name.{is_name, name_of}
 use Rattle.geo_base.specs.declared.errno.Errno.{Errno}
 use Rattle.geo_base.specs.declared.errno.Errno.TheVariants as errnos
+use Rattle.geo_base.specs.declared.limits.TheConstants.{MAX_RANK}
 use Rattle.geo_model.specs.Words.{largest, same_name}
 use Rattle.geo_model.specs.Topology.{Topology, Geom, Provider, geom_at, provider_at, is_name_taken}
 use Rattle.geo_mesh.specs.Graph.{IsSoundGraph}
 use Rattle.geo_laws_graph.proofs.Members.{find-Contains}
-use Rattle.geo_model.specs.Rank.{rank, rank_limit}
+use Rattle.geo_model.specs.Rank.{rank}
 use Rattle.geo_model.specs.World.{Config}
 use Rattle.geo_model.specs.Acceptance.{joined_size, is_size}
 use Rattle.geo_model.specs.GeomCommands.{sector_of, rank_over, is_invalid_joined, joined_tests}
@@ -101,7 +102,7 @@ not_taken t bytes all none = nobody_has bytes none t.providers
 -- The tests
 
 -- one more than a rank is above the limit just where the rank isn't below it
-pub deeper : (n : ℕ) → nat_lt rank_limit (1 + n) ≡ nat_le 32 n
+pub deeper : (n : ℕ) → nat_lt MAX_RANK (1 + n) ≡ nat_le MAX_RANK n
 deeper n = grind (arith, nat_tests)
 
 -- as many were found
@@ -126,14 +127,15 @@ module _ (t : Topology Config) (name : List ℕ) (config : Config) (ps : List Pr
   abbrev whole : Option ℕ
   whole = size_of (joined_size config)
 
-  depth_is : nat_le 32 (rank_below seen) ≡ nat_lt rank_limit (rank_over t ps)
-  depth_is = ap (nat_le 32) (rank_is t ps) ∙ sym (deeper (largest (map (λ p. rank t p.geom) ps)))
+  depth_is : nat_le MAX_RANK (rank_below seen) ≡ nat_lt MAX_RANK (rank_over t ps)
+  depth_is = ap (nat_le MAX_RANK) (rank_is t ps) ∙ sym (deeper (largest (map (λ p. rank t p.geom) ps)))
 
   seen_tests : tests_below t name seen wanted whole is_bad ≡ joined_tests t name config wanted ps is_bad
   seen_tests =
-      ap (λ n. tests n (any_errored seen) (is_bad_join seen whole) (nat_le 32 (rank_below seen))) (count_is t ps)
-      ∙ ap (λ b. tests (length ps) b (is_bad_join seen whole) (nat_le 32 (rank_below seen))) (errored_is t ps)
-      ∙ ap (λ b. tests (length ps) (list_any (λ p. p.errored) ps) b (nat_le 32 (rank_below seen))) (join_is t config ps)
+      ap (λ n. tests n (any_errored seen) (is_bad_join seen whole) (nat_le MAX_RANK (rank_below seen))) (count_is t ps)
+      ∙ ap (λ b. tests (length ps) b (is_bad_join seen whole) (nat_le MAX_RANK (rank_below seen))) (errored_is t ps)
+      ∙ ap (λ b. tests (length ps) (list_any (λ p. p.errored) ps) b (nat_le MAX_RANK (rank_below seen)))
+      (join_is t config ps)
       ∙ ap (tests (length ps) (list_any (λ p. p.errored) ps) (is_invalid_joined config ps)) depth_is
 
   -- the tests of what was found are the model's

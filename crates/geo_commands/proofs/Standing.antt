@@ -1,11 +1,12 @@
 -- A disk that stands as a DISK geom.
-use Rattle.std.specs.Prelude.{◌≡◌, ℕ, ◌+◌, ◌^◌, ◌%◌, ◌==◌, true, false, List, [], ◌∷◌, map, Option, Some, None, All, Contains, IfSome, slice_get}
+use Rattle.std.specs.Prelude.{◌≡◌, ℕ, ◌+◌, ◌%◌, ◌==◌, true, false, List, [], ◌∷◌, map, Option, Some, None, All, Contains, IfSome, slice_get}
 use Rattle.std.proofs.Common.{refl, sym, ◌∙◌, ap, subst, inl, inr}
 use Rattle.std.proofs.lemmas.Bool.{eq-eqb, le-leb}
 use Rattle.std.proofs.lemmas.Option.{slice_get_within, get_or_from_slice_get}
 use Rattle.std.proofs.lemmas.List.Elements.{All-contains, All-from_recursion}
 use Rattle.geo_base.specs.Sectors.{IsSectorSize}
 use Rattle.geo_base.specs.declared.kind.Kind.TheVariants as kinds
+use Rattle.geo_base.specs.declared.limits.TheConstants.{MAX_MEDIA_BYTES}
 use Rattle.geo_model.specs.declared.command.LineCommand.{LineCommand}
 use Rattle.geo_model.specs.declared.step.Entry.{Entry}
 use Rattle.geo_model.specs.Topology.{is_name_taken}
@@ -50,14 +51,14 @@ media_size size sector which media =
       | inl small ↦ (rw (
         eq-eqb sector 512 small,
         le-leb 1 size media.positive,
-        le-leb size (2 ^ 60) media.limited,
+        le-leb size MAX_MEDIA_BYTES media.limited,
         eq-eqb (size % sector) 0 media.whole,
       ) refl)
       | inr large ↦ (rw (
         ap (λ n. n == 512) large,
         eq-eqb sector 4096 large,
         le-leb 1 size media.positive,
-        le-leb size (2 ^ 60) media.limited,
+        le-leb size MAX_MEDIA_BYTES media.limited,
         eq-eqb (size % sector) 0 media.whole,
       ) refl)
     ]

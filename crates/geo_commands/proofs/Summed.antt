@@ -1,6 +1,7 @@
 -- How large the provider of a concat becomes that gets one more component.
-use Rattle.std.specs.Prelude.{◌≡◌, ◌+◌, ◌≤◌, ◌^◌, Some, None}
+use Rattle.std.specs.Prelude.{◌≡◌, ◌+◌, ◌≤◌, Some, None}
 use Rattle.std.proofs.Common.{sym, ◌∙◌, ap, subst}
+use Rattle.geo_base.specs.declared.limits.TheConstants.{MAX_MEDIA_BYTES}
 use Rattle.geo_model.specs.Topology.{Provider, provider_at}
 use Rattle.geo_mesh.specs.Graph.{IsSoundGraph}
 use Rattle.geo_laws_life.proofs.Found.{one-found}
@@ -31,5 +32,6 @@ module _ (s : State) (firm : IsFirm s) (sound : IsSoundGraph s.topo.topology) (g
         ∙ ap (λ (z : Below). able.named.concat.provider.size + z.size) able.named.below_is
 
     -- which is no more than a provider may have
-    pub sum_fits : y.size + b.size ≤ 2 ^ 60
-    sum_fits = let valid = able-valid s firm sound g b able in subst (λ n. n ≤ 2 ^ 60) (sym sum_is) valid.limited
+    pub sum_fits : y.size + b.size ≤ MAX_MEDIA_BYTES
+    sum_fits =
+        let valid = able-valid s firm sound g b able in subst (λ n. n ≤ MAX_MEDIA_BYTES) (sym sum_is) valid.limited

@@ -2,6 +2,7 @@
 use Rattle.std.specs.Prelude.{◌≡◌, nat_le, Bool, false, ◌||◌, length, Some}
 use Rattle.std.specs.Option.{option_map_or}
 use Rattle.std.proofs.Common.{◌∙◌, ap}
+use Rattle.geo_base.specs.declared.limits.TheConstants.{MAX_COMPONENTS}
 use Rattle.geo_model.specs.Graph.{IsInOrder}
 use Rattle.geo_model.specs.Topology.{Topology, Geom, consumers_of, geom_at, provider_at}
 use Rattle.geo_model.specs.Append.{is_invalid_append}
@@ -25,14 +26,14 @@ module _ (t : Topology Config) (order : IsInOrder t) (g : Growing) (b : Below) (
 
   -- so the tests read them
   pub invalid-told : (a f m : Bool) → a ≡ option_map_or (λ (y : Geom Config). y.automatic) (geom_at t g.geom) false
-      → f ≡ nat_le 16 (length (consumers_of t g.geom))
+      → f ≡ nat_le MAX_COMPONENTS (length (consumers_of t g.geom))
       → m ≡ option_map_or (is_misfit b.sector b.size) (provider_at t g.prov) false
       → (a || (f || m)) ≡ is_invalid_append t n.concat n.provider
   invalid-told a f m automatic full misfit =
       ap (λ z. z || (f || m))
       (automatic ∙ ap (λ o. option_map_or (λ (y : Geom Config). y.automatic) o false) named-geom)
       ∙ ap (λ z. n.concat.geom.automatic || (z || m))
-      (full ∙ ap (λ (x : Growing). nat_le 16 (length (consumers_of t x.geom))) n.growing_is)
-      ∙ ap (λ z. n.concat.geom.automatic || (nat_le 16 (length (consumers_of t n.concat.geom.number)) || z))
+      (full ∙ ap (λ (x : Growing). nat_le MAX_COMPONENTS (length (consumers_of t x.geom))) n.growing_is)
+      ∙ ap (λ z. n.concat.geom.automatic || (nat_le MAX_COMPONENTS (length (consumers_of t n.concat.geom.number)) || z))
       (misfit ∙ ap (λ o. option_map_or (is_misfit b.sector b.size) o false) named-offer
       ∙ ap (λ (x : Below). is_misfit x.sector x.size n.concat.provider) n.below_is)

@@ -2,6 +2,7 @@
 use Rattle.std.specs.Prelude.{◌≡◌, ℕ, ◌+◌, ◌==◌, nat_lt, Bool, not, ◌||◌, List, Option, Some, None}
 use Rattle.geo_base.specs.declared.errno.Errno.{Errno}
 use Rattle.geo_base.specs.declared.request.Counts.{Counts}
+use Rattle.geo_base.specs.declared.limits.TheConstants.{MAX_MEDIA_BYTES}
 use Rattle.geo_model.specs.declared.command.LineCommand.{LineCommand}
 use Rattle.geo_model.specs.declared.step.Entry.{Entry}
 use Rattle.geo_model.specs.declared.step.Event.TheVariants as events
@@ -9,7 +10,6 @@ use Rattle.geo_model.specs.Words.{first_error}
 use Rattle.geo_model.specs.Topology.{Topology, Provider, provider_at, add_consumer, set_config, set_size}
 use Rattle.geo_model.specs.Demand.{risen}
 use Rattle.geo_model.specs.Opens.{join_refusal}
-use Rattle.geo_model.specs.Acceptance.{size_limit}
 use Rattle.geo_model.specs.Events.{announce_risen, post}
 use Rattle.geo_model.specs.World.{World, Config}
 use Rattle.geo_model.specs.Append.{Growing as GrowingConcat, append_joined, append_tests, component_refusal, growing_concat}
@@ -39,7 +39,7 @@ pub record AreNamed (t : Topology Config) (growing : Growing) (below : Below) : 
 
 -- whether the sector sizes differ, or a provider would be too large with so many bytes more
 abbrev pub is_misfit : ℕ → ℕ → Provider → Bool
-is_misfit sector size p = not (p.sector == sector) || nat_lt size_limit (p.size + size)
+is_misfit sector size p = not (p.sector == sector) || nat_lt MAX_MEDIA_BYTES (p.size + size)
 
 -- such a concat and provider, where no test is against an append of them
 pub record IsAble (s : State) (growing : Growing) (below : Below) : Type 0 where

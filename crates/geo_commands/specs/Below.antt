@@ -3,10 +3,10 @@ use Rattle.std.specs.Prelude.{ℕ, ◌+◌, ◌==◌, ◌%◌, nat_le, nat_lt, B
 use Rattle.std.specs.List.{list_any, list_all}
 use Rattle.geo_base.specs.declared.errno.Errno.{Errno}
 use Rattle.geo_base.specs.declared.errno.Errno.TheVariants.{ENOENT, EEXIST, ENXIO, EINVAL, EDEEP}
+use Rattle.geo_base.specs.declared.limits.TheConstants.{MAX_RANK, MAX_STRIPE_BYTES}
 use Rattle.geo_model.specs.Words.{largest}
 use Rattle.geo_model.specs.Topology.{Topology, Provider, provider_at, find_provider, is_name_taken}
 use Rattle.geo_model.specs.Rank.{rank}
-use Rattle.geo_model.specs.Requests.{request_limit}
 use Rattle.geo_model.specs.World.{Config}
 use Rattle.geo_commands.specs.declared.below.Below.{Below}
 
@@ -43,7 +43,7 @@ rank_below xs = largest (map (λ x. x.rank) xs)
 
 -- whether a stripe size isn't whole sectors, or is longer than the longest request
 abbrev pub is_bad_stripe : ℕ → List Below → Bool
-is_bad_stripe stripe xs = not (stripe % sector_below xs == 0) || nat_lt request_limit stripe
+is_bad_stripe stripe xs = not (stripe % sector_below xs == 0) || nat_lt MAX_STRIPE_BYTES stripe
 
 -- whether the sector sizes differ, or the size is none that a provider may have
 abbrev pub is_bad_join : List Below → Option ℕ → Bool
@@ -61,5 +61,5 @@ tests_below t name xs wanted size is_bad =
     ∷ (not (length xs == wanted), ENOENT)
     ∷ (any_errored xs, ENXIO)
     ∷ (is_bad || is_bad_join xs size, EINVAL)
-    ∷ (nat_le 32 (rank_below xs), EDEEP)
+    ∷ (nat_le MAX_RANK (rank_below xs), EDEEP)
     ∷ []

@@ -20,7 +20,7 @@ use crate::above::is_growth_busy;
 use crate::below::Below;
 use crate::names::{Growing, look};
 use geo_access::{JoinRefusal, Steps, consumer_of, join};
-use geo_base::{Errno, GeomId, NoMemory, ProvId};
+use geo_base::{Errno, GeomId, MAX_COMPONENTS, MAX_MEDIA_BYTES, NoMemory, ProvId};
 use geo_class::Config;
 use geo_event::{Event, EventQueue};
 use geo_life::announce_risen;
@@ -29,15 +29,9 @@ use geo_state::State;
 use std::alloc::Global;
 use std::sync::ledger::Ledger;
 
-/// The greatest number of components of a concat.
-const COMPONENTS: usize = 16;
-
-/// The greatest media size of a provider, in bytes.
-const LARGEST: u64 = 1 << 60;
-
 /// What is against an append of the provider to the concat, decided before a consumer is made: EINVAL where a taste
 /// made the concat, where it has 16 components, where the sector sizes differ or its provider would be larger than
-/// 2 ^ 60 bytes; EBUSY while a request is on its way to its provider or to one above it, or such a one is tasted.
+/// `MAX_MEDIA_BYTES`; EBUSY while a request is on its way to its provider or to one above it, or such a one is tasted.
 pub fn append_refusal(
     alloc: Global,
     state: &State,
@@ -81,13 +75,13 @@ fn is_automatic(topo: &Topo<Config>, geom: GeomId) -> bool
 
 // Whether the geom has as many consumers as a concat may have.
 fn is_full(topo: &Topo<Config>, geom: GeomId) -> bool
-    ensures { result ≡ nat_le 16 (length (consumers_of topo.now.topology geom)) }
+    ensures { result ≡ nat_le MAX_COMPONENTS (length (consumers_of topo.now.topology geom)) }
 {
     let mut count = 0;
     let mut from = 0;
     while let Some((id, _cons)) = consumer_of(topo, geom, from) {
         count += 1;
-        if count == COMPONENTS {
+        if count == MAX_COMPONENTS {
             return true;
         }
         from = id.number() + 1;
@@ -100,7 +94,7 @@ fn is_misfit(topo: &Topo<Config>, prov: ProvId, sector: u32, size: u64) -> bool
     ensures { result ≡ option_map_or (is_misfit sector size) (provider_at topo.now.topology prov) false }
 {
     match topo.provider(prov) {
-        Some(found) => found.sector != sector || LARGEST < found.size.saturating_add(size),
+        Some(found) => found.sector != sector || MAX_MEDIA_BYTES < found.size.saturating_add(size),
         None => false,
     }
 }

@@ -22,7 +22,7 @@ use crate::below::{Below, all_named, sector_below};
 use crate::makes::make;
 use crate::refusals::{is_bad_stripe, joined_refusal};
 use crate::reply::{done, refused};
-use geo_base::{ConsId, Kind, Name, NoMemory, ProvId};
+use geo_base::{ConsId, Kind, MAX_COMPONENTS, Name, NoMemory, ProvId};
 use geo_class::{Config, concat_size, stripe_size};
 use geo_mesh::Topo;
 use geo_model::Outcome;
@@ -43,7 +43,7 @@ pub fn concat(
     requires kept { Holds state.old }
     requires firm { IsFirm state.old }
     requires short { IsTrue (is_short_name name.now) }
-    requires few { length provs.now ≤ 16 }
+    requires few { length provs.now ≤ MAX_COMPONENTS }
     ensures does { (log : List Entry) → IfOk result (λ o.
         Does (λ w. do_concat w line name.now (length provs.now) (found_providers w.topology provs.now)) log
         state.old state.new o) }
@@ -70,7 +70,7 @@ pub fn stripe(
     requires firm { IsFirm state.old }
     requires short { IsTrue (is_short_name name.now) }
     requires limited { stripe < 2 ^ 32 }
-    requires few { length provs.now ≤ 16 }
+    requires few { length provs.now ≤ MAX_COMPONENTS }
     ensures does { (log : List Entry) → IfOk result (λ o.
         Does (λ w. do_stripe w line name.now stripe (length provs.now) (found_providers w.topology provs.now)) log
         state.old state.new o) }
@@ -94,7 +94,7 @@ fn concat_over(
     requires kept { Holds state.old }
     requires firm { IsFirm state.old }
     requires short { IsTrue (is_short_name name.now) }
-    requires few { length provs.now ≤ 16 }
+    requires few { length provs.now ≤ MAX_COMPONENTS }
     requires found { below.now ≡ map (below_seen state.old.topo.topology)
         (found_providers state.old.topo.topology provs.now) }
     ensures does { (log : List Entry) → IfOk result (λ o.
@@ -142,7 +142,7 @@ fn stripe_over(
     requires kept { Holds state.old }
     requires firm { IsFirm state.old }
     requires short { IsTrue (is_short_name name.now) }
-    requires few { length provs.now ≤ 16 }
+    requires few { length provs.now ≤ MAX_COMPONENTS }
     requires found { below.now ≡ map (below_seen state.old.topo.topology)
         (found_providers state.old.topo.topology provs.now) }
     ensures does { (log : List Entry) → IfOk result (λ o.

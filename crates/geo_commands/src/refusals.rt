@@ -13,22 +13,16 @@ ghost use Rattle.geo_laws_texts.specs.Naming.{HaveNames};
 ghost use Rattle.geo_commands.specs.Below.{any_errored, below_seen, have_sector, is_bad_join, is_bad_nop, is_bad_stripe, rank_below, sector_below, tests_below};
 
 use crate::below::{Below, any_errored, have_sector, rank_below, sector_below};
-use geo_base::{Errno, Name};
+use geo_base::{Errno, MAX_RANK, MAX_STRIPE_BYTES, Name};
 use geo_class::Config;
 use geo_mesh::Topo;
-
-/// The greatest rank that a geom may have.
-const RANKS: u32 = 32;
-
-/// The longest request, in bytes, and so the longest strip.
-const LONGEST: u64 = 32768;
 
 /// Whether a stripe size isn't whole sectors, or is longer than the longest request.
 pub fn is_bad_stripe(stripe: u64, below: &[Below]) -> bool
     requires sector { IsSectorSize (sector_below below.now) }
     ensures { result ≡ is_bad_stripe stripe below.now }
 {
-    stripe % u64::from(sector_below(below)) != 0 || LONGEST < stripe
+    stripe % u64::from(sector_below(below)) != 0 || MAX_STRIPE_BYTES < stripe
 }
 
 // Whether the sector sizes differ, or the size is none that a provider may have.
@@ -61,7 +55,7 @@ fn first_against(
     if is_bad || is_bad_join(below, size) {
         return Some(Errno::EINVAL);
     }
-    if RANKS <= rank_below(below) {
+    if MAX_RANK <= rank_below(below) {
         return Some(Errno::EDEEP);
     }
     None
@@ -132,7 +126,7 @@ pub fn nop_refusal(
     if is_bad_window(below, offset, size) || name.is_none() {
         return Some(Errno::EINVAL);
     }
-    if RANKS <= below.rank {
+    if MAX_RANK <= below.rank {
         return Some(Errno::EDEEP);
     }
     None

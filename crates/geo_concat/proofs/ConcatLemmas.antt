@@ -1,9 +1,10 @@
 -- Walks over components.
-use Rattle.std.proofs.Common.{◌≡◌, ℕ, ◌+◌, ◌-◌, ◌<◌, ◌≤◌, ◌^◌, List, ◌∷◌, ◌++◌, length, get_or, drop, replicate, sum, Some, refl, ap, ◌∙◌, arith, length-append, length-drop}
+use Rattle.std.proofs.Common.{◌≡◌, ℕ, ◌+◌, ◌-◌, ◌<◌, ◌≤◌, List, ◌∷◌, ◌++◌, length, get_or, drop, replicate, sum, Some, refl, ap, ◌∙◌, arith, length-append, length-drop}
 use Rattle.std.proofs.lemmas.Bool.{lt-ltb, le-ltb}
 use Rattle.std.proofs.lemmas.List.{drop_more, drop-replicate, length-replicate}
 use Rattle.std.proofs.lemmas.List.Sums.{sum_by-cons}
 use Rattle.std.proofs.Math.Seq.{drop-append_seam, take-append_seam}
+use Rattle.geo_base.specs.declared.limits.TheConstants.{MAX_COMPONENTS, MAX_MEDIA_BYTES}
 use Rattle.geo_model.specs.Place.{concat_spot, concat_stretches, cut}
 use Rattle.geo_model.specs.declared.span.Piece.{Piece}
 use Rattle.geo_concat.specs.Kept.{IsKept}
@@ -35,19 +36,21 @@ concat_stretches-drop sizes k start inside = rw (drop_more sizes k 0 inside) ref
 pub record PartsSoFar (o len : ℕ) (sizes : List ℕ) (k start : ℕ) (before now : List Piece) (spare : ℕ) : Type 0 where
   pub pieces : now ++ cut o len (concat_stretches k start (drop k sizes))
       ≡ before ++ cut o len (concat_stretches 0 0 sizes)
-  pub fits : start + sum (drop k sizes) ≤ 2 ^ 60
+  pub fits : start + sum (drop k sizes) ≤ MAX_MEDIA_BYTES
   pub room : length sizes ≤ spare + k
 
 -- sizes written into cells of zeros
-pub kept_from : (sizes front zeros : List ℕ) → front ≡ sizes → length sizes ≤ 16 → sum sizes ≤ 2 ^ 60
-    → zeros ≡ replicate 16 0
+pub kept_from : (sizes front zeros : List ℕ) → front ≡ sizes → length sizes ≤ MAX_COMPONENTS
+    → sum sizes ≤ MAX_MEDIA_BYTES
+    → zeros ≡ replicate MAX_COMPONENTS 0
     → IsKept (front ++ drop (length sizes) zeros) (length sizes)
 kept_from sizes front zeros same few fits blank =
-    let long : length (drop (length sizes) (replicate {A = ℕ} 16 0)) ≡ 16 - length sizes =
-    length-drop (length sizes) (replicate {A = ℕ} 16 0) ∙ ap (λ n. n - length sizes) (length-replicate {A = ℕ} 16 0) in
+    let long : length (drop (length sizes) (replicate {A = ℕ} MAX_COMPONENTS 0)) ≡ MAX_COMPONENTS - length sizes =
+    length-drop (length sizes) (replicate {A = ℕ} MAX_COMPONENTS 0)
+    ∙ ap (λ n. n - length sizes) (length-replicate {A = ℕ} MAX_COMPONENTS 0) in
     rw (same, blank) (record {
       whole = length-append sizes _ ∙ (rw long (omega arith));
       few = few;
-      rest = drop-append_seam sizes _ ∙ drop-replicate (length sizes) 16 0;
-      fits = rw (take-append_seam sizes (drop (length sizes) (replicate {A = ℕ} 16 0))) fits;
+      rest = drop-append_seam sizes _ ∙ drop-replicate (length sizes) MAX_COMPONENTS 0;
+      fits = rw (take-append_seam sizes (drop (length sizes) (replicate {A = ℕ} MAX_COMPONENTS 0))) fits;
     })

@@ -1,9 +1,10 @@
 -- A component behind the others.
-use Rattle.std.proofs.Common.{◌≡◌, ℕ, ◌+◌, ◌-◌, ◌<◌, ◌≤◌, ◌^◌, List, [], ◌∷◌, ◌++◌, length, take, drop, set, replicate, sum, Some, refl, sym, ap, ◌∙◌, arith, zero-add, length-take-le, add-zero, inl, inr}
+use Rattle.std.proofs.Common.{◌≡◌, ℕ, ◌+◌, ◌-◌, ◌<◌, ◌≤◌, List, [], ◌∷◌, ◌++◌, length, take, drop, set, replicate, sum, Some, refl, sym, ap, ◌∙◌, arith, zero-add, length-take-le, add-zero, inl, inr}
 use Rattle.std.proofs.lemmas.Bool.{lt-ltb, le-ltb, ltb-false, cases_Bool}
 use Rattle.std.proofs.lemmas.List.{take_more_set, length-set, drop-set-lt, drop-replicate, drop-drop}
 use Rattle.std.proofs.lemmas.List.Sums.{sum_by-append, sum_by-cons}
 use Rattle.std.specs.Prelude.{nat_lt}
+use Rattle.geo_base.specs.declared.limits.TheConstants.{MAX_COMPONENTS, MAX_MEDIA_BYTES}
 use Rattle.geo_model.specs.Place.{concat_spot}
 use Rattle.geo_model.specs.World.{Nothing, Disk, Mbr, Ebr, Label, Concat, Stripe, Nop}
 use Rattle.geo_concat.specs.Growth.{SpotsStay, NewSpots, PlacesStay}
@@ -55,9 +56,9 @@ places_stay (Label below) name consumer size o inside = refl
 places_stay (Stripe id stripe places sizes) name consumer size o inside = refl
 places_stay (Nop below offset fail) name consumer size o inside = refl
 
--- cells that keep these sizes, of which there are fewer than 16, and one size more for which there is room
+-- cells that keep these sizes, of which there are fewer than MAX_COMPONENTS, and one size more for which there is room
 module _ (sizes cells : List ℕ) (count size : ℕ) (kept : IsKept cells count) (same : sizes ≡ take count cells)
-    (few : length sizes < 16) where
+    (few : length sizes < MAX_COMPONENTS) where
   as_many : length sizes ≡ count
   as_many = ap length same ∙ length-take-le count cells (omega (arith, kept.whole, kept.few))
 
@@ -68,7 +69,7 @@ module _ (sizes cells : List ℕ) (count size : ℕ) (kept : IsKept cells count)
       take_more_set cells count size inside ∙ ap (λ front. front ++ size ∷ []) (sym same)
 
   -- they are kept
-  pub kept_grown : sum sizes + size ≤ 2 ^ 60 → IsKept (set cells count size) (count + 1)
+  pub kept_grown : sum sizes + size ≤ MAX_MEDIA_BYTES → IsKept (set cells count size) (count + 1)
   kept_grown fits =
       let last : sum (size ∷ []) ≡ size = sum_by-cons (λ x. x) size [] ∙ add-zero size in
       record {
@@ -77,7 +78,7 @@ module _ (sizes cells : List ℕ) (count size : ℕ) (kept : IsKept cells count)
         rest =
             drop-set-lt (count + 1) cells count size (omega arith) ∙ sym (drop-drop 1 count cells)
             ∙ ap (drop 1) kept.rest
-            ∙ drop-replicate 1 (16 - count) 0 ∙ ap (λ n. replicate n 0) (omega arith);
+            ∙ drop-replicate 1 (MAX_COMPONENTS - count) 0 ∙ ap (λ n. replicate n 0) (omega arith);
         fits = rw sizes_grown (omega (arith, sum_by-append (λ x. x) sizes (size ∷ []), last, fits));
       }
 

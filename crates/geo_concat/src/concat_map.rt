@@ -3,19 +3,16 @@ ghost use Rattle.std.specs.Prelude.{◌≡◌, ◌+◌, ◌^◌, ◌<◌, ◌≤
 ghost use Rattle.geo_model.specs.Place.{concat_spot, concat_stretches, cut};
 ghost use Rattle.geo_concat.specs.Growth.{KeepsPlaces};
 
-use geo_base::NoMemory;
+use geo_base::{MAX_COMPONENTS, MAX_MEDIA_BYTES, NoMemory};
 use geo_range::{AddressMap, PieceList, Span, Stretch};
 use std::alloc::Global;
 use std::marker::Model;
-
-/// The most components that a geom has.
-const COMPONENTS: usize = 16;
 
 /// The map of a CONCAT geom: the ranges of its components follow each other. Contracts see the components' sizes and
 /// the sector size.
 #[derive(Clone, Copy, Debug)]
 pub struct ConcatMap {
-    cells: [u64; COMPONENTS],
+    cells: [u64; MAX_COMPONENTS],
     count: usize,
     sector: u32,
 }
@@ -27,13 +24,14 @@ impl Model for ConcatMap {
     ghost Value = { ConcatView };
 
     ghost use Rattle.geo_concat.specs.Kept.{IsKept, kept_again};
+    ghost use Rattle.geo_base.specs.declared.limits.TheConstants.{MAX_COMPONENTS};
 
     ghost view = { λ map. record { sizes = take map.count map.cells; sector = map.sector } };
 
     ghost invariant = { λ map. IsKept map.cells map.count };
 
     ghost inverse = { λ map. record {
-      cells = map.sizes ++ replicate (16 - length map.sizes) 0;
+      cells = map.sizes ++ replicate (MAX_COMPONENTS - length map.sizes) 0;
       count =
           length map.sizes;
       sector = map.sector;
@@ -45,7 +43,7 @@ impl Model for ConcatMap {
 
 /// The component in which an offset lies, and the offset there.
 fn place_in(sizes: &[u64], offset: u64) -> (u32, u64)
-    requires few { length sizes.now ≤ 16 }
+    requires few { length sizes.now ≤ MAX_COMPONENTS }
     requires inside { offset < sum sizes.now }
     ensures { concat_spot 0 sizes.now offset ≡ Some (record { component = result.0; offset = result.1 }) }
 {
@@ -61,9 +59,9 @@ fn place_in(sizes: &[u64], offset: u64) -> (u32, u64)
 
 /// Adds the parts of a range that lie in the components, in their order, in the room that was reserved.
 fn push_parts(list: &mut PieceList, span: Span, sizes: &[u64])
-    requires few { length sizes.now ≤ 16 }
+    requires few { length sizes.now ≤ MAX_COMPONENTS }
     requires room { length sizes.now ≤ list.old.spare }
-    requires fits { sum sizes.now ≤ 2 ^ 60 }
+    requires fits { sum sizes.now ≤ MAX_MEDIA_BYTES }
     requires range_fits { span.offset + span.len < 2 ^ 64 }
     ensures { list.new.items ≡ list.old.items ++ cut span.offset span.len (concat_stretches 0 0 sizes.now) }
 {
@@ -85,11 +83,11 @@ fn push_parts(list: &mut PieceList, span: Span, sizes: &[u64])
 impl ConcatMap {
     /// The components of these sizes, in their order, of which each has sectors of `sector` bytes.
     pub fn new(sizes: &[u64], sector: u32) -> ConcatMap
-        requires few { length sizes.now ≤ 16 }
-        requires fits { sum sizes.now ≤ 2 ^ 60 }
+        requires few { length sizes.now ≤ MAX_COMPONENTS }
+        requires fits { sum sizes.now ≤ MAX_MEDIA_BYTES }
         ensures { result ≡ record { sizes = sizes.now; sector = sector } }
     {
-        let mut cells = [0u64; COMPONENTS];
+        let mut cells = [0u64; MAX_COMPONENTS];
         cells[..sizes.len()].copy_from_slice(sizes);
         ConcatMap {
             cells,
@@ -100,8 +98,8 @@ impl ConcatMap {
 
     /// A component of `size` bytes behind the others. Each offset before it keeps its place.
     pub fn add(&mut self, size: u64)
-        requires few { length self.old.sizes < 16 }
-        requires fits { sum self.old.sizes + size ≤ 2 ^ 60 }
+        requires few { length self.old.sizes < MAX_COMPONENTS }
+        requires fits { sum self.old.sizes + size ≤ MAX_MEDIA_BYTES }
         ensures grown { self.new ≡ record self.old { sizes = self.old.sizes ++ size ∷ [] } }
         ensures places_stay { KeepsPlaces self.old self.new }
     {
@@ -112,8 +110,8 @@ impl ConcatMap {
     /// The components' sizes, at most 16, in order.
     pub fn sizes(&self) -> &[u64]
         ensures sizes { result.now ≡ self.now.sizes }
-        ensures few { length result.now ≤ 16 }
-        ensures fits { sum result.now ≤ 2 ^ 60 }
+        ensures few { length result.now ≤ MAX_COMPONENTS }
+        ensures fits { sum result.now ≤ MAX_MEDIA_BYTES }
     {
         &self.cells[..self.count]
     }

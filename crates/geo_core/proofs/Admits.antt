@@ -2,6 +2,7 @@
 use Rattle.std.specs.Prelude.{◌≡◌, ℕ, ◌+◌, ◌<◌, ◌≤◌, true, false, List, [], ◌∷◌, Option, Some, None, Result, Ok, Err, IsOk}
 use Rattle.std.proofs.Common.{refl, ◌∙◌, ap}
 use Rattle.std.proofs.lemmas.Bool.{lt-ltb, le-ltb}
+use Rattle.geo_base.specs.declared.limits.TheConstants.{MAX_LOG_ENTRIES}
 use Rattle.geo_model.specs.declared.command.LineCommand.{LineCommand}
 use Rattle.geo_model.specs.declared.step.Entry.{Entry}
 use Rattle.geo_model.specs.declared.step.Found.{Found}
@@ -11,7 +12,7 @@ use Rattle.geo_model.specs.declared.step.Step.TheVariants as steps
 use Rattle.geo_model.specs.World.{World}
 use Rattle.geo_model.specs.Step.{Answer, step, unless_found, go_of, waits_for, with_commands}
 use Rattle.geo_model.specs.Commands.{do_command}
-use Rattle.geo_model.specs.Log.{owed, log_limit, is_full_after}
+use Rattle.geo_model.specs.Log.{owed, is_full_after}
 use Rattle.geo_state.specs.declared.state.State.{State}
 use Rattle.geo_state.specs.Steps.{against}
 use Rattle.geo_state.specs.World.{world}
@@ -91,12 +92,12 @@ go_does w actor (Some (d ∷ rest)) c e none = by (waits_for w actor d.command) 
 -- places
 
 pub full_is : (entries : ℕ) (a : Answer) (after : World) (outcome : Outcome) → a ≡ Ok (after, outcome)
-    → log_limit < entries + 1 + owed after → is_full_after entries a ≡ true
-full_is entries a after outcome e h = rw e (lt-ltb log_limit (entries + 1 + owed after) h)
+    → MAX_LOG_ENTRIES < entries + 1 + owed after → is_full_after entries a ≡ true
+full_is entries a after outcome e h = rw e (lt-ltb MAX_LOG_ENTRIES (entries + 1 + owed after) h)
 
 pub full_not : (entries : ℕ) (a : Answer) (after : World) (outcome : Outcome) → a ≡ Ok (after, outcome)
-    → entries + 1 + owed after ≤ log_limit → is_full_after entries a ≡ false
-full_not entries a after outcome e h = rw e (le-ltb log_limit (entries + 1 + owed after) h)
+    → entries + 1 + owed after ≤ MAX_LOG_ENTRIES → is_full_after entries a ≡ false
+full_not entries a after outcome e h = rw e (le-ltb MAX_LOG_ENTRIES (entries + 1 + owed after) h)
 
 -- what ended with an error isn't ok
 pub not_ok : {A E : Type 0} (r : Result A E) (e : E) → r ≡ Err e → IsOk r → ⊥

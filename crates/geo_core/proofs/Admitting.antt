@@ -1,10 +1,11 @@
 -- A step that is admitted, and one that is refused its place.
 use Rattle.std.specs.Prelude.{◌≡◌, ℕ, ◌+◌, ◌≤◌, false, List, length, Option, None, Ok, Err}
 use Rattle.std.proofs.Common.{sym, ap, subst, arith}
+use Rattle.geo_base.specs.declared.limits.TheConstants.{MAX_LOG_ENTRIES}
 use Rattle.geo_model.specs.declared.step.Entry.{Entry}
 use Rattle.geo_model.specs.declared.step.Step.{Step}
 use Rattle.geo_model.specs.Step.{step}
-use Rattle.geo_model.specs.Log.{owed, log_limit, is_full}
+use Rattle.geo_model.specs.Log.{owed, is_full}
 use Rattle.geo_log.specs.Room.{Room}
 use Rattle.geo_state.specs.declared.state.State.{State}
 use Rattle.geo_commands.specs.declared.decisions.Decision.{Decision}
@@ -61,7 +62,7 @@ module _ (r : Running) (is : IsMesh r) (s : State) (l : Room Entry) (state_is : 
   seen_now = other_seen r is s l state_is items_are
 
   -- the step is admitted where it has its place
-  pub other_admitted : (n + 1 ≤ l.spare) × (length r.log.items + 1 + n ≤ log_limit) → IsAdmitted now seat st d
+  pub other_admitted : (n + 1 ≤ l.spare) × (length r.log.items + 1 + n ≤ MAX_LOG_ENTRIES) → IsAdmitted now seat st d
   other_admitted place = record {
     found = subst (λ (t : State). IsFound r.plan.commands r.left t seat st None) (sym state_is) found;
     ready = subst (λ (t : State). IsReady r.plan.commands r.left t st d) (sym state_is) ready;

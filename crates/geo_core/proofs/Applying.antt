@@ -3,6 +3,7 @@ use Rattle.std.specs.Prelude.{◌≡◌, ℕ, ◌+◌, ◌<◌, ◌≤◌, Bool,
 use Rattle.std.specs.Option.{option_map}
 use Rattle.std.proofs.Common.{refl, sym, ◌∙◌, ap, subst, arith}
 use Rattle.geo_base.specs.declared.block.NoMemory.{NoMemory}
+use Rattle.geo_base.specs.declared.limits.TheConstants.{MAX_LOG_ENTRIES}
 use Rattle.geo_model.specs.declared.command.Command.{Command}
 use Rattle.geo_model.specs.declared.command.Command.TheVariants as commands
 use Rattle.geo_model.specs.declared.command.LineCommand.{LineCommand}
@@ -19,7 +20,7 @@ use Rattle.geo_model.specs.History.{first_command, next_command}
 use Rattle.geo_model.specs.declared.listing.GeomLine.{GeomLine}
 use Rattle.geo_model.specs.Listing.{listing}
 use Rattle.geo_model.specs.Step.{Answer, step}
-use Rattle.geo_model.specs.Log.{owed, log_limit, is_full}
+use Rattle.geo_model.specs.Log.{owed, is_full}
 use Rattle.geo_commands.specs.Owed.{is_answered_ok, is_close, is_open}
 use Rattle.geo_commands.proofs.Owed.{owed_changes}
 use Rattle.geo_state.specs.Steps.{against}
@@ -75,7 +76,7 @@ module _ (r : Running) (is : IsMesh r) (seat : ℕ) (st : Step) where
   -- whether there is a place for a step after which so many places are owed
 
   pub full : (n : ℕ) → IsFound r.plan.commands r.left r.state seat st None → IsOwedAfter w st n
-      → log_limit < length r.log.items + 1 + n → is_full r.log.items w seat st ≡ true
+      → MAX_LOG_ENTRIES < length r.log.items + 1 + n → is_full r.log.items w seat st ≡ true
   unfolding is_full
   full n found owes over =
       let to = leads w seat st (enabled found) in
@@ -83,7 +84,7 @@ module _ (r : Running) (is : IsMesh r) (seat : ℕ) (st : Step) where
       full_is (length r.log.items) (step w seat st) to.after to.outcome to.does (omega (arith, over, same))
 
   pub placed : (n : ℕ) → IsFound r.plan.commands r.left r.state seat st None → IsOwedAfter w st n
-      → length r.log.items + 1 + n ≤ log_limit → is_full r.log.items w seat st ≡ false
+      → length r.log.items + 1 + n ≤ MAX_LOG_ENTRIES → is_full r.log.items w seat st ≡ false
   unfolding is_full
   placed n found owes fits =
       let to = leads w seat st (enabled found) in
@@ -102,11 +103,11 @@ module _ (r : Running) (is : IsMesh r) (seat : ℕ) (st : Step) where
       let room : owed w ≤ r.log.spare = subst (λ (v : World). owed v ≤ r.log.spare) is.world is.room in
       omega (arith, same, less, room)
 
-  pub pays_place : (n : ℕ) → IsOwedAfter w st n → PaysOff w seat st → length r.log.items + 1 + n ≤ log_limit
+  pub pays_place : (n : ℕ) → IsOwedAfter w st n → PaysOff w seat st → length r.log.items + 1 + n ≤ MAX_LOG_ENTRIES
   pays_place n owes pays =
       let same : n ≡ owed pays.after = owes seat pays.after pays.outcome pays.does in
       let less = pays.less in
-      let fits : length r.log.items + owed w ≤ log_limit = is.lawful.1 in
+      let fits : length r.log.items + owed w ≤ MAX_LOG_ENTRIES = is.lawful.1 in
       omega (arith, same, less, fits)
 
   pub pays_found : (f : Found)

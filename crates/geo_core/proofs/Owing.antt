@@ -1,6 +1,7 @@
 -- How many places of the log are owed after a step.
 use Rattle.std.specs.Prelude.{◌≡◌, ℕ, ◌+◌, ◌-◌, ◌<◌, ◌≤◌, ◌^◌, List, [], ◌∷◌, length, Option, Some, None, Ok, slice_get, slice_set}
 use Rattle.std.proofs.Common.{refl, sym, ◌∙◌, ap, subst, arith}
+use Rattle.geo_base.specs.declared.limits.TheConstants.{MAX_LOG_ENTRIES}
 use Rattle.geo_model.specs.declared.command.Command.{Command}
 use Rattle.geo_model.specs.declared.command.LineCommand.{LineCommand}
 use Rattle.geo_model.specs.declared.step.DeviceResult.{DeviceResult}
@@ -11,7 +12,7 @@ use Rattle.geo_model.specs.World.{World}
 use Rattle.geo_model.specs.Fitting.{Firm}
 use Rattle.geo_model.specs.Step.{Answer, step, go, go_of}
 use Rattle.geo_model.specs.Commands.{do_command}
-use Rattle.geo_model.specs.Log.{owed, log_limit, world_after}
+use Rattle.geo_model.specs.Log.{owed, world_after}
 use Rattle.geo_commands.proofs.Owed.{owed_changes}
 use Rattle.geo_state.specs.Steps.{against}
 use Rattle.geo_state.specs.World.{world}
@@ -37,7 +38,7 @@ owed_few r is =
     omega (arith, same, most)
 
 -- the log is within its limit
-pub log_few : (r : Running) → IsMesh r → length r.log.items + places_owed r.state ≤ log_limit
+pub log_few : (r : Running) → IsMesh r → length r.log.items + places_owed r.state ≤ MAX_LOG_ENTRIES
 log_few r is = let same = owed_is r is in let most = is.lawful.1 in omega (arith, same, most)
 
 -- an enabled Go has a next command

@@ -5,11 +5,11 @@ use Rattle.std.proofs.Common.{refl, sym, ◌∙◌, ap, subst}
 use Rattle.std.proofs.lemmas.List.Elements.{All-contains}
 use Rattle.geo_base.specs.declared.request.BioCmd.{BioCmd}
 use Rattle.geo_base.specs.declared.request.BioCmd.TheVariants as cmds
+use Rattle.geo_base.specs.declared.limits.TheConstants.{MAX_REQUEST_BYTES}
 use Rattle.geo_model.specs.Words.{is_flush, is_read}
 use Rattle.geo_model.specs.Topology.{Provider, provider_at}
 use Rattle.geo_model.specs.World.{World, Bio, BioOf, bio_at}
 use Rattle.geo_model.specs.Fitting.{Firm}
-use Rattle.geo_model.specs.Requests.{request_limit}
 use Rattle.geo_model.specs.SoundBios.{IsBioInOrder, IsRangeInside}
 use Rattle.geo_laws_graph.proofs.Members.{find-Contains}
 use Rattle.geo_bio.specs.declared.bio.Held.{Held}
@@ -30,13 +30,14 @@ read_moves cmds.Delete reads = refl
 read_moves cmds.Flush reads = absurd (let bad : ⊥ = cc in bad)
 
 -- a READ of a firm mesh is no longer than the longest request
-read_is_short : (w : World) → Firm w → (x : Bio) → Contains w.bios x → is_read x.cmd ≡ true → x.len ≤ request_limit
+read_is_short : (w : World) → Firm w → (x : Bio) → Contains w.bios x → is_read x.cmd ≡ true → x.len ≤ MAX_REQUEST_BYTES
 read_is_short w firm x here reads = by (provider_at w.topology x.target) order.target
   where
     order : IsBioInOrder w x
     order = All-contains (IsBioInOrder w) w.bios x firm.sound.bios here
 
-    by : (o : Option Provider) → IsSomeAnd o (λ p. is_flush x.cmd ≡ false → IsRangeInside x p) → x.len ≤ request_limit
+    by : (o : Option Provider) → IsSomeAnd o (λ p. is_flush x.cmd ≡ false → IsRangeInside x p)
+        → x.len ≤ MAX_REQUEST_BYTES
     by None at = absurd at
     by (Some p) at = (at (read_moves x.cmd reads)).not_long
 
@@ -66,7 +67,7 @@ module _ (r : Running) (is : IsMesh r) (bio : ℕ) where
       (shown_at ∙ ap (option_map (shown_bio log)) (sym gone)))
 
   -- and a READ that it has is short
-  pub held_is_short : (x : BioOf Held) → Some x ≡ bio_among bios bio → is_read x.cmd ≡ true → x.len ≤ request_limit
+  pub held_is_short : (x : BioOf Held) → Some x ≡ bio_among bios bio → is_read x.cmd ≡ true → x.len ≤ MAX_REQUEST_BYTES
   held_is_short x there reads =
       read_is_short (world_of (seen r)) (subst Firm is.world (mesh_firm r is)) (shown_bio log x)
       (find-Contains (λ (y : Bio). y.number == bio) (world_of (seen r)).bios (shown_bio log x)

@@ -1,6 +1,5 @@
 //! Whether a step can be made.
 ghost use Rattle.std.specs.Prelude.{◌≡◌, ◌+◌, ◌≤◌, ◌<◌, length, IfOk, IfErr, IsOk, OnOk, OnErr, Err};
-ghost use Rattle.geo_model.specs.Log.{log_limit};
 ghost use Rattle.geo_core.specs.declared.refusal.ApplyRefusal.TheVariants as refusals;
 ghost use Rattle.geo_core.specs.Mesh.{world_of, Refuses};
 ghost use Rattle.geo_core.specs.Running.{seen, IsMesh};
@@ -11,12 +10,10 @@ use crate::found::found_against;
 use crate::owed::{decide_step, places_after};
 use crate::refusal::ApplyRefusal;
 use crate::running::Running;
+use geo_base::MAX_LOG_ENTRIES;
 use geo_commands::Decision;
 use geo_log::Log;
 use geo_model::Step;
-
-/// The greatest length of a log, with the places that are owed.
-const LOG_LIMIT: u64 = 0x1_0000_0000;
 
 /// Whether a step of a seat can be made: nothing is against it, it has its place in the log, and there is room for its
 /// entry. All stays but the room of the log.
@@ -46,13 +43,13 @@ pub fn admit(
 
 // Makes room for an entry and so many places that are owed after it, if the log isn't full.
 fn make_place(log: &mut Log, owed: u64) -> Result<(), ApplyRefusal>
-    requires { length log.old.items ≤ log_limit }
+    requires { length log.old.items ≤ MAX_LOG_ENTRIES }
     ensures entries { log.new.items ≡ log.old.items }
     ensures spare { log.old.spare ≤ log.new.spare }
     ensures placed { IsPlaced result (length log.old.items) owed log.new.spare }
-    ensures sure { owed + 1 ≤ log.old.spare → length log.old.items + 1 + owed ≤ log_limit → IsOk result }
+    ensures sure { owed + 1 ≤ log.old.spare → length log.old.items + 1 + owed ≤ MAX_LOG_ENTRIES → IsOk result }
 {
-    if LOG_LIMIT - log.len() <= owed {
+    if MAX_LOG_ENTRIES - log.len() <= owed {
         return Err(ApplyRefusal::LogFull);
     }
     log.reserve(owed + 1)?;

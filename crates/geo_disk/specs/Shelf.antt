@@ -1,7 +1,8 @@
 -- What a shelf tells, and what its calls do to it.
-use Rattle.std.specs.Prelude.{◌≡◌, ◌≢◌, ℕ, ◌*◌, ◌^◌, ◌≤◌, List, ◌∷◌, [], ◌++◌, length, Option, Some, None, Result, Ok, Err, IfSome, IsSomeAnd, Bool, true, false}
+use Rattle.std.specs.Prelude.{◌≡◌, ◌≢◌, ℕ, ◌*◌, ◌≤◌, List, ◌∷◌, [], ◌++◌, length, Option, Some, None, Result, Ok, Err, IfSome, IsSomeAnd, Bool, true, false}
 use Rattle.geo_base.specs.Images.{Images, IsDiskSize}
 use Rattle.geo_base.specs.Sectors.{joined_sectors, sectors_of}
+use Rattle.geo_base.specs.declared.limits.TheConstants.{MAX_IMAGE_BYTES}
 use Rattle.geo_disk.specs.Disk.{DiskView}
 use Rattle.geo_disk.specs.Names.{without}
 use Rattle.geo_disk.specs.declared.calls.DiskCall.{DiskCall}
@@ -33,11 +34,11 @@ pub record ShelfView : Type 0 where
   -- its takes and gives, in order, those that failed or found nothing among them
   pub calls : List ShelfCall
 
--- a disk has sectors of the size that was asked for, one or more, and at most 2 ^ 40 bytes
+-- a disk has sectors of the size that was asked for, one or more, and at most MAX_IMAGE_BYTES
 pub record IsOfSize (sector bytes count : ℕ) : Type 0 where
   pub asked : bytes ≡ sector
   pub some : 1 ≤ count
-  pub limited : count * bytes ≤ 2 ^ 40
+  pub limited : count * bytes ≤ MAX_IMAGE_BYTES
 
 -- a fact on what a shelf tells before and after a call; a shelf that doesn't tell goes on not telling
 abbrev pub WhereTold : (Images → Images → Type 0) → Option Images → Option Images → Type 0

@@ -6,7 +6,7 @@ ghost use Rattle.geo_base.specs.Sectors.{IsSectorSize};
 ghost use Rattle.geo_disk.specs.Shelf.{Brings, CountsCall, Gives, IfTaken, IsOfSize, ShelfView, Takes, is_failed, lent_by, lent_without};
 
 use crate::disk::Disk;
-use geo_base::Name;
+use geo_base::{MAX_IMAGE_BYTES, Name};
 use thiserror::Error;
 
 /// What `take` found.
@@ -53,7 +53,7 @@ pub fn is_disk_size(size: u64, sector: u32) -> bool
     requires { 0 < sector }
     ensures { IsTrue result ↔ IsDiskSize sector size }
 {
-    1 <= size && size % u64::from(sector) == 0 && size <= 1 << 40
+    1 <= size && size % u64::from(sector) == 0 && size <= MAX_IMAGE_BYTES
 }
 
 /// Disks under names. A disk is lent from when it is taken until it was given back.

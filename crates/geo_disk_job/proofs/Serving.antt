@@ -2,6 +2,7 @@
 use Rattle.std.specs.Prelude.{◌≡◌, ℕ, ◌-◌, ◌*◌, ◌^◌, ◌<◌, ◌≤◌, List, [], ◌∷◌, length}
 use Rattle.std.proofs.Common.{refl, sym, ◌∙◌, subst, arith}
 use Rattle.std.proofs.lemmas.List.Elements.{All-weaker}
+use Rattle.geo_base.specs.declared.limits.TheConstants.{MAX_REQUEST_BYTES}
 use Rattle.geo_disk.specs.declared.drive.Drive.{Drive}
 use Rattle.geo_model.specs.declared.step.DeviceResult.{DeviceResult}
 use Rattle.geo_model.specs.declared.step.Outcome.TheVariants as outcomes
@@ -53,7 +54,7 @@ module _ {D : Type 0} (y : YardView _) (seen : Drive D → DriveView) (p q : Mes
 
     -- the drive of a disk can serve what a Take asks of it, in room for the longest request
     pub can_answer : (items : List (ℕ × Drive D)) (room : List ℕ) → HasDrives y.start.facts seen items
-        → 32768 ≤ length room → CanAnswer seen items request room
+        → MAX_REQUEST_BYTES ≤ length room → CanAnswer seen items request room
     can_answer items room has long =
         All-weaker (λ (x : ℕ × Drive D). HasSizesOf y.start x.0 (seen x.1))
         (λ (x : ℕ × Drive D). x.0 ≡ request.disk → CanServe (seen x.1) request × HasRoom (seen x.1) request room)
@@ -64,7 +65,7 @@ module _ {D : Type 0} (y : YardView _) (seen : Drive D → DriveView) (p q : Mes
             → CanServe (seen x.1) request × HasRoom (seen x.1) request room
         both x sizes =
             let can : CanServe (seen x.1) request = asked.can (seen x.1) sizes in
-            let short : request.count * (seen x.1).sector ≤ 32768 = can.not_long in
+            let short : request.count * (seen x.1).sector ≤ MAX_REQUEST_BYTES = can.not_long in
             (can, (λ reads. omega (arith, short, long)))
 
     module _ (m : MeshPass) (took : MakesStep y.start p m (steps.Take disk bio) (outcomes.Asked request))

@@ -7,15 +7,12 @@ ghost use Rattle.geo_disk_job.specs.Drives.{HasDrives, IsForeign};
 ghost use Rattle.geo_disk_job.specs.Turns.{DidBio, DidTurn, IsDiskJob, lane_of, take_in};
 
 use crate::drive_list::DriveList;
-use geo_base::{BioId, Block, NoMemory};
+use geo_base::{BioId, Block, MAX_REQUEST_BYTES, NoMemory};
 use geo_disk::Disk;
 use geo_lane::{Lane, LanePass, Ticket, TicketStep};
 use geo_steps::{Gate, GatePlace, Lanes, Mesh, Pass, Taken, Turn, Yard, deliver, put, take};
 use std::alloc::Global;
 use std::sync::Wait;
-
-// A request has at most so many bytes.
-const ROOM: u32 = 32_768;
 
 /// A disk worker: its number, which is 0 or 1, the drives of its disks, the pass by which it takes tickets from its own
 /// lane, and the pass by which it puts tickets into the up lane.
@@ -60,7 +57,7 @@ impl<D: Disk> DiskJob<D> {
         if !self.drives.has(disk) {
             return Turn::Idle;
         }
-        let Ok(room) = room_of(rt.alloc(), ROOM) else {
+        let Ok(room) = room_of(rt.alloc(), MAX_REQUEST_BYTES as u32) else {
             return Turn::NoMemory;
         };
         self.serve(pass, rt, yard, lanes, gate, disk, bio, room)
@@ -83,7 +80,7 @@ impl<D: Disk> DiskJob<D> {
         requires job { IsDiskJob lanes.now pass.old.own self.old }
         requires drives { HasDrives yard.now.start.facts (drive_view D.view) self.old.drives.items }
         requires has { IsForeign self.old.drives.items disk → ⊥ }
-        requires room { 32768 ≤ length room }
+        requires room { MAX_REQUEST_BYTES ≤ length room }
         ensures good { IsGoodPass pass.new }
         ensures did { DidBio (opened_by yard.now.start) (drive_view D.view) disk bio pass.old pass.new self.old self.new result }
     {

@@ -1,5 +1,6 @@
 -- What a run to rest adds to the log and leaves of the drives.
-use Rattle.std.specs.Prelude.{◌≡◌, ◌+◌, ◌-◌, ◌^◌, ◌≤◌, List, ◌++◌, length, map}
+use Rattle.std.specs.Prelude.{◌≡◌, ◌+◌, ◌-◌, ◌≤◌, List, ◌++◌, length, map}
+use Rattle.geo_base.specs.declared.limits.TheConstants.{MAX_LOG_ENTRIES}
 use Rattle.geo_model.specs.declared.step.Entry.{Entry}
 use Rattle.geo_model.specs.Log.{owed}
 use Rattle.geo_model.specs.FixedOrder.{StepOrder, FollowsOrder}
@@ -29,4 +30,4 @@ pub record Runs (order : StepOrder) (old new : MeshView) (before after : List Dr
 -- there is no place in the log for the step that is due, so the log is full but for what is owed
 pub record RanFull (order : StepOrder) (m : MeshView) : Type 0 where
   pub due : NextIsFull order (opened m) m.log
-  pub nearly : 2 ^ 32 - 1 ≤ length m.log + owed (world_of m)
+  pub nearly : MAX_LOG_ENTRIES - 1 ≤ length m.log + owed (world_of m)

@@ -5,8 +5,9 @@ use Rattle.std.specs.Prelude.{◌==◌, is_some, nat_le}
 use Rattle.std.specs.List.{list_any}
 use Rattle.geo_base.specs.declared.decline.DeclineCause.{DeclineCause}
 use Rattle.geo_base.specs.declared.decline.DeclineCause.TheVariants as causes
+use Rattle.geo_base.specs.declared.limits.TheConstants.{MAX_LINKS}
 use Rattle.geo_model.specs.declared.class.EbrPart.{EbrPart}
-use Rattle.geo_model.specs.Chain.{has_part, is_link_type, leads_on, link_limit, next_link}
+use Rattle.geo_model.specs.Chain.{has_part, is_link_type, leads_on, next_link}
 use Rattle.geo_model.specs.Records.{entry_type, has_signature}
 use Rattle.geo_model.specs.Words.{first_error}
 use Rattle.geo_ebr.specs.Links.{cause_against, is_back, links_of}
@@ -45,28 +46,28 @@ module _ (sectors : ℕ) (visited : List ℕ) (parts : List (Option EbrPart)) (b
 
   -- what is against them, by their rows
   against-is : against
-      ≡ by_rows (is_back visited (next_link bytes)) (nat_le link_limit (length visited)) (list_any is_some parts)
+      ≡ by_rows (is_back visited (next_link bytes)) (nat_le MAX_LINKS (length visited)) (list_any is_some parts)
   against-is =
-      ap (λ back. by_rows ((next_link bytes == 0) || back) (nat_le link_limit (length (links_of visited parts)))
+      ap (λ back. by_rows ((next_link bytes == 0) || back) (nat_le MAX_LINKS (length (links_of visited parts)))
       (has_part (links_of visited parts)))
       (links-any_sector visited parts (next_link bytes) alike)
-      ∙ ap (λ n. by_rows (is_back visited (next_link bytes)) (nat_le link_limit n) (has_part (links_of visited parts)))
+      ∙ ap (λ n. by_rows (is_back visited (next_link bytes)) (nat_le MAX_LINKS n) (has_part (links_of visited parts)))
       (links-length visited parts alike)
-      ∙ ap (by_rows (is_back visited (next_link bytes)) (nat_le link_limit (length visited)))
+      ∙ ap (by_rows (is_back visited (next_link bytes)) (nat_le MAX_LINKS (length visited)))
       (links-has_part visited parts alike)
 
-  -- where nothing is against them and the last one leads on, the next one is inside the media, and one of 32
+  -- where nothing is against them and the last one leads on, the next one is inside the media, and one of MAX_LINKS
   against-passed : leads_on bytes ≡ true → against ≡ None
-      → (nat_le sectors (next_link bytes) ≡ false) × (nat_le link_limit (length visited) ≡ false)
+      → (nat_le sectors (next_link bytes) ≡ false) × (nat_le MAX_LINKS (length visited) ≡ false)
   against-passed on none =
       cause_of-none (has_signature bytes) (is_link_type (entry_type bytes 1)) (is_back visited (next_link bytes))
-      (nat_le sectors (next_link bytes)) (nat_le link_limit (length visited)) (list_any is_some parts)
+      (nat_le sectors (next_link bytes)) (nat_le MAX_LINKS (length visited)) (list_any is_some parts)
       (ap (λ o. cause_of (has_signature bytes) (is_link_type (entry_type bytes 1)) o (is_back visited (next_link bytes))
-      (nat_le sectors (next_link bytes)) (nat_le link_limit (length visited)) (list_any is_some parts)) (sym on)
+      (nat_le sectors (next_link bytes)) (nat_le MAX_LINKS (length visited)) (list_any is_some parts)) (sym on)
       ∙ sym against-is ∙ none)
 
-  pub against-few : leads_on bytes ≡ true → against ≡ None → length visited < link_limit
-  against-few on none = leb-false link_limit (length visited) (against-passed on none).1
+  pub against-few : leads_on bytes ≡ true → against ≡ None → length visited < MAX_LINKS
+  against-few on none = leb-false MAX_LINKS (length visited) (against-passed on none).1
 
   -- what is against a last one that is signed and of such a type: at the end of the chain
   module _ (signed : has_signature bytes ≡ true) (second : is_link_type (entry_type bytes 1) ≡ true) where
@@ -84,10 +85,10 @@ module _ (sectors : ℕ) (visited : List ℕ) (parts : List (Option EbrPart)) (b
     against-far on back far = against-is ∙ (rw (signed, second, on, back, far) refl)
 
     pub against-long : leads_on bytes ≡ true → is_back visited (next_link bytes) ≡ false
-        → nat_le sectors (next_link bytes) ≡ false → nat_le link_limit (length visited) ≡ true
+        → nat_le sectors (next_link bytes) ≡ false → nat_le MAX_LINKS (length visited) ≡ true
         → against ≡ Some causes.Long
     against-long on back far long = against-is ∙ (rw (signed, second, on, back, far, long) refl)
 
     pub against-none : leads_on bytes ≡ true → is_back visited (next_link bytes) ≡ false
-        → nat_le sectors (next_link bytes) ≡ false → nat_le link_limit (length visited) ≡ false → against ≡ None
+        → nat_le sectors (next_link bytes) ≡ false → nat_le MAX_LINKS (length visited) ≡ false → against ≡ None
     against-none on back far long = against-is ∙ (rw (signed, second, on, back, far, long) refl)

@@ -3,10 +3,11 @@ use Rattle.std.specs.Prelude.{if◌then◌else◌}
 use Rattle.std.proofs.Common.{◌≡◌, ℕ, ◌+◌, ◌-◌, ◌<◌, true, false, List, [], ◌∷◌, ◌++◌, length, map, take, drop, set, replicate, Option, Some, None, sym, ap, ◌∙◌, arith, length-take-le, take-append-drop}
 use Rattle.std.proofs.lemmas.List.{take_more_set, length-set, drop-set-lt, drop-replicate, drop-drop}
 use Rattle.geo_base.specs.declared.decline.DeclineCause.{DeclineCause}
+use Rattle.geo_base.specs.declared.limits.TheConstants.{MAX_LINKS}
 use Rattle.geo_model.specs.declared.class.EbrPart.{EbrPart}
 use Rattle.geo_model.specs.declared.class.Shape.TheVariants.{Logical}
 use Rattle.geo_model.specs.declared.class.Verdict.TheVariants.{Decline, More, Accept}
-use Rattle.geo_model.specs.Chain.{LinkRead, Chain, link_limit, with_link, named_part, next_link, leads_on, link_tests, feed, chain_verdict, table_of}
+use Rattle.geo_model.specs.Chain.{LinkRead, Chain, with_link, named_part, next_link, leads_on, link_tests, feed, chain_verdict, table_of}
 use Rattle.geo_model.specs.Words.{first_error}
 use Rattle.geo_ebr.specs.ChainView.{ChainView}
 use Rattle.geo_ebr.specs.Links.{AreLinks, chain_in, links_of}
@@ -81,10 +82,10 @@ module _ (sectors next count : ℕ) (visited : List ℕ) (parts : List (Option E
       ∙ ap (chain_verdict longer bytes) none ∙ sym feed-is
 
   -- no partition stands behind the links
-  rest_free : drop (count + 1) more_parts ≡ replicate (32 - (count + 1)) None
+  rest_free : drop (count + 1) more_parts ≡ replicate (MAX_LINKS - (count + 1)) None
   rest_free =
       drop-set-lt (count + 1) parts count part (omega arith) ∙ sym (drop-drop 1 count parts) ∙ ap (drop 1) kept.rest
-      ∙ drop-replicate 1 (32 - count) None ∙ ap (λ n. replicate n None) (omega arith)
+      ∙ drop-replicate 1 (MAX_LINKS - count) None ∙ ap (λ n. replicate n None) (omega arith)
 
   -- the table has the partitions by their links
   table-is : table_of longer.links ≡ record { parts = more_parts }
@@ -93,10 +94,10 @@ module _ (sectors next count : ℕ) (visited : List ℕ) (parts : List (Option E
       links-parts (take (count + 1) more_visited) (take (count + 1) more_parts) long_alike in
       let many : length longer.links ≡ count + 1 =
       links-length (take (count + 1) more_visited) (take (count + 1) more_parts) long_alike ∙ long_visited in
-      let whole : map (λ (l : LinkRead). l.part) longer.links ++ replicate (link_limit - length longer.links) None
+      let whole : map (λ (l : LinkRead). l.part) longer.links ++ replicate (MAX_LINKS - length longer.links) None
       ≡ more_parts =
-      ap (λ ps. ps ++ replicate (link_limit - length longer.links) None) same
-      ∙ ap (λ n. take (count + 1) more_parts ++ replicate (link_limit - n) None) many
+      ap (λ ps. ps ++ replicate (MAX_LINKS - length longer.links) None) same
+      ∙ ap (λ n. take (count + 1) more_parts ++ replicate (MAX_LINKS - n) None) many
       ∙ ap (λ ps. take (count + 1) more_parts ++ ps) (sym rest_free) ∙ take-append-drop (count + 1) more_parts in
       ap (λ ps. record { parts = ps }) whole
 
@@ -110,7 +111,7 @@ module _ (sectors next count : ℕ) (visited : List ℕ) (parts : List (Option E
   -- where more is wanted the longer rows are kept
   pub more_kept : None ≡ against_longer → leads_on bytes ≡ true → AreLinks more_visited more_parts (count + 1)
   more_kept none on =
-      let few : length (take (count + 1) more_visited) < link_limit =
+      let few : length (take (count + 1) more_visited) < MAX_LINKS =
       against-few sectors (take (count + 1) more_visited) (take (count + 1) more_parts) bytes long_alike on
       (sym none) in
       record {

@@ -3,6 +3,7 @@ use Rattle.std.specs.Prelude.{if◌then◌else◌}
 use Rattle.std.proofs.Common.{◌≡◌, ℕ, suc, ◌+◌, ◌-◌, ◌<◌, ◌≤◌, Bool, true, false, List, Option, Some, None, Ok, Err, refl, sym, ap, ◌∙◌, arith}
 use Rattle.geo_base.specs.declared.decline.DeclineCause.{DeclineCause}
 use Rattle.geo_base.specs.declared.decline.DeclineCause.TheVariants as causes
+use Rattle.geo_base.specs.declared.limits.TheConstants.{MAX_LINKS}
 use Rattle.geo_model.specs.declared.class.EbrTable.{EbrTable}
 use Rattle.geo_model.specs.declared.class.Shape.{Shape}
 use Rattle.geo_model.specs.declared.class.Shape.TheVariants.{Logical}
@@ -36,7 +37,7 @@ feed-leads n c bytes said e =
 pub record WalkSoFar (media : ℕ → List ℕ) (n count : ℕ) (chain : ChainView) (sector : ℕ) : Type 0 where
   pub sized : chain.sectors ≡ n
   pub led : chain.chain.next ≡ sector
-  pub rest : chain_within (32 - count) media n chain.chain ≡ chain_table media n
+  pub rest : chain_within (MAX_LINKS - count) media n chain.chain ≡ chain_table media n
 
 -- it begins at sector 0
 pub walk-begins : (media : ℕ → List ℕ) (n : ℕ) (chain : ChainView) → chain ≡ record { sectors = n; chain = no_links }
@@ -44,42 +45,45 @@ pub walk-begins : (media : ℕ → List ℕ) (n : ℕ) (chain : ChainView) → c
 walk-begins media n chain same = record {
   sized = ap (λ (c : ChainView). c.sectors) same;
   led = ap (λ (c : ChainView). c.chain.next) same;
-  rest = ap (λ (c : ChainView). chain_within 32 media n c.chain) same;
+  rest = ap (λ (c : ChainView). chain_within MAX_LINKS media n c.chain) same;
 }
 
 -- a walk so far, and the bytes of the sector that it reads next
 module _ (media : ℕ → List ℕ) (n count sector : ℕ) (chain : ChainView) (walk : WalkSoFar media n count chain sector)
   where
-    -- after 32 links it is one link too long
-    pub walk-long : 32 ≤ count → Err causes.Long ≡ chain_table media n
+    -- after MAX_LINKS links it is one link too long
+    pub walk-long : MAX_LINKS ≤ count → Err causes.Long ≡ chain_table media n
     walk-long many =
-        let none : 0 ≡ 32 - count = omega (arith, many) in
+        let none : 0 ≡ MAX_LINKS - count = omega (arith, many) in
         ap (λ k. chain_within k media n chain.chain) none ∙ walk.rest
 
-    module _ (inside : count < 32) (bytes : List ℕ) (read : bytes ≡ media sector) where
+    module _ (inside : count < MAX_LINKS) (bytes : List ℕ) (read : bytes ≡ media sector) where
       -- the answer is the model's at the chain's next sector
       same_answer : feed chain.sectors chain.chain bytes ≡ feed n chain.chain (media chain.chain.next)
       same_answer = ap (λ k. feed k chain.chain bytes) walk.sized
           ∙ ap (feed n chain.chain) (read ∙ ap media (sym walk.led))
 
       -- what the answer leaves to read
-      rest_of : read_on (chain_within (32 - (count + 1)) media n) (with_link n chain.chain (media chain.chain.next))
+      rest_of : read_on (chain_within (MAX_LINKS - (count + 1)) media n)
+          (with_link n chain.chain (media chain.chain.next))
           (feed n chain.chain (media chain.chain.next))
           ≡ chain_table media n
       rest_of =
-          let left : suc (32 - (count + 1)) ≡ 32 - count = omega (arith, inside) in
+          let left : suc (MAX_LINKS - (count + 1)) ≡ MAX_LINKS - count = omega (arith, inside) in
           ap (λ k. chain_within k media n chain.chain) left ∙ walk.rest
 
       pub walk-declined : (cause : DeclineCause) → Decline cause ≡ feed chain.sectors chain.chain bytes
           → Err cause ≡ chain_table media n
       walk-declined cause e =
-          ap (read_on (chain_within (32 - (count + 1)) media n) (with_link n chain.chain (media chain.chain.next)))
+          ap (read_on (chain_within (MAX_LINKS - (count + 1)) media n)
+          (with_link n chain.chain (media chain.chain.next)))
           (e ∙ same_answer) ∙ rest_of
 
       pub walk-whole : (table : EbrTable) → Accept (Logical table) ≡ feed chain.sectors chain.chain bytes
           → Ok table ≡ chain_table media n
       walk-whole table e =
-          ap (read_on (chain_within (32 - (count + 1)) media n) (with_link n chain.chain (media chain.chain.next)))
+          ap (read_on (chain_within (MAX_LINKS - (count + 1)) media n)
+          (with_link n chain.chain (media chain.chain.next)))
           (e ∙ same_answer) ∙ rest_of
 
       -- where more is wanted it goes on with the longer chain
@@ -94,9 +98,9 @@ module _ (media : ℕ → List ℕ) (n count sector : ℕ) (chain : ChainView) (
             sized = ap (λ (c : ChainView). c.sectors) same ∙ walk.sized;
             led = ap (λ (c : ChainView). c.chain.next) same ∙ sym (feed-leads chain.sectors chain.chain bytes said e).2;
             rest =
-                ap (λ (c : ChainView). chain_within (32 - (count + 1)) media n c.chain) same
-                ∙ ap (chain_within (32 - (count + 1)) media n) longer
-                ∙ ap (read_on (chain_within (32 - (count + 1)) media n)
+                ap (λ (c : ChainView). chain_within (MAX_LINKS - (count + 1)) media n c.chain) same
+                ∙ ap (chain_within (MAX_LINKS - (count + 1)) media n) longer
+                ∙ ap (read_on (chain_within (MAX_LINKS - (count + 1)) media n)
                 (with_link n chain.chain (media chain.chain.next))) (e ∙ same_answer)
                 ∙ rest_of;
           }

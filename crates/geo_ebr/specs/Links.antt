@@ -1,7 +1,8 @@
--- The links of a chain, in two rows of 32 cells: their sectors, and their partitions.
+-- The links of a chain, in two rows of MAX_LINKS cells: their sectors, and their partitions.
 use Rattle.std.specs.Prelude.{◌≡◌, ℕ, ◌<◌, ◌-◌, ◌==◌, Bool, ◌||◌, List, [], ◌∷◌, length, take, drop, replicate, Option, None}
 use Rattle.std.specs.List.{list_any}
 use Rattle.geo_base.specs.declared.decline.DeclineCause.{DeclineCause}
+use Rattle.geo_base.specs.declared.limits.TheConstants.{MAX_LINKS}
 use Rattle.geo_model.specs.declared.class.EbrPart.{EbrPart}
 use Rattle.geo_model.specs.Chain.{Chain, LinkRead, link_tests, next_link}
 use Rattle.geo_model.specs.Words.{first_error}
@@ -26,7 +27,7 @@ is_back visited sector = (sector == 0) || list_any (λ v. v == sector) visited
 
 -- the first cells are those of the links, and there is one more; no partition stands behind them
 pub record AreLinks (visited : List ℕ) (parts : List (Option EbrPart)) (count : ℕ) : Type 0 where
-  pub sectors : length visited ≡ 32
-  pub places : length parts ≡ 32
-  pub few : count < 32
-  pub rest : drop count parts ≡ replicate (32 - count) None
+  pub sectors : length visited ≡ MAX_LINKS
+  pub places : length parts ≡ MAX_LINKS
+  pub few : count < MAX_LINKS
+  pub rest : drop count parts ≡ replicate (MAX_LINKS - count) None

@@ -3,8 +3,8 @@ ghost use Rattle.std.specs.Prelude.{◌≡◌, ◌≤◌, length};
 ghost use Rattle.geo_model.specs.Chain.{feed, no_links};
 ghost use Rattle.geo_ebr.specs.ChainView.{chain_after, verdict_of};
 
-use crate::link::{LINKS, cause_against, leads_on, named_part, next_link};
-use geo_base::DeclineCause;
+use crate::link::{cause_against, leads_on, named_part, next_link};
+use geo_base::{DeclineCause, MAX_LINKS};
 use geo_model::{EbrPart, EbrTable};
 use std::marker::Model;
 
@@ -25,8 +25,8 @@ pub enum Link {
 pub struct Chain {
     sectors: u64,
     next: u32,
-    visited: [u32; LINKS],
-    parts: [Option<EbrPart>; LINKS],
+    visited: [u32; MAX_LINKS],
+    parts: [Option<EbrPart>; MAX_LINKS],
     count: usize,
 }
 
@@ -49,8 +49,8 @@ impl Chain {
         Chain {
             sectors,
             next: 0,
-            visited: [0; LINKS],
-            parts: [None; LINKS],
+            visited: [0; MAX_LINKS],
+            parts: [None; MAX_LINKS],
             count: 0,
         }
     }

@@ -1,8 +1,8 @@
 //! Where a logical partition lies.
-ghost use Rattle.std.specs.Prelude.{◌≡◌, ◌+◌, ◌*◌, ◌^◌, ◌≤◌};
+ghost use Rattle.std.specs.Prelude.{◌≡◌, ◌+◌, ◌*◌, ◌≤◌};
 ghost use Rattle.geo_ebr.specs.MapLaws.{MapsAreTheModels};
 
-use geo_base::NoMemory;
+use geo_base::{MAX_MEDIA_BYTES, NoMemory};
 use geo_range::{AddressMap, PieceList, Span, Window};
 use std::alloc::Global;
 use std::marker::Model;
@@ -30,7 +30,7 @@ impl Model for EbrMap {
 impl EbrMap {
     /// The `count` sectors from sector `first` on, which have 512 bytes.
     pub fn new(first: u64, count: u32) -> EbrMap
-        requires { (first + count) * 512 ≤ 2 ^ 60 }
+        requires { (first + count) * 512 ≤ MAX_MEDIA_BYTES }
         ensures { result ≡ record { start = first * 512; size = count * 512; sector = 512 } }
     {
         EbrMap {

@@ -5,12 +5,9 @@ ghost use Rattle.geo_model.specs.Chain.{is_link_type, leads_on, named_part, next
 ghost use Rattle.geo_model.specs.Records.{entry_type};
 ghost use Rattle.geo_ebr.specs.Links.{cause_against, is_back};
 
-use geo_base::DeclineCause;
+use geo_base::{DeclineCause, MAX_LINKS};
 use geo_model::EbrPart;
 use geo_record::{entry_count, entry_first, entry_type, has_signature};
-
-/// The greatest number of links.
-pub const LINKS: usize = 32;
 
 /// The partition that the link at a sector names, of a provider with so many sectors. It counts from the link, and is
 /// kept unless its type, its first sector or its size is 0, or its end is past the media.
@@ -119,7 +116,7 @@ pub fn cause_against(
     if leads_past(sector, sectors) {
         return Some(DeclineCause::Far);
     }
-    if LINKS <= visited.len() {
+    if MAX_LINKS <= visited.len() {
         return Some(DeclineCause::Long);
     }
     None

@@ -4,8 +4,7 @@ ghost use Rattle.geo_model.specs.Chain.{chain_table};
 ghost use Rattle.geo_record.specs.Head.{answer_of};
 
 use crate::chain::{Chain, Link};
-use crate::link::LINKS;
-use geo_base::{DeclineCause, Declined};
+use geo_base::{DeclineCause, Declined, MAX_LINKS};
 use geo_model::EbrTable;
 
 /// A media that tells the bytes of each sector.
@@ -28,7 +27,7 @@ pub fn read_chain<M: Media>(media: &M, sectors: u64) -> Result<EbrTable, Decline
 {
     let mut chain = Chain::new(sectors);
     let mut next = 0;
-    for _ in 0..LINKS {
+    for _ in 0..MAX_LINKS {
         match chain.feed(media.sector(next)) {
             Link::More(sector) => next = sector,
             Link::Declined(cause) => return Err(Declined { cause }),

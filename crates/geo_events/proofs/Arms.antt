@@ -1,6 +1,7 @@
 -- Each of what a step of the taste may come to.
 use Rattle.std.specs.Prelude.{◌≡◌, ℕ, ◌+◌, ◌-◌, ◌*◌, ◌≤◌, false, List, length, Option, Some, None, IsSome, IsSomeAnd}
 use Rattle.std.proofs.Common.{refl, sym, ◌∙◌, ap, subst}
+use Rattle.geo_base.specs.declared.limits.TheConstants.{MAX_LINKS}
 use Rattle.geo_model.specs.declared.class.Judged.{Judged}
 use Rattle.geo_model.specs.declared.class.Judged.TheVariants.{Read, Next, Made, Ended}
 use Rattle.geo_model.specs.declared.step.Entry.{Entry}
@@ -36,7 +37,7 @@ pub record Stepped (s : State) (a : Taste) (u : TopoView Config) (q : Queued) (z
   pub judged : IsJudged (both s.topo s.queue) a u q z j
   pub settled : IsKnownWith j (MayJudge (both s.topo s.queue) a) (IsTasteSettled u)
   pub tasting : IsKnownWith j (MayJudge (both s.topo s.queue) a) (IsTasteOf u z)
-  pub spare : s.queue.spare ≤ q.spare + 32
+  pub spare : s.queue.spare ≤ q.spare + MAX_LINKS
 
 -- where nothing is against a Judge the state is ready for it
 pub ready-of : (s : State) → Holds s → IsFirm s → IsAgainst judge_next s None → (a : Taste) → s.taste ≡ Some a
@@ -54,7 +55,7 @@ module _ (s : State) (a : Taste) (ready : Ready s a) (u : TopoView Config) (q : 
   -- what a step came to, by another name for it
   pub stepped : (j k : Judged) → j ≡ k → IsJudged (both s.topo s.queue) a u q z j
       → IsKnownWith j (MayJudge (both s.topo s.queue) a) (IsTasteSettled u)
-      → IsKnownWith j (MayJudge (both s.topo s.queue) a) (IsTasteOf u z) → s.queue.spare ≤ q.spare + 32
+      → IsKnownWith j (MayJudge (both s.topo s.queue) a) (IsTasteOf u z) → s.queue.spare ≤ q.spare + MAX_LINKS
       → Stepped s a u q z k
   stepped j k same judged settled tasting spare =
       subst (Stepped s a u q z) same
@@ -235,7 +236,7 @@ module _ (s : State) (a : Taste) (ready : Ready s a) (u : TopoView Config) (q : 
   -- Memory is wanting
 
   module _ (same : AreBoth u q (both s.topo s.queue)) (still : z ≡ a) (settled : IsTasteSettled u)
-      (spare : s.queue.spare ≤ q.spare + 32) where
+      (spare : s.queue.spare ≤ q.spare + MAX_LINKS) where
     -- all is kept
     pub refused-holds : Holds (record s { topo = u; queue = q; taste = Some z })
     refused-holds =

@@ -8,6 +8,7 @@ use Rattle.std.proofs.lemmas.List.Elements.{recursion_from_All}
 use Rattle.geo_base.specs.declared.kind.Kind.{Kind}
 use Rattle.geo_base.specs.declared.kind.Kind.TheVariants as kinds
 use Rattle.geo_base.specs.declared.request.Counts.{Counts}
+use Rattle.geo_base.specs.declared.limits.TheConstants.{MAX_LINKS}
 use Rattle.geo_model.specs.declared.class.EbrPart.{EbrPart}
 use Rattle.geo_model.specs.declared.class.Shape.{Shape}
 use Rattle.geo_model.specs.declared.class.Shape.TheVariants.{Slices, Logical, Named, Joined, Striped}
@@ -218,7 +219,7 @@ module _ (t : TopoView Config) where
 
 -- so many providers may come at most
 abbrev pub most : ℕ
-most = 32
+most = MAX_LINKS
 
 -- a growth by few providers
 pub record GrowsFew (t u : TopoView Config) : Type 0 where
@@ -267,7 +268,7 @@ one-more t m g none geom name size sector = record {
       let all : length (g.providers ++ new_provider m.mesh.topology geom name size sector ∷ [])
       ≡ length g.providers + 1 =
       length-append g.providers (new_provider m.mesh.topology geom name size sector ∷ []) in
-      let so : length (g.providers ++ new_provider m.mesh.topology geom name size sector ∷ []) ≤ 32 =
+      let so : length (g.providers ++ new_provider m.mesh.topology geom name size sector ∷ []) ≤ MAX_LINKS =
       omega (arith, all, none) in
       so;
 }
@@ -352,7 +353,7 @@ module _ (m : QueuedMesh) where
 
   -- a table
   sliced-grows : (p : ℕ) (kind : Kind) (name : List ℕ) (config : Config) (slices : List NewSlice)
-      → disk_of config ≡ None → length slices ≤ 32 → AllGrow t (sliced m p kind name config slices)
+      → disk_of config ≡ None → length slices ≤ MAX_LINKS → AllGrow t (sliced m p kind name config slices)
   sliced-grows p kind name config slices none few =
       let all : GrowsBy t (with_slices_of (over m p kind name config) t.topology.next_geom slices).mesh
       (0 + length slices) =

@@ -6,6 +6,7 @@ use Rattle.std.proofs.Common.{refl, sym, ◌∙◌, ap, subst, arith}
 use Rattle.std.proofs.lemmas.List.{append-nil, length-append, length-map}
 use Rattle.geo_base.specs.declared.kind.Kind.TheVariants as kinds
 use Rattle.geo_base.specs.declared.request.Counts.{Counts}
+use Rattle.geo_base.specs.declared.limits.TheConstants.{MAX_LINKS}
 use Rattle.geo_model.specs.declared.class.Judged.{Judged}
 use Rattle.geo_model.specs.declared.class.Shape.{Shape}
 use Rattle.geo_model.specs.declared.class.Verdict.{Verdict}
@@ -167,9 +168,9 @@ module _ (s : State) (a : Taste) (ready : Ready s a) where
 
     -- What is kept
 
-    module _ (spare : s.queue.spare ≤ q.spare + 32) where
+    module _ (spare : s.queue.spare ≤ q.spare + MAX_LINKS) where
       -- where few providers came the queue has the places that are owed
-      owed-kept : (v : TopoView Config) → IsTasteSettled v → (n : ℕ) → n ≤ 32
+      owed-kept : (v : TopoView Config) → IsTasteSettled v → (n : ℕ) → n ≤ MAX_LINKS
           → length v.topology.providers ≡ length t.providers + n → IsSettled v q
       owed-kept v settled n few all = record {
         counted = settled.counted;
@@ -240,7 +241,7 @@ module _ (s : State) (a : Taste) (ready : Ready s a) where
         module _ (made : IsSomeAnd (making m a) (AreBoth u q)) where
           -- which parts came
           few-links : class_asked a.asked ≡ Some kinds.Ebr → (p : Provider) → provider_at t a.provider ≡ Some p
-              → length a.chain.links < 32
+              → length a.chain.links < MAX_LINKS
           few-links ebr p found =
               let order : IsTasteInOrder (world ready.firm.1.0 ready.firm.0 s) a =
               ordered s ready.kept ready.firm a ready.is in

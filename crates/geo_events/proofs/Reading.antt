@@ -6,6 +6,7 @@ use Rattle.std.proofs.Math.Nat.{div-mul-le_self, mul-le-mul_right}
 use Rattle.std.proofs.lemmas.Bool.{and_parts, leb-true}
 use Rattle.std.proofs.lemmas.List.Elements.{All-contains}
 use Rattle.geo_base.specs.declared.request.BioCmd.TheVariants as cmds
+use Rattle.geo_base.specs.declared.limits.TheConstants.{MAX_MEDIA_BYTES}
 use Rattle.geo_model.specs.declared.span.Span.{Span}
 use Rattle.geo_model.specs.declared.step.Owner.TheVariants as owners
 use Rattle.geo_model.specs.Topology.{Topology, Provider, provider_at}
@@ -32,8 +33,8 @@ sector-fits t sound prov sector p found inside =
     (find-Contains (λ (x : Provider). x.number == prov) t.providers p found) in
     let sizes = and_parts ((p.sector == 512) || (p.sector == 4096)) _ offer.sizes in
     let some = and_parts (nat_le 1 p.size) _ sizes.1 in
-    let most = and_parts (nat_le p.size (2 ^ 60)) (p.size % p.sector == 0) some.1 in
-    let size : p.size ≤ 2 ^ 60 = leb-true p.size (2 ^ 60) most.0 in
+    let most = and_parts (nat_le p.size MAX_MEDIA_BYTES) (p.size % p.sector == 0) some.1 in
+    let size : p.size ≤ MAX_MEDIA_BYTES = leb-true p.size MAX_MEDIA_BYTES most.0 in
     let below : sector < p.size / p.sector = subst (λ o. IsSomeAnd o (λ x. sector < x.size / x.sector)) found inside in
     let less : sector ≤ p.size / p.sector = omega (arith, below) in
     let times : sector * p.sector ≤ p.size / p.sector * p.sector = mul-le-mul_right p.sector less in

@@ -8,6 +8,7 @@ use Rattle.geo_base.specs.declared.decline.DeclineCause.TheVariants as causes
 use Rattle.geo_base.specs.declared.kind.Kind.{Kind}
 use Rattle.geo_base.specs.declared.kind.Kind.TheVariants as kinds
 use Rattle.geo_base.specs.declared.request.Counts.{Counts}
+use Rattle.geo_base.specs.declared.limits.TheConstants.{MAX_LINKS}
 use Rattle.geo_model.specs.declared.class.EbrPart.{EbrPart}
 use Rattle.geo_model.specs.declared.class.Facts.{Facts}
 use Rattle.geo_model.specs.declared.class.LabelRecord.{LabelRecord}
@@ -31,34 +32,35 @@ not-accepted : {A : Type 0} (cause : DeclineCause) (shape : Shape) → Decline c
 not-accepted cause shape e = absurd (let no : ⊥ = cc in no)
 
 -- a table of slices
-short-slices : (o : Option DeclineCause) (x : MbrTable) (shape : Shape) → length x.slices ≤ 32
+short-slices : (o : Option DeclineCause) (x : MbrTable) (shape : Shape) → length x.slices ≤ MAX_LINKS
     → verdict_of Slices (unless o x) ≡ Accept shape → IsShort shape
 short-slices None x shape few e = subst IsShort (let same : Slices x ≡ shape = cc in same) few
 short-slices (Some cause) x shape few e = not-accepted cause shape e
 
--- a chain of at most 32 links has 32 places
-places-of : (links : List LinkRead) → length links ≤ 32 → length (table_of links).parts ≤ 32
+-- a chain of at most MAX_LINKS links has MAX_LINKS places
+places-of : (links : List LinkRead) → length links ≤ MAX_LINKS → length (table_of links).parts ≤ MAX_LINKS
 places-of links few =
-    let all : length (map (λ (l : LinkRead). l.part) links ++ replicate (32 - length links) None)
-    ≡ length (map (λ (l : LinkRead). l.part) links) + length (replicate {A = Option EbrPart} (32 - length links) None) =
-    length-append (map (λ (l : LinkRead). l.part) links) (replicate (32 - length links) None) in
+    let all : length (map (λ (l : LinkRead). l.part) links ++ replicate (MAX_LINKS - length links) None)
+    ≡ length (map (λ (l : LinkRead). l.part) links)
+    + length (replicate {A = Option EbrPart} (MAX_LINKS - length links) None) =
+    length-append (map (λ (l : LinkRead). l.part) links) (replicate (MAX_LINKS - length links) None) in
     let first : length (map (λ (l : LinkRead). l.part) links) ≡ length links =
     length-map links (λ (l : LinkRead). l.part) in
-    let rest : length (replicate {A = Option EbrPart} (32 - length links) None) ≡ 32 - length links =
-    length-replicate {A = Option EbrPart} (32 - length links) None in
-    let sum : length (map (λ (l : LinkRead). l.part) links ++ replicate (32 - length links) None) ≤ 32 =
+    let rest : length (replicate {A = Option EbrPart} (MAX_LINKS - length links) None) ≡ MAX_LINKS - length links =
+    length-replicate {A = Option EbrPart} (MAX_LINKS - length links) None in
+    let sum : length (map (λ (l : LinkRead). l.part) links ++ replicate (MAX_LINKS - length links) None) ≤ MAX_LINKS =
     omega (arith, all, first, rest, few) in
     sum
 
 -- the partitions of a chain
-short-parts : (c : Chain) (bytes : List ℕ) (shape : Shape) (b : Bool) → length c.links ≤ 32
+short-parts : (c : Chain) (bytes : List ℕ) (shape : Shape) (b : Bool) → length c.links ≤ MAX_LINKS
     → (if b then More c.next else Accept (Logical (table_of c.links))) ≡ Accept shape → IsShort shape
 short-parts c bytes shape true few e = absurd (let no : ⊥ = cc in no)
 short-parts c bytes shape false few e =
     subst IsShort (let same : Logical (table_of c.links) ≡ shape = cc in same) (places-of c.links few)
 
 -- so of a chain
-short-chain : (c : Chain) (bytes : List ℕ) (shape : Shape) (o : Option DeclineCause) → length c.links ≤ 32
+short-chain : (c : Chain) (bytes : List ℕ) (shape : Shape) (o : Option DeclineCause) → length c.links ≤ MAX_LINKS
     → chain_verdict c bytes o ≡ Accept shape → IsShort shape
 short-chain c bytes shape None few e = short-parts c bytes shape (leads_on bytes) few e
 short-chain c bytes shape (Some cause) few e = not-accepted cause shape e
@@ -82,7 +84,7 @@ short-record make (Ok x) shape short e = subst IsShort (let same : make x ≡ sh
 short-record make (Err cause) shape short e = not-accepted cause shape e
 
 module _ (granted : ℕ → Counts) (s : Taste) (f : Facts) (shape : Shape)
-    (few : class_asked s.asked ≡ Some kinds.Ebr → length s.chain.links < 32) where
+    (few : class_asked s.asked ≡ Some kinds.Ebr → length s.chain.links < MAX_LINKS) where
   -- so of what any class accepts of the bytes that it asked for
   by-class : (kind : Kind) (bytes : List ℕ) → class_asked s.asked ≡ Some kind
       → verdict_on granted s kind bytes f ≡ Accept shape → IsShort shape
@@ -92,7 +94,7 @@ module _ (granted : ℕ → Counts) (s : Taste) (f : Facts) (shape : Shape)
       (omega (arith, four)) e
   by-class kinds.Ebr bytes asked e =
       let c : Chain = with_link f.sectors s.chain bytes in
-      let before : length s.chain.links < 32 = few asked in
+      let before : length s.chain.links < MAX_LINKS = few asked in
       let more : length (with_link f.sectors s.chain bytes).links ≡ length s.chain.links + 1 =
       length-append s.chain.links _ in
       short-chain c bytes shape (first_error (link_tests f.sectors c bytes)) (omega (arith, before, more)) e

@@ -7,12 +7,12 @@ use Rattle.std.proofs.lemmas.Bool.{eqb-true, false_from_ne_true}
 use Rattle.std.proofs.lemmas.List.Elements.{All-contains, recursion_from_All}
 use Rattle.geo_base.specs.Sectors.{IsSectorSize}
 use Rattle.geo_base.specs.declared.request.Counts.{Counts}
+use Rattle.geo_base.specs.declared.limits.TheConstants.{UNTASTED_RANK}
 use Rattle.geo_model.specs.declared.step.BioResult.TheVariants as results
 use Rattle.geo_model.specs.Words.{is_read, names_number}
 use Rattle.geo_model.specs.Topology.{Topology, Geom, Provider, Consumer, consumer_at, consumers_of, geom_at, provider_at}
 use Rattle.geo_model.specs.Demand.{no_counts, one_read, want}
 use Rattle.geo_model.specs.Rank.{rank}
-use Rattle.geo_model.specs.Events.{taste_limit}
 use Rattle.geo_model.specs.World.{World, Config, Bio, BioOf, Handle, Taste, Asked, NoClass, NextSector, ReadOut, ReadBack, granted_in, is_read_out, is_taste_root, taste_grant}
 use Rattle.geo_model.specs.Sound.{AreReadsInOrder, IsMediaSize, IsTasteInOrder, IsTasting}
 use Rattle.geo_model.specs.SoundBios.{IsBioInOrder, HasCountFor}
@@ -91,21 +91,21 @@ module _ (s : State) (kept : Holds s) (firm : IsFirm s) (a : Taste) (is : s.tast
   record HasLow : Type 0 where
     item : Provider
     found : provider_at t a.provider ≡ Some item
-    low : rank t item.geom < taste_limit
+    low : rank t item.geom < UNTASTED_RANK
 
   -- so it is
   low-of : HasLow
   low-of = on (provider_at t a.provider) refl ordered.rank
     where
       geom : (p : Provider) (o : Option (Geom Config)) → geom_at t p.geom ≡ o
-          → IsSomeAnd o (λ g. rank t g.number < taste_limit) → rank t p.geom < taste_limit
+          → IsSomeAnd o (λ g. rank t g.number < UNTASTED_RANK) → rank t p.geom < UNTASTED_RANK
       geom p None e never = absurd never
       geom p (Some g) e low =
-          subst (λ n. rank t n < taste_limit)
+          subst (λ n. rank t n < UNTASTED_RANK)
           (eqb-true g.number p.geom (find_passes (λ (x : Geom Config). x.number == p.geom) t.geoms g e)) low
 
       on : (o : Option Provider) → provider_at t a.provider ≡ o
-          → IsSomeAnd (option_and_then (λ (p : Provider). geom_at t p.geom) o) (λ g. rank t g.number < taste_limit)
+          → IsSomeAnd (option_and_then (λ (p : Provider). geom_at t p.geom) o) (λ g. rank t g.number < UNTASTED_RANK)
           → HasLow
       on None e never = absurd never
       on (Some p) e low = record { item = p; found = e; low = geom p (geom_at t p.geom) refl low }
@@ -115,8 +115,8 @@ module _ (s : State) (kept : Holds s) (firm : IsFirm s) (a : Taste) (is : s.tast
   at-tasted P fact = subst (λ o. IfSome o P) (sym low-of.found) fact
 
   -- its geom has a rank at which it is tasted
-  pub rank-low : IfSome (provider_at t a.provider) (λ p. rank t p.geom < taste_limit)
-  rank-low = at-tasted (λ p. rank t p.geom < taste_limit) low-of.low
+  pub rank-low : IfSome (provider_at t a.provider) (λ p. rank t p.geom < UNTASTED_RANK)
+  rank-low = at-tasted (λ p. rank t p.geom < UNTASTED_RANK) low-of.low
 
   -- how far a class was asked of it
   asked-well : IsAskedInOrder t low-of.item a.asked

@@ -1,5 +1,6 @@
 -- Image files as contracts see them: what they hold isn't told.
-use Rattle.std.specs.Prelude.{ℕ, ◌*◌, ◌^◌, ◌<◌, ◌≤◌, List, Contains, None}
+use Rattle.std.specs.Prelude.{ℕ, ◌*◌, ◌<◌, ◌≤◌, List, Contains, None}
+use Rattle.geo_base.specs.declared.limits.TheConstants.{MAX_IMAGE_BYTES}
 use Rattle.geo_disk.specs.Disk.{DiskView}
 use Rattle.geo_disk.specs.Lending.{Loans, faults_of, give_faults_of, returned_asked, returned_sectors, take_faults_of}
 use Rattle.geo_disk.specs.Shelf.{ShelfView}
@@ -29,7 +30,7 @@ image_view d = record {
 -- a sector has bytes, and the places of all of them are far below the end of an offset
 pub record IsReachable (sector sectors : ℕ) : Type 0 where
   pub some : 0 < sector
-  pub limited : sectors * sector ≤ 2 ^ 40
+  pub limited : sectors * sector ≤ MAX_IMAGE_BYTES
 
 -- a folder: what is lent of it, how many calls failed, and what its calls were
 pub record Folder : Type 0 where

@@ -4,6 +4,7 @@ use Rattle.std.specs.Fmt.{digits}
 use Rattle.std.specs.Prelude.{IsOk}
 use Rattle.std.proofs.lemmas.Fmt.{length-decimal-le}
 use Rattle.std.proofs.lemmas.List.{length-append}
+use Rattle.geo_base.specs.declared.limits.TheConstants.{MAX_DRAWN_LINES, MAX_START}
 use Rattle.geo_model.specs.Generator.{generated, draws, drawn_lines, command_text, next_draw, draw_value, line}
 use Rattle.geo_model.specs.Report.{end_line}
 use Rattle.geo_model.specs.Script.{script}
@@ -51,7 +52,7 @@ unfolding header_text digits
 header_long = refl
 
 -- the script has fewer than 2 ^ 32 bytes
-pub generated_short : (start count : ℕ) → count ≤ 4000 → length (generated start count) < 2 ^ 32
+pub generated_short : (start count : ℕ) → count ≤ MAX_DRAWN_LINES → length (generated start count) < 2 ^ 32
 generated_short start count few =
     let lines = drawn_lines 0 (draws (3 * count) start) in
     let both = length-append header_text lines in
@@ -59,6 +60,7 @@ generated_short start count few =
     omega (arith, both, same, header_long, lines_short count 0 start)
 
 -- it is a script
-pub generated_accepted : (start count : ℕ) → start ≤ 2147483647 → count ≤ 4000 → IsOk (script (generated start count))
+pub generated_accepted : (start count : ℕ) → start ≤ MAX_START → count ≤ MAX_DRAWN_LINES
+    → IsOk (script (generated start count))
 generated_accepted start count below few =
     let made = generated_plans.scripts start count (below, few) in rw made.1 refl

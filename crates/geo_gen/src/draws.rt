@@ -11,9 +11,9 @@ pub fn next_draw(x: u64) -> u64
     (x * 1_103_515_245 + 12_345) % 2_147_483_648
 }
 
-/// What a draw gives.
+/// What a draw gives: the bits above the lowest 16.
 pub fn draw_value(x: u64) -> u64
     ensures { result ≡ draw_value x }
 {
-    x / 65_536
+    x / 0x1_0000
 }

@@ -6,7 +6,7 @@ ghost use Rattle.geo_gen.specs.Lines.{header_text, drawn_text, next_text, third_
 
 use crate::commands::add_chosen;
 use crate::draws::{draw_value, next_draw};
-use geo_base::{Block, NoMemory};
+use geo_base::{Block, MAX_DRAWN_LINES, MAX_START, NoMemory};
 use geo_text::Text;
 use std::alloc::Global;
 
@@ -90,8 +90,8 @@ fn script_text(alloc: Global, start: u64, count: u64) -> Result<Block, NoMemory>
 /// `start` on. `parse` accepts it.
 #[tactic(auto, using(crate::proofs::Short::generated_short, crate::proofs::Short::generated_accepted))]
 pub fn make_script(alloc: Global, start: u32, count: u32) -> Result<Block, NoMemory>
-    requires start_range { start ≤ 2147483647 }
-    requires count_range { count ≤ 4000 }
+    requires start_range { start ≤ MAX_START }
+    requires count_range { count ≤ MAX_DRAWN_LINES }
     ensures text { IfOk result (λ block. block ≡ generated start count) }
     ensures short { IfOk result (λ block. length block < 2 ^ 32) }
     ensures accepted { IfOk result (λ block. IsOk (script block)) }

@@ -1,5 +1,5 @@
 -- How a call of the program ends: its status, its text, and the cause of each ending.
-use Rattle.std.specs.Prelude.{◌≡◌, ◌≢◌, ◌⊎◌, ℕ, ◌+◌, ◌-◌, ◌^◌, ◌<◌, ◌≤◌, ◌&&◌, List, [], ◌∷◌, ◌++◌, length, find, Ok, Err, Option, Some, None, IsSome, IsNone, IsSomeAnd, IfSome, IsTrue, All, Contains, codes, decimal, ⊤, zip}
+use Rattle.std.specs.Prelude.{◌≡◌, ◌≢◌, ◌⊎◌, ℕ, ◌+◌, ◌-◌, ◌<◌, ◌≤◌, ◌&&◌, List, [], ◌∷◌, ◌++◌, length, find, Ok, Err, Option, Some, None, IsSome, IsNone, IsSomeAnd, IfSome, IsTrue, All, Contains, codes, decimal, ⊤, zip}
 use Rattle.std.specs.List.{list_any}
 use Rattle.geo_base.specs.Faults.{Rose}
 use Rattle.geo_model.specs.declared.command.Cause.{Cause}
@@ -23,6 +23,7 @@ use Rattle.geo_headline.specs.Verifying.{verified}
 use Rattle.geo_headline.specs.Viewing.{view_text}
 use Rattle.geo_model.specs.FixedOrder.{StepOrder, fixed_order, IsOfItsJob, FoundFull}
 use Rattle.geo_base.specs.Images.{Images}
+use Rattle.geo_base.specs.declared.limits.TheConstants.{MAX_LOG_ENTRIES}
 use Rattle.geo_headline.specs.Outside.{Outside, ShelfView, IsThere, IsMissing, IsBadSize, HasToldSize, IsShelf, is_shelf, kept_back}
 
 -- Endings
@@ -208,7 +209,7 @@ DueIsFull mode plan opened log =
 
 pub record LogRanFull (mode : Mode) (plan : Plan) (opened : World) (log : List Entry) : Type 0 where
   pub due : DueIsFull mode plan opened log
-  pub nearly : 2 ^ 32 - 1 ≤ length log + owed (replay opened log)
+  pub nearly : MAX_LOG_ENTRIES - 1 ≤ length log + owed (replay opened log)
 
 -- the first disk in header order that was kept back
 abbrev pub first_kept_back : Plan → ShelfView → ShelfView → Option DiskDecl

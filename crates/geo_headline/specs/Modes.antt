@@ -1,5 +1,6 @@
 -- What the program is asked to do, and the words that ask for it.
 use Rattle.std.specs.Prelude.{◌≡◌, ℕ, Bool, true, false, List, [], ◌∷◌, codes, decimal, ⊤, IsTrue}
+use Rattle.geo_base.specs.declared.limits.TheConstants.{MAX_SCRIPT_BYTES, MAX_TRACE_BYTES}
 use Rattle.geo_model.specs.Generator.{CanBeGenerated}
 
 -- what the program is asked to do
@@ -58,5 +59,5 @@ TakesNoDisk _ = ⊥
 
 -- how many bytes a source may give
 abbrev pub source_limit : Mode → ℕ
-source_limit VerifyMode = 67108864
-source_limit _ = 4194304
+source_limit VerifyMode = MAX_TRACE_BYTES
+source_limit _ = MAX_SCRIPT_BYTES

@@ -2,6 +2,7 @@
 use Rattle.std.specs.Prelude.{◌≡◌, ℕ, ◌+◌, ◌*◌, ◌^◌, ◌==◌, nat_lt, nat_le, Bool, true, ◌&&◌, List, [], ◌∷◌, ◌++◌, length, map, flat_map, zip, Result, Ok, Err, codes, decimal, if◌then◌else◌}
 use Rattle.std.specs.List.{slice_split}
 use Rattle.geo_base.specs.Runs.{runs_text}
+use Rattle.geo_base.specs.declared.limits.TheConstants.{MAX_IMAGE_BYTES}
 use Rattle.geo_model.specs.declared.command.Cause.{Cause}
 use Rattle.geo_model.specs.declared.command.DiskDecl.{DiskDecl}
 use Rattle.geo_model.specs.declared.step.DeviceResult.{DeviceResult}
@@ -166,10 +167,10 @@ seat_and_step ws = do
 abbrev pub marked : {A : Type 0} → (Words → Result A Cause) → List ℕ → Result A Cause
 marked read line = by_word ((codes "%", read) ∷ []) (words_of line)
 
--- the sectors of a disk of the shelf: 1 or more, and no more than 2 ^ 40 bytes
+-- the sectors of a disk of the shelf: 1 or more, and no more bytes than MAX_IMAGE_BYTES
 abbrev pub size_words : ℕ → Words → Result ℕ Cause
 size_words sector ws = do
-  n ← ranged (λ n. nat_le 1 n && nat_le (n * sector) (2 ^ 40)) ws
+  n ← ranged (λ n. nat_le 1 n && nat_le (n * sector) MAX_IMAGE_BYTES) ws
   at_end n.0 n.1
 
 abbrev pub size_of_line : ℕ → List ℕ → Result ℕ Cause

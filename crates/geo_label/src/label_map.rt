@@ -1,7 +1,7 @@
 //! Where a labelled provider lies.
-ghost use Rattle.std.specs.Prelude.{◌≡◌, ◌^◌, ◌≤◌};
+ghost use Rattle.std.specs.Prelude.{◌≡◌, ◌≤◌};
 
-use geo_base::NoMemory;
+use geo_base::{MAX_MEDIA_BYTES, NoMemory};
 use geo_range::{AddressMap, PieceList, Span, Window};
 use std::alloc::Global;
 use std::marker::Model;
@@ -25,7 +25,7 @@ impl Model for LabelMap {
 impl LabelMap {
     /// The first `size` bytes of the component, in sectors of `sector` bytes.
     pub fn new(size: u64, sector: u32) -> LabelMap
-        requires { size ≤ 2 ^ 60 }
+        requires { size ≤ MAX_MEDIA_BYTES }
         ensures { result ≡ record { start = 0; size = size; sector = sector } }
     {
         LabelMap {

@@ -11,7 +11,7 @@ use crate::lane_pass::LanePass;
 use crate::ticket::Ticket;
 use crate::view::View;
 use crossbeam_queue::RuledArrayQueue;
-use geo_base::NoMemory;
+use geo_base::{LANE_TICKETS, NoMemory};
 use std::marker::Model;
 use std::sync::Wait;
 use thiserror::Error;
@@ -26,12 +26,13 @@ impl Model for Lane {
     ghost use Rattle.std.specs.Prelude.{◌≡◌};
     ghost use Rattle.atomic_table.specs.Seated.{TableId};
     ghost use Rattle.crossbeam_queue.specs.Passes.{ruled_capacity};
+    ghost use Rattle.geo_base.specs.declared.limits.TheConstants.{LANE_TICKETS};
 
     ghost Value = { TableId };
 
     ghost view = { λ l. l.tickets.table.shared.table_id };
 
-    ghost invariant = { λ l. ruled_capacity l.tickets ≡ 1024 };
+    ghost invariant = { λ l. ruled_capacity l.tickets ≡ LANE_TICKETS };
 }
 
 /// The lane held 1,024 tickets at one moment of the call. The ticket comes back.
@@ -46,7 +47,7 @@ impl Lane {
     pub fn create<R: AllocGlobal>(rt: &R) -> Result<(Lane, LanePass), NoMemory>
         ensures { IfOk result (λ r. r.1 ≡ first_pass r.0) }
     {
-        let (tickets, pass) = RuledArrayQueue::ruled(rt.alloc(), 1024)?;
+        let (tickets, pass) = RuledArrayQueue::ruled(rt.alloc(), LANE_TICKETS)?;
         let pass = LanePass {
             sender: 0,
             split: 0,
@@ -94,9 +95,9 @@ impl Lane {
         ensures put { IfOk result (λ _. pass.new ≡ record pass.old { put = pass.old.put ++ ticket ∷ [] }) }
         ensures order { IsInOrder (view_of pass.new) }
         ensures back { IfErr result (λ full. (full.ticket ≡ ticket) × (pass.new ≡ pass.old)) }
-        ensures full { OnErr result (Held 1024 (Tells (view_of pass.old))) }
+        ensures full { OnErr result (Held LANE_TICKETS (Tells (view_of pass.old))) }
         ensures alone { OnErr result (pass.old.sender ≡ 0 → pass.old.split ≡ 0
-            → length pass.old.put ≡ length pass.old.taken + 1024) }
+            → length pass.old.put ≡ length pass.old.taken + LANE_TICKETS) }
     {
         match self
             .tickets

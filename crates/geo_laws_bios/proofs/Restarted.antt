@@ -10,17 +10,17 @@ use Rattle.std.proofs.lemmas.Simd.{map-map}
 use Rattle.geo_base.specs.declared.request.Counts.{Counts}
 use Rattle.geo_base.specs.declared.kind.Kind.{Kind}
 use Rattle.geo_base.specs.declared.kind.Kind.TheVariants as kinds
+use Rattle.geo_base.specs.declared.limits.TheConstants.{MAX_RANK, UNTASTED_RANK}
 use Rattle.geo_model.specs.declared.step.Owner.{Owner}
 use Rattle.geo_model.specs.declared.step.Owner.TheVariants as owners
 use Rattle.geo_model.specs.Words.{is_read}
 use Rattle.geo_model.specs.Topology.{Topology, Geom, Provider, Consumer, geom_at, provider_at, consumer_at, providers_of, consumers_of, is_withering, note_started}
 use Rattle.geo_model.specs.Graph.{AreNumbers}
-use Rattle.geo_model.specs.Rank.{rank, rank_limit}
+use Rattle.geo_model.specs.Rank.{rank}
 use Rattle.geo_model.specs.Demand.{have, is_zero}
 use Rattle.geo_model.specs.World.{World, Bio, Config, Taste, Asked, NoClass, NextSector, ReadOut, ReadBack, granted_in, children_of, is_sent, is_busy}
 use Rattle.geo_model.specs.Place.{disk_of}
 use Rattle.geo_model.specs.Bios.{piece_targets, disk_at}
-use Rattle.geo_model.specs.Events.{taste_limit}
 use Rattle.geo_model.specs.Tasting.{facts_of}
 use Rattle.geo_model.specs.declared.class.Facts.{Facts}
 use Rattle.geo_model.specs.Acceptance.{taste_where}
@@ -183,9 +183,9 @@ module _ (s : Geom Config → ℕ) where
     ranks_hold : RanksHold t → RanksHold u
     ranks_hold hold = record {
       ranked = ranks_stay.ranked hold.ranked;
-      not_deep = all_geoms (λ (g : Geom Config). g.number ≢ 1 → g.number ≢ 2 → rank t g.number ≤ rank_limit)
-          (λ (g : Geom Config). g.number ≢ 1 → g.number ≢ 2 → rank u g.number ≤ rank_limit)
-          (λ g few a b. subst (λ (r : ℕ). r ≤ rank_limit) (sym (ranks_stay.same g.number)) (few a b)) hold.not_deep;
+      not_deep = all_geoms (λ (g : Geom Config). g.number ≢ 1 → g.number ≢ 2 → rank t g.number ≤ MAX_RANK)
+          (λ (g : Geom Config). g.number ≢ 1 → g.number ≢ 2 → rank u g.number ≤ MAX_RANK)
+          (λ g few a b. subst (λ (r : ℕ). r ≤ MAX_RANK) (sym (ranks_stay.same g.number)) (few a b)) hold.not_deep;
       dev = bare 1 hold.dev;
       taste = bare 2 hold.taste;
     }
@@ -312,9 +312,9 @@ module _ (s : Geom Config → ℕ) where
     -- a taste
     taste_same : (x : Taste) → IsTasteInOrder w x → IsTasteInOrder (restarted s w) x
     taste_same x is = record {
-      rank = offerer_at (λ (g : Geom Config). rank t g.number < taste_limit)
-          (λ (g : Geom Config). rank u g.number < taste_limit)
-          (λ g low. subst (λ (r : ℕ). r < taste_limit) (sym (ranks_stay.same g.number)) low)
+      rank = offerer_at (λ (g : Geom Config). rank t g.number < UNTASTED_RANK)
+          (λ (g : Geom Config). rank u g.number < UNTASTED_RANK)
+          (λ g low. subst (λ (r : ℕ). r < UNTASTED_RANK) (sym (ranks_stay.same g.number)) low)
           (provider_at t x.provider) is.rank;
       reads = is.reads;
       chain = is.chain;

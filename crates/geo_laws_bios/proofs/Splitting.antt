@@ -10,6 +10,7 @@ use Rattle.std.proofs.lemmas.List.Folds.{list_any-append}
 use Rattle.std.proofs.lemmas.List.Quantifiers.{all_pairs_push}
 use Rattle.std.proofs.lemmas.List.Sums.{length-filter}
 use Rattle.std.proofs.lemmas.Simd.{map-map}
+use Rattle.geo_base.specs.declared.limits.TheConstants.{MAX_REQUEST_BYTES}
 use Rattle.geo_model.specs.declared.step.Owner.{Owner}
 use Rattle.geo_model.specs.declared.step.Owner.TheVariants as owners
 use Rattle.geo_model.specs.declared.step.Phase.TheVariants as phases
@@ -17,7 +18,6 @@ use Rattle.geo_model.specs.Words.{change_where, is_flush, is_write}
 use Rattle.geo_model.specs.Topology.{Geom, Provider, Consumer, geom_at, provider_at, consumer_at, provider_of_consumer}
 use Rattle.geo_model.specs.Graph.{AreNumbers}
 use Rattle.geo_model.specs.World.{World, Bio, Config, bio_at, children_of, is_done, is_busy, is_sent, is_down, is_waiting, is_child_of, is_taste_root, is_read_out}
-use Rattle.geo_model.specs.Requests.{request_limit}
 use Rattle.geo_model.specs.Bios.{PieceTarget, piece_targets, piece_child, bytes_of_piece, disk_of_bio}
 use Rattle.geo_model.specs.SoundBios.{IsRangeInside, IsBioInOrder, IsFamilyInOrder, HasItsParent, HasItsPieces, HasCountFor, shape_of_child, shape_of_piece, NotBothBusy}
 use Rattle.geo_model.specs.Steady.{ComesFromItsOwner, HasItsResult}
@@ -83,7 +83,7 @@ or_nothing false b e = e
 -- a range of whole sectors of a provider
 pub record IsSpanInside (offset len : ℕ) (p : Provider) : Type 0 where
   pub some_byte : 1 ≤ len
-  pub not_long : len ≤ request_limit
+  pub not_long : len ≤ MAX_REQUEST_BYTES
   pub offset_whole : offset % p.sector ≡ 0
   pub len_whole : len % p.sector ≡ 0
   pub inside : offset + len ≤ p.size

@@ -5,6 +5,7 @@ use Rattle.std.proofs.Common.{refl, sym, ◌∙◌, ap, inl, inr, eq-eqb}
 use Rattle.std.proofs.lemmas.Bool.{eqb-true, leb-true, le-leb, and_parts, and_from, or_cases, or_left, or_right, cases_eq}
 use Rattle.std.proofs.lemmas.List.Elements.{All-from_recursion, All-contains}
 use Rattle.geo_base.specs.declared.request.Counts.{Counts}
+use Rattle.geo_base.specs.declared.limits.TheConstants.{MAX_ACCESS_COUNT}
 use Rattle.geo_model.specs.Topology.{Topology, Provider, Consumer, attached_to}
 use Rattle.geo_model.specs.Demand.{have, want, is_exclusive, fits_limit, stand_together}
 use Rattle.geo_laws_counts.specs.CountWords.{IsAtMost}
@@ -134,23 +135,27 @@ module _ {C : Type 0} (granted : ℕ → Counts) (t : Topology C) where
   )
 
   -- the counts of a provider are within the limit
-  limited_from : (a : Counts) → (nat_le a.r 2147483647 && (nat_le a.w 2147483647 && nat_le a.e 2147483647)) ≡ true
+  limited_from : (a : Counts)
+      → (nat_le a.r MAX_ACCESS_COUNT && (nat_le a.w MAX_ACCESS_COUNT && nat_le a.e MAX_ACCESS_COUNT)) ≡ true
       → IsAtMost a greatest_counts
   limited_from a e =
-      let first = and_parts (nat_le a.r 2147483647) (nat_le a.w 2147483647 && nat_le a.e 2147483647) e in
-      let second = and_parts (nat_le a.w 2147483647) (nat_le a.e 2147483647) first.1 in
+      let first =
+      and_parts (nat_le a.r MAX_ACCESS_COUNT) (nat_le a.w MAX_ACCESS_COUNT && nat_le a.e MAX_ACCESS_COUNT) e in
+      let second = and_parts (nat_le a.w MAX_ACCESS_COUNT) (nat_le a.e MAX_ACCESS_COUNT) first.1 in
       record {
-        r = leb-true a.r 2147483647 first.0;
-        w = leb-true a.w 2147483647 second.0;
-        e = leb-true a.e 2147483647 second.1;
+        r = leb-true a.r MAX_ACCESS_COUNT first.0;
+        w = leb-true a.w MAX_ACCESS_COUNT second.0;
+        e = leb-true a.e MAX_ACCESS_COUNT second.1;
       }
 
   -- and that the test holds where this does
   limited_true : (a : Counts) → IsAtMost a greatest_counts
-      → (nat_le a.r 2147483647 && (nat_le a.w 2147483647 && nat_le a.e 2147483647)) ≡ true
+      → (nat_le a.r MAX_ACCESS_COUNT && (nat_le a.w MAX_ACCESS_COUNT && nat_le a.e MAX_ACCESS_COUNT)) ≡ true
   limited_true a h =
-      and_from (nat_le a.r 2147483647) (nat_le a.w 2147483647 && nat_le a.e 2147483647) (le-leb a.r 2147483647 h.r)
-      (and_from (nat_le a.w 2147483647) (nat_le a.e 2147483647) (le-leb a.w 2147483647 h.w) (le-leb a.e 2147483647 h.e))
+      and_from (nat_le a.r MAX_ACCESS_COUNT) (nat_le a.w MAX_ACCESS_COUNT && nat_le a.e MAX_ACCESS_COUNT)
+      (le-leb a.r MAX_ACCESS_COUNT h.r)
+      (and_from (nat_le a.w MAX_ACCESS_COUNT) (nat_le a.e MAX_ACCESS_COUNT) (le-leb a.w MAX_ACCESS_COUNT h.w)
+      (le-leb a.e MAX_ACCESS_COUNT h.e))
 
   -- the test of the limit gives a fact of each provider
   pub within_limit : fits_limit granted t ≡ true → (x : Provider) → Contains t.providers x
@@ -158,14 +163,15 @@ module _ {C : Type 0} (granted : ℕ → Counts) (t : Topology C) where
   within_limit e x there =
       limited_from (have granted t x.number)
       (all_true (λ y. let a = have granted t y.number in
-      nat_le a.r 2147483647 && (nat_le a.w 2147483647 && nat_le a.e 2147483647)) t.providers e x there)
+      nat_le a.r MAX_ACCESS_COUNT && (nat_le a.w MAX_ACCESS_COUNT && nat_le a.e MAX_ACCESS_COUNT))
+      t.providers e x there)
 
   -- and the facts give the test
   pub limit_from : ((x : Provider) → Contains t.providers x → IsAtMost (have granted t x.number) greatest_counts)
       → fits_limit granted t ≡ true
   limit_from so =
       true_all (λ y. let a = have granted t y.number in
-      nat_le a.r 2147483647 && (nat_le a.w 2147483647 && nat_le a.e 2147483647)) t.providers
+      nat_le a.r MAX_ACCESS_COUNT && (nat_le a.w MAX_ACCESS_COUNT && nat_le a.e MAX_ACCESS_COUNT)) t.providers
       (λ x there. limited_true (have granted t x.number) (so x there))
 
   -- the same as one fact

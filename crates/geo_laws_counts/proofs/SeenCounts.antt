@@ -5,6 +5,7 @@ use Rattle.std.specs.Option.{option_map_or}
 use Rattle.std.proofs.Common.{refl, sym, ◌∙◌, ap}
 use Rattle.geo_base.specs.declared.kind.Kind.{Kind}
 use Rattle.geo_base.specs.declared.request.Counts.{Counts}
+use Rattle.geo_base.specs.declared.limits.TheConstants.{MAX_ACCESS_COUNT}
 use Rattle.geo_model.specs.Words.{names_number}
 use Rattle.geo_model.specs.Topology.{Topology, Geom, Provider, Consumer, geom_at, providers_of, attached_to}
 use Rattle.geo_model.specs.Demand.{no_counts, sum_counts, want_of_kind, want_given, have_within, have, want, is_exclusive, fits_limit}
@@ -165,7 +166,7 @@ module _ (granted : ℕ → Counts) where
 
   -- whether counts are within the limit
   abbrev limited : Counts → Bool
-  limited a = nat_le a.r 2147483647 && (nat_le a.w 2147483647 && nat_le a.e 2147483647)
+  limited a = nat_le a.r MAX_ACCESS_COUNT && (nat_le a.w MAX_ACCESS_COUNT && nat_le a.e MAX_ACCESS_COUNT)
 
   -- that none stands in another's way is seen
   together_is_seen : {C : Type 0} (t : Topology C) (cs : List Consumer)

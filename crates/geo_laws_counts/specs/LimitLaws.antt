@@ -1,6 +1,7 @@
 -- Laws of more and less demand, of exclusiveness and of the limit (g_access(9)).
 use Rattle.std.specs.Prelude.{◌≡◌, ◌≢◌, ◌⊎◌, ◌↔◌, ℕ, Bool, List, All, IsTrue}
 use Rattle.geo_base.specs.declared.request.Counts.{Counts}
+use Rattle.geo_base.specs.declared.limits.TheConstants.{MAX_ACCESS_COUNT}
 use Rattle.geo_model.specs.Topology.{Topology, Consumer, Provider, attached_to}
 use Rattle.geo_model.specs.Demand.{have, want, is_exclusive, fits_limit}
 use Rattle.geo_laws_counts.specs.CountWords.{IsAtMost, AreAtMost, keep_consumers}
@@ -47,7 +48,7 @@ ExclusiveMeans C =
 
 -- the greatest counts that a provider may have
 abbrev pub greatest_counts : Counts
-greatest_counts = record { r = 2147483647; w = 2147483647; e = 2147483647 }
+greatest_counts = record { r = MAX_ACCESS_COUNT; w = MAX_ACCESS_COUNT; e = MAX_ACCESS_COUNT }
 
 -- no count is above the limit just where each provider's counts are at most these
 abbrev pub LimitMeans : Type 0 → Type 0

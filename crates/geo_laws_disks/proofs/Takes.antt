@@ -8,6 +8,7 @@ use Rattle.std.proofs.lemmas.List.Elements.{All-contains}
 use Rattle.geo_base.specs.Sectors.{IsSectorSize}
 use Rattle.geo_base.specs.declared.request.BioCmd.{BioCmd}
 use Rattle.geo_base.specs.declared.request.BioCmd.TheVariants as cmds
+use Rattle.geo_base.specs.declared.limits.TheConstants.{MAX_REQUEST_BYTES}
 use Rattle.geo_model.specs.declared.step.DeviceResult.{DeviceResult}
 use Rattle.geo_model.specs.declared.step.DeviceResult.TheVariants as devices
 use Rattle.geo_model.specs.declared.step.Outcome.{Outcome}
@@ -19,7 +20,6 @@ use Rattle.geo_model.specs.Topology.{Geom, Provider, providers_of}
 use Rattle.geo_model.specs.World.{World, Config, Bio, HeaderDisk, bio_at, change_number}
 use Rattle.geo_model.specs.Bios.{deliver, fits_bio, request_of_bio, sector_of_bio, take_bio}
 use Rattle.geo_model.specs.Place.{disk_of}
-use Rattle.geo_model.specs.Requests.{request_limit}
 use Rattle.geo_model.specs.Sound.{HasDiskSizes}
 use Rattle.geo_model.specs.SoundBios.{IsBioInOrder, IsRangeInside}
 use Rattle.geo_model.specs.Step.{deliver_of, step}
@@ -107,7 +107,7 @@ takes_are_servable w v seat disk b q header firm made here lies = record {
     inside = sectors_fit (q.first + q.count) d.sector d.count header.size
         (subst (λ z. 0 < z) (sym sizes.sector) some)
         (subst (λ z. (q.first + q.count) * z ≤ header.size) (sym sizes.sector) lies.inside) sizes.size;
-    not_long = subst (λ z. q.count * z ≤ request_limit) (sym sizes.sector) (short (is_flush q.cmd) refl);
+    not_long = subst (λ z. q.count * z ≤ MAX_REQUEST_BYTES) (sym sizes.sector) (short (is_flush q.cmd) refl);
     bytes = λ writes. subst (λ z. length q.bytes ≡ q.count * z) (sym sizes.sector) (lies.bytes writes);
   };
   fits = λ got fit.
@@ -186,12 +186,12 @@ takes_are_servable w v seat disk b q header firm made here lies = record {
     whole : is_flush x.cmd ≡ false → x.len % header.sector ≡ 0
     whole moves = subst (λ z. x.len % z ≡ 0) same_sector (range moves).len_whole
 
-    short : (c : Bool) → is_flush q.cmd ≡ c → q.count * header.sector ≤ request_limit
+    short : (c : Bool) → is_flush q.cmd ≡ c → q.count * header.sector ≤ MAX_REQUEST_BYTES
     short true flushes = rw (lies.flush flushes).1 (rw (zero-mul header.sector) (omega arith))
     short false moves =
         let its : is_flush x.cmd ≡ false = subst (λ c. is_flush c ≡ false) (ap (λ (r : Request). r.cmd) asks) moves in
         let fits_in : (x.len / header.sector) * header.sector ≤ x.len = div-mul-le_self x.len header.sector in
-        let bound : x.len ≤ request_limit = (range its).not_long in
+        let bound : x.len ≤ MAX_REQUEST_BYTES = (range its).not_long in
         rw count (omega (arith, fits_in, bound))
 
     busy : Bio

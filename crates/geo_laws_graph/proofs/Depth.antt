@@ -6,9 +6,10 @@ use Rattle.std.proofs.lemmas.Bool.{eqb-false, ne_eqb, or_parts, or_from, ltb-fal
 use Rattle.std.proofs.lemmas.List.Elements.{recursion_from_All, All-from_recursion}
 use Rattle.geo_base.specs.declared.kind.Kind.{Kind}
 use Rattle.geo_base.specs.declared.kind.Kind.TheVariants as kinds
+use Rattle.geo_base.specs.declared.limits.TheConstants.{MAX_RANK}
 use Rattle.geo_model.specs.Words.{is_kind, is_granted_kind}
 use Rattle.geo_model.specs.Topology.{Topology, Geom}
-use Rattle.geo_model.specs.Rank.{rank, rank_limit, is_too_deep}
+use Rattle.geo_model.specs.Rank.{rank, is_too_deep}
 use Rattle.geo_model.specs.World.{Config}
 use Rattle.geo_model.specs.Sound.{IsOfItsClass}
 
@@ -27,11 +28,11 @@ granted_is kinds.Nop = refl
 module _ (t : Topology Config) where
   -- a geom deeper than the limit, of a class other than DEV and TASTE
   abbrev is_deep : Geom Config → Bool
-  is_deep x = not (is_granted_kind x.kind) && nat_lt rank_limit (rank t x.number)
+  is_deep x = not (is_granted_kind x.kind) && nat_lt MAX_RANK (rank t x.number)
 
   -- a geom within the limit, if it is neither geom 1 nor 2
   abbrev IsShallow : Geom Config → Type 0
-  IsShallow x = x.number ≢ 1 → x.number ≢ 2 → rank t x.number ≤ rank_limit
+  IsShallow x = x.number ≢ 1 → x.number ≢ 2 → rank t x.number ≤ MAX_RANK
 
   -- a geom of its class, neither 1 nor 2, is neither DEV nor TASTE
   not_granted : (x : Geom Config) → IsOfItsClass x → x.number ≢ 1 → x.number ≢ 2 → is_granted_kind x.kind ≡ false
@@ -42,7 +43,7 @@ module _ (t : Topology Config) where
 
   -- so one that isn't too deep is within the limit
   shallow_from : (x : Geom Config) → IsOfItsClass x → is_deep x ≡ false → IsShallow x
-  shallow_from x of e apart other = ltb-false rank_limit (rank t x.number) (rw (not_granted x of apart other) at e)
+  shallow_from x of e apart other = ltb-false MAX_RANK (rank t x.number) (rw (not_granted x of apart other) at e)
 
   -- and one within the limit isn't too deep
   apart_from : (x : Geom Config) (b : Bool) → is_granted_kind x.kind ≡ b → IsOfItsClass x → IsShallow x
@@ -51,9 +52,9 @@ module _ (t : Topology Config) where
   apart_from x false e of low =
       let both : (is_kind x.kind kinds.Dev || is_kind x.kind kinds.Taste) ≡ false = sym (granted_is x.kind) ∙ e in
       let parts = or_parts (is_kind x.kind kinds.Dev) (is_kind x.kind kinds.Taste) both in
-      let less : rank t x.number ≤ rank_limit =
+      let less : rank t x.number ≤ MAX_RANK =
       low (eqb-false x.number 1 (sym of.dev ∙ parts.0)) (eqb-false x.number 2 (sym of.taste ∙ parts.1)) in
-      rw (e, le-ltb rank_limit (rank t x.number) less) refl
+      rw (e, le-ltb MAX_RANK (rank t x.number) less) refl
 
   -- where none is too deep all are within the limit
   shallow_all : (xs : List (Geom Config)) → AllByRecursion IsOfItsClass xs → list_any is_deep xs ≡ false

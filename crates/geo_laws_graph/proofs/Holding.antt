@@ -4,12 +4,13 @@ use Rattle.std.proofs.Common.{inl, inr, refl, sym, ◌∙◌, ap, subst, arith}
 use Rattle.std.proofs.lemmas.List.Elements.{All-push, All-weaker, All-filter, recursion_from_All, All-from_recursion}
 use Rattle.std.proofs.lemmas.Bool.{cases_eq}
 use Rattle.geo_base.specs.declared.kind.Kind.{Kind}
+use Rattle.geo_base.specs.declared.limits.TheConstants.{MAX_RANK}
 use Rattle.geo_model.specs.GeomCommands.{with_geom_at, rank_over}
 use Rattle.geo_laws_graph.proofs.Members.{has}
 use Rattle.geo_laws_graph.proofs.Depth.{depth}
 use Rattle.geo_model.specs.Words.{change_where}
 use Rattle.geo_model.specs.Topology.{attach, add_geom, Topology, Geom, Provider, geom_at, provider_at, add_provider, add_consumer, remove_geom, remove_provider, remove_consumer, set_error, set_size, set_withering, set_marks}
-use Rattle.geo_model.specs.Rank.{rank, rank_limit}
+use Rattle.geo_model.specs.Rank.{rank}
 use Rattle.geo_model.specs.World.{Config}
 use Rattle.geo_model.specs.Sound.{RanksHold, StandsBare}
 use Rattle.geo_model.specs.Graph.{GeomsLive, OfferersLive, IsInOrder}
@@ -25,7 +26,7 @@ use Rattle.geo_laws_graph.proofs.Opens.{over, open-rises, made-ranks, rank-next}
 
 -- a geom that isn't too deep
 abbrev IsShallow : Topology Config → Geom Config → Type 0
-IsShallow t x = x.number ≢ 1 → x.number ≢ 2 → rank t x.number ≤ rank_limit
+IsShallow t x = x.number ≢ 1 → x.number ≢ 2 → rank t x.number ≤ MAX_RANK
 
 -- with no greater ranks geoms are no deeper
 shallower : (t u : Topology Config) → ((g : ℕ) → g ≢ 1 → g ≢ 2 → rank u g ≤ rank t g) → (xs : List (Geom Config))
@@ -175,7 +176,7 @@ over_geoms n (p ∷ ps) u = over_geoms n ps (add_consumer u n (Some p.number))
 -- a geom over some providers, where they aren't too deep
 geom_made : (t : Topology Config) (kind : Kind) (name : List ℕ) (config : Config) (ps : List Provider)
     → RanksHold t → GeomsLive t → OfferersLive t → IsInOrder t
-    → All (λ (p : Provider). provider_at t p.number ≡ Some p) ps → rank_over t ps ≤ rank_limit
+    → All (λ (p : Provider). provider_at t p.number ≡ Some p) ps → rank_over t ps ≤ MAX_RANK
     → RanksHold (with_geom_at t kind name config ps)
 geom_made t kind name config ps hold live offerers order found low =
     let rise = made-ranks t kind name config ps hold.ranked live offerers order found in
@@ -197,7 +198,7 @@ geom_made t kind name config ps hold live offerers order found low =
     -- a geom within the limit stays so once the new one stands
     deep_at : OneRankRises t (with_geom_at t kind name config ps) t.next_geom
         → rank (with_geom_at t kind name config ps) t.next_geom ≡ rank_over t ps
-        → (g : ℕ) → rank t g ≤ rank_limit → rank (with_geom_at t kind name config ps) g ≤ rank_limit
+        → (g : ℕ) → rank t g ≤ MAX_RANK → rank (with_geom_at t kind name config ps) g ≤ MAX_RANK
     deep_at rise top g less =
         elim (cases_eq g t.next_geom) [
           | inl same ↦
@@ -242,7 +243,7 @@ module _ (t : Topology Config) (hit : Geom Config → Bool) (change : Geom Confi
         not_deep = shallower t after (λ h a b. same_le _ _ (stay.same h)) after.geoms
             (All-from_recursion (IsShallow t) after.geoms
             (all-changed hit change (IsShallow t) (λ x e fact. subst (λ (n : ℕ). n ≢ 1 → n ≢ 2
-            → rank t n ≤ rank_limit) (sym (same x e)) fact) t.geoms
+            → rank t n ≤ MAX_RANK) (sym (same x e)) fact) t.geoms
             (recursion_from_All (IsShallow t) t.geoms hold.not_deep)));
         dev = bare_changed 1 hold.dev;
         taste = bare_changed 2 hold.taste;

@@ -1,8 +1,9 @@
 -- What each change of one thing does to ranks, for any configuration C of a class.
 use Rattle.std.specs.Prelude.{◌⊎◌, ◌≡◌, ◌≢◌, ◌↔◌, ℕ, ◌+◌, ◌≤◌, max, Bool, true, false, List, [], Some, None, IsSome, All}
 use Rattle.geo_base.specs.declared.kind.Kind.{Kind}
+use Rattle.geo_base.specs.declared.limits.TheConstants.{MAX_RANK}
 use Rattle.geo_model.specs.Topology.{with_configs, Topology, Provider, Consumer, geom_at, provider_at, consumer_at, providers_of, consumers_of, attached_to, add_geom, add_provider, add_consumer, remove_geom, remove_provider, remove_consumer, attach, set_error, set_size, set_withering, set_marks, set_config, note_started, detach}
-use Rattle.geo_model.specs.Rank.{rank, rank_limit, reaches, Ranked, would_loop, attach_refusal, is_too_deep}
+use Rattle.geo_model.specs.Rank.{rank, reaches, Ranked, would_loop, attach_refusal, is_too_deep}
 use Rattle.geo_model.specs.World.{Config}
 use Rattle.geo_model.specs.GeomCommands.{with_geom_at, rank_over}
 use Rattle.geo_model.specs.Sound.{IsOfItsClass, RanksHold}
@@ -138,7 +139,7 @@ pub record SoundRanksStay : Type 0 where
       → IsInOrder t → RanksHold (add_geom t kind name config automatic)
   pub geom_made : (t : Topology Config) (kind : Kind) (name : List ℕ) (config : Config) (ps : List Provider)
       → RanksHold t → GeomsLive t
-      → OfferersLive t → IsInOrder t → All (λ p. provider_at t p.number ≡ Some p) ps → rank_over t ps ≤ rank_limit
+      → OfferersLive t → IsInOrder t → All (λ p. provider_at t p.number ≡ Some p) ps → rank_over t ps ≤ MAX_RANK
       → RanksHold (with_geom_at t kind name config ps)
   pub consumer_added : (t : Topology Config) (geom : ℕ) → RanksHold t → GeomsLive t → IsSome (geom_at t geom)
       → RanksHold (add_consumer t geom None)

@@ -1,8 +1,9 @@
 -- Laws of ranks (geom(4)), for any configuration C of a class.
 use Rattle.std.specs.Prelude.{◌⊎◌, ◌≡◌, ◌≢◌, ◌↔◌, ℕ, ◌+◌, ◌≤◌, max, true, false, [], length, map, All}
+use Rattle.geo_base.specs.declared.limits.TheConstants.{MAX_RANK}
 use Rattle.geo_model.specs.Words.{largest}
 use Rattle.geo_model.specs.Topology.{Topology, providers_of}
-use Rattle.geo_model.specs.Rank.{rank, rank_within, rank_limit, geoms_under, reaches, Ranked, is_too_deep}
+use Rattle.geo_model.specs.Rank.{rank, rank_within, geoms_under, reaches, Ranked, is_too_deep}
 use Rattle.geo_model.specs.World.{Config}
 use Rattle.geo_model.specs.Sound.{IsOfItsClass}
 use Rattle.geo_laws_graph.specs.Edges.{AddsEdge, LongWay, Climbs, IsOneMoreThanBelow, HasEdgesOf, Path}
@@ -93,4 +94,4 @@ EdgesMakeLoops C =
 abbrev pub DepthHolds : Type 0
 DepthHolds =
     (t : Topology Config) → All IsOfItsClass t.geoms
-    → (is_too_deep t ≡ false) ↔ All (λ x. x.number ≢ 1 → x.number ≢ 2 → rank t x.number ≤ rank_limit) t.geoms
+    → (is_too_deep t ≡ false) ↔ All (λ x. x.number ≢ 1 → x.number ≢ 2 → rank t x.number ≤ MAX_RANK) t.geoms

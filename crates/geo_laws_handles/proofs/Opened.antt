@@ -7,6 +7,7 @@ use Rattle.std.proofs.lemmas.Bool.{eq-eqb, eqb-true, ne_eqb, cases_eq}
 use Rattle.std.proofs.lemmas.List.Elements.{All-contains, All-weaker, All-push}
 use Rattle.std.proofs.lemmas.List.Sums.{length-filter}
 use Rattle.geo_base.specs.declared.request.Counts.{Counts}
+use Rattle.geo_base.specs.declared.limits.TheConstants.{UNTASTED_RANK}
 use Rattle.geo_model.specs.declared.step.Owner.{Owner}
 use Rattle.geo_model.specs.declared.step.Owner.TheVariants as owners
 use Rattle.geo_model.specs.Words.{names_number, is_read}
@@ -16,7 +17,6 @@ use Rattle.geo_model.specs.Demand.{have, want, is_zero, add_counts}
 use Rattle.geo_model.specs.Opens.{below, has_error_below, with_opener}
 use Rattle.geo_model.specs.Place.{Spot, place, component, components, disk_of}
 use Rattle.geo_model.specs.Acceptance.{places_of}
-use Rattle.geo_model.specs.Events.{taste_limit}
 use Rattle.geo_model.specs.World.{World, Config, Handle, Taste, Bio, granted_in, taste_grant}
 use Rattle.geo_model.specs.HandleCommands.{with_handle}
 use Rattle.geo_model.specs.Graph.{IsInOrder, PartsLive}
@@ -378,9 +378,9 @@ module _ (w : World) (firm : Firm w) (actor : ℕ) (name : List ℕ) (p : ℕ) (
     tastes : (o : Option Taste) → IfSome o (IsTasteInOrder w) → IfSome o (IsTasteInOrder v)
     tastes None fact = tt
     tastes (Some s) fact =
-        let g = found-with (geom_of_provider t s.provider) (λ g. rank t g.number < taste_limit) fact.rank in
+        let g = found-with (geom_of_provider t s.provider) (λ g. rank t g.number < UNTASTED_RANK) fact.rank in
         record {
-          rank = some-with (geom_of_provider t s.provider) (λ g. rank u g.number < taste_limit) g.item g.is
+          rank = some-with (geom_of_provider t s.provider) (λ g. rank u g.number < UNTASTED_RANK) g.item g.is
               (let same : rank u g.item.number ≡ rank t g.item.number =
               (open-rises t 1 p x firm.sound.ranks.ranked live.geoms (dev_there w firm)
               firm.sound.ranks.dev.no_provider found).0.same g.item.number

@@ -6,6 +6,7 @@ use Rattle.std.proofs.Common.{inl, inr, refl, sym, ◌∙◌, ap, subst, arith}
 use Rattle.std.proofs.lemmas.Bool.{eq-eqb, eqb-true, ne_eqb, cases_eq, not_from_false, not-true, or_cases, or_left, or_right}
 use Rattle.std.proofs.lemmas.List.Elements.{All-contains, All-weaker, All-filter}
 use Rattle.geo_base.specs.declared.request.Counts.{Counts}
+use Rattle.geo_base.specs.declared.limits.TheConstants.{UNTASTED_RANK}
 use Rattle.geo_model.specs.declared.step.Owner.{Owner}
 use Rattle.geo_model.specs.declared.step.Owner.TheVariants as owners
 use Rattle.geo_model.specs.Words.{names_number, is_read}
@@ -14,7 +15,6 @@ use Rattle.geo_model.specs.Rank.{rank}
 use Rattle.geo_model.specs.Demand.{have, want, is_zero, no_counts}
 use Rattle.geo_model.specs.Place.{Spot, place, component, components, disk_of}
 use Rattle.geo_model.specs.Acceptance.{places_of}
-use Rattle.geo_model.specs.Events.{taste_limit}
 use Rattle.geo_model.specs.World.{World, Config, Handle, Taste, Bio, granted_in, taste_grant, is_active, is_root, is_done}
 use Rattle.geo_model.specs.Graph.{AreNumbers, IsInOrder, PartsLive}
 use Rattle.geo_model.specs.Sound.{IsHandleConsumer, HasItsConsumer, IsTasting, IsPlaceInside, IsPlaced, LeadsDown, IsTasteInOrder}
@@ -301,9 +301,9 @@ module _ (w : World) (firm : Firm w) (d : Consumer) (here : Contains w.topology.
   tastes : (o : Option Taste) → IfSome o (IsTasteInOrder w) → IfSome o (IsTasteInOrder without)
   tastes None fact = tt
   tastes (Some s) fact =
-      let g = found-with (geom_of_provider t s.provider) (λ g. rank t g.number < taste_limit) fact.rank in
+      let g = found-with (geom_of_provider t s.provider) (λ g. rank t g.number < UNTASTED_RANK) fact.rank in
       record {
-        rank = some-with (geom_of_provider t s.provider) (λ g. rank u g.number < taste_limit) g.item g.is
+        rank = some-with (geom_of_provider t s.provider) (λ g. rank u g.number < UNTASTED_RANK) g.item g.is
             (let low = lower g.item.number in let below = g.fact in omega arith);
         reads = fact.reads;
         chain = fact.chain;

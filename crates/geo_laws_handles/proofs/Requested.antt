@@ -9,13 +9,14 @@ use Rattle.geo_base.specs.declared.request.Counts.{Counts}
 use Rattle.geo_base.specs.declared.errno.Errno.{Errno}
 use Rattle.geo_base.specs.declared.errno.Errno.TheVariants.{ENXIO, EPERM, EINVAL, EIO}
 use Rattle.geo_base.specs.Sectors.{IsSectorSize}
+use Rattle.geo_base.specs.declared.limits.TheConstants.{MAX_REQUEST_BYTES}
 use Rattle.geo_model.specs.declared.step.Owner.TheVariants as owners
 use Rattle.geo_model.specs.Words.{first_error, same_name, names_number, is_read, is_flush}
 use Rattle.geo_model.specs.Topology.{Topology, Provider, Consumer, provider_at, consumer_at, provider_of_consumer}
 use Rattle.geo_model.specs.Demand.{want}
 use Rattle.geo_model.specs.World.{World, Config, Bio, Handle, granted_in, taste_grant, handle_of}
 use Rattle.geo_model.specs.Bios.{new_bio, submit}
-use Rattle.geo_model.specs.Requests.{Asking, request_limit, provider_of_handle, is_allowed, is_invalid_range, request_refusal_at, request_refusal}
+use Rattle.geo_model.specs.Requests.{Asking, provider_of_handle, is_allowed, is_invalid_range, request_refusal_at, request_refusal}
 use Rattle.geo_model.specs.HandleCommands.{request_answered, do_request, record_request}
 use Rattle.geo_model.specs.Commands.{request, write_record}
 use Rattle.geo_model.specs.SoundBios.{IsRangeInside, IsBioInOrder, HasCountFor}
@@ -129,12 +130,12 @@ module _ (w : World) (firm : Firm w) (line : ℕ) (h : Handle) (here : Contains 
         let short : nat_lt p.size (a.offset + a.len) ≡ false =
         only_where (is_flush a.cmd) (nat_lt p.size (a.offset + a.len)) tests.2 other in
         let first = or_parts (not (a.offset % p.sector == 0))
-        (not (a.len % p.sector == 0) || ((a.len == 0) || nat_lt request_limit a.len)) valid in
-        let second = or_parts (not (a.len % p.sector == 0)) ((a.len == 0) || nat_lt request_limit a.len) first.1 in
-        let third = or_parts (a.len == 0) (nat_lt request_limit a.len) second.1 in
+        (not (a.len % p.sector == 0) || ((a.len == 0) || nat_lt MAX_REQUEST_BYTES a.len)) valid in
+        let second = or_parts (not (a.len % p.sector == 0)) ((a.len == 0) || nat_lt MAX_REQUEST_BYTES a.len) first.1 in
+        let third = or_parts (a.len == 0) (nat_lt MAX_REQUEST_BYTES a.len) second.1 in
         record {
           some_byte = not_zero a.len third.0;
-          not_long = ltb-false request_limit a.len third.1;
+          not_long = ltb-false MAX_REQUEST_BYTES a.len third.1;
           offset_whole = eqb-true (a.offset % p.sector) 0 (not-false (a.offset % p.sector == 0) first.0);
           len_whole = eqb-true (a.len % p.sector) 0 (not-false (a.len % p.sector == 0) second.0);
           inside = ltb-false p.size (a.offset + a.len) short;

@@ -2,8 +2,9 @@
 use Rattle.std.specs.Prelude.{◌≢◌, ℕ, ◌+◌, ◌<◌, ◌≤◌, map}
 use Rattle.std.proofs.Common.{refl, arith}
 use Rattle.std.proofs.lemmas.List.Elements.{All-weaker}
+use Rattle.geo_base.specs.declared.limits.TheConstants.{MAX_RANK}
 use Rattle.geo_model.specs.Topology.{Topology, Geom}
-use Rattle.geo_model.specs.Rank.{rank, rank_limit}
+use Rattle.geo_model.specs.Rank.{rank}
 use Rattle.geo_model.specs.World.{World, Config, granted_in}
 use Rattle.geo_model.specs.Sound.{RanksHold, StandsBare}
 use Rattle.geo_model.specs.HandleCommands.{without_number}
@@ -37,8 +38,8 @@ module _ (w : World) (firm : Firm w) where
   ranks_hold : RanksHold u
   ranks_hold = record {
     ranked = ranks_stay.ranked firm.sound.ranks.ranked;
-    not_deep = All-weaker (λ (x : Geom Config). x.number ≢ 1 → x.number ≢ 2 → rank t x.number ≤ rank_limit)
-        (λ (x : Geom Config). x.number ≢ 1 → x.number ≢ 2 → rank u x.number ≤ rank_limit)
+    not_deep = All-weaker (λ (x : Geom Config). x.number ≢ 1 → x.number ≢ 2 → rank t x.number ≤ MAX_RANK)
+        (λ (x : Geom Config). x.number ≢ 1 → x.number ≢ 2 → rank u x.number ≤ MAX_RANK)
         (λ x so apart other. let low = so apart other in let same = ranks_stay.same x.number in omega arith)
         t.geoms firm.sound.ranks.not_deep;
     dev = bare 1 firm.sound.ranks.dev;

@@ -7,6 +7,7 @@ use Rattle.std.proofs.lemmas.Bool.{or_parts, leb-false, eq-eqb, cases_eq}
 use Rattle.std.proofs.lemmas.List.Elements.{All-contains, All-weaker, All-push}
 use Rattle.geo_base.specs.declared.request.Counts.{Counts}
 use Rattle.geo_base.specs.declared.kind.Kind.TheVariants as kinds
+use Rattle.geo_base.specs.declared.limits.TheConstants.{UNTASTED_RANK}
 use Rattle.geo_model.specs.declared.step.Owner.{Owner}
 use Rattle.geo_model.specs.declared.step.Owner.TheVariants as owners
 use Rattle.geo_model.specs.Words.{names_number, is_read, is_granted_kind}
@@ -16,7 +17,7 @@ use Rattle.geo_model.specs.Demand.{have, want, is_zero, is_exclusive, fits_limit
 use Rattle.geo_model.specs.Place.{Spot, place, component, components, disk_of}
 use Rattle.geo_model.specs.Acceptance.{places_of}
 use Rattle.geo_model.specs.Chain.{no_links}
-use Rattle.geo_model.specs.Events.{taste_limit, tasting_classes, is_not_tasted}
+use Rattle.geo_model.specs.Events.{tasting_classes, is_not_tasted}
 use Rattle.geo_model.specs.World.{World, Config, Nothing, Disk, Mbr, Ebr, Label, Concat, Stripe, Nop, Handle, Taste, NoClass, Bio, granted_in, taste_grant, is_taste_root, is_read_out}
 use Rattle.geo_model.specs.WorldEvents.{begin_taste}
 use Rattle.geo_model.specs.Graph.{IsInOrder, PartsLive}
@@ -66,13 +67,13 @@ taste_nothing (Nop below offset fail) e = not_set e
 
 -- what the test of a taste says of the geom
 geom_tasted : (t : Topology Config) (o : Option (Geom Config))
-    → option_map_or (λ g. g.withering || nat_le taste_limit (rank t g.number)) o true ≡ false
-    → FoundWith o (λ g. rank t g.number < taste_limit)
+    → option_map_or (λ g. g.withering || nat_le UNTASTED_RANK (rank t g.number)) o true ≡ false
+    → FoundWith o (λ g. rank t g.number < UNTASTED_RANK)
 geom_tasted t None e = not_set (sym e)
 geom_tasted t (Some g) e = record {
   item = g;
   is = refl;
-  fact = leb-false taste_limit (rank t g.number) (or_parts g.withering (nat_le taste_limit (rank t g.number)) e).1;
+  fact = leb-false UNTASTED_RANK (rank t g.number) (or_parts g.withering (nat_le UNTASTED_RANK (rank t g.number)) e).1;
 }
 
 -- the provider of a geom that is found so is there
@@ -88,7 +89,7 @@ no_grant false = refl
 
 module _ (w : World) (p : ℕ) (firm : Firm w) (none : w.taste ≡ None) (x : Provider)
     (found : provider_at w.topology p ≡ Some x)
-    (g : Geom Config) (of : geom_at w.topology x.geom ≡ Some g) (low : rank w.topology g.number < taste_limit) where
+    (g : Geom Config) (of : geom_at w.topology x.geom ≡ Some g) (low : rank w.topology g.number < UNTASTED_RANK) where
   -- the graph before
   abbrev t : Topology Config
   t = w.topology
@@ -262,7 +263,7 @@ module _ (w : World) (p : ℕ) (firm : Firm w) (none : w.taste ≡ None) (x : Pr
   -- the taste is in order
   in_order : IsTasteInOrder v s
   in_order = record {
-    rank = some-with (geom_of_provider t p) (λ h. rank u h.number < taste_limit) g
+    rank = some-with (geom_of_provider t p) (λ h. rank u h.number < UNTASTED_RANK) g
         (ap (option_and_then (λ (z : Provider). geom_at t z.geom)) found ∙ of)
         (let same : rank u g.number ≡ rank t g.number = (open-rises t 2 p x firm.sound.ranks.ranked live.geoms
         (some-there (geom_at t 2) taste_geom.item taste_geom.is) firm.sound.ranks.taste.no_provider found).0.same
@@ -439,7 +440,7 @@ module _ (w : World) (p : ℕ) (firm : Firm w) (none : w.taste ≡ None) (x : Pr
 tasted-firm : (w : World) (p : ℕ) → w.taste ≡ None → is_not_tasted (granted_in w) w.topology p ≡ false → Firm w
     → Firm (begin_taste w p)
 tasted-firm w p none tasted firm =
-    let test = option_map_or (λ (g : Geom Config). g.withering || nat_le taste_limit (rank w.topology g.number))
+    let test = option_map_or (λ (g : Geom Config). g.withering || nat_le UNTASTED_RANK (rank w.topology g.number))
     (geom_of_provider w.topology p) true in
     let busy = not ((have (granted_in w) w.topology p).w == 0) in
     let rest : (test || busy) ≡ false = (or_parts (is_errored w.topology p) (test || busy) tasted).1 in

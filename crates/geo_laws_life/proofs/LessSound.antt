@@ -3,12 +3,13 @@ use Rattle.std.specs.Prelude.{◌≡◌, ◌⊎◌, ℕ, ◌<◌, ◌≤◌, ◌
 use Rattle.std.proofs.Common.{inl, inr, refl, sym, ◌∙◌, ap, subst, arith}
 use Rattle.std.proofs.lemmas.Bool.{eqb-true, eq-eqb}
 use Rattle.std.proofs.lemmas.List.Elements.{All-contains, All-weaker}
+use Rattle.geo_base.specs.declared.limits.TheConstants.{UNTASTED_RANK}
 use Rattle.geo_model.specs.declared.step.Event.{Event}
 use Rattle.geo_model.specs.Words.{same_name}
 use Rattle.geo_model.specs.Topology.{Topology, Geom, Provider, Consumer, geom_at, provider_at, consumer_at, geom_of_provider, providers_of, consumers_of, is_withering}
 use Rattle.geo_model.specs.Rank.{rank}
 use Rattle.geo_model.specs.Demand.{have, is_zero, no_counts}
-use Rattle.geo_model.specs.Events.{provider_of_event, taste_limit}
+use Rattle.geo_model.specs.Events.{provider_of_event}
 use Rattle.geo_model.specs.Place.{Spot, place, component, disk_of}
 use Rattle.geo_model.specs.World.{HeaderDisk, World, Config, Taste, granted_in}
 use Rattle.geo_model.specs.Sound.{IsMediaSize, DifferInName, ProvidersHold, CountsHold, IsOfItsClass, DifferInDisk, HasDiskSizes, NumbersHold, IsHandleConsumer, HasItsConsumer, IsTasting, HandlesHold, IsPlaceInside, IsPlaced, LeadsDown, ChainHolds, IsTasteInOrder, EventsHold, StandsBare}
@@ -296,15 +297,15 @@ module _ (w : World) (u : Topology Config) (firm : Firm w) (less : IsLess w u) w
   taste_in_order : (queue : List Event) (s : Taste) → IsTasting u s → IsTasteInOrder w s
       → IsTasteInOrder (remade w u queue) s
   taste_in_order queue s tasting old = record {
-    rank = some-with (geom_of_provider u s.provider) (λ g. rank u g.number < taste_limit) still.geom
+    rank = some-with (geom_of_provider u s.provider) (λ g. rank u g.number < UNTASTED_RANK) still.geom
         (geom_there u s.provider still.provider still.geom still.found still.of) (
-        let g = found-with (geom_of_provider w.topology s.provider) (λ g. rank w.topology g.number < taste_limit)
+        let g = found-with (geom_of_provider w.topology s.provider) (λ g. rank w.topology g.number < UNTASTED_RANK)
         old.rank in
         let same : g.item ≡ still.geom_before =
         one-found (geom_of_provider w.topology s.provider) g.item still.geom_before g.is
         (geom_there w.topology s.provider still.before still.geom_before still.was still.was_of) in
-        let low : rank w.topology still.geom_before.number < taste_limit =
-        subst (λ (z : Geom Config). rank w.topology z.number < taste_limit) same g.fact in
+        let low : rank w.topology still.geom_before.number < UNTASTED_RANK =
+        subst (λ (z : Geom Config). rank w.topology z.number < UNTASTED_RANK) same g.fact in
         let lower : rank u still.geom.number ≤ rank w.topology still.geom.number = less.lower still.geom.number in
         let number : rank w.topology still.geom.number ≡ rank w.topology still.geom_before.number =
         ap (rank w.topology) (geom-number still.geom_before still.geom still.geom_is) in

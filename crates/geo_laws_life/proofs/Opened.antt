@@ -8,6 +8,7 @@ use Rattle.geo_model.specs.declared.step.Event.{Event}
 use Rattle.geo_model.specs.Topology.{Topology, Geom, Provider, geom_at, provider_at, providers_of, attached_to, is_withering}
 use Rattle.geo_model.specs.Rank.{rank}
 use Rattle.geo_base.specs.declared.kind.Kind.TheVariants as kinds
+use Rattle.geo_base.specs.declared.limits.TheConstants.{MAX_ACCESS_COUNT}
 use Rattle.geo_model.specs.Names.{dev_name, taste_name}
 use Rattle.geo_model.specs.Demand.{have, stand_together}
 use Rattle.geo_model.specs.Place.{disk_of}
@@ -106,7 +107,7 @@ module _ (plan : Plan) (facts : List (ℕ × ℕ)) (xs : List Stander) where
         (λ x. refl) t.providers;
     limited = each-passes
         (λ (x : Provider). let a = have (granted_in w) t x.number in
-        nat_le a.r 2147483647 && (nat_le a.w 2147483647 && nat_le a.e 2147483647))
+        nat_le a.r MAX_ACCESS_COUNT && (nat_le a.w MAX_ACCESS_COUNT && nat_le a.e MAX_ACCESS_COUNT))
         (λ x. refl) t.providers;
   }
 

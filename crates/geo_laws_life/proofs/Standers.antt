@@ -1,11 +1,12 @@
 -- What holds of the disks of a plan that stand at its opening.
-use Rattle.std.specs.Prelude.{◌≡◌, ◌≢◌, ◌⊎◌, ℕ, suc, ◌+◌, ◌*◌, ◌^◌, ◌<◌, ◌≤◌, Bool, true, false, not, List, [], ◌∷◌, map, filter, zip, Some, AllPairs, slice_get}
+use Rattle.std.specs.Prelude.{◌≡◌, ◌≢◌, ◌⊎◌, ℕ, suc, ◌+◌, ◌*◌, ◌<◌, ◌≤◌, Bool, true, false, not, List, [], ◌∷◌, map, filter, zip, Some, AllPairs, slice_get}
 use Rattle.std.specs.List.{AllByRecursion, AllZip, enumerate_from}
 use Rattle.std.proofs.Common.{inl, inr, refl, ◌∙◌, ap, arith}
 use Rattle.std.proofs.lemmas.List.Elements.{recursion_from_All, All-from_recursion}
 use Rattle.std.proofs.lemmas.List.Kept.{AllPairs-cons}
 use Rattle.std.proofs.Math.Nat.{mul-mod_right}
 use Rattle.geo_base.proofs.Tests.{pairs_head, pairs_tail}
+use Rattle.geo_base.specs.declared.limits.TheConstants.{MAX_IMAGE_BYTES}
 use Rattle.geo_model.specs.declared.command.DiskDecl.{DiskDecl}
 use Rattle.geo_model.specs.World.{Plan, HeaderDisk}
 use Rattle.geo_model.specs.Plans.{IsPlan, FactsFit, IsFact, IsDiskDecl, Differ}
@@ -65,7 +66,7 @@ sizes_of d fact decl is = media fact.0 fact.1 (rw is.sector decl.sector) is.some
   some_sector sector sectors (inr e) some = rw e (omega arith)
 
   -- some whole sectors within the limit are a size of media
-  media : (sector sectors : ℕ) → (sector ≡ 512) ⊎ (sector ≡ 4096) → 1 ≤ sectors → sectors * sector ≤ 2 ^ 40
+  media : (sector sectors : ℕ) → (sector ≡ 512) ⊎ (sector ≡ 4096) → 1 ≤ sectors → sectors * sector ≤ MAX_IMAGE_BYTES
       → IsMediaSize (sector * sectors) sector
   media sector sectors of some limited = record {
     positive = some_sector sector sectors of some;

@@ -6,12 +6,13 @@ use Rattle.std.proofs.lemmas.List.Elements.{All-contains}
 use Rattle.std.proofs.Math.Nat.{div-mul-le_self, mul-le-mul_right}
 use Rattle.geo_base.specs.Sectors.{IsSectorSize}
 use Rattle.geo_base.specs.declared.kind.Kind.{Kind}
+use Rattle.geo_base.specs.declared.limits.TheConstants.{MAX_RANK, UNTASTED_RANK}
 use Rattle.geo_model.specs.declared.class.Shape.{Shape}
 use Rattle.geo_model.specs.declared.step.BioResult.TheVariants as results
 use Rattle.geo_model.specs.Topology.{Topology, Geom, Provider, geom_at, provider_at, geom_of_provider}
-use Rattle.geo_model.specs.Rank.{rank, rank_limit}
+use Rattle.geo_model.specs.Rank.{rank}
 use Rattle.geo_model.specs.World.{World, Config, Taste, ReadBack}
-use Rattle.geo_model.specs.Events.{QueuedTopology, taste_limit}
+use Rattle.geo_model.specs.Events.{QueuedTopology}
 use Rattle.geo_model.specs.GeomCommands.{rank_over}
 use Rattle.geo_model.specs.Sound.{IsMediaSize, IsTasteInOrder}
 use Rattle.geo_model.specs.Fitting.{AsksThere, IsOneSector, IsAskedInOrder, Firm}
@@ -77,22 +78,22 @@ module _ (w : World) (s : Taste) (p : Provider) (kind : Kind) (bytes : List ℕ)
   pub record HasGeom : Type 0 where
     pub geom : Geom Config
     pub is : geom_at t p.geom ≡ Some geom
-    pub low : rank t p.geom < taste_limit
+    pub low : rank t p.geom < UNTASTED_RANK
 
   -- is not too high
   pub has_geom : HasGeom
   has_geom =
-      let h = found-with (geom_of_provider t s.provider) (λ h. rank t h.number < taste_limit) tasting.rank in
+      let h = found-with (geom_of_provider t s.provider) (λ h. rank t h.number < UNTASTED_RANK) tasting.rank in
       let x = through (λ (x : Provider). geom_at t x.geom) (provider_at t s.provider) h.item h.is in
       let same : x.first ≡ p = one-found (provider_at t s.provider) x.first p x.is accepted.found in
       let is : geom_at t p.geom ≡ Some h.item =
       subst (λ (z : Provider). geom_at t z.geom ≡ Some h.item) same x.then in
       let number : h.item.number ≡ p.geom = number_found (λ (z : Geom Config). z.number) t.geoms p.geom h.item is in
-      record { geom = h.item; is = is; low = subst (λ m. rank t m < taste_limit) number h.fact }
+      record { geom = h.item; is = is; low = subst (λ m. rank t m < UNTASTED_RANK) number h.fact }
 
   -- so a geom over it isn't too high
-  pub low : rank_over t (p ∷ []) ≤ rank_limit
-  low = let here : rank t p.geom < 8 = has_geom.low in omega arith
+  pub low : rank_over t (p ∷ []) ≤ MAX_RANK
+  low = let here : rank t p.geom < UNTASTED_RANK = has_geom.low in omega arith
 
   -- where a class asks whether there are two sectors, the provider is longer than one
   pub longer : IsSome (if nat_le 2 (p.size / p.sector) then Some (p.size / p.sector - 1) else None)

@@ -8,6 +8,7 @@ use Rattle.std.proofs.lemmas.List.Elements.{All-cons, All-map, All-nil, All-push
 use Rattle.std.proofs.lemmas.List.Quantifiers.{all_pairs_push}
 use Rattle.geo_base.specs.declared.decline.DeclineCause.{DeclineCause}
 use Rattle.geo_base.specs.declared.kind.Kind.TheVariants as kinds
+use Rattle.geo_base.specs.declared.limits.TheConstants.{MAX_LINKS}
 use Rattle.geo_model.specs.declared.class.EbrPart.{EbrPart}
 use Rattle.geo_model.specs.declared.class.Shape.{Shape}
 use Rattle.geo_model.specs.declared.class.Shape.TheVariants.{Logical}
@@ -106,7 +107,7 @@ more_links n made sector c bytes got hold e =
     (list_any (λ (x : LinkRead). x.sector == next_link bytes) (c.links ++ l ∷ []))
     on.leads.fresh in
     let longer : length (c.links ++ l ∷ []) ≡ length c.links + 1 = length-append c.links (l ∷ []) in
-    let few : length (c.links ++ l ∷ []) < 32 = on.leads.few in
+    let few : length (c.links ++ l ∷ []) < MAX_LINKS = on.leads.few in
     let near : next_link bytes < n = on.leads.near in
     let reads : made ≡ length c.links + 1 = hold.reads in
     let zero : BeginsAtZero (map (λ x. x.sector) (c.links ++ l ∷ [])) = begins_with c.links l hold.zero in

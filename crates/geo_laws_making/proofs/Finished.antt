@@ -6,10 +6,11 @@ use Rattle.std.specs.Option.{option_flatten}
 use Rattle.std.proofs.Common.{inl, inr, refl, sym, ◌∙◌, ap, subst, arith}
 use Rattle.std.proofs.lemmas.Bool.{eq-eqb, eqb-true}
 use Rattle.std.proofs.lemmas.List.Elements.{All-contains, All-from_recursion, Contains-push_cases}
+use Rattle.geo_base.specs.declared.limits.TheConstants.{UNTASTED_RANK}
 use Rattle.geo_model.specs.Topology.{Topology, Geom, Provider, Consumer, geom_at, provider_at, consumer_at, geom_of_provider, providers_of, add_provider}
 use Rattle.geo_model.specs.Rank.{rank}
 use Rattle.geo_model.specs.Demand.{want, is_zero}
-use Rattle.geo_model.specs.Events.{offer, taste_limit}
+use Rattle.geo_model.specs.Events.{offer}
 use Rattle.geo_model.specs.World.{World, Config, Taste, granted_in}
 use Rattle.geo_model.specs.WorldEvents.{queued_of, with_queued}
 use Rattle.geo_model.specs.Place.{place, component, components, disk_of}
@@ -261,14 +262,14 @@ module _ (w : World) (g : Geom Config) (name : List ℕ) (sector : ℕ) (firm : 
 
   -- the taste isn't too high
   low_still : (o : Option Taste) → IfSome o (IsTasteInOrder w)
-      → IfSome o (λ s. IsSomeAnd (geom_of_provider u s.provider) (λ h. rank u h.number < taste_limit))
+      → IfSome o (λ s. IsSomeAnd (geom_of_provider u s.provider) (λ h. rank u h.number < UNTASTED_RANK))
   low_still None old = tt
   low_still (Some s) old =
-      let h = found-with (geom_of_provider t s.provider) (λ h. rank t h.number < taste_limit) old.rank in
+      let h = found-with (geom_of_provider t s.provider) (λ h. rank t h.number < UNTASTED_RANK) old.rank in
       let x = through (λ (x : Provider). geom_at t x.geom) (provider_at t s.provider) h.item h.is in
-      some-with (geom_of_provider u s.provider) (λ h. rank u h.number < taste_limit) h.item
+      some-with (geom_of_provider u s.provider) (λ h. rank u h.number < UNTASTED_RANK) h.item
       (ap (option_and_then (λ (x : Provider). geom_at t x.geom)) (provider_still s.provider x.first x.is) ∙ x.then)
-      (subst (λ m. m < taste_limit) (sym (kept.same h.item.number)) h.fact)
+      (subst (λ m. m < UNTASTED_RANK) (sym (kept.same h.item.number)) h.fact)
 
   -- the graph has come to more
   finished-more : IsMore w u g

@@ -1,5 +1,5 @@
 -- A concat and a stripe: a geom over some providers, with one provider over all of them; or the command is refused.
-use Rattle.std.specs.Prelude.{◌≡◌, ◌≢◌, ℕ, ◌+◌, ◌*◌, ◌/◌, ◌%◌, ◌^◌, ◌<◌, ◌≤◌, ◌==◌, nat_le, nat_lt, Bool, true, false, not, ◌||◌, List, [], ◌∷◌, length, Some, None, IsSome, IsSomeAnd, IfSome, All, AllPairs, Contains, option_and_then, slice_get}
+use Rattle.std.specs.Prelude.{◌≡◌, ◌≢◌, ℕ, ◌+◌, ◌*◌, ◌/◌, ◌%◌, ◌<◌, ◌≤◌, ◌==◌, nat_le, nat_lt, Bool, true, false, not, ◌||◌, List, [], ◌∷◌, length, Some, None, IsSome, IsSomeAnd, IfSome, All, AllPairs, Contains, option_and_then, slice_get}
 use Rattle.std.specs.List.{AllZip, list_any, list_all, range_with_len}
 use Rattle.std.specs.Option.{option_flatten}
 use Rattle.std.proofs.Common.{inl, inr, refl, sym, ◌∙◌, ap, subst, arith}
@@ -12,15 +12,13 @@ use Rattle.std.proofs.Math.Nat.{dvd-mul_left_of_dvd, div-mul-le_self}
 use Rattle.geo_base.specs.Sectors.{IsSectorSize}
 use Rattle.geo_base.specs.declared.errno.Errno.TheVariants.{EEXIST, ENOENT, ENXIO, EINVAL, EDEEP}
 use Rattle.geo_base.specs.declared.kind.Kind.TheVariants as kinds
+use Rattle.geo_base.specs.declared.limits.TheConstants.{MAX_COMPONENTS, MAX_MEDIA_BYTES, MAX_RANK, MAX_STRIPE_BYTES}
 use Rattle.geo_model.specs.Words.{first_error, same_name}
 use Rattle.geo_model.specs.Names.{concat_name, stripe_name}
 use Rattle.geo_model.specs.Topology.{Provider, provider_at, find_provider, is_name_taken}
-use Rattle.geo_model.specs.Rank.{rank_limit}
 use Rattle.geo_model.specs.World.{World, Config}
 use Rattle.geo_model.specs.Place.{Spot, concat_spot, component, stripe_spot}
-use Rattle.geo_model.specs.Acceptance.{NewSlice, joined_size, is_size, size_limit, smallest}
-use Rattle.geo_model.specs.Append.{component_limit}
-use Rattle.geo_model.specs.Requests.{request_limit}
+use Rattle.geo_model.specs.Acceptance.{NewSlice, joined_size, is_size, smallest}
 use Rattle.geo_model.specs.GeomCommands.{rank_over, with_made, found_providers, new_places, sector_of, is_invalid_joined, joined_tests, concat_config, stripe_config, is_invalid_stripe, do_concat, do_stripe}
 use Rattle.geo_model.specs.Sound.{IsMediaSize}
 use Rattle.geo_model.specs.Fitting.{IsWholeIn, Firm}
@@ -57,8 +55,8 @@ pub record CanJoin (w : World) (name : List ℕ) (config : Config) (wanted : ℕ
   pub valid : invalid ≡ false
   pub same : list_all (λ p. p.sector == sector_of ps) ps ≡ true
   pub some : 1 ≤ joined_size config
-  pub limited : joined_size config ≤ 2 ^ 60
-  pub low : rank_over w.topology ps ≤ rank_limit
+  pub limited : joined_size config ≤ MAX_MEDIA_BYTES
+  pub low : rank_over w.topology ps ≤ MAX_RANK
 
 -- so they do
 joined-tested : (w : World) (name : List ℕ) (config : Config) (wanted : ℕ) (ps : List Provider) (invalid : Bool)
@@ -66,7 +64,7 @@ joined-tested : (w : World) (name : List ℕ) (config : Config) (wanted : ℕ) (
     → CanJoin w name config wanted ps invalid
 joined-tested w name config wanted ps invalid none =
     let bad : Bool = invalid || is_invalid_joined config ps in
-    let deep : Bool = nat_lt rank_limit (rank_over w.topology ps) in
+    let deep : Bool = nat_lt MAX_RANK (rank_over w.topology ps) in
     let a = none_refused (is_name_taken w.topology name) EEXIST ((not (length ps == wanted), ENOENT)
     ∷ (list_any (λ p. p.errored) ps, ENXIO) ∷ (bad, EINVAL) ∷ (deep, EDEEP) ∷ []) none in
     let b = none_refused (not (length ps == wanted)) ENOENT
@@ -76,7 +74,7 @@ joined-tested w name config wanted ps invalid none =
     let e = none_refused deep EDEEP [] d.1 in
     let f = or_parts invalid (is_invalid_joined config ps) d.0 in
     let g = or_parts (not (list_all (λ p. p.sector == sector_of ps) ps)) (not (is_size (joined_size config))) f.1 in
-    let h = and_parts (nat_le 1 (joined_size config)) (nat_le (joined_size config) size_limit)
+    let h = and_parts (nat_le 1 (joined_size config)) (nat_le (joined_size config) MAX_MEDIA_BYTES)
     (not-false (is_size (joined_size config)) g.1) in
     record {
       free = a.0;
@@ -84,8 +82,8 @@ joined-tested w name config wanted ps invalid none =
       valid = f.0;
       same = not-false (list_all (λ p. p.sector == sector_of ps) ps) g.0;
       some = leb-true 1 (joined_size config) h.0;
-      limited = leb-true (joined_size config) size_limit h.1;
-      low = ltb-false rank_limit (rank_over w.topology ps) e.0;
+      limited = leb-true (joined_size config) MAX_MEDIA_BYTES h.1;
+      low = ltb-false MAX_RANK (rank_over w.topology ps) e.0;
     }
 
 module _ (w : World) (firm : Firm w) (ps : List Provider)
@@ -140,7 +138,7 @@ module _ (w : World) (firm : Firm w) (ps : List Provider)
 
   -- the one provider to be made can be offered, where its offsets are placed
   offers_one : (config : Config) (name : List ℕ) → is_name_taken w.topology name ≡ false → 1 ≤ joined_size config
-      → joined_size config ≤ 2 ^ 60 → joined_size config % sector_of ps ≡ 0
+      → joined_size config ≤ MAX_MEDIA_BYTES → joined_size config % sector_of ps ≡ 0
       → ((o : ℕ) → o < joined_size config → HasPlace config ps n (sector_of ps) name o)
       → All (CanOffer w config ps (sector_of ps)) (record { name = name; size = joined_size config } ∷ [])
   offers_one config name free some limited whole so =
@@ -184,7 +182,7 @@ module _ (w : World) (firm : Firm w) (ps : List Provider)
       (lands.fact.inside, sector place.provider (below-among n ps place.consumer place.provider place.below)))
 
   -- so a concat can be made
-  concat-can : (wanted : ℕ) (name : List ℕ) → length ps ≤ component_limit
+  concat-can : (wanted : ℕ) (name : List ℕ) → length ps ≤ MAX_COMPONENTS
       → CanJoin w (concat_name name) concat wanted ps false
       → CanMake w kinds.Concat concat ps (sector_of ps)
       (record { name = concat_name name; size = joined_size concat } ∷ [])
@@ -199,7 +197,7 @@ module _ (w : World) (firm : Firm w) (ps : List Provider)
         (All-from_recursion (λ c. IsSome (below_new n ps c)) (range_with_len n (length ps)) (all-filled n ps));
     apart = subst (AllPairs (λ a b. a ≢ b)) (sym (filled-list (range_with_len n (length ps))))
         (pairs-from_recursion (λ a b. a ≢ b) (range_with_len n (length ps)) (all-differ n (length ps)));
-    few = subst (λ m. m ≤ component_limit) (sym (length-map-range_with_len (λ c. Some c) n (length ps))) few;
+    few = subst (λ m. m ≤ MAX_COMPONENTS) (sym (length-map-range_with_len (λ c. Some c) n (length ps))) few;
     places = places_fit;
     disk = tt;
     sectors = sector_size;
@@ -255,7 +253,7 @@ module _ (w : World) (firm : Firm w) (ps : List Provider)
         (omega arith, sector place.provider here)
 
     -- so a stripe can be made
-    stripe-can : (wanted : ℕ) (name : List ℕ) (invalid : Bool) → length ps ≤ component_limit
+    stripe-can : (wanted : ℕ) (name : List ℕ) (invalid : Bool) → length ps ≤ MAX_COMPONENTS
         → CanJoin w (stripe_name name) striped wanted ps invalid
         → CanMake w kinds.Stripe striped ps (sector_of ps)
         (record { name = stripe_name name; size = joined_size striped } ∷ [])
@@ -271,7 +269,7 @@ module _ (w : World) (firm : Firm w) (ps : List Provider)
           (All-from_recursion (λ c. IsSome (below_new n ps c)) (range_with_len n (length ps)) (all-filled n ps));
       apart = subst (AllPairs (λ a b. a ≢ b)) (sym (filled-list (range_with_len n (length ps))))
           (pairs-from_recursion (λ a b. a ≢ b) (range_with_len n (length ps)) (all-differ n (length ps)));
-      few = subst (λ m. m ≤ component_limit) (sym (length-map-range_with_len (λ c. Some c) n (length ps))) few;
+      few = subst (λ m. m ≤ MAX_COMPONENTS) (sym (length-map-range_with_len (λ c. Some c) n (length ps))) few;
       places = places_fit;
       disk = tt;
       sectors = sector_size;
@@ -287,12 +285,12 @@ module _ (w : World) (firm : Firm w) (ps : List Provider)
     }
 
 -- as many as were named are no more than there may be
-few_found : (ps : List Provider) (wanted : ℕ) → wanted ≤ component_limit → length ps ≡ wanted
-    → length ps ≤ component_limit
-few_found ps wanted few all = subst (λ m. m ≤ component_limit) (sym all) few
+few_found : (ps : List Provider) (wanted : ℕ) → wanted ≤ MAX_COMPONENTS → length ps ≡ wanted
+    → length ps ≤ MAX_COMPONENTS
+few_found ps wanted few all = subst (λ m. m ≤ MAX_COMPONENTS) (sym all) few
 
 -- a concat over what is found keeps a firm world firm
-concat-firm : (w : World) (line : ℕ) (name : List ℕ) (wanted : ℕ) (ps : List Provider) → wanted ≤ component_limit
+concat-firm : (w : World) (line : ℕ) (name : List ℕ) (wanted : ℕ) (ps : List Provider) → wanted ≤ MAX_COMPONENTS
     → All (λ (p : Provider). provider_at w.topology p.number ≡ Some p) ps → Firm w
     → Firm (do_concat w line name wanted ps).0
 concat-firm w line name wanted ps few found firm =
@@ -306,7 +304,7 @@ concat-firm w line name wanted ps few found firm =
 
 -- so does a stripe
 stripe-firm : (w : World) (line : ℕ) (name : List ℕ) (stripe wanted : ℕ) (ps : List Provider) → 1 ≤ stripe
-    → wanted ≤ component_limit → All (λ (p : Provider). provider_at w.topology p.number ≡ Some p) ps → Firm w
+    → wanted ≤ MAX_COMPONENTS → All (λ (p : Provider). provider_at w.topology p.number ≡ Some p) ps → Firm w
     → Firm (do_stripe w line name stripe wanted ps).0
 stripe-firm w line name stripe wanted ps some few found firm =
     let config : Config = stripe_config w.topology stripe ps in
@@ -315,7 +313,7 @@ stripe-firm w line name stripe wanted ps some few found firm =
     (with_made w kinds.Stripe name config ps (stripe_name name) (joined_size config) (sector_of ps)) firm (λ none.
     let can = joined-tested w (stripe_name name) config wanted ps (is_invalid_stripe stripe ps) none in
     let whole = eqb-true (stripe % sector_of ps) 0 (not-false (stripe % sector_of ps == 0)
-    (or_parts (not (stripe % sector_of ps == 0)) (nat_lt request_limit stripe) can.valid).0) in
+    (or_parts (not (stripe % sector_of ps == 0)) (nat_lt MAX_STRIPE_BYTES stripe) can.valid).0) in
     made-firm w kinds.Stripe name config false ps (sector_of ps)
     (record { name = stripe_name name; size = joined_size config } ∷ []) firm
     (stripe-can w firm ps found can.same stripe some whole wanted name (is_invalid_stripe stripe ps)

@@ -1,10 +1,11 @@
 -- A label: a geom over the tasted provider, with a provider that is one sector smaller.
-use Rattle.std.specs.Prelude.{◌≡◌, ◌≢◌, ℕ, ◌-◌, ◌^◌, ◌<◌, ◌≤◌, true, false, List, [], ◌∷◌, Some, IsSome}
+use Rattle.std.specs.Prelude.{◌≡◌, ◌≢◌, ℕ, ◌-◌, ◌<◌, ◌≤◌, true, false, List, [], ◌∷◌, Some, IsSome}
 use Rattle.std.proofs.Common.{inl, inr, refl, subst, arith}
 use Rattle.std.proofs.lemmas.List.Elements.{All-from_recursion}
 use Rattle.std.proofs.lemmas.Nat.Gcd.{dvd_of_mod-eq-zero, mod-eq-zero_of_dvd, dvd_refl}
 use Rattle.std.proofs.Math.Nat.{dvd-sub}
 use Rattle.geo_base.specs.declared.kind.Kind.TheVariants as kinds
+use Rattle.geo_base.specs.declared.limits.TheConstants.{MAX_MEDIA_BYTES}
 use Rattle.geo_model.specs.declared.class.LabelRecord.{LabelRecord}
 use Rattle.geo_model.specs.declared.class.Shape.TheVariants.{Named}
 use Rattle.geo_model.specs.Words.{same_name}
@@ -52,7 +53,7 @@ module _ (w : World) (s : Taste) (p : Provider) (bytes : List ℕ) (record_of : 
   label_media =
       let m = media w s p kinds.Label bytes (Named record_of) made firm accepted in
       let big = large in
-      let limited : p.size ≤ 2 ^ 60 = m.limited in
+      let limited : p.size ≤ MAX_MEDIA_BYTES = m.limited in
       record {
         positive = omega arith;
         whole = mod-eq-zero_of_dvd p.sector (dvd-sub p.sector (dvd_of_mod-eq-zero p.sector m.whole)

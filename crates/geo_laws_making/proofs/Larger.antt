@@ -1,5 +1,5 @@
 -- The concat has grown: the graph has come to more, and a firm world with it is firm.
-use Rattle.std.specs.Prelude.{◌≡◌, ◌≢◌, ◌⊎◌, ℕ, ◌+◌, ◌-◌, ◌<◌, ◌≤◌, ◌%◌, ◌^◌, ◌==◌, nat_le, nat_lt, true, false, not, ◌||◌, [], ◌∷◌, ◌++◌, length, map, flat_map, sum, Option, Some, None, is_none, IsSome, IsSomeAnd, IfSome, All, AllPairs, Contains, option_and_then, slice_get}
+use Rattle.std.specs.Prelude.{◌≡◌, ◌≢◌, ◌⊎◌, ℕ, ◌+◌, ◌-◌, ◌<◌, ◌≤◌, ◌%◌, ◌==◌, nat_le, nat_lt, true, false, not, ◌||◌, [], ◌∷◌, ◌++◌, length, map, flat_map, sum, Option, Some, None, is_none, IsSome, IsSomeAnd, IfSome, All, AllPairs, Contains, option_and_then, slice_get}
 use Rattle.std.specs.List.{AllZip, list_any}
 use Rattle.std.specs.Option.{option_map_or, option_to_list}
 use Prim.Native.Nat.{◌∣◌}
@@ -12,16 +12,17 @@ use Rattle.std.proofs.lemmas.Nat.Gcd.{dvd_of_mod-eq-zero, mod-eq-zero_of_dvd}
 use Rattle.std.proofs.Math.Nat.{dvd-add}
 use Rattle.geo_base.specs.Sectors.{IsSectorSize}
 use Rattle.geo_base.specs.declared.kind.Kind.TheVariants as kinds
+use Rattle.geo_base.specs.declared.limits.TheConstants.{MAX_COMPONENTS, MAX_MEDIA_BYTES, UNTASTED_RANK}
 use Rattle.geo_model.specs.Words.{is_kind}
 use Rattle.geo_model.specs.Topology.{Topology, Geom, Provider, Consumer, geom_at, provider_at, consumer_at, geom_of_provider, providers_of, consumers_of, add_consumer, set_config}
 use Rattle.geo_model.specs.Rank.{rank, reaches}
 use Rattle.geo_model.specs.Opens.{is_below}
 use Rattle.geo_model.specs.Demand.{have, is_zero}
 use Rattle.geo_model.specs.World.{World, Config, Concat, Taste, Bio, granted_in}
-use Rattle.geo_model.specs.Events.{provider_of_event, taste_limit}
+use Rattle.geo_model.specs.Events.{provider_of_event}
 use Rattle.geo_model.specs.Place.{Spot, place, component, components, disk_of}
-use Rattle.geo_model.specs.Acceptance.{places_of, add_place, joined_size, size_limit}
-use Rattle.geo_model.specs.Append.{Growing, component_limit, is_invalid_append, is_growth_busy, component_refusal, with_component}
+use Rattle.geo_model.specs.Acceptance.{places_of, add_place, joined_size}
+use Rattle.geo_model.specs.Append.{Growing, is_invalid_append, is_growth_busy, component_refusal, with_component}
 use Rattle.geo_model.specs.Graph.{IsInOrder, PartsLive}
 use Rattle.geo_model.specs.Sound.{fits_kind, DifferInName, DifferInDisk, IsMediaSize, IsOfItsClass, IsPlaceInside, IsPlaced, IsTasteInOrder, LeadsDown}
 use Rattle.geo_model.specs.Steady.{HasItsComponents, WaitsForPlaces}
@@ -49,23 +50,23 @@ use Rattle.geo_laws_making.proofs.Rises.{order, live, geom_here, provider_here, 
 -- what an append asks of the concat and the provider: not too many consumers, one sector size, and a size that
 -- isn't too large
 pub record IsValid (t : Topology Config) (x : Growing) (q : Provider) : Type 0 where
-  pub few : length (consumers_of t x.geom.number) < component_limit
+  pub few : length (consumers_of t x.geom.number) < MAX_COMPONENTS
   pub sector : x.provider.sector ≡ q.sector
-  pub limited : x.provider.size + q.size ≤ 2 ^ 60
+  pub limited : x.provider.size + q.size ≤ MAX_MEDIA_BYTES
 
 -- so the tests say
 pub valid_from : (t : Topology Config) (x : Growing) (q : Provider) → is_invalid_append t x q ≡ false
     → IsValid t x q
 valid_from t x q valid =
-    let a = or_parts x.geom.automatic (nat_le component_limit (length (consumers_of t x.geom.number))
-    || (not (x.provider.sector == q.sector) || nat_lt size_limit (x.provider.size + q.size))) valid in
-    let b = or_parts (nat_le component_limit (length (consumers_of t x.geom.number)))
-    (not (x.provider.sector == q.sector) || nat_lt size_limit (x.provider.size + q.size)) a.1 in
-    let c = or_parts (not (x.provider.sector == q.sector)) (nat_lt size_limit (x.provider.size + q.size)) b.1 in
+    let a = or_parts x.geom.automatic (nat_le MAX_COMPONENTS (length (consumers_of t x.geom.number))
+    || (not (x.provider.sector == q.sector) || nat_lt MAX_MEDIA_BYTES (x.provider.size + q.size))) valid in
+    let b = or_parts (nat_le MAX_COMPONENTS (length (consumers_of t x.geom.number)))
+    (not (x.provider.sector == q.sector) || nat_lt MAX_MEDIA_BYTES (x.provider.size + q.size)) a.1 in
+    let c = or_parts (not (x.provider.sector == q.sector)) (nat_lt MAX_MEDIA_BYTES (x.provider.size + q.size)) b.1 in
     record {
-      few = leb-false component_limit (length (consumers_of t x.geom.number)) b.0;
+      few = leb-false MAX_COMPONENTS (length (consumers_of t x.geom.number)) b.0;
       sector = eqb-true x.provider.sector q.sector (not-false (x.provider.sector == q.sector) c.0);
-      limited = ltb-false size_limit (x.provider.size + q.size) c.1;
+      limited = ltb-false MAX_MEDIA_BYTES (x.provider.size + q.size) c.1;
     }
 
 module _ (w : World) (x : Growing) (q : Provider) (firm : Firm w) (is : IsStanding w.topology x)
@@ -354,12 +355,12 @@ module _ (w : World) (x : Growing) (q : Provider) (firm : Firm w) (is : IsStandi
       omega arith
 
   -- so there are sixteen at most
-  few_places : length (places_of config) ≤ component_limit
+  few_places : length (places_of config) ≤ MAX_COMPONENTS
   few_places =
       let same : length (places_of config) ≡ length before.places + 1 =
       ap (λ z. length (places_of z)) config_is ∙ length-append before.places (Some c ∷ []) in
       let few = few_before in
-      let less : length (consumers_of t n) < 16 = valid.few in
+      let less : length (consumers_of t n) < MAX_COMPONENTS = valid.few in
       omega arith
 
   -- the size of the places together
@@ -588,20 +589,20 @@ module _ (w : World) (x : Growing) (q : Provider) (firm : Firm w) (is : IsStandi
   -- so its rank stays
   taste_low : (o : Option Taste) → option_map_or (λ (s : Taste). is_below t p s.provider) o false ≡ false
       → IfSome o (IsTasteInOrder w)
-      → IfSome o (λ s. IsSomeAnd (geom_of_provider u s.provider) (λ h. rank u h.number < taste_limit))
+      → IfSome o (λ s. IsSomeAnd (geom_of_provider u s.provider) (λ h. rank u h.number < UNTASTED_RANK))
   taste_low None away old = tt
   taste_low (Some s) away old =
-      let h = found-with (geom_of_provider t s.provider) (λ h. rank t h.number < taste_limit) old.rank in
+      let h = found-with (geom_of_provider t s.provider) (λ h. rank t h.number < UNTASTED_RANK) old.rank in
       let y = through (λ (z : Provider). geom_at t z.geom) (provider_at t s.provider) h.item h.is in
       let apart = apart_from w x firm is s.provider y.first y.is away in
       let number = number_found (λ (z : Geom Config). z.number) t.geoms y.first.geom h.item y.then in
       let same = rank_away w x firm is q there none h.item.number
       (ap (λ k. reaches t k n) number ∙ apart.unreached) in
-      some-with (geom_of_provider u s.provider) (λ h. rank u h.number < taste_limit) h.item
+      some-with (geom_of_provider u s.provider) (λ h. rank u h.number < UNTASTED_RANK) h.item
       (ap (option_and_then (λ (z : Provider). geom_at u z.geom))
       (grown_is_found.other_providers w x q s.provider apart.number ∙ y.is)
       ∙ grown_is_found.other_geoms w x q y.first.geom apart.geom ∙ y.then)
-      (subst (λ m. m < taste_limit) (sym same) h.fact)
+      (subst (λ m. m < UNTASTED_RANK) (sym same) h.fact)
 
   -- each provider comes from one that stood
   provider_comes : (y : Provider) → Contains u.providers y → ComesFrom IsGrownFrom t.providers y

@@ -9,11 +9,12 @@ use Rattle.std.proofs.lemmas.List.{nil_from_length}
 use Rattle.std.proofs.lemmas.List.Quantifiers.{all_pairs_push}
 use Rattle.geo_base.specs.Sectors.{IsSectorSize}
 use Rattle.geo_base.specs.declared.kind.Kind.{Kind}
+use Rattle.geo_base.specs.declared.limits.TheConstants.{MAX_RANK, UNTASTED_RANK}
 use Rattle.geo_model.specs.Words.{largest, same_name}
 use Rattle.geo_model.specs.Topology.{Topology, Geom, Provider, Consumer, geom_at, provider_at, consumer_at, geom_of_provider, providers_of, is_name_taken, add_geom, add_consumer}
-use Rattle.geo_model.specs.Rank.{rank, rank_limit}
+use Rattle.geo_model.specs.Rank.{rank}
 use Rattle.geo_model.specs.Demand.{want, is_zero}
-use Rattle.geo_model.specs.Events.{QueuedTopology, provider_of_event, taste_limit}
+use Rattle.geo_model.specs.Events.{QueuedTopology, provider_of_event}
 use Rattle.geo_model.specs.World.{World, Config, Taste, granted_in}
 use Rattle.geo_model.specs.WorldEvents.{queued_of, with_queued}
 use Rattle.geo_model.specs.Place.{place, component, components, disk_of}
@@ -195,18 +196,18 @@ module _ (w : World) (kind : Kind) (name : List ℕ) (config : Config) (automati
       ≡ largest (map (λ (p : Provider). rank t p.geom) ps) = ap largest before in
       let one : rank base n ≡ 1 = stay.same n ∙ rank-next t order firm.sound.ranks.ranked live.geoms in
       let top : rank v n ≡ max (rank base n) (1 + largest (map (λ (p : Provider). rank base p.geom) ps)) = all.1 in
-      let low : 1 + largest (map (λ (p : Provider). rank t p.geom) ps) ≤ 32 = can.low in
+      let low : 1 + largest (map (λ (p : Provider). rank t p.geom) ps) ≤ MAX_RANK = can.low in
       let others : (h : ℕ) → h ≢ n → rank v h ≡ rank t h = λ h apart. all.0.same h apart ∙ stay.same h in
       record {
         hold = record {
           ranked = all.0.ranked;
           not_deep = subst (λ (xs : List (Geom Config)). All (λ x. x.number ≢ 1 → x.number ≢ 2
-              → rank v x.number ≤ rank_limit) xs) (sym (over-geoms n ps base))
-              (All-push (λ (x : Geom Config). x.number ≢ 1 → x.number ≢ 2 → rank v x.number ≤ rank_limit) t.geoms g
-              (all_of (λ (x : Geom Config). x.number ≢ 1 → x.number ≢ 2 → rank v x.number ≤ rank_limit) t.geoms
+              → rank v x.number ≤ MAX_RANK) xs) (sym (over-geoms n ps base))
+              (All-push (λ (x : Geom Config). x.number ≢ 1 → x.number ≢ 2 → rank v x.number ≤ MAX_RANK) t.geoms g
+              (all_of (λ (x : Geom Config). x.number ≢ 1 → x.number ≢ 2 → rank v x.number ≤ MAX_RANK) t.geoms
               (λ x here dev taste.
-              let was : rank t x.number ≤ 32 = All-contains (λ (x : Geom Config). x.number ≢ 1 → x.number ≢ 2
-              → rank t x.number ≤ rank_limit) t.geoms x firm.sound.ranks.not_deep here dev taste in
+              let was : rank t x.number ≤ MAX_RANK = All-contains (λ (x : Geom Config). x.number ≢ 1 → x.number ≢ 2
+              → rank t x.number ≤ MAX_RANK) t.geoms x firm.sound.ranks.not_deep here dev taste in
               let is : rank v x.number ≡ rank t x.number = others x.number (old_geom_apart x here) in
               omega arith))
               (λ dev taste. omega arith));
@@ -448,18 +449,18 @@ module _ (w : World) (kind : Kind) (name : List ℕ) (config : Config) (automati
 
   -- the taste isn't too high
   low_still : (o : Option Taste) → IfSome o (IsTasteInOrder w)
-      → IfSome o (λ s. IsSomeAnd (geom_of_provider u s.provider) (λ h. rank u h.number < taste_limit))
+      → IfSome o (λ s. IsSomeAnd (geom_of_provider u s.provider) (λ h. rank u h.number < UNTASTED_RANK))
   low_still None old = tt
   low_still (Some s) old =
-      let h = found-with (geom_of_provider t s.provider) (λ h. rank t h.number < taste_limit) old.rank in
+      let h = found-with (geom_of_provider t s.provider) (λ h. rank t h.number < UNTASTED_RANK) old.rank in
       let p = through (λ (x : Provider). geom_at t x.geom) (provider_at t s.provider) h.item h.is in
       let here = find-Contains (λ (z : Geom Config). z.number == p.first.geom) t.geoms h.item p.then in
       let same = rank_same h.item.number (old_geom_apart h.item here) in
-      some-with (geom_of_provider u s.provider) (λ h. rank u h.number < taste_limit) h.item
+      some-with (geom_of_provider u s.provider) (λ h. rank u h.number < UNTASTED_RANK) h.item
       (ap (option_and_then (λ (x : Provider). geom_at u x.geom)) (provider_in_end s.provider p.first p.is)
       ∙ geom_in_end p.first.geom h.item (found-before (λ (z : Geom Config). z.number == p.first.geom) t.geoms _
       h.item p.then))
-      (subst (λ m. m < taste_limit) (sym same) h.fact)
+      (subst (λ m. m < UNTASTED_RANK) (sym same) h.fact)
 
   -- names differ
   names_differ : AllPairs DifferInName u.providers

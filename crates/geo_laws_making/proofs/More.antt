@@ -4,12 +4,13 @@ use Rattle.std.specs.List.{enumerate_from}
 use Rattle.std.proofs.Common.{inl, inr, refl, sym, ◌∙◌, ap, subst, arith, get_or}
 use Rattle.std.proofs.lemmas.Bool.{and_parts, eqb-true}
 use Rattle.std.proofs.lemmas.List.Elements.{All-contains, All-weaker, Contains-get_or}
+use Rattle.geo_base.specs.declared.limits.TheConstants.{UNTASTED_RANK}
 use Rattle.geo_model.specs.declared.step.Event.{Event}
 use Rattle.geo_model.specs.Words.{is_read, is_flush}
 use Rattle.geo_model.specs.Topology.{Topology, Geom, Provider, Consumer, geom_at, provider_at, consumer_at, geom_of_provider, consumers_of, is_withering}
 use Rattle.geo_model.specs.Rank.{rank}
 use Rattle.geo_model.specs.Demand.{have, want, is_zero}
-use Rattle.geo_model.specs.Events.{provider_of_event, taste_limit}
+use Rattle.geo_model.specs.Events.{provider_of_event}
 use Rattle.geo_model.specs.Bios.{piece_targets, disk_of_bio}
 use Rattle.geo_model.specs.Place.{Spot, place, component, disk_of}
 use Rattle.geo_model.specs.World.{World, Config, Taste, Bio, granted_in, children_of, is_sent, is_busy}
@@ -363,7 +364,7 @@ module _ (w : World) (u : Topology Config) (g : Geom Config) (firm : Firm w) (mo
     where
       -- it is there, since its geom is
       by : (o : Option Provider) → IsSomeAnd (option_and_then (λ (x : Provider). geom_at t x.geom) o)
-          (λ h. rank t h.number < taste_limit)
+          (λ h. rank t h.number < UNTASTED_RANK)
           → IsSome o
       by None fact = absurd fact
       by (Some x) fact = refl
@@ -372,7 +373,7 @@ module _ (w : World) (u : Topology Config) (g : Geom Config) (firm : Firm w) (mo
   taste_holds : (queue : List Event) (o : Option Taste) → IfSome o (IsTasteInOrder w)
       → IfSome o (λ s. (x : Provider) → provider_at t s.provider ≡ Some x → (provider_at u s.provider ≡ Some x)
       × (x.geom ≢ g.number))
-      → IfSome o (λ s. IsSomeAnd (geom_of_provider u s.provider) (λ h. rank u h.number < taste_limit))
+      → IfSome o (λ s. IsSomeAnd (geom_of_provider u s.provider) (λ h. rank u h.number < UNTASTED_RANK))
       → IfSome o (IsTasteInOrder (remade w u queue))
   taste_holds queue None old still low = tt
   taste_holds queue (Some s) old still low =

@@ -1,5 +1,5 @@
 -- A nop: a geom over one provider, with a provider for its window; or the command is refused.
-use Rattle.std.specs.Prelude.{◌≡◌, ◌≢◌, ℕ, ◌+◌, ◌<◌, ◌≤◌, ◌%◌, ◌^◌, ◌==◌, nat_lt, false, not, ◌||◌, List, [], ◌∷◌, Option, Some, None, IsSome}
+use Rattle.std.specs.Prelude.{◌≡◌, ◌≢◌, ℕ, ◌+◌, ◌<◌, ◌≤◌, ◌%◌, ◌==◌, nat_lt, false, not, ◌||◌, List, [], ◌∷◌, Option, Some, None, IsSome}
 use Rattle.std.proofs.Common.{inl, inr, refl, sym, ◌∙◌, subst, arith}
 use Rattle.std.proofs.lemmas.Bool.{or_parts, not-false, ltb-false, eqb-true, eq-eqb}
 use Rattle.std.proofs.lemmas.List.Elements.{All-contains, All-from_recursion}
@@ -7,9 +7,9 @@ use Rattle.geo_base.specs.Name.{is_name}
 use Rattle.geo_base.specs.Sectors.{IsSectorSize}
 use Rattle.geo_base.specs.declared.errno.Errno.TheVariants.{ENXIO, EEXIST, EINVAL, EDEEP}
 use Rattle.geo_base.specs.declared.kind.Kind.TheVariants as kinds
+use Rattle.geo_base.specs.declared.limits.TheConstants.{MAX_MEDIA_BYTES, MAX_RANK}
 use Rattle.geo_model.specs.Words.{first_error, same_name}
 use Rattle.geo_model.specs.Topology.{Provider, provider_at, find_provider, is_name_taken}
-use Rattle.geo_model.specs.Rank.{rank_limit}
 use Rattle.geo_model.specs.World.{World}
 use Rattle.geo_model.specs.Acceptance.{NewSlice}
 use Rattle.geo_model.specs.GeomCommands.{rank_over, with_made, is_invalid_nop, nop_tests, nop_config, do_nop, found_provider}
@@ -35,7 +35,7 @@ found_by_number w n p e =
 
 module _ (w : World) (firm : Firm w) (p : Provider) (name : List ℕ) (offset size fail : ℕ)
     (found : provider_at w.topology p.number ≡ Some p) (free : is_name_taken w.topology name ≡ false)
-    (valid : is_invalid_nop p name offset size ≡ false) (low : nat_lt rank_limit (rank_over w.topology (p ∷ []))
+    (valid : is_invalid_nop p name offset size ≡ false) (low : nat_lt MAX_RANK (rank_over w.topology (p ∷ []))
     ≡ false) where
   -- the number of the consumer
   abbrev c : ℕ
@@ -85,7 +85,7 @@ module _ (w : World) (firm : Firm w) (p : Provider) (name : List ℕ) (offset si
   window_size : IsMediaSize size p.sector
   window_size =
       let i : offset + size ≤ p.size = window.inside in
-      let m : p.size ≤ 2 ^ 60 = media.limited in
+      let m : p.size ≤ MAX_MEDIA_BYTES = media.limited in
       record { positive = window.some; whole = window.size_whole; limited = omega arith }
 
   -- an offset has its place in it
@@ -102,7 +102,7 @@ module _ (w : World) (firm : Firm w) (p : Provider) (name : List ℕ) (offset si
     dev = refl;
     taste = refl;
     found = All-from_recursion (λ (x : Provider). provider_at w.topology x.number ≡ Some x) (p ∷ []) (found, tt);
-    low = ltb-false rank_limit (rank_over w.topology (p ∷ [])) low;
+    low = ltb-false MAX_RANK (rank_over w.topology (p ∷ [])) low;
     wholes = All-from_recursion (λ (x : Provider). IsWholeIn (nop_config w.topology offset fail) x.sector) (p ∷ [])
         (window.offset_whole, tt);
     filled = All-from_recursion (λ d. IsSome (below_new c (p ∷ []) d)) (c ∷ [])
@@ -142,12 +142,12 @@ nop-firm w line name offset size fail (Some p) found firm =
     (with_made w kinds.Nop name (nop_config w.topology offset fail) (p ∷ []) name size p.sector) firm (λ none.
     let a = none_refused p.errored ENXIO ((is_name_taken w.topology name, EEXIST)
     ∷ (is_invalid_nop p name offset size, EINVAL)
-    ∷ (nat_lt rank_limit (rank_over w.topology (p ∷ [])), EDEEP) ∷ []) none in
+    ∷ (nat_lt MAX_RANK (rank_over w.topology (p ∷ [])), EDEEP) ∷ []) none in
     let b = none_refused (is_name_taken w.topology name) EEXIST ((is_invalid_nop p name offset size, EINVAL)
-    ∷ (nat_lt rank_limit (rank_over w.topology (p ∷ [])), EDEEP) ∷ []) a.1 in
+    ∷ (nat_lt MAX_RANK (rank_over w.topology (p ∷ [])), EDEEP) ∷ []) a.1 in
     let d = none_refused (is_invalid_nop p name offset size) EINVAL
-    ((nat_lt rank_limit (rank_over w.topology (p ∷ [])), EDEEP) ∷ []) b.1 in
-    let e = none_refused (nat_lt rank_limit (rank_over w.topology (p ∷ []))) EDEEP [] d.1 in
+    ((nat_lt MAX_RANK (rank_over w.topology (p ∷ [])), EDEEP) ∷ []) b.1 in
+    let e = none_refused (nat_lt MAX_RANK (rank_over w.topology (p ∷ []))) EDEEP [] d.1 in
     nopped-firm w firm p name offset size fail (found p refl) b.0 d.0 e.0)
 
 -- so say all nops

@@ -1,5 +1,5 @@
 -- The logical partitions of a chain: a geom over the tasted provider, with a provider for each partition.
-use Rattle.std.specs.Prelude.{◌≡◌, ◌≢◌, ℕ, ◌+◌, ◌-◌, ◌*◌, ◌/◌, ◌^◌, ◌<◌, ◌≤◌, ◌==◌, nat_lt, Bool, true, false, ◌||◌, List, [], ◌∷◌, ◌++◌, length, map, replicate, All, Option, Some, None, IsSome, IsSomeAnd, IfSome, option_and_then, slice_get, if◌then◌else◌}
+use Rattle.std.specs.Prelude.{◌≡◌, ◌≢◌, ℕ, ◌+◌, ◌-◌, ◌*◌, ◌/◌, ◌<◌, ◌≤◌, ◌==◌, nat_lt, Bool, true, false, ◌||◌, List, [], ◌∷◌, ◌++◌, length, map, replicate, All, Option, Some, None, IsSome, IsSomeAnd, IfSome, option_and_then, slice_get, if◌then◌else◌}
 use Rattle.std.specs.Option.{option_flatten, option_map}
 use Rattle.std.proofs.Common.{inl, inr, refl, sym, ◌∙◌, ap, subst, arith}
 use Rattle.std.proofs.lemmas.Bool.{or_parts, ltb-false, eqb-true}
@@ -9,6 +9,7 @@ use Rattle.std.proofs.lemmas.Option.{slice_get_within, get_or_from_slice_get}
 use Rattle.std.proofs.Math.Nat.{div-mul-le_self, mul-mod_left}
 use Rattle.geo_base.specs.declared.decline.DeclineCause.{DeclineCause}
 use Rattle.geo_base.specs.declared.kind.Kind.TheVariants as kinds
+use Rattle.geo_base.specs.declared.limits.TheConstants.{MAX_LINKS, MAX_MEDIA_BYTES}
 use Rattle.geo_model.specs.declared.class.EbrPart.{EbrPart}
 use Rattle.geo_model.specs.declared.class.EbrTable.{EbrTable}
 use Rattle.geo_model.specs.declared.class.Shape.TheVariants.{Logical}
@@ -118,9 +119,9 @@ module _ (w : World) (s : Taste) (p : Provider) (bytes : List ℕ) (table : EbrT
   links = (with_link n s.chain bytes).links
 
   -- are at most as many as there may be
-  few : length links ≤ 32
+  few : length links ≤ MAX_LINKS
   few =
-      let before : length s.chain.links < 32 = chain.few in
+      let before : length s.chain.links < MAX_LINKS = chain.few in
       let more : length links ≡ length s.chain.links + 1 = length-append s.chain.links _ in
       omega arith
 
@@ -133,29 +134,29 @@ module _ (w : World) (s : Taste) (p : Provider) (bytes : List ℕ) (table : EbrT
       accepted.verdict)
 
   -- so many
-  number : length table.parts ≡ 32
+  number : length table.parts ≡ MAX_LINKS
   number =
-      let all : length (map (λ (l : LinkRead). l.part) links ++ replicate (32 - length links) None)
+      let all : length (map (λ (l : LinkRead). l.part) links ++ replicate (MAX_LINKS - length links) None)
       ≡ length (map (λ (l : LinkRead). l.part) links)
-      + length (replicate {A = Option EbrPart} (32 - length links) None) =
-      length-append (map (λ (l : LinkRead). l.part) links) (replicate (32 - length links) None) in
+      + length (replicate {A = Option EbrPart} (MAX_LINKS - length links) None) =
+      length-append (map (λ (l : LinkRead). l.part) links) (replicate (MAX_LINKS - length links) None) in
       let first : length (map (λ (l : LinkRead). l.part) links) ≡ length links =
       length-map links (λ (l : LinkRead). l.part) in
-      let rest : length (replicate {A = Option EbrPart} (32 - length links) None) ≡ 32 - length links =
-      length-replicate {A = Option EbrPart} (32 - length links) None in
+      let rest : length (replicate {A = Option EbrPart} (MAX_LINKS - length links) None) ≡ MAX_LINKS - length links =
+      length-replicate {A = Option EbrPart} (MAX_LINKS - length links) None in
       let short = few in
       sym (ap length parts_are) ∙ all ∙ (let sum : length (map (λ (l : LinkRead). l.part) links)
-      + length (replicate {A = Option EbrPart} (32 - length links) None) ≡ 32 = omega arith in sum)
+      + length (replicate {A = Option EbrPart} (MAX_LINKS - length links) None) ≡ MAX_LINKS = omega arith in sum)
 
   -- each is some sectors
   parts_inside : All (λ (o : Option EbrPart). IfSome o (IsPartOf n)) (table_of links).parts
   parts_inside =
       All-append (λ (o : Option EbrPart). IfSome o (IsPartOf n)) (map (λ (l : LinkRead). l.part) links)
-      (replicate (32 - length links) None)
+      (replicate (MAX_LINKS - length links) None)
       (All-map (λ (o : Option EbrPart). IfSome o (IsPartOf n)) (λ (l : LinkRead). l.part) links
       (All-push (λ (l : LinkRead). IfSome l.part (IsPartOf n)) s.chain.links _ chain.parts
       (if-found (named_part n s.chain.next bytes) (IsPartOf n) (λ x e. named-inside bytes n s.chain.next x e))))
-      (All-replicate (λ (o : Option EbrPart). IfSome o (IsPartOf n)) (32 - length links) None tt)
+      (All-replicate (λ (o : Option EbrPart). IfSome o (IsPartOf n)) (MAX_LINKS - length links) None tt)
 
   -- so the one at a place
   inside : (k : ℕ) (x : EbrPart) → slice_get table.parts k ≡ Some (Some x) → IsPartOf n x
@@ -175,7 +176,8 @@ module _ (w : World) (s : Taste) (p : Provider) (bytes : List ℕ) (table : EbrT
   part_media x o =
       let f = inside o.place o.item o.at in
       let all = all_sectors in
-      let limited : p.size ≤ 2 ^ 60 = (media w s p kinds.Ebr bytes (Logical table) made firm accepted).limited in
+      let limited : p.size ≤ MAX_MEDIA_BYTES =
+      (media w s p kinds.Ebr bytes (Logical table) made firm accepted).limited in
       let some : 1 ≤ o.item.count = f.some in
       let end : o.item.first + o.item.count ≤ n = f.inside in
       subst (λ m. IsMediaSize m 512) (sym o.size_is)
@@ -188,7 +190,7 @@ module _ (w : World) (s : Taste) (p : Provider) (bytes : List ℕ) (table : EbrT
       let all = all_sectors in
       let end : slice.item.first + slice.item.count ≤ n = f.inside in
       let less : o < slice.item.count * 512 = subst (λ m. o < m) slice.size_is short in
-      let within : slice.place < 32 =
+      let within : slice.place < MAX_LINKS =
       subst (λ m. slice.place < m) number (slice_get_within table.parts slice.place (Some slice.item) slice.at) in
       let here : 0 + slice.place + 1 - 1 ≡ slice.place = omega arith in
       let spot : Spot = record { component = 0; offset = slice.item.first * 512 + o } in
@@ -241,7 +243,7 @@ module _ (w : World) (s : Taste) (p : Provider) (bytes : List ℕ) (table : EbrT
         (length table.parts)
         (λ i less.
         let here : i + 1 - 1 ≡ i = omega arith in
-        let all : length table.parts ≡ 32 = number in
+        let all : length table.parts ≡ MAX_LINKS = number in
         ap (λ m. m - 1) (logical-tells p.name i (omega arith)) ∙ here)
         0 table.parts (omega arith));
     partial = λ some. false_true some;

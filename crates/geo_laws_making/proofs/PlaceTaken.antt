@@ -7,15 +7,14 @@ use Rattle.std.proofs.lemmas.List.{length-set}
 use Rattle.std.proofs.lemmas.List.Elements.{All-contains, All-nil, Contains-push_cases}
 use Rattle.std.proofs.lemmas.Nat.Gcd.{dvd_of_mod-eq-zero, mod-eq-zero_of_dvd, dvd_refl}
 use Rattle.std.proofs.Math.Nat.{dvd-sub}
+use Rattle.geo_base.specs.declared.limits.TheConstants.{MAX_COMPONENTS, MAX_RANK, UNTASTED_RANK}
 use Rattle.geo_model.specs.Words.{change_where}
 use Rattle.geo_model.specs.Topology.{Topology, Geom, Provider, Consumer, geom_at, provider_at, consumer_at, geom_of_provider, providers_of, add_consumer, set_config}
-use Rattle.geo_model.specs.Rank.{rank, rank_limit}
+use Rattle.geo_model.specs.Rank.{rank}
 use Rattle.geo_model.specs.Demand.{want, is_zero}
-use Rattle.geo_model.specs.Events.{taste_limit}
 use Rattle.geo_model.specs.World.{World, Config, Taste, granted_in}
 use Rattle.geo_model.specs.Place.{components, disk_of}
 use Rattle.geo_model.specs.Acceptance.{places_of, fill_place, joined_size}
-use Rattle.geo_model.specs.Append.{component_limit}
 use Rattle.geo_model.specs.Graph.{IsInOrder, PartsLive}
 use Rattle.geo_model.specs.Sound.{RanksHold, DifferInDisk, IsMediaSize, IsOfItsClass, IsTasteInOrder}
 use Rattle.geo_model.specs.Fitting.{IsWholeIn, FitsBelow, sizes_of, FitsPlace, FitsPlaces, PlacesHold, Firm}
@@ -160,23 +159,23 @@ module _ (w : World) (p : Provider) (g : Geom Config) (k : ℕ) (firm : Firm w) 
   ranks_v : RanksHold v
   ranks_v = record {
     ranked = rises.0.ranked;
-    not_deep = all_of (λ (x : Geom Config). x.number ≢ 1 → x.number ≢ 2 → rank v x.number ≤ rank_limit) t.geoms
+    not_deep = all_of (λ (x : Geom Config). x.number ≢ 1 → x.number ≢ 2 → rank v x.number ≤ MAX_RANK) t.geoms
         (λ x stands dev taste.
-        let was : rank t x.number ≤ 32 = All-contains (λ (x : Geom Config). x.number ≢ 1 → x.number ≢ 2
-        → rank t x.number ≤ rank_limit) t.geoms x firm.sound.ranks.not_deep stands dev taste in
+        let was : rank t x.number ≤ MAX_RANK = All-contains (λ (x : Geom Config). x.number ≢ 1 → x.number ≢ 2
+        → rank t x.number ≤ MAX_RANK) t.geoms x firm.sound.ranks.not_deep stands dev taste in
         by x.number was (x.number == n) refl);
     dev = record { stands = firm.sound.ranks.dev.stands; no_provider = firm.sound.ranks.dev.no_provider };
     taste = record { stands = firm.sound.ranks.taste.stands; no_provider = firm.sound.ranks.taste.no_provider };
   }
     where
       -- by whether it is the one
-      by : (m : ℕ) → rank t m ≤ 32 → (b : Bool) → (m == n) ≡ b → rank v m ≤ 32
+      by : (m : ℕ) → rank t m ≤ MAX_RANK → (b : Bool) → (m == n) ≡ b → rank v m ≤ MAX_RANK
       by m was true e =
           let same : m ≡ n = eqb-true m n e in
           let now : rank v n ≡ max (rank t n) (1 + rank t p.geom) = rises.1 in
-          let old : rank t n ≤ 32 = subst (λ i. rank t i ≤ 32) same was in
-          let below : rank t p.geom < 32 = can.low in
-          subst (λ i. rank v i ≤ 32) (sym same) (omega arith)
+          let old : rank t n ≤ MAX_RANK = subst (λ i. rank t i ≤ MAX_RANK) same was in
+          let below : rank t p.geom < MAX_RANK = can.low in
+          subst (λ i. rank v i ≤ MAX_RANK) (sym same) (omega arith)
       by m was false e =
           let still : rank v m ≡ rank t m = rises.0.same m (λ same.
           let yes : true ≡ false = sym (eq-eqb m n same) ∙ e in let no : ⊥ = cc in no) in
@@ -328,7 +327,7 @@ module _ (w : World) (p : Provider) (g : Geom Config) (k : ℕ) (firm : Firm w) 
             consumer_apart d x.item x.is)
             (recursion-from_pairs (λ a b. a ≢ b) (filled_of (places_of g.config))
             (subst (AllPairs (λ a b. a ≢ b)) (has-places g.config waits.assembly).components_are before.apart))));
-        few = subst (λ m. m ≤ component_limit)
+        few = subst (λ m. m ≤ MAX_COMPONENTS)
             (sym (ap length is.places_are ∙ length-set (places_of g.config) k (Some c))) before.few;
       }
 
@@ -358,20 +357,20 @@ module _ (w : World) (p : Provider) (g : Geom Config) (k : ℕ) (firm : Firm w) 
 
   -- the taste isn't too high
   low_still : (o : Option Taste) → IfSome o (IsTasteInOrder w)
-      → IfSome o (λ s. IsSomeAnd (geom_of_provider u s.provider) (λ h. rank u h.number < taste_limit))
+      → IfSome o (λ s. IsSomeAnd (geom_of_provider u s.provider) (λ h. rank u h.number < UNTASTED_RANK))
   low_still None old = tt
   low_still (Some s) old =
-      let h = found-with (geom_of_provider t s.provider) (λ h. rank t h.number < taste_limit) old.rank in
+      let h = found-with (geom_of_provider t s.provider) (λ h. rank t h.number < UNTASTED_RANK) old.rank in
       let x = through (λ (x : Provider). geom_at t x.geom) (provider_at t s.provider) h.item h.is in
       let apart =
       not_of_it x.first (find-Contains (λ (z : Provider). z.number == s.provider) t.providers x.first x.is) in
       let number : h.item.number ≡ x.first.geom =
       number_found (λ (z : Geom Config). z.number) t.geoms x.first.geom h.item x.then in
       let same = rank_same h.item.number (λ e. apart (sym number ∙ e)) in
-      some-with (geom_of_provider u s.provider) (λ h. rank u h.number < taste_limit) h.item
+      some-with (geom_of_provider u s.provider) (λ h. rank u h.number < UNTASTED_RANK) h.item
       (ap (option_and_then (λ (x : Provider). geom_at u x.geom)) x.is
       ∙ config-found.others v n filled x.first.geom apart ∙ x.then)
-      (subst (λ m. m < taste_limit) (sym same) h.fact)
+      (subst (λ m. m < UNTASTED_RANK) (sym same) h.fact)
 
   -- a consumer was there, or is the new one
   consumer_cases : (y : Consumer) → Contains u.consumers y

@@ -9,6 +9,7 @@ use Rattle.std.proofs.lemmas.List.Elements.{All-contains, All-nil}
 use Rattle.geo_base.specs.Sectors.{IsSectorSize}
 use Rattle.geo_base.specs.declared.kind.Kind.{Kind}
 use Rattle.geo_base.specs.declared.kind.Kind.TheVariants as kinds
+use Rattle.geo_base.specs.declared.limits.TheConstants.{MAX_COMPONENTS, MAX_MEDIA_BYTES, MAX_RANK}
 use Rattle.geo_model.specs.Words.{is_kind, same_name}
 use Rattle.geo_model.specs.Topology.{Topology, Geom, Provider, Consumer, provider_at, consumer_at, provider_of_consumer, add_geom, add_consumer}
 use Rattle.geo_model.specs.Rank.{rank}
@@ -16,8 +17,7 @@ use Rattle.geo_model.specs.World.{World, Config, Nothing, Disk, Mbr, Ebr, Label,
 use Rattle.geo_model.specs.Events.{QueuedTopology, offer}
 use Rattle.geo_model.specs.WorldEvents.{queued_of, with_queued}
 use Rattle.geo_model.specs.Place.{components}
-use Rattle.geo_model.specs.Acceptance.{NewSlice, if_free, places_of, fill_place, joined_size, is_size, size_limit, providers_at, finish, with_place, join_place, can_join, Member, concat_member, stripe_member, empty_concat, empty_stripe, is_same_assembly, standing_geom, join_at}
-use Rattle.geo_model.specs.Append.{component_limit}
+use Rattle.geo_model.specs.Acceptance.{NewSlice, if_free, places_of, fill_place, joined_size, is_size, providers_at, finish, with_place, join_place, can_join, Member, concat_member, stripe_member, empty_concat, empty_stripe, is_same_assembly, standing_geom, join_at}
 use Rattle.geo_model.specs.Sound.{fits_kind}
 use Rattle.geo_model.specs.Steady.{WaitsForPlaces}
 use Rattle.geo_model.specs.Fitting.{IsWholeIn, sizes_of, Firm}
@@ -116,7 +116,7 @@ module _ (w : World) (p : Provider) (g : Geom Config) (k : ℕ) (name : List ℕ
   finished_by full true size e =
       let free = free-made taken.topology (name ∷ [])
       (offer (with_place (queued_of w) p g.number filled) g.number name (joined_size filled) p.sector) made e in
-      let sizes = and_parts (nat_le 1 (joined_size filled)) (nat_le (joined_size filled) size_limit) size in
+      let sizes = and_parts (nat_le 1 (joined_size filled)) (nat_le (joined_size filled) MAX_MEDIA_BYTES) size in
       subst (λ q. Firm (with_queued w q)) free.is
       (finished-firm taken now name p.sector firm_taken waits_still (record {
         full = full;
@@ -126,7 +126,7 @@ module _ (w : World) (p : Provider) (g : Geom Config) (k : ℕ) (name : List ℕ
         same = same_still;
         free = not-taken taken.topology (name ∷ []) free.free name (Contains-here name []);
         some = leb-true 1 (joined_size filled) sizes.0;
-        limited = leb-true (joined_size filled) size_limit sizes.1;
+        limited = leb-true (joined_size filled) MAX_MEDIA_BYTES sizes.1;
       }))
 
   -- by whether they are full
@@ -233,7 +233,7 @@ pub record IsEmpty (kind : Kind) (config : Config) (count : ℕ) : Type 0 where
 
 -- a member of an assembly that a record names
 module _ (w : World) (p : Provider) (m : Member) (count : ℕ) (made : QueuedTopology Config) (firm : Firm w)
-    (can : CanTakePlace w p) (empty : IsEmpty m.kind m.empty count) (few : count ≤ component_limit)
+    (can : CanTakePlace w p) (empty : IsEmpty m.kind m.empty count) (few : count ≤ MAX_COMPONENTS)
     (inside : m.place < count)
     (whole : IsWholeIn m.empty p.sector) where
   -- the graph before
@@ -257,7 +257,7 @@ module _ (w : World) (p : Provider) (m : Member) (count : ℕ) (made : QueuedTop
     filled = subst (All (λ c. IsSome (below_new before.next_consumer [] c))) (sym bare)
         (All-nil (λ c. IsSome (below_new before.next_consumer [] c)));
     apart = subst (AllPairs (λ a b. a ≢ b)) (sym bare) (pairs-from_recursion (λ a b. a ≢ b) [] tt);
-    few = subst (λ n. n ≤ component_limit)
+    few = subst (λ n. n ≤ MAX_COMPONENTS)
         (sym (ap length empty.places ∙ length-replicate {A = Option ℕ} count None)) few;
     places = subst (λ xs. AllZip (λ place size. IfSome (option_and_then (below_new before.next_consumer []) place)
         (λ q.
@@ -288,7 +288,7 @@ module _ (w : World) (p : Provider) (m : Member) (count : ℕ) (made : QueuedTop
       (adding-stay.geom before m.kind m.geom_name m.empty true firm.sound.ranks.ranked live.geoms).same p.geom in
       joined-firm begun p (new_geom before m.kind m.geom_name m.empty true) m.place m.name made
       (made-firm w m.kind m.geom_name m.empty true [] 512 [] firm empty_can)
-      (record { found = can.found; low = subst (λ n. n < 32) (sym same) can.low })
+      (record { found = can.found; low = subst (λ n. n < MAX_RANK) (sym same) can.low })
       (record {
         stands = added-geom.new before m.kind m.geom_name m.empty true order;
         upright = refl;

@@ -5,6 +5,7 @@ use Rattle.std.proofs.lemmas.Bool.{and_parts, not-false, leb-true, ltb-true, eqb
 use Rattle.geo_base.specs.declared.decline.DeclineCause.{DeclineCause}
 use Rattle.geo_base.specs.declared.decline.DeclineCause.TheVariants as causes
 use Rattle.geo_base.specs.declared.kind.Kind.TheVariants as kinds
+use Rattle.geo_base.specs.declared.limits.TheConstants.{MAX_COMPONENTS, MAX_STRIPE_BYTES}
 use Rattle.geo_model.specs.declared.class.ConcatRecord.{ConcatRecord}
 use Rattle.geo_model.specs.declared.class.StripeRecord.{StripeRecord}
 use Rattle.geo_model.specs.declared.class.Shape.TheVariants.{Joined, Striped}
@@ -41,20 +42,20 @@ stripe_read None x found e = record { none = refl; same = cc }
 stripe_read (Some cause) x found e = absurd (let no : ⊥ = cc in no)
 
 -- a place that isn't declined
-good_place : (place count : ℕ) → not (nat_le 1 count && (nat_le count 16 && nat_lt place count)) ≡ false
+good_place : (place count : ℕ) → not (nat_le 1 count && (nat_le count MAX_COMPONENTS && nat_lt place count)) ≡ false
     → IsPlace place count
 good_place place count e =
-    let a = and_parts (nat_le 1 count) (nat_le count 16 && nat_lt place count)
-    (not-false (nat_le 1 count && (nat_le count 16 && nat_lt place count)) e) in
-    let b = and_parts (nat_le count 16) (nat_lt place count) a.1 in
-    record { some = leb-true 1 count a.0; few = leb-true count 16 b.0; inside = ltb-true place count b.1 }
+    let a = and_parts (nat_le 1 count) (nat_le count MAX_COMPONENTS && nat_lt place count)
+    (not-false (nat_le 1 count && (nat_le count MAX_COMPONENTS && nat_lt place count)) e) in
+    let b = and_parts (nat_le count MAX_COMPONENTS) (nat_lt place count) a.1 in
+    record { some = leb-true 1 count a.0; few = leb-true count MAX_COMPONENTS b.0; inside = ltb-true place count b.1 }
 
 -- a stripe size that isn't declined
 good_size : (stripe sector : ℕ) → not (is_stripe_size stripe sector) ≡ false → (1 ≤ stripe) × (stripe % sector ≡ 0)
 good_size stripe sector e =
-    let a = and_parts (nat_le 1 stripe) (nat_le stripe 32768 && (stripe % sector == 0))
+    let a = and_parts (nat_le 1 stripe) (nat_le stripe MAX_STRIPE_BYTES && (stripe % sector == 0))
     (not-false (is_stripe_size stripe sector) e) in
-    let b = and_parts (nat_le stripe 32768) (stripe % sector == 0) a.1 in
+    let b = and_parts (nat_le stripe MAX_STRIPE_BYTES) (stripe % sector == 0) a.1 in
     (leb-true 1 stripe a.0, eqb-true (stripe % sector) 0 b.1)
 
 -- nothing is against the tests behind others

@@ -1,5 +1,5 @@
 -- The slices of an MBR table: a geom over the tasted provider, with a provider for each slice.
-use Rattle.std.specs.Prelude.{◌≡◌, ◌≢◌, ℕ, zero, suc, ◌+◌, ◌*◌, ◌/◌, ◌^◌, ◌<◌, ◌≤◌, ◌==◌, nat_lt, Bool, true, false, ◌&&◌, ◌||◌, List, [], ◌∷◌, length, map, Option, Some, None, IsSome, IsSomeAnd, option_and_then, slice_get, if◌then◌else◌}
+use Rattle.std.specs.Prelude.{◌≡◌, ◌≢◌, ℕ, zero, suc, ◌+◌, ◌*◌, ◌/◌, ◌<◌, ◌≤◌, ◌==◌, nat_lt, Bool, true, false, ◌&&◌, ◌||◌, List, [], ◌∷◌, length, map, Option, Some, None, IsSome, IsSomeAnd, option_and_then, slice_get, if◌then◌else◌}
 use Rattle.std.specs.List.{range_with_len}
 use Rattle.std.specs.Option.{option_flatten, option_map}
 use Rattle.std.proofs.Common.{inl, inr, refl, sym, ◌∙◌, ap, subst, arith}
@@ -8,6 +8,7 @@ use Rattle.std.proofs.lemmas.List.Elements.{All-from_recursion}
 use Rattle.std.proofs.Math.Nat.{div-mul-le_self, mul-mod_left}
 use Rattle.geo_base.specs.declared.decline.DeclineCause.{DeclineCause}
 use Rattle.geo_base.specs.declared.kind.Kind.TheVariants as kinds
+use Rattle.geo_base.specs.declared.limits.TheConstants.{MAX_MEDIA_BYTES}
 use Rattle.geo_model.specs.declared.class.MbrTable.{MbrTable}
 use Rattle.geo_model.specs.declared.class.Slice.{Slice}
 use Rattle.geo_model.specs.declared.class.Shape.TheVariants.{Slices}
@@ -146,7 +147,8 @@ module _ (w : World) (s : Taste) (p : Provider) (bytes : List ℕ) (table : MbrT
   slice_media x o =
       let f = inside o.place o.item o.at in
       let all = all_sectors in
-      let limited : p.size ≤ 2 ^ 60 = (media w s p kinds.Mbr bytes (Slices table) made firm accepted).limited in
+      let limited : p.size ≤ MAX_MEDIA_BYTES =
+      (media w s p kinds.Mbr bytes (Slices table) made firm accepted).limited in
       let some : 1 ≤ o.item.count = f.some in
       let end : o.item.first + o.item.count ≤ n = f.inside in
       subst (λ m. IsMediaSize m 512) (sym o.size_is)

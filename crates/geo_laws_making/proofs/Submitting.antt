@@ -11,6 +11,7 @@ use Rattle.geo_base.specs.Sectors.{IsSectorSize}
 use Rattle.geo_base.specs.declared.kind.Kind.{Kind}
 use Rattle.geo_base.specs.declared.request.BioCmd.TheVariants as cmds
 use Rattle.geo_base.specs.declared.request.Counts.{Counts}
+use Rattle.geo_base.specs.declared.limits.TheConstants.{MAX_REQUEST_BYTES}
 use Rattle.geo_model.specs.declared.step.Owner.{Owner}
 use Rattle.geo_model.specs.declared.step.Owner.TheVariants as owners
 use Rattle.geo_model.specs.Words.{is_read}
@@ -49,7 +50,7 @@ nothing_kept {X = X} test (x ∷ xs) none = by (test x) refl (nothing_kept test 
 -- the range of one sector, by its size
 record IsRange (sector offset len size : ℕ) : Type 0 where
   some : 1 ≤ len
-  short : len ≤ 32768
+  short : len ≤ MAX_REQUEST_BYTES
   first : offset % sector ≡ 0
   whole : len % sector ≡ 0
   inside : offset + len ≤ size

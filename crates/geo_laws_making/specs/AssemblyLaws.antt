@@ -1,8 +1,9 @@
 -- The places of an assembly: a provider takes one, in the standing geom of the assembly or in a new one, and where
 -- all are filled the geom gets its provider. A firm mesh stays firm with it (geom(4)).
-use Rattle.std.specs.Prelude.{◌≡◌, ℕ, ◌^◌, ◌%◌, ◌≤◌, true, false, List, Some, is_some, Contains, option_and_then}
+use Rattle.std.specs.Prelude.{◌≡◌, ℕ, ◌%◌, ◌≤◌, true, false, List, Some, is_some, Contains, option_and_then}
 use Rattle.std.specs.List.{list_all}
 use Rattle.geo_base.specs.Sectors.{IsSectorSize}
+use Rattle.geo_base.specs.declared.limits.TheConstants.{MAX_MEDIA_BYTES}
 use Rattle.geo_model.specs.declared.class.ConcatRecord.{ConcatRecord}
 use Rattle.geo_model.specs.declared.class.StripeRecord.{StripeRecord}
 use Rattle.geo_model.specs.Topology.{Geom, Provider, Consumer, provider_at, consumer_at, is_name_taken}
@@ -26,7 +27,7 @@ pub record CanFinish (w : World) (g : Geom Config) (name : List ℕ) (sector : �
       → option_and_then (provider_at w.topology) x.provider ≡ Some q → q.sector ≡ sector
   pub free : is_name_taken w.topology name ≡ false
   pub some : 1 ≤ joined_size g.config
-  pub limited : joined_size g.config ≤ 2 ^ 60
+  pub limited : joined_size g.config ≤ MAX_MEDIA_BYTES
 
 -- with the provider of an assembly whose places are all filled a firm mesh is firm
 pub record FinishesStayFirm : Type 0 where

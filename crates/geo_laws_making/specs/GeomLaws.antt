@@ -2,9 +2,9 @@
 -- (geom(4)).
 use Rattle.std.specs.Prelude.{ℕ, ◌≤◌, List, length, Option}
 use Rattle.geo_base.specs.declared.kind.Kind.{Kind}
+use Rattle.geo_base.specs.declared.limits.TheConstants.{MAX_COMPONENTS}
 use Rattle.geo_model.specs.World.{World, HeaderDisk}
 use Rattle.geo_model.specs.GeomCommands.{header_disk, do_insert, do_pull, do_nop, found_provider, found_providers, do_concat, do_stripe, do_destroy, named_geom}
-use Rattle.geo_model.specs.Append.{component_limit}
 use Rattle.geo_model.specs.Plans.{IsNamedClass}
 use Rattle.geo_model.specs.Fitting.{Firm}
 
@@ -28,12 +28,12 @@ pub record NopsStayFirm : Type 0 where
 
 -- a concat of at most as many providers as a geom has places
 pub record ConcatsStayFirm : Type 0 where
-  pub concat : (w : World) (line : ℕ) (name : List ℕ) (provs : List (List ℕ)) → length provs ≤ component_limit
+  pub concat : (w : World) (line : ℕ) (name : List ℕ) (provs : List (List ℕ)) → length provs ≤ MAX_COMPONENTS
       → Firm w
       → Firm (do_concat w line name (length provs) (found_providers w.topology provs)).0
 
 -- and a stripe of as many, of one byte or more
 pub record StripesStayFirm : Type 0 where
   pub stripe : (w : World) (line : ℕ) (name : List ℕ) (stripe : ℕ) (provs : List (List ℕ)) → 1 ≤ stripe
-      → length provs ≤ component_limit → Firm w
+      → length provs ≤ MAX_COMPONENTS → Firm w
       → Firm (do_stripe w line name stripe (length provs) (found_providers w.topology provs)).0

@@ -5,15 +5,14 @@ use Rattle.std.specs.List.{AllZip, list_any}
 use Rattle.geo_base.specs.Sectors.{IsSectorSize}
 use Rattle.geo_base.specs.declared.kind.Kind.{Kind}
 use Rattle.geo_base.specs.declared.kind.Kind.TheVariants as kinds
+use Rattle.geo_base.specs.declared.limits.TheConstants.{MAX_COMPONENTS, MAX_RANK}
 use Rattle.geo_model.specs.Words.{is_kind, same_name}
 use Rattle.geo_model.specs.Topology.{Topology, Provider, provider_at, is_name_taken, add_geom, add_consumer}
-use Rattle.geo_model.specs.Rank.{rank_limit}
 use Rattle.geo_model.specs.World.{World, Config}
 use Rattle.geo_model.specs.Events.{QueuedTopology, offer}
 use Rattle.geo_model.specs.WorldEvents.{queued_of, with_queued}
 use Rattle.geo_model.specs.Place.{place, component, components, disk_of}
 use Rattle.geo_model.specs.Acceptance.{NewSlice, places_of, joined_size}
-use Rattle.geo_model.specs.Append.{component_limit}
 use Rattle.geo_model.specs.GeomCommands.{rank_over, is_geom_of_disk}
 use Rattle.geo_model.specs.Sound.{fits_kind, IsMediaSize}
 use Rattle.geo_model.specs.Fitting.{IsWholeIn, sizes_of, Firm}
@@ -65,12 +64,12 @@ pub record CanMake (w : World) (kind : Kind) (config : Config) (ps : List Provid
   pub taste : is_kind kind kinds.Taste ≡ false
   -- what is below stands, isn't too high, and fits
   pub found : All (λ p. provider_at w.topology p.number ≡ Some p) ps
-  pub low : rank_over w.topology ps ≤ rank_limit
+  pub low : rank_over w.topology ps ≤ MAX_RANK
   pub wholes : All (λ p. IsWholeIn config p.sector) ps
   -- the places of the configuration are the new consumers, each once, and their sizes fit
   pub filled : All (λ c. IsSome (below_new w.topology.next_consumer ps c)) (components config)
   pub apart : AllPairs (λ a b. a ≢ b) (components config)
-  pub few : length (places_of config) ≤ component_limit
+  pub few : length (places_of config) ≤ MAX_COMPONENTS
   pub places : AllZip
       (λ place size. IfSome (option_and_then (below_new w.topology.next_consumer ps) place) (λ q.
       (size ≤ q.size) × (size % q.sector ≡ 0)))

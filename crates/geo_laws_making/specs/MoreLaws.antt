@@ -4,6 +4,7 @@
 -- steady and fitting (g_new_geomf, g_new_providerf, g_new_consumer).
 use Rattle.std.specs.Prelude.{◌≡◌, ◌≢◌, ◌⊎◌, ℕ, ◌<◌, ◌≤◌, false, List, [], Option, Some, Contains, IsSome, IsSomeAnd, IfSome, IsTrue, All, AllPairs, option_and_then}
 use Rattle.geo_base.specs.Sectors.{IsSectorSize}
+use Rattle.geo_base.specs.declared.limits.TheConstants.{UNTASTED_RANK}
 use Rattle.geo_model.specs.declared.step.Event.{Event}
 use Rattle.geo_model.specs.Topology.{Topology, Geom, Provider, Consumer, geom_at, provider_at, consumer_at, geom_of_provider, providers_of, consumers_of}
 use Rattle.geo_model.specs.Graph.{IsInOrder, PartsLive}
@@ -11,7 +12,7 @@ use Rattle.geo_model.specs.Rank.{rank}
 use Rattle.geo_model.specs.Demand.{have, want, is_zero, is_exclusive, fits_limit}
 use Rattle.geo_model.specs.World.{World, Config, Bio, granted_in}
 use Rattle.geo_model.specs.Place.{components, disk_of}
-use Rattle.geo_model.specs.Events.{provider_of_event, taste_limit}
+use Rattle.geo_model.specs.Events.{provider_of_event}
 use Rattle.geo_model.specs.Sound.{RanksHold, DifferInName, DifferInDisk, IsMediaSize, IsOfItsClass, HasDiskSizes, IsPlaced}
 use Rattle.geo_model.specs.Steady.{has_free_place}
 use Rattle.geo_model.specs.Fitting.{IsWholeIn, FitsPlaces, HasOneProvider, PlacesHold, HasItsSum, Firm}
@@ -97,7 +98,7 @@ pub record IsMore (w : World) (u : Topology Config) (g : Geom Config) : Type 0 w
   -- no bio and no taste is at it or its providers, and what is tasted isn't too high
   pub bios : (x : Bio) → Contains w.bios x → IsUntouched w.topology u g x.target
   pub tasted : IfSome w.taste (λ s. IsUntouched w.topology u g s.provider)
-  pub rank : IfSome w.taste (λ s. IsSomeAnd (geom_of_provider u s.provider) (λ h. rank u h.number < taste_limit))
+  pub rank : IfSome w.taste (λ s. IsSomeAnd (geom_of_provider u s.provider) (λ h. rank u h.number < UNTASTED_RANK))
 
 -- with a graph that has come to more a firm world is firm, where the events are of providers that live
 pub record MoreIsFirm : Type 0 where

@@ -1,8 +1,9 @@
 -- A place of a standing assembly that a provider takes: the geom has one more consumer, and a firm mesh stays firm
 -- (g_attach(9), geom(4)).
 use Rattle.std.specs.Prelude.{◌≡◌, ℕ, ◌-◌, ◌<◌, false, [], Some, ⊤}
+use Rattle.geo_base.specs.declared.limits.TheConstants.{MAX_RANK}
 use Rattle.geo_model.specs.Topology.{Geom, Provider, geom_at, provider_at, providers_of}
-use Rattle.geo_model.specs.Rank.{rank, rank_limit}
+use Rattle.geo_model.specs.Rank.{rank}
 use Rattle.geo_model.specs.World.{World, Config, Concat, Stripe}
 use Rattle.geo_model.specs.WorldEvents.{queued_of, with_queued}
 use Rattle.geo_model.specs.Acceptance.{fill_place, with_place}
@@ -11,7 +12,7 @@ use Rattle.geo_model.specs.Fitting.{IsWholeIn, Firm}
 -- a provider can take a place: it stands, and a geom over it isn't too high
 pub record CanTakePlace (w : World) (p : Provider) : Type 0 where
   pub found : provider_at w.topology p.number ≡ Some p
-  pub low : rank w.topology p.geom < rank_limit
+  pub low : rank w.topology p.geom < MAX_RANK
 
 -- the configuration of an assembly
 abbrev pub IsAssembly : Config → Type 0

@@ -1,13 +1,14 @@
 -- Where a log is full it is nearly as long as it can be, and it doesn't get shorter with what is owed.
-use Rattle.std.specs.Prelude.{◌≡◌, ◌+◌, ◌-◌, ◌^◌, ◌<◌, ◌≤◌, Bool, true, false, [], ◌∷◌, length, Ok, Err, IsTrue, if◌then◌else◌}
+use Rattle.std.specs.Prelude.{◌≡◌, ◌+◌, ◌-◌, ◌<◌, ◌≤◌, Bool, true, false, [], ◌∷◌, length, Ok, Err, IsTrue, if◌then◌else◌}
 use Rattle.std.proofs.Common.{refl, arith}
 use Rattle.std.proofs.lemmas.Bool.{ltb-true}
+use Rattle.geo_base.specs.declared.limits.TheConstants.{MAX_LOG_ENTRIES}
 use Rattle.geo_model.specs.declared.step.Outcome.{Outcome}
 use Rattle.geo_model.specs.declared.step.Step.{Step}
 use Rattle.geo_model.specs.declared.step.Step.TheVariants as steps
 use Rattle.geo_model.specs.World.{World}
 use Rattle.geo_model.specs.Step.{Answer, step}
-use Rattle.geo_model.specs.Log.{after_entry, is_full, is_full_after, log_limit, owed}
+use Rattle.geo_model.specs.Log.{after_entry, is_full, is_full_after, owed}
 use Rattle.geo_model.specs.History.{next_command}
 use Rattle.geo_laws_steps.proofs.Stepped.{steps_stay_firm}
 use Rattle.geo_laws_owed.specs.FullLaws.{FullLogsAreLong, OwedNeverFalls}
@@ -36,13 +37,14 @@ pub full_logs_are_long : FullLogsAreLong
 unfolding is_full
 full_logs_are_long log w seat s firm full = by (step w seat s) refl full
   where
-    by : (a : Answer) → step w seat s ≡ a → IsTrue (is_full_after (length log) a) → 2 ^ 32 - 1 ≤ length log + owed w
+    by : (a : Answer) → step w seat s ≡ a → IsTrue (is_full_after (length log) a)
+        → MAX_LOG_ENTRIES - 1 ≤ length log + owed w
     by (Ok made) is above =
         let changes : owed made.0 + pays w s made.1 ≡ owed w + begins_to_owe w s made.1 =
         owed_changes w seat s made.0 made.1 firm is in
         let one : begins_to_owe w s made.1 ≤ 1 = begins_one w s made.1 in
-        let over : log_limit < length log + 1 + owed made.0 =
-        ltb-true log_limit (length log + 1 + owed made.0) above in
+        let over : MAX_LOG_ENTRIES < length log + 1 + owed made.0 =
+        ltb-true MAX_LOG_ENTRIES (length log + 1 + owed made.0) above in
         omega (arith, changes, one, over)
     by (Err found) is above = absurd (let bad : ⊥ = cc in bad)
 

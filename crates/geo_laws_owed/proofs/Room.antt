@@ -4,6 +4,7 @@ use Rattle.std.specs.List.{enumerate_from}
 use Rattle.std.proofs.Common.{refl, sym, ◌∙◌, ap, subst, arith}
 use Rattle.std.proofs.lemmas.Bool.{le-ltb, ltb-false}
 use Rattle.std.proofs.lemmas.List.{length-append, append-nil, append_assoc}
+use Rattle.geo_base.specs.declared.limits.TheConstants.{MAX_LOG_ENTRIES}
 use Rattle.geo_model.specs.declared.step.Entry.{Entry}
 use Rattle.geo_model.specs.declared.step.Outcome.{Outcome}
 use Rattle.geo_model.specs.declared.step.Step.{Step}
@@ -12,7 +13,7 @@ use Rattle.geo_model.specs.declared.command.DiskDecl.{DiskDecl}
 use Rattle.geo_model.specs.World.{World, Plan}
 use Rattle.geo_model.specs.GeomCommands.{stand}
 use Rattle.geo_model.specs.Step.{Answer, step}
-use Rattle.geo_model.specs.Log.{replay, world_after, after_entry, Legal, IsMade, IsSplitBy, owed, log_limit, Fits, is_full, is_full_after}
+use Rattle.geo_model.specs.Log.{replay, world_after, after_entry, Legal, IsMade, IsSplitBy, owed, Fits, is_full, is_full_after}
 use Rattle.geo_model.specs.History.{next_command}
 use Rattle.geo_model.specs.Opening.{disk_in_size, bare_world, opening}
 use Rattle.geo_model.specs.Fitting.{Firm}
@@ -28,13 +29,14 @@ longer log e = length-append log (e ∷ [])
 
 -- an answer that has its place leaves the log with one entry more within the limit
 place_by : (n : ℕ) (w : World) (a : Answer) (outcome : Outcome) → IsOkAnd a (λ made. made.1 ≡ outcome)
-    → is_full_after n a ≡ false → n + 1 + owed (world_after w a) ≤ log_limit
-place_by n w (Ok made) outcome is room = ltb-false log_limit (n + 1 + owed made.0) room
+    → is_full_after n a ≡ false → n + 1 + owed (world_after w a) ≤ MAX_LOG_ENTRIES
+place_by n w (Ok made) outcome is room = ltb-false MAX_LOG_ENTRIES (n + 1 + owed made.0) room
 place_by n w (Err found) outcome is room = absurd is
 
 -- an answer that leaves it within the limit has its place
-room_by : (n : ℕ) (w : World) (a : Answer) → n + 1 + owed (world_after w a) ≤ log_limit → is_full_after n a ≡ false
-room_by n w (Ok made) fits = le-ltb log_limit (n + 1 + owed made.0) fits
+room_by : (n : ℕ) (w : World) (a : Answer) → n + 1 + owed (world_after w a) ≤ MAX_LOG_ENTRIES
+    → is_full_after n a ≡ false
+room_by n w (Ok made) fits = le-ltb MAX_LOG_ENTRIES (n + 1 + owed made.0) fits
 room_by n w (Err found) fits = refl
 
 -- the log with an entry that has its place fits

@@ -3,12 +3,12 @@ use Rattle.std.specs.Prelude.{◌≡◌, ◌⊎◌, ℕ, zero, suc, ◌+◌, ◌
 use Rattle.std.specs.Option.{option_map_or}
 use Rattle.std.proofs.Common.{inl, inr, refl, sym, ◌∙◌, ap, subst, arith}
 use Rattle.std.proofs.lemmas.List.Sums.{sum_by-cons}
+use Rattle.geo_base.specs.declared.limits.TheConstants.{UNTASTED_RANK}
 use Rattle.geo_model.specs.declared.step.Event.{Event}
 use Rattle.geo_model.specs.declared.step.Event.TheVariants as events
 use Rattle.geo_model.specs.Words.{change_where}
 use Rattle.geo_model.specs.Topology.{Topology, Geom, Provider, Consumer, geom_at, provider_at, geom_of_provider, set_error, set_withering, set_marks, note_started}
 use Rattle.geo_model.specs.Rank.{rank}
-use Rattle.geo_model.specs.Events.{taste_limit}
 use Rattle.geo_model.specs.World.{World, Config, Taste}
 use Rattle.geo_model.specs.Order.{taste_weight_below, taste_weight, rank_of_provider, event_weight, taste_left}
 use Rattle.geo_laws_graph.proofs.Lists.{changed, changed-keeps, find-changed}
@@ -30,7 +30,7 @@ weight_most (suc m) (suc n) most = let less = weight_most m n (omega arith) in o
 
 -- a higher rank costs no more
 pub rank_weight : (r s : ℕ) → r ≤ s → taste_weight s ≤ taste_weight r
-rank_weight r s most = weight_most (taste_limit - s) (taste_limit - r) (omega arith)
+rank_weight r s most = weight_most (UNTASTED_RANK - s) (UNTASTED_RANK - r) (omega arith)
 
 -- Ranks that stay
 
@@ -55,8 +55,8 @@ same_ranks t = record { number = λ p. refl; rank = λ g. refl }
 -- the rank of what is found, by its number
 rank_found : (f g : ℕ → ℕ) → ((n : ℕ) → f n ≡ g n) → (a b : Option (Geom Config))
     → option_map (λ (x : Geom Config). x.number) a ≡ option_map (λ (x : Geom Config). x.number) b
-    → option_map_or (λ (x : Geom Config). f x.number) a taste_limit
-    ≡ option_map_or (λ (x : Geom Config). g x.number) b taste_limit
+    → option_map_or (λ (x : Geom Config). f x.number) a UNTASTED_RANK
+    ≡ option_map_or (λ (x : Geom Config). g x.number) b UNTASTED_RANK
 rank_found f g so None None same = refl
 rank_found f g so None (Some y) same = absurd cc
 rank_found f g so (Some x) None same = absurd cc

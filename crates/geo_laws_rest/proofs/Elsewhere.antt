@@ -6,11 +6,11 @@ use Rattle.std.proofs.Common.{inl, inr, refl, sym, ◌∙◌, ap, subst, arith}
 use Rattle.std.proofs.lemmas.Bool.{eq-eqb, or_parts}
 use Rattle.std.proofs.lemmas.List.Sums.{sum_by-cons}
 use Rattle.std.proofs.Math.Nat.{mul-le-mul_left}
+use Rattle.geo_base.specs.declared.limits.TheConstants.{UNTASTED_RANK}
 use Rattle.geo_model.specs.declared.step.Event.{Event}
 use Rattle.geo_model.specs.declared.step.Event.TheVariants as events
 use Rattle.geo_model.specs.Topology.{Topology, Geom, Provider, geom_at, provider_at, providers_of, geom_of_provider}
 use Rattle.geo_model.specs.Rank.{rank}
-use Rattle.geo_model.specs.Events.{taste_limit}
 use Rattle.geo_model.specs.World.{World, Config, Taste}
 use Rattle.geo_model.specs.Order.{taste_weight, rank_of_provider, event_weight, taste_left, makes_left, can_make}
 use Rattle.geo_model.specs.Laws.{is_offer}
@@ -19,8 +19,8 @@ use Rattle.geo_laws_graph.proofs.Numbered.{number_found}
 
 -- the rank of a geom that is found
 pub rank_by : (f h : ℕ → ℕ) (o : Option (Geom Config)) → ((g : Geom Config) → o ≡ Some g → f g.number ≡ h g.number)
-    → option_map_or (λ (g : Geom Config). f g.number) o taste_limit
-    ≡ option_map_or (λ (g : Geom Config). h g.number) o taste_limit
+    → option_map_or (λ (g : Geom Config). f g.number) o UNTASTED_RANK
+    ≡ option_map_or (λ (g : Geom Config). h g.number) o UNTASTED_RANK
 rank_by f h None so = refl
 rank_by f h (Some g) so = so g refl
 
@@ -42,7 +42,7 @@ pub elsewhere : (v w : World) (n : ℕ) → providers_of w.topology n ≡ []
     → ((g : ℕ) → g ≢ n → rank v.topology g ≡ rank w.topology g) → (q : ℕ)
     → rank_of_provider v q ≡ rank_of_provider w q
 elsewhere v w n none geoms ranks q =
-    ap (λ (o : Option (Geom Config)). option_map_or (λ (g : Geom Config). rank v.topology g.number) o taste_limit)
+    ap (λ (o : Option (Geom Config)). option_map_or (λ (g : Geom Config). rank v.topology g.number) o UNTASTED_RANK)
     (geoms q)
     ∙ rank_by (rank v.topology) (rank w.topology) (geom_of_provider w.topology q) (λ g at.
     ranks g.number (offers_by w.topology n q none (provider_at w.topology q) refl g at))

@@ -7,6 +7,7 @@ use Rattle.std.proofs.lemmas.Bool.{cases_lt, le-leb, or_parts}
 use Rattle.std.proofs.lemmas.List.Elements.{All-contains}
 use Rattle.std.proofs.lemmas.List.Sums.{sum_by-cons, sum_by_push}
 use Rattle.geo_base.specs.declared.request.Counts.{Counts}
+use Rattle.geo_base.specs.declared.limits.TheConstants.{UNTASTED_RANK}
 use Rattle.geo_model.specs.declared.step.Event.{Event}
 use Rattle.geo_model.specs.declared.step.Event.TheVariants as events
 use Rattle.geo_model.specs.declared.step.Found.{Found}
@@ -19,7 +20,7 @@ use Rattle.geo_model.specs.Topology.{Topology, Geom, Provider, Consumer, geom_at
 use Rattle.geo_model.specs.Rank.{rank}
 use Rattle.geo_model.specs.Demand.{have}
 use Rattle.geo_model.specs.World.{World, Config, Handle, Taste, granted_in}
-use Rattle.geo_model.specs.Events.{QueuedTopology, provider_of_event, post, taste_limit, is_not_tasted, spoil, orphan, resize, offer_again, outgrow_consumer, dying_consumers}
+use Rattle.geo_model.specs.Events.{QueuedTopology, provider_of_event, post, is_not_tasted, spoil, orphan, resize, offer_again, outgrow_consumer, dying_consumers}
 use Rattle.geo_model.specs.WorldEvents.{queued_of, with_queued, begin_taste, kill_handle, do_event}
 use Rattle.geo_model.specs.Step.{Answer, step, is_enabled, event_of, event}
 use Rattle.geo_model.specs.Log.{world_after}
@@ -73,33 +74,33 @@ kills (c ∷ cs) w =
 -- Ranks below the limit
 
 -- a rank that isn't at the limit is below
-below_limit : (r : ℕ) → nat_le taste_limit r ≡ false → r < taste_limit
-below_limit r short = elim (cases_lt r taste_limit) [
+below_limit : (r : ℕ) → nat_le UNTASTED_RANK r ≡ false → r < UNTASTED_RANK
+below_limit r short = elim (cases_lt r UNTASTED_RANK) [
   | inl less ↦ less
-  | inr least ↦ (let yes : nat_le taste_limit r ≡ true = le-leb taste_limit r least in absurd cc)
+  | inr least ↦ (let yes : nat_le UNTASTED_RANK r ≡ true = le-leb UNTASTED_RANK r least in absurd cc)
 ]
 
 -- the rank of the geom of what is tasted is below
 low_by : (w : World) (p : ℕ) (o : Option (Geom Config)) → geom_of_provider w.topology p ≡ o
-    → option_map_or (λ g. g.withering || nat_le taste_limit (rank w.topology g.number)) o true ≡ false
-    → option_map_or (λ g. rank w.topology g.number) o taste_limit < taste_limit
+    → option_map_or (λ g. g.withering || nat_le UNTASTED_RANK (rank w.topology g.number)) o true ≡ false
+    → option_map_or (λ g. rank w.topology g.number) o UNTASTED_RANK < UNTASTED_RANK
 low_by w p None e fine = absurd cc
 low_by w p (Some g) e fine =
-    below_limit (rank w.topology g.number) (or_parts g.withering (nat_le taste_limit
+    below_limit (rank w.topology g.number) (or_parts g.withering (nat_le UNTASTED_RANK
     (rank w.topology g.number)) fine).1
 
 -- so
-low : (w : World) (p : ℕ) → is_not_tasted (granted_in w) w.topology p ≡ false → rank_of_provider w p < taste_limit
+low : (w : World) (p : ℕ) → is_not_tasted (granted_in w) w.topology p ≡ false → rank_of_provider w p < UNTASTED_RANK
 low w p fine =
     let one = or_parts (is_errored w.topology p) _ fine in
-    let two = or_parts (option_map_or (λ g. g.withering || nat_le taste_limit (rank w.topology g.number))
+    let two = or_parts (option_map_or (λ g. g.withering || nat_le UNTASTED_RANK (rank w.topology g.number))
     (geom_of_provider w.topology p) true) (not ((have (granted_in w) w.topology p).w == 0)) one.1 in
     low_by w p (geom_of_provider w.topology p) refl two.0
 
 -- the taste of a provider costs what those that it makes can cost, and 400
-weight_step : (r : ℕ) → r < taste_limit → taste_weight r ≡ 400 + 39 * taste_weight (r + 1)
+weight_step : (r : ℕ) → r < UNTASTED_RANK → taste_weight r ≡ 400 + 39 * taste_weight (r + 1)
 weight_step r less =
-    let e : taste_limit - r ≡ suc (taste_limit - (r + 1)) = omega arith in
+    let e : UNTASTED_RANK - r ≡ suc (UNTASTED_RANK - (r + 1)) = omega arith in
     ap taste_weight_below e
 
 -- An event
@@ -155,7 +156,7 @@ module _ (w : World) (firm : Firm w) (none : w.taste ≡ None) (e : Event) (rest
       tasting_less left w (omega arith) (omega arith) (omega (arith, one, two, had, some))
 
   -- a taste begins
-  begun_lower : (p : ℕ) → e ≡ events.NewProvider p → rank_of_provider w p < taste_limit
+  begun_lower : (p : ℕ) → e ≡ events.NewProvider p → rank_of_provider w p < UNTASTED_RANK
       → IsLess (measure (begin_taste left p)) (measure w)
   begun_lower p is under =
       let v : World = begin_taste left p in
@@ -186,7 +187,7 @@ module _ (w : World) (firm : Firm w) (none : w.taste ≡ None) (e : Event) (rest
       → IsLess (measure (if b then left else begin_taste left p)) (measure w)
   offer_lower p is true test =
       let was : event_weight w e ≡ taste_weight (rank_of_provider w p) = ap (event_weight w) is in
-      let some = weight_some (taste_limit - rank_of_provider w p) in
+      let some = weight_some (UNTASTED_RANK - rank_of_provider w p) in
       passed_lower (omega (arith, was, some))
   offer_lower p is false test = begun_lower p is (low left p test)
 

@@ -5,12 +5,13 @@ use Rattle.std.specs.Option.{option_map_or}
 use Rattle.std.proofs.Common.{refl, sym, ◌∙◌, ap, subst, arith}
 use Rattle.std.proofs.lemmas.List.Elements.{recursion_from_All}
 use Rattle.std.proofs.lemmas.List.Sums.{sum_by-cons, sum_by_push}
+use Rattle.geo_base.specs.declared.limits.TheConstants.{UNTASTED_RANK}
 use Rattle.geo_model.specs.declared.step.Event.{Event}
 use Rattle.geo_model.specs.declared.step.Event.TheVariants as events
 use Rattle.geo_model.specs.Topology.{Topology, Geom, Provider, geom_at, provider_at, geom_of_provider}
 use Rattle.geo_model.specs.Graph.{IsInOrder, GeomsLive}
 use Rattle.geo_model.specs.Rank.{rank, Ranked}
-use Rattle.geo_model.specs.Events.{QueuedTopology, provider_of_event, taste_limit, offer}
+use Rattle.geo_model.specs.Events.{QueuedTopology, provider_of_event, offer}
 use Rattle.geo_model.specs.World.{World, Config}
 use Rattle.geo_model.specs.WorldEvents.{with_queued}
 use Rattle.geo_model.specs.Acceptance.{NewSlice}
@@ -27,7 +28,7 @@ use Rattle.geo_laws_rest.proofs.Elsewhere.{rank_by}
 pub found_rank : (v w : World) (p : ℕ) → geom_of_provider v.topology p ≡ geom_of_provider w.topology p
     → ((g : ℕ) → rank v.topology g ≡ rank w.topology g) → rank_of_provider v p ≡ rank_of_provider w p
 found_rank v w p same ranks =
-    ap (λ (o : Option (Geom Config)). option_map_or (λ (g : Geom Config). rank v.topology g.number) o taste_limit)
+    ap (λ (o : Option (Geom Config)). option_map_or (λ (g : Geom Config). rank v.topology g.number) o UNTASTED_RANK)
     same
     ∙ rank_by (rank v.topology) (rank w.topology) (geom_of_provider w.topology p) (λ g at. ranks g.number)
 
@@ -36,8 +37,9 @@ pub at_rank : (w : World) (p : ℕ) (x : Provider) (g : Geom Config) → provide
     → geom_at w.topology x.geom ≡ Some g → rank_of_provider w p ≡ rank w.topology x.geom
 at_rank w p x g found at =
     ap (λ (o : Option Provider). option_map_or (λ (h : Geom Config). rank w.topology h.number)
-    (option_and_then (λ (y : Provider). geom_at w.topology y.geom) o) taste_limit) found
-    ∙ ap (λ (o : Option (Geom Config)). option_map_or (λ (h : Geom Config). rank w.topology h.number) o taste_limit) at
+    (option_and_then (λ (y : Provider). geom_at w.topology y.geom) o) UNTASTED_RANK) found
+    ∙ ap (λ (o : Option (Geom Config)). option_map_or (λ (h : Geom Config). rank w.topology h.number) o UNTASTED_RANK)
+    at
     ∙ ap (rank w.topology) (number_found (λ (h : Geom Config). h.number) w.topology.geoms x.geom g at)
 
 -- the provider of an event lives

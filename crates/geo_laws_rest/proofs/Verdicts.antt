@@ -7,6 +7,7 @@ use Rattle.geo_base.specs.declared.decline.DeclineCause.{DeclineCause}
 use Rattle.geo_base.specs.declared.decline.DeclineCause.TheVariants as causes
 use Rattle.geo_base.specs.declared.kind.Kind.{Kind}
 use Rattle.geo_base.specs.declared.kind.Kind.TheVariants as kinds
+use Rattle.geo_base.specs.declared.limits.TheConstants.{MAX_COMPONENTS, MAX_LINKS}
 use Rattle.geo_model.specs.declared.class.ConcatRecord.{ConcatRecord}
 use Rattle.geo_model.specs.declared.class.EbrPart.{EbrPart}
 use Rattle.geo_model.specs.declared.class.Facts.{Facts}
@@ -71,20 +72,21 @@ few_of : {X : Type 0} (name : ℕ → List ℕ) (count : X → ℕ) (xs : List (
     → length (new_of name count 0 xs) ≤ n
 few_of name count xs n long = let few = new_few name count 0 xs in omega (arith, few, long)
 
--- a chain of at most 32 links has 32 places
-parts_number : (links : List LinkRead) → length links ≤ 32 → length (table_of links).parts ≡ 32
+-- a chain of at most MAX_LINKS links has MAX_LINKS places
+parts_number : (links : List LinkRead) → length links ≤ MAX_LINKS → length (table_of links).parts ≡ MAX_LINKS
 parts_number links few =
-    let all : length (map (λ (l : LinkRead). l.part) links ++ replicate (32 - length links) None)
+    let all : length (map (λ (l : LinkRead). l.part) links ++ replicate (MAX_LINKS - length links) None)
     ≡ length (map (λ (l : LinkRead). l.part) links)
-    + length (replicate {A = Option EbrPart} (32 - length links) None) =
-    length-append (map (λ (l : LinkRead). l.part) links) (replicate (32 - length links) None) in
+    + length (replicate {A = Option EbrPart} (MAX_LINKS - length links) None) =
+    length-append (map (λ (l : LinkRead). l.part) links) (replicate (MAX_LINKS - length links) None) in
     let first : length (map (λ (l : LinkRead). l.part) links) ≡ length links =
     length-map links (λ (l : LinkRead). l.part) in
-    let rest : length (replicate {A = Option EbrPart} (32 - length links) None) ≡ 32 - length links =
-    length-replicate {A = Option EbrPart} (32 - length links) None in
+    let rest : length (replicate {A = Option EbrPart} (MAX_LINKS - length links) None) ≡ MAX_LINKS - length links =
+    length-replicate {A = Option EbrPart} (MAX_LINKS - length links) None in
     all
     ∙ (let sum : length (map (λ (l : LinkRead). l.part) links)
-    + length (replicate {A = Option EbrPart} (32 - length links) None) ≡ 32 = omega (arith, first, rest, few) in sum)
+    + length (replicate {A = Option EbrPart} (MAX_LINKS - length links) None)
+    ≡ MAX_LINKS = omega (arith, first, rest, few) in sum)
 
 -- Labels
 
@@ -132,9 +134,9 @@ none_behind (row ∷ xs) ys none = none_behind xs ys (none_refused row.0 row.1 (
 -- a place that isn't declined is below the count
 place_inside : (place count : ℕ) → (place_test place count).0 ≡ false → place < count
 place_inside place count e =
-    let a = and_parts (nat_le 1 count) (nat_le count 16 && nat_lt place count)
-    (not-false (nat_le 1 count && (nat_le count 16 && nat_lt place count)) e) in
-    ltb-true place count (and_parts (nat_le count 16) (nat_lt place count) a.1).1
+    let a = and_parts (nat_le 1 count) (nat_le count MAX_COMPONENTS && nat_lt place count)
+    (not-false (nat_le 1 count && (nat_le count MAX_COMPONENTS && nat_lt place count)) e) in
+    ltb-true place count (and_parts (nat_le count MAX_COMPONENTS) (nat_lt place count) a.1).1
 
 -- so that of a concat's record
 concat_inside : (bytes : List ℕ) → first_error (concat_tests bytes) ≡ None → u16_at bytes 40 < u16_at bytes 42
@@ -193,12 +195,12 @@ module _ (w : World) (firm : Firm w) (s : Taste) (p : Provider) (bytes : List �
       let is = links_shape c bytes shape (first_error (link_tests n c bytes)) accepted.verdict in
       let made_is : accept (queued_of w) p (Logical (table_of c.links)) ≡ Some made =
       subst (λ (z : Shape). accept (queued_of w) p z ≡ Some made) (sym is) accepted.makes in
-      let was : length s.chain.links < 32 = chain.few in
+      let was : length s.chain.links < MAX_LINKS = chain.few in
       let more : length c.links ≡ length s.chain.links + 1 = length-append s.chain.links _ in
-      let number : length (table_of c.links).parts ≡ 32 = parts_number c.links (omega (arith, was, more)) in
+      let number : length (table_of c.links).parts ≡ MAX_LINKS = parts_number c.links (omega (arith, was, more)) in
       slices-make w firm p there made kinds.Ebr (Ebr (Some w.topology.next_consumer) (table_of c.links).parts)
-      (new_parts p.name (table_of c.links).parts) 32
-      (few_of (logical_name p.name) (λ (y : EbrPart). y.count) (table_of c.links).parts 32 number) made_is
+      (new_parts p.name (table_of c.links).parts) MAX_LINKS
+      (few_of (logical_name p.name) (λ (y : EbrPart). y.count) (table_of c.links).parts MAX_LINKS number) made_is
 
   -- a label
   named-makes : IsAccepted w s p kinds.Label bytes shape made → Few kinds.Label

@@ -5,6 +5,7 @@ use Rattle.std.specs.Option.{option_map_or, option_or}
 use Rattle.std.proofs.Common.{inl, inr, refl, sym, ◌∙◌, ap, subst, arith}
 use Rattle.std.proofs.lemmas.Bool.{eq-eqb, or_parts}
 use Rattle.std.proofs.lemmas.Bool.Decides.{eqb_tells}
+use Rattle.geo_base.specs.declared.limits.TheConstants.{UNTASTED_RANK}
 use Rattle.geo_model.specs.declared.step.Event.{Event}
 use Rattle.geo_model.specs.declared.step.Found.{Found}
 use Rattle.geo_model.specs.declared.step.Found.TheVariants as refusals
@@ -16,7 +17,7 @@ use Rattle.geo_model.specs.declared.step.WashWork.TheVariants as washes
 use Rattle.geo_model.specs.Words.{first_some}
 use Rattle.geo_model.specs.Topology.{Topology, Geom, Provider, Consumer, geom_at, provider_at, consumer_at, geom_of_provider, attached_to, providers_of, consumers_of, remove_provider, remove_consumer, remove_geom}
 use Rattle.geo_model.specs.World.{World, Config, Taste, granted_in, is_active}
-use Rattle.geo_model.specs.Events.{provider_of_event, taste_limit, without_events_of}
+use Rattle.geo_model.specs.Events.{provider_of_event, without_events_of}
 use Rattle.geo_model.specs.WorldEvents.{queued_of, with_queued}
 use Rattle.geo_model.specs.Rank.{rank}
 use Rattle.geo_model.specs.Freeing.{is_idle, wash_work_of, first_wash, wash_work, wash}
@@ -145,9 +146,9 @@ without_geom_keeps t g = record {
 }
 
 -- the cost of a rank from the limit on
-top_weight : (r d : ℕ) → r ≡ taste_limit → taste_weight (r + d) ≡ 1
+top_weight : (r d : ℕ) → r ≡ UNTASTED_RANK → taste_weight (r + d) ≡ 1
 top_weight r d top =
-    let e : taste_limit - (r + d) ≡ 0 = omega (arith, top) in ap taste_weight_below e
+    let e : UNTASTED_RANK - (r + d) ≡ 0 = omega (arith, top) in ap taste_weight_below e
 
 -- each counts for itself
 no_more : {X : Type 0} (f : X → ℕ) (xs : List X) → AllByRecursion (λ x. f x ≤ f x) xs
@@ -166,7 +167,7 @@ module _ (w : World) (firm : Firm w) where
     abbrev rank_at : Option Provider → ℕ
     rank_at o =
         option_map_or (λ (g : Geom Config). rank provider_gone.topology g.number)
-        (option_and_then (λ (x : Provider). geom_at w.topology x.geom) o) taste_limit
+        (option_and_then (λ (x : Provider). geom_at w.topology x.geom) o) UNTASTED_RANK
 
     -- another provider's taste costs what it cost, and that of the one that is gone nothing more
     provider_cheaper : Cheaper provider_gone w
@@ -175,10 +176,10 @@ module _ (w : World) (firm : Firm w) where
           let gone : provider_at provider_gone.topology q ≡ None =
           subst (λ (n : ℕ). provider_at provider_gone.topology n ≡ None) (sym same.1)
           (removed-provider.gone w.topology p) in
-          let top : rank_of_provider provider_gone q ≡ taste_limit = ap rank_at gone in
+          let top : rank_of_provider provider_gone q ≡ UNTASTED_RANK = ap rank_at gone in
           let least : taste_weight (rank_of_provider provider_gone q + d) ≡ 1 =
           top_weight (rank_of_provider provider_gone q) d top in
-          let some = weight_some (taste_limit - (rank_of_provider w q + d)) in
+          let some = weight_some (UNTASTED_RANK - (rank_of_provider w q + d)) in
           omega (arith, least, some)
       | inr other ↦
           let found : provider_at provider_gone.topology q ≡ provider_at w.topology q =

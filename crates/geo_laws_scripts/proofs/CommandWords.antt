@@ -10,6 +10,7 @@ use Rattle.geo_base.specs.Runs.{run_text, runs_of}
 use Rattle.geo_base.specs.declared.kind.Kind.{Kind}
 use Rattle.geo_base.specs.declared.kind.Kind.TheVariants as kinds
 use Rattle.geo_base.specs.declared.request.Counts.{Counts}
+use Rattle.geo_base.specs.declared.limits.TheConstants.{MAX_COMPONENTS, MAX_LINE_BYTES, MAX_WRITE_LINE_BYTES}
 use Rattle.geo_model.specs.declared.command.Cause.TheVariants as causes
 use Rattle.geo_model.specs.declared.command.Command.{Command}
 use Rattle.geo_model.specs.declared.command.Command.TheVariants as commands
@@ -56,9 +57,9 @@ words_clean [] (word ∷ words) within = absurd within
 words_clean (n ∷ ns) [] within = absurd within
 words_clean (n ∷ ns) (word ∷ words) within = (within.0.clean, words_clean ns words within.1)
 
--- a line of so many bytes isn't too long: 255, or 8,192 where the command is `write`
+-- a line of so many bytes isn't too long: MAX_LINE_BYTES, or MAX_WRITE_LINE_BYTES where the command is `write`
 abbrev pub IsLength : List ℕ → ℕ → Type 0
-IsLength first n = (n ≤ 255) ⊎ ((n ≤ 8192) × (first ≡ codes "write"))
+IsLength first n = (n ≤ MAX_LINE_BYTES) ⊎ ((n ≤ MAX_WRITE_LINE_BYTES) × (first ≡ codes "write"))
 
 -- the words of a command, behind the name of an actor
 pub record AreCommandWords (c : Command) (words : Words) : Type 0 where
@@ -117,13 +118,13 @@ ranged_read test n words fits passes =
 id_read : (n : ℕ) (words : Words) → n < 2 ^ 32 → record_id (decimal n ∷ words) ≡ Ok (n, words)
 id_read n words fits = ranged_read _ n words (omega (arith, fits)) (lt-ltb n (2 ^ 32) fits)
 
-place_read : (n : ℕ) (words : Words) → n < 65536 → record_place (decimal n ∷ words) ≡ Ok (n, words)
-place_read n words fits = ranged_read _ n words (omega (arith, fits)) (lt-ltb n 65536 fits)
+place_read : (n : ℕ) (words : Words) → n < 2 ^ 16 → record_place (decimal n ∷ words) ≡ Ok (n, words)
+place_read n words fits = ranged_read _ n words (omega (arith, fits)) (lt-ltb n (2 ^ 16) fits)
 
-count_read : (n : ℕ) (words : Words) → 1 ≤ n → n ≤ 16 → record_count (decimal n ∷ words) ≡ Ok (n, words)
+count_read : (n : ℕ) (words : Words) → 1 ≤ n → n ≤ MAX_COMPONENTS → record_count (decimal n ∷ words) ≡ Ok (n, words)
 count_read n words some limit =
-    ranged_read (λ k. nat_le 1 k && nat_le k 16) n words (omega (arith, limit))
-    (rw (le-leb 1 n some, le-leb n 16 limit) refl)
+    ranged_read (λ k. nat_le 1 k && nat_le k MAX_COMPONENTS) n words (omega (arith, limit))
+    (rw (le-leb 1 n some, le-leb n MAX_COMPONENTS limit) refl)
 
 stripe_read : (n : ℕ) (words : Words) → IsStripe n → stripe_size (decimal n ∷ words) ≡ Ok (n, words)
 stripe_read n words is =
@@ -144,10 +145,11 @@ names_read : (names : List (List ℕ)) → AreComponents names → long_names na
 names_read names are =
     by names are.some are.not_many (recursion_from_All (λ name. is_name name ≡ true) names are.each)
   where
-    by : (xs : List (List ℕ)) → 1 ≤ length xs → length xs ≤ 16 → AllByRecursion (λ name. is_name name ≡ true) xs
+    by : (xs : List (List ℕ)) → 1 ≤ length xs → length xs ≤ MAX_COMPONENTS
+        → AllByRecursion (λ name. is_name name ≡ true) xs
         → long_names xs ≡ Ok (xs, [])
     by [] some limit all = absurd (omega arith)
-    by (x ∷ xs) some limit all = ap (λ r. r >>= λ ns. Ok (ns, [])) (within_read 16 (x ∷ xs) limit all)
+    by (x ∷ xs) some limit all = ap (λ r. r >>= λ ns. Ok (ns, [])) (within_read MAX_COMPONENTS (x ∷ xs) limit all)
 
 -- they are clean
 names_clean : (names : List (List ℕ)) → AllByRecursion (λ name. is_name name ≡ true) names

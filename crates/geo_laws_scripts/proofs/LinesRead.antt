@@ -10,6 +10,7 @@ use Rattle.std.proofs.lemmas.List.Elements.{All-nil}
 use Rattle.std.proofs.lemmas.Slice.Eq.{bytes_eq-Decides}
 use Rattle.geo_base.specs.Name.{is_short_name, is_word_byte}
 use Rattle.geo_base.specs.Sectors.{IsSectorSize}
+use Rattle.geo_base.specs.declared.limits.TheConstants.{MAX_LINE_BYTES, MAX_MEMORY_DISK_BYTES, MAX_SCRIPT_LINES, MAX_WRITE_LINE_BYTES}
 use Rattle.geo_model.specs.declared.command.Command.{Command}
 use Rattle.geo_model.specs.declared.command.DiskDecl.{DiskDecl}
 use Rattle.geo_model.specs.declared.command.DiskKind.{DiskKind}
@@ -30,16 +31,16 @@ use Rattle.geo_laws_scripts.proofs.CommandWords.{AreCommandWords, AreWithin, IsL
 is_not_long : (line first second : List ℕ) (others : Words) → words_of line ≡ first ∷ second ∷ others
     → IsLength second (length line) → is_long line ≡ false
 is_not_long line first second others words (inl short) =
-    let wide : nat_lt 8192 (length line) ≡ false = grind (arith, nat_tests) in
-    let wider : nat_lt 255 (length line) ≡ false = grind (arith, nat_tests) in
+    let wide : nat_lt MAX_WRITE_LINE_BYTES (length line) ≡ false = grind (arith, nat_tests) in
+    let wider : nat_lt MAX_LINE_BYTES (length line) ≡ false = grind (arith, nat_tests) in
     rw (wide, wider) refl
 is_not_long line first second others words (inr both) =
-    let limit : length line ≤ 8192 = both.0 in
-    let wide : nat_lt 8192 (length line) ≡ false = grind (arith, nat_tests) in
+    let limit : length line ≤ MAX_WRITE_LINE_BYTES = both.0 in
+    let wide : nat_lt MAX_WRITE_LINE_BYTES (length line) ≡ false = grind (arith, nat_tests) in
     let write : option_map_or (same_name (codes "write")) (slice_get (words_of line) 1) false ≡ true =
     ap (λ (ws : Words). option_map_or (same_name (codes "write")) (slice_get ws 1) false) words
     ∙ ap (λ w. same_name (codes "write") w) both.1 in
-    by (nat_lt 8192 (length line)) (nat_lt 255 (length line))
+    by (nat_lt MAX_WRITE_LINE_BYTES (length line)) (nat_lt MAX_LINE_BYTES (length line))
     (option_map_or (same_name (codes "write")) (slice_get (words_of line) 1) false) wide write
   where
     by : (a b c : Bool) → a ≡ false → c ≡ true → (a || (b && not c)) ≡ false
@@ -49,7 +50,7 @@ is_not_long line first second others words (inr both) =
     by false b false e f = absurd (let bad : ⊥ = cc in bad)
 
 -- a line of clean words is read by its words
-line_read : (plan next : Plan) (n : ℕ) (word second : List ℕ) (others : Words) → n ≤ 4096
+line_read : (plan next : Plan) (n : ℕ) (word second : List ℕ) (others : Words) → n ≤ MAX_SCRIPT_LINES
     → AllByRecursion IsClean (word ∷ second ∷ others)
     → IsLength second (length (line_of (word ∷ second ∷ others)))
     → is_skipped (line_of (word ∷ second ∷ others)) ≡ false
@@ -63,7 +64,7 @@ line_read plan next n word second others limit clean short shown reads =
         → list_all (λ b. nat_le 32 b && nat_le b 126) line ≡ true → IsLength second (length line)
         → is_skipped line ≡ false → next_line (Ok plan) (n, line) ≡ Ok next
     by line words bytes short shown =
-        let few : nat_lt 4096 n ≡ false = grind (arith, nat_tests) in
+        let few : nat_lt MAX_SCRIPT_LINES n ≡ false = grind (arith, nat_tests) in
         let not_long : is_long line ≡ false = is_not_long line word second others words short in
         let some : list_any (λ w. length w == 0) (words_of line) ≡ false =
         ap (λ (ws : Words). list_any (λ w. length w == 0) ws) words ∙ none_empty (word ∷ second ∷ others) clean in
@@ -82,17 +83,17 @@ size_within n (inl e) = number_within n (omega (arith, e))
 size_within n (inr e) = number_within n (omega (arith, e))
 
 -- sectors of at least a byte each are no more than their bytes
-few_sectors : (n sector : ℕ) → IsSectorSize sector → n * sector ≤ 67108864 → n ≤ 67108864
-few_sectors n sector (inl e) limit = let fits : n * 512 ≤ 67108864 = rw (← e) limit in omega (arith, fits)
-few_sectors n sector (inr e) limit = let fits : n * 4096 ≤ 67108864 = rw (← e) limit in omega (arith, fits)
+few_sectors : (n sector : ℕ) → IsSectorSize sector → n * sector ≤ MAX_MEMORY_DISK_BYTES → n ≤ MAX_MEMORY_DISK_BYTES
+few_sectors n sector (inl e) limit = let fits : n * 512 ≤ MAX_MEMORY_DISK_BYTES = rw (← e) limit in omega (arith, fits)
+few_sectors n sector (inr e) limit = let fits : n * 4096 ≤ MAX_MEMORY_DISK_BYTES = rw (← e) limit in omega (arith, fits)
 
 -- the sectors of a disk in memory are read
-sectors_read : (n sector : ℕ) (words : Words) → IsSectorSize sector → 1 ≤ n → n * sector ≤ 67108864
+sectors_read : (n sector : ℕ) (words : Words) → IsSectorSize sector → 1 ≤ n → n * sector ≤ MAX_MEMORY_DISK_BYTES
     → sector_count sector (decimal n ∷ words) ≡ Ok (n, words)
 sectors_read n sector words size some limit =
     let few = few_sectors n sector size limit in
-    ranged_read (λ k. nat_le 1 k && nat_le (k * sector) 67108864) n words (omega (arith, few))
-    (rw (le-leb 1 n some, le-leb (n * sector) 67108864 limit) refl)
+    ranged_read (λ k. nat_le 1 k && nat_le (k * sector) MAX_MEMORY_DISK_BYTES) n words (omega (arith, few))
+    (rw (le-leb 1 n some, le-leb (n * sector) MAX_MEMORY_DISK_BYTES limit) refl)
 
 -- `later` is read
 later_read : (later : Bool) → later_word (later_in_words later) ≡ Ok (later, [])
@@ -115,11 +116,12 @@ later_room false = omega arith
 
 -- a header line is read by its words, if no command stands before it
 abbrev AddsHeader : List ℕ → (Plan → Plan → Type 0) → Type 0
-AddsHeader line Next = (plan next : Plan) (n : ℕ) → n ≤ 4096 → (length plan.commands == 0) ≡ true → Next plan next
+AddsHeader line Next =
+    (plan next : Plan) (n : ℕ) → n ≤ MAX_SCRIPT_LINES → (length plan.commands == 0) ≡ true → Next plan next
     → next_line (Ok plan) (n, line) ≡ Ok next
 
 -- a short header line
-short_line : (ns : List ℕ) (words : Words) (second : List ℕ) → AreWithin ns words → room ns ≤ 255
+short_line : (ns : List ℕ) (words : Words) (second : List ℕ) → AreWithin ns words → room ns ≤ MAX_LINE_BYTES
     → IsLength second (length (line_of words))
 short_line ns words second within small = let line = line_within ns words within in inl (omega (arith, line, small))
 
@@ -145,7 +147,8 @@ abbrev actor_lengths : List ℕ
 actor_lengths = 8 ∷ 16 ∷ []
 
 ram_within : (name : List ℕ) (sector sectors : ℕ) (later : Bool) → is_short_name name ≡ true → IsSectorSize sector
-    → sectors * sector ≤ 67108864 → AreWithin (ram_lengths later) (ram_line_words name sector sectors later)
+    → sectors * sector ≤ MAX_MEMORY_DISK_BYTES
+    → AreWithin (ram_lengths later) (ram_line_words name sector sectors later)
 ram_within name sector sectors later short size limit =
     let count = few_sectors sectors sector size limit in (
       literal (codes "ram") refl,
@@ -168,7 +171,7 @@ actor_within name short = (literal (codes "actor") refl, (short_within name shor
 
 -- such lines are read
 ram_read : (name : List ℕ) (sector sectors : ℕ) (later : Bool) → is_short_name name ≡ true → IsSectorSize sector
-    → 1 ≤ sectors → sectors * sector ≤ 67108864
+    → 1 ≤ sectors → sectors * sector ≤ MAX_MEMORY_DISK_BYTES
     → AddsHeader (line_of (ram_line_words name sector sectors later))
     (λ plan next. add_disk plan (record { kind = disk_kinds.Ram; name = name; sector = sector; sectors = sectors; later = later }) ≡ Ok next)
 ram_read name sector sectors later short size some limit plan next n few none adds =
@@ -264,7 +267,7 @@ with_command plan n actor c =
     record plan { commands = plan.commands ++ record { line = n; actor = actor; command = c } ∷ [] }
 
 -- the line of a command adds it
-pub command_read : (plan : Plan) (n actor : ℕ) (name : List ℕ) (c : Command) → n ≤ 4096 → IsActor name
+pub command_read : (plan : Plan) (n actor : ℕ) (name : List ℕ) (c : Command) → n ≤ MAX_SCRIPT_LINES → IsActor name
     → position (same_name name) plan.actors ≡ Some actor → IsCommand c
     → HasRoom c (length (spaced (name ∷ command_in_words c)))
     → next_line (Ok plan) (n, spaced (name ∷ command_in_words c)) ≡ Ok (with_command plan n actor c)

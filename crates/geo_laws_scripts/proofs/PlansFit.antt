@@ -6,6 +6,7 @@ use Rattle.std.proofs.Common.{refl, sym, ◌∙◌, ap, arith, inl, inr, subst}
 use Rattle.std.proofs.lemmas.Bool.{ltb-false, ltb-true, ne_eqb, or_parts}
 use Rattle.std.proofs.lemmas.List.Elements.{All-from_recursion, recursion_from_All}
 use Rattle.std.proofs.lemmas.Slice.Eq.{bytes_eq-Decides}
+use Rattle.geo_base.specs.declared.limits.TheConstants.{MAX_LINE_BYTES, MAX_SCRIPT_LINES, MAX_WRITE_LINE_BYTES}
 use Rattle.geo_model.specs.declared.command.Cause.{Cause}
 use Rattle.geo_model.specs.declared.command.Cause.TheVariants as causes
 use Rattle.geo_model.specs.declared.command.Command.{Command}
@@ -35,9 +36,9 @@ fault_stays fault (item ∷ items) = fault_stays fault items
 -- a line that adds to a plan isn't too long
 not_long : (plan next : Plan) (n : ℕ) (line : List ℕ) → is_skipped line ≡ false → next_line (Ok plan) (n, line) ≡ Ok next
     → is_long line ≡ false
-not_long plan next n line shown read = by (nat_lt 4096 n) refl (is_long line) refl
+not_long plan next n line shown read = by (nat_lt MAX_SCRIPT_LINES n) refl (is_long line) refl
   where
-    by : (a : Bool) → nat_lt 4096 n ≡ a → (b : Bool) → is_long line ≡ b → b ≡ false
+    by : (a : Bool) → nat_lt MAX_SCRIPT_LINES n ≡ a → (b : Bool) → is_long line ≡ b → b ≡ false
     by a many false long = refl
     by true many true long =
         let wrong : next_line (Ok plan) (n, line) ≡ Err (record { line = n; cause = causes.Lines }) =
@@ -52,20 +53,22 @@ not_long plan next n line shown read = by (nat_lt 4096 n) refl (is_long line) re
 has_length : (line first second : List ℕ) (others : Words) → words_of line ≡ first ∷ second ∷ others
     → is_long line ≡ false → IsLength second (length line)
 has_length line first second others words short =
-    let parts = or_parts (nat_lt 8192 (length line)) _ short in
+    let parts = or_parts (nat_lt MAX_WRITE_LINE_BYTES (length line)) _ short in
     let write : option_map_or (same_name (codes "write")) (slice_get (words_of line) 1) false
     ≡ same_name (codes "write") second =
     ap (λ (ws : Words). option_map_or (same_name (codes "write")) (slice_get ws 1) false) words in
-    by (nat_lt 255 (length line)) refl (same_name (codes "write") second) refl
-    (ap (λ t. nat_lt 255 (length line) && not t) (sym write) ∙ parts.1) (ltb-false 8192 (length line) parts.0)
+    by (nat_lt MAX_LINE_BYTES (length line)) refl (same_name (codes "write") second) refl
+    (ap (λ t. nat_lt MAX_LINE_BYTES (length line) && not t) (sym write) ∙ parts.1)
+    (ltb-false MAX_WRITE_LINE_BYTES (length line) parts.0)
   where
-    by : (a : Bool) → nat_lt 255 (length line) ≡ a → (b : Bool) → same_name (codes "write") second ≡ b
-        → (nat_lt 255 (length line) && not (same_name (codes "write") second)) ≡ false → length line ≤ 8192
+    by : (a : Bool) → nat_lt MAX_LINE_BYTES (length line) ≡ a → (b : Bool) → same_name (codes "write") second ≡ b
+        → (nat_lt MAX_LINE_BYTES (length line) && not (same_name (codes "write") second)) ≡ false
+        → length line ≤ MAX_WRITE_LINE_BYTES
         → IsLength second (length line)
-    by false wide b write none limit = inl (ltb-false 255 (length line) wide)
+    by false wide b write none limit = inl (ltb-false MAX_LINE_BYTES (length line) wide)
     by true wide true write none limit = inr (limit, sym ((bytes_eq-Decides (codes "write") second).0 write))
     by true wide false write none limit =
-        let wrong : (nat_lt 255 (length line) && not (same_name (codes "write") second)) ≡ true =
+        let wrong : (nat_lt MAX_LINE_BYTES (length line) && not (same_name (codes "write") second)) ≡ true =
         rw (wide, write) refl in
         absurd (let bad : ⊥ = cc in bad)
 
@@ -225,7 +228,7 @@ stands_behind plan is c cs same e = by (nat_lt (length plan.disks + length plan.
     header : Plan
     header = of_header plan.disks plan.actors
 
-    few : first_line plan ≤ 4096
+    few : first_line plan ≤ MAX_SCRIPT_LINES
     few = let disks = is.few_disks in let actors = is.few_actors in omega (arith, disks, actors)
 
     items : List (ℕ × List ℕ)

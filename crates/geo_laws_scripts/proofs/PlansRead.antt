@@ -13,6 +13,7 @@ use Rattle.std.proofs.lemmas.List.Sums.{position_or_len_is}
 use Rattle.std.proofs.lemmas.Option.{unwrap_or-slice_get}
 use Rattle.std.proofs.lemmas.Slice.Eq.{bytes_eq-Decides}
 use Rattle.geo_base.proofs.Tests.{pairs_head, pairs_tail}
+use Rattle.geo_base.specs.declared.limits.TheConstants.{MAX_ACTORS, MAX_DISKS, MAX_SCRIPT_LINES}
 use Rattle.geo_model.specs.declared.command.DiskDecl.{DiskDecl}
 use Rattle.geo_model.specs.declared.command.LineCommand.{LineCommand}
 use Rattle.geo_model.specs.Generator.{entry_at, line}
@@ -84,13 +85,13 @@ of_disks disks = record { disks = disks; actors = []; commands = [] }
 abbrev pub of_header : List DiskDecl → List (List ℕ) → Plan
 of_header disks actors = record { disks = disks; actors = actors; commands = [] }
 
--- fewer than sixteen
-not_many : (k m : ℕ) → k + (m + 1) ≤ 16 → nat_le 16 k ≡ false
-not_many k m few = grind (arith, nat_tests)
+-- fewer than so many
+not_many : (most k m : ℕ) → k + (m + 1) ≤ most → nat_le most k ≡ false
+not_many most k m few = grind (arith, nat_tests)
 
 -- the lines of disks add them, whatever follows
-disks_read : (done rest : List DiskDecl) (n : ℕ) (more : List (List ℕ)) → length done + length rest ≤ 16
-    → n + length rest ≤ 4097 → AllByRecursion IsDiskDecl rest
+disks_read : (done rest : List DiskDecl) (n : ℕ) (more : List (List ℕ)) → length done + length rest ≤ MAX_DISKS
+    → n + length rest ≤ MAX_SCRIPT_LINES + 1 → AllByRecursion IsDiskDecl rest
     → AllPairs Differ (map (λ d. d.name) (done ++ rest))
     → fold next_line (Ok (of_disks done)) (enumerate_from n (map disk_line rest ++ more))
     ≡ fold next_line (Ok (of_disks (done ++ rest))) (enumerate_from (n + length rest) more)
@@ -103,7 +104,8 @@ disks_read done (d ∷ ds) n more few lines all names =
     subst (AllPairs Differ) (map-append (λ (x : DiskDecl). x.name) done (d ∷ ds)) names in
     let other : list_any (λ x. same_name x.name d.name) done ≡ false =
     no_disk done d.name (before_seam Differ (map (λ (x : DiskDecl). x.name) done) d.name (map (λ (x : DiskDecl). x.name) ds) apart) in
-    let place : nat_le 16 (length done) ≡ false = not_many (length done) (length ds) (omega (arith, few)) in
+    let place : nat_le MAX_DISKS (length done) ≡ false =
+    not_many MAX_DISKS (length done) (length ds) (omega (arith, few)) in
     let added : add_disk (of_disks done) d ≡ Ok (of_disks (done ++ d ∷ [])) = rw (other, place) refl in
     let step : next_line (Ok (of_disks done)) (n, disk_line d) ≡ Ok (of_disks (done ++ d ∷ [])) =
     disk_read d all.0 (of_disks done) (of_disks (done ++ d ∷ [])) n (omega (arith, lines)) refl added in
@@ -128,7 +130,7 @@ no_actor (x ∷ xs) name all =
 
 -- the lines of actors add them, whatever follows
 actors_read : (disks : List DiskDecl) (done rest : List (List ℕ)) (n : ℕ) (more : List (List ℕ))
-    → length done + length rest ≤ 16 → n + length rest ≤ 4097 → AllByRecursion IsActor rest
+    → length done + length rest ≤ MAX_ACTORS → n + length rest ≤ MAX_SCRIPT_LINES + 1 → AllByRecursion IsActor rest
     → AllPairs Differ (done ++ rest)
     → fold next_line (Ok (of_header disks done)) (enumerate_from n (map actor_line rest ++ more))
     ≡ fold next_line (Ok (of_header disks (done ++ rest))) (enumerate_from (n + length rest) more)
@@ -140,7 +142,8 @@ actors_read disks done (name ∷ rest) n more few lines all names =
     let other : list_any (same_name name) done ≡ false = no_actor done name (before_seam Differ done name rest names) in
     let none : list_any (same_name name) header_words ≡ false =
     not-true (list_any (same_name name) header_words) all.0.no_header_word in
-    let place : nat_le 16 (length done) ≡ false = not_many (length done) (length rest) (omega (arith, few)) in
+    let place : nat_le MAX_ACTORS (length done) ≡ false =
+    not_many MAX_ACTORS (length done) (length rest) (omega (arith, few)) in
     let added : add_actor (of_header disks done) name ≡ Ok (of_header disks (done ++ name ∷ [])) =
     rw (other, none, place) refl in
     let step : next_line (Ok (of_header disks done)) (n, actor_line name) ≡ Ok (of_header disks (done ++ name ∷ [])) =
@@ -213,7 +216,7 @@ pub actor_named : (actors : List (List ℕ)) (k : ℕ) → All IsActor actors �
 actor_named actors k are inside = subst IsActor (sym (named actors k)) (are k [] inside)
 
 -- a command's line adds it, at whatever number it stands
-pub step_read : (plan : Plan) (n : ℕ) (c : LineCommand) → n ≤ 4096 → All IsActor plan.actors
+pub step_read : (plan : Plan) (n : ℕ) (c : LineCommand) → n ≤ MAX_SCRIPT_LINES → All IsActor plan.actors
     → AllPairs Differ plan.actors → IsWritable plan.actors c
     → next_line (Ok plan) (n, command_line plan.actors c) ≡ Ok (with_command plan n c.actor c.command)
 step_read plan n c few are apart is =

@@ -1,5 +1,6 @@
 -- A plan that is written as a script is read back.
 use Rattle.std.specs.Prelude.{◌≡◌, ℕ, ◌+◌, ◌<◌, ◌≤◌, List, [], ◌∷◌, length, All, Ok, ⊤}
+use Rattle.geo_base.specs.declared.limits.TheConstants.{MAX_LINE_BYTES, MAX_WRITE_LINE_BYTES}
 use Rattle.geo_model.specs.declared.command.Command.{Command}
 use Rattle.geo_model.specs.declared.command.Command.TheVariants as commands
 use Rattle.geo_model.specs.declared.command.LineCommand.{LineCommand}
@@ -19,9 +20,9 @@ HeaderFits plan = StandsBehind (length plan.disks + length plan.actors) plan.com
 
 -- a line of so many bytes has room for the command: only a `write`, a `concat` and a `stripe` can be too long
 abbrev pub HasRoom : Command → ℕ → Type 0
-HasRoom (commands.Write h off bytes) len = len ≤ 8192
-HasRoom (commands.Concat name provs) len = len ≤ 255
-HasRoom (commands.Stripe name stripe provs) len = len ≤ 255
+HasRoom (commands.Write h off bytes) len = len ≤ MAX_WRITE_LINE_BYTES
+HasRoom (commands.Concat name provs) len = len ≤ MAX_LINE_BYTES
+HasRoom (commands.Stripe name stripe provs) len = len ≤ MAX_LINE_BYTES
 HasRoom _ len = ⊤
 
 -- no command's line is longer than a script's may be

@@ -7,6 +7,7 @@ use Rattle.std.proofs.lemmas.Bool.{cases_Bool, eq-eqb, eqb-false, ltb-false, ne_
 use Rattle.std.proofs.lemmas.List.Elements.{All-cons, All-head, All-nil, All-tail}
 use Rattle.std.proofs.lemmas.List.Folds.{list_any-append}
 use Rattle.std.proofs.lemmas.List.Kept.{AllPairs-cons}
+use Rattle.geo_base.specs.declared.limits.TheConstants.{MAX_LINKS}
 use Rattle.geo_model.specs.declared.class.EbrPart.{EbrPart}
 use Rattle.geo_model.specs.declared.class.EbrTable.{EbrTable}
 use Rattle.geo_model.specs.Chain.{LinkRead, IsChain, LeadOn, chain_table, chain_within, has_part, links_at, named_part, table_of, was_read}
@@ -104,16 +105,16 @@ module _ (media : ℕ → List ℕ) (n : ℕ) where
       (goes-past sector (next ∷ rest) links sector (was_read-last links sector) goes)
       (goes-apart rest (and_link media n links sector) next goes.1)
 
-  -- a walk has at most 32 links
-  goes-few : (rest : List ℕ) (links : List LinkRead) (sector : ℕ) → length links + 1 ≤ 32
+  -- a walk has at most MAX_LINKS links
+  goes-few : (rest : List ℕ) (links : List LinkRead) (sector : ℕ) → length links + 1 ≤ MAX_LINKS
       → GoesOn media n links sector rest
-      → length links + 1 + length rest ≤ 32
+      → length links + 1 + length rest ≤ MAX_LINKS
   goes-few [] links sector room goes = omega (arith, room)
   goes-few (next ∷ rest) links sector room goes =
-      let few : length (and_link media n links sector) < 32 = goes.0.few in
+      let few : length (and_link media n links sector) < MAX_LINKS = goes.0.few in
       let more : length (and_link media n links sector) ≡ length links + 1 =
       length-append links (link_at media n sector ∷ []) in
-      let so : length (and_link media n links sector) + 1 + length rest ≤ 32 =
+      let so : length (and_link media n links sector) + 1 + length rest ≤ MAX_LINKS =
       goes-few rest (and_link media n links sector) next (omega (arith, few)) goes.1 in
       omega (arith, more, so)
 
@@ -134,7 +135,7 @@ module _ (media : ℕ → List ℕ) (n : ℕ) where
         leads = goes-leads rest [] 0 goes;
         inside = All-cons (λ s. s < n) 0 rest (some-sector (0 ∷ rest) kept) (goes-inside rest [] 0 goes);
         apart = goes-apart rest [] 0 goes;
-        few = (let so : 0 + 1 + length rest ≤ 32 = goes-few rest [] 0 (omega arith) goes in omega (arith, so));
+        few = (let so : 0 + 1 + length rest ≤ MAX_LINKS = goes-few rest [] 0 (omega arith) goes in omega (arith, so));
         some = kept;
       }
 
@@ -154,7 +155,7 @@ module _ (media : ℕ → List ℕ) (n : ℕ) where
   goes-from : (rest : List ℕ) (links : List LinkRead) (sector : ℕ) → LeadOn media (sector ∷ rest)
       → All (λ s. s < n) rest
       → All (λ s. was_read (and_link media n links sector) s ≡ false) rest → AllPairs (λ a b. a ≢ b) rest
-      → length links + 1 + length rest ≤ 32 → has_part (links ++ links_at media n (sector ∷ rest)) ≡ true
+      → length links + 1 + length rest ≤ MAX_LINKS → has_part (links ++ links_at media n (sector ∷ rest)) ≡ true
       → GoesOn media n links sector rest
   goes-from [] links sector leads inside fresh apart few kept = record { at = leads; kept = kept }
   goes-from (next ∷ rest) links sector leads inside fresh apart few kept =
@@ -189,7 +190,7 @@ module _ (media : ℕ → List ℕ) (n : ℕ) where
       goes-from rest [] sector chain.leads (All-tail (λ s. s < n) sector rest chain.inside)
       (λ k d within. fresh-first sector _ chain.zero (chain.apart 0 (suc k) d (omega arith) (omega (arith, within))))
       (λ i j d lt within. chain.apart (suc i) (suc j) d (omega (arith, lt)) (omega (arith, within)))
-      (let few : length (sector ∷ rest) ≤ 32 = chain.few in omega (arith, few)) chain.some
+      (let few : length (sector ∷ rest) ≤ MAX_LINKS = chain.few in omega (arith, few)) chain.some
 
   -- the table of sectors that are a chain
   chain-read : (table : EbrTable) (sectors : List ℕ) → IsChain media n sectors
@@ -197,14 +198,15 @@ module _ (media : ℕ → List ℕ) (n : ℕ) where
       → chain_table media n ≡ Ok table
   chain-read table [] chain same = absurd chain.leads
   chain-read table (sector ∷ rest) chain same =
-      let few : length rest < 32 = (let all : length (sector ∷ rest) ≤ 32 = chain.few in omega (arith, all)) in
-      ap (λ s. chain_within 32 media n (record { links = []; next = s })) (sym chain.zero)
-      ∙ read-walk media n rest 32 [] sector (from_chain sector rest chain) few ∙ ap Ok (sym same)
+      let few : length rest < MAX_LINKS =
+      (let all : length (sector ∷ rest) ≤ MAX_LINKS = chain.few in omega (arith, all)) in
+      ap (λ s. chain_within MAX_LINKS media n (record { links = []; next = s })) (sym chain.zero)
+      ∙ read-walk media n rest MAX_LINKS [] sector (from_chain sector rest chain) few ∙ ap Ok (sym same)
 
   -- the sectors of a chain with a table
   read-chain : (table : EbrTable) → chain_table media n ≡ Ok table → IsTableOf media n table
   read-chain table read =
-      let walk : Walk media n [] 0 table = walk-read media n 32 [] 0 table read in
+      let walk : Walk media n [] 0 table = walk-read media n MAX_LINKS [] 0 table read in
       record { sectors = 0 ∷ walk.rest; chain = to_chain walk.rest walk.goes; same = walk.same }
 
 -- a table is read from a media exactly where its links make a chain that gives it

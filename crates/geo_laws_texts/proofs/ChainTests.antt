@@ -3,7 +3,8 @@ use Rattle.std.proofs.Common.{◌≡◌, ℕ, ◌<◌, Bool, true, false, not, �
 use Rattle.std.specs.Prelude.{IsTrue}
 use Rattle.geo_base.specs.declared.decline.DeclineCause.{DeclineCause}
 use Rattle.geo_base.specs.declared.decline.DeclineCause.TheVariants as causes
-use Rattle.geo_model.specs.Chain.{LinkRead, IsLinkAt, has_part, link_limit, named_part, next_link, was_read}
+use Rattle.geo_base.specs.declared.limits.TheConstants.{MAX_LINKS}
+use Rattle.geo_model.specs.Chain.{LinkRead, IsLinkAt, has_part, named_part, next_link, was_read}
 use Rattle.geo_model.specs.Words.{first_error}
 
 -- the first cause, by the tests: the signature, the second entry's type, whether it leads on, back, past the media or
@@ -46,7 +47,7 @@ pub record LeadsTo (media : ℕ → List ℕ) (n : ℕ) (links : List LinkRead) 
   pub leads : next_link (media sector) ≡ next
   pub fresh : was_read (and_link media n links sector) next ≡ false
   pub near : next < n
-  pub few : length (and_link media n links sector) < link_limit
+  pub few : length (and_link media n links sector) < MAX_LINKS
 
 -- a last link
 pub record EndsAt (media : ℕ → List ℕ) (n : ℕ) (links : List LinkRead) (sector : ℕ) : Type 0 where

@@ -3,8 +3,9 @@ use Rattle.std.specs.Prelude.{nat_le}
 use Rattle.std.proofs.Common.{◌≡◌, ℕ, zero, suc, ◌<◌, Bool, true, false, List, [], ◌∷◌, ◌++◌, length, Option, Some, None, Result, Ok, refl, sym, ap, ◌∙◌, arith, append_assoc}
 use Rattle.std.proofs.lemmas.Bool.{leb-false, lt-leb}
 use Rattle.geo_base.specs.declared.decline.DeclineCause.{DeclineCause}
+use Rattle.geo_base.specs.declared.limits.TheConstants.{MAX_LINKS}
 use Rattle.geo_model.specs.declared.class.EbrTable.{EbrTable}
-use Rattle.geo_model.specs.Chain.{LinkRead, Chain, chain_verdict, chain_within, has_part, is_link_type, leads_on, link_limit, link_tests, links_at, next_link, read_on, table_of, was_read, with_link}
+use Rattle.geo_model.specs.Chain.{LinkRead, Chain, chain_verdict, chain_within, has_part, is_link_type, leads_on, link_tests, links_at, next_link, read_on, table_of, was_read, with_link}
 use Rattle.geo_model.specs.Records.{entry_type, has_signature}
 use Rattle.geo_model.specs.Words.{first_error}
 use Rattle.geo_laws_texts.proofs.ChainTests.{cause_of, cause_of-on, cause_of-end, link_at, and_link, LeadsTo, EndsAt, GoesOn}
@@ -33,11 +34,11 @@ module _ (media : ℕ → List ℕ) (n : ℕ) where
       → against links sector
       ≡ cause_of (has_signature (media sector)) (is_link_type (entry_type (media sector) 1)) on
       (was_read (and_link media n links sector) (next_link (media sector))) (nat_le n (next_link (media sector)))
-      (nat_le link_limit (length (and_link media n links sector))) (has_part (and_link media n links sector))
+      (nat_le MAX_LINKS (length (and_link media n links sector))) (has_part (and_link media n links sector))
   against-is links sector on is =
       ap (λ b. cause_of (has_signature (media sector)) (is_link_type (entry_type (media sector) 1)) b
       (was_read (and_link media n links sector) (next_link (media sector))) (nat_le n (next_link (media sector)))
-      (nat_le link_limit (length (and_link media n links sector))) (has_part (and_link media n links sector))) is
+      (nat_le MAX_LINKS (length (and_link media n links sector))) (has_part (and_link media n links sector))) is
 
   -- a link that leads on, and that nothing is against, leads to one that may follow it
   pub leads-to : (links : List LinkRead) (sector : ℕ) → leads_on (media sector) ≡ true → against links sector ≡ None
@@ -45,14 +46,14 @@ module _ (media : ℕ → List ℕ) (n : ℕ) where
   leads-to links sector is none =
       let parts = cause_of-on (has_signature (media sector)) (is_link_type (entry_type (media sector) 1))
       (was_read (and_link media n links sector) (next_link (media sector))) (nat_le n (next_link (media sector)))
-      (nat_le link_limit (length (and_link media n links sector))) (has_part (and_link media n links sector))
+      (nat_le MAX_LINKS (length (and_link media n links sector))) (has_part (and_link media n links sector))
       (sym (against-is links sector true is) ∙ none) in
       record {
         at = record { signature = parts.0; second = parts.1; leads = is };
         leads = refl;
         fresh = parts.2;
         near = leb-false n (next_link (media sector)) parts.3;
-        few = leb-false link_limit (length (and_link media n links sector)) parts.4;
+        few = leb-false MAX_LINKS (length (and_link media n links sector)) parts.4;
       }
 
   -- a link that leads on no more, and that nothing is against, is a last one
@@ -61,7 +62,7 @@ module _ (media : ℕ → List ℕ) (n : ℕ) where
   ends-at links sector is none =
       let parts = cause_of-end (has_signature (media sector)) (is_link_type (entry_type (media sector) 1))
       (was_read (and_link media n links sector) (next_link (media sector))) (nat_le n (next_link (media sector)))
-      (nat_le link_limit (length (and_link media n links sector))) (has_part (and_link media n links sector))
+      (nat_le MAX_LINKS (length (and_link media n links sector))) (has_part (and_link media n links sector))
       (sym (against-is links sector false is) ∙ none) in
       record { at = record { signature = parts.0; second = parts.1; leads = is }; kept = parts.2 }
 
@@ -72,8 +73,8 @@ module _ (media : ℕ → List ℕ) (n : ℕ) where
       let fresh : was_read (and_link media n links sector) (next_link (media sector)) ≡ false =
       ap (was_read (and_link media n links sector)) l.leads ∙ l.fresh in
       let near : nat_le n (next_link (media sector)) ≡ false = ap (nat_le n) l.leads ∙ lt-leb n next l.near in
-      let few : nat_le link_limit (length (and_link media n links sector)) ≡ false =
-      lt-leb link_limit (length (and_link media n links sector)) l.few in
+      let few : nat_le MAX_LINKS (length (and_link media n links sector)) ≡ false =
+      lt-leb MAX_LINKS (length (and_link media n links sector)) l.few in
       against-is links sector true l.at.leads ∙ (rw (l.at.signature, l.at.second, fresh, near, few) refl)
 
   -- nothing is against a last link

@@ -10,6 +10,7 @@ use Rattle.std.proofs.lemmas.List.{append_assoc, length-append}
 use Rattle.geo_base.specs.Name.{is_name, is_short_name}
 use Rattle.geo_base.specs.Runs.{ByteRun, hex_digit}
 use Rattle.geo_base.specs.declared.request.Counts.{Counts}
+use Rattle.geo_base.specs.declared.limits.TheConstants.{MAX_RUNS_BYTES}
 use Rattle.geo_model.specs.declared.command.Command.{Command}
 use Rattle.geo_model.specs.declared.command.Command.TheVariants as commands
 use Rattle.geo_model.specs.Script.{is_digit, Words, by_word, command_table, counts_of, fitting_bytes, hex_value, is_decimal, number_of, run_of, runs_in, value_of}
@@ -172,14 +173,14 @@ hex_clean : (n : ℕ) → n < 16 → is_clean_byte (hex_digit n) ≡ true
 hex_clean n h = grind (arith, nat_tests)
 
 -- a run that isn't too long gives its bytes
-one_fits : (x : ByteRun) → x.times ≤ 65536 → fitting_bytes (x ∷ []) ≡ Some (replicate x.times x.byte ++ [])
+one_fits : (x : ByteRun) → x.times ≤ MAX_RUNS_BYTES → fitting_bytes (x ∷ []) ≡ Some (replicate x.times x.byte ++ [])
 one_fits x few =
-    let fits : nat_le (sum_by (λ (y : ByteRun). y.times) (x ∷ [])) 65536 ≡ true =
-    le-leb (sum_by (λ (y : ByteRun). y.times) (x ∷ [])) 65536 (omega (arith, few)) in
+    let fits : nat_le (sum_by (λ (y : ByteRun). y.times) (x ∷ [])) MAX_RUNS_BYTES ≡ true =
+    le-leb (sum_by (λ (y : ByteRun). y.times) (x ∷ [])) MAX_RUNS_BYTES (omega (arith, few)) in
     rw fits refl
 
 -- one run of a byte, n times
-run_word : (high low n : ℕ) → high < 16 → low < 16 → 1 ≤ n → n ≤ 65536
+run_word : (high low n : ℕ) → high < 16 → low < 16 → 1 ≤ n → n ≤ MAX_RUNS_BYTES
     → IsRunWord (hex_digit high ∷ hex_digit low ∷ 42 ∷ decimal n)
 run_word high low n h l some few = record {
   bytes = replicate n (16 * high + low) ++ [];
@@ -198,7 +199,7 @@ run_word high low n h l some few = record {
 }
   where
     by : (a b : ℕ) (ds : List ℕ) → hex_value a ≡ high → hex_value b ≡ low → is_decimal ds ≡ true → value_of ds ≡ n
-        → nat_lt high 16 ≡ true → nat_lt low 16 ≡ true → nat_le 1 n ≡ true → n ≤ 65536
+        → nat_lt high 16 ≡ true → nat_lt low 16 ≡ true → nat_le 1 n ≡ true → n ≤ MAX_RUNS_BYTES
         → option_and_then fitting_bytes (runs_in ((a ∷ b ∷ 42 ∷ ds) ∷ []))
         ≡ Some (replicate n (16 * high + low) ++ [])
     by a b ds first second is value high_fits low_fits one some_few =

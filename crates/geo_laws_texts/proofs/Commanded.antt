@@ -10,13 +10,13 @@ use Rattle.geo_base.specs.declared.kind.Kind.{Kind}
 use Rattle.geo_base.specs.declared.kind.Kind.TheVariants as kinds
 use Rattle.geo_base.specs.declared.request.BioCmd.TheVariants as cmds
 use Rattle.geo_base.specs.declared.request.Counts.{Counts}
+use Rattle.geo_base.specs.declared.limits.TheConstants.{MAX_RANK}
 use Rattle.geo_model.specs.declared.command.Command.{Command}
 use Rattle.geo_model.specs.declared.command.Command.TheVariants as commands
 use Rattle.geo_model.specs.declared.step.Event.TheVariants as events
 use Rattle.geo_model.specs.Words.{first_error, same_name}
 use Rattle.geo_model.specs.Names.{concat_name, stripe_name, nop_name}
 use Rattle.geo_model.specs.Topology.{Geom, Provider, find_provider, is_name_taken, add_geom, add_consumer, set_config}
-use Rattle.geo_model.specs.Rank.{rank_limit}
 use Rattle.geo_model.specs.World.{World, Config, Disk, Handle, HeaderDisk, granted_in, handle_of, is_active}
 use Rattle.geo_model.specs.Records.{label_sector, concat_sector, stripe_sector}
 use Rattle.geo_model.specs.Events.{post, wither}
@@ -122,7 +122,7 @@ module _ (w : World) (keeps : KeepsNames w) (line : ℕ) where
   nop_is_named : (name : List ℕ) (offset size : ℕ) (p : Provider)
       → first_error (nop_tests w.topology name offset size p) ≡ None → is_name name ≡ true
   nop_is_named name offset size p none =
-      let deep : Bool = nat_lt rank_limit (rank_over w.topology (p ∷ [])) in
+      let deep : Bool = nat_lt MAX_RANK (rank_over w.topology (p ∷ [])) in
       let a = none_refused p.errored ENXIO ((is_name_taken w.topology name, EEXIST)
       ∷ (is_invalid_nop p name offset size, EINVAL) ∷ (deep, EDEEP) ∷ []) none in
       let b = none_refused (is_name_taken w.topology name) EEXIST

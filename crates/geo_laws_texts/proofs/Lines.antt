@@ -5,6 +5,7 @@ use Rattle.std.specs.List.{AllByRecursion, list_all, list_any}
 use Rattle.std.proofs.Common.{refl, sym, ◌∙◌, ap, arith, subst}
 use Rattle.std.proofs.lemmas.Bool.Decides.{nat_tests}
 use Rattle.std.proofs.lemmas.List.{append_assoc, length-append}
+use Rattle.geo_base.specs.declared.limits.TheConstants.{MAX_LINE_BYTES, MAX_SCRIPT_LINES, MAX_WRITE_LINE_BYTES}
 use Rattle.geo_model.specs.declared.command.Command.{Command}
 use Rattle.geo_model.specs.Words.{first_error}
 use Rattle.geo_model.specs.World.{Plan}
@@ -72,17 +73,17 @@ pub record AddsCommand (line : List ℕ) : Type 0 where
   pub shown : is_skipped line ≡ false
   pub command : Command
   pub actor : ℕ
-  pub adds : (plan : Plan) (n : ℕ) → n ≤ 4096 → plan.actors ≡ four_actors
+  pub adds : (plan : Plan) (n : ℕ) → n ≤ MAX_SCRIPT_LINES → plan.actors ≡ four_actors
       → plan_with_line plan n line
       ≡ Ok (record plan { commands = plan.commands ++ record { line = n; actor = actor; command = command } ∷ [] })
 
 -- a short line of clean words passes the tests of lines
-passes_tests : (n : ℕ) (line : List ℕ) (w : List ℕ) (ws : Words) → line ≡ line_of (w ∷ ws) → n ≤ 4096
-    → length line ≤ 255 → AllByRecursion IsClean (w ∷ ws) → first_error (line_tests n line) ≡ None
+passes_tests : (n : ℕ) (line : List ℕ) (w : List ℕ) (ws : Words) → line ≡ line_of (w ∷ ws) → n ≤ MAX_SCRIPT_LINES
+    → length line ≤ MAX_LINE_BYTES → AllByRecursion IsClean (w ∷ ws) → first_error (line_tests n line) ≡ None
 passes_tests n line w ws is few short clean =
-    let not_many : nat_lt 4096 n ≡ false = grind (arith, nat_tests) in
-    let not_wide : nat_lt 8192 (length line) ≡ false = grind (arith, nat_tests) in
-    let not_wider : nat_lt 255 (length line) ≡ false = grind (arith, nat_tests) in
+    let not_many : nat_lt MAX_SCRIPT_LINES n ≡ false = grind (arith, nat_tests) in
+    let not_wide : nat_lt MAX_WRITE_LINE_BYTES (length line) ≡ false = grind (arith, nat_tests) in
+    let not_wider : nat_lt MAX_LINE_BYTES (length line) ≡ false = grind (arith, nat_tests) in
     let bytes : list_all (λ b. nat_le 32 b && nat_le b 126) line ≡ true =
     ap (λ l. list_all (λ b. nat_le 32 b && nat_le b 126) l) is ∙ line_in_range w ws clean in
     let some : list_any (λ word. length word == 0) (words_of line) ≡ false =

@@ -5,6 +5,7 @@ use Rattle.std.proofs.lemmas.Bool.{le-leb, lt-leb, lt-ltb, le-ltb, ne_eqb}
 use Rattle.std.specs.Prelude.{nat_le, nat_lt}
 use Rattle.geo_base.specs.declared.decline.DeclineCause.{DeclineCause}
 use Rattle.geo_base.specs.declared.decline.DeclineCause.TheVariants as causes
+use Rattle.geo_base.specs.declared.limits.TheConstants.{MAX_COMPONENTS, MAX_STRIPE_BYTES}
 use Rattle.geo_model.specs.Words.{first_error, unless}
 use Rattle.geo_model.proofs.RecordLemmas.{append-errors}
 use Rattle.geo_model.specs.Records.{head_tests, concat_magic, concat_tests, stripe_magic, stripe_tests, size_test, is_stripe_size, u16_at, u32_at}
@@ -12,23 +13,24 @@ use Rattle.geo_laws_texts.specs.RecordLaws.{IsNoPlace, IsPlace, IsNoStripeSize, 
 
 -- the test of a place that is none
 no_place : (place count : ℕ) → IsNoPlace place count
-    → (nat_le 1 count && (nat_le count 16 && nat_lt place count)) ≡ false
+    → (nat_le 1 count && (nat_le count MAX_COMPONENTS && nat_lt place count)) ≡ false
 no_place place count (inl none) = rw (lt-leb 1 count (omega (arith, none))) refl
-no_place place count (inr (inl many)) = rw (lt-leb count 16 many) (and-false (nat_le 1 count))
+no_place place count (inr (inl many)) = rw (lt-leb count MAX_COMPONENTS many) (and-false (nat_le 1 count))
 no_place place count (inr (inr outside)) =
-    rw (le-ltb place count outside, and-false (nat_le count 16)) (and-false (nat_le 1 count))
+    rw (le-ltb place count outside, and-false (nat_le count MAX_COMPONENTS)) (and-false (nat_le 1 count))
 
 -- the test of a place that is one
 some_place : (place count : ℕ) → IsPlace place count
-    → (nat_le 1 count && (nat_le count 16 && nat_lt place count)) ≡ true
-some_place place count p = rw (le-leb 1 count p.some, le-leb count 16 p.few, lt-ltb place count p.inside) refl
+    → (nat_le 1 count && (nat_le count MAX_COMPONENTS && nat_lt place count)) ≡ true
+some_place place count p =
+    rw (le-leb 1 count p.some, le-leb count MAX_COMPONENTS p.few, lt-ltb place count p.inside) refl
 
 -- the test of a stripe size that is none
 no_stripe_size : (stripe sector : ℕ) → IsNoStripeSize stripe sector → is_stripe_size stripe sector ≡ false
 no_stripe_size stripe sector (inl none) = rw (lt-leb 1 stripe (omega (arith, none))) refl
-no_stripe_size stripe sector (inr (inl large)) = rw (lt-leb stripe 32768 large) (and-false (nat_le 1 stripe))
+no_stripe_size stripe sector (inr (inl large)) = rw (lt-leb stripe MAX_STRIPE_BYTES large) (and-false (nat_le 1 stripe))
 no_stripe_size stripe sector (inr (inr torn)) =
-    rw (ne_eqb (stripe % sector) 0 torn, and-false (nat_le stripe 32768)) (and-false (nat_le 1 stripe))
+    rw (ne_eqb (stripe % sector) 0 torn, and-false (nat_le stripe MAX_STRIPE_BYTES)) (and-false (nat_le 1 stripe))
 
 -- the first test behind a head in order
 first_behind : (head : List (Bool × DeclineCause)) (b : Bool) (cause : DeclineCause) (rest : List (Bool × DeclineCause))

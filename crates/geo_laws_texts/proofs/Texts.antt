@@ -6,6 +6,7 @@ use Rattle.std.proofs.Common.{refl, ◌∙◌, ap, arith}
 use Rattle.std.proofs.lemmas.List.{append_assoc, length-append}
 use Rattle.std.proofs.lemmas.List.Splits.{slice_split_at}
 use Rattle.std.proofs.lemmas.List.Sums.{fold-append}
+use Rattle.geo_base.specs.declared.limits.TheConstants.{MAX_SCRIPT_LINES}
 use Rattle.geo_model.specs.declared.command.DiskDecl.{DiskDecl}
 use Rattle.geo_model.specs.World.{Plan}
 use Rattle.geo_model.specs.Generator.{CanBeGenerated, actor_lines, disk_lines, drawn_lines, draws, draw_value, first_lines, generated, next_draw}
@@ -75,7 +76,7 @@ record GoesOn (plan : Plan) (from : ℕ) (lines : List (List ℕ)) (count : ℕ)
   commands : length then_plan.commands ≡ length plan.commands + count
 
 -- the lines that are drawn add a command each
-draws_add : (plan : Plan) (from i n x : ℕ) → plan.actors ≡ four_actors → from + n ≤ 4097
+draws_add : (plan : Plan) (from i n x : ℕ) → plan.actors ≡ four_actors → from + n ≤ MAX_SCRIPT_LINES + 1
     → GoesOn plan from (drawn_texts i n x) n
 draws_add plan from i zero x are few = record {
   then_plan = plan;

@@ -1,22 +1,23 @@
 -- Which records are declined for their place or their stripe size.
 use Rattle.std.specs.Prelude.{◌≡◌, ◌≢◌, ◌⊎◌, ℕ, ◌<◌, ◌≤◌, ◌%◌, List, length, None, Err}
 use Rattle.geo_base.specs.declared.decline.DeclineCause.TheVariants as causes
+use Rattle.geo_base.specs.declared.limits.TheConstants.{MAX_COMPONENTS, MAX_STRIPE_BYTES}
 use Rattle.geo_model.specs.Words.{first_error}
 use Rattle.geo_model.specs.Records.{head_tests, concat_magic, concat_record, stripe_magic, stripe_record, u16_at, u32_at}
 
 -- no place, more than 16 of them, or a place that isn't below their count
 abbrev pub IsNoPlace : ℕ → ℕ → Type 0
-IsNoPlace place count = (count ≡ 0) ⊎ ((16 < count) ⊎ (count ≤ place))
+IsNoPlace place count = (count ≡ 0) ⊎ ((MAX_COMPONENTS < count) ⊎ (count ≤ place))
 
 -- a place of 1 to 16
 pub record IsPlace (place count : ℕ) : Type 0 where
   pub some : 1 ≤ count
-  pub few : count ≤ 16
+  pub few : count ≤ MAX_COMPONENTS
   pub inside : place < count
 
 -- no byte, more than 32,768, or no whole sectors
 abbrev pub IsNoStripeSize : ℕ → ℕ → Type 0
-IsNoStripeSize stripe sector = (stripe ≡ 0) ⊎ ((32768 < stripe) ⊎ (stripe % sector ≢ 0))
+IsNoStripeSize stripe sector = (stripe ≡ 0) ⊎ ((MAX_STRIPE_BYTES < stripe) ⊎ (stripe % sector ≢ 0))
 
 abbrev pub ConcatPlacesAreJudged : Type 0
 ConcatPlacesAreJudged =

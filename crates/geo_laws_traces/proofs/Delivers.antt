@@ -5,6 +5,7 @@ use Rattle.std.proofs.Common.{refl, arith}
 use Rattle.std.proofs.lemmas.List.Elements.{All-from_recursion, All-contains}
 use Rattle.geo_base.specs.declared.request.BioCmd.{BioCmd}
 use Rattle.geo_base.specs.declared.request.BioCmd.TheVariants as cmds
+use Rattle.geo_base.specs.declared.limits.TheConstants.{MAX_REQUEST_BYTES}
 use Rattle.geo_model.specs.declared.step.DeviceResult.TheVariants as devices
 use Rattle.geo_model.specs.declared.step.Entry.{Entry}
 use Rattle.geo_model.specs.declared.step.Found.{Found}
@@ -29,7 +30,7 @@ use Rattle.geo_laws_traces.specs.TraceLaws.{FewBytes, DeliversAreShort}
 -- bytes of which there are some, and few
 record AreFew (bytes : List ℕ) : Type 0 where
   some : 1 ≤ length bytes
-  few : length bytes ≤ 32768
+  few : length bytes ≤ MAX_REQUEST_BYTES
 
 -- a READ is no FLUSH
 read_is_no_flush : (cmd : BioCmd) → is_read cmd ≡ true → is_flush cmd ≡ false

@@ -6,6 +6,7 @@ use Rattle.std.proofs.lemmas.Bool.{and_parts, and_from, leb-true, le-leb}
 use Rattle.std.proofs.lemmas.List.{append_assoc}
 use Rattle.std.proofs.lemmas.List.Elements.{All-from_recursion}
 use Rattle.geo_base.specs.Sectors.{IsSectorSize}
+use Rattle.geo_base.specs.declared.limits.TheConstants.{MAX_IMAGE_BYTES}
 use Rattle.geo_model.specs.declared.command.Cause.{Cause}
 use Rattle.geo_model.specs.declared.command.DiskDecl.{DiskDecl}
 use Rattle.geo_model.specs.declared.command.DiskKind.{DiskKind}
@@ -27,16 +28,16 @@ disk_line sectors = codes "%" ∷ codes "disk" ∷ decimal sectors ∷ []
 -- some sectors of a size that fit a disk of the shelf
 record IsDiskSize (sector sectors : ℕ) : Type 0 where
   some : 1 ≤ sectors
-  limited : sectors * sector ≤ 2 ^ 40
+  limited : sectors * sector ≤ MAX_IMAGE_BYTES
 
 -- what the reader asks of them
 abbrev fits_disk : ℕ → ℕ → Bool
-fits_disk sector sectors = nat_le 1 sectors && nat_le (sectors * sector) (2 ^ 40)
+fits_disk sector sectors = nat_le 1 sectors && nat_le (sectors * sector) MAX_IMAGE_BYTES
 
 -- they are few, as a sector isn't empty
-few : (sector sectors : ℕ) → IsSectorSize sector → sectors * sector ≤ 2 ^ 40 → sectors < 2 ^ 64
-few sector sectors (inl is) limited = let below : sectors * 512 ≤ 2 ^ 40 = rw is at limited in omega arith
-few sector sectors (inr is) limited = let below : sectors * 4096 ≤ 2 ^ 40 = rw is at limited in omega arith
+few : (sector sectors : ℕ) → IsSectorSize sector → sectors * sector ≤ MAX_IMAGE_BYTES → sectors < 2 ^ 64
+few sector sectors (inl is) limited = let below : sectors * 512 ≤ MAX_IMAGE_BYTES = rw is at limited in omega arith
+few sector sectors (inr is) limited = let below : sectors * 4096 ≤ MAX_IMAGE_BYTES = rw is at limited in omega arith
 
 -- the words are words
 line_words : (sectors : ℕ) → sectors < 2 ^ 64 → AreWords (disk_line sectors)
@@ -51,8 +52,8 @@ size_back sector sectors size is =
     (words_back (codes "%") (codes "disk" ∷ decimal sectors ∷ []) (line_words sectors small))
     ∙ ap (λ r. r >>= λ n. at_end n.0 n.1)
     (ranged_back (fits_disk sector) sectors [] small
-    (and_from (nat_le 1 sectors) (nat_le (sectors * sector) (2 ^ 40)) (le-leb 1 sectors is.some)
-    (le-leb (sectors * sector) (2 ^ 40) is.limited)))
+    (and_from (nat_le 1 sectors) (nat_le (sectors * sector) MAX_IMAGE_BYTES) (le-leb 1 sectors is.some)
+    (le-leb (sectors * sector) MAX_IMAGE_BYTES is.limited)))
 
 -- it has no line feed
 size_unended : (sectors : ℕ) → sectors < 2 ^ 64 → IsUnended (line_of (disk_line sectors))
@@ -71,12 +72,15 @@ number_tells sector words sectors e =
     let first = then_tells _ (λ n. at_end n.0 n.1) sectors e in
     let n = ranged_tells (fits_disk sector) words first.value first.read in
     let last = at_end_tells first.value.0 first.value.1 sectors first.rest in
-    let both = and_parts (nat_le 1 first.value.0) (nat_le (first.value.0 * sector) (2 ^ 40)) n.passes in
+    let both = and_parts (nat_le 1 first.value.0) (nat_le (first.value.0 * sector) MAX_IMAGE_BYTES) n.passes in
     subst (λ (x : ℕ). IsSize sector (codes "%" ∷ codes "disk" ∷ words) x) last.same
     (record {
       stands = ap (λ (ws : Words). codes "%" ∷ codes "disk" ∷ ws)
           (n.stands ∙ ap (λ ws. decimal first.value.0 ∷ ws) last.none);
-      fits = record { some = leb-true 1 first.value.0 both.0; limited = leb-true (first.value.0 * sector) (2 ^ 40) both.1 };
+      fits = record {
+        some = leb-true 1 first.value.0 both.0;
+        limited = leb-true (first.value.0 * sector) MAX_IMAGE_BYTES both.1;
+      };
     })
 
 -- a line that is read as a size
@@ -158,7 +162,8 @@ disk_back : (n : ℕ) (d : DiskDecl) (fact : ℕ × ℕ) (ds : List DiskDecl) (f
 disk_back n d fact ds facts text decl fits true shelf more =
     let line : List ℕ = line_of (disk_line fact.1) in
     let inner = more (n + 1) in
-    let limited : fact.1 * d.sector ≤ 2 ^ 40 = subst (λ (k : ℕ). fact.1 * k ≤ 2 ^ 40) fits.sector fits.limited in
+    let limited : fact.1 * d.sector ≤ MAX_IMAGE_BYTES =
+    subst (λ (k : ℕ). fact.1 * k ≤ MAX_IMAGE_BYTES) fits.sector fits.limited in
     let is : IsDiskSize d.sector fact.1 = record { some = fits.some; limited = limited } in
     let small : fact.1 < 2 ^ 64 = few d.sector fact.1 decl.sector limited in
     record {

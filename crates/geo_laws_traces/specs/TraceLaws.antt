@@ -1,5 +1,6 @@
 -- What the grammar of traces keeps, and what it means that a trace is verified.
 use Rattle.std.specs.Prelude.{◌≡◌, ℕ, ◌+◌, ◌^◌, ◌<◌, ◌≤◌, List, length, Ok, All, ⊤}
+use Rattle.geo_base.specs.declared.limits.TheConstants.{MAX_REQUEST_BYTES}
 use Rattle.geo_model.specs.declared.step.DeviceResult.{DeviceResult}
 use Rattle.geo_model.specs.declared.step.DeviceResult.TheVariants as devices
 use Rattle.geo_model.specs.declared.step.Entry.{Entry}
@@ -81,7 +82,7 @@ LegalIsVerified =
 
 -- each Deliver of bytes has some, and no more than a request can ask for
 abbrev pub FewBytes : Step → Type 0
-FewBytes (steps.Deliver b (devices.Bytes bytes)) = (1 ≤ length bytes) × (length bytes ≤ 32768)
+FewBytes (steps.Deliver b (devices.Bytes bytes)) = (1 ≤ length bytes) × (length bytes ≤ MAX_REQUEST_BYTES)
 FewBytes _ = ⊤
 
 abbrev pub DeliversAreShort : Type 0

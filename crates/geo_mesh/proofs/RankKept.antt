@@ -5,8 +5,8 @@ use Rattle.std.proofs.Common.{refl, sym, ap, ◌∙◌, inl, inr, arith}
 use Rattle.std.proofs.lemmas.Bool.{cases_eq, eqb-true, eqb-false, le-ltb, or_parts}
 use Rattle.std.proofs.Math.Bool.{or-false, and-false}
 use Rattle.geo_base.specs.declared.kind.Kind.{Kind}
+use Rattle.geo_base.specs.declared.limits.TheConstants.{MAX_RANK}
 use Rattle.geo_model.specs.Words.{largest, is_granted_kind, names_number}
-use Rattle.geo_model.specs.Rank.{rank_limit}
 use Rattle.geo_model.proofs.DemandLemmas.{kept_by}
 use Rattle.geo_slots.specs.Slots.{IsRising, value_at, without}
 use Rattle.geo_mesh.specs.Ranks.{rank_at, under, rank_through, number_or, is_high, AreRanks}
@@ -226,12 +226,12 @@ module _ (classes : List (ℕ × Kind)) (standing owners : List (ℕ × ℕ)) (u
         low : (classes : List (ℕ × Kind)) → is_high classes (rank_at standing) ≡ false
             → is_high (classes ++ (n, k) ∷ []) (rank_at (standing ++ (n, 1) ∷ [])) ≡ false
         low [] e =
-            let small : nat_lt rank_limit (rank_at (standing ++ (n, 1) ∷ []) n) ≡ false =
-            le-ltb rank_limit (rank_at (standing ++ (n, 1) ∷ []) n) (omega (arith, here)) in
+            let small : nat_lt MAX_RANK (rank_at (standing ++ (n, 1) ∷ []) n) ≡ false =
+            le-ltb MAX_RANK (rank_at (standing ++ (n, 1) ∷ []) n) (omega (arith, here)) in
             rw small (or-false (not (is_granted_kind k) && false) ∙ and-false (not (is_granted_kind k)))
         low (row ∷ classes) e =
             rw (same standing row.0)
-            (split (not (is_granted_kind row.1) && nat_lt rank_limit (rank_at standing row.0))
+            (split (not (is_granted_kind row.1) && nat_lt MAX_RANK (rank_at standing row.0))
             (is_high classes (rank_at standing))
             (is_high (classes ++ (n, k) ∷ []) (rank_at (standing ++ (n, 1) ∷ []))) e
             (λ h. low classes h)) where
@@ -271,10 +271,10 @@ module _ (classes : List (ℕ × Kind)) (standing owners : List (ℕ × ℕ)) (u
         low [] e = refl
         low (row ∷ classes) e =
             at (row.0 == n) refl
-            (or_parts (not (is_granted_kind row.1) && nat_lt rank_limit (rank_at standing row.0))
+            (or_parts (not (is_granted_kind row.1) && nat_lt MAX_RANK (rank_at standing row.0))
             (is_high classes (rank_at standing)) e) (λ h. low classes h) where
               at : (b : Bool) → (row.0 == n) ≡ b
-                  → ((not (is_granted_kind row.1) && nat_lt rank_limit (rank_at standing row.0)) ≡ false)
+                  → ((not (is_granted_kind row.1) && nat_lt MAX_RANK (rank_at standing row.0)) ≡ false)
                   × (is_high classes (rank_at standing) ≡ false)
                   → (is_high classes (rank_at standing) ≡ false
                   → is_high (without classes n) (rank_at (without standing n)) ≡ false)

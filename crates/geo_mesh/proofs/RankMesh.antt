@@ -6,9 +6,10 @@ use Rattle.std.proofs.lemmas.Bool.{eqb-true, eq-eqb, ne_eqb}
 use Rattle.std.proofs.lemmas.List.{length-map, map-append, length-append}
 use Rattle.geo_base.specs.declared.kind.Kind.{Kind}
 use Rattle.geo_base.proofs.Tests.{filter_map-same}
+use Rattle.geo_base.specs.declared.limits.TheConstants.{MAX_RANK}
 use Rattle.geo_model.specs.Words.{largest, is_granted_kind, names_number}
 use Rattle.geo_model.specs.Topology.{Geom, Provider, Consumer, geom_at, provider_at, consumer_at, consumers_of, attached_to}
-use Rattle.geo_model.specs.Rank.{rank, rank_limit, geoms_under, reaches, is_too_deep}
+use Rattle.geo_model.specs.Rank.{rank, geoms_under, reaches, is_too_deep}
 use Rattle.geo_laws_graph.proofs.Living.{map_there}
 use Rattle.geo_slots.specs.Slots.{SlotsView, IsRising, value_at, with_value, without}
 use Rattle.geo_mesh.specs.declared.records.Scratch.{Scratch}
@@ -103,7 +104,7 @@ module _ {C : Type 0} (gs : SlotsView (GeomCell C)) (edges : Edges) where
       → is_too_deep (graph_of gs edges) ≡ is_high (kinds gs) f
   deep-is f same = each (rank (graph_of gs edges)) same gs.rows where
     each : (r : ℕ → ℕ) → ((x : ℕ) → r x ≡ f x) → (rows : List (ℕ × GeomCell C))
-        → list_any (λ (x : Geom C). not (is_granted_kind x.kind) && nat_lt rank_limit (r x.number))
+        → list_any (λ (x : Geom C). not (is_granted_kind x.kind) && nat_lt MAX_RANK (r x.number))
         (map geom_row rows) ≡ is_high (rows_with (kind_of {C = C}) rows) f
     each r same [] = refl
     each r same (row ∷ rows) = rw (same row.0, each r same rows) refl

@@ -5,8 +5,8 @@ use Rattle.std.proofs.Common.{refl, sym, ap, ◌∙◌, subst, inl, inr, arith}
 use Rattle.std.proofs.lemmas.Bool.{eqb-true, eqb-false, eq-eqb, ne_eqb, leb-true, leb-false, le-leb, ltb-true, lt-ltb, and_parts}
 use Rattle.std.proofs.Math.Bool.{or_assoc}
 use Rattle.geo_base.specs.declared.kind.Kind.{Kind}
+use Rattle.geo_base.specs.declared.limits.TheConstants.{MAX_RANK}
 use Rattle.geo_model.specs.Words.{largest, is_granted_kind}
-use Rattle.geo_model.specs.Rank.{rank_limit}
 use Rattle.geo_slots.specs.Slots.{SlotsView, IsRising, value_at, with_value, without}
 use Rattle.geo_mesh.specs.Rows.{row_with, rows_with, first_row, passes}
 use Rattle.geo_mesh.specs.Mending.{IsAmong}
@@ -405,7 +405,7 @@ module _ (f : ℕ → ℕ) where
   pub high-more : (r : ℕ → ℕ) (n low high : ℕ) (classes : List (ℕ × Kind)) → IsRising low classes high
       → IsSome (value_at classes n) → f n < r n → ((x : ℕ) → (x ≡ n → ⊥) → r x ≡ f x)
       → is_high classes r
-      ≡ (is_high classes f || (nat_lt rank_limit (r n) && not (passes is_granted_kind (value_at classes n))))
+      ≡ (is_high classes f || (nat_lt MAX_RANK (r n) && not (passes is_granted_kind (value_at classes n))))
   high-more r n low high [] rising there more others = absurd cc
   high-more r n low high (row ∷ classes) rising there more others =
       at (row.0 == n) refl there (λ e. high-more r n (row.0 + 1) high classes rising.1 e more others) where
@@ -413,31 +413,31 @@ module _ (f : ℕ → ℕ) where
             → (IsSome (value_at classes n)
             → is_high classes r
             ≡ (is_high classes f
-            || (nat_lt rank_limit (r n) && not (passes is_granted_kind (value_at classes n)))))
+            || (nat_lt MAX_RANK (r n) && not (passes is_granted_kind (value_at classes n)))))
             → is_high (row ∷ classes) r
             ≡ (is_high (row ∷ classes) f
-            || (nat_lt rank_limit (r n) && not (passes is_granted_kind (value_at (row ∷ classes) n))))
+            || (nat_lt MAX_RANK (r n) && not (passes is_granted_kind (value_at (row ∷ classes) n))))
         at true k there so =
             let same : row.0 ≡ n = eqb-true row.0 n k in
             let rest : is_high classes r ≡ is_high classes f =
             high_past classes r n (row.0 + 1) high rising.1 (omega arith) others in
             rw (k, same, rest)
-            (high_same (not (is_granted_kind row.1)) (nat_lt rank_limit (f n)) (nat_lt rank_limit (r n))
-            (λ e. lt-ltb rank_limit (r n) (omega (arith, ltb-true rank_limit (f n) e))) (is_high classes f))
+            (high_same (not (is_granted_kind row.1)) (nat_lt MAX_RANK (f n)) (nat_lt MAX_RANK (r n))
+            (λ e. lt-ltb MAX_RANK (r n) (omega (arith, ltb-true MAX_RANK (f n) e))) (is_high classes f))
         at false k there so =
             let here : r row.0 ≡ f row.0 = others row.0 (eqb-false row.0 n k) in
             rw (k, here, so (rw k at there))
-            (sym (or_assoc (not (is_granted_kind row.1) && nat_lt rank_limit (f row.0)) (is_high classes f)
-            (nat_lt rank_limit (r n) && not (passes is_granted_kind (value_at classes n)))))
+            (sym (or_assoc (not (is_granted_kind row.1) && nat_lt MAX_RANK (f row.0)) (is_high classes f)
+            (nat_lt MAX_RANK (r n) && not (passes is_granted_kind (value_at classes n)))))
 
   -- where no geom is above the limit, none is with smaller values
   pub high-less : (r : ℕ → ℕ) (classes : List (ℕ × Kind)) → ((x : ℕ) → r x ≤ f x) → is_high classes f ≡ false
       → is_high classes r ≡ false
   high-less r [] less none = refl
   high-less r (row ∷ classes) less none =
-      at (not (is_granted_kind row.1)) (nat_lt rank_limit (f row.0)) (nat_lt rank_limit (r row.0))
+      at (not (is_granted_kind row.1)) (nat_lt MAX_RANK (f row.0)) (nat_lt MAX_RANK (r row.0))
       (is_high classes f) (is_high classes r)
-      (λ e. lt-ltb rank_limit (f row.0) (omega (arith, ltb-true rank_limit (r row.0) e, less row.0))) none
+      (λ e. lt-ltb MAX_RANK (f row.0) (omega (arith, ltb-true MAX_RANK (r row.0) e, less row.0))) none
       (λ e. high-less r classes less e) where
         at : (k a b x y : Bool) → (b ≡ true → a ≡ true) → ((k && a) || x) ≡ false → (x ≡ false → y ≡ false)
             → ((k && b) || y) ≡ false

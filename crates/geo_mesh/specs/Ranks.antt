@@ -2,8 +2,8 @@
 use Rattle.std.specs.Prelude.{◌≡◌, ℕ, ◌+◌, ◌<◌, ◌≤◌, ◌^◌, ◌==◌, nat_lt, Bool, true, false, not, ◌&&◌, ◌||◌, List, Option, Some, None, IsSome, IfSome, filter, filter_map, length, map, option_map, if◌then◌else◌}
 use Rattle.std.specs.List.{list_any, AllByRecursion}
 use Rattle.geo_base.specs.declared.kind.Kind.{Kind}
+use Rattle.geo_base.specs.declared.limits.TheConstants.{MAX_RANK}
 use Rattle.geo_model.specs.Words.{is_granted_kind, names_number}
-use Rattle.geo_model.specs.Rank.{rank_limit}
 use Rattle.geo_slots.specs.Slots.{SlotsView, IsRising, value_at}
 use Rattle.geo_mesh.specs.declared.records.Scratch.{Scratch}
 use Rattle.geo_mesh.specs.declared.records.GeomRec.{GeomRec}
@@ -167,7 +167,7 @@ highest_raise gs edges g = height (ranked_below edges) (length (kinds gs)) g + 2
 
 -- whether a geom other than DEV and TASTE is above the limit
 abbrev pub is_high : List (ℕ × Kind) → (ℕ → ℕ) → Bool
-is_high classes f = list_any (λ row. not (is_granted_kind row.1) && nat_lt rank_limit (f row.0)) classes
+is_high classes f = list_any (λ row. not (is_granted_kind row.1) && nat_lt MAX_RANK (f row.0)) classes
 
 -- the first number from a number on whose value passes a test
 pub record IsFirst {T : Type 0} (test : T → Bool) (rows : List (ℕ × T)) (next at n : ℕ) : Type 0 where

@@ -1,9 +1,10 @@
 -- The mesh as contracts see it: the graph of the model, and beside it what is kept for its geoms, providers and
 -- consumers.
-use Rattle.std.specs.Prelude.{◌≡◌, ℕ, ◌^◌, ◌%◌, ◌==◌, ◌&&◌, ◌||◌, nat_le, Bool, false, List, [], ◌∷◌, ◌++◌, Option, None, find, option_map, codes}
+use Rattle.std.specs.Prelude.{◌≡◌, ℕ, ◌%◌, ◌==◌, ◌&&◌, ◌||◌, nat_le, Bool, false, List, [], ◌∷◌, ◌++◌, Option, None, find, option_map, codes}
 use Rattle.geo_base.specs.declared.request.Counts.{Counts}
 use Rattle.geo_base.specs.declared.kind.Kind.{Kind}
 use Rattle.geo_base.specs.declared.kind.Kind.TheVariants as kinds
+use Rattle.geo_base.specs.declared.limits.TheConstants.{MAX_MEDIA_BYTES}
 use Rattle.geo_model.specs.Topology.{Topology, Geom, Provider, Consumer, add_geom, add_provider, add_consumer, remove_geom, remove_provider, remove_consumer}
 use Rattle.geo_mesh.specs.declared.records.Scratch.{Scratch}
 use Rattle.geo_slots.specs.Slots.{with_value, without}
@@ -50,10 +51,10 @@ abbrev pub first_geom : {C : Type 0} → List (Geom C) → ℕ → Option ℕ
 first_geom xs from_number = option_map (λ x. x.number) (find (λ x. nat_le from_number x.number) xs)
 
 -- whether a provider may have this media size and sector size, in bytes: a whole positive number of sectors of 512 or
--- 4,096, and at most 2 ^ 60
+-- 4,096, and at most MAX_MEDIA_BYTES
 abbrev pub is_provider_size : ℕ → ℕ → Bool
 is_provider_size size sector =
-    ((sector == 512) || (sector == 4096)) && (nat_le 1 size && (nat_le size (2 ^ 60) && (size % sector == 0)))
+    ((sector == 512) || (sector == 4096)) && (nat_le 1 size && (nat_le size MAX_MEDIA_BYTES && (size % sector == 0)))
 
 -- the first number of the providers that isn't below a number
 abbrev pub first_provider : List Provider → ℕ → Option ℕ

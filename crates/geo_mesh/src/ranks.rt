@@ -1,5 +1,5 @@
 //! The ranks that stand in the cells of the geoms, and how they are mended after the graph changed (geom(4)).
-ghost use Rattle.std.specs.Prelude.{◌≡◌, ℕ, ◌≤◌, ◌<◌, ◌+◌, ◌^◌, IsSome, IfErr, OnOk, OnErr, length, map, false, true};
+ghost use Rattle.std.specs.Prelude.{◌≡◌, ℕ, ◌≤◌, ◌<◌, ◌+◌, IsSome, IfErr, OnOk, OnErr, length, map, false, true};
 ghost use Rattle.geo_model.specs.Words.{largest, is_granted_kind};
 ghost use Rattle.geo_slots.specs.Slots.{IsRising, value_at};
 ghost use Rattle.geo_mesh.specs.Rows.{passes};
@@ -8,11 +8,11 @@ ghost use Rattle.geo_mesh.specs.Ranks.{IsKin, kinds, bare, offers, ranked_links,
 
 use crate::records::{AttachRefusal, GeomCell};
 use crate::tables::{Edges, cell_mut};
-use geo_base::Kind;
+use geo_base::{Kind, MAX_RANK};
 use geo_slots::Slots;
 
-// The greatest rank of a geom other than DEV and TASTE.
-const RANK_LIMIT: u64 = 32;
+// The greatest rank of a geom other than DEV and TASTE, in the type of the cells.
+const RANK_LIMIT: u64 = MAX_RANK as u64;
 
 // No rank that stands in a cell is greater, since there are fewer geoms.
 const RANK_MOST: u64 = 4294967295;

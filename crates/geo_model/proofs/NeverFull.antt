@@ -19,13 +19,14 @@ use Rattle.geo_model.specs.World.{World, Bio, Handle, is_busy, is_active, bio_at
 use Rattle.geo_model.specs.Bios.{up_with, deliver, result_of_device}
 use Rattle.geo_model.specs.Step.{step, go, go_of, with_commands, deliver_of, deliver_found, unless_found}
 use Rattle.geo_base.specs.declared.errno.Errno.TheVariants.{EBADF, EBUSY}
+use Rattle.geo_base.specs.declared.limits.TheConstants.{MAX_LOG_ENTRIES}
 use Rattle.geo_model.specs.Words.{same_name}
 use Rattle.geo_model.specs.WorldEvents.{after_close}
 use Rattle.geo_model.specs.HandleCommands.{refused, without_handle, close_handle}
 use Rattle.geo_model.specs.Commands.{do_command}
 use Rattle.geo_model.specs.History.{first_command}
 use Rattle.geo_model.specs.Laws.{ClosesOk}
-use Rattle.geo_model.specs.Log.{owed, log_limit, is_full, is_full_after}
+use Rattle.geo_model.specs.Log.{owed, is_full, is_full_after}
 use Rattle.geo_model.proofs.DemandLemmas.{find_passes}
 use Rattle.geo_model.proofs.FullLemmas.{change_where-count-found, kept-length-found}
 
@@ -52,26 +53,26 @@ owed-up w x b r found busy =
 
 -- an answer fits where it leaves one place less owed than the log has
 fits-after : (n limit_left : ℕ) (w : World) (made : World × Outcome) → owed made.0 + 1 ≤ owed w
-    → n + owed w ≤ log_limit → nat_lt log_limit (n + 1 + owed made.0) ≡ false
-fits-after n limit_left w made less fits = le-ltb log_limit (n + 1 + owed made.0) (omega (arith, less, fits))
+    → n + owed w ≤ MAX_LOG_ENTRIES → nat_lt MAX_LOG_ENTRIES (n + 1 + owed made.0) ≡ false
+fits-after n limit_left w made less fits = le-ltb MAX_LOG_ENTRIES (n + 1 + owed made.0) (omega (arith, less, fits))
 
 deliver-fits : (n : ℕ) (w : World) (seat b : ℕ) (got : DeviceResult) (x : Bio) (found : Option Found)
-    → bio_at w b ≡ Some x → deliver_found w seat x got x.phase ≡ found → n + owed w ≤ log_limit
+    → bio_at w b ≡ Some x → deliver_found w seat x got x.phase ≡ found → n + owed w ≤ MAX_LOG_ENTRIES
     → is_full_after n (unless_found found (deliver w x got)) ≡ false
 unfolding deliver
 deliver-fits n w seat b got x (Some f) e d fits = refl
 deliver-fits n w seat b got x None e d fits =
-    le-ltb log_limit (n + 1 + owed (change_bio w x.number (up_with (result_of_device got))))
+    le-ltb MAX_LOG_ENTRIES (n + 1 + owed (change_bio w x.number (up_with (result_of_device got))))
     (omega (arith, owed-up w x b (result_of_device got) e (busy_of w seat x got x.phase d), fits))
 
 deliver_of-fits : (n : ℕ) (w : World) (seat b : ℕ) (got : DeviceResult) (o : Option Bio)
-    → bio_at w b ≡ o → n + owed w ≤ log_limit → is_full_after n (deliver_of w seat got o) ≡ false
+    → bio_at w b ≡ o → n + owed w ≤ MAX_LOG_ENTRIES → is_full_after n (deliver_of w seat got o) ≡ false
 deliver_of-fits n w seat b got None e fits = refl
 deliver_of-fits n w seat b got (Some x) e fits =
     deliver-fits n w seat b got x (deliver_found w seat x got x.phase) e refl fits
 
 pub deliver-is_full : (log : List Entry) (w : World) (seat b : ℕ) (got : DeviceResult)
-    → length log + owed w ≤ log_limit → is_full log w seat (steps.Deliver b got) ≡ false
+    → length log + owed w ≤ MAX_LOG_ENTRIES → is_full log w seat (steps.Deliver b got) ≡ false
 unfolding is_full step
 deliver-is_full log w seat b got fits = deliver_of-fits (length log) w seat b got (bio_at w b) refl fits
 
@@ -88,8 +89,8 @@ owed-close w h actor name found =
 -- the reply of a close that isn't refused
 close-active : (n : ℕ) (w : World) (line actor : ℕ) (name : List ℕ) (h : Handle) (after : World) (b : Bool)
     → handle_of w actor name ≡ Some h → option_map_or (is_active w) h.consumer false ≡ b
-    → close_handle w line (Some h) ≡ (after, outcomes.Replied line replies.Ok) → n + owed w ≤ log_limit
-    → nat_lt log_limit (n + 1 + owed (close_handle w line (Some h)).0) ≡ false
+    → close_handle w line (Some h) ≡ (after, outcomes.Replied line replies.Ok) → n + owed w ≤ MAX_LOG_ENTRIES
+    → nat_lt MAX_LOG_ENTRIES (n + 1 + owed (close_handle w line (Some h)).0) ≡ false
 close-active n w line actor name h after true found active ok fits =
     let same : refused w line EBUSY ≡ (after, outcomes.Replied line replies.Ok) = rw active at ok in
     let replied : outcomes.Replied line (replies.Refused EBUSY) ≡ outcomes.Replied line replies.Ok =
@@ -97,13 +98,13 @@ close-active n w line actor name h after true found active ok fits =
     let no : ⊥ = cc in absurd no
 close-active n w line actor name h after false found active ok fits =
     rw active
-    (le-ltb log_limit (n + 1 + owed (after_close w (without_handle w h)))
+    (le-ltb MAX_LOG_ENTRIES (n + 1 + owed (after_close w (without_handle w h)))
     (omega (arith, owed-close w h actor name found, fits)))
 
 close-found : (n : ℕ) (w : World) (line actor : ℕ) (name : List ℕ) (o : Option Handle) (after : World)
     → handle_of w actor name ≡ o
-    → close_handle w line o ≡ (after, outcomes.Replied line replies.Ok) → n + owed w ≤ log_limit
-    → nat_lt log_limit (n + 1 + owed (close_handle w line o).0) ≡ false
+    → close_handle w line o ≡ (after, outcomes.Replied line replies.Ok) → n + owed w ≤ MAX_LOG_ENTRIES
+    → nat_lt MAX_LOG_ENTRIES (n + 1 + owed (close_handle w line o).0) ≡ false
 close-found n w line actor name None after found ok fits =
     let replied : outcomes.Replied line (replies.Refused EBADF) ≡ outcomes.Replied line replies.Ok =
     ap (λ (x : World × Outcome). x.1) ok in
@@ -114,7 +115,7 @@ close-found n w line actor name (Some h) after found ok fits =
 -- a step whose command is a close
 go-close : (n : ℕ) (w : World) (actor : ℕ) (c : LineCommand) (rest : List LineCommand) (name : List ℕ) (after : World)
     → c.command ≡ commands.Close name
-    → go_of w actor (Some (c ∷ rest)) ≡ Ok (after, outcomes.Replied c.line replies.Ok) → n + owed w ≤ log_limit
+    → go_of w actor (Some (c ∷ rest)) ≡ Ok (after, outcomes.Replied c.line replies.Ok) → n + owed w ≤ MAX_LOG_ENTRIES
     → is_full_after n (go_of w actor (Some (c ∷ rest))) ≡ false
 unfolding do_command
 go-close n w actor c rest name after close ok fits =
@@ -129,7 +130,7 @@ go-close n w actor c rest name after close ok fits =
 go-of-close : (n : ℕ) (w : World) (actor : ℕ) (o : Option (List LineCommand)) (c : LineCommand) (name : List ℕ)
     (after : World)
     → option_and_then first_command o ≡ Some c → c.command ≡ commands.Close name
-    → go_of w actor o ≡ Ok (after, outcomes.Replied c.line replies.Ok) → n + owed w ≤ log_limit
+    → go_of w actor o ≡ Ok (after, outcomes.Replied c.line replies.Ok) → n + owed w ≤ MAX_LOG_ENTRIES
     → is_full_after n (go_of w actor o) ≡ false
 go-of-close n w actor None c name after next close ok fits = cc
 go-of-close n w actor (Some []) c name after next close ok fits = cc
@@ -138,7 +139,7 @@ go-of-close n w actor (Some (d ∷ rest)) c name after next close ok fits =
     go-close n w actor d rest name after (rw same close) (rw same (rw same at ok)) fits
 
 pub close-is_full : (log : List Entry) (w : World) (seat actor : ℕ)
-    → ClosesOk w seat actor → length log + owed w ≤ log_limit → is_full log w seat (steps.Go actor) ≡ false
+    → ClosesOk w seat actor → length log + owed w ≤ MAX_LOG_ENTRIES → is_full log w seat (steps.Go actor) ≡ false
 unfolding is_full step go
 close-is_full log w seat actor closes fits =
     go-of-close (length log) w actor (slice_get w.actors actor) closes.command closes.name closes.after

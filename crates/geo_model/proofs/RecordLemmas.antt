@@ -15,6 +15,7 @@ use Rattle.geo_model.specs.declared.class.StripeRecord.{StripeRecord}
 use Rattle.geo_model.specs.Words.{first_error}
 use Rattle.geo_model.specs.Records.{padded, record_head, label_magic, label_record, label_sector, record_name, head_tests, place_test, concat_magic, concat_tests, concat_record, concat_sector, stripe_magic, stripe_tests, stripe_record, stripe_sector, size_test, is_stripe_size, u16_at, u32_at, u64_at}
 use Rattle.geo_base.specs.Sectors.{IsSectorSize}
+use Rattle.geo_base.specs.declared.limits.TheConstants.{MAX_COMPONENTS, MAX_STRIPE_BYTES}
 use Rattle.geo_model.specs.FormatLaws.{IsPlaceOf}
 
 -- bytes with zeros behind them are as long as their field
@@ -89,9 +90,10 @@ append-errors (row ∷ xs) ys e = row-errors row xs ys row.0 refl e (append-erro
 
 -- a place that is in order has no cause
 place-none : (bytes : List ℕ) (place count : ℕ) → u16_at bytes 40 ≡ place → u16_at bytes 42 ≡ count
-    → 1 ≤ count → count ≤ 16 → place < count → first_error (place_test (u16_at bytes 40) (u16_at bytes 42) ∷ []) ≡ None
+    → 1 ≤ count → count ≤ MAX_COMPONENTS → place < count
+    → first_error (place_test (u16_at bytes 40) (u16_at bytes 42) ∷ []) ≡ None
 place-none bytes place count p c some few inside =
-    rw (p, c, le-leb 1 count some, le-leb count 16 few, lt-ltb place count inside) refl
+    rw (p, c, le-leb 1 count some, le-leb count MAX_COMPONENTS few, lt-ltb place count inside) refl
 
 -- the fields behind the name of a record
 module _ (name fields rest : List ℕ) (short : length name ≤ 16) where
@@ -212,9 +214,10 @@ stripe-read size x sector short fits good =
       head-length stripe_magic x.name refl low,
       sector-large size sector,
     )) in
-    let sizes = and_parts (nat_le 1 x.stripe) (nat_le x.stripe 32768 && (x.stripe % size == 0)) good in
-    let limited : x.stripe ≤ 32768 =
-    leb-true x.stripe 32768 (and_parts (nat_le x.stripe 32768) (x.stripe % size == 0) sizes.1).0 in
+    let sizes = and_parts (nat_le 1 x.stripe) (nat_le x.stripe MAX_STRIPE_BYTES && (x.stripe % size == 0)) good in
+    let limited : x.stripe ≤ MAX_STRIPE_BYTES =
+    leb-true x.stripe MAX_STRIPE_BYTES
+    (and_parts (nat_le x.stripe MAX_STRIPE_BYTES) (x.stripe % size == 0) sizes.1).0 in
     let name : record_name bytes ≡ x.name = fields-name x.name fields rest low (short-bytes x.name short) in
     let field : take 16 (drop 20 bytes) ≡ padded 16 x.name = fields-take x.name fields rest low in
     let head : first_error (head_tests stripe_magic 1 bytes) ≡ None =

@@ -1,5 +1,5 @@
 -- What a class says to a sector, and what it makes of a provider that it accepts (geom(4)).
-use Rattle.std.specs.Prelude.{ℕ, ◌-◌, ◌*◌, ◌/◌, ◌^◌, ◌==◌, nat_le, min, Bool, true, false, not, ◌&&◌, List, [], ◌∷◌, ◌++◌, length, map, filter_map, find, fold, sum, replicate, slice_get, slice_set, Option, Some, None, Result, Ok, Err, is_some, is_none, if◌then◌else◌}
+use Rattle.std.specs.Prelude.{ℕ, ◌-◌, ◌*◌, ◌/◌, ◌==◌, nat_le, min, Bool, true, false, not, ◌&&◌, List, [], ◌∷◌, ◌++◌, length, map, filter_map, find, fold, sum, replicate, slice_get, slice_set, Option, Some, None, Result, Ok, Err, is_some, is_none, if◌then◌else◌}
 use Rattle.std.specs.List.{list_all, enumerate_from}
 use Rattle.std.specs.Option.{option_map, option_and_then, option_flatten}
 use Rattle.geo_base.specs.Name.{is_name}
@@ -7,6 +7,7 @@ use Rattle.geo_base.specs.declared.decline.DeclineCause.{DeclineCause}
 use Rattle.geo_base.specs.declared.decline.DeclineCause.TheVariants as causes
 use Rattle.geo_base.specs.declared.kind.Kind.{Kind}
 use Rattle.geo_base.specs.declared.kind.Kind.TheVariants as kinds
+use Rattle.geo_base.specs.declared.limits.TheConstants.{MAX_MEDIA_BYTES}
 use Rattle.geo_model.specs.declared.class.ConcatRecord.{ConcatRecord}
 use Rattle.geo_model.specs.declared.class.EbrPart.{EbrPart}
 use Rattle.geo_model.specs.declared.class.Facts.{Facts}
@@ -167,13 +168,9 @@ joined_size (Concat id places sizes) = sum sizes
 joined_size (Stripe id stripe places sizes) = length sizes * ((smallest sizes / stripe) * stripe)
 joined_size _ = 0
 
--- the greatest media size
-abbrev pub size_limit : ℕ
-size_limit = 2 ^ 60
-
 -- whether the size is one that a provider may have
 abbrev pub is_size : ℕ → Bool
-is_size n = nat_le 1 n && nat_le n size_limit
+is_size n = nat_le 1 n && nat_le n MAX_MEDIA_BYTES
 
 -- the providers at the filled places, in order
 abbrev pub providers_at : Topology Config → List (Option ℕ) → List Provider

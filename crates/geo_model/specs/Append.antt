@@ -5,6 +5,7 @@ use Rattle.std.specs.Option.{option_map_or, option_and_then, option_or}
 use Rattle.geo_base.specs.declared.errno.Errno.{Errno}
 use Rattle.geo_base.specs.declared.errno.Errno.TheVariants.{ENOENT, EBUSY, EINVAL}
 use Rattle.geo_base.specs.declared.kind.Kind.TheVariants as kinds
+use Rattle.geo_base.specs.declared.limits.TheConstants.{MAX_COMPONENTS, MAX_MEDIA_BYTES}
 use Rattle.geo_model.specs.declared.step.Event.TheVariants as events
 use Rattle.geo_model.specs.declared.step.Outcome.{Outcome}
 use Rattle.geo_model.specs.Words.{first_error, is_kind, same_name}
@@ -13,7 +14,7 @@ use Rattle.geo_model.specs.Opens.{is_below, join_refusal}
 use Rattle.geo_model.specs.World.{World, Config, granted_in}
 use Rattle.geo_model.specs.Events.{post}
 use Rattle.geo_model.specs.WorldEvents.{queued_of, with_queued, after_open}
-use Rattle.geo_model.specs.Acceptance.{add_place, size_limit}
+use Rattle.geo_model.specs.Acceptance.{add_place}
 use Rattle.geo_model.specs.HandleCommands.{refused, done, without_number}
 use Rattle.geo_model.specs.GeomCommands.{found_provider}
 
@@ -37,16 +38,12 @@ abbrev pub growing_concat : Topology Config → List ℕ → Option Growing
 growing_concat t name =
     option_and_then (λ g. with_provider g (providers_of t g.number)) (find (is_growing t name) t.geoms)
 
--- the greatest number of components
-abbrev pub component_limit : ℕ
-component_limit = 16
-
 -- the geom was made by a taste or is full, the sector sizes differ, or the provider would be too large
 abbrev pub is_invalid_append : Topology Config → Growing → Provider → Bool
 is_invalid_append t x q =
     x.geom.automatic
-    || (nat_le component_limit (length (consumers_of t x.geom.number))
-    || (not (x.provider.sector == q.sector) || nat_lt size_limit (x.provider.size + q.size)))
+    || (nat_le MAX_COMPONENTS (length (consumers_of t x.geom.number))
+    || (not (x.provider.sector == q.sector) || nat_lt MAX_MEDIA_BYTES (x.provider.size + q.size)))
 
 -- whether a bio is to the provider or to one above it, or a taste of such a provider is under way
 abbrev pub is_growth_busy : World → ℕ → Bool

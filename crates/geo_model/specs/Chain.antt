@@ -5,6 +5,7 @@ use Rattle.std.specs.Prelude.{◌≡◌, ◌≢◌, ℕ, zero, suc, ◌+◌, ◌
 use Rattle.std.specs.List.{list_any}
 use Rattle.geo_base.specs.declared.decline.DeclineCause.{DeclineCause}
 use Rattle.geo_base.specs.declared.decline.DeclineCause.TheVariants as causes
+use Rattle.geo_base.specs.declared.limits.TheConstants.{MAX_LINKS}
 use Rattle.geo_model.specs.declared.class.EbrPart.{EbrPart}
 use Rattle.geo_model.specs.declared.class.EbrTable.{EbrTable}
 use Rattle.geo_model.specs.declared.class.Shape.TheVariants.{Logical}
@@ -12,10 +13,6 @@ use Rattle.geo_model.specs.declared.class.Verdict.{Verdict}
 use Rattle.geo_model.specs.declared.class.Verdict.TheVariants.{Decline, More, Accept}
 use Rattle.geo_model.specs.Words.{first_error}
 use Rattle.geo_model.specs.Records.{u32_at, entry_start, entry_type, has_signature}
-
--- the greatest number of links
-abbrev pub link_limit : ℕ
-link_limit = 32
 
 -- a link that was read: its sector, and the partition that it names where that is kept
 pub record LinkRead : Type 0 where
@@ -79,13 +76,13 @@ link_tests n c bytes =
     ∷ (not (is_link_type (entry_type bytes 1)), causes.Second)
     ∷ (leads_on bytes && was_read c.links c.next, causes.Loop)
     ∷ (leads_on bytes && nat_le n c.next, causes.Far)
-    ∷ (leads_on bytes && nat_le link_limit (length c.links), causes.Long)
+    ∷ (leads_on bytes && nat_le MAX_LINKS (length c.links), causes.Long)
     ∷ (not (leads_on bytes) && not (has_part c.links), causes.Nothing)
     ∷ []
 
--- the partitions by their links, 32 places in all
+-- the partitions by their links, a place for each link that a chain may have
 abbrev pub table_of : List LinkRead → EbrTable
-table_of links = record { parts = map (λ l. l.part) links ++ replicate (link_limit - length links) None }
+table_of links = record { parts = map (λ l. l.part) links ++ replicate (MAX_LINKS - length links) None }
 
 -- what a chain comes to with its last link, which has these bytes
 abbrev pub chain_verdict : Chain → List ℕ → Option DeclineCause → Verdict
@@ -126,7 +123,7 @@ pub record IsChain (media : ℕ → List ℕ) (n : ℕ) (sectors : List ℕ) : T
   pub leads : LeadOn media sectors
   pub inside : All (λ sector. sector < n) sectors
   pub apart : AllPairs (λ a b. a ≢ b) sectors
-  pub few : length sectors ≤ link_limit
+  pub few : length sectors ≤ MAX_LINKS
   pub some : IsTrue (has_part (links_at media n sectors))
 
 -- the table of the chain from here on, read over so many links
@@ -143,4 +140,4 @@ chain_within (suc links) media n c =
 
 -- the table of the chain of a media, or the first cause to decline it
 abbrev pub chain_table : (ℕ → List ℕ) → ℕ → Result EbrTable DeclineCause
-chain_table media n = chain_within link_limit media n no_links
+chain_table media n = chain_within MAX_LINKS media n no_links

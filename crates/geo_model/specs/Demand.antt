@@ -6,6 +6,7 @@ use Rattle.geo_base.specs.declared.request.Counts.{Counts}
 use Rattle.geo_base.specs.Kind.{adds_exclusive}
 use Rattle.geo_base.specs.declared.kind.Kind.{Kind}
 use Rattle.geo_base.specs.declared.kind.Kind.TheVariants as kinds
+use Rattle.geo_base.specs.declared.limits.TheConstants.{MAX_ACCESS_COUNT}
 use Rattle.geo_model.specs.Topology.{Topology, Consumer, geom_at, attached_to, providers_of}
 
 -- no count at all, and one read count
@@ -25,13 +26,9 @@ sum_counts (a ∷ rest) = add_counts a (sum_counts rest)
 abbrev pub is_zero : Counts → Bool
 is_zero a = (a.r == 0) && ((a.w == 0) && (a.e == 0))
 
--- the greatest count that a provider may have
-abbrev pub count_limit : ℕ
-count_limit = 2147483647
-
 -- whether none of the counts is above the limit
 abbrev pub is_within_limit : Counts → Bool
-is_within_limit a = nat_le a.r count_limit && (nat_le a.w count_limit && nat_le a.e count_limit)
+is_within_limit a = nat_le a.r MAX_ACCESS_COUNT && (nat_le a.w MAX_ACCESS_COUNT && nat_le a.e MAX_ACCESS_COUNT)
 
 -- one exclusive count, where the class adds one and one of its geom's providers has a count
 abbrev pub extra_exclusive : Kind → List Counts → Counts

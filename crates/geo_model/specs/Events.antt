@@ -4,6 +4,7 @@ use Rattle.std.specs.Option.{option_map_or}
 use Rattle.geo_base.specs.declared.request.Counts.{Counts}
 use Rattle.geo_base.specs.declared.kind.Kind.{Kind}
 use Rattle.geo_base.specs.declared.kind.Kind.TheVariants as kinds
+use Rattle.geo_base.specs.declared.limits.TheConstants.{UNTASTED_RANK}
 use Rattle.geo_model.specs.declared.step.Event.{Event}
 use Rattle.geo_model.specs.declared.step.Event.TheVariants as events
 use Rattle.geo_model.specs.Words.{is_kind, names_number}
@@ -90,15 +91,11 @@ announce_fallen ps q = fold offer_again q ps
 abbrev pub tasting_classes : List Kind
 tasting_classes = kinds.Mbr ∷ kinds.Ebr ∷ kinds.Label ∷ kinds.Concat ∷ kinds.Stripe ∷ []
 
--- the least rank from which on a geom's providers aren't offered for taste
-abbrev pub taste_limit : ℕ
-taste_limit = 8
-
 -- whether a provider isn't tasted now
 abbrev pub is_not_tasted : {C : Type 0} → (ℕ → Counts) → Topology C → ℕ → Bool
 is_not_tasted granted t p =
     is_errored t p
-    || (option_map_or (λ g. g.withering || nat_le taste_limit (rank t g.number)) (geom_of_provider t p) true
+    || (option_map_or (λ g. g.withering || nat_le UNTASTED_RANK (rank t g.number)) (geom_of_provider t p) true
     || not ((have granted t p).w == 0))
 
 -- a marked consumer loses its mark, and its geom withers

@@ -6,13 +6,13 @@ use Rattle.std.specs.List.{AllZip}
 use Rattle.geo_base.specs.Sectors.{IsSectorSize}
 use Rattle.geo_base.specs.declared.kind.Kind.{Kind}
 use Rattle.geo_base.specs.declared.kind.Kind.TheVariants as kinds
+use Rattle.geo_base.specs.declared.limits.TheConstants.{MAX_COMPONENTS}
 use Rattle.geo_model.specs.declared.step.BioResult.{BioResult}
 use Rattle.geo_model.specs.declared.step.BioResult.TheVariants as results
 use Rattle.geo_model.specs.Topology.{Topology, Geom, Provider, Consumer, geom_at, provider_at, consumer_at, providers_of}
 use Rattle.geo_model.specs.World.{World, Config, Mbr, Ebr, Concat, Stripe, Nop, HeaderDisk, Taste, Asked, NoClass, NextSector, ReadOut, ReadBack, is_taste_root}
 use Rattle.geo_model.specs.Place.{components}
 use Rattle.geo_model.specs.Acceptance.{taste_where, places_of, joined_size}
-use Rattle.geo_model.specs.Append.{component_limit}
 use Rattle.geo_model.specs.Tasting.{facts_of}
 use Rattle.geo_model.specs.Plans.{IsCommand}
 use Rattle.geo_model.specs.Sound.{Sound, IsMediaSize}
@@ -84,7 +84,7 @@ HasOneProvider t g = g.kind ≡ kinds.Concat → length (providers_of t g.number
 -- the places of a geom name different consumers, and are at most sixteen
 pub record PlacesHold (g : Geom Config) : Type 0 where
   pub apart : AllPairs (λ a b. a ≢ b) (components g.config)
-  pub few : length (places_of g.config) ≤ component_limit
+  pub few : length (places_of g.config) ≤ MAX_COMPONENTS
 
 -- the provider of a CONCAT or STRIPE is as long as its components, as they were when they joined, make it
 abbrev pub HasItsSum : Topology Config → Geom Config → Type 0

@@ -4,6 +4,7 @@ use Rattle.std.specs.Prelude.{◌≡◌, ◌↔◌, ℕ, ◌^◌, ◌<◌, ◌�
 use Rattle.geo_base.specs.Name.{is_short_name}
 use Rattle.geo_base.specs.Runs.{IsRuns}
 use Rattle.geo_base.specs.Sectors.{IsSectorSize}
+use Rattle.geo_base.specs.declared.limits.TheConstants.{MAX_COMPONENTS}
 use Rattle.geo_model.specs.declared.class.ConcatRecord.{ConcatRecord}
 use Rattle.geo_model.specs.declared.class.LabelRecord.{LabelRecord}
 use Rattle.geo_model.specs.declared.class.StripeRecord.{StripeRecord}
@@ -30,11 +31,11 @@ runs_read text = option_and_then fitting_bytes (runs_in (words_of text))
 abbrev pub RunsAgree : Type 0
 RunsAgree = (text bytes : List ℕ) → (runs_read text ≡ Some bytes) ↔ IsRuns text bytes
 
--- a place of an assembly: the numbers fit their fields, and the place is one of 1 to 16
+-- a place of an assembly: the numbers fit their fields, and the place is one of those that a geom may have
 pub record IsPlaceOf (id place count : ℕ) : Type 0 where
   pub id_fits : id < 2 ^ 32
   pub some_place : 1 ≤ count
-  pub few_places : count ≤ 16
+  pub few_places : count ≤ MAX_COMPONENTS
   pub inside : place < count
 
 -- each record that a class writes is found again

@@ -1,7 +1,8 @@
 -- The script that is made from a number.
-use Rattle.std.specs.Prelude.{ℕ, zero, suc, ◌+◌, ◌*◌, ◌/◌, ◌%◌, ◌≤◌, List, [], ◌∷◌, ◌++◌, flat_map, slice_get, unwrap_or, codes, decimal}
+use Rattle.std.specs.Prelude.{ℕ, zero, suc, ◌+◌, ◌*◌, ◌/◌, ◌%◌, ◌^◌, ◌≤◌, List, [], ◌∷◌, ◌++◌, flat_map, slice_get, unwrap_or, codes, decimal}
 use Rattle.std.specs.List.{range_with_len}
 use Rattle.geo_base.specs.Runs.{hex_digit}
+use Rattle.geo_base.specs.declared.limits.TheConstants.{MAX_DRAWN_LINES, MAX_START}
 use Rattle.geo_model.specs.Report.{end_line}
 
 -- Draws
@@ -12,7 +13,7 @@ next_draw x = (x * 1103515245 + 12345) % 2147483648
 
 -- what a draw gives
 abbrev pub draw_value : ℕ → ℕ
-draw_value x = x / 65536
+draw_value x = x / (2 ^ 16)
 
 -- the first n draws after a number
 abbrev pub draws : ℕ → ℕ → List ℕ
@@ -93,4 +94,4 @@ generated start count = disk_lines ++ actor_lines ++ first_lines ++ drawn_lines 
 
 -- the numbers from which a script is made: a start below 2^31, and at most 4,000 lines that are drawn
 abbrev pub CanBeGenerated : ℕ → ℕ → Type 0
-CanBeGenerated start count = (start ≤ 2147483647) × (count ≤ 4000)
+CanBeGenerated start count = (start ≤ MAX_START) × (count ≤ MAX_DRAWN_LINES)

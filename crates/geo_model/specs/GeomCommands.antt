@@ -8,18 +8,18 @@ use Rattle.geo_base.specs.declared.errno.Errno.{Errno}
 use Rattle.geo_base.specs.declared.errno.Errno.TheVariants.{ENOENT, EEXIST, ENXIO, EBUSY, EINVAL, EDEEP}
 use Rattle.geo_base.specs.declared.kind.Kind.{Kind}
 use Rattle.geo_base.specs.declared.kind.Kind.TheVariants as kinds
+use Rattle.geo_base.specs.declared.limits.TheConstants.{MAX_RANK, MAX_STRIPE_BYTES}
 use Rattle.geo_model.specs.declared.step.Outcome.{Outcome}
 use Rattle.geo_model.specs.Words.{first_error, is_kind, same_name, largest}
 use Rattle.geo_model.specs.Names.{concat_name, stripe_name}
 use Rattle.geo_model.specs.Topology.{Topology, Geom, Provider, provider_at, providers_of, find_provider, is_name_taken, add_geom, add_consumer}
-use Rattle.geo_model.specs.Rank.{rank, rank_limit}
+use Rattle.geo_model.specs.Rank.{rank}
 use Rattle.geo_model.specs.Demand.{have, is_zero}
 use Rattle.geo_model.specs.World.{World, Config, Disk, Concat, Stripe, Nop, HeaderDisk, granted_in}
 use Rattle.geo_model.specs.Place.{disk_of}
 use Rattle.geo_model.specs.Events.{QueuedTopology, offer, wither}
 use Rattle.geo_model.specs.WorldEvents.{queued_of, with_queued}
 use Rattle.geo_model.specs.Acceptance.{joined_size, is_size}
-use Rattle.geo_model.specs.Requests.{request_limit}
 use Rattle.geo_model.specs.HandleCommands.{refused, done, answer}
 
 -- insert and pull
@@ -95,7 +95,7 @@ nop_tests t name offset size p =
     (p.errored, ENXIO)
     ∷ (is_name_taken t name, EEXIST)
     ∷ (is_invalid_nop p name offset size, EINVAL)
-    ∷ (nat_lt rank_limit (rank_over t (p ∷ [])), EDEEP)
+    ∷ (nat_lt MAX_RANK (rank_over t (p ∷ [])), EDEEP)
     ∷ []
 
 abbrev pub nop_config : Topology Config → ℕ → ℕ → Config
@@ -132,7 +132,7 @@ joined_tests t name config wanted ps is_invalid =
     ∷ (not (length ps == wanted), ENOENT)
     ∷ (list_any (λ p. p.errored) ps, ENXIO)
     ∷ (is_invalid || is_invalid_joined config ps, EINVAL)
-    ∷ (nat_lt rank_limit (rank_over t ps), EDEEP)
+    ∷ (nat_lt MAX_RANK (rank_over t ps), EDEEP)
     ∷ []
 
 -- the configuration of a concat or a stripe of whole components
@@ -151,7 +151,7 @@ do_concat w line name wanted ps =
 
 -- the stripe size is no multiple of the sector size, or too large
 abbrev pub is_invalid_stripe : ℕ → List Provider → Bool
-is_invalid_stripe stripe ps = not (stripe % sector_of ps == 0) || nat_lt request_limit stripe
+is_invalid_stripe stripe ps = not (stripe % sector_of ps == 0) || nat_lt MAX_STRIPE_BYTES stripe
 
 abbrev pub do_stripe : World → ℕ → List ℕ → ℕ → ℕ → List Provider → World × Outcome
 do_stripe w line name stripe wanted ps =

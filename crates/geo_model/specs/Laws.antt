@@ -3,6 +3,7 @@
 use Rattle.std.specs.Prelude.{◌≡◌, ℕ, ◌+◌, ◌<◌, ◌≤◌, Bool, true, false, ◌&&◌, ◌||◌, List, [], ◌∷◌, ◌++◌, length, map, sum, Option, Some, None, Ok, is_some, IsSome, IsSomeAnd, IsTrue, All, Contains}
 use Rattle.std.specs.List.{AllByRecursion, list_any}
 use Rattle.geo_base.specs.declared.request.Counts.{Counts}
+use Rattle.geo_base.specs.declared.limits.TheConstants.{MAX_LOG_ENTRIES}
 use Rattle.geo_model.specs.declared.command.Command.TheVariants as commands
 use Rattle.geo_model.specs.declared.command.LineCommand.{LineCommand}
 use Rattle.geo_model.specs.declared.step.BioResult.{BioResult}
@@ -27,7 +28,7 @@ use Rattle.geo_model.specs.Freeing.{wash_work}
 use Rattle.geo_model.specs.Opening.{opening}
 use Rattle.geo_model.specs.Plans.{IsPlan, FactsFit}
 use Rattle.geo_model.specs.Step.{step, is_enabled}
-use Rattle.geo_model.specs.Log.{Legal, Moment, replay, world_after, after_entry, owed, log_limit, is_full}
+use Rattle.geo_model.specs.Log.{Legal, Moment, replay, world_after, after_entry, owed, is_full}
 use Rattle.geo_model.specs.Results.{result_of}
 use Rattle.geo_model.specs.Errors.{errors_of, first_of}
 use Rattle.geo_model.specs.Steady.{Steady, OffersOnlyLiving}
@@ -137,7 +138,7 @@ NoPieceIsLost =
 abbrev pub DeliversAreNeverFull : Type 0
 DeliversAreNeverFull =
     (log : List Entry) (w : World) (seat b : ℕ) (got : DeviceResult)
-    → length log + owed w ≤ log_limit → is_full log w seat (steps.Deliver b got) ≡ false
+    → length log + owed w ≤ MAX_LOG_ENTRIES → is_full log w seat (steps.Deliver b got) ≡ false
 
 -- a Deliver that fits is enabled where the last entry of its seat is the Take of the bio, whatever others did since
 abbrev pub TakenCanBeDelivered : Type 0
@@ -161,7 +162,7 @@ pub record ClosesOk (w : World) (seat actor : ℕ) : Type 0 where
 abbrev pub ClosesAreNeverFull : Type 0
 ClosesAreNeverFull =
     (log : List Entry) (w : World) (seat actor : ℕ)
-    → ClosesOk w seat actor → length log + owed w ≤ log_limit → is_full log w seat (steps.Go actor) ≡ false
+    → ClosesOk w seat actor → length log + owed w ≤ MAX_LOG_ENTRIES → is_full log w seat (steps.Go actor) ≡ false
 
 -- the error of a finished bio is the first that it met, and it has none where it met none
 abbrev pub ErrorsAreFirst : Type 0

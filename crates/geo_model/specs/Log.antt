@@ -1,5 +1,6 @@
 -- The log: what was done, in order, and the world that it leads to.
 use Rattle.std.specs.Prelude.{◌≡◌, ℕ, ◌+◌, ◌≤◌, nat_lt, Bool, false, List, [], ◌∷◌, ◌++◌, length, count_by, Ok, Err, IsOkAnd, ⊤}
+use Rattle.geo_base.specs.declared.limits.TheConstants.{MAX_LOG_ENTRIES}
 use Rattle.geo_model.specs.declared.step.Entry.{Entry}
 use Rattle.geo_model.specs.declared.step.Step.{Step}
 use Rattle.geo_model.specs.World.{World, is_busy}
@@ -58,13 +59,9 @@ IsPrefixOf earlier log = (later : List Entry) × (log ≡ earlier ++ later)
 abbrev pub owed : World → ℕ
 owed w = length w.handles + count_by (λ x. is_busy x.phase) w.bios
 
--- the greatest length of a log, with the places owed
-abbrev pub log_limit : ℕ
-log_limit = 4294967296
-
 -- there is a place in the log for everything that is owed one
 abbrev pub Fits : World → List Entry → Type 0
-Fits opened log = length log + owed (replay opened log) ≤ log_limit
+Fits opened log = length log + owed (replay opened log) ≤ MAX_LOG_ENTRIES
 
 -- a log that a mesh can have
 abbrev pub IsLawful : World → List Entry → Type 0
@@ -72,7 +69,7 @@ IsLawful opened log = Legal opened log × Fits opened log
 
 -- whether an answer would bring the log and what is then owed above the limit
 abbrev pub is_full_after : ℕ → Answer → Bool
-is_full_after entries (Ok made) = nat_lt log_limit (entries + 1 + owed made.0)
+is_full_after entries (Ok made) = nat_lt MAX_LOG_ENTRIES (entries + 1 + owed made.0)
 is_full_after entries (Err found) = false
 
 -- whether the step is enabled and there is no place for it in the log

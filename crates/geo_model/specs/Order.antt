@@ -6,6 +6,7 @@ use Rattle.std.specs.Option.{option_map_or}
 use Rattle.geo_model.specs.Words.{first_some}
 use Rattle.geo_base.specs.declared.kind.Kind.{Kind}
 use Rattle.geo_base.specs.declared.kind.Kind.TheVariants as kinds
+use Rattle.geo_base.specs.declared.limits.TheConstants.{MAX_LINKS, UNTASTED_RANK}
 use Rattle.geo_model.specs.declared.command.LineCommand.{LineCommand}
 use Rattle.geo_model.specs.declared.step.Event.{Event}
 use Rattle.geo_model.specs.declared.step.Event.TheVariants as events
@@ -17,7 +18,7 @@ use Rattle.geo_model.specs.Topology.{geom_of_provider, provider_with_geom, Provi
 use Rattle.geo_model.specs.Rank.{rank}
 use Rattle.geo_model.specs.World.{World, Bio, Taste, Asked, NoClass, NextSector, ReadOut, ReadBack, is_up, is_sent, is_down, Config, Disk}
 use Rattle.geo_model.specs.Bios.{piece_targets, piece_child, busy_bio, disk_of_bio}
-use Rattle.geo_model.specs.Events.{taste_limit, tasting_classes}
+use Rattle.geo_model.specs.Events.{tasting_classes}
 use Rattle.geo_model.specs.Freeing.{reap_work, wash_work}
 use Rattle.geo_model.specs.Step.{is_enabled}
 
@@ -96,7 +97,7 @@ judges_of_class = 2 * reads_limit
 -- the providers that a class can make
 abbrev pub can_make : Kind → ℕ
 can_make kinds.Mbr = 4
-can_make kinds.Ebr = 32
+can_make kinds.Ebr = MAX_LINKS
 can_make _ = 1
 
 -- the Judge steps that a taste can make, the last of which ends it: 1 + 5 * 66 = 331
@@ -119,10 +120,10 @@ taste_weight_below (suc levels) = taste_cost + makes_of_taste * taste_weight_bel
 
 -- the same by the rank of the provider's geom; 1 from the limit on
 abbrev pub taste_weight : ℕ → ℕ
-taste_weight r = taste_weight_below (taste_limit - r)
+taste_weight r = taste_weight_below (UNTASTED_RANK - r)
 
 abbrev pub rank_of_provider : World → ℕ → ℕ
-rank_of_provider w p = option_map_or (λ g. rank w.topology g.number) (geom_of_provider w.topology p) taste_limit
+rank_of_provider w p = option_map_or (λ g. rank w.topology g.number) (geom_of_provider w.topology p) UNTASTED_RANK
 
 -- two Judge steps for each read that a class may still make
 abbrev pub judges_for : ℕ → ℕ

@@ -8,6 +8,7 @@ use Rattle.geo_base.specs.Sectors.{IsSectorSize}
 use Rattle.geo_base.specs.declared.request.Counts.{Counts}
 use Rattle.geo_base.specs.declared.kind.Kind.{Kind}
 use Rattle.geo_base.specs.declared.kind.Kind.TheVariants as kinds
+use Rattle.geo_base.specs.declared.limits.TheConstants.{MAX_ACTORS, MAX_COMPONENTS, MAX_DISKS, MAX_IMAGE_BYTES, MAX_MEMORY_DISK_BYTES, MAX_RUNS_BYTES, MAX_SCRIPT_LINES}
 use Rattle.geo_model.specs.declared.command.Command.{Command}
 use Rattle.geo_model.specs.declared.command.Command.TheVariants as commands
 use Rattle.geo_model.specs.declared.command.DiskDecl.{DiskDecl}
@@ -34,24 +35,24 @@ pub record IsGrant (a : Counts) : Type 0 where
   pub e : a.e ≤ 9
   pub some : (a.r ≢ 0) ⊎ (a.w ≢ 0) ⊎ (a.e ≢ 0)
 
--- 1 to 65,536 bytes
+-- some bytes, and no more than a text of runs may stand for
 pub record IsRunsBytes (bytes : List ℕ) : Type 0 where
   pub some : 1 ≤ length bytes
-  pub not_long : length bytes ≤ 65536
+  pub not_long : length bytes ≤ MAX_RUNS_BYTES
   pub each : All (λ b. b < 256) bytes
 
--- 1 to 16 names of providers
+-- some names of providers, and no more than a geom may have components
 pub record AreComponents (names : List (List ℕ)) : Type 0 where
   pub some : 1 ≤ length names
-  pub not_many : length names ≤ 16
+  pub not_many : length names ≤ MAX_COMPONENTS
   pub each : All IsProviderName names
 
 -- the numbers of a record
 pub record IsMark (id place count : ℕ) : Type 0 where
   pub id_fits : id < 2 ^ 32
-  pub place_fits : place < 65536
+  pub place_fits : place < 2 ^ 16
   pub some_place : 1 ≤ count
-  pub few_places : count ≤ 16
+  pub few_places : count ≤ MAX_COMPONENTS
 
 pub record IsStripe (stripe : ℕ) : Type 0 where
   pub some : 1 ≤ stripe
@@ -88,13 +89,13 @@ IsCommand commands.Mesh = ⊤
 -- a command line of one of so many actors
 pub record IsCommandLine (actors : ℕ) (c : LineCommand) : Type 0 where
   pub some_line : 1 ≤ c.line
-  pub line : c.line ≤ 4096
+  pub line : c.line ≤ MAX_SCRIPT_LINES
   pub actor : c.actor < actors
   pub command : IsCommand c.command
 
 -- the sectors of a disk as the header gives them
 abbrev pub HasSectors : DiskKind → ℕ → ℕ → Type 0
-HasSectors disk_kinds.Ram sector sectors = (1 ≤ sectors) × (sectors * sector ≤ 67108864)
+HasSectors disk_kinds.Ram sector sectors = (1 ≤ sectors) × (sectors * sector ≤ MAX_MEMORY_DISK_BYTES)
 HasSectors disk_kinds.Shelf sector sectors = sectors ≡ 0
 
 pub record IsDiskDecl (d : DiskDecl) : Type 0 where
@@ -112,10 +113,10 @@ Differ a b = IsTrue (not (same_name a b))
 
 -- what the header and the lines of each script keep
 pub record IsPlan (plan : Plan) : Type 0 where
-  pub few_disks : length plan.disks ≤ 16
+  pub few_disks : length plan.disks ≤ MAX_DISKS
   pub disks : All IsDiskDecl plan.disks
   pub disk_names : AllPairs Differ (map (λ d. d.name) plan.disks)
-  pub few_actors : length plan.actors ≤ 16
+  pub few_actors : length plan.actors ≤ MAX_ACTORS
   pub actors : All IsActor plan.actors
   pub actor_names : AllPairs Differ plan.actors
   pub commands : All (IsCommandLine (length plan.actors)) plan.commands
@@ -126,12 +127,12 @@ abbrev pub HasPlanSectors : DiskKind → ℕ → ℕ → Type 0
 HasPlanSectors disk_kinds.Ram sectors found = found ≡ sectors
 HasPlanSectors disk_kinds.Shelf sectors found = ⊤
 
--- the sector size and the sectors of a disk are as the plan says, and the disk is no larger than 2 ^ 40 bytes
+-- the sector size and the sectors of a disk are as the plan says, and the disk is no larger than MAX_IMAGE_BYTES
 pub record IsFact (d : DiskDecl) (fact : ℕ × ℕ) : Type 0 where
   pub sector : fact.0 ≡ d.sector
   pub sectors : HasPlanSectors d.kind d.sectors fact.1
   pub some : 1 ≤ fact.1
-  pub limited : fact.1 * fact.0 ≤ 2 ^ 40
+  pub limited : fact.1 * fact.0 ≤ MAX_IMAGE_BYTES
 
 -- one pair for each disk of the plan
 abbrev pub FactsFit : Plan → List (ℕ × ℕ) → Type 0

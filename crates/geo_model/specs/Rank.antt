@@ -3,6 +3,7 @@ use Rattle.std.specs.Prelude.{ℕ, zero, suc, ◌+◌, ◌<◌, ◌==◌, nat_lt
 use Rattle.std.specs.List.{list_any}
 use Rattle.geo_base.specs.declared.errno.Errno.{Errno}
 use Rattle.geo_base.specs.declared.errno.Errno.TheVariants.{ENXIO, ELOOP, EDEEP}
+use Rattle.geo_base.specs.declared.limits.TheConstants.{MAX_RANK}
 use Rattle.geo_model.specs.Words.{largest, first_error, is_granted_kind}
 use Rattle.geo_model.specs.Topology.{Topology, provider_at, consumer_at, providers_under, attach, is_errored, Consumer, Provider}
 
@@ -33,13 +34,9 @@ geoms_reached_within (suc levels) t g = g ∷ flat_map (geoms_reached_within lev
 abbrev pub reaches : {C : Type 0} → Topology C → ℕ → ℕ → Bool
 reaches t from_geom to_geom = list_any (λ g. g == to_geom) (geoms_reached_within (length t.geoms) t from_geom)
 
--- the greatest rank that a geom other than DEV and TASTE may have
-abbrev pub rank_limit : ℕ
-rank_limit = 32
-
 -- whether a geom other than DEV and TASTE has a rank above the limit
 abbrev pub is_too_deep : {C : Type 0} → Topology C → Bool
-is_too_deep t = list_any (λ x. not (is_granted_kind x.kind) && nat_lt rank_limit (rank t x.number)) t.geoms
+is_too_deep t = list_any (λ x. not (is_granted_kind x.kind) && nat_lt MAX_RANK (rank t x.number)) t.geoms
 
 -- whether the geom of the consumer would reach itself
 abbrev pub would_loop : {C : Type 0} → Topology C → Option Consumer → Option Provider → Bool

@@ -5,6 +5,7 @@ use Rattle.std.specs.Int.{w16, w32, w64, to_le_bytes, from_le_bytes}
 use Rattle.geo_base.specs.Name.{is_short_name}
 use Rattle.geo_base.specs.declared.decline.DeclineCause.{DeclineCause}
 use Rattle.geo_base.specs.declared.decline.DeclineCause.TheVariants as causes
+use Rattle.geo_base.specs.declared.limits.TheConstants.{MAX_COMPONENTS, MAX_STRIPE_BYTES}
 use Rattle.geo_model.specs.declared.class.ConcatRecord.{ConcatRecord}
 use Rattle.geo_model.specs.declared.class.LabelRecord.{LabelRecord}
 use Rattle.geo_model.specs.declared.class.MbrTable.{MbrTable}
@@ -92,13 +93,13 @@ head_tests magic newest bytes =
     )
     ∷ []
 
--- place and count are in order: 1 to 16 places, and the place is one of them
+-- place and count are in order: some places, no more than a geom may have, and the place is one of them
 abbrev pub place_test : ℕ → ℕ → Bool × DeclineCause
-place_test place count = (not (nat_le 1 count && (nat_le count 16 && nat_lt place count)), causes.Place)
+place_test place count = (not (nat_le 1 count && (nat_le count MAX_COMPONENTS && nat_lt place count)), causes.Place)
 
--- the stripe size isn't 0, isn't above 32,768 and is a multiple of the sector size
+-- the stripe size isn't 0, isn't above the limit and is a multiple of the sector size
 abbrev pub is_stripe_size : ℕ → ℕ → Bool
-is_stripe_size stripe sector = nat_le 1 stripe && (nat_le stripe 32768 && (stripe % sector == 0))
+is_stripe_size stripe sector = nat_le 1 stripe && (nat_le stripe MAX_STRIPE_BYTES && (stripe % sector == 0))
 
 -- the media size that a label of version 2 has
 abbrev pub label_size : List ℕ → Option ℕ

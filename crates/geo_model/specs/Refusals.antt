@@ -2,8 +2,9 @@
 -- What a refused demand names: the provider, and the two consumers that stand in each other's way (g_access(9)).
 use Rattle.std.specs.Prelude.{◌≡◌, ◌≢◌, ◌⊎◌, ℕ, ◌<◌, ◌≤◌, Some, IsSomeAnd, IsTrue, All, Contains}
 use Rattle.geo_base.specs.declared.request.Counts.{Counts}
+use Rattle.geo_base.specs.declared.limits.TheConstants.{MAX_ACCESS_COUNT}
 use Rattle.geo_model.specs.Topology.{Topology, provider_at, consumer_at, is_errored}
-use Rattle.geo_model.specs.Demand.{have, want, count_limit}
+use Rattle.geo_model.specs.Demand.{have, want}
 use Rattle.geo_model.specs.Opens.{below}
 
 -- of the providers below p that carry an error it has the smallest number
@@ -27,5 +28,5 @@ module _ {C : Type 0} (granted : ℕ → Counts) (t : Topology C) where
   abbrev pub IsOverLimit : ℕ → Type 0
   IsOverLimit p =
       IsSomeAnd (provider_at t p) (λ x.
-      (count_limit < (have granted t p).r) ⊎ (count_limit < (have granted t p).w)
-      ⊎ (count_limit < (have granted t p).e))
+      (MAX_ACCESS_COUNT < (have granted t p).r) ⊎ (MAX_ACCESS_COUNT < (have granted t p).w)
+      ⊎ (MAX_ACCESS_COUNT < (have granted t p).e))

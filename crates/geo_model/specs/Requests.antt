@@ -5,6 +5,7 @@ use Rattle.geo_base.specs.declared.request.BioCmd.{BioCmd}
 use Rattle.geo_base.specs.declared.request.Counts.{Counts}
 use Rattle.geo_base.specs.declared.errno.Errno.{Errno}
 use Rattle.geo_base.specs.declared.errno.Errno.TheVariants.{EBADF, ENXIO, EPERM, EINVAL, EIO}
+use Rattle.geo_base.specs.declared.limits.TheConstants.{MAX_REQUEST_BYTES}
 use Rattle.geo_model.specs.Words.{first_error, is_read, is_flush}
 use Rattle.geo_model.specs.Topology.{Provider, provider_at, provider_of_consumer}
 use Rattle.geo_model.specs.World.{World, Handle}
@@ -15,10 +16,6 @@ pub record Asking : Type 0 where
   pub offset : ℕ
   pub len : ℕ
   pub bytes : List ℕ
-
--- the longest request
-abbrev pub request_limit : ℕ
-request_limit = 32768
 
 -- the provider that a handle has open
 abbrev pub provider_of_handle : World → Handle → Option Provider
@@ -32,7 +29,7 @@ is_allowed grant cmd = if is_read cmd then not (grant.r == 0) else not (grant.w 
 -- whether a range isn't one or more whole sectors of at most the longest request
 abbrev pub is_invalid_range : ℕ → Asking → Bool
 is_invalid_range sector a =
-    not (a.offset % sector == 0) || (not (a.len % sector == 0) || ((a.len == 0) || nat_lt request_limit a.len))
+    not (a.offset % sector == 0) || (not (a.len % sector == 0) || ((a.len == 0) || nat_lt MAX_REQUEST_BYTES a.len))
 
 -- what refuses a request to a provider, if anything does
 abbrev pub request_refusal_at : Handle → Provider → Asking → Option Errno

@@ -2,6 +2,7 @@
 use Rattle.std.specs.Prelude.{◌≡◌, ℕ, ◌==◌, nat_lt, nat_le, Bool, true, false, not, ◌&&◌, ◌||◌, List, [], ◌∷◌, ◌++◌, length, fold, Option, Some, None, Result, Ok, Err, slice_get, position, codes, if◌then◌else◌}
 use Rattle.std.specs.List.{list_all, list_any, slice_split, enumerate_from}
 use Rattle.std.specs.Option.{option_map_or}
+use Rattle.geo_base.specs.declared.limits.TheConstants.{MAX_ACTORS, MAX_DISKS, MAX_LINE_BYTES, MAX_SCRIPT_LINES, MAX_WRITE_LINE_BYTES}
 use Rattle.geo_model.specs.declared.command.Cause.{Cause}
 use Rattle.geo_model.specs.declared.command.Cause.TheVariants as causes
 use Rattle.geo_model.specs.declared.command.Command.{Command}
@@ -60,7 +61,7 @@ empty_plan = record { disks = []; actors = []; commands = [] }
 abbrev pub disk_tests : Plan → DiskDecl → List (Bool × Cause)
 disk_tests plan d =
     (list_any (λ x. same_name x.name d.name) plan.disks, causes.Twice)
-    ∷ (nat_le 16 (length plan.disks), causes.Many) ∷ []
+    ∷ (nat_le MAX_DISKS (length plan.disks), causes.Many) ∷ []
 
 abbrev pub add_disk : Plan → DiskDecl → Result Plan Cause
 add_disk plan d = unless (first_error (disk_tests plan d)) (record plan { disks = plan.disks ++ d ∷ [] })
@@ -69,7 +70,7 @@ add_disk plan d = unless (first_error (disk_tests plan d)) (record plan { disks 
 abbrev pub actor_tests : Plan → List ℕ → List (Bool × Cause)
 actor_tests plan name =
     (list_any (same_name name) plan.actors || list_any (same_name name) header_words, causes.Twice)
-    ∷ (nat_le 16 (length plan.actors), causes.Many)
+    ∷ (nat_le MAX_ACTORS (length plan.actors), causes.Many)
     ∷ []
 
 abbrev pub add_actor : Plan → List ℕ → Result Plan Cause
@@ -112,14 +113,14 @@ words_of line = slice_split (λ b. b == 32) line
 -- a line is longer than it may be
 abbrev pub is_long : List ℕ → Bool
 is_long line =
-    nat_lt 8192 (length line)
-    || (nat_lt 255 (length line)
+    nat_lt MAX_WRITE_LINE_BYTES (length line)
+    || (nat_lt MAX_LINE_BYTES (length line)
     && not (option_map_or (same_name (codes "write")) (slice_get (words_of line) 1) false))
 
 -- what is against a line before its words are read
 abbrev pub line_tests : ℕ → List ℕ → List (Bool × Cause)
 line_tests n line =
-    (nat_lt 4096 n, causes.Lines)
+    (nat_lt MAX_SCRIPT_LINES n, causes.Lines)
     ∷ (is_long line, causes.Long)
     ∷ (not (list_all (λ b. nat_le 32 b && nat_le b 126) line), causes.Byte)
     ∷ (list_any (λ word. length word == 0) (words_of line), causes.Space)

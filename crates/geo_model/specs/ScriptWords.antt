@@ -7,6 +7,7 @@ use Rattle.geo_base.specs.Runs.{ByteRun}
 use Rattle.geo_base.specs.declared.request.Counts.{Counts}
 use Rattle.geo_base.specs.declared.kind.Kind.{Kind}
 use Rattle.geo_base.specs.declared.kind.Kind.TheVariants as kinds
+use Rattle.geo_base.specs.declared.limits.TheConstants.{MAX_COMPONENTS, MAX_MEMORY_DISK_BYTES, MAX_RUNS_BYTES}
 use Rattle.geo_model.specs.declared.command.Cause.{Cause}
 use Rattle.geo_model.specs.declared.command.Cause.TheVariants as causes
 use Rattle.geo_model.specs.Words.{same_name}
@@ -59,9 +60,10 @@ runs_in (word ∷ words) = option_and_then (λ x. option_and_then (add_run x) (r
 abbrev pub bytes_of_runs : List ByteRun → List ℕ
 bytes_of_runs xs = flat_map (λ x. replicate x.times x.byte) xs
 
--- the bytes of a text of runs: at most 65,536
+-- the bytes of a text of runs, if they are no more than it may stand for
 abbrev pub fitting_bytes : List ByteRun → Option (List ℕ)
-fitting_bytes xs = let bytes = bytes_of_runs xs in if nat_le (sum_by (λ x. x.times) xs) 65536 then Some bytes else None
+fitting_bytes xs =
+    let bytes = bytes_of_runs xs in if nat_le (sum_by (λ x. x.times) xs) MAX_RUNS_BYTES then Some bytes else None
 
 -- Words of a line; each reader gives its value and the words that are left
 
@@ -106,16 +108,16 @@ abbrev pub sector_size : Words → Result (ℕ × Words) Cause
 sector_size words = ranged (λ n. (n == 512) || (n == 4096)) words
 
 abbrev pub sector_count : ℕ → Words → Result (ℕ × Words) Cause
-sector_count sector words = ranged (λ n. nat_le 1 n && nat_le (n * sector) 67108864) words
+sector_count sector words = ranged (λ n. nat_le 1 n && nat_le (n * sector) MAX_MEMORY_DISK_BYTES) words
 
 abbrev pub record_id : Words → Result (ℕ × Words) Cause
 record_id words = ranged (λ n. nat_lt n (2 ^ 32)) words
 
 abbrev pub record_count : Words → Result (ℕ × Words) Cause
-record_count words = ranged (λ n. nat_le 1 n && nat_le n 16) words
+record_count words = ranged (λ n. nat_le 1 n && nat_le n MAX_COMPONENTS) words
 
 abbrev pub record_place : Words → Result (ℕ × Words) Cause
-record_place words = ranged (λ n. nat_lt n 65536) words
+record_place words = ranged (λ n. nat_lt n (2 ^ 16)) words
 
 abbrev pub stripe_size : Words → Result (ℕ × Words) Cause
 stripe_size words = ranged (λ n. nat_le 1 n && nat_lt n (2 ^ 32)) words
@@ -162,7 +164,7 @@ names_within (suc n) (word ∷ words) =
 
 abbrev pub long_names : Words → Result (List (List ℕ) × Words) Cause
 long_names [] = Err causes.Words
-long_names (word ∷ words) = names_within 16 (word ∷ words) >>= λ names. Ok (names, [])
+long_names (word ∷ words) = names_within MAX_COMPONENTS (word ∷ words) >>= λ names. Ok (names, [])
 
 -- the value, if no word is left over
 abbrev pub at_end : {A : Type 0} → A → Words → Result A Cause

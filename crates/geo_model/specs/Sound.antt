@@ -1,19 +1,20 @@
 -- What holds of the mesh at every moment.
-use Rattle.std.specs.Prelude.{◌≡◌, ◌≢◌, ◌↔◌, ◌⊎◌, ℕ, ◌+◌, ◌/◌, ◌%◌, ◌^◌, ◌<◌, ◌≤◌, ◌==◌, Bool, true, false, not, ◌&&◌, [], ◌∷◌, ◌++◌, length, map, count_by, Option, Some, None, ⊤, IsSome, IsSomeAnd, IfSome, MatchOption, IsTrue, All, AllPairs, option_and_then, slice_get}
+use Rattle.std.specs.Prelude.{◌≡◌, ◌≢◌, ◌↔◌, ◌⊎◌, ℕ, ◌+◌, ◌/◌, ◌%◌, ◌<◌, ◌≤◌, ◌==◌, Bool, true, false, not, ◌&&◌, [], ◌∷◌, ◌++◌, length, map, count_by, Option, Some, None, ⊤, IsSome, IsSomeAnd, IfSome, MatchOption, IsTrue, All, AllPairs, option_and_then, slice_get}
 use Rattle.std.specs.List.{list_any}
 use Rattle.std.specs.Option.{option_map_or}
 use Rattle.geo_base.specs.declared.kind.Kind.{Kind}
 use Rattle.geo_base.specs.declared.kind.Kind.TheVariants as kinds
+use Rattle.geo_base.specs.declared.limits.TheConstants.{MAX_LINKS, MAX_MEDIA_BYTES, MAX_RANK, UNTASTED_RANK}
 use Rattle.geo_model.specs.Words.{is_kind, names_number, same_name}
 use Rattle.geo_model.specs.Topology.{Topology, Geom, Provider, Consumer, geom_at, provider_at, consumer_at, geom_of_provider, providers_of, consumers_of, is_withering}
 use Rattle.geo_model.specs.Graph.{AreNumbers}
-use Rattle.geo_model.specs.Rank.{rank, rank_limit, Ranked}
+use Rattle.geo_model.specs.Rank.{rank, Ranked}
 use Rattle.geo_model.specs.Demand.{have, is_zero, is_exclusive, fits_limit}
 use Rattle.geo_model.specs.World.{World, Config, Nothing, Disk, Mbr, Ebr, Label, Concat, Stripe, Nop, Handle, Taste, Asked, NoClass, NextSector, ReadOut, ReadBack, granted_in, is_read_out, is_taste_root}
 use Rattle.geo_model.specs.Place.{Spot, place, component, disk_of}
 use Rattle.geo_model.specs.declared.class.EbrPart.{EbrPart}
-use Rattle.geo_model.specs.Chain.{Chain, link_limit, BeginsAtZero}
-use Rattle.geo_model.specs.Events.{provider_of_event, taste_limit}
+use Rattle.geo_model.specs.Chain.{Chain, BeginsAtZero}
+use Rattle.geo_model.specs.Events.{provider_of_event}
 use Rattle.geo_model.specs.Order.{reads_limit}
 use Rattle.geo_model.specs.SoundBios.{IsBioInOrder, IsFamilyInOrder, DisksHold}
 
@@ -27,7 +28,7 @@ pub record StandsBare (t : Topology Config) (g : ℕ) : Type 0 where
 -- there is no loop, no geom but DEV and TASTE is too deep, and these two stand
 pub record RanksHold (t : Topology Config) : Type 0 where
   pub ranked : Ranked t
-  pub not_deep : All (λ x. x.number ≢ 1 → x.number ≢ 2 → rank t x.number ≤ rank_limit) t.geoms
+  pub not_deep : All (λ x. x.number ≢ 1 → x.number ≢ 2 → rank t x.number ≤ MAX_RANK) t.geoms
   pub dev : StandsBare t 1
   pub taste : StandsBare t 2
 
@@ -44,11 +45,11 @@ pub record CountsHold (w : World) : Type 0 where
 abbrev pub DifferInName : Provider → Provider → Type 0
 DifferInName x y = IsTrue (not (not x.errored && (not y.errored && same_name x.name y.name)))
 
--- the size is a whole positive number of sectors and at most 2 ^ 60
+-- the size is a whole positive number of sectors and at most MAX_MEDIA_BYTES
 pub record IsMediaSize (size sector : ℕ) : Type 0 where
   pub positive : 1 ≤ size
   pub whole : size % sector ≡ 0
-  pub limited : size ≤ 2 ^ 60
+  pub limited : size ≤ MAX_MEDIA_BYTES
 
 pub record ProvidersHold (t : Topology Config) : Type 0 where
   pub names : AllPairs DifferInName t.providers
@@ -184,7 +185,7 @@ pub record IsPartOf (n : ℕ) (s : EbrPart) : Type 0 where
 -- one are the first of a chain, and the next one isn't among them
 pub record ChainHolds (n : ℕ) (asked : Asked) (made : ℕ) (c : Chain) : Type 0 where
   pub reads : made ≡ length c.links + reads_out asked
-  pub few : length c.links < link_limit
+  pub few : length c.links < MAX_LINKS
   pub parts : All (λ l. IfSome l.part (IsPartOf n)) c.links
   pub sector : IsNext asked c.next
   pub zero : BeginsAtZero (map (λ l. l.sector) c.links ++ c.next ∷ [])
@@ -200,7 +201,7 @@ HasItsChain w s =
     → IfSome (provider_at w.topology s.provider) (λ p. ChainHolds (p.size / p.sector) s.asked s.reads s.chain)
 
 pub record IsTasteInOrder (w : World) (s : Taste) : Type 0 where
-  pub rank : IsSomeAnd (geom_of_provider w.topology s.provider) (λ g. rank w.topology g.number < taste_limit)
+  pub rank : IsSomeAnd (geom_of_provider w.topology s.provider) (λ g. rank w.topology g.number < UNTASTED_RANK)
   pub reads : AreReadsInOrder s.asked s.reads
   pub chain : HasItsChain w s
 

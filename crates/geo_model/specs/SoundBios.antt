@@ -2,6 +2,7 @@
 use Rattle.std.specs.Prelude.{◌≡◌, ◌≢◌, ℕ, ◌+◌, ◌%◌, ◌<◌, ◌≤◌, false, ◌||◌, List, length, map, Some, IsSome, IsSomeAnd, IsTrue, All, AllPairs, ⊤}
 use Rattle.std.specs.List.{enumerate_from}
 use Rattle.geo_base.specs.declared.request.BioCmd.{BioCmd}
+use Rattle.geo_base.specs.declared.limits.TheConstants.{MAX_REQUEST_BYTES}
 use Rattle.geo_model.specs.declared.step.Owner.{Owner}
 use Rattle.geo_model.specs.declared.step.Owner.TheVariants as owners
 use Rattle.geo_model.specs.Words.{is_read, is_write, is_flush}
@@ -9,12 +10,11 @@ use Rattle.geo_model.specs.Topology.{Provider, Consumer, geom_at, provider_at, c
 use Rattle.geo_model.specs.Demand.{want}
 use Rattle.geo_model.specs.World.{World, Bio, granted_in, bio_at, children_of, is_root, is_done, is_busy, is_sent, is_waiting}
 use Rattle.geo_model.specs.Bios.{PieceTarget, piece_targets, bytes_of_piece, disk_of_bio, is_complete}
-use Rattle.geo_model.specs.Requests.{request_limit}
 
 -- the range is one or more whole sectors, inside the provider and no longer than the longest request
 pub record IsRangeInside (x : Bio) (p : Provider) : Type 0 where
   pub some_byte : 1 ≤ x.len
-  pub not_long : x.len ≤ request_limit
+  pub not_long : x.len ≤ MAX_REQUEST_BYTES
   pub offset_whole : x.offset % p.sector ≡ 0
   pub len_whole : x.len % p.sector ≡ 0
   pub inside : x.offset + x.len ≤ p.size

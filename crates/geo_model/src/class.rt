@@ -1,5 +1,5 @@
 //! What classes read in sectors, and what they say to it.
-use geo_base::{DeclineCause, Kind, Name};
+use geo_base::{DeclineCause, Kind, MAX_LINKS, Name};
 
 /// A slice of an MBR table, in sectors of 512 bytes.
 #[derive(Clone, Copy, Debug)]
@@ -24,7 +24,7 @@ pub struct EbrPart {
 /// The partitions of a chain, by its links.
 #[derive(Clone, Copy, Debug)]
 pub struct EbrTable {
-    pub parts: [Option<EbrPart>; 32],
+    pub parts: [Option<EbrPart>; MAX_LINKS],
 }
 
 /// The record of a label; a record of version 2 has the media size in bytes of the provider on which it stands.

@@ -1,7 +1,7 @@
 //! Where a window of a provider lies.
-ghost use Rattle.std.specs.Prelude.{◌≡◌, ◌+◌, ◌^◌, ◌≤◌};
+ghost use Rattle.std.specs.Prelude.{◌≡◌, ◌+◌, ◌≤◌};
 
-use geo_base::NoMemory;
+use geo_base::{MAX_MEDIA_BYTES, NoMemory};
 use geo_range::{AddressMap, PieceList, Span, Window};
 use std::alloc::Global;
 use std::marker::Model;
@@ -25,7 +25,7 @@ impl Model for NopMap {
 impl NopMap {
     /// The `size` bytes from `offset` on, in sectors of `sector` bytes.
     pub fn new(offset: u64, size: u64, sector: u32) -> NopMap
-        requires { offset + size ≤ 2 ^ 60 }
+        requires { offset + size ≤ MAX_MEDIA_BYTES }
         ensures { result ≡ record { start = offset; size = size; sector = sector } }
     {
         NopMap {

@@ -9,9 +9,10 @@ use Rattle.std.proofs.lemmas.List.Folds.{list_any_none}
 use Rattle.geo_base.specs.declared.request.Counts.{Counts}
 use Rattle.geo_base.specs.declared.errno.Errno.TheVariants.{ENXIO, ELOOP, EDEEP}
 use Rattle.geo_base.specs.declared.kind.Kind.TheVariants as kinds
+use Rattle.geo_base.specs.declared.limits.TheConstants.{MAX_RANK}
 use Rattle.geo_model.specs.Words.{first_error, is_granted_kind}
 use Rattle.geo_model.specs.Topology.{Topology, Geom, Provider, Consumer, geom_at, provider_at, consumer_at, providers_of, is_errored, add_consumer, attach}
-use Rattle.geo_model.specs.Rank.{rank, rank_limit, would_loop, is_too_deep, attach_refusal}
+use Rattle.geo_model.specs.Rank.{rank, would_loop, is_too_deep, attach_refusal}
 use Rattle.geo_model.specs.Opens.{below, has_error_below, grant_refusal, with_opener}
 use Rattle.geo_slots.specs.Slots.{value_at}
 use Rattle.geo_mesh.specs.Topo.{TopoView, with_consumer, without_consumer, with_topology}
@@ -88,15 +89,15 @@ module _ {C : Type 0} (t : Topology C) (sound : IsSoundGraph t) where
 
     -- whether a geom is too deep
     abbrev deep : Topology C → Geom C → Bool
-    deep u x = not (is_granted_kind x.kind) && nat_lt rank_limit (rank u x.number)
+    deep u x = not (is_granted_kind x.kind) && nat_lt MAX_RANK (rank u x.number)
 
     -- a geom is no deeper than it was, but for DEV
     no_deeper : (x : Geom C) → Contains t.geoms x → deep t x ≡ false → deep opened x ≡ false
     no_deeper x there low =
         elim (cases_eq x.number 1) [
-          | inl same ↦ ap (λ b. not b && nat_lt rank_limit (rank opened x.number)) (of_dev x there same)
+          | inl same ↦ ap (λ b. not b && nat_lt MAX_RANK (rank opened x.number)) (of_dev x there same)
           | inr other ↦
-              ap (λ n. not (is_granted_kind x.kind) && nat_lt rank_limit n)
+              ap (λ n. not (is_granted_kind x.kind) && nat_lt MAX_RANK n)
               ((open-rises t 1 p y sound.ranked sound.orderly.parts.geoms dev_stands dev_bare
               offered).0.same x.number other)
               ∙ low

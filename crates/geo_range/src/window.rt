@@ -1,9 +1,9 @@
 //! Maps of a provider that lies in one component as a whole.
-ghost use Rattle.std.specs.Prelude.{◌≡◌, ◌+◌, ◌^◌, ◌≤◌};
+ghost use Rattle.std.specs.Prelude.{◌≡◌, ◌+◌, ◌≤◌};
 
 use crate::address_map::AddressMap;
 use crate::piece_list::PieceList;
-use geo_base::NoMemory;
+use geo_base::{MAX_MEDIA_BYTES, NoMemory};
 use geo_model::{Piece, Span};
 use std::alloc::Global;
 use std::marker::Model;
@@ -18,14 +18,15 @@ pub struct Window {
 }
 
 impl Model for Window {
-    ghost use Rattle.std.specs.Prelude.{◌+◌, ◌^◌, ◌≤◌};
+    ghost use Rattle.std.specs.Prelude.{◌+◌, ◌≤◌};
     ghost use Rattle.geo_range.specs.Window.{WindowView};
+    ghost use Rattle.geo_base.specs.declared.limits.TheConstants.{MAX_MEDIA_BYTES};
 
     ghost Value = { WindowView };
 
     ghost view = { λ w. record { start = w.start; size = w.size; sector = w.sector } };
 
-    ghost invariant = { λ w. w.start + w.size ≤ 2 ^ 60 };
+    ghost invariant = { λ w. w.start + w.size ≤ MAX_MEDIA_BYTES };
 
     ghost inverse = { λ w. record { start = w.start; size = w.size; sector = w.sector } };
 }
@@ -33,7 +34,7 @@ impl Model for Window {
 impl Window {
     /// The `size` bytes from `start` on.
     pub fn new(start: u64, size: u64, sector: u32) -> Window
-        requires { start + size ≤ 2 ^ 60 }
+        requires { start + size ≤ MAX_MEDIA_BYTES }
         ensures { result ≡ record { start = start; size = size; sector = sector } }
     {
         Window {

@@ -3,6 +3,7 @@ use Rattle.std.specs.Prelude.{ℕ, ◌==◌, nat_le, nat_lt, Bool, not, ◌&&◌
 use Rattle.geo_base.specs.declared.decline.DeclineCause.{DeclineCause}
 use Rattle.geo_base.specs.declared.decline.Declined.{Declined}
 use Rattle.geo_base.specs.Name.{is_short_name}
+use Rattle.geo_base.specs.declared.limits.TheConstants.{MAX_COMPONENTS}
 use Rattle.geo_model.specs.Words.{first_error, unless}
 use Rattle.geo_model.specs.Records.{head_tests, padded, record_name}
 
@@ -23,4 +24,4 @@ padded_name field =
 
 -- whether a place is one of 1 to 16 places
 abbrev pub is_place : ℕ → ℕ → Bool
-is_place place count = nat_le 1 count && (nat_le count 16 && nat_lt place count)
+is_place place count = nat_le 1 count && (nat_le count MAX_COMPONENTS && nat_lt place count)

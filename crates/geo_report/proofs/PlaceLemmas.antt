@@ -7,6 +7,7 @@ use Rattle.std.proofs.lemmas.Bool.{cases_Bool, false≢true}
 use Rattle.std.proofs.lemmas.Bool.Decides.{nat_tests}
 use Rattle.std.proofs.lemmas.List.{append_assoc, length-append, length-set, length-replicate, get_or-set_same, get_or-set_other, get_or-replicate}
 use Rattle.std.proofs.lemmas.Option.{unwrap_or-slice_get}
+use Rattle.geo_base.specs.declared.limits.TheConstants.{MAX_SCRIPT_LINES}
 use Rattle.geo_model.specs.declared.step.Entry.{Entry}
 use Rattle.geo_model.specs.declared.step.Outcome.{Outcome}
 use Rattle.geo_model.specs.declared.step.Outcome.TheVariants as outcomes
@@ -153,7 +154,7 @@ pub places_next : (log : List Entry) (i : ℕ) (e : Entry) (slots all : List (Op
 places_next log i e slots all within is so_far = ap (λ l. places l i slots) (sym (front log i e within is)) ∙ so_far
 
 -- the slots at the end, of which there are enough
-pub are_places : (log : List Entry) (i lines : ℕ) (slots : List (Option ℕ)) → length log ≤ i → 4096 < lines
+pub are_places : (log : List Entry) (i lines : ℕ) (slots : List (Option ℕ)) → length log ≤ i → MAX_SCRIPT_LINES < lines
     → places (drop i log) i slots ≡ places log 0 (replicate lines None) → ArePlaces log slots
 are_places log i lines slots past enough whole line below =
     let own : slots ≡ places log 0 (replicate lines None) =

@@ -1,6 +1,7 @@
 -- Where the reply to each line stands in a log.
 use Rattle.std.specs.Prelude.{◌≡◌, ℕ, ◌+◌, ◌≤◌, List, [], ◌∷◌, Option, Some, None, slice_get, slice_index_or, slice_set, is_some, if◌then◌else◌}
 use Rattle.std.specs.Option.{option_and_then}
+use Rattle.geo_base.specs.declared.limits.TheConstants.{MAX_SCRIPT_LINES}
 use Rattle.geo_model.specs.declared.step.Entry.{Entry}
 use Rattle.geo_model.specs.declared.step.Outcome.{Outcome}
 use Rattle.geo_model.specs.declared.step.Outcome.TheVariants as outcomes
@@ -40,4 +41,4 @@ reply_at log (Some place) line = option_and_then (λ e. reply_in line e.outcome)
 
 -- the slots lead to the first reply to each line
 abbrev pub ArePlaces : List Entry → List (Option ℕ) → Type 0
-ArePlaces log slots = (line : ℕ) → line ≤ 4096 → reply_at log (slot slots line) line ≡ reply_from log line
+ArePlaces log slots = (line : ℕ) → line ≤ MAX_SCRIPT_LINES → reply_at log (slot slots line) line ≡ reply_from log line

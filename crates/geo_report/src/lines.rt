@@ -8,7 +8,7 @@ ghost use Rattle.geo_report.specs.Texts.{answer_text};
 use crate::mesh::add_mesh;
 use crate::places::find_reply;
 use crate::runs::add_runs;
-use geo_base::NoMemory;
+use geo_base::{MAX_SCRIPT_LINES, NoMemory};
 use geo_model::{Entry, LineCommand, Reply};
 use geo_text::Text;
 
@@ -53,7 +53,7 @@ fn add_line(
     command: &LineCommand,
 ) -> Result<(), NoMemory>
     requires places { ArePlaces log.now places.now }
-    requires line { command.now.line ≤ 4096 }
+    requires line { command.now.line ≤ MAX_SCRIPT_LINES }
     ensures { OnOk result (text.new ≡ text.old ++ line_text log.now command.now) }
 {
     text.add_number(u64::from(command.line))?;
@@ -68,7 +68,7 @@ pub fn add_lines(
     commands: &[LineCommand],
 ) -> Result<(), NoMemory>
     requires places { ArePlaces log.now places.now }
-    requires lines { All (λ c. c.line ≤ 4096) commands.now }
+    requires lines { All (λ c. c.line ≤ MAX_SCRIPT_LINES) commands.now }
     ensures { OnOk result (text.new ≡ text.old ++ flat_map (line_text log.now) commands.now) }
 {
     for command in commands {

@@ -4,12 +4,9 @@ ghost use Rattle.std.specs.Option.{option_copied};
 ghost use Rattle.geo_model.specs.Report.{reply_in, reply_from};
 ghost use Rattle.geo_report.specs.Places.{ArePlaces, line_of, noted, slot, reply_at};
 
-use geo_base::NoMemory;
+use geo_base::{MAX_SCRIPT_LINES, NoMemory};
 use geo_model::{Entry, Outcome, Reply};
 use std::alloc::Global;
-
-/// Lines have numbers below this one.
-const LINES: usize = 4097;
 
 /// The line that the entry gives a reply to.
 fn line_of(entry: &Entry) -> Option<u32>
@@ -58,7 +55,7 @@ fn note(places: &mut Vec<Option<usize>>, place: usize, entry: &Entry)
 /// The place of the first reply to each line below `lines`, from one pass over the log.
 #[tactic(auto, using(crate::proofs::PlaceLemmas::are_places))]
 fn places_below(alloc: Global, log: &[Entry], lines: usize) -> Result<Vec<Option<usize>>, NoMemory>
-    requires { 4096 < lines }
+    requires { MAX_SCRIPT_LINES < lines }
     ensures { IfOk result (λ found. ArePlaces log.now found.items) }
 {
     let mut found: Vec<Option<usize>> = vec![in alloc; None; lines]?;
@@ -72,7 +69,7 @@ fn places_below(alloc: Global, log: &[Entry], lines: usize) -> Result<Vec<Option
 pub fn places_of(alloc: Global, log: &[Entry]) -> Result<Vec<Option<usize>>, NoMemory>
     ensures { IfOk result (λ found. ArePlaces log.now found.items) }
 {
-    places_below(alloc, log, LINES)
+    places_below(alloc, log, MAX_SCRIPT_LINES as usize + 1)
 }
 
 /// The reply at a place.
@@ -91,7 +88,7 @@ fn reply_at(log: &[Entry], place: Option<usize>, line: u32) -> Option<&Reply>
 /// The first reply in the log to a line.
 pub fn find_reply<'a>(log: &'a [Entry], places: &[Option<usize>], line: u32) -> Option<&'a Reply>
     requires places { ArePlaces log.now places.now }
-    requires line { line ≤ 4096 }
+    requires line { line ≤ MAX_SCRIPT_LINES }
     ensures { option_copied result ≡ reply_from log.now line }
 {
     reply_at(log, slot(places, line), line)

@@ -6,7 +6,7 @@ ghost use Rattle.geo_report.specs.Places.{ArePlaces};
 ghost use Rattle.geo_report.specs.Tallies.{IsTally, IsBelow, noted, noted_answer, replies_of};
 
 use crate::places::find_reply;
-use geo_base::Errno;
+use geo_base::{Errno, MAX_SCRIPT_LINES};
 use geo_model::{Entry, LineCommand, Reply};
 
 /// How many replies are ok, how many name each error, and of how many bytes they are.
@@ -84,7 +84,7 @@ impl Tally {
 /// What is counted of the replies to all lines.
 pub fn tally_of(log: &[Entry], places: &[Option<usize>], commands: &[LineCommand]) -> Tally
     requires places { ArePlaces log.now places.now }
-    requires lines { All (λ c. c.line ≤ 4096) commands.now }
+    requires lines { All (λ c. c.line ≤ MAX_SCRIPT_LINES) commands.now }
     ensures { IsTally (replies_of log.now commands.now) result }
 {
     let mut tally = Tally::none();

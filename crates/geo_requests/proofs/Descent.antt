@@ -1,12 +1,13 @@
 -- What a firm mesh tells of a request that goes down in pieces: its range is covered, it has pieces, and each goes
 -- through a consumer that lives and that no handle has.
-use Rattle.std.specs.Prelude.{◌≡◌, ◌≢◌, ℕ, ◌^◌, ◌<◌, ◌≤◌, ◌==◌, true, false, List, [], ◌∷◌, length, Option, Some, None, is_none, Contains, IsSome, IsSomeAnd, IsTrue, MatchOption}
+use Rattle.std.specs.Prelude.{◌≡◌, ◌≢◌, ℕ, ◌<◌, ◌≤◌, ◌==◌, true, false, List, [], ◌∷◌, length, Option, Some, None, is_none, Contains, IsSome, IsSomeAnd, IsTrue, MatchOption}
 use Rattle.std.specs.List.{AllByRecursion, list_any}
 use Rattle.std.proofs.Common.{inr, refl, sym, ◌∙◌, ap, subst, arith}
 use Rattle.std.proofs.lemmas.Bool.{eq-eqb, eqb-true, false_from_ne_true}
 use Rattle.std.proofs.lemmas.List.Elements.{All-contains}
 use Rattle.geo_base.specs.declared.kind.Kind.{Kind}
 use Rattle.geo_base.specs.declared.kind.Kind.TheVariants as kinds
+use Rattle.geo_base.specs.declared.limits.TheConstants.{MAX_MEDIA_BYTES}
 use Rattle.geo_model.specs.declared.span.Piece.{Piece}
 use Rattle.geo_model.specs.Words.{names_number}
 use Rattle.geo_model.specs.Topology.{Topology, Geom, Provider, Consumer, geom_at, provider_at, consumer_at, providers_of}
@@ -90,8 +91,8 @@ module _ (w : World) (firm : Firm w) (x : Bio) (here : Contains w.bios x) (p : P
   media : IsMediaSize p.size p.sector
   media = All-contains (λ (v : Provider). IsMediaSize v.size v.sector) t.providers p firm.sound.providers.sizes p_stands
 
-  -- each offset lies before 2 ^ 60
-  lies_by : (o : Option Spot) → IsSomeAnd o (IsPlaceInside t g p) → IsSomeAnd o (λ spot. spot.offset < 2 ^ 60)
+  -- each offset lies before MAX_MEDIA_BYTES
+  lies_by : (o : Option Spot) → IsSomeAnd o (IsPlaceInside t g p) → IsSomeAnd o (λ spot. spot.offset < MAX_MEDIA_BYTES)
   lies_by None inside = inside
   lies_by (Some spot) inside =
       let b = below_of t g p spot inside in

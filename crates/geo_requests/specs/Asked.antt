@@ -5,10 +5,11 @@ use Rattle.geo_base.specs.Name.{is_short_name}
 use Rattle.geo_base.specs.declared.errno.Errno.{Errno}
 use Rattle.geo_base.specs.declared.errno.Errno.TheVariants.{EBADF, ENXIO, EPERM, EINVAL, EIO}
 use Rattle.geo_base.specs.declared.request.Counts.{Counts}
+use Rattle.geo_base.specs.declared.limits.TheConstants.{MAX_REQUEST_BYTES}
 use Rattle.geo_model.specs.Topology.{Topology, Provider, provider_at, consumer_at, provider_of_consumer}
 use Rattle.geo_model.specs.World.{Config, Handle}
 use Rattle.geo_model.specs.Records.{label_sector, concat_sector, stripe_sector}
-use Rattle.geo_model.specs.Requests.{Asking, request_limit, request_refusal_at, is_allowed, is_invalid_range}
+use Rattle.geo_model.specs.Requests.{Asking, request_refusal_at, is_allowed, is_invalid_range}
 use Rattle.geo_model.specs.Words.{first_error, is_flush}
 use Rattle.geo_requests.specs.declared.gate.Gate.{Gate}
 use Rattle.geo_requests.specs.declared.mark.Mark.{Mark}
@@ -17,7 +18,7 @@ use Rattle.geo_requests.specs.declared.mark.Mark.TheVariants as marks
 -- whether a range isn't one or more whole sectors of at most the longest request
 abbrev pub not_whole : ℕ → ℕ → ℕ → Bool
 not_whole sector offset len =
-    not (offset % sector == 0) || (not (len % sector == 0) || ((len == 0) || nat_lt request_limit len))
+    not (offset % sector == 0) || (not (len % sector == 0) || ((len == 0) || nat_lt MAX_REQUEST_BYTES len))
 
 -- what refuses a range of a provider of a size, with sectors of so many bytes
 abbrev pub range_refusal : ℕ → ℕ → ℕ → ℕ → Option Errno

@@ -7,14 +7,11 @@ ghost use Rattle.geo_mesh.specs.Cells.{provider_seen};
 ghost use Rattle.geo_handles.specs.Handles.{handle_seen, named_handle};
 ghost use Rattle.geo_requests.specs.Asked.{IsGatesAnswer, IsHandlesAnswer, attached, not_whole, range_refusal, refusal_in};
 
-use geo_base::{BioCmd, ConsId, Counts, Errno, HandleId, Name, ProvId};
+use geo_base::{BioCmd, ConsId, Counts, Errno, HandleId, MAX_REQUEST_BYTES, Name, ProvId};
 use geo_class::Config;
 use geo_handles::{HandleRec, Handles};
 use geo_mesh::{ProvRec, Topo};
 use geo_model::Span;
-
-/// The longest request.
-const LIMIT: u64 = 32768;
 
 /// A handle that lets a request through: its consumer, and the provider to which this is attached.
 #[derive(Clone, Copy, Debug)]
@@ -131,7 +128,10 @@ fn is_invalid_range(sector: u64, span: Span) -> bool
     requires { 0 < sector }
     ensures { result ≡ not_whole sector span.offset span.len }
 {
-    span.offset % sector != 0 || span.len % sector != 0 || span.len == 0 || span.len > LIMIT
+    span.offset % sector != 0
+        || span.len % sector != 0
+        || span.len == 0
+        || span.len > MAX_REQUEST_BYTES
 }
 
 // Whether a range ends behind so many bytes.

@@ -11,6 +11,7 @@ use Rattle.geo_base.specs.Kind.{adds_exclusive}
 use Rattle.geo_base.specs.declared.kind.Kind.{Kind}
 use Rattle.geo_base.specs.declared.kind.Kind.TheVariants as kinds
 use Rattle.geo_base.specs.declared.request.Counts.{Counts}
+use Rattle.geo_base.specs.declared.limits.TheConstants.{MAX_COMPONENTS, MAX_MEDIA_BYTES, MAX_RUNS_BYTES}
 use Rattle.geo_model.specs.declared.command.Command.{Command}
 use Rattle.geo_model.specs.declared.command.Command.TheVariants as commands
 use Rattle.geo_model.specs.declared.step.BioResult.{BioResult}
@@ -20,7 +21,6 @@ use Rattle.geo_model.specs.Topology.{Topology, Geom, Provider, Consumer, geom_at
 use Rattle.geo_model.specs.World.{World, Config, Nothing, Disk, Mbr, Ebr, Label, Concat, Stripe, Nop, HeaderDisk, Asked, NoClass, NextSector, ReadOut, ReadBack, is_taste_root}
 use Rattle.geo_model.specs.Place.{components}
 use Rattle.geo_model.specs.Acceptance.{places_of, joined_size}
-use Rattle.geo_model.specs.Append.{component_limit}
 use Rattle.geo_model.specs.Plans.{IsGrant, IsRunsBytes, AreComponents, IsMark, IsStripe, IsNamedClass, IsCommand}
 use Rattle.geo_model.specs.Sound.{IsMediaSize}
 use Rattle.geo_model.specs.Fitting.{IsHeaderDisk, IsWholeIn, FitsBelow, sizes_of, FitsPlace, FitsPlaces, AsksThere, IsOneSector, IsAskedInOrder, TasteReadHolds, HasOneProvider, PlacesHold, HasItsSum, Fitting}
@@ -88,12 +88,12 @@ sector_size : (n : ℕ) → Decides (is_sector_size n) (IsSectorSize n)
 sector_size n = Decides-or (n == 512) (n == 4096) (Decides-eqb n 512) (Decides-eqb n 4096)
 
 pub media_size : (size sector : ℕ)
-    → Decides (nat_le 1 size && ((size % sector == 0) && nat_le size (2 ^ 60))) (IsMediaSize size sector)
+    → Decides (nat_le 1 size && ((size % sector == 0) && nat_le size MAX_MEDIA_BYTES)) (IsMediaSize size sector)
 media_size size sector =
     Decides-like _
     (λ h. record { positive = h.0; whole = h.1.0; limited = h.1.1 })
     (λ h. (h.positive, (h.whole, h.limited)))
-    (Decides-and _ _ (at_most 1 size) (Decides-and _ _ (Decides-eqb (size % sector) 0) (at_most size (2 ^ 60))))
+    (Decides-and _ _ (at_most 1 size) (Decides-and _ _ (Decides-eqb (size % sector) 0) (at_most size MAX_MEDIA_BYTES)))
 
 header_disk : (d : HeaderDisk) → Decides (is_header_disk d) (IsHeaderDisk d)
 header_disk d =
@@ -153,7 +153,7 @@ held_places g =
     (λ h. (h.apart, h.few))
     (Decides-and _ _
     (pairs (λ a b. not (a == b)) (λ a b. a ≢ b) (λ a b. Decides-not (a == b) (Decides-eqb a b)) (components g.config))
-    (at_most (length (places_of g.config)) component_limit))
+    (at_most (length (places_of g.config)) MAX_COMPONENTS))
 
 -- The taste
 
@@ -211,7 +211,7 @@ runs_bytes bytes =
     (λ h. record { some = h.0; not_long = h.1.0; each = h.1.1 })
     (λ h. (h.some, (h.not_long, h.each)))
     (Decides-and _ _ (at_most 1 (length bytes))
-    (Decides-and _ _ (at_most (length bytes) 65536) (each _ _ (λ b. Decides-ltb b 256) bytes)))
+    (Decides-and _ _ (at_most (length bytes) MAX_RUNS_BYTES) (each _ _ (λ b. Decides-ltb b 256) bytes)))
 
 names : (ns : List (List ℕ)) → Decides (are_components ns) (AreComponents ns)
 names ns =
@@ -227,7 +227,7 @@ mark id place count =
     (λ h. record { id_fits = h.0; place_fits = h.1.0; some_place = h.1.1.0; few_places = h.1.1.1 })
     (λ h. (h.id_fits, (h.place_fits, (h.some_place, h.few_places))))
     (Decides-and _ _ (Decides-ltb id (2 ^ 32))
-    (Decides-and _ _ (Decides-ltb place 65536) (Decides-and _ _ (at_most 1 count) (at_most count 16))))
+    (Decides-and _ _ (Decides-ltb place (2 ^ 16)) (Decides-and _ _ (at_most 1 count) (at_most count MAX_COMPONENTS))))
 
 stripe_size : (n : ℕ) → Decides (is_stripe n) (IsStripe n)
 stripe_size n =

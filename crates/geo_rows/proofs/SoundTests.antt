@@ -21,21 +21,21 @@ use Rattle.geo_base.specs.declared.kind.Kind.{Kind}
 use Rattle.geo_base.specs.declared.kind.Kind.TheVariants as kinds
 use Rattle.geo_base.specs.declared.request.BioCmd.{BioCmd}
 use Rattle.geo_base.specs.declared.request.BioCmd.TheVariants as cmds
+use Rattle.geo_base.specs.declared.limits.TheConstants.{MAX_LINKS, MAX_RANK, MAX_REQUEST_BYTES, UNTASTED_RANK}
 use Rattle.geo_model.specs.declared.class.EbrPart.{EbrPart}
 use Rattle.geo_model.specs.declared.step.Owner.{Owner}
 use Rattle.geo_model.specs.declared.step.Owner.TheVariants as owners
 use Rattle.geo_model.specs.Words.{◌>>=◌, is_read, is_write, is_flush, is_kind, same_cmd, names_number, same_name}
 use Rattle.geo_model.specs.Topology.{Topology, Geom, Provider, Consumer, geom_at, provider_at, consumer_at, geom_of_provider, providers_of, consumers_of, is_withering}
 use Rattle.geo_model.specs.Graph.{AreNumbers}
-use Rattle.geo_model.specs.Rank.{rank, rank_limit}
+use Rattle.geo_model.specs.Rank.{rank}
 use Rattle.geo_model.specs.Demand.{have, want, is_zero, is_exclusive, fits_limit}
 use Rattle.geo_model.specs.World.{World, Config, Bio, Taste, Asked, NoClass, NextSector, ReadOut, ReadBack, granted_in, bio_at, is_read_out, is_root, is_taste_root, is_done, is_busy, is_sent, is_waiting}
 use Rattle.geo_model.specs.Place.{Spot, place, component, disk_of}
 use Rattle.geo_model.specs.Bios.{disk_of_bio, is_complete}
-use Rattle.geo_model.specs.Chain.{Chain, link_limit, BeginsAtZero}
-use Rattle.geo_model.specs.Events.{provider_of_event, taste_limit}
+use Rattle.geo_model.specs.Chain.{Chain, BeginsAtZero}
+use Rattle.geo_model.specs.Events.{provider_of_event}
 use Rattle.geo_model.specs.Order.{reads_limit}
-use Rattle.geo_model.specs.Requests.{request_limit}
 use Rattle.geo_model.specs.Sound.{StandsBare, RanksHold, CountsHold, ProvidersHold, fits_kind, IsOfItsClass, DifferInDisk, HasDiskSizes, NumbersHold, IsHandleConsumer, IsTasting, HandlesHold, AreReadsInOrder, class_asked, reads_out, IsNext, IsPartOf, ChainHolds, HasItsChain, IsTasteInOrder, EventsHold, IsPlaceInside, IsPlaced, LeadsDown}
 use Rattle.geo_model.specs.SoundBios.{IsRangeInside, HasCountFor, IsBioInOrder, ChildShape, HasItsPieces, HasItsParent, IsFamilyInOrder, NotBothBusy, DisksHold}
 use Rattle.geo_rows.specs.WorkedSound.{some_and, none_or, all_pairs, same_test, stands_bare, ranks_hold, counts_hold, providers_hold, are_numbers, has_disk_sizes, differ_in_disk, is_of_its_class, numbers_hold, has_taste_consumer, handles_hold, has_count_for, is_range_inside, is_bio_in_order, same_shape, same_shapes, has_its_pieces, has_its_parent, is_family_in_order, not_both_busy, disks_hold, are_reads_in_order, is_next, begins_at_zero, is_part_of, chain_holds, has_its_chain, is_taste_in_order, events_hold, is_place_inside, is_placed, leads_down, is_sound, TestsSound}
@@ -93,7 +93,7 @@ ranks t =
     (Decides-and _ _
     (each _ _ (λ x.
     unless_it (x.number == 1) _ (Decides-eqb x.number 1)
-    (unless_it (x.number == 2) _ (Decides-eqb x.number 2) (at_most (rank t x.number) rank_limit))) t.geoms)
+    (unless_it (x.number == 2) _ (Decides-eqb x.number 2) (at_most (rank t x.number) MAX_RANK))) t.geoms)
     (Decides-and _ _ (stands t 1) (Decides-and _ _ (stands t 2) always))))
 
 -- access counts
@@ -251,7 +251,7 @@ range_inside x p =
     })
     (λ h. (h.some_byte, (h.not_long, (h.offset_whole, (h.len_whole, (h.inside, tt))))))
     (Decides-and _ _ (at_most 1 x.len)
-    (Decides-and _ _ (at_most x.len request_limit)
+    (Decides-and _ _ (at_most x.len MAX_REQUEST_BYTES)
     (Decides-and _ _ (Decides-eqb (x.offset % p.sector) 0)
     (Decides-and _ _ (Decides-eqb (x.len % p.sector) 0)
     (Decides-and _ _ (at_most (x.offset + x.len) p.size) always)))))
@@ -445,7 +445,7 @@ one_chain n asked made c =
     })
     (λ h. (h.reads, (h.few, (h.parts, (h.sector, (h.zero, (h.inside, (h.near, (h.apart, (h.new, tt))))))))))
     (Decides-and _ _ (Decides-eqb made (length c.links + reads_out asked))
-    (Decides-and _ _ (Decides-ltb (length c.links) link_limit)
+    (Decides-and _ _ (Decides-ltb (length c.links) MAX_LINKS)
     (Decides-and _ _ (each _ _ (λ l. if_there l.part _ _ (part_of n)) c.links)
     (Decides-and _ _ (next asked c.next)
     (Decides-and _ _ (from_zero (map (λ l. l.sector) c.links ++ c.next ∷ []))
@@ -491,7 +491,7 @@ taste w s =
     (λ h. record { rank = h.0; reads = h.1.0; chain = h.1.1.0 })
     (λ h. (h.rank, (h.reads, (h.chain, tt))))
     (Decides-and _ _
-    (there_and (geom_of_provider w.topology s.provider) _ _ (λ g. Decides-ltb (rank w.topology g.number) taste_limit))
+    (there_and (geom_of_provider w.topology s.provider) _ _ (λ g. Decides-ltb (rank w.topology g.number) UNTASTED_RANK))
     (Decides-and _ _ (reads s.asked s.reads) (Decides-and _ _ (its_chain w s) always)))
 
 -- all of EventsHold

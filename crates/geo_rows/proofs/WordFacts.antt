@@ -3,6 +3,7 @@ use Rattle.std.specs.Fmt.{digits}
 use Rattle.std.specs.Prelude.{◌≡◌, ◌≢◌, ◌⊎◌, ℕ, zero, suc, ◌+◌, ◌<◌, ◌≤◌, List, [], ◌∷◌, length, get_or, codes, decimal}
 use Rattle.std.proofs.Common.{refl, sym, ◌∙◌, ap, arith, inl, inr}
 use Rattle.std.proofs.lemmas.Fmt.{decimal_digit, first_decimal, decimal_injective}
+use Rattle.geo_base.specs.declared.limits.TheConstants.{MAX_START}
 use Rattle.geo_headline.specs.Modes.{Mode, StepMode, RunMode, GenMode, SweepMode, WatchMode, TraceMode, VerifyMode, Accepts, words_for}
 use Rattle.geo_rows.specs.WorkedWords.{AskNothing, gen_words}
 
@@ -88,7 +89,7 @@ third : List (List ℕ) → List ℕ
 third (a ∷ b ∷ c ∷ rest) = c
 third words = []
 
-zero_in_front : (s : ℕ) → s ≤ 2147483647 → codes "01" ≡ decimal s → ⊥
+zero_in_front : (s : ℕ) → s ≤ MAX_START → codes "01" ≡ decimal s → ⊥
 zero_in_front zero low e = let both : codes "01" ≡ (48 + 0) ∷ [] = e ∙ decimal_digit 0 (omega arith) in
     let bad : ⊥ = cc in bad
 zero_in_front (suc s) low e =

@@ -1,10 +1,11 @@
 -- The wrong programs are refused.
-use Rattle.std.specs.Prelude.{◌≡◌, ◌≢◌, ℕ, ◌+◌, ◌-◌, ◌^◌, ◌≤◌, ◌<◌, List, ◌∷◌, ◌++◌, length, Option, Some, None, Ok, Err, IsSome, IsSomeAnd, IfSome, All}
+use Rattle.std.specs.Prelude.{◌≡◌, ◌≢◌, ℕ, ◌+◌, ◌-◌, ◌≤◌, ◌<◌, List, ◌∷◌, ◌++◌, length, Option, Some, None, Ok, Err, IsSome, IsSomeAnd, IfSome, All}
 use Rattle.std.proofs.Common.{sym, ◌∙◌, ap, subst, arith}
 use Rattle.std.proofs.Math.Seq.{get_or-append_seam}
 use Rattle.std.proofs.lemmas.List.{length-append}
 use Rattle.geo_base.specs.Faults.{Rose}
 use Rattle.geo_base.specs.Images.{Images, IsDiskSize}
+use Rattle.geo_base.specs.declared.limits.TheConstants.{MAX_LOG_ENTRIES}
 use Rattle.geo_model.specs.declared.command.DiskDecl.{DiskDecl}
 use Rattle.geo_model.specs.declared.step.Entry.{Entry}
 use Rattle.geo_model.specs.World.{World, Plan}
@@ -220,7 +221,7 @@ full_at_once-refused call mode plan ending wrong kept =
 
 too_early : (mode : Mode) (plan : Plan) (opened : World) (log : Option (List Entry))
     → IsSomeAnd log (LogRanFull mode plan opened)
-    → IfSome log (λ l. length l + owed (replay opened l) < 2 ^ 32 - 1) → ⊥
+    → IfSome log (λ l. length l + owed (replay opened l) < MAX_LOG_ENTRIES - 1) → ⊥
 too_early mode plan opened None full room = full
 too_early mode plan opened (Some log) full room = omega (arith, full.nearly, room)
 

@@ -7,6 +7,7 @@ use Rattle.geo_base.specs.Name.{is_short_name, is_name}
 use Rattle.geo_base.specs.declared.kind.Kind.{Kind}
 use Rattle.geo_base.specs.declared.kind.Kind.TheVariants as kinds
 use Rattle.geo_base.specs.declared.request.Counts.{Counts}
+use Rattle.geo_base.specs.declared.limits.TheConstants.{MAX_COMPONENTS, MAX_MEDIA_BYTES, MAX_RUNS_BYTES}
 use Rattle.geo_model.specs.declared.command.Command.{Command}
 use Rattle.geo_model.specs.declared.command.Command.TheVariants as commands
 use Rattle.geo_model.specs.declared.step.BioResult.{BioResult}
@@ -17,7 +18,6 @@ use Rattle.geo_model.specs.Topology.{Topology, Geom, Provider, Consumer, geom_at
 use Rattle.geo_model.specs.World.{World, Config, Mbr, Ebr, Stripe, Nop, Plan, HeaderDisk, Asked, NoClass, NextSector, ReadOut, ReadBack, is_taste_root}
 use Rattle.geo_model.specs.Place.{components}
 use Rattle.geo_model.specs.Acceptance.{taste_where, places_of, joined_size}
-use Rattle.geo_model.specs.Append.{component_limit}
 use Rattle.geo_model.specs.Tasting.{facts_of}
 use Rattle.geo_model.specs.Fitting.{Fitting, sizes_of}
 use Rattle.geo_model.specs.Log.{moments, replay}
@@ -31,7 +31,7 @@ is_sector_size size = (size == 512) || (size == 4096)
 
 abbrev pub is_header_disk : HeaderDisk → Bool
 is_header_disk d =
-    is_sector_size d.sector && (nat_le 1 d.size && ((d.size % d.sector == 0) && nat_le d.size (2 ^ 60)))
+    is_sector_size d.sector && (nat_le 1 d.size && ((d.size % d.sector == 0) && nat_le d.size MAX_MEDIA_BYTES))
 
 -- whether the windows and strips of a configuration are whole sectors of this size
 abbrev pub is_whole_in : Config → ℕ → Bool
@@ -97,7 +97,7 @@ has_its_sum t g =
 -- whether the places of a geom name different consumers, and are at most sixteen
 abbrev pub places_hold : Geom Config → Bool
 places_hold g = all_pairs (λ a b. not (a == b)) (components g.config)
-    && nat_le (length (places_of g.config)) component_limit
+    && nat_le (length (places_of g.config)) MAX_COMPONENTS
 
 -- whether the words of a command have their forms
 
@@ -113,13 +113,15 @@ is_grant a = all_hold
     ∷ [])
 
 abbrev pub is_runs_bytes : List ℕ → Bool
-is_runs_bytes bytes = nat_le 1 (length bytes) && (nat_le (length bytes) 65536 && list_all (λ b. nat_lt b 256) bytes)
+is_runs_bytes bytes =
+    nat_le 1 (length bytes) && (nat_le (length bytes) MAX_RUNS_BYTES && list_all (λ b. nat_lt b 256) bytes)
 
 abbrev pub are_components : List (List ℕ) → Bool
 are_components names = nat_le 1 (length names) && (nat_le (length names) 16 && list_all is_name names)
 
 abbrev pub is_mark : ℕ → ℕ → ℕ → Bool
-is_mark id place count = nat_lt id (2 ^ 32) && (nat_lt place 65536 && (nat_le 1 count && nat_le count 16))
+is_mark id place count =
+    nat_lt id (2 ^ 32) && (nat_lt place (2 ^ 16) && (nat_le 1 count && nat_le count MAX_COMPONENTS))
 
 abbrev pub is_stripe : ℕ → Bool
 is_stripe stripe = nat_le 1 stripe && nat_lt stripe (2 ^ 32)

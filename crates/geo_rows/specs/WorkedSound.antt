@@ -1,24 +1,24 @@
 -- The facts of Sound as tests, so that they can be computed at each moment of the worked runs. Offsets of a provider
 -- are tried at the beginning of each sector.
-use Rattle.std.specs.Prelude.{◌≡◌, All, ℕ, ◌+◌, ◌*◌, ◌/◌, ◌%◌, ◌^◌, ◌==◌, nat_lt, nat_le, Bool, true, false, not, ◌&&◌, ◌||◌, List, [], ◌∷◌, ◌++◌, length, map, count_by, Option, Some, None, is_some, slice_get, option_and_then, bytes_eq}
+use Rattle.std.specs.Prelude.{◌≡◌, All, ℕ, ◌+◌, ◌*◌, ◌/◌, ◌%◌, ◌==◌, nat_lt, nat_le, Bool, true, false, not, ◌&&◌, ◌||◌, List, [], ◌∷◌, ◌++◌, length, map, count_by, Option, Some, None, is_some, slice_get, option_and_then, bytes_eq}
 use Rattle.std.specs.List.{list_all, list_any, enumerate_from, range_with_len}
 use Rattle.std.specs.Option.{option_map_or}
 use Rattle.geo_base.specs.declared.kind.Kind.TheVariants as kinds
+use Rattle.geo_base.specs.declared.limits.TheConstants.{MAX_LINKS, MAX_MEDIA_BYTES, MAX_RANK, MAX_REQUEST_BYTES, UNTASTED_RANK}
 use Rattle.geo_model.specs.declared.class.EbrPart.{EbrPart}
 use Rattle.geo_model.specs.declared.step.Entry.{Entry}
 use Rattle.geo_model.specs.Words.{is_read, is_write, is_flush, is_kind, same_cmd, names_number, same_name}
 use Rattle.geo_model.specs.Topology.{Topology, Geom, Provider, Consumer, geom_at, provider_at, consumer_at, geom_of_provider, provider_with_geom, providers_of, consumers_of, is_withering}
-use Rattle.geo_model.specs.Rank.{rank, rank_limit}
+use Rattle.geo_model.specs.Rank.{rank}
 use Rattle.geo_model.specs.Demand.{have, want, is_zero, is_exclusive, fits_limit}
 use Rattle.geo_model.specs.World.{World, Config, Plan, Bio, Taste, Asked, NoClass, NextSector, granted_in, bio_at, children_of, is_read_out, is_root, is_taste_root, is_done, is_busy, is_sent, is_waiting}
 use Rattle.geo_model.specs.declared.step.Owner.{Owner}
 use Rattle.geo_model.specs.declared.step.Owner.TheVariants as owners
 use Rattle.geo_model.specs.Place.{Spot, place, component, disk_of}
 use Rattle.geo_model.specs.Bios.{piece_targets, disk_of_bio, is_complete}
-use Rattle.geo_model.specs.Chain.{Chain, link_limit}
-use Rattle.geo_model.specs.Events.{provider_of_event, taste_limit}
+use Rattle.geo_model.specs.Chain.{Chain}
+use Rattle.geo_model.specs.Events.{provider_of_event}
 use Rattle.geo_model.specs.Order.{reads_limit}
-use Rattle.geo_model.specs.Requests.{request_limit}
 use Rattle.geo_model.specs.Log.{moments, replay}
 use Rattle.geo_model.specs.Opening.{opening}
 use Rattle.geo_rows.specs.FixedRuns.{run_fixed, zero_devices}
@@ -54,7 +54,7 @@ abbrev pub ranks_hold : Topology Config → Bool
 ranks_hold t = all_hold
     (list_all (λ c.
     none_or c.provider (λ p. some_and (provider_at t p) (λ x. nat_lt (rank t x.geom) (rank t c.geom)))) t.consumers
-    ∷ list_all (λ x. (x.number == 1) || ((x.number == 2) || nat_le (rank t x.number) rank_limit)) t.geoms
+    ∷ list_all (λ x. (x.number == 1) || ((x.number == 2) || nat_le (rank t x.number) MAX_RANK)) t.geoms
     ∷ stands_bare t 1
     ∷ stands_bare t 2
     ∷ [])
@@ -66,7 +66,7 @@ abbrev pub providers_hold : Topology Config → Bool
 providers_hold t = all_hold
     (all_pairs (λ x y. not (not x.errored && (not y.errored && same_name x.name y.name))) t.providers
     ∷ list_all (λ x. not (is_withering t x.geom) || x.errored) t.providers
-    ∷ list_all (λ x. nat_le 1 x.size && ((x.size % x.sector == 0) && nat_le x.size (2 ^ 60))) t.providers
+    ∷ list_all (λ x. nat_le 1 x.size && ((x.size % x.sector == 0) && nat_le x.size MAX_MEDIA_BYTES)) t.providers
     ∷ [])
 
 abbrev pub are_numbers : List ℕ → ℕ → Bool
@@ -140,7 +140,7 @@ has_count_for w x c =
 abbrev pub is_range_inside : Bio → Provider → Bool
 is_range_inside x p = all_hold
     (nat_le 1 x.len
-    ∷ nat_le x.len request_limit
+    ∷ nat_le x.len MAX_REQUEST_BYTES
     ∷ (x.offset % p.sector == 0)
     ∷ (x.len % p.sector == 0)
     ∷ nat_le (x.offset + x.len) p.size
@@ -220,7 +220,7 @@ is_part_of n s = nat_le 1 s.count && nat_le (s.first + s.count) n
 abbrev pub chain_holds : ℕ → Asked → ℕ → Chain → Bool
 chain_holds n asked made c = all_hold
     ((made == length c.links + reads_out asked)
-    ∷ nat_lt (length c.links) link_limit
+    ∷ nat_lt (length c.links) MAX_LINKS
     ∷ list_all (λ l. none_or l.part (is_part_of n)) c.links
     ∷ is_next asked c.next
     ∷ begins_at_zero (map (λ l. l.sector) c.links ++ c.next ∷ [])
@@ -238,7 +238,7 @@ has_its_chain w s =
 
 abbrev pub is_taste_in_order : World → Taste → Bool
 is_taste_in_order w s = all_hold
-    (some_and (geom_of_provider w.topology s.provider) (λ g. nat_lt (rank w.topology g.number) taste_limit)
+    (some_and (geom_of_provider w.topology s.provider) (λ g. nat_lt (rank w.topology g.number) UNTASTED_RANK)
     ∷ are_reads_in_order s.asked s.reads
     ∷ has_its_chain w s
     ∷ [])

@@ -2,6 +2,7 @@
 use Rattle.std.specs.Prelude.{◌≡◌, ◌≢◌, ℕ, ◌+◌, ◌-◌, ◌^◌, ◌<◌, ◌≤◌, true, List, [], ◌∷◌, ◌++◌, length, Ok, Some, None, IsSome, IfSome, All, Contains, codes}
 use Rattle.geo_base.specs.Faults.{Rose}
 use Rattle.geo_base.specs.Images.{Images}
+use Rattle.geo_base.specs.declared.limits.TheConstants.{MAX_LOG_ENTRIES}
 use Rattle.geo_disk.specs.declared.shelf.ShelfCall.{ShelfCall}
 use Rattle.geo_disk.specs.declared.shelf.ShelfCall.TheVariants as shelf_calls
 use Rattle.geo_model.specs.declared.command.DiskDecl.{DiskDecl}
@@ -73,7 +74,8 @@ AnswersFullAtOnce call = (call.status ≡ 7) × (call.log ≡ Some [])
 abbrev pub AnswersFullTooEarly : Call → Type 0
 AnswersFullTooEarly call =
     (call.status ≡ 7)
-    × ((plan : Plan) → IfSome call.log (λ log. length log + owed (replay (opening plan call.facts) log) < 2 ^ 32 - 1))
+    × ((plan : Plan) →
+    IfSome call.log (λ log. length log + owed (replay (opening plan call.facts) log) < MAX_LOG_ENTRIES - 1))
 
 -- the text isn't too long for what the words ask, and yet it says so
 abbrev pub AnswersTooLong : Call → Type 0

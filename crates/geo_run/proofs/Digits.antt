@@ -10,6 +10,7 @@ use Rattle.std.proofs.lemmas.Fmt.{digits_decimal, digits_value-decimal, decimal-
 use Rattle.std.proofs.lemmas.Str.Parse.{IsNumeralModel, numerals_by_value, tells_all_ascii_digits, not_in_digits, parse_plain}
 use Rattle.std.specs.Cmp.Lexicographic.{same_text}
 use Rattle.std.proofs.lemmas.Slice.Eq.{bytes_eq-Decides}
+use Rattle.geo_base.specs.declared.limits.TheConstants.{MAX_DRAWN_LINES, MAX_START}
 use Rattle.geo_headline.specs.Modes.{Accepts, GenMode, IsAlone, IsMode, Mode, StartsThreads, RunMode, StepMode, SweepMode, TraceMode, VerifyMode, WatchMode, words_for}
 use Rattle.geo_run.specs.Numbers.{IsNumberWithin, IsPlain}
 use Rattle.geo_run.specs.declared.words.Threaded.TheVariants as threads
@@ -77,7 +78,7 @@ none_is_some x xs e = cc
 
 -- three words are accepted for no mode, if no numbers are written so
 not_generated : (first start count : List ℕ)
-    → ((s c : ℕ) → s ≤ 2147483647 → c ≤ 4000 → start ≡ decimal s → count ≡ decimal c → ⊥)
+    → ((s c : ℕ) → s ≤ MAX_START → c ≤ MAX_DRAWN_LINES → start ≡ decimal s → count ≡ decimal c → ⊥)
     → AsksFor (first ∷ start ∷ count ∷ []) None
 not_generated first start count h = λ alone mode a. by mode a
   where
@@ -97,11 +98,12 @@ not_generated first start count h = λ alone mode a. by mode a
         (first_same count (decimal c) [] [] (rest_same start (decimal s) (count ∷ []) (decimal c ∷ []) both))
 
 -- START isn't a number
-pub no_start : (start count : List ℕ) → IsNumberWithin 2147483647 start None → AsksFor (codes "gen" ∷ start ∷ count ∷ []) None
+pub no_start : (start count : List ℕ) → IsNumberWithin MAX_START start None
+    → AsksFor (codes "gen" ∷ start ∷ count ∷ []) None
 no_start start count none = not_generated (codes "gen") start count (λ s c few less is other. none s few is)
 
 -- START is a number, and COUNT is one or isn't
-pub with_start : (start count : List ℕ) (n : ℕ) (r : Option Work) → IsNumberWithin 2147483647 start (Some n)
+pub with_start : (start count : List ℕ) (n : ℕ) (r : Option Work) → IsNumberWithin MAX_START start (Some n)
     → AsksCount n count r → AsksFor (codes "gen" ∷ start ∷ count ∷ []) r
 with_start start count n None is none = not_generated (codes "gen") start count (λ s c few less e other. none c less other)
 with_start start count n (Some work) is counted =

@@ -12,6 +12,7 @@ use Rattle.geo_headline.specs.Outside.{IsShelf}
 use Rattle.std.specs.List.{AllByRecursion}
 use Rattle.std.proofs.Common.{sym, subst}
 use Rattle.std.proofs.lemmas.List.Elements.{All-from_recursion}
+use Rattle.geo_base.specs.declared.limits.TheConstants.{MAX_SCRIPT_LINES}
 use Rattle.geo_model.specs.Generator.{actor_lines, disk_lines, drawn_lines, draws, draw_value, first_lines, generated, next_draw}
 use Rattle.geo_headline.specs.Modes.{GenMode, IsMode}
 use Rattle.geo_model.specs.Script.{Fault, drop_empty_end, empty_plan, lines_of, next_line, script}
@@ -79,7 +80,7 @@ record GoesOn (plan : Plan) (from : ℕ) (lines : List (List ℕ)) (count : ℕ)
   commands : length then_plan.commands ≡ length plan.commands + count
 
 -- the lines that are drawn add a command each
-draws_add : (plan : Plan) (from i n x : ℕ) → plan.actors ≡ four_actors → from + n ≤ 4097
+draws_add : (plan : Plan) (from i n x : ℕ) → plan.actors ≡ four_actors → from + n ≤ MAX_SCRIPT_LINES + 1
     → GoesOn plan from (drawn_texts i n x) n
 draws_add plan from i zero x are few = record {
   then_plan = plan;

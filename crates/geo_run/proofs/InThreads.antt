@@ -1,6 +1,7 @@
 -- What threads made of a mesh, and what was made after them.
 use Rattle.std.proofs.Common.{◌≡◌, List, [], ◌++◌, Option, Some, None, Result, Err, OnOk, IsErrOf, refl, sym, subst, inl, inr, slice_get}
 use Rattle.std.proofs.lemmas.List.{append-nil}
+use Rattle.geo_base.specs.declared.limits.TheConstants.{MAX_SCRIPT_BYTES}
 use Rattle.geo_model.specs.declared.step.Entry.{Entry}
 use Rattle.geo_model.specs.FixedOrder.{FollowsOrder, fixed_order}
 use Rattle.geo_model.specs.Order.{Rest}
@@ -144,7 +145,7 @@ run_of_mode SweepMode old left xs ys answer is ran = absurd is
 run_of_mode WatchMode old left xs ys answer is ran = absurd is
 run_of_mode VerifyMode old left xs ys answer is ran = absurd is
 
-pub limit_of_mode : (mode : Mode) → IsOfThreads mode → 4194304 ≡ source_limit mode
+pub limit_of_mode : (mode : Mode) → IsOfThreads mode → MAX_SCRIPT_BYTES ≡ source_limit mode
 limit_of_mode RunMode is = refl
 limit_of_mode TraceMode is = refl
 limit_of_mode StepMode is = absurd is

@@ -5,6 +5,7 @@ use Rattle.std.specs.Option.{option_map}
 use Rattle.geo_disk.specs.Counts.{counted_many}
 use Rattle.geo_base.specs.Images.{Images, IsDiskSize}
 use Rattle.geo_base.specs.Sectors.{IsSectorSize, joined_sectors, sectors_of, zero_sectors}
+use Rattle.geo_base.specs.declared.limits.TheConstants.{MAX_MEMORY_DISK_BYTES}
 use Rattle.geo_model.specs.declared.command.DiskDecl.{DiskDecl}
 use Rattle.geo_model.specs.declared.command.DiskKind.{DiskKind}
 use Rattle.geo_model.specs.declared.command.DiskKind.TheVariants as disk_kinds
@@ -68,7 +69,7 @@ fact_had : (a b : ShelfView) (d : DiskDecl) (x : DriveView) (kind : DiskKind) �
 fact_had a b d x disk_kinds.Ram k decl h =
     let sizes : HasHeaderSectors disk_kinds.Ram d.sector d.sectors =
     subst (λ (q : DiskKind). HasHeaderSectors q d.sector d.sectors) k decl.sectors in
-    let few : d.sectors * d.sector ≤ 67108864 = sizes.1 in
+    let few : d.sectors * d.sector ≤ MAX_MEMORY_DISK_BYTES = sizes.1 in
     let some : 1 ≤ d.sectors = sizes.0 in
     let prod : x.count * x.sector ≡ d.sectors * d.sector = ap (λ n. n * x.sector) h.count ∙ ap (λ n. d.sectors * n) h.sector in
     record {

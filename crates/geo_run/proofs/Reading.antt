@@ -1,6 +1,7 @@
 -- Runs of texts and of sources.
 use Rattle.std.proofs.Common.{◌≡◌, ℕ, ◌+◌, ◌≤◌, List, [], ◌++◌, length, Option, Some, None, Result, Ok, Err, refl, sym, ap, subst, inl, inr, arith, IfSome, IsSomeAnd, IsErrOf}
 use Rattle.geo_base.specs.Faults.{Rose}
+use Rattle.geo_base.specs.declared.limits.TheConstants.{MAX_TRACE_BYTES}
 use Rattle.geo_io.specs.declared.reading.ReadRefusal.{ReadRefusal}
 use Rattle.geo_io.specs.declared.reading.ReadRefusal.TheVariants as reads_refused
 use Rattle.geo_io.specs.Source.{Gives, GivesAtMost, GivesMany, Goes, IsAtEnd, IsEnd, SourceView}
@@ -160,9 +161,9 @@ source_unread mode limit s t finish stop a limit_is part due log = record {
 
 -- how long a trace may be
 pub trace_within : (limit : ℕ) (bytes text : List ℕ) → limit ≡ source_limit VerifyMode → bytes ≡ text
-    → length text ≤ limit → length bytes ≤ 67108864
+    → length text ≤ limit → length bytes ≤ MAX_TRACE_BYTES
 trace_within limit bytes text limit_is is few =
-    let most : limit ≡ 67108864 = limit_is in
+    let most : limit ≡ MAX_TRACE_BYTES = limit_is in
     let same : length bytes ≡ length text = ap (λ (bs : List ℕ). length bs) is in omega (arith, most, same, few)
 
 -- what was found of the text of a source

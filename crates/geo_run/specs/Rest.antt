@@ -1,5 +1,6 @@
 -- How a mesh goes to rest in an order.
-use Rattle.std.specs.Prelude.{◌≡◌, ◌+◌, ◌-◌, ◌^◌, ◌≤◌, List, length}
+use Rattle.std.specs.Prelude.{◌≡◌, ◌+◌, ◌-◌, ◌≤◌, List, length}
+use Rattle.geo_base.specs.declared.limits.TheConstants.{MAX_LOG_ENTRIES}
 use Rattle.geo_model.specs.declared.step.Entry.{Entry}
 use Rattle.geo_model.specs.World.{World}
 use Rattle.geo_model.specs.Log.{replay, owed}
@@ -19,4 +20,4 @@ pub record Adds (order : StepOrder) (old new : MeshView) (before after : List Dr
 -- the step that is due has no place in the log, which with the places owed is as long as it may be, or one shorter
 pub record RanFull (order : StepOrder) (opened : World) (log : List Entry) : Type 0 where
   pub due : NextIsFull order opened log
-  pub nearly : 2 ^ 32 - 1 ≤ length log + owed (replay opened log)
+  pub nearly : MAX_LOG_ENTRIES - 1 ≤ length log + owed (replay opened log)

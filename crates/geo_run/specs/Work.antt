@@ -2,6 +2,7 @@
 use Rattle.std.specs.Prelude.{◌≡◌, ℕ, List, map, Option, Some, None, string_bytes}
 use Rattle.std.specs.declared.string.String.{String}
 use Rattle.std.specs.declared.alloc.Global.{Global}
+use Rattle.geo_base.specs.declared.limits.TheConstants.{MAX_DRAWN_LINES}
 use Rattle.geo_headline.specs.Modes.{Mode, StepMode, RunMode, GenMode, SweepMode, WatchMode, TraceMode, VerifyMode, Accepts, IsAlone}
 use Rattle.geo_run.specs.Numbers.{IsNumberWithin}
 use Rattle.geo_run.specs.declared.words.Threaded.{Threaded}
@@ -36,5 +37,6 @@ AsksFor words None = IsAlone words → (mode : Mode) → Accepts words mode → 
 
 -- COUNT is a number, and with this START the work is to run the script of both, or it isn't one
 abbrev pub AsksCount : ℕ → List ℕ → Option Work → Type 0
-AsksCount start count (Some work) = (n : ℕ) × (work ≡ works.Generate start n) × IsNumberWithin 4000 count (Some n)
-AsksCount start count None = IsNumberWithin 4000 count None
+AsksCount start count (Some work) =
+    (n : ℕ) × (work ≡ works.Generate start n) × IsNumberWithin MAX_DRAWN_LINES count (Some n)
+AsksCount start count None = IsNumberWithin MAX_DRAWN_LINES count None

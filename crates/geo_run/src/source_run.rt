@@ -13,7 +13,8 @@ use crate::script_run::run_script;
 use crate::stop::Stop;
 use crate::threaded::{Run, Trace, run_source_in_threads};
 use crate::verify_run::run_verify;
-use crate::words::{LONGEST_SCRIPT, Threaded, Work, work_of};
+use crate::words::{Threaded, Work, work_of};
+use geo_base::MAX_SCRIPT_BYTES;
 use geo_disk::Shelf;
 use geo_gen::make_script;
 use geo_io::Source;
@@ -31,14 +32,14 @@ pub fn run_source<S: Source, H: Shelf, C: Runner<H::D>>(
 ) -> Finish
 where
     H::D: Drop,
-    requires limit { source_limit (C.mode runner.now) ≡ 4194304 }
+    requires limit { source_limit (C.mode runner.now) ≡ MAX_SCRIPT_BYTES }
     ensures { FinishesSource (C.mode runner.now)
         (S.view source.old)
         (S.view source.new) result
         (H.view shelf.old)
         (H.view shelf.new) }
 {
-    match read_source(alloc, source, LONGEST_SCRIPT) {
+    match read_source(alloc, source, MAX_SCRIPT_BYTES) {
         Ok(text) => run_script(alloc, text.bytes(), runner, shelf),
         Err(stop) => unopened(alloc, stop),
     }

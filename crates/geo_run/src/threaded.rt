@@ -19,8 +19,7 @@ use crate::opened::{Opened, open_script};
 use crate::read::read_source;
 use crate::runner::{Driven, Reporter};
 use crate::script_run::finish_run;
-use crate::words::LONGEST_SCRIPT;
-use geo_base::{Block, NoMemory};
+use geo_base::{Block, MAX_SCRIPT_BYTES, NoMemory};
 use geo_disk::{Disk, Drive, Shelf};
 use geo_elev::{DrainRefusal, FixedOrder, Mesh, run_to_rest};
 use geo_io::Source;
@@ -205,7 +204,7 @@ where
         (H.view shelf.old)
         (H.view shelf.new) }
 {
-    match read_source(rt.alloc(), source, LONGEST_SCRIPT) {
+    match read_source(rt.alloc(), source, MAX_SCRIPT_BYTES) {
         Ok(text) => run_script_in_threads(rt, gate, text.bytes(), reporter, shelf),
         Err(stop) => unopened(rt.alloc(), stop),
     }

@@ -7,14 +7,14 @@ ghost use Rattle.geo_run.specs.Calls.{FinishesVerified, IsFoundIn};
 use crate::finish::{Finish, unopened};
 use crate::read::read_source;
 use crate::stop::Stop;
-use crate::words::LONGEST_TRACE;
+use geo_base::MAX_TRACE_BYTES;
 use geo_io::Source;
 use geo_verify::{VerifyRefusal, verify};
 use std::alloc::Global;
 
 /// What is found of a text, or its first fault.
 fn found_in(alloc: Global, text: &[u8]) -> Stop
-    requires { length text.now ≤ 67108864 }
+    requires { length text.now ≤ MAX_TRACE_BYTES }
     ensures { IsFoundIn (verified text.now) result }
 {
     match verify(alloc, text) {
@@ -31,7 +31,7 @@ pub fn run_verify<S: Source>(alloc: Global, source: &mut S) -> Finish
         (S.view source.old)
         (S.view source.new) result shelf shelf }
 {
-    match read_source(alloc, source, LONGEST_TRACE) {
+    match read_source(alloc, source, MAX_TRACE_BYTES) {
         Ok(text) => unopened(alloc, found_in(alloc, text.bytes())),
         Err(stop) => unopened(alloc, stop),
     }

@@ -4,6 +4,8 @@ ghost use Rattle.geo_headline.specs.Modes.{Accepts, WatchMode};
 ghost use Rattle.geo_run.specs.Numbers.{IsNumberWithin, IsPlain};
 ghost use Rattle.geo_run.specs.Work.{AsksCount, AsksFor, AsksThreaded, word_bytes};
 
+use geo_base::{MAX_DRAWN_LINES, MAX_START};
+
 /// What the words ask for.
 #[derive(Clone, Copy, Debug, PartialEq, Eq)]
 pub enum Work {
@@ -16,18 +18,6 @@ pub enum Work {
     /// Say what is found of the trace that the source gives.
     Verify,
 }
-
-/// The longest script, in bytes.
-pub const LONGEST_SCRIPT: u32 = 4_194_304;
-
-/// The longest trace, in bytes.
-pub const LONGEST_TRACE: u32 = 67_108_864;
-
-/// The greatest START.
-const START_LIMIT: u32 = 2_147_483_647;
-
-/// The greatest COUNT.
-const COUNT_LIMIT: u32 = 4_000;
 
 /// Whether no plus and no zero stands before other bytes.
 fn is_plain(word: &[u8]) -> bool
@@ -64,7 +54,7 @@ fn number_in(word: &String, limit: u32) -> Option<u32>
 fn counted(start: u32, count: &String) -> Option<Work>
     ensures { AsksCount start (string_bytes count.now) result }
 {
-    match number_in(count, COUNT_LIMIT) {
+    match number_in(count, MAX_DRAWN_LINES) {
         None => None,
         Some(count) => Some(Work::Generate { start, count }),
     }
@@ -74,7 +64,7 @@ fn counted(start: u32, count: &String) -> Option<Work>
 fn generation(start: &String, count: &String) -> Option<Work>
     ensures { AsksFor (codes "gen" ∷ string_bytes start.now ∷ string_bytes count.now ∷ []) result }
 {
-    match number_in(start, START_LIMIT) {
+    match number_in(start, MAX_START) {
         None => None,
         Some(start) => counted(start, count),
     }

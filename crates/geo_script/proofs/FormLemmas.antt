@@ -2,6 +2,7 @@
 use Rattle.std.proofs.Common.{◌≡◌, ℕ, zero, suc, ◌+◌, ◌-◌, ◌<◌, ◌≤◌, Bool, true, false, List, [], ◌∷◌, ◌++◌, length, Option, Some, None, option_and_then, Result, Ok, Err, refl, sym, ◌∙◌, ap, arith, if◌then◌else◌, codes, append_assoc, append-nil, length-append}
 use Rattle.geo_base.specs.Name.{is_name}
 use Rattle.geo_base.specs.Runs.{IsRuns}
+use Rattle.geo_base.specs.declared.limits.TheConstants.{MAX_COMPONENTS}
 use Rattle.geo_model.specs.declared.command.Cause.{Cause}
 use Rattle.geo_model.specs.declared.command.Cause.TheVariants as causes
 use Rattle.geo_model.specs.Script.{◌>>=◌, Words, words_of, next_word, short_name, long_name, by_word, mark_words, mark_concat_words, mark_stripe_words, runs_words, runs_in, fitting_bytes, found_or, names_within, long_names, at_end, line_tests, plan_with_line, words_line}
@@ -95,11 +96,11 @@ after-next xs name (Err cause) = refl
 
 -- so many names may still stand
 abbrev pub room : List (List ℕ) → ℕ
-room xs = 16 - length xs
+room xs = MAX_COMPONENTS - length xs
 
 -- a name more
 pub names_on : (xs : List (List ℕ)) (ws : Words) (name : List ℕ) (rest : Words)
-    (all : Result (List (List ℕ)) Cause) → length xs < 16 → long_name ws ≡ Ok (name, rest) →
+    (all : Result (List (List ℕ)) Cause) → length xs < MAX_COMPONENTS → long_name ws ≡ Ok (name, rest) →
     after xs (names_within (room xs) ws) ≡ all
     → after (xs ++ name ∷ []) (names_within (room (xs ++ name ∷ [])) rest) ≡ all
 names_on xs ws name rest all few e whole =
@@ -110,15 +111,20 @@ names_on xs ws name rest all few e whole =
     ∙ ap (after xs) (within-next (room (xs ++ name ∷ [])) name rest is.named)
     ∙ after-next xs name (names_within (room (xs ++ name ∷ [])) rest)) ∙ whole
   where
-    one_less : (a b : ℕ) → b ≡ a + 1 → a < 16 → 16 - a ≡ suc (16 - b)
+    one_less : (a b : ℕ) → b ≡ a + 1 → a < MAX_COMPONENTS → MAX_COMPONENTS - a ≡ suc (MAX_COMPONENTS - b)
     one_less a b e h = omega arith
+
+-- so many names may stand behind the first
+abbrev more_names : ℕ
+more_names = MAX_COMPONENTS - 1
 
 -- the first name
 pub names_first : (ws : Words) (name : List ℕ) (rest : Words) → long_name ws ≡ Ok (name, rest)
-    → after (name ∷ []) (names_within 15 rest) ≡ names_within 16 ws
+    → after (name ∷ []) (names_within more_names rest) ≡ names_within MAX_COMPONENTS ws
 names_first ws name rest e =
     let is = is_first ws name rest e in
-    sym (ap (names_within 16) is.stands ∙ within-next 15 name rest is.named ∙ one (names_within 15 rest))
+    sym (ap (names_within MAX_COMPONENTS) is.stands ∙ within-next more_names name rest is.named
+    ∙ one (names_within more_names rest))
   where
     one : (r : Result (List (List ℕ)) Cause) → (r >>= λ names. Ok (name ∷ names)) ≡ after (name ∷ []) r
     one (Ok ys) = refl
@@ -136,30 +142,32 @@ within-fault n (word ∷ words) cause some e = into (is_name word) e
     into false e = ap Err (ap cause_of e)
 
 -- names of components, where a word stands
-long_names-some : (ws : Words) → 1 ≤ length ws → long_names ws ≡ (names_within 16 ws >>= λ names. Ok (names, []))
+long_names-some : (ws : Words) → 1 ≤ length ws
+    → long_names ws ≡ (names_within MAX_COMPONENTS ws >>= λ names. Ok (names, []))
 long_names-some [] some = absurd (omega arith)
 long_names-some (word ∷ words) some = refl
 
 -- a later word is no name
-pub names_fault : (xs : List (List ℕ)) (ws all : Words) (cause : Cause) → length xs < 16 → 1 ≤ length ws
+pub names_fault : (xs : List (List ℕ)) (ws all : Words) (cause : Cause) → length xs < MAX_COMPONENTS → 1 ≤ length ws
     → 1 ≤ length all → long_name ws ≡ Err cause →
-    after xs (names_within (room xs) ws) ≡ names_within 16 all → long_names all ≡ Err cause
+    after xs (names_within (room xs) ws) ≡ names_within MAX_COMPONENTS all → long_names all ≡ Err cause
 names_fault xs ws all cause few some any e whole =
-    let more : room xs ≡ suc (15 - length xs) = omega arith in
+    let more : room xs ≡ suc (more_names - length xs) = omega arith in
     let fault : after xs (names_within (room xs) ws) ≡ Err cause = ap (λ n. after xs (names_within n ws)) more
-    ∙ ap (after xs) (within-fault (15 - length xs) ws cause some e) in
+    ∙ ap (after xs) (within-fault (more_names - length xs) ws cause some e) in
     long_names-some all any ∙ ap (λ r. r >>= λ names. Ok (names, [])) (sym whole ∙ fault)
 
 -- the first word is no name
 pub names_none : (ws : Words) (cause : Cause) → long_name ws ≡ Err cause → long_names ws ≡ Err cause
 names_none [] cause e = ap Err (ap cause_of e)
 names_none (word ∷ words) cause e =
-    ap (λ r. r >>= λ names. Ok (names, [])) (within-fault 15 (word ∷ words) cause (omega arith) e)
+    ap (λ r. r >>= λ names. Ok (names, [])) (within-fault more_names (word ∷ words) cause (omega arith) e)
 
--- the words are at an end, or sixteen names stand
-pub names_end : (xs : List (List ℕ)) (ws all : Words) → 1 ≤ length all → (16 ≤ length xs → length xs ≤ 16)
-    → (1 ≤ length ws → 16 ≤ length xs) →
-    after xs (names_within (room xs) ws) ≡ names_within 16 all
+-- the words are at an end, or as many names stand as may
+pub names_end : (xs : List (List ℕ)) (ws all : Words) → 1 ≤ length all
+    → (MAX_COMPONENTS ≤ length xs → length xs ≤ MAX_COMPONENTS)
+    → (1 ≤ length ws → MAX_COMPONENTS ≤ length xs) →
+    after xs (names_within (room xs) ws) ≡ names_within MAX_COMPONENTS all
     → long_names all ≡ (at_end xs ws >>= λ names. Ok (names, []))
 names_end xs [] all any few full whole =
     long_names-some all any
@@ -169,7 +177,7 @@ names_end xs [] all any few full whole =
     none zero = refl
     none (suc n) = refl
 names_end xs (word ∷ words) all any few full whole =
-    let sixteen : 16 ≤ length xs = full (omega arith) in
+    let many : MAX_COMPONENTS ≤ length xs = full (omega arith) in
     let no_room : room xs ≡ 0 = omega arith in
     long_names-some all any
     ∙ ap (λ r. r >>= λ names. Ok (names, [])) (sym whole

@@ -8,6 +8,7 @@ use Rattle.std.proofs.lemmas.List.Elements.{All-nil, All-cons, All-push, All-wea
 use Rattle.std.proofs.lemmas.List.Quantifiers.{all_pairs_push, position-Some}
 use Rattle.std.proofs.lemmas.Slice.Eq.{bytes_eq-Decides}
 use Rattle.std.proofs.lemmas.Bool.{ltb-true}
+use Rattle.geo_base.specs.declared.limits.TheConstants.{MAX_ACTORS, MAX_DISKS, MAX_SCRIPT_LINES}
 use Rattle.geo_model.specs.declared.command.Cause.{Cause}
 use Rattle.geo_model.specs.declared.command.Cause.TheVariants as causes
 use Rattle.geo_model.specs.declared.command.Command.{Command}
@@ -58,18 +59,19 @@ names_push : (names : List (List ℕ)) (name : List ℕ) → AllPairs Differ nam
     → AllPairs Differ (names ++ name ∷ [])
 names_push names name pairs others = all_pairs_push Differ names name pairs (λ k d h. others k d h)
 
--- an element more than fewer than sixteen
-few-push : {X : Type 0} (xs : List X) (x : X) → nat_le 16 (length xs) ≡ false → length (xs ++ x ∷ []) ≤ 16
-few-push xs x e = grown (length xs) (length (xs ++ x ∷ [])) (length_push xs x) e
+-- an element more than fewer than so many
+few-push : {X : Type 0} (most : ℕ) (xs : List X) (x : X) → nat_le most (length xs) ≡ false
+    → length (xs ++ x ∷ []) ≤ most
+few-push most xs x e = grown (length xs) (length (xs ++ x ∷ [])) (length_push xs x) e
   where
-    grown : (a b : ℕ) → b ≡ a + 1 → nat_le 16 a ≡ false → b ≤ 16
+    grown : (a b : ℕ) → b ≡ a + 1 → nat_le most a ≡ false → b ≤ most
     grown a b e h = grind (arith, nat_tests)
 
 -- What is added to a plan
 
 -- a plan with a disk more keeps the rules
 with_disk : (n : ℕ) (plan : Plan) (d : DiskDecl) → Upto n plan → IsDiskDecl d
-    → list_any (λ x. same_name x.name d.name) plan.disks ≡ false → nat_le 16 (length plan.disks) ≡ false →
+    → list_any (λ x. same_name x.name d.name) plan.disks ≡ false → nat_le MAX_DISKS (length plan.disks) ≡ false →
     Upto n (record plan { disks = plan.disks ++ d ∷ [] })
 with_disk n plan d is disk other few =
     let names : AllPairs Differ (map (λ x. x.name) plan.disks ++ d.name ∷ []) =
@@ -79,7 +81,7 @@ with_disk n plan d is disk other few =
     plan.disks (none_passes (λ x. same_name x.name d.name) plan.disks other))) in
     record {
       plan = record {
-        few_disks = few-push plan.disks d few;
+        few_disks = few-push MAX_DISKS plan.disks d few;
         disks = All-push IsDiskDecl plan.disks d is.plan.disks disk;
         disk_names = subst (AllPairs Differ) (sym (map_push (λ (x : DiskDecl). x.name) plan.disks d)) names;
         few_actors = is.plan.few_actors;
@@ -94,10 +96,10 @@ with_disk n plan d is disk other few =
 -- a disk is added under the rules
 add_disk-keeps : (n : ℕ) (plan : Plan) (d : DiskDecl) → Upto n plan → IsDiskDecl d → Gives (Upto n) (add_disk plan d)
 add_disk-keeps n plan d is disk =
-    into (list_any (λ x. same_name x.name d.name) plan.disks) refl (nat_le 16 (length plan.disks)) refl
+    into (list_any (λ x. same_name x.name d.name) plan.disks) refl (nat_le MAX_DISKS (length plan.disks)) refl
   where
     into : (a : Bool) → list_any (λ x. same_name x.name d.name) plan.disks ≡ a → (b : Bool)
-        → nat_le 16 (length plan.disks) ≡ b →
+        → nat_le MAX_DISKS (length plan.disks) ≡ b →
         Gives (Upto n)
         (unless (first_error ((a, causes.Twice) ∷ (b, causes.Many) ∷ []))
         (record plan { disks = plan.disks ++ d ∷ [] }))
@@ -108,7 +110,7 @@ add_disk-keeps n plan d is disk =
 -- a plan with an actor more keeps the rules
 with_actor : (n : ℕ) (plan : Plan) (name : List ℕ) → Upto n plan → IsShortName name
     → list_any (same_name name) plan.actors ≡ false → list_any (same_name name) header_words ≡ false
-    → nat_le 16 (length plan.actors) ≡ false →
+    → nat_le MAX_ACTORS (length plan.actors) ≡ false →
     Upto n (record plan { actors = plan.actors ++ name ∷ [] })
 with_actor n plan name is short other no_word few =
     record {
@@ -116,7 +118,7 @@ with_actor n plan name is short other no_word few =
         few_disks = is.plan.few_disks;
         disks = is.plan.disks;
         disk_names = is.plan.disk_names;
-        few_actors = few-push plan.actors name few;
+        few_actors = few-push MAX_ACTORS plan.actors name few;
         actors = All-push IsActor plan.actors name is.plan.actors (record {
           short = short;
           no_header_word =
@@ -150,10 +152,10 @@ add_actor-keeps : (n : ℕ) (plan : Plan) (name : List ℕ) → Upto n plan → 
     → Gives (Upto n) (add_actor plan name)
 add_actor-keeps n plan name is short =
     into (list_any (same_name name) plan.actors) refl (list_any (same_name name) header_words) refl
-    (nat_le 16 (length plan.actors)) refl
+    (nat_le MAX_ACTORS (length plan.actors)) refl
   where
     into : (a : Bool) → list_any (same_name name) plan.actors ≡ a → (w : Bool)
-        → list_any (same_name name) header_words ≡ w → (b : Bool) → nat_le 16 (length plan.actors) ≡ b →
+        → list_any (same_name name) header_words ≡ w → (b : Bool) → nat_le MAX_ACTORS (length plan.actors) ≡ b →
         Gives (Upto n)
         (unless (first_error ((a || w, causes.Twice) ∷ (b, causes.Many) ∷ []))
         (record plan { actors = plan.actors ++ name ∷ [] }))
@@ -194,7 +196,7 @@ abbrev line_command : ℕ → ℕ → Command → LineCommand
 line_command n actor c = record { line = n; actor = actor; command = c }
 
 -- a command line is added under the rules
-add_command-keeps : (n : ℕ) (plan : Plan) (actor : ℕ) (c : Command) → 1 ≤ n → n ≤ 4096 → Upto n plan
+add_command-keeps : (n : ℕ) (plan : Plan) (actor : ℕ) (c : Command) → 1 ≤ n → n ≤ MAX_SCRIPT_LINES → Upto n plan
     → actor < length plan.actors → IsCommand c → Gives (Upto (n + 1)) (add_command plan n actor c)
 add_command-keeps n plan actor c some few is inside command =
     let lines : IsStrictlyIncreasing (map (λ (x : LineCommand). x.line) plan.commands ++ n ∷ []) =
@@ -259,7 +261,7 @@ header-keeps n plan r h = into (length plan.commands == 0)
     into false = tt
 
 -- a line of an actor keeps the rules
-actor_line-keeps : (n : ℕ) (plan : Plan) (o : Option ℕ) (ws : Words) → 1 ≤ n → n ≤ 4096 → Upto n plan
+actor_line-keeps : (n : ℕ) (plan : Plan) (o : Option ℕ) (ws : Words) → 1 ≤ n → n ≤ MAX_SCRIPT_LINES → Upto n plan
     → ((actor : ℕ) → o ≡ Some actor → actor < length plan.actors) → Gives (Upto (n + 1)) (actor_line plan n o ws)
 actor_line-keeps n plan None ws some few is inside = tt
 actor_line-keeps n plan (Some actor) ws some few is inside =
@@ -267,7 +269,7 @@ actor_line-keeps n plan (Some actor) ws some few is inside =
     (λ c h. add_command-keeps n plan actor c some few is (inside actor refl) h)
 
 -- a line keeps the rules, by its words
-words_line-keeps : (n : ℕ) (plan : Plan) (ws : Words) → 1 ≤ n → n ≤ 4096 → Upto n plan
+words_line-keeps : (n : ℕ) (plan : Plan) (ws : Words) → 1 ≤ n → n ≤ MAX_SCRIPT_LINES → Upto n plan
     → Gives (Upto (n + 1)) (words_line plan n ws)
 words_line-keeps n plan [] some few is = tt
 words_line-keeps n plan (word ∷ words) some few is =
@@ -287,18 +289,19 @@ words_line-keeps n plan (word ∷ words) some few is =
 plan_with_line-keeps : (n : ℕ) (plan : Plan) (line : List ℕ) → 1 ≤ n → Upto n plan
     → Gives (Upto (n + 1)) (plan_with_line plan n line)
 plan_with_line-keeps n plan line some is =
-    into (nat_lt 4096 n) refl
+    into (nat_lt MAX_SCRIPT_LINES n) refl
     ((is_long line, causes.Long) ∷ (not (list_all (λ b. nat_le 32 b && nat_le b 126) line), causes.Byte)
     ∷ (list_any (λ word. length word == 0) (words_of line), causes.Space) ∷ [])
   where
-    not_above : nat_lt 4096 n ≡ false → n ≤ 4096
+    not_above : nat_lt MAX_SCRIPT_LINES n ≡ false → n ≤ MAX_SCRIPT_LINES
     not_above t = grind (arith, nat_tests)
 
-    tested : n ≤ 4096 → (o : Option Cause) → Gives (Upto (n + 1)) (unless o (words_of line) >>= words_line plan n)
+    tested : n ≤ MAX_SCRIPT_LINES → (o : Option Cause)
+        → Gives (Upto (n + 1)) (unless o (words_of line) >>= words_line plan n)
     tested few None = words_line-keeps n plan (words_of line) some few is
     tested few (Some cause) = tt
 
-    into : (t : Bool) → nat_lt 4096 n ≡ t → (rows : List (Bool × Cause))
+    into : (t : Bool) → nat_lt MAX_SCRIPT_LINES n ≡ t → (rows : List (Bool × Cause))
         → Gives (Upto (n + 1)) (unless (first_error ((t, causes.Lines) ∷ rows)) (words_of line) >>= words_line plan n)
     into true t rows = tt
     into false t rows = tested (not_above t) (first_error rows)

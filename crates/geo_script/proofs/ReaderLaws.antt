@@ -8,6 +8,7 @@ use Rattle.std.proofs.lemmas.Bool.{ltb-true}
 use Rattle.geo_base.specs.Name.{is_name, is_short_name}
 use Rattle.geo_base.specs.Sectors.{IsSectorSize}
 use Rattle.geo_base.specs.declared.request.Counts.{Counts}
+use Rattle.geo_base.specs.declared.limits.TheConstants.{MAX_COMPONENTS, MAX_MEMORY_DISK_BYTES}
 use Rattle.geo_model.specs.declared.command.Cause.{Cause}
 use Rattle.geo_model.specs.declared.command.Cause.TheVariants as causes
 use Rattle.geo_model.specs.declared.command.Command.TheVariants as commands
@@ -164,7 +165,7 @@ sector_size-gives ws =
 
 -- the sectors of a disk in memory
 abbrev pub IsSectorCount : ℕ → ℕ → Type 0
-IsSectorCount sector n = (1 ≤ n) × (n * sector ≤ 67108864)
+IsSectorCount sector n = (1 ≤ n) × (n * sector ≤ MAX_MEMORY_DISK_BYTES)
 
 -- two tests of an order at once
 two_tests : (a b c d : ℕ) → (nat_le a b && nat_le c d) ≡ true → (a ≤ b) × (c ≤ d)
@@ -177,9 +178,10 @@ le_and_lt a b c d e = (grind (arith, nat_tests), grind (arith, nat_tests))
 -- the sectors of a disk in memory are few
 pub sector_count-gives : (sector : ℕ) (ws : Words) → Gives (OfValue (IsSectorCount sector)) (sector_count sector ws)
 sector_count-gives sector ws =
-    weaker (OfValue (InRange (λ n. nat_le 1 n && nat_le (n * sector) 67108864))) (OfValue (IsSectorCount sector))
-    (sector_count sector ws) (λ x h. two_tests 1 x.0 (x.0 * sector) 67108864 h.0)
-    (ranged-gives (λ n. nat_le 1 n && nat_le (n * sector) 67108864) ws)
+    weaker (OfValue (InRange (λ n. nat_le 1 n && nat_le (n * sector) MAX_MEMORY_DISK_BYTES)))
+    (OfValue (IsSectorCount sector))
+    (sector_count sector ws) (λ x h. two_tests 1 x.0 (x.0 * sector) MAX_MEMORY_DISK_BYTES h.0)
+    (ranged-gives (λ n. nat_le 1 n && nat_le (n * sector) MAX_MEMORY_DISK_BYTES) ws)
 
 -- an id fits 32 bits
 pub record_id-gives : (ws : Words) → Gives (OfValue (λ n. n < 2 ^ 32)) (record_id ws)
@@ -188,20 +190,20 @@ record_id-gives ws =
     (λ x h. ltb-true x.0 (2 ^ 32) h.0) (ranged-gives (λ n. nat_lt n (2 ^ 32)) ws)
 
 -- a place fits 16 bits
-pub record_place-gives : (ws : Words) → Gives (OfValue (λ n. n < 65536)) (record_place ws)
+pub record_place-gives : (ws : Words) → Gives (OfValue (λ n. n < 2 ^ 16)) (record_place ws)
 record_place-gives ws =
-    weaker (OfValue (InRange (λ n. nat_lt n 65536))) (OfValue (λ n. n < 65536)) (record_place ws)
-    (λ x h. ltb-true x.0 65536 h.0) (ranged-gives (λ n. nat_lt n 65536) ws)
+    weaker (OfValue (InRange (λ n. nat_lt n (2 ^ 16)))) (OfValue (λ n. n < 2 ^ 16)) (record_place ws)
+    (λ x h. ltb-true x.0 (2 ^ 16) h.0) (ranged-gives (λ n. nat_lt n (2 ^ 16)) ws)
 
 -- 1 to 16
 abbrev pub IsCount : ℕ → Type 0
-IsCount n = (1 ≤ n) × (n ≤ 16)
+IsCount n = (1 ≤ n) × (n ≤ MAX_COMPONENTS)
 
 -- a count is 1 to 16
 pub record_count-gives : (ws : Words) → Gives (OfValue IsCount) (record_count ws)
 record_count-gives ws =
-    weaker (OfValue (InRange (λ n. nat_le 1 n && nat_le n 16))) (OfValue IsCount) (record_count ws)
-    (λ x h. two_tests 1 x.0 x.0 16 h.0) (ranged-gives (λ n. nat_le 1 n && nat_le n 16) ws)
+    weaker (OfValue (InRange (λ n. nat_le 1 n && nat_le n MAX_COMPONENTS))) (OfValue IsCount) (record_count ws)
+    (λ x h. two_tests 1 x.0 x.0 MAX_COMPONENTS h.0) (ranged-gives (λ n. nat_le 1 n && nat_le n MAX_COMPONENTS) ws)
 
 -- a stripe size is 1 or more and fits 32 bits
 pub stripe_size-gives : (ws : Words) → Gives (OfValue IsStripe) (stripe_size ws)
@@ -336,8 +338,8 @@ names-give (suc n) (word ∷ words) = into (is_name word) refl (names_within n w
 pub long_names-gives : (ws : Words) → Gives (OfValue AreComponents) (long_names ws)
 long_names-gives [] = tt
 long_names-gives (word ∷ words) =
-    after (AreNames 16 (word ∷ words)) (OfValue AreComponents) (names_within 16 (word ∷ words))
-    (λ names. Ok (names, [])) (names-give 16 (word ∷ words))
+    after (AreNames MAX_COMPONENTS (word ∷ words)) (OfValue AreComponents) (names_within MAX_COMPONENTS (word ∷ words))
+    (λ names. Ok (names, [])) (names-give MAX_COMPONENTS (word ∷ words))
     (λ names h. record { some = h.some (omega arith); not_many = h.few; each = h.each })
 
 -- Commands
@@ -437,7 +439,7 @@ relabel-gives ws =
     at_end-gives IsCommand (commands.Relabel h.0 name.0) name.1 (hs, ns)))
 
 -- the numbers of a record
-abbrev marked : {id place count : ℕ} → id < 2 ^ 32 → place < 65536 → IsCount count → IsMark id place count
+abbrev marked : {id place count : ℕ} → id < 2 ^ 32 → place < 2 ^ 16 → IsCount count → IsMark id place count
 marked id_fits place_fits few =
     record { id_fits = id_fits; place_fits = place_fits; some_place = few.0; few_places = few.1 }
 
@@ -446,7 +448,7 @@ mark_concat-gives : (h : List ℕ) → IsShortName h → Reader IsCommand (mark_
 mark_concat-gives h hs ws =
     after (OfValue IsShortName) IsCommand (short_name ws) _ (short_name-gives ws) (λ name ns.
     after (OfValue (λ n. n < 2 ^ 32)) IsCommand (record_id name.1) _ (record_id-gives name.1) (λ id is.
-    after (OfValue (λ n. n < 65536)) IsCommand (record_place id.1) _ (record_place-gives id.1) (λ place ps.
+    after (OfValue (λ n. n < 2 ^ 16)) IsCommand (record_place id.1) _ (record_place-gives id.1) (λ place ps.
     after (OfValue IsCount) IsCommand (record_count place.1) _ (record_count-gives place.1) (λ count cs.
     at_end-gives IsCommand (commands.MarkConcat h name.0 id.0 place.0 count.0) count.1 (hs, ns, marked is ps cs)))))
 
@@ -455,7 +457,7 @@ mark_stripe-gives : (h : List ℕ) → IsShortName h → Reader IsCommand (mark_
 mark_stripe-gives h hs ws =
     after (OfValue IsShortName) IsCommand (short_name ws) _ (short_name-gives ws) (λ name ns.
     after (OfValue (λ n. n < 2 ^ 32)) IsCommand (record_id name.1) _ (record_id-gives name.1) (λ id is.
-    after (OfValue (λ n. n < 65536)) IsCommand (record_place id.1) _ (record_place-gives id.1) (λ place ps.
+    after (OfValue (λ n. n < 2 ^ 16)) IsCommand (record_place id.1) _ (record_place-gives id.1) (λ place ps.
     after (OfValue IsCount) IsCommand (record_count place.1) _ (record_count-gives place.1) (λ count cs.
     after (OfValue IsStripe) IsCommand (stripe_size count.1) _ (stripe_size-gives count.1) (λ stripe ss.
     at_end-gives IsCommand (commands.MarkStripe h name.0 id.0 place.0 count.0 stripe.0) stripe.1 (

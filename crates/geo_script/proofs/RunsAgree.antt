@@ -10,6 +10,7 @@ use Rattle.std.proofs.lemmas.Str.Parse.{IsNumeralModel, numerals_by_fold}
 use Rattle.std.proofs.lemmas.Bool.{and_parts, and_from, ltb-true, leb-true, lt-ltb, le-leb, eqb-true, eq-eqb}
 use Rattle.geo_base.proofs.RunsLemmas.{run}
 use Rattle.geo_base.specs.Runs.{ByteRun, hex_digit, run_text, runs_of, add_byte, runs_text, IsRuns}
+use Rattle.geo_base.specs.declared.limits.TheConstants.{MAX_RUNS_BYTES}
 use Rattle.geo_model.specs.Script.{is_digit, is_decimal, value_of, hex_value, run_of, add_run, runs_in, bytes_of_runs, fitting_bytes, words_of}
 use Rattle.geo_model.specs.FormatLaws.{runs_read, RunsAgree}
 use Rattle.geo_script.proofs.NumberLemmas.{value_behind}
@@ -105,7 +106,7 @@ AreRuns (x ∷ xs) = IsRun x × Differs x.byte xs × AreRuns xs
 -- no run is longer than all bytes may be
 abbrev AreSmall : List ByteRun → Type 0
 AreSmall [] = Unit {0}
-AreSmall (x ∷ xs) = (x.times ≤ 65536) × AreSmall xs
+AreSmall (x ∷ xs) = (x.times ≤ MAX_RUNS_BYTES) × AreSmall xs
 
 -- a word is the text of a run
 abbrev HasText : List ℕ → ByteRun → Type 0
@@ -136,7 +137,7 @@ text_by high low star digits h l s d fits =
     parts_down a b h = omega arith
 
 -- a word that is read as a run is its text
-run_of-tells : (word : List ℕ) (x : ByteRun) → run_of word ≡ Some x → x.times ≤ 65536 → HasText word x
+run_of-tells : (word : List ℕ) (x : ByteRun) → run_of word ≡ Some x → x.times ≤ MAX_RUNS_BYTES → HasText word x
 run_of-tells [] x e few = absurd (cc)
 run_of-tells (a ∷ []) x e few = absurd (cc)
 run_of-tells (a ∷ b ∷ []) x e few = absurd (cc)
@@ -177,7 +178,7 @@ run_of-tells (high ∷ low ∷ star ∷ digits) x e few =
         bounded a b h l = omega arith
 
 -- the text of a run is read as it
-run_of-text : (x : ByteRun) → IsRun x → x.times ≤ 65536 → run_of (run_text x) ≡ Some x
+run_of-text : (x : ByteRun) → IsRun x → x.times ≤ MAX_RUNS_BYTES → run_of (run_text x) ≡ Some x
 run_of-text x is few =
     let fits : x.times < 2 ^ 64 = omega (arith, few) in
     let some : 1 ≤ x.times = is.some in
@@ -219,7 +220,7 @@ digits-no_space (b ∷ bs) e =
     digit b e = grind (arith, nat_tests)
 
 -- the text of a run has no space
-run-no_space : (x : ByteRun) → IsRun x → x.times ≤ 65536 → All NoSpace (run_text x)
+run-no_space : (x : ByteRun) → IsRun x → x.times ≤ MAX_RUNS_BYTES → All NoSpace (run_text x)
 run-no_space x is few =
     let fits : x.times < 2 ^ 64 = omega (arith, few) in
     let below : x.byte < 256 = is.byte in
@@ -307,16 +308,16 @@ sum_of-cons x xs = sum_from (0 + x.times) xs ∙ drop_zero x.times _
     drop_zero a b = omega arith
 
 -- runs for few bytes are small
-small-from_sum : (xs : List ByteRun) → sum_of xs ≤ 65536 → AreSmall xs
+small-from_sum : (xs : List ByteRun) → sum_of xs ≤ MAX_RUNS_BYTES → AreSmall xs
 small-from_sum [] h = tt
 small-from_sum (x ∷ xs) h =
     let e : sum_of (x ∷ xs) ≡ x.times + sum_of xs = sum_of-cons x xs in
     (first x.times (sum_of xs) _ e h, small-from_sum xs (second x.times (sum_of xs) _ e h))
   where
-    first : (a b s : ℕ) → s ≡ a + b → s ≤ 65536 → a ≤ 65536
+    first : (a b s : ℕ) → s ≡ a + b → s ≤ MAX_RUNS_BYTES → a ≤ MAX_RUNS_BYTES
     first a b s e h = omega arith
 
-    second : (a b s : ℕ) → s ≡ a + b → s ≤ 65536 → b ≤ 65536
+    second : (a b s : ℕ) → s ≡ a + b → s ≤ MAX_RUNS_BYTES → b ≤ MAX_RUNS_BYTES
     second a b s e h = omega arith
 
 -- the number of bytes of runs
@@ -422,8 +423,10 @@ texts_some [] h = h
 texts_some (x ∷ xs) h = omega arith
 
 -- the bytes of words that are read as runs
-read-runs_bytes : (ws : List (List ℕ)) (xs : List ByteRun) → 1 ≤ length ws → runs_in ws ≡ Some xs → sum_of xs ≤ 65536 →
-    (1 ≤ length (bytes_of_runs xs)) × (length (bytes_of_runs xs) ≤ 65536) × All (λ b. b < 256) (bytes_of_runs xs)
+read-runs_bytes : (ws : List (List ℕ)) (xs : List ByteRun) → 1 ≤ length ws → runs_in ws ≡ Some xs
+    → sum_of xs ≤ MAX_RUNS_BYTES →
+    (1 ≤ length (bytes_of_runs xs)) × (length (bytes_of_runs xs) ≤ MAX_RUNS_BYTES)
+    × All (λ b. b < 256) (bytes_of_runs xs)
 read-runs_bytes ws xs some e few =
     let told = runs_in-tells ws xs e (small-from_sum xs few) in
     let any : 1 ≤ length xs = texts_some xs (subst (λ (ws : List (List ℕ)). 1 ≤ length ws) told.0 some) in (
@@ -432,11 +435,11 @@ read-runs_bytes ws xs some e few =
       bytes-below xs told.1,
     )
   where
-    within : (a b : ℕ) → a ≡ b → b ≤ 65536 → a ≤ 65536
+    within : (a b : ℕ) → a ≡ b → b ≤ MAX_RUNS_BYTES → a ≤ MAX_RUNS_BYTES
     within a b e h = omega arith
 
 -- a text whose words are read as runs is the text of their bytes
-read-is_runs : (text : List ℕ) (xs : List ByteRun) → runs_in (words_of text) ≡ Some xs → sum_of xs ≤ 65536
+read-is_runs : (text : List ℕ) (xs : List ByteRun) → runs_in (words_of text) ≡ Some xs → sum_of xs ≤ MAX_RUNS_BYTES
     → IsRuns text (bytes_of_runs xs)
 unfolding runs_text
 read-is_runs text xs e few =
@@ -452,40 +455,41 @@ read-is_runs text xs e few =
 
 -- the bytes that a line's words are read as
 pub read-bytes : (ws : List (List ℕ)) (bytes : List ℕ) → 1 ≤ length ws
-    → option_and_then fitting_bytes (runs_in ws) ≡ Some bytes → (1 ≤ length bytes) × (length bytes ≤ 65536)
+    → option_and_then fitting_bytes (runs_in ws) ≡ Some bytes → (1 ≤ length bytes) × (length bytes ≤ MAX_RUNS_BYTES)
     × All (λ b. b < 256) bytes
 read-bytes ws bytes some e = into (runs_in ws) refl e
   where
-    fits : (xs : List ByteRun) → runs_in ws ≡ Some xs → (t : Bool) → nat_le (sum_of xs) 65536 ≡ t
-        → (if t then Some (bytes_of_runs xs) else None) ≡ Some bytes → (1 ≤ length bytes) × (length bytes ≤ 65536)
+    fits : (xs : List ByteRun) → runs_in ws ≡ Some xs → (t : Bool) → nat_le (sum_of xs) MAX_RUNS_BYTES ≡ t
+        → (if t then Some (bytes_of_runs xs) else None) ≡ Some bytes → (1 ≤ length bytes)
+        × (length bytes ≤ MAX_RUNS_BYTES)
         × All (λ b. b < 256) bytes
     fits xs read false t e = absurd (cc)
     fits xs read true t e =
         let same : bytes_of_runs xs ≡ bytes = cc in
-        let P : List ℕ → Type 0 = λ bs. (1 ≤ length bs) × (length bs ≤ 65536) × All (λ b. b < 256) bs in
-        subst P same (read-runs_bytes ws xs some read (leb-true (sum_of xs) 65536 t))
+        let P : List ℕ → Type 0 = λ bs. (1 ≤ length bs) × (length bs ≤ MAX_RUNS_BYTES) × All (λ b. b < 256) bs in
+        subst P same (read-runs_bytes ws xs some read (leb-true (sum_of xs) MAX_RUNS_BYTES t))
 
     into : (o : Option (List ByteRun)) → runs_in ws ≡ o → option_and_then fitting_bytes o ≡ Some bytes
-        → (1 ≤ length bytes) × (length bytes ≤ 65536) × All (λ b. b < 256) bytes
+        → (1 ≤ length bytes) × (length bytes ≤ MAX_RUNS_BYTES) × All (λ b. b < 256) bytes
     into None read e = absurd (cc)
-    into (Some xs) read e = fits xs read (nat_le (sum_of xs) 65536) refl e
+    into (Some xs) read e = fits xs read (nat_le (sum_of xs) MAX_RUNS_BYTES) refl e
 
 -- what is read is a text of runs
 agree-to : (text bytes : List ℕ) → runs_read text ≡ Some bytes → IsRuns text bytes
 agree-to text bytes e = into (runs_in (words_of text)) refl e
   where
-    fits : (xs : List ByteRun) → runs_in (words_of text) ≡ Some xs → (t : Bool) → nat_le (sum_of xs) 65536 ≡ t
+    fits : (xs : List ByteRun) → runs_in (words_of text) ≡ Some xs → (t : Bool) → nat_le (sum_of xs) MAX_RUNS_BYTES ≡ t
         → (if t then Some (bytes_of_runs xs) else None) ≡ Some bytes → IsRuns text bytes
     fits xs read false t e = absurd (cc)
     fits xs read true t e =
         let same : bytes_of_runs xs ≡ bytes = cc in
         let P : List ℕ → Type 0 = λ bs. IsRuns text bs in
-        subst P same (read-is_runs text xs read (leb-true (sum_of xs) 65536 t))
+        subst P same (read-is_runs text xs read (leb-true (sum_of xs) MAX_RUNS_BYTES t))
 
     into : (o : Option (List ByteRun)) → runs_in (words_of text) ≡ o → option_and_then fitting_bytes o ≡ Some bytes
         → IsRuns text bytes
     into None read e = absurd (cc)
-    into (Some xs) read e = fits xs read (nat_le (sum_of xs) 65536) refl e
+    into (Some xs) read e = fits xs read (nat_le (sum_of xs) MAX_RUNS_BYTES) refl e
 
 -- the words of a text of runs, however many
 words-of_all : (xs : List ByteRun) → 1 ≤ length xs → AreRuns xs → AreSmall xs
@@ -498,7 +502,7 @@ agree-from : (text bytes : List ℕ) → IsRuns text bytes → runs_read text �
 unfolding runs_text
 agree-from text bytes is =
     let are : AreRuns (runs_of bytes) = runs-are bytes is.are_bytes in
-    let few : sum_of (runs_of bytes) ≤ 65536 =
+    let few : sum_of (runs_of bytes) ≤ MAX_RUNS_BYTES =
     within (length bytes) (sum_of (runs_of bytes)) (ap length (sym (bytes-back bytes))
     ∙ length-bytes (runs_of bytes)) is.not_long in
     let small : AreSmall (runs_of bytes) = small-from_sum (runs_of bytes) few in
@@ -506,10 +510,11 @@ agree-from text bytes is =
     ∙ words-of_all (runs_of bytes) (runs-some bytes is.some_byte) are small in
     ap (λ ws. option_and_then fitting_bytes (runs_in ws)) words
     ∙ ap (λ o. option_and_then fitting_bytes o) (runs_in-texts (runs_of bytes) are small)
-    ∙ ap (λ t. if t then Some (bytes_of_runs (runs_of bytes)) else None) (le-leb (sum_of (runs_of bytes)) 65536 few)
+    ∙ ap (λ t. if t then Some (bytes_of_runs (runs_of bytes)) else None)
+    (le-leb (sum_of (runs_of bytes)) MAX_RUNS_BYTES few)
     ∙ ap Some (bytes-back bytes)
   where
-    within : (a b : ℕ) → a ≡ b → a ≤ 65536 → b ≤ 65536
+    within : (a b : ℕ) → a ≡ b → a ≤ MAX_RUNS_BYTES → b ≤ MAX_RUNS_BYTES
     within a b e h = omega arith
 
 -- both

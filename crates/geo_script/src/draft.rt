@@ -6,14 +6,11 @@ ghost use Rattle.geo_model.specs.Script.{empty_plan, add_disk, add_actor, add_co
 ghost use Rattle.geo_script.specs.Draft.{Adds};
 
 use crate::refusal::LineRefusal;
-use geo_base::Name;
+use geo_base::{MAX_ACTORS, MAX_DISKS, Name};
 use geo_model::{Cause, Command, DiskDecl, LineCommand};
 use geo_pool::Pool;
 use std::alloc::Global;
 use std::marker::Model;
-
-/// The most disks, and the most actors, that a plan has.
-const MOST: usize = 16;
 
 /// The plan of the lines so far, which contracts see as that plan.
 #[derive(Drop)]
@@ -28,12 +25,13 @@ pub struct Draft {
 impl Model for Draft {
     ghost use Rattle.std.specs.Prelude.{◌≤◌, length};
     ghost use Rattle.geo_model.specs.World.{Plan};
+    ghost use Rattle.geo_base.specs.declared.limits.TheConstants.{MAX_ACTORS};
 
     ghost Value = { Plan };
 
     ghost view = { λ d. record { disks = d.disks.items; actors = d.actors.items; commands = d.commands.items } };
 
-    ghost invariant = { λ d. length d.actors.items ≤ 16 };
+    ghost invariant = { λ d. length d.actors.items ≤ MAX_ACTORS };
 }
 
 /// Whether a disk of the list has this name.
@@ -110,7 +108,7 @@ impl Draft {
         if has_disk(self.disks.as_slice(), &disk.name) {
             return Err(LineRefusal::Fault(Cause::Twice));
         }
-        if self.disks.len() >= MOST {
+        if self.disks.len() >= MAX_DISKS {
             return Err(LineRefusal::Fault(Cause::Many));
         }
         self.disks.push(disk)?;
@@ -124,7 +122,7 @@ impl Draft {
         if has_name(self.actors.as_slice(), &name) || is_header_word(name.bytes()) {
             return Err(LineRefusal::Fault(Cause::Twice));
         }
-        if self.actors.len() >= MOST {
+        if self.actors.len() >= MAX_ACTORS {
             return Err(LineRefusal::Fault(Cause::Many));
         }
         self.actors.push(name)?;

@@ -11,15 +11,9 @@ use crate::draft::Draft;
 use crate::header;
 use crate::refusal::{LineRefusal, ParseRefusal};
 use crate::words::{Words, next_word};
+use geo_base::{MAX_LINE_BYTES, MAX_SCRIPT_LINES, MAX_WRITE_LINE_BYTES};
 use geo_model::Cause;
 use std::alloc::Global;
-
-/// The most lines that a text may have, but for those that are skipped.
-const MOST_LINES: u32 = 4096;
-/// The most bytes of a line.
-const LONG: usize = 255;
-/// The most bytes of a line whose second word is `write`.
-const LONG_WRITE: usize = 8192;
 
 /// Whether the second word of a line is `write`.
 fn is_write(line: &[u8]) -> bool
@@ -40,7 +34,7 @@ fn is_long(line: &[u8]) -> bool
     requires { length line.now < 2 ^ 32 }
     ensures { result ≡ is_long line.now }
 {
-    line.len() > LONG_WRITE || (line.len() > LONG && !is_write(line))
+    line.len() > MAX_WRITE_LINE_BYTES || (line.len() > MAX_LINE_BYTES && !is_write(line))
 }
 
 /// Whether each byte is from 0x20 to 0x7E.
@@ -62,7 +56,7 @@ fn line_fault(number: u32, line: &[u8]) -> Option<Cause>
     requires { length line.now < 2 ^ 32 }
     ensures { result ≡ first_error (line_tests number line.now) }
 {
-    if number > MOST_LINES {
+    if number > MAX_SCRIPT_LINES {
         Some(Cause::Lines)
     } else if is_long(line) {
         Some(Cause::Long)

@@ -5,6 +5,7 @@ ghost use Rattle.geo_script.specs.Reads.{fitting};
 ghost use Rattle.geo_model.specs.Script.{is_digit, is_decimal, value_of, number_of, any_number, sector_size, sector_count, record_id, record_count, record_place, stripe_size};
 
 use crate::words::{Words, next_word};
+use geo_base::{MAX_COMPONENTS, MAX_MEMORY_DISK_BYTES};
 use geo_model::Cause;
 
 /// Whether it is a decimal digit.
@@ -99,9 +100,10 @@ pub fn sector_count<'a>(sector: u32, words: Words<'a>) -> Result<(u64, Words<'a>
 {
     let (word, words) = next_word(words)?;
     match number_of(word) {
-        Some(n) if 1 <= n && n <= 67_108_864 && n * u64::from(sector) <= 67_108_864 => Ok((
-            n, words,
-        )),
+        Some(n)
+            if 1 <= n
+                && n <= MAX_MEMORY_DISK_BYTES
+                && n * u64::from(sector) <= MAX_MEMORY_DISK_BYTES => Ok((n, words)),
         Some(_) => Err(Cause::Range),
         None => Err(Cause::Number),
     }
@@ -137,7 +139,7 @@ pub fn record_count<'a>(words: Words<'a>) -> Result<(u64, Words<'a>), Cause>
 {
     let (word, words) = next_word(words)?;
     match number_of(word) {
-        Some(n) if 1 <= n && n <= 16 => Ok((n, words)),
+        Some(n) if 1 <= n && n <= MAX_COMPONENTS as u64 => Ok((n, words)),
         Some(_) => Err(Cause::Range),
         None => Err(Cause::Number),
     }
@@ -149,7 +151,7 @@ pub fn record_place<'a>(words: Words<'a>) -> Result<(u64, Words<'a>), Cause>
 {
     let (word, words) = next_word(words)?;
     match number_of(word) {
-        Some(n) if n < 65_536 => Ok((n, words)),
+        Some(n) if n < 0x1_0000 => Ok((n, words)),
         Some(_) => Err(Cause::Range),
         None => Err(Cause::Number),
     }

@@ -5,13 +5,10 @@ ghost use Rattle.geo_model.specs.Script.{words_of, short_name, long_name, next_w
 ghost use Rattle.geo_script.specs.Reads.{ReadsWord, ReadsLast};
 
 use crate::refusal::LineRefusal;
-use geo_base::{Name, RunsRefusal, SharedBytes, read_runs};
+use geo_base::{MAX_COMPONENTS, Name, RunsRefusal, SharedBytes, read_runs};
 use geo_model::{Cause, NameList};
 use std::alloc::Global;
 use std::marker::Model;
-
-/// The most names that a command of components has.
-const MOST_NAMES: usize = 16;
 
 /// The words that are left of a line, which contracts see as their list. The line isn't copied.
 #[derive(Debug, Drop)]
@@ -137,7 +134,7 @@ pub fn long_names(alloc: Global, words: Words<'_>) -> Result<NameList, LineRefus
     let (first, mut words) = long_name(words)?;
     let mut names = Vec::new(alloc);
     names.push(first)?;
-    while !words.is_empty() && names.len() < MOST_NAMES {
+    while !words.is_empty() && names.len() < MAX_COMPONENTS {
         let (name, rest) = long_name(words)?;
         names.push(name)?;
         words = rest;

@@ -1,6 +1,7 @@
 -- A request to a disk, and what comes of it (g_bio(9)).
 use Rattle.std.specs.Prelude.{◌≡◌, ◌↔◌, ℕ, ◌+◌, ◌*◌, ◌==◌, ◌<◌, ◌≤◌, nat_le, Bool, true, false, not, ◌&&◌, ◌||◌, List, [], ◌∷◌, ◌++◌, length, Option, Result, Ok, Err, IfSome, IsTrue, Contains, if◌then◌else◌, ⊤}
 use Rattle.std.specs.Option.{option_map}
+use Rattle.geo_base.specs.declared.limits.TheConstants.{MAX_REQUEST_BYTES}
 use Rattle.geo_disk.specs.declared.disk.DiskFailed.{DiskFailed}
 use Rattle.geo_disk.specs.Counts.{counted_if, counted_on}
 use Rattle.geo_headline.specs.Outside.{call_served}
@@ -8,7 +9,6 @@ use Rattle.geo_model.specs.declared.step.DeviceResult.{DeviceResult}
 use Rattle.geo_model.specs.declared.step.DeviceResult.TheVariants as devices
 use Rattle.geo_model.specs.declared.step.Request.{Request}
 use Rattle.geo_model.specs.Words.{is_flush, is_read, is_write}
-use Rattle.geo_model.specs.Requests.{request_limit}
 use Rattle.geo_model.specs.Contents.{after_command, bytes_at, done_sectors}
 use Rattle.geo_serve.specs.Drives.{DriveView, HasAllSectors, HasWholeSectors, RamCalls, called_once}
 
@@ -17,7 +17,7 @@ use Rattle.geo_serve.specs.Drives.{DriveView, HasAllSectors, HasWholeSectors, Ra
 pub record CanServe (d : DriveView) (q : Request) : Type 0 where
   pub some_size : 0 < d.sector
   pub inside : q.first + q.count ≤ d.count
-  pub not_long : q.count * d.sector ≤ request_limit
+  pub not_long : q.count * d.sector ≤ MAX_REQUEST_BYTES
   pub bytes : IsTrue (is_write q.cmd) → length q.bytes ≡ q.count * d.sector
 
 -- the room has a place for each byte of a READ

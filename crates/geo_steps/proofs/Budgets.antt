@@ -3,6 +3,7 @@ use Rattle.std.specs.Prelude.{◌+◌, ◌-◌, ◌^◌, ◌<◌, ◌≤◌, Lis
 use Rattle.std.proofs.Common.{sym, ap, subst, arith}
 use Rattle.std.proofs.lemmas.List.{length-append}
 use Rattle.std.proofs.lemmas.List.Sums.{count_by-le-length, length-filter}
+use Rattle.geo_base.specs.declared.limits.TheConstants.{MAX_LOG_ENTRIES}
 use Rattle.geo_model.specs.declared.step.Entry.{Entry}
 use Rattle.geo_lane.specs.declared.ticket.TicketStep.{TicketStep}
 use Rattle.geo_lane.specs.LanePass.{LanePassView}
@@ -19,7 +20,7 @@ fewer : {X : Type 0} (test : X → Bool) (xs : List X) → length (filter test x
 fewer test xs = subst (λ n. n ≤ length xs) (sym (length-filter test xs)) (count_by-le-length test xs)
 
 -- a pass has at most as many own entries as a log has entries
-pub few_own : (y : YardView MeshStart) (p : MeshPass) → IsPassOf y p → IsGoodPass p → length p.own ≤ 4294967296
+pub few_own : (y : YardView MeshStart) (p : MeshPass) → IsPassOf y p → IsGoodPass p → length p.own ≤ MAX_LOG_ENTRIES
 few_own y p of good =
     let history : IsHistory (mesh_of y.start p.seen) = history_of y p of good in
     omega (

@@ -1,5 +1,6 @@
 -- Tickets that a pass puts into its lane.
 use Rattle.std.specs.Prelude.{◌≡◌, ◌⊎◌, ◌*◌, ◌≤◌, List, [], ◌∷◌, ◌++◌, length}
+use Rattle.geo_base.specs.declared.limits.TheConstants.{LANE_TICKETS}
 use Rattle.crossbeam_queue.specs.Fifo.{Held}
 use Rattle.geo_lane.specs.declared.ticket.Ticket.{Ticket}
 use Rattle.geo_lane.specs.declared.ticket.TicketStep.{TicketStep}
@@ -13,7 +14,7 @@ ticket_of p s = record { sender = p.sender; number = length p.put; step = s }
 
 -- the pass put the ticket, or its lane held 1,024 at one moment of the call
 abbrev pub PutsOne : LanePassView → TicketStep → LanePassView → Type 0
-PutsOne p s q = (q ≡ record p { put = p.put ++ ticket_of p s ∷ [] }) ⊎ ((q ≡ p) × Held 1024 (Tells (view_of p)))
+PutsOne p s q = (q ≡ record p { put = p.put ++ ticket_of p s ∷ [] }) ⊎ ((q ≡ p) × Held LANE_TICKETS (Tells (view_of p)))
 
 -- so with each of these, in order
 abbrev pub PutsAll : LanePassView → List TicketStep → LanePassView → Type 0

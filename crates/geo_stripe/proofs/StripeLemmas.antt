@@ -5,6 +5,7 @@ use Rattle.std.proofs.lemmas.Nat.{le-div}
 use Rattle.std.specs.Prelude.{map}
 use Rattle.std.specs.List.{range_with_len}
 use Rattle.std.specs.Option.{option_to_list}
+use Rattle.geo_base.specs.declared.limits.TheConstants.{MAX_MEDIA_BYTES}
 use Rattle.geo_model.specs.declared.span.Piece.{Piece}
 use Rattle.geo_model.specs.Place.{cut, piece_in, strip}
 use Rattle.geo_range.proofs.CutLemmas.{cut_more}
@@ -47,7 +48,7 @@ strips_rise o len stripe some some_byte =
     omega (arith, rising)
 
 -- the last strip of a range ends less than a strip behind it
-pub strips_end : (last stripe : ℕ) → last < 2 ^ 60 → stripe < 2 ^ 32 → (last / stripe + 1) * stripe < 2 ^ 64
+pub strips_end : (last stripe : ℕ) → last < MAX_MEDIA_BYTES → stripe < 2 ^ 32 → (last / stripe + 1) * stripe < 2 ^ 64
 strips_end last stripe fits small =
     let low : (last / stripe) * stripe ≤ last = div-mul-le_self last stripe in
     let next : (last / stripe + 1) * stripe ≡ (last / stripe) * stripe + stripe = grind arith in

@@ -5,7 +5,7 @@ ghost use Rattle.geo_model.specs.Records.{is_stripe_size, stripe_record, stripe_
 ghost use Rattle.geo_record.specs.Head.{answer_of};
 ghost use Rattle.geo_stripe.specs.Record.{EncodedIsDecoded};
 
-use geo_base::{DeclineCause, Declined};
+use geo_base::{DeclineCause, Declined, MAX_STRIPE_BYTES};
 use geo_model::StripeRecord;
 use geo_record::{decode_head, encode_head, is_place, put_component, put_u32, u16_at, u32_at};
 
@@ -20,7 +20,7 @@ fn is_stripe_size(stripe: u32, sector: u64) -> bool
     requires { 0 < sector }
     ensures { result ≡ is_stripe_size stripe sector }
 {
-    1 <= stripe && stripe <= 32768 && u64::from(stripe) % sector == 0
+    1 <= stripe && u64::from(stripe) <= MAX_STRIPE_BYTES && u64::from(stripe) % sector == 0
 }
 
 /// The record in a sector. It is declined with the first cause: `Magic`, `Version`, `BadName`, `Place` where the count

@@ -3,7 +3,7 @@ ghost use Rattle.std.specs.Prelude.{◌≡◌, ◌+◌, ◌-◌, ◌*◌, ◌/�
 ghost use Rattle.std.specs.List.{range_with_len};
 ghost use Rattle.geo_model.specs.Place.{cut, strip};
 
-use geo_base::NoMemory;
+use geo_base::{MAX_MEDIA_BYTES, NoMemory};
 use geo_range::{AddressMap, PieceList, Span, Stretch};
 use std::alloc::Global;
 use std::marker::Model;
@@ -19,14 +19,15 @@ pub struct StripeMap {
 }
 
 impl Model for StripeMap {
-    ghost use Rattle.std.specs.Prelude.{◌*◌, ◌/◌, ◌^◌, ◌<◌, ◌≤◌};
+    ghost use Rattle.std.specs.Prelude.{◌*◌, ◌/◌, ◌<◌, ◌≤◌};
     ghost use Rattle.geo_stripe.specs.StripeMap.{StripeView, striped_size};
+    ghost use Rattle.geo_base.specs.declared.limits.TheConstants.{MAX_MEDIA_BYTES};
 
     ghost Value = { StripeView };
 
     ghost view = { λ m. record { count = m.count; stripe = m.stripe; smallest = m.smallest; sector = m.sector } };
 
-    ghost invariant = { λ m. (0 < m.stripe) × (striped_size m.count m.stripe m.smallest ≤ 2 ^ 60) };
+    ghost invariant = { λ m. (0 < m.stripe) × (striped_size m.count m.stripe m.smallest ≤ MAX_MEDIA_BYTES) };
 
     ghost inverse = { λ m. record { count = m.count; stripe = m.stripe; smallest = m.smallest; sector = m.sector } };
 }
@@ -62,7 +63,7 @@ impl StripeMap {
     /// `sector` bytes.
     pub fn new(count: u32, stripe: u32, smallest: u64, sector: u32) -> StripeMap
         requires some_byte { 0 < stripe }
-        requires fits { striped_size count stripe smallest ≤ 2 ^ 60 }
+        requires fits { striped_size count stripe smallest ≤ MAX_MEDIA_BYTES }
         ensures { result ≡ record { count = count; stripe = stripe; smallest = smallest; sector = sector } }
     {
         StripeMap {

@@ -1,9 +1,10 @@
 -- What a class accepts: from each shape to the model's answer.
-use Rattle.std.specs.Prelude.{◌≡◌, ℕ, ◌^◌, ◌%◌, ◌<◌, ◌≤◌, ◌==◌, nat_le, Bool, true, false, ◌&&◌, ◌||◌, length, Option, Some, None, IfSome, option_map, Contains}
+use Rattle.std.specs.Prelude.{◌≡◌, ℕ, ◌%◌, ◌<◌, ◌≤◌, ◌==◌, nat_le, Bool, true, false, ◌&&◌, ◌||◌, length, Option, Some, None, IfSome, option_map, Contains}
 use Rattle.std.proofs.Common.{refl, sym, ◌∙◌, ap, subst, arith}
 use Rattle.std.proofs.lemmas.Bool.{and_parts, leb-true, eqb-true}
 use Rattle.std.proofs.lemmas.List.{length-replicate}
 use Rattle.std.proofs.lemmas.List.Elements.{All-contains}
+use Rattle.geo_base.specs.declared.limits.TheConstants.{MAX_MEDIA_BYTES}
 use Rattle.geo_model.specs.declared.class.ConcatRecord.{ConcatRecord}
 use Rattle.geo_model.specs.declared.class.Shape.{Shape}
 use Rattle.geo_model.specs.declared.class.StripeRecord.{StripeRecord}
@@ -50,9 +51,9 @@ has_sector t prov p sound found =
     let sizes : is_provider_size p.size p.sector ≡ true =
     (All-contains IsOffer t.providers p sound.orderly.offers here).sizes in
     let first = and_parts ((p.sector == 512) || (p.sector == 4096))
-    (nat_le 1 p.size && (nat_le p.size (2 ^ 60) && (p.size % p.sector == 0))) sizes in
-    let second = and_parts (nat_le 1 p.size) (nat_le p.size (2 ^ 60) && (p.size % p.sector == 0)) first.1 in
-    let third = and_parts (nat_le p.size (2 ^ 60)) (p.size % p.sector == 0) second.1 in
+    (nat_le 1 p.size && (nat_le p.size MAX_MEDIA_BYTES && (p.size % p.sector == 0))) sizes in
+    let second = and_parts (nat_le 1 p.size) (nat_le p.size MAX_MEDIA_BYTES && (p.size % p.sector == 0)) first.1 in
+    let third = and_parts (nat_le p.size MAX_MEDIA_BYTES) (p.size % p.sector == 0) second.1 in
     sector_of p.size p.sector (p.sector == 512) (p.sector == 4096) refl refl first.0 (leb-true 1 p.size second.0)
     (eqb-true (p.size % p.sector) 0 third.1)
 

@@ -4,9 +4,10 @@ use Rattle.std.specs.List.{list_any, AllByRecursion}
 use Rattle.std.proofs.Common.{refl, sym, ◌∙◌, ap, subst, arith}
 use Rattle.geo_model.specs.Words.{is_granted_kind}
 use Rattle.geo_model.specs.Topology.{Topology, Geom, Provider, Consumer, geom_at, provider_at, consumer_at, providers_of, add_consumer, attach, is_errored}
-use Rattle.geo_model.specs.Rank.{rank, rank_limit, would_loop, is_too_deep, attach_refusal}
+use Rattle.geo_model.specs.Rank.{rank, would_loop, is_too_deep, attach_refusal}
 use Rattle.geo_mesh.specs.Graph.{IsSoundGraph}
 use Rattle.std.proofs.lemmas.Bool.{or_parts, ltb-false, le-ltb, eqb-true, eq-eqb}
+use Rattle.geo_base.specs.declared.limits.TheConstants.{MAX_RANK}
 use Rattle.geo_laws_graph.specs.LookupLaws.{new_consumer}
 use Rattle.geo_laws_graph.proofs.Numbered.{unique}
 use Rattle.geo_laws_graph.proofs.Found.{added-consumer}
@@ -40,12 +41,12 @@ all_follow P Q [] so facts = tt
 all_follow P Q (x ∷ xs) so facts = (so x facts.0, all_follow P Q xs so facts.1)
 
 -- a rank that is no greater than one that isn't too great, or than the limit, isn't too great
-deep_by : (granted : Bool) (n m : ℕ) → m ≤ max n rank_limit → (not granted && nat_lt rank_limit n) ≡ false
-    → (not granted && nat_lt rank_limit m) ≡ false
+deep_by : (granted : Bool) (n m : ℕ) → m ≤ max n MAX_RANK → (not granted && nat_lt MAX_RANK n) ≡ false
+    → (not granted && nat_lt MAX_RANK m) ≡ false
 deep_by true n m less e = refl
 deep_by false n m less e =
-    let few : n ≤ 32 = ltb-false rank_limit n e in
-    le-ltb rank_limit m (omega arith)
+    let few : n ≤ MAX_RANK = ltb-false MAX_RANK n e in
+    le-ltb MAX_RANK m (omega arith)
 
 -- the item of a number has no error where what is found there has none
 error_by : (p : ℕ) (x y : Provider) (b : Bool) → x.errored ≡ false → (y.number == p) ≡ b
@@ -65,7 +66,7 @@ module _ {C : Type 0} (t : Topology C) (sound : IsSoundGraph t) (prov : ℕ) (x 
       (unique (λ (y : Provider). y.number) t.next_provider prov t.providers x sound.orderly.order.providers found))
 
   module _ (geom : ℕ) (lives : IsSome (geom_at t geom)) (bare : providers_of t geom ≡ [])
-      (fine : x.errored ≡ false) (low : rank t x.geom < rank_limit) where
+      (fine : x.errored ≡ false) (low : rank t x.geom < MAX_RANK) where
     -- the graph with the consumer
     abbrev with_one : Topology C
     with_one = add_consumer t geom (Some prov)
@@ -80,8 +81,8 @@ module _ {C : Type 0} (t : Topology C) (sound : IsSoundGraph t) (prov : ℕ) (x 
 
     -- the rank of a geom isn't too great
     deep_at : (y : Geom C) (b : Bool) → (y.number == geom) ≡ b
-        → (not (is_granted_kind y.kind) && nat_lt rank_limit (rank t y.number)) ≡ false
-        → (not (is_granted_kind y.kind) && nat_lt rank_limit (rank with_one y.number)) ≡ false
+        → (not (is_granted_kind y.kind) && nat_lt MAX_RANK (rank t y.number)) ≡ false
+        → (not (is_granted_kind y.kind) && nat_lt MAX_RANK (rank with_one y.number)) ≡ false
     deep_at y true e before =
         let is : y.number ≡ geom = eqb-true y.number geom e in
         let above : rank with_one geom ≡ max (rank t geom) (1 + rank t x.geom) = rises.1 in
@@ -95,11 +96,11 @@ module _ {C : Type 0} (t : Topology C) (sound : IsSoundGraph t) (prov : ℕ) (x 
     -- so none is
     not_deep : is_too_deep with_one ≡ false
     not_deep =
-        none_any (λ (y : Geom C). not (is_granted_kind y.kind) && nat_lt rank_limit (rank with_one y.number)) t.geoms
-        (all_follow (λ (y : Geom C). (not (is_granted_kind y.kind) && nat_lt rank_limit (rank t y.number)) ≡ false)
-        (λ (y : Geom C). (not (is_granted_kind y.kind) && nat_lt rank_limit (rank with_one y.number)) ≡ false) t.geoms
+        none_any (λ (y : Geom C). not (is_granted_kind y.kind) && nat_lt MAX_RANK (rank with_one y.number)) t.geoms
+        (all_follow (λ (y : Geom C). (not (is_granted_kind y.kind) && nat_lt MAX_RANK (rank t y.number)) ≡ false)
+        (λ (y : Geom C). (not (is_granted_kind y.kind) && nat_lt MAX_RANK (rank with_one y.number)) ≡ false) t.geoms
         (λ y. deep_at y (y.number == geom) refl)
-        (any_none (λ (y : Geom C). not (is_granted_kind y.kind) && nat_lt rank_limit (rank t y.number)) t.geoms
+        (any_none (λ (y : Geom C). not (is_granted_kind y.kind) && nat_lt MAX_RANK (rank t y.number)) t.geoms
         sound.not_deep))
 
     -- and no loop comes
@@ -118,10 +119,10 @@ module _ {C : Type 0} (t : Topology C) (sound : IsSoundGraph t) (prov : ℕ) (x 
     -- what else the geom may stand on, it still may
     pub still_at : (other : ℕ) → CanStandOn t other → CanStandOn with_one other
     still_at other can =
-        let y = found-with (provider_at t other) (λ p. (p.errored ≡ false) × (rank t p.geom < rank_limit)) can in
+        let y = found-with (provider_at t other) (λ p. (p.errored ≡ false) × (rank t p.geom < MAX_RANK)) can in
         let same : rank with_one y.item.geom ≡ rank t y.item.geom = rises.0.same y.item.geom
         (open-other t geom other y.item sound.ranked sound.orderly.parts.geoms lives bare y.is) in
-        some-with (provider_at t other) (λ p. (p.errored ≡ false) × (rank with_one p.geom < rank_limit)) y.item y.is
+        some-with (provider_at t other) (λ p. (p.errored ≡ false) × (rank with_one p.geom < MAX_RANK)) y.item y.is
         (y.fact.0, rw same y.fact.1)
 
 -- a consumer that was just made in a mesh can be attached, and then the mesh is the one with a consumer attached
@@ -137,7 +138,7 @@ pub attach_can : (t u : TopoView Config) (geom prov cons : ℕ) → cons ≡ t.t
     → CanBeAttached t u geom prov cons
 attach_can t u geom prov cons number sound made lives bare can =
     let x = found-with (provider_at t.topology prov)
-    (λ p. (p.errored ≡ false) × (rank t.topology p.geom < rank_limit)) can in
+    (λ p. (p.errored ≡ false) × (rank t.topology p.geom < MAX_RANK)) can in
     let graph : u.topology ≡ add_consumer t.topology geom None = ap (λ (v : TopoView Config). v.topology) made in
     subst (CanBeAttached t u geom prov) (sym number) (record {
       consumer = subst (λ (g : Topology Config). IsSomeAnd (consumer_at g t.topology.next_consumer)
@@ -167,7 +168,7 @@ pub attach_more : (t u : TopoView Config) (geom prov : ℕ) (provs : List ℕ) �
     → AllByRecursion (CanStandOn t.topology) provs → AllByRecursion (CanStandOn u.topology) provs
 attach_more t u geom prov provs sound made lives bare can all =
     let x = found-with (provider_at t.topology prov)
-    (λ p. (p.errored ≡ false) × (rank t.topology p.geom < rank_limit)) can in
+    (λ p. (p.errored ≡ false) × (rank t.topology p.geom < MAX_RANK)) can in
     let graph : u.topology ≡ add_consumer t.topology geom (Some prov) =
     ap (λ (v : TopoView Config). v.topology) made in
     subst (λ (g : Topology Config). AllByRecursion (CanStandOn g) provs) (sym graph)

@@ -5,9 +5,10 @@ use Rattle.std.proofs.Common.{refl, sym, ◌∙◌, ap, subst, eq-eqb}
 use Rattle.std.proofs.lemmas.Bool.{eqb-true, or_parts}
 use Rattle.std.proofs.lemmas.List.Elements.{All-filter, All-push, All-weaker}
 use Rattle.geo_base.specs.declared.request.Counts.{Counts}
+use Rattle.geo_base.specs.declared.limits.TheConstants.{UNTASTED_RANK}
 use Rattle.geo_model.specs.Topology.{Topology, Geom, Provider, Consumer, geom_at, provider_at, consumer_at, geom_of_provider, is_errored, add_consumer, attach, consumers_of, detach}
 use Rattle.geo_model.specs.Demand.{no_counts, have, want}
-use Rattle.geo_model.specs.Events.{is_not_tasted, taste_limit}
+use Rattle.geo_model.specs.Events.{is_not_tasted}
 use Rattle.geo_model.specs.Rank.{rank, attach_refusal}
 use Rattle.geo_model.specs.World.{Config}
 use Rattle.geo_model.proofs.DemandLemmas.{find_passes}
@@ -66,7 +67,7 @@ module _ {C : Type 0} (t : TopoView C) where
   -- is what the test says
   pub tasted_is : (p : ℕ) → is_not_tasted (granted_by t) t.topology p ≡ false → IsTasted p
   tasted_is p tasted =
-      let low : Bool = option_map_or (λ (g : Geom C). g.withering || nat_le taste_limit (rank t.topology g.number))
+      let low : Bool = option_map_or (λ (g : Geom C). g.withering || nat_le UNTASTED_RANK (rank t.topology g.number))
       (geom_of_provider t.topology p) true in
       let written : Bool = not ((have (granted_by t) t.topology p).w == 0) in
       let a = or_parts (is_errored t.topology p) (low || written) tasted in
@@ -74,7 +75,7 @@ module _ {C : Type 0} (t : TopoView C) where
       by (provider_at t.topology p) refl b.0 a.0
     where
       by : (o : Option Provider) → provider_at t.topology p ≡ o
-          → option_map_or (λ (g : Geom C). g.withering || nat_le taste_limit (rank t.topology g.number))
+          → option_map_or (λ (g : Geom C). g.withering || nat_le UNTASTED_RANK (rank t.topology g.number))
           (option_and_then (λ (x : Provider). geom_at t.topology x.geom) o) true ≡ false
           → is_errored t.topology p ≡ false → IsTasted p
       by None at never sound = absurd (cc)
@@ -84,7 +85,7 @@ module _ {C : Type 0} (t : TopoView C) where
       (found : provider_at t.topology p ≡ Some x) where
     -- whether the geom withers or is too high
     abbrev high : Bool
-    high = option_map_or (λ (g : Geom C). g.withering || nat_le taste_limit (rank t.topology g.number))
+    high = option_map_or (λ (g : Geom C). g.withering || nat_le UNTASTED_RANK (rank t.topology g.number))
         (geom_of_provider t.topology p) true
 
     -- and whether the provider is written
@@ -131,7 +132,7 @@ module _ {C : Type 0} (t : TopoView C) where
     tasted_told a stored good none =
         sym (ap (λ b. not (b || (high || written))) (error_is ∙ good)
         ∙ ap (λ b. not (high || b)) (written_is a stored ∙ none)
-        ∙ ap (λ o. not (option_map_or (λ (g : Geom C). g.withering || nat_le taste_limit (rank t.topology g.number))
+        ∙ ap (λ o. not (option_map_or (λ (g : Geom C). g.withering || nat_le UNTASTED_RANK (rank t.topology g.number))
         (option_and_then (λ (y : Provider). geom_at t.topology y.geom) o) true || false)) found
         ∙ by (geom_at t.topology x.geom))
       where
@@ -140,11 +141,12 @@ module _ {C : Type 0} (t : TopoView C) where
         or_false false = refl
 
         by : (o : Option (Geom C))
-            → not (option_map_or (λ (g : Geom C). g.withering || nat_le taste_limit (rank t.topology g.number)) o true
+            → not (option_map_or (λ (g : Geom C). g.withering || nat_le UNTASTED_RANK (rank t.topology g.number)) o true
             || false)
-            ≡ option_map_or (λ (g : Geom C). not (g.withering || nat_le taste_limit (rank t.topology g.number))) o false
+            ≡ option_map_or (λ (g : Geom C). not (g.withering || nat_le UNTASTED_RANK (rank t.topology g.number)))
+            o false
         by None = refl
-        by (Some g) = or_false (g.withering || nat_le taste_limit (rank t.topology g.number))
+        by (Some g) = or_false (g.withering || nat_le UNTASTED_RANK (rank t.topology g.number))
 
 -- Beginning
 

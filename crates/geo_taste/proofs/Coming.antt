@@ -6,9 +6,10 @@ use Rattle.std.proofs.lemmas.List.Elements.{All-contains}
 use Rattle.std.proofs.lemmas.List.Folds.{list_any_none}
 use Rattle.geo_base.specs.declared.errno.Errno.TheVariants.{ENXIO, ELOOP, EDEEP}
 use Rattle.geo_base.specs.declared.kind.Kind.TheVariants as kinds
+use Rattle.geo_base.specs.declared.limits.TheConstants.{MAX_RANK}
 use Rattle.geo_model.specs.Words.{first_error, is_granted_kind}
 use Rattle.geo_model.specs.Topology.{Topology, Geom, Provider, geom_at, provider_at, consumer_at, providers_of, is_errored, add_consumer, attach}
-use Rattle.geo_model.specs.Rank.{rank, rank_limit, would_loop, is_too_deep, attach_refusal}
+use Rattle.geo_model.specs.Rank.{rank, would_loop, is_too_deep, attach_refusal}
 use Rattle.geo_mesh.specs.Graph.{IsSoundGraph, IsOffer}
 use Rattle.geo_laws_graph.specs.LookupLaws.{EachIsFound, new_consumer}
 use Rattle.geo_laws_graph.proofs.Members.{at_contained}
@@ -75,15 +76,15 @@ module _ {C : Type 0} (t : Topology C) (sound : IsSoundGraph t) where
 
     -- whether a geom is too deep
     abbrev deep : Topology C → Geom C → Bool
-    deep u x = not (is_granted_kind x.kind) && nat_lt rank_limit (rank u x.number)
+    deep u x = not (is_granted_kind x.kind) && nat_lt MAX_RANK (rank u x.number)
 
     -- a geom is no deeper than it was, but for TASTE
     no_deeper : (x : Geom C) → Contains t.geoms x → deep t x ≡ false → deep tasted x ≡ false
     no_deeper x there low =
         elim (cases_eq x.number 2) [
-          | inl same ↦ ap (λ b. not b && nat_lt rank_limit (rank tasted x.number)) (of_taste x there same)
+          | inl same ↦ ap (λ b. not b && nat_lt MAX_RANK (rank tasted x.number)) (of_taste x there same)
           | inr other ↦
-              ap (λ n. not (is_granted_kind x.kind) && nat_lt rank_limit n)
+              ap (λ n. not (is_granted_kind x.kind) && nat_lt MAX_RANK n)
               ((open-rises t 2 p y sound.ranked sound.orderly.parts.geoms taste_stands taste_bare
               offered).0.same x.number other)
               ∙ low

@@ -1,5 +1,5 @@
 -- What a firm mesh says of a provider that a class accepts.
-use Rattle.std.specs.Prelude.{◌≡◌, ℕ, ◌*◌, ◌^◌, ◌%◌, ◌<◌, ◌==◌, nat_le, nat_lt, Bool, true, false, not, ◌&&◌, List, [], ◌∷◌, ◌++◌, length, Option, Some, None, Result, Ok, Err, IfSome, Contains, if◌then◌else◌}
+use Rattle.std.specs.Prelude.{◌≡◌, ℕ, ◌*◌, ◌%◌, ◌<◌, ◌==◌, nat_le, nat_lt, Bool, true, false, not, ◌&&◌, List, [], ◌∷◌, ◌++◌, length, Option, Some, None, Result, Ok, Err, IfSome, Contains, if◌then◌else◌}
 use Rattle.std.proofs.Common.{inl, inr, refl, ap, subst, arith}
 use Rattle.std.proofs.lemmas.Bool.{and_parts, or_parts, not-false, leb-true, le-leb, ltb-true, eq-eqb}
 use Rattle.std.proofs.lemmas.List.Elements.{All-contains, All-from_recursion}
@@ -8,6 +8,7 @@ use Rattle.geo_base.specs.declared.decline.DeclineCause.{DeclineCause}
 use Rattle.geo_base.specs.declared.decline.DeclineCause.TheVariants as causes
 use Rattle.geo_base.specs.declared.kind.Kind.{Kind}
 use Rattle.geo_base.specs.declared.kind.Kind.TheVariants as kinds
+use Rattle.geo_base.specs.declared.limits.TheConstants.{MAX_COMPONENTS, MAX_MEDIA_BYTES, MAX_RANK, UNTASTED_RANK}
 use Rattle.geo_model.specs.declared.class.Facts.{Facts}
 use Rattle.geo_model.specs.declared.class.LabelRecord.{LabelRecord}
 use Rattle.geo_model.specs.declared.class.Shape.{Shape}
@@ -15,9 +16,9 @@ use Rattle.geo_model.specs.declared.class.Shape.TheVariants.{Slices, Logical, Na
 use Rattle.geo_model.specs.declared.class.Verdict.TheVariants.{Decline, More, Accept}
 use Rattle.geo_model.specs.Words.{first_error, unless}
 use Rattle.geo_model.specs.Topology.{Topology, Geom, Provider, geom_at, provider_at, geom_of_provider, is_errored}
-use Rattle.geo_model.specs.Rank.{rank, rank_limit}
+use Rattle.geo_model.specs.Rank.{rank}
 use Rattle.geo_model.specs.World.{World, Config, Taste, granted_in}
-use Rattle.geo_model.specs.Events.{QueuedTopology, taste_limit}
+use Rattle.geo_model.specs.Events.{QueuedTopology}
 use Rattle.geo_model.specs.WorldEvents.{queued_of, with_queued}
 use Rattle.geo_model.specs.Acceptance.{accept, verdict_of, is_other_size, label_verdict}
 use Rattle.geo_model.specs.Chain.{Chain, with_link, link_tests, table_of, chain_verdict, leads_on}
@@ -48,14 +49,14 @@ media_size size sector which media =
       | inl small ↦ (rw (
         eq-eqb sector 512 small,
         le-leb 1 size media.positive,
-        le-leb size (2 ^ 60) media.limited,
+        le-leb size MAX_MEDIA_BYTES media.limited,
         eq-eqb (size % sector) 0 media.whole,
       ) refl)
       | inr large ↦ (rw (
         ap (λ n. n == 512) large,
         eq-eqb sector 4096 large,
         le-leb 1 size media.positive,
-        le-leb size (2 ^ 60) media.limited,
+        le-leb size MAX_MEDIA_BYTES media.limited,
         eq-eqb (size % sector) 0 media.whole,
       ) refl)
     ]
@@ -73,13 +74,13 @@ firm_sizes w firm =
 -- Places
 
 -- a place that isn't declined
-good_place : (place count : ℕ) → not (nat_le 1 count && (nat_le count 16 && nat_lt place count)) ≡ false
+good_place : (place count : ℕ) → not (nat_le 1 count && (nat_le count MAX_COMPONENTS && nat_lt place count)) ≡ false
     → IsPlace place count
 good_place place count e =
-    let a = and_parts (nat_le 1 count) (nat_le count 16 && nat_lt place count)
-    (not-false (nat_le 1 count && (nat_le count 16 && nat_lt place count)) e) in
-    let b = and_parts (nat_le count 16) (nat_lt place count) a.1 in
-    record { some = leb-true 1 count a.0; few = leb-true count 16 b.0; inside = ltb-true place count b.1 }
+    let a = and_parts (nat_le 1 count) (nat_le count MAX_COMPONENTS && nat_lt place count)
+    (not-false (nat_le 1 count && (nat_le count MAX_COMPONENTS && nat_lt place count)) e) in
+    let b = and_parts (nat_le count MAX_COMPONENTS) (nat_lt place count) a.1 in
+    record { some = leb-true 1 count a.0; few = leb-true count MAX_COMPONENTS b.0; inside = ltb-true place count b.1 }
 
 -- nothing is against the tests behind others
 none_behind : (xs ys : List (Bool × DeclineCause)) → first_error (xs ++ ys) ≡ None → first_error ys ≡ None
@@ -171,18 +172,18 @@ module _ (w : World) (s : Taste) (p : Provider) (kind : Kind) (bytes : List ℕ)
       rw (find_passes (λ (x : Provider). x.number == s.provider) t.providers p has.found) at one
 
   -- its geom isn't too high
-  not_high : rank t p.geom < rank_limit
+  not_high : rank t p.geom < MAX_RANK
   not_high =
       let tasting : IsTasteInOrder w s =
       at-found w.taste (IsTasteInOrder w) s has.taste firm.sound.events.taste in
-      let h = found-with (geom_of_provider t s.provider) (λ (g : Geom Config). rank t g.number < taste_limit)
+      let h = found-with (geom_of_provider t s.provider) (λ (g : Geom Config). rank t g.number < UNTASTED_RANK)
       tasting.rank in
       let x = through (λ (x : Provider). geom_at t x.geom) (provider_at t s.provider) h.item h.is in
       let same : x.first ≡ p = one-found (provider_at t s.provider) x.first p x.is has.found in
       let is : geom_at t p.geom ≡ Some h.item =
       subst (λ (z : Provider). geom_at t z.geom ≡ Some h.item) same x.then in
       let number : h.item.number ≡ p.geom = number_found (λ (z : Geom Config). z.number) t.geoms p.geom h.item is in
-      let low : rank t p.geom < 8 = subst (λ m. rank t m < taste_limit) number h.fact in
+      let low : rank t p.geom < UNTASTED_RANK = subst (λ m. rank t m < UNTASTED_RANK) number h.fact in
       omega arith
 
   -- what is made has sizes of providers
@@ -203,7 +204,7 @@ module _ (w : World) (s : Taste) (p : Provider) (kind : Kind) (bytes : List ℕ)
   -- so what accepting asks holds
   accepts_fit : AcceptsAreFit w s p shape
   accepts_fit = record {
-    stands = some-with (provider_at t s.provider) (λ x. (x.errored ≡ false) × (rank t x.geom < rank_limit)) p has.found
+    stands = some-with (provider_at t s.provider) (λ x. (x.errored ≡ false) × (rank t x.geom < MAX_RANK)) p has.found
         (no_error, not_high);
     place = verdict_named w s bytes (facts_of t p) shape kind has.verdict;
     may = record {

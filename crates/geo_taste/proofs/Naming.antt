@@ -7,6 +7,7 @@ use Rattle.geo_base.specs.declared.decline.DeclineCause.TheVariants as causes
 use Rattle.geo_base.specs.declared.kind.Kind.{Kind}
 use Rattle.geo_base.specs.declared.kind.Kind.TheVariants as kinds
 use Rattle.geo_base.specs.declared.request.Counts.{Counts}
+use Rattle.geo_base.specs.declared.limits.TheConstants.{MAX_COMPONENTS}
 use Rattle.geo_model.specs.declared.class.Facts.{Facts}
 use Rattle.geo_model.specs.declared.class.LabelRecord.{LabelRecord}
 use Rattle.geo_model.specs.declared.class.Shape.{Shape}
@@ -26,13 +27,13 @@ use Rattle.geo_taste.specs.Accepts.{NamesAPlace}
 -- Places
 
 -- a place that isn't declined
-good_place : (place count : ℕ) → not (nat_le 1 count && (nat_le count 16 && nat_lt place count)) ≡ false
+good_place : (place count : ℕ) → not (nat_le 1 count && (nat_le count MAX_COMPONENTS && nat_lt place count)) ≡ false
     → IsPlace place count
 good_place place count e =
-    let a = and_parts (nat_le 1 count) (nat_le count 16 && nat_lt place count)
-    (not-false (nat_le 1 count && (nat_le count 16 && nat_lt place count)) e) in
-    let b = and_parts (nat_le count 16) (nat_lt place count) a.1 in
-    record { some = leb-true 1 count a.0; few = leb-true count 16 b.0; inside = ltb-true place count b.1 }
+    let a = and_parts (nat_le 1 count) (nat_le count MAX_COMPONENTS && nat_lt place count)
+    (not-false (nat_le 1 count && (nat_le count MAX_COMPONENTS && nat_lt place count)) e) in
+    let b = and_parts (nat_le count MAX_COMPONENTS) (nat_lt place count) a.1 in
+    record { some = leb-true 1 count a.0; few = leb-true count MAX_COMPONENTS b.0; inside = ltb-true place count b.1 }
 
 -- where nothing is refused, the first test fails, and nothing of the rest refuses
 none_refused : {E : Type 0} (b : Bool) (e : E) (rows : List (Bool × E)) → first_error ((b, e) ∷ rows) ≡ None

@@ -5,6 +5,7 @@ use Rattle.std.proofs.Common.{refl, sym, ◌∙◌, ap, subst, arith}
 use Rattle.std.proofs.lemmas.Bool.{and_parts, not-true}
 use Rattle.std.proofs.lemmas.List.Elements.{All-contains, Contains-append_left, Contains-push}
 use Rattle.geo_base.specs.Name.{is_name}
+use Rattle.geo_base.specs.declared.limits.TheConstants.{MAX_LINKS}
 use Rattle.geo_model.specs.declared.class.Slice.{Slice}
 use Rattle.geo_model.specs.declared.class.EbrPart.{EbrPart}
 use Rattle.geo_model.specs.Words.{same_name}
@@ -139,7 +140,7 @@ slices_differ below xs =
     (λ i less. slice-tells below i) 0 xs (omega arith)
 
 -- and so do partitions
-pub partitions_differ : (below : List ℕ) (xs : List (Option EbrPart)) → length xs ≤ 32
+pub partitions_differ : (below : List ℕ) (xs : List (Option EbrPart)) → length xs ≤ MAX_LINKS
     → PairsByRecursion Differ (new_parts below xs)
 partitions_differ below xs few =
     new-differ (logical_name below) (λ (y : EbrPart). y.count) (λ name. end_number name - 1) (length xs)

@@ -4,8 +4,9 @@ use Rattle.std.specs.List.{AllByRecursion}
 use Rattle.std.proofs.Common.{inr, refl, sym, ◌∙◌, ap, subst, arith}
 use Rattle.std.proofs.lemmas.List.Elements.{recursion_from_All}
 use Rattle.geo_base.specs.declared.kind.Kind.{Kind}
+use Rattle.geo_base.specs.declared.limits.TheConstants.{MAX_RANK}
 use Rattle.geo_model.specs.Topology.{Topology, Geom, Provider, geom_at, provider_at, providers_of, add_geom, is_name_taken, is_withering}
-use Rattle.geo_model.specs.Rank.{rank, rank_limit}
+use Rattle.geo_model.specs.Rank.{rank}
 use Rattle.geo_model.specs.World.{Config}
 use Rattle.geo_mesh.specs.Graph.{IsSoundGraph}
 use Rattle.geo_mesh.specs.Topo.{TopoView, with_geom, IsButForRoom}
@@ -78,10 +79,10 @@ module _ {C : Type 0} (t : Topology C) (sound : IsSoundGraph t) where
     -- what could be stood on still can
     pub stands_still : (prov : ℕ) → CanStandOn t prov → CanStandOn more prov
     stands_still prov can =
-        let x = found-with (provider_at t prov) (λ p. (p.errored ≡ false) × (rank t p.geom < rank_limit)) can in
+        let x = found-with (provider_at t prov) (λ p. (p.errored ≡ false) × (rank t p.geom < MAX_RANK)) can in
         let same : rank more x.item.geom ≡ rank t x.item.geom =
         (adding-stay.geom t kind name config automatic sound.ranked sound.orderly.parts.geoms).same x.item.geom in
-        some-with (provider_at t prov) (λ p. (p.errored ≡ false) × (rank more p.geom < rank_limit)) x.item x.is
+        some-with (provider_at t prov) (λ p. (p.errored ≡ false) × (rank more p.geom < MAX_RANK)) x.item x.is
         (x.fact.0, rw same x.fact.1)
 
 -- what a new geom of a mesh needs to get its consumers

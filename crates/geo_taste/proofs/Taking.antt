@@ -3,14 +3,15 @@ use Rattle.std.specs.Prelude.{◌≡◌, ◌<◌, ◌==◌, Bool, true, false, L
 use Rattle.std.specs.Option.{option_map_or}
 use Rattle.std.proofs.Common.{refl, sym, ◌∙◌, ap, subst, arith}
 use Rattle.std.proofs.lemmas.Bool.{eqb-true, not-true, or_parts}
+use Rattle.geo_base.specs.declared.limits.TheConstants.{MAX_RANK, UNTASTED_RANK}
 use Rattle.geo_model.specs.declared.class.Judged.{Judged}
 use Rattle.geo_model.specs.declared.class.Judged.TheVariants.{Read, Next, Made, Ended}
 use Rattle.geo_model.specs.declared.class.Shape.{Shape}
 use Rattle.geo_model.specs.declared.class.Verdict.{Verdict}
 use Rattle.geo_model.specs.declared.class.Verdict.TheVariants.{Accept}
 use Rattle.geo_model.specs.declared.step.Event.{Event}
-use Rattle.geo_model.specs.Events.{QueuedTopology, taste_limit}
-use Rattle.geo_model.specs.Rank.{rank, rank_limit}
+use Rattle.geo_model.specs.Events.{QueuedTopology}
+use Rattle.geo_model.specs.Rank.{rank}
 use Rattle.geo_model.specs.Tasting.{end_class, facts_of, is_ended, taste_step}
 use Rattle.geo_model.specs.Topology.{Topology, Provider, Consumer, consumer_at, is_errored, provider_at}
 use Rattle.geo_model.specs.World.{Config, Taste, is_read_out}
@@ -163,12 +164,13 @@ module _ (t : Topology Config) (s : Taste) where
 
   -- so a geom can stand on it where it isn't too high
   pub goes_stands : (p : Provider) → IsSoundGraph t → going t s ≡ Some p
-      → IfSome (provider_at t s.provider) (λ x. rank t x.geom < taste_limit) → CanStandOn t s.provider
+      → IfSome (provider_at t s.provider) (λ x. rank t x.geom < UNTASTED_RANK) → CanStandOn t s.provider
   goes_stands p sound goes low =
       let found = (goes_found p goes).1 in
-      let below : rank t p.geom < 8 = if_found (λ (x : Provider). rank t x.geom < taste_limit) _ p found low in
-      let under : rank t p.geom < rank_limit = omega (arith, below) in
-      subst (λ (o : Option Provider). IsSomeAnd o (λ x. (x.errored ≡ false) × (rank t x.geom < rank_limit))) (sym found)
+      let below : rank t p.geom < UNTASTED_RANK =
+      if_found (λ (x : Provider). rank t x.geom < UNTASTED_RANK) _ p found low in
+      let under : rank t p.geom < MAX_RANK = omega (arith, below) in
+      subst (λ (o : Option Provider). IsSomeAnd o (λ x. (x.errored ≡ false) × (rank t x.geom < MAX_RANK))) (sym found)
       (goes_sound p sound goes, under)
 
 -- A whole step
@@ -276,12 +278,12 @@ module _ (t u : TopoView Config) (s z : Taste) (said : Said) (is : IsSaid t s u 
         (subst (λ (x : Taste). IsSome (going t.topology x)) (sym told.1) (ap is_some told.2.goes))
 
     -- where it did before
-    pub said_low : IfSome (provider_at t.topology s.provider) (λ p. rank t.topology p.geom < taste_limit)
-        → IfSome (provider_at u.topology z.provider) (λ p. rank u.topology p.geom < taste_limit)
+    pub said_low : IfSome (provider_at t.topology s.provider) (λ p. rank t.topology p.geom < UNTASTED_RANK)
+        → IfSome (provider_at u.topology z.provider) (λ p. rank u.topology p.geom < UNTASTED_RANK)
     said_low low =
         subst (λ (v : TopoView Config).
-        IfSome (provider_at v.topology z.provider) (λ p. rank v.topology p.geom < taste_limit)) (sym told.0)
-        (subst (λ (x : Taste). IfSome (provider_at t.topology x.provider) (λ p. rank t.topology p.geom < taste_limit))
+        IfSome (provider_at v.topology z.provider) (λ p. rank v.topology p.geom < UNTASTED_RANK)) (sym told.0)
+        (subst (λ (x : Taste). IfSome (provider_at t.topology x.provider) (λ p. rank t.topology p.geom < UNTASTED_RANK))
         (sym told.1) low)
 
     -- what was taken of it
@@ -340,7 +342,7 @@ module _ (t u : TopoView Config) (s z : Taste) (said : Said) (is : IsSaid t s u 
 
 -- a taste that goes on stands on its provider
 pub some_stands : (t : Topology Config) (s : Taste) → IsSoundGraph t → IsSome (going t s)
-    → IfSome (provider_at t s.provider) (λ p. rank t p.geom < taste_limit) → CanStandOn t s.provider
+    → IfSome (provider_at t s.provider) (λ p. rank t p.geom < UNTASTED_RANK) → CanStandOn t s.provider
 some_stands t s sound goes low = by (going t s) refl goes
   where
     by : (o : Option Provider) → going t s ≡ o → IsSome o → CanStandOn t s.provider

@@ -2,13 +2,14 @@
 -- of the mesh (geom(4)).
 use Rattle.std.specs.Prelude.{◌≡◌, ℕ, nat_le, Bool, true, false, not, ◌||◌, List, Some, IsSome, All, if◌then◌else◌}
 use Rattle.geo_base.specs.declared.request.Counts.{Counts}
+use Rattle.geo_base.specs.declared.limits.TheConstants.{UNTASTED_RANK}
 use Rattle.geo_model.specs.declared.step.Event.{Event}
 use Rattle.geo_model.specs.declared.class.Judged.{Judged}
 use Rattle.geo_model.specs.declared.class.Judged.TheVariants.{Read, Made}
 use Rattle.geo_model.specs.Topology.{Topology, geom_at, add_consumer}
 use Rattle.geo_model.specs.Demand.{no_counts, one_read}
 use Rattle.geo_model.specs.Opens.{with_grant}
-use Rattle.geo_model.specs.Events.{QueuedTopology, tasting_classes, taste_limit}
+use Rattle.geo_model.specs.Events.{QueuedTopology, tasting_classes}
 use Rattle.geo_model.specs.Rank.{rank}
 use Rattle.std.specs.Option.{option_map_or}
 use Rattle.geo_model.specs.Tasting.{Judging}
@@ -41,7 +42,7 @@ module _ {C : Type 0} where
 
   -- whether the geom stands, isn't withering and has a rank at which it is tasted
   abbrev pub is_low : Topology C → ℕ → Bool
-  is_low t g = option_map_or (λ x. not (x.withering || nat_le taste_limit (rank t x.number))) (geom_at t g) false
+  is_low t g = option_map_or (λ x. not (x.withering || nat_le UNTASTED_RANK (rank t x.number))) (geom_at t g) false
 
   -- all counts are kept, no note is set, and each consumer is attached
   pub record IsSettled (t : TopoView C) : Type 0 where

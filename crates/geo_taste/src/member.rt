@@ -4,7 +4,7 @@ ghost use Rattle.geo_model.specs.Acceptance.{concat_member, stripe_member};
 ghost use Rattle.geo_model.specs.Sound.{fits_kind};
 ghost use Rattle.geo_taste.specs.Members.{member_of};
 
-use geo_base::{Kind, Name, NoMemory};
+use geo_base::{Kind, MAX_COMPONENTS, Name, NoMemory};
 use geo_class::Config;
 use geo_model::{ConcatRecord, StripeRecord};
 use std::alloc::Global;
@@ -21,7 +21,7 @@ pub struct Member {
 /// The member that a record of a concat names.
 pub fn concat_member(alloc: Global, found: &ConcatRecord) -> Result<Member, NoMemory>
     requires some { 1 ≤ found.now.count }
-    requires few { found.now.count ≤ 16 }
+    requires few { found.now.count ≤ MAX_COMPONENTS }
     ensures member { IfOk result (λ x. member_of x ≡ concat_member found.now) }
     ensures class { IfOk result (λ x. IsTrue (fits_kind x.kind x.empty)) }
 {
@@ -36,7 +36,7 @@ pub fn concat_member(alloc: Global, found: &ConcatRecord) -> Result<Member, NoMe
 /// The member that a record of a stripe names.
 pub fn stripe_member(alloc: Global, found: &StripeRecord) -> Result<Member, NoMemory>
     requires some { 1 ≤ found.now.count }
-    requires few { found.now.count ≤ 16 }
+    requires few { found.now.count ≤ MAX_COMPONENTS }
     ensures member { IfOk result (λ x. member_of x ≡ stripe_member found.now) }
     ensures class { IfOk result (λ x. IsTrue (fits_kind x.kind x.empty)) }
 {

@@ -5,7 +5,7 @@ ghost use Rattle.geo_mesh.specs.Topo.{is_provider_size};
 ghost use Rattle.geo_taste.specs.Making.{both, with_offer, AreBoth};
 ghost use Rattle.geo_taste.specs.Standing.{MayOffer};
 
-use geo_base::{GeomId, Name, ProvId};
+use geo_base::{GeomId, MAX_MEDIA_BYTES, Name, ProvId};
 use geo_class::Config;
 use geo_event::{Event, EventQueue};
 use geo_mesh::Topo;
@@ -25,7 +25,7 @@ pub fn is_provider_size(size: u64, sector: u32) -> bool
 {
     (sector == 512 || sector == 4096)
         && 1 <= size
-        && size <= 1 << 60
+        && size <= MAX_MEDIA_BYTES
         && size % u64::from(sector) == 0
 }
 

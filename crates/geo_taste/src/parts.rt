@@ -12,7 +12,7 @@ ghost use Rattle.geo_taste.specs.Standing.{MayOffer};
 
 use crate::names::{logical_name, slice_name};
 use crate::offer::{Offer, is_provider_size, make_offer};
-use geo_base::{GeomId, Name, NoMemory};
+use geo_base::{GeomId, MAX_LINKS, Name, NoMemory};
 use geo_class::Config;
 use geo_event::EventQueue;
 use geo_mesh::Topo;
@@ -129,11 +129,11 @@ pub fn slice_parts(
 pub fn partition_parts(
     alloc: Global,
     below: &Name,
-    chain: &[Option<EbrPart>; 32],
+    chain: &[Option<EbrPart>; MAX_LINKS],
 ) -> Result<Option<Vec<Part>>, NoMemory>
     ensures named { IfOk result (λ parts. option_map (λ xs. xs.items) parts
         ≡ named_all (new_parts below.now chain.now)) }
-    ensures few { length chain.now ≤ 32 }
+    ensures few { length chain.now ≤ MAX_LINKS }
 {
     let mut parts = Vec::new(alloc);
     let mut place = 0;

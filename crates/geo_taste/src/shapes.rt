@@ -10,7 +10,7 @@ use crate::join::accept_member;
 use crate::label::accept_label;
 use crate::member::{concat_member, stripe_member};
 use crate::tables::{accept_partitions, accept_slices};
-use geo_base::{NoMemory, ProvId};
+use geo_base::{MAX_LINKS, NoMemory, ProvId};
 use geo_class::{Config, Shape};
 use geo_event::EventQueue;
 use geo_mesh::Topo;
@@ -43,7 +43,7 @@ pub fn accept(
         let old = both topo.old queue.old in
         IsAccepted answer topo.new queue.new old (accepted old p shape.now) (MayAccept (queued old) p shape.now))) }
     ensures same { OnErr result (AreBoth topo.new queue.new (both topo.old queue.old)) }
-    ensures spare { queue.old.spare ≤ queue.new.spare + 32 }
+    ensures spare { queue.old.spare ≤ queue.new.spare + MAX_LINKS }
 {
     let Some(below) = topo.provider(prov) else {
         unreachable!()

@@ -1,6 +1,5 @@
 //! One whole step of a taste.
 ghost use Rattle.std.specs.Prelude.{◌≡◌, ◌+◌, ◌≤◌, ◌<◌, ◌^◌, false, Some, length, IfOk, IfSome, IsSome, OnErr};
-ghost use Rattle.geo_model.specs.Events.{taste_limit};
 ghost use Rattle.geo_model.specs.Rank.{rank};
 ghost use Rattle.geo_model.specs.Topology.{Provider as ProviderValue, provider_at};
 ghost use Rattle.geo_model.specs.World.{is_read_out};
@@ -16,7 +15,7 @@ ghost use Rattle.geo_taste.specs.Taster.{IsSettled, IsTasteOf};
 use crate::judge::{Said, say};
 use crate::{Accepted, accept};
 use geo_access::Steps;
-use geo_base::{NoMemory, ProvId};
+use geo_base::{MAX_LINKS, NoMemory, ProvId, UNTASTED_RANK};
 use geo_class::{Config, Taste};
 use geo_event::EventQueue;
 use geo_mesh::Topo;
@@ -42,13 +41,13 @@ pub fn judge_step<L: Ledger>(
     requires few { taste.old.reads < 2 ^ 63 }
     requires sector { IfSome (sector_back taste.old.asked) (λ x. 512 ≤ length x.1) }
     requires low { IfSome (provider_at topo.old.topology taste.old.provider)
-        (λ p. rank topo.old.topology p.geom < taste_limit) }
+        (λ p. rank topo.old.topology p.geom < UNTASTED_RANK) }
     ensures judged { IfOk result (IsJudged (both topo.old queue.old) taste.old topo.new queue.new taste.new) }
     ensures same { OnErr result (AreBoth topo.new queue.new (both topo.old queue.old)) }
     ensures taste { OnErr result (taste.new ≡ taste.old) }
     ensures settled { IsKnownAfter result (MayJudge (both topo.old queue.old) taste.old) (IsSettled topo.new) }
     ensures tasting { IsKnownAfter result (MayJudge (both topo.old queue.old) taste.old) (IsTasteOf topo.new taste.new) }
-    ensures spare { queue.old.spare ≤ queue.new.spare + 32 }
+    ensures spare { queue.old.spare ≤ queue.new.spare + MAX_LINKS }
     ensures bound { steps.new ≤ steps.old + consumers_below topo.old.topology taste.old.provider }
 {
     match say(taste, topo, steps) {
@@ -70,14 +69,14 @@ fn take_shape(
     requires idle { is_read_out taste.old.asked ≡ false }
     requires goes { IsSome (going topo.old.topology taste.old) }
     requires low { IfSome (provider_at topo.old.topology taste.old.provider)
-        (λ p. rank topo.old.topology p.geom < taste_limit) }
+        (λ p. rank topo.old.topology p.geom < UNTASTED_RANK) }
     requires place { NamesAPlace shape.now }
     ensures taken { IfOk result (λ j. (p : ProviderValue)
         → provider_at topo.old.topology taste.old.provider ≡ Some p
         → IsTakenAs (both topo.old queue.old) taste.old p shape.now topo.new queue.new taste.new j) }
     ensures same { OnErr result (AreBoth topo.new queue.new (both topo.old queue.old)) }
     ensures taste { OnErr result (taste.new ≡ taste.old) }
-    ensures spare { queue.old.spare ≤ queue.new.spare + 32 }
+    ensures spare { queue.old.spare ≤ queue.new.spare + MAX_LINKS }
 {
     let prov = tasted(topo, taste);
     let accepted = accept(alloc, topo, queue, prov, shape)?;

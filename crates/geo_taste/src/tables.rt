@@ -13,7 +13,7 @@ ghost use Rattle.geo_taste.specs.Standing.{CanStandOn};
 use crate::parts::{Part, are_addable, offer_parts, partition_parts, slice_parts};
 use crate::raise::{NewGeom, raise};
 use crate::shapes::Accepted;
-use geo_base::{Kind, Name, NoMemory, ProvId};
+use geo_base::{Kind, MAX_LINKS, Name, NoMemory, ProvId};
 use geo_class::Config;
 use geo_event::EventQueue;
 use geo_mesh::Topo;
@@ -94,7 +94,7 @@ pub fn accept_partitions(
         (Ebr (Some topo.old.topology.next_consumer) table.now.parts) (new_parts name.now table.now.parts) in
         IsAccepted answer topo.new queue.new (both topo.old queue.old) made (MakesSizes made)) }
     ensures same { OnErr result (AreBoth topo.new queue.new (both topo.old queue.old)) }
-    ensures spare { queue.old.spare ≤ queue.new.spare + 32 }
+    ensures spare { queue.old.spare ≤ queue.new.spare + MAX_LINKS }
 {
     let Some(parts) = partition_parts(alloc, name, &table.parts)? else {
         return Ok(Accepted::Declined);

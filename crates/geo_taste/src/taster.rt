@@ -14,14 +14,11 @@ ghost use Rattle.geo_access.specs.Access.{IsCounted, IsHolder, IsPlaced, consume
 ghost use Rattle.geo_taste.specs.Taster.{IsSettled, IsTasteOf, first_taste, is_low, judging, makes, queued, with_granted, with_judged, with_taster};
 
 use geo_access::{Steps, grant, release};
-use geo_base::{ConsId, Counts, GeomId, Kind, NoMemory, ProvId};
+use geo_base::{ConsId, Counts, GeomId, Kind, NoMemory, ProvId, UNTASTED_RANK};
 use geo_class::{Config, Taste};
 use geo_mesh::{ProvRec, Topo};
 use geo_model::{BioResult, Judged};
 use std::sync::ledger::Ledger;
-
-/// Geoms of this rank and above aren't tasted.
-const RANK_LIMIT: u32 = 8;
 
 /// The number of TASTE.
 const TASTE: u64 = 2;
@@ -154,7 +151,7 @@ fn is_low<C>(topo: &Topo<C>, geom: GeomId) -> bool
         return false;
     }
     match topo.rank(geom) {
-        Some(rank) => rank < RANK_LIMIT,
+        Some(rank) => rank < UNTASTED_RANK,
         None => false,
     }
 }

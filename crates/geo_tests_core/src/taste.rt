@@ -1,7 +1,6 @@
 //! What no clause says: that there is memory, and whole tastes of media as they come from outside: tables that lie,
 //! chains that lead back or too far, providers that go away under a taste.
-ghost use Rattle.std.specs.Prelude.{◌≡◌, ◌<◌, ◌≤◌, ◌^◌, false, true, Some, length, IfOk, IfSome, OnOk};
-ghost use Rattle.geo_model.specs.Events.{taste_limit};
+ghost use Rattle.std.specs.Prelude.{◌≡◌, ◌<◌, ◌≤◌, false, true, Some, length, IfOk, IfSome, OnOk};
 ghost use Rattle.geo_model.specs.Rank.{rank};
 ghost use Rattle.geo_model.specs.Topology.{provider_at};
 ghost use Rattle.geo_model.specs.Words.{is_granted_kind};
@@ -13,7 +12,7 @@ ghost use Rattle.geo_tests_core.specs.Built.{IsBuilt};
 use crate::built::{consumer_of, first_mesh, geom_of, is_quiet, name, open, stand};
 use crate::media::{Medium, sector_of};
 use geo_access::Steps;
-use geo_base::{Block, Counts, Errno, GeomId, Kind, ProvId, SharedBytes};
+use geo_base::{Block, Counts, Errno, GeomId, Kind, ProvId, SharedBytes, UNTASTED_RANK};
 use geo_class::{Asked, Config, Taste};
 use geo_event::EventQueue;
 use geo_mesh::Topo;
@@ -35,7 +34,7 @@ const MOST_READERS: Counts = Counts {
 /// Whether the provider's geom has a rank at which a class may accept, or the provider is gone.
 fn is_low(topo: &Topo<Config>, prov: ProvId) -> bool
     ensures { result ≡ true → IfSome (provider_at topo.now.topology prov)
-        (λ p. rank topo.now.topology p.geom < taste_limit) }
+        (λ p. rank topo.now.topology p.geom < UNTASTED_RANK) }
 {
     let Some(provider) = topo.provider(prov) else {
         return true;

@@ -3,12 +3,13 @@ use Rattle.std.specs.Prelude.{◌≡◌, ℕ, ◌+◌, ◌<◌, ◌≤◌, nat_l
 use Rattle.std.proofs.Common.{refl, sym, ◌∙◌, ap, arith, subst}
 use Rattle.std.proofs.lemmas.Bool.{le-ltb, lt-ltb}
 use Rattle.std.proofs.lemmas.List.{append_assoc, append-nil, length-append}
+use Rattle.geo_base.specs.declared.limits.TheConstants.{MAX_LOG_ENTRIES}
 use Rattle.geo_model.specs.declared.step.Entry.{Entry}
 use Rattle.geo_model.specs.declared.step.Outcome.{Outcome}
 use Rattle.geo_model.specs.declared.step.Step.{Step}
 use Rattle.geo_model.specs.Words.{same_name}
 use Rattle.geo_model.specs.World.{World}
-use Rattle.geo_model.specs.Log.{made, entry_by, replay, world_after, owed, log_limit, is_full, is_full_after}
+use Rattle.geo_model.specs.Log.{made, entry_by, replay, world_after, owed, is_full, is_full_after}
 use Rattle.geo_model.specs.Step.{Answer, step}
 use Rattle.geo_model.specs.Fitting.{Firm}
 use Rattle.geo_laws_traces.proofs.Legal.{firm_after}
@@ -23,8 +24,9 @@ use Rattle.geo_verify.specs.Making.{MakesSteps, Tries, TriesLine, stop_of}
 use Rattle.geo_verify.proofs.StepsRead.{Rest, line_read, mark_read}
 
 -- a log of few entries has a place for each step
-room_by : (n : ℕ) (w : World) (a : Answer) → n + 1 + owed (world_after w a) ≤ log_limit → is_full_after n a ≡ false
-room_by n w (Ok m) fits = le-ltb log_limit (n + 1 + owed m.0) fits
+room_by : (n : ℕ) (w : World) (a : Answer) → n + 1 + owed (world_after w a) ≤ MAX_LOG_ENTRIES
+    → is_full_after n a ≡ false
+room_by n w (Ok m) fits = le-ltb MAX_LOG_ENTRIES (n + 1 + owed m.0) fits
 room_by n w (Err found) fits = refl
 
 pub never_full : (m : MeshView) (seat : ℕ) (s : Step) → IsHistory m → length m.log ≤ 67108865

@@ -1,5 +1,6 @@
 -- What is written as a trace.
 use Rattle.std.specs.Prelude.{ℕ, ◌==◌, ◌≤◌, Bool, true, List, [], ◌∷◌, ◌++◌, length, flat_map, zip, ⊤}
+use Rattle.geo_base.specs.declared.limits.TheConstants.{MAX_REQUEST_BYTES}
 use Rattle.geo_model.specs.declared.step.DeviceResult.{DeviceResult}
 use Rattle.geo_model.specs.declared.step.DeviceResult.TheVariants as devices
 use Rattle.geo_model.specs.declared.step.Entry.{Entry}
@@ -13,7 +14,7 @@ trace_of plan facts log report = record { plan = plan; facts = facts; steps = st
 
 -- an answer whose bytes are some, and no more than a request can ask for
 abbrev pub IsShortAnswer : DeviceResult → Type 0
-IsShortAnswer (devices.Bytes bytes) = (1 ≤ length bytes) × (length bytes ≤ 32768)
+IsShortAnswer (devices.Bytes bytes) = (1 ≤ length bytes) × (length bytes ≤ MAX_REQUEST_BYTES)
 IsShortAnswer _ = ⊤
 
 -- whether the last line of a script is ended, if it has one

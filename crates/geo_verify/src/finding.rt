@@ -7,7 +7,7 @@ ghost use Rattle.geo_verify.specs.Replays.{IsVerifyRefusal, found_with};
 
 use crate::refusal::VerifyRefusal;
 use crate::replaying::{Replayed, replay};
-use geo_base::NoMemory;
+use geo_base::{MAX_TRACE_BYTES, NoMemory};
 use geo_core::Mesh;
 use geo_headline::Verified;
 use geo_report::report;
@@ -55,7 +55,7 @@ fn judge(alloc: Global, replayed: Replayed) -> Result<Verified, VerifyRefusal>
 /// its report. It is refused as by `replay`: with its first fault, where it isn't a trace, or for want of memory.
 #[tactic(auto, using(crate::proofs::TracesRead::text_unfound))]
 pub fn verify(alloc: Global, text: &[u8]) -> Result<Verified, VerifyRefusal>
-    requires few { length text.now ≤ 67108864 }
+    requires few { length text.now ≤ MAX_TRACE_BYTES }
     ensures { MatchResult result (λ answer. verified text.now ≡ Ok answer) (IsVerifyRefusal (verified text.now)) }
 {
     match replay(alloc, text) {

@@ -5,12 +5,10 @@ ghost use Rattle.geo_script.specs.Reads.{Reads};
 ghost use Rattle.geo_headline.specs.Traces.{seat_and_step, marked, size_words, size_of_line};
 
 use crate::step::step;
+use geo_base::MAX_IMAGE_BYTES;
 use geo_model::{Cause, Step};
 use geo_script::{LineRefusal, Words, any_number, at_end, next_word, small_number};
 use std::alloc::Global;
-
-/// The most bytes of a disk.
-const MOST_BYTES: u128 = 0x100_0000_0000;
 
 /// `SEAT STEP`.
 fn seat_and_step(alloc: Global, words: Words<'_>) -> Result<(u32, Step), LineRefusal>
@@ -46,7 +44,7 @@ fn size(sector: u32, words: Words<'_>) -> Result<u64, Cause>
     ensures { result ≡ size_words sector words.entry }
 {
     let (sectors, words) = any_number(words)?;
-    if 1 <= sectors && u128::from(sectors) * u128::from(sector) <= MOST_BYTES {
+    if 1 <= sectors && u128::from(sectors) * u128::from(sector) <= u128::from(MAX_IMAGE_BYTES) {
         at_end(sectors, words)
     } else {
         Err(Cause::Range)

@@ -10,7 +10,7 @@ use crate::place::Place;
 use crate::refusal::VerifyRefusal;
 use crate::sizes::read_sizes;
 use crate::steps::read_report;
-use geo_base::Block;
+use geo_base::{Block, MAX_TRACE_BYTES};
 use geo_core::Mesh;
 use geo_log::DiskFacts;
 use geo_script::{ParseRefusal, Plan, parse};
@@ -63,7 +63,7 @@ fn replay_behind(alloc: Global, plan: Plan, place: Place<'_>) -> Result<Replayed
 /// no list of steps. `Script` where what stands before the first line with a mark isn't a script, with its first fault;
 /// `Trace` only else, with the first line that isn't of the form.
 pub fn replay(alloc: Global, text: &[u8]) -> Result<Replayed, VerifyRefusal>
-    requires few { length text.now ≤ 67108864 }
+    requires few { length text.now ≤ MAX_TRACE_BYTES }
     ensures { MatchResult result (λ r. IsReplayOf (read_trace text.now) r) (IsVerifyRefusal (read_trace text.now)) }
 {
     let (script, marked) = cut(text);

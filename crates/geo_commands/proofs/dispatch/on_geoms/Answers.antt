@@ -1,6 +1,7 @@
 use Rattle.std.specs.Prelude.{◌≤◌, IfOk, IsTrue, length}
 use Rattle.std.proofs.Common.{refl, sym, subst}
 use Rattle.geo_base.specs.Name.{is_short_name}
+use Rattle.geo_base.specs.declared.limits.TheConstants.{MAX_COMPONENTS}
 use Rattle.geo_model.specs.Commands.{do_command}
 use Rattle.geo_model.specs.declared.class.ConcatRecord.{ConcatRecord}
 use Rattle.geo_model.specs.declared.class.StripeRecord.{StripeRecord}
@@ -103,7 +104,7 @@ concat-requires-clause-short g c =
 
 pub concat-requires-clause-few : goal.concat-requires-clause-few
 concat-requires-clause-few g c =
-    subst (λ ps. length ps ≤ 16) (sym c.items.ensures)
+    subst (λ ps. length ps ≤ MAX_COMPONENTS) (sym c.items.ensures)
     (as_made c.args.command.now _ c.in-Concat.is c.requires.is_command).1.not_many
 
 pub stripe-requires-clause-short : goal.stripe-requires-clause-short
@@ -116,7 +117,7 @@ stripe-requires-clause-limited g c =
 
 pub stripe-requires-clause-few : goal.stripe-requires-clause-few
 stripe-requires-clause-few g c =
-    subst (λ ps. length ps ≤ 16) (sym c.items-in-Stripe.ensures)
+    subst (λ ps. length ps ≤ MAX_COMPONENTS) (sym c.items-in-Stripe.ensures)
     (as_made c.args.command.now _ c.in-Stripe.is c.requires.is_command).2.not_many
 
 pub write_record-requires-clause-short : goal.write_record-requires-clause-short

@@ -2,6 +2,7 @@ use Rattle.std.specs.Prelude.{List, ℕ, length, ◌*◌, ◌/◌, ◌≤◌}
 use Rattle.std.proofs.Common.{sym, ap, subst, ◌∙◌}
 use Rattle.geo_base.specs.Sectors.{IsSectorSize}
 use Rattle.geo_base.specs.declared.kind.Kind.TheVariants as kinds
+use Rattle.geo_base.specs.declared.limits.TheConstants.{MAX_COMPONENTS}
 use Rattle.geo_model.specs.Names.{stripe_name}
 use Rattle.geo_model.specs.Acceptance.{joined_size, smallest}
 use Rattle.geo_model.specs.GeomCommands.{stripe_config, found_providers, is_invalid_stripe}
@@ -27,7 +28,7 @@ pub stripe_size-size-requires : goal.stripe_size-size-requires
 stripe_size-size-requires c =
     let s : State = c.args.state.now in
     let ps = found_providers s.topo.topology c.args.provs.now in
-    subst (λ (ns : List ℕ). length ns ≤ 16)
+    subst (λ (ns : List ℕ). length ns ≤ MAX_COMPONENTS)
     (sym (c.deref.ensures.value ∙ c.in_ok-sizes.ensures
     ∙ below-sizes s.topo.topology ps c.args.below.now c.requires.found))
     (sizes-few s c.requires.firm c.args.provs.now c.requires.few)

@@ -1,5 +1,5 @@
 use Rattle.std.proofs.Common.{◌-◌, length, map}
-use Rattle.geo_model.specs.Log.{log_limit}
+use Rattle.geo_base.specs.declared.limits.TheConstants.{MAX_LOG_ENTRIES}
 use Rattle.geo_serve.specs.Drives.{drive_view}
 use Rattle.geo_drain.specs.Running.{IsKnown, IsRunning}
 use Rattle.geo_drain.proofs.drain.run_to_rest.Given as goal
@@ -13,4 +13,4 @@ invariant-loop-pool g l =
     × IsKnown g.O.Order.due g.O.Order.knows l.fn.order l.order l.mesh
 
 abbrev pub decreases-loop-pool : goal.decreases-loop-pool
-decreases-loop-pool g l = log_limit - length l.mesh.log
+decreases-loop-pool g l = MAX_LOG_ENTRIES - length l.mesh.log

@@ -1,6 +1,6 @@
 use Rattle.std.proofs.Common.{true, false, length, sym, ◌∙◌}
 use Rattle.std.proofs.lemmas.Bool.{le-leb, lt-leb}
-use Rattle.geo_model.specs.Chain.{link_limit}
+use Rattle.geo_base.specs.declared.limits.TheConstants.{MAX_LINKS}
 use Rattle.geo_ebr.proofs.CauseLemmas.{against-end, against-back, against-far, against-long, against-none}
 use Rattle.geo_ebr.proofs.link.cause_against.Goals as goal
 
@@ -29,13 +29,13 @@ returns-then-leads_past c =
     (sym c.leads_on.ensures ∙ c.if-not-leads_on.false) (sym c.leads_back.ensures ∙ c.if-leads_back.false)
     (sym c.leads_past.ensures ∙ c.if-leads_past.true))
 
-pub returns-then-visited-ge-LINKS : goal.returns-then-visited-ge-LINKS
-returns-then-visited-ge-LINKS c =
+pub returns-then-visited-ge-MAX_LINKS : goal.returns-then-visited-ge-MAX_LINKS
+returns-then-visited-ge-MAX_LINKS c =
     sym (against-long c.args.sectors c.args.visited.now c.args.parts.now c.args.sector.now c.requires.alike
     (sym c.has_signature.ensures ∙ c.if-not-has_signature.false) (sym c.is_link.ensures ∙ c.if-not-is_link.false)
     (sym c.leads_on.ensures ∙ c.if-not-leads_on.false) (sym c.leads_back.ensures ∙ c.if-leads_back.false)
     (sym c.leads_past.ensures ∙ c.if-leads_past.false)
-    (le-leb link_limit (length c.args.visited.now) c.if-visited-ge-LINKS.true))
+    (le-leb MAX_LINKS (length c.args.visited.now) c.if-visited-ge-MAX_LINKS.true))
 
 pub returns : goal.returns
 returns c =
@@ -43,4 +43,4 @@ returns c =
     (sym c.has_signature.ensures ∙ c.if-not-has_signature.false) (sym c.is_link.ensures ∙ c.if-not-is_link.false)
     (sym c.leads_on.ensures ∙ c.if-not-leads_on.false) (sym c.leads_back.ensures ∙ c.if-leads_back.false)
     (sym c.leads_past.ensures ∙ c.if-leads_past.false)
-    (lt-leb link_limit (length c.args.visited.now) c.if-visited-ge-LINKS.false))
+    (lt-leb MAX_LINKS (length c.args.visited.now) c.if-visited-ge-MAX_LINKS.false))

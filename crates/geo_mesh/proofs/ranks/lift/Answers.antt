@@ -1,8 +1,8 @@
 use Rattle.std.proofs.Common.{◌≡◌, ◌<◌, true, false, refl, arith}
 use Rattle.std.specs.Prelude.{nat_lt, not, ◌&&◌, ◌||◌}
 use Rattle.std.proofs.lemmas.Bool.{lt-ltb, le-ltb}
+use Rattle.geo_base.specs.declared.limits.TheConstants.{MAX_RANK}
 use Rattle.geo_model.specs.Words.{is_granted_kind}
-use Rattle.geo_model.specs.Rank.{rank_limit}
 use Rattle.geo_slots.specs.Slots.{value_at}
 use Rattle.geo_mesh.specs.Rows.{passes}
 use Rattle.geo_mesh.specs.Ranks.{kind_of, kinds, stored, is_high}
@@ -15,7 +15,7 @@ returns-then-high-clause-high g c =
     omega (arith, c.requires.more, c.store.ensures.here) in
     let whole : is_high (kinds c.args.geoms.now) (stored c.store.new.geoms)
     ≡ (is_high (kinds c.args.geoms.now) (stored c.args.geoms.now)
-    || (nat_lt rank_limit (stored c.store.new.geoms c.args.geom)
+    || (nat_lt MAX_RANK (stored c.store.new.geoms c.args.geom)
     && not (passes is_granted_kind (value_at (kinds c.args.geoms.now) c.args.geom)))) =
     high-more (stored c.args.geoms.now) (stored c.store.new.geoms) c.args.geom 1 c.args.geoms.now.next
     (kinds c.args.geoms.now)
@@ -29,14 +29,14 @@ returns-then-rank-gt-RANK_LIMIT-clause-high g c =
     omega (arith, c.requires.more, c.store.ensures.here) in
     let whole : is_high (kinds c.args.geoms.now) (stored c.store.new.geoms)
     ≡ (is_high (kinds c.args.geoms.now) (stored c.args.geoms.now)
-    || (nat_lt rank_limit (stored c.store.new.geoms c.args.geom)
+    || (nat_lt MAX_RANK (stored c.store.new.geoms c.args.geom)
     && not (passes is_granted_kind (value_at (kinds c.args.geoms.now) c.args.geom)))) =
     high-more (stored c.args.geoms.now) (stored c.store.new.geoms) c.args.geom 1 c.args.geoms.now.next
     (kinds c.args.geoms.now)
     (rising-with kind_of 1 c.args.geoms.now.next c.args.geoms.now.rows c.store.ensures.rising)
     c.requires.lives more c.store.ensures.others in
-    let high : nat_lt rank_limit (stored c.store.new.geoms c.args.geom) ≡ true =
-    lt-ltb rank_limit (stored c.store.new.geoms c.args.geom)
+    let high : nat_lt MAX_RANK (stored c.store.new.geoms c.args.geom) ≡ true =
+    lt-ltb MAX_RANK (stored c.store.new.geoms c.args.geom)
     (omega (arith, c.store.ensures.here, c.if-rank-gt-RANK_LIMIT.true)) in
     rw (
       whole,
@@ -53,14 +53,14 @@ returns-else-rank-gt-RANK_LIMIT-clause-high g c =
     omega (arith, c.requires.more, c.store.ensures.here) in
     let whole : is_high (kinds c.args.geoms.now) (stored c.store.new.geoms)
     ≡ (is_high (kinds c.args.geoms.now) (stored c.args.geoms.now)
-    || (nat_lt rank_limit (stored c.store.new.geoms c.args.geom)
+    || (nat_lt MAX_RANK (stored c.store.new.geoms c.args.geom)
     && not (passes is_granted_kind (value_at (kinds c.args.geoms.now) c.args.geom)))) =
     high-more (stored c.args.geoms.now) (stored c.store.new.geoms) c.args.geom 1 c.args.geoms.now.next
     (kinds c.args.geoms.now)
     (rising-with kind_of 1 c.args.geoms.now.next c.args.geoms.now.rows c.store.ensures.rising)
     c.requires.lives more c.store.ensures.others in
-    let low : nat_lt rank_limit (stored c.store.new.geoms c.args.geom) ≡ false =
-    le-ltb rank_limit (stored c.store.new.geoms c.args.geom)
+    let low : nat_lt MAX_RANK (stored c.store.new.geoms c.args.geom) ≡ false =
+    le-ltb MAX_RANK (stored c.store.new.geoms c.args.geom)
     (omega (arith, c.store.ensures.here, c.if-rank-gt-RANK_LIMIT.false)) in
-    let asked : nat_lt rank_limit c.args.rank ≡ false = le-ltb rank_limit c.args.rank c.if-rank-gt-RANK_LIMIT.false in
+    let asked : nat_lt MAX_RANK c.args.rank ≡ false = le-ltb MAX_RANK c.args.rank c.if-rank-gt-RANK_LIMIT.false in
     rw (whole, ← c.requires.high, c.if-high.false, low, asked) refl
