@@ -8,5 +8,6 @@ mod print;
 mod runs;
 mod tally;
 
+pub use mesh::add_mesh;
 pub use print::{report, summary};
 pub use runs::add_runs;

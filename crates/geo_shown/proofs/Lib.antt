@@ -1,0 +1,2 @@
+mod LastLemmas
+pub mod Replies
