@@ -14,8 +14,8 @@ use Rattle.geo_laws_graph.proofs.Members.{Contains-map}
 use Rattle.geo_serve.specs.Drives.{DriveView}
 use Rattle.geo_serve.specs.Serve.{Serves}
 use Rattle.geo_serve.specs.Served.{IsServed}
-use Rattle.geo_steps.specs.DriveLaws.{AreTaken}
-use Rattle.geo_steps.proofs.Disks.{served_none, served_other, served_own, served_quiet}
+use Rattle.geo_view.specs.DriveLaws.{AreTaken}
+use Rattle.geo_view.proofs.Disks.{served_none, served_other, served_own, served_quiet}
 use Rattle.geo_disk_job.specs.Drives.{disks_of}
 use Rattle.geo_disk_job.proofs.Places.{place_contained}
 

@@ -12,13 +12,13 @@ use Rattle.geo_model.specs.World.{World}
 use Rattle.geo_model.specs.Results.{request_of}
 use Rattle.geo_laws_graph.proofs.Members.{Contains-here, Contains-map, filter-Contains}
 use Rattle.geo_serve.specs.Drives.{DriveView}
-use Rattle.geo_steps.specs.DriveLaws.{AreTaken}
-use Rattle.geo_steps.proofs.Disks.{request_among, taken_more, taken_once}
+use Rattle.geo_view.specs.DriveLaws.{AreTaken}
+use Rattle.geo_view.proofs.Disks.{request_among, taken_more, taken_once}
 use Rattle.geo_lock.specs.Yard.{IsPassOf, YardView}
-use Rattle.geo_steps.specs.declared.turn.Turn.{Turn}
-use Rattle.geo_steps.specs.declared.turn.Turn.TheVariants as turns
-use Rattle.geo_steps.specs.Passes.{Goes, IsGoodPass, MeshPass}
-use Rattle.geo_steps.proofs.Joins.{goes_join, goes_self, history_of, still_of}
+use Rattle.geo_view.specs.Turn.{Turn}
+use Rattle.geo_view.specs.Turn.TheVariants as turns
+use Rattle.geo_view.specs.Passes.{Goes, IsGoodPass, MeshPass}
+use Rattle.geo_view.proofs.Joins.{goes_join, goes_self, history_of, still_of}
 use Rattle.geo_disk_job.specs.declared.disk_job.DiskJob.{DiskJob}
 use Rattle.geo_disk_job.specs.Drives.{HasDrives, ServesAt, disks_of}
 use Rattle.geo_disk_job.specs.Turns.{DidTurn, ServesBio, take_in, with_ticket}

@@ -14,14 +14,14 @@ use Rattle.geo_serve.specs.Serve.{CanServe, HasRoom}
 use Rattle.geo_lane.specs.declared.ticket.TicketStep.TheVariants as hints
 use Rattle.geo_lane.specs.LanePass.{LanePassView}
 use Rattle.geo_lock.specs.Yard.{IsPassOf, YardView}
-use Rattle.geo_steps.specs.declared.turn.Turn.TheVariants as turns
-use Rattle.geo_steps.specs.Passes.{Goes, IsGoodPass, MeshPass, opened_by}
-use Rattle.geo_steps.specs.Putting.{IsWithin, PutsOne}
-use Rattle.geo_steps.specs.Taking.{CanDeliver, HasSizesOf, IsAskedOf}
-use Rattle.geo_steps.specs.Tried.{MakesStep}
-use Rattle.geo_steps.proofs.Budgets.{has_room}
-use Rattle.geo_steps.proofs.Delivering.{can_deliver, goes_two}
-use Rattle.geo_steps.proofs.Joins.{still_of}
+use Rattle.geo_view.specs.Turn.TheVariants as turns
+use Rattle.geo_view.specs.Passes.{Goes, IsGoodPass, MeshPass, opened_by}
+use Rattle.geo_view.specs.Putting.{IsWithin, PutsOne}
+use Rattle.geo_view.specs.Taking.{CanDeliver, HasSizesOf, IsAskedOf}
+use Rattle.geo_view.specs.Making.{MakesStep}
+use Rattle.geo_view.proofs.Budgets.{has_room}
+use Rattle.geo_view.proofs.Delivering.{can_deliver, goes_two}
+use Rattle.geo_view.proofs.Joins.{still_of}
 use Rattle.geo_disk_job.specs.declared.disk_job.DiskJob.{DiskJob}
 use Rattle.geo_disk_job.specs.Drives.{AnswersOne, CanAnswer, HasDrives, IsForeign, take_and_deliver}
 use Rattle.geo_disk_job.specs.Turns.{DidBio, ServesBio}

@@ -12,14 +12,14 @@ use Rattle.geo_serve.specs.Drives.{DriveView}
 use Rattle.geo_lane.specs.declared.ticket.Ticket.{Ticket}
 use Rattle.geo_lane.specs.declared.ticket.TicketStep.TheVariants as hints
 use Rattle.geo_lane.specs.LanePass.{LanePassView}
-use Rattle.geo_steps.specs.declared.lanes.Lanes.{Lanes}
-use Rattle.geo_steps.specs.declared.turn.Turn.{Turn}
-use Rattle.geo_steps.specs.declared.turn.Turn.TheVariants as turns
-use Rattle.geo_steps.specs.Passes.{Goes, MeshPass}
-use Rattle.geo_steps.specs.Putting.{PutsAll}
-use Rattle.geo_steps.proofs.Budgets.{within_worked}
-use Rattle.geo_steps.proofs.Joins.{goes_self}
-use Rattle.geo_steps.proofs.Tickets.{puts_one, puts_same}
+use Rattle.geo_view.specs.Lanes.{Lanes}
+use Rattle.geo_view.specs.Turn.{Turn}
+use Rattle.geo_view.specs.Turn.TheVariants as turns
+use Rattle.geo_view.specs.Passes.{Goes, MeshPass}
+use Rattle.geo_view.specs.Putting.{PutsAll}
+use Rattle.geo_view.proofs.Budgets.{within_worked}
+use Rattle.geo_view.proofs.Joins.{goes_self}
+use Rattle.geo_view.proofs.Tickets.{puts_one, puts_same}
 use Rattle.geo_disk_job.specs.declared.disk_job.DiskJob.{DiskJob}
 use Rattle.geo_disk_job.specs.Drives.{AnswersOne, HasDrives, IsForeign, ServesAt, disks_of}
 use Rattle.geo_disk_job.specs.Turns.{DidBio, DidTurn, IsDiskJob, Rests, ServesBio, WasEmpty, lane_of, take_in, with_ticket}

@@ -5,8 +5,8 @@ use Rattle.geo_model.specs.declared.step.Entry.{Entry}
 use Rattle.geo_model.specs.World.{World}
 use Rattle.geo_serve.specs.Drives.{DriveView}
 use Rattle.geo_lock.specs.Yard.{IsPassOf, YardView}
-use Rattle.geo_steps.specs.declared.turn.Turn.{Turn}
-use Rattle.geo_steps.specs.Passes.{Goes, IsGoodPass, MeshPass}
+use Rattle.geo_view.specs.Turn.{Turn}
+use Rattle.geo_view.specs.Passes.{Goes, IsGoodPass, MeshPass}
 use Rattle.geo_disk_job.specs.declared.disk_job.DiskJob.{DiskJob}
 use Rattle.geo_disk_job.specs.Drives.{HasDrives, disks_of}
 use Rattle.geo_disk_job.specs.Served.{HasServed, IsOfDisks}

@@ -13,11 +13,11 @@ use Rattle.geo_lane.specs.declared.ticket.TicketStep.{TicketStep}
 use Rattle.geo_lane.specs.declared.ticket.TicketStep.TheVariants as hints
 use Rattle.geo_lane.specs.Delivery.{Tells}
 use Rattle.geo_lane.specs.LanePass.{LanePassView, view_of}
-use Rattle.geo_steps.specs.declared.lanes.Lanes.{Lanes}
-use Rattle.geo_steps.specs.declared.turn.Turn.{Turn}
-use Rattle.geo_steps.specs.declared.turn.Turn.TheVariants as turns
-use Rattle.geo_steps.specs.Passes.{Goes, MeshPass}
-use Rattle.geo_steps.specs.Putting.{IsWithin, PutsOne}
+use Rattle.geo_view.specs.Lanes.{Lanes}
+use Rattle.geo_view.specs.Turn.{Turn}
+use Rattle.geo_view.specs.Turn.TheVariants as turns
+use Rattle.geo_view.specs.Passes.{Goes, MeshPass}
+use Rattle.geo_view.specs.Putting.{IsWithin, PutsOne}
 use Rattle.geo_disk_job.specs.declared.disk_job.DiskJob.{DiskJob}
 use Rattle.geo_disk_job.specs.Drives.{IsForeign, ServesAt, disks_of}
 

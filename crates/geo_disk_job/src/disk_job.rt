@@ -2,7 +2,7 @@
 ghost use Rattle.std.specs.Prelude.{◌≡◌, ◌≤◌, length, IfOk};
 ghost use Rattle.geo_lock.specs.Yard.{IsPassOf};
 ghost use Rattle.geo_serve.specs.Drives.{drive_view};
-ghost use Rattle.geo_steps.specs.Passes.{IsGoodPass, opened_by};
+ghost use Rattle.geo_view.specs.Passes.{IsGoodPass, opened_by};
 ghost use Rattle.geo_disk_job.specs.Drives.{HasDrives, IsForeign};
 ghost use Rattle.geo_disk_job.specs.Turns.{DidBio, DidTurn, IsDiskJob, lane_of, take_in};
 
@@ -10,7 +10,7 @@ use crate::drive_list::DriveList;
 use geo_base::{BioId, Block, MAX_REQUEST_BYTES, NoMemory};
 use geo_disk::Disk;
 use geo_lane::{Lane, LanePass, Ticket, TicketStep};
-use geo_steps::{Gate, GatePlace, Lanes, Mesh, Pass, Taken, Turn, Yard, deliver, put, take};
+use geo_view::{Gate, GatePlace, Lanes, Mesh, Pass, Taken, Turn, Yard, deliver, put, take};
 use std::alloc::Global;
 use std::sync::Wait;
 

@@ -7,7 +7,8 @@ mod laws;
 
 pub use disk_job::DiskJob;
 pub use drive_list::DriveList;
-pub use geo_steps::{
-    Gate, GatePlace, Lanes, Mesh, OpenGate, Pass, Tried, Turn, Yard, put, try_step,
+pub use geo_view::{
+    Gate, GatePlace, Lanes, Mesh, OpenGate, Pass, Publisher, Tried, Turn, Watcher, Yard, put,
+    try_step, view_create,
 };
 pub use laws::turns_add_up;

@@ -28,7 +28,7 @@ use Rattle.geo_core.specs.Mesh.{IsHistory, entry_of}
 use Rattle.geo_core.specs.Logged.{mesh_of}
 use Rattle.geo_steps.specs.Passes.{IsGoodPass, MeshPass, opened_by}
 use Rattle.geo_steps.specs.Taking.{HasSizesOf, IsAskedOf}
-use Rattle.geo_steps.specs.Tried.{MakesStep}
+use Rattle.geo_steps.specs.Making.{MakesStep}
 use Rattle.geo_steps.proofs.Joins.{history_of, still_of}
 
 -- The outcome

@@ -29,7 +29,7 @@ use Rattle.geo_steps.specs.declared.tried.Tried.{Tried}
 use Rattle.geo_steps.specs.declared.tried.Tried.TheVariants as tries
 use Rattle.geo_steps.specs.Passes.{Goes, IsGoodPass, MeshPass, opened_by}
 use Rattle.geo_steps.specs.Taking.{CanDeliver, HasSizesOf}
-use Rattle.geo_steps.specs.Tried.{DidTry, MakesStep}
+use Rattle.geo_steps.specs.Making.{DidTry, MakesStep}
 use Rattle.geo_steps.proofs.Asking.{IsAskedAt, asked_at}
 use Rattle.geo_steps.proofs.Joins.{goes_join, history_of, still_of}
 

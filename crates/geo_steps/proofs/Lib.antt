@@ -5,4 +5,5 @@ pub mod Delivering
 pub mod Tickets
 pub mod Budgets
 pub mod Disks
+pub mod PassSending
 pub use Rattle.geo_core.proofs.Openings

@@ -15,7 +15,7 @@ use Rattle.geo_core.specs.Logged.{answer_of, is_sure, is_want, mesh_of}
 use Rattle.geo_core.proofs.LoggedAnswers.{answers_tell}
 use Rattle.geo_steps.specs.declared.tried.Tried.TheVariants as tries
 use Rattle.geo_steps.specs.Passes.{MeshPass, opened_by}
-use Rattle.geo_steps.specs.Tried.{DidTry}
+use Rattle.geo_steps.specs.Making.{DidTry}
 use Rattle.geo_steps.proofs.Joins.{goes_none}
 
 -- it was made

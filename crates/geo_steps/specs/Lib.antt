@@ -1,5 +1,5 @@
 pub mod Passes
-pub mod Tried
+pub mod Making
 pub mod Taking
 pub mod Putting
 -- handed on to the crates above: the words of the laws of what disks do

@@ -13,7 +13,7 @@ use Rattle.geo_core.specs.Mesh.{entry_of}
 use Rattle.geo_steps.specs.declared.taking.Taken.{Taken}
 use Rattle.geo_steps.specs.declared.taking.Taken.TheVariants as takes
 use Rattle.geo_steps.specs.Passes.{Goes, MeshPass, opened_by}
-use Rattle.geo_steps.specs.Tried.{MakesStep}
+use Rattle.geo_steps.specs.Making.{MakesStep}
 
 -- the drive has the sizes with which the mesh began for a disk
 abbrev pub HasSizesOf : MeshStart → ℕ → DriveView → Type 0

@@ -4,7 +4,7 @@ ghost use Rattle.geo_model.specs.declared.step.Step.TheVariants as steps;
 ghost use Rattle.geo_lock.specs.Yard.{IsPassOf};
 ghost use Rattle.geo_steps.specs.Passes.{IsGoodPass};
 ghost use Rattle.geo_steps.specs.Taking.{CanDeliver, DidTake};
-ghost use Rattle.geo_steps.specs.Tried.{MakesStep};
+ghost use Rattle.geo_steps.specs.Making.{MakesStep};
 
 use crate::tried::{Tried, try_step};
 use geo_base::BioId;

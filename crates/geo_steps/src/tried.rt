@@ -1,7 +1,7 @@
 //! One step under the lock.
 ghost use Rattle.geo_lock.specs.Yard.{IsPassOf};
 ghost use Rattle.geo_steps.specs.Passes.{IsGoodPass};
-ghost use Rattle.geo_steps.specs.Tried.{DidTry};
+ghost use Rattle.geo_steps.specs.Making.{DidTry};
 
 use geo_core::{ApplyRefusal, Mesh};
 use geo_lock::{Pass, Yard};

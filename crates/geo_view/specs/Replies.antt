@@ -5,7 +5,7 @@ use Rattle.geo_model.specs.declared.step.Outcome.TheVariants as outcomes
 use Rattle.geo_model.specs.declared.step.Reply.TheVariants as replies
 use Rattle.geo_model.specs.declared.step.Step.TheVariants as steps
 use Rattle.geo_steps.specs.Passes.{MeshPass}
-use Rattle.geo_steps.specs.Tried.{MakesStep}
+use Rattle.geo_steps.specs.Making.{MakesStep}
 use Rattle.geo_view.specs.Listings.{listing_seen}
 
 -- a listing that a pass is replied is the mesh as it is printed after what the pass has seen then, so it can be shown

@@ -17,7 +17,10 @@ mod shown;
 mod told;
 mod watcher;
 
-pub use geo_steps::{Mesh, Pass, Tried, Yard, try_step};
+pub use geo_steps::{
+    Gate, GatePlace, Lane, LanePass, Lanes, Mesh, OpenGate, Pass, Taken, TicketStep, Tried, Turn,
+    Yard, deliver, put, take, try_step,
+};
 pub use laws::replies_can_be_shown;
 pub use publisher::{PublishFault, Publisher, view_create};
 pub use told::Told;

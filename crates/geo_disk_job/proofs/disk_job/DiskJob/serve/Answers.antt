@@ -1,7 +1,7 @@
 use Rattle.std.proofs.Common.{rules, refl}
 use Rattle.geo_lane.specs.declared.ticket.TicketStep.TheVariants as hints
 use Rattle.geo_serve.specs.Drives.{drive_view}
-use Rattle.geo_steps.specs.Putting.{PutsOne}
+use Rattle.geo_view.specs.Putting.{PutsOne}
 use Rattle.geo_disk_job.proofs.Serving.{can_answer, can_deliver_answer, has_disk, rests_full, rests_idle, room_to_put, serves_bio}
 use Rattle.geo_disk_job.proofs.disk_job.DiskJob.serve.Goals as goal
 

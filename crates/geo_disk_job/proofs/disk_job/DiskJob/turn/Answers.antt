@@ -1,7 +1,7 @@
 use Rattle.std.specs.Prelude.{◌≡◌, length}
 use Rattle.std.proofs.Common.{rules, sym, ◌∙◌, arith}
 use Rattle.geo_serve.specs.Drives.{drive_view}
-use Rattle.geo_steps.specs.Passes.{opened_by}
+use Rattle.geo_view.specs.Passes.{opened_by}
 use Rattle.geo_disk_job.specs.Drives.{IsForeign}
 use Rattle.geo_disk_job.proofs.Places.{own_disk}
 use Rattle.geo_disk_job.proofs.Turning.{drives_stay, foreign_ticket, found_empty, job_stays, kept_job, other_ticket, took_job, tried_ticket, without_room}
