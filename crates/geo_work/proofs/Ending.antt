@@ -149,7 +149,7 @@ same_disks opened q a b turns.NoMemory same cause = cause
 same_cause : {D : Type 0} (opened : World) (seen : Drive D → DriveView) (p m q : MeshPass) (a b : Role D) (r : Turn)
     → RoleRan seen p m a b → Cause opened q b r → Cause opened q a r
 same_cause {D} opened seen p m q (roles.Client a) (roles.Client b) r ran cause =
-    same_client D opened q a b r ran.kept cause
+    same_client D opened q a b r ran.kept.0 cause
 same_cause opened seen p m q (roles.Events a) (roles.Events b) r ran cause = cause
 same_cause opened seen p m q (roles.Down a) (roles.Down b) r ran cause = cause
 same_cause opened seen p m q (roles.Up a) (roles.Up b) r ran cause = cause

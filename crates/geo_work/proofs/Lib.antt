@@ -4,6 +4,8 @@ pub mod Tries
 pub mod Upward
 pub mod Starting
 pub mod Downward
+pub mod Showing
+pub mod Sending
 pub mod Running
 pub mod Rows
 pub mod Ending

@@ -26,14 +26,15 @@ use Rattle.geo_work.specs.declared.job.Job.{Job}
 use Rattle.geo_work.specs.declared.job.Role.{Role}
 use Rattle.geo_work.specs.declared.job.Role.TheVariants as roles
 use Rattle.geo_work.specs.declared.up.UpJob.{UpJob}
-use Rattle.geo_work.specs.Clients.{DidClient}
+use Rattle.geo_work.specs.Clients.{DidClient, view_shown}
 use Rattle.geo_work.specs.Downs.{DidDown, Starts, down_with, start_in}
 use Rattle.geo_work.specs.Events.{DidEvents}
 use Rattle.geo_work.specs.Jobs.{DidRole, DidTurn, HasItsDrives, IsOfRole}
 use Rattle.geo_work.specs.Kinds.{IsOfClient, IsOfDown, IsOfEvents, IsOfUp, event_steps}
-use Rattle.geo_work.specs.LanePasses.{Adds}
+use Rattle.geo_work.specs.LanePasses.{Adds, Rests}
 use Rattle.geo_work.specs.Runs.{IsKept, JobRan, RoleRan}
 use Rattle.geo_work.specs.Ups.{DidUp, GivesUp, up_in, up_with}
+use Rattle.geo_work.proofs.Showing.{view_stays}
 
 -- Passes
 
@@ -66,18 +67,28 @@ pass_join kind p m q one two = record {
 
 -- One turn of each role
 
+-- a client made a step of its actor or rested, and keeps its actor and the view that it shows
+abbrev ClientRan : MeshPass → MeshPass → ClientJob → ClientJob → Type 0
+ClientRan p q a b = PassRan (IsOfClient a.actor) p q × (b.actor ≡ a.actor) × (view_shown b ≡ view_shown a)
+
+client_rested : (p q : MeshPass) (a b : ClientJob) → Rests p q a b → ClientRan p q a b
+client_rested p q a b rests = (
+  pass_rested (IsOfClient a.actor) p q rests.goes,
+  ap (λ (j : ClientJob). j.actor) rests.same,
+  ap (λ (j : ClientJob). view_shown j) rests.same,
+)
+
 client_ran : (opened : World) (p q : MeshPass) (a b : ClientJob) (r : Turn) → DidClient opened p q a b r
-    → PassRan (IsOfClient a.actor) p q × (b.actor ≡ a.actor)
-client_ran opened p q a b turns.Worked did =
-    (pass_made (IsOfClient a.actor) p q (steps.Go a.actor) did.outcome did.adds refl, did.noted.actor)
-client_ran opened p q a b turns.Idle did =
-    (pass_rested (IsOfClient a.actor) p q did.0.goes, ap (λ (j : ClientJob). j.actor) did.0.same)
-client_ran opened p q a b turns.Finished did =
-    (pass_rested (IsOfClient a.actor) p q did.0.goes, ap (λ (j : ClientJob). j.actor) did.0.same)
-client_ran opened p q a b turns.LogFull did =
-    (pass_rested (IsOfClient a.actor) p q did.0.goes, ap (λ (j : ClientJob). j.actor) did.0.same)
-client_ran opened p q a b turns.NoMemory did =
-    (pass_rested (IsOfClient a.actor) p q did.goes, ap (λ (j : ClientJob). j.actor) did.same)
+    → ClientRan p q a b
+client_ran opened p q a b turns.Worked did = (
+  pass_made (IsOfClient a.actor) p q (steps.Go a.actor) did.outcome did.adds refl,
+  did.noted.actor,
+  view_stays did.outcome q.seen a.publisher b.publisher did.shown,
+)
+client_ran opened p q a b turns.Idle did = client_rested p q a b did.0
+client_ran opened p q a b turns.Finished did = client_rested p q a b did.0
+client_ran opened p q a b turns.LogFull did = client_rested p q a b did.0
+client_ran opened p q a b turns.NoMemory did = client_rested p q a b did
 
 -- the event worker's four steps are of its kind
 pub of_events : (earlier later : List Step) (st : Step) → event_steps ≡ earlier ++ st ∷ later → IsOfEvents st
@@ -164,7 +175,7 @@ disks_of_role seen p q a b ran =
 
 role_none : {D : Type 0} (seen : Drive D → DriveView) (p : MeshPass) (a : Role D) → RoleRan seen p p a a
 role_none seen p (roles.Client a) =
-    of_pass seen p p (roles.Client a) (roles.Client a) (pass_rested (IsOfClient a.actor) p p (goes_self p)) refl
+    of_pass seen p p (roles.Client a) (roles.Client a) (pass_rested (IsOfClient a.actor) p p (goes_self p)) (refl, refl)
 role_none seen p (roles.Events a) =
     of_pass seen p p (roles.Events a) (roles.Events a) (pass_rested IsOfEvents p p (goes_self p)) tt
 role_none seen p (roles.Down a) =
@@ -182,8 +193,8 @@ module _ {D : Type 0} (y : YardView _) (opened : World) (facts : List (ℕ × �
       let turn = client_ran opened m q b c r did in
       of_pass seen p q (roles.Client a) (roles.Client c)
       (pass_join (IsOfClient a.actor) p m q (pass_of seen p m (roles.Client a) (roles.Client b) ran)
-      (subst (λ n. PassRan (IsOfClient n) m q) ran.kept turn.0))
-      (turn.1 ∙ ran.kept)
+      (subst (λ n. PassRan (IsOfClient n) m q) ran.kept.0 turn.0))
+      (turn.1 ∙ ran.kept.0, turn.2 ∙ ran.kept.1)
 
   -- where the role keeps nothing
   pass_more : (a c : Role D) → PassRan (IsOfRole a) p m → PassRan (IsOfRole a) m q

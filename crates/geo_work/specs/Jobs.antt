@@ -1,7 +1,6 @@
 -- A job: its passes, its drives, its kind of steps, and a turn of it.
 use Rattle.std.specs.Prelude.{ℕ, List, Option, Some, None, ⊤}
 use Rattle.geo_disk.specs.declared.drive.Drive.{Drive}
-use Rattle.geo_model.specs.declared.step.Entry.{Entry}
 use Rattle.geo_model.specs.declared.step.Step.{Step}
 use Rattle.geo_model.specs.World.{World}
 use Rattle.geo_serve.specs.Drives.{DriveView}
@@ -9,6 +8,7 @@ use Rattle.geo_lock.specs.Yard.{IsPassOf, YardView}
 use Rattle.geo_disk_job.specs.Lanes.{Lanes}
 use Rattle.geo_disk_job.specs.Turn.{Turn}
 use Rattle.geo_disk_job.specs.Passes.{MeshPass}
+use Rattle.geo_disk_job.specs.Ends.{PublisherView}
 use Rattle.geo_disk_job.specs.DriveList.{DriveListView}
 use Rattle.geo_disk_job.specs.Drives.{HasDrives, disks_of}
 use Rattle.geo_disk_job.specs.Served.{IsOfDisks}
@@ -23,18 +23,19 @@ use Rattle.geo_work.specs.Events.{DidEvents, IsEventJob}
 use Rattle.geo_work.specs.Kinds.{IsOfClient, IsOfDown, IsOfEvents, IsOfUp}
 use Rattle.geo_work.specs.Ups.{DidUp, IsUpJob}
 
--- the lane passes of a role are of the lanes, and have put few tickets for each own entry of the job
-abbrev pub IsRoleOf : {D : Type 0} → Lanes → List Entry → Role D → Type 0
-IsRoleOf lanes entries (roles.Client j) = IsClientJob lanes entries j
-IsRoleOf lanes entries (roles.Events j) = IsEventJob lanes entries j
-IsRoleOf lanes entries (roles.Down j) = IsDownJob lanes entries j
-IsRoleOf lanes entries (roles.Up j) = IsUpJob lanes entries j
-IsRoleOf lanes entries (roles.Disk j) = IsDiskJob lanes entries j
+-- the lane passes of a role are of the lanes, and have put few tickets for each own entry of the job; and a client that
+-- shows can show what the job has seen
+abbrev pub IsRoleOf : {D : Type 0} → Lanes → MeshPass → Role D → Type 0
+IsRoleOf lanes p (roles.Client j) = IsClientJob lanes p j
+IsRoleOf lanes p (roles.Events j) = IsEventJob lanes p.own j
+IsRoleOf lanes p (roles.Down j) = IsDownJob lanes p.own j
+IsRoleOf lanes p (roles.Up j) = IsUpJob lanes p.own j
+IsRoleOf lanes p (roles.Disk j) = IsDiskJob lanes p.own j
 
 -- a job of the yard and the lanes
 pub record IsJobOf {D : Type 0} (y : YardView _) (lanes : Lanes) (j : Job D) : Type 0 where
   pub pass : IsPassOf y j.pass
-  pub role : IsRoleOf lanes j.pass.own j.role
+  pub role : IsRoleOf lanes j.pass j.role
 
 -- a disk worker's drives have different numbers, and the sizes that the facts give for their disks
 abbrev pub HasItsDrives : {D : Type 0} → List (ℕ × ℕ) → (Drive D → DriveView) → Role D → Type 0
@@ -45,6 +46,11 @@ HasItsDrives facts seen _ = ⊤
 abbrev pub drives_of : {D : Type 0} → Role D → Option (DriveListView D)
 drives_of (roles.Disk j) = Some j.drives
 drives_of _ = None
+
+-- what a client shows by, if it shows
+abbrev pub publisher_of : {D : Type 0} → Role D → Option PublisherView
+publisher_of (roles.Client j) = j.publisher
+publisher_of _ = None
 
 -- the steps of a role
 abbrev pub IsOfRole : {D : Type 0} → Role D → Step → Type 0

@@ -22,3 +22,6 @@ pub use Rattle.geo_disk_job.specs.DriveList
 pub use Rattle.geo_disk_job.specs.Served
 pub use Rattle.geo_disk_job.specs.Turns
 pub use Rattle.geo_disk_job.specs.Ran
+pub use Rattle.geo_disk_job.specs.Ends
+pub use Rattle.geo_disk_job.specs.Listings
+pub use Rattle.geo_disk_job.specs.Views

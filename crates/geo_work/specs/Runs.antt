@@ -12,12 +12,13 @@ use Rattle.geo_work.specs.declared.job.Job.{Job}
 use Rattle.geo_work.specs.declared.job.Role.{Role}
 use Rattle.geo_work.specs.declared.job.Role.TheVariants as roles
 use Rattle.geo_work.specs.Causes.{Cause}
+use Rattle.geo_work.specs.Clients.{view_shown}
 use Rattle.geo_work.specs.Jobs.{DidTurn, IsOfRole}
 
--- a role stays: a client keeps its actor, and a disk worker its number and its disks, whose drives did what the added
--- entries say
+-- a role stays: a client keeps its actor and the view that it shows, and a disk worker its number and its disks, whose
+-- drives did what the added entries say
 abbrev pub IsKept : {D : Type 0} → (Drive D → DriveView) → List Entry → Role D → Role D → Type 0
-IsKept seen added (roles.Client a) (roles.Client b) = b.actor ≡ a.actor
+IsKept seen added (roles.Client a) (roles.Client b) = (b.actor ≡ a.actor) × (view_shown b ≡ view_shown a)
 IsKept seen added (roles.Events a) (roles.Events b) = ⊤
 IsKept seen added (roles.Down a) (roles.Down b) = ⊤
 IsKept seen added (roles.Up a) (roles.Up b) = ⊤

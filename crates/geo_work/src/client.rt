@@ -1,30 +1,38 @@
 //! A client, and its turn.
-ghost use Rattle.std.specs.Prelude.{◌≡◌};
+ghost use Rattle.std.specs.Prelude.{◌≡◌, ℕ, List, IfSome};
+ghost use Rattle.geo_model.specs.declared.listing.GeomLine.{GeomLine};
+ghost use Rattle.geo_model.specs.declared.step.Outcome.TheVariants.{Replied};
+ghost use Rattle.geo_model.specs.declared.step.Reply.TheVariants.{Listing};
 ghost use Rattle.geo_lock.specs.Yard.{IsPassOf};
+ghost use Rattle.geo_disk_job.specs.Ends.{CanShow};
+ghost use Rattle.geo_disk_job.specs.Listings.{listing_seen};
 ghost use Rattle.geo_disk_job.specs.Passes.{IsGoodPass, opened_by};
-ghost use Rattle.geo_work.specs.Clients.{DidClient, IsClientJob, NotesOutcome, is_end};
+ghost use Rattle.geo_work.specs.Clients.{DidClient, IsClientJob, NotesOutcome, ShowsOutcome, is_end};
 ghost use Rattle.geo_work.specs.Hints.{go_hints};
 ghost use Rattle.geo_work.specs.LanePasses.{AreFew, CanPut};
 
-use geo_disk_job::{Gate, GatePlace, Lanes, Mesh, Pass, Tried, Turn, Yard, put, try_step};
+use geo_disk_job::{
+    Gate, GatePlace, Lanes, Mesh, Pass, Publisher, Tried, Turn, Yard, put, try_step,
+};
 use geo_lane::{LanePass, TicketStep};
-use geo_model::{Found, Outcome, Step};
+use geo_model::{Found, Outcome, Reply, Step};
 use std::sync::Wait;
 
-/// A client: its actor, the line of the actor's last command that was made, or 0 before the first, and the pass by
-/// which it puts tickets into the down lane.
+/// A client: its actor, the line of the actor's last command that was made, or 0 before the first, the pass by which it
+/// puts tickets into the down lane, and by what it shows each listing that it is replied, if it shows them.
 #[derive(Drop)]
 pub struct ClientJob {
     pub actor: u32,
     pub line: u32,
     pub down: LanePass,
+    pub publisher: Option<Publisher>,
 }
 
 impl ClientJob {
     /// One turn: the actor's next command is tried, once the gate lets the client go on. After a command that made a
-    /// bio a ticket to start it is put. `Idle` comes only where the next command is a sync or a settle that still
-    /// waits, `Finished` exactly where the actor has no command left.
-    pub fn turn<R: Wait, G: Gate>(
+    /// bio a ticket to start it is put; a listing is shown, if the client shows. `Idle` comes only where the next
+    /// command is a sync or a settle that still waits, `Finished` exactly where the actor has no command left.
+    pub fn turn<R: Wait + AllocGlobal, G: Gate>(
         &mut self,
         pass: &mut Pass<Mesh>,
         rt: &R,
@@ -33,8 +41,8 @@ impl ClientJob {
         gate: &G,
     ) -> Turn
         requires own { IsPassOf yard.now pass.old }
-        requires job { IsClientJob lanes.now pass.old.own self.old }
-        ensures job { IsClientJob lanes.now pass.new.own self.new }
+        requires job { IsClientJob lanes.now pass.old self.old }
+        ensures job { IsClientJob lanes.now pass.new self.new }
         ensures good { IsGoodPass pass.new }
         ensures did { DidClient (opened_by yard.now.start) pass.old pass.new self.old self.new result }
     {
@@ -44,6 +52,7 @@ impl ClientJob {
         match try_step(rt, yard, pass, Step::Go { actor }) {
             Tried::Made(outcome) => {
                 self.note(rt, lanes, &outcome);
+                self.show(rt, pass, outcome);
                 Turn::Worked
             }
             Tried::NotEnabled(found) => {
@@ -63,6 +72,7 @@ impl ClientJob {
         requires { CanPut lanes.now.down self.old.down }
         ensures noted { NotesOutcome outcome.now self.old self.new }
         ensures few { AreFew (go_hints outcome.now) }
+        ensures publisher { self.new.publisher ≡ self.old.publisher }
     {
         match outcome {
             Outcome::Replied { line, .. } => self.line = *line,
@@ -71,6 +81,28 @@ impl ClientJob {
                 put(rt, &lanes.down, &mut self.down, TicketStep::Start(*bio));
             }
             _ => {}
+        }
+    }
+
+    // Shows an outcome, if it is a listing and the client shows. The pass has seen it.
+    fn show<R: AllocGlobal>(&mut self, rt: &R, pass: &Pass<Mesh>, outcome: Outcome)
+        requires listed { (line : ℕ) (lines : List GeomLine)
+            → outcome ≡ Replied line (Listing lines) → lines ≡ listing_seen pass.now }
+        requires can { IfSome self.old.publisher (λ v. CanShow v pass.now) }
+        ensures shown { ShowsOutcome outcome pass.now.seen self.old.publisher self.new.publisher }
+        ensures can { IfSome self.new.publisher (λ v. CanShow v pass.now) }
+        ensures same { (self.new.actor ≡ self.old.actor) × (self.new.line ≡ self.old.line)
+            × (self.new.down ≡ self.old.down) }
+    {
+        let Some(publisher) = &mut self.publisher else {
+            return;
+        };
+        if let Outcome::Replied {
+            reply: Reply::Listing(list),
+            ..
+        } = outcome
+        {
+            let _ = publisher.publish(rt, pass, list);
         }
     }
 }

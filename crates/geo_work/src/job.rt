@@ -4,7 +4,7 @@ ghost use Rattle.geo_serve.specs.Drives.{drive_view};
 ghost use Rattle.geo_disk_job.specs.Passes.{IsGoodPass, opened_by};
 ghost use Rattle.geo_disk_job.specs.Turn.TheVariants as turns;
 ghost use Rattle.geo_work.specs.declared.job.Role.TheVariants as roles;
-ghost use Rattle.geo_work.specs.Jobs.{DidTurn, HasItsDrives, IsJobOf, drives_of};
+ghost use Rattle.geo_work.specs.Jobs.{DidTurn, HasItsDrives, IsJobOf, drives_of, publisher_of};
 ghost use Rattle.geo_work.specs.Runs.{EndedBy, JobRan, RestedFor};
 
 use crate::client::ClientJob;
@@ -12,7 +12,7 @@ use crate::down::DownJob;
 use crate::events::EventJob;
 use crate::up::UpJob;
 use geo_disk::Disk;
-use geo_disk_job::{DiskJob, DriveList, Gate, Lanes, Mesh, Pass, Turn, Yard};
+use geo_disk_job::{DiskJob, DriveList, Gate, Lanes, Mesh, Pass, Publisher, Turn, Yard};
 use geo_lane::LanePass;
 use std::sync::Wait;
 use std::thread;
@@ -45,15 +45,23 @@ pub struct JobParts<D> {
 }
 
 impl<D> Job<D> {
-    /// The client of an actor, which made no command yet. `down` puts into the down lane.
-    pub fn client(pass: Pass<Mesh>, actor: u32, down: LanePass) -> Job<D>
+    /// The client of an actor, which made no command yet. `down` puts into the down lane, and the publisher, if there
+    /// is one, shows each listing that the client is replied.
+    pub fn client(
+        pass: Pass<Mesh>,
+        actor: u32,
+        down: LanePass,
+        publisher: Option<Publisher>,
+    ) -> Job<D>
         ensures pass { result.pass ≡ pass }
-        ensures role { result.role ≡ roles.Client (record { actor = actor; line = 0; down = down }) }
+        ensures role { result.role
+            ≡ roles.Client (record { actor = actor; line = 0; down = down; publisher = publisher }) }
     {
         let job = ClientJob {
             actor,
             line: 0,
             down,
+            publisher,
         };
         Job {
             pass,
@@ -132,6 +140,18 @@ impl<D> Job<D> {
 }
 
 impl<D: Drop> Job<D> {
+    /// Takes away by what a client shows, if it shows.
+    pub fn take_publisher(&mut self) -> Option<Publisher>
+        ensures publisher { result ≡ publisher_of self.old.role }
+        ensures pass { self.new.pass ≡ self.old.pass }
+        ensures drives { drives_of self.new.role ≡ drives_of self.old.role }
+    {
+        match &mut self.role {
+            Role::Client(job) => job.publisher.take(),
+            _ => None,
+        }
+    }
+
     /// The job's pass, and its drives, if it is a disk worker.
     pub fn parts(self) -> JobParts<D>
         ensures pass { result.pass ≡ self.pass }

@@ -13,7 +13,8 @@ pub use client::ClientJob;
 pub use down::DownJob;
 pub use events::EventJob;
 pub use geo_disk_job::{
-    DiskJob, DriveList, Gate, GatePlace, Lanes, Mesh, OpenGate, Pass, Turn, Yard,
+    DiskJob, DriveList, Gate, GatePlace, Lanes, Mesh, OpenGate, Pass, Publisher, Turn, Watcher,
+    Yard, view_create,
 };
 pub use job::{Job, JobParts, Role};
 pub use run::{Worker, run_jobs};

@@ -1,8 +1,13 @@
+use denote.Param.Send.{sendable}
 use Rattle.std.proofs.Common.{rules, subst, slice_index_or}
 use Rattle.geo_serve.specs.Drives.{drive_view}
 use Rattle.geo_work.specs.Workers.{WorkerRan}
+use Rattle.geo_work.proofs.Sending.{worker_send}
 use Rattle.geo_work.proofs.Zips.{zip_by_index}
 use Rattle.geo_work.proofs.run.run_jobs.Goals as goal
+
+pub for_each_mut-requires-send-T : goal.for_each_mut-requires-send-T
+for_each_mut-requires-send-T g c κs within = search (sendable, worker_send)
 
 pub returns : goal.returns
 returns g c =

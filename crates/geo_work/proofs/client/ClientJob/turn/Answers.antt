@@ -1,18 +1,44 @@
-use Rattle.std.proofs.Common.{refl, sym, ◌∙◌}
+use Rattle.std.proofs.Common.{refl, sym, ◌∙◌, subst}
+use Rattle.std.specs.Prelude.{Option, IfSome}
+use Rattle.geo_disk_job.specs.Ends.{CanShow, PublisherView}
 use Rattle.geo_disk_job.specs.Passes.{opened_by}
-use Rattle.geo_work.proofs.Joining.{can_put, pass_worked}
+use Rattle.geo_work.proofs.Joining.{can_put}
+use Rattle.geo_work.proofs.Showing.{client_keeps, client_stays, client_worked, listing_told, shows_later}
 use Rattle.geo_work.proofs.Waits.{has_finished, is_waiting}
 use Rattle.geo_work.proofs.client.ClientJob.turn.Goals as goal
 
 pub note-requires : goal.note-requires
 note-requires g c =
     can_put c.args.yard.now c.args.pass.now c.try_step.new.pass _ c.args.lanes.now.down c.args.self.now.down
-    c.requires.own c.try_step.ensures.good c.in-Made.ensures.did.goes c.requires.job
+    c.requires.own c.try_step.ensures.good c.in-Made.ensures.did.goes c.requires.job.puts
+
+pub show-requires : goal.show-requires
+show-requires g c =
+    let q = c.try_step.new.pass in
+    let goes = c.in-Made.ensures.did.goes in record {
+      listed = listing_told c.args.yard.now c.args.pass.now q c.args.self.now.actor c.in-Made.outcome
+          c.requires.own c.in-Made.ensures.did;
+      can =
+          subst (λ (o : Option PublisherView). IfSome o (λ v. CanShow v q)) (sym c.note.ensures.publisher)
+          (shows_later c.args.self.now.publisher c.args.pass.now q goes.same goes.longer c.requires.job.shows);
+    }
 
 pub returns-in-Made-clause-job : goal.returns-in-Made-clause-job
 returns-in-Made-clause-job g c =
-    pass_worked c.args.pass.now c.try_step.new.pass _ c.args.lanes.now.down c.args.self.now.down c.note.new.self.down _
-    c.in-Made.ensures.did.goes c.requires.job c.note.ensures.noted.puts c.note.ensures.few
+    client_keeps c.args.lanes.now c.args.pass.now c.try_step.new.pass _ c.args.self.now c.note.new.self
+    c.show.new.self c.in-Made.outcome c.in-Made.ensures.did.goes c.requires.job c.note.ensures.noted
+    c.note.ensures.few c.show.ensures.same c.show.ensures.can
+
+pub returns-in-Made-clause-did : goal.returns-in-Made-clause-did
+returns-in-Made-clause-did g c =
+    client_worked c.args.pass.now c.try_step.new.pass c.args.self.now c.note.new.self c.show.new.self
+    c.in-Made.outcome c.in-Made.ensures.did.goes c.note.ensures.noted c.note.ensures.publisher
+    c.show.ensures.same c.show.ensures.shown
+
+pub returns-then-is_end-clause-job : goal.returns-then-is_end-clause-job
+returns-then-is_end-clause-job g c =
+    client_stays c.args.lanes.now c.args.pass.now c.try_step.new.pass c.args.self.now c.in-NotEnabled.ensures.did.0
+    c.requires.job
 
 pub returns-then-is_end-clause-did : goal.returns-then-is_end-clause-did
 returns-then-is_end-clause-did g c = (
@@ -21,6 +47,11 @@ returns-then-is_end-clause-did g c = (
       c.in-NotEnabled.found c.in-NotEnabled.ensures.did.1 (sym c.is_end.ensures ∙ c.if-is_end.true),
 )
 
+pub returns-else-is_end-clause-job : goal.returns-else-is_end-clause-job
+returns-else-is_end-clause-job g c =
+    client_stays c.args.lanes.now c.args.pass.now c.try_step.new.pass c.args.self.now c.in-NotEnabled.ensures.did.0
+    c.requires.job
+
 pub returns-else-is_end-clause-did : goal.returns-else-is_end-clause-did
 returns-else-is_end-clause-did g c = (
   record { goes = c.in-NotEnabled.ensures.did.0; same = refl },
@@ -28,3 +59,13 @@ returns-else-is_end-clause-did g c = (
       c.in-NotEnabled.found c.in-NotEnabled.ensures.did.0 c.in-NotEnabled.ensures.did.1
       (sym c.is_end.ensures ∙ c.if-is_end.false),
 )
+
+pub returns-in-LogFull-clause-job : goal.returns-in-LogFull-clause-job
+returns-in-LogFull-clause-job g c =
+    client_stays c.args.lanes.now c.args.pass.now c.try_step.new.pass c.args.self.now c.in-LogFull.ensures.did.0
+    c.requires.job
+
+pub returns-in-NoMemory-clause-job : goal.returns-in-NoMemory-clause-job
+returns-in-NoMemory-clause-job g c =
+    client_stays c.args.lanes.now c.args.pass.now c.try_step.new.pass c.args.self.now c.in-NoMemory.ensures.did.0
+    c.requires.job
