@@ -69,7 +69,7 @@ module _ {D : Type 0} (seen : Drive D → DriveView) (actors : ℕ) (drives : Li
   did_as : (a b : Role D) (added : List Entry) → HasRole actors drives n a → Goes p q added
       → All (λ (e : Entry). IsOfRole a e.step) added → IsKept seen added a b → DidAs seen actors drives n q b
   did_as (roles.Client a) (roles.Client b) added role goes kinds kept =
-      client_did a b role (kind_of_own p q none (IsOfClient a.actor) added goes kinds) kept
+      client_did a b role (kind_of_own p q none (IsOfClient a.actor) added goes kinds) kept.0
   did_as (roles.Events a) (roles.Events b) added role goes kinds kept =
       (role, kind_of_own p q none IsOfEvents added goes kinds)
   did_as (roles.Down a) (roles.Down b) added role goes kinds kept =
@@ -224,9 +224,9 @@ module _ {D : Type 0} (opened : World) (plan : Plan) (drives : List (Drive D)) (
   ended_as seen added a b turns.LogFull role kept cause =
       (cause.tried, kind_of_role a cause.tried role cause.is_of, cause.full)
   ended_as seen added (roles.Client a) (roles.Client b) turns.Idle role kept cause =
-      subst (λ k. IsWaiting opened q k) (sym kept) cause
+      subst (λ k. IsWaiting opened q k) (sym kept.0) cause
   ended_as seen added (roles.Client a) (roles.Client b) turns.Finished role kept cause =
-      subst (λ k. HasFinished opened q.seen k) (sym kept) cause
+      subst (λ k. HasFinished opened q.seen k) (sym kept.0) cause
   ended_as seen added (roles.Events a) (roles.Events b) turns.Idle role kept cause =
       tried_each (λ s is. cause s is)
   ended_as seen added (roles.Events a) (roles.Events b) turns.Finished role kept cause = cause

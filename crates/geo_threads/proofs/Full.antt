@@ -1,8 +1,9 @@
 -- Where a job found the log full, the log of all is full but for what is owed.
-use Rattle.std.specs.Prelude.{◌≡◌, ◌≢◌, ℕ, ◌+◌, ◌-◌, ◌^◌, ◌≤◌, List, [], ◌++◌, length, All, Contains}
+use Rattle.std.specs.Prelude.{◌≡◌, ◌≢◌, ℕ, ◌+◌, ◌-◌, ◌≤◌, List, [], ◌++◌, length, All, Contains}
 use Rattle.std.proofs.Common.{arith, subst, sym}
 use Rattle.std.proofs.lemmas.List.Elements.{All-contains, All-from_recursion, Contains-append_left}
 use mathlib.Core.List.{IsPrefix}
+use Rattle.geo_base.specs.declared.limits.TheConstants.{MAX_LOG_ENTRIES}
 use Rattle.geo_model.specs.declared.step.Entry.{Entry}
 use Rattle.geo_model.specs.World.{Plan}
 use Rattle.geo_model.specs.Fitting.{Firm}
@@ -23,7 +24,7 @@ found_full plan facts is fit log jobs q begins full =
     let w = opening plan facts in
     let whole : log ≡ q.seen ++ begins.0 = sym begins.1 in
     let firm : Firm (replay w q.seen) = firm_after plan facts is fit q.seen in
-    let long : 2 ^ 32 - 1 ≤ length q.seen + owed (replay w q.seen) =
+    let long : MAX_LOG_ENTRIES - 1 ≤ length q.seen + owed (replay w q.seen) =
     full_logs_are_long q.seen (replay w q.seen) q.number full.0 firm full.2 in
     let more : length q.seen + owed (replay w q.seen)
     ≤ length (q.seen ++ begins.0) + owed (replay w (q.seen ++ begins.0)) =
@@ -41,6 +42,6 @@ found_full plan facts is fit log jobs q begins full =
         own_kind = full.1;
         full = full.2;
       };
-      nearly = subst (λ (l : List Entry). 2 ^ 32 - 1 ≤ length l + owed (replay w l)) begins.1
+      nearly = subst (λ (l : List Entry). MAX_LOG_ENTRIES - 1 ≤ length l + owed (replay w l)) begins.1
           (omega (arith, long, more));
     }

@@ -8,3 +8,4 @@ pub mod Starting
 pub mod Leaving
 pub mod Homing
 pub mod Running
+pub mod Viewing

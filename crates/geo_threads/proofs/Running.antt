@@ -1,27 +1,32 @@
 -- A run in a yard: its workers begin, end, and are all.
-use Rattle.std.specs.Prelude.{◌≡◌, ℕ, zero, suc, ◌+◌, ◌<◌, ◌≤◌, List, [], ◌∷◌, ◌++◌, drop, length, map, slice_index_or, take}
+use Rattle.std.specs.Prelude.{◌≡◌, ℕ, zero, suc, ◌+◌, ◌<◌, ◌≤◌, List, [], ◌∷◌, ◌++◌, drop, length, map, slice_index_or, take, Option, Some, None, IfSome}
 use Rattle.std.specs.List.{AllZip}
 use Rattle.std.proofs.Common.{ap, arith, refl, subst, sym, ◌∙◌}
 use Rattle.std.proofs.lemmas.List.{append-nil, length-map, take_all}
 use Rattle.std.proofs.lemmas.Slice.Zip.{AllZip-long}
 use Rattle.std.proofs.Math.ListN.{drop_of_length-le}
+use Rattle.geo_base.specs.declared.limits.TheConstants.{MAX_DISKS}
 use Rattle.geo_disk.specs.declared.drive.Drive.{Drive}
+use Rattle.geo_model.specs.declared.listing.GeomLine.{GeomLine}
 use Rattle.geo_model.specs.declared.step.Entry.{Entry}
+use Rattle.geo_model.specs.Listing.{listing}
 use Rattle.geo_model.specs.Plans.{IsFact}
 use Rattle.geo_serve.specs.Drives.{DriveView}
 use Rattle.geo_lock.specs.Yard.{IsWhole, first_pass}
 use Rattle.geo_work.specs.MeshStart.{MeshStart}
-use Rattle.geo_work.specs.Mesh.{IsHistory, MeshView}
+use Rattle.geo_work.specs.Listings.{listing_after, listing_seen}
+use Rattle.geo_work.specs.Mesh.{IsHistory, MeshView, world_of}
 use Rattle.geo_work.specs.Logged.{mesh_of, start_of}
 use Rattle.geo_work.specs.Lanes.{Lanes}
 use Rattle.geo_work.specs.Passes.{MeshPass}
 use Rattle.geo_work.specs.declared.run.Worker.{Worker}
 use Rattle.geo_work.specs.Workers.{IsReady, WorkerRan}
+use Rattle.geo_threads.specs.declared.crew.Crew.{Crew}
 use Rattle.geo_threads.specs.Closing.{lists_of, passes_of}
+use Rattle.geo_threads.specs.Crews.{Begins}
 use Rattle.geo_threads.specs.Deal.{AreTwo}
 use Rattle.geo_threads.specs.Ended.{HaveEnded}
-use Rattle.geo_threads.specs.declared.left.JobsEnd.{JobsEnd}
-use Rattle.geo_threads.specs.Left.{DrivesFit, ThreadsRan, size_of}
+use Rattle.geo_threads.specs.Left.{DrivesFit, size_of}
 use Rattle.geo_threads.specs.Started.{AreReady, AreStarted, IsFirst, MeshYard}
 use Rattle.geo_threads.proofs.Ending.{have_ended}
 use Rattle.geo_threads.proofs.Leaving.{are_two, are_whole, two_served}
@@ -56,7 +61,7 @@ is_first y p is =
 
 -- there are few drives
 pub few_drives : {D : Type 0} (y : MeshYard) (seen : Drive D → DriveView) (drives : List (Drive D))
-    → IsHistory (mesh_of y.start []) → DrivesFit (mesh_of y.start []) (map seen drives) → length drives ≤ 16
+    → IsHistory (mesh_of y.start []) → DrivesFit (mesh_of y.start []) (map seen drives) → length drives ≤ MAX_DISKS
 few_drives y seen drives law fit =
     let one = length-map drives seen in
     let two = length-map (map seen drives) size_of in
@@ -64,6 +69,14 @@ few_drives y seen drives law fit =
     let disks = AllZip-long IsFact y.start.plan.disks y.start.facts law.facts in
     let few = law.plan.few_disks in
     omega (arith, one, two, facts, disks, few)
+
+-- the mesh as it is printed before the first step is what the pass 0 of a new yard has seen
+pub first_listing : (y : MeshYard) (p : MeshPass) → p ≡ first_pass y → (shown : Option (List GeomLine))
+    → IfSome shown (λ (lines : List GeomLine). lines ≡ listing (world_of (mesh_of y.start [])))
+    → IfSome shown (λ (lines : List GeomLine). lines ≡ listing_seen p)
+unfolding listing_after
+first_listing y p is None same = tt
+first_listing y p is (Some lines) same = subst (λ (q : MeshPass). lines ≡ listing_seen q) (sym is) same
 
 -- the workers of a run that have ended, and all that is known of them before the yard is closed
 pub record AllEnded {D : Type 0} (y : MeshYard) (seen : Drive D → DriveView) (drives : List (Drive D))
@@ -94,10 +107,20 @@ all_ended y lanes seen drives actors first old new is its started long ran =
           (two_served y seen count drives (count + 3) 1 new ended (omega arith) (omega (arith, many))) few;
     }
 
+-- so it is with those of a crew
+pub crew_ended : {D : Type 0} (y : MeshYard) (lanes : Lanes) (seen : Drive D → DriveView) (drives : List (Drive D))
+    (actors : ℕ) (first : MeshPass) (crew after : Crew D) → actors ≡ length y.start.plan.actors
+    → Begins y lanes seen actors drives first crew
+    → AllZip (WorkerRan y lanes seen) crew.workers.items after.workers.items
+    → AllEnded y seen drives first after.workers.items
+crew_ended y lanes seen drives actors first crew after is begins ran =
+    all_ended y lanes seen drives actors first crew.workers.items after.workers.items is begins.first_is
+    begins.started begins.many ran
+
 -- A yard that holds a mesh that made no step
 
 module _ (m : MeshView) (y : MeshYard) (none : m.log ≡ []) (start : y.start ≡ start_of m) where
-  begins : mesh_of y.start [] ≡ m
+  pub begins : mesh_of y.start [] ≡ m
   begins =
       ap (λ (s : MeshStart). mesh_of s []) start ∙ ap (λ (l : List Entry). mesh_of (start_of m) l) (sym none)
 
@@ -107,6 +130,8 @@ module _ (m : MeshView) (y : MeshYard) (none : m.log ≡ []) (start : y.start �
   pub begins_fit : (drives : List DriveView) → DrivesFit m drives → DrivesFit (mesh_of y.start []) drives
   begins_fit drives fit = subst (λ (x : MeshView). DrivesFit x drives) (sym begins) fit
 
-  pub begins_ran : (after : MeshView) (drives left : List DriveView) (e : JobsEnd)
-      → ThreadsRan (mesh_of y.start []) after drives left e → ThreadsRan m after drives left e
-  begins_ran after drives left e ran = subst (λ (x : MeshView). ThreadsRan x after drives left e) begins ran
+  pub begins_shown : (shown : Option (List GeomLine))
+      → IfSome shown (λ (lines : List GeomLine). lines ≡ listing (world_of m))
+      → IfSome shown (λ (lines : List GeomLine). lines ≡ listing (world_of (mesh_of y.start [])))
+  begins_shown None same = tt
+  begins_shown (Some lines) same = subst (λ (x : MeshView). lines ≡ listing (world_of x)) (sym begins) same

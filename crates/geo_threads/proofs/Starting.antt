@@ -1,27 +1,29 @@
 -- Workers that begin, by their numbers.
-use Rattle.std.specs.Prelude.{◌≡◌, ℕ, zero, suc, ◌+◌, ◌*◌, ◌<◌, ◌≤◌, List, [], ◌∷◌, ◌++◌, length, slice_index_or}
+use Rattle.std.specs.Prelude.{◌≡◌, ℕ, zero, suc, ◌+◌, ◌*◌, ◌<◌, ◌≤◌, List, [], ◌∷◌, ◌++◌, length, slice_index_or, Option, Some, IfSome}
 use Rattle.std.proofs.Common.{ap, arith, refl, subst, sym, ◌∙◌}
 use Rattle.atomic_table.specs.Seated.{TableId}
-use Rattle.std.proofs.lemmas.List.{append_assoc}
+use Rattle.std.proofs.lemmas.List.{append-nil, append_assoc, length-append}
 use Rattle.geo_disk.specs.declared.drive.Drive.{Drive}
 use Rattle.geo_serve.specs.Drives.{DriveView}
 use Rattle.geo_lane.specs.declared.ticket.Ticket.{Ticket}
-use Rattle.geo_lane.specs.LanePass.{LanePassView}
+use Rattle.geo_lane.specs.LanePass.{LanePassView, next_pass}
 use Rattle.geo_lock.specs.Yard.{IsPassOf}
 use Rattle.geo_work.specs.Lanes.{Lanes}
 use Rattle.geo_work.specs.Passes.{MeshPass}
 use Rattle.geo_work.specs.DriveList.{DriveListView}
 use Rattle.geo_work.specs.Drives.{HasDrives}
+use Rattle.geo_work.specs.Ends.{CanShow, PublisherView}
 use Rattle.geo_work.specs.declared.job.Role.{Role}
 use Rattle.geo_work.specs.declared.job.Role.TheVariants as roles
 use Rattle.geo_work.specs.declared.run.Worker.{Worker}
 use Rattle.geo_work.specs.Jobs.{HasItsDrives, IsRoleOf}
 use Rattle.geo_work.specs.LanePasses.{IsPassTo}
+use Rattle.geo_work.specs.Listings.{listing_after, listing_seen}
 use Rattle.geo_work.specs.Workers.{IsReady}
 use Rattle.geo_threads.specs.declared.lanes.Passes.{Passes}
 use Rattle.geo_threads.specs.Deal.{dealt}
-use Rattle.geo_threads.specs.Lanes.{ArePasses, IsPutter}
-use Rattle.geo_threads.specs.Started.{AreStarted, HasRole, IsFirst, IsStarted, MeshYard, beginning, next_of, others}
+use Rattle.geo_threads.specs.Lanes.{ArePasses, IsPutter, taker_of}
+use Rattle.geo_threads.specs.Started.{AreStarted, HasBegun, HasRole, IsFirst, IsStarted, MeshYard, beginning, next_of, others}
 
 module _ {D : Type 0} (y : MeshYard) (lanes : Lanes) (seen : Drive D → DriveView) (actors : ℕ)
     (drives : List (Drive D)) where
@@ -53,7 +55,7 @@ module _ {D : Type 0} (y : MeshYard) (lanes : Lanes) (seen : Drive D → DriveVi
 
   -- a worker that begins with the next pass
   begun : (n : ℕ) (first : MeshPass) (number : ℕ) (role : Role D) → IsPassOf y first → number ≡ n
-      → IsRoleOf lanes [] role → HasItsDrives y.start.facts seen role → HasRole actors drives n role
+      → IsRoleOf lanes (next_of first number) role → HasItsDrives y.start.facts seen role → HasRole actors drives n role
       → IsStarted y lanes seen actors drives n (beginning (next_of first number) role)
   begun n first number role of_yard is its_lanes its_drives its = record {
     ready = record {
@@ -74,17 +76,21 @@ within_none lane p putter = record {
 
 module _ {D : Type 0} (y : MeshYard) (lanes : Lanes) (seen : Drive D → DriveView) (actors : ℕ)
     (drives : List (Drive D)) (first : MeshPass) where
-  -- a client
+  -- a client, which shows nothing or can show what its pass has seen
   pub client_started : (actor : ℕ) (pass : MeshPass) (role : Role D) (down : LanePassView)
-      → IsFirst y (actor + 1) first → actor < actors → IsPutter lanes.down down
-      → pass ≡ next_of first first.made → role ≡ roles.Client (record { actor = actor; line = 0; down = down })
+      (publisher : Option PublisherView) → IsFirst y (actor + 1) first → actor < actors → IsPutter lanes.down down
+      → IfSome publisher (λ (v : PublisherView). CanShow v pass) → pass ≡ next_of first first.made
+      → role ≡ roles.Client (record { actor = actor; line = 0; down = down; publisher = publisher })
       → IsStarted y lanes seen actors drives (1 + actor) (beginning pass role)
-  client_started actor pass role down is lt putter pass_is role_is =
-      let job : Role D = roles.Client (record { actor = actor; line = 0; down = down }) in
+  client_started actor pass role down publisher is lt putter shows pass_is role_is =
+      let job : Role D = roles.Client (record { actor = actor; line = 0; down = down; publisher = publisher }) in
       let made = is.made in
       let here : IsStarted y lanes seen actors drives (1 + actor) (beginning (next_of first first.made) job) =
       begun y lanes seen actors drives (1 + actor) first first.made job is.of_yard (omega (arith, made))
-      (within_none lanes.down down putter) tt (lt, omega arith) in
+      (record {
+        puts = within_none lanes.down down putter;
+        shows = subst (λ (p : MeshPass). IfSome publisher (λ (v : PublisherView). CanShow v p)) pass_is shows;
+      }) tt (lt, omega arith) in
       subst (λ (r : Role D). IsStarted y lanes seen actors drives (1 + actor) (beginning pass r)) (sym role_is)
       (subst (λ (p : MeshPass). IsStarted y lanes seen actors drives (1 + actor) (beginning p job)) (sym pass_is) here)
 
@@ -141,6 +147,64 @@ module _ {D : Type 0} (y : MeshYard) (lanes : Lanes) (seen : Drive D → DriveVi
           ),
         ),
       )
+
+-- the pass that is made of another has seen the mesh as that has
+pub next_listing : (p : MeshPass) (n : ℕ) → listing_seen (next_of p n) ≡ listing_seen p
+unfolding listing_after
+next_listing p n = refl
+
+-- a view that shows what a pass has seen can go on to show what it has seen
+pub can_show : (v : PublisherView) (p : MeshPass) → v.of ≡ Some p → v.stands ≡ p.seen → CanShow v p
+can_show v p of stands = record {
+  of = (p, of, record { yard = refl; start = refl; number = refl });
+  later = ([], append-nil v.stands ∙ stands);
+}
+
+-- one more client behind those that have begun
+pub begun_push : {D : Type 0} (y : MeshYard) (lanes : Lanes) (seen : Drive D → DriveView) (actors : ℕ)
+    (first after : MeshPass) (down left puts : LanePassView) (ws : List (Worker D)) (actor : ℕ) (pass : MeshPass)
+    (role : Role D) (publisher : Option PublisherView) → HasBegun y lanes seen actors first down ws
+    → length ws ≡ actor → actor < actors → pass ≡ next_of first first.made
+    → after ≡ record first { made = first.made + 1 } → puts ≡ next_pass down
+    → left ≡ record down { split = down.split + 1 }
+    → role ≡ roles.Client (record { actor = actor; line = 0; down = puts; publisher = publisher })
+    → IfSome publisher (λ (v : PublisherView). CanShow v pass)
+    → HasBegun y lanes seen actors after left (ws ++ beginning pass role ∷ [])
+begun_push y lanes seen actors first after down left puts ws actor pass role publisher has many lt p f u l r shows =
+    let is = has.first_is in
+    let made = is.made in
+    let long = length-append ws (beginning pass role ∷ []) in
+    let putter : IsPutter lanes.down puts = record {
+      lane_is = ap (λ (x : LanePassView). x.lane) u ∙ ap (λ (x : LanePassView). x.lane) has.down_is;
+      put = ap (λ (x : LanePassView). x.put) u;
+    } in
+    let here : IsFirst y (actor + 1) first = subst (λ n. IsFirst y (n + 1) first) many is in
+    record {
+      few = omega (arith, long, many, lt);
+      first_is = subst (λ (x : MeshPass). IsFirst y (length (ws ++ beginning pass role ∷ []) + 1) x) (sym f)
+          (record {
+            of_yard = record { yard = is.of_yard.yard; start = is.of_yard.start };
+            number = is.number;
+            own = is.own;
+            made = omega (arith, made, long);
+          });
+      down_is = l ∙ ap (λ (x : LanePassView). record x { split = x.split + 1 }) has.down_is
+          ∙ ap (λ n. taker_of lanes.down n) (let e : length ws + 1 ≡ length (ws ++ beginning pass role ∷ []) =
+          omega (arith, long) in e);
+      started = λ drives.
+          started_push y lanes seen actors drives 1 ws (beginning pass role) (has.started drives)
+          (subst (λ n. IsStarted y lanes seen actors drives (1 + n) (beginning pass role)) (sym many)
+          (client_started y lanes seen actors drives first actor pass role puts publisher here lt putter shows p
+          r));
+    }
+
+-- before the first nobody has begun
+pub none_begun : {D : Type 0} (y : MeshYard) (lanes : Lanes) (seen : Drive D → DriveView) (actors : ℕ)
+    (first : MeshPass) (down : LanePassView) (ws : List (Worker D)) → ws ≡ [] → IsFirst y 1 first
+    → down ≡ taker_of lanes.down 0 → HasBegun y lanes seen actors first down ws
+none_begun {D} y lanes seen actors first down ws none is down_is =
+    subst (λ (l : List (Worker D)). HasBegun y lanes seen actors first down l) (sym none)
+    (record { few = omega arith; first_is = is; down_is = down_is; started = λ drives. tt })
 
 -- The passes that come next
 

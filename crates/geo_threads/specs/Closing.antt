@@ -20,6 +20,10 @@ passes_of {D} ws = map (λ (w : Worker D). w.job.pass) ws
 abbrev pub lists_of : {D : Type 0} → List (Worker D) → List (DriveListView D)
 lists_of {D} ws = filter_map (λ (w : Worker D). drives_of w.job.role) ws
 
+-- their answers
+abbrev pub answers_of : {D : Type 0} → List (Worker D) → List Turn
+answers_of {D} ws = map (λ (w : Worker D). w.answer) ws
+
 -- the mesh at the end of a yard, whose passes these are
 abbrev pub EndsYard : MeshYard → List MeshPass → MeshView → Type 0
 EndsYard y ps m = IsEnd start_of (λ x. x.log) (λ s log. IsHistory (mesh_of s log)) (λ e. e.seat) y ps m

@@ -1,5 +1,6 @@
 -- What the threads of a run left.
-use Rattle.std.specs.Prelude.{◌≡◌, ◌≢◌, ℕ, ◌+◌, ◌-◌, ◌^◌, ◌≤◌, List, ◌++◌, length, map, All, ⊤}
+use Rattle.std.specs.Prelude.{◌≡◌, ◌≢◌, ℕ, ◌+◌, ◌-◌, ◌≤◌, List, ◌++◌, length, map, All, ⊤}
+use Rattle.geo_base.specs.declared.limits.TheConstants.{MAX_LOG_ENTRIES}
 use Rattle.geo_model.specs.declared.step.Entry.{Entry}
 use Rattle.geo_model.specs.World.{Plan, World}
 use Rattle.geo_model.specs.FixedOrder.{IsOfItsJob, JobsEndedIdle}
@@ -12,17 +13,18 @@ use Rattle.geo_work.specs.Mesh.{IsHistory, MeshView, opened, world_of}
 use Rattle.geo_threads.specs.declared.left.JobsEnd.{JobsEnd}
 use Rattle.geo_threads.specs.declared.left.JobsEnd.TheVariants as ends
 
--- the size of a drive: the bytes of a sector, and the sectors. There is one drive for each disk of the plan, in header order, with the sizes with which the mesh began
+-- the size of a drive: the bytes of a sector, and the sectors
 abbrev pub size_of : DriveView → ℕ × ℕ
 size_of d = (d.sector, d.count)
 
+-- there is one drive for each disk of the plan, in header order, with the sizes with which the mesh began
 abbrev pub DrivesFit : MeshView → List DriveView → Type 0
 DrivesFit m drives = map size_of drives ≡ m.facts
 
 -- a job found the log full, which is full but for what is owed
 pub record FoundFullByJob (plan : Plan) (opened : World) (threads : List Entry) : Type 0 where
   pub job : JobWasFull plan opened threads
-  pub nearly : 2 ^ 32 - 1 ≤ length threads + owed (replay opened threads)
+  pub nearly : MAX_LOG_ENTRIES - 1 ≤ length threads + owed (replay opened threads)
 
 -- what the log of the threads tells, by how they ended: where they ended idle, that holds before any steps that are
 -- made after them; want of memory tells nothing

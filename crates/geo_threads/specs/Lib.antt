@@ -5,3 +5,5 @@ pub mod Started
 pub mod Ended
 pub mod Closing
 pub mod Left
+pub mod Viewed
+pub mod Crews

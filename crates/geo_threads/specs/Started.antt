@@ -1,5 +1,5 @@
 -- Jobs by their numbers, before they begin.
-use Rattle.std.specs.Prelude.{◌≡◌, ℕ, ◌+◌, ◌<◌, List, [], ◌∷◌, ⊤}
+use Rattle.std.specs.Prelude.{◌≡◌, ℕ, ◌+◌, ◌<◌, ◌≤◌, List, [], ◌∷◌, length, ⊤}
 use Rattle.geo_disk.specs.declared.drive.Drive.{Drive}
 use Rattle.geo_serve.specs.Drives.{DriveView}
 use Rattle.geo_lock.specs.Yard.{IsPassOf, YardView}
@@ -13,6 +13,8 @@ use Rattle.geo_work.specs.declared.job.Role.TheVariants as roles
 use Rattle.geo_work.specs.declared.run.Worker.{Worker}
 use Rattle.geo_work.specs.Workers.{IsReady}
 use Rattle.geo_threads.specs.declared.lanes.Passes.{Passes}
+use Rattle.geo_lane.specs.LanePass.{LanePassView}
+use Rattle.geo_threads.specs.Lanes.{taker_of}
 use Rattle.geo_threads.specs.Deal.{dealt}
 
 -- a yard that holds a mesh
@@ -58,6 +60,14 @@ abbrev pub AreStarted : {D : Type 0} → MeshYard → Lanes → (Drive D → Dri
 AreStarted y lanes seen actors drives n [] = ⊤
 AreStarted y lanes seen actors drives n (w ∷ ws) =
     IsStarted y lanes seen actors drives n w × AreStarted y lanes seen actors drives (n + 1) ws
+
+-- some clients of so many actors have begun, and the passes of the next one are made of these
+pub record HasBegun {D : Type 0} (y : MeshYard) (lanes : Lanes) (seen : Drive D → DriveView) (actors : ℕ) (first : MeshPass)
+    (down : LanePassView) (ws : List (Worker D)) : Type 0 where
+  pub few : length ws ≤ actors
+  pub first_is : IsFirst y (length ws + 1) first
+  pub down_is : down ≡ taker_of lanes.down (length ws)
+  pub started : (drives : List (Drive D)) → AreStarted y lanes seen actors drives 1 ws
 
 -- the workers that aren't clients, with the passes that come next
 abbrev pub others : {D : Type 0} → MeshPass → Passes → DriveListView D → DriveListView D → List (Worker D)

@@ -4,9 +4,11 @@ ghost use Rattle.std.specs.Option.{option_to_list};
 ghost use Rattle.geo_lock.specs.Yard.{IsWhole};
 ghost use Rattle.geo_threads.specs.Closing.{EndsYard, IsEndOf, lists_of, passes_of, worse};
 ghost use Rattle.geo_threads.specs.Deal.{AreTwo, gathered_of};
+ghost use Rattle.geo_threads.specs.Rooms.{CanComeHome};
 
 use crate::deal::gather;
-use crate::left::{JobsEnd, Left};
+use crate::left::{JobsEnd, Left, Seen};
+use crate::room::HomeRoom;
 use geo_disk::Drive;
 use geo_lock::{Pass, PassList};
 use geo_work::{DriveList, JobParts, Mesh, Turn, Worker, Yard};
@@ -82,28 +84,29 @@ fn gather_all<D: Drop>(mut lists: Vec<DriveList<D>>, mut back: Vec<Drive<D>>) ->
     back
 }
 
-/// Takes the passes and the drives of workers that have ended, closes the yard, and says how the jobs ended. `passes`,
-/// `lists` and `back` are empty, with room for all.
+/// Takes the passes and the drives of workers that have ended, closes the yard, and says how the jobs ended, and what was
+/// seen last. The room is empty, with room for all.
 pub fn close_all<D: Drop, R: AllocGlobal>(
     rt: &R,
     yard: Yard<Mesh>,
     first: Pass<Mesh>,
     workers: Vec<Worker<D>>,
-    mut passes: PassList<Mesh>,
-    mut lists: Vec<DriveList<D>>,
-    back: Vec<Drive<D>>,
+    room: HomeRoom<D>,
+    seen: Seen,
 ) -> Left<D>
     requires whole { IsWhole yard (first ∷ passes_of workers.items) }
-    requires two { AreTwo (vec_capacity back) (lists_of workers.items) }
-    requires no_pass { passes.items ≡ [] }
-    requires room { length workers.items + 1 ≤ passes.spare }
-    requires no_list { lists.items ≡ [] }
-    requires room_of_lists { length workers.items ≤ vec_capacity lists }
-    requires no_drive { back.items ≡ [] }
+    requires two { AreTwo (vec_capacity room.back) (lists_of workers.items) }
+    requires room { CanComeHome (length workers.items) room }
     ensures ended { IsEndOf workers.items result.ended }
+    ensures seen { result.seen ≡ seen }
     ensures mesh { EndsYard yard (first ∷ passes_of workers.items) result.mesh }
     ensures drives { result.drives.items ≡ gathered_of (lists_of workers.items) }
 {
+    let HomeRoom {
+        mut passes,
+        mut lists,
+        back,
+    } = room;
     let ended = end_of(workers.as_slice());
     passes.push(first);
     take_back(workers, &mut passes, &mut lists);
@@ -115,5 +118,6 @@ pub fn close_all<D: Drop, R: AllocGlobal>(
         mesh,
         drives,
         ended,
+        seen,
     }
 }

@@ -1,5 +1,6 @@
 //! What the threads of a run leave.
 use geo_disk::Drive;
+use geo_model::MeshList;
 use geo_work::Mesh;
 
 /// How the jobs of a run ended.
@@ -13,10 +14,23 @@ pub enum JobsEnd {
     NoMemory,
 }
 
-/// What the threads of a run left: the mesh with all their entries, the drives in header order, and how the jobs ended.
+/// What was seen last of a mesh that was shown.
+#[derive(Debug, Drop)]
+pub enum Seen {
+    /// Nobody looked.
+    Nothing,
+    /// The mesh as it is printed.
+    List(MeshList),
+    /// Memory was wanting for the list.
+    NoMemory,
+}
+
+/// What the threads of a run left: the mesh with all their entries, the drives in header order, how the jobs ended, and
+/// what was seen last, if the mesh was shown.
 #[derive(Drop)]
 pub struct Left<D> {
     pub mesh: Mesh,
     pub drives: Vec<Drive<D>>,
     pub ended: JobsEnd,
+    pub seen: Seen,
 }

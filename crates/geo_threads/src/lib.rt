@@ -3,13 +3,15 @@
 #![tactic(auto)]
 
 mod close;
+mod crew;
 mod deal;
 mod lanes;
 mod left;
 mod room;
 mod start;
 mod threads;
+mod watch;
 
 pub use geo_work::{Gate, GatePlace, OpenGate};
-pub use left::{JobsEnd, Left};
+pub use left::{JobsEnd, Left, Seen};
 pub use threads::run_threads;

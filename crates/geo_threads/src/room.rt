@@ -1,5 +1,6 @@
 //! The memory of a run, which is taken before its first job.
-ghost use Rattle.std.specs.Prelude.{◌≡◌, ◌+◌, ◌<◌, ◌≤◌, ◌^◌, [], IfOk};
+ghost use Rattle.std.specs.Prelude.{◌≡◌, ◌+◌, ◌<◌, ◌≤◌, [], IfOk};
+ghost use Rattle.geo_base.specs.declared.limits.TheConstants.{MAX_ACTORS};
 ghost use Rattle.geo_threads.specs.Rooms.{HasRoom};
 
 use crate::lanes::{Takers, open_lanes};
@@ -9,18 +10,30 @@ use geo_lock::PassList;
 use geo_work::{DriveList, Lanes, Mesh, Worker};
 use std::alloc::Global;
 
-/// Room for the workers of a run, for their passes, for the drives of the disk workers and on their way back; and the
-/// lanes.
+/// Room in which the workers of a run begin: for the workers, and for the drives of the two disk workers; and the passes
+/// of the lanes.
 #[derive(Drop)]
-pub struct Room<D> {
-    pub passes: PassList<Mesh>,
+pub struct StartRoom<D> {
     pub workers: Vec<Worker<D>>,
-    pub lists: Vec<DriveList<D>>,
     pub even: DriveList<D>,
     pub odd: DriveList<D>,
-    pub back: Vec<Drive<D>>,
-    pub lanes: Lanes,
     pub takers: Takers,
+}
+
+/// Room for what comes home: the passes of the workers, the lists of the disk workers, and their drives.
+#[derive(Drop)]
+pub struct HomeRoom<D> {
+    pub passes: PassList<Mesh>,
+    pub lists: Vec<DriveList<D>>,
+    pub back: Vec<Drive<D>>,
+}
+
+/// Room for the start of a run and for its end, and the lanes.
+#[derive(Drop)]
+pub struct Room<D> {
+    pub begins: StartRoom<D>,
+    pub comes: HomeRoom<D>,
+    pub lanes: Lanes,
 }
 
 // A list with room for so many drives.
@@ -49,7 +62,7 @@ pub fn make_room<D: Drop, R: AllocGlobal>(
     actors: u32,
     drives: usize,
 ) -> Result<Room<D>, NoMemory>
-    requires { actors ≤ 16 }
+    requires { actors ≤ MAX_ACTORS }
     ensures { IfOk result (λ room. HasRoom actors drives room) }
 {
     let alloc = rt.alloc();
@@ -61,14 +74,20 @@ pub fn make_room<D: Drop, R: AllocGlobal>(
     let odd = list_for(alloc, drives)?;
     let back = Vec::with_capacity(alloc, drives)?;
     let (lanes, takers) = open_lanes(rt)?;
-    Ok(Room {
-        passes,
+    let begins = StartRoom {
         workers,
-        lists,
         even,
         odd,
-        back,
-        lanes,
         takers,
+    };
+    let comes = HomeRoom {
+        passes,
+        lists,
+        back,
+    };
+    Ok(Room {
+        begins,
+        comes,
+        lanes,
     })
 }

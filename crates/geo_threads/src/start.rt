@@ -1,16 +1,22 @@
 //! The workers of a run, before they begin.
-ghost use Rattle.std.specs.Prelude.{◌≡◌, ◌+◌, ◌<◌, ◌≤◌, ◌^◌, [], ◌∷◌, ◌++◌, List, length, vec_capacity, vec_len};
+ghost use Rattle.std.specs.Prelude.{◌≡◌, ◌+◌, ◌<◌, ◌≤◌, ◌^◌, ℕ, [], ◌∷◌, ◌++◌, List, Some, None, IfOk, IfSome, OnOk, length, vec_capacity, vec_len};
+ghost use mathlib.Core.List.{IsPrefix};
+ghost use Rattle.geo_base.specs.declared.limits.TheConstants.{MAX_ACTORS};
 ghost use Rattle.geo_disk.specs.declared.drive.Drive.{Drive as DriveValue};
 ghost use Rattle.geo_serve.specs.Drives.{drive_view};
 ghost use Rattle.geo_work.specs.Drives.{HasDrives};
 ghost use Rattle.geo_threads.specs.Deal.{dealt};
 ghost use Rattle.geo_threads.specs.Lanes.{taker_of, takers_of};
-ghost use Rattle.geo_threads.specs.Started.{AreStarted, IsFirst, beginning, next_of, others};
+ghost use Rattle.geo_work.specs.Listings.{listing_seen};
+ghost use Rattle.geo_threads.specs.Started.{AreStarted, HasBegun, IsFirst, beginning, next_of, others};
+ghost use Rattle.geo_threads.specs.Viewed.{LooksAtFirst, first_view};
 
 use crate::lanes::{Passes, Takers, passes_of, putter};
+use geo_base::NoMemory;
 use geo_disk::Disk;
 use geo_lane::LanePass;
-use geo_work::{DriveList, Job, Lanes, Mesh, Pass, Turn, Worker, Yard};
+use geo_model::MeshList;
+use geo_work::{DriveList, Job, Lanes, Mesh, Pass, Turn, Watcher, Worker, Yard, view_create};
 
 // The next pass.
 fn next_pass(yard: &Yard<Mesh>, first: &mut Pass<Mesh>) -> Pass<Mesh>
@@ -34,7 +40,69 @@ fn hire<D>(workers: &mut Vec<Worker<D>>, job: Job<D>)
     });
 }
 
-// The clients of so many actors.
+// Starts the client of the first actor, which shows each listing that it is replied. Who looks at them comes back, and
+// is shown the list first, which is the mesh as the pass 0 has seen it.
+fn start_viewed<D: Disk, R: AllocGlobal>(
+    rt: &R,
+    yard: &Yard<Mesh>,
+    first: &mut Pass<Mesh>,
+    lanes: &Lanes,
+    down: &mut LanePass,
+    list: MeshList,
+    workers: &mut Vec<Worker<D>>,
+) -> Result<Watcher, NoMemory>
+    requires first { IsFirst yard.now 1 first.old }
+    requires list { list ≡ listing_seen first.old }
+    requires down { down.old ≡ taker_of lanes.now.down 0 }
+    requires none { workers.old.items ≡ [] }
+    requires room { 1 ≤ vec_capacity workers.old }
+    ensures begun { OnOk result ((actors : ℕ) → 0 < actors
+        → HasBegun yard.now lanes.now (drive_view D.view) actors first.new down.new workers.new.items) }
+    ensures view { IfOk result (λ watcher. first_view workers.new.items ≡ Some watcher.view) }
+    ensures room { OnOk result (vec_capacity workers.new ≡ vec_capacity workers.old) }
+{
+    let pass = next_pass(yard, first);
+    let (publisher, watcher) = view_create(rt, &pass, list)?;
+    let puts = putter(rt, &lanes.down, down);
+    hire(workers, Job::client(pass, 0, puts, Some(publisher)));
+    Ok(watcher)
+}
+
+/// Starts the client of the first actor and who looks at what it shows, if the mesh is to be shown and there is an
+/// actor. `shown` is the mesh as the pass 0 has seen it.
+#[tactic(auto, using(crate::proofs::Starting::none_begun))]
+pub fn start_view<D: Disk, R: AllocGlobal>(
+    rt: &R,
+    yard: &Yard<Mesh>,
+    first: &mut Pass<Mesh>,
+    lanes: &Lanes,
+    down: &mut LanePass,
+    actors: u32,
+    shown: Option<MeshList>,
+    workers: &mut Vec<Worker<D>>,
+) -> Result<Option<Watcher>, NoMemory>
+    requires first { IsFirst yard.now 1 first.old }
+    requires list { IfSome shown (λ list. list ≡ listing_seen first.old) }
+    requires down { down.old ≡ taker_of lanes.now.down 0 }
+    requires none { workers.old.items ≡ [] }
+    requires room { actors ≤ vec_capacity workers.old }
+    ensures begun { OnOk result (HasBegun yard.now lanes.now (drive_view D.view) actors first.new down.new
+        workers.new.items) }
+    ensures room { OnOk result (vec_capacity workers.new ≡ vec_capacity workers.old) }
+    ensures view { IfOk result (λ watcher. LooksAtFirst watcher workers.new.items) }
+    ensures none { shown ≡ None → IfOk result (λ watcher. watcher ≡ None) }
+{
+    let Some(list) = shown else {
+        return Ok(None);
+    };
+    if actors == 0 {
+        return Ok(None);
+    }
+    let watcher = start_viewed(rt, yard, first, lanes, down, list, workers)?;
+    Ok(Some(watcher))
+}
+
+// The clients of so many actors, behind those that have begun.
 fn start_clients<D: Disk, R: AllocGlobal>(
     rt: &R,
     yard: &Yard<Mesh>,
@@ -44,11 +112,10 @@ fn start_clients<D: Disk, R: AllocGlobal>(
     actors: u32,
     workers: &mut Vec<Worker<D>>,
 )
-    requires few { actors ≤ 16 }
-    requires first { IsFirst yard.now 1 first.old }
-    requires down { down.old ≡ taker_of lanes.now.down 0 }
-    requires none { workers.old.items ≡ [] }
+    requires few { actors ≤ MAX_ACTORS }
+    requires begun { HasBegun yard.now lanes.now (drive_view D.view) actors first.old down.old workers.old.items }
     requires room { actors ≤ vec_capacity workers.old }
+    ensures begins { IsPrefix workers.old.items workers.new.items }
     ensures first { IsFirst yard.now (actors + 1) first.new }
     ensures down { down.new ≡ taker_of lanes.now.down actors }
     ensures started { (drives : List (DriveValue D))
@@ -56,9 +123,10 @@ fn start_clients<D: Disk, R: AllocGlobal>(
     ensures count { length workers.new.items ≡ actors }
     ensures room { vec_capacity workers.new ≡ vec_capacity workers.old }
 {
-    for actor in 0..actors {
-        let pass = putter(rt, &lanes.down, down);
-        hire(workers, Job::client(next_pass(yard, first), actor, pass));
+    for actor in workers.len() as u32..actors {
+        let pass = next_pass(yard, first);
+        let puts = putter(rt, &lanes.down, down);
+        hire(workers, Job::client(pass, actor, puts, None));
     }
 }
 
@@ -106,8 +174,8 @@ fn start_others<D>(
     );
 }
 
-/// The workers of so many actors, in order of their numbers: a client for each actor, the event worker, the down worker,
-/// the up worker, and the disk workers with their drives.
+/// The workers of so many actors, behind those that have begun, in order of their numbers: a client for each actor, the
+/// event worker, the down worker, the up worker, and the disk workers with their drives.
 pub fn start<D: Disk, R: AllocGlobal>(
     rt: &R,
     yard: &Yard<Mesh>,
@@ -119,11 +187,11 @@ pub fn start<D: Disk, R: AllocGlobal>(
     odd: DriveList<D>,
     workers: &mut Vec<Worker<D>>,
 )
-    requires few { actors ≤ 16 }
-    requires first { IsFirst yard.now 1 first.old }
-    requires takers { takers ≡ takers_of lanes.now 0 }
-    requires none { workers.old.items ≡ [] }
+    requires few { actors ≤ MAX_ACTORS }
+    requires takers { takers ≡ takers_of lanes.now (length workers.old.items) }
+    requires begun { HasBegun yard.now lanes.now (drive_view D.view) actors first.old takers.down workers.old.items }
     requires room { actors + 5 ≤ vec_capacity workers.old }
+    ensures begins { IsPrefix workers.old.items workers.new.items }
     ensures first { IsFirst yard.now (actors + 6) first.new }
     ensures started { (drives : List (DriveValue D)) → even.items ≡ dealt 0 drives → odd.items ≡ dealt 1 drives
         → HasDrives yard.now.start.facts (drive_view D.view) even.items

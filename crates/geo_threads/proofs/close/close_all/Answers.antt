@@ -5,45 +5,45 @@ use Rattle.geo_threads.specs.Deal.{AreTwo, gathered_of}
 use Rattle.geo_threads.proofs.close.close_all.Goals as goal
 
 pub push-requires : goal.push-requires
-push-requires g c = let room = c.requires.room in omega (arith, room)
+push-requires g c = let room = c.requires.room.passes in omega (arith, room)
 
 pub take_back-requires-clause-room : goal.take_back-requires-clause-room
 take_back-requires-clause-room g c =
-    let room = c.requires.room in
+    let room = c.requires.room.passes in
     let spare = c.push.ensures.spare in
     omega (arith, room, spare)
 
 pub take_back-requires-clause-room_of_lists : goal.take_back-requires-clause-room_of_lists
 take_back-requires-clause-room_of_lists g c =
-    let none = ap (λ l. length l) c.requires.no_list in
-    let len = c.args.lists.ok.0 in
-    let room = c.requires.room_of_lists in
+    let none = ap (λ l. length l) c.requires.room.no_list in
+    let len = c.args.room.lists.ok.0 in
+    let room = c.requires.room.lists in
     omega (arith, none, len, room)
 
 pub close-requires : goal.close-requires
 close-requires g c =
     let is : c.take_back.new.passes.items ≡ c.args.first ∷ passes_of c.args.workers.items =
     c.take_back.ensures.passes ∙ ap (λ l. l ++ passes_of c.args.workers.items)
-    (c.push.ensures.items ∙ ap (λ l. l ++ c.args.first ∷ []) c.requires.no_pass) in
+    (c.push.ensures.items ∙ ap (λ l. l ++ c.args.first ∷ []) c.requires.room.no_pass) in
     subst (λ ps. IsWhole c.args.yard ps) (sym is) c.requires.whole
 
 pub gather_all-drives-requires-clause-two : goal.gather_all-drives-requires-clause-two
 gather_all-drives-requires-clause-two g c =
-    subst (λ l. AreTwo (vec_capacity c.args.back) l)
-    (sym (c.take_back.ensures.lists ∙ ap (λ l. l ++ lists_of c.args.workers.items) c.requires.no_list)) c.requires.two
+    subst (λ l. AreTwo (vec_capacity c.args.room.back) l)
+    (sym (c.take_back.ensures.lists ∙ ap (λ l. l ++ lists_of c.args.workers.items) c.requires.room.no_list)) c.requires.two
 
 pub returns-clause-mesh : goal.returns-clause-mesh
 returns-clause-mesh g c =
     let is : c.take_back.new.passes.items ≡ c.args.first ∷ passes_of c.args.workers.items =
     c.take_back.ensures.passes ∙ ap (λ l. l ++ passes_of c.args.workers.items)
-    (c.push.ensures.items ∙ ap (λ l. l ++ c.args.first ∷ []) c.requires.no_pass) in
+    (c.push.ensures.items ∙ ap (λ l. l ++ c.args.first ∷ []) c.requires.room.no_pass) in
     subst (λ ps. EndsYard c.args.yard ps c.in-Ok.mesh) is c.in-Ok.ensures.ok
 
 pub returns-clause-drives : goal.returns-clause-drives
 returns-clause-drives g c =
     c.gather_all-drives.ensures
     ∙ ap (λ l. gathered_of l)
-    (c.take_back.ensures.lists ∙ ap (λ l. l ++ lists_of c.args.workers.items) c.requires.no_list)
+    (c.take_back.ensures.lists ∙ ap (λ l. l ++ lists_of c.args.workers.items) c.requires.room.no_list)
 
 pub returns-clause-ended : goal.returns-clause-ended
 returns-clause-ended g c =

@@ -1,5 +1,6 @@
 use Rattle.std.proofs.Common.{◌+◌, ap, arith, length, subst, sym}
 use Rattle.std.proofs.lemmas.List.{length-append}
+use Rattle.geo_lock.proofs.Prefixes.{prefix_trans}
 use Rattle.geo_serve.specs.Drives.{drive_view}
 use Rattle.geo_threads.specs.Started.{AreStarted, IsFirst, others}
 use Rattle.geo_threads.proofs.Starting.{others_started, started_append}
@@ -34,3 +35,9 @@ returns-clause-started g c drives evens odds fit_even fit_odd =
     subst (λ l. AreStarted y lanes seen actors drives 1 l) (sym c.start_others.ensures.items)
     (started_append y lanes seen actors drives 1 ws more (c.start_clients.ensures.started drives)
     (subst (λ n. AreStarted y lanes seen actors drives (1 + n) more) (sym c.start_clients.ensures.count) behind))
+
+pub returns-clause-begins : goal.returns-clause-begins
+returns-clause-begins g c =
+    prefix_trans c.args.workers.now.items c.start_clients.new.workers.items c.start_others.new.workers.items
+    c.start_clients.ensures.begins
+    (others c.start_clients.new.first c.passes_of-passes.result c.args.even c.args.odd, sym c.start_others.ensures.items)

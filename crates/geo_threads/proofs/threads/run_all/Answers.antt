@@ -11,8 +11,8 @@ run_jobs-requires-clause-ready g c i d lt = search (rules, ready_each)
 pub returns : goal.returns
 returns g c =
     let new = c.run_jobs.new.workers in
-    let old = c.args.workers.now.items in
+    let old = c.args.workers.items in
     let R = WorkerRan c.args.yard.now c.args.lanes.now (drive_view g.D.Disk.view) in
     let ran : AllZip R old new = search rules in
     let long : length new ≡ length old = search rules in
-    subst (λ l. AllZip R old l) (sym (written new old c.args.workers.now.len long (search rules))) ran
+    subst (λ l. AllZip R old l) (sym (written new old c.args.workers.len long (search rules))) ran

@@ -1,97 +1,110 @@
-use Rattle.std.proofs.Common.{arith, subst, sym, vec_capacity}
-use Rattle.std.proofs.lemmas.Slice.Zip.{AllZip-long}
+use Rattle.std.proofs.Common.{◌∷◌, ◌∙◌, ap, arith, subst, sym, vec_capacity}
+use Rattle.geo_lock.specs.Yard.{IsWhole}
 use Rattle.geo_serve.specs.Drives.{drive_view}
-use Rattle.geo_work.specs.Drives.{HasDrives}
-use Rattle.geo_threads.proofs.Drives.{dealt_fit}
+use Rattle.geo_threads.specs.Closing.{EndsYard}
+use Rattle.geo_threads.specs.Deal.{AreTwo, gathered_of}
 use Rattle.geo_threads.proofs.Leaving.{threads_ran}
-use Rattle.geo_threads.proofs.Running.{all_ended, few_drives, is_first, ready_all}
+use Rattle.geo_threads.proofs.Running.{crew_ended, few_drives, first_listing, is_first, ready_all}
+use Rattle.geo_threads.proofs.Viewing.{as_many, ends_alike, looks_meet, nobody_looks, ran_view}
 use Rattle.geo_threads.proofs.threads.run_in_yard.Goals as goal
 
-pub deal-requires-clause-few : goal.deal-requires-clause-few
-deal-requires-clause-few g c =
-    let few =
-    few_drives c.args.yard (drive_view g.D.Disk.view) c.args.drives.items c.requires.history c.requires.fit in
-    let len = c.args.drives.ok.0 in
-    omega (arith, few, len)
-
-pub start-requires-clause-few : goal.start-requires-clause-few
-start-requires-clause-few g c =
+pub start_all-requires-clause-few : goal.start_all-requires-clause-few
+start_all-requires-clause-few g c =
     let few = c.requires.history.plan.few_actors in
     let is = c.requires.actors in
     omega (arith, few, is)
 
-pub start-requires-clause-first : goal.start-requires-clause-first
-start-requires-clause-first g c = is_first c.args.yard c.args.first c.requires.first
+pub start_all-requires-clause-few_drives : goal.start_all-requires-clause-few_drives
+start_all-requires-clause-few_drives g c =
+    let few =
+    few_drives c.args.yard (drive_view g.D.Disk.view) c.args.given.drives.items c.requires.history c.requires.fit in
+    let len = c.args.given.drives.ok.0 in
+    omega (arith, few, len)
 
-pub run_all-requires-clause-some : goal.run_all-requires-clause-some
-run_all-requires-clause-some g c = let long = c.start.ensures.count in omega (arith, long)
+pub start_all-requires-clause-first : goal.start_all-requires-clause-first
+start_all-requires-clause-first g c = is_first c.args.yard c.args.first c.requires.first
 
-pub run_all-requires-clause-ready : goal.run_all-requires-clause-ready
-run_all-requires-clause-ready g c _ _ =
-    let y = c.args.yard in
-    let seen = drive_view g.D.Disk.view in
-    let drives = c.args.drives.items in
-    let fit = dealt_fit y.start.facts seen drives c.requires.fit in
-    ready_all y c.args.room.lanes seen c.args.actors drives 1 c.start.new.workers.items
-    (c.start.ensures.started drives c.deal.ensures.even c.deal.ensures.odd
-    (subst (λ l. HasDrives y.start.facts seen l) (sym c.deal.ensures.even) (fit 0))
-    (subst (λ l. HasDrives y.start.facts seen l) (sym c.deal.ensures.odd) (fit 1)))
+pub start_all-requires-clause-shown : goal.start_all-requires-clause-shown
+start_all-requires-clause-shown g c =
+    first_listing c.args.yard c.args.first c.requires.first c.args.given.shown c.requires.shown
+
+pub run_watched-crew-requires-clause-some : goal.run_watched-crew-requires-clause-some
+run_watched-crew-requires-clause-some g c = let long = c.in-Ok.ensures.ok.many in omega (arith, long)
+
+pub run_watched-crew-requires-clause-ready : goal.run_watched-crew-requires-clause-ready
+run_watched-crew-requires-clause-ready g c _ _ =
+    ready_all c.args.yard c.args.room.lanes (drive_view g.D.Disk.view) c.args.actors c.args.given.drives.items 1
+    c.in-Ok.crew.workers.items c.in-Ok.ensures.ok.started
+
+pub look_last-seen-requires : goal.look_last-seen-requires
+look_last-seen-requires g c =
+    let crew = c.in-Ok.crew in
+    let after = c.run_watched-crew.result in
+    let ran = c.run_watched-crew.ensures in
+    looks_meet crew.watcher after.watcher c.take_publisher-publisher.result crew.workers.items after.workers.items
+    c.in-Ok.ensures.ok.looks ran.view
+    (ran_view c.args.yard c.args.room.lanes (drive_view g.D.Disk.view) crew.workers.items after.workers.items ran.ran)
+    c.take_publisher-publisher.ensures.view
 
 pub close_all-requires-clause-whole : goal.close_all-requires-clause-whole
 close_all-requires-clause-whole g c =
-    let y = c.args.yard in
-    let seen = drive_view g.D.Disk.view in
-    let drives = c.args.drives.items in
-    let fit = dealt_fit y.start.facts seen drives c.requires.fit in
-    (all_ended y c.args.room.lanes seen drives c.args.actors c.start.new.first c.start.new.workers.items
-    c.run_all.new.workers.items c.requires.actors c.start.ensures.first
-    (c.start.ensures.started drives c.deal.ensures.even c.deal.ensures.odd
-    (subst (λ l. HasDrives y.start.facts seen l) (sym c.deal.ensures.even) (fit 0))
-    (subst (λ l. HasDrives y.start.facts seen l) (sym c.deal.ensures.odd) (fit 1)))
-    c.start.ensures.count c.run_all.ensures).whole
+    let all =
+    crew_ended c.args.yard c.args.room.lanes (drive_view g.D.Disk.view) c.args.given.drives.items c.args.actors
+    c.start_all.new.first c.in-Ok.crew c.run_watched-crew.result c.requires.actors c.in-Ok.ensures.ok
+    c.run_watched-crew.ensures.ran in
+    subst (λ ps. IsWhole c.args.yard (c.start_all.new.first ∷ ps)) (sym c.take_publisher-publisher.ensures.passes)
+    all.whole
 
 pub close_all-requires-clause-two : goal.close_all-requires-clause-two
 close_all-requires-clause-two g c =
-    let y = c.args.yard in
-    let seen = drive_view g.D.Disk.view in
-    let drives = c.args.drives.items in
-    let fit = dealt_fit y.start.facts seen drives c.requires.fit in
     let back = c.requires.room.back in
-    let len = c.args.drives.ok.0 in
-    (all_ended y c.args.room.lanes seen drives c.args.actors c.start.new.first c.start.new.workers.items
-    c.run_all.new.workers.items c.requires.actors c.start.ensures.first
-    (c.start.ensures.started drives c.deal.ensures.even c.deal.ensures.odd
-    (subst (λ l. HasDrives y.start.facts seen l) (sym c.deal.ensures.even) (fit 0))
-    (subst (λ l. HasDrives y.start.facts seen l) (sym c.deal.ensures.odd) (fit 1)))
-    c.start.ensures.count c.run_all.ensures).two (vec_capacity c.args.room.back) (omega (arith, back, len))
+    let len = c.args.given.drives.ok.0 in
+    let all =
+    crew_ended c.args.yard c.args.room.lanes (drive_view g.D.Disk.view) c.args.given.drives.items c.args.actors
+    c.start_all.new.first c.in-Ok.crew c.run_watched-crew.result c.requires.actors c.in-Ok.ensures.ok
+    c.run_watched-crew.ensures.ran in
+    subst (λ l. AreTwo (vec_capacity c.args.room.comes.back) l) (sym c.take_publisher-publisher.ensures.lists)
+    (all.two (vec_capacity c.args.room.comes.back) (omega (arith, back, len)))
 
 pub close_all-requires-clause-room : goal.close_all-requires-clause-room
 close_all-requires-clause-room g c =
-    let room = c.requires.room.passes in
-    let long = c.start.ensures.count in
-    let same = AllZip-long _ c.start.new.workers.items c.run_all.new.workers.items c.run_all.ensures in
-    omega (arith, room, long, same)
-
-pub close_all-requires-clause-room_of_lists : goal.close_all-requires-clause-room_of_lists
-close_all-requires-clause-room_of_lists g c =
-    let room = c.requires.room.lists in
-    let long = c.start.ensures.count in
-    let same = AllZip-long _ c.start.new.workers.items c.run_all.new.workers.items c.run_all.ensures in
-    omega (arith, room, long, same)
-
-pub returns : goal.returns
-returns g c =
-    let y = c.args.yard in
-    let seen = drive_view g.D.Disk.view in
-    let drives = c.args.drives.items in
-    let fit = dealt_fit y.start.facts seen drives c.requires.fit in
+    let room = c.requires.room.comes in
+    let passes = room.passes in
+    let lists = room.lists in
+    let is = c.requires.actors in
     let all =
-    all_ended y c.args.room.lanes seen drives c.args.actors c.start.new.first c.start.new.workers.items
-    c.run_all.new.workers.items c.requires.actors c.start.ensures.first
-    (c.start.ensures.started drives c.deal.ensures.even c.deal.ensures.odd
-    (subst (λ l. HasDrives y.start.facts seen l) (sym c.deal.ensures.even) (fit 0))
-    (subst (λ l. HasDrives y.start.facts seen l) (sym c.deal.ensures.odd) (fit 1)))
-    c.start.ensures.count c.run_all.ensures in
-    threads_ran y seen drives c.close_all.result.drives.items c.start.new.first c.run_all.new.workers.items
-    c.close_all.result.mesh c.close_all.result.ended c.requires.fit c.start.ensures.first.own all.ended all.many
-    c.close_all.ensures.mesh c.close_all.ensures.drives c.close_all.ensures.ended
+    crew_ended c.args.yard c.args.room.lanes (drive_view g.D.Disk.view) c.args.given.drives.items c.args.actors
+    c.start_all.new.first c.in-Ok.crew c.run_watched-crew.result c.requires.actors c.in-Ok.ensures.ok
+    c.run_watched-crew.ensures.ran in
+    let long = all.many in
+    let same =
+    as_many c.run_watched-crew.result.workers.items c.take_publisher-publisher.new.workers.items
+    c.take_publisher-publisher.ensures.answers in
+    record {
+      no_pass = room.no_pass;
+      passes = omega (arith, passes, is, long, same);
+      no_list = room.no_list;
+      lists = omega (arith, lists, is, long, same);
+      no_drive = room.no_drive;
+    }
+
+pub returns-in-Ok-clause-ok : goal.returns-in-Ok-clause-ok
+returns-in-Ok-clause-ok g c =
+    let y = c.args.yard in
+    let first = c.start_all.new.first in
+    let after = c.run_watched-crew.result.workers.items in
+    let home = c.take_publisher-publisher.new.workers.items in
+    let taken = c.take_publisher-publisher.ensures in
+    let end = c.close_all.ensures in
+    let all =
+    crew_ended y c.args.room.lanes (drive_view g.D.Disk.view) c.args.given.drives.items c.args.actors first
+    c.in-Ok.crew c.run_watched-crew.result c.requires.actors c.in-Ok.ensures.ok c.run_watched-crew.ensures.ran in
+    threads_ran y (drive_view g.D.Disk.view) c.args.given.drives.items c.close_all.result.drives.items first after
+    c.close_all.result.mesh c.close_all.result.ended c.requires.fit c.in-Ok.ensures.ok.first_is.own all.ended all.many
+    (subst (λ ps. EndsYard y (first ∷ ps) c.close_all.result.mesh) taken.passes end.mesh)
+    (end.drives ∙ ap (λ l. gathered_of l) taken.lists) (ends_alike after home taken.answers c.close_all.result.ended end.ended)
+
+pub returns-in-Ok-clause-unseen : goal.returns-in-Ok-clause-unseen
+returns-in-Ok-clause-unseen g c none =
+    c.close_all.ensures.seen ∙ c.look_last-seen.ensures (nobody_looks c.in-Ok.crew.watcher
+    c.run_watched-crew.result.watcher c.run_watched-crew.ensures.view (c.in-Ok.ensures.unseen none))
