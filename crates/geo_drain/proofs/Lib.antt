@@ -3,3 +3,4 @@ pub mod Going
 pub mod Noting
 pub mod Full
 pub mod Lines
+pub mod Waiting

@@ -11,12 +11,12 @@ abbrev pub has_bio : ℕ → List Waiting → Bool
 has_bio bio xs = list_any (λ x. x.bio == bio) xs
 
 -- what stands before the first FLUSH, by whether that is the first of all
-front_at : (b : Bool) (x : Waiting) (xs : List Waiting) → x.flush ≡ b
+pub front_at : (b : Bool) (x : Waiting) (xs : List Waiting) → x.flush ≡ b
     → before_flush (x ∷ xs) ≡ (if b then [] else x ∷ before_flush xs)
 front_at b x xs e = ap (λ (c : Bool). if c then [] else x ∷ before_flush xs) e
 
 -- what may be taken next, by whether a FLUSH stands in front
-next_at : (b : Bool) (x : Waiting) (xs : List Waiting) → x.flush ≡ b
+pub next_at : (b : Bool) (x : Waiting) (xs : List Waiting) → x.flush ≡ b
     → candidates (x ∷ xs) ≡ (if b then x ∷ [] else x ∷ before_flush xs)
 next_at b x xs e = ap (λ (c : Bool). if c then x ∷ [] else x ∷ before_flush xs) e
 
@@ -137,23 +137,6 @@ pub candidates_joined : (xs : List Waiting) (y : Waiting)
 candidates_joined [] y = alone_joins y.flush y refl
 candidates_joined (x ∷ xs) y = first_joins x.flush (is_open (x ∷ xs) && not y.flush) x y xs refl refl
 
--- by whether the first is a FLUSH
-open_by : (b : Bool) (x y : Waiting) (xs : List Waiting) → x.flush ≡ b
-    → is_open (xs ++ y ∷ []) ≡ (is_open xs && not y.flush)
-    → is_open (x ∷ xs ++ y ∷ []) ≡ (is_open (x ∷ xs) && not y.flush)
-open_by true x y xs e rest = rw e refl
-open_by false x y xs e rest = rw e rest
-
--- with true behind
-and_true : (b : Bool) → (b && true) ≡ b
-and_true true = refl
-and_true false = refl
-
--- whether a FLUSH waits then
-pub open_joined : (xs : List Waiting) (y : Waiting) → is_open (xs ++ y ∷ []) ≡ (is_open xs && not y.flush)
-open_joined [] y = and_true (not y.flush)
-open_joined (x ∷ xs) y = open_by x.flush x y xs refl (open_joined xs y)
-
 -- where some stand before the first FLUSH, these may be taken next
 some_by : (b : Bool) (x : Waiting) (xs : List Waiting) → x.flush ≡ b → is_none_of (before_flush (x ∷ xs)) ≡ false
     → candidates (x ∷ xs) ≡ before_flush (x ∷ xs)
@@ -167,29 +150,20 @@ front_some (x ∷ xs) some = some_by x.flush x xs refl some
 
 -- One less
 
--- what may be taken next without a bio that stands before the first FLUSH
-pub record Taken (bio : ℕ) (xs next left : List Waiting) : Type 0 where
-  pub others : left ≡ without bio next
-  pub still : is_open (without bio xs) ≡ is_open xs
-
 module _ (bio : ℕ) where
   -- the first is the bio
-  gone : (x : Waiting) (xs : List Waiting) → (x.bio == bio) ≡ true → without bio (x ∷ xs) ≡ without bio xs
+  pub gone : (x : Waiting) (xs : List Waiting) → (x.bio == bio) ≡ true → without bio (x ∷ xs) ≡ without bio xs
   gone x xs f = ap (λ (c : Bool). if not c then x ∷ without bio xs else without bio xs) f
 
   -- it is another
-  kept : (x : Waiting) (xs : List Waiting) → (x.bio == bio) ≡ false → without bio (x ∷ xs) ≡ x ∷ without bio xs
+  pub kept : (x : Waiting) (xs : List Waiting) → (x.bio == bio) ≡ false → without bio (x ∷ xs) ≡ x ∷ without bio xs
   kept x xs f = ap (λ (c : Bool). if not c then x ∷ without bio xs else without bio xs) f
-
-  -- the first is no FLUSH
-  open_at : (x : Waiting) (xs : List Waiting) → x.flush ≡ false → is_open (x ∷ xs) ≡ is_open xs
-  open_at x xs e = ap (λ (c : Bool). not c && is_open xs) e
 
   -- by whether the first is a FLUSH, and the one that is taken
   one_before : (b c : Bool) (x : Waiting) (xs : List Waiting) → x.flush ≡ b → (x.bio == bio) ≡ c
       → Rises (x.bio + 1) xs → has_bio bio (before_flush (x ∷ xs)) ≡ true
-      → (has_bio bio (before_flush xs) ≡ true → Taken bio xs (before_flush xs) (before_flush (without bio xs)))
-      → Taken bio (x ∷ xs) (before_flush (x ∷ xs)) (before_flush (without bio (x ∷ xs)))
+      → (has_bio bio (before_flush xs) ≡ true → before_flush (without bio xs) ≡ without bio (before_flush xs))
+      → before_flush (without bio (x ∷ xs)) ≡ without bio (before_flush (x ∷ xs))
   one_before true c x xs e f rise has rest =
       absurd (let no : false ≡ true = rw e at has in let bad : ⊥ = cc in bad)
   one_before false true x xs e f rise has rest =
@@ -197,23 +171,16 @@ module _ (bio : ℕ) where
       let all : without bio xs ≡ xs = absent_stays bio (x.bio + 1) xs rise number in
       let some : without bio (before_flush xs) ≡ before_flush xs =
       absent_stays bio (x.bio + 1) (before_flush xs) (front_rises (x.bio + 1) xs rise) number in
-      record {
-        others = ap (λ ys. before_flush ys) (gone x xs f ∙ all)
-            ∙ sym (ap (λ ys. without bio ys) (front_at false x xs e) ∙ gone x (before_flush xs) f ∙ some);
-        still = ap (λ ys. is_open ys) (gone x xs f ∙ all) ∙ sym (open_at x xs e);
-      }
+      ap (λ ys. before_flush ys) (gone x xs f ∙ all)
+      ∙ sym (ap (λ ys. without bio ys) (front_at false x xs e) ∙ gone x (before_flush xs) f ∙ some)
   one_before false false x xs e f rise has rest =
-      let less = rest (rw (e, f) at has) in
-      record {
-        others = ap (λ ys. before_flush ys) (kept x xs f) ∙ front_at false x (without bio xs) e
-            ∙ ap (λ ys. x ∷ ys) less.others
-            ∙ sym (ap (λ ys. without bio ys) (front_at false x xs e) ∙ kept x (before_flush xs) f);
-        still = ap (λ ys. is_open ys) (kept x xs f) ∙ open_at x (without bio xs) e ∙ less.still ∙ sym (open_at x xs e);
-      }
+      ap (λ ys. before_flush ys) (kept x xs f) ∙ front_at false x (without bio xs) e
+      ∙ ap (λ ys. x ∷ ys) (rest (rw (e, f) at has))
+      ∙ sym (ap (λ ys. without bio ys) (front_at false x xs e) ∙ kept x (before_flush xs) f)
 
   -- so in the whole list
   before_taken : (low : ℕ) (xs : List Waiting) → Rises low xs → has_bio bio (before_flush xs) ≡ true
-      → Taken bio xs (before_flush xs) (before_flush (without bio xs))
+      → before_flush (without bio xs) ≡ without bio (before_flush xs)
   before_taken low [] rise has = absurd (let bad : ⊥ = cc in bad)
   before_taken low (x ∷ xs) rise has =
       one_before x.flush (x.bio == bio) x xs refl refl rise.2 has (before_taken (x.bio + 1) xs rise.2)
@@ -222,7 +189,7 @@ module _ (bio : ℕ) where
   one_taken : (b c : Bool) (x : Waiting) (xs : List Waiting) → x.flush ≡ b → (x.bio == bio) ≡ c
       → Rises (x.bio + 1) xs → has_bio bio (candidates (x ∷ xs)) ≡ true
       → is_none_of (without bio (candidates (x ∷ xs))) ≡ false
-      → Taken bio (x ∷ xs) (candidates (x ∷ xs)) (candidates (without bio (x ∷ xs)))
+      → candidates (without bio (x ∷ xs)) ≡ without bio (candidates (x ∷ xs))
   one_taken true true x xs e f rise has some =
       absurd (let no : true ≡ false = rw (e, f) at some in let bad : ⊥ = cc in bad)
   one_taken true false x xs e f rise has some =
@@ -233,24 +200,17 @@ module _ (bio : ℕ) where
       let front : without bio (before_flush xs) ≡ before_flush xs =
       absent_stays bio (x.bio + 1) (before_flush xs) (front_rises (x.bio + 1) xs rise) number in
       let left : is_none_of (without bio (before_flush xs)) ≡ false = rw (e, f) at some in
-      record {
-        others = ap (λ ys. candidates ys) (gone x xs f ∙ all) ∙ front_some xs (rw front at left)
-            ∙ sym (ap (λ ys. without bio ys) (next_at false x xs e) ∙ gone x (before_flush xs) f ∙ front);
-        still = ap (λ ys. is_open ys) (gone x xs f ∙ all) ∙ sym (open_at x xs e);
-      }
+      ap (λ ys. candidates ys) (gone x xs f ∙ all) ∙ front_some xs (rw front at left)
+      ∙ sym (ap (λ ys. without bio ys) (next_at false x xs e) ∙ gone x (before_flush xs) f ∙ front)
   one_taken false false x xs e f rise has some =
-      let less = before_taken (x.bio + 1) xs rise (rw (e, f) at has) in
-      record {
-        others = ap (λ ys. candidates ys) (kept x xs f) ∙ next_at false x (without bio xs) e
-            ∙ ap (λ ys. x ∷ ys) less.others
-            ∙ sym (ap (λ ys. without bio ys) (next_at false x xs e) ∙ kept x (before_flush xs) f);
-        still = ap (λ ys. is_open ys) (kept x xs f) ∙ open_at x (without bio xs) e ∙ less.still ∙ sym (open_at x xs e);
-      }
+      ap (λ ys. candidates ys) (kept x xs f) ∙ next_at false x (without bio xs) e
+      ∙ ap (λ ys. x ∷ ys) (before_taken (x.bio + 1) xs rise (rw (e, f) at has))
+      ∙ sym (ap (λ ys. without bio ys) (next_at false x xs e) ∙ kept x (before_flush xs) f)
 
-  -- a bio is taken from some, and others are left of them
+  -- what may be taken next without a bio, of which others are left
   pub one_less : (low : ℕ) (xs : List Waiting) → Rises low xs → has_bio bio (candidates xs) ≡ true
       → is_none_of (without bio (candidates xs)) ≡ false
-      → Taken bio xs (candidates xs) (candidates (without bio xs))
+      → candidates (without bio xs) ≡ without bio (candidates xs)
   one_less low [] rise has some = absurd (let bad : ⊥ = cc in bad)
   one_less low (x ∷ xs) rise has some = one_taken x.flush (x.bio == bio) x xs refl refl rise.2 has some
 
@@ -265,14 +225,3 @@ module _ (bio : ℕ) where
   without_rises low [] rise = tt
   without_rises low (x ∷ xs) rise =
       rise_by (x.bio == bio) low x xs refl rise.0 rise.1 (without_rises (x.bio + 1) xs rise.2)
-
--- by whether the first is a FLUSH
-alone_by : (b : Bool) (x : Waiting) (xs : List Waiting) → x.flush ≡ b → is_none_of (before_flush (x ∷ xs)) ≡ true
-    → candidates (x ∷ xs) ≡ x ∷ []
-alone_by true x xs e none = next_at true x xs e
-alone_by false x xs e none = absurd (let no : false ≡ true = rw e at none in let bad : ⊥ = cc in bad)
-
--- where none stands before the first FLUSH, that one alone may be taken next
-pub front_alone : (x : Waiting) (xs : List Waiting) → is_none_of (before_flush (x ∷ xs)) ≡ true
-    → candidates (x ∷ xs) ≡ x ∷ []
-front_alone x xs none = alone_by x.flush x xs refl none

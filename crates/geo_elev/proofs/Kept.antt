@@ -1,12 +1,185 @@
 -- What the lists keep, as one more waits and as one less does.
-use Rattle.std.specs.Prelude.{◌≡◌, ℕ, ◌+◌, ◌^◌, ◌<◌, ◌≤◌, ◌==◌, nat_lt, Bool, true, false, not, ◌&&◌, ◌||◌, List, [], ◌∷◌, ◌++◌, Some, slice_get}
-use Rattle.std.proofs.Common.{refl, sym, ◌∙◌, ap, subst, arith}
-use Rattle.std.proofs.lemmas.Bool.{ltb-true}
-use Rattle.geo_headline.specs.Sweep.{Waiting, before_flush, candidates}
+use Rattle.std.specs.Prelude.{◌≡◌, ℕ, ◌+◌, ◌*◌, ◌%◌, ◌^◌, ◌<◌, ◌≤◌, ◌==◌, nat_lt, Bool, true, false, not, ◌&&◌, ◌||◌, List, [], ◌∷◌, ◌++◌, length, Option, Some, None, option_map, Result, Ok, Err, OnOk}
+use Rattle.std.specs.List.{list_all}
+use Rattle.std.specs.Ordering.{nat_cmp}
+use Rattle.std.specs.BTreeMap.{is_at}
+use Rattle.std.specs.BTreeSet.{insert_key}
+use Rattle.std.specs.Set.{remove_key}
+use Rattle.std.proofs.Common.{append-nil, append_assoc, length-append, refl, sym, ◌∙◌, ap, subst, arith}
+use Rattle.std.proofs.lemmas.Bool.{and_parts, eqb-true, lt-ltb, ltb-true, not-true}
+use Rattle.std.proofs.lemmas.List.Elements.{filter-append}
+use Rattle.std.proofs.lemmas.List.Folds.{list_all-append}
+use Rattle.std.proofs.lemmas.Nat.{mod-mul-add}
+use Rattle.geo_headline.specs.Sweep.{Waiting, before_flush, candidates, next_of}
 use Rattle.geo_elev.specs.declared.lists.Place.{Place}
-use Rattle.geo_elev.specs.Lists.{AreLists, HasKeys, Rises, are_below, has_key, is_kept, is_none_of, is_open, joins, key_of, waiting_at, waiting_in, without}
-use Rattle.geo_elev.proofs.Candidates.{Taken, candidates_joined, candidates_rise, front_alone, front_some, joined, one_less, open_joined, without_rises}
-use Rattle.geo_elev.proofs.Keys.{has_joined, has_less, key_is_bio, none_kept}
+use Rattle.geo_elev.specs.Lists.{AreLists, HasKeys, IsNextKey, Rises, all_waiting, are_below, at_key, is_kept, is_none_of, is_open, joins, key_of, listed, waiting_at, waiting_in, without}
+use Rattle.geo_elev.proofs.Candidates.{absent_stays, candidates_joined, front_at, gone, has_bio, joined, kept, next_at, one_less, wider, without_rises}
+use Rattle.geo_elev.proofs.Keys.{next_ahead, next_least}
+use Rattle.geo_elev.proofs.Listed.{among_listed, at_own, listed_below, listed_keys, listed_less, listed_more, listed_open, none_listed, open_listed}
+
+-- What went well
+
+-- by what holds where it does
+pub then_ok : {T E A B : Type 0} (r : Result T E) → OnOk r A → (A → B) → OnOk r B
+then_ok (Ok x) is gives = gives is
+then_ok (Err e) is gives = tt
+
+-- so by two
+pub both_ok : {T E A B C : Type 0} (r : Result T E) → OnOk r A → OnOk r B → (A → B → C) → OnOk r C
+both_ok (Ok x) is also gives = gives is also
+both_ok (Err e) is also gives = tt
+
+-- Lists of what waits
+
+-- there are some where one is at their end
+some_behind : (xs : List Waiting) (y : Waiting) (ys : List Waiting) → is_none_of (xs ++ y ∷ ys) ≡ false
+some_behind [] y ys = refl
+some_behind (x ∷ xs) y ys = refl
+
+-- they are fewer than with more behind
+not_longer : (xs : List Waiting) (y : Waiting) (ys : List Waiting) → xs ≡ xs ++ y ∷ ys → ⊥
+not_longer xs y ys same =
+    let longer : length xs ≡ length xs + length (y ∷ ys) =
+    ap (λ (zs : List Waiting). length zs) same ∙ length-append xs (y ∷ ys) in
+    let one : length (y ∷ ys) ≡ length ys + 1 = omega arith in
+    omega (arith, longer, one)
+
+-- numbers that rise in a whole list rise in its first part
+rises_front : (low : ℕ) (xs ys : List Waiting) → Rises low (xs ++ ys) → Rises low xs
+rises_front low [] ys rise = tt
+rises_front low (x ∷ xs) ys rise = (rise.0, rise.1, rises_front (x.bio + 1) xs ys rise.2)
+
+-- and in the rest
+rises_back : (low : ℕ) (xs ys : List Waiting) → Rises low (xs ++ ys) → Rises low ys
+rises_back low [] ys rise = rise
+rises_back low (x ∷ xs) ys rise =
+    wider low (x.bio + 1) ys (rises_back (x.bio + 1) xs ys rise.2) (let least = rise.0 in omega (arith, least))
+
+-- what stands in front of one has smaller numbers
+front_below : (low : ℕ) (xs : List Waiting) (y : Waiting) (ys : List Waiting) → Rises low (xs ++ y ∷ ys)
+    → (low ≤ y.bio) × (are_below y.bio xs ≡ true)
+front_below low [] y ys rise = (rise.0, refl)
+front_below low (x ∷ xs) y ys rise =
+    let rest = front_below (x.bio + 1) xs y ys rise.2 in
+    let more = rest.0 in
+    let least = rise.0 in (
+      omega (arith, more, least),
+      ap (λ (c : Bool). c && are_below y.bio xs) (lt-ltb x.bio y.bio (omega (arith, more))) ∙ rest.1,
+    )
+
+-- what stands in front isn't behind
+without_behind : (bio low : ℕ) (xs ys : List Waiting) → Rises low (xs ++ ys) → has_bio bio xs ≡ true → without bio ys ≡ ys
+without_behind bio low [] ys rise has = absurd (let bad : ⊥ = cc in bad)
+without_behind bio low (x ∷ xs) ys rise has =
+    by (x.bio == bio) refl (without_behind bio (x.bio + 1) xs ys rise.2)
+  where
+    by : (b : Bool) → (x.bio == bio) ≡ b → (has_bio bio xs ≡ true → without bio ys ≡ ys) → without bio ys ≡ ys
+    by true e rest =
+        let same = eqb-true x.bio bio e in
+        absent_stays bio (x.bio + 1) ys (rises_back (x.bio + 1) xs ys rise.2) (omega (arith, same))
+    by false e rest = rest (sym (ap (λ (c : Bool). c || has_bio bio xs) e) ∙ has)
+
+-- all are below a greater number too
+below_wider : (a b : ℕ) (xs : List Waiting) → a ≤ b → are_below a xs ≡ true → are_below b xs ≡ true
+below_wider a b [] most below = refl
+below_wider a b (x ∷ xs) most below =
+    let both = and_parts (nat_lt x.bio a) (are_below a xs) below in
+    let less = ltb-true x.bio a both.0 in
+    ap (λ (c : Bool). c && are_below b xs) (lt-ltb x.bio b (omega (arith, less, most))) ∙ below_wider a b xs most both.1
+
+-- with one more
+below_joined : (b : ℕ) (xs : List Waiting) (y : Waiting) → are_below b xs ≡ true → y.bio < b
+    → are_below b (xs ++ y ∷ []) ≡ true
+below_joined b xs y below less =
+    list_all-append (λ x. nat_lt x.bio b) xs (y ∷ []) ∙ ap (λ (c : Bool). c && are_below b (y ∷ [])) below
+    ∙ ap (λ (c : Bool). c && true) (lt-ltb y.bio b less)
+
+-- and with one less
+below_without : (b bio : ℕ) (xs : List Waiting) → are_below b xs ≡ true → are_below b (without bio xs) ≡ true
+below_without b bio [] below = refl
+below_without b bio (x ∷ xs) below = by (x.bio == bio) refl (below_without b bio xs both.1)
+  where
+    both : (nat_lt x.bio b ≡ true) × (are_below b xs ≡ true)
+    both = and_parts (nat_lt x.bio b) (are_below b xs) below
+
+    by : (c : Bool) → (x.bio == bio) ≡ c → are_below b (without bio xs) ≡ true
+        → are_below b (without bio (x ∷ xs)) ≡ true
+    by true e rest = ap (are_below b) (gone bio x xs e) ∙ rest
+    by false e rest =
+        ap (are_below b) (kept bio x xs e) ∙ ap (λ (c : Bool). c && are_below b (without bio xs)) both.0 ∙ rest
+
+-- What may be taken next of a list in two parts
+
+-- where no FLUSH waits all may be
+open_front : (xs ys : List Waiting) → is_open xs ≡ true → before_flush ys ≡ [] → before_flush (xs ++ ys) ≡ xs
+open_front [] ys all end = end
+open_front (x ∷ xs) ys all end =
+    let both = and_parts (not x.flush) (is_open xs) all in
+    front_at false x (xs ++ ys) (not-true x.flush both.0) ∙ ap (λ zs. x ∷ zs) (open_front xs ys both.1 end)
+
+-- so are those that stand before the first one
+pub open_next : (xs ys : List Waiting) → is_none_of xs ≡ false → is_open xs ≡ true → before_flush ys ≡ []
+    → candidates (xs ++ ys) ≡ xs
+open_next [] ys some all end = absurd (let bad : ⊥ = cc in bad)
+open_next (x ∷ xs) ys some all end =
+    let both = and_parts (not x.flush) (is_open xs) all in
+    next_at false x (xs ++ ys) (not-true x.flush both.0) ∙ ap (λ zs. x ∷ zs) (open_front xs ys both.1 end)
+
+-- whether one more joins some
+joins_some : (xs : List Waiting) (flush : Bool) → is_none_of xs ≡ false → joins xs flush ≡ (is_open xs && not flush)
+joins_some [] flush some = absurd (let bad : ⊥ = cc in bad)
+joins_some (x ∷ xs) flush some = refl
+
+module _ (keys : List ℕ) (flush : Bool) where
+  -- it doesn't join them where some come behind
+  pub joins_later : (later : List (ℕ × Place)) (last : ℕ) (more : Bool) → AreLists keys flush later last
+      → is_none_of later ≡ false → false ≡ joins (all_waiting keys flush later) more
+  joins_later [] last more are some = absurd (let bad : ⊥ = cc in bad)
+  joins_later (e ∷ later) last more are some =
+      sym (joins_some all more (some_behind (listed flush keys) (waiting_at e) (waiting_in later))
+      ∙ ap (λ (c : Bool). c && not more) (shut (is_open all) refl))
+    where
+      all : List Waiting
+      all = all_waiting keys flush (e ∷ later)
+
+      all_next : (xs : List Waiting) → is_none_of xs ≡ false → is_open xs ≡ true → candidates xs ≡ xs
+      all_next xs are_some e = sym (ap candidates (append-nil xs)) ∙ open_next xs [] are_some e refl
+
+      shut : (b : Bool) → is_open all ≡ b → b ≡ false
+      shut true f =
+          absurd (not_longer (listed flush keys) (waiting_at e) (waiting_in later)
+          (sym are.next ∙ all_next all (some_behind (listed flush keys) (waiting_at e) (waiting_in later)) f))
+      shut false f = refl
+
+  -- where nothing waits it does
+  pub joins_none : (later : List (ℕ × Place)) (more : Bool) → is_none_of later ≡ true → is_none_of keys ≡ true
+      → true ≡ joins (all_waiting keys flush later) more
+  joins_none later more none empty = by later keys none empty
+    where
+      by : (es : List (ℕ × Place)) (ks : List ℕ) → is_none_of es ≡ true → is_none_of ks ≡ true
+          → true ≡ joins (all_waiting ks flush es) more
+      by [] [] no_more no_key = refl
+      by (e ∷ es) ks no_more no_key = absurd (let bad : ⊥ = cc in bad)
+      by [] (k ∷ ks) no_more no_key = absurd (let bad : ⊥ = cc in bad)
+
+  -- else it does where neither is a FLUSH
+  pub joins_front : (later : List (ℕ × Place)) (more : Bool) → is_none_of later ≡ true → is_none_of keys ≡ false
+      → not (flush || more) ≡ joins (all_waiting keys flush later) more
+  joins_front later more none some = by later keys none some
+    where
+      not_or : (a b : Bool) → not (a || b) ≡ (not a && not b)
+      not_or true b = refl
+      not_or false b = refl
+
+      by : (es : List (ℕ × Place)) (ks : List ℕ) → is_none_of es ≡ true → is_none_of ks ≡ false
+          → not (flush || more) ≡ joins (all_waiting ks flush es) more
+      by [] (k ∷ ks) no_more some_key =
+          not_or flush more
+          ∙ sym (ap (λ (xs : List Waiting). joins xs more) (append-nil (listed flush (k ∷ ks)))
+          ∙ joins_some (listed flush (k ∷ ks)) more (none_listed flush (k ∷ ks))
+          ∙ ap (λ (c : Bool). c && not more) (open_listed flush k ks))
+      by (e ∷ es) ks no_more some_key = absurd (let bad : ⊥ = cc in bad)
+      by [] [] no_more some_key = absurd (let bad : ⊥ = cc in bad)
 
 -- One more
 
@@ -15,105 +188,221 @@ rise_joined : (low : ℕ) (xs : List Waiting) (y : Waiting) → Rises low xs →
     → are_below y.bio xs ≡ true → Rises low (xs ++ y ∷ [])
 rise_joined low [] y rise high small below = (high, small, tt)
 rise_joined low (x ∷ xs) y rise high small below =
-    by (nat_lt x.bio y.bio) refl (λ more. rise_joined (x.bio + 1) xs y rise.2 more small)
-  where
-    by : (b : Bool) → nat_lt x.bio y.bio ≡ b
-        → (x.bio + 1 ≤ y.bio → are_below y.bio xs ≡ true → Rises (x.bio + 1) (xs ++ y ∷ []))
-        → Rises low (x ∷ xs ++ y ∷ [])
-    by true e rest =
-        let less = ltb-true x.bio y.bio e in
-        (rise.0, rise.1, rest (omega (arith, less)) (rw e at below))
-    by false e rest = absurd (let no : false ≡ true = rw e at below in let bad : ⊥ = cc in bad)
+    let both = and_parts (nat_lt x.bio y.bio) (are_below y.bio xs) below in
+    let less = ltb-true x.bio y.bio both.0 in
+    (rise.0, rise.1, rise_joined (x.bio + 1) xs y rise.2 (omega (arith, less)) small both.1)
 
--- whether one of them has the key, by whether it joins them
-key_joined : (b : Bool) (k : ℕ) (xs : List Waiting) (y : Waiting)
-    → has_key k (joined b xs y) ≡ (has_key k xs || (b && (key_of y == k)))
-key_joined true k xs y = has_joined k xs y
-key_joined false k xs y = or_false (has_key k xs)
-  where
-    or_false : (c : Bool) → c ≡ (c || false)
-    or_false true = refl
-    or_false false = refl
-
--- so the lists are kept
-pub lists_put : (es fs : List (ℕ × Place)) (keys more : List ℕ) (o b : Bool) (y : Waiting) → AreLists es keys o
-    → are_below y.bio (waiting_in es) ≡ true → y.bio < 2 ^ 64 → b ≡ joins (waiting_in es) y.flush
-    → waiting_in fs ≡ waiting_in es ++ y ∷ []
-    → ((k : ℕ) → is_kept k more ≡ (is_kept k keys || (b && (key_of y == k))))
-    → AreLists fs more (o && not y.flush)
-lists_put es fs keys more o b y are below small is_next put kept = record {
-  rises = subst (Rises 0) (sym put) (rise_joined 0 (waiting_in es) y are.rises (omega arith) small below);
-  front = λ k. kept k ∙ ap (λ c. c || (b && (key_of y == k))) (are.front k)
-      ∙ sym (ap (λ ws. has_key k (candidates ws)) put
-      ∙ ap (has_key k) (candidates_joined (waiting_in es) y
-      ∙ ap (λ c. joined c (candidates (waiting_in es)) y) (sym is_next))
-      ∙ key_joined b k (candidates (waiting_in es)) y);
-  is_open = ap (λ c. c && not y.flush) are.is_open ∙ sym (ap is_open put ∙ open_joined (waiting_in es) y);
-}
-
--- The first alone
-
--- where none stands before the first FLUSH
-pub first_alone : (es : List (ℕ × Place)) (e : ℕ × Place) → slice_get es 0 ≡ Some e
-    → is_none_of (before_flush (waiting_in es)) ≡ true → candidates (waiting_in es) ≡ waiting_at e ∷ []
-first_alone [] e here none = absurd (let bad : ⊥ = cc in bad)
-first_alone (d ∷ es) e here none =
-    let same : d ≡ e = cc in
-    front_alone (waiting_at d) (waiting_in es) none ∙ ap (λ x. waiting_at x ∷ []) same
-
--- its key alone is kept
-pub key_alone : (keys more : List ℕ) (xs : List Waiting) (y : Waiting) → is_none_of keys ≡ true → xs ≡ y ∷ []
-    → ((k : ℕ) → is_kept k more ≡ (is_kept k keys || (key_of y == k))) → HasKeys more xs
-key_alone [] more xs y none one kept k =
-    kept k ∙ or_false (key_of y == k) ∙ sym (ap (has_key k) one)
-  where
-    or_false : (c : Bool) → c ≡ (c || false)
-    or_false true = refl
-    or_false false = refl
-key_alone (n ∷ keys) more xs y none one kept k = absurd (let bad : ⊥ = cc in bad)
-
--- where nothing waits there is none to have a key
-pub none_alone : (keys : List ℕ) (es : List (ℕ × Place)) → is_none_of keys ≡ true → is_none_of es ≡ true
-    → HasKeys keys (candidates (waiting_in es))
-none_alone [] [] none empty k = refl
-none_alone (n ∷ keys) es none empty k = absurd (let bad : ⊥ = cc in bad)
-none_alone [] (e ∷ es) none empty k = absurd (let bad : ⊥ = cc in bad)
-
--- where some stand before the first FLUSH, their keys are those of what may be taken next
-pub keys_some : (keys : List ℕ) (xs : List Waiting) → HasKeys keys (before_flush xs) → is_none_of keys ≡ false
-    → HasKeys keys (candidates xs)
-keys_some keys xs has some =
-    subst (HasKeys keys) (sym (front_some xs (sym (none_kept keys (before_flush xs) has) ∙ some))) has
-
--- One less
-
--- the lists are kept, where others are left that may be taken next
-pub lists_taken : (es fs : List (ℕ × Place)) (keys left : List ℕ) (o : Bool) (y : Waiting) → AreLists es keys o
-    → y.bio < 2 ^ 64 → waiting_in fs ≡ without y.bio (waiting_in es) → is_kept (key_of y) keys ≡ true
-    → ((k : ℕ) → is_kept k left ≡ (is_kept k keys && not (key_of y == k))) → is_none_of left ≡ false
-    → AreLists fs left o
-lists_taken es fs keys left o y are small taken was kept some = record {
-  rises = subst (Rises 0) (sym taken) (without_rises y.bio 0 (waiting_in es) are.rises);
-  front = λ k. has_left k
-      ∙ sym (ap (λ ws. has_key k (candidates ws)) taken ∙ ap (has_key k) now_next.others);
-  is_open = are.is_open ∙ sym (ap is_open taken ∙ now_next.still);
+-- the lists, where they have one more
+lists_put : (keys more : List ℕ) (flush now : Bool) (later es : List (ℕ × Place)) (last : ℕ) (y : Waiting)
+    → AreLists keys flush later last → y.bio < 2 ^ 64 → are_below y.bio (all_waiting keys flush later) ≡ true
+    → all_waiting more now es ≡ all_waiting keys flush later ++ y ∷ []
+    → joined (joins (all_waiting keys flush later) y.flush) (listed flush keys) y ≡ listed now more
+    → AreLists more now es y.bio
+lists_put keys more flush now later es last y are small below put next = record {
+  rises = subst (Rises 0) (sym put) (rise_joined 0 ws y are.rises (omega arith) small below);
+  next = ap candidates put ∙ candidates_joined ws y ∙ ap (λ xs. joined (joins ws y.flush) xs y) are.next ∙ next;
+  below = ap (are_below (y.bio + 1)) put
+      ∙ below_joined (y.bio + 1) ws y (below_wider y.bio (y.bio + 1) ws (omega arith) below) (omega arith);
 }
   where
     ws : List Waiting
-    ws = waiting_in es
+    ws = all_waiting keys flush later
 
-    rise : Rises 0 (candidates ws)
-    rise = candidates_rise 0 ws are.rises
+-- one that may be taken next
+pub record PutNext (keys more : List ℕ) (flush : Bool) (later : List (ℕ × Place)) (y : Waiting) : Type 0 where
+  pub put : all_waiting more y.flush later ≡ all_waiting keys flush later ++ y ∷ []
+  pub lists : AreLists more y.flush later y.bio
 
-    here : has_key (key_of y) (candidates ws) ≡ true
-    here = sym (are.front (key_of y)) ∙ was
+pub put_next : (keys : List ℕ) (flush : Bool) (later : List (ℕ × Place)) (last : ℕ) (y : Waiting)
+    → AreLists keys flush later last → y.bio < 2 ^ 64 → are_below y.bio (all_waiting keys flush later) ≡ true
+    → joins (all_waiting keys flush later) y.flush ≡ true
+    → PutNext keys (insert_key nat_cmp keys (key_of y)) flush later y
+put_next keys flush (e ∷ later) last y are small below is_next =
+    absurd (let no : false ≡ true = joins_later keys flush (e ∷ later) last y.flush are refl ∙ is_next in
+    let bad : ⊥ = cc in bad)
+put_next keys flush [] last y are small below is_next = record {
+  put = put;
+  lists = lists_put keys (insert_key nat_cmp keys (key_of y)) flush y.flush [] [] last y are small below put
+      (ap (λ (b : Bool). joined b (listed flush keys) y) is_next ∙ sym more);
+}
+  where
+    -- both are FLUSHes, or neither is, or nothing waits
+    same : (ks : List ℕ) → joins (all_waiting ks flush []) y.flush ≡ true → listed y.flush ks ≡ listed flush ks
+    same [] is = refl
+    same (k ∷ ks) is = by flush y.flush (joins_front (k ∷ ks) flush [] y.flush refl refl ∙ is)
+      where
+        by : (a b : Bool) → not (a || b) ≡ true → listed b (k ∷ ks) ≡ listed a (k ∷ ks)
+        by true b e = absurd (let bad : ⊥ = cc in bad)
+        by false true e = absurd (let bad : ⊥ = cc in bad)
+        by false false e = refl
 
-    has_left : HasKeys left (without y.bio (candidates ws))
-    has_left k =
-        kept k ∙ ap (λ c. c && not (key_of y == k)) (are.front k)
-        ∙ sym (has_less y small k 0 (candidates ws) rise here)
+    number : key_of y % 2 ^ 64 ≡ y.bio
+    number = mod-mul-add y.first (2 ^ 64) y.bio small
 
-    now_next : Taken y.bio ws (candidates ws) (candidates (without y.bio ws))
-    now_next =
-        one_less y.bio 0 ws are.rises (key_is_bio y small 0 (candidates ws) rise here)
-        (sym (none_kept left (without y.bio (candidates ws)) has_left) ∙ some)
+    under : are_below (key_of y % 2 ^ 64) (listed y.flush keys) ≡ true
+    under =
+        ap (λ (n : ℕ). are_below n (listed y.flush keys)) number
+        ∙ ap (are_below y.bio) (same keys is_next ∙ sym (append-nil (listed flush keys))) ∙ below
+
+    more : listed y.flush (insert_key nat_cmp keys (key_of y)) ≡ listed flush keys ++ y ∷ []
+    more =
+        listed_more y.flush (key_of y) keys under
+        ∙ ap (λ (x : Waiting). listed y.flush keys ++ x ∷ []) (at_own y small)
+        ∙ ap (λ (xs : List Waiting). xs ++ y ∷ []) (same keys is_next)
+
+    put : all_waiting (insert_key nat_cmp keys (key_of y)) y.flush [] ≡ all_waiting keys flush [] ++ y ∷ []
+    put =
+        append-nil (listed y.flush (insert_key nat_cmp keys (key_of y))) ∙ more
+        ∙ ap (λ (xs : List Waiting). xs ++ y ∷ []) (sym (append-nil (listed flush keys)))
+
+-- one that comes behind
+pub record PutLater (keys : List ℕ) (flush : Bool) (later es : List (ℕ × Place)) (y : Waiting) : Type 0 where
+  pub put : all_waiting keys flush es ≡ all_waiting keys flush later ++ y ∷ []
+  pub lists : AreLists keys flush es y.bio
+
+pub put_later : (keys : List ℕ) (flush : Bool) (later es : List (ℕ × Place)) (last : ℕ) (y : Waiting)
+    → AreLists keys flush later last → y.bio < 2 ^ 64 → are_below y.bio (all_waiting keys flush later) ≡ true
+    → joins (all_waiting keys flush later) y.flush ≡ false → waiting_in es ≡ waiting_in later ++ y ∷ []
+    → PutLater keys flush later es y
+put_later keys flush later es last y are small below not_next is = record {
+  put = put;
+  lists = lists_put keys keys flush flush later es last y are small below put
+      (ap (λ (b : Bool). joined b (listed flush keys) y) not_next);
+}
+  where
+    put : all_waiting keys flush es ≡ all_waiting keys flush later ++ y ∷ []
+    put =
+        ap (λ (xs : List Waiting). listed flush keys ++ xs) is
+        ∙ sym (append_assoc (listed flush keys) (waiting_in later) (y ∷ []))
+
+-- One that came behind may be taken next
+
+-- the first moves
+pub moved_on : (keys : List ℕ) (e : ℕ × Place) (es : List (ℕ × Place)) → Rises 0 (all_waiting keys false (e ∷ es))
+    → e.1.flush ≡ false
+    → all_waiting (insert_key nat_cmp keys (e.1.first * 2 ^ 64 + e.0)) false es ≡ all_waiting keys false (e ∷ es)
+moved_on keys e es rise still =
+    ap (λ (xs : List Waiting). xs ++ waiting_in es)
+    (listed_more false (key_of y) keys under ∙ ap (λ (x : Waiting). listed false keys ++ x ∷ []) own)
+    ∙ append_assoc (listed false keys) (y ∷ []) (waiting_in es)
+  where
+    y : Waiting
+    y = waiting_at e
+
+    small : e.0 < 2 ^ 64
+    small = (rises_back 0 (listed false keys) (waiting_in (e ∷ es)) rise).1
+
+    own : at_key false (key_of y) ≡ y
+    own = ap (λ (b : Bool). at_key b (key_of y)) (sym still) ∙ at_own y small
+
+    under : are_below (key_of y % 2 ^ 64) (listed false keys) ≡ true
+    under =
+        ap (λ (n : ℕ). are_below n (listed false keys)) (mod-mul-add e.1.first (2 ^ 64) e.0 small)
+        ∙ (front_below 0 (listed false keys) y (waiting_in es) rise).1
+
+-- where some have keys and what comes behind begins with a FLUSH, these may be taken next
+pub keys_next : (keys : List ℕ) (later : List (ℕ × Place)) → is_none_of keys ≡ false
+    → before_flush (waiting_in later) ≡ [] → candidates (all_waiting keys false later) ≡ listed false keys
+keys_next keys later some end =
+    open_next (listed false keys) (waiting_in later) (none_listed false keys ∙ some) (listed_open keys) end
+
+-- One less
+
+module _ (keys : List ℕ) (flush : Bool) (later : List (ℕ × Place)) (last bio first : ℕ)
+    (are : AreLists keys flush later last) (small : bio < 2 ^ 64) (is : is_kept (first * 2 ^ 64 + bio) keys ≡ true) where
+  -- the keys that are left
+  abbrev left : List ℕ
+  left = remove_key (is_at (nat_cmp (first * 2 ^ 64 + bio))) keys
+
+  number : (first * 2 ^ 64 + bio) % 2 ^ 64 ≡ bio
+  number = mod-mul-add first (2 ^ 64) bio small
+
+  rise : Rises 0 (listed flush keys)
+  rise = rises_front 0 (listed flush keys) (waiting_in later) are.rises
+
+  has : has_bio bio (listed flush keys) ≡ true
+  has =
+      subst (λ (n : ℕ). has_bio n (listed flush keys) ≡ true) number
+      (among_listed flush (first * 2 ^ 64 + bio) 0 keys rise is)
+
+  less : listed flush left ≡ without bio (listed flush keys)
+  less =
+      listed_less flush (first * 2 ^ 64 + bio) 0 keys rise is
+      ∙ ap (λ (n : ℕ). without n (listed flush keys)) number
+
+  -- the others wait
+  pub taken_waits : all_waiting left flush later ≡ without bio (all_waiting keys flush later)
+  taken_waits =
+      ap (λ (xs : List Waiting). xs ++ waiting_in later) less
+      ∙ ap (λ (xs : List Waiting). without bio (listed flush keys) ++ xs)
+      (sym (without_behind bio 0 (listed flush keys) (waiting_in later) are.rises has))
+      ∙ sym (filter-append (λ (x : Waiting). not (x.bio == bio)) (listed flush keys) (waiting_in later))
+
+  -- their numbers rise
+  pub taken_rises : Rises 0 (all_waiting left flush later)
+  taken_rises =
+      subst (Rises 0) (sym taken_waits) (without_rises bio 0 (all_waiting keys flush later) are.rises)
+
+  -- and none is greater than the last
+  pub taken_below : are_below (last + 1) (all_waiting left flush later) ≡ true
+  taken_below =
+      ap (are_below (last + 1)) taken_waits ∙ below_without (last + 1) bio (all_waiting keys flush later) are.below
+
+  -- where some are left that may be taken next, the lists are kept
+  pub lists_taken : is_none_of left ≡ false → AreLists left flush later last
+  lists_taken some = record {
+    rises = taken_rises;
+    next = ap candidates taken_waits
+        ∙ one_less bio 0 (all_waiting keys flush later) are.rises
+        (ap (has_bio bio) are.next ∙ has)
+        (ap (λ (xs : List Waiting). is_none_of (without bio xs)) are.next
+        ∙ sym (ap is_none_of less) ∙ none_listed flush left ∙ some)
+        ∙ ap (without bio) are.next ∙ sym less;
+    below = taken_below;
+  }
+
+-- where none is left there is no key
+pub no_keys : (keys : List ℕ) → is_none_of keys ≡ true → keys ≡ []
+no_keys [] none = refl
+no_keys (k ∷ ks) none = absurd (let bad : ⊥ = cc in bad)
+
+-- Whether all have smaller numbers
+
+-- where the last has
+pub last_below : (keys : List ℕ) (flush : Bool) (later : List (ℕ × Place)) (last bio : ℕ) → AreLists keys flush later last
+    → last < bio → true ≡ are_below bio (all_waiting keys flush later)
+last_below keys flush later last bio are less =
+    sym (below_wider (last + 1) bio (all_waiting keys flush later) (omega (arith, less)) are.below)
+
+-- by both lists
+pub both_below : (keys : List ℕ) (flush : Bool) (later : List (ℕ × Place)) (bio : ℕ)
+    → are_below bio (all_waiting keys flush later)
+    ≡ (list_all (λ k. nat_lt (k % 2 ^ 64) bio) keys && are_below bio (waiting_in later))
+both_below keys flush later bio =
+    list_all-append (λ x. nat_lt x.bio bio) (listed flush keys) (waiting_in later)
+    ∙ ap (λ (c : Bool). c && are_below bio (waiting_in later)) (listed_below flush bio keys)
+
+-- Which is next
+
+module _ (keys : List ℕ) (flush : Bool) (later : List (ℕ × Place)) (last : ℕ) (are : AreLists keys flush later last)
+    (head : ℕ) where
+  -- what may be taken next has the keys
+  next_rises : Rises 0 (candidates (all_waiting keys flush later))
+  next_rises =
+      subst (Rises 0) (sym are.next) (rises_front 0 (listed flush keys) (waiting_in later) are.rises)
+
+  next_has : HasKeys keys (candidates (all_waiting keys flush later))
+  next_has = subst (HasKeys keys) (sym are.next) (listed_keys flush keys)
+
+  -- the one with the least key that isn't behind the head
+  pub kept_ahead : (k : ℕ) → IsNextKey keys (head * 2 ^ 64) (Some k)
+      → Some (k % 2 ^ 64) ≡ option_map (λ x. x.bio) (next_of head (candidates (all_waiting keys flush later)))
+  kept_ahead k first =
+      sym (next_ahead keys head 0 (candidates (all_waiting keys flush later)) next_rises next_has k first)
+
+  -- or else the one with the least of all
+  pub kept_least : (o : Option ℕ) → IsNextKey keys (head * 2 ^ 64) None → IsNextKey keys 0 o
+      → option_map (λ k. k % 2 ^ 64) o
+      ≡ option_map (λ x. x.bio) (next_of head (candidates (all_waiting keys flush later)))
+  kept_least o none first =
+      sym (next_least keys head 0 (candidates (all_waiting keys flush later)) next_rises next_has o none first)

@@ -1,13 +1,13 @@
 -- The keys of what may be taken next, and which of them is next.
-use Rattle.std.specs.Prelude.{◌≡◌, ℕ, ◌+◌, ◌*◌, ◌%◌, ◌^◌, ◌<◌, ◌≤◌, ◌==◌, nat_le, nat_lt, Bool, true, false, not, ◌&&◌, ◌||◌, List, [], ◌∷◌, ◌++◌, Option, Some, None, if◌then◌else◌}
+use Rattle.std.specs.Prelude.{◌≡◌, ℕ, ◌+◌, ◌*◌, ◌%◌, ◌^◌, ◌<◌, ◌≤◌, ◌==◌, nat_le, Bool, true, false, ◌&&◌, ◌||◌, List, [], ◌∷◌, Option, Some, None, if◌then◌else◌}
 use Rattle.std.specs.List.{AllByRecursion, list_all}
 use Rattle.std.specs.Option.{option_map, option_or}
-use Rattle.std.proofs.Common.{refl, sym, ◌∙◌, ap, subst, arith}
-use Rattle.std.proofs.lemmas.Bool.{eqb-true, eq-eqb, ne_eqb, leb-true, leb-false, le-leb, le-ltb, lt-leb}
+use Rattle.std.proofs.Common.{refl, sym, ◌∙◌, ap, arith}
+use Rattle.std.proofs.lemmas.Bool.{eqb-true, eq-eqb, leb-true, leb-false, le-leb, lt-leb}
 use Rattle.std.proofs.lemmas.Nat.{mod-mul-add}
 use Rattle.geo_headline.specs.Sweep.{Waiting, least_place, ahead_of, next_of}
-use Rattle.geo_elev.specs.Lists.{Rises, HasKeys, IsNextKey, has_key, is_kept, is_none_of, key_of, without}
-use Rattle.geo_elev.proofs.Candidates.{has_bio, absent_stays}
+use Rattle.geo_elev.specs.Lists.{Rises, HasKeys, IsNextKey, has_key, key_of}
+use Rattle.geo_elev.proofs.Candidates.{has_bio}
 
 -- Keys
 
@@ -169,35 +169,35 @@ ahead_is keys head low xs rise has (Some k) (here, high, least) =
     weaken [] all = tt
     weaken (z ∷ zs) all = ((λ more. all.0 (omega (arith, more))), weaken zs all.1)
 
--- of two lists
-or_maps : (a b : Option Waiting) (o p : Option ℕ) → option_map (λ x. x.bio) a ≡ option_map (λ k. k % 2 ^ 64) o
-    → option_map (λ x. x.bio) b ≡ option_map (λ k. k % 2 ^ 64) p
-    → option_map (λ x. x.bio) (option_or a b) ≡ option_map (λ k. k % 2 ^ 64) (option_or o p)
-or_maps None b None p e f = f
-or_maps (Some x) b (Some k) p e f = e
-or_maps None b (Some k) p e f = absurd (let bad : ⊥ = cc in bad)
-or_maps (Some x) b None p e f = absurd (let bad : ⊥ = cc in bad)
+-- where one is first of those ahead, it is next
+some_first : (a b : Option Waiting) (k : ℕ) → option_map (λ x. x.bio) a ≡ Some k
+    → option_map (λ x. x.bio) (option_or a b) ≡ Some k
+some_first None b k is = absurd (let bad : ⊥ = cc in bad)
+some_first (Some x) b k is = is
 
--- the next is the one with the least key that isn't behind the head, or else with the least of all
-pub next_is : (keys : List ℕ) (head low : ℕ) (xs : List Waiting) (o p : Option ℕ) → Rises low xs → HasKeys keys xs
-    → IsNextKey keys (head * 2 ^ 64) o → IsNextKey keys 0 p
-    → option_map (λ x. x.bio) (next_of head xs) ≡ option_map (λ k. k % 2 ^ 64) (option_or o p)
-next_is keys head low xs o p rise has first all =
-    or_maps (least_place (ahead_of head xs)) (least_place xs) o p (ahead_is keys head low xs rise has o first)
-    (ap (λ ys. option_map (λ x. x.bio) (least_place ys)) (sym (all_ahead xs)) ∙ ahead_is keys 0 low xs rise has p all)
+-- where none is, the first of all is next
+none_first : (a b : Option Waiting) → option_map (λ x. x.bio) a ≡ None → option_or a b ≡ b
+none_first None b is = refl
+none_first (Some x) b is = absurd (let bad : ⊥ = cc in bad)
 
--- One more, and one less
+module _ (keys : List ℕ) (head low : ℕ) (xs : List Waiting) (rise : Rises low xs) (has : HasKeys keys xs) where
+  -- the next is the one with the least key that isn't behind the head
+  pub next_ahead : (k : ℕ) → IsNextKey keys (head * 2 ^ 64) (Some k)
+      → option_map (λ x. x.bio) (next_of head xs) ≡ Some (k % 2 ^ 64)
+  next_ahead k first =
+      some_first (least_place (ahead_of head xs)) (least_place xs) (k % 2 ^ 64)
+      (ahead_is keys head low xs rise has (Some k) first)
 
--- whether one of them has the key, with one more
-pub has_joined : (key : ℕ) (xs : List Waiting) (y : Waiting)
-    → has_key key (xs ++ y ∷ []) ≡ (has_key key xs || (key_of y == key))
-has_joined key [] y = or_false (key_of y == key)
-has_joined key (x ∷ xs) y = ap (λ b. (key_of x == key) || b) (has_joined key xs y) ∙ or_assoc (key_of x == key)
-  where
-    or_assoc : (a : Bool)
-        → (a || (has_key key xs || (key_of y == key))) ≡ ((a || has_key key xs) || (key_of y == key))
-    or_assoc true = refl
-    or_assoc false = refl
+  -- or else the one with the least of all
+  pub next_least : (o : Option ℕ) → IsNextKey keys (head * 2 ^ 64) None → IsNextKey keys 0 o
+      → option_map (λ x. x.bio) (next_of head xs) ≡ option_map (λ k. k % 2 ^ 64) o
+  next_least o none first =
+      ap (option_map (λ (x : Waiting). x.bio))
+      (none_first (least_place (ahead_of head xs)) (least_place xs) (ahead_is keys head low xs rise has None none))
+      ∙ ap (λ ys. option_map (λ x. x.bio) (least_place ys)) (sym (all_ahead xs))
+      ∙ ahead_is keys 0 low xs rise has o first
+
+-- One that has a key
 
 module _ (y : Waiting) (small : y.bio < 2 ^ 64) where
   -- by whether the first has its key
@@ -216,84 +216,3 @@ module _ (y : Waiting) (small : y.bio < 2 ^ 64) where
   key_is_bio low [] rise has = absurd (let bad : ⊥ = cc in bad)
   key_is_bio low (x ∷ xs) rise has =
       bio_by (key_of x == key_of y) low x xs refl rise has (key_is_bio (x.bio + 1) xs rise.2)
-
-  -- none has its key where all have greater numbers
-  no_key : (low : ℕ) (xs : List Waiting) → Rises low xs → y.bio < low → has_key (key_of y) xs ≡ false
-  no_key low [] rise below = refl
-  no_key low (x ∷ xs) rise below =
-      rw (ne_eqb (key_of x) (key_of y)
-      (λ same. (let number = key_same x y rise.1 small same in omega (arith, number, rise.0, below))))
-      (no_key (x.bio + 1) xs rise.2 (omega (arith, rise.0, below)))
-
-  module _ (key : ℕ) where
-    -- the first has its key, so the others haven't
-    it_goes : (low : ℕ) (x : Waiting) (xs : List Waiting) → key_of x ≡ key_of y → Rises low (x ∷ xs)
-        → (d : Bool) → (key_of y == key) ≡ d
-        → has_key key xs ≡ (((key_of x == key) || has_key key xs) && not (key_of y == key))
-    it_goes low x xs same rise true g =
-        let is : key_of y ≡ key = eqb-true (key_of y) key g in
-        let number : x.bio ≡ y.bio = key_same x y rise.1 small same in
-        let none : has_key key xs ≡ false =
-        subst (λ (n : ℕ). has_key n xs ≡ false) is (no_key (x.bio + 1) xs rise.2 (omega (arith, number))) in
-        rw (same, g, none) refl
-    it_goes low x xs same rise false g = rw (same, g) (sym (and_true (has_key key xs)))
-      where
-        and_true : (b : Bool) → (b && true) ≡ b
-        and_true true = refl
-        and_true false = refl
-
-    -- another stays
-    other_stays : (x : Waiting) (xs ys : List Waiting) → (key_of x == key_of y) ≡ false
-        → has_key key ys ≡ (has_key key xs && not (key_of y == key)) → (d : Bool) → (key_of x == key) ≡ d
-        → ((key_of x == key) || has_key key ys) ≡ (((key_of x == key) || has_key key xs) && not (key_of y == key))
-    other_stays x xs ys f rest true g =
-        let is : key_of x ≡ key = eqb-true (key_of x) key g in
-        let other : (key_of y == key) ≡ false =
-        ne_eqb (key_of y) key (λ same.
-        let no : true ≡ false = sym (eq-eqb (key_of x) (key_of y) (is ∙ sym same)) ∙ f in let bad : ⊥ = cc in bad) in
-        rw (g, other) refl
-    other_stays x xs ys f rest false g = rw (g, rest) refl
-
-    -- by whether the first is the bio, and has its key
-    less_by : (b c : Bool) (low : ℕ) (x : Waiting) (xs : List Waiting) → (x.bio == y.bio) ≡ b
-        → (key_of x == key_of y) ≡ c → Rises low (x ∷ xs) → has_key (key_of y) (x ∷ xs) ≡ true
-        → (has_key (key_of y) xs ≡ true
-        → has_key key (without y.bio xs) ≡ (has_key key xs && not (key_of y == key)))
-        → has_key key (without y.bio (x ∷ xs)) ≡ (has_key key (x ∷ xs) && not (key_of y == key))
-    less_by true true low x xs e f rise has rest =
-        let number : x.bio ≡ y.bio = eqb-true x.bio y.bio e in
-        let all : without y.bio xs ≡ xs = absent_stays y.bio (x.bio + 1) xs rise.2 (omega (arith, number)) in
-        rw (e, all) (it_goes low x xs (eqb-true (key_of x) (key_of y) f) rise (key_of y == key) refl)
-    less_by true false low x xs e f rise has rest =
-        let number : x.bio ≡ y.bio = eqb-true x.bio y.bio e in
-        let none : has_key (key_of y) xs ≡ false = no_key (x.bio + 1) xs rise.2 (omega (arith, number)) in
-        absurd (let no : false ≡ true = rw (f, none) at has in let bad : ⊥ = cc in bad)
-    less_by false true low x xs e f rise has rest =
-        let number : x.bio ≡ y.bio = key_same x y rise.1 small (eqb-true (key_of x) (key_of y) f) in
-        absurd (let no : false ≡ true = sym e ∙ eq-eqb x.bio y.bio number in let bad : ⊥ = cc in bad)
-    less_by false false low x xs e f rise has rest =
-        rw e (other_stays x xs (without y.bio xs) f (rest (rw f at has)) (key_of x == key) refl)
-
-    -- which keys are left without it
-    pub has_less : (low : ℕ) (xs : List Waiting) → Rises low xs → has_key (key_of y) xs ≡ true
-        → has_key key (without y.bio xs) ≡ (has_key key xs && not (key_of y == key))
-    has_less low [] rise has = refl
-    has_less low (x ∷ xs) rise has =
-        less_by (x.bio == y.bio) (key_of x == key_of y) low x xs refl refl rise has (has_less (x.bio + 1) xs rise.2)
-
--- a key is its own
-kept_itself : (k : ℕ) (ks : List ℕ) → is_kept k (k ∷ ks) ≡ true
-kept_itself k ks = rw (lt_not k, eq-eqb k k refl) refl
-  where
-    lt_not : (n : ℕ) → nat_lt n n ≡ false
-    lt_not n = le-ltb n n (omega arith)
-
--- there are no keys where there are none to have them
-pub none_kept : (keys : List ℕ) (xs : List Waiting) → HasKeys keys xs → is_none_of keys ≡ is_none_of xs
-none_kept [] [] has = refl
-none_kept (k ∷ ks) (x ∷ xs) has = refl
-none_kept [] (x ∷ xs) has =
-    let here : has_key (key_of x) (x ∷ xs) ≡ true = rw (eq-eqb (key_of x) (key_of x) refl) refl in
-    absurd (let no : false ≡ true = has (key_of x) ∙ here in let bad : ⊥ = cc in bad)
-none_kept (k ∷ ks) [] has =
-    absurd (let no : true ≡ false = sym (kept_itself k ks) ∙ has k in let bad : ⊥ = cc in bad)

@@ -1,6 +1,6 @@
 pub mod Candidates
 pub mod Keys
-pub mod Entries
+pub mod Listed
 pub mod Kept
 pub mod Following
 pub mod Walking

@@ -1,5 +1,5 @@
 -- A disk's head and what waits for it, as a log changes them.
-use Rattle.std.specs.Prelude.{◌≡◌, ℕ, Bool, true, false, not, List, [], ◌∷◌, ◌++◌, IsTrue, MatchOption, slice_get, slice_set, if◌then◌else◌}
+use Rattle.std.specs.Prelude.{◌≡◌, ℕ, Bool, true, false, not, List, [], ◌∷◌, ◌++◌, IsTrue, MatchOption, slice_get, slice_set, ⊤, if◌then◌else◌}
 use Rattle.geo_model.specs.declared.step.Request.{Request}
 use Rattle.geo_model.specs.Words.{is_flush}
 use Rattle.geo_headline.specs.Sweep.{Waiting}
@@ -13,6 +13,11 @@ moved q head = if not (is_flush q.cmd) then q.first else head
 -- a disk that was asked for a bio
 abbrev pub asked_of : Request → ℕ → DiskHead → DiskHead
 asked_of q bio d = record { head = moved q d.head; waiting = without bio d.waiting }
+
+-- so it is, if that was followed
+abbrev pub IsAsked : Bool → Request → ℕ → DiskHead → DiskHead → Type 0
+IsAsked true q bio d e = e ≡ asked_of q bio d
+IsAsked false q bio d e = ⊤
 
 -- its head alone moves
 abbrev pub Moves : Request → DiskHead → DiskHead → Type 0

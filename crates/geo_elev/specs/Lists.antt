@@ -1,5 +1,5 @@
--- What waits for a disk, as it is kept: by numbers, and what is next by places.
-use Rattle.std.specs.Prelude.{◌≡◌, ℕ, ◌+◌, ◌*◌, ◌^◌, ◌<◌, ◌≤◌, ◌==◌, nat_lt, Bool, true, false, not, ◌&&◌, List, [], ◌∷◌, Option, Some, None, filter, map, IsTrue, ⊤}
+-- What waits for a disk, as it is kept: by places what may be taken next, and by numbers what comes behind that.
+use Rattle.std.specs.Prelude.{◌≡◌, ℕ, ◌+◌, ◌*◌, ◌/◌, ◌%◌, ◌^◌, ◌<◌, ◌≤◌, ◌==◌, nat_lt, Bool, true, false, not, ◌&&◌, List, [], ◌∷◌, ◌++◌, Option, Some, None, filter, map, IsTrue, ⊤, if◌then◌else◌}
 use Rattle.std.specs.List.{list_all, list_any}
 use Rattle.std.specs.Ordering.{nat_cmp}
 use Rattle.std.specs.BTreeMap.{is_at}
@@ -10,17 +10,35 @@ use Rattle.geo_elev.specs.declared.lists.Place.{Place}
 abbrev pub one_at : ℕ → Place → Waiting
 one_at bio place = record { bio = bio; flush = place.flush; first = place.first }
 
--- an entry of those that wait
+-- an entry of those that come behind
 abbrev pub waiting_at : ℕ × Place → Waiting
 waiting_at entry = one_at entry.0 entry.1
 
--- those that wait, in order of numbers
+-- those that come behind, in order of numbers
 abbrev pub waiting_in : List (ℕ × Place) → List Waiting
 waiting_in entries = map waiting_at entries
 
 -- a number that rises with the first sector, and among equal ones with the number of the bio
 abbrev pub key_of : Waiting → ℕ
 key_of x = x.first * 2 ^ 64 + x.bio
+
+-- what may be taken next, by its key
+abbrev pub at_key : Bool → ℕ → Waiting
+at_key flush key = record { bio = key % 2 ^ 64; flush = flush; first = key / 2 ^ 64 }
+
+-- with one more, before the first with a greater number
+abbrev pub with_one : Waiting → List Waiting → List Waiting
+with_one x [] = x ∷ []
+with_one x (y ∷ ys) = if nat_lt x.bio y.bio then x ∷ y ∷ ys else y ∷ with_one x ys
+
+-- those with these keys, in order of numbers
+abbrev pub listed : Bool → List ℕ → List Waiting
+listed flush [] = []
+listed flush (key ∷ keys) = with_one (at_key flush key) (listed flush keys)
+
+-- all that waits: what may be taken next, and what comes behind it
+abbrev pub all_waiting : List ℕ → Bool → List (ℕ × Place) → List Waiting
+all_waiting keys flush later = listed flush keys ++ waiting_in later
 
 -- whether one has this key
 abbrev pub has_key : ℕ → List Waiting → Bool
@@ -48,6 +66,10 @@ is_none_of (x ∷ xs) = false
 abbrev pub without : ℕ → List Waiting → List Waiting
 without bio xs = filter (λ x. not (x.bio == bio)) xs
 
+-- those that are left where a bio is taken, if it is
+abbrev pub taken_if : Bool → ℕ → List Waiting → List Waiting
+taken_if b bio xs = if b then without bio xs else xs
+
 -- all have smaller numbers
 abbrev pub are_below : ℕ → List Waiting → Bool
 are_below bio xs = list_all (λ x. nat_lt x.bio bio) xs
@@ -67,8 +89,8 @@ IsNextKey keys low (Some k) =
     IsTrue (is_kept k keys) × (low ≤ k) × ((key : ℕ) → IsTrue (is_kept key keys) → low ≤ key → k ≤ key)
 IsNextKey keys low None = (key : ℕ) → low ≤ key → is_kept key keys ≡ false
 
--- the numbers rise, the set has the keys of what may be taken next, and it is known whether a FLUSH waits
-pub record AreLists (entries : List (ℕ × Place)) (keys : List ℕ) (open_end : Bool) : Type 0 where
-  pub rises : Rises 0 (waiting_in entries)
-  pub front : HasKeys keys (candidates (waiting_in entries))
-  pub is_open : open_end ≡ is_open (waiting_in entries)
+-- the numbers rise, what has these keys may be taken next, and no number is greater than the last
+pub record AreLists (keys : List ℕ) (flush : Bool) (later : List (ℕ × Place)) (last : ℕ) : Type 0 where
+  pub rises : Rises 0 (all_waiting keys flush later)
+  pub next : candidates (all_waiting keys flush later) ≡ listed flush keys
+  pub below : are_below (last + 1) (all_waiting keys flush later) ≡ true

@@ -1,6 +1,6 @@
 //! The heads of disks, and what waits for them.
-ghost use Rattle.std.specs.Prelude.{◌≡◌, IfOk, IsTrue, OnOk, length};
-ghost use Rattle.geo_elev.specs.Disks.{ChangesOne, Moves, Queues, asked_of};
+ghost use Rattle.std.specs.Prelude.{◌≡◌, IfOk, length};
+ghost use Rattle.geo_elev.specs.Disks.{ChangesOne, IsAsked, Moves, Queues};
 ghost use Rattle.geo_elev.specs.Lists.{one_at};
 
 use crate::lists::Place;
@@ -16,28 +16,30 @@ pub struct DiskHead {
     pub waiting: Queue,
 }
 
-/// The disk of a request was asked for a bio, which waits no longer. On `NoMemory` the disks are as many.
-pub fn asked(disks: &mut [DiskHead], request: &Request, bio: BioId) -> Result<(), NoMemory>
-    ensures asked { OnOk result (ChangesOne request.now.disk (λ d e. e ≡ asked_of request.now bio d)
-        disks.old disks.new) }
+/// The disk of a request was asked for a bio, which waits no longer, and true; false, where it couldn't be next: then
+/// what waits has to be gathered anew. On `NoMemory` the disks are as many.
+pub fn asked(disks: &mut [DiskHead], request: &Request, bio: BioId) -> Result<bool, NoMemory>
+    ensures asked { IfOk result (λ b. ChangesOne request.now.disk (IsAsked b request.now bio) disks.old disks.new) }
     ensures length { length disks.new ≡ length disks.old }
 {
     let at = request.disk as usize;
     if at < disks.len() {
-        ask(&mut disks[at], request, bio)?;
+        return ask(&mut disks[at], request, bio);
     }
-    Ok(())
+    Ok(true)
 }
 
 // The same of its disk.
-fn ask(disk: &mut DiskHead, request: &Request, bio: BioId) -> Result<(), NoMemory>
-    ensures { OnOk result (disk.new ≡ asked_of request.now bio disk.old) }
+fn ask(disk: &mut DiskHead, request: &Request, bio: BioId) -> Result<bool, NoMemory>
+    ensures { IfOk result (λ b. IsAsked b request.now bio disk.old disk.new) }
 {
-    disk.waiting.take(bio)?;
+    if !disk.waiting.take(bio, request.first)? {
+        return Ok(false);
+    }
     if request.cmd != BioCmd::Flush {
         disk.head = request.first;
     }
-    Ok(())
+    Ok(true)
 }
 
 /// The disk of a request was asked, which moves its head alone.

@@ -50,8 +50,8 @@ impl Heads {
     }
 
     /// Notes what a mesh did since: each entry of the log by the logarithm of how many wait, where requests come in
-    /// order of their numbers and each is noted before the next one comes; else all is gathered anew. On `NoMemory`
-    /// nothing is known, as before the first entry.
+    /// order of their numbers, each is noted before the next one comes, and each disk takes one that may be next; else
+    /// all is gathered anew. On `NoMemory` nothing is known, as before the first entry.
     pub fn note(&mut self, mesh: &Mesh) -> Result<(), NoMemory>
         requires earlier { (seen : List EntryValue)
             × IsPrefixOf seen mesh.now.log × AreHeads (opened mesh.now) seen self.old }

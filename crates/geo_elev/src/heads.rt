@@ -90,8 +90,7 @@ fn follow_take(disks: &mut [DiskHead], request: &Request, step: &Step) -> Result
     let Some(bio) = taken(step) else {
         return Ok(false);
     };
-    asked(disks, request, bio)?;
-    Ok(true)
+    asked(disks, request, bio)
 }
 
 // Follows a Start that is the last entry, which brings a disk a request.

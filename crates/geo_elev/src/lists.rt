@@ -1,12 +1,17 @@
-//! What waits for a disk, in two lists: all of it by numbers, and what may be taken next by places.
-ghost use Rattle.std.specs.Prelude.{◌≡◌, ℕ, ◌%◌, ◌^◌, [], ◌∷◌, ◌++◌, ◌==◌, not, ◌&&◌, ◌||◌, IfOk, IsNone, IsTrue, OnErr, OnOk};
+//! What waits for a disk, in two lists: by places what may be taken next, and by numbers what comes behind that.
+ghost use Rattle.std.specs.Prelude.{◌≡◌, ◌+◌, ◌*◌, ◌%◌, ◌^◌, [], ◌∷◌, ◌++◌, ◌||◌, false, not, drop, IfOk, IsTrue, MatchOption, OnErr, OnOk, nat_lt};
+ghost use Rattle.std.specs.BTreeMap.{is_at};
+ghost use Rattle.std.specs.BTreeSet.{insert_key};
+ghost use Rattle.std.specs.List.{list_all};
 ghost use Rattle.std.specs.Option.{option_map};
+ghost use Rattle.std.specs.Ordering.{nat_cmp};
+ghost use Rattle.std.specs.Set.{remove_key};
 ghost use Rattle.geo_headline.specs.Sweep.{before_flush, candidates, next_of};
-ghost use Rattle.geo_elev.specs.Lists.{AreLists, HasKeys, IsNextKey, Rises, are_below, is_kept, is_none_of, is_open, joins, key_of, one_at, waiting_in, without};
+ghost use Rattle.geo_elev.specs.Lists.{AreLists, IsNextKey, Rises, all_waiting, are_below, is_kept, is_none_of, joins, listed, one_at, taken_if, waiting_in};
 
 use geo_base::NoMemory;
 use std::alloc::Global;
-use std::collections::{BTreeMap, BTreeSet};
+use std::collections::{BTreeSet, VecDeque};
 
 /// What a disk is asked for: whether that is a FLUSH, and the sector at which it begins.
 #[derive(Clone, Copy, Debug, PartialEq, Eq)]
@@ -17,19 +22,21 @@ pub struct Place {
     pub first: u64,
 }
 
-/// What waits for a disk, by numbers, and the keys of what may be taken next. `open_end`: no FLUSH waits.
+/// What waits for a disk. `front`: the keys of what may be taken next. `flush`: whether that is a FLUSH. `later`: what
+/// comes behind it, in order of numbers. `last`: no number is greater.
 #[derive(Drop)]
 pub struct Lists {
-    pub waiting: BTreeMap<u64, Place>,
     pub front: BTreeSet<u128>,
-    pub open_end: bool,
+    pub flush: bool,
+    pub later: VecDeque<(u64, Place)>,
+    pub last: u64,
 }
 
-// The key of a bio with its place.
-fn key(bio: u64, place: Place) -> u128
-    ensures { result ≡ key_of (one_at bio place) }
+// The key of a bio whose place begins at a sector.
+fn key(bio: u64, first: u64) -> u128
+    ensures { result ≡ first * 2 ^ 64 + bio }
 {
-    u128::from(place.first) * 18_446_744_073_709_551_616 + u128::from(bio)
+    u128::from(first) * 18_446_744_073_709_551_616 + u128::from(bio)
 }
 
 // The number of the bio with this key.
@@ -41,24 +48,26 @@ fn bio_in(key: u128) -> u64
 
 /// Lists in which nothing waits.
 pub fn none(alloc: Global) -> Lists
-    ensures lists { AreLists result.waiting.entries result.front.keys result.open_end }
-    ensures none { waiting_in result.waiting.entries ≡ [] }
+    ensures lists { AreLists result.front.keys result.flush result.later.items result.last }
+    ensures none { all_waiting result.front.keys result.flush result.later.items ≡ [] }
 {
     Lists {
-        waiting: BTreeMap::new(alloc),
         front: BTreeSet::new(alloc),
-        open_end: true,
+        flush: false,
+        later: VecDeque::new(alloc),
+        last: 0,
     }
 }
 
 /// Empties the lists.
 pub fn clear(lists: &mut Lists)
-    ensures lists { AreLists lists.new.waiting.entries lists.new.front.keys lists.new.open_end }
-    ensures none { waiting_in lists.new.waiting.entries ≡ [] }
+    ensures lists { AreLists lists.new.front.keys lists.new.flush lists.new.later.items lists.new.last }
+    ensures none { all_waiting lists.new.front.keys lists.new.flush lists.new.later.items ≡ [] }
 {
-    lists.waiting.clear();
     lists.front.clear();
-    lists.open_end = true;
+    lists.flush = false;
+    lists.later.clear();
+    lists.last = 0;
 }
 
 // The least key from one on.
@@ -72,42 +81,63 @@ fn next_key(front: &BTreeSet<u128>, low: u128) -> Option<u128>
 /// The number of the bio that the disk takes next, with its head at a sector: of those that aren't behind the head the
 /// one with the smallest place, or where all are, of all.
 pub fn next(lists: &Lists, head: u64) -> Option<u64>
-    requires { AreLists lists.now.waiting.entries lists.now.front.keys lists.now.open_end }
-    ensures { result ≡ option_map (λ x. x.bio) (next_of head (candidates (waiting_in lists.now.waiting.entries))) }
+    requires { AreLists lists.now.front.keys lists.now.flush lists.now.later.items lists.now.last }
+    ensures { result ≡ option_map (λ x. x.bio) (next_of head (candidates
+        (all_waiting lists.now.front.keys lists.now.flush lists.now.later.items))) }
 {
-    let ahead = next_key(&lists.front, u128::from(head) * 18_446_744_073_709_551_616);
-    let least = next_key(&lists.front, 0);
-    match ahead.or(least) {
+    if let Some(key) = next_key(&lists.front, u128::from(head) * 18_446_744_073_709_551_616) {
+        return Some(bio_in(key));
+    }
+    match next_key(&lists.front, 0) {
         Some(key) => Some(bio_in(key)),
         None => None,
     }
 }
 
-/// Whether all that waits has smaller numbers.
-pub fn are_below(lists: &Lists, bio: u64) -> bool
-    ensures { result ≡ are_below bio (waiting_in lists.now.waiting.entries) }
+// Whether all that has these keys has smaller numbers.
+fn keys_below(front: &BTreeSet<u128>, bio: u64) -> bool
+    ensures { result ≡ list_all (λ k. nat_lt (k % 2 ^ 64) bio) front.now.keys }
 {
-    match lists.waiting.range(bio..).next() {
-        Some(_) => false,
-        None => true,
+    for key in front {
+        if bio_in(*key) >= bio {
+            return false;
+        }
     }
+    true
 }
 
-// One more waits, behind all.
-fn add(waiting: &mut BTreeMap<u64, Place>, bio: u64, place: Place) -> Result<(), NoMemory>
-    requires { IsTrue (are_below bio (waiting_in waiting.old.entries)) }
-    ensures { OnOk result (waiting_in waiting.new.entries
-        ≡ waiting_in waiting.old.entries ++ one_at bio place ∷ []) }
+// Whether all that comes behind has smaller numbers.
+fn later_below(later: &VecDeque<(u64, Place)>, bio: u64) -> bool
+    ensures { result ≡ are_below bio (waiting_in later.now.items) }
 {
-    match waiting.insert(bio, place) {
-        Ok(_) => Ok(()),
-        Err(_) => Err(NoMemory),
+    let mut at = 0;
+    while at < later.len() {
+        if later[at].0 >= bio {
+            return false;
+        }
+        at += 1;
+    }
+    true
+}
+
+/// Whether all that waits has smaller numbers.
+pub fn are_below(lists: &Lists, bio: u64) -> bool
+    requires { AreLists lists.now.front.keys lists.now.flush lists.now.later.items lists.now.last }
+    ensures { result ≡ are_below bio (all_waiting lists.now.front.keys lists.now.flush lists.now.later.items) }
+{
+    if lists.last < bio {
+        return true;
+    }
+    if keys_below(&lists.front, bio) {
+        later_below(&lists.later, bio)
+    } else {
+        false
     }
 }
 
 // One key more.
 fn add_key(front: &mut BTreeSet<u128>, key: u128) -> Result<(), NoMemory>
-    ensures { OnOk result ((k : ℕ) → is_kept k front.new.keys ≡ (is_kept k front.old.keys || (key == k))) }
+    ensures { OnOk result (front.new.keys ≡ insert_key nat_cmp front.old.keys key) }
 {
     match front.insert(key) {
         Ok(_) => Ok(()),
@@ -118,7 +148,8 @@ fn add_key(front: &mut BTreeSet<u128>, key: u128) -> Result<(), NoMemory>
 // One key less, and whether it was there.
 fn take_key(front: &mut BTreeSet<u128>, key: u128) -> bool
     ensures was { result ≡ is_kept key front.old.keys }
-    ensures left { (k : ℕ) → is_kept k front.new.keys ≡ (is_kept k front.old.keys && not (key == k)) }
+    ensures left { front.new.keys ≡ remove_key (is_at (nat_cmp key)) front.old.keys }
+    ensures same { result ≡ false → front.new.keys ≡ front.old.keys }
 {
     front.remove(&key)
 }
@@ -130,76 +161,89 @@ fn no_key(front: &BTreeSet<u128>) -> bool
     front.is_empty()
 }
 
-// Whether nothing waits.
-fn is_empty(waiting: &BTreeMap<u64, Place>) -> bool
-    ensures { result ≡ is_none_of waiting.now.entries }
+// Whether nothing comes behind.
+fn none_later(later: &VecDeque<(u64, Place)>) -> bool
+    ensures { result ≡ is_none_of later.now.items }
 {
-    waiting.is_empty()
+    later.is_empty()
 }
 
-// The place of a bio, which waits no longer.
-fn take_out(waiting: &mut BTreeMap<u64, Place>, bio: u64) -> Option<Place>
-    requires { Rises 0 (waiting_in waiting.old.entries) }
-    ensures left { waiting_in waiting.new.entries ≡ without bio (waiting_in waiting.old.entries) }
-    ensures none { IsNone result → waiting.new.entries ≡ waiting.old.entries }
+// Whether none of two holds.
+fn neither(one: bool, other: bool) -> bool
+    ensures { result ≡ not (one || other) }
 {
-    waiting.remove(&bio)
+    !one && !other
 }
 
-// The keys of what stands before the first FLUSH, and whether there is none.
-fn gather(waiting: &BTreeMap<u64, Place>, front: &mut BTreeSet<u128>) -> Result<bool, NoMemory>
-    requires { front.old.keys ≡ [] }
-    ensures keys { OnOk result (HasKeys front.new.keys (before_flush (waiting_in waiting.now.entries))) }
-    ensures is_open { IfOk result (λ o. o ≡ is_open (waiting_in waiting.now.entries)) }
+// Whether one more at the end may be taken next.
+fn joins(lists: &Lists, flush: bool) -> bool
+    requires { AreLists lists.now.front.keys lists.now.flush lists.now.later.items lists.now.last }
+    ensures { result ≡ joins (all_waiting lists.now.front.keys lists.now.flush lists.now.later.items) flush }
 {
-    for (bio, place) in waiting {
-        if place.flush {
-            return Ok(false);
-        }
-        add_key(front, key(*bio, *place))?;
+    if !none_later(&lists.later) {
+        return false;
     }
-    Ok(true)
-}
-
-// The keys of what may be taken next, and whether no FLUSH waits.
-fn fill(waiting: &BTreeMap<u64, Place>, front: &mut BTreeSet<u128>) -> Result<bool, NoMemory>
-    requires { front.old.keys ≡ [] }
-    ensures keys { OnOk result (HasKeys front.new.keys (candidates (waiting_in waiting.now.entries))) }
-    ensures is_open { IfOk result (λ o. o ≡ is_open (waiting_in waiting.now.entries)) }
-{
-    let open_end = gather(waiting, front)?;
-    if no_key(front) {
-        add_first(waiting, front)?;
+    if no_key(&lists.front) {
+        return true;
     }
-    Ok(open_end)
+    neither(lists.flush, flush)
 }
 
-// The key of the first that waits, where it may be taken next alone.
-fn add_first(waiting: &BTreeMap<u64, Place>, front: &mut BTreeSet<u128>) -> Result<(), NoMemory>
-    requires none { IsTrue (is_none_of front.old.keys) }
-    requires alone { IsTrue (is_none_of (before_flush (waiting_in waiting.now.entries))) }
-    ensures { OnOk result (HasKeys front.new.keys (candidates (waiting_in waiting.now.entries))) }
+// One more that may be taken next.
+fn add_next(lists: &mut Lists, bio: u64, place: Place) -> Result<(), NoMemory>
+    requires lists { AreLists lists.old.front.keys lists.old.flush lists.old.later.items lists.old.last }
+    requires below { IsTrue (are_below bio
+        (all_waiting lists.old.front.keys lists.old.flush lists.old.later.items)) }
+    requires joins { IsTrue (joins
+        (all_waiting lists.old.front.keys lists.old.flush lists.old.later.items) place.flush) }
+    ensures lists { OnOk result (AreLists lists.new.front.keys lists.new.flush lists.new.later.items bio) }
+    ensures put { OnOk result (all_waiting lists.new.front.keys lists.new.flush lists.new.later.items
+        ≡ all_waiting lists.old.front.keys lists.old.flush lists.old.later.items ++ one_at bio place ∷ []) }
 {
-    match waiting.first_key_value() {
-        Some((bio, place)) => {
-            add_key(front, key(*bio, *place))?;
-            Ok(())
-        }
-        None => Ok(()),
+    add_key(&mut lists.front, key(bio, place.first))?;
+    lists.flush = place.flush;
+    Ok(())
+}
+
+// One more that comes behind.
+fn add_later(later: &mut VecDeque<(u64, Place)>, bio: u64, place: Place) -> Result<(), NoMemory>
+    ensures { OnOk result (waiting_in later.new.items ≡ waiting_in later.old.items ++ one_at bio place ∷ []) }
+{
+    match later.push_back((bio, place)) {
+        Ok(()) => Ok(()),
+        Err(_) => Err(NoMemory),
     }
 }
 
-// What may be taken next, anew.
-fn refill(lists: &mut Lists) -> Result<(), NoMemory>
-    requires { Rises 0 (waiting_in lists.old.waiting.entries) }
-    ensures lists { AreLists lists.new.waiting.entries lists.new.front.keys lists.new.open_end }
-    ensures same { OnOk result (lists.new.waiting.entries ≡ lists.old.waiting.entries) }
-    ensures lost { OnErr result (waiting_in lists.new.waiting.entries ≡ []) }
+// One more waits.
+fn add(lists: &mut Lists, bio: u64, place: Place) -> Result<(), NoMemory>
+    requires lists { AreLists lists.old.front.keys lists.old.flush lists.old.later.items lists.old.last }
+    requires below { IsTrue (are_below bio
+        (all_waiting lists.old.front.keys lists.old.flush lists.old.later.items)) }
+    ensures lists { OnOk result (AreLists lists.new.front.keys lists.new.flush lists.new.later.items bio) }
+    ensures put { OnOk result (all_waiting lists.new.front.keys lists.new.flush lists.new.later.items
+        ≡ all_waiting lists.old.front.keys lists.old.flush lists.old.later.items ++ one_at bio place ∷ []) }
 {
-    lists.front.clear();
-    match fill(&lists.waiting, &mut lists.front) {
-        Ok(open_end) => {
-            lists.open_end = open_end;
+    if joins(lists, place.flush) {
+        add_next(lists, bio, place)
+    } else {
+        add_later(&mut lists.later, bio, place)
+    }
+}
+
+/// One more waits, with a greater number than all. Where memory is wanting nothing is left.
+pub fn put(lists: &mut Lists, bio: u64, place: Place) -> Result<(), NoMemory>
+    requires lists { AreLists lists.old.front.keys lists.old.flush lists.old.later.items lists.old.last }
+    requires below { IsTrue (are_below bio
+        (all_waiting lists.old.front.keys lists.old.flush lists.old.later.items)) }
+    ensures lists { AreLists lists.new.front.keys lists.new.flush lists.new.later.items lists.new.last }
+    ensures put { OnOk result (all_waiting lists.new.front.keys lists.new.flush lists.new.later.items
+        ≡ all_waiting lists.old.front.keys lists.old.flush lists.old.later.items ++ one_at bio place ∷ []) }
+    ensures lost { OnErr result (all_waiting lists.new.front.keys lists.new.flush lists.new.later.items ≡ []) }
+{
+    match add(lists, bio, place) {
+        Ok(()) => {
+            lists.last = bio;
             Ok(())
         }
         Err(refused) => {
@@ -209,57 +253,67 @@ fn refill(lists: &mut Lists) -> Result<(), NoMemory>
     }
 }
 
-// Whether one more at the end may be taken next.
-fn joins(lists: &Lists, flush: bool) -> bool
-    requires { AreLists lists.now.waiting.entries lists.now.front.keys lists.now.open_end }
-    ensures { result ≡ joins (waiting_in lists.now.waiting.entries) flush }
+// The first that comes behind, if it is no FLUSH.
+fn first_later(later: &VecDeque<(u64, Place)>) -> Option<(u64, Place)>
+    ensures { MatchOption result (before_flush (waiting_in later.now.items) ≡ [])
+        (λ e. (later.now.items ≡ e ∷ drop 1 later.now.items) × (e.1.flush ≡ false)) }
 {
-    is_empty(&lists.waiting) || (lists.open_end && !flush)
+    match later.front() {
+        Some(first) if !first.1.flush => Some(*first),
+        _ => None,
+    }
 }
 
-// One key more, if it `is_next`.
-fn add_key_if(front: &mut BTreeSet<u128>, is_next: bool, key: u128) -> Result<(), NoMemory>
-    ensures { OnOk result ((k : ℕ) → is_kept k front.new.keys ≡ (is_kept k front.old.keys || (is_next && (key == k)))) }
+// All that stands before the first FLUSH may be taken next too.
+fn fill_on(front: &mut BTreeSet<u128>, later: &mut VecDeque<(u64, Place)>) -> Result<(), NoMemory>
+    requires rises { Rises 0 (all_waiting front.old.keys false later.old.items) }
+    requires some { is_none_of front.old.keys ≡ false }
+    ensures same { OnOk result (all_waiting front.new.keys false later.new.items
+        ≡ all_waiting front.old.keys false later.old.items) }
+    ensures some { OnOk result (is_none_of front.new.keys ≡ false) }
+    ensures end { OnOk result (before_flush (waiting_in later.new.items) ≡ []) }
 {
-    if is_next {
-        add_key(front, key)?;
+    while let Some((bio, place)) = first_later(later) {
+        add_key(front, key(bio, place.first))?;
+        let _ = later.pop_front();
     }
     Ok(())
 }
 
-// Whether no FLUSH waits, after one more.
-fn stays_open(open_end: bool, flush: bool) -> bool
-    ensures { result ≡ (open_end && not flush) }
+// Where none has a key, what may be taken next of what comes behind: a FLUSH that stands in front, alone; else what
+// stands before the first one.
+fn fill(lists: &mut Lists) -> Result<(), NoMemory>
+    requires none { lists.old.front.keys ≡ [] }
+    requires rises { Rises 0 (waiting_in lists.old.later.items) }
+    ensures next { OnOk result (candidates
+        (all_waiting lists.new.front.keys lists.new.flush lists.new.later.items)
+        ≡ listed lists.new.flush lists.new.front.keys) }
+    ensures same { OnOk result (all_waiting lists.new.front.keys lists.new.flush lists.new.later.items
+        ≡ waiting_in lists.old.later.items) }
+    ensures last { lists.new.last ≡ lists.old.last }
 {
-    open_end && !flush
+    let Some((bio, place)) = lists.later.pop_front() else {
+        return Ok(());
+    };
+    add_key(&mut lists.front, key(bio, place.first))?;
+    lists.flush = place.flush;
+    if place.flush {
+        return Ok(());
+    }
+    fill_on(&mut lists.front, &mut lists.later)
 }
 
-// One more waits, and may be taken next if it `is_next`.
-fn add_to(lists: &mut Lists, is_next: bool, bio: u64, place: Place) -> Result<(), NoMemory>
-    requires lists { AreLists lists.old.waiting.entries lists.old.front.keys lists.old.open_end }
-    requires below { IsTrue (are_below bio (waiting_in lists.old.waiting.entries)) }
-    requires is_next { is_next ≡ joins (waiting_in lists.old.waiting.entries) place.flush }
-    ensures lists { OnOk result (AreLists lists.new.waiting.entries lists.new.front.keys lists.new.open_end) }
-    ensures put { OnOk result (waiting_in lists.new.waiting.entries
-        ≡ waiting_in lists.old.waiting.entries ++ one_at bio place ∷ []) }
+// The same; where memory is wanting nothing is left.
+fn refill(lists: &mut Lists) -> Result<(), NoMemory>
+    requires none { lists.old.front.keys ≡ [] }
+    requires rises { Rises 0 (waiting_in lists.old.later.items) }
+    requires below { IsTrue (are_below (lists.old.last + 1) (waiting_in lists.old.later.items)) }
+    ensures lists { AreLists lists.new.front.keys lists.new.flush lists.new.later.items lists.new.last }
+    ensures same { OnOk result (all_waiting lists.new.front.keys lists.new.flush lists.new.later.items
+        ≡ waiting_in lists.old.later.items) }
+    ensures lost { OnErr result (all_waiting lists.new.front.keys lists.new.flush lists.new.later.items ≡ []) }
 {
-    add(&mut lists.waiting, bio, place)?;
-    add_key_if(&mut lists.front, is_next, key(bio, place))?;
-    lists.open_end = stays_open(lists.open_end, place.flush);
-    Ok(())
-}
-
-/// One more waits, with a greater number than all. Where memory is wanting nothing is left.
-pub fn put(lists: &mut Lists, bio: u64, place: Place) -> Result<(), NoMemory>
-    requires lists { AreLists lists.old.waiting.entries lists.old.front.keys lists.old.open_end }
-    requires below { IsTrue (are_below bio (waiting_in lists.old.waiting.entries)) }
-    ensures lists { AreLists lists.new.waiting.entries lists.new.front.keys lists.new.open_end }
-    ensures put { OnOk result (waiting_in lists.new.waiting.entries
-        ≡ waiting_in lists.old.waiting.entries ++ one_at bio place ∷ []) }
-    ensures lost { OnErr result (waiting_in lists.new.waiting.entries ≡ []) }
-{
-    let is_next = joins(lists, place.flush);
-    match add_to(lists, is_next, bio, place) {
+    match fill(lists) {
         Ok(()) => Ok(()),
         Err(refused) => {
             clear(lists);
@@ -268,20 +322,20 @@ pub fn put(lists: &mut Lists, bio: u64, place: Place) -> Result<(), NoMemory>
     }
 }
 
-/// A bio waits no longer. Where memory is wanting nothing is left.
-pub fn take(lists: &mut Lists, bio: u64) -> Result<(), NoMemory>
-    requires { AreLists lists.old.waiting.entries lists.old.front.keys lists.old.open_end }
-    ensures lists { AreLists lists.new.waiting.entries lists.new.front.keys lists.new.open_end }
-    ensures taken { OnOk result (waiting_in lists.new.waiting.entries
-        ≡ without bio (waiting_in lists.old.waiting.entries)) }
-    ensures lost { OnErr result (waiting_in lists.new.waiting.entries ≡ []) }
+/// A bio whose place begins at a sector waits no longer, and true; false, where it isn't one of those that may be taken
+/// next: then all waits as before. Where memory is wanting nothing is left.
+pub fn take(lists: &mut Lists, bio: u64, first: u64) -> Result<bool, NoMemory>
+    requires { AreLists lists.old.front.keys lists.old.flush lists.old.later.items lists.old.last }
+    ensures lists { AreLists lists.new.front.keys lists.new.flush lists.new.later.items lists.new.last }
+    ensures taken { IfOk result (λ b. all_waiting lists.new.front.keys lists.new.flush lists.new.later.items
+        ≡ taken_if b bio (all_waiting lists.old.front.keys lists.old.flush lists.old.later.items)) }
+    ensures lost { OnErr result (all_waiting lists.new.front.keys lists.new.flush lists.new.later.items ≡ []) }
 {
-    let Some(place) = take_out(&mut lists.waiting, bio) else {
-        return Ok(());
-    };
-    let was_next = take_key(&mut lists.front, key(bio, place));
-    if was_next && !no_key(&lists.front) {
-        return Ok(());
+    if !take_key(&mut lists.front, key(bio, first)) {
+        return Ok(false);
     }
-    refill(lists)
+    if no_key(&lists.front) {
+        refill(lists)?;
+    }
+    Ok(true)
 }

@@ -1,8 +1,8 @@
 //! What waits for a disk.
-ghost use Rattle.std.specs.Prelude.{◌≡◌, [], ◌∷◌, ◌++◌, IsTrue, OnErr, OnOk};
+ghost use Rattle.std.specs.Prelude.{◌≡◌, [], ◌∷◌, ◌++◌, IfOk, IsTrue, OnErr, OnOk};
 ghost use Rattle.std.specs.Option.{option_map};
 ghost use Rattle.geo_headline.specs.Sweep.{candidates, next_of};
-ghost use Rattle.geo_elev.specs.Lists.{are_below, one_at, without};
+ghost use Rattle.geo_elev.specs.Lists.{are_below, one_at, taken_if};
 
 use crate::lists::{Lists, Place, are_below, clear, next, none, put, take};
 use geo_base::{BioId, NoMemory};
@@ -10,7 +10,7 @@ use std::alloc::Global;
 use std::marker::Model;
 
 /// What waits for a disk. Contracts see it in order of the bios' numbers. What is next is found, and a bio is put in or
-/// taken out, by the logarithm of how many wait.
+/// taken out that may be next, by the logarithm of how many wait.
 #[derive(Drop)]
 pub struct Queue {
     lists: Lists,
@@ -19,13 +19,13 @@ pub struct Queue {
 impl Model for Queue {
     ghost use Rattle.std.specs.Prelude.{List};
     ghost use Rattle.geo_headline.specs.Sweep.{Waiting};
-    ghost use Rattle.geo_elev.specs.Lists.{AreLists, waiting_in};
+    ghost use Rattle.geo_elev.specs.Lists.{AreLists, all_waiting};
 
     ghost Value = { List Waiting };
 
-    ghost view = { λ q. waiting_in q.lists.waiting.entries };
+    ghost view = { λ q. all_waiting q.lists.front.keys q.lists.flush q.lists.later.items };
 
-    ghost invariant = { λ q. AreLists q.lists.waiting.entries q.lists.front.keys q.lists.open_end };
+    ghost invariant = { λ q. AreLists q.lists.front.keys q.lists.flush q.lists.later.items q.lists.last };
 }
 
 impl Queue {
@@ -52,12 +52,13 @@ impl Queue {
         put(&mut self.lists, bio.number(), place)
     }
 
-    /// Takes out a bio, if it waits. On `NoMemory` nothing is left.
-    pub fn take(&mut self, bio: BioId) -> Result<(), NoMemory>
-        ensures taken { OnOk result (self.new ≡ without bio self.old) }
+    /// Takes out a bio that may be next, whose place begins at a sector: true; false, where there is no such one, and
+    /// all stays. On `NoMemory` nothing is left.
+    pub fn take(&mut self, bio: BioId, first: u64) -> Result<bool, NoMemory>
+        ensures taken { IfOk result (λ b. self.new ≡ taken_if b bio self.old) }
         ensures lost { OnErr result (self.new ≡ []) }
     {
-        take(&mut self.lists, bio.number())
+        take(&mut self.lists, bio.number(), first)
     }
 
     /// Takes out all.

@@ -37,7 +37,8 @@ pub fn pick_sweep(mesh: &Mesh, heads: &Heads) -> Option<Step>
 // The first enabled step.
 #[tactic(auto, unfolding(geo_headline::specs::Sweep::pick_sweep))]
 fn first_enabled(mesh: &Mesh, heads: &Heads) -> Option<Step>
-    requires { AreHeads (opened mesh.now) mesh.now.log heads.now }
+    requires none_busy { NoneBusy (world_of mesh.now) }
+    requires heads { AreHeads (opened mesh.now) mesh.now.log heads.now }
     ensures { result ≡ pick_sweep (world_of mesh.now) mesh.now.log }
 {
     if let Some(step) = mesh.first_up() {
@@ -67,17 +68,15 @@ fn first_enabled(mesh: &Mesh, heads: &Heads) -> Option<Step>
     }
 }
 
-// The Take of what is next at the first disk for which something waits, if it is enabled.
+// The Take of what is next at the first disk for which something waits. It is enabled, since no bio is Busy.
 fn next_take(mesh: &Mesh, heads: &Heads) -> Option<Step>
-    requires { AreHeads (opened mesh.now) mesh.now.log heads.now }
+    requires none_busy { NoneBusy (world_of mesh.now) }
+    requires heads { AreHeads (opened mesh.now) mesh.now.log heads.now }
     ensures { result ≡ enabled_one (world_of mesh.now) (first_take (world_of mesh.now) mesh.now.log) }
 {
     // The log is one that a mesh can have, so what is kept is what waits.
     let _log = mesh.log();
-    match heads.next_take() {
-        Some(step) => if_enabled(mesh, step),
-        None => None,
-    }
+    heads.next_take()
 }
 
 impl Order for Heads {

@@ -1,8 +1,11 @@
-use Rattle.std.proofs.Common.{ap, ◌∙◌}
-use Rattle.geo_elev.specs.Lists.{waiting_in}
-use Rattle.geo_elev.proofs.Entries.{comes_last}
+use Rattle.std.proofs.Common.{sym, ◌∙◌}
+use Rattle.geo_elev.specs.Lists.{one_at}
+use Rattle.geo_elev.proofs.Kept.{put_later, then_ok}
 use Rattle.geo_elev.proofs.lists.add.Goals as goal
 
-pub returns-in-Ok : goal.returns-in-Ok
-returns-in-Ok c =
-    ap waiting_in c.in-Ok.ensures.entries ∙ comes_last c.args.bio c.args.place c.args.waiting.now.entries c.requires
+pub returns-else-joins-clause-lists : goal.returns-else-joins-clause-lists
+returns-else-joins-clause-lists c =
+    let m = c.args.lists.now in
+    then_ok c.add_later.result c.add_later.ensures (λ is.
+    (put_later m.front.keys m.flush m.later.items c.add_later.new.later.items m.last (one_at c.args.bio c.args.place)
+    c.requires.lists c.ranges.bio.fits c.requires.below (sym c.joins.ensures ∙ c.if-joins.false) is).lists)

@@ -1,14 +1,24 @@
-use Rattle.std.proofs.Common.{ap, sym, ◌∙◌}
-use Rattle.geo_elev.specs.Lists.{is_none_of}
-use Rattle.geo_elev.proofs.Entries.{none_from}
+use Rattle.std.proofs.Common.{Bool, ◌&&◌, ap, sym, ◌∙◌}
+use Rattle.geo_elev.specs.Lists.{are_below, waiting_in}
+use Rattle.geo_elev.proofs.Kept.{both_below, last_below}
 use Rattle.geo_elev.proofs.lists.are_below.Goals as goal
 
-pub returns-in-Some : goal.returns-in-Some
-returns-in-Some c =
-    sym (ap is_none_of (sym (c.range.ensures.between tt) ∙ c.in-Some.ensures.steps))
-    ∙ none_from c.args.bio c.args.lists.now.waiting.entries
+pub returns-then-lists-bio : goal.returns-then-lists-bio
+returns-then-lists-bio c =
+    let m = c.args.lists.now in
+    last_below m.front.keys m.flush m.later.items m.last c.args.bio c.requires c.if-lists-bio.true
 
-pub returns-in-None : goal.returns-in-None
-returns-in-None c =
-    sym (ap is_none_of (sym (c.range.ensures.between tt) ∙ c.in-None.ensures.steps.0))
-    ∙ none_from c.args.bio c.args.lists.now.waiting.entries
+pub returns-then-keys_below : goal.returns-then-keys_below
+returns-then-keys_below c =
+    let m = c.args.lists.now in
+    c.later_below.ensures
+    ∙ sym (both_below m.front.keys m.flush m.later.items c.args.bio
+    ∙ ap (λ (b : Bool). b && are_below c.args.bio (waiting_in m.later.items))
+    (sym c.keys_below.ensures ∙ c.if-keys_below.true))
+
+pub returns-else-keys_below : goal.returns-else-keys_below
+returns-else-keys_below c =
+    let m = c.args.lists.now in
+    sym (both_below m.front.keys m.flush m.later.items c.args.bio
+    ∙ ap (λ (b : Bool). b && are_below c.args.bio (waiting_in m.later.items))
+    (sym c.keys_below.ensures ∙ c.if-keys_below.false))
