@@ -3,10 +3,12 @@ use Rattle.std.proofs.Common.{◌≡◌, List, [], ◌++◌, Option, Some, None,
 use Rattle.std.proofs.lemmas.List.{append-nil}
 use Rattle.geo_base.specs.declared.limits.TheConstants.{MAX_SCRIPT_BYTES}
 use Rattle.geo_model.specs.declared.step.Entry.{Entry}
+use Rattle.geo_model.specs.World.{World, Plan}
 use Rattle.geo_model.specs.FixedOrder.{FollowsOrder, fixed_order}
 use Rattle.geo_model.specs.Order.{Rest}
-use Rattle.geo_headline.specs.Modes.{Mode, StepMode, RunMode, GenMode, SweepMode, WatchMode, TraceMode, VerifyMode, source_limit}
-use Rattle.geo_headline.specs.Endings.{DueIsFull, IsWhole, LogRanFull}
+use Rattle.geo_headline.specs.Modes.{Mode, RunMode, WatchMode, TraceMode, OpensMesh, source_limit}
+use Rattle.geo_headline.specs.Endings.{DueIsFull, Ending, IsWhole, LogRanFull}
+use Rattle.geo_headline.specs.Headline.{FollowsMode, IsGen}
 use Rattle.geo_serve.specs.Served.{AreServed, IsServedAt}
 use Rattle.geo_laws_disks.specs.DriveLaws.{AreTaken}
 use Rattle.geo_laws_disks.proofs.ServedBy.{parts_serve}
@@ -20,7 +22,10 @@ use Rattle.geo_threads.specs.Left.{ThreadsRan}
 use Rattle.geo_threads.specs.declared.left.JobsEnd.{JobsEnd}
 use Rattle.geo_threads.specs.declared.left.JobsEnd.TheVariants as ends
 use Rattle.geo_run.specs.Drives.{DriveView}
-use Rattle.geo_run.specs.Runners.{AfterThreads, IsOfThreads, Ran, RanOrNot, ending_after}
+use Rattle.geo_run.specs.Runners.{AfterThreads, Ran, RanOrNot, ending_after}
+use Rattle.geo_run.specs.Work.{mode_threaded}
+use Rattle.geo_run.specs.declared.words.Threaded.{Threaded}
+use Rattle.geo_run.specs.declared.words.Threaded.TheVariants as threads
 use Rattle.geo_run.proofs.Asked.{ran_to_rest, served_all}
 
 -- drives that served what threads did, and then what was made after them, served both
@@ -113,43 +118,57 @@ threads_ran old mid new xs zs ys ends.NoMemory answer t (same, drives, is) =
     (subst (λ (r : Result (Unit {0}) DrainRefusal). Ran RunMode old mid xs zs r) (sym is)
     (stopped_ran old mid xs zs ends.NoMemory refusals.NoMemory t (λ e. cc) (λ whole. whole))))
 
--- a trace is asked of such a run
-pub traced : (old : MeshView) (left : Option MeshView) (xs ys : List DriveView)
-    (answer : Result (Unit {0}) DrainRefusal) → RanOrNot RunMode old left xs ys answer
-    → RanOrNot TraceMode old left xs ys answer
-traced old None xs ys answer ran = ran
-traced old (Some new) xs ys answer ran = record {
+-- a run in threads is one of each mode with threads
+in_mode : (mode : Mode)
+    → ((plan : Plan) (w : World) (ending : Ending) (log : List Entry)
+    → FollowsMode RunMode plan w ending log → FollowsMode mode plan w ending log)
+    → ((plan : Plan) (w : World) (log : List Entry) → DueIsFull RunMode plan w log → DueIsFull mode plan w log)
+    → (old : MeshView) (left : Option MeshView) (xs ys : List DriveView) (answer : Result (Unit {0}) DrainRefusal)
+    → RanOrNot RunMode old left xs ys answer → RanOrNot mode old left xs ys answer
+in_mode mode follows due old None xs ys answer ran = ran
+in_mode mode follows due old (Some new) xs ys answer ran = record {
   plan = ran.plan;
   facts = ran.facts;
   history = ran.history;
   fits = ran.fits;
-  follows = ran.follows;
+  follows = follows new.plan (opened new) (ending_after answer) new.log ran.follows;
   served = ran.served;
   rest = ran.rest;
-  full = λ e. let told = ran.full e in record { due = of_trace told.due; nearly = told.nearly };
+  full = λ e. let told = ran.full e in record { due = due new.plan (opened new) new.log told.due; nearly = told.nearly };
 }
-  where
-    of_trace : DueIsFull RunMode new.plan (opened new) new.log → DueIsFull TraceMode new.plan (opened new) new.log
-    of_trace (inl due) = inl due
-    of_trace (inr (threads, job)) = inr (refl, job)
 
--- so with each mode whose scripts are run so
-pub run_of_mode : (mode : Mode) (old : MeshView) (left : Option MeshView) (xs ys : List DriveView)
-    (answer : Result (Unit {0}) DrainRefusal) → IsOfThreads mode → RanOrNot RunMode old left xs ys answer
-    → RanOrNot mode old left xs ys answer
-run_of_mode RunMode old left xs ys answer is ran = ran
-run_of_mode TraceMode old left xs ys answer is ran = traced old left xs ys answer ran
-run_of_mode StepMode old left xs ys answer is ran = absurd is
-run_of_mode (GenMode s c) old left xs ys answer is ran = absurd is
-run_of_mode SweepMode old left xs ys answer is ran = absurd is
-run_of_mode WatchMode old left xs ys answer is ran = absurd is
-run_of_mode VerifyMode old left xs ys answer is ran = absurd is
+due_of_watch : (plan : Plan) (w : World) (log : List Entry) → DueIsFull RunMode plan w log
+    → DueIsFull WatchMode plan w log
+due_of_watch plan w log (inl due) = inl due
+due_of_watch plan w log (inr job) = inr (refl, job.1)
 
-pub limit_of_mode : (mode : Mode) → IsOfThreads mode → MAX_SCRIPT_BYTES ≡ source_limit mode
-limit_of_mode RunMode is = refl
-limit_of_mode TraceMode is = refl
-limit_of_mode StepMode is = absurd is
-limit_of_mode (GenMode s c) is = absurd is
-limit_of_mode SweepMode is = absurd is
-limit_of_mode WatchMode is = absurd is
-limit_of_mode VerifyMode is = absurd is
+due_of_trace : (plan : Plan) (w : World) (log : List Entry) → DueIsFull RunMode plan w log
+    → DueIsFull TraceMode plan w log
+due_of_trace plan w log (inl due) = inl due
+due_of_trace plan w log (inr job) = inr (refl, job.1)
+
+pub ran_as : (work : Threaded) (old : MeshView) (left : Option MeshView) (xs ys : List DriveView)
+    (answer : Result (Unit {0}) DrainRefusal) → RanOrNot RunMode old left xs ys answer
+    → RanOrNot (mode_threaded work) old left xs ys answer
+ran_as threads.Run old left xs ys answer ran = ran
+ran_as threads.Watch old left xs ys answer ran =
+    in_mode WatchMode (λ plan w ending log f. f) due_of_watch old left xs ys answer ran
+ran_as threads.Trace old left xs ys answer ran =
+    in_mode TraceMode (λ plan w ending log f. f) due_of_trace old left xs ys answer ran
+
+-- What the works of threads ask for
+
+pub script_limit : (work : Threaded) → MAX_SCRIPT_BYTES ≡ source_limit (mode_threaded work)
+script_limit threads.Run = refl
+script_limit threads.Watch = refl
+script_limit threads.Trace = refl
+
+pub opens_mesh : (work : Threaded) → OpensMesh (mode_threaded work)
+opens_mesh threads.Run = tt
+opens_mesh threads.Watch = tt
+opens_mesh threads.Trace = tt
+
+pub makes_no_script : (work : Threaded) → IsGen (mode_threaded work) → ⊥
+makes_no_script threads.Run gen = gen
+makes_no_script threads.Watch gen = gen
+makes_no_script threads.Trace gen = gen

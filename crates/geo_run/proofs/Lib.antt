@@ -18,6 +18,7 @@ pub mod Generated
 pub mod Idle
 pub mod OneThread
 pub mod InThreads
+pub mod Watching
 pub mod Running
 pub mod Reading
 pub mod Keeping

@@ -122,3 +122,13 @@ script_ran text mode mesh left facts names xs ys answer finish a m b (is, o) ran
     (subst (λ (ns : List (List ℕ)). RunsDrives mode mesh.plan ns xs finish.facts.items (entries_in finish.log)
     (ending_by finish.due) m b) o.named (closes.runs mesh xs ran o.facts_are o.sizes)))
     (closes.due mesh xs ran o.facts_are o.sizes)
+
+-- the same where what is reported has this mode
+pub script_ran_as : (text : List ℕ) (mode told : Mode) (mesh : MeshView) (left : Option MeshView)
+    (facts : List (ℕ × ℕ)) (names : List (List ℕ)) (xs ys : List DriveView)
+    (answer : Result (Unit {0}) DrainRefusal) (finish : Finish) (a m b : ShelfView)
+    → OpensScript text a mesh facts names xs m → RanOrNot mode mesh left xs ys answer → told ≡ mode
+    → FinishesRun told text names left facts ys answer finish m b → FinishesText text mode finish a b
+script_ran_as text mode told mesh left facts names xs ys answer finish a m b opens ran is closes =
+    script_ran text mode mesh left facts names xs ys answer finish a m b opens ran
+    (subst (λ (z : Mode). FinishesRun z text names left facts ys answer finish m b) is closes)

@@ -7,5 +7,6 @@ pub mod Stops
 pub mod Writes
 pub mod Ends
 pub mod Runners
+pub mod Reports
 pub mod Calls
 pub mod Opened

@@ -1,12 +1,12 @@
 -- How a mesh is run over its drives, by one thread or by many.
-use Rattle.std.specs.Prelude.{◌≡◌, ℕ, List, [], map, Option, Some, None, Result, Ok, Err, OnOk, IsErrOf, ⊤}
+use Rattle.std.specs.Prelude.{◌≡◌, ℕ, List, [], map, Option, Some, None, Result, Ok, Err, OnOk, IsErrOf}
 use Rattle.geo_model.specs.Log.{Fits}
 use Rattle.geo_model.specs.FixedOrder.{FollowsOrder, StepOrder, fixed_order}
 use Rattle.geo_model.specs.History.{KeepsHistory, RanToItsEnd}
 use Rattle.geo_model.specs.Order.{Rest}
 use Rattle.geo_headline.specs.Endings.{Ending, Reported, OutOfMemory, LogFull, LogRanFull, reported}
 use Rattle.geo_headline.specs.Headline.{FollowsMode}
-use Rattle.geo_headline.specs.Modes.{Mode, RunMode, TraceMode}
+use Rattle.geo_headline.specs.Modes.{Mode}
 use Rattle.geo_elev.specs.Meshes.{IsHistory, MeshView, opened, world_of}
 use Rattle.geo_elev.specs.Drain as drain
 use Rattle.geo_elev.specs.DrainRefusal.{DrainRefusal}
@@ -81,9 +81,3 @@ AfterThreads ends.LogFull old new before after answer =
     (new ≡ old) × (after ≡ before) × (answer ≡ Err refusals.LogFull)
 AfterThreads ends.NoMemory old new before after answer =
     (new ≡ old) × (after ≡ before) × (answer ≡ Err refusals.NoMemory)
-
--- the modes whose scripts are run so
-abbrev pub IsOfThreads : Mode → Type 0
-IsOfThreads RunMode = ⊤
-IsOfThreads TraceMode = ⊤
-IsOfThreads _ = ⊥

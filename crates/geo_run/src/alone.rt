@@ -134,6 +134,8 @@ impl Reporter for Step {
 }
 
 impl<D: Disk> Runner<D> for Step {
+    ghost knows_all = { λ _ _. tt };
+
     fn run(&self, alloc: Global, mesh: Mesh, drives: Vec<Drive<D>>) -> Driven<D>
         requires new { mesh.log ≡ [] }
         requires drives { DrivesFit mesh (map (drive_view D.view) drives.items) }
@@ -160,6 +162,8 @@ impl Reporter for Sweep {
 }
 
 impl<D: Disk> Runner<D> for Sweep {
+    ghost knows_all = { λ _ _. tt };
+
     fn run(&self, alloc: Global, mesh: Mesh, drives: Vec<Drive<D>>) -> Driven<D>
         requires new { mesh.log ≡ [] }
         requires drives { DrivesFit mesh (map (drive_view D.view) drives.items) }
@@ -187,6 +191,8 @@ impl Reporter for Generation {
 }
 
 impl<D: Disk> Runner<D> for Generation {
+    ghost knows_all = { λ _ _. tt };
+
     fn run(&self, alloc: Global, mesh: Mesh, drives: Vec<Drive<D>>) -> Driven<D>
         requires new { mesh.log ≡ [] }
         requires drives { DrivesFit mesh (map (drive_view D.view) drives.items) }

@@ -1,6 +1,6 @@
 //! What is due at the end of a run, and how it is written.
 ghost use Rattle.std.specs.Prelude.{◌≡◌, ◌≢◌, ℕ, List, [], IfOk, codes};
-ghost use Rattle.geo_headline.specs.Endings.{Answered, BadWords, ReportedButFault, due_text};
+ghost use Rattle.geo_headline.specs.Endings.{Answered, ReportedButFault, due_text};
 ghost use Rattle.geo_run.specs.Stops.{IsDue, ending_by, ending_of, ending_with};
 ghost use Rattle.geo_run.specs.Writes.{Writes, WritesEnding, WritesMade};
 
@@ -117,14 +117,6 @@ pub fn write_due<K: Sink>(alloc: Global, due: &Due, sink: &mut K) -> u8
         Due::Report { text, kept } => write_report(alloc, text.bytes(), kept, sink),
         Due::Stopped(stop) => write_stop(alloc, stop, sink),
     }
-}
-
-/// Writes how the program is used, and gives the status, which is 1, or 4 where the sink fails.
-pub fn write_usage<K: Sink>(sink: &mut K) -> u8
-    ensures { Writes result 1 (due_text [] BadWords) (K.view sink.old)
-        (K.view sink.new) }
-{
-    written(sink, 1, USAGE)
 }
 
 /// Writes that memory ran out, and gives the status, which is 6, or 4 where the sink fails.

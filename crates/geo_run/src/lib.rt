@@ -14,11 +14,12 @@ mod script_run;
 mod source_run;
 mod stop;
 mod threaded;
+mod threaded_report;
 mod top;
 mod verify_run;
 mod words;
 
 pub use geo_elev::{ApplyRefusal, Mesh};
 pub use geo_threads::{Gate, GatePlace, OpenGate};
-pub use top::{Ended, refuse_words, run, run_alone, without_memory};
-pub use words::{Threaded, asks_watch, threads_of};
+pub use top::{Ended, run, run_alone, without_memory};
+pub use words::{Threaded, threads_of};

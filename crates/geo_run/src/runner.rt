@@ -1,9 +1,11 @@
 //! Who makes the steps of an open mesh, and what is reported of it then.
-ghost use Rattle.std.specs.Prelude.{◌≡◌, [], Some, map, IfOk};
+ghost use Rattle.std.specs.Prelude.{◌≡◌, [], Some, map, IfOk, ⊤};
 ghost use Rattle.geo_model.specs.Script.{IsScript};
+ghost use Rattle.geo_model.specs.World.{World};
 ghost use Rattle.geo_headline.specs.Endings.{reported};
 ghost use Rattle.geo_headline.specs.Modes.{Mode};
 ghost use Rattle.geo_elev.specs.Drain.{DrivesFit};
+ghost use Rattle.geo_elev.specs.Meshes.{opened};
 ghost use Rattle.geo_run.specs.Drives.{drive_view};
 ghost use Rattle.geo_run.specs.Runners.{RanOrNot};
 
@@ -29,6 +31,9 @@ pub trait Reporter {
     /// What the program is asked to do.
     ghost mode: { Self → Mode };
 
+    /// What it knows of the world with which the mesh opened.
+    ghost knows: { Self → World → Type 0 } = { λ _ _. ⊤ };
+
     /// What is reported of a mesh that came of this script, and began with these sizes.
     fn report(
         &self,
@@ -39,6 +44,7 @@ pub trait Reporter {
     ) -> Result<Block, NoMemory>
         requires script { IsScript script.now mesh.now.plan }
         requires facts { facts.now.items ≡ mesh.now.facts }
+        requires known { knows self.now (opened mesh.now) }
         ensures { IfOk result (λ text.
             text ≡ reported (mode self.now) script.now mesh.now.plan mesh.now.facts (Some mesh.now.log)) };
 }
@@ -53,4 +59,7 @@ pub trait Runner<D: Disk>: Reporter {
         ensures { RanOrNot (Self.mode self.now) mesh result.mesh
             (map (drive_view D.view) drives.items)
             (map (drive_view D.view) result.drives.items) result.answer };
+
+    /// It reports without knowing how the mesh opened.
+    ghost knows_all: { (runner : Self) (w : World) → Self.knows runner w };
 }

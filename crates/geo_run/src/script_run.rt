@@ -2,6 +2,7 @@
 //! made.
 ghost use Rattle.std.specs.Prelude.{◌≡◌, ◌<◌, ◌^◌, length, map, IfSome};
 ghost use Rattle.geo_model.specs.Script.{IsScript};
+ghost use Rattle.geo_elev.specs.Meshes.{opened};
 ghost use Rattle.geo_run.specs.Calls.{FinishesText};
 ghost use Rattle.geo_run.specs.Drives.{drive_view};
 ghost use Rattle.geo_run.specs.Ends.{IsDueOf};
@@ -32,6 +33,7 @@ fn due_of<C: Reporter>(
 ) -> Due
     requires script { IsScript script.now mesh.now.plan }
     requires facts { facts.now.items ≡ mesh.now.facts }
+    requires known { C.knows reporter.now (opened mesh.now) }
     ensures { IsDueOf (C.mode reporter.now) script.now mesh.now answer kept result }
 {
     match answer {
@@ -61,6 +63,7 @@ where
         (map (drive_view H.D.view) driven.drives.items) }
     requires script { IfSome driven.mesh (λ m. IsScript script.now m.plan) }
     requires facts { IfSome driven.mesh (λ m. facts.items ≡ m.facts) }
+    requires known { IfSome driven.mesh (λ m. C.knows reporter.now (opened m)) }
     ensures { FinishesRun (C.mode reporter.now) script.now names.items driven.mesh facts.items
         (map (drive_view H.D.view) driven.drives.items) driven.answer result
         (H.view shelf.old)

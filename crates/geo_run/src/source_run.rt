@@ -1,7 +1,7 @@
 //! The runs of the program: of the script that the source gives, and of the one that is made from a number.
 ghost use Rattle.std.specs.Prelude.{◌≡◌};
 ghost use Rattle.geo_model.specs.Generator.{generated};
-ghost use Rattle.geo_headline.specs.Modes.{Accepts, IsAlone, IsMode, GenMode, WatchMode, source_limit};
+ghost use Rattle.geo_headline.specs.Modes.{Accepts, IsAlone, IsMode, GenMode, source_limit};
 ghost use Rattle.geo_run.specs.Work.{mode_threaded, word_bytes};
 ghost use Rattle.geo_run.specs.Calls.{Finishes, FinishesText, FinishesSource};
 
@@ -11,7 +11,7 @@ use crate::read::read_source;
 use crate::runner::Runner;
 use crate::script_run::run_script;
 use crate::stop::Stop;
-use crate::threaded::{Run, Trace, run_source_in_threads};
+use crate::threaded::run_source_in_threads;
 use crate::verify_run::run_verify;
 use crate::words::{Threaded, Work, work_of};
 use geo_base::MAX_SCRIPT_BYTES;
@@ -97,16 +97,11 @@ pub fn run_threaded<R: Threads + Wait + Sync + AllocGlobal, S: Source, H: Shelf,
 where
     H::D: Drop + Send,
     requires asked { Accepts (word_bytes words.now) (mode_threaded work) }
-    requires no_watch { Accepts (word_bytes words.now) WatchMode → ⊥ }
     ensures { Finishes (word_bytes words.now) result
         (S.view source.old)
         (S.view source.new)
         (H.view shelf.old)
         (H.view shelf.new) }
 {
-    match work {
-        Threaded::Run => run_source_in_threads(rt, gate, source, &Run, shelf),
-        Threaded::Trace => run_source_in_threads(rt, gate, source, &Trace, shelf),
-        Threaded::Watch => unreachable!(),
-    }
+    run_source_in_threads(rt, gate, source, work, shelf)
 }

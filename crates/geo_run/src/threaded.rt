@@ -1,42 +1,35 @@
-//! The works of threads: a script that is run by jobs, and the trace of such a run.
-ghost use Rattle.std.specs.Prelude.{◌≡◌, ◌<◌, ◌^◌, [], Some, length, map, IfOk, OnOk, IsErrOf};
+//! The works of threads: a script that is run by jobs, and what is reported of it.
+ghost use Rattle.std.specs.Prelude.{◌≡◌, ◌<◌, ◌^◌, [], Err, None, length, map, IfOk, IfSome, OnOk, IsErrOf};
 ghost use Rattle.geo_model.specs.FixedOrder.{fixed_order};
 ghost use Rattle.geo_model.specs.Laws.{NoneBusy};
+ghost use Rattle.geo_model.specs.Listing.{listing};
 ghost use Rattle.geo_model.specs.Order.{Rest};
-ghost use Rattle.geo_model.specs.Script.{IsScript};
-ghost use Rattle.geo_headline.specs.Endings.{reported};
-ghost use Rattle.geo_headline.specs.Modes.{RunMode, TraceMode};
+ghost use Rattle.geo_headline.specs.Modes.{RunMode, WatchMode};
 ghost use Rattle.geo_elev.specs.Drain.{DrivesFit, RanFull, Runs};
-ghost use Rattle.geo_elev.specs.Meshes.{IsHistory, world_of};
+ghost use Rattle.geo_elev.specs.Meshes.{IsHistory, opened, world_of};
 ghost use Rattle.geo_run.specs.Drives.{drive_view};
 ghost use Rattle.geo_run.specs.Calls.{FinishesSource, FinishesText};
-ghost use Rattle.geo_run.specs.Runners.{AfterThreads, IsOfThreads, RanOrNot};
+ghost use Rattle.geo_run.specs.Reports.{KnowsOpening, mode_reported};
+ghost use Rattle.geo_run.specs.Runners.{AfterThreads, RanOrNot};
+ghost use Rattle.geo_run.specs.Work.{mode_threaded};
 
-use crate::alone::report_of;
 use crate::finish::{Finish, unopened};
 use crate::lent::Lent;
 use crate::opened::{Opened, open_script};
 use crate::read::read_source;
-use crate::runner::{Driven, Reporter};
+use crate::runner::Driven;
 use crate::script_run::finish_run;
-use geo_base::{Block, MAX_SCRIPT_BYTES, NoMemory};
+use crate::threaded_report::ThreadedReport;
+use crate::words::Threaded;
+use geo_base::{MAX_SCRIPT_BYTES, NoMemory};
 use geo_disk::{Disk, Drive, Shelf};
 use geo_elev::{DrainRefusal, FixedOrder, Mesh, run_to_rest};
 use geo_io::Source;
-use geo_log::DiskFacts;
-use geo_threads::{Gate, JobsEnd, Left, run_threads};
-use geo_verify::trace_text;
+use geo_model::MeshList;
+use geo_threads::{Gate, JobsEnd, Left, Seen, run_threads};
 use std::alloc::Global;
 use std::sync::Wait;
 use std::thread::Threads;
-
-/// Reports of a script that was run in threads: the word `run`.
-#[derive(Clone, Copy, Debug)]
-pub struct Run;
-
-/// Reports the trace of the same: the word `trace`.
-#[derive(Clone, Copy, Debug)]
-pub struct Trace;
 
 /// Brings what threads left to rest, over a list of drives.
 fn rest_over<D: Disk>(
@@ -76,9 +69,61 @@ fn after_threads<D: Disk>(
     }
 }
 
-/// Runs a mesh that has no step yet in threads, and then makes what they left. Where memory is wanting before the first
-/// thread nothing is done.
+/// A mesh for which memory was wanting before its first step.
+fn undriven<D>(drives: Vec<Drive<D>>) -> Driven<D>
+    ensures mesh { result.mesh ≡ None }
+    ensures drives { result.drives ≡ drives }
+    ensures answer { result.answer ≡ Err DrainRefusal.NoMemory }
+{
+    Driven {
+        mesh: None,
+        drives,
+        answer: Err(DrainRefusal::NoMemory),
+    }
+}
+
+/// Runs a mesh that has no step yet in threads, and then makes what they left. If `shown` is there, it is the mesh as it
+/// is printed before the first step: it is shown, and what was seen last comes back. Where memory is wanting before the
+/// first thread nothing is done.
 fn run_in_threads<D: Disk + Drop + Send, R: Threads + Wait + Sync + AllocGlobal, G: Gate + Sync>(
+    rt: &R,
+    gate: &G,
+    mesh: Mesh,
+    drives: Vec<Drive<D>>,
+    shown: Option<MeshList>,
+) -> (Driven<D>, Seen)
+    requires new { mesh.log ≡ [] }
+    requires history { IsHistory mesh }
+    requires drives { DrivesFit mesh (map (drive_view D.view) drives.items) }
+    requires shown { IfSome shown (λ list. list ≡ listing (world_of mesh)) }
+    ensures { RanOrNot RunMode mesh result.0.mesh
+        (map (drive_view D.view) drives.items)
+        (map (drive_view D.view) result.0.drives.items) result.0.answer }
+{
+    match run_threads(rt, gate, mesh, drives, shown) {
+        Ok(left) => {
+            let Left {
+                mesh,
+                drives,
+                ended,
+                seen,
+            } = left;
+            let mut mesh = mesh;
+            let mut drives = drives;
+            let answer = after_threads(rt.alloc(), ended, &mut mesh, &mut drives);
+            let driven = Driven {
+                mesh: Some(mesh),
+                drives,
+                answer,
+            };
+            (driven, seen)
+        }
+        Err(drives) => (undriven(drives), Seen::NoMemory),
+    }
+}
+
+/// Runs a mesh that has no step yet in threads, and shows nothing.
+fn run_unseen<D: Disk + Drop + Send, R: Threads + Wait + Sync + AllocGlobal, G: Gate + Sync>(
     rt: &R,
     gate: &G,
     mesh: Mesh,
@@ -91,88 +136,88 @@ fn run_in_threads<D: Disk + Drop + Send, R: Threads + Wait + Sync + AllocGlobal,
         (map (drive_view D.view) drives.items)
         (map (drive_view D.view) result.drives.items) result.answer }
 {
-    match run_threads(rt, gate, mesh, drives) {
-        Ok(left) => {
-            let Left {
-                mesh,
-                drives,
-                ended,
-            } = left;
-            let mut mesh = mesh;
-            let mut drives = drives;
-            let answer = after_threads(rt.alloc(), ended, &mut mesh, &mut drives);
-            Driven {
-                mesh: Some(mesh),
-                drives,
-                answer,
-            }
-        }
-        Err(drives) => Driven {
-            mesh: None,
-            drives,
-            answer: Err(DrainRefusal::NoMemory),
-        },
-    }
+    let (driven, seen) = run_in_threads(rt, gate, mesh, drives, None);
+    drop(seen);
+    driven
 }
 
-impl Reporter for Run {
-    ghost mode = { λ _. RunMode };
-
-    fn report(
-        &self,
-        alloc: Global,
-        _script: &[u8],
-        mesh: &Mesh,
-        _facts: &DiskFacts,
-    ) -> Result<Block, NoMemory> {
-        report_of(alloc, mesh)
-    }
-}
-
-/// The trace of a mesh that came of a script, with its report.
-fn trace_of(alloc: Global, script: &[u8], mesh: &Mesh, facts: &DiskFacts) -> Result<Block, NoMemory>
-    requires script { IsScript script.now mesh.now.plan }
-    requires facts { facts.now.items ≡ mesh.now.facts }
-    ensures { IfOk result (λ text.
-        text ≡ reported TraceMode script.now mesh.now.plan mesh.now.facts (Some mesh.now.log)) }
+/// The mesh as it is printed, twice.
+fn listed_twice(alloc: Global, mesh: &Mesh) -> Result<(MeshList, MeshList), NoMemory>
+    ensures first { IfOk result (λ lists. lists.0 ≡ listing (world_of mesh.now)) }
+    ensures second { IfOk result (λ lists. lists.1 ≡ listing (world_of mesh.now)) }
 {
-    let report = report_of(alloc, mesh)?;
-    trace_text(
-        alloc,
-        mesh.plan(),
-        script,
-        facts,
-        mesh.log(),
-        report.bytes(),
-    )
+    let list = mesh.listing(alloc)?;
+    let copy = list.copy(alloc)?;
+    Ok((list, copy))
 }
 
-impl Reporter for Trace {
-    ghost mode = { λ _. TraceMode };
+/// Runs a mesh that has no step yet in threads, which show it as it is printed before the first step, and then each
+/// listing that the first actor is replied. Where memory for the first is wanting nothing is done.
+fn run_watched<D: Disk + Drop + Send, R: Threads + Wait + Sync + AllocGlobal, G: Gate + Sync>(
+    rt: &R,
+    gate: &G,
+    mesh: Mesh,
+    drives: Vec<Drive<D>>,
+) -> (Driven<D>, ThreadedReport)
+    requires new { mesh.log ≡ [] }
+    requires history { IsHistory mesh }
+    requires drives { DrivesFit mesh (map (drive_view D.view) drives.items) }
+    ensures ran { RanOrNot RunMode mesh result.0.mesh
+        (map (drive_view D.view) drives.items)
+        (map (drive_view D.view) result.0.drives.items) result.0.answer }
+    ensures mode { mode_reported result.1 ≡ WatchMode }
+    ensures known { IfSome result.0.mesh (λ m. KnowsOpening result.1 (opened m)) }
+{
+    match listed_twice(rt.alloc(), &mesh) {
+        Ok((opening, shown)) => {
+            let (driven, seen) = run_in_threads(rt, gate, mesh, drives, Some(shown));
+            (driven, ThreadedReport::Watch { opening, seen })
+        }
+        Err(_) => {
+            drop(mesh);
+            let opening = MeshList::new(rt.alloc());
+            let seen = Seen::NoMemory;
+            (undriven(drives), ThreadedReport::Watch { opening, seen })
+        }
+    }
+}
 
-    fn report(
-        &self,
-        alloc: Global,
-        script: &[u8],
-        mesh: &Mesh,
-        facts: &DiskFacts,
-    ) -> Result<Block, NoMemory> {
-        trace_of(alloc, script, mesh, facts)
+/// Runs a mesh that has no step yet in threads, and says what is to be reported of it.
+fn run_as<D: Disk + Drop + Send, R: Threads + Wait + Sync + AllocGlobal, G: Gate + Sync>(
+    rt: &R,
+    gate: &G,
+    work: Threaded,
+    mesh: Mesh,
+    drives: Vec<Drive<D>>,
+) -> (Driven<D>, ThreadedReport)
+    requires new { mesh.log ≡ [] }
+    requires history { IsHistory mesh }
+    requires drives { DrivesFit mesh (map (drive_view D.view) drives.items) }
+    ensures ran { RanOrNot (mode_threaded work) mesh result.0.mesh
+        (map (drive_view D.view) drives.items)
+        (map (drive_view D.view) result.0.drives.items) result.0.answer }
+    ensures mode { mode_reported result.1 ≡ mode_threaded work }
+    ensures known { IfSome result.0.mesh (λ m. KnowsOpening result.1 (opened m)) }
+{
+    match work {
+        Threaded::Run => (run_unseen(rt, gate, mesh, drives), ThreadedReport::Run),
+        Threaded::Watch => run_watched(rt, gate, mesh, drives),
+        Threaded::Trace => (run_unseen(rt, gate, mesh, drives), ThreadedReport::Trace),
     }
 }
 
 /// Runs a script in threads over the disks of a shelf.
-fn run_script_in_threads<
-    R: Threads + Wait + Sync + AllocGlobal,
-    H: Shelf,
-    G: Gate + Sync,
-    C: Reporter,
->(rt: &R, gate: &G, text: &[u8], reporter: &C, shelf: &mut H) -> Finish
+fn run_script_in_threads<R: Threads + Wait + Sync + AllocGlobal, H: Shelf, G: Gate + Sync>(
+    rt: &R,
+    gate: &G,
+    text: &[u8],
+    work: Threaded,
+    shelf: &mut H,
+) -> Finish
 where
     H::D: Drop + Send,
-    requires length { length text.now < 2 ^ 32 }
-    requires mode { IsOfThreads (C.mode reporter.now) }
-    ensures { FinishesText text.now (C.mode reporter.now) result
+    requires { length text.now < 2 ^ 32 }
+    ensures { FinishesText text.now (mode_threaded work) result
         (H.view shelf.old)
         (H.view shelf.new) }
 {
@@ -180,8 +225,8 @@ where
         Ok(opened) => {
             let Opened { mesh, facts, lent } = opened;
             let Lent { names, drives } = lent;
-            let driven = run_in_threads(rt, gate, mesh, drives);
-            finish_run(rt.alloc(), text, names, facts, driven, reporter, shelf)
+            let (driven, report) = run_as(rt, gate, work, mesh, drives);
+            finish_run(rt.alloc(), text, names, facts, driven, &report, shelf)
         }
         Err(stop) => unopened(rt.alloc(), stop),
     }
@@ -193,19 +238,17 @@ pub fn run_source_in_threads<
     S: Source,
     H: Shelf,
     G: Gate + Sync,
-    C: Reporter,
->(rt: &R, gate: &G, source: &mut S, reporter: &C, shelf: &mut H) -> Finish
+>(rt: &R, gate: &G, source: &mut S, work: Threaded, shelf: &mut H) -> Finish
 where
     H::D: Drop + Send,
-    requires mode { IsOfThreads (C.mode reporter.now) }
-    ensures { FinishesSource (C.mode reporter.now)
+    ensures { FinishesSource (mode_threaded work)
         (S.view source.old)
         (S.view source.new) result
         (H.view shelf.old)
         (H.view shelf.new) }
 {
     match read_source(rt.alloc(), source, MAX_SCRIPT_BYTES) {
-        Ok(text) => run_script_in_threads(rt, gate, text.bytes(), reporter, shelf),
+        Ok(text) => run_script_in_threads(rt, gate, text.bytes(), work, shelf),
         Err(stop) => unopened(rt.alloc(), stop),
     }
 }

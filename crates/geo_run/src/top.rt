@@ -1,14 +1,13 @@
 //! The top call.
 ghost use Rattle.std.specs.Prelude.{◌≡◌, [], ℕ, List, codes};
-ghost use Rattle.geo_headline.specs.Endings.{BadWords, due_text};
 ghost use Rattle.geo_headline.specs.Headline.{IsComplete};
 ghost use Rattle.geo_run.specs.Calls.{Keeps, call_of, outside_of};
-ghost use Rattle.geo_headline.specs.Modes.{Accepts, IsAlone, WatchMode};
+ghost use Rattle.geo_headline.specs.Modes.{IsAlone};
 ghost use Rattle.geo_run.specs.Work.{word_bytes};
 ghost use Rattle.geo_run.specs.Stops.{IsDue, ending_by};
 ghost use Rattle.geo_run.specs.Writes.{Writes, WritesEnding};
 
-use crate::due::{write_due, write_out_of_memory, write_usage};
+use crate::due::{write_due, write_out_of_memory};
 use crate::finish::Finish;
 use crate::source_run::{run_threaded, run_words};
 use crate::words::threads_of;
@@ -80,8 +79,10 @@ fn write_finish<K: Sink>(alloc: Global, finish: Finish, sink: &mut K) -> Ended
 /// All work of the program. Words that start no thread are run as `run_alone` runs them. On the word `run` the script
 /// that the source gives is run over the disks of the shelf by a thread for each of its actors and five more, and its
 /// report is written; on `trace` the same, and the trace of the run is written. The threads make the steps under one
-/// lock, as far as they come, and are joined; what they leave is made by the caller's. The gate may hold a thread at its
-/// places, for as long as it likes.
+/// lock, as far as they come, and are joined; what they leave is made by the caller's. On `watch` the first actor's
+/// thread besides shows the mesh as it is printed, before the first step and at each `mesh` of its own that it makes, and
+/// one thread more looks at what is shown, without waiting; behind the report stands what was shown last. The gate may
+/// hold a thread at its places, for as long as it likes.
 pub fn run<R: Threads + Wait + Sync + AllocGlobal, S: Source, K: Sink, H: Shelf, G: Gate + Sync>(
     rt: &R,
     words: &[String],
@@ -92,7 +93,6 @@ pub fn run<R: Threads + Wait + Sync + AllocGlobal, S: Source, K: Sink, H: Shelf,
 ) -> Ended
 where
     H::D: Drop + Send,
-    requires no_watch { Accepts (word_bytes words.now) WatchMode → ⊥ }
     ensures keeps { Keeps (call_of (word_bytes words.now) result
         (outside_of (S.view source.old)
         (K.view sink.old)
@@ -125,13 +125,4 @@ pub fn without_memory<K: Sink>(sink: &mut K) -> u8
         (K.view sink.new) }
 {
     write_out_of_memory(sink)
-}
-
-/// The end of a program whose words aren't its own: it writes how the program is used, and gives the exit status, which
-/// is 1, or 4 where the sink fails.
-pub fn refuse_words<K: Sink>(sink: &mut K) -> u8
-    ensures { Writes result 1 (due_text [] BadWords) (K.view sink.old)
-        (K.view sink.new) }
-{
-    write_usage(sink)
 }

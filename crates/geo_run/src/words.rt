@@ -1,6 +1,5 @@
 //! The words of the program.
-ghost use Rattle.std.specs.Prelude.{◌≡◌, ◌↔◌, [], ◌∷◌, IsFalse, IsTrue, codes, string_bytes};
-ghost use Rattle.geo_headline.specs.Modes.{Accepts, WatchMode};
+ghost use Rattle.std.specs.Prelude.{◌≡◌, ◌↔◌, [], ◌∷◌, IsTrue, codes, string_bytes};
 ghost use Rattle.geo_run.specs.Numbers.{IsNumberWithin, IsPlain};
 ghost use Rattle.geo_run.specs.Work.{AsksCount, AsksFor, AsksThreaded, word_bytes};
 
@@ -103,20 +102,12 @@ fn is_only(words: &[String], only: &str) -> bool
     }
 }
 
-/// Whether the words ask to show what a watcher saw: whether they are the one word `watch`.
-pub fn asks_watch(words: &[String]) -> bool
-    ensures yes { IsTrue result → Accepts (word_bytes words.now) WatchMode }
-    ensures no { IsFalse result → Accepts (word_bytes words.now) WatchMode → ⊥ }
-{
-    is_only(words, "watch")
-}
-
 /// What words ask for that start threads.
 #[derive(Clone, Copy, Debug, PartialEq, Eq)]
 pub enum Threaded {
     /// Run the script that the source gives in threads.
     Run,
-    /// The same, and show what a watcher saw.
+    /// The same, and report besides what was shown last of the mesh.
     Watch,
     /// The same, and report the trace of the run.
     Trace,

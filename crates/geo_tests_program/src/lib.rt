@@ -25,3 +25,5 @@ mod scripts;
 mod steps;
 #[cfg(test)]
 mod users;
+#[cfg(test)]
+mod watched;

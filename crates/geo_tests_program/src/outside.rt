@@ -5,10 +5,12 @@ use crate::contents::{Failures, failures_of};
 use geo_base::{Block, Calls, Name, NoMemory};
 use geo_disk::MemShelf;
 use geo_io::{MemSink, MemSource};
-use geo_run::{Ended, run_alone, threads_of};
+use geo_run::{Ended, OpenGate, run_alone, threads_of};
 use std::alloc::Global;
 use std::process::Abort;
+use std::sync::Wait;
 use std::test::Fail;
+use std::thread::Threads;
 
 /// Room for each report.
 const ROOM: u32 = 4096;
@@ -90,9 +92,9 @@ pub fn put_failing(
     }
 }
 
-// The words of the program.
-fn words(alloc: Global) -> Option<Vec<String>> {
-    let word = String::from_str(alloc, "step").ok()?;
+// The words of the program, which are this one.
+fn words_of(alloc: Global, word: &str) -> Option<Vec<String>> {
+    let word = String::from_str(alloc, word).ok()?;
     let mut words = Vec::new(alloc);
     match words.push(word).ok() {
         Some(()) => Some(words),
@@ -119,8 +121,26 @@ fn run_words(rt: &impl Abort, alloc: Global, words: &[String], outside: &mut Out
 
 /// The run of the script, or none where there is no memory for the words. What it answers is dropped by a call.
 pub fn run(rt: &impl Abort, alloc: Global, outside: &mut Outside) -> Option<Ended> {
-    let words = words(alloc)?;
+    let words = words_of(alloc, "step")?;
     let ended = run_words(rt, alloc, words.as_slice(), outside);
+    drop(words);
+    Some(ended)
+}
+
+/// The same by threads, which show the mesh.
+pub fn watch<R: Threads + Wait + Sync + AllocGlobal>(
+    rt: &R,
+    outside: &mut Outside,
+) -> Option<Ended> {
+    let words = words_of(rt.alloc(), "watch")?;
+    let ended = geo_run::run(
+        rt,
+        words.as_slice(),
+        &mut outside.source,
+        &mut outside.sink,
+        &mut outside.shelf,
+        &OpenGate,
+    );
     drop(words);
     Some(ended)
 }

@@ -339,3 +339,24 @@ a delete h 0 1024
 a flush h
 a read h 0 2048
 ";
+
+/// A disk that is read, and no `mesh` that could be shown.
+pub const UNLISTED: &[u8] = b"ram md0 512 4
+actor a
+a open h md0 r1w0e0
+a read h 0 512
+a sync
+";
+
+pub const UNLISTED_REPORT: &[u8] = b"3 ok
+4 ok 00*512
+5 ok
+geom DISK md0 rank 1
+  provider md0 size 2048 sector 512 r1w0e0
+";
+
+/// The mesh before the first step.
+pub const UNLISTED_VIEW: &[u8] = b"view 0
+geom DISK md0 rank 1
+  provider md0 size 2048 sector 512 r0w0e0
+";

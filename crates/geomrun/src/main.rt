@@ -4,7 +4,7 @@
 
 use geo_file::FileShelf;
 use geo_io::{StdSink, StdSource};
-use geo_run::{OpenGate, asks_watch, refuse_words, run, without_memory};
+use geo_run::{OpenGate, run, without_memory};
 use std::alloc::Global;
 use std::process::ExitCode;
 use std::rt::Env;
@@ -29,10 +29,6 @@ fn main(rt: HostRuntime) -> ExitCode {
             Vec::new(alloc)
         }
     };
-    // What a watcher sees isn't shown yet.
-    if asks_watch(words.as_slice()) {
-        return ExitCode::from(refuse_words(&mut sink));
-    }
     let Ok(mut shelf) = FileShelf::new(&rt, alloc, ".") else {
         return ExitCode::from(without_memory(&mut sink));
     };

@@ -1,12 +1,17 @@
 -- A mesh was opened and run, or not opened.
+use Rattle.geo_elev.specs.Meshes.{opened}
 use Rattle.geo_run.proofs.Opening.{script_ran}
 use Rattle.geo_run.proofs.Running.{still_out}
+use Rattle.geo_run.proofs.Watching.{holds_if_there}
 use Rattle.geo_run.proofs.script_run.run_script.Goals as goal
 
 pub finish_run-requires-clause-out : goal.finish_run-requires-clause-out
 finish_run-requires-clause-out g c =
     still_out _ _ c.in-Ok.opened.mesh _ c.in-Ok.opened.lent.names.items _ _ _ c.in-Ok.ensures.opened.1.out
     c.run-driven.ensures
+
+pub finish_run-requires-clause-known : goal.finish_run-requires-clause-known
+finish_run-requires-clause-known g c = holds_if_there _ _ (λ m. g.met.C.Runner.knows_all c.args.runner.now (opened m))
 
 pub returns-in-Ok : goal.returns-in-Ok
 returns-in-Ok g c =
