@@ -1,14 +1,7 @@
 """Scripts that are drawn: those of `orders`, and those of many actors for `threads`."""
-import model
+from shared import drawing
 
 COUNTS = ('r1w1e0',) * 8 + ('r1w0e0', 'r1w0e0', 'r0w1e0', 'r1w0e1', 'r2w1e1')
-
-
-def runs(draw, size):
-    """So many bytes, as one to three runs."""
-    cuts = sorted({0, size, draw.randrange(size), draw.randrange(size)})
-    data = b''.join(bytes([draw.randrange(256)]) * (b - a) for a, b in zip(cuts, cuts[1:]))
-    return model.runs_text(data)
 
 
 class Script:
@@ -79,7 +72,7 @@ class Script:
         draw, (actor, handle) = self.draw, self.draw.choice(self.opened[-4:])
         word, at = draw.choice(('read', 'read', 'write', 'write', 'write', 'delete', 'flush')), draw.randrange(16)
         size = self.sector * draw.randrange(1, min(9, 32768 // self.sector))
-        what = runs(draw, size) if word == 'write' else size
+        what = drawing.runs(draw, size) if word == 'write' else size
         ask = '%s %s %d %s' % (word, handle, self.sector * at, what)
         self.say('flush ' + handle if word == 'flush' else ask, actor)
 
@@ -97,16 +90,6 @@ class Script:
                                   'destroy stripe ' + self.some_name())), actor)
 
 
-def mixed(draw, lists):
-    """The items of lists, each list in its order."""
-    left, out = [list(reversed(it)) for it in lists if it], []
-    while left:
-        one = draw.choice(left)
-        out.append(one.pop())
-        left = [it for it in left if it]
-    return out
-
-
 class Crowd(Script):
     """A script of two to six actors whose lines are mixed. Each makes geoms, opens handles and sends requests, mostly
     over a disk of its own, or over several, which others use too; it waits now and then, and pulls or destroys what
@@ -118,7 +101,7 @@ class Crowd(Script):
         self.header(disks=(1, 6), actors=(2, 7))
         front, actors = self.lines, self.actors
         each = [self.lines_of(actor) for actor in actors]
-        self.lines, self.actors = front + mixed(draw, each), actors
+        self.lines, self.actors = front + drawing.mixed(draw, each), actors
 
     def lines_of(self, actor):
         draw = self.draw
@@ -157,6 +140,6 @@ class Flood(Crowd):
             lines += ['a0 stripe flood 512 f0 f1', 'a0 open hf stripe/flood r1w1e0']
             for _ in range(24):
                 at, word = 512 * draw.randrange(64), draw.choice(('read', 'write', 'delete'))
-                lines.append('a0 %s hf %d %s' % (word, at, runs(draw, 32768) if word == 'write' else 32768))
+                lines.append('a0 %s hf %d %s' % (word, at, drawing.runs(draw, 32768) if word == 'write' else 32768))
             lines += ['a0 sync', 'a0 close hf']
         return lines

@@ -8,11 +8,11 @@ where a geom would stand on eight others, it raises Beyond.
 """
 import collections, itertools
 
+from shared import runs, scripts
+
+Plan, bytes_of_runs, runs_text = scripts.Plan, runs.bytes_of_runs, runs.runs_text
 REQUEST_LIMIT, SIZE_LIMIT, TASTE_LIMIT = 32768, 1 << 60, 8
 CLASSES = ('MBR', 'EBR', 'LABEL', 'CONCAT', 'STRIPE')
-
-Command = collections.namedtuple('Command', 'line actor words')
-Declared = collections.namedtuple('Declared', 'name sector sectors later is_image')
 
 
 class Beyond(Exception):
@@ -24,41 +24,12 @@ class Record:
         self.__dict__.update(fields)
 
 
-def runs_text(data):
-    """Bytes as a script and a report have them."""
-    return ' '.join('%02x*%d' % (byte, len(list(run))) for byte, run in itertools.groupby(data))
-
-
-def bytes_of_runs(words):
-    pairs = [word.split('*') for word in words]
-    return b''.join(bytes([int(byte, 16)]) * int(times) for byte, times in pairs)
-
-
 def step_text(step):
     """A step as a trace has it."""
     if step[0] != 'deliver':
         return ' '.join(map(str, step))
     word, *more = step[2]
     return 'deliver %d %s' % (step[1], ' '.join([word] + [runs_text(x) if word == 'bytes' else str(x) for x in more]))
-
-
-class Plan:
-    """The disks, actors and commands of a script; an image has the sectors that `sizes` gives for its name."""
-
-    def __init__(self, text, sizes=()):
-        self.disks, self.actors, self.commands = [], [], []
-        for number, line in enumerate(text.split('\n'), 1):
-            words = line.split()
-            if not words or line.startswith('#'):
-                continue
-            if words[0] in ('ram', 'disk'):
-                is_image, later = words[0] == 'disk', words[-1] == 'later'
-                sectors = dict(sizes)[words[1]] if is_image else int(words[3])
-                self.disks.append(Declared(words[1], int(words[2]), sectors, later, is_image))
-            elif words[0] == 'actor':
-                self.actors.append(words[1])
-            else:
-                self.commands.append(Command(number, self.actors.index(words[0]), words[1:]))
 
 
 # Counts are triples of readers, writers and exclusive rights.

@@ -3,6 +3,7 @@ of an actor, by what its own replies before them did; and a mesh in which counts
 import re
 
 import model
+from shared import reports as printed
 
 COMMON = 'EBADF ENXIO EPERM EINVAL EIO'
 # The errors of each command.
@@ -14,42 +15,14 @@ ERRORS = {
 }
 REQUESTS = ('read', 'write', 'delete', 'flush')
 RUNS = re.compile(r'[0-9a-f]{2}\*[1-9][0-9]*( [0-9a-f]{2}\*[1-9][0-9]*)*')
-COUNTS = r'r(\d+)w(\d+)e(\d+)'
-GEOM = re.compile(r'geom ([A-Z]+) (\S+) rank ([1-9]\d*)( withering)?')
-PROVIDER = re.compile(r'  provider (\S+) size ([1-9]\d*) sector (512|4096) ' + COUNTS + '( ENXIO)?')
-CONSUMER = re.compile(r'  consumer (\S+) ' + COUNTS)
-
-
-def counts_of(groups):
-    return tuple(int(it) for it in groups)
-
-
-class Geom:
-    def __init__(self, kind, name, rank):
-        self.kind, self.name, self.rank, self.providers, self.consumers = kind, name, int(rank), {}, []
-
-
-def geoms_of(lines):
-    """The geoms of a mesh as it is printed, or None where a line hasn't its form."""
-    geoms = []
-    for line in lines:
-        if found := GEOM.fullmatch(line):
-            geoms.append(Geom(*found.groups()[:3]))
-        elif geoms and (found := PROVIDER.fullmatch(line)):
-            geoms[-1].providers[found[1]] = counts_of(found.groups()[3:6])
-        elif geoms and (found := CONSUMER.fullmatch(line)):
-            geoms[-1].consumers.append((found[1], counts_of(found.groups()[1:])))
-        else:
-            return None
-    return geoms
 
 
 def mesh_faults(geoms, handles):
     """What is wrong about a mesh at rest, from which nothing was pulled or destroyed, with these open handles as
     (provider, counts)."""
-    providers = {name: (geom, counts) for geom in geoms for name, counts in geom.providers.items()}
+    providers = {it.name: (geom, it.counts) for geom in geoms for it in geom.providers}
     for geom in geoms:
-        wanted = model.total(geom.providers.values())
+        wanted = model.total(it.counts for it in geom.providers)
         extra = (0, 0, 1) if geom.kind != 'NOP' and any(wanted) else (0, 0, 0)
         for below, counts in geom.consumers:
             if counts != model.total([wanted, extra]):
@@ -130,21 +103,6 @@ class Actor:
     note_settle = note_sync
 
 
-def replies_of(plan, lines):
-    """Each command with its reply and the lines of its mesh, and the lines behind them; None where that can't be. Where
-    the last command is `mesh` it gets those too."""
-    left, replies = list(lines), []
-    for command in plan.commands:
-        if not left or not left[0].startswith(f'{command.line} '):
-            return None
-        reply = left.pop(0).split(' ', 1)[1]
-        mesh = []
-        while command.words[0] == 'mesh' and left and left[0].startswith(('geom ', '  ')) and len(left[0]) > 2:
-            mesh.append(left.pop(0))
-        replies.append((command, reply, mesh))
-    return replies, left
-
-
 def is_changing(plan):
     """Whether names may come and go, or the mesh at the end can't be told from that of the last command."""
     words = [command.words[0] for command in plan.commands]
@@ -153,18 +111,18 @@ def is_changing(plan):
 
 def faults(plan, text):
     """What can't be in a report of this plan."""
-    found = replies_of(plan, text.splitlines())
+    found = printed.replies_of(plan, text.splitlines())
     if not found:
         return ['not one reply for each command, in the order of the lines']
     replies, last = found
     told, actors = [], [Actor() for _ in plan.actors]
     for command, reply, mesh in replies:
-        if mesh and geoms_of(mesh) is None:
+        if mesh and printed.geoms_of(mesh) is None:
             told.append(f'line {command.line}: not a mesh')
         why = actors[command.actor].fault(plan.disks[0].sector, command.words, reply)
         if why:
             told.append(f'line {command.line}, {reply[:60]!r}: {why}')
-    geoms = geoms_of(last)
+    geoms = printed.geoms_of(last)
     if geoms is None:
         told.append('the mesh at the end has another form')
     elif not is_changing(plan):

@@ -1,0 +1,6 @@
+"""What the checks here share with `tools/geom`."""
+import pathlib, sys
+
+sys.path.append(str(pathlib.Path(__file__).resolve().parent.parent / 'tools'))
+
+from geomtools import drawing, reports, runs, scripts
