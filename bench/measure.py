@@ -1,5 +1,7 @@
 """Runs programs side by side, in rounds, and says what each took."""
-import os, subprocess, tempfile, time
+import os, resource, shutil, subprocess, tempfile, time
+
+HERE = os.path.dirname(os.path.abspath(__file__))
 
 
 class Took:
@@ -37,6 +39,38 @@ def side_by_side(runs, rounds, folder):
         for name, args, text in runs:
             once(all_took[name], args, text, folder)
     return all_took
+
+
+def print_into(file, args, text, folder):
+    """Has a program print into a file. What it prints doesn't pass through this process: the peak of memory of what is
+    started later would have its memory too."""
+    with tempfile.TemporaryFile() as source:
+        source.write(text.encode())
+        source.seek(0)
+        subprocess.run(args, stdin=source, stdout=file, cwd=folder, check=True)
+    file.seek(0)
+
+
+def is_front(part, whole):
+    """Whether a file is all that stands in another in front of the mesh."""
+    while some := part.read(1 << 16):
+        if whole.read(len(some)) != some:
+            return False
+    return whole.read(5) == b'geom '
+
+
+def build_raw(folder):
+    """The raw program (raw.c), built into this folder, or None where there is no C compiler."""
+    if not shutil.which('cc'):
+        return None
+    program = os.path.join(folder, 'raw')
+    subprocess.run(['cc', '-O2', '-o', program, os.path.join(HERE, 'raw.c')], check=True)
+    return program
+
+
+def own_peak():
+    """The peak of memory of this process, below which what it starts is never said to be."""
+    return resource.getrusage(resource.RUSAGE_SELF).ru_maxrss * 1024
 
 
 def load():

@@ -3,6 +3,8 @@ import itertools, random
 
 SIZE = 1 << 22  # the bytes of the provider that requests go to
 PIECE = 4096
+LINE = 1536  # the most whole sectors of noise that a line of a script holds
+LARGE = 32768  # the longest request that there is
 
 
 def requests(count, seed=1, size=SIZE, piece=PIECE):
@@ -63,10 +65,39 @@ def image(todo):
     return over('disk image 512\n', '', 'image', todo)
 
 
-def large_reads(count):
+def noise(size, seed=1):
+    """Bytes of which hardly any neighbours are alike."""
+    return random.Random(seed).randbytes(size)
+
+
+def line_writes(todo, data_of=None):
+    """All are writes of as many bytes as a line can hold of noise: each of one byte all over, or of what is given for
+    the number of a request."""
+    def lines(todo):
+        return ''.join('a write h %d %s\n' % (at, runs(data_of(k)) if data_of else '%02x*%d' % (byte, LINE))
+                       for k, (_, at, byte) in enumerate(todo))
+    return memory(todo, lines)
+
+
+def noise_writes(todo):
+    return line_writes(todo, lambda k: noise(LINE, k))
+
+
+def reads(todo, image, size):
+    """All are reads of so many bytes from an image."""
+    def lines(todo):
+        return ''.join('a read h %d %d\n' % (at // size * size, size) for _, at, _ in todo)
+    return over('disk %s 512\n' % image, '', image, todo, lines)
+
+
+def large_reads(count, header='ram md0 512 %d\n' % (SIZE // 512), provider='md0'):
     """Reads of 32 KiB, the longest that there are."""
-    text = 'ram md0 512 %d\nactor a\na open h md0 r1w0e0\n' % (SIZE // 512)
-    return text + ''.join('a read h %d 32768\n' % (k * 32768 % SIZE) for k in range(count)) + 'a close h\n'
+    text = header + 'actor a\na open h %s r1w0e0\n' % provider
+    return text + ''.join('a read h %d %d\n' % (k * LARGE % SIZE, LARGE) for k in range(count)) + 'a close h\n'
+
+
+def large_reads_of_noise(count):
+    return large_reads(count, 'disk noise 512\n', 'noise')
 
 
 def generated(start, count):
