@@ -69,6 +69,20 @@ def is_front(part, whole):
     return whole.read(5) == b'geom '
 
 
+def is_same(one, other):
+    """Whether two files are alike."""
+    while some := one.read(1 << 16):
+        if other.read(len(some)) != some:
+            return False
+    return not other.read(1)
+
+
+def plain_program(path):
+    """The plain program (plain/), if it was built."""
+    path = os.path.abspath(path or os.path.join(HERE, 'plain/target/release/plain'))
+    return path if os.path.exists(path) else None
+
+
 def build_raw(folder):
     """The raw program (raw.c), built into this folder, or None where there is no C compiler."""
     if not shutil.which('cc'):
