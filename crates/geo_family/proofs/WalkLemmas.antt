@@ -1,4 +1,4 @@
--- Walks over the children of a parent, up and down.
+-- Walks up over the children of a parent.
 use Rattle.std.proofs.Common.{◌≡◌, ℕ, ◌+◌, ◌-◌, ◌<◌, ◌≤◌, List, [], ◌∷◌, Bool, true, false, Some, None, Option, sym, refl, ap, ◌∙◌, subst, inl, inr, arith}
 use Rattle.std.specs.Prelude.{◌&&◌, nat_le}
 use Rattle.std.specs.Option.{option_map_or}
@@ -6,65 +6,11 @@ use Rattle.std.proofs.lemmas.Bool.{cases_eq, cases_lt, eq-eqb, ne_eqb, eqb-true,
 use Rattle.geo_slots.specs.Slots.{IsRising}
 use Rattle.geo_slots.proofs.RowLemmas.{value_at_below}
 use Rattle.geo_family.specs.declared.family.Link.{Link}
-use Rattle.geo_family.specs.Nearest.{IsNearest, IsOnWayUp, IsOnWayDown, Up, Down}
+use Rattle.geo_family.specs.Nearest.{IsNearest, IsOnWayUp, Up}
 use Rattle.geo_family.specs.Family.{names, first_child}
 use Rattle.geo_family.specs.Links.{part_at, parent_of, children_of}
 
 module _ (f : ℕ → Option ℕ) (p n : ℕ) where
-  -- a walk down begins at the last child
-  pub way_down_begins : (o : Option ℕ) → IsNearest (λ d. Unit {0}) Down f p o → IsOnWayDown f p n o
-  way_down_begins None is = λ d below had. is d tt had
-  way_down_begins (Some c) is = (
-    is.1,
-    λ d below had. elim (cases_lt c d) [
-      | inl above ↦
-          absurd (is.2 d tt above had)
-      | inr within ↦ within
-    ],
-  )
-
-  -- the child before one that isn't below the number is on the way down too
-  down_step : (c : ℕ) → n ≤ c → IsOnWayDown f p n (Some c) → (o : Option ℕ) → IsNearest (λ d. d < c) Down f p o
-      → IsOnWayDown f p n o
-  down_step c past way None is = λ d below had. is d (omega arith) had
-  down_step c past way (Some b) is = (
-    is.1,
-    λ d below had. elim (cases_lt b d) [
-      | inl above ↦
-          absurd (is.2 d (omega arith) above had)
-      | inr within ↦ within
-    ],
-  )
-
-  -- it goes on to the child before
-  pub way_down_goes_on : (at : Option ℕ) (c : ℕ) → at ≡ Some c → n ≤ c → IsOnWayDown f p n at → (before : ℕ → Option ℕ)
-      → ((c q : ℕ) → f c ≡ Some q → IsNearest (λ d. d < c) Down f q (before c)) → IsOnWayDown f p n (before c)
-  way_down_goes_on at c here past way before befores =
-      let on = subst (λ o. IsOnWayDown f p n o) here way in down_step c past on (before c) (befores c p on.0)
-
-  -- the child before is less, or there is none
-  falls_down : (c : ℕ) (o : Option ℕ) → IsNearest (λ d. d < c) Down f p o → option_map_or (λ b. b + 1) o 0 < c + 1
-  falls_down c None is = omega arith
-  falls_down c (Some b) is = omega (arith, is.0)
-
-  -- each step down leaves less of the way, so the walk ends
-  pub way_down_falls : (at : Option ℕ) (c : ℕ) → at ≡ Some c → IsOnWayDown f p n at → (before : ℕ → Option ℕ)
-      → ((c q : ℕ) → f c ≡ Some q → IsNearest (λ d. d < c) Down f q (before c))
-      → option_map_or (λ b. b + 1) (before c) 0 < option_map_or (λ b. b + 1) at 0
-  way_down_falls at c here way before befores =
-      let on = subst (λ o. IsOnWayDown f p n o) here way in rw here (falls_down c (before c) (befores c p on.0))
-
-  -- it ends at the first child that is below the number
-  pub way_down_ends : (at : Option ℕ) (c : ℕ) → at ≡ Some c → c < n → IsOnWayDown f p n at
-      → IsNearest (λ d. d < n) Down f p (Some c)
-  way_down_ends at c here below way =
-      let on = subst (λ o. IsOnWayDown f p n o) here way in
-      (below, on.0, λ d under above had. let top : d ≤ c = on.1 d under had in omega arith)
-
-  -- where it has come to none, the parent has no child below the number
-  pub way_down_none : (at : Option ℕ) → at ≡ None → IsOnWayDown f p n at → IsNearest (λ d. d < n) Down f p None
-  way_down_none at here way = subst (λ o. IsOnWayDown f p n o) here way
-
   -- the child after one that is below the number is on the way up too
   up_step : (c : ℕ) → c < n → (o : Option ℕ) → IsNearest (λ d. c < d) Up f p o → IsOnWayUp f p n o
   up_step c below None is = λ d from had. is d (omega arith) had

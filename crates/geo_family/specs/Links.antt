@@ -75,3 +75,8 @@ with_link child link links = change_at (λ _. link) links child
 abbrev pub next_of : List (ℕ × Link) → List (ℕ × Ends) → Option ℕ → ℕ → Option ℕ
 next_of links ends None parent = part_at first_of ends parent
 next_of links ends (Some c) parent = part_at after_of links c
+
+-- the child in front of the one that may be there, else the last child of the parent
+abbrev pub previous_of : List (ℕ × Link) → List (ℕ × Ends) → Option ℕ → ℕ → Option ℕ
+previous_of links ends None parent = part_at last_of ends parent
+previous_of links ends (Some c) parent = part_at before_of links c

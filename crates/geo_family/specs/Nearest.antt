@@ -41,7 +41,11 @@ abbrev pub IsOnWayUp : (ℕ → Option ℕ) → ℕ → ℕ → Option ℕ → T
 IsOnWayUp f p number None = (d : ℕ) → number ≤ d → f d ≡ Some p → ⊥
 IsOnWayUp f p number (Some c) = (f c ≡ Some p) × ((d : ℕ) → number ≤ d → f d ≡ Some p → c ≤ d)
 
--- a child of the parent that isn't below any of those below a number; None only where there is none
-abbrev pub IsOnWayDown : (ℕ → Option ℕ) → ℕ → ℕ → Option ℕ → Type 0
-IsOnWayDown f p number None = (d : ℕ) → d < number → f d ≡ Some p → ⊥
-IsOnWayDown f p number (Some c) = (f c ≡ Some p) × ((d : ℕ) → d < number → f d ≡ Some p → d ≤ c)
+-- a child of the parent among the numbers of S, or none
+abbrev pub IsChildIn : (ℕ → Type 0) → (ℕ → Option ℕ) → ℕ → Option ℕ → Type 0
+IsChildIn S f p None = Unit {0}
+IsChildIn S f p (Some c) = S c × (f c ≡ Some p)
+
+-- the place of a number is between two children that may be there: one below it, and one that isn't
+abbrev pub IsBetween : (ℕ → Option ℕ) → ℕ → ℕ → Option ℕ → Option ℕ → Type 0
+IsBetween f p number low high = IsChildIn (λ d. d < number) f p low × IsChildIn (λ d. number ≤ d) f p high

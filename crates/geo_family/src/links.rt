@@ -1,9 +1,9 @@
 //! Reads and writes of one link or of one parent's ends.
-ghost use Rattle.std.specs.Prelude.{◌≡◌, ◌<◌, None};
+ghost use Rattle.std.specs.Prelude.{◌≡◌, ◌<◌, ◌+◌, IfSome, None, Some};
 ghost use Rattle.geo_slots.specs.Slots.{IsRising};
 ghost use Rattle.geo_family.specs.Nearest.{IsNearest, Down, IsOnWayUp};
 ghost use Rattle.geo_family.specs.Family.{first_child, last_child};
-ghost use Rattle.geo_family.specs.Links.{part_at, parent_of, before_of, after_of, first_of, last_of, with_after, with_before, with_first, with_last, with_link, next_of, IsFamily, children_of};
+ghost use Rattle.geo_family.specs.Links.{part_at, parent_of, before_of, after_of, first_of, last_of, with_after, with_before, with_first, with_last, with_link, next_of, previous_of, IsFamily, children_of};
 
 use crate::family::{Ends, Link};
 use geo_slots::Slots;
@@ -116,20 +116,51 @@ pub fn behind(
     }
 }
 
-/// The greatest child of a parent below a number that isn't its child.
+/// The child in front of the one that may be there, else the last child of the parent.
+fn in_front(links: &Slots<Link>, ends: &Slots<Ends>, after: Option<u64>, parent: u64) -> Option<u64>
+    ensures { result ≡ previous_of links.now.rows ends.now.rows after parent }
+{
+    match after {
+        Some(number) => before_at(links, number),
+        None => last_at(ends, parent),
+    }
+}
+
+/// The number before a number, if that is a child of the parent.
+fn neighbour(links: &Slots<Link>, parent: u64, number: u64) -> Option<u64>
+    ensures child { IfSome result (λ d. (d + 1 ≡ number) × (part_at parent_of links.now.rows d ≡ Some parent)) }
+    ensures rising { IsRising 1 links.now.rows links.now.next }
+{
+    let below = number.saturating_sub(1);
+    let is_child = parent_at(links, below) == Some(parent);
+    if below < number && is_child {
+        Some(below)
+    } else {
+        None
+    }
+}
+
+/// The greatest child of a parent below a number that isn't its child. The walk goes inwards from both ends at once, so
+/// it is no longer than the way from the nearer one; where the number before is a child, it begins behind that.
 pub fn last_below(links: &Slots<Link>, ends: &Slots<Ends>, parent: u64, number: u64) -> Option<u64>
     requires family { IsFamily links.now.rows ends.now.rows }
     requires apart { part_at parent_of links.now.rows number ≡ None }
     ensures { IsNearest (λ d. d < number) Down (part_at parent_of links.now.rows) parent result }
 {
-    let mut at = last_at(ends, parent);
-    while let Some(child) = at {
-        if child < number {
-            return Some(child);
+    let mut low = neighbour(links, parent, number);
+    let mut high = None;
+    'inwards: loop {
+        let last = in_front(links, ends, high, parent);
+        if last.is_none_or(|child| child < number) {
+            return last;
         }
-        at = before_at(links, child);
+        let first = behind(links, ends, low, parent);
+        if first.is_none_or(|child| number <= child) {
+            return low;
+        }
+        low = first;
+        high = last;
     }
-    None
 }
 
 /// A child of a parent from which a walk up meets all that aren't below a number: the one behind the number below, if
@@ -139,12 +170,7 @@ fn start(links: &Slots<Link>, ends: &Slots<Ends>, parent: u64, number: u64) -> O
     ensures way { IsOnWayUp (part_at parent_of links.now.rows) parent number result }
     ensures rising { IsRising 1 links.now.rows links.now.next }
 {
-    let below = number.saturating_sub(1);
-    let parent_below = parent_at(links, below);
-    if below < number && parent_below == Some(parent) {
-        return after_at(links, below);
-    }
-    first_at(ends, parent)
+    behind(links, ends, neighbour(links, parent, number), parent)
 }
 
 /// The least child of a parent that isn't below a number.
