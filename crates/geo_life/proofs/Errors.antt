@@ -24,7 +24,8 @@ one_less : (p low high : ℕ) (x : Provider) (xs : List Provider) (y : Provider)
     → find (λ (z : Provider). z.number == p) (x ∷ xs) ≡ Some y → y.errored ≡ false
     → (find (λ (z : Provider). z.number == p) xs ≡ Some y
     → length (filter sound (change_where (λ (z : Provider). z.number == p) broken xs)) + 1 ≡ length (filter sound xs))
-    → length (filter sound (change_where (λ (z : Provider). z.number == p) broken (x ∷ xs))) + 1 ≡ length (filter sound (x ∷ xs))
+    → length (filter sound (change_where (λ (z : Provider). z.number == p) broken (x ∷ xs))) + 1
+    ≡ length (filter sound (x ∷ xs))
 one_less p low high x xs y true e rise found is so =
     let here : Some x ≡ Some y = rw e at found in
     let same : x ≡ y = cc in

@@ -12,7 +12,8 @@ module _ {X : Type 0} (number : X → ℕ) (change : X → X) (same : (x : X) �
   pub left_past : (m : ℕ) → n < m → (xs : List X)
       → left_from number m (change_where (λ x. number x == n) change xs) ≡ left_from number m xs
   left_past m less xs =
-      filter-changed (λ (x : X). number x == n) change (λ (x : X). nat_le m (number x)) (λ x hit. ap (nat_le m) (same x))
+      filter-changed (λ (x : X). number x == n) change (λ (x : X). nat_le m (number x))
+      (λ x hit. ap (nat_le m) (same x))
       xs
       ∙ unhit (λ (x : X). number x == n) change (left_from number m xs)
       (All-from_contained (λ (x : X). (number x == n) ≡ false) (left_from number m xs)

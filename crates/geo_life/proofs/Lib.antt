@@ -15,5 +15,6 @@ pub mod Announced
 pub mod Dropping
 pub mod Loose
 pub mod Washing
+pub mod FirstWash
 pub mod Places
 pub mod Spared

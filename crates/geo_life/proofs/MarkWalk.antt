@@ -135,7 +135,8 @@ module _ {C : Type 0} (granted : ℕ → Counts) (t : TopoView C) (p : ℕ) (sto
     marks_one must =
         ap (λ cs. record now.topology { consumers = cs })
         (mark_one goes (λ c. refl) now.topology.consumers (consumers_above now.topology p)
-        (inside now.topology.consumers) from_number n now.topology.next_consumer (consumer_seen n x) next.left next.past (goes_is ∙ must) sound.orderly.order.consumers next.lives)
+        (inside now.topology.consumers) from_number n now.topology.next_consumer (consumer_seen n x)
+        next.left next.past (goes_is ∙ must) sound.orderly.order.consumers next.lives)
 
     -- either way
     pub marks_step : (u : Topology C)

@@ -110,7 +110,8 @@ module _ (test : Consumer → Bool)
           let over : nat_le (n + 1) c.number ≡ false = lt-leb (n + 1) c.number (omega (arith, is)) in
           ap (λ (d : Consumer). if still test (n + 1) d then marked d else d)
           (ap (λ b. if b then marked c else c) e)
-          ∙ ap (λ b. if b then marked c else marked c) (ap (λ b. test (marked c) && b) over ∙ and-false (test (marked c)))
+          ∙ ap (λ b. if b then marked c else marked c)
+          (ap (λ b. test (marked c) && b) over ∙ and-false (test (marked c)))
           ∙ sym (ap (λ b. if b then marked c else c) (ap (λ b. b && nat_le from_number c.number) passes ∙ here))
       by c there false e =
           ap (λ (d : Consumer). if still test (n + 1) d then marked d else d)

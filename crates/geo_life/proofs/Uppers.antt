@@ -275,6 +275,7 @@ module _ {C : Type 0} where
           ap (λ n. option_map_or F (geom_at t n) false) (eqb-true c.geom 1 e)
           ∙ spared (geom_at t 1) made sound.orderly.first.dev in
           let must : option_map_or F (geom_at t c.geom) false ≡ true =
-          last (names_number c.provider p) ((want granted t c).w == 0) (option_map_or F (geom_at t c.geom) false) goes in
+          last (names_number c.provider p) ((want granted t c).w == 0)
+          (option_map_or F (geom_at t c.geom) false) goes in
           let never : true ≡ false = sym must ∙ stays in
           absurd (cc)

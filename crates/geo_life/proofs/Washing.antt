@@ -1,5 +1,5 @@
 -- What a wash finds.
-use Rattle.std.specs.Prelude.{◌≡◌, ℕ, suc, ◌+◌, ◌==◌, nat_le, Bool, true, false, not, ◌&&◌, List, [], ◌∷◌, length, find, Option, Some, None, Contains, if◌then◌else◌, IsSomeAnd, IfSome, IsTrue, MatchOption, is_none, is_some, option_map}
+use Rattle.std.specs.Prelude.{◌≡◌, ℕ, suc, ◌==◌, nat_le, Bool, true, false, not, ◌&&◌, List, [], ◌∷◌, length, find, Option, Some, None, if◌then◌else◌, IsSomeAnd, IfSome, IsTrue, is_none, is_some, option_map}
 use Rattle.std.specs.Option.{option_or}
 use Rattle.std.proofs.Common.{refl, sym, ap, ◌∙◌, subst, arith}
 use Rattle.std.proofs.lemmas.Bool.{le-leb, ne_eqb}
@@ -9,17 +9,11 @@ use Rattle.geo_model.specs.declared.step.WashWork.TheVariants as washes
 use Rattle.geo_model.specs.Topology.{Topology, Geom, Provider, Consumer, geom_at, consumer_at, attached_to, providers_of, consumers_of, is_withering}
 use Rattle.geo_model.specs.Graph.{IsInOrder}
 use Rattle.geo_model.specs.Demand.{is_zero}
-use Rattle.geo_model.specs.Freeing.{is_idle, free_consumer, free_geom, wash_work_of, first_wash, wash_where}
-use Rattle.geo_mesh.specs.Topo.{TopoView, first_geom}
-use Rattle.geo_mesh.specs.Graph.{IsSoundGraph}
-use Rattle.geo_laws_graph.specs.LookupLaws.{left_from, IsStep, WalksMeetAll}
-use Rattle.geo_laws_graph.proofs.Walks.{walks-meet, walk-begin}
-use Rattle.geo_laws_graph.proofs.Members.{Contains-here, filter-Contains}
-use Rattle.geo_laws_graph.proofs.Lists.{found_itself}
+use Rattle.geo_model.specs.Freeing.{is_idle, free_consumer, free_geom, wash_work_of}
+use Rattle.geo_mesh.specs.Topo.{TopoView}
 use Rattle.geo_laws_graph.proofs.Numbered.{number_found}
 use Rattle.geo_access.specs.Views.{want_at}
 use Rattle.geo_life.specs.Life.{AreStored, is_out}
-use Rattle.geo_life.specs.Wash.{withering_geoms, IsNextGeom}
 use Rattle.geo_life.proofs.Errors.{any_found}
 use Rattle.geo_life.proofs.MarkWalk.{stored_now}
 
@@ -68,68 +62,6 @@ module _ {C : Type 0} (t : Topology C) (order : IsInOrder t) where
           let yes_withers : is_withering t m ≡ true = subst (λ k. is_withering t k ≡ true) same withers in
           let both : true ≡ false = sym yes_withers ∙ withering_is m g e ∙ stays in
           absurd (cc)
-
-module _ {C : Type 0} (t : Topology C) (sound : IsSoundGraph t) where
-  -- the next withering geom of a walk
-  pub next_geom : (from_number n : ℕ) → first_geom (withering_geoms t) from_number ≡ Some n
-      → IsNextGeom t from_number n
-  next_geom from_number n first =
-      let step : IsStep (λ (g : Geom C). g.number) (withering_geoms t) t.next_geom from_number n =
-      WalksMeetAll.step walks-meet (λ (g : Geom C). g.number) (withering_geoms t) t.next_geom from_number n
-      (WalksMeetAll.part walks-meet (λ (g : Geom C). g.number) (λ g. g.withering) t.geoms t.next_geom
-      sound.orderly.order.geoms) first in
-      let there =
-      filter-Contains (λ (g : Geom C). nat_le from_number g.number) (withering_geoms t) step.item
-      (subst (λ ys. Contains ys step.item) (sym step.left)
-      (Contains-here step.item (left_from (λ (g : Geom C). g.number) (n + 1) (withering_geoms t)))) in
-      let inside = filter-Contains (λ (g : Geom C). g.withering) t.geoms step.item there.0 in
-      let found : geom_at t n ≡ Some step.item =
-      subst (λ m. geom_at t m ≡ Some step.item) step.is
-      (found_itself (λ (g : Geom C). g.number) t.next_geom t.geoms step.item sound.orderly.order.geoms inside.0) in
-      record {
-        geom = step.item;
-        found = found;
-        withers = withering_is t sound.orderly.order n step.item found ∙ inside.1;
-        left = step.left;
-        past = step.past;
-        known = step.known;
-        fits = sound.orderly.numbers.next_geom.fits;
-      }
-
-  -- what the look-up gives
-  pub next_withering : (from_number : ℕ) (o : Option ℕ) → o ≡ first_geom (withering_geoms t) from_number
-      → MatchOption o (left_from (λ (g : Geom C). g.number) from_number (withering_geoms t) ≡ [])
-      (λ n. IsNextGeom t from_number n)
-  next_withering from_number None is =
-      WalksMeetAll.rest walks-meet (λ (g : Geom C). g.number) (withering_geoms t) from_number (sym is)
-  next_withering from_number (Some n) is = next_geom from_number n (sym is)
-
-module _ {C : Type 0} (granted : ℕ → Counts) (active : ℕ → Bool) (t : Topology C) where
-  -- what can go first of the withering geoms that are left
-  abbrev pub wash_left : ℕ → Option WashWork
-  wash_left n = first_wash granted active t (left_from (λ (g : Geom C). g.number) n (withering_geoms t))
-
-  -- at the beginning all of them are left
-  pub wash_begin : wash_left 0 ≡ wash_where granted active t
-  wash_begin = ap (first_wash granted active t) (walk-begin (λ (g : Geom C). g.number) (withering_geoms t))
-
-  module _ (from_number n : ℕ) (next : IsNextGeom t from_number n) where
-    wash_next : wash_left from_number ≡ option_or (wash_work_of granted active t next.geom) (wash_left (n + 1))
-    wash_next = ap (first_wash granted active t) next.left
-
-    -- one of which nothing can go is passed over
-    pub wash_pass : wash_work_of granted active t next.geom ≡ None → wash_left (n + 1) ≡ wash_left from_number
-    wash_pass none = sym (wash_next ∙ ap (λ o. option_or o (wash_left (n + 1))) none)
-
-    -- what can go of one
-    pub wash_here : (work : WashWork) → wash_work_of granted active t next.geom ≡ Some work
-        → Some work ≡ wash_left from_number
-    wash_here work is = sym (wash_next ∙ ap (λ o. option_or o (wash_left (n + 1))) is)
-
-  -- at the end none is left
-  pub wash_end : (from_number : ℕ) → left_from (λ (g : Geom C). g.number) from_number (withering_geoms t) ≡ []
-      → None ≡ wash_left from_number
-  wash_end from_number none = sym (ap (first_wash granted active t) none)
 
 -- a consumer is idle where its stored counts are zero and no request is out
 pub idle_is : {C : Type 0} (granted : ℕ → Counts) (t : TopoView C) → AreStored granted t → (x : Consumer)

@@ -1,10 +1,9 @@
 -- What a wash takes away (g_wither_geom(9)).
-use Rattle.std.specs.Prelude.{◌≡◌, ℕ, ◌+◌, ◌<◌, ◌≤◌, ◌^◌, List, [], ◌∷◌, filter, Some, IsSome, IsTrue}
+use Rattle.std.specs.Prelude.{◌≡◌, ℕ, [], Some, IsSome, IsTrue}
 use Rattle.geo_model.specs.declared.step.WashWork.{WashWork}
 use Rattle.geo_model.specs.declared.step.WashWork.TheVariants as washes
-use Rattle.geo_model.specs.Topology.{Topology, Geom, geom_at, consumer_at, attached_to, providers_of, consumers_of, is_withering}
+use Rattle.geo_model.specs.Topology.{consumer_at, attached_to, providers_of, consumers_of, is_withering}
 use Rattle.geo_slots.specs.Slots.{value_at}
-use Rattle.geo_laws_graph.specs.LookupLaws.{left_from}
 use Rattle.geo_mesh.specs.Topo.{TopoView, no_counts, without_geom, without_provider, without_consumer}
 
 module _ {C : Type 0} where
@@ -31,18 +30,3 @@ module _ {C : Type 0} where
   washed_view t (washes.Provider p) = without_provider t p
   washed_view t (washes.Consumer c) = without_consumer t c
   washed_view t (washes.Geom g) = without_geom t g
-
-  -- the geoms that wither
-  abbrev pub withering_geoms : Topology C → List (Geom C)
-  withering_geoms t = filter (λ g. g.withering) t.geoms
-
-  -- a walk over the geoms that wither comes to this one next
-  pub record IsNextGeom (t : Topology C) (from_number n : ℕ) : Type 0 where
-    pub geom : Geom C
-    pub found : geom_at t n ≡ Some geom
-    pub withers : IsTrue (is_withering t n)
-    pub left : left_from (λ g. g.number) from_number (withering_geoms t)
-        ≡ geom ∷ left_from (λ g. g.number) (n + 1) (withering_geoms t)
-    pub past : from_number ≤ n
-    pub known : n < t.next_geom
-    pub fits : t.next_geom < 2 ^ 64

@@ -1,5 +1,5 @@
 //! What of a withering geom can go, and its going (g_wither_geom(9)).
-ghost use Rattle.std.specs.Prelude.{◌≡◌, ℕ, ◌+◌, ◌≤◌, ◌==◌, ◌&&◌, [], not, length, find, option_map, is_some, IsSome, IsSomeAnd, IfSome, IsTrue, MatchOption, Some, None, false, true};
+ghost use Rattle.std.specs.Prelude.{◌≡◌, ℕ, ◌+◌, ◌==◌, ◌&&◌, [], not, length, find, option_map, is_some, IsSome, IsSomeAnd, IfSome, IsTrue, Some, None, false, true};
 ghost use Rattle.geo_base.specs.declared.request.Counts.{Counts};
 ghost use Rattle.geo_model.specs.Topology.{geom_at, consumer_at, providers_of, consumers_of, attached_to, is_withering, remove_consumer};
 ghost use Rattle.geo_model.specs.Demand.{is_zero};
@@ -9,8 +9,7 @@ ghost use Rattle.geo_mesh.specs.Graph.{IsSoundGraph};
 ghost use Rattle.geo_slots.specs.Slots.{value_at};
 ghost use Rattle.geo_access.specs.Views.{want_at};
 ghost use Rattle.geo_life.specs.Life.{queued, is_out, AreStored, CountsStay};
-ghost use Rattle.geo_laws_graph.specs.LookupLaws.{left_from};
-ghost use Rattle.geo_life.specs.Wash.{IsFree, IsIdle, IsNextGeom, washed_view, withering_geoms};
+ghost use Rattle.geo_life.specs.Wash.{IsFree, IsIdle, washed_view};
 
 use crate::above::look;
 use geo_access::{consumer_of, is_zero, provider_of};
@@ -21,20 +20,14 @@ use geo_model::WashWork;
 
 /// What can be washed, in the withering geom with the smallest number in which anything can: a provider with nothing
 /// attached, else a consumer that holds no count and through which no request is out, else the geom itself once it has
-/// neither. It looks at withering geoms alone.
+/// neither. It looks at that geom alone, which the mesh has marked.
 pub fn wash_where<C>(topo: &Topo<C>) -> Option<WashWork>
     ensures found { (granted : ℕ → Counts) → AreStored granted topo.now
         → result ≡ wash_where granted (is_out topo.now) topo.now.topology }
     ensures free { IfSome result (IsFree topo.now) }
 {
-    let mut from = 0;
-    while let Some(geom) = withering_from(topo, from) {
-        if let Some(work) = wash_work_of(topo, geom) {
-            return Some(work);
-        }
-        from = geom.number() + 1;
-    }
-    None
+    let geom = topo.next_going(0)?;
+    wash_work_of(topo, geom)
 }
 
 /// Takes away what `wash_where` told. The events of a provider that goes are cancelled (g_cancel_event).
@@ -93,14 +86,6 @@ fn is_attached<C>(topo: &Topo<C>, cons: ConsId) -> bool
     ensures sound { IsSoundGraph topo.now.topology }
 {
     topo.consumer(cons).unwrap().prov.is_some()
-}
-
-// The first withering geom from a number on.
-fn withering_from<C>(topo: &Topo<C>, from: u64) -> Option<GeomId>
-    ensures next { MatchOption result (left_from (λ g. g.number) from (withering_geoms topo.now.topology) ≡ [])
-        (λ n. IsNextGeom topo.now.topology from n) }
-{
-    topo.next_withering(from)
 }
 
 // What of a geom can go first.

@@ -18,6 +18,9 @@ pub mod RankFirst
 pub mod RankKept
 pub mod RankMesh
 pub mod RankSwitch
+pub mod GoingLemmas
+pub mod GoingRows
+pub mod GoingLook
 pub mod WholeLemmas
 pub mod WholeParts
 pub mod GraphLemmas

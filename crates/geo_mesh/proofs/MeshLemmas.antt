@@ -162,10 +162,10 @@ module _ {C : Type 0} (t : Tables C) (mesh : IsMesh t) where
         geoms = with_insert t.geoms v;
         edges = record t.edges { index = with_geom_index t.edges.index };
         live = t.live + 1;
-        notes = record t.notes { withering = with_mark t.notes.withering; named = m };
+        notes = record t.notes { going = with_mark t.notes.going; named = m };
       })
   mesh-geom v m stays none few added room = record {
-    notes = notes-geom t.notes t.geoms t.edges.providers v m mesh.notes stays added room;
+    notes = notes-geom t.notes t.geoms t.edges.providers v m mesh.notes added room;
     names_are = mesh.names_are;
     names_room = mesh.names_room;
     count = count_rises t.geoms.rows (t.geoms.next, v) t.live mesh.count few;
@@ -196,7 +196,7 @@ module _ {C : Type 0} (t : Tables C) (mesh : IsMesh t) where
         geoms = record t.geoms { rows = without t.geoms.rows k };
         edges = record t.edges { index = without_geom_index t.edges.index k };
         live = less;
-        notes = record t.notes { withering = without_mark t.notes.withering k; named = m };
+        notes = record t.notes { going = without_mark t.notes.going k; named = m };
       })
   mesh-without_geom k less m count removed room = record {
     notes = notes-without_geom t.notes t.geoms t.edges.providers k m mesh.notes removed room;

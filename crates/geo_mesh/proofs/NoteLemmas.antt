@@ -1,5 +1,5 @@
--- Notes of providers and of withering geoms, after each change of the tables.
-use Rattle.std.specs.Prelude.{◌≡◌, ℕ, ◌+◌, ◌-◌, ◌≤◌, ◌==◌, Bool, true, false, List, [], ◌∷◌, ◌++◌, Some, map, max, nat_le, filter}
+-- Notes of providers and of geoms, after each change of the tables.
+use Rattle.std.specs.Prelude.{◌≡◌, ℕ, ◌+◌, ◌-◌, ◌≤◌, ◌==◌, Bool, false, List, [], ◌∷◌, ◌++◌, Some, max}
 use Rattle.std.proofs.Common.{refl, sym, ◌∙◌, ap, subst, arith}
 use Rattle.std.proofs.lemmas.List.{map-append}
 use Rattle.geo_slots.specs.Slots.{SlotsView, IsRising, value_at, with_value, without, with_insert}
@@ -9,11 +9,10 @@ use Rattle.geo_mesh.specs.declared.records.GeomCell.{GeomCell}
 use Rattle.geo_mesh.specs.declared.records.ProvCell.{ProvCell}
 use Rattle.geo_mesh.specs.declared.tables.Notes.{Notes}
 use Rattle.geo_mesh.specs.Rows.{row_with, rows_with}
-use Rattle.geo_mesh.specs.Marks.{MarksView, first_marked}
-use Rattle.geo_mesh.specs.Cells.{risen_of, fallen_of, geom_row}
-use Rattle.geo_mesh.specs.Topo.{first_geom}
+use Rattle.geo_mesh.specs.Marks.{MarksView}
+use Rattle.geo_mesh.specs.Cells.{risen_of, fallen_of}
 use Rattle.geo_names.specs.Names.{NamesView, with_name}
-use Rattle.geo_mesh.specs.Notes.{withering_of, name_of, HaveNoteRoom, IsSameNotes, AreNotes}
+use Rattle.geo_mesh.specs.Notes.{name_of, HaveNoteRoom, IsSameNotes, AreNotes}
 use Rattle.geo_mesh.specs.Ranks.{bare, rest_of}
 use Rattle.geo_mesh.proofs.RowLemmas.{OnlyValue, only_value, map-with_value_same, rows_with-with_value, map-without}
 
@@ -42,41 +41,36 @@ module _ {C : Type 0} (n : Notes) (gs : SlotsView (GeomCell C)) (ps : SlotsView 
         rw (are.fallen, are.fallen_next)
         (sym (map-append (row_with fallen_of) ps.rows ((ps.next, v) ∷ [])
         ∙ ap (λ b. rows_with fallen_of ps.rows ++ (ps.next, b) ∷ []) fallen));
-    withering = are.withering;
     risen_next = ap (λ k. k + 1) are.risen_next;
     fallen_next = ap (λ k. k + 1) are.fallen_next;
-    withering_next = are.withering_next;
+    going_next = are.going_next;
     named = are.named;
     named_next = are.named_next;
     room = record {
       risen = omega (arith, are.room.risen);
       fallen = omega (arith, are.room.fallen);
-      withering = are.room.withering;
+      going = are.room.going;
       named = are.room.named;
     };
   }
 
-  -- with a new geom, which doesn't wither, and its name
-  pub notes-geom : (v : GeomCell C) (m : NamesView) → AreNotes n gs ps → v.geom.withering ≡ false
+  -- with a new geom, and its name
+  pub notes-geom : (v : GeomCell C) (m : NamesView) → AreNotes n gs ps
       → m ≡ record (with_name n.named v.geom.name) { room = m.room } → n.named.room ≤ m.room + 1
-      → AreNotes (record n { withering = with_mark n.withering; named = m }) (with_insert gs v) ps
-  notes-geom v m are stays added room = record {
+      → AreNotes (record n { going = with_mark n.going; named = m }) (with_insert gs v) ps
+  notes-geom v m are added room = record {
     risen = are.risen;
     fallen = are.fallen;
-    withering =
-        rw (are.withering, are.withering_next)
-        (sym (map-append (row_with (withering_of {C = C})) gs.rows ((gs.next, v) ∷ [])
-        ∙ ap (λ b. rows_with (withering_of {C = C}) gs.rows ++ (gs.next, b) ∷ []) stays));
     risen_next = are.risen_next;
     fallen_next = are.fallen_next;
-    withering_next = ap (λ k. k + 1) are.withering_next;
+    going_next = ap (λ k. k + 1) are.going_next;
     named = ap (λ k. k.rows) added
         ∙ (rw (are.named, are.named_next) (sym (map-append (row_with (name_of {C = C})) gs.rows ((gs.next, v) ∷ []))));
     named_next = ap (λ k. k.next) added ∙ ap (λ k. k + 1) are.named_next;
     room = record {
       risen = are.room.risen;
       fallen = are.room.fallen;
-      withering = omega (arith, are.room.withering);
+      going = omega (arith, are.room.going);
       named = omega (arith, are.room.named, room);
     };
   }
@@ -84,16 +78,14 @@ module _ {C : Type 0} (n : Notes) (gs : SlotsView (GeomCell C)) (ps : SlotsView 
   -- without a geom and its name
   pub notes-without_geom : (k : ℕ) (m : NamesView) → AreNotes n gs ps
       → m ≡ record n.named { rows = without n.named.rows k; room = m.room } → n.named.room ≤ m.room
-      → AreNotes (record n { withering = without_mark n.withering k; named = m })
+      → AreNotes (record n { going = without_mark n.going k; named = m })
       (record gs { rows = without gs.rows k }) ps
   notes-without_geom k m are removed room = record {
     risen = are.risen;
     fallen = are.fallen;
-    withering = rw are.withering
-        (sym (map-without (row_with (withering_of {C = C})) k (λ (row : ℕ × Bool). row.0 == k) (λ row. refl) gs.rows));
     risen_next = are.risen_next;
     fallen_next = are.fallen_next;
-    withering_next = are.withering_next;
+    going_next = are.going_next;
     named = ap (λ k. k.rows) removed
         ∙ (rw are.named
         (sym (map-without (row_with (name_of {C = C})) k (λ (row : ℕ × List ℕ). row.0 == k) (λ row. refl) gs.rows)));
@@ -101,7 +93,7 @@ module _ {C : Type 0} (n : Notes) (gs : SlotsView (GeomCell C)) (ps : SlotsView 
     room = record {
       risen = are.room.risen;
       fallen = are.room.fallen;
-      withering = are.room.withering;
+      going = are.room.going;
       named = omega (arith, are.room.named, room);
     };
   }
@@ -115,16 +107,15 @@ module _ {C : Type 0} (n : Notes) (gs : SlotsView (GeomCell C)) (ps : SlotsView 
         (sym (map-without (row_with risen_of) k (λ (row : ℕ × Bool). row.0 == k) (λ row. refl) ps.rows));
     fallen = rw are.fallen
         (sym (map-without (row_with fallen_of) k (λ (row : ℕ × Bool). row.0 == k) (λ row. refl) ps.rows));
-    withering = are.withering;
     risen_next = are.risen_next;
     fallen_next = are.fallen_next;
-    withering_next = are.withering_next;
+    going_next = are.going_next;
     named = are.named;
     named_next = are.named_next;
     room = record {
       risen = are.room.risen;
       fallen = are.room.fallen;
-      withering = are.room.withering;
+      going = are.room.going;
       named = are.room.named;
     };
   }
@@ -139,16 +130,15 @@ module _ {C : Type 0} (n : Notes) (gs : SlotsView (GeomCell C)) (ps : SlotsView 
   notes-noted k w are = record {
     risen = rw are.risen (sym (rows_with-with_value risen_of k w ps.rows));
     fallen = rw are.fallen (sym (rows_with-with_value fallen_of k w ps.rows));
-    withering = are.withering;
     risen_next = are.risen_next;
     fallen_next = are.fallen_next;
-    withering_next = are.withering_next;
+    going_next = are.going_next;
     named = are.named;
     named_next = are.named_next;
     room = record {
       risen = are.room.risen;
       fallen = are.room.fallen;
-      withering = are.room.withering;
+      going = are.room.going;
       named = are.room.named;
     };
   }
@@ -165,10 +155,9 @@ module _ {C : Type 0} (n : Notes) (gs : SlotsView (GeomCell C)) (ps : SlotsView 
             ∙ sym (map-with_value_same (row_with risen_of) k v w (ap (λ (b : Bool). (k, b)) risen) ps.rows is);
         fallen = are.fallen
             ∙ sym (map-with_value_same (row_with fallen_of) k v w (ap (λ (b : Bool). (k, b)) fallen) ps.rows is);
-        withering = are.withering;
         risen_next = are.risen_next;
         fallen_next = are.fallen_next;
-        withering_next = are.withering_next;
+        going_next = are.going_next;
         named = are.named;
         named_next = are.named_next;
         room = are.room;
@@ -183,54 +172,20 @@ module _ {C : Type 0} (n : Notes) (gs : SlotsView (GeomCell C)) (ps : SlotsView 
       ∙ sym (map-with_value_same (row_with (name_of {C = C})) k v w (ap (λ (b : List ℕ). (k, b)) same) gs.rows
       (only_value k 1 gs.next v gs.rows rising at))
 
-  -- with another cell of a geom, of the same name, which may wither or not
-  pub notes-withering : (k : ℕ) (v w : GeomCell C) → IsRising 1 gs.rows gs.next → value_at gs.rows k ≡ Some v
-      → w.geom.name ≡ v.geom.name → AreNotes n gs ps
-      → AreNotes (record n { withering = set_mark n.withering k w.geom.withering })
-      (record gs { rows = with_value gs.rows k w }) ps
-  notes-withering k v w rising at same are = record {
-    risen = are.risen;
-    fallen = are.fallen;
-    withering = rw are.withering (sym (rows_with-with_value (withering_of {C = C}) k w gs.rows));
-    risen_next = are.risen_next;
-    fallen_next = are.fallen_next;
-    withering_next = are.withering_next;
-    named = named_kept k v w rising at same are;
-    named_next = are.named_next;
-    room = record {
-      risen = are.room.risen;
-      fallen = are.room.fallen;
-      withering = are.room.withering;
-      named = are.room.named;
-    };
-  }
-
-  -- with another cell of a geom of the same name that withers as before
+  -- with another cell of a geom of the same name
   pub notes-geom_kept : (k : ℕ) (v w : GeomCell C) → IsRising 1 gs.rows gs.next → value_at gs.rows k ≡ Some v
-      → w.geom.withering ≡ v.geom.withering → w.geom.name ≡ v.geom.name
-      → AreNotes n gs ps → AreNotes n (record gs { rows = with_value gs.rows k w }) ps
-  notes-geom_kept k v w rising at stays same are =
-      let is : OnlyValue k v gs.rows = only_value k 1 gs.next v gs.rows rising at in
+      → w.geom.name ≡ v.geom.name → AreNotes n gs ps → AreNotes n (record gs { rows = with_value gs.rows k w }) ps
+  notes-geom_kept k v w rising at same are =
       record {
         risen = are.risen;
         fallen = are.fallen;
-        withering = are.withering
-            ∙ sym (map-with_value_same (row_with (withering_of {C = C})) k v w (ap (λ (b : Bool). (k, b)) stays)
-            gs.rows is);
         risen_next = are.risen_next;
         fallen_next = are.fallen_next;
-        withering_next = are.withering_next;
+        going_next = are.going_next;
         named = named_kept k v w rising at same are;
         named_next = are.named_next;
         room = are.room;
       }
-
--- whether geoms wither is seen without the ranks
-withering_rest : {C : Type 0} (rows : List (ℕ × GeomCell C))
-    → rows_with (withering_of {C = C}) rows
-    ≡ rows_with (λ (x : GeomRec C × Scratch). x.0.withering) (rows_with (rest_of {C = C}) rows)
-withering_rest [] = refl
-withering_rest {C} (row ∷ rows) = ap (λ xs. (row.0, row.1.geom.withering) ∷ xs) (withering_rest {C = C} rows)
 
 -- the names of geoms are seen without the ranks
 names_rest : {C : Type 0} (rows : List (ℕ × GeomCell C))
@@ -243,10 +198,6 @@ names_rest {C} (row ∷ rows) = ap (λ xs. (row.0, row.1.geom.name) ∷ xs) (nam
 pub notes-bare : {C : Type 0} (n : Notes) (gs ns : SlotsView (GeomCell C)) (ps : SlotsView ProvCell)
     → bare ns ≡ bare gs → AreNotes n gs ps → AreNotes n ns ps
 notes-bare {C} n gs ns ps same are =
-    let rows : rows_with (withering_of {C = C}) ns.rows ≡ rows_with (withering_of {C = C}) gs.rows =
-    withering_rest ns.rows
-    ∙ ap (λ (s : SlotsView (GeomRec C × Scratch)). rows_with (λ (x : GeomRec C × Scratch). x.0.withering) s.rows) same
-    ∙ sym (withering_rest gs.rows) in
     let names : rows_with (name_of {C = C}) ns.rows ≡ rows_with (name_of {C = C}) gs.rows =
     names_rest ns.rows
     ∙ ap (λ (s : SlotsView (GeomRec C × Scratch)). rows_with (λ (x : GeomRec C × Scratch). x.0.name) s.rows) same
@@ -256,16 +207,15 @@ notes-bare {C} n gs ns ps same are =
     record {
       risen = are.risen;
       fallen = are.fallen;
-      withering = are.withering ∙ sym rows;
       risen_next = are.risen_next;
       fallen_next = are.fallen_next;
-      withering_next = are.withering_next ∙ sym next;
+      going_next = are.going_next ∙ sym next;
       named = are.named ∙ sym names;
       named_next = are.named_next ∙ sym next;
       room = record {
         risen = are.room.risen;
         fallen = are.room.fallen;
-        withering = subst (λ k. k ≤ n.withering.room) (sym spare) are.room.withering;
+        going = subst (λ k. k ≤ n.going.room) (sym spare) are.room.going;
         named = subst (λ k. k ≤ n.named.room) (sym spare) are.room.named;
       };
     }
@@ -277,10 +227,9 @@ pub notes-reserved : {C : Type 0} (n m : Notes) (gs : SlotsView (GeomCell C)) (p
 notes-reserved n m gs ps g p same room are = record {
   risen = ap (λ k. k.rows) same.risen ∙ are.risen;
   fallen = ap (λ k. k.rows) same.fallen ∙ are.fallen;
-  withering = ap (λ k. k.rows) same.withering ∙ are.withering;
   risen_next = ap (λ k. k.next) same.risen ∙ are.risen_next;
   fallen_next = ap (λ k. k.next) same.fallen ∙ are.fallen_next;
-  withering_next = ap (λ k. k.next) same.withering ∙ are.withering_next;
+  going_next = ap (λ k. k.next) same.going ∙ are.going_next;
   named = ap (λ k. k.rows) same.named ∙ are.named;
   named_next = ap (λ k. k.next) same.named ∙ are.named_next;
   room = room;
@@ -292,27 +241,6 @@ pub note_room_for : (a b d e g p : ℕ) (n : Notes) → HaveNoteRoom a b n → H
 note_room_for a b d e g p n one two most_g most_p = record {
   risen = omega (arith, one.risen, two.risen, most_p);
   fallen = omega (arith, one.fallen, two.fallen, most_p);
-  withering = omega (arith, one.withering, two.withering, most_g);
+  going = omega (arith, one.going, two.going, most_g);
   named = omega (arith, one.named, two.named, most_g);
 }
-
-module _ {C : Type 0} (from_number : ℕ) where
-  -- one geom more in front, by whether it withers and isn't below the number
-  withering_step : (row : ℕ × GeomCell C) (rows : List (ℕ × GeomCell C)) (a b : Bool)
-      → nat_le from_number row.0 ≡ a → row.1.geom.withering ≡ b
-      → first_marked (rows_with (withering_of {C = C}) rows) from_number
-      ≡ first_geom (filter (λ x. x.withering) (map geom_row rows)) from_number
-      → first_marked (rows_with (withering_of {C = C}) (row ∷ rows)) from_number
-      ≡ first_geom (filter (λ x. x.withering) (map geom_row (row ∷ rows))) from_number
-  withering_step row rows true true e f rest = rw (e, f, e) refl
-  withering_step row rows true false e f rest = rw (e, f) rest
-  withering_step row rows false true e f rest = rw (e, f, e) rest
-  withering_step row rows false false e f rest = rw (e, f) rest
-
-  -- the first number with a mark is the first geom that withers
-  pub first-withering : (rows : List (ℕ × GeomCell C))
-      → first_marked (rows_with (withering_of {C = C}) rows) from_number
-      ≡ first_geom (filter (λ x. x.withering) (map geom_row rows)) from_number
-  first-withering [] = refl
-  first-withering (row ∷ rows) =
-      withering_step row rows (nat_le from_number row.0) row.1.geom.withering refl refl (first-withering rows)

@@ -433,6 +433,12 @@ module _ {C : Type 0} (gs : SlotsView (GeomCell C)) (edges : Edges) (orderly : I
             (recursion_from_All IsOffer (map provider_row edges.providers.rows) orderly.offers);
       }
 
+  -- the rows of the geoms rise
+  pub geoms-rise : IsRising 1 gs.rows gs.next
+  geoms-rise =
+      rows-rise geom_row (λ (x : Geom C). x.number) (λ row. refl) gs.next orderly.numbers.next_geom.some gs.rows
+      orderly.numbers.geoms orderly.order.geoms
+
   -- the index tells what is in an orderly graph, and its rows rise
   pub kin-of : IsIndexed (graph_of gs edges) edges.index → IsKin edges
   kin-of indexed = record {

@@ -1,6 +1,7 @@
 -- What a mesh keeps as a whole, after each call.
-use Rattle.std.specs.Prelude.{◌≡◌, ℕ, ◌==◌, true, Some, map}
-use Rattle.std.proofs.Common.{refl, sym, ap, subst}
+use Rattle.std.specs.Prelude.{◌≡◌, ℕ, ◌==◌, Bool, true, Some, map}
+use Rattle.std.proofs.Common.{refl, sym, ◌∙◌, ap, subst}
+use Rattle.std.proofs.lemmas.Bool.{ne_eqb}
 use Rattle.geo_slots.specs.Slots.{IsRising, value_at, with_value}
 use Rattle.geo_model.specs.Words.{change_where}
 use Rattle.geo_model.specs.Topology.{Geom, Provider, Consumer, set_marks, set_error}
@@ -17,14 +18,18 @@ use Rattle.geo_mesh.specs.Names.{AreNames, HaveNameRoom, RetiresName}
 use Rattle.geo_mesh.specs.declared.tables.Notes.{Notes}
 use Rattle.geo_mesh.specs.Notes.{AreNotes, HaveNoteRoom}
 use Rattle.geo_mesh.proofs.NoteLemmas.{notes-reserved, notes-geom_kept, notes-provider_kept}
-use Rattle.geo_mesh.specs.Ranks.{footing}
-use Rattle.geo_mesh.specs.Whole.{IsWhole, IsRoomier}
+use Rattle.geo_mesh.specs.Mesh.{IsMesh}
+use Rattle.geo_mesh.specs.Ranks.{HaveRanks, footing}
+use Rattle.geo_mesh.specs.Going.{AreGoing, AreGoingBut, is_idle_cell, is_free_in, going_rows}
+use Rattle.geo_mesh.specs.Whole.{IsWhole, IsWholeBut, IsRoomier}
 use Rattle.geo_mesh.proofs.RowLemmas.{only_value, map-with_value}
 use Rattle.geo_mesh.proofs.IndexLemmas.{indexed-rooms, indexed-geom, indexed-provider, indexed-set_marks}
 use Rattle.geo_mesh.proofs.NamesKept.{names-same, names-changed}
 use Rattle.geo_mesh.proofs.ViewLemmas.{count-with_value, set_error-view}
 use Rattle.geo_mesh.proofs.Orderly.{orderly-geom, orderly-provider, orderly-set_marks}
 use Rattle.geo_mesh.proofs.MeshLemmas.{found_provider, names-errored}
+use Rattle.geo_mesh.proofs.GoingLemmas.{free-provider_cell, free-consumer_kept, free-consumer_cell}
+use Rattle.geo_mesh.proofs.GoingRows.{going-free, going-cell, going-withers, free_once}
 use Rattle.geo_mesh.proofs.RankMesh as ranks
 
 -- what index, names and ranks read of a geom's cell is as it was
@@ -46,6 +51,22 @@ pub record KeepsProvider (v w : ProvCell) : Type 0 where
 pub record KeepsConsumer (v w : ConsCell) : Type 0 where
   pub geom : w.consumer.geom ≡ v.consumer.geom
   pub provider : w.consumer.prov ≡ v.consumer.prov
+
+-- what of a mesh's tables holds beside the marks of the geoms
+pub record IsStanding {C : Type 0} (t : Tables C) : Type 0 where
+  pub tables : IsMesh t
+  pub ranks : HaveRanks t.geoms t.edges t.live
+  pub graph : IsOrderly (graph t)
+
+module _ {C : Type 0} (t : Tables C) (stands : IsStanding t) where
+  -- with the marks it is the whole
+  pub with_going : AreGoing t → IsWhole t
+  with_going going = record { tables = stands.tables; ranks = stands.ranks; graph = stands.graph; going = going }
+
+  -- so but for one geom's mark
+  pub with_going_but : (geom : ℕ) → AreGoingBut geom t → IsWholeBut geom t
+  with_going_but geom going =
+      record { tables = stands.tables; ranks = stands.ranks; graph = stands.graph; going = going }
 
 module _ {C : Type 0} (t : Tables C) (whole : IsWhole t) where
   -- more room changes nothing else
@@ -85,14 +106,18 @@ module _ {C : Type 0} (t : Tables C) (whole : IsWhole t) where
         };
         ranks = record { count = whole.ranks.count; standing = whole.ranks.standing };
         graph = whole.graph;
+        going = ap (λ m. m.rows) is.notes.going ∙ whole.going;
       })
 
-  -- another cell of a geom that keeps what is read of it keeps the whole
-  pub whole-geom_noted : (n : ℕ) (v w : GeomCell C) (notes : Notes) → IsRising 1 t.geoms.rows t.geoms.next
-      → value_at t.geoms.rows n ≡ Some v
-      → KeepsGeom v w → AreNotes notes (with_geom_cell t n w).geoms t.edges.providers
-      → IsWhole (record (with_geom_cell t n w) { notes = notes })
-  whole-geom_noted n v w notes rising at keeps are =
+  -- the marks stay where the same is free
+  pub same-going : (new : ℕ → Bool) → ((g : ℕ) → new g ≡ is_free_in t g)
+      → t.notes.going.rows ≡ going_rows new t.geoms.rows
+  same-going new same = whole.going ∙ going-free (is_free_in t) new (λ g. sym (same g)) t.geoms.rows
+
+  -- another cell of a geom that keeps what is read of it keeps what stands beside the marks
+  geom_standing : (n : ℕ) (v w : GeomCell C) → IsRising 1 t.geoms.rows t.geoms.next
+      → value_at t.geoms.rows n ≡ Some v → KeepsGeom v w → IsStanding (with_geom_cell t n w)
+  geom_standing n v w rising at keeps =
       let change : Geom C → Geom C = λ x. record x {
         name = w.geom.name;
         config = w.geom.config;
@@ -116,28 +141,51 @@ module _ {C : Type 0} (t : Tables C) (whole : IsWhole t) where
           room = whole.tables.room;
           names_are = whole.tables.names_are;
           names_room = whole.tables.names_room;
-          notes = are;
+          notes = notes-geom_kept t.notes t.geoms t.edges.providers n v w rising at keeps.name whole.tables.notes;
         };
         ranks = ranks.mesh-geom t.geoms t.edges t.live n whole.ranks v w rising (sym at) keeps.kind keeps.rank;
         graph = subst (λ g. IsOrderly g) (sym changed)
             (orderly-geom (graph t) whole.graph n change (λ x. refl) (λ x. refl));
       }
 
-  -- so where the geom withers as before
+  -- it keeps the whole where the geom withers as before
   pub whole-geom_cell : (n : ℕ) (v w : GeomCell C) → IsRising 1 t.geoms.rows t.geoms.next
       → value_at t.geoms.rows n ≡ Some v → KeepsGeom v w
       → w.geom.withering ≡ v.geom.withering → IsWhole (with_geom_cell t n w)
   whole-geom_cell n v w rising at keeps stays =
-      whole-geom_noted n v w t.notes rising at keeps
-      (notes-geom_kept t.notes t.geoms t.edges.providers n v w rising at stays keeps.name whole.tables.notes)
+      with_going (with_geom_cell t n w) (geom_standing n v w rising at keeps)
+      (whole.going ∙ sym (going-cell (is_free_in t) n v w stays t.geoms.rows
+      (only_value n 1 t.geoms.next v t.geoms.rows rising at)))
+
+  -- but for the geom's mark where it withers from now on
+  pub whole-geom_withers : (n : ℕ) (v w : GeomCell C) → IsRising 1 t.geoms.rows t.geoms.next
+      → value_at t.geoms.rows n ≡ Some v → KeepsGeom v w
+      → w.geom.withering ≡ true → IsWholeBut n (with_geom_cell t n w)
+  whole-geom_withers n v w rising at keeps withers =
+      with_going_but (with_geom_cell t n w) (geom_standing n v w rising at keeps) n
+      (record {
+        free = free_once (is_free_in t) n v;
+        others = λ g apart. rw (ne_eqb g n apart) refl;
+        rows = whole.going ∙ going-withers (is_free_in t) n v w withers t.geoms.rows
+            (only_value n 1 t.geoms.next v t.geoms.rows rising at);
+      })
+
+  -- the marks stay with another cell of a provider of the same geom
+  provider_going : (n : ℕ) (v w : ProvCell) → IsRising 1 t.edges.providers.rows t.edges.providers.next
+      → value_at t.edges.providers.rows n ≡ Some v → w.provider.geom ≡ v.provider.geom
+      → AreGoing (with_provider_cell t n w)
+  provider_going n v w rising at same =
+      same-going (is_free_in (with_provider_cell t n w))
+      (λ g. free-provider_cell t.edges.providers.rows t.edges.consumers.rows g n v w same
+      (only_value n 1 t.edges.providers.next v t.edges.providers.rows rising at))
 
   -- another cell of a provider that keeps what is read of it keeps the whole
   pub whole-provider_noted : (n : ℕ) (v w : ProvCell) (notes : Notes)
       → IsRising 1 t.edges.providers.rows t.edges.providers.next
       → value_at t.edges.providers.rows n ≡ Some v → KeepsProvider v w
-      → AreNotes notes t.geoms (with_provider_cell t n w).edges.providers
+      → AreNotes notes t.geoms (with_provider_cell t n w).edges.providers → notes.going ≡ t.notes.going
       → IsWhole (record (with_provider_cell t n w) { notes = notes })
-  whole-provider_noted n v w notes rising at keeps are =
+  whole-provider_noted n v w notes rising at keeps are unmarked =
       let change : Provider → Provider = λ x. record x { size = w.provider.size; sector = w.provider.sector } in
       let seen : provider_row (n, w) ≡ change (provider_row (n, v)) =
       λ i. record (provider_row (n, w)) { geom = keeps.geom i; name = keeps.name i; errored = keeps.errored i } in
@@ -173,6 +221,7 @@ module _ {C : Type 0} (t : Tables C) (whole : IsWhole t) where
               not_taste = offer.not_taste;
               sizes = keeps.sizes offer.sizes;
             }));
+        going = ap (λ m. m.rows) unmarked ∙ provider_going n v w rising at keeps.geom;
       }
 
   -- so where the provider is noted as before
@@ -182,12 +231,12 @@ module _ {C : Type 0} (t : Tables C) (whole : IsWhole t) where
       → IsWhole (with_provider_cell t n w)
   whole-provider_cell n v w rising at keeps risen fallen =
       whole-provider_noted n v w t.notes rising at keeps
-      (notes-provider_kept t.notes t.geoms t.edges.providers n v w rising at risen fallen whole.tables.notes)
+      (notes-provider_kept t.notes t.geoms t.edges.providers n v w rising at risen fallen whole.tables.notes) refl
 
-  -- another cell of a consumer that keeps what is read of it keeps the whole
-  pub whole-consumer_cell : (n : ℕ) (v w : ConsCell) → IsRising 1 t.edges.consumers.rows t.edges.consumers.next
-      → value_at t.edges.consumers.rows n ≡ Some v → KeepsConsumer v w → IsWhole (with_consumer_cell t n w)
-  whole-consumer_cell n v w rising at keeps =
+  -- another cell of a consumer that keeps what is read of it keeps what stands beside the marks
+  consumer_standing : (n : ℕ) (v w : ConsCell) → IsRising 1 t.edges.consumers.rows t.edges.consumers.next
+      → value_at t.edges.consumers.rows n ≡ Some v → KeepsConsumer v w → IsStanding (with_consumer_cell t n w)
+  consumer_standing n v w rising at keeps =
       let change : Consumer → Consumer = λ x. record x { spoiled = w.consumer.spoiled } in
       let seen : consumer_row (n, w) ≡ change (consumer_row (n, v)) =
       λ i. record (consumer_row (n, w)) { geom = keeps.geom i; provider = keeps.provider i } in
@@ -214,6 +263,30 @@ module _ {C : Type 0} (t : Tables C) (whole : IsWhole t) where
         graph = subst (λ g. IsOrderly g) (sym changed)
             (orderly-set_marks (graph t) whole.graph (λ x. x.number == n) w.consumer.spoiled);
       }
+
+  -- it keeps the whole where the consumer is idle as before
+  pub whole-consumer_cell : (n : ℕ) (v w : ConsCell) → IsRising 1 t.edges.consumers.rows t.edges.consumers.next
+      → value_at t.edges.consumers.rows n ≡ Some v → KeepsConsumer v w → is_idle_cell w ≡ is_idle_cell v
+      → IsWhole (with_consumer_cell t n w)
+  whole-consumer_cell n v w rising at keeps idle =
+      with_going (with_consumer_cell t n w) (consumer_standing n v w rising at keeps)
+      (same-going (is_free_in (with_consumer_cell t n w))
+      (λ g. free-consumer_kept t.edges.providers.rows t.edges.consumers.rows g n v w keeps.geom keeps.provider idle
+      (only_value n 1 t.edges.consumers.next v t.edges.consumers.rows rising at)))
+
+  -- but for the mark of the consumer's geom where it may not be
+  pub whole-consumer_used : (n : ℕ) (v w : ConsCell) → IsRising 1 t.edges.consumers.rows t.edges.consumers.next
+      → value_at t.edges.consumers.rows n ≡ Some v → KeepsConsumer v w
+      → IsWholeBut v.consumer.geom (with_consumer_cell t n w)
+  whole-consumer_used n v w rising at keeps =
+      with_going_but (with_consumer_cell t n w) (consumer_standing n v w rising at keeps) v.consumer.geom
+      (record {
+        free = is_free_in t;
+        others = λ g apart.
+            sym (free-consumer_cell t.edges.providers.rows t.edges.consumers.rows g n v w keeps.geom keeps.provider
+            (only_value n 1 t.edges.consumers.next v t.edges.consumers.rows rising at) apart);
+        rows = whole.going;
+      })
 
   -- an error at a provider, whose name is retired, keeps the whole
   pub whole-errored : (n : ℕ) (v : ProvCell) (m : Names) → IsRising 1 t.edges.providers.rows t.edges.providers.next
@@ -246,4 +319,5 @@ module _ {C : Type 0} (t : Tables C) (whole : IsWhole t) where
             (provider_row (n, v))
             (found_provider t whole.tables n v at)
             (λ offer. record { not_dev = offer.not_dev; not_taste = offer.not_taste; sizes = offer.sizes }));
+        going = provider_going n v w rising at refl;
       }

@@ -1,6 +1,9 @@
 -- What a mesh keeps as a whole, where a part comes or goes, and where a consumer is attached or detached.
-use Rattle.std.specs.Prelude.{◌≡◌, ◌≢◌, ℕ, ◌+◌, ◌-◌, ◌<◌, ◌≤◌, ◌^◌, true, false, [], Option, Some, None, find, map, IsSome, IfSome}
-use Rattle.std.proofs.Common.{sym, ◌∙◌, ap, subst}
+use Rattle.std.specs.Prelude.{◌≡◌, ◌≢◌, ℕ, ◌+◌, ◌-◌, ◌<◌, ◌≤◌, ◌^◌, ◌==◌, true, false, [], ◌∷◌, ◌++◌, Option, Some, None, find, map, option_map, IsSome, IfSome}
+use Rattle.std.specs.List.{AllByRecursion}
+use Rattle.std.proofs.Common.{refl, sym, ◌∙◌, ap, subst}
+use Rattle.std.proofs.lemmas.Bool.{ne_eqb}
+use Rattle.geo_model.specs.Words.{names_number}
 use Rattle.geo_slots.specs.Slots.{SlotsView, IsRising, value_at, without, with_insert}
 use Rattle.geo_model.specs.Topology.{geom_at, provider_at, consumer_at, providers_of, consumers_of, attached_to}
 use Rattle.geo_mesh.specs.declared.records.GeomCell.{GeomCell}
@@ -16,13 +19,17 @@ use Rattle.geo_mesh.specs.Graph.{IsOrderly}
 use Rattle.geo_mesh.specs.Cells.{graph, provider_row, put_consumer}
 use Rattle.geo_mesh.specs.Index.{with_geom_index, with_provider_index, with_consumer_index, without_geom_index, without_provider_index, without_consumer_index, attached_index, detached_index}
 use Rattle.geo_mesh.specs.Names.{HaveNameRoom, AddsName, RemovesName, is_sound_named}
-use Rattle.geo_mesh.specs.Ranks.{HaveRanks, bare, stored}
-use Rattle.geo_mesh.specs.Whole.{IsWhole}
-use Rattle.geo_mesh.proofs.RankFirst.{footing-none}
+use Rattle.geo_mesh.specs.Ranks.{HaveRanks, bare, stored, owner, owner_of, number_or}
+use Rattle.geo_mesh.specs.Whole.{IsWhole, IsWholeBut}
+use Rattle.geo_mesh.specs.Going.{AreGoingBut, is_free_in}
+use Rattle.geo_mesh.proofs.RankFirst.{footing-none, kin-of}
+use Rattle.geo_mesh.proofs.RowLemmas.{only_value, value_at-rows_with}
+use Rattle.geo_mesh.proofs.GoingLemmas.{under-each, free-new_provider, free-new_consumer, free-without_provider, free-without_consumer, free-switched}
+use Rattle.geo_mesh.proofs.GoingRows.{going-push, going-without, going-bare}
 use Rattle.geo_mesh.proofs.NoteLemmas.{with_mark, without_mark}
 use Rattle.geo_mesh.proofs.RankMesh as ranks
 use Rattle.geo_mesh.proofs.RankSwitch.{mesh-kept}
-use Rattle.geo_mesh.proofs.ViewLemmas.{count_falls, without_geom-view, without_provider-view, without_consumer-view, attach-view, detach-view}
+use Rattle.geo_mesh.proofs.ViewLemmas.{consumer_at-view, count_falls, without_geom-view, without_provider-view, without_consumer-view, attach-view, detach-view}
 use Rattle.geo_mesh.proofs.Orderly.{orderly-add_geom, orderly-add_provider, orderly-add_consumer, orderly-remove_geom, orderly-remove_provider, orderly-remove_consumer, orderly-attach, orderly-detach}
 use Rattle.geo_mesh.proofs.MeshLemmas.{graph-geom, graph-provider, graph-consumer, mesh-geom, mesh-provider, mesh-consumer, mesh-without_geom, mesh-without_provider, mesh-without_consumer, mesh-attached, mesh-detached, mesh-bare}
 
@@ -41,7 +48,7 @@ module _ {C : Type 0} (t : Tables C) (whole : IsWhole t) where
         geoms = with_insert t.geoms v;
         edges = record t.edges { index = with_geom_index t.edges.index };
         live = t.live + 1;
-        notes = record t.notes { withering = with_mark t.notes.withering; named = m };
+        notes = record t.notes { going = with_mark t.notes.going; named = m };
       })
   whole-new_geom v m stays none rank rising few fits added room = record {
     tables = mesh-geom t whole.tables v m stays none few added room;
@@ -52,9 +59,13 @@ module _ {C : Type 0} (t : Tables C) (whole : IsWhole t) where
     graph =
         subst (λ g. IsOrderly g) (sym (graph-geom t whole.tables v stays none))
         (orderly-add_geom (graph t) whole.graph v.geom.kind v.geom.name v.geom.config v.geom.automatic fits);
+    going =
+        (λ i. whole.going i ++ (whole.tables.notes.going_next i, false) ∷ [])
+        ∙ sym (going-push (is_free_in t) t.geoms.next v stays t.geoms.rows);
   }
 
-  -- with a new provider of a geom other than the first two, of a name that no other has without an error
+  -- with a new provider of a geom other than the first two, of a name that no other has without an error: but for the
+  -- geom's mark
   pub whole-new_provider : (v : ProvCell) (m : Names) → v.provider.errored ≡ false → v.provider.risen ≡ false
       → v.provider.fallen ≡ false
       → find (is_sound_named v.provider.name) (map provider_row t.edges.providers.rows) ≡ None
@@ -62,7 +73,7 @@ module _ {C : Type 0} (t : Tables C) (whole : IsWhole t) where
       → HaveNameRoom (t.edges.providers.spare - 1) m → IsSome (geom_at (graph t) v.provider.geom)
       → v.provider.geom ≢ 1 → v.provider.geom ≢ 2
       → is_provider_size v.provider.size v.provider.sector ≡ true → t.edges.providers.next + 1 < 2 ^ 64
-      → IsWhole (record t {
+      → IsWholeBut v.provider.geom (record t {
         edges = record t.edges {
           providers = with_insert t.edges.providers v;
           index = with_provider_index t.edges.index v.provider.geom;
@@ -81,13 +92,19 @@ module _ {C : Type 0} (t : Tables C) (whole : IsWhole t) where
         subst (λ g. IsOrderly g) (sym (graph-provider t whole.tables v sound))
         (orderly-add_provider (graph t) whole.graph v.provider.geom v.provider.name v.provider.size
         v.provider.sector lives not_dev not_taste sizes fits);
+    going = record {
+      free = is_free_in t;
+      others = λ g apart.
+          sym (free-new_provider t.edges.providers.rows t.edges.consumers.rows g t.edges.providers.next v apart);
+      rows = whole.going;
+    };
   }
 
-  -- with a new consumer, attached to nothing
+  -- with a new consumer, attached to nothing: but for its geom's mark
   pub whole-new_consumer : (v : ConsCell) → v.consumer.prov ≡ None → v.consumer.spoiled ≡ false
       → IsSome (geom_at (graph t) v.consumer.geom)
       → t.edges.consumers.next + 1 < 2 ^ 64
-      → IsWhole (record t {
+      → IsWholeBut v.consumer.geom (record t {
         edges =
             record t.edges {
               consumers = with_insert t.edges.consumers v;
@@ -107,6 +124,12 @@ module _ {C : Type 0} (t : Tables C) (whole : IsWhole t) where
     graph =
         subst (λ g. IsOrderly g) (sym (graph-consumer t whole.tables v free clean))
         (orderly-add_consumer (graph t) whole.graph v.consumer.geom lives fits);
+    going = record {
+      free = is_free_in t;
+      others = λ g apart.
+          sym (free-new_consumer t.edges.providers.rows t.edges.consumers.rows g t.edges.consumers.next v free apart);
+      rows = whole.going;
+    };
   }
 
   -- without a geom that has neither provider nor consumer
@@ -118,7 +141,7 @@ module _ {C : Type 0} (t : Tables C) (whole : IsWhole t) where
         geoms = record t.geoms { rows = without t.geoms.rows n };
         edges = record t.edges { index = without_geom_index t.edges.index n };
         live = t.live - 1;
-        notes = record t.notes { withering = without_mark t.notes.withering n; named = m };
+        notes = record t.notes { going = without_mark t.notes.going n; named = m };
       })
   whole-without_geom n v m rising at not_dev not_taste no_provider no_consumer removed room = record {
     tables = mesh-without_geom t whole.tables n (t.live - 1) m
@@ -131,15 +154,16 @@ module _ {C : Type 0} (t : Tables C) (whole : IsWhole t) where
     graph =
         subst (λ g. IsOrderly g) (sym (ap (λ v. v.topology) (without_geom-view t n (t.live - 1))))
         (orderly-remove_geom (graph t) whole.graph n not_dev not_taste no_provider no_consumer);
+    going = ap (λ rows. without rows n) whole.going ∙ sym (going-without (is_free_in t) n t.geoms.rows);
   }
 
-  -- without a provider to which nothing is attached
+  -- without a provider to which nothing is attached: but for its geom's mark
   pub whole-without_provider : (n : ℕ) (v : ProvCell) (m : Names)
       → IsRising 1 t.edges.providers.rows t.edges.providers.next
       → value_at t.edges.providers.rows n ≡ Some v
       → RemovesName t.names m v.provider.name n v.provider.errored
       → HaveNameRoom t.edges.providers.spare m → attached_to (graph t) n ≡ []
-      → IsWhole (record t {
+      → IsWholeBut v.provider.geom (record t {
         edges = record t.edges {
           providers = record t.edges.providers { rows = without t.edges.providers.rows n };
           index = without_provider_index t.edges.index n;
@@ -157,18 +181,25 @@ module _ {C : Type 0} (t : Tables C) (whole : IsWhole t) where
     graph =
         subst (λ g. IsOrderly g) (sym (ap (λ v. v.topology) (without_provider-view t n)))
         (orderly-remove_provider (graph t) whole.graph n none);
+    going = record {
+      free = is_free_in t;
+      others = λ g apart.
+          sym (free-without_provider t.edges.providers.rows t.edges.consumers.rows g n v
+          (only_value n 1 t.edges.providers.next v t.edges.providers.rows rising at) apart);
+      rows = whole.going;
+    };
   }
 
-  -- without a consumer that is attached to nothing
-  pub whole-without_consumer : (n : ℕ) → IsRising 1 t.edges.consumers.rows t.edges.consumers.next
-      → IfSome (consumer_at (graph t) n) (λ x. x.provider ≡ None)
-      → IsWhole (record t {
+  -- without a consumer that is attached to nothing: but for its geom's mark
+  pub whole-without_consumer : (n : ℕ) (v : ConsCell) → IsRising 1 t.edges.consumers.rows t.edges.consumers.next
+      → value_at t.edges.consumers.rows n ≡ Some v → IfSome (consumer_at (graph t) n) (λ x. x.provider ≡ None)
+      → IsWholeBut v.consumer.geom (record t {
         edges = record t.edges {
           consumers = record t.edges.consumers { rows = without t.edges.consumers.rows n };
           index = without_consumer_index t.edges.index n;
         };
       })
-  whole-without_consumer n rising free = record {
+  whole-without_consumer n v rising at free = record {
     tables = mesh-without_consumer t whole.tables n;
     ranks =
         beside_index t.geoms
@@ -178,6 +209,14 @@ module _ {C : Type 0} (t : Tables C) (whole : IsWhole t) where
     graph =
         subst (λ g. IsOrderly g) (sym (ap (λ v. v.topology) (without_consumer-view t n)))
         (orderly-remove_consumer (graph t) whole.graph n);
+    going = record {
+      free = is_free_in t;
+      others = λ g apart.
+          sym (free-without_consumer t.edges.providers.rows t.edges.consumers.rows g n v
+          (rw (consumer_at-view t.geoms t.edges n, at) at free)
+          (only_value n 1 t.edges.consumers.next v t.edges.consumers.rows rising at) apart);
+      rows = whole.going;
+    };
   }
 
   -- with the ranks as they were, in other cells
@@ -187,21 +226,51 @@ module _ {C : Type 0} (t : Tables C) (whole : IsWhole t) where
     tables = mesh-bare t whole.tables ns same;
     ranks = mesh-kept t.geoms ns t.edges t.live whole.ranks same kept;
     graph = subst (λ g. IsOrderly g) (sym (ap (λ v. v.topology) (ranks.view-bare t ns same))) whole.graph;
+    going = whole.going ∙ sym (going-bare (is_free_in t) t.geoms ns same);
   }
+
+  -- each provider of a number is its owner's
+  owned : (p : ℕ) → AllByRecursion (λ row. (row.0 == p) ≡ true → row.1.provider.geom ≡ owner t.edges p)
+      t.edges.providers.rows
+  owned p =
+      under-each p (λ x. x.provider.geom ≡ owner t.edges p) 1 t.edges.providers.next t.edges.providers.rows
+      (kin-of t.geoms t.edges whole.graph whole.tables.indexed).providers_rise
+      (rw (value_at-rows_with owner_of p t.edges.providers.rows) (at (value_at t.edges.providers.rows p))) where
+        at : (o : Option ProvCell) → IfSome o (λ x. x.provider.geom ≡ number_or 0 (option_map owner_of o))
+        at None = tt
+        at (Some x) = refl
 
   module _ (n : ℕ) (v : ConsCell) (rising : IsRising 1 t.edges.consumers.rows t.edges.consumers.next)
       (at : value_at t.edges.consumers.rows n ≡ Some v)
       (ns : SlotsView (GeomCell C)) (same : bare ns ≡ bare t.geoms) where
-    -- with a consumer attached to a provider, where the ranks stand for that graph
-    pub whole-attached : (p : ℕ)
+    -- the marks, where the consumer is attached to one provider or no more: but for that of the provider's geom
+    switched_going : (p : ℕ) (o : Option ℕ) (i : Index)
+        → ((q : ℕ) → q ≢ p → names_number o q ≡ names_number v.consumer.prov q)
+        → AreGoingBut (owner t.edges p) (record t {
+          geoms = ns;
+          edges = record (put_consumer t.edges n (record v { consumer = record v.consumer { prov = o } }))
+              { index = i };
+        })
+    switched_going p o i names = record {
+      free = is_free_in t;
+      others = λ g apart.
+          sym (free-switched t.edges.providers.rows t.edges.consumers.rows g n v
+          (record v { consumer = record v.consumer { prov = o } }) p (owner t.edges p) refl refl names
+          (only_value n 1 t.edges.consumers.next v t.edges.consumers.rows rising at) (owned p) apart);
+      rows = whole.going ∙ sym (going-bare (is_free_in t) t.geoms ns same);
+    }
+
+    -- with a consumer attached to a provider, where the ranks stand for that graph: but for the mark of the provider's
+    -- geom
+    pub whole-attached : (p : ℕ) → v.consumer.prov ≡ None
         → HaveRanks ns (put_consumer t.edges n (record v { consumer = record v.consumer { prov = Some p } })) t.live
         → IsSome (provider_at (graph t) p)
-        → IsWhole (record t {
+        → IsWholeBut (owner t.edges p) (record t {
           geoms = ns;
           edges = record (put_consumer t.edges n (record v { consumer = record v.consumer { prov = Some p } }))
               { index = attached_index t.edges.index n p v.consumer.geom };
         })
-    whole-attached p are lives =
+    whole-attached p free are lives =
         let edges : Edges = put_consumer t.edges n (record v { consumer = record v.consumer { prov = Some p } }) in
         let after : Tables C = record t { edges = record edges { index = attached_index t.edges.index n p v.consumer.geom } } in
         record {
@@ -211,17 +280,20 @@ module _ {C : Type 0} (t : Tables C) (whole : IsWhole t) where
               subst (λ g. IsOrderly g)
               (sym (ap (λ v. v.topology) (ranks.view-bare after ns same ∙ attach-view t n p v rising at)))
               (orderly-attach (graph t) whole.graph n p lives);
+          going = switched_going p (Some p) (attached_index t.edges.index n p v.consumer.geom)
+              (λ q apart. rw free (ne_eqb p q (λ e. apart (sym e))));
         }
 
-    -- with a consumer attached to nothing, where the ranks stand for that graph
-    pub whole-detached : HaveRanks ns
+    -- with a consumer attached to nothing, where the ranks stand for that graph: but for the mark of the geom of the
+    -- provider to which it was attached
+    pub whole-detached : (p : ℕ) → v.consumer.prov ≡ Some p → HaveRanks ns
         (put_consumer t.edges n (record v { consumer = record v.consumer { prov = None } })) t.live
-        → IsWhole (record t {
+        → IsWholeBut (owner t.edges p) (record t {
           geoms = ns;
           edges = record (put_consumer t.edges n (record v { consumer = record v.consumer { prov = None } }))
               { index = detached_index t.edges.index n };
         })
-    whole-detached are =
+    whole-detached p bound are =
         let edges : Edges = put_consumer t.edges n (record v { consumer = record v.consumer { prov = None } }) in
         let after : Tables C = record t { edges = record edges { index = detached_index t.edges.index n } } in
         record {
@@ -231,4 +303,6 @@ module _ {C : Type 0} (t : Tables C) (whole : IsWhole t) where
               subst (λ g. IsOrderly g)
               (sym (ap (λ v. v.topology) (ranks.view-bare after ns same ∙ detach-view t n v rising at)))
               (orderly-detach (graph t) whole.graph n);
+          going = switched_going p None (detached_index t.edges.index n)
+              (λ q apart. rw bound (sym (ne_eqb p q (λ e. apart (sym e)))));
         }

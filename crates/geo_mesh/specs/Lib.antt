@@ -13,3 +13,4 @@ pub mod Names
 pub mod Mending
 pub mod Ranks
 pub mod Whole
+pub mod Going

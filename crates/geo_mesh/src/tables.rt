@@ -25,17 +25,18 @@ pub struct Edges {
 }
 
 /// The providers whose write count is noted to have left zero, those for which it is noted to have reached zero, and
-/// the geoms that wither: each carries a mark among all. And the geoms under their names.
+/// the withering geoms of which something can go: each carries a mark among all. And the geoms under their names.
 #[derive(Drop)]
 pub struct Notes {
     pub risen: Marks,
     pub fallen: Marks,
-    pub withering: Marks,
+    pub going: Marks,
     pub named: geo_names::Names,
 }
 
 /// Geoms with their providers and consumers, how many geoms there are, and what finds a provider by its name, a noted
-/// provider, a withering geom and a geom by its name. There are fewer geoms than 2^32, so that a rank fits its type.
+/// provider, a withering geom of which something can go and a geom by its name. There are fewer geoms than 2^32, so
+/// that a rank fits its type.
 #[derive(Drop)]
 pub struct Tables<C> {
     pub geoms: Slots<GeomCell<C>>,
@@ -55,7 +56,7 @@ impl Notes {
     {
         self.risen.reserve(providers)?;
         self.fallen.reserve(providers)?;
-        self.withering.reserve(geoms)?;
+        self.going.reserve(geoms)?;
         self.named.reserve(geoms)?;
         Ok(())
     }
@@ -148,12 +149,12 @@ pub fn first_notes(alloc: Global, first: &Name, second: &Name) -> Result<Notes, 
 {
     let risen = Marks::new(alloc)?;
     let fallen = Marks::new(alloc)?;
-    let withering = two_marks(alloc)?;
+    let going = two_marks(alloc)?;
     let named = two_names(alloc, first, second)?;
     Ok(Notes {
         risen,
         fallen,
-        withering,
+        going,
         named,
     })
 }

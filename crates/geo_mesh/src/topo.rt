@@ -8,6 +8,7 @@ ghost use Rattle.geo_slots.specs.Slots.{value_at};
 ghost use Rattle.geo_mesh.specs.Topo.{first_mesh, with_geom, with_provider, with_consumer, without_geom, without_provider, without_consumer, with_topology, with_want, with_have, with_notes, with_active, with_geom_scratch, with_provider_scratch, with_consumer_scratch, first_geom, first_consumer, first_provider, is_provider_size, no_counts, IsButForRoom};
 ghost use Rattle.geo_mesh.specs.Graph.{IsSoundGraph};
 ghost use Rattle.geo_mesh.specs.Refusals.{IsAnswer};
+ghost use Rattle.geo_mesh.specs.Going.{can_go};
 ghost use Rattle.geo_mesh.specs.Cells.{geom_seen, provider_seen, consumer_seen, made_cell};
 
 use crate::index::Index;
@@ -16,7 +17,7 @@ use crate::records::{
     AttachRefusal, ConsCell, ConsRec, GeomCell, GeomRec, ProvCell, ProvRec, Scratch,
 };
 use crate::tables::{self, Edges, Tables};
-use crate::{named, ranks};
+use crate::{going, named, ranks};
 use geo_base::{ConsId, Counts, GeomId, Kind, Name, NoMemory, ProvId};
 use geo_slots::Slots;
 use std::alloc::Global;
@@ -114,7 +115,7 @@ impl<C: Drop> Topo<C> {
             .geoms
             .insert(new_cell(kind, name, config, automatic));
         self.tables.edges.index.add_geom();
-        self.tables.notes.withering.add();
+        self.tables.notes.going.add();
         let _ = self.tables.notes.named.add(&name);
         self.tables.live += 1;
         Ok(GeomId::new(number))
@@ -133,7 +134,7 @@ impl<C: Drop> Topo<C> {
         if let Some(cell) = self.tables.geoms.remove(geom.number()) {
             self.tables.live -= 1;
             self.tables.edges.index.remove_geom(geom.number());
-            self.tables.notes.withering.remove(geom.number());
+            self.tables.notes.going.remove(geom.number());
             self.tables
                 .notes
                 .named
@@ -224,6 +225,7 @@ impl<C> Topo<C> {
             scratch: NO_SCRATCH,
         });
         self.tables.edges.index.add_consumer(geom.number());
+        going::look_again(&mut self.tables, geom.number());
         Ok(ConsId::new(number))
     }
 
@@ -366,16 +368,14 @@ impl<C> Topo<C> {
             .map(ConsId::new)
     }
 
-    /// The least number of a withering geom that isn't below a number.
-    pub fn next_withering(&self, from: u64) -> Option<GeomId>
-        ensures first { result ≡ first_geom (filter (λ x. x.withering) self.now.topology.geoms) from }
+    /// The least number, of a withering geom of which something can go, that isn't below a number: a provider to which
+    /// nothing is attached, a consumer that holds no count and through which no request is out, or the geom itself,
+    /// where it has neither provider nor consumer (g_wither_geom(9)).
+    pub fn next_going(&self, from: u64) -> Option<GeomId>
+        ensures first { result ≡ first_geom (filter (can_go self.now) self.now.topology.geoms) from }
         ensures sound { IsSoundGraph self.now.topology }
     {
-        self.tables
-            .notes
-            .withering
-            .first_from(from)
-            .map(GeomId::new)
+        self.tables.notes.going.first_from(from).map(GeomId::new)
     }
 
     /// The least number of a geom of the class and of the name that isn't below a number; withering ones count too.
@@ -517,6 +517,7 @@ impl<C> Topo<C> {
             .edges
             .index
             .attach(cons.number(), prov.number(), upper);
+        going::look_again(&mut self.tables, under);
         Ok(())
     }
 
@@ -541,6 +542,7 @@ impl<C> Topo<C> {
         {
             ranks::lower(&mut self.tables.geoms, &self.tables.edges, upper);
         }
+        going::look_again(&mut self.tables, under);
     }
 
     /// The provider gets an error; its consumers stay attached.
@@ -569,7 +571,7 @@ impl<C> Topo<C> {
         ensures { self.new ≡ with_topology self.old (set_withering self.old.topology geom) }
     {
         self.tables.geom_mut(geom).geom.withering = true;
-        self.tables.notes.withering.set(geom.number(), true);
+        going::look_again(&mut self.tables, geom.number());
     }
 
     /// The consumer is marked as spoiled, or the mark is taken away.
@@ -604,7 +606,10 @@ impl<C> Topo<C> {
         requires { IsSome (consumer_at self.old.topology cons) }
         ensures { self.new ≡ with_want self.old cons want }
     {
-        self.tables.consumer_mut(cons).consumer.want = want;
+        let cell = self.tables.consumer_mut(cons);
+        cell.consumer.want = want;
+        let geom = cell.consumer.geom.number();
+        going::look_again(&mut self.tables, geom);
     }
 
     /// The counts of a provider (g_access(9)).
@@ -633,7 +638,10 @@ impl<C> Topo<C> {
         requires few { IfSome (value_at self.old.active cons) (λ n. n < 2 ^ 63) }
         ensures { self.new ≡ with_active self.old cons (λ n. n + 1) }
     {
-        self.tables.consumer_mut(cons).consumer.active += 1;
+        let cell = self.tables.consumer_mut(cons);
+        cell.consumer.active += 1;
+        let geom = cell.consumer.geom.number();
+        going::look_again(&mut self.tables, geom);
     }
 
     /// A request through the consumer is back.
@@ -642,7 +650,10 @@ impl<C> Topo<C> {
         requires some_out { IfSome (value_at self.old.active cons) (λ n. 1 ≤ n) }
         ensures { self.new ≡ with_active self.old cons (λ n. n - 1) }
     {
-        self.tables.consumer_mut(cons).consumer.active -= 1;
+        let cell = self.tables.consumer_mut(cons);
+        cell.consumer.active -= 1;
+        let geom = cell.consumer.geom.number();
+        going::look_again(&mut self.tables, geom);
     }
 
     /// The scratch of a geom.
@@ -681,6 +692,7 @@ impl<C> Topo<C> {
             self.tables.edges.index.remove_provider(prov.number());
             self.tables.notes.risen.remove(prov.number());
             self.tables.notes.fallen.remove(prov.number());
+            going::look_again(&mut self.tables, cell.provider.geom.number());
         }
     }
 
@@ -689,8 +701,10 @@ impl<C> Topo<C> {
         requires { IfSome (consumer_at self.old.topology cons) (λ x. x.provider ≡ None) }
         ensures { self.new ≡ without_consumer self.old cons }
     {
-        let _ = self.tables.edges.consumers.remove(cons.number());
-        self.tables.edges.index.remove_consumer(cons.number());
+        if let Some(cell) = self.tables.edges.consumers.remove(cons.number()) {
+            self.tables.edges.index.remove_consumer(cons.number());
+            going::look_again(&mut self.tables, cell.consumer.geom.number());
+        }
     }
 }
 

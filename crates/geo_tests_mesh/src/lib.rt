@@ -1,4 +1,8 @@
-//! Tests of the mesh's parts: the graph, and numbers under names.
+//! Tests of the mesh's parts, over geo_mesh and geo_names: the graph, and numbers under names.
+//!
+//! They show what no clause says: that there is memory, and the mesh at a concrete type. A geom that would reach
+//! itself and one of rank 33 aren't attached, a tower falls by a storey, and geoms, providers and numbers are found
+//! by their names.
 #![tactic(auto)]
 
 #[cfg(test)]

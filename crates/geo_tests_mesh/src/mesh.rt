@@ -240,3 +240,96 @@ fn a_geom_is_found_by_class_and_name(rt: HostRuntime) -> Result<(), Fail> {
     assert_eq!(rt; found, [Some(second), None, None, Some(GeomId::new(2))]);
     Ok(())
 }
+
+// The geom withers.
+fn wither(topo: &mut Topo<u8>, geom: GeomId) -> Result<(), Fail> {
+    if topo.geom(geom).is_none() {
+        return Err(Fail::from("no geom"));
+    }
+    topo.set_withering(geom);
+    Ok(())
+}
+
+// Which geom can go: while a consumer is attached to the one provider of a withering geom, once it is detached, once it
+// is attached again, and once its own geom withers too.
+fn two_layers(topo: &mut Topo<u8>) -> Result<([GeomId; 2], [Option<GeomId>; 4]), Fail> {
+    let (lower, prov) = geom_of(topo, b"ada0")?;
+    let (upper, _) = geom_of(topo, b"over")?;
+    let cons = consumer_of(topo, upper)?;
+    attach(topo, cons, prov)?;
+    wither(topo, lower)?;
+    let held = topo.next_going(0);
+    detach(topo, cons)?;
+    let free = topo.next_going(0);
+    attach(topo, cons, prov)?;
+    let again = topo.next_going(0);
+    wither(topo, upper)?;
+    Ok(([lower, upper], [held, free, again, topo.next_going(0)]))
+}
+
+#[test]
+fn a_geom_can_go_once_nothing_holds_it(rt: HostRuntime) -> Result<(), Fail> {
+    let mut topo = first_mesh(rt.alloc())?;
+    let answer = two_layers(&mut topo);
+    drop(topo);
+    let (geoms, found) = answer?;
+    assert_eq!(rt; found, [None, Some(geoms[0]), None, Some(geoms[1])]);
+    Ok(())
+}
+
+// Which geom can go while the consumer has these counts.
+fn going_with(topo: &mut Topo<u8>, cons: ConsId, want: Counts) -> Result<Option<GeomId>, Fail> {
+    if topo.consumer(cons).is_none() {
+        return Err(Fail::from("no consumer"));
+    }
+    topo.set_want(cons, want);
+    Ok(topo.next_going(0))
+}
+
+// Which geom can go while a request is out through the consumer.
+fn going_out(topo: &mut Topo<u8>, cons: ConsId) -> Result<Option<GeomId>, Fail> {
+    let quiet = match topo.consumer(cons) {
+        Some(consumer) => consumer.active == 0,
+        None => false,
+    };
+    if !quiet {
+        return Err(Fail::from("no quiet consumer"));
+    }
+    topo.note_active(cons);
+    Ok(topo.next_going(0))
+}
+
+// Which geom can go once that request is back.
+fn going_back(topo: &mut Topo<u8>, cons: ConsId) -> Result<Option<GeomId>, Fail> {
+    let busy = match topo.consumer(cons) {
+        Some(consumer) => consumer.active > 0,
+        None => false,
+    };
+    if !busy {
+        return Err(Fail::from("no busy consumer"));
+    }
+    topo.note_back(cons);
+    Ok(topo.next_going(0))
+}
+
+// A withering geom of one consumer, and whether it can go: with a count, without one, with a request out, and with the
+// request back.
+fn one_consumer(topo: &mut Topo<u8>) -> Result<(GeomId, [Option<GeomId>; 4]), Fail> {
+    let geom = topo.new_geom(Kind::Nop, name(b"over")?, 7, false)?;
+    let cons = consumer_of(topo, geom)?;
+    wither(topo, geom)?;
+    let held = going_with(topo, cons, Counts { r: 1, w: 0, e: 0 })?;
+    let free = going_with(topo, cons, NO_COUNTS)?;
+    let out = going_out(topo, cons)?;
+    Ok((geom, [held, free, out, going_back(topo, cons)?]))
+}
+
+#[test]
+fn a_used_consumer_holds_its_geom(rt: HostRuntime) -> Result<(), Fail> {
+    let mut topo = first_mesh(rt.alloc())?;
+    let answer = one_consumer(&mut topo);
+    drop(topo);
+    let (geom, found) = answer?;
+    assert_eq!(rt; found, [None, Some(geom), None, Some(geom)]);
+    Ok(())
+}

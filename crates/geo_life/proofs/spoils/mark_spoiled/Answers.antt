@@ -17,7 +17,8 @@ pub loop-id-preserved : goal.loop-id-preserved
 loop-id-preserved g c = record {
   marked = λ granted stored.
       rw c.number-from.ensures
-      (marks_step granted c.args.topo.now c.args.prov stored c.look.ensures.sound c.requires.made c.loop-id.topo c.loop-id.invariant.mesh
+      (marks_step granted c.args.topo.now c.args.prov stored c.look.ensures.sound c.requires.made
+      c.loop-id.topo c.loop-id.invariant.mesh
       c.loop-id.invariant.seen c.in-Some.ensures.sound c.loop-id.from _ _
       c.in-Some.ensures.next c.in-Some.ensures.want c.mark_if_due.new.topo.topology
       (ap (λ (v : TopoView g.row.C.Denot). v.topology) c.mark_if_due.ensures.marked)
@@ -36,7 +37,8 @@ loop-id-preserved g c = record {
 pub returns-clause-marked : goal.returns-clause-marked
 returns-clause-marked g c =
     λ granted stored.
-    sym (marks_end granted c.args.topo.now c.args.prov stored c.look.ensures.sound c.requires.made c.loop-id.topo.topology c.loop-id.from
+    sym (marks_end granted c.args.topo.now c.args.prov stored c.look.ensures.sound c.requires.made
+    c.loop-id.topo.topology c.loop-id.from
     c.in_default.ensures.next)
     ∙ c.loop-id.invariant.marked granted stored
 

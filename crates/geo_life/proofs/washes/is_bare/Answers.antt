@@ -8,10 +8,12 @@ pub returns-then-is_none : goal.returns-then-is_none
 returns-then-is_none g c =
     let none : (length (providers_of c.args.topo.now.topology c.args.geom) == 0) ≡ true =
     sym (none_first (λ (x : Provider). x.number) (providers_of c.args.topo.now.topology c.args.geom))
-    ∙ sym (told_none c.provider_of.result c.is_none.result c.is_none.ensures ∙ ap is_none c.provider_of.ensures.first) ∙ c.if-is_none.true in
+    ∙ sym (told_none c.provider_of.result c.is_none.result c.is_none.ensures ∙ ap is_none c.provider_of.ensures.first)
+    ∙ c.if-is_none.true in
     record {
       bare =
-          told_none c.consumer_of.result c.is_none-then-is_none.result c.is_none-then-is_none.ensures ∙ ap is_none c.consumer_of.ensures.first
+          told_none c.consumer_of.result c.is_none-then-is_none.result c.is_none-then-is_none.ensures
+          ∙ ap is_none c.consumer_of.ensures.first
           ∙ none_first (λ (x : Consumer). x.number) (consumers_of c.args.topo.now.topology c.args.geom)
           ∙ sym (ap (λ b. b && (length (consumers_of c.args.topo.now.topology c.args.geom) == 0)) none);
     }
@@ -20,7 +22,9 @@ pub returns-else-is_none : goal.returns-else-is_none
 returns-else-is_none g c =
     let some : (length (providers_of c.args.topo.now.topology c.args.geom) == 0) ≡ false =
     sym (none_first (λ (x : Provider). x.number) (providers_of c.args.topo.now.topology c.args.geom))
-    ∙ sym (told_none c.provider_of.result c.is_none.result c.is_none.ensures ∙ ap is_none c.provider_of.ensures.first) ∙ c.if-is_none.false in
+    ∙ sym (told_none c.provider_of.result c.is_none.result c.is_none.ensures ∙ ap is_none c.provider_of.ensures.first)
+    ∙ c.if-is_none.false in
     record {
-      bare = c.if-is_none.false ∙ sym (ap (λ b. b && (length (consumers_of c.args.topo.now.topology c.args.geom) == 0)) some);
+      bare = c.if-is_none.false
+          ∙ sym (ap (λ b. b && (length (consumers_of c.args.topo.now.topology c.args.geom) == 0)) some);
     }

@@ -13,4 +13,5 @@ pub returns-clause-free : goal.returns-clause-free
 returns-clause-free g c =
     λ e.
     none_there (λ (x : Consumer). x.number) (attached_to c.args.topo.now.topology c.args.prov)
-    (sym (told_none c.attached_to.result c.is_none.result c.is_none.ensures ∙ ap is_none c.attached_to.ensures.first) ∙ e)
+    (sym (told_none c.attached_to.result c.is_none.result c.is_none.ensures ∙ ap is_none c.attached_to.ensures.first)
+    ∙ e)

@@ -12,7 +12,7 @@ returns-in_err-reserve-clause-same g c = record {
   live = refl;
   index = c.reserve.ensures.same;
   names = untouched c.args.self.now.names;
-  notes = record { risen = refl; fallen = refl; withering = refl; named = refl };
+  notes = record { risen = refl; fallen = refl; going = refl; named = refl };
   geoms_stay = omega arith;
   providers_stay = omega arith;
   consumers_stay = omega arith;
@@ -28,7 +28,7 @@ returns-in_err-reserve-clause-whole g c =
       live = refl;
       index = c.reserve.ensures.same;
       names = untouched c.args.self.now.names;
-      notes = record { risen = refl; fallen = refl; withering = refl; named = refl };
+      notes = record { risen = refl; fallen = refl; going = refl; named = refl };
       geoms_stay = omega arith;
       providers_stay = omega arith;
       consumers_stay = omega arith;
@@ -45,7 +45,7 @@ returns-in_err-reserve-2-clause-same g c = record {
   live = refl;
   index = c.reserve.ensures.same;
   names = c.reserve-2.ensures.same;
-  notes = record { risen = refl; fallen = refl; withering = refl; named = refl };
+  notes = record { risen = refl; fallen = refl; going = refl; named = refl };
   geoms_stay = omega arith;
   providers_stay = omega arith;
   consumers_stay = omega arith;
@@ -61,7 +61,7 @@ returns-in_err-reserve-2-clause-whole g c =
       live = refl;
       index = c.reserve.ensures.same;
       names = c.reserve-2.ensures.same;
-      notes = record { risen = refl; fallen = refl; withering = refl; named = refl };
+      notes = record { risen = refl; fallen = refl; going = refl; named = refl };
       geoms_stay = omega arith;
       providers_stay = omega arith;
       consumers_stay = omega arith;

@@ -63,8 +63,8 @@ pub invariant_of-self : goal.invariant_of-self
 invariant_of-self g c =
     whole-kept c.self.inside.tables c.self.invariant c.admit.new.geoms c.admit.ensures.same c.in-Err.ensures.kept
 
-pub invariant_of-self-2 : goal.invariant_of-self-2
-invariant_of-self-2 g c =
+pub look_again-requires : goal.look_again-requires
+look_again-requires g c =
     let offered : IsSome (value_at (offers c.self.inside.tables.edges).rows c.args.prov) =
     provider-offered c.self.inside.tables.geoms c.self.inside.tables.edges c.args.prov
     (rw (← c.self.view_is) at c.requires.provider) in
@@ -84,9 +84,9 @@ invariant_of-self-2 g c =
     (owner c.self.inside.tables.edges c.args.prov) (stored c.self.inside.tables.geoms)
     (stored c.admit.new.geoms) =
     rw (← upper, ← under) c.in_default.ensures.admitted in
-    rw (c.attach.ensures, c.number-3.ensures, c.number-4.ensures, upper)
+    rw (c.attach.ensures, c.number-3.ensures, c.number-4.ensures, upper, under)
     (whole-attached c.self.inside.tables c.self.invariant c.args.cons c.consumer_mut.result.now
-    c.consumer_mut.ensures.rising c.consumer_mut.ensures.cell c.admit.new.geoms c.admit.ensures.same c.args.prov
+    c.consumer_mut.ensures.rising c.consumer_mut.ensures.cell c.admit.new.geoms c.admit.ensures.same c.args.prov free
     (admitted-mesh c.self.inside.tables.geoms c.self.inside.tables.edges c.self.inside.tables.live
     c.self.invariant.ranks c.args.cons c.args.prov c.consumer_mut.result.now c.consumer_mut.ensures.rising
     (sym c.consumer_mut.ensures.cell) free offered first c.admit.new.geoms c.admit.ensures.same admitted
@@ -124,7 +124,8 @@ returns-clause-answer g c =
 
 pub returns-clause-attached : goal.returns-clause-attached
 returns-clause-attached g c =
-    view-bare (record c.self.inside.tables {
+    c.look_again.ensures.same
+    ∙ view-bare (record c.self.inside.tables {
       edges =
           record (put_consumer c.self.inside.tables.edges c.args.cons (record c.consumer_mut.result.now {
             consumer =

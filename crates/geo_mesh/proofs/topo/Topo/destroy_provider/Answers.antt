@@ -17,8 +17,8 @@ remove_provider-requires-clause-none_above g c =
     above_none (graph c.self.inside.tables) c.self.inside.tables.edges.index c.self.invariant.tables.indexed
     c.number-in-Some-2.result (rw (← c.self.view_is, ← c.number-in-Some-2.ensures) at c.requires)
 
-pub invariant_of-self : goal.invariant_of-self
-invariant_of-self g c =
+pub look_again-requires : goal.look_again-requires
+look_again-requires g c =
     rw (
       c.remove_provider.ensures,
       c.remove-in-Some-2.ensures,
@@ -26,6 +26,7 @@ invariant_of-self g c =
       c.number-in-Some-2.ensures,
       c.number-in-Some-3.ensures,
       c.number-in-Some-4.ensures,
+      c.number-in-Some-5.ensures,
       ← c.number.ensures,
       c.remove.ensures.removed,
     )
@@ -48,8 +49,9 @@ invariant_of-self-in_default g c =
 
 pub returns-in-Some : goal.returns-in-Some
 returns-in-Some g c =
-    rw (← c.self.view_is, ← c.number.ensures, c.remove.ensures.removed)
-    (without_provider-view c.self.inside.tables c.number.result)
+    c.look_again.ensures.same
+    ∙ (rw (← c.self.view_is, ← c.number.ensures, c.remove.ensures.removed)
+    (without_provider-view c.self.inside.tables c.number.result))
 
 pub returns-in_default : goal.returns-in_default
 returns-in_default g c =

@@ -11,6 +11,7 @@ use Rattle.geo_mesh.proofs.RankMesh.{view-bare, mesh-few}
 use Rattle.geo_mesh.proofs.RankSwitch.{bound-at, user-stands, off-later, off-enough, off-walkable, off-lowered, off-stays}
 use Rattle.geo_mesh.proofs.ViewLemmas.{detach-view}
 use Rattle.geo_mesh.proofs.WholeParts.{whole-detached}
+use Rattle.geo_mesh.proofs.topo.Topo.detach.Goals.{then-stored, else-stored}
 use Rattle.geo_mesh.proofs.topo.Topo.detach.Goals as goal
 
 pub consumer_mut-cell-requires : goal.consumer_mut-cell-requires
@@ -88,65 +89,76 @@ lower-requires-clause-enough g c =
     c.self.invariant.ranks c.args.cons c.in-Some.prov c.consumer_mut-cell.result.now
     c.consumer_mut-cell.ensures.rising (sym c.consumer_mut-cell.ensures.cell) c.in-Some.is later
 
-pub invariant_of-self : goal.invariant_of-self
-invariant_of-self g c =
-    let just_above : stored c.self.inside.tables.geoms (owner c.self.inside.tables.edges c.in-Some.prov) + 1
-    ≡ stored c.self.inside.tables.geoms c.consumer_mut-cell.result.now.consumer.geom =
-    rw (c.stored.ensures, c.stored-2.ensures, c.owner-under.ensures, c.number-2.ensures, c.number-upper.ensures) at
-    c.if-stored.true in
-    let later : is_dev_or_taste c.consumer_mut-cell.result.now.consumer.geom ≡ false =
-    off-later c.self.inside.tables.geoms c.self.inside.tables.edges c.self.inside.tables.live
-    c.self.invariant.ranks c.args.cons c.in-Some.prov c.consumer_mut-cell.result.now
-    c.consumer_mut-cell.ensures.rising (sym c.consumer_mut-cell.ensures.cell) just_above in
-    let low = subst (λ x. stored c.lower.new.geoms x
-    ≤ above (ranked_below
-    (put_consumer c.self.inside.tables.edges c.args.cons
-    (record c.consumer_mut-cell.result.now {
-      consumer =
-          record c.consumer_mut-cell.result.now.consumer { prov = None };
-    }))) (stored c.lower.new.geoms)
-    x) c.number-upper.ensures c.lower.ensures.low in
-    rw (c.detach.ensures, c.number.ensures)
-    (whole-detached c.self.inside.tables c.self.invariant c.args.cons c.consumer_mut-cell.result.now
-    c.consumer_mut-cell.ensures.rising c.consumer_mut-cell.ensures.cell c.lower.new.geoms c.lower.ensures.same
-    (off-lowered c.self.inside.tables.geoms c.self.inside.tables.edges c.self.inside.tables.live
-    c.self.invariant.ranks c.args.cons c.in-Some.prov c.consumer_mut-cell.result.now
-    c.consumer_mut-cell.ensures.rising (sym c.consumer_mut-cell.ensures.cell) c.in-Some.is later
-    c.lower.new.geoms c.lower.ensures.same c.lower.ensures.lowered low))
-
-pub invariant_of-self-else-stored : goal.invariant_of-self-else-stored
-invariant_of-self-else-stored g c =
-    rw (c.detach.ensures, c.number.ensures)
-    (whole-detached c.self.inside.tables c.self.invariant c.args.cons c.consumer_mut-cell.result.now
-    c.consumer_mut-cell.ensures.rising c.consumer_mut-cell.ensures.cell c.self.inside.tables.geoms refl
-    (off-stays c.self.inside.tables.geoms c.self.inside.tables.edges c.self.inside.tables.live
-    c.self.invariant.ranks c.args.cons c.in-Some.prov c.consumer_mut-cell.result.now
-    c.consumer_mut-cell.ensures.rising (sym c.consumer_mut-cell.ensures.cell) c.in-Some.is
-    (λ e. c.if-stored.false (rw (
-      c.stored.ensures,
-      c.stored-2.ensures,
-      c.owner-under.ensures,
-      c.number-2.ensures,
-      c.number-upper.ensures,
-    ) e))))
-
-pub returns-then-stored : goal.returns-then-stored
-returns-then-stored g c =
-    view-bare (record c.self.inside.tables {
-      edges =
-          record (put_consumer c.self.inside.tables.edges c.args.cons
+pub look_again-requires : goal.look_again-requires
+look_again-requires g c =
+    elim c.if-stored.branch [
+      | then-stored w ↦
+          (let just_above : stored c.self.inside.tables.geoms (owner c.self.inside.tables.edges c.in-Some.prov) + 1
+          ≡ stored c.self.inside.tables.geoms c.consumer_mut-cell.result.now.consumer.geom =
+          rw (
+            c.stored.ensures,
+            c.stored-2.ensures,
+            c.owner-under.ensures,
+            c.number-2.ensures,
+            c.number-upper.ensures,
+          ) at w.if-stored.true in
+          let later : is_dev_or_taste c.consumer_mut-cell.result.now.consumer.geom ≡ false =
+          off-later c.self.inside.tables.geoms c.self.inside.tables.edges c.self.inside.tables.live
+          c.self.invariant.ranks c.args.cons c.in-Some.prov c.consumer_mut-cell.result.now
+          c.consumer_mut-cell.ensures.rising (sym c.consumer_mut-cell.ensures.cell) just_above in
+          let low = subst (λ x. stored w.lower.new.geoms x
+          ≤ above (ranked_below
+          (put_consumer c.self.inside.tables.edges c.args.cons
           (record c.consumer_mut-cell.result.now {
             consumer =
                 record c.consumer_mut-cell.result.now.consumer { prov = None };
-          })) { index = c.detach.new.self };
-    })
-    c.lower.new.geoms c.lower.ensures.same
-    ∙ (rw (← c.self.view_is)
-    (detach-view c.self.inside.tables c.args.cons c.consumer_mut-cell.result.now
-    c.consumer_mut-cell.ensures.rising c.consumer_mut-cell.ensures.cell))
+          }))) (stored w.lower.new.geoms)
+          x) c.number-upper.ensures w.lower.ensures.low in
+          rw (w.self-inside-is, c.owner-under.ensures, c.number-2.ensures, c.detach.ensures, c.number.ensures)
+          (whole-detached c.self.inside.tables c.self.invariant c.args.cons c.consumer_mut-cell.result.now
+          c.consumer_mut-cell.ensures.rising c.consumer_mut-cell.ensures.cell w.lower.new.geoms w.lower.ensures.same
+          c.in-Some.prov c.in-Some.is
+          (off-lowered c.self.inside.tables.geoms c.self.inside.tables.edges c.self.inside.tables.live
+          c.self.invariant.ranks c.args.cons c.in-Some.prov c.consumer_mut-cell.result.now
+          c.consumer_mut-cell.ensures.rising (sym c.consumer_mut-cell.ensures.cell) c.in-Some.is later
+          w.lower.new.geoms w.lower.ensures.same w.lower.ensures.lowered low)))
+      | else-stored w ↦
+          rw (w.self-inside-is, c.owner-under.ensures, c.number-2.ensures, c.detach.ensures, c.number.ensures)
+          (whole-detached c.self.inside.tables c.self.invariant c.args.cons c.consumer_mut-cell.result.now
+          c.consumer_mut-cell.ensures.rising c.consumer_mut-cell.ensures.cell c.self.inside.tables.geoms refl
+          c.in-Some.prov c.in-Some.is
+          (off-stays c.self.inside.tables.geoms c.self.inside.tables.edges c.self.inside.tables.live
+          c.self.invariant.ranks c.args.cons c.in-Some.prov c.consumer_mut-cell.result.now
+          c.consumer_mut-cell.ensures.rising (sym c.consumer_mut-cell.ensures.cell) c.in-Some.is
+          (λ e. w.if-stored.false (rw (
+            c.stored.ensures,
+            c.stored-2.ensures,
+            c.owner-under.ensures,
+            c.number-2.ensures,
+            c.number-upper.ensures,
+          ) e))))
+    ]
 
-pub returns-else-stored : goal.returns-else-stored
-returns-else-stored g c =
-    rw (← c.self.view_is)
-    (detach-view c.self.inside.tables c.args.cons c.consumer_mut-cell.result.now
-    c.consumer_mut-cell.ensures.rising c.consumer_mut-cell.ensures.cell)
+pub returns : goal.returns
+returns g c =
+    c.look_again.ensures.same
+    ∙ (elim c.if-stored.branch [
+      | then-stored w ↦
+          rw w.self-inside-is
+          (view-bare (record c.self.inside.tables {
+            edges =
+                record (put_consumer c.self.inside.tables.edges c.args.cons
+                (record c.consumer_mut-cell.result.now {
+                  consumer =
+                      record c.consumer_mut-cell.result.now.consumer { prov = None };
+                })) { index = c.detach.new.self };
+          })
+          w.lower.new.geoms w.lower.ensures.same
+          ∙ (rw (← c.self.view_is)
+          (detach-view c.self.inside.tables c.args.cons c.consumer_mut-cell.result.now
+          c.consumer_mut-cell.ensures.rising c.consumer_mut-cell.ensures.cell)))
+      | else-stored w ↦
+          rw (w.self-inside-is, ← c.self.view_is)
+          (detach-view c.self.inside.tables c.args.cons c.consumer_mut-cell.result.now
+          c.consumer_mut-cell.ensures.rising c.consumer_mut-cell.ensures.cell)
+    ])

@@ -46,18 +46,17 @@ invariant_of-result g c =
             notes = record {
               risen = ap (λ m. m.rows) c.in_ok-notes.ensures.risen;
               fallen = ap (λ m. m.rows) c.in_ok-notes.ensures.fallen;
-              withering = ap (λ m. m.rows) c.in_ok-notes.ensures.withering;
               named =
                   rw (c.fixed_name-second.ensures, c.fixed_name-first.ensures) at
                   (ap (λ m. m.rows) c.in_ok-notes.ensures.named);
               risen_next = ap (λ m. m.next) c.in_ok-notes.ensures.risen;
               fallen_next = ap (λ m. m.next) c.in_ok-notes.ensures.fallen;
-              withering_next = ap (λ m. m.next) c.in_ok-notes.ensures.withering;
+              going_next = ap (λ m. m.next) c.in_ok-notes.ensures.going;
               named_next = ap (λ m. m.next) c.in_ok-notes.ensures.named;
               room = record {
                 risen = omega arith;
                 fallen = omega arith;
-                withering = omega (arith, few);
+                going = omega (arith, few);
                 named = omega (arith, few);
               };
             };
@@ -68,4 +67,5 @@ invariant_of-result g c =
             standing = record { local = λ x. first_ranks x; low = refl; owned = tt; attached = tt };
           };
       graph = orderly-first c.args.dev c.args.taste;
+      going = ap (λ m. m.rows) c.in_ok-notes.ensures.going;
     })

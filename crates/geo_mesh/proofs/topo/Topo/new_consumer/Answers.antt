@@ -1,6 +1,6 @@
 use Rattle.std.proofs.Common.{◌≡◌, ◌-◌, refl, sym, ap, subst, ◌∙◌, arith, IsSome}
 use Rattle.geo_model.specs.Topology.{geom_at}
-use Rattle.geo_mesh.specs.Topo.{with_consumer}
+use Rattle.geo_mesh.specs.Topo.{Room, IsButForRoom, with_consumer}
 use Rattle.geo_mesh.specs.Cells.{graph, view_of}
 use Rattle.geo_mesh.proofs.IndexLemmas.{owned_parent}
 use Rattle.geo_mesh.proofs.ViewLemmas.{with_consumer-view, roomier-view}
@@ -21,7 +21,9 @@ returns-clause-other_room g c =
     omega (arith, c.reserve.ensures.same, c.reserve.ensures.geoms_most) in
     let providers : c.reserve.new.self.edges.providers.spare ≡ c.self.inside.tables.edges.providers.spare =
     omega (arith, c.reserve.ensures.same, c.reserve.ensures.providers_most) in
-    rw (← c.self.view_is, c.reserve.ensures.same.live, geoms, providers) refl
+    subst (λ (r : Room). r ≡ record c.args.self.now.room { consumers = r.consumers })
+    (sym (ap (λ v. v.room) c.look_again.ensures.same))
+    (rw (← c.self.view_is, c.reserve.ensures.same.live, geoms, providers) refl)
 
 pub add_consumer-requires-clause-geom : goal.add_consumer-requires-clause-geom
 add_consumer-requires-clause-geom g c =
@@ -33,22 +35,23 @@ add_consumer-requires-clause-geom g c =
     c.reserve.ensures.whole.tables.indexed c.args.geom
     (subst (λ g. IsSome (geom_at g c.args.geom)) (sym graph_is) c.requires))
 
-pub invariant_of-self-2 : goal.invariant_of-self-2
-invariant_of-self-2 g c =
+pub look_again-requires : goal.look_again-requires
+look_again-requires g c =
     let graph_is : graph c.reserve.new.self ≡ c.args.self.now.topology =
     ap (λ v. v.topology) (roomier-view c.self.inside.tables c.reserve.new.self c.reserve.ensures.same)
     ∙ ap (λ v. v.topology) c.self.view_is in
-    rw (c.insert-number.ensures.inserted, c.add_consumer.ensures, c.number.ensures)
+    rw (c.insert-number.ensures.inserted, c.add_consumer.ensures, c.number.ensures, c.number-2.ensures)
     (whole-new_consumer c.reserve.new.self c.reserve.ensures.whole _ refl refl
     (subst (λ g. IsSome (geom_at g c.args.geom)) (sym graph_is) c.requires)
     (rw c.insert-number.ensures.inserted at c.insert-number.ensures.bound))
 
 pub returns-clause-added : goal.returns-clause-added
 returns-clause-added g c =
-    rw (← c.self.view_is, c.insert-number.ensures.inserted)
+    subst (λ v. IsButForRoom v (with_consumer c.args.self.now c.args.geom)) (sym c.look_again.ensures.same)
+    (rw (← c.self.view_is, c.insert-number.ensures.inserted)
     (with_consumer-view c.reserve.new.self c.args.geom c.reserve.new.self.edges.consumers.spare
     ∙ ap (λ v. record (with_consumer v c.args.geom) {
       room =
           record (view_of c.reserve.new.self).room { consumers = c.reserve.new.self.edges.consumers.spare - 1 };
     })
-    (roomier-view c.self.inside.tables c.reserve.new.self c.reserve.ensures.same))
+    (roomier-view c.self.inside.tables c.reserve.new.self c.reserve.ensures.same)))

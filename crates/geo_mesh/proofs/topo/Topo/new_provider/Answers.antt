@@ -1,13 +1,33 @@
-use Rattle.std.proofs.Common.{◌≡◌, ◌-◌, false, find, map, None, refl, sym, ap, subst, ◌∙◌, arith, IsSome}
-use Rattle.geo_model.specs.Topology.{geom_at, is_name_taken}
-use Rattle.geo_mesh.specs.Topo.{with_provider}
+use Rattle.std.proofs.Common.{◌≡◌, ℕ, ◌-◌, List, false, find, map, None, refl, sym, ap, subst, ◌∙◌, arith, IsSome}
+use Rattle.geo_model.specs.Topology.{geom_at, is_name_taken, is_withering}
+use Rattle.geo_slots.specs.Slots.{IsRising}
+use Rattle.geo_mesh.specs.declared.records.ProvCell.{ProvCell}
+use Rattle.geo_mesh.specs.Topo.{with_provider, no_counts, no_scratch}
 use Rattle.geo_mesh.specs.Cells.{graph, view_of, provider_row}
 use Rattle.geo_mesh.specs.Names.{AddsName, is_sound_named}
 use Rattle.geo_mesh.proofs.IndexLemmas.{offered_parent}
-use Rattle.geo_mesh.proofs.ViewLemmas.{with_provider-view, roomier-view}
+use Rattle.geo_mesh.proofs.ViewLemmas.{with_provider-view, roomier-view, is_withering-rows}
 use Rattle.geo_laws_graph.proofs.Numbered.{find-none}
+use Rattle.geo_mesh.proofs.RankFirst.{geoms-rise}
+use Rattle.geo_mesh.proofs.GoingLook.{settled}
 use Rattle.geo_mesh.proofs.WholeParts.{whole-new_provider}
 use Rattle.geo_mesh.proofs.topo.Topo.new_provider.Goals as goal
+
+-- a provider that was just made
+abbrev made_provider : ℕ → List ℕ → ℕ → ℕ → ProvCell
+made_provider geom name size sector = record {
+  provider = record {
+    geom = geom;
+    name = name;
+    size = size;
+    sector = sector;
+    errored = false;
+    have = no_counts;
+    risen = false;
+    fallen = false;
+  };
+  scratch = no_scratch;
+}
 
 pub returns-in_err-reserve-clause-other_room : goal.returns-in_err-reserve-clause-other_room
 returns-in_err-reserve-clause-other_room g c =
@@ -43,8 +63,14 @@ invariant_of-self-2 g c =
     let free : find (is_sound_named c.args.name) (map provider_row c.reserve.new.self.edges.providers.rows) ≡ None =
     find-none (is_sound_named c.args.name) (map provider_row c.reserve.new.self.edges.providers.rows)
     (subst (λ g. is_name_taken g c.args.name ≡ false) (sym graph_is) c.requires.free) in
+    let rising : IsRising 1 c.reserve.new.self.geoms.rows c.reserve.new.self.geoms.next =
+    geoms-rise c.reserve.new.self.geoms c.reserve.new.self.edges c.reserve.ensures.whole.graph in
+    let stays : is_withering (graph c.reserve.new.self) c.args.geom ≡ false =
+    subst (λ g. is_withering g c.args.geom ≡ false) (sym graph_is) c.requires.stays in
     rw (c.insert-number.ensures.inserted, c.add_provider.ensures, c.add-2.ensures, c.add-3.ensures, c.number.ensures)
-    (whole-new_provider c.reserve.new.self c.reserve.ensures.whole _ c.add.new.self refl refl refl
+    (settled _ c.args.geom
+    (whole-new_provider c.reserve.new.self c.reserve.ensures.whole
+    (made_provider c.args.geom c.args.name c.args.size c.args.sector) c.add.new.self refl refl refl
     free
     (subst (λ k. AddsName c.reserve.new.self.names c.add.new.self c.args.name k) c.insert-number.ensures.number
     c.add.ensures.added)
@@ -52,6 +78,8 @@ invariant_of-self-2 g c =
     (subst (λ g. IsSome (geom_at g c.args.geom)) (sym graph_is) c.requires.lives) c.requires.not_dev
     c.requires.not_taste c.requires.size
     (rw c.insert-number.ensures.inserted at c.insert-number.ensures.bound))
+    rising
+    (sym (is_withering-rows c.args.geom 1 c.reserve.new.self.geoms.next c.reserve.new.self.geoms.rows rising) ∙ stays))
 
 pub returns-clause-added : goal.returns-clause-added
 returns-clause-added g c =

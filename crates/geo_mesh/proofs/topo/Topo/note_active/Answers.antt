@@ -1,31 +1,33 @@
-use Rattle.std.proofs.Common.{◌<◌, ◌^◌, rules, refl}
+use Rattle.std.proofs.Common.{◌<◌, ◌^◌, rules, refl, ◌∙◌}
 use Rattle.geo_mesh.specs.Cells.{active_of}
 use Rattle.geo_mesh.proofs.RowLemmas.{value_at-rows_with}
 use Rattle.geo_mesh.proofs.ViewLemmas.{note_active-view}
-use Rattle.geo_mesh.proofs.WholeLemmas.{whole-consumer_cell}
+use Rattle.geo_mesh.proofs.WholeLemmas.{whole-consumer_used}
 use Rattle.geo_mesh.proofs.topo.Topo.note_active.Goals as goal
 
-pub consumer_mut-requires : goal.consumer_mut-requires
-consumer_mut-requires g c = rw (← c.self.view_is) at c.requires.lives
+pub consumer_mut-cell-requires : goal.consumer_mut-cell-requires
+consumer_mut-cell-requires g c = rw (← c.self.view_is) at c.requires.lives
+
+pub look_again-requires : goal.look_again-requires
+look_again-requires g c =
+    rw c.number-geom.ensures
+    (whole-consumer_used c.self.inside.tables c.self.invariant c.args.cons c.consumer_mut-cell.result.now _
+    c.consumer_mut-cell.ensures.rising c.consumer_mut-cell.ensures.cell
+    (record { geom = refl; provider = refl }))
 
 pub returns : goal.returns
 returns g c =
-    rw (← c.self.view_is)
-    (note_active-view c.self.inside.tables c.args.cons c.consumer_mut.result.now c.consumer_mut.ensures.rising
-    c.consumer_mut.ensures.cell)
+    c.look_again.ensures.same
+    ∙ (rw (← c.self.view_is)
+    (note_active-view c.self.inside.tables c.args.cons c.consumer_mut-cell.result.now c.consumer_mut-cell.ensures.rising
+    c.consumer_mut-cell.ensures.cell))
 
-pub invariant_of-self : goal.invariant_of-self
-invariant_of-self g c =
-    whole-consumer_cell c.self.inside.tables c.self.invariant c.args.cons c.consumer_mut.result.now _
-    c.consumer_mut.ensures.rising c.consumer_mut.ensures.cell
-    (record { geom = refl; provider = refl })
-
-pub overflow_add-consumer_mut : goal.overflow_add-consumer_mut
-overflow_add-consumer_mut g c =
-    let few : c.consumer_mut.result.now.consumer.active < 2 ^ 63 =
+pub overflow_add-cell : goal.overflow_add-cell
+overflow_add-cell g c =
+    let few : c.consumer_mut-cell.result.now.consumer.active < 2 ^ 63 =
     rw (
       ← c.self.view_is,
       value_at-rows_with active_of c.args.cons c.self.inside.tables.edges.consumers.rows,
-      c.consumer_mut.ensures.cell,
+      c.consumer_mut-cell.ensures.cell,
     ) at c.requires.few in
     search rules

@@ -16,4 +16,4 @@ pub invariant_of-self : goal.invariant_of-self
 invariant_of-self g c =
     whole-consumer_cell c.self.inside.tables c.self.invariant c.args.cons c.consumer_mut.result.now _
     c.consumer_mut.ensures.rising c.consumer_mut.ensures.cell
-    (record { geom = refl; provider = refl })
+    (record { geom = refl; provider = refl }) refl

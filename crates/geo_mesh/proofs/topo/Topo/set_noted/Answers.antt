@@ -40,4 +40,4 @@ invariant_of-self g c =
     c.provider_mut-cell.ensures.rising c.provider_mut-cell.ensures.cell
     (record { geom = refl; name = refl; errored = refl; sizes = λ fits. fits })
     (notes-noted c.self.inside.tables.notes c.self.inside.tables.geoms c.self.inside.tables.edges.providers
-    c.args.prov _ c.self.invariant.tables.notes))
+    c.args.prov _ c.self.invariant.tables.notes) refl)

@@ -1,19 +1,21 @@
-use Rattle.std.proofs.Common.{refl}
+use Rattle.std.proofs.Common.{refl, ◌∙◌}
 use Rattle.geo_mesh.proofs.ViewLemmas.{set_want-view}
-use Rattle.geo_mesh.proofs.WholeLemmas.{whole-consumer_cell}
+use Rattle.geo_mesh.proofs.WholeLemmas.{whole-consumer_used}
 use Rattle.geo_mesh.proofs.topo.Topo.set_want.Goals as goal
 
-pub consumer_mut-requires : goal.consumer_mut-requires
-consumer_mut-requires g c = rw (← c.self.view_is) at c.requires
+pub consumer_mut-cell-requires : goal.consumer_mut-cell-requires
+consumer_mut-cell-requires g c = rw (← c.self.view_is) at c.requires
+
+pub look_again-requires : goal.look_again-requires
+look_again-requires g c =
+    rw c.number-geom.ensures
+    (whole-consumer_used c.self.inside.tables c.self.invariant c.args.cons c.consumer_mut-cell.result.now _
+    c.consumer_mut-cell.ensures.rising c.consumer_mut-cell.ensures.cell
+    (record { geom = refl; provider = refl }))
 
 pub returns : goal.returns
 returns g c =
-    rw (← c.self.view_is)
-    (set_want-view c.self.inside.tables c.args.cons c.args.want c.consumer_mut.result.now
-    c.consumer_mut.ensures.rising c.consumer_mut.ensures.cell)
-
-pub invariant_of-self : goal.invariant_of-self
-invariant_of-self g c =
-    whole-consumer_cell c.self.inside.tables c.self.invariant c.args.cons c.consumer_mut.result.now _
-    c.consumer_mut.ensures.rising c.consumer_mut.ensures.cell
-    (record { geom = refl; provider = refl })
+    c.look_again.ensures.same
+    ∙ (rw (← c.self.view_is)
+    (set_want-view c.self.inside.tables c.args.cons c.args.want c.consumer_mut-cell.result.now
+    c.consumer_mut-cell.ensures.rising c.consumer_mut-cell.ensures.cell))

@@ -1,0 +1,17 @@
+use Rattle.std.proofs.Common.{◌==◌, ◌∙◌}
+use Rattle.geo_model.specs.Topology.{Consumer, consumers_of}
+use Rattle.geo_laws_graph.specs.LookupLaws.{WalksMeetAll}
+use Rattle.geo_laws_graph.proofs.Walks.{walks-meet}
+use Rattle.geo_mesh.specs.Cells.{graph}
+use Rattle.geo_mesh.proofs.IndexLemmas.{owned_first}
+use Rattle.geo_mesh.proofs.GoingLook.{walk-next}
+use Rattle.geo_mesh.proofs.going.owned.Goals as goal
+
+pub returns-clause-next : goal.returns-clause-next
+returns-clause-next g c =
+    walk-next (λ (x : Consumer). x.number) (consumers_of (graph c.args.tables.now) c.args.geom)
+    c.args.tables.now.edges.consumers.next c.args.from c.first_from.result
+    (WalksMeetAll.part walks-meet (λ (x : Consumer). x.number) (λ x. x.geom == c.args.geom)
+    (graph c.args.tables.now).consumers c.args.tables.now.edges.consumers.next c.requires.orderly.order.consumers)
+    (c.first_from.ensures
+    ∙ owned_first (graph c.args.tables.now) c.args.tables.now.edges.index c.requires.indexed c.args.geom c.args.from)
