@@ -1,1 +1,3 @@
-mod Puts
+mod Standing
+mod Roles
+mod Disks

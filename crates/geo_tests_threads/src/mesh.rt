@@ -3,13 +3,13 @@ ghost use Rattle.std.specs.Prelude.{◌≡◌, ◌+◌, ◌<◌, ◌≤◌, [], 
 ghost use Rattle.geo_model.specs.Plans.{FactsFit, IsFact};
 ghost use Rattle.geo_lock.specs.Pass.{IsSamePass};
 ghost use Rattle.geo_lock.specs.Yard.{IsPassOf, IsWhole, first_pass};
-ghost use Rattle.geo_core.specs.Mesh.{IsHistory};
+ghost use Rattle.geo_view.specs.Mesh.{IsHistory};
 
-use geo_core::Mesh;
 use geo_lock::{Pass, PassList, Yard};
 use geo_log::DiskFacts;
 use geo_model::{DiskDecl, DiskKind, Entry, Outcome, Reply, Step};
 use geo_script::{Plan, parse};
+use geo_view::Mesh;
 use std::alloc::Global;
 use std::sync::Wait;
 use std::test::Fail;
@@ -244,7 +244,7 @@ fn facts_of(alloc: Global, plan: &Plan) -> Option<DiskFacts>
 }
 
 // The mesh of a plan over its only disk, if there is memory.
-fn mesh_of(alloc: Global, plan: Plan) -> Option<Mesh>
+pub(crate) fn mesh_of(alloc: Global, plan: Plan) -> Option<Mesh>
     ensures log { IfSome result (λ mesh. mesh.log ≡ []) }
     ensures history { IfSome result IsHistory }
 {
