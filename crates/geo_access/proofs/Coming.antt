@@ -3,6 +3,8 @@ use Rattle.std.specs.Prelude.{◌≡◌, ◌≢◌, ◌⊎◌, ℕ, suc, max, �
 use Rattle.std.proofs.Common.{refl, sym, ◌∙◌, ap, subst, arith, inl, inr, eq-eqb}
 use Rattle.std.proofs.lemmas.Bool.{eqb-true, ne_eqb}
 use Rattle.std.proofs.lemmas.List.Elements.{All-contains, All-push, Contains-push, Contains-push_cases, Contains-append_left}
+use Rattle.geo_base.proofs.Options.{some_of}
+use Rattle.geo_base.proofs.FindLists.{find-Contains, found-before}
 use Rattle.geo_base.specs.declared.request.Counts.{Counts}
 use Rattle.geo_base.specs.declared.kind.Kind.TheVariants as kinds
 use Rattle.geo_model.specs.Words.{names_number, is_granted_kind}
@@ -32,22 +34,10 @@ use Rattle.geo_access.specs.declared.refusal.GrantRefusal.TheVariants.{Enxio, Ep
 use Rattle.geo_access.specs.Tries.{Apart}
 use Rattle.geo_access.specs.Access.{granted_by}
 use Rattle.geo_access.specs.Views.{CountsTell, order_of, finish_geom, IsTried, judged, errno_of_refused}
-use Rattle.geo_access.proofs.Walking.{found_in}
-use Rattle.geo_access.proofs.Trying.{trying, some_of}
+use Rattle.geo_access.proofs.Trying.{trying}
 use Rattle.geo_access.proofs.Walked.{geoms_below, below_ordered, below_lives, below_covers, tried_order, order_apart}
 use Rattle.geo_access.proofs.Verdict.{After, IsVerdict, refused}
 use Rattle.geo_access.proofs.Decided.{IsTold, consumer_known, new_is, tells, cleared, decided, end}
-
--- what is found in a list is found in a longer one
-pub find_left : {X : Type 0} (test : X → Bool) (xs ys : List X) (x : X) → find test xs ≡ Some x
-    → find test (xs ++ ys) ≡ Some x
-find_left test [] ys x never = absurd (cc)
-find_left {X} test (z ∷ zs) ys x found = by (test z) found (find_left test zs ys x)
-  where
-    by : (b : Bool) → cond b (Some z) (find test zs) ≡ Some x → (find test zs ≡ Some x → find test (zs ++ ys) ≡ Some x)
-        → cond b (Some z) (find test (zs ++ ys)) ≡ Some x
-    by true f so = f
-    by false f so = so f
 
 -- where none passes before it, the last is found
 pub find_last : {X : Type 0} (test : X → Bool) (xs : List X) (y : X) → ((x : X) → Contains xs x → test x ≡ false)
@@ -63,7 +53,7 @@ SaysError t p (Some (Named (Enxio q))) = (has_error_below t p ≡ true) × IsFir
 SaysError t p r = has_error_below t p ≡ false
 
 -- of a geom without providers none stands
-bare_of : (ps : List Provider) (g : ℕ) → ((y : Provider) → Contains ps y → y.geom ≢ g)
+pub bare_of : (ps : List Provider) (g : ℕ) → ((y : Provider) → Contains ps y → y.geom ≢ g)
     → filter (λ (y : Provider). y.geom == g) ps ≡ []
 bare_of [] g none = refl
 bare_of (y ∷ ys) g none =
@@ -141,7 +131,7 @@ module _ {C : Type 0} (t : TopoView C) (sound : IsSoundGraph t.topology) (told :
   tall_offer q z found =
       ap (λ b. if b then suc (max (rank t.topology 1) (rank t.topology y.geom)) else rank t.topology z.geom)
       (ne_eqb z.geom 1 (All-contains (λ (w : Provider). IsOffer w) t.topology.providers z sound.orderly.offers
-      (found_in (λ (w : Provider). w.number == q) t.topology.providers z found)).not_dev)
+      (find-Contains (λ (w : Provider). w.number == q) t.topology.providers z found)).not_dev)
 
   -- one edge climbs
   climbs_old : (c : Consumer) → Contains t.topology.consumers c
@@ -250,7 +240,7 @@ module _ {C : Type 0} (t : TopoView C) (sound : IsSoundGraph t.topology) (told :
     opener_wants = wants_grant opened_grants opened newcomer dev_holds ∙ own_grant;
     found = λ c there.
         elim (Contains-push_cases t.topology.consumers newcomer c there) [
-          | inl old ↦ find_left (λ (x : Consumer). x.number == c.number) t.topology.consumers (newcomer ∷ []) c
+          | inl old ↦ found-before (λ (x : Consumer). x.number == c.number) t.topology.consumers (newcomer ∷ []) c
               (consumer_known t sound c old)
           | inr same ↦
               subst (λ d. consumer_at opened d.number ≡ Some d) same

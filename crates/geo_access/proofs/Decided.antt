@@ -6,6 +6,7 @@ use Rattle.std.proofs.Common.{refl, sym, ◌∙◌, ap, subst, arith, inl, inr, 
 use Rattle.std.proofs.lemmas.Bool.{eqb-true, cases_eq, ne_eqb}
 use Rattle.std.proofs.lemmas.List.Elements.{All-contains}
 use Rattle.std.proofs.lemmas.List.Kept.{AllPairs-from_increasing}
+use Rattle.geo_base.proofs.FindLists.{find-Contains, any-contained}
 use Rattle.geo_base.specs.declared.request.Counts.{Counts}
 use Rattle.geo_model.specs.Words.{names_number}
 use Rattle.geo_model.specs.Topology.{Topology, Provider, Consumer, geom_at, provider_at, consumers_of, providers_under, attached_to}
@@ -33,13 +34,12 @@ use Rattle.geo_access.specs.declared.decide.Side.TheVariants.{Writes, Excludes}
 use Rattle.geo_access.specs.Tries.{had, Apart}
 use Rattle.geo_access.specs.Access.{granted_by, clear_scratches, IsCounted, consumers_below}
 use Rattle.geo_access.specs.Views.{CountsTell, order_of, have_at, want_at, made_at, gain_at, raised, raised_have, has_side, other, finish_geom, IsTried, consumers_over, judged}
-use Rattle.geo_access.proofs.Walking.{found_in}
 use Rattle.geo_access.proofs.Trying.{trying, trying-made, trying-gain}
 use Rattle.geo_access.proofs.TryOut.{Spread}
 use Rattle.geo_access.proofs.Walked.{geoms_below, below_ordered, first_below as first_geom, above_place, reached_touched, below_covers, all_reached, attached_reached, first_tries, walked, tried_order, tried_view, order_apart}
 use Rattle.geo_access.proofs.Clearing.{clear_whole, link_outside, outside_gains}
 use Rattle.geo_access.proofs.Judging.{other_some}
-use Rattle.geo_access.proofs.Verdict.{After, IsVerdict, verdict, any_true, sum_zero_w, sum_zero_e}
+use Rattle.geo_access.proofs.Verdict.{After, IsVerdict, verdict, sum_zero_w, sum_zero_e}
 
 -- the same over one item more
 item_step : {X V : Type 0} (key : X → ℕ) (f : X → V) (n : ℕ) (x y : X) (xs : List X)
@@ -164,7 +164,7 @@ module _ {C : Type 0} (t : TopoView C) (sound : IsSoundGraph t.topology) where
   pub provider_stands : (q : ℕ) (z : Provider) → provider_at t.topology q ≡ Some z
       → Contains t.topology.providers z × (z.number ≡ q)
   provider_stands q z found = (
-    found_in (λ (y : Provider). y.number == q) t.topology.providers z found,
+    find-Contains (λ (y : Provider). y.number == q) t.topology.providers z found,
     eqb-true z.number q (find_passes (λ (y : Provider). y.number == q) t.topology.providers z found),
   )
 
@@ -194,7 +194,8 @@ module _ {C : Type 0} (t : TopoView C) (sound : IsSoundGraph t.topology) where
             → option_map_or (λ (y : Provider). y.geom == g) (provider_at t.topology q) false ≡ true
             → list_any (λ r. option_map_or (λ (y : Provider). y.geom == g) (provider_at t.topology r) false) qs ≡ true
         passes qs q g there e =
-            any_true (λ r. option_map_or (λ (y : Provider). y.geom == g) (provider_at t.topology r) false) qs q there e
+            any-contained (λ r. option_map_or (λ (y : Provider). y.geom == g) (provider_at t.topology r) false)
+            qs q there e
 
         some_true : (qs : List ℕ) (q g : ℕ) → Contains qs q → (z : Option Provider) → provider_at t.topology q ≡ z
             → IsSomeAnd z (λ (y : Provider). y.geom ≡ g)

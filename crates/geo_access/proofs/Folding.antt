@@ -1,5 +1,5 @@
 -- Loops as folds: over what is left of a walk, and over what is left of an order.
-use Rattle.std.specs.Prelude.{◌≡◌, ◌≢◌, ℕ, zero, suc, ◌+◌, ◌==◌, Bool, true, false, cond, List, [], ◌∷◌, length, filter_map, find, fold, Option, Some, None, IsSome, Contains, option_map, is_some}
+use Rattle.std.specs.Prelude.{◌≡◌, ◌≢◌, ℕ, zero, suc, ◌+◌, ◌==◌, Bool, true, false, cond, List, [], ◌∷◌, length, filter_map, find, fold, Option, Some, None, IsSome, Contains, option_map}
 use Rattle.std.specs.List.{cons_option}
 use Rattle.std.specs.Option.{option_map_or, option_or}
 use Rattle.std.proofs.Common.{refl, sym, ◌∙◌, ap, arith, inl, inr, eq-eqb}
@@ -16,6 +16,7 @@ use Rattle.geo_access.specs.declared.counts.Way.{Way}
 use Rattle.geo_access.specs.declared.counts.Way.TheVariants.{Rises, Falls}
 use Rattle.geo_access.specs.declared.order.Order.{Order}
 use Rattle.geo_access.specs.Views.{links, first_some, mark_at, made_at, order_of, hand, give, gain_of, spread_from, raise_want, raise_wants, finish_provider, finish_geom}
+pub use Rattle.geo_base.proofs.Options.{none_of as none_of_some}
 
 -- Walks
 
@@ -247,11 +248,6 @@ value-here (row ∷ rows) n v = here_step row rows n v (value-here rows n v) (ro
         (eq-eqb n n refl)
     here_step row rows n v so false e =
         ap (λ b. option_map (λ r. r.1) (cond b (Some row) (find (λ r. r.0 == n) (with_value rows n v)))) e ∙ so
-
--- nothing is there where nothing is
-pub none_of_some : {X : Type 0} (o : Option X) → is_some o ≡ false → o ≡ None
-none_of_some None e = refl
-none_of_some (Some x) e = absurd (cc)
 
 module _ {C : Type 0} where
   -- another count for its consumers leaves a geom's mark

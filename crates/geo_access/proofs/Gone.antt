@@ -259,7 +259,8 @@ module _ {C : Type 0} (t : TopoView C) (geom : ℕ) (sound : IsSoundGraph t.topo
         → want (granted_by mesh) joined_graph c ≡ want (granted_by t) t.topology c
     want_old c there =
         joined_stays.wants c
-        (subst (λ cs. Contains cs c) (sym consumers_are) (Contains-append_left t.topology.consumers (comer (Some prov) ∷ []) c there))
+        (subst (λ cs. Contains cs c) (sym consumers_are)
+        (Contains-append_left t.topology.consumers (comer (Some prov) ∷ []) c there))
         ∙ came.wants c tt
 
     want_comer : want (granted_by mesh) joined_graph (comer (Some prov)) ≡ no_counts

@@ -5,6 +5,8 @@ use Rattle.std.proofs.Common.{refl, sym, ◌∙◌, ap, subst, arith, inl, inr, 
 use Rattle.std.proofs.lemmas.Bool.{eqb-true, cases_eq, ne_eqb}
 use Rattle.std.proofs.lemmas.List.Elements.{All-contains}
 use Rattle.std.proofs.lemmas.List.Kept.{AllPairs-from_increasing}
+use Rattle.geo_base.proofs.Options.{some_of, some_and_of}
+use Rattle.geo_base.proofs.FindLists.{find-Contains}
 use Rattle.geo_base.specs.declared.request.Counts.{Counts}
 use Rattle.geo_model.specs.Words.{names_number}
 use Rattle.geo_model.specs.Topology.{Topology, Consumer, provider_at, consumer_at, attached_to}
@@ -30,8 +32,6 @@ use Rattle.geo_access.specs.declared.decide.Refused.TheVariants.{Named, Writer, 
 use Rattle.geo_access.specs.declared.refusal.GrantRefusal.TheVariants.{Enxio, Eperm, Eoverflow}
 use Rattle.geo_access.specs.Access.{granted_by, holds_grants, IsCounted, IsHolder, place_of, IsRefusal, IsNamed}
 use Rattle.geo_access.specs.Views.{answer_of}
-use Rattle.geo_access.proofs.Walking.{found_in}
-use Rattle.geo_access.proofs.Trying.{some_of}
 use Rattle.geo_access.proofs.Verdict.{After, IsVerdict, refused}
 use Rattle.geo_access.proofs.Decided.{consumer_known}
 
@@ -42,15 +42,10 @@ pub record Holder {C : Type 0} (t : Topology C) (cons : ℕ) : Type 0 where
   pub kind : HoldsGrants t one.geom
   pub place : one.provider ≡ Some (place_of t cons)
 
--- what is said of what is there
-pub of_some : {X : Type 0} (P : X → Type 0) (o : Option X) → IsSomeAnd o P → (x : X) × (o ≡ Some x) × P x
-of_some P None never = absurd never
-of_some P (Some x) fact = (x, refl, fact)
-
 -- is what the condition says
 pub holder_is : {C : Type 0} (t : Topology C) (cons : ℕ) → IsHolder t cons → Holder t cons
 holder_is t cons holder =
-    let d = of_some (λ (x : Consumer). HoldsGrants t x.geom) (consumer_at t cons) holder.kind in
+    let d = some_and_of (λ (x : Consumer). HoldsGrants t x.geom) (consumer_at t cons) holder.kind in
     let attached : IsSome d.0.provider =
     subst (λ o. IsSomeAnd o (λ (x : Consumer). IsSome x.provider)) d.1 holder.attached in
     let p = some_of d.0.provider attached in
@@ -70,7 +65,7 @@ holder_lives t sound cons holder =
     subst (λ o. IfSome o (λ p. IsSome (provider_at t p))) holder.place
     (All-contains (λ (c : Consumer). IfSome c.provider (λ p. IsSome (provider_at t p))) t.consumers holder.one
     sound.orderly.parts.providers
-    (found_in (λ (c : Consumer). c.number == cons) t.consumers holder.one holder.found))
+    (find-Contains (λ (c : Consumer). c.number == cons) t.consumers holder.one holder.found))
 
 module _ {C : Type 0} (t : TopoView C) (sound : IsSoundGraph t.topology) (counted : IsCounted t) (cons : ℕ)
     (holder : Holder t.topology cons) (add : Counts) where
@@ -88,7 +83,7 @@ module _ {C : Type 0} (t : TopoView C) (sound : IsSoundGraph t.topology) (counte
 
   -- it stands, with its number
   pub one_stands : Contains t.topology.consumers holder.one
-  one_stands = found_in (λ (c : Consumer). c.number == cons) t.topology.consumers holder.one holder.found
+  one_stands = find-Contains (λ (c : Consumer). c.number == cons) t.topology.consumers holder.one holder.found
 
   pub one_number : holder.one.number ≡ cons
   one_number =

@@ -4,6 +4,8 @@ use Rattle.std.specs.Option.{option_map_or}
 use Rattle.std.proofs.Common.{refl, sym, ◌∙◌, ap, eq-eqb}
 use Rattle.std.proofs.lemmas.Bool.{eqb-true, ne_eqb}
 use Rattle.std.proofs.lemmas.List.Elements.{All-contains}
+use Rattle.geo_base.proofs.Options.{some_of, some_and_of}
+use Rattle.geo_base.proofs.FindLists.{find-Contains}
 use Rattle.geo_base.specs.declared.request.Counts.{Counts}
 use Rattle.geo_base.specs.declared.kind.Kind.{Kind}
 use Rattle.geo_base.specs.declared.kind.Kind.TheVariants as kinds
@@ -25,10 +27,7 @@ use Rattle.geo_access.specs.Access.{granted_by, holds_grants}
 use Rattle.geo_access.specs.Views.{have_at, want_at}
 use Rattle.geo_access.specs.Tries.{made_of}
 use Rattle.geo_access.specs.Join.{IsLoose, IsCountedBut, with_have_of, wanted_of, wanted}
-use Rattle.geo_access.proofs.Walking.{found_in}
-use Rattle.geo_access.proofs.Trying.{some_of}
 use Rattle.geo_access.proofs.Tried.{made_gain}
-use Rattle.geo_access.proofs.Granting.{of_some}
 use Rattle.geo_access.proofs.Decided.{item_at, provider_known, consumer_known, IsTold}
 
 -- from nothing a class's consumer gains what it wants
@@ -64,14 +63,14 @@ pub record Loose {C : Type 0} (t : TopoView C) (cons : ℕ) : Type 0 where
 -- is what the condition says
 pub loose_is : {C : Type 0} (t : TopoView C) (cons : ℕ) → IsLoose t cons → Loose t cons
 loose_is t cons loose =
-    let d = of_some (λ (x : Consumer). x.provider ≡ None) (consumer_at t.topology cons) loose.free in
+    let d = some_and_of (λ (x : Consumer). x.provider ≡ None) (consumer_at t.topology cons) loose.free in
     record { one = d.0; found = d.1; free = d.2 }
 
 module _ {C : Type 0} (t : TopoView C) (sound : IsSoundGraph t.topology) (cons : ℕ) (counted : IsCountedBut t cons)
     (loose : Loose t cons) where
   -- it stands, with its number
   pub loose_stands : Contains t.topology.consumers loose.one
-  loose_stands = found_in (λ (c : Consumer). c.number == cons) t.topology.consumers loose.one loose.found
+  loose_stands = find-Contains (λ (c : Consumer). c.number == cons) t.topology.consumers loose.one loose.found
 
   pub loose_number : loose.one.number ≡ cons
   loose_number =

@@ -2,6 +2,7 @@
 use Rattle.std.specs.Prelude.{◌≡◌, ℕ, ◌==◌, Bool, true, false, not, List, [], ◌∷◌, length, Option, Some, None, Result, Err, IsOk, fold, option_map, if◌then◌else◌}
 use Rattle.std.specs.Option.{option_or}
 use Rattle.std.proofs.Common.{refl, sym, ◌∙◌, ap, subst}
+use Rattle.geo_base.proofs.FindLists.{any-contained}
 use Rattle.geo_base.specs.declared.request.Counts.{Counts}
 use Rattle.geo_base.specs.declared.errno.Errno.{Errno}
 use Rattle.geo_base.specs.declared.errno.Errno.TheVariants.{ENXIO, EPERM, EOVERFLOW, ELOOP, EDEEP}
@@ -34,7 +35,7 @@ use Rattle.geo_access.specs.Join.{IsCountedBut, IsJoinRefusal, IsJoinNamed, join
 use Rattle.geo_access.proofs.Judging.{zero_min}
 use Rattle.geo_access.proofs.Trying.{Tries, trying}
 use Rattle.geo_access.proofs.Walked.{below_covers}
-use Rattle.geo_access.proofs.Verdict.{After, IsVerdict, any_true}
+use Rattle.geo_access.proofs.Verdict.{After, IsVerdict}
 use Rattle.geo_access.proofs.Decided.{order, decided, end}
 use Rattle.geo_access.proofs.Coming.{SaysError, open_errors}
 use Rattle.geo_access.proofs.JoinStart.{Loose, but_told}
@@ -122,7 +123,7 @@ sound_here t p none = by (is_errored t p) refl
     by : (b : Bool) → is_errored t p ≡ b → b ≡ false
     by false e = refl
     by true e = let no : true ≡ false =
-        sym (any_true (is_errored t) (below t p) p (below_self (length t.geoms) t p) e) ∙ none in absurd (cc)
+        sym (any-contained (is_errored t) (below t p) p (below_self (length t.geoms) t p) e) ∙ none in absurd (cc)
 
 module _ {C : Type 0} (t : Topology C) (c p : ℕ) (granted : ℕ → Counts) where
   -- what a join is told, from its tests

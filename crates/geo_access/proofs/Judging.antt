@@ -4,6 +4,9 @@ use Rattle.std.specs.Option.{option_map_or, option_and_then, option_or}
 use Rattle.std.proofs.Common.{refl, sym, ◌∙◌, ap, subst, arith, inl, inr, eq-eqb}
 use Rattle.std.proofs.lemmas.Bool.{cases_eq, cases_lt, ne_eqb, and_parts}
 use Rattle.std.proofs.lemmas.List.Sums.{fold-append}
+use Rattle.geo_base.proofs.FindLists.{found_in}
+use Rattle.geo_base.proofs.Options.{none-mapped}
+use Rattle.geo_base.proofs.Tests.{passes_apart}
 use Rattle.geo_base.specs.declared.request.Counts.{Counts}
 use Rattle.geo_model.specs.Words.{names_number}
 use Rattle.geo_model.specs.Topology.{Topology, Provider, Consumer, provider_at, attached_to, providers_under}
@@ -147,19 +150,6 @@ module _ {C : Type 0} (v : TopoView C) where
 
 -- Look-ups
 
--- an item that is found is there and passes
-find_some : {X : Type 0} (test : X → Bool) (xs : List X) (x : X) → find test xs ≡ Some x
-    → Contains xs x × (test x ≡ true)
-find_some test [] x never = absurd (cc)
-find_some test (y ∷ ys) x found = step (test y) refl found (find_some test ys x)
-  where
-    step : (b : Bool) → test y ≡ b → cond b (Some y) (find test ys) ≡ Some x
-        → (find test ys ≡ Some x → Contains ys x × (test x ≡ true))
-        → Contains (y ∷ ys) x × (test x ≡ true)
-    step true e h so = let same : y ≡ x = cc in
-        (subst (Contains (y ∷ ys)) same (in_head y ys), subst (λ z. test z ≡ true) same e)
-    step false e h so = let rest = so h in (in_tail y ys x rest.0, rest.1)
-
 -- where none is found none passes
 find_none : {X : Type 0} (test : X → Bool) (xs : List X) → find test xs ≡ None → (x : X) → Contains xs x
     → test x ≡ false
@@ -174,11 +164,6 @@ find_none test (y ∷ ys) none x there = step (test y) refl none (λ h rest. fin
           subst (λ z. test z ≡ false) same e
       | inr rest ↦ so h rest
     ]
-
--- a mapped option is there where the option is
-pub mapped_none : {X Y : Type 0} (f : X → Y) (o : Option X) → option_map f o ≡ None → o ≡ None
-mapped_none f None e = refl
-mapped_none f (Some x) e = absurd (cc)
 
 mapped_some : {X : Type 0} (f : X → ℕ) (o : Option X) (n : ℕ) → option_map f o ≡ Some n
     → (x : X) × (o ≡ Some x) × (f x ≡ n)
@@ -205,10 +190,6 @@ second_false : (a b : Bool) → (a && b) ≡ false → a ≡ true → b ≡ fals
 second_false true b e holds = e
 second_false false b e holds = absurd (cc)
 
--- a number that differs isn't that one
-not_same : (m n : ℕ) → not (m == n) ≡ true → m ≢ n
-not_same m n e same = let no : false ≡ true = sym (ap not (eq-eqb m n same)) ∙ e in absurd (cc)
-
 -- where something is there, or not
 is_there : {X : Type 0} (o : Option X) → (o ≡ None) ⊎ ((x : X) × (o ≡ Some x))
 is_there None = inl refl
@@ -234,13 +215,13 @@ module _ {C : Type 0} (v : TopoView C) (u : Consumer → Counts)
   other_some q but side n found =
       let test : Consumer → Bool = λ c. not (c.number == but) && has_side side (raised v c) in
       let one = mapped_some (λ (c : Consumer). c.number) (find test (attached_to v.topology q)) n found in
-      let is = find_some test (attached_to v.topology q) one.0 one.1 in
+      let is = found_in test (attached_to v.topology q) one.0 one.1 in
       let tests = and_parts (not (one.0.number == but)) (has_side side (raised v one.0)) is.1 in
       record {
         one = one.0;
         at = is.0;
         number = one.2;
-        apart = λ same. not_same one.0.number but tests.0 (one.2 ∙ same);
+        apart = λ same. passes_apart one.0.number but tests.0 (one.2 ∙ same);
         has = sym (side_at q side one.0 is.0) ∙ tests.1;
       }
 
@@ -253,7 +234,7 @@ module _ {C : Type 0} (v : TopoView C) (u : Consumer → Counts)
       sym (side_at q side c at)
       ∙ second_false (not (c.number == but)) (has_side side (raised v c))
       (find_none test (attached_to v.topology q)
-      (mapped_none (λ (d : Consumer). d.number) (find test (attached_to v.topology q)) none) c at)
+      (none-mapped (λ (d : Consumer). d.number) (find test (attached_to v.topology q)) none) c at)
       (ap not (ne_eqb c.number but apart))
 
   -- two different consumers at a provider stand in each other's way

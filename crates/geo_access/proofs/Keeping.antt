@@ -4,6 +4,7 @@ use Rattle.std.specs.Option.{option_map_or}
 use Rattle.std.proofs.Common.{refl, sym, ◌∙◌, ap, subst, inl, inr, eq-eqb}
 use Rattle.std.proofs.lemmas.Bool.{eqb-true, cases_eq, ne_eqb}
 use Rattle.std.proofs.lemmas.List.Kept.{AllPairs-from_increasing}
+use Rattle.geo_base.proofs.Options.{some_of}
 use Rattle.geo_base.specs.declared.request.Counts.{Counts}
 use Rattle.geo_model.specs.Topology.{Geom, Provider, Consumer, geom_at, provider_at, consumer_at, providers_of, consumers_of}
 use Rattle.geo_model.specs.Demand.{no_counts}
@@ -20,7 +21,7 @@ use Rattle.geo_access.specs.declared.counts.Way.TheVariants.{Rises, Falls}
 use Rattle.geo_laws_counts.proofs.Orders.{not-has}
 use Rattle.geo_access.specs.Tries.{shifted, Apart}
 use Rattle.geo_access.specs.Views.{have_at, gain_at, made_at, raise_want, finish_provider, finish_geom}
-use Rattle.geo_access.proofs.Trying.{rows_of, rows-set, rows-same, rows-at, set_through, some_of}
+use Rattle.geo_access.proofs.Trying.{rows_of, rows-set, rows-same, rows-at, set_through}
 use Rattle.geo_access.proofs.Clearing.{sets, sets-other, sets-here, has_step, has_first}
 use Rattle.geo_access.proofs.Decided.{part_apart}
 

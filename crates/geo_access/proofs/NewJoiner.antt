@@ -5,6 +5,8 @@ use Rattle.std.proofs.Common.{refl, sym, ◌∙◌, ap, subst, inl, inr, eq-eqb}
 use Rattle.std.proofs.lemmas.Bool.{cases_eq, ne_eqb}
 use Rattle.std.proofs.lemmas.List.{map-append}
 use Rattle.std.proofs.lemmas.List.Elements.{All-contains, All-push, Contains-push_cases}
+use Rattle.geo_base.proofs.Options.{none-mapped}
+use Rattle.geo_base.proofs.FindLists.{found-before, find-pushed_hit}
 use Rattle.geo_base.specs.declared.request.Counts.{Counts}
 use Rattle.geo_model.specs.Topology.{Topology, Provider, Consumer, consumer_at, add_consumer, attach}
 use Rattle.geo_model.specs.Demand.{no_counts, have, want}
@@ -25,20 +27,7 @@ use Rattle.geo_access.specs.Join.{IsCountedBut, IsLoose, IsPlacedBut}
 use Rattle.geo_access.specs.JoinLaws.{NewConsumersMayJoin}
 use Rattle.geo_access.proofs.Clearing.{rows-same_on}
 use Rattle.geo_access.proofs.Decided.{item_at, consumer_known}
-use Rattle.geo_access.proofs.Coming.{find_left, find_last}
-use Rattle.geo_access.proofs.Judging.{mapped_none}
-
--- where none passes, the last is found
-find_behind : {X : Type 0} (test : X → Bool) (xs : List X) (y : X) → find test xs ≡ None → test y ≡ true
-    → find test (xs ++ y ∷ []) ≡ Some y
-find_behind test [] y none passes = ap (λ b. if b then Some y else None) passes
-find_behind {X} test (x ∷ xs) y none passes = by (test x) none (λ rest. find_behind test xs y rest passes)
-  where
-    by : (b : Bool) → (if b then Some x else find test xs) ≡ None
-        → (find test xs ≡ None → find test (xs ++ y ∷ []) ≡ Some y)
-        → (if b then Some x else find test (xs ++ y ∷ [])) ≡ Some y
-    by true never so = absurd (cc)
-    by false rest so = so rest
+use Rattle.geo_access.proofs.Coming.{find_last}
 
 module _ {C : Type 0} (t : TopoView C) (geom : ℕ) where
   -- its number, and it
@@ -109,12 +98,13 @@ module _ {C : Type 0} (t : TopoView C) (geom : ℕ) where
           ∙ sym (map-append row t.topology.consumers (comer ∷ []))
 
       -- the grants are the old ones, at each consumer
-      pub same_grants : (c : Consumer) → Contains u.consumers c → granted_by (mesh room) c.number ≡ granted_by t c.number
+      pub same_grants : (c : Consumer) → Contains u.consumers c
+          → granted_by (mesh room) c.number ≡ granted_by t c.number
       same_grants c there =
           elim (Contains-push_cases t.topology.consumers comer c there) [
             | inl old ↦
                 let found : consumer_at u c.number ≡ Some c =
-                find_left (λ (x : Consumer). x.number == c.number) t.topology.consumers (comer ∷ []) c
+                found-before (λ (x : Consumer). x.number == c.number) t.topology.consumers (comer ∷ []) c
                 (consumer_known t sound c old) in
                 at c found
                 ∙ ap (λ a. if holds_grants t.topology c.geom then a else no_counts) (held_old c old)
@@ -204,8 +194,8 @@ module _ {C : Type 0} (t : TopoView C) (geom : ℕ) where
       free = subst (λ o. IsSomeAnd o (λ (x : Consumer). x.provider ≡ None)) (sym comer_found) refl;
       idle =
           ap (option_map {T = ℕ × ℕ} (λ r. r.1))
-          (find_behind (λ (r : ℕ × ℕ). r.0 == n) t.active (n, 0)
-          (mapped_none (λ (r : ℕ × ℕ). r.1) (find (λ (r : ℕ × ℕ). r.0 == n) t.active) none) (eq-eqb n n refl));
+          (find-pushed_hit (λ (r : ℕ × ℕ). r.0 == n) t.active (n, 0)
+          (none-mapped (λ (r : ℕ × ℕ). r.1) (find (λ (r : ℕ × ℕ). r.0 == n) t.active) none) (eq-eqb n n refl));
     }
 
 -- so a new consumer may join

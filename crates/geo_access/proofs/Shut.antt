@@ -3,8 +3,8 @@ use Rattle.std.specs.Prelude.{◌≡◌, ◌≢◌, ◌⊎◌, ℕ, zero, suc, �
 use Rattle.std.specs.List.{list_all}
 use Rattle.std.specs.Option.{option_map_or}
 use Rattle.std.proofs.Common.{refl, sym, ◌∙◌, ap, subst, inl, inr}
-use Rattle.std.proofs.lemmas.List.{map-append}
 use Rattle.std.proofs.lemmas.List.Elements.{All-push}
+use Rattle.geo_base.proofs.PlaceLists.{row_more}
 use Rattle.geo_base.specs.declared.request.Counts.{Counts}
 use Rattle.geo_base.specs.declared.kind.Kind.{Kind}
 use Rattle.geo_base.specs.declared.kind.Kind.TheVariants as kinds
@@ -171,11 +171,6 @@ shut_meshes_are_counted = record {
 }
 
 -- Changes
-
--- a row more
-row_more : {X V : Type 0} (row : X → ℕ × V) (xs : List X) (x : X) (rows : List (ℕ × V)) → rows ≡ map row xs
-    → rows ++ row x ∷ [] ≡ map row (xs ++ x ∷ [])
-row_more row xs x rows is = ap (λ rs. rs ++ row x ∷ []) is ∙ sym (map-append row xs (x ∷ []))
 
 module _ {C : Type 0} (t : TopoView C) (shut : IsShut t) (room : Room) where
   -- with a geom of another class

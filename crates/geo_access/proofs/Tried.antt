@@ -4,6 +4,8 @@ use Rattle.std.specs.List.{cons_option, list_all}
 use Rattle.std.specs.Option.{option_map_or, option_and_then}
 use Rattle.std.proofs.Common.{refl, sym, ◌∙◌, ap, subst, arith}
 use Rattle.std.proofs.lemmas.List.Elements.{All-contains}
+use Rattle.geo_base.proofs.Options.{some_of}
+use Rattle.geo_base.proofs.FindLists.{find-Contains}
 use Rattle.geo_base.specs.declared.request.Counts.{Counts}
 use Rattle.geo_base.specs.declared.kind.Kind.{Kind}
 use Rattle.geo_base.specs.declared.kind.Kind.TheVariants as kinds
@@ -23,9 +25,9 @@ use Rattle.geo_access.specs.declared.counts.Way.{Way}
 use Rattle.geo_access.specs.declared.counts.Weight.{Weight}
 use Rattle.geo_access.specs.Tries.{had, made_of}
 use Rattle.geo_access.specs.Views.{Gathered, mark_at, gain_at, have_at, put_geom, visit, visit_under, weigh}
-use Rattle.geo_access.proofs.Walking.{found_in, offerer_lives}
+use Rattle.geo_access.proofs.Walking.{offerer_lives}
 use Rattle.geo_access.proofs.Judging.{zero_min}
-use Rattle.geo_access.proofs.Trying.{rows_of, rows-same, geom_tries, provider_tries, Tries, some_of, trying, trying-mark, trying-geom, head_or, link_in, kept_order, order_tries, link_zero}
+use Rattle.geo_access.proofs.Trying.{rows_of, rows-same, geom_tries, provider_tries, Tries, trying, trying-mark, trying-geom, head_or, link_in, kept_order, order_tries, link_zero}
 
 -- mesh tries that agree are the same mesh
 pub trying-same : {C : Type 0} (t : TopoView C) (s u : Tries) → ((n : ℕ) → s.marks n ≡ u.marks n)
@@ -64,7 +66,7 @@ module _ {C : Type 0} (t : TopoView C) (sound : IsSoundGraph t.topology) (end : 
       let g = some_of (geom_at t.topology x) lives in
       subst (λ n. 1 ≤ n) (geom_found t.topology x g.0 g.1)
       (All-contains (λ (y : Geom C). 1 ≤ y.number) t.topology.geoms g.0 sound.orderly.numbers.geoms
-      (found_in (λ (y : Geom C). y.number == x) t.topology.geoms g.0 g.1))
+      (find-Contains (λ (y : Geom C). y.number == x) t.topology.geoms g.0 g.1))
 
   -- what is directly under a geom lives
   pub under_lives : (x h : ℕ) → IsSome (geom_at t.topology x) → Contains (geoms_under t.topology x) h

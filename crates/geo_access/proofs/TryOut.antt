@@ -19,6 +19,8 @@ use Rattle.geo_laws_counts.proofs.LimitFacts.{of_filter}
 use Rattle.geo_laws_counts.proofs.Upward.{geom_found}
 use Rattle.geo_laws_counts.proofs.Numbers.{found_of, key_in}
 use Rattle.std.proofs.lemmas.List.Kept.{AllPairs-from_increasing}
+use Rattle.geo_base.proofs.Options.{some_of}
+use Rattle.geo_base.proofs.FindLists.{find-Contains}
 use Rattle.geo_laws_counts.specs.WalkWords.{has_number, IsOrder, order_from, cap, set_at, hand_at, gain_without}
 use Rattle.geo_laws_counts.proofs.Orders.{not-has, order_within, order_stays}
 use Rattle.geo_laws_counts.proofs.Flows.{flow_step, flow_first, flow_end}
@@ -29,9 +31,8 @@ use Rattle.geo_access.specs.declared.order.Order.{Order}
 use Rattle.geo_access.specs.Tries.{had, made_of}
 use Rattle.geo_access.specs.Access.{clear_scratches}
 use Rattle.geo_access.specs.Views.{Gathered, mark_at, gain_at, have_at, order_of, visit, weigh, gain_of, give, hand, spread_from, gathered_from, links}
-use Rattle.geo_access.proofs.Walking.{found_in}
 use Rattle.geo_access.proofs.Folding.{links_same, spread_marks}
-use Rattle.geo_access.proofs.Trying.{Tries, some_of, trying, trying-none, trying-mark, trying-gain, trying-geom, trying-provider, head_or, link_in, kept_order, order_tries, links_order, order_distinct}
+use Rattle.geo_access.proofs.Trying.{Tries, trying, trying-none, trying-mark, trying-gain, trying-geom, trying-provider, head_or, link_in, kept_order, order_tries, links_order, order_distinct}
 use Rattle.geo_access.proofs.Tried.{trying-same, under_lives, visit_is, made_gain, weigh_is}
 
 -- a number that a test finds is there
@@ -67,7 +68,7 @@ module _ {C : Type 0} (t : TopoView C) (sound : IsSoundGraph t.topology) where
       (All-contains (λ n. n < t.topology.next_geom) (map (λ (y : Geom C). y.number) t.topology.geoms) g.0.number
       sound.orderly.order.geoms.1
       (key_in (λ (y : Geom C). y.number) t.topology.geoms g.0
-      (found_in (λ (y : Geom C). y.number == x) t.topology.geoms g.0 g.1)))
+      (find-Contains (λ (y : Geom C). y.number == x) t.topology.geoms g.0 g.1)))
 
   -- there are few enough geoms in an order
   pub order_fits : (xs : List ℕ) → IsOrder t.topology xs

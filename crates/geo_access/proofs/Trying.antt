@@ -1,9 +1,10 @@
 -- The walks over a mesh whose scratch is told by functions of the numbers.
-use Rattle.std.specs.Prelude.{◌≡◌, ℕ, ◌-◌, ◌==◌, ◌≤◌, ◌^◌, min, Bool, true, false, not, ◌||◌, cond, List, [], ◌∷◌, length, map, find, Option, Some, None, IsSome, Contains, option_map, if◌then◌else◌}
+use Rattle.std.specs.Prelude.{◌≡◌, ℕ, ◌-◌, ◌==◌, ◌≤◌, ◌^◌, min, Bool, true, false, not, ◌||◌, cond, List, [], ◌∷◌, length, map, find, Some, IsSome, Contains, option_map, if◌then◌else◌}
 use Rattle.std.specs.List.{IsDistinct}
 use Rattle.std.specs.Option.{option_map_or}
 use Rattle.std.proofs.Common.{refl, sym, ◌∙◌, ap, subst, arith, eq-eqb, eqb}
 use Rattle.std.proofs.lemmas.Bool.{eqb-true, ne_eqb}
+use Rattle.geo_base.proofs.Options.{some_of}
 use Rattle.geo_base.specs.declared.request.Counts.{Counts}
 use Rattle.geo_model.specs.Topology.{Topology, Geom, Provider, geom_at, provider_at}
 use Rattle.geo_model.specs.Demand.{no_counts}
@@ -91,11 +92,6 @@ set_through s f x v n = by (n == x)
     by : (b : Bool) → (if b then s v else s (f n)) ≡ s (if b then v else f n)
     by true = refl
     by false = refl
-
--- what is found is found
-pub some_of : {X : Type 0} (o : Option X) → IsSome o → (x : X) × (o ≡ Some x)
-some_of None never = let no : false ≡ true = never in absurd (cc)
-some_of (Some x) here = (x, refl)
 
 module _ {C : Type 0} where
   -- the mesh with this scratch

@@ -3,9 +3,9 @@ use Rattle.std.specs.Prelude.{◌≡◌, ◌≢◌, ◌⊎◌, ℕ, ◌==◌, �
 use Rattle.std.specs.List.{list_any}
 use Rattle.std.specs.Option.{option_or, option_map_or}
 use Rattle.std.proofs.Common.{refl, sym, ◌∙◌, ap, subst, arith, inl, inr, eq-eqb}
-use Rattle.std.proofs.Math.Bool.{or-true}
 use Rattle.std.proofs.lemmas.Bool.{eqb-true, cases_eq, ne_eqb, ltb-true, ltb-false}
 use Rattle.std.proofs.lemmas.List.Elements.{All-contains}
+use Rattle.geo_base.proofs.FindLists.{any-contained}
 use Rattle.geo_base.specs.declared.request.Counts.{Counts}
 use Rattle.geo_base.specs.declared.errno.Errno.{Errno}
 use Rattle.geo_base.specs.declared.errno.Errno.TheVariants.{ENXIO, EPERM, EOVERFLOW}
@@ -135,16 +135,6 @@ any_false test [] none = refl
 any_false test (x ∷ xs) none = ap (λ b. b || list_any test xs) (none x (in_head x xs))
     ∙ any_false test xs (λ y there. none y (in_tail x xs y there))
 
--- one passes, so some does
-pub any_true : {X : Type 0} (test : X → Bool) (xs : List X) (x : X) → Contains xs x → test x ≡ true
-    → list_any test xs ≡ true
-any_true test [] x there passes = absurd (in_nothing x there)
-any_true test (y ∷ ys) x there passes =
-    elim (in_cases y ys x there) [
-      | inl same ↦ ap (λ b. b || list_any test ys) (ap test same ∙ passes)
-      | inr rest ↦ ap (λ b. test y || b) (any_true test ys x rest passes) ∙ or-true (test y)
-    ]
-
 module _ {C : Type 0} (t : Topology C) (known : (z : Provider) → Contains t.providers z
     → provider_at t z.number ≡ Some z)
     (stands : (q : ℕ) (z : Provider) → provider_at t q ≡ Some z → Contains t.providers z × (z.number ≡ q)) where
@@ -157,7 +147,7 @@ module _ {C : Type 0} (t : Topology C) (known : (z : Provider) → Contains t.pr
       by None at never = absurd (cc)
       by (Some z) at err =
           let is = stands q z at in
-          any_true (λ (x : Provider). (x.number == q) && x.errored) t.providers z is.0
+          any-contained (λ (x : Provider). (x.number == q) && x.errored) t.providers z is.0
           (ap (λ b. b && z.errored) (eq-eqb z.number q is.1) ∙ err)
 
   -- and one without isn't
@@ -589,7 +579,7 @@ module _ {C : Type 0} (v : TopoView C) (p own : ℕ) (add : Counts) (granted aft
         (λ z near. error_no v.topology known stands z (least z (touched z near))))
         (beside_exclusive v p add) refl
     by_error (Some q) least = (
-      any_true (is_errored v.topology) (below v.topology p) q (reached q least.0)
+      any-contained (is_errored v.topology) (below v.topology p) q (reached q least.0)
           (error_yes v.topology known stands q least.1),
       record {
         is_below = reached q least.0;

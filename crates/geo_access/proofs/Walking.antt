@@ -1,9 +1,10 @@
 -- Walks over some of the consumers or providers of a graph.
-use Rattle.std.specs.Prelude.{◌≡◌, ℕ, zero, suc, ◌+◌, ◌<◌, ◌≤◌, ◌==◌, nat_le, Bool, true, false, cond, List, [], ◌∷◌, map, filter, find, Some, None, Contains, IsSome, IfSome, All}
+use Rattle.std.specs.Prelude.{◌≡◌, ℕ, zero, suc, ◌+◌, ◌<◌, ◌≤◌, ◌==◌, nat_le, Bool, List, [], ◌∷◌, map, filter, find, Some, None, Contains, IsSome, IfSome, All}
 use Rattle.std.specs.Option.{option_map}
 use Rattle.std.proofs.Common.{refl, sym, ◌∙◌, ap, subst}
 use Rattle.std.proofs.lemmas.List.Elements.{All-contains, All-head}
 use Rattle.std.proofs.lemmas.List.Kept.{AllPairs-from_increasing}
+use Rattle.geo_base.proofs.FindLists.{find-Contains}
 use Rattle.geo_model.specs.Topology.{Topology, Provider, Consumer, geom_at, consumer_at, provider_at}
 use Rattle.geo_model.specs.Graph.{AreNumbers}
 use Rattle.geo_mesh.specs.declared.records.ConsRec.{ConsRec}
@@ -12,22 +13,11 @@ use Rattle.geo_mesh.specs.Cells.{consumer_seen, provider_seen}
 use Rattle.geo_mesh.specs.Graph.{IsSoundGraph}
 use Rattle.geo_laws_graph.specs.LookupLaws.{left_from, IsStep, WalksMeetAll}
 use Rattle.geo_laws_graph.proofs.Walks.{walks-meet}
-use Rattle.geo_laws_counts.proofs.Members.{in_head, in_tail}
+use Rattle.geo_laws_counts.proofs.Members.{in_head}
 use Rattle.geo_laws_counts.proofs.LimitFacts.{of_filter}
 use Rattle.geo_laws_counts.proofs.Numbers.{found_of}
 use Rattle.geo_access.specs.Views.{IsNextConsumer, IsNextProvider, links}
-
--- the same over one item more
-found_step : {X : Type 0} (test : X → Bool) (y : X) (ys : List X) (x : X) → (find test ys ≡ Some x → Contains ys x)
-    → (b : Bool)
-    → cond b (Some y) (find test ys) ≡ Some x → Contains (y ∷ ys) x
-found_step test y ys x so true found = let same : y ≡ x = cc in subst (Contains (y ∷ ys)) same (in_head y ys)
-found_step test y ys x so false found = in_tail y ys x (so found)
-
--- an item that is found is in the list
-pub found_in : {X : Type 0} (test : X → Bool) (xs : List X) (x : X) → find test xs ≡ Some x → Contains xs x
-found_in test [] x never = absurd (cc)
-found_in test (y ∷ ys) x found = found_step test y ys x (found_in test ys x) (test y) found
+pub use Rattle.geo_base.proofs.FindLists.{find-Contains as found_in}
 
 -- the next item of a walk over a part of a list
 pub record IsNextItem {X : Type 0} (number : X → ℕ) (xs part : List X) (next from_number n : ℕ) : Type 0 where
@@ -91,10 +81,10 @@ module _ {C : Type 0} (t : Topology C) (sound : IsSoundGraph t) where
         lives = found;
         geom = All-contains (λ (c : Consumer). IsSome (geom_at t c.geom)) t.consumers (consumer_seen n x)
             sound.orderly.parts.geoms
-            (found_in (λ (c : Consumer). c.number == n) t.consumers (consumer_seen n x) found);
+            (find-Contains (λ (c : Consumer). c.number == n) t.consumers (consumer_seen n x) found);
         place = All-contains (λ (c : Consumer). IfSome c.provider (λ p. IsSome (provider_at t p))) t.consumers
             (consumer_seen n x) sound.orderly.parts.providers
-            (found_in (λ (c : Consumer). c.number == n) t.consumers (consumer_seen n x) found);
+            (find-Contains (λ (c : Consumer). c.number == n) t.consumers (consumer_seen n x) found);
         past = next.past;
         known = next.known;
         fits = sound.orderly.numbers.next_consumer.fits;
@@ -144,7 +134,7 @@ pub offerer_lives : {C : Type 0} (t : Topology C) → IsSoundGraph t → (p : �
     → provider_at t p ≡ Some x → IsSome (geom_at t x.geom)
 offerer_lives t sound p x found =
     All-contains (λ (y : Provider). IsSome (geom_at t y.geom)) t.providers x sound.orderly.parts.offerers
-    (found_in (λ (y : Provider). y.number == p) t.providers x found)
+    (find-Contains (λ (y : Provider). y.number == p) t.providers x found)
 
 -- what holds of all of some links holds of the first
 pub first_link : (P : ℕ → Type 0) (next : ℕ → ℕ) (n x : ℕ) → (n ≡ 0 → ⊥) → All P (links next n x) → P x

@@ -18,7 +18,8 @@ module _ {C : Type 0} where
   HasUsedNumber t new =
       IsButForRoom new (record t { topology = record t.topology { next_consumer = next_number t + 1 } })
 
-  -- all counts are kept, and nothing is known of the next number; and the second mesh has one consumer more, of the geom
+  -- all counts are kept, and nothing is known of the next number; and the second mesh has one consumer more, of the
+  -- geom
   pub record IsMade (t made : TopoView C) (geom : ℕ) : Type 0 where
     pub sound : IsSoundGraph t.topology
     pub counted : IsCounted t

@@ -1,3 +1,9 @@
+pub mod Options
+pub mod MemberLists
+pub mod AllLists
+pub mod FilterLists
+pub mod FindLists
+pub mod PlaceLists
 pub mod Tests
 pub mod NameLemmas
 pub mod RunsLemmas

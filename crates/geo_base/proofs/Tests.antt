@@ -1,12 +1,13 @@
--- What tests, options and lists tell, where std has no lemma for it.
-use Rattle.std.specs.Prelude.{◌≡◌, ◌==◌, ℕ, zero, suc, ◌≤◌, nat_le, Bool, true, false, not, cond, ◌&&◌, List, [], ◌∷◌, length, Option, Some, None, Result, Ok, Err, is_some, IsSome, IsOk, OnOk, option_map, bytes_eq, find, filter_map, Contains, All, AllPairs}
+-- What tests tell, where std has no lemma for it: of bytes, of names and of numbers.
+use Rattle.std.specs.Prelude.{◌≡◌, ◌≢◌, ◌⊎◌, ◌==◌, ℕ, zero, suc, ◌≤◌, nat_le, Bool, true, false, not, ◌&&◌, List, [], ◌∷◌, length, bytes_eq}
+use Rattle.std.specs.Bool.{Decides}
 use Rattle.std.specs.List.{list_all}
-use Rattle.std.specs.Option.{option_or}
-use Rattle.std.proofs.Common.{refl, sym, subst, arith}
-use Rattle.std.proofs.lemmas.Bool.{and_parts, ne_eqb, leb-true, le-leb}
-use Rattle.std.proofs.lemmas.List.Elements.{Contains-get_or, Contains-append_right}
+use Rattle.std.proofs.Common.{inl, inr, refl, sym, ◌∙◌, ap, arith}
+use Rattle.std.proofs.lemmas.Bool.{and_parts, eq-eqb, false_from_ne_true, ne_eqb, leb-true, le-leb}
 use Rattle.std.proofs.lemmas.Slice.Eq.{bytes_eq-Decides}
 use Rattle.geo_base.specs.Name.{is_word_byte, is_name_byte, is_short_name, is_name}
+pub use Rattle.geo_base.proofs.FilterLists.{filter_map-same}
+pub use Rattle.geo_base.proofs.Options.{is_some-map}
 
 -- Tests
 
@@ -16,9 +17,41 @@ same_tests true b there back = sym (there refl)
 same_tests false true there back = back refl
 same_tests false false there back = refl
 
+-- true isn't false
+pub from_false_true : {A : Type 0} → false ≡ true → A
+from_false_true never = absurd (let no : ⊥ = cc in no)
+
+-- nor is false true
+pub from_true_false : {A : Type 0} → true ≡ false → A
+from_true_false never = absurd (let no : ⊥ = cc in no)
+
+-- a number that the test tells apart is another one
+pub passes_apart : (n p : ℕ) → not (n == p) ≡ true → n ≢ p
+passes_apart n p e same = let is : (n == p) ≡ true = eq-eqb n p same in let no : false ≡ true =
+    sym (ap not is) ∙ e in cc
+
+-- Bytes
+
 -- bytes are the same as themselves
 pub bytes_eq-same : (bytes : List ℕ) → bytes_eq bytes bytes ≡ true
 bytes_eq-same bytes = (bytes_eq-Decides bytes bytes).1 refl
+
+-- bytes that the test finds equal are equal
+pub same_from_bytes_eq : (a b : List ℕ) → bytes_eq a b ≡ true → a ≡ b
+same_from_bytes_eq a b = (bytes_eq-Decides a b).0
+
+-- other bytes are told apart
+pub bytes_eq-other : (a b : List ℕ) → a ≢ b → bytes_eq a b ≡ false
+bytes_eq-other a b other = false_from_ne_true (bytes_eq a b) (λ e. other (same_from_bytes_eq a b e))
+
+-- what a test decides holds or not
+decided : {P : Type 0} (b : Bool) → Decides b P → P ⊎ (P → ⊥)
+decided true d = inl (d.0 refl)
+decided false d = inr (λ p. let wrong : false ≡ true = d.1 p in cc)
+
+-- two strings of bytes are the same or not
+pub same_or_other : (a b : List ℕ) → (a ≡ b) ⊎ (a ≢ b)
+same_or_other a b = decided (bytes_eq a b) (bytes_eq-Decides a b)
 
 -- Names
 
@@ -44,64 +77,3 @@ short_name-named bytes short =
     let few : length bytes ≤ 16 = leb-true (length bytes) 16 inner.1 in
     let fits : nat_le (length bytes) 63 ≡ true = le-leb (length bytes) 63 (omega (arith, few)) in
     rw (inner.0, fits, word_bytes-name_bytes bytes all.1) refl
-
--- Options and results
-
--- what there is
-pub some_of : {X : Type 0} (o : Option X) → IsSome o → (x : X) × (o ≡ Some x)
-some_of None there = absurd cc
-some_of (Some x) there = (x, refl)
-
--- where there isn't anything there is nothing
-pub none_of : {X : Type 0} (o : Option X) → is_some o ≡ false → o ≡ None
-none_of None none = refl
-none_of (Some x) none = absurd cc
-
--- seen otherwise, what may be there is there as before
-pub is_some-map : {X Y : Type 0} (f : X → Y) (o : Option X) → is_some (option_map f o) ≡ is_some o
-is_some-map f None = refl
-is_some-map f (Some x) = refl
-
--- a value or else nothing
-pub or_none : {X : Type 0} (o : Option X) → option_or o None ≡ o
-or_none None = refl
-or_none (Some x) = refl
-
--- a fact of a result that is Ok
-pub on_ok : {T E : Type 0} {P : Type 0} (r : Result T E) → IsOk r → OnOk r P → P
-on_ok (Ok v) is p = p
-on_ok (Err e) never p = absurd cc
-
--- Lists
-
--- what a search finds is in the list and passes the test
-pub found_in : {X : Type 0} (test : X → Bool) (xs : List X) (x : X) → find test xs ≡ Some x
-    → Contains xs x × (test x ≡ true)
-found_in test [] x found = cc
-found_in {X = X} test (y ∷ ys) x found = at (test y) refl (found_in test ys x) found
-  where
-    at : (b : Bool) → test y ≡ b → (find test ys ≡ Some x → Contains ys x × (test x ≡ true))
-        → cond b (Some y) (find test ys) ≡ Some x → Contains (y ∷ ys) x × (test x ≡ true)
-    at true passes rest found =
-        let same : y ≡ x = cc in
-        let here : Contains (y ∷ ys) y = Contains-get_or (y ∷ ys) 0 y (omega arith) in
-        (subst (Contains (y ∷ ys)) same here, subst (λ z. test z ≡ true) same passes)
-    at false passes rest found = (Contains-append_right (y ∷ []) ys x (rest found).0, (rest found).1)
-
--- what a search finds passes the test
-pub found_passes : {X : Type 0} (test : X → Bool) (xs : List X) (x : X) → find test xs ≡ Some x → test x ≡ true
-found_passes test xs x found = (found_in test xs x found).1
-
--- what holds of any two items holds of the first and each later one
-pub pairs_head : {X : Type 0} (R : X → X → Type 0) (x : X) (xs : List X) → AllPairs R (x ∷ xs) → All (R x) xs
-pairs_head R x xs facts = λ k d short. facts zero (suc k) d (omega arith) (omega (arith, short))
-
--- and of any two later ones
-pub pairs_tail : {X : Type 0} (R : X → X → Type 0) (x : X) (xs : List X) → AllPairs R (x ∷ xs) → AllPairs R xs
-pairs_tail R x xs facts = λ i j d less short. facts (suc i) (suc j) d (omega (arith, less)) (omega (arith, short))
-
--- two functions that give the same of each item give the same of a list
-pub filter_map-same : {X Y : Type 0} (f h : X → Option Y) → ((x : X) → f x ≡ h x)
-    → (xs : List X) → filter_map f xs ≡ filter_map h xs
-filter_map-same f h same [] = refl
-filter_map-same f h same (x ∷ xs) = rw (same x, filter_map-same f h same xs) refl

@@ -1,6 +1,7 @@
 -- An append that no test is against: the configuration of the concat can get one more place.
 use Rattle.std.specs.Prelude.{◌≡◌, ℕ, ◌∷◌, [], Some, None, Result, Ok, Err, IfOk}
 use Rattle.std.proofs.Common.{sym, ◌∙◌, ap, subst}
+use Rattle.geo_model.proofs.RefusalLemmas.{none_refused}
 use Rattle.geo_base.specs.declared.errno.Errno.TheVariants.{EBUSY, EINVAL}
 use Rattle.geo_model.specs.Topology.{Geom, geom_at}
 use Rattle.geo_model.specs.Acceptance.{add_place}
@@ -8,7 +9,6 @@ use Rattle.geo_model.specs.Append.{is_growth_busy, is_invalid_append}
 use Rattle.geo_model.specs.World.{World, Config}
 use Rattle.geo_class.specs.Assembly.{CanGrow}
 use Rattle.geo_mesh.specs.Graph.{IsSoundGraph}
-use Rattle.geo_laws_making.proofs.Inserted.{none_refused}
 use Rattle.geo_laws_life.proofs.Found.{one-found}
 use Rattle.geo_laws_making.proofs.Larger.{IsValid, valid_from}
 use Rattle.geo_state.specs.declared.state.State.{State}

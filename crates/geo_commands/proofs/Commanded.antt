@@ -4,6 +4,7 @@ use Rattle.std.specs.List.{AllByRecursion, list_any, list_all}
 use Rattle.std.proofs.Common.{refl, sym, ◌∙◌, ap, subst, arith}
 use Rattle.std.proofs.lemmas.Bool.{or_parts, and_parts, not-false, ltb-false, leb-true}
 use Rattle.std.proofs.lemmas.List.Elements.{All-contains, All-from_recursion, Contains-append_right}
+use Rattle.geo_model.proofs.RefusalLemmas.{none_refused}
 use Rattle.geo_base.specs.Name.{is_name}
 use Rattle.geo_base.specs.Sectors.{IsSectorSize}
 use Rattle.geo_base.specs.declared.errno.Errno.{Errno}
@@ -30,7 +31,6 @@ use Rattle.geo_mesh.specs.Topo.{is_provider_size}
 use Rattle.geo_laws_graph.specs.LookupLaws.{new_provider}
 use Rattle.geo_laws_graph.proofs.Members.{All-from_contained, Contains-here, filter_map-Contains}
 use Rattle.geo_laws_making.proofs.Made.{through}
-use Rattle.geo_laws_making.proofs.Inserted.{none_refused}
 use Rattle.geo_laws_making.proofs.Nopped.{found_by_number, nopped-firm}
 use Rattle.geo_requests.specs.Offer.{Offer}
 use Rattle.geo_requests.specs.NewGeom.{NewGeom}

@@ -6,7 +6,8 @@ use Rattle.std.proofs.Common.{refl, sym, ◌∙◌, ap, subst, arith}
 use Rattle.std.proofs.lemmas.Bool.{eqb-true, ne_eqb}
 use Rattle.std.proofs.lemmas.Iterator.Adapters.{position_from-zero}
 use Rattle.std.proofs.lemmas.List.Elements.{recursion_from_All}
-use Rattle.geo_base.proofs.Tests.{pairs_head, pairs_tail}
+use Rattle.geo_base.proofs.AllLists.{pairs_head, pairs_tail}
+use Rattle.geo_model.proofs.RefusalLemmas.{none_refused}
 use Rattle.geo_base.specs.declared.errno.Errno.{Errno}
 use Rattle.geo_base.specs.declared.errno.Errno.TheVariants.{EBUSY, EEXIST}
 use Rattle.geo_model.specs.declared.command.LineCommand.{LineCommand}
@@ -19,7 +20,6 @@ use Rattle.geo_model.specs.Sound.{DifferInDisk}
 use Rattle.geo_model.specs.World.{Config, HeaderDisk}
 use Rattle.geo_laws_graph.proofs.Lists.{found_itself}
 use Rattle.geo_laws_graph.proofs.Members.{find-Contains}
-use Rattle.geo_laws_making.proofs.Inserted.{none_refused}
 use Rattle.geo_model.specs.Graph.{AreNumbers}
 use Rattle.geo_state.specs.declared.state.State.{State}
 use Rattle.geo_state.specs.declared.state.DiskSeat.{DiskSeat}

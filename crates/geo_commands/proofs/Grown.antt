@@ -1,5 +1,5 @@
 -- A state in which a geom came with its provider: what it stands for, and that all is kept.
-use Rattle.std.specs.Prelude.{◌≡◌, ℕ, ◌+◌, ◌*◌, ◌≤◌, ◌<◌, false, List, [], ◌∷◌, length, Option, Some, None, Result, Ok, Err, All, IsSome, IsSomeAnd, OnErr}
+use Rattle.std.specs.Prelude.{◌≡◌, ℕ, ◌+◌, ◌*◌, ◌≤◌, ◌<◌, false, List, [], ◌∷◌, length, Option, Some, None, All, IsSome, IsSomeAnd}
 use Rattle.std.specs.List.{AllByRecursion}
 use Rattle.std.specs.Option.{option_map}
 use Rattle.std.proofs.Common.{refl, sym, ◌∙◌, ap, subst, arith}
@@ -37,11 +37,6 @@ use Rattle.geo_state.proofs.OwedLemmas.{owed_are_few}
 use Rattle.geo_state.proofs.SiteLemmas.{kept_with_sites}
 use Rattle.geo_commands.specs.Makes.{HasGrown, built}
 use Rattle.geo_commands.proofs.Rising.{IsRisen, numbers_for, risen}
-
--- a fact that holds in any case holds on an error
-pub on_error : {A E : Type 0} (P : Type 0) (r : Result A E) → P → OnErr r P
-on_error P (Ok a) fact = tt
-on_error P (Err e) fact = fact
 
 -- Once room for events was reserved
 

@@ -2,6 +2,7 @@
 use Rattle.std.specs.Prelude.{◌≡◌, ℕ, ◌==◌, true, false, List, [], filter, Option, Some, None, Result, Ok, Err, IsSome, IfOk, OnErr, option_map, option_and_then}
 use Rattle.std.proofs.Common.{refl, sym, ◌∙◌, ap, subst, arith}
 use Rattle.std.proofs.lemmas.List.Elements.{All-weaker}
+use Rattle.geo_base.proofs.Options.{some-there}
 use Rattle.geo_base.specs.declared.errno.Errno.{Errno}
 use Rattle.geo_base.specs.declared.request.Counts.{Counts}
 use Rattle.geo_model.specs.declared.command.LineCommand.{LineCommand}
@@ -31,10 +32,6 @@ use Rattle.geo_commands.specs.Appends.{IsAble, new_refusal}
 use Rattle.geo_commands.proofs.Ableness.{able-geom}
 use Rattle.geo_commands.proofs.Granting.{refusal-is}
 
--- what is there isn't nothing
-is-there : {X : Type 0} (o : Option X) (x : X) → o ≡ Some x → IsSome o
-is-there o x e = subst (λ p. IsSome p) (sym e) refl
-
 module _ (s : State) (kept : Holds s) (firm : IsFirm s) (sound : IsSoundGraph s.topo.topology) where
   abbrev t : Topology Config
   t = s.topo.topology
@@ -63,11 +60,11 @@ module _ (s : State) (kept : Holds s) (firm : IsFirm s) (sound : IsSoundGraph s.
   module _ (g : Growing) (b : Below) (able : IsAble s g b) where
     -- the geom and the provider are there
     pub able-stands : IsSome (geom_at t g.geom)
-    able-stands = is-there (geom_at t g.geom) able.named.concat.geom (able-geom s firm sound g b able)
+    able-stands = some-there (geom_at t g.geom) able.named.concat.geom (able-geom s firm sound g b able)
 
     pub able-lives : IsSome (provider_at t b.prov)
     able-lives =
-        is-there (provider_at t b.prov) able.named.provider
+        some-there (provider_at t b.prov) able.named.provider
         (ap (λ (x : Below). provider_at t x.prov) able.named.below_is ∙ able.named.found)
 
     -- what refuses the consumer is what the model says

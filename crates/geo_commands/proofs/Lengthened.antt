@@ -5,6 +5,8 @@ use Rattle.std.proofs.Common.{refl, sym, ◌∙◌, ap, subst, arith}
 use Rattle.std.proofs.lemmas.Bool.{eqb-true}
 use Rattle.std.proofs.lemmas.List.{append-nil, map-append}
 use Rattle.std.proofs.lemmas.List.Elements.{All-contains}
+use Rattle.geo_opens.proofs.Holding.{rises_counted}
+use Rattle.geo_model.proofs.RefusalLemmas.{none_refused}
 use Rattle.geo_base.specs.Sectors.{IsSectorSize}
 use Rattle.geo_base.specs.declared.errno.Errno.TheVariants.{EBUSY, EINVAL}
 use Rattle.geo_base.specs.declared.request.Counts.{Counts}
@@ -37,7 +39,6 @@ use Rattle.geo_laws_growth.proofs.Grown.{grown_is_found, growth_is_not_seen}
 use Rattle.geo_laws_growth.proofs.GrownPlaces.{keeps_places}
 use Rattle.geo_laws_life.proofs.Found.{one-found, some-there}
 use Rattle.geo_laws_making.proofs.Over.{false_true}
-use Rattle.geo_laws_making.proofs.Inserted.{none_refused}
 use Rattle.geo_laws_making.proofs.Concats.{IsStanding}
 use Rattle.geo_laws_making.proofs.Larger.{larger-firm, valid_from}
 use Rattle.geo_access.specs.Access.{IsCounted, granted_by, noted}
@@ -60,7 +61,7 @@ use Rattle.geo_commands.specs.Appends.{HasJoined, IsAble, IsAppended, IsLarger, 
 use Rattle.geo_commands.specs.Names.{growing_seen}
 use Rattle.geo_commands.proofs.Granting.{loose-grants}
 use Rattle.geo_commands.proofs.Joined.{next-unknown}
-use Rattle.geo_commands.proofs.Resizing.{joined_granted, larger_counted, larger_granted, rises_counted}
+use Rattle.geo_commands.proofs.Resizing.{joined_granted, larger_counted, larger_granted}
 use Rattle.geo_commands.proofs.Standing.{media_size}
 use Rattle.geo_commands.proofs.Testing.{named-stands}
 
@@ -247,7 +248,8 @@ module _ (s : State) (kept : Holds s) (firm : IsFirm s) (sound : IsSoundGraph s.
               (events.Resize x.provider.number)
           told =
               grew.announced granted mesh_stored
-              ∙ ap (λ ps. post (announce_risen granted ps (record { topology = mesh.topology; events = s.queue.events }))
+              ∙ ap
+              (λ ps. post (announce_risen granted ps (record { topology = mesh.topology; events = s.queue.events }))
               (events.Resize x.provider.number)) rose
               ∙ ap (λ (z : Topology Config). post (announce_risen granted (risen granted t granted u)
               (record { topology = z; events = s.queue.events })) (events.Resize x.provider.number)) mesh_graph

@@ -150,11 +150,13 @@ pub cannot_grow : (t : Topology Config) (name : List ℕ) (from_number n : ℕ)
     → offers t next.geom ≡ false
 cannot_grow t name from_number n next none =
     by (not next.geom.withering) (providers_of t next.geom.number) refl refl
-    (subst (λ m. (if option_map_or stands (geom_at t n) false then first_provider (providers_of t m) 0 else None) ≡ None)
+    (subst
+    (λ m. (if option_map_or stands (geom_at t n) false then first_provider (providers_of t m) 0 else None) ≡ None)
     (sym next.number) none)
   where
     by : (b : Bool) (ps : List Provider) → not next.geom.withering ≡ b → providers_of t next.geom.number ≡ ps
-        → (if option_map_or stands (geom_at t n) false then first_provider (providers_of t next.geom.number) 0 else None)
+        → (if option_map_or stands (geom_at t n) false then first_provider (providers_of t next.geom.number) 0
+        else None)
         ≡ None
         → offers t next.geom ≡ false
     by false ps e f is = rw e refl

@@ -6,6 +6,7 @@ use Rattle.std.proofs.Common.{refl, sym, ◌∙◌, ap, subst, arith, inl, inr}
 use Rattle.std.proofs.lemmas.Bool.{cases_eq, cases_lt, eq-eqb, eqb-true, ne_eqb, false_from_ne_true, or_parts}
 use Rattle.std.proofs.lemmas.List.{length-append, length-map}
 use Rattle.std.proofs.lemmas.List.Elements.{All-contains, Contains-append_left, Contains-append_right, Contains-append_cases}
+use Rattle.geo_laws_counts.proofs.Orders.{contains-has}
 use Rattle.geo_model.specs.Words.{names_number}
 use Rattle.geo_model.specs.Topology.{Topology, Provider, Consumer, provider_at, consumers_of, providers_of, providers_under, attached_to}
 use Rattle.geo_model.specs.Opens.{below, below_within, is_below}
@@ -15,7 +16,7 @@ use Rattle.geo_mesh.specs.Graph.{IsSoundGraph, IsOffer}
 use Rattle.geo_laws_graph.specs.LookupLaws.{EachIsFound, left_from}
 use Rattle.geo_laws_graph.proofs.Found.{each-found}
 use Rattle.geo_laws_graph.proofs.Members.{Origin, Contains-here, Contains-there, Contains-cases, Contains-filter, Contains-map, at_contained, filter-Contains, filter_map-Contains, find-Contains, map-Contains, nothing_in}
-use Rattle.geo_laws_graph.proofs.Numbered.{any-contained, number_found}
+use Rattle.geo_laws_graph.proofs.Numbered.{number_found}
 use Rattle.geo_laws_counts.proofs.Members.{flat_map_cases, in_flat_map}
 use Rattle.geo_laws_counts.proofs.Reach.{below_closed, below_self}
 use Rattle.geo_laws_life.proofs.Standers.{PairsByRecursion}
@@ -24,10 +25,6 @@ use Rattle.geo_life.specs.Life.{consumers_above}
 use Rattle.geo_commands.specs.Above.{has_number, offers_of, users_of, with_number}
 
 -- Numbers
-
--- a number that is contained is among them
-has-contained : (ns : List ℕ) (n : ℕ) → Contains ns n → has_number ns n ≡ true
-has-contained ns n there = any-contained (λ m. m == n) ns n there (eq-eqb n n refl)
 
 -- and one that is among them is contained
 contained-has : (ns : List ℕ) (n : ℕ) → has_number ns n ≡ true → Contains ns n
@@ -430,17 +427,17 @@ module _ (t : Topology Config) (sound : IsSoundGraph t) where
             let less = place.1.0 in
             let there : Contains above y =
             is.closed place.0 m (omega (arith, less, past)) place.1.1 y (under-users m y under) in
-            let never : true ≡ false = sym (has-contained above y there) ∙ out in cc)
+            let never : true ≡ false = sym (contains-has above y there) ∙ out in cc)
 
         by : (a b : Bool) → has_number above p ≡ a → is_below t prov p ≡ b → a ≡ b
         by true true e f = refl
         by false false e f = refl
         by true false e f =
             let told : is_below t prov p ≡ true =
-            has-contained (below t p) prov (is.sound_so_far p (contained-has above p e)) in
+            contains-has (below t p) prov (is.sound_so_far p (contained-has above p e)) in
             let never : true ≡ false = sym told ∙ f in absurd (cc)
         by false true e f =
             let out : has_number above prov ≡ false =
             least (λ n. has_number above n ≡ false) (λ y m out under. apart y m out under) (length t.geoms) p e prov
             (contained-has (below t p) prov f) in
-            let never : true ≡ false = sym (has-contained above prov is.first) ∙ out in absurd (cc)
+            let never : true ≡ false = sym (contains-has above prov is.first) ∙ out in absurd (cc)

@@ -20,8 +20,6 @@ use Rattle.geo_laws_counts.proofs.Openers.{wants_grant}
 use Rattle.geo_access.specs.Access.{IsCounted, clear_scratches, granted_by, holds_grants}
 use Rattle.geo_access.specs.Join.{joined_view}
 use Rattle.geo_access.proofs.Decided.{item_at}
-use Rattle.geo_access.proofs.Granted.{numbers_of}
-use Rattle.geo_life.specs.Life.{without_rises}
 use Rattle.geo_requests.proofs.Adding.{among, config_kept, stood}
 use Rattle.geo_requests.proofs.Kept.{KeepsCounts, holds_of, kept_counted}
 use Rattle.geo_commands.specs.declared.names.Growing.{Growing}
@@ -63,19 +61,6 @@ module _ {C : Type 0} (t : TopoView C) (counted : IsCounted t) (order : IsInOrde
         (sym (map-changed hit resized (λ (y : Provider). let row : ℕ × Scratch = (y.number, no_scratch) in row)
         (λ y e. refl) t.topology.providers));
   }
-
--- without notes of rises counts are kept
-pub rises_counted : {C : Type 0} (t : TopoView C) → IsCounted t → IsCounted (without_rises t)
-rises_counted t counted = record {
-  kinds = counted.kinds;
-  haves = counted.haves;
-  wants = counted.wants;
-  exclusive = counted.exclusive;
-  limit = counted.limit;
-  risen = numbers_of (λ (p : Provider). p.number) (λ p. false) t.topology.providers;
-  fallen = counted.fallen;
-  clear = counted.clear;
-}
 
 module _ (t : TopoView Config) (counted : IsCounted t) (order : IsInOrder t.topology) (x : Growing) (config : Config)
     (size : ℕ) where

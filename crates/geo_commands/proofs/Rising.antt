@@ -1,12 +1,14 @@
 -- A geom with its consumers and its provider: all counts are kept, and nothing else comes.
-use Rattle.std.specs.Prelude.{◌≡◌, ℕ, ◌+◌, ◌==◌, Bool, true, false, List, [], ◌∷◌, ◌++◌, map, find, Option, Some, None, IsSome, IfSome, All, unwrap_or, if◌then◌else◌}
+use Rattle.std.specs.Prelude.{◌≡◌, ℕ, ◌+◌, ◌==◌, Bool, false, List, [], ◌∷◌, ◌++◌, map, Option, Some, None, IsSome, IfSome, All, unwrap_or, if◌then◌else◌}
 use Rattle.std.specs.List.{AllByRecursion}
-use Rattle.std.specs.Option.{option_map_or, option_or}
+use Rattle.std.specs.Option.{option_map_or}
 use Rattle.std.proofs.Common.{refl, sym, ◌∙◌, ap, subst, inl, inr, append_assoc}
 use Rattle.std.proofs.lemmas.Bool.{cases_eq}
 use Rattle.std.proofs.lemmas.List.{append-nil, map-append}
 use Rattle.std.proofs.lemmas.List.Elements.{All-contains, All-push, All-weaker, All-from_recursion}
-use Rattle.std.proofs.lemmas.List.Folds.{find-append}
+use Rattle.geo_base.proofs.FindLists.{found-still}
+use Rattle.geo_base.proofs.Options.{none-there}
+use Rattle.geo_access.proofs.Coming.{bare_of}
 use Rattle.geo_base.specs.declared.request.Counts.{Counts}
 use Rattle.geo_base.specs.declared.kind.Kind.{Kind}
 use Rattle.geo_model.specs.Words.{is_granted_kind}
@@ -23,8 +25,7 @@ use Rattle.geo_laws_graph.proofs.Found.{added-geom, added-provider, added-consum
 use Rattle.geo_laws_counts.proofs.Counters.{nothing_above}
 use Rattle.geo_access.specs.Access.{granted_by, holds_grants, IsCounted, IsQuiet}
 use Rattle.geo_requests.specs.Making.{with_all_attached, with_attached, with_geom_on}
-use Rattle.geo_requests.proofs.Adding.{consumer_kept, geom_kept, no_consumer, no_geom, none_lives, provider_kept}
-use Rattle.geo_requests.proofs.Coming.{bare_of}
+use Rattle.geo_requests.proofs.Adding.{consumer_kept, geom_kept, no_consumer, no_geom, provider_kept}
 use Rattle.geo_requests.proofs.Kept.{kept_counted}
 use Rattle.geo_state.specs.Parts.{disk_row, geom_row}
 use Rattle.geo_state.specs.Sites.{HasComers, no_row}
@@ -49,16 +50,6 @@ bare_quiet granted t geom p is =
     nothing_above granted t (new_consumer t geom (Some p)) is.item is.found is.kind
     (subst (λ ps. All (λ (y : Provider). have granted t y.number ≡ no_counts) ps) (sym is.none)
     (All-from_recursion (λ (y : Provider). have granted t y.number ≡ no_counts) [] tt))
-
--- what is found is there among more
-still_there : {X : Type 0} (test : X → Bool) (xs : List X) (y : X) → IsSome (find test xs)
-    → IsSome (find test (xs ++ y ∷ []))
-still_there {X} test xs y there =
-    subst (λ (o : Option X). IsSome o) (sym (find-append test xs (y ∷ []))) (by (find test xs) there)
-  where
-    by : (o : Option X) → IsSome o → IsSome (option_or o (find test (y ∷ [])))
-    by None never = absurd (let no : false ≡ true = never in cc)
-    by (Some x) there = refl
 
 -- What stays from one mesh to the other, but for what comes
 
@@ -132,7 +123,7 @@ module _ (t : TopoView Config) (counted : IsCounted t) (quiet : IsQuiet t) (soun
       kind = other;
       none = bare_of t.topology.providers t.topology.next_geom
           (λ y here same.
-          none_lives (geom_at t.topology t.topology.next_geom) (no_geom t counted sound.orderly.order t.room)
+          none-there (geom_at t.topology t.topology.next_geom) (no_geom t counted sound.orderly.order t.room)
           (subst (λ n. IsSome (geom_at t.topology n)) same
           (All-contains (λ (x : Provider). IsSome (geom_at t.topology x.geom)) t.topology.providers y
           sound.orderly.parts.offerers here)));
@@ -217,7 +208,7 @@ module _ (t m : TopoView Config) (cs : List ℕ) (is : IsMore t m cs) (geom : �
   lives : (o : Option ℕ) → IfSome o (λ p. IsSome (provider_at m.topology p)) → IfSome o (λ p. IsSome (provider_at u p))
   lives None nothing = tt
   lives (Some p) there =
-      still_there (λ (x : Provider). x.number == p) m.topology.providers (new_provider m.topology geom name size sector)
+      found-still (λ (x : Provider). x.number == p) m.topology.providers (new_provider m.topology geom name size sector)
       there
 
   provider-more : IsMore t (with_provider m geom name size sector) cs

@@ -1,9 +1,10 @@
 -- A disk that stands as a DISK geom.
-use Rattle.std.specs.Prelude.{◌≡◌, ℕ, ◌+◌, ◌%◌, ◌==◌, true, false, List, [], ◌∷◌, map, Option, Some, None, All, Contains, IfSome, slice_get}
+use Rattle.std.specs.Prelude.{◌≡◌, ℕ, ◌+◌, ◌%◌, ◌==◌, true, false, List, [], ◌∷◌, map, Option, Some, None, All, IfSome, slice_get}
 use Rattle.std.proofs.Common.{refl, sym, ◌∙◌, ap, subst, inl, inr}
 use Rattle.std.proofs.lemmas.Bool.{eq-eqb, le-leb}
-use Rattle.std.proofs.lemmas.Option.{slice_get_within, get_or_from_slice_get}
 use Rattle.std.proofs.lemmas.List.Elements.{All-contains, All-from_recursion}
+use Rattle.geo_base.proofs.PlaceLists.{slot-seen}
+use Rattle.geo_base.proofs.MemberLists.{slot-contained}
 use Rattle.geo_base.specs.Sectors.{IsSectorSize}
 use Rattle.geo_base.specs.declared.kind.Kind.TheVariants as kinds
 use Rattle.geo_base.specs.declared.limits.TheConstants.{MAX_MEDIA_BYTES}
@@ -36,7 +37,6 @@ use Rattle.geo_state.specs.Seats.{change_seat, with_geom_at}
 use Rattle.geo_state.specs.Steps.{IsFirm}
 use Rattle.geo_state.specs.World.{header_disk, world}
 use Rattle.geo_state.proofs.SiteLemmas.{kept_with_sites}
-use Rattle.geo_state.proofs.Slots.{slot-seen}
 use Rattle.geo_commands.specs.Disks.{item_at}
 use Rattle.geo_commands.specs.Makes.{HasGrown, built}
 use Rattle.geo_commands.proofs.Grown.{grown-risen, grown-settled, grown-world}
@@ -62,10 +62,6 @@ media_size size sector which media =
         eq-eqb (size % sector) 0 media.whole,
       ) refl)
     ]
-
--- what stands at a place is contained
-slot-contained : {X : Type 0} (xs : List X) (i : ℕ) (x : X) → slice_get xs i ≡ Some x → Contains xs x
-slot-contained xs i x is = (i, slice_get_within xs i x is, get_or_from_slice_get xs i x x is)
 
 module _ (s : State) (disk : ℕ) (seat : DiskSeat) (at : slice_get s.disks.items disk ≡ Some seat) where
   -- a disk of the header has the sizes of a provider

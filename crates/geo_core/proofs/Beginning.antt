@@ -2,6 +2,7 @@
 use Rattle.std.specs.Prelude.{◌≡◌, ℕ, List, [], length, map}
 use Rattle.std.specs.List.{range_with_len}
 use Rattle.std.proofs.Common.{sym, ◌∙◌, ap, subst, arith}
+use Rattle.geo_model.proofs.OpeningLemmas.{opening_owes}
 use Rattle.geo_model.specs.declared.command.LineCommand.{LineCommand}
 use Rattle.geo_model.specs.declared.step.Entry.{Entry}
 use Rattle.geo_model.specs.World.{World, BioOf, Plan, commands_of}
@@ -17,7 +18,7 @@ use Rattle.geo_core.specs.declared.running.Running.{Running}
 use Rattle.geo_core.specs.Left.{left_of, AreNext}
 use Rattle.geo_core.specs.Openings.{IsOpened}
 use Rattle.geo_core.specs.Running.{IsMesh}
-use Rattle.geo_core.proofs.Openings.{opening_owes, opening_actors}
+use Rattle.geo_core.proofs.Openings.{opening_actors}
 
 -- nothing names a place of a log where no request is
 no_bytes : (s : State) → s.traffic.bios ≡ [] → HasBytes [] s

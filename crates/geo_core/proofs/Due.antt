@@ -5,6 +5,9 @@ use Rattle.std.specs.Option.{option_map, option_map_or}
 use Rattle.std.proofs.Common.{refl, sym, ◌∙◌, ap, subst, arith}
 use Rattle.std.proofs.lemmas.Bool.{ne_eqb}
 use Rattle.std.proofs.lemmas.List.Elements.{recursion_from_All}
+use Rattle.geo_base.proofs.Options.{none-mapped}
+use Rattle.geo_base.proofs.FindLists.{find_agree}
+use Rattle.geo_base.proofs.AllLists.{all_weaker}
 use Rattle.geo_model.specs.declared.command.LineCommand.{LineCommand}
 use Rattle.geo_model.specs.declared.step.Found.{Found}
 use Rattle.geo_model.specs.declared.step.Found.TheVariants as found
@@ -33,7 +36,7 @@ use Rattle.geo_core.specs.Mesh.{world_of}
 use Rattle.geo_core.specs.Running.{seen, world_now, is_idle, IsMesh}
 use Rattle.geo_laws_graph.proofs.Lists.{found_itself}
 use Rattle.geo_laws_graph.proofs.Members.{find-Contains}
-use Rattle.geo_state.proofs.Lists.{find-same, find-none, none-mapped}
+use Rattle.geo_state.proofs.Lists.{find-none}
 use Rattle.geo_core.proofs.Meshes.{mesh_firm}
 
 -- the first bio that passes, as a step by its number
@@ -72,11 +75,6 @@ next_shown r is from =
 
 -- Takes, where no bio is Busy
 
-weaker : {X : Type 0} (P Q : X → Type 0) → ((x : X) → P x → Q x) → (xs : List X) → AllByRecursion P xs
-    → AllByRecursion Q xs
-weaker P Q f [] all = tt
-weaker P Q f (x ∷ xs) all = (f x all.0, weaker P Q f xs all.1)
-
 module _ (w : World) (firm : Firm w) (none : NoneBusy w) where
   idle : AllByRecursion (λ (x : Bio). is_busy x.phase ≡ false) w.bios
   idle = recursion_from_All (λ (x : Bio). is_busy x.phase ≡ false) w.bios none
@@ -85,7 +83,7 @@ module _ (w : World) (firm : Firm w) (none : NoneBusy w) where
   no_busy disk =
       find-none (λ (x : Bio). is_busy x.phase && option_map_or (λ d. d == disk) (disk_at w.topology x.target) false)
       w.bios
-      (weaker (λ (x : Bio). is_busy x.phase ≡ false)
+      (all_weaker (λ (x : Bio). is_busy x.phase ≡ false)
       (λ (x : Bio). (is_busy x.phase && option_map_or (λ d. d == disk) (disk_at w.topology x.target) false) ≡ false)
       (λ x e. rw e refl) w.bios idle)
 
@@ -108,8 +106,8 @@ module _ (w : World) (firm : Firm w) (none : NoneBusy w) where
 
   pub first_taken : find (is_to_take w) w.bios ≡ find (λ (x : Bio). is_sent x.phase) w.bios
   first_taken =
-      find-same (λ (x : Bio). is_sent x.phase) (is_to_take w) w.bios
-      (weaker HasDisk (λ (x : Bio). is_to_take w x ≡ is_sent x.phase) can_take w.bios disks)
+      find_agree (is_to_take w) (λ (x : Bio). is_sent x.phase) w.bios
+      (all_weaker HasDisk (λ (x : Bio). is_to_take w x ≡ is_sent x.phase) can_take w.bios disks)
 
 -- what is first by its number
 

@@ -1,8 +1,9 @@
 -- A Go: what its command does, and when it takes no memory.
-use Rattle.std.specs.Prelude.{◌≡◌, ℕ, suc, zero, Bool, true, false, List, [], ◌∷◌, Option, Some, None, Result, Ok, All, Contains, slice_get, slice_set, option_and_then, if◌then◌else◌}
+use Rattle.std.specs.Prelude.{◌≡◌, ℕ, Bool, true, false, List, [], ◌∷◌, Option, Some, None, Result, Ok, All, slice_get, slice_set, option_and_then, if◌then◌else◌}
 use Rattle.std.specs.Option.{option_map_or}
 use Rattle.std.proofs.Common.{refl, sym, ◌∙◌, ap, subst}
 use Rattle.std.proofs.lemmas.List.Elements.{All-contains}
+use Rattle.geo_base.proofs.MemberLists.{slot-contained}
 use Rattle.geo_base.specs.declared.errno.Errno.TheVariants.{EBUSY}
 use Rattle.geo_model.specs.declared.command.Command.{Command}
 use Rattle.geo_model.specs.declared.command.LineCommand.{LineCommand}
@@ -19,7 +20,7 @@ use Rattle.geo_model.specs.Commands.{do_command}
 use Rattle.geo_model.specs.HandleCommands.{close_handle}
 use Rattle.geo_model.specs.History.{first_command}
 use Rattle.geo_model.specs.Laws.{ClosesOk}
-use Rattle.geo_laws_graph.proofs.Members.{Contains-here, Contains-there}
+use Rattle.geo_laws_graph.proofs.Members.{Contains-here}
 use Rattle.geo_state.specs.declared.state.State.{State}
 use Rattle.geo_state.specs.Steps.{against, Does}
 use Rattle.geo_state.specs.World.{world, HasBytes}
@@ -61,12 +62,6 @@ moved commands log left rest old new seat actor o bytes does e same =
 
 -- the next command is one of those that are left
 
-contains : {X : Type 0} (xs : List X) (i : ℕ) (x : X) → slice_get xs i ≡ Some x → Contains xs x
-contains [] i x at = absurd (let no : ⊥ = cc in no)
-contains {X} (y ∷ xs) zero x at =
-    let same : y ≡ x = cc in subst (λ (z : X). Contains (y ∷ xs) z) same (Contains-here y xs)
-contains (y ∷ xs) (suc i) x at = Contains-there y x xs (contains xs i x at)
-
 abbrev AreCommands : List LineCommand → Type 0
 AreCommands = All (λ (x : LineCommand). IsCommand x.command)
 
@@ -78,7 +73,7 @@ next_is_command xss actor c e all = by (slice_get xss actor) refl where
   by (Some []) at = absurd (let no : ⊥ = cc (ap next_of at, e) in no)
   by (Some (d ∷ rest)) at =
       let front : AreCommands (d ∷ rest) =
-      All-contains AreCommands xss (d ∷ rest) all (contains xss actor (d ∷ rest) at) in
+      All-contains AreCommands xss (d ∷ rest) all (slot-contained xss actor (d ∷ rest) at) in
       let one : IsCommand d.command =
       All-contains (λ (x : LineCommand). IsCommand x.command) (d ∷ rest) d front (Contains-here d rest) in
       let same : d ≡ c = cc (ap next_of at, e) in

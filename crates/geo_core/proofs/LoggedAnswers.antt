@@ -26,7 +26,8 @@ use Rattle.geo_core.specs.Logged.{AnswersTell, DeliversAreSure, MadeIsAnswered, 
 -- The answer is the function's
 
 -- a log that is full is so before a step that is enabled
-full_is_enabled : (n : ℕ) (a : Answer) → IsTrue (is_full_after n a) → answer_by a (is_full_after n a) ≡ Err refusals.LogFull
+full_is_enabled : (n : ℕ) (a : Answer) → IsTrue (is_full_after n a)
+    → answer_by a (is_full_after n a) ≡ Err refusals.LogFull
 full_is_enabled n (Ok made) full = ap (λ b. answer_by (Ok made) b) full
 full_is_enabled n (Err found) full = absurd (let bad : ⊥ = cc in bad)
 
@@ -116,7 +117,8 @@ sure_is w seat (steps.Up bio) e = absurd (let bad : ⊥ = cc in bad)
 pub takes_no_memory : (w : World) (seat : ℕ) (s : Step) (r : Result Outcome ApplyRefusal) → (IsSure w seat s → IsOk r)
     → is_sure w seat s ≡ true → lacks_memory is_want r ≡ false
 takes_no_memory w seat s (Ok o) ok e = refl
-takes_no_memory w seat s (Err refusal) ok e = absurd (let bad = ok (sure_is w seat s e) in (let wrong : ⊥ = cc in wrong))
+takes_no_memory w seat s (Err refusal) ok e =
+    absurd (let bad = ok (sure_is w seat s e) in (let wrong : ⊥ = cc in wrong))
 
 -- What an answer tells
 

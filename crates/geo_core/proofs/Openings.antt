@@ -2,17 +2,16 @@
 use Rattle.std.specs.Prelude.{◌≡◌, ℕ, zero, suc, ◌+◌, ◌≤◌, Bool, true, false, not, List, [], ◌∷◌, ◌++◌, length, take, map, fold, filter, zip, Some, All, AllPairs, Contains, slice_get, cond}
 use Rattle.std.specs.List.{AllZip, enumerate_from, range_with_len}
 use Rattle.std.proofs.Common.{refl, sym, ◌∙◌, ap, subst, arith, add-one}
-use Rattle.std.proofs.Math.Seq.{take-suc}
 use Rattle.std.proofs.lemmas.List.{append-nil, take_all}
 use Rattle.std.proofs.lemmas.List.Elements.{filter-append, All-map, All-weaker, Contains-get_or}
 use Rattle.std.proofs.lemmas.List.FromFn.{length-enumerate_from}
 use Rattle.std.proofs.lemmas.List.Sums.{fold-append}
 use Rattle.std.proofs.lemmas.Option.{slice_get_within, get_or_from_slice_get}
 use Rattle.std.proofs.lemmas.Slice.Zip.{length-zip}
+use Rattle.geo_base.proofs.PlaceLists.{take_one}
 use Rattle.geo_model.specs.declared.command.DiskDecl.{DiskDecl}
 use Rattle.geo_model.specs.World.{World, Plan, HeaderDisk, commands_of}
 use Rattle.geo_model.specs.Fitting.{Firm}
-use Rattle.geo_model.specs.Log.{owed}
 use Rattle.geo_model.specs.Opening.{bare_world, disk_in_size, opening}
 use Rattle.geo_model.specs.Plans.{IsPlan, IsDiskDecl, IsFact, FactsFit, Differ}
 use Rattle.geo_laws_making.proofs.Inserted.{IsNumbered}
@@ -101,13 +100,6 @@ pub actors_stay : (items : List Stander) (w : World) → (fold stand_one w items
 actors_stay [] w = refl
 actors_stay (item ∷ items) w = actors_stay items (stand_one w item)
 
--- the first of them and one more
-pub take_one : {X : Type 0} (xs : List X) (k : ℕ) (x : X) → slice_get xs k ≡ Some x
-    → take (suc k) xs ≡ take k xs ++ x ∷ []
-take_one {X} xs k x at =
-    take-suc xs k x (slice_get_within xs k x at)
-    ∙ ap (λ (y : X). take k xs ++ y ∷ []) (get_or_from_slice_get xs k x x at)
-
 -- what stands at a place has its number
 pub numbered_at : {X : Type 0} (n : ℕ) (xs : List X) (k j : ℕ) (x : X) → slice_get xs k ≡ Some x → j ≡ n + k
     → slice_get (enumerate_from n xs) k ≡ Some (j, x)
@@ -162,16 +154,6 @@ disk_numbered disks k d at = record {
   here = subst (Contains disks) (get_or_from_slice_get disks k d d at)
       (Contains-get_or disks k d (slice_get_within disks k d at));
 }
-
--- disks that stand owe nothing
-stands_owe : (items : List Stander) (w : World) → owed (fold stand_one w items) ≡ owed w
-stands_owe [] w = refl
-stands_owe (item ∷ items) w = stands_owe items (stand_one w item)
-
-pub opening_owes : (plan : Plan) (facts : List (ℕ × ℕ)) → owed (opening plan facts) ≡ 0
-unfolding opening
-opening_owes plan facts =
-    stands_owe (filter stands (enumerate_from 0 (zip plan.disks facts))) (bare_world plan facts)
 
 -- and leave each actor its commands
 pub opening_actors : (plan : Plan) (facts : List (ℕ × ℕ))

@@ -1,9 +1,9 @@
 -- How many bytes a bio reads, by the state.
 use Rattle.std.specs.Prelude.{◌≡◌, ℕ, ◌==◌, ◌≤◌, true, false, List, Option, Some, None, Contains, IsSomeAnd}
 use Rattle.std.specs.Option.{option_map, option_map_or}
-use Rattle.std.proofs.Common.{refl, sym, ◌∙◌, ap, subst}
+use Rattle.std.proofs.Common.{sym, ◌∙◌, ap, subst}
 use Rattle.std.proofs.lemmas.List.Elements.{All-contains}
-use Rattle.geo_base.specs.declared.request.BioCmd.{BioCmd}
+use Rattle.geo_model.proofs.BioLemmas.{read_moves}
 use Rattle.geo_base.specs.declared.request.BioCmd.TheVariants as cmds
 use Rattle.geo_base.specs.declared.limits.TheConstants.{MAX_REQUEST_BYTES}
 use Rattle.geo_model.specs.Words.{is_flush, is_read}
@@ -21,13 +21,6 @@ use Rattle.geo_core.specs.declared.running.Running.{Running}
 use Rattle.geo_core.specs.Mesh.{bytes_read, room_of, world_of}
 use Rattle.geo_core.specs.Running.{seen, IsMesh}
 use Rattle.geo_core.proofs.Meshes.{mesh_firm}
-
--- a READ moves bytes
-read_moves : (cmd : BioCmd) → is_read cmd ≡ true → is_flush cmd ≡ false
-read_moves cmds.Read reads = refl
-read_moves cmds.Write reads = refl
-read_moves cmds.Delete reads = refl
-read_moves cmds.Flush reads = absurd (let bad : ⊥ = cc in bad)
 
 -- a READ of a firm mesh is no longer than the longest request
 read_is_short : (w : World) → Firm w → (x : Bio) → Contains w.bios x → is_read x.cmd ≡ true → x.len ≤ MAX_REQUEST_BYTES

@@ -5,6 +5,8 @@ use Rattle.std.specs.Option.{option_map}
 use Rattle.std.proofs.Common.{refl, sym, ◌∙◌, ap, subst, arith, add-one, get_or}
 use Rattle.std.proofs.lemmas.List.{map-append, take_all}
 use Rattle.std.proofs.lemmas.Option.{slice_get-map, slice_get_read}
+use Rattle.geo_base.proofs.PlaceLists.{take_one}
+use Rattle.geo_base.proofs.AllLists.{all_pushed}
 use Rattle.geo_base.specs.declared.block.NoMemory.{NoMemory}
 use Rattle.geo_model.specs.declared.command.DiskDecl.{DiskDecl}
 use Rattle.geo_model.specs.World.{Config, HeaderDisk, Plan}
@@ -19,18 +21,13 @@ use Rattle.geo_state.specs.Holds.{Holds}
 use Rattle.geo_state.specs.Opening.{IsEmpty, IsFreeSeat}
 use Rattle.geo_state.specs.World.{header_disk}
 use Rattle.geo_core.specs.Openings.{stood, IsOpened}
-use Rattle.geo_core.proofs.Openings.{take_one, bare_firm}
+use Rattle.geo_core.proofs.Openings.{bare_firm}
 use Rattle.geo_core.proofs.Stands.{FactAt, fact_at, has_item}
 
 -- the seats of so many disks
 pub record AreSeats (disks : List DiskDecl) (facts : List (ℕ × ℕ)) (count : ℕ) (seats : List DiskSeat) : Type 0 where
   pub free : AllByRecursion IsFreeSeat seats
   pub shown : map header_disk seats ≡ take count (map disk_in_size (zip disks facts))
-
-push_each : {X : Type 0} (P : X → Type 0) (xs : List X) (x : X) → AllByRecursion P xs → P x
-    → AllByRecursion P (xs ++ x ∷ [])
-push_each P [] x all one = (one, tt)
-push_each P (y ∷ xs) x all one = (all.0, push_each P xs x all.1 one)
 
 -- with one more
 pub seats_push : (disks : List DiskDecl) (facts : List (ℕ × ℕ)) (k : ℕ) (seats : List DiskSeat) (seat : DiskSeat)
@@ -48,7 +45,7 @@ seats_push disks facts k seats seat fit there are free shows =
     ap (λ (n : ℕ). take n (map disk_in_size (zip disks facts))) (add-one k)
     ∙ take_one (map disk_in_size (zip disks facts)) k (disk_in_size (d.0, its.fact)) at in
     record {
-      free = push_each IsFreeSeat seats seat are.free free;
+      free = all_pushed IsFreeSeat seats seat are.free free;
       shown = map-append header_disk seats (seat ∷ [])
           ∙ ap (λ (xs : List HeaderDisk). xs ++ header_disk seat ∷ []) are.shown
           ∙ ap (λ (x : HeaderDisk). take k (map disk_in_size (zip disks facts)) ++ x ∷ []) one ∙ sym more;

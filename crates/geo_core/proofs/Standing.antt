@@ -1,10 +1,11 @@
 -- The disk that stands next in an opening: its geom doesn't stand yet, and its name isn't taken.
 use Rattle.std.specs.Prelude.{◌≡◌, ◌≢◌, ℕ, suc, ◌+◌, false, not, ◌&&◌, List, [], ◌∷◌, ◌++◌, take, drop, filter, zip, Some, slice_get}
 use Rattle.std.specs.List.{AllByRecursion, enumerate_from, list_any}
-use Rattle.std.proofs.Common.{refl, sym, ◌∙◌, ap, subst, append_assoc, arith}
+use Rattle.std.proofs.Common.{refl, ◌∙◌, ap, subst, arith}
 use Rattle.std.proofs.lemmas.Bool.{ne_eqb, not-true}
-use Rattle.std.proofs.lemmas.List.{take-append-drop}
 use Rattle.std.proofs.lemmas.List.Elements.{filter-append}
+use Rattle.geo_base.proofs.PlaceLists.{parted}
+use Rattle.geo_base.proofs.AllLists.{in_middle}
 use Rattle.geo_model.specs.declared.command.DiskDecl.{DiskDecl}
 use Rattle.geo_model.specs.Topology.{Provider, is_name_taken}
 use Rattle.geo_model.specs.World.{World, Plan}
@@ -17,19 +18,7 @@ use Rattle.geo_laws_life.proofs.Standing.{Stander, disk_geoms, disk_providers, s
 use Rattle.geo_laws_life.proofs.Standing as laws
 use Rattle.geo_laws_life.proofs.Standers.{PairsByRecursion, AreApart, standers-apart}
 use Rattle.geo_core.specs.Openings.{stood}
-use Rattle.geo_core.proofs.Openings.{stands, take_one, numbered_at}
-
--- a list is what stands before a place, what stands there and what stands after it
-parted : {X : Type 0} (xs : List X) (k : ℕ) (x : X) → slice_get xs k ≡ Some x
-    → xs ≡ take k xs ++ x ∷ drop (suc k) xs
-parted {X} xs k x at =
-    sym (take-append-drop (suc k) xs) ∙ ap (λ (front : List X). front ++ drop (suc k) xs) (take_one xs k x at)
-    ∙ append_assoc (take k xs) (x ∷ []) (drop (suc k) xs)
-
--- what holds of each item holds of one in the middle
-in_middle : {X : Type 0} (P : X → Type 0) (xs : List X) (y : X) (ys : List X) → AllByRecursion P (xs ++ y ∷ ys) → P y
-in_middle P [] y ys each = each.0
-in_middle P (x ∷ xs) y ys each = in_middle P xs y ys each.1
+use Rattle.geo_core.proofs.Openings.{stands, numbered_at}
 
 -- what holds of any two in their order holds of each before an item and the item
 each_before : {X : Type 0} (R : X → X → Type 0) (xs : List X) (y : X) (ys : List X) → PairsByRecursion R (xs ++ y ∷ ys)

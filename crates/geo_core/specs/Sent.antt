@@ -10,7 +10,8 @@ use Rattle.geo_core.specs.declared.sent.Spot.{Spot}
 abbrev pub spot_in : {R : Type 0} → Topology Config → BioOf R → Option Spot
 spot_in t x =
     if is_sent x.phase
-    then option_map (λ d. record { disk = d; cmd = x.cmd; first = x.offset / sector_at t x.target }) (disk_at t x.target)
+    then option_map (λ d. record { disk = d; cmd = x.cmd; first = x.offset / sector_at t x.target })
+    (disk_at t x.target)
     else None
 
 -- so of the bio of a number

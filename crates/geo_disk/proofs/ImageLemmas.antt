@@ -3,7 +3,7 @@ use Rattle.std.proofs.Common.{◌≡◌, ◌≢◌, ℕ, Bool, true, false, List
 use Rattle.std.proofs.Math.Bool.{or-false, or-true}
 use Rattle.std.proofs.lemmas.Bool.{false_from_ne_true}
 use Rattle.std.specs.Option.{option_map}
-use Rattle.geo_base.proofs.Tests.{bytes_eq-same}
+use Rattle.geo_base.proofs.Tests.{bytes_eq-same, bytes_eq-other, same_or_other}
 use Rattle.geo_base.specs.Sectors.{sectors_of, IsSectorSize}
 use Rattle.geo_disk.specs.Names.{is_among, without}
 use Rattle.geo_disk.specs.Memory.{Memory}
@@ -13,7 +13,7 @@ use Rattle.geo_disk.specs.Shelf.{IsGivenTo, IsOfSize, IsTakenFrom}
 use Rattle.geo_disk.proofs.SectorLemmas.{sectors_length}
 use Rattle.std.proofs.Math.Nat.{mul_comm, zero-mul}
 use Rattle.geo_disk.specs.declared.mem_shelf.Slot.{Slot}
-use Rattle.geo_disk.proofs.NameLemmas.{IsPlace, among-push, among-without, bytes_eq-other, Contains-from_among, named-set_same, named-set_other, named-push_same, named-push_other, same_or_other, set_keeps}
+use Rattle.geo_disk.proofs.NameLemmas.{IsPlace, among-push, among-without, Contains-from_among, named-set_same, named-set_other, named-push_same, named-push_other, set_keeps}
 
 -- under a name that is lent there is nothing
 pub image_lent : (slots : List Slot) (lent : List (List ℕ)) (name : List ℕ) → is_among name lent ≡ true

@@ -8,29 +8,18 @@ use Rattle.std.proofs.lemmas.Option.{slice_get_past, slice_get-get_or}
 use Rattle.std.specs.Bool.{Decides}
 use Rattle.std.specs.Cmp.{IsEquivalence}
 use Rattle.std.specs.List.{position, position_or_len}
-use Rattle.std.proofs.lemmas.Bool.{false_from_ne_true}
 use Rattle.std.proofs.lemmas.List.Folds.{find_at, find-set, find_past, find-append}
 use Rattle.std.proofs.lemmas.Map.Views.{any-filter_same, Contains-from_any, list_any-from_Contains}
 use Rattle.std.proofs.lemmas.Slice.Eq.{bytes_eq-Decides}
-use Rattle.geo_base.proofs.Tests.{bytes_eq-same, found_passes, or_none}
+use Rattle.geo_base.proofs.Tests.{bytes_eq-same, same_from_bytes_eq, bytes_eq-other, same_or_other}
+use Rattle.geo_base.proofs.Options.{or_none}
+use Rattle.geo_base.proofs.FindLists.{found_passes}
 use Rattle.geo_disk.specs.Names.{is_among, is_named, named, without}
-
--- names that the test finds equal are equal
-pub same_from_bytes_eq : (a b : List ℕ) → bytes_eq a b ≡ true → a ≡ b
-same_from_bytes_eq a b = (bytes_eq-Decides a b).0
 
 -- what a test decides holds or not
 decided : {P : Type 0} (b : Bool) → Decides b P → P ⊎ (P → ⊥)
 decided true d = inl (d.0 refl)
 decided false d = inr (λ p. let wrong : false ≡ true = d.1 p in cc)
-
--- other names are told apart
-pub bytes_eq-other : (a b : List ℕ) → a ≢ b → bytes_eq a b ≡ false
-bytes_eq-other a b other = false_from_ne_true (bytes_eq a b) (λ e. other (same_from_bytes_eq a b e))
-
--- two names are the same or not
-pub same_or_other : (a b : List ℕ) → (a ≡ b) ⊎ (a ≢ b)
-same_or_other a b = decided (bytes_eq a b) (bytes_eq-Decides a b)
 
 -- the test of names is an equivalence
 pub names_agree : IsEquivalence bytes_eq

@@ -41,14 +41,18 @@ impl<D: Disk> Disk for Drive<D> {
         ensures bytes { (view_by D.view self.new).sector ≡ (view_by D.view self.old).sector }
         ensures count { (view_by D.view self.new).count ≡ (view_by D.view self.old).count }
         ensures held { (view_by D.view self.new).held ≡ (view_by D.view self.old).held }
-        ensures read { OnOk result (IsRead (view_by D.view self.old).held (view_by D.view self.old).sector first out.new) }
+        ensures read { OnOk result
+            (IsRead (view_by D.view self.old).held (view_by D.view self.old).sector first out.new) }
         ensures none_done { IfErr result (λ e. e.done ≡ 0) }
-        ensures faults { (view_by D.view self.new).faults ≡ counted_if (is_err result) (view_by D.view self.old).faults }
+        ensures faults { (view_by D.view self.new).faults
+            ≡ counted_if (is_err result) (view_by D.view self.old).faults }
         ensures asked { (view_by D.view self.new).asked
-            ≡ (view_by D.view self.old).asked ++ call_of cmds.Read first (length out.old / (view_by D.view self.old).sector) result ∷ [] }
+            ≡ (view_by D.view self.old).asked
+            ++ call_of cmds.Read first (length out.old / (view_by D.view self.old).sector) result ∷ [] }
 
         // A disk in memory is as after this call, which fails exactly where its number is in the list.
-        ensures ram { IfRam self.old self.new (λ old new. new ≡ called (call_of cmds.Read first (length out.old / old.sector) result) old) }
+        ensures ram { IfRam self.old self.new
+            (λ old new. new ≡ called (call_of cmds.Read first (length out.old / old.sector) result) old) }
         ensures fails { IfRam self.old self.new (λ old _. IsErr result ↔ Contains old.fails (counted_on old.calls)) }
     {
         match self {
@@ -64,11 +68,14 @@ impl<D: Disk> Disk for Drive<D> {
         ensures count { (view_by D.view self.new).count ≡ (view_by D.view self.old).count }
         ensures held { (view_by D.view self.new).held
             ≡ written (view_by D.view self.old).sector first
-            (done_of result (length bytes.now / (view_by D.view self.old).sector)) bytes.now (view_by D.view self.old).held }
+            (done_of result (length bytes.now / (view_by D.view self.old).sector)) bytes.now
+            (view_by D.view self.old).held }
         ensures part_done { IfErr result (λ e. e.done ≤ length bytes.now / (view_by D.view self.old).sector) }
-        ensures faults { (view_by D.view self.new).faults ≡ counted_if (is_err result) (view_by D.view self.old).faults }
+        ensures faults { (view_by D.view self.new).faults
+            ≡ counted_if (is_err result) (view_by D.view self.old).faults }
         ensures asked { (view_by D.view self.new).asked
-            ≡ (view_by D.view self.old).asked ++ call_of cmds.Write first (length bytes.now / (view_by D.view self.old).sector) result ∷ [] }
+            ≡ (view_by D.view self.old).asked
+            ++ call_of cmds.Write first (length bytes.now / (view_by D.view self.old).sector) result ∷ [] }
         ensures ram { IfRam self.old self.new (λ old new.
             new ≡ called (call_of cmds.Write first (length bytes.now / old.sector) result)
             (after_write old first (done_of result (length bytes.now / old.sector)) bytes.now)) }
@@ -87,7 +94,8 @@ impl<D: Disk> Disk for Drive<D> {
         ensures held { (view_by D.view self.new).held
             ≡ zeroed (view_by D.view self.old).sector first (done_of result count) (view_by D.view self.old).held }
         ensures part_done { IfErr result (λ e. e.done ≤ count) }
-        ensures faults { (view_by D.view self.new).faults ≡ counted_if (is_err result) (view_by D.view self.old).faults }
+        ensures faults { (view_by D.view self.new).faults
+            ≡ counted_if (is_err result) (view_by D.view self.old).faults }
         ensures asked { (view_by D.view self.new).asked
             ≡ (view_by D.view self.old).asked ++ call_of cmds.Delete first count result ∷ [] }
         ensures ram { IfRam self.old self.new (λ old new. new
@@ -105,7 +113,8 @@ impl<D: Disk> Disk for Drive<D> {
         ensures count { (view_by D.view self.new).count ≡ (view_by D.view self.old).count }
         ensures held { (view_by D.view self.new).held ≡ (view_by D.view self.old).held }
         ensures none_done { IfErr result (λ e. e.done ≡ 0) }
-        ensures faults { (view_by D.view self.new).faults ≡ counted_if (is_err result) (view_by D.view self.old).faults }
+        ensures faults { (view_by D.view self.new).faults
+            ≡ counted_if (is_err result) (view_by D.view self.old).faults }
         ensures asked { (view_by D.view self.new).asked
             ≡ (view_by D.view self.old).asked ++ call_of cmds.Flush 0 0 result ∷ [] }
         ensures ram { IfRam self.old self.new (λ old new. new ≡ called (call_of cmds.Flush 0 0 result) old) }

@@ -25,10 +25,10 @@ pub struct DiskJob<D> {
 }
 
 impl<D: Disk> DiskJob<D> {
-    /// One turn: a ticket is taken from the worker's lane. If it is one to take a bio for a disk that the worker has, and
-    /// the Take is enabled, then the bio is taken, the drive of the disk serves the request by exactly one call, the
-    /// answer is delivered, and a ticket to give the bio up is put. The gate may hold the worker before that call and
-    /// after the Deliver. In each other case nothing is added to the log, no drive is asked and no ticket is put.
+    /// One turn: a ticket is taken from the worker's lane. If it is one to take a bio for a disk that the worker has,
+    /// and the Take is enabled, then the bio is taken, the drive of the disk serves the request by exactly one call,
+    /// the answer is delivered, and a ticket to give the bio up is put. The gate may hold the worker before that call
+    /// and after the Deliver. In each other case nothing is added to the log, no drive is asked and no ticket is put.
     pub fn turn<R: Wait + AllocGlobal, G: Gate>(
         &mut self,
         pass: &mut Pass<Mesh>,
@@ -43,7 +43,8 @@ impl<D: Disk> DiskJob<D> {
         ensures job { IsDiskJob lanes.now pass.new.own self.new }
         ensures drives { HasDrives yard.now.start.facts (drive_view D.view) self.new.drives.items }
         ensures good { IsGoodPass pass.new }
-        ensures did { DidTurn (opened_by yard.now.start) (drive_view D.view) pass.old pass.new self.old self.new result }
+        ensures did { DidTurn (opened_by yard.now.start) (drive_view D.view) pass.old pass.new self.old self.new
+            result }
     {
         // The number of a pass tells that it is good at this moment too.
         let _ = pass.number();
@@ -82,7 +83,8 @@ impl<D: Disk> DiskJob<D> {
         requires has { IsForeign self.old.drives.items disk → ⊥ }
         requires room { MAX_REQUEST_BYTES ≤ length room }
         ensures good { IsGoodPass pass.new }
-        ensures did { DidBio (opened_by yard.now.start) (drive_view D.view) disk bio pass.old pass.new self.old self.new result }
+        ensures did { DidBio (opened_by yard.now.start) (drive_view D.view) disk bio pass.old pass.new self.old self.new
+            result }
     {
         match take(rt, yard, pass, disk, bio) {
             Taken::Asked(request) => {

@@ -12,7 +12,8 @@ use geo_serve::serve;
 use std::alloc::Global;
 use std::marker::Model;
 
-/// Disks by their numbers, each with its drive. Contracts see these pairs in order, and for how many more there is room.
+/// Disks by their numbers, each with its drive. Contracts see these pairs in order, and for how many more there is
+/// room.
 #[derive(Drop)]
 pub struct DriveList<D> {
     drives: Vec<(u32, Drive<D>)>,

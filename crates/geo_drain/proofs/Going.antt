@@ -1,9 +1,10 @@
 -- A run begins, and goes on by one turn.
-use Rattle.std.specs.Prelude.{◌≡◌, ℕ, zero, suc, ◌+◌, ◌≤◌, ◌==◌, true, false, List, [], ◌∷◌, ◌++◌, length, map, Option, Some, None, is_ok, IsSome, IfSome, IsTrue, slice_get, slice_set}
+use Rattle.std.specs.Prelude.{◌≡◌, ℕ, ◌+◌, ◌≤◌, ◌==◌, true, false, List, [], ◌∷◌, ◌++◌, length, map, Option, Some, None, is_ok, IsSome, IfSome, IsTrue}
 use Rattle.std.proofs.Common.{append-nil, inl, inr, length-append, refl, sym, ◌∙◌, ap, subst, arith}
 use Rattle.std.proofs.lemmas.Bool.{both_ways, eq-eqb}
 use Rattle.std.proofs.lemmas.List.{append_assoc}
 use Rattle.std.proofs.lemmas.List.Elements.{All-contains, All-from_recursion, recursion_from_All}
+use Rattle.geo_base.proofs.PlaceLists.{slot-seen}
 use Rattle.geo_model.specs.declared.step.DeviceResult.{DeviceResult}
 use Rattle.geo_model.specs.declared.step.Entry.{Entry}
 use Rattle.geo_model.specs.declared.step.Found.{Found}
@@ -136,16 +137,6 @@ made_enabled old new s o made = ap (λ (a : Answer). is_ok a) made.does
 
 -- A Take with its Deliver
 
--- what is seen of the drives stays, if one of them is changed and that is seen the same
-seen_same : {X Y : Type 0} (f : X → Y) (xs : List X) (i : ℕ) (v x : X) → slice_get xs i ≡ Some x → f v ≡ f x
-    → map f (slice_set xs i v) ≡ map f xs
-seen_same f [] i v x at same = refl
-seen_same f (y ∷ ys) zero v x at same =
-    let is : Some y ≡ Some x = at in
-    let its : y ≡ x = cc in
-    ap (λ z. z ∷ map f ys) (same ∙ sym (ap f its))
-seen_same f (y ∷ ys) (suc i) v x at same = ap (λ zs. f y ∷ zs) (seen_same f ys i v x at same)
-
 -- the sizes of a drive
 abbrev sizes : DriveView → ℕ × ℕ
 sizes d = (d.sector, d.count)
@@ -180,7 +171,7 @@ take_turn order old new next before after later disk b run due history turn = re
       enabled));
   history = history;
   fit = ap (λ (ds : List DriveView). map sizes ds) turn.answers.drives
-      ∙ seen_same sizes after turn.request.disk turn.answers.new turn.answers.old turn.answers.is_its
+      ∙ slot-seen sizes after turn.request.disk turn.answers.new turn.answers.old turn.answers.is_its
       (sizes_same turn.answers.new turn.answers.old turn.answers.serves.sector turn.answers.serves.count)
       ∙ run.fit ∙ ap (λ (m : MeshView). m.facts) (sym logged_both);
 }

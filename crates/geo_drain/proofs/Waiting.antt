@@ -39,7 +39,8 @@ module _ (w : World) (firm : Firm w) (idle : NoneBusy w) where
   pub waiting_can_be_taken : (disk : ℕ)
       → AllByRecursion (λ (y : Waiting). is_enabled w 0 (steps.Take disk y.bio) ≡ true) (waiting_for w disk)
   waiting_can_be_taken disk =
-      All-from_contained (λ (y : Waiting). is_enabled w 0 (steps.Take disk y.bio) ≡ true) (waiting_for w disk) (λ y waits.
+      All-from_contained (λ (y : Waiting). is_enabled w 0 (steps.Take disk y.bio) ≡ true) (waiting_for w disk)
+      (λ y waits.
       let o = map-Contains (waiting_of w) (filter (is_sent_to w disk) w.bios) y waits in
       let x = filter-Contains (is_sent_to w disk) w.bios o.item o.stands in
       subst (λ (z : Waiting). is_enabled w 0 (steps.Take disk z.bio) ≡ true) o.fact (sent_to disk o.item x.0 x.1))

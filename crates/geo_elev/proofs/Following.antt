@@ -45,7 +45,8 @@ module _ {X : Type 0} (f g : ℕ → X) where
       later (suc m) more high =
           rw (same more (λ e. omega (arith, e, is, high)), later m (more + 1) (omega (arith, high))) refl
   set_same (suc i) low (suc n) k is same =
-      rw (same low (λ e. omega (arith, e, is))) (ap (λ xs. g low ∷ xs) (set_same i (low + 1) n k (omega (arith, is)) same))
+      rw (same low (λ e. omega (arith, e, is)))
+      (ap (λ xs. g low ∷ xs) (set_same i (low + 1) n k (omega (arith, is)) same))
 
   -- what stands there
   some_there : (i low n k : ℕ) → k ≡ low + i → (d : X) → slice_get (map f (range_with_len low n)) i ≡ Some d → d ≡ f k

@@ -51,7 +51,8 @@ gone_length (suc n) [] = refl
 gone_length (suc n) (x ∷ xs) = ap suc (gone_length n xs)
 
 -- all
-pub gone_all : (n low : ℕ) (xs : List DiskHead) → length xs ≤ n → gone n xs ≡ map no_head (range_with_len low (length xs))
+pub gone_all : (n low : ℕ) (xs : List DiskHead) → length xs ≤ n
+    → gone n xs ≡ map no_head (range_with_len low (length xs))
 gone_all zero low [] most = refl
 gone_all zero low (x ∷ xs) most = absurd (omega (arith, most))
 gone_all (suc n) low [] most = refl
@@ -120,7 +121,8 @@ module _ (m : MeshView) (history : IsHistory m) where
   pub walk_begins : (log : List Entry) (n : ℕ) → bare_heads log n ≡ heads_below w log 0 n
   walk_begins log n =
       all_same (bare_head log) (head_below w log 0)
-      (λ j. ap (λ (xs : List Bio). record { head = head_of log j; waiting = map (waiting_of w) (filter (is_sent_to w j) xs) })
+      (λ j.
+      ap (λ (xs : List Bio). record { head = head_of log j; waiting = map (waiting_of w) (filter (is_sent_to w j) xs) })
       (sym (none_below w.bios))) 0 n
 
   -- all are at the end
@@ -128,14 +130,16 @@ module _ (m : MeshView) (history : IsHistory m) where
       → (log : List Entry) (n : ℕ) → heads_below w log from n ≡ disk_heads w log n
   walk_ends from is log n =
       all_same (head_below w log from) (disk_head w log)
-      (λ j. ap (λ (xs : List Bio). record { head = head_of log j; waiting = map (waiting_of w) (filter (is_sent_to w j) xs) })
+      (λ j.
+      ap (λ (xs : List Bio). record { head = head_of log j; waiting = map (waiting_of w) (filter (is_sent_to w j) xs) })
       (all_below from w.bios (none_found (find (λ x. nat_le from x.number) w.bios) is))) 0 n
     where
       none_found : (o : Option Bio) → None ≡ option_map (λ (x : Bio). x.number) o → o ≡ None
       none_found None is = refl
       none_found (Some y) is = absurd (let bad : ⊥ = cc in bad)
 
-  module _ (from b : ℕ) (next : Some b ≡ option_map (λ (x : Bio). x.number) (find (λ x. nat_le from x.number) w.bios)) where
+  module _ (from b : ℕ)
+      (next : Some b ≡ option_map (λ (x : Bio). x.number) (find (λ x. nat_le from x.number) w.bios)) where
     found : (y : Bio) × (find (λ x. nat_le from x.number) w.bios ≡ Some y) × (y.number ≡ b)
     found = found_as b (find (λ x. nat_le from x.number) w.bios) next
 
@@ -192,7 +196,8 @@ module _ (m : MeshView) (history : IsHistory m) where
         (sym (then_waits disk false e ∙ append_nil (waiting_below w from disk)))
 
     -- the bio is put in
-    pub walk_goes_on : (log : List Entry) (n : ℕ) (new : List DiskHead) → Puts (spot_of w b) b (heads_below w log from n) new
+    pub walk_goes_on : (log : List Entry) (n : ℕ) (new : List DiskHead)
+        → Puts (spot_of w b) b (heads_below w log from n) new
         → new ≡ heads_below w log (b + 1) n
     walk_goes_on log n new puts = by (spot_in w.topology y) refl
       where
@@ -203,18 +208,20 @@ module _ (m : MeshView) (history : IsHistory m) where
         by None e =
             let did : new ≡ heads_below w log from n =
             subst (λ (o : Option Spot). Puts o b (heads_below w log from n) new) (spot_is ∙ e) puts in
-            did ∙ all_same (head_below w log from) (head_below w log (b + 1)) (λ j. not_there log j (no_spot_says w y e j)) 0 n
+            did ∙ all_same (head_below w log from) (head_below w log (b + 1))
+            (λ j. not_there log j (no_spot_says w y e j)) 0 n
         by (Some spot) e =
             let did : Puts (Some spot) b (heads_below w log from n) new =
             subst (λ (o : Option Spot). Puts o b (heads_below w log from n) new) (spot_is ∙ e) puts in
             let says = spot_says w y spot e in
             let one : waiting_of w y ≡ one_at b (place_of spot) =
             says.1 ∙ ap (λ (k : ℕ). one_at k (place_of spot)) found.2 in
-            change_one (head_below w log from) (head_below w log (b + 1)) (Queues did.0 (one_at b (place_of spot))) spot.disk n
-            (λ j other. not_there log j (says.0 j ∙ ne_eqb spot.disk j (λ same. other (sym same))))
+            change_one (head_below w log from) (head_below w log (b + 1)) (Queues did.0 (one_at b (place_of spot)))
+            spot.disk n (λ j other. not_there log j (says.0 j ∙ ne_eqb spot.disk j (λ same. other (sym same))))
             (λ z so. this spot (says.0 spot.disk ∙ eq-eqb spot.disk spot.disk refl) one z did.0 so) new did.1
           where
-            this : (spot : Spot) → is_sent_to w spot.disk y ≡ true → waiting_of w y ≡ one_at b (place_of spot) → (z : DiskHead)
+            this : (spot : Spot) → is_sent_to w spot.disk y ≡ true → waiting_of w y ≡ one_at b (place_of spot)
+                → (z : DiskHead)
                 (c : Bool) → Queues c (one_at b (place_of spot)) (head_below w log from spot.disk) z
                 → z ≡ head_below w log (b + 1) spot.disk
             this spot sent one z true so =
@@ -229,7 +236,8 @@ module _ (m : MeshView) (history : IsHistory m) where
 -- Forgotten from the first on
 
 -- one more of which nothing is known
-none_more : (low n : ℕ) → map no_head (range_with_len low n) ++ no_head 0 ∷ [] ≡ map no_head (range_with_len low (suc n))
+none_more : (low n : ℕ)
+    → map no_head (range_with_len low n) ++ no_head 0 ∷ [] ≡ map no_head (range_with_len low (suc n))
 none_more low zero = refl
 none_more low (suc n) = ap (λ ds. no_head 0 ∷ ds) (none_more (low + 1) n)
 

@@ -68,7 +68,8 @@ front_below low (x ∷ xs) y ys rise =
     )
 
 -- what stands in front isn't behind
-without_behind : (bio low : ℕ) (xs ys : List Waiting) → Rises low (xs ++ ys) → has_bio bio xs ≡ true → without bio ys ≡ ys
+without_behind : (bio low : ℕ) (xs ys : List Waiting) → Rises low (xs ++ ys) → has_bio bio xs ≡ true
+    → without bio ys ≡ ys
 without_behind bio low [] ys rise has = absurd (let bad : ⊥ = cc in bad)
 without_behind bio low (x ∷ xs) ys rise has =
     by (x.bio == bio) refl (without_behind bio (x.bio + 1) xs ys rise.2)
@@ -309,7 +310,8 @@ keys_next keys later some end =
 -- One less
 
 module _ (keys : List ℕ) (flush : Bool) (later : List (ℕ × Place)) (last bio first : ℕ)
-    (are : AreLists keys flush later last) (small : bio < 2 ^ 64) (is : is_kept (first * 2 ^ 64 + bio) keys ≡ true) where
+    (are : AreLists keys flush later last) (small : bio < 2 ^ 64)
+    (is : is_kept (first * 2 ^ 64 + bio) keys ≡ true) where
   -- the keys that are left
   abbrev left : List ℕ
   left = remove_key (is_at (nat_cmp (first * 2 ^ 64 + bio))) keys
@@ -369,7 +371,8 @@ no_keys (k ∷ ks) none = absurd (let bad : ⊥ = cc in bad)
 -- Whether all have smaller numbers
 
 -- where the last has
-pub last_below : (keys : List ℕ) (flush : Bool) (later : List (ℕ × Place)) (last bio : ℕ) → AreLists keys flush later last
+pub last_below : (keys : List ℕ) (flush : Bool) (later : List (ℕ × Place)) (last bio : ℕ)
+    → AreLists keys flush later last
     → last < bio → true ≡ are_below bio (all_waiting keys flush later)
 last_below keys flush later last bio are less =
     sym (below_wider (last + 1) bio (all_waiting keys flush later) (omega (arith, less)) are.below)

@@ -21,7 +21,8 @@ use Rattle.geo_elev.proofs.Keys.{key_is_bio}
 -- what waits is found again by its key
 pub at_own : (x : Waiting) → x.bio < 2 ^ 64 → at_key x.flush (key_of x) ≡ x
 at_own x small =
-    ap (λ (n : ℕ). record { bio = n; flush = x.flush; first = key_of x / 2 ^ 64 }) (mod-mul-add x.first (2 ^ 64) x.bio small)
+    ap (λ (n : ℕ). record { bio = n; flush = x.flush; first = key_of x / 2 ^ 64 })
+    (mod-mul-add x.first (2 ^ 64) x.bio small)
     ∙ ap (λ (n : ℕ). record { bio = x.bio; flush = x.flush; first = n }) (div-mul-add x.first (2 ^ 64) x.bio small)
 
 -- and has it
@@ -161,7 +162,8 @@ none_same low x (y ∷ ys) rise = by (nat_lt x.bio y.bio) refl (none_same (y.bio
         ∙ rest other.2
 
 -- without it the others are left
-without_with : (low : ℕ) (x : Waiting) (ys : List Waiting) → Rises low (with_one x ys) → without x.bio (with_one x ys) ≡ ys
+without_with : (low : ℕ) (x : Waiting) (ys : List Waiting) → Rises low (with_one x ys)
+    → without x.bio (with_one x ys) ≡ ys
 without_with low x [] rise = gone x.bio x [] (eq-eqb x.bio x.bio refl)
 without_with low x (y ∷ ys) rise = by (nat_lt x.bio y.bio) refl (without_with (y.bio + 1) x ys)
   where
@@ -210,7 +212,8 @@ with_without b low x (y ∷ ys) rise other =
 
 module _ (flush : Bool) where
   -- whether all have smaller numbers
-  pub listed_below : (b : ℕ) (keys : List ℕ) → are_below b (listed flush keys) ≡ list_all (λ k. nat_lt (k % 2 ^ 64) b) keys
+  pub listed_below : (b : ℕ) (keys : List ℕ)
+      → are_below b (listed flush keys) ≡ list_all (λ k. nat_lt (k % 2 ^ 64) b) keys
   listed_below b [] = refl
   listed_below b (k ∷ ks) =
       all_with (λ y. nat_lt y.bio b) (at_key flush k) (listed flush ks)
@@ -271,8 +274,10 @@ module _ (flush : Bool) where
   some_more k (j ∷ js) = by (nat_cmp k j) refl
     where
       by : (o : Ordering) → nat_cmp k j ≡ o → is_none_of (insert_key nat_cmp (j ∷ js) k) ≡ false
-      by Less e = ap (λ (o : Ordering). is_none_of (match_ordering o (k ∷ j ∷ js) (j ∷ js) (j ∷ insert_key nat_cmp js k))) e
-      by Equal e = ap (λ (o : Ordering). is_none_of (match_ordering o (k ∷ j ∷ js) (j ∷ js) (j ∷ insert_key nat_cmp js k))) e
+      by Less e =
+          ap (λ (o : Ordering). is_none_of (match_ordering o (k ∷ j ∷ js) (j ∷ js) (j ∷ insert_key nat_cmp js k))) e
+      by Equal e =
+          ap (λ (o : Ordering). is_none_of (match_ordering o (k ∷ j ∷ js) (j ∷ js) (j ∷ insert_key nat_cmp js k))) e
       by Greater e =
           ap (λ (o : Ordering). is_none_of (match_ordering o (k ∷ j ∷ js) (j ∷ js) (j ∷ insert_key nat_cmp js k))) e
 

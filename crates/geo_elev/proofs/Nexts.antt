@@ -53,15 +53,16 @@ pub first_given : (m : MeshView) → IsHistory m → NoneBusy (world_of m)
     → enabled_one (world_of m) (first_take (world_of m) m.log) ≡ first_take (world_of m) m.log
 first_given m history idle =
     one_given w (first_take w m.log)
-    (first_holds (λ (s : Step). is_enabled w 0 s ≡ true) (next_take w m.log) at_disk (range_with_len 0 (length w.disks)))
+    (first_holds (λ (s : Step). is_enabled w 0 s ≡ true) (next_take w m.log) at_disk
+    (range_with_len 0 (length w.disks)))
   where
     w : World
     w = world_of m
 
     at_disk : (disk : ℕ) (s : Step) → next_take w m.log disk ≡ Some s → is_enabled w 0 s ≡ true
     at_disk disk =
-        of_some (λ (y : Waiting). steps.Take disk y.bio) (next_of (head_of m.log disk) (candidates (waiting_for w disk)))
-        (λ (s : Step). is_enabled w 0 s ≡ true)
+        of_some (λ (y : Waiting). steps.Take disk y.bio)
+        (next_of (head_of m.log disk) (candidates (waiting_for w disk))) (λ (s : Step). is_enabled w 0 s ≡ true)
         (λ y found. next_holds (λ (z : Waiting). is_enabled w 0 (steps.Take disk z.bio) ≡ true) (head_of m.log disk)
         (waiting_for w disk) y
         (waiting_can_be_taken w (firm_after m.plan m.facts history.plan history.facts m.log) idle disk) found)

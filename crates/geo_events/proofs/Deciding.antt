@@ -1,10 +1,10 @@
 -- What is against steps of events, tastes and washes, by what is kept.
-use Rattle.std.specs.Prelude.{◌≡◌, ℕ, suc, ◌==◌, Bool, true, false, not, ◌&&◌, ◌||◌, List, [], ◌∷◌, drop, length, map, filter, find, cond, Option, Some, None, Result, Ok, Err, OnOk, is_some, slice_get, if◌then◌else◌}
+use Rattle.std.specs.Prelude.{◌≡◌, ℕ, ◌==◌, Bool, true, false, not, ◌&&◌, List, [], ◌∷◌, drop, length, find, cond, Option, Some, None, Result, Ok, Err, OnOk, is_some, slice_get, if◌then◌else◌}
 use Rattle.std.specs.List.{list_any}
 use Rattle.std.specs.Option.{option_map, option_map_or, unwrap_or}
-use Rattle.std.proofs.Common.{refl, sym, ◌∙◌, ap, subst, arith}
-use Rattle.std.proofs.lemmas.Bool.{ne_eqb}
+use Rattle.std.proofs.Common.{refl, sym, ◌∙◌, ap, subst}
 use Rattle.std.proofs.lemmas.List.Sums.{length-filter}
+use Rattle.geo_base.proofs.FindLists.{any-map, any-kept_some}
 use Rattle.geo_base.specs.declared.request.Counts.{Counts}
 use Rattle.geo_model.specs.declared.command.LineCommand.{LineCommand}
 use Rattle.geo_model.specs.declared.step.Entry.{Entry}
@@ -37,33 +37,14 @@ use Rattle.geo_events.specs.Washing.{HasWashed}
 
 -- Requests on their way, as the world has them
 
--- what is asked of what is seen
-any-seen : {X Y : Type 0} (test : Y → Bool) (see : X → Y) (xs : List X)
-    → list_any test (map see xs) ≡ list_any (λ x. test (see x)) xs
-any-seen test see [] = refl
-any-seen test see (x ∷ xs) = ap (λ b. test (see x) || b) (any-seen test see xs)
-
--- some pass where not none is kept
-some-kept : {X : Type 0} (test : X → Bool) (xs : List X) → list_any test xs ≡ not (length (filter test xs) == 0)
-some-kept test [] = refl
-some-kept {X} test (x ∷ xs) = by (test x) (some-kept test xs)
-  where
-    by : (b : Bool) → list_any test xs ≡ not (length (filter test xs) == 0)
-        → (b || list_any test xs) ≡ not (length (cond b (x ∷ filter test xs) (filter test xs)) == 0)
-    by true so =
-        let some : (suc (length (filter test xs)) == 0) ≡ false =
-        ne_eqb (suc (length (filter test xs))) 0 (λ same. omega (arith, same)) in
-        sym (ap not some)
-    by false so = so
-
 -- whether a request is out through a consumer, whatever the log has
 active-is : (log : List Entry) (bios : List (BioOf Held)) (c : ℕ)
     → list_any (λ (x : Bio). (x.source == c) && not (is_done x.phase)) (shown (delivered_at log) bios)
     ≡ not (out_through (trips bios) c == 0)
 active-is log bios c =
-    any-seen (λ (x : Bio). (x.source == c) && not (is_done x.phase)) (shown_bio (delivered_at log)) bios
-    ∙ sym (any-seen (goes_through c) (trip_of {R = Held}) bios)
-    ∙ some-kept (goes_through c) (trips bios)
+    any-map (λ (x : Bio). (x.source == c) && not (is_done x.phase)) (shown_bio (delivered_at log)) bios
+    ∙ sym (any-map (goes_through c) (trip_of {R = Held}) bios)
+    ∙ any-kept_some (goes_through c) (trips bios)
     ∙ ap (λ n. not (n == 0)) (length-filter (goes_through c) (trips bios))
 
 -- the number of the taste's read

@@ -5,6 +5,7 @@ use Rattle.std.proofs.Common.{refl, sym, ◌∙◌, ap, subst, arith}
 use Rattle.std.proofs.lemmas.Bool.{and_parts, eqb-true}
 use Rattle.std.proofs.lemmas.List.{append_assoc, append-nil, length-append, map-append}
 use Rattle.std.proofs.lemmas.List.Elements.{recursion_from_All}
+use Rattle.geo_base.proofs.AllLists.{all_appended, all_weaker}
 use Rattle.geo_base.specs.declared.kind.Kind.{Kind}
 use Rattle.geo_base.specs.declared.kind.Kind.TheVariants as kinds
 use Rattle.geo_base.specs.declared.request.Counts.{Counts}
@@ -27,11 +28,10 @@ use Rattle.geo_laws_graph.proofs.Found.{each-found}
 use Rattle.geo_laws_graph.proofs.Members.{at_contained, find-Contains}
 use Rattle.geo_laws_counts.proofs.Numbers.{free_of}
 use Rattle.geo_model.proofs.DemandLemmas.{find_passes}
-use Rattle.geo_laws_making.proofs.NewSlices.{new_of}
+use Rattle.geo_laws_making.proofs.NewSlices.{new_few}
 use Rattle.geo_taste.specs.Making.{QueuedMesh, with_attached, with_offer}
 use Rattle.geo_taste.specs.Accepting.{accepted, finished, joined, joined_at, labelled, over, placed, sliced, with_member, with_slices_of}
 use Rattle.geo_state.specs.Sites.{no_row}
-use Rattle.geo_state.proofs.Lists.{all-append, all-weaker}
 
 -- a number that wants nothing
 abbrev pub no_want : ℕ → ℕ × Counts
@@ -92,10 +92,10 @@ grows-on t u v g h = record {
       twice t.topology.providers u.topology.providers v.topology.providers g.providers h.providers g.with_providers
       h.with_providers;
   diskless =
-      all-append (λ (row : ℕ × (Kind × Option ℕ)). row.1.1 ≡ None) g.geoms h.geoms g.diskless h.diskless;
+      all_appended (λ (row : ℕ × (Kind × Option ℕ)). row.1.1 ≡ None) g.geoms h.geoms g.diskless h.diskless;
   fresh =
-      all-append (λ (c : Consumer). t.topology.next_consumer ≤ c.number) g.consumers h.consumers g.fresh
-      (all-weaker (λ (c : Consumer). u.topology.next_consumer ≤ c.number)
+      all_appended (λ (c : Consumer). t.topology.next_consumer ≤ c.number) g.consumers h.consumers g.fresh
+      (all_weaker (λ (c : Consumer). u.topology.next_consumer ≤ c.number)
       (λ c. t.topology.next_consumer ≤ c.number)
       (λ c above. let first = g.next_consumer in omega (arith, first, above)) h.consumers h.fresh);
   next_consumer = let first = g.next_consumer in let then_on = h.next_consumer in omega (arith, first, then_on);
@@ -322,13 +322,6 @@ assembly-disk (Concat id places sizes) empty same = refl
 assembly-disk (Stripe id stripe places sizes) empty same = refl
 assembly-disk (Nop below offset fail) empty same = refl
 
--- there are no more providers than places of the table
-new-few : {X : Type 0} (name : ℕ → List ℕ) (count : X → ℕ) (k : ℕ) (xs : List (Option X))
-    → length (new_of name count k xs) ≤ length xs
-new-few name count k [] = omega arith
-new-few name count k (None ∷ xs) = let rest = new-few name count (k + 1) xs in omega (arith, rest)
-new-few name count k (Some x ∷ xs) = let rest = new-few name count (k + 1) xs in omega (arith, rest)
-
 -- a shape whose table has few parts
 abbrev pub IsShort : Shape → Type 0
 IsShort (Slices table) = length table.slices ≤ most
@@ -443,9 +436,9 @@ module _ (m : QueuedMesh) (order : IsInOrder m.mesh.topology) (p : Provider) whe
     -- a new geom is the only one of its number
     new-no_disk : OfNoDisk (with_geom m.mesh x.kind x.geom_name x.empty true) m.mesh.topology.next_geom
     new-no_disk =
-        all-append (λ (y : Geom Config). (y.number == m.mesh.topology.next_geom) ≡ true → disk_of y.config ≡ None)
+        all_appended (λ (y : Geom Config). (y.number == m.mesh.topology.next_geom) ≡ true → disk_of y.config ≡ None)
         m.mesh.topology.geoms (new_geom m.mesh.topology x.kind x.geom_name x.empty true ∷ [])
-        (all-weaker (λ (y : Geom Config). y.number ≡ m.mesh.topology.next_geom → ⊥)
+        (all_weaker (λ (y : Geom Config). y.number ≡ m.mesh.topology.next_geom → ⊥)
         (λ y. (y.number == m.mesh.topology.next_geom) ≡ true → disk_of y.config ≡ None)
         (λ y apart same. absurd (apart (eqb-true y.number m.mesh.topology.next_geom same))) m.mesh.topology.geoms
         (recursion_from_All (λ (y : Geom Config). y.number ≡ m.mesh.topology.next_geom → ⊥) m.mesh.topology.geoms
@@ -475,7 +468,7 @@ module _ (m : QueuedMesh) (order : IsInOrder m.mesh.topology) (p : Provider) whe
         (each.geoms m.mesh.topology order)
         (find-Contains (λ (y : Geom Config). y.automatic && (not y.withering && (same_name y.name x.geom_name
         && is_same_assembly y.config x.empty))) m.mesh.topology.geoms g found) in
-        all-weaker (λ (y : Geom Config). geom_at m.mesh.topology y.number ≡ Some y)
+        all_weaker (λ (y : Geom Config). geom_at m.mesh.topology y.number ≡ Some y)
         (λ y. (y.number == g.number) ≡ true → disk_of y.config ≡ None)
         (λ y here same.
         let both : Some y ≡ Some g =
@@ -508,11 +501,11 @@ module _ (m : QueuedMesh) (order : IsInOrder m.mesh.topology) (p : Provider) whe
   accepted-grows (Slices table) few =
       sliced-grows m p.number kinds.Mbr p.name (Mbr (Some m.mesh.topology.next_consumer) table.slices)
       (new_slices p.name table.slices) refl
-      (let less = new-few (slice_name p.name) (λ (x : Slice). x.count) 0 table.slices in omega (arith, less, few))
+      (let less = new_few (slice_name p.name) (λ (x : Slice). x.count) 0 table.slices in omega (arith, less, few))
   accepted-grows (Logical table) few =
       sliced-grows m p.number kinds.Ebr p.name (Ebr (Some m.mesh.topology.next_consumer) table.parts)
       (new_parts p.name table.parts) refl
-      (let less = new-few (logical_name p.name) (λ (x : EbrPart). x.count) 0 table.parts in omega (arith, less, few))
+      (let less = new_few (logical_name p.name) (λ (x : EbrPart). x.count) 0 table.parts in omega (arith, less, few))
   accepted-grows (Named found) few = labelled-grows m p (label_name found.name)
   accepted-grows (Joined found) few = member-grows (concat_member found) refl
   accepted-grows (Striped found) few = member-grows (stripe_member found) refl

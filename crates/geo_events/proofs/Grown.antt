@@ -5,6 +5,8 @@ use Rattle.std.specs.Option.{option_map, option_map_or}
 use Rattle.std.proofs.Common.{refl, sym, ◌∙◌, ap}
 use Rattle.std.proofs.lemmas.List.{map-append}
 use Rattle.std.proofs.lemmas.List.Elements.{All-contains}
+use Rattle.geo_base.proofs.FindLists.{none_passes, found-before}
+use Rattle.geo_base.proofs.AllLists.{all_mapped}
 use Rattle.geo_base.specs.declared.kind.Kind.{Kind}
 use Rattle.geo_base.specs.declared.request.Counts.{Counts}
 use Rattle.geo_model.specs.Words.{is_granted_kind}
@@ -21,19 +23,13 @@ use Rattle.geo_access.proofs.Decided.{item_at}
 use Rattle.geo_state.specs.Parts.{disk_row, geom_row}
 use Rattle.geo_state.specs.Sites.{Comers, HasComers}
 use Rattle.geo_state.proofs.Frames.{under, under_read}
-use Rattle.geo_state.proofs.Lists.{find-first, find-past, none-found}
+use Rattle.geo_state.proofs.Lists.{find-past}
 use Rattle.geo_events.proofs.Growing.{Grows, class_row, no_want, number_of}
 use Rattle.geo_events.proofs.Offering.{none-stored}
 
 -- the disk of a geom's row
 abbrev pub disk_part : ℕ × (Kind × Option ℕ) → ℕ × Option ℕ
 disk_part row = (row.0, row.1.1)
-
--- a fact of mapped items
-pub all-mapped : {X Y : Type 0} (f : X → Y) (P : Y → Type 0) (xs : List X) → AllByRecursion (λ x. P (f x)) xs
-    → AllByRecursion P (map f xs)
-all-mapped f P [] all = tt
-all-mapped f P (x ∷ xs) all = (all.0, all-mapped f P xs all.1)
 
 -- rows with disks alone
 disk-rows : (gs : List (Geom Config)) → map disk_row gs ≡ map disk_part (map class_row gs)
@@ -49,7 +45,7 @@ value-more {V} rows more n v e = on (find (λ (row : ℕ × V). row.0 == n) rows
         → option_map (λ (row : ℕ × V). row.1) o ≡ Some v → value_at (rows ++ more) n ≡ Some v
     on None is never = absurd cc
     on (Some row) is same =
-        ap (option_map (λ (r : ℕ × V). r.1)) (find-first (λ (r : ℕ × V). r.0 == n) rows more row is) ∙ same
+        ap (option_map (λ (r : ℕ × V). r.1)) (found-before (λ (r : ℕ × V). r.0 == n) rows more row is) ∙ same
 
 -- numbers that came want nothing
 wants-none : (ns : List ℕ) (n : ℕ) → unwrap_or (value_at (map no_want ns) n) no_counts ≡ no_counts
@@ -88,7 +84,7 @@ module _ (t u : TopoView Config) (g : Grows t u) where
 
   -- none is of a disk
   pub no-disks : AllByRecursion (λ (row : ℕ × Option ℕ). row.1 ≡ None) (map disk_part g.geoms)
-  no-disks = all-mapped disk_part (λ (row : ℕ × Option ℕ). row.1 ≡ None) g.geoms g.diskless
+  no-disks = all_mapped (λ (row : ℕ × Option ℕ). row.1 ≡ None) disk_part g.geoms g.diskless
 
   -- Grants
 
@@ -138,7 +134,7 @@ module _ (t u : TopoView Config) (g : Grows t u) where
     stood-granted c x found =
         let here : consumer_at u.topology c ≡ Some x =
         ap (find (λ (y : Consumer). y.number == c)) g.with_consumers
-        ∙ find-first (λ (y : Consumer). y.number == c) t.topology.consumers g.consumers x found in
+        ∙ found-before (λ (y : Consumer). y.number == c) t.topology.consumers g.consumers x found in
         let lives : IsSome (geom_at t.topology x.geom) =
         All-contains (λ (y : Consumer). IsSome (geom_at t.topology y.geom)) t.topology.consumers x live
         (find-Contains (λ (y : Consumer). y.number == c) t.topology.consumers x found) in
@@ -169,7 +165,7 @@ module _ (t u : TopoView Config) (g : Grows t u) where
             ap (λ rows. unwrap_or (value_at rows c) no_counts) g.with_wants
             ∙ ap (λ o. unwrap_or (option_map (λ (row : ℕ × Counts). row.1) o) no_counts)
             (find-past (λ (row : ℕ × Counts). row.0 == c) t.wants (map no_want (map number_of g.consumers))
-            (none-found (λ (row : ℕ × Counts). row.0 == c) t.wants unstored))
+            (none_passes (λ (row : ℕ × Counts). row.0 == c) t.wants unstored))
             ∙ wants-none (map number_of g.consumers) c
 
         by : (b : Bool) → (if b then unwrap_or (value_at u.wants c) no_counts else no_counts) ≡ no_counts

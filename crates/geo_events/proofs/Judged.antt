@@ -4,6 +4,7 @@ use Rattle.std.specs.List.{AllByRecursion}
 use Rattle.std.specs.Option.{option_map, option_and_then}
 use Rattle.std.proofs.Common.{refl, sym, ◌∙◌, ap, subst, arith}
 use Rattle.std.proofs.lemmas.List.{append-nil, length-append, length-map}
+use Rattle.geo_base.proofs.AllLists.{all_mapped}
 use Rattle.geo_base.specs.declared.kind.Kind.TheVariants as kinds
 use Rattle.geo_base.specs.declared.request.Counts.{Counts}
 use Rattle.geo_base.specs.declared.limits.TheConstants.{MAX_LINKS}
@@ -53,7 +54,7 @@ use Rattle.geo_state.proofs.GrantLaws.{grants_follow, tastes_grant_nothing, tast
 use Rattle.geo_state.proofs.OwedLemmas.{places_are_owed}
 use Rattle.geo_state.proofs.SiteLemmas.{kept_after_comers, kept_after_consumer}
 use Rattle.geo_events.proofs.Growing.{GrowsFew, IsShort, AllGrow, accepted-grows, few-roomed, number_of}
-use Rattle.geo_events.proofs.Grown.{all-mapped, comers, has-comers, no-disks, grown-granted}
+use Rattle.geo_events.proofs.Grown.{comers, has-comers, no-disks, grown-granted}
 use Rattle.geo_events.proofs.Offering.{none-stored}
 use Rattle.geo_events.proofs.Shapes.{verdict-short}
 use Rattle.geo_events.proofs.Stepping.{IsNextTaste, steps_on}
@@ -285,7 +286,7 @@ module _ (s : State) (a : Taste) (ready : Ready s a) where
           -- none of the consumers was there
           came-fresh : AreFresh s.topo (map number_of parts-come.grows.consumers)
           came-fresh =
-              all-mapped number_of (λ c. value_at s.topo.active c ≡ None) parts-come.grows.consumers
+              all_mapped (λ (c : ℕ). value_at s.topo.active c ≡ None) number_of parts-come.grows.consumers
               (fresh-each parts-come.grows.consumers parts-come.grows.fresh)
             where
               fresh-each : (cs : List Consumer) → AllByRecursion (λ (c : Consumer). t.next_consumer ≤ c.number) cs

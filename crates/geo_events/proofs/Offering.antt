@@ -1,5 +1,5 @@
 -- A taste that begins, and what is kept then.
-use Rattle.std.specs.Prelude.{◌≡◌, ℕ, ◌+◌, ◌≤◌, ◌==◌, Bool, true, false, not, List, [], ◌∷◌, map, find, Option, Some, None, Result, Ok, Err, IsSome, OnErr, option_and_then, if◌then◌else◌}
+use Rattle.std.specs.Prelude.{◌≡◌, ℕ, ◌+◌, ◌≤◌, ◌==◌, Bool, true, false, not, List, [], ◌∷◌, map, find, Option, Some, None, IsSome, option_and_then, if◌then◌else◌}
 use Rattle.std.specs.Option.{option_map}
 use Rattle.std.proofs.Common.{refl, sym, ◌∙◌, ap, subst, arith}
 use Rattle.std.proofs.lemmas.List.{map-append, append-nil}
@@ -215,8 +215,3 @@ module _ (s : State) (kept : Holds s) (firm : IsFirm s) where
 pub to-taste : (b : Bool) → true ≡ not b → b ≡ false
 to-taste true never = absurd cc
 to-taste false e = refl
-
--- what holds in any case holds after an error
-pub on-err : {A E : Type 0} {P : Type 0} (r : Result A E) → P → OnErr r P
-on-err (Ok x) fact = tt
-on-err (Err e) fact = fact

@@ -5,6 +5,7 @@ use Rattle.std.specs.Option.{option_map, option_map_or, option_and_then}
 use Rattle.std.proofs.Common.{refl, sym, ◌∙◌, ap, subst, arith, inl, inr, eq-eqb}
 use Rattle.std.proofs.lemmas.Bool.{eqb-true, false_from_ne_true}
 use Rattle.std.proofs.lemmas.List.Elements.{All-contains, recursion_from_All}
+use Rattle.geo_base.proofs.Options.{at-found}
 use Rattle.geo_base.specs.Sectors.{IsSectorSize}
 use Rattle.geo_base.specs.declared.request.Counts.{Counts}
 use Rattle.geo_base.specs.declared.limits.TheConstants.{UNTASTED_RANK}
@@ -49,10 +50,6 @@ use Rattle.geo_state.proofs.Lists.{count-none}
 use Rattle.geo_state.proofs.Rises.{active-at}
 use Rattle.geo_events.proofs.Deciding.{read-is}
 use Rattle.geo_events.proofs.Stepping.{IsReadable}
-
--- a fact of what is found, and what is there
-fact-at : {X : Type 0} (P : X → Type 0) (o : Option X) (x : X) → o ≡ Some x → IfSome o P → P x
-fact-at P o x is fact = subst (λ z. IfSome z P) is fact
 
 -- reads that are in order are few
 few-reads : (a : Asked) (n : ℕ) → AreReadsInOrder a n → n < 2 ^ 63
@@ -121,7 +118,7 @@ module _ (s : State) (kept : Holds s) (firm : IsFirm s) (a : Taste) (is : s.tast
   -- how far a class was asked of it
   asked-well : IsAskedInOrder t low-of.item a.asked
   asked-well =
-      fact-at (λ p. IsAskedInOrder t p a.asked) (provider_at t a.provider) low-of.item low-of.found
+      at-found (provider_at t a.provider) (λ p. IsAskedInOrder t p a.asked) low-of.item low-of.found
       (subst (λ (o : Option Taste). IfSome o (λ x. IfSome (provider_at t x.provider) (λ p. IsAskedInOrder t p x.asked)))
       is firm.1.1.fitting.asked)
 

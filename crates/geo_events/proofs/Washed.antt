@@ -3,6 +3,8 @@ use Rattle.std.specs.Prelude.{◌≡◌, ℕ, zero, suc, ◌+◌, ◌<◌, ◌�
 use Rattle.std.proofs.Common.{refl, sym, ◌∙◌, ap, subst, arith}
 use Rattle.std.proofs.lemmas.List.{length-append}
 use Rattle.std.proofs.lemmas.List.Elements.{All-contains}
+use Rattle.geo_base.proofs.PlaceLists.{slot-seen}
+use Rattle.geo_base.proofs.FilterLists.{count-kept}
 use Rattle.geo_base.specs.declared.request.Counts.{Counts}
 use Rattle.geo_model.specs.declared.step.Event.{Event}
 use Rattle.geo_model.specs.declared.step.WashWork.{WashWork}
@@ -30,8 +32,7 @@ use Rattle.geo_state.specs.Seats.{change_seat, with_geom_at}
 use Rattle.geo_state.specs.Sites.{seats_without}
 use Rattle.geo_state.specs.Changes.{IsSettled}
 use Rattle.geo_state.specs.World.{world, header_disk}
-use Rattle.geo_state.proofs.Lists.{Around, around, around-gone, count-step, counts}
-use Rattle.geo_state.proofs.Slots.{slot-seen}
+use Rattle.geo_state.proofs.Lists.{Around, around, around-gone}
 use Rattle.geo_state.proofs.SiteLemmas.{kept_after_provider, kept_after_consumer, kept_after_geom}
 use Rattle.geo_events.specs.Washing.{IsDue, HasWashed}
 use Rattle.geo_events.proofs.Going.{provider-lives, geom-lives}
@@ -45,22 +46,6 @@ sound xs = count_by (λ (p : Provider). not p.errored) xs
 -- how many rows have a write count
 abbrev held : List (ℕ × Counts) → ℕ
 held rows = count_by (λ (row : ℕ × Counts). not (row.1.w == 0)) rows
-
--- of what a filter keeps no more pass
-pub fewer-kept : {X : Type 0} (p q : X → Bool) (xs : List X) → count_by p (filter q xs) ≤ count_by p xs
-fewer-kept p q [] = omega arith
-fewer-kept p q (x ∷ xs) = by (q x) refl (fewer-kept p q xs)
-  where
-    by : (b : Bool) → q x ≡ b → count_by p (filter q xs) ≤ count_by p xs
-        → count_by p (filter q (x ∷ xs)) ≤ count_by p (x ∷ xs)
-    by true e rest =
-        let kept : count_by p (x ∷ filter q xs) ≡ counts p x + count_by p (filter q xs) =
-        count-step p x (filter q xs) in
-        let all : count_by p (x ∷ xs) ≡ counts p x + count_by p xs = count-step p x xs in
-        rw e (let so : count_by p (x ∷ filter q xs) ≤ count_by p (x ∷ xs) = omega (arith, kept, all, rest) in so)
-    by false e rest =
-        let all : count_by p (x ∷ xs) ≡ counts p x + count_by p xs = count-step p x xs in
-        rw e (let so : count_by p (filter q xs) ≤ count_by p (x ∷ xs) = omega (arith, all, rest) in so)
 
 -- the item of a number goes: there is one less
 pub one-less : {X : Type 0} (number : X → ℕ) (n : ℕ) (x : X) (xs : List X) → Around number n x xs
@@ -218,9 +203,9 @@ module _ (s : State) (kept : Holds s) (firm : IsFirm s) (u : TopoView Config) (q
         owed-less : owed_events u ≤ owed_events s.topo
         owed-less =
             let fewer : sound (filter (λ (x : Provider). not (x.number == prov)) ps) ≤ sound ps =
-            fewer-kept (λ (p : Provider). not p.errored) (λ (x : Provider). not (x.number == prov)) ps in
+            count-kept (λ (p : Provider). not p.errored) (λ (x : Provider). not (x.number == prov)) ps in
             let less : held (without s.topo.haves prov) ≤ held s.topo.haves =
-            fewer-kept (λ (row : ℕ × Counts). not (row.1.w == 0)) (λ (row : ℕ × Counts). not (row.0 == prov))
+            count-kept (λ (row : ℕ × Counts). not (row.1.w == 0)) (λ (row : ℕ × Counts). not (row.0 == prov))
             s.topo.haves in
             let now : owed_events u
             ≡ sound (filter (λ (x : Provider). not (x.number == prov)) ps) + held (without s.topo.haves prov) =

@@ -19,8 +19,8 @@ use std::rt::Files;
 
 /// A folder as a shelf: the disk of a name is the file `NAME.img` in it. It doesn't tell what it holds. A name with a
 /// slash isn't one of the folder. No file is made or read here: its size is where its end is. Each file is locked from
-/// when it is opened until it is closed (flock(2)), so that no other open of it that asks for the lock has it too, be it
-/// of another run or under another name, by a link. A lock that isn't had is a fault.
+/// when it is opened until it is closed (flock(2)), so that no other open of it that asks for the lock has it too, be
+/// it of another run or under another name, by a link. A lock that isn't had is a fault.
 #[derive(Drop)]
 pub struct FileShelf<R: Files<File = File> + Drop> {
     rt: R,

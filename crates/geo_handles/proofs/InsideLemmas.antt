@@ -5,12 +5,12 @@ use Rattle.std.specs.Option.{option_and_then, is_some}
 use Rattle.std.proofs.Common.{refl, sym, ◌∙◌, ap, inl, inr, arith, length-append, subst}
 use Rattle.std.proofs.lemmas.List.{length-map}
 use Rattle.std.proofs.lemmas.Bool.{cases_eq}
+use Rattle.geo_base.proofs.Options.{some_of}
 use Rattle.geo_model.specs.Words.{same_name, names_number, change_where}
 use Rattle.geo_model.specs.World.{Handle}
 use Rattle.geo_slots.specs.Slots.{SlotsView, IsRising, value_at, with_insert, with_value, without}
 use Rattle.geo_slots.proofs.RowLemmas.{IsRising-push, IsRising-without, IsRising-with_value, value_at_next, find-items, filter-items, without_absent, value_at-set, value_at-kept, value_at-last, value_at-other, value_at-without, value_at-gone}
 use Rattle.geo_family.specs.Family.{is_parent}
-use Rattle.geo_base.proofs.Tests.{some_of}
 use Rattle.geo_handles.specs.declared.key.Key.{Key}
 use Rattle.geo_handles.specs.declared.records.HandleRec.{HandleRec}
 use Rattle.geo_handles.specs.declared.handles.Inside.{Inside}

@@ -74,7 +74,8 @@ found_text found.OtherReport = codes "no: report"
 abbrev pub due_text : List ℕ → Ending → List ℕ
 due_text reported Reported = reported
 due_text reported (ReportedButFault name) = reported ++ codes "shelf fault " ++ name ++ end_line
-due_text reported BadWords = codes "usage: geomrun step | run | gen START COUNT | sweep | watch | trace | verify" ++ end_line
+due_text reported BadWords =
+    codes "usage: geomrun step | run | gen START COUNT | sweep | watch | trace | verify" ++ end_line
 due_text reported (NoScript line cause) = codes "line " ++ decimal line ++ codes ": " ++ cause_text cause ++ end_line
 due_text reported ReadFault = codes "read fault" ++ end_line
 due_text reported (ShelfFault name) = codes "shelf fault " ++ name ++ end_line
@@ -229,7 +230,8 @@ CauseOf call mode plan BadWords = (other : Mode) → Accepts call.words other �
 CauseOf call mode plan (NoScript line cause) =
     ReadsScript call mode × WasReadWhole call mode × IsFault (script_of mode call.text) line cause
 CauseOf call mode plan ReadFault =
-    ReadsScript call mode × (length call.text ≤ source_limit mode) × Rose call.before.source.faults call.after.source.faults
+    ReadsScript call mode × (length call.text ≤ source_limit mode)
+    × Rose call.before.source.faults call.after.source.faults
 CauseOf call mode plan (ShelfFault name) =
     IsParsed call mode plan × StopsAt call.before.shelf plan name (λ d images. ⊤)
     × Rose (call.before.shelf.take_faults name) (call.after.shelf.take_faults name)

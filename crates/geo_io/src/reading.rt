@@ -43,7 +43,8 @@ fn read_piece<S: Source>(
     ensures lost { IsErrOf result ReadRefusal.NoMemory → GivesAtMost (S.view source.old) (length piece.old)
         (S.view source.new) }
     ensures later { (S.view source.old).faults ≤ (S.view source.new).faults }
-    ensures told { (IsErrOf result ReadRefusal.ReadFault → ⊥) → (S.view source.new).faults ≡ (S.view source.old).faults }
+    ensures told { (IsErrOf result ReadRefusal.ReadFault → ⊥)
+        → (S.view source.new).faults ≡ (S.view source.old).faults }
     ensures once { (S.view source.new).reads ≤ (S.view source.old).reads + 1 }
 {
     match source.read(piece) {
@@ -76,7 +77,8 @@ fn read_through<S: Source>(
     ensures lost { IsErrOf result ReadRefusal.NoMemory → GivesAtMost (S.view source.old) (limit + 1)
         (S.view source.new) }
     ensures later { (S.view source.old).faults ≤ (S.view source.new).faults }
-    ensures told { (IsErrOf result ReadRefusal.ReadFault → ⊥) → (S.view source.new).faults ≡ (S.view source.old).faults }
+    ensures told { (IsErrOf result ReadRefusal.ReadFault → ⊥)
+        → (S.view source.new).faults ≡ (S.view source.old).faults }
     ensures reads { (S.view source.new).reads ≤ (S.view source.old).reads + (limit + 2) }
 {
     for turn in 0..limit + 2 {
@@ -109,7 +111,8 @@ pub fn read_all<S: Source>(alloc: Global, source: &mut S, limit: u32) -> Result<
         (S.view source.new) }
 
     ensures later { (S.view source.old).faults ≤ (S.view source.new).faults }
-    ensures told { (IsErrOf result ReadRefusal.ReadFault → ⊥) → (S.view source.new).faults ≡ (S.view source.old).faults }
+    ensures told { (IsErrOf result ReadRefusal.ReadFault → ⊥)
+        → (S.view source.new).faults ≡ (S.view source.old).faults }
     ensures reads { (S.view source.new).reads ≤ (S.view source.old).reads + (limit + 2) }
 {
     let Ok(mut piece) = vec![in alloc; 0u8; PIECE] else {

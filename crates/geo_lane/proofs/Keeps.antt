@@ -1,5 +1,5 @@
 -- Each kind of step keeps the rule of the lane.
-use Rattle.std.proofs.Common.{◌≡◌, ◌≢◌, ℕ, zero, suc, ◌+◌, ◌<◌, ◌≤◌, ◌⊎◌, ⊎_elim, List, [], ◌∷◌, ◌++◌, length, slice_index_or, set, eqb, cond, Bool, true, false, sym, refl, ap, ◌∙◌, subst, arith, length-set, eq-eqb, ne_eqb}
+use Rattle.std.proofs.Common.{◌≡◌, ◌≢◌, ℕ, zero, suc, ◌+◌, ◌<◌, ◌≤◌, ◌⊎◌, ⊎_elim, List, [], ◌∷◌, ◌++◌, length, slice_index_or, set, eqb, cond, Bool, true, sym, refl, ap, ◌∙◌, subst, arith, length-set, eq-eqb, ne_eqb}
 use mathlib.Core.Logic.{dite, inl, inr}
 use mathlib.Core.Option.{some, some-injective, some-ne-none}
 use native.Mathlib.Decide.{ℕ_discrete}
@@ -8,6 +8,7 @@ use Rattle.std.proofs.lemmas.List.{append-nil, append_assoc}
 use Rattle.std.proofs.lemmas.List.Elements.{All-append}
 use Rattle.crossbeam_queue.specs.Fifo.{Pushes, Pops, Forks, Merges, Learns}
 use Rattle.atomic_table.proofs.Lists.{at_set, set_else}
+use Rattle.geo_base.proofs.Tests.{from_true_false}
 use Rattle.geo_lane.specs.declared.ticket.Ticket.{Ticket}
 use Rattle.geo_lane.specs.declared.sent.Sent.{Sent}
 use Rattle.geo_lane.specs.declared.view.View.{View}
@@ -15,9 +16,6 @@ use Rattle.geo_lane.specs.Ticket.{sent_by, AreNumbered}
 use Rattle.geo_lane.specs.View.{opening_view, nobody, one_more, newcomer, with_ended, sent, has_put, has_taken}
 use Rattle.geo_lane.specs.Delivery.{IsSentOf, Knows, IsDelivered, Tells, Puts, Takes}
 use Rattle.geo_lane.proofs.Orders.{sent_more, sent_mine, sent_other, number_at, numbered_more}
-
-impossible : {P : Type 0} → true ≡ false → P
-impossible e = absurd (cc e)
 
 at_bound : (l : List View) (i : ℕ) (v : View) → get_elem? l i ≡ some v → i < length l
 at_bound [] i v e = absurd (some-ne-none v (sym e))
@@ -268,7 +266,11 @@ merges id v other w live live' items views r at apart there =
       made = r.made;
       owner = owner;
       each_view = views_stay (Knows r.taken items r.made owner) (set views id (with_ended v w)) other nobody
-          record { own = λ x. impossible (sym x); ended = λ x. impossible (sym x); first = λ x. impossible (sym x) }
+          record {
+            own = λ x. from_true_false (sym x);
+            ended = λ x. from_true_false (sym x);
+            first = λ x. from_true_false (sym x);
+          }
           (λ j d ne e. ⊎_elim
           (λ (t : (j ≡ id) × (with_ended v w ≡ d)).
           subst (λ (y : ℕ × View). Knows r.taken items r.made owner y.0 y.1) (λ i. (sym t.0 i, t.1 i)) record {

@@ -7,6 +7,7 @@ use Rattle.std.proofs.lemmas.Bool.{eqb-true, eqb-false, ne_eqb, not-true, not_fr
 use Rattle.std.proofs.lemmas.List.Elements.{All-filter, All-weaker, filter_passes}
 use Rattle.std.proofs.lemmas.List.Kept.{AllPairs-filter}
 use Rattle.std.proofs.lemmas.List.Sums.{length-filter}
+use Rattle.geo_model.proofs.Options.{some_weaker}
 use Rattle.geo_model.specs.declared.step.BioResult.{BioResult}
 use Rattle.geo_model.specs.declared.step.Owner.{Owner}
 use Rattle.geo_model.specs.declared.step.Owner.TheVariants as owners
@@ -24,7 +25,7 @@ use Rattle.geo_laws_graph.proofs.Numbered.{at-unchanged}
 use Rattle.geo_laws_graph.proofs.Spared.{IsSpared, filter-spared, find-spared, any-spared}
 use Rattle.geo_laws_bios.specs.BioFrames.{BiosHold}
 use Rattle.geo_laws_bios.specs.BioSteps.{turned}
-use Rattle.geo_laws_bios.proofs.Items.{some_weaker, all_both, pairs_map, all_changed, all-fewer, each_of}
+use Rattle.geo_laws_bios.proofs.Items.{all_both, pairs_map, all_changed, all-fewer, each_of}
 use Rattle.geo_laws_bios.proofs.Turned.{AreItsPieces, fits_turned, range_turned, ReadsSector}
 use Rattle.geo_laws_bios.proofs.Owners.{owner_stays}
 

@@ -6,10 +6,10 @@ use Rattle.std.proofs.Common.{inl, inr, refl, sym, ◌∙◌, ap, subst, arith, 
 use Rattle.std.proofs.lemmas.Bool.{eq-eqb, not_from_false, cases_Bool}
 use Rattle.std.proofs.lemmas.List.Elements.{All-contains, recursion_from_All}
 use Rattle.std.proofs.lemmas.Nat.Gcd.{dvd_of_mod-eq-zero, mod-eq-zero_of_dvd}
-use Rattle.geo_base.specs.declared.request.BioCmd.{BioCmd}
-use Rattle.geo_base.specs.declared.request.BioCmd.TheVariants as cmds
+use Rattle.geo_model.proofs.BioLemmas.{write_moves}
+use Rattle.geo_model.specs.BioCmd.TheVariants as cmds
 use Rattle.geo_model.specs.declared.span.Piece.{Piece}
-use Rattle.geo_model.specs.Words.{is_flush, is_write}
+use Rattle.geo_model.specs.Words.{is_flush}
 use Rattle.geo_model.specs.Topology.{Topology, Geom, Provider, Consumer, geom_at, provider_at, consumer_at, providers_of}
 use Rattle.geo_model.specs.Demand.{have, is_zero}
 use Rattle.geo_model.specs.World.{World, Bio, Config, Nothing, Disk, Mbr, Ebr, Label, Concat, Stripe, Nop, bio_at, is_down, granted_in}
@@ -29,13 +29,6 @@ use Rattle.geo_laws_bios.proofs.Pieces.{Below, IsBetween, LiesBelow, is_open, is
 use Rattle.geo_laws_bios.proofs.Counted.{counted, first_below}
 use Rattle.geo_laws_bios.proofs.Wholes.{IsWholePiece, AreWholeSizes, pieces_whole, sizes_whole, concat_kind}
 use Rattle.geo_laws_bios.proofs.Splitting.{GoesDown, parted, parted_hold}
-
--- a WRITE is no FLUSH
-write_moves : (cmd : BioCmd) → is_write cmd ≡ true → is_flush cmd ≡ false
-write_moves cmds.Read write = refl
-write_moves cmds.Write write = refl
-write_moves cmds.Delete write = refl
-write_moves cmds.Flush write = absurd cc
 
 -- so many bytes from a place of as many
 bytes_cut : (at len total : ℕ) (bytes : List ℕ) → length bytes ≡ total → at + len ≤ total

@@ -1,5 +1,5 @@
 -- Lists of numbered items of which one is changed: what then holds of all, of pairs, and of tests over all.
-use Rattle.std.specs.Prelude.{◌≡◌, ℕ, ◌<◌, ◌==◌, Bool, true, false, List, [], ◌∷◌, length, map, filter, find, Some, None, Option, All, AllPairs, IsSomeAnd, if◌then◌else◌}
+use Rattle.std.specs.Prelude.{◌≡◌, ℕ, ◌<◌, ◌==◌, Bool, true, false, List, [], ◌∷◌, length, map, filter, find, Some, All, AllPairs, if◌then◌else◌}
 use Rattle.std.specs.List.{AllByRecursion, list_all}
 use Rattle.std.proofs.Common.{refl, sym, ap, subst, arith, get_or}
 use Rattle.std.proofs.lemmas.List.{get_or-map, length-map}
@@ -9,12 +9,6 @@ use Rattle.geo_model.specs.Graph.{AreNumbers}
 use Rattle.geo_laws_graph.proofs.Numbered.{unique}
 pub use Rattle.geo_laws_counts.proofs.Levels.{of_each as each_of}
 pub use Rattle.geo_laws_counts.proofs.Members.{all_both as both_by_recursion}
-
--- a fact of what is there that follows from another
-pub some_weaker : {X : Type 0} (P Q : X → Type 0) → ((x : X) → P x → Q x) → (o : Option X) → IsSomeAnd o P
-    → IsSomeAnd o Q
-some_weaker P Q so None has = has
-some_weaker P Q so (Some x) has = so x has
 
 -- two facts of each item
 pub all_both : {X : Type 0} (P Q : X → Type 0) (xs : List X) → All P xs → All Q xs → All (λ x. P x × Q x) xs
@@ -30,19 +24,6 @@ pairs_map {X} R f xs pairs = λ i j d less short.
     let at_j : get_or (map f xs) j d ≡ f (get_or xs j d) = get_or-map f xs j d d inside in
     subst (λ (a : X). R a (get_or (map f xs) j d)) (sym at_i)
     (subst (λ (b : X). R (f (get_or xs i d)) b) (sym at_j) (pairs i j d less inside))
-
--- what isn't found passes nowhere
-none_step : {X : Type 0} (test : X → Bool) (x : X) (xs : List X) (b : Bool) → test x ≡ b → find test (x ∷ xs) ≡ None
-    → (find test xs ≡ None → AllByRecursion (λ (y : X). test y ≡ false) xs)
-    → AllByRecursion (λ (y : X). test y ≡ false) (x ∷ xs)
-none_step test x xs true e none rest = let bad : Some x ≡ None = rw e at none in absurd cc
-none_step test x xs false e none rest = (e, rest (rw e at none))
-
--- so for the whole list
-pub none_passes : {X : Type 0} (test : X → Bool) (xs : List X) → find test xs ≡ None
-    → AllByRecursion (λ (y : X). test y ≡ false) xs
-none_passes test [] none = tt
-none_passes test (x ∷ xs) none = none_step test x xs (test x) refl none (λ h. none_passes test xs h)
 
 -- where none passes, none is kept
 pub none_kept : {X : Type 0} (test : X → Bool) (xs : List X) → AllByRecursion (λ (x : X). test x ≡ false) xs

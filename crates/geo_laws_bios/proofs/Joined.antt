@@ -3,9 +3,9 @@ use Rattle.std.specs.Prelude.{◌≡◌, ℕ, ◌+◌, Bool, true, false, List, 
 use Rattle.std.specs.List.{AllByRecursion, enumerate_from}
 use Rattle.std.proofs.Common.{refl, sym, ◌∙◌, ap, subst, arith, length-append}
 use Rattle.std.proofs.lemmas.Simd.{map-map}
-use Rattle.geo_base.specs.declared.errno.Errno.{Errno}
-use Rattle.geo_base.specs.declared.request.BioCmd.{BioCmd}
-use Rattle.geo_base.specs.declared.request.BioCmd.TheVariants as cmds
+use Rattle.geo_model.proofs.BioLemmas.{read_moves}
+use Rattle.geo_model.specs.Errno.{Errno}
+use Rattle.geo_model.specs.BioCmd.TheVariants as cmds
 use Rattle.geo_model.specs.declared.step.BioResult.{BioResult}
 use Rattle.geo_model.specs.declared.step.BioResult.TheVariants as results
 use Rattle.geo_model.specs.Words.{is_read, is_flush}
@@ -20,13 +20,6 @@ use Rattle.geo_laws_graph.proofs.Members.{nothing_in}
 use Rattle.geo_laws_bios.proofs.Items.{both_by_recursion}
 use Rattle.geo_laws_bios.proofs.Pieces.{sum_cons, lengths}
 use Rattle.geo_laws_bios.proofs.Turned.{AreItsPieces}
-
--- a READ is no FLUSH
-pub read_moves : (cmd : BioCmd) → is_read cmd ≡ true → is_flush cmd ≡ false
-read_moves cmds.Read read = refl
-read_moves cmds.Write read = refl
-read_moves cmds.Delete read = refl
-read_moves cmds.Flush read = absurd cc
 
 -- numbers beside items don't change what is seen of them
 numbered : {X Y : Type 0} (f : X → Y) (k : ℕ) (xs : List X)

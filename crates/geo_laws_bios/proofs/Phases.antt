@@ -1,7 +1,8 @@
 -- Facts of phases, of what isn't against a step, and of the disk of a bio.
-use Rattle.std.specs.Prelude.{◌≡◌, ℕ, ◌==◌, Bool, true, false, Option, Some, None, length, option_map}
+use Rattle.std.specs.Prelude.{◌≡◌, ℕ, ◌==◌, Bool, true, false, Option, Some, None, length}
 use Rattle.std.proofs.Common.{refl}
 use Rattle.std.proofs.lemmas.Bool.{eqb-true, and_parts, not-true}
+use Rattle.geo_model.proofs.Options.{none-mapped}
 use Rattle.geo_model.specs.declared.step.DeviceResult.{DeviceResult}
 use Rattle.geo_model.specs.declared.step.DeviceResult.TheVariants as devices
 use Rattle.geo_model.specs.declared.step.Found.TheVariants as found
@@ -23,11 +24,6 @@ not_waiting test out (phases.Busy seat) e = refl
 not_waiting test out phases.Up e = refl
 not_waiting test out phases.Done e = refl
 
--- nothing of an option is left, where nothing is made of it
-nothing_of : {A B : Type 0} (f : A → B) (o : Option A) → option_map f o ≡ None → o ≡ None
-nothing_of f None none = refl
-nothing_of f (Some a) none = absurd cc
-
 -- a bio that can be taken: it is Sent to this disk, which isn't Busy
 pub record CanTake (w : World) (disk : ℕ) (x : Bio) : Type 0 where
   pub sent : is_sent x.phase ≡ true
@@ -41,7 +37,7 @@ module _ (w : World) (disk : ℕ) (x : Bio) where
   same_disk d true e sent is none =
       let same : d ≡ disk = eqb-true d disk e in
       let free : busy_bio w disk ≡ None =
-      nothing_of (λ (y : Bio). found.DiskBusy y.number) (busy_bio w disk) (rw e at none) in
+      none-mapped (λ (y : Bio). found.DiskBusy y.number) (busy_bio w disk) (rw e at none) in
       let disk_is : disk_of_bio w x ≡ Some disk = cc in
       record { sent = sent; disk_is = disk_is; free = free }
   same_disk d false e sent is none = let bad : Some (found.OtherDisk d) ≡ None = rw e at none in absurd cc

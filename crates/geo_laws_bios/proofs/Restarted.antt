@@ -1,16 +1,18 @@
 -- How many requests a geom has started is read only where one starts at a NOP geom: other such numbers leave a mesh
 -- firm.
-use Rattle.std.specs.Prelude.{◌≡◌, ◌≢◌, ◌⊎◌, ℕ, ◌+◌, ◌/◌, ◌<◌, ◌≤◌, ◌==◌, Bool, true, false, not, ◌&&◌, ◌||◌, List, [], ◌∷◌, map, find, Option, Some, None, All, IsSome, IsSomeAnd, IfSome, IsTrue, MatchOption, option_and_then, option_map, if◌then◌else◌}
+use Rattle.std.specs.Prelude.{◌≡◌, ◌≢◌, ◌⊎◌, ℕ, ◌+◌, ◌/◌, ◌<◌, ◌≤◌, ◌==◌, Bool, true, false, not, ◌&&◌, ◌||◌, List, [], ◌∷◌, map, Option, Some, None, All, IsSome, IsSomeAnd, IfSome, IsTrue, MatchOption, option_and_then, option_map, if◌then◌else◌}
 use Rattle.std.specs.List.{list_any, enumerate_from}
 use Rattle.std.specs.Option.{option_map_or}
 use Rattle.std.proofs.Common.{refl, sym, ◌∙◌, ap, subst}
 use Rattle.std.proofs.lemmas.List.{length-map}
 use Rattle.std.proofs.lemmas.List.Elements.{All-map, All-weaker}
 use Rattle.std.proofs.lemmas.Simd.{map-map}
-use Rattle.geo_base.specs.declared.request.Counts.{Counts}
-use Rattle.geo_base.specs.declared.kind.Kind.{Kind}
-use Rattle.geo_base.specs.declared.kind.Kind.TheVariants as kinds
-use Rattle.geo_base.specs.declared.limits.TheConstants.{MAX_RANK, UNTASTED_RANK}
+use Rattle.geo_model.proofs.Options.{some_weaker}
+use Rattle.geo_model.proofs.FindLists.{find-map, any-map}
+use Rattle.geo_model.specs.Counts.{Counts}
+use Rattle.geo_model.specs.Kind.{Kind}
+use Rattle.geo_model.specs.Kind.TheVariants as kinds
+use Rattle.geo_model.specs.TheConstants.{MAX_RANK, UNTASTED_RANK}
 use Rattle.geo_model.specs.declared.step.Owner.{Owner}
 use Rattle.geo_model.specs.declared.step.Owner.TheVariants as owners
 use Rattle.geo_model.specs.Words.{is_read}
@@ -35,28 +37,9 @@ use Rattle.geo_laws_graph.specs.RankLaws.{AllRanksStay}
 use Rattle.geo_laws_graph.proofs.EdgeRanks.{stays_all}
 use Rattle.geo_laws_graph.proofs.KeptEdges.{parts-edges}
 use Rattle.geo_laws_bios.specs.BioFrames.{BiosHold, RestNumbersHold, GraphHolds, SizesHold, TasteHolds, restart, restarted, RestartsStayFirm}
-use Rattle.geo_laws_bios.proofs.Items.{some_weaker, pairs_map}
+use Rattle.geo_laws_bios.proofs.Items.{pairs_map}
 use Rattle.geo_laws_bios.proofs.Apart.{bios_of, rest_of, firm_of}
 use Rattle.geo_laws_bios.proofs.Owners.{parent_stays, owner_stays}
-
--- one item more of what is found after a map
-find_step : {X Y : Type 0} (test : Y → Bool) (f : X → Y) (x : X) (xs : List X) (b : Bool) → test (f x) ≡ b
-    → find test (map f xs) ≡ option_map f (find (λ (y : X). test (f y)) xs)
-    → find test (map f (x ∷ xs)) ≡ option_map f (find (λ (y : X). test (f y)) (x ∷ xs))
-find_step test f x xs true e rest = rw e refl
-find_step test f x xs false e rest = rw e rest
-
--- what is found after a map
-find_map : {X Y : Type 0} (test : Y → Bool) (f : X → Y) (xs : List X)
-    → find test (map f xs) ≡ option_map f (find (λ (y : X). test (f y)) xs)
-find_map test f [] = refl
-find_map test f (x ∷ xs) = find_step test f x xs (test (f x)) refl (find_map test f xs)
-
--- whether one passes after a map
-any_map : {X Y : Type 0} (test : Y → Bool) (f : X → Y) (xs : List X)
-    → list_any test (map f xs) ≡ list_any (λ (y : X). test (f y)) xs
-any_map test f [] = refl
-any_map test f (x ∷ xs) = ap (λ b. test (f x) || b) (any_map test f xs)
 
 -- tests that agree
 any_agree : {X : Type 0} (test other : X → Bool) → ((x : X) → test x ≡ other x) → (xs : List X)
@@ -107,7 +90,7 @@ module _ (s : Geom Config → ℕ) where
 
     -- each geom is found as before
     geom_found : (n : ℕ) → geom_at u n ≡ option_map (restart s) (geom_at t n)
-    geom_found n = find_map (λ (x : Geom Config). x.number == n) (restart s) t.geoms
+    geom_found n = find-map (λ (x : Geom Config). x.number == n) (restart s) t.geoms
 
     -- what holds of a geom that is there
     geom_and : (P Q : Geom Config → Type 0) → ((g : Geom Config) → P g → Q (restart s g)) → (n : ℕ)
@@ -198,7 +181,7 @@ module _ (s : Geom Config → ℕ) where
           (λ (x : Provider). IsTrue (is_withering u x.geom) → x.errored ≡ true)
           (λ x so withers. so
           (subst (λ (b : Bool). IsTrue b)
-          (any_map (λ (g : Geom Config). (g.number == x.geom) && g.withering) (restart s) t.geoms) withers))
+          (any-map (λ (g : Geom Config). (g.number == x.geom) && g.withering) (restart s) t.geoms) withers))
           t.providers hold.withering;
       sizes = hold.sizes;
     }

@@ -4,8 +4,8 @@ use Rattle.std.specs.List.{AllByRecursion, enumerate_from}
 use Rattle.std.proofs.Common.{refl, sym, ◌∙◌, ap, subst, arith}
 use Rattle.std.proofs.lemmas.Bool.{eq-eqb}
 use Rattle.std.proofs.lemmas.List.Elements.{All-contains}
-use Rattle.geo_base.specs.declared.request.Counts.{Counts}
-use Rattle.geo_base.specs.declared.request.BioCmd.{BioCmd}
+use Rattle.geo_model.specs.Counts.{Counts}
+use Rattle.geo_model.specs.BioCmd.{BioCmd}
 use Rattle.geo_model.specs.declared.step.Owner.{Owner}
 use Rattle.geo_model.specs.declared.step.Owner.TheVariants as owners
 use Rattle.geo_model.specs.Words.{is_read, is_flush}
@@ -58,7 +58,7 @@ no_pieces_by disk p y true e = rw e refl
 no_pieces_by disk p y false e = rw e refl
 
 -- so
-no_pieces : (config : Config) (p : Provider) (y : Bio) (disk : ℕ) → disk_of config ≡ Some disk
+pub no_pieces : (config : Config) (p : Provider) (y : Bio) (disk : ℕ) → disk_of config ≡ Some disk
     → piece_targets config p y ≡ []
 no_pieces Nothing p y disk is = absurd cc
 no_pieces (Disk d) p y disk is = no_pieces_by d p y (is_flush y.cmd) refl

@@ -10,7 +10,8 @@ use Rattle.std.proofs.lemmas.List.Folds.{list_any-append}
 use Rattle.std.proofs.lemmas.List.Quantifiers.{all_pairs_push}
 use Rattle.std.proofs.lemmas.List.Sums.{length-filter}
 use Rattle.std.proofs.lemmas.Simd.{map-map}
-use Rattle.geo_base.specs.declared.limits.TheConstants.{MAX_REQUEST_BYTES}
+use Rattle.geo_model.proofs.Options.{some_weaker}
+use Rattle.geo_model.specs.TheConstants.{MAX_REQUEST_BYTES}
 use Rattle.geo_model.specs.declared.step.Owner.{Owner}
 use Rattle.geo_model.specs.declared.step.Owner.TheVariants as owners
 use Rattle.geo_model.specs.declared.step.Phase.TheVariants as phases
@@ -27,7 +28,7 @@ use Rattle.geo_laws_graph.proofs.Members.{find-Contains, filter-Contains, Contai
 use Rattle.geo_laws_graph.proofs.Numbered.{at-here, at-unchanged}
 use Rattle.geo_laws_bios.specs.BioFrames.{BiosHold}
 use Rattle.geo_laws_bios.specs.BioSteps.{turned}
-use Rattle.geo_laws_bios.proofs.Items.{none_kept, some_weaker, pairs_map, all_changed, all-fewer}
+use Rattle.geo_laws_bios.proofs.Items.{none_kept, pairs_map, all_changed, all-fewer}
 use Rattle.geo_laws_bios.proofs.Phases.{not_waiting}
 use Rattle.geo_laws_bios.proofs.Turned.{AreItsPieces, range_turned, ReadsSector}
 use Rattle.geo_laws_bios.proofs.Owners.{parent_stays, owner_stays}

@@ -27,7 +27,7 @@ pub record SplitsAt (t : Topology Config) (x : Bio) (targets : List PieceTarget)
   pub are : targets ≡ piece_targets geom.config provider x
 
 -- a way by which a bio is split
-abbrev splits_by : Way → Option (List PieceTarget)
+abbrev pub splits_by : Way → Option (List PieceTarget)
 splits_by (Splits targets) = Some targets
 splits_by (Passes geom targets) = Some targets
 splits_by _ = None
@@ -114,7 +114,7 @@ split_here w x targets found down s firm =
     (split_firm w firm x found down s.provider s.geom s.to_it s.of_it s.no_disk)
 
 -- where a bio is split, once a request more is counted somewhere
-counted_elsewhere : (t : Topology Config) (x : Bio) (targets : List PieceTarget) (n : ℕ) (b : Bool)
+pub counted_elsewhere : (t : Topology Config) (x : Bio) (targets : List PieceTarget) (n : ℕ) (b : Bool)
     (s : SplitsAt t x targets) → (s.provider.geom == n) ≡ b
     → SplitsAt (note_started t n) x targets
 counted_elsewhere t x targets n true s e = record {

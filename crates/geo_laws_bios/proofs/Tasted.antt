@@ -7,9 +7,11 @@ use Rattle.std.proofs.lemmas.Bool.{eq-eqb, eqb-true, not_from_false, not-true, a
 use Rattle.std.proofs.lemmas.List.Elements.{All-filter, All-weaker, All-contains, All-contains_itself}
 use Rattle.std.proofs.lemmas.List.Kept.{AllPairs-filter}
 use Rattle.std.proofs.lemmas.List.Sums.{length-filter}
-use Rattle.geo_base.specs.declared.request.Counts.{Counts}
-use Rattle.geo_base.specs.declared.kind.Kind.{Kind}
-use Rattle.geo_base.specs.declared.kind.Kind.TheVariants as kinds
+use Rattle.geo_model.proofs.Options.{some_weaker}
+use Rattle.geo_model.proofs.FindLists.{none_passes}
+use Rattle.geo_model.specs.Counts.{Counts}
+use Rattle.geo_model.specs.Kind.{Kind}
+use Rattle.geo_model.specs.Kind.TheVariants as kinds
 use Rattle.geo_model.specs.declared.step.BioResult.{BioResult}
 use Rattle.geo_model.specs.declared.step.BioResult.TheVariants as results
 use Rattle.geo_model.specs.declared.step.Owner.{Owner}
@@ -35,7 +37,6 @@ use Rattle.geo_laws_graph.proofs.Numbered.{any-contained, number_found}
 use Rattle.geo_laws_bios.specs.BioFrames.{BiosHold, RestNumbersHold, GraphHolds, SizesHold, RestHolds}
 use Rattle.geo_laws_bios.specs.UpLaws.{TasteUpsStayFirm}
 use Rattle.geo_laws_bios.proofs.Apart.{bios_of, rest_of, firm_of}
-use Rattle.geo_laws_bios.proofs.Items.{none_passes, some_weaker}
 use Rattle.geo_laws_bios.proofs.Phases.{not_waiting}
 use Rattle.geo_laws_bios.proofs.Turning.{found_there}
 use Rattle.geo_laws_bios.proofs.Owners.{parent_stays}

@@ -8,6 +8,8 @@ use Rattle.std.proofs.lemmas.List.{get_or-map, length-map}
 use Rattle.std.proofs.lemmas.List.Elements.{All-from_recursion}
 use Rattle.std.proofs.lemmas.List.Kept.{AllPairs-from_increasing}
 use Rattle.std.proofs.lemmas.List.Sums.{length-filter}
+use Rattle.geo_model.proofs.Options.{some_weaker}
+use Rattle.geo_model.proofs.FindLists.{none_passes}
 use Rattle.geo_model.specs.declared.step.BioResult.{BioResult}
 use Rattle.geo_model.specs.declared.step.BioResult.TheVariants as results
 use Rattle.geo_model.specs.declared.step.Owner.{Owner}
@@ -24,7 +26,7 @@ use Rattle.geo_laws_graph.proofs.Lists.{filter-changed, map-changed, any-changed
 use Rattle.geo_laws_graph.proofs.Numbered.{at-unchanged}
 use Rattle.geo_laws_bios.specs.BioFrames.{BiosHold}
 use Rattle.geo_laws_bios.specs.BioSteps.{turned, turn}
-use Rattle.geo_laws_bios.proofs.Items.{some_weaker, pairs_map, none_passes, all-fewer, all_changed, only_one}
+use Rattle.geo_laws_bios.proofs.Items.{pairs_map, all-fewer, all_changed, only_one}
 use Rattle.geo_laws_bios.proofs.Apart.{bios_of, firm_with}
 use Rattle.geo_laws_bios.proofs.Owners.{parent_stays, owner_stays}
 

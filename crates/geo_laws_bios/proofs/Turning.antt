@@ -1,7 +1,7 @@
 -- Take, Deliver and the Starts that bounce or send a bio keep a mesh firm.
 use Rattle.std.specs.Prelude.{◌≡◌, ℕ, ◌+◌, Bool, true, false, Option, Some, None}
 use Rattle.std.proofs.Common.{refl, sym, subst}
-use Rattle.geo_base.specs.declared.errno.Errno.TheVariants.{ENXIO, EIO}
+use Rattle.geo_model.specs.Errno.TheVariants.{ENXIO, EIO}
 use Rattle.geo_model.specs.declared.step.BioResult.{BioResult}
 use Rattle.geo_model.specs.declared.step.BioResult.TheVariants as results
 use Rattle.geo_model.specs.declared.step.DeviceResult.{DeviceResult}

@@ -2,7 +2,7 @@
 use Rattle.std.specs.Prelude.{◌≡◌, ◌↔◌, ℕ, false, List, map, All, AllPairs, IfSome, IsSome, IsTrue}
 use Rattle.std.specs.List.{list_any}
 use Rattle.std.specs.Option.{option_map_or}
-use Rattle.geo_base.specs.Sectors.{IsSectorSize}
+use Rattle.geo_model.specs.Sectors.{IsSectorSize}
 use Rattle.geo_model.specs.declared.command.LineCommand.{LineCommand}
 use Rattle.geo_model.specs.Topology.{Geom, provider_at, consumers_of}
 use Rattle.geo_model.specs.Graph.{AreNumbers}

@@ -1,6 +1,6 @@
 -- Steps that turn one bio keep a mesh sound, steady and fitting (g_bio(9)).
 use Rattle.std.specs.Prelude.{◌≡◌, ℕ, true, Option, Some}
-use Rattle.geo_base.specs.declared.errno.Errno.{Errno}
+use Rattle.geo_model.specs.Errno.{Errno}
 use Rattle.geo_model.specs.declared.step.BioResult.{BioResult}
 use Rattle.geo_model.specs.declared.step.DeviceResult.{DeviceResult}
 use Rattle.geo_model.specs.declared.step.Phase.{Phase}

@@ -1,6 +1,6 @@
 -- What becomes of a request in a firm mesh: its pieces, and the counts for them (g_bio(9)).
 use Rattle.std.specs.Prelude.{◌≡◌, ℕ, ◌<◌, false, map, Some, None, Contains, IsSomeAnd, IsTrue}
-use Rattle.geo_base.specs.declared.request.Counts.{Counts}
+use Rattle.geo_model.specs.Counts.{Counts}
 use Rattle.geo_model.specs.Words.{is_read, is_flush}
 use Rattle.geo_model.specs.Topology.{Topology, Geom, Provider, Consumer, geom_at, provider_at, consumer_at}
 use Rattle.geo_model.specs.Demand.{want}

@@ -1,6 +1,6 @@
 -- Counts under the bios of a mesh, by other grants (g_access(9)).
 use Rattle.std.specs.Prelude.{◌≡◌, ℕ, Bool, true, Contains}
-use Rattle.geo_base.specs.declared.request.Counts.{Counts}
+use Rattle.geo_model.specs.Counts.{Counts}
 use Rattle.geo_model.specs.World.{World, Bio, is_root, is_waiting}
 use Rattle.geo_model.specs.Fitting.{Firm}
 use Rattle.geo_laws_bios.specs.PieceLaws.{SourceServes}

@@ -6,8 +6,8 @@ use Rattle.std.proofs.Common.{refl, sym, ◌∙◌, ap, arith, length-append}
 use Rattle.std.proofs.lemmas.Bool.{eqb-true, ne_eqb, not-false}
 use Rattle.std.proofs.lemmas.List.{append-nil}
 use Rattle.std.proofs.lemmas.List.Elements.{recursion_from_All, filter-append}
-use Rattle.geo_base.specs.declared.kind.Kind.{Kind}
-use Rattle.geo_base.specs.declared.request.Counts.{Counts}
+use Rattle.geo_model.specs.Kind.{Kind}
+use Rattle.geo_model.specs.Counts.{Counts}
 use Rattle.geo_model.specs.Words.{names_number}
 use Rattle.geo_model.specs.Topology.{Topology, Geom, Provider, Consumer, geom_at, providers_of, attached_to, add_geom, add_provider, remove_geom, remove_provider}
 use Rattle.geo_model.specs.Rank.{Ranked}
@@ -18,6 +18,8 @@ use Rattle.geo_laws_counts.proofs.Sums.{sum-same, zero-add}
 use Rattle.geo_laws_counts.proofs.Wants.{want_of_sum, want-sum}
 use Rattle.geo_laws_counts.proofs.Levels.{of_each}
 use Rattle.geo_laws_counts.proofs.Upward.{want_given-same, want_given-granted, enough_levels}
+pub use Rattle.geo_model.proofs.FilterLists.{length-kept}
+use Rattle.geo_model.proofs.FindLists.{find-pushed}
 
 -- where each level's sums over what is attached are the same, so are all counts
 pub levels_same : {C D : Type 0} (granted other : ℕ → Counts) (t : Topology C) (u : Topology D) (limit : ℕ)
@@ -39,12 +41,6 @@ levels_same granted other t u limit same (suc k) h p =
 
 -- Look-ups
 
--- an item at the end that doesn't pass is never found
-pub find-end_other : {X : Type 0} (test : X → Bool) (xs : List X) (y : X) → test y ≡ false
-    → find test (xs ++ y ∷ []) ≡ find test xs
-find-end_other test [] y e = rw e refl
-find-end_other test (x ∷ xs) y e = ap (cond (test x) (Some x)) (find-end_other test xs y e)
-
 -- an item that doesn't pass is not found, with it or without
 pub find-kept : {X : Type 0} (test keep : X → Bool) → ((x : X) → keep x ≡ false → test x ≡ false) → (xs : List X)
     → find test (filter keep xs) ≡ find test xs
@@ -55,16 +51,6 @@ find-kept {X = X} test keep so (x ∷ xs) = kept (keep x) refl (find-kept test k
         → find test (cond b (x ∷ filter keep xs) (filter keep xs)) ≡ cond (test x) (Some x) (find test xs)
     kept true e rest = ap (cond (test x) (Some x)) rest
     kept false e rest = rw (so x e) rest
-
--- a filter makes no list longer
-pub length-kept : {X : Type 0} (keep : X → Bool) (xs : List X) → length (filter keep xs) ≤ length xs
-length-kept keep [] = omega arith
-length-kept {X = X} keep (x ∷ xs) = kept (keep x) (length-kept keep xs)
-  where
-    kept : (b : Bool) → length (filter keep xs) ≤ length xs
-        → length (cond b (x ∷ filter keep xs) (filter keep xs)) ≤ length (x ∷ xs)
-    kept true rest = omega arith
-    kept false rest = omega arith
 
 -- Grants that agree at all consumers
 
@@ -127,7 +113,7 @@ module _ {C : Type 0} (granted : ℕ → Counts) (t : Topology C) where
         same_geoms granted (have_within granted l t) t (add_geom t kind name config automatic) q
         (all_weaker (λ (c : Consumer). c.geom ≢ t.next_geom)
         (λ (c : Consumer). geom_at (add_geom t kind name config automatic) c.geom ≡ geom_at t c.geom)
-        (λ c other. find-end_other (λ x. x.number == c.geom) t.geoms _ (ne_eqb t.next_geom c.geom (λ e. other (sym e))))
+        (λ c other. find-pushed (λ x. x.number == c.geom) t.geoms _ (ne_eqb t.next_geom c.geom (λ e. other (sym e))))
         t.consumers
         (recursion_from_All _ t.consumers bare)))
         k (omega arith) p

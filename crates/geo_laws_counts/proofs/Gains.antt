@@ -2,7 +2,7 @@
 use Rattle.std.specs.Prelude.{◌≡◌, ℕ, List, map, Some}
 use Rattle.std.specs.Option.{option_map_or}
 use Rattle.std.proofs.Common.{sym, ◌∙◌, ap}
-use Rattle.geo_base.specs.declared.request.Counts.{Counts}
+use Rattle.geo_model.specs.Counts.{Counts}
 use Rattle.geo_model.specs.Topology.{Topology, Geom, Provider, Consumer, geom_at, providers_of, attached_to}
 use Rattle.geo_model.specs.Rank.{Ranked}
 use Rattle.geo_model.specs.Demand.{no_counts, add_counts, sum_counts, want_of_kind, have, want}

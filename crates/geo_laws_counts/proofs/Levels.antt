@@ -1,20 +1,15 @@
 -- Counts over so many levels: they never fall with more levels, greater grants and more consumers.
 use Rattle.std.specs.Prelude.{◌≡◌, ℕ, zero, suc, ◌≤◌, Bool, true, false, cond, List, [], ◌∷◌, map, filter, Option, Some, None, length}
-use Rattle.std.specs.List.{AllByRecursion}
 use Rattle.std.specs.Option.{option_map_or}
 use Rattle.std.proofs.Common.{refl, ap, arith}
-use Rattle.geo_base.specs.declared.request.Counts.{Counts}
+use Rattle.geo_model.specs.Counts.{Counts}
 use Rattle.geo_model.specs.Words.{names_number}
 use Rattle.geo_model.specs.Topology.{Topology, Geom, Provider, Consumer, geom_at, providers_of}
 use Rattle.geo_model.specs.Demand.{no_counts, add_counts, sum_counts, want_of_kind, want_given, have_within, have, want}
 use Rattle.geo_laws_counts.specs.CountWords.{IsAtMost, AreAtMost, keep_consumers}
 use Rattle.geo_laws_counts.proofs.Sums.{at_most-same, at_most-zero, at_most-trans, at_most-add, sum-at_most}
 use Rattle.geo_laws_counts.proofs.Wants.{want-sum, want_of_sum-at_most}
-
--- a fact that every item has
-pub of_each : {X : Type 0} (P : X → Type 0) → ((x : X) → P x) → (xs : List X) → AllByRecursion P xs
-of_each P so [] = tt
-of_each P so (x ∷ xs) = (so x, of_each P so xs)
+pub use Rattle.geo_model.proofs.AllLists.{of_each}
 
 -- a sum over fewer items, each of which counts for no more
 filtered_cons : {X : Type 0} (f g : X → Counts) (a : X → Bool) (x : X) (xs ys : List X) (b c : Bool) → a x ≡ c

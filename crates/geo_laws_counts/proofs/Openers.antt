@@ -6,10 +6,10 @@ use Rattle.std.proofs.Common.{refl, sym, ◌∙◌, ap, subst, arith, inl, inr, 
 use Rattle.std.proofs.lemmas.Bool.{eqb-true, ne_eqb, not-false, cases_eq}
 use Rattle.std.proofs.lemmas.List.{append-nil}
 use Rattle.std.proofs.lemmas.List.Elements.{All-contains, All-weaker, All-push, filter-append, recursion_from_All}
-use Rattle.geo_base.specs.declared.request.Counts.{Counts}
-use Rattle.geo_base.specs.declared.kind.Kind.{Kind}
-use Rattle.geo_base.specs.declared.kind.Kind.TheVariants as kinds
-use Rattle.geo_base.proofs.Tests.{found_in}
+use Rattle.geo_model.proofs.FindLists.{found_in}
+use Rattle.geo_model.specs.Counts.{Counts}
+use Rattle.geo_model.specs.Kind.{Kind}
+use Rattle.geo_model.specs.Kind.TheVariants as kinds
 use Rattle.geo_model.specs.Words.{names_number, is_granted_kind}
 use Rattle.geo_model.specs.Topology.{Topology, Geom, Provider, Consumer, geom_at, provider_at, providers_of, providers_under, attached_to, add_consumer, remove_consumer}
 use Rattle.geo_model.specs.Rank.{Ranked}

@@ -3,8 +3,8 @@ use Rattle.std.specs.Prelude.{◌≡◌, ℕ, Bool, true, false, not, List, [], 
 use Rattle.std.specs.List.{list_any}
 use Rattle.std.proofs.Common.{refl, ap, inl, inr, eq-eqb}
 use Rattle.std.proofs.lemmas.Bool.{not-false, not_from_true, cases_eq, ne_eqb}
-use Rattle.geo_base.specs.declared.request.Counts.{Counts}
-use Rattle.geo_base.specs.declared.errno.Errno.TheVariants.{ENXIO, EPERM, EOVERFLOW}
+use Rattle.geo_model.specs.Counts.{Counts}
+use Rattle.geo_model.specs.Errno.TheVariants.{ENXIO, EPERM, EOVERFLOW}
 use Rattle.geo_model.specs.Words.{first_error}
 use Rattle.geo_model.specs.Topology.{Topology, providers_of, find_provider, is_errored, add_consumer}
 use Rattle.geo_model.specs.Opens.{has_error_below, grant_refusal, with_grant, with_opener, open_refusal, open_refusal_at}

@@ -3,9 +3,11 @@ use Rattle.std.specs.Prelude.{◌≡◌, ℕ, zero, suc, ◌==◌, nat_le, Bool,
 use Rattle.std.specs.List.{list_all}
 use Rattle.std.specs.Option.{option_map_or}
 use Rattle.std.proofs.Common.{refl, sym, ◌∙◌, ap}
-use Rattle.geo_base.specs.declared.kind.Kind.{Kind}
-use Rattle.geo_base.specs.declared.request.Counts.{Counts}
-use Rattle.geo_base.specs.declared.limits.TheConstants.{MAX_ACCESS_COUNT}
+use Rattle.geo_model.proofs.FindLists.{find-map}
+use Rattle.geo_model.proofs.FilterLists.{filter-map}
+use Rattle.geo_model.specs.Kind.{Kind}
+use Rattle.geo_model.specs.Counts.{Counts}
+use Rattle.geo_model.specs.TheConstants.{MAX_ACCESS_COUNT}
 use Rattle.geo_model.specs.Words.{names_number}
 use Rattle.geo_model.specs.Topology.{Topology, Geom, Provider, Consumer, geom_at, providers_of, attached_to}
 use Rattle.geo_model.specs.Demand.{no_counts, sum_counts, want_of_kind, want_given, have_within, have, want, is_exclusive, fits_limit}
@@ -28,18 +30,6 @@ map-filter_map {Z = Z} f test see (x ∷ xs) = step (test (see x)) (map-filter_m
     step true more = ap (λ ys. f (see x) ∷ ys) more
     step false more = more
 
--- what is found among what is seen
-find-map : {X Y : Type 0} (test : Y → Bool) (see : X → Y) (xs : List X)
-    → find test (map see xs) ≡ option_map see (find (λ x. test (see x)) xs)
-find-map test see [] = refl
-find-map {Y = Y} test see (x ∷ xs) = step (test (see x)) (find-map test see xs)
-  where
-    step : (b : Bool) → find test (map see xs) ≡ option_map see (find (λ x. test (see x)) xs)
-        → cond b (Some (see x)) (find test (map see xs))
-        ≡ option_map see (cond b (Some x) (find (λ x. test (see x)) xs))
-    step true more = refl
-    step false more = more
-
 -- a test of all items, from what is seen of them
 list_all-filter_map : {X Y : Type 0} (p : X → Bool) (q : Y → Bool) (see : X → Y) → ((x : X) → p x ≡ q (see x))
     → (xs : List X)
@@ -47,18 +37,6 @@ list_all-filter_map : {X Y : Type 0} (p : X → Bool) (q : Y → Bool) (see : X 
 list_all-filter_map p q see same [] = refl
 list_all-filter_map p q see same (x ∷ xs) =
     ap (λ b. b && list_all p xs) (same x) ∙ ap (λ b. q (see x) && b) (list_all-filter_map p q see same xs)
-
--- what is kept of what is seen
-filter-map : {X Y : Type 0} (test : Y → Bool) (see : X → Y) (xs : List X)
-    → filter test (map see xs) ≡ map see (filter (λ x. test (see x)) xs)
-filter-map test see [] = refl
-filter-map {Y = Y} test see (x ∷ xs) = step (test (see x)) (filter-map test see xs)
-  where
-    step : (b : Bool) → filter test (map see xs) ≡ map see (filter (λ x. test (see x)) xs)
-        → cond b (see x ∷ filter test (map see xs)) (filter test (map see xs))
-        ≡ map see (cond b (x ∷ filter (λ x. test (see x)) xs) (filter (λ x. test (see x)) xs))
-    step true more = ap (λ ys. see x ∷ ys) more
-    step false more = more
 
 -- as many items are seen as there are
 length-map : {X Y : Type 0} (f : X → Y) (xs : List X) → length (map f xs) ≡ length xs

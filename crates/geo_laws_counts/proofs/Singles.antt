@@ -1,7 +1,7 @@
 -- Another grant of one consumer changes only what is reached downwards.
 use Rattle.std.specs.Prelude.{ℕ}
 use Rattle.std.proofs.Common.{refl, sym}
-use Rattle.geo_base.specs.declared.request.Counts.{Counts}
+use Rattle.geo_model.specs.Counts.{Counts}
 use Rattle.geo_model.specs.Topology.{Topology}
 use Rattle.geo_model.specs.Rank.{Ranked}
 use Rattle.geo_model.specs.Opens.{below}

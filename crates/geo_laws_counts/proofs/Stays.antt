@@ -4,8 +4,9 @@ use Rattle.std.specs.Option.{option_map_or}
 use Rattle.std.proofs.Common.{refl, sym, ◌∙◌, ap, subst, inl, inr}
 use Rattle.std.proofs.lemmas.Bool.{eqb-true, not-false, ne_eqb}
 use Rattle.std.proofs.lemmas.List.Elements.{All-contains, All-weaker, filter_passes, Contains-push_cases}
-use Rattle.geo_base.specs.declared.kind.Kind.{Kind}
-use Rattle.geo_base.specs.declared.request.Counts.{Counts}
+use Rattle.geo_model.proofs.FindLists.{find-pushed}
+use Rattle.geo_model.specs.Kind.{Kind}
+use Rattle.geo_model.specs.Counts.{Counts}
 use Rattle.geo_model.specs.Words.{names_number, change_where}
 use Rattle.geo_model.specs.Topology.{Topology, Geom, Provider, Consumer, geom_at, providers_of, attached_to, add_geom, add_provider, add_consumer, remove_geom, remove_provider, remove_consumer}
 use Rattle.geo_model.specs.Rank.{Ranked}
@@ -17,7 +18,7 @@ use Rattle.geo_laws_counts.proofs.Upward.{want_given-same, want_given-granted}
 use Rattle.geo_laws_counts.proofs.Members.{in_head, in_tail, in_cases, in_nothing, in_filter}
 use Rattle.geo_laws_counts.proofs.LimitFacts.{of_filter}
 use Rattle.geo_laws_counts.proofs.Keeping.{exclusive_keeps, limit_keeps}
-use Rattle.geo_laws_counts.proofs.BareParts.{granted_same, find-end_other, find-kept, new_geom, gone_geom, none_within, sum-end, sum-left_out, want_over-sums, new_provider, gone_provider}
+use Rattle.geo_laws_counts.proofs.BareParts.{granted_same, find-kept, new_geom, gone_geom, none_within, sum-end, sum-left_out, want_over-sums, new_provider, gone_provider}
 use Rattle.geo_laws_counts.proofs.Quiet.{differs, quiet_left_out, quiet_attached, quiet_new, granted_wants_nothing, attached_somewhere}
 
 -- an item of a list that was changed item by item
@@ -109,7 +110,7 @@ module _ {C : Type 0} (granted : ℕ → Counts) (t : Topology C) where
       (λ o. option_map_or
       (λ (g : Geom C). want_of_kind g.kind (map (λ x. have granted t x.number) (providers_of t g.number))
       (granted c.number)) o no_counts)
-      (find-end_other (λ x. x.number == c.geom) t.geoms _
+      (find-pushed (λ x. x.number == c.geom) t.geoms _
       (ne_eqb t.next_geom c.geom (λ e. All-contains (λ (x : Consumer). x.geom ≢ t.next_geom) t.consumers c bare
       there (sym e)))))
       in

@@ -2,14 +2,14 @@
 use Rattle.std.specs.Prelude.{◌≡◌, ℕ, ◌+◌, ◌==◌, Bool, true, false, List, [], ◌∷◌, map, if◌then◌else◌}
 use Rattle.std.proofs.Common.{refl, sym, ◌∙◌, ap}
 use Rattle.std.proofs.lemmas.Simd.{map-map}
-use Rattle.geo_base.specs.declared.request.Counts.{Counts}
+use Rattle.geo_model.specs.Counts.{Counts}
 use Rattle.geo_model.specs.Words.{change_where}
 use Rattle.geo_model.specs.Topology.{Topology, Geom, Provider, Consumer, set_error, set_size, set_withering, set_marks, set_config, note_started, with_configs}
 use Rattle.geo_laws_counts.specs.CountWords.{seen_by_counts, DemandStays, AnyConsumer}
 use Rattle.geo_laws_counts.proofs.SeenCounts.{seen_stays}
 
 -- a change that isn't seen
-map-changed : {X Y : Type 0} (see : X → Y) (test : X → Bool) (change : X → X) → ((x : X) → see (change x) ≡ see x)
+pub map-changed : {X Y : Type 0} (see : X → Y) (test : X → Bool) (change : X → X) → ((x : X) → see (change x) ≡ see x)
     → (xs : List X)
     → map see (change_where test change xs) ≡ map see xs
 map-changed see test change same [] = refl

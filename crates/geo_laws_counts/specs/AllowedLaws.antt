@@ -1,6 +1,6 @@
 -- Laws of demands that aren't refused, and of write counts that leave zero or come to it (g_access(9)).
 use Rattle.std.specs.Prelude.{◌≡◌, ◌↔◌, ℕ, false, List, [], Some, None, All, Contains, IsSomeAnd, IsTrue}
-use Rattle.geo_base.specs.declared.request.Counts.{Counts}
+use Rattle.geo_model.specs.Counts.{Counts}
 use Rattle.geo_model.specs.Topology.{Topology, Consumer, attached_to, providers_of, find_provider, add_consumer, remove_consumer}
 use Rattle.geo_model.specs.Rank.{Ranked}
 use Rattle.geo_model.specs.Demand.{have, is_exclusive, fits_limit, risen, fallen}

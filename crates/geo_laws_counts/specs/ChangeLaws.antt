@@ -1,7 +1,7 @@
 -- Changes of one thing that leave all of demand as it is: counts, wants, exclusiveness and the limit.
 use Rattle.std.specs.Prelude.{◌≡◌, ◌≢◌, ℕ, Bool, false, List, [], Option, Some, None, All, Contains}
-use Rattle.geo_base.specs.declared.kind.Kind.{Kind}
-use Rattle.geo_base.specs.declared.request.Counts.{Counts}
+use Rattle.geo_model.specs.Kind.{Kind}
+use Rattle.geo_model.specs.Counts.{Counts}
 use Rattle.geo_model.specs.Topology.{Topology, Consumer, attached_to, add_geom, add_provider, add_consumer, remove_geom, remove_provider, set_error, set_size, set_withering, set_marks, set_config, note_started, with_configs}
 use Rattle.geo_model.specs.Rank.{Ranked}
 use Rattle.geo_model.specs.Demand.{want, no_counts}

@@ -1,8 +1,8 @@
 -- Laws of access counts in one state (g_access(9)).
 use Rattle.std.specs.Prelude.{◌≡◌, ◌≢◌, ℕ, ◌<◌, ◌≤◌, Bool, true, false, [], map, length, Some, All, Contains, IsTrue}
 use Rattle.std.specs.List.Sorted.{IsStrictlyIncreasing}
-use Rattle.geo_base.specs.declared.kind.Kind.TheVariants as kinds
-use Rattle.geo_base.specs.declared.request.Counts.{Counts}
+use Rattle.geo_model.specs.Kind.TheVariants as kinds
+use Rattle.geo_model.specs.Counts.{Counts}
 use Rattle.geo_model.specs.Words.{is_granted_kind, is_kind}
 use Rattle.geo_model.specs.Topology.{Topology, Geom, Consumer, geom_at, attached_to, providers_of}
 use Rattle.geo_model.specs.Rank.{Ranked}

@@ -1,9 +1,9 @@
 -- Words for comparing access counts.
 use Rattle.std.specs.Prelude.{◌≡◌, ◌≢◌, ℕ, ◌-◌, ◌≤◌, Bool, true, not, ◌&&◌, ◌==◌, List, [], ◌∷◌, map, filter, Option, Some, IsSomeAnd, IsTrue, All, option_map, if◌then◌else◌}
 use Rattle.std.specs.List.{AllByRecursion, list_all}
-use Rattle.geo_base.specs.declared.kind.Kind.{Kind}
-use Rattle.geo_base.specs.declared.kind.Kind.TheVariants as kinds
-use Rattle.geo_base.specs.declared.request.Counts.{Counts}
+use Rattle.geo_model.specs.Kind.{Kind}
+use Rattle.geo_model.specs.Kind.TheVariants as kinds
+use Rattle.geo_model.specs.Counts.{Counts}
 use Rattle.geo_model.specs.Words.{is_granted_kind, change_where}
 use Rattle.geo_model.specs.Topology.{Topology, Provider, Consumer, geom_at, provider_at, attached_to, providers_of}
 use Rattle.geo_model.specs.Demand.{no_counts, add_counts, sum_counts, is_zero, have, want, is_exclusive, fits_limit}

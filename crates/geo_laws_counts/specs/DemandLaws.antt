@@ -1,6 +1,6 @@
 -- What a demand that comes or goes does to counts (g_access(9)).
 use Rattle.std.specs.Prelude.{◌≡◌, ◌≢◌, ℕ, ◌==◌, List, [], map, Some, All, Contains, IsSomeAnd, if◌then◌else◌}
-use Rattle.geo_base.specs.declared.request.Counts.{Counts}
+use Rattle.geo_model.specs.Counts.{Counts}
 use Rattle.geo_model.specs.Topology.{Topology, Geom, Consumer, geom_at, provider_at, providers_of, attached_to, add_consumer, remove_consumer}
 use Rattle.geo_model.specs.Rank.{Ranked}
 use Rattle.geo_model.specs.Opens.{below, has_error_below}

@@ -1,7 +1,7 @@
 -- Laws of more and less demand, of exclusiveness and of the limit (g_access(9)).
 use Rattle.std.specs.Prelude.{◌≡◌, ◌≢◌, ◌⊎◌, ◌↔◌, ℕ, Bool, List, All, IsTrue}
-use Rattle.geo_base.specs.declared.request.Counts.{Counts}
-use Rattle.geo_base.specs.declared.limits.TheConstants.{MAX_ACCESS_COUNT}
+use Rattle.geo_model.specs.Counts.{Counts}
+use Rattle.geo_model.specs.TheConstants.{MAX_ACCESS_COUNT}
 use Rattle.geo_model.specs.Topology.{Topology, Consumer, Provider, attached_to}
 use Rattle.geo_model.specs.Demand.{have, want, is_exclusive, fits_limit}
 use Rattle.geo_laws_counts.specs.CountWords.{IsAtMost, AreAtMost, keep_consumers}

@@ -6,8 +6,8 @@ use Rattle.std.proofs.Math.Nat.{add-mul, mod-add-div, mul_comm, zero-mul}
 use Rattle.std.proofs.lemmas.Bool.{eq-eqb}
 use Rattle.std.proofs.lemmas.Nat.{div-mul-add}
 use Rattle.std.proofs.lemmas.List.Elements.{All-contains}
+use Rattle.geo_model.proofs.BioLemmas.{write_moves}
 use Rattle.geo_base.specs.Sectors.{IsSectorSize}
-use Rattle.geo_base.specs.declared.request.BioCmd.{BioCmd}
 use Rattle.geo_base.specs.declared.request.BioCmd.TheVariants as cmds
 use Rattle.geo_model.specs.declared.step.Outcome.{Outcome}
 use Rattle.geo_model.specs.declared.step.Request.{Request}
@@ -32,7 +32,7 @@ abbrev pub IsBare : Bio → Type 0
 IsBare x = is_flush x.cmd ≡ true → (x.offset ≡ 0) × (x.len ≡ 0)
 
 -- whole sectors are as many bytes
-whole_back : (l z : ℕ) → l % z ≡ 0 → (l / z) * z ≡ l
+pub whole_back : (l z : ℕ) → l % z ≡ 0 → (l / z) * z ≡ l
 whole_back l z whole =
     let split : l % z + z * (l / z) ≡ l = mod-add-div l z in
     let turned : z * (l / z) ≡ (l / z) * z = mul_comm z (l / z) in
@@ -60,13 +60,6 @@ no_sector l z some none =
 -- nothing of a disk lies inside it
 nothing_inside : (a b z size : ℕ) → a ≡ 0 → b ≡ 0 → (a + b) * z ≤ size
 nothing_inside a b z size first second = rw (first, second) (omega arith)
-
--- a WRITE is no FLUSH
-write_moves : (cmd : BioCmd) → is_write cmd ≡ true → is_flush cmd ≡ false
-write_moves cmds.Write e = refl
-write_moves cmds.Read e = absurd (let bad : ⊥ = cc in bad)
-write_moves cmds.Delete e = absurd (let bad : ⊥ = cc in bad)
-write_moves cmds.Flush e = absurd (let bad : ⊥ = cc in bad)
 
 -- a request whose sectors are those of its provider, and a disk with the sizes of that provider
 module _ (w : World) (disk : ℕ) (x : Bio) (p : Provider) (header : HeaderDisk) (bare : IsBare x)

@@ -41,7 +41,8 @@ apart : (w v : World) (actor : ℕ) (rest : List LineCommand) → StayOrCome (wi
 apart w v actor rest (inl stay) = inl (record { bios = stay.bios; next = stay.next; disks = stay.disks })
 apart w v actor rest (inr come) =
     let here = come.1 in
-    inr (come.0, record { bios = here.bios; next = here.next; disks = here.disks; number = here.number; bare = here.bare })
+    inr
+    (come.0, record { bios = here.bios; next = here.next; disks = here.disks; number = here.number; bare = here.bare })
 
 -- a Go, by what its command waits for
 go_by : (w v : World) (actor : ℕ) (o : Outcome) (c : LineCommand) (rest : List LineCommand) (waits : Option Found)
@@ -65,7 +66,8 @@ gone w v actor o (Some (c ∷ rest)) e = go_by w v actor o c rest (waits_for w a
 -- killed handles change no bio
 killed : (w : World) (cs : List ℕ) → Stays w (fold kill_handle w cs)
 killed w [] = same_world w
-killed w (c ∷ cs) = let rest = killed (kill_handle w c) cs in record { bios = rest.bios; next = rest.next; disks = rest.disks }
+killed w (c ∷ cs) = let rest = killed (kill_handle w c) cs in
+    record { bios = rest.bios; next = rest.next; disks = rest.disks }
 
 -- an event that is done changes no bio and no disk
 event_stays : (w : World) (e : Event) → Stays w (do_event w e)
@@ -77,7 +79,8 @@ event_stays w (events.NewProvider p) = by (is_not_tasted (granted_in w) w.topolo
     by false e = rw e (record { bios = refl; next = refl; disks = refl })
 event_stays w (events.Spoil p) = record { bios = refl; next = refl; disks = refl }
 event_stays w (events.Orphan p) =
-    let dead = killed w (dying_consumers w.topology p) in record { bios = dead.bios; next = dead.next; disks = dead.disks }
+    let dead = killed w (dying_consumers w.topology p) in
+    record { bios = dead.bios; next = dead.next; disks = dead.disks }
 event_stays w (events.Resize p) = record { bios = refl; next = refl; disks = refl }
 
 -- the head of the queue
@@ -86,7 +89,8 @@ evented w v o [] e = absurd (let bad : ⊥ = cc in bad)
 evented w v o (head ∷ rest) e =
     let begun : World = record w { events = rest } in
     let stay = event_stays begun head in
-    of_made w v o (do_event begun head, outcomes.Ran) (inl (record { bios = stay.bios; next = stay.next; disks = stay.disks })) e
+    of_made w v o (do_event begun head, outcomes.Ran)
+    (inl (record { bios = stay.bios; next = stay.next; disks = stay.disks })) e
 
 -- an Event, by whether a taste is under way
 event_by : (w v : World) (o : Outcome) (b : Bool)
@@ -97,7 +101,8 @@ event_by w v o false e = evented w v o w.events e
 -- a read of a taste comes
 judged : (w : World) (x : Judging) (j : Judged) → Made w (judged_world w x j)
 judged w x (judgeds.Read sector) =
-    inr (_, record { bios = refl; next = refl; disks = refl; number = refl; bare = λ e. absurd (let bad : ⊥ = cc in bad) })
+    inr
+    (_, record { bios = refl; next = refl; disks = refl; number = refl; bare = λ e. absurd (let bad : ⊥ = cc in bad) })
 judged w x judgeds.Ended = inl (record { bios = refl; next = refl; disks = refl })
 judged w x judgeds.Next = inl (record { bios = refl; next = refl; disks = refl })
 judged w x judgeds.Made = inl (record { bios = refl; next = refl; disks = refl })
@@ -123,14 +128,16 @@ reaped w (Some c) = record { bios = refl; next = refl; disks = refl }
 
 -- a Reap, by the handle that can be reaped
 reap_by : (w v : World) (o : Outcome) (h : Option Handle)
-    → option_map_or {U = Answer} (λ x. Ok (reap w x, outcomes.Ran)) h (Err found.NothingToReap) ≡ Ok (v, o) → StayOrCome w v
+    → option_map_or {U = Answer} (λ x. Ok (reap w x, outcomes.Ran)) h (Err found.NothingToReap) ≡ Ok (v, o)
+    → StayOrCome w v
 unfolding reap
 reap_by w v o None e = absurd (let bad : ⊥ = cc in bad)
 reap_by w v o (Some h) e = of_made w v o (reap_handle w h.consumer, outcomes.Ran) (inl (reaped w h.consumer)) e
 
 -- a Wash, by what can be washed
 wash_by : (w v : World) (o : Outcome) (work : Option WashWork)
-    → option_map_or {U = Answer} (λ x. Ok (wash w x, outcomes.Ran)) work (Err found.NothingToWash) ≡ Ok (v, o) → StayOrCome w v
+    → option_map_or {U = Answer} (λ x. Ok (wash w x, outcomes.Ran)) work (Err found.NothingToWash) ≡ Ok (v, o)
+    → StayOrCome w v
 unfolding wash
 wash_by w v o None e = absurd (let bad : ⊥ = cc in bad)
 wash_by w v o (Some work) e =

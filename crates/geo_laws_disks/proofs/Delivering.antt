@@ -149,7 +149,8 @@ failed_step b (devices.Failed done) = refl
 fails_step : (asked : ℕ → Option Request) (disk : ℕ) (s : Step)
     → (is_failed_answer s && is_of_disk disk (option_and_then asked (delivered_in s)))
     ≡ option_map_or (λ d. is_failed d.got) (delivery_in asked disk s) false
-fails_step asked disk (steps.Deliver b got) = ap (λ c. c && is_of_disk disk (asked b)) (failed_step b got) ∙ by (asked b)
+fails_step asked disk (steps.Deliver b got) =
+    ap (λ c. c && is_of_disk disk (asked b)) (failed_step b got) ∙ by (asked b)
   where
     none : (c : Bool) → (c && false) ≡ false
     none true = refl

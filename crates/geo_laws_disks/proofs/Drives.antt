@@ -1,8 +1,10 @@
 -- Drives that serve what the entries of a log say, with one entry more.
-use Rattle.std.specs.Prelude.{◌≡◌, ◌≢◌, ℕ, zero, suc, ◌+◌, ◌==◌, Bool, true, false, cond, ◌&&◌, Contains, List, [], ◌∷◌, ◌++◌, Option, Some, None, IfSome, slice_get, slice_set, if◌then◌else◌}
+use Rattle.std.specs.Prelude.{◌≡◌, ◌≢◌, ℕ, suc, ◌+◌, ◌==◌, Bool, true, false, cond, ◌&&◌, Contains, List, [], ◌∷◌, ◌++◌, Option, Some, None, IfSome, slice_get, slice_set, if◌then◌else◌}
 use Rattle.std.specs.Option.{option_map}
 use Rattle.std.proofs.Common.{add-zero, append-nil, append_assoc, refl, sym, ◌∙◌, ap, subst, arith}
 use Rattle.std.proofs.lemmas.Bool.{both_ways, eqb-true, eq-eqb, ne_eqb}
+use Rattle.geo_base.proofs.Options.{if_some_weaker}
+use Rattle.geo_base.proofs.PlaceLists.{slot-same, slot-other}
 use Rattle.geo_laws_graph.proofs.Members.{nothing_in}
 use Rattle.geo_disk.specs.Counts.{counted_if, counted_many, counted_on}
 use Rattle.geo_model.specs.declared.step.DeviceResult.{DeviceResult}
@@ -24,11 +26,6 @@ use Rattle.geo_laws_disks.proofs.HeldByDrives.{answered_calls, answered_contents
 map_same : {A B : Type 0} (f g : A → B) (o : Option A) → ((x : A) → f x ≡ g x) → option_map f o ≡ option_map g o
 map_same f g None same = refl
 map_same f g (Some x) same = ap Some (same x)
-
--- a fact of a told disk, by another
-told_by : {A : Type 0} (P Q : A → Type 0) (o : Option A) → ((x : A) → P x → Q x) → IfSome o P → IfSome o Q
-told_by P Q None by told = tt
-told_by P Q (Some x) by told = by x told
 
 -- drives at the beginning of a log
 pub served_none : (disk : ℕ) (before : DriveView) → IsServed [] disk before before
@@ -61,8 +58,9 @@ served_quiet xs e disk before after taken quiet served = record {
   held = served.held
       ∙ map_same (λ held. contents before.sector held xs disk) (λ held. contents before.sector held (xs ++ e ∷ []) disk)
       before.held (λ held. sym (quiet_contents xs e taken quiet before.sector disk held));
-  reads = told_by (λ held. AreTrue before.sector held xs disk) (λ held. AreTrue before.sector held (xs ++ e ∷ []) disk)
-      before.held (λ held. quiet_true xs e taken quiet before.sector disk held) served.reads;
+  reads = if_some_weaker (λ held. AreTrue before.sector held xs disk)
+      (λ held. AreTrue before.sector held (xs ++ e ∷ []) disk)
+      (λ held. quiet_true xs e taken quiet before.sector disk held) before.held served.reads;
   whole = served.whole;
   all = served.all;
   asked = served.asked ∙ ap (λ cs. before.asked ++ cs) (sym (quiet_calls xs e taken quiet disk));
@@ -82,10 +80,10 @@ served_other xs e b got q disk before after taken delivers asked other served = 
   held = served.held
       ∙ map_same (λ held. contents before.sector held xs disk) (λ held. contents before.sector held (xs ++ e ∷ []) disk)
       before.held (λ held. sym (same before.sector held));
-  reads = told_by (λ held. AreTrue before.sector held xs disk) (λ held. AreTrue before.sector held (xs ++ e ∷ []) disk)
-      before.held
+  reads = if_some_weaker (λ held. AreTrue before.sector held xs disk)
+      (λ held. AreTrue before.sector held (xs ++ e ∷ []) disk)
       (λ held so_far. answered_true xs e b got q taken delivers asked before.sector disk held so_far
-      (λ its. absurd (other its)))
+      (λ its. absurd (other its))) before.held
       served.reads;
   whole = served.whole;
   all = served.all;
@@ -130,7 +128,8 @@ never (Some c) got told none = by (is_failed got) refl
     by false is = is
     by true is =
         let empty : c.fails ≡ [] = cc in
-        absurd (nothing_in (counted_on c.calls) (subst (λ fails. Contains fails (counted_on c.calls)) empty (told.0 is)))
+        absurd
+        (nothing_in (counted_on c.calls) (subst (λ fails. Contains fails (counted_on c.calls)) empty (told.0 is)))
 
 -- a call more leaves the numbers of those that are to fail
 same_fails : (ram : Option RamCalls)
@@ -213,21 +212,6 @@ served_own xs e b got q before mid after taken delivers asked served serves = re
 
 -- All drives
 
--- a drive that was changed is the new one
-set_same : {X : Type 0} (xs : List X) (i : ℕ) (v x : X) → slice_get xs i ≡ Some x
-    → slice_get (slice_set xs i v) i ≡ Some v
-set_same [] i v x never = absurd cc
-set_same (y ∷ ys) zero v x is = refl
-set_same (y ∷ ys) (suc i) v x is = set_same ys i v x is
-
--- another stays
-set_other : {X : Type 0} (xs : List X) (i j : ℕ) (v : X) → j ≢ i → slice_get (slice_set xs i v) j ≡ slice_get xs j
-set_other [] i j v other = refl
-set_other (y ∷ ys) zero zero v other = absurd (other refl)
-set_other (y ∷ ys) zero (suc j) v other = refl
-set_other (y ∷ ys) (suc i) zero v other = refl
-set_other (y ∷ ys) (suc i) (suc j) v other = set_other ys i j v (λ e. other (ap (λ n. suc n) e))
-
 -- each drive at the beginning of a log
 pub all_served_none : (drives : List DriveView) → AreServed [] drives drives
 all_served_none drives disk = by (slice_get drives disk)
@@ -272,12 +256,12 @@ all_served_answered xs e b got q before mid old new taken delivers asked here se
         let same : disk ≡ q.disk = eqb-true disk q.disk is in
         subst (λ n. IsServedAt (xs ++ e ∷ []) n (slice_get before n) (slice_get (slice_set mid q.disk new) n))
         (sym same)
-        (rw (set_same mid q.disk new old here)
+        (rw (slot-same mid q.disk new old here)
         (own (slice_get before q.disk)
         (subst (λ o. IsServedAt xs q.disk (slice_get before q.disk) o) here (served q.disk))))
     by false is =
         let apart : disk ≢ q.disk = (λ same. both_ways (disk == q.disk) is (eq-eqb disk q.disk same)) in
-        rw (set_other mid q.disk disk new apart)
+        rw (slot-other mid q.disk disk new apart)
         (other (slice_get before disk) (slice_get mid disk) (λ same. apart (sym same)) (served disk))
 
 -- all of it

@@ -76,7 +76,8 @@ each_by_splits P (e ∷ es) each = (
 in_order_agrees : (table : ℕ → Option Request) (es : List Entry) → InOrder table es
     → AllByRecursion (λ (e : Entry). Agrees (request_of es) table e.step) es
 in_order_agrees table es order =
-    each_by_splits (λ (e : Entry). Agrees (request_of es) table e.step) es (λ earlier e split. at earlier e split e.step refl)
+    each_by_splits (λ (e : Entry). Agrees (request_of es) table e.step) es
+    (λ earlier e split. at earlier e split e.step refl)
   where
     at : (earlier : List Entry) (e : Entry) → IsSplitBy es earlier e → (s : Step) → e.step ≡ s
         → Agrees (request_of es) table s

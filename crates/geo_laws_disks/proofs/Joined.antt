@@ -1,9 +1,10 @@
 -- What a disk holds after a log in two parts.
-use Rattle.std.specs.Prelude.{◌≡◌, ℕ, Bool, true, false, List, [], ◌∷◌, ◌++◌, find, Option, Some, None, IsSome, option_and_then}
+use Rattle.std.specs.Prelude.{◌≡◌, ℕ, Bool, true, false, List, [], ◌∷◌, ◌++◌, IsSome, option_and_then}
 use Rattle.std.proofs.Common.{refl, sym, ◌∙◌, ap, subst}
 use Rattle.std.proofs.lemmas.Bool.{eq-eqb}
 use Rattle.std.proofs.lemmas.List.{append_assoc}
 use Rattle.std.proofs.lemmas.List.Sums.{fold-append}
+use Rattle.geo_laws_disks.proofs.Requests.{request_same}
 use Rattle.geo_model.specs.declared.step.DeviceResult.{DeviceResult}
 use Rattle.geo_model.specs.declared.step.Entry.{Entry}
 use Rattle.geo_model.specs.declared.step.Step.{Step}
@@ -16,7 +17,6 @@ use Rattle.geo_model.specs.Results.{device_answer_of, device_answer_in, entries_
 use Rattle.geo_model.specs.Contents.{after_answer, after_step, contents}
 use Rattle.geo_model.proofs.LogLemmas.{Legal-front}
 use Rattle.geo_laws_graph.proofs.Numbered.{find-pushed}
-use Rattle.geo_laws_requests.proofs.Looks.{find_in_front}
 use Rattle.geo_laws_requests.proofs.Legal.{opened_firm}
 use Rattle.geo_laws_requests.specs.Ledger.{Ledger}
 use Rattle.geo_laws_requests.proofs.Along.{ledger_along}
@@ -59,19 +59,6 @@ answer_there b got (x ∷ front) e back is = by (is_deliver_of b x.step) refl (a
     by true hit rest = rw hit (deliver_answers x.step b hit)
     by false hit rest = rw hit rest
 
--- a request that was found is the same in a longer log
-request_same : (xs ys : List Entry) (b : ℕ) → IsSome (request_of xs b) → request_of (xs ++ ys) b ≡ request_of xs b
-request_same xs ys b some = by (find (λ (e : Entry). is_take_of b e.step) xs) refl
-  where
-    by : (o : Option Entry) → find (λ (e : Entry). is_take_of b e.step) xs ≡ o → request_of (xs ++ ys) b ≡ request_of xs b
-    by None is =
-        let none : IsSome (option_and_then (λ (e : Entry). request_in e.outcome) None) =
-        subst (λ o. IsSome (option_and_then (λ (e : Entry). request_in e.outcome) o)) is some in
-        absurd (let bad : ⊥ = cc in bad)
-    by (Some e) is =
-        ap (λ o. option_and_then (λ (x : Entry). request_in x.outcome) o)
-        (find_in_front (λ (x : Entry). is_take_of b x.step) xs ys e is ∙ sym is)
-
 -- what a step makes, by two logs that have the same request of each bio that it delivers
 same_step : (xs ys : List Entry) (size disk : ℕ) (held : List (List ℕ)) (s : Step)
     → ((b : ℕ) (got : DeviceResult) → s ≡ steps.Deliver b got → request_of ys b ≡ request_of xs b)
@@ -112,7 +99,8 @@ module _ (xs ys : List Entry) (size disk : ℕ)
 -- in each legal log
 contents_join : ContentsJoin
 contents_join plan facts is fit log legal earlier later size disk held split =
-    subst (λ l. contents size held l disk ≡ contents_from l size (contents size held earlier disk) later disk) (sym split)
+    subst (λ l. contents size held l disk ≡ contents_from l size (contents size held earlier disk) later disk)
+    (sym split)
     (joined earlier later size disk
     (λ b some. answered_taken plan facts is fit earlier
     (Legal-front (opening plan facts) earlier later (subst (Legal (opening plan facts)) split legal)) b some) held)

@@ -47,16 +47,6 @@ IsFree seat p = (other : ℕ) → other ≢ seat → p ≡ phases.Busy other →
 pub not_busy : (seat : ℕ) (p : Phase) → is_busy p ≡ false → IsFree seat p
 not_busy seat p quiet other apart is = both_ways (is_busy p) quiet (ap is_busy is)
 
--- a phase that passes a test which no Busy phase does
-pub quiet_phase : (test : Phase → Bool) → ((seat : ℕ) → test (phases.Busy seat) ≡ false) → (p : Phase) → test p ≡ true
-    → is_busy p ≡ false
-quiet_phase test out phases.Down e = refl
-quiet_phase test out phases.Sent e = refl
-quiet_phase test out (phases.Busy seat) e = absurd (both_ways (test (phases.Busy seat)) (out seat) e)
-quiet_phase test out phases.Waiting e = refl
-quiet_phase test out phases.Up e = refl
-quiet_phase test out phases.Done e = refl
-
 module _ (w : World) (seat : ℕ) where
   -- a bio that stays
   pub stays_so : (z : Bio) → Contains w.bios z → Origin w seat z

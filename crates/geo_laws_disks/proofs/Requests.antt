@@ -2,12 +2,12 @@
 use Rattle.std.specs.Prelude.{◌≡◌, ℕ, ◌+◌, ◌≤◌, Bool, true, false, cond, List, [], ◌∷◌, ◌++◌, find, count_by, Option, Some, None, IsSome, IfSome, option_and_then}
 use Rattle.std.proofs.Common.{refl, sym, ◌∙◌, ap, subst, arith}
 use Rattle.std.proofs.lemmas.List.Sums.{sum_by-append}
+use Rattle.geo_base.proofs.FindLists.{found-before}
 use Rattle.geo_model.specs.declared.step.Entry.{Entry}
 use Rattle.geo_model.specs.declared.step.Request.{Request}
 use Rattle.geo_model.specs.declared.step.Step.{Step}
 use Rattle.geo_model.specs.FixedOrder.{delivered_in}
 use Rattle.geo_model.specs.Results.{is_take_of, request_in, request_of}
-use Rattle.geo_laws_requests.proofs.Looks.{find_in_front}
 use Rattle.geo_laws_disks.specs.DriveLaws.{AreTaken, IsTaken}
 
 -- a request that was found is the same in a longer log
@@ -22,7 +22,7 @@ request_same xs ys b some = by (find (λ (e : Entry). is_take_of b e.step) xs) r
         absurd (let bad : ⊥ = cc in bad)
     by (Some e) is =
         ap (λ o. option_and_then (λ (x : Entry). request_in x.outcome) o)
-        (find_in_front (λ (x : Entry). is_take_of b x.step) xs ys e is ∙ sym is)
+        (found-before (λ (x : Entry). is_take_of b x.step) xs ys e is ∙ sym is)
 
 -- so is that of the bio that a step delivers
 pub delivered_same : (xs ys : List Entry) (s : Step) → IsTaken xs s

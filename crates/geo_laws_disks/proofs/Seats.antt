@@ -136,7 +136,8 @@ module _ (plan : Plan) (facts : List (ℕ × ℕ)) (is : IsPlan plan) (fit : Fac
             let own : e.seat ≡ seat_of_disk disk =
             sym (eqb-true its.take.seat e.seat its_own.1) ∙ seat
             ∙ ap (λ d. seat_of_disk d) (sym asks.disk_is ∙ same) in
-            (let bad : true ≡ false = sym (eq-eqb e.seat (seat_of_disk disk) own) ∙ other in (let wrong : ⊥ = cc in wrong))
+            (let bad : true ≡ false = sym (eq-eqb e.seat (seat_of_disk disk) own) ∙ other in
+            (let wrong : ⊥ = cc in wrong))
     other_delivers e here (steps.Go actor) step other = refl
     other_delivers e here steps.Event step other = refl
     other_delivers e here steps.Judge step other = refl

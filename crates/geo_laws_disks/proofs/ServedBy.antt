@@ -4,6 +4,7 @@ use Rattle.std.specs.Option.{option_map}
 use Rattle.std.proofs.Common.{add-zero, append_assoc, refl, sym, ◌∙◌, ap, subst, arith}
 use Rattle.std.proofs.lemmas.List.{map-append}
 use Rattle.std.proofs.lemmas.List.Sums.{sum_by-append}
+use Rattle.geo_base.proofs.Options.{if_some_weaker}
 use Rattle.geo_disk.specs.declared.calls.DiskCall.{DiskCall}
 use Rattle.geo_disk.specs.Counts.{counted_many, counted_on}
 use Rattle.geo_model.specs.declared.step.Entry.{Entry}
@@ -49,11 +50,6 @@ held_same : {A : Type 0} (f g : A → A) (o : Option A) → ((x : A) → f x ≡
 held_same f g None same = refl
 held_same f g (Some x) same = ap Some (same x)
 
--- a fact of a told disk, by another
-fact_of_told : {A : Type 0} (P Q : A → Type 0) (o : Option A) → ((x : A) → P x → Q x) → IfSome o P → IfSome o Q
-fact_of_told P Q None by told = tt
-fact_of_told P Q (Some x) by told = by x told
-
 module _ (table : ℕ → Option Request) (log : List Entry) (disk : ℕ) (order : InOrder table log) where
   -- what the log delivers, by the table
   abbrev ds : List Delivery
@@ -77,8 +73,8 @@ module _ (table : ℕ → Option Request) (log : List Entry) (disk : ℕ) (order
     held = served.held
         ∙ held_same (λ held. contents before.sector held log disk) (λ held. held_by before.sector held ds) before.held
         (λ held. contents_same before.sector held);
-    reads = fact_of_told (λ held. AreTrue before.sector held log disk) (λ held. AreTold before.sector held ds) before.held
-        (λ held reads. told_by_true table before.sector disk held log order reads) served.reads;
+    reads = if_some_weaker (λ held. AreTrue before.sector held log disk) (λ held. AreTold before.sector held ds)
+        (λ held reads. told_by_true table before.sector disk held log order reads) before.held served.reads;
     whole = served.whole;
     all = served.all;
     asked = served.asked ∙ ap (λ cs. before.asked ++ cs) calls_same;
@@ -95,8 +91,8 @@ module _ (table : ℕ → Option Request) (log : List Entry) (disk : ℕ) (order
     held = served.held
         ∙ held_same (λ held. held_by before.sector held ds) (λ held. contents before.sector held log disk) before.held
         (λ held. sym (contents_same before.sector held));
-    reads = fact_of_told (λ held. AreTold before.sector held ds) (λ held. AreTrue before.sector held log disk) before.held
-        (λ held told. true_by_told table before.sector disk held log order told) served.reads;
+    reads = if_some_weaker (λ held. AreTold before.sector held ds) (λ held. AreTrue before.sector held log disk)
+        (λ held told. true_by_told table before.sector disk held log order told) before.held served.reads;
     whole = served.whole;
     all = served.all;
     asked = served.asked ∙ ap (λ cs. before.asked ++ cs) (sym calls_same);
@@ -120,7 +116,8 @@ both_served : (ds es : List Delivery) (before mid after : DriveView) → IsServe
 both_served ds es before mid after first second = record {
   held = second.held
       ∙ ap (λ o. option_map (λ held. held_by mid.sector held es) o) first.held
-      ∙ ap (λ s. option_map (λ held. held_by s held es) (option_map (λ held. held_by before.sector held ds) before.held))
+      ∙ ap
+      (λ s. option_map (λ held. held_by s held es) (option_map (λ held. held_by before.sector held ds) before.held))
       first.sector
       ∙ joined before.held;
   reads = reads before.held first.reads
@@ -167,7 +164,8 @@ seats_serve plan facts is fit log legal seat_of_disk disk before after seats ser
 pub parts_serve : PartsServe
 parts_serve plan facts is fit log legal earlier later disk before mid after split taken first second =
     along_log (request_of log) log disk (log_in_order plan facts is fit log legal) before after
-    (subst (λ xs. IsServedBy xs before after) (sym (parts_deliver plan facts is fit log legal earlier later disk split taken))
+    (subst (λ xs. IsServedBy xs before after)
+    (sym (parts_deliver plan facts is fit log legal earlier later disk split taken))
     (both_served (deliveries earlier disk) (deliveries later disk) before mid after
     (own earlier (order_in_front (request_of (earlier ++ later)) earlier later (log_in_order plan facts is fit
     (earlier ++ later) whole)) before mid first)

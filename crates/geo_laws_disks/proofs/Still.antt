@@ -4,6 +4,7 @@ use Rattle.std.specs.Option.{option_map_or}
 use Rattle.std.proofs.Common.{inl, inr, refl, sym, ◌∙◌, ap, subst}
 use Rattle.std.proofs.lemmas.Bool.{both_ways, eqb-true}
 use Rattle.std.proofs.lemmas.List.Elements.{All-contains}
+use Rattle.geo_base.proofs.FindLists.{found-before}
 use Rattle.geo_base.specs.declared.errno.Errno.TheVariants.{EIO}
 use Rattle.geo_model.specs.declared.step.BioResult.{BioResult}
 use Rattle.geo_model.specs.declared.step.BioResult.TheVariants as results
@@ -25,7 +26,6 @@ use Rattle.geo_laws_graph.proofs.Members.{Contains-filter, find-Contains}
 use Rattle.geo_laws_graph.proofs.Numbered.{number_found}
 use Rattle.geo_laws_requests.specs.Arrivals.{StayOrArrive}
 use Rattle.geo_laws_requests.proofs.Arrivals.{bios_stay_or_arrive}
-use Rattle.geo_laws_requests.proofs.Looks.{find_in_front}
 use Rattle.geo_laws_requests.proofs.Starts.{StartsIt, in_phase, starts_it}
 use Rattle.geo_laws_requests.proofs.Takes.{TakesIt, takes_it}
 use Rattle.geo_laws_disks.proofs.Rises.{RisesIt, gathered_or, rises_it}
@@ -56,7 +56,7 @@ module _ (w : World) (seat other b : ℕ) (x : Bio) (apart : other ≢ seat) (fo
   arrives v o (inl stay) = ap (λ ys. find (λ (y : Bio). y.number == b) ys) stay.0.bios ∙ found
   arrives v o (inr come) =
       ap (λ ys. find (λ (y : Bio). y.number == b) ys) come.1.0.bios
-      ∙ find_in_front (λ (y : Bio). y.number == b) w.bios (come.0 ∷ []) x found
+      ∙ found-before (λ (y : Bio). y.number == b) w.bios (come.0 ∷ []) x found
 
   -- a Start
   started : (v : World) (c : ℕ) (o : Outcome) → step w other (steps.Start c) ≡ Ok (v, o) → bio_at v b ≡ Some x
@@ -83,7 +83,7 @@ module _ (w : World) (seat other b : ℕ) (x : Bio) (apart : other ≢ seat) (fo
           → v.bios ≡ change_number y.number (in_phase phases.Waiting) w.bios ++ children → bio_at v b ≡ Some x
       split children bios =
           ap (λ ys. find (λ (z : Bio). z.number == b) ys) bios
-          ∙ find_in_front (λ (z : Bio). z.number == b) (change_number y.number (in_phase phases.Waiting) w.bios)
+          ∙ found-before (λ (z : Bio). z.number == b) (change_number y.number (in_phase phases.Waiting) w.bios)
           children x (turned c y (in_phase phases.Waiting) (λ z. refl) it.found other_one)
 
       by : (way : Way) → (v, o) ≡ start_by w y way → bio_at v b ≡ Some x

@@ -5,6 +5,7 @@ use Rattle.std.proofs.lemmas.Bool.{both_ways}
 use Rattle.std.proofs.lemmas.List.{append_assoc}
 use Rattle.std.proofs.lemmas.List.Elements.{Contains-append_cases, Contains-append_left, Contains-append_right}
 use Rattle.std.proofs.lemmas.List.Sums.{sum_by-append, sum_by-cons}
+use Rattle.geo_base.proofs.FindLists.{found_passes}
 use Rattle.geo_model.specs.declared.step.DeviceResult.{DeviceResult}
 use Rattle.geo_model.specs.declared.step.Entry.{Entry}
 use Rattle.geo_model.specs.declared.step.Request.{Request}
@@ -32,18 +33,6 @@ module _ {X : Type 0} (test : X → Bool) where
             omega (arith, front, one)
         | inr rest ↦ let more = passes_counted xs y rest passes in omega (arith, front, more)
       ]
-
-  -- what is found passes
-  found_passes : (xs : List X) (y : X) → find test xs ≡ Some y → test y ≡ true
-  found_passes [] y found = absurd (let bad : ⊥ = cc in bad)
-  found_passes (x ∷ xs) y found = by (test x) refl (found_passes xs y)
-    where
-      by : (c : Bool) → test x ≡ c → (find test xs ≡ Some y → test y ≡ true) → test y ≡ true
-      by true is rest =
-          let same : Some x ≡ Some y = rw is at found in
-          let one : x ≡ y = cc in
-          subst (λ (z : X). test z ≡ true) one is
-      by false is rest = rest (rw is at found)
 
   -- where one passes something is found
   found_some : (xs : List X) (y : X) → Contains xs y → test y ≡ true → find test xs ≡ None → ⊥
@@ -162,8 +151,8 @@ pub order_behind : (earlier later : List Entry)
     → InOrder (request_of (earlier ++ later)) later
 order_behind earlier later once order taken front e b got split is =
     asked_among (earlier ++ later) once front
-    (λ y here. Contains-append_right earlier later y (within y here)) b (by (Contains-append_cases earlier front its.take its.here))
-    (earlier ++ front) asked
+    (λ y here. Contains-append_right earlier later y (within y here)) b
+    (by (Contains-append_cases earlier front its.take its.here)) (earlier ++ front) asked
   where
     log : List Entry
     log = earlier ++ later
@@ -239,7 +228,8 @@ pub order_within : (test : Entry → Bool) (log : List Entry)
     → InOrder (request_of log) log → AreTaken (filter test log) (filter test log)
     → InOrder (request_of log) (filter test log)
 order_within test log once order taken earlier e b got split is =
-    asked_among log once earlier (λ y here. (within y here).0) b (record { take = its.take; here = kept; takes = its.takes })
+    asked_among log once earlier (λ y here. (within y here).0) b
+    (record { take = its.take; here = kept; takes = its.takes })
     so.front asked
   where
     so : SplitWithin test log earlier e

@@ -2,11 +2,12 @@
 use Rattle.std.specs.Prelude.{◌≡◌, ℕ, ◌+◌, ◌*◌, ◌/◌, ◌%◌, ◌==◌, ◌<◌, ◌≤◌, nat_le, Bool, true, false, not, ◌&&◌, ◌||◌, List, [], ◌∷◌, length, find, slice_get, Some, is_ok, IsSomeAnd, IfSome, IsTrue, All, Contains, if◌then◌else◌}
 use Rattle.std.specs.Option.{option_map_or}
 use Rattle.std.proofs.Common.{refl, sym, ◌∙◌, ap, subst, arith}
-use Rattle.std.proofs.Math.Nat.{div-mul-le_self, le_of_mul-le-mul_right, mod-add-div, mul_comm, zero-mul}
+use Rattle.std.proofs.Math.Nat.{div-mul-le_self, le_of_mul-le-mul_right, mul_comm, zero-mul}
 use Rattle.std.proofs.lemmas.Bool.{eq-eqb, eqb-true}
 use Rattle.std.proofs.lemmas.List.Elements.{All-contains}
+use Rattle.geo_laws_disks.proofs.Asked.{whole_back}
+use Rattle.geo_model.proofs.BioLemmas.{read_moves}
 use Rattle.geo_base.specs.Sectors.{IsSectorSize}
-use Rattle.geo_base.specs.declared.request.BioCmd.{BioCmd}
 use Rattle.geo_base.specs.declared.request.BioCmd.TheVariants as cmds
 use Rattle.geo_base.specs.declared.limits.TheConstants.{MAX_REQUEST_BYTES}
 use Rattle.geo_model.specs.declared.step.DeviceResult.{DeviceResult}
@@ -30,20 +31,6 @@ use Rattle.geo_laws_requests.proofs.Starts.{in_phase}
 use Rattle.geo_laws_requests.proofs.Takes.{TakesIt, takes_it}
 use Rattle.geo_serve.specs.Serve.{fits_request}
 use Rattle.geo_laws_disks.specs.DriveLaws.{IsReadOf, TakesAreServable}
-
--- whole sectors are as many bytes
-whole_back : (l z : ℕ) → l % z ≡ 0 → (l / z) * z ≡ l
-whole_back l z whole =
-    let split : l % z + z * (l / z) ≡ l = mod-add-div l z in
-    let turned : z * (l / z) ≡ (l / z) * z = mul_comm z (l / z) in
-    omega (arith, split, turned, whole)
-
--- a READ has a range
-read_moves : (cmd : BioCmd) → is_read cmd ≡ true → is_flush cmd ≡ false
-read_moves cmds.Read e = refl
-read_moves cmds.Write e = refl
-read_moves cmds.Delete e = refl
-read_moves cmds.Flush e = absurd (let bad : ⊥ = cc in bad)
 
 -- a READ of whole sectors asks for each byte
 all_bytes : (z : ℕ) (x : Bio) (q : Request) → q.count ≡ x.len / z → (is_flush x.cmd ≡ false → x.len % z ≡ 0)

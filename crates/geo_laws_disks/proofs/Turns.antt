@@ -4,6 +4,7 @@ use Rattle.std.specs.List.{AllByRecursion, enumerate_from}
 use Rattle.std.proofs.Common.{inr, refl, sym, ◌∙◌, ap, subst, arith}
 use Rattle.std.proofs.lemmas.Bool.{eqb-true}
 use Rattle.std.proofs.lemmas.List.Elements.{All-append, All-from_recursion}
+use Rattle.geo_model.proofs.BioLemmas.{quiet_phase}
 use Rattle.geo_model.specs.declared.step.BioResult.TheVariants as results
 use Rattle.geo_model.specs.declared.step.DeviceResult.{DeviceResult}
 use Rattle.geo_model.specs.declared.step.Found.{Found}
@@ -24,7 +25,7 @@ use Rattle.geo_laws_requests.proofs.Starts.{StartsIt, in_phase, keeps_phase, kee
 use Rattle.geo_laws_requests.proofs.Takes.{TakesIt, takes_it}
 use Rattle.geo_laws_graph.proofs.Numbered.{number_found}
 use Rattle.geo_laws_requests.proofs.Turning.{KeepsRequest}
-use Rattle.geo_laws_disks.proofs.Origins.{HasOrigins, IsFree, Origin, all_stay, changed_origins, free_at, not_busy, quiet_phase}
+use Rattle.geo_laws_disks.proofs.Origins.{HasOrigins, IsFree, Origin, all_stay, changed_origins, free_at, not_busy}
 
 -- Start
 
@@ -238,5 +239,6 @@ delivers_origins w v seat b got o are made =
       disks = ap (λ (m : World × Outcome). m.0.disks) it.made;
       each = subst (λ ys. All (Origin w seat) ys) (sym (ap (λ (m : World × Outcome). m.0.bios) it.made))
           (changed_origins w seat it.bio.number (up_with (result_of_device got)) (keeps_up (result_of_device got))
-          (free_at w seat it.bio.number it.bio are found (free_of_others seat it.bio.phase it.own)) w.bios (all_stay w seat));
+          (free_at w seat it.bio.number it.bio are found (free_of_others seat it.bio.phase it.own)) w.bios
+          (all_stay w seat));
     }

@@ -4,6 +4,7 @@ use Rattle.std.specs.List.{AllByRecursion}
 use Rattle.std.proofs.Common.{inl, inr, refl, sym, ◌∙◌, ap, arith}
 use Rattle.std.proofs.lemmas.Bool.{eqb-true, eq-eqb, le-leb, leb-true, lt-leb}
 use Rattle.std.proofs.lemmas.List.Elements.{recursion_from_All, All-from_recursion}
+use Rattle.geo_model.proofs.Options.{at-found, at-some, some-with}
 use Rattle.geo_model.specs.Words.{largest}
 use Rattle.geo_model.specs.Topology.{Topology, Geom, Provider, Consumer, geom_at, provider_at, consumers_of, providers_under}
 use Rattle.geo_model.specs.Rank.{rank, rank_within, geoms_under, Ranked}
@@ -12,18 +13,6 @@ use Rattle.geo_model.proofs.RankLemmas.{rank-largest}
 use Rattle.geo_laws_graph.specs.Edges.{Below, Climbs, IsOneMoreThanBelow}
 use Rattle.geo_laws_graph.proofs.Members.{Has, has, find-Contains, All-from_contained, at_contained, Contains-cases, Contains-filter, filter-Contains, Contains-map, Contains-filter_map, filter_map-Contains, largest-above, nothing_in}
 use Rattle.geo_model.specs.Graph.{GeomsLive, ProvidersLive}
-
--- a fact of what is there, where it is known what is there
-pub some_and : {X : Type 0} (P : X → Type 0) (o : Option X) (x : X) → o ≡ Some x → P x → IsSomeAnd o P
-some_and P o x e fact = rw e fact
-
--- what holds of something that must be there holds of what is there
-pub of_some : {X : Type 0} (P : X → Type 0) (o : Option X) (x : X) → o ≡ Some x → IsSomeAnd o P → P x
-of_some P o x e fact = rw e at fact
-
--- so does what holds of something that may be there
-if_some : {X : Type 0} (P : X → Type 0) (o : Option X) (x : X) → o ≡ Some x → IfSome o P → P x
-if_some P o x e fact = rw e at fact
 
 module _ {C : Type 0} (t : Topology C) where
   -- the geom of the provider, under the consumer of an edge
@@ -90,9 +79,9 @@ module _ {C : Type 0} (t : Topology C) where
       (recursion_from_All
       (λ (c : Consumer). IfSome c.provider (λ p. IsSomeAnd (provider_at t p) (λ x. f x.geom < f c.geom)))
       t.consumers up) b.stands in
-      let one = if_some (λ p. IsSomeAnd (provider_at t p) (λ x. f x.geom < f b.consumer.geom)) b.consumer.provider
+      let one = at-found b.consumer.provider (λ p. IsSomeAnd (provider_at t p) (λ x. f x.geom < f b.consumer.geom))
       p.item p.is fact in
-      let less = of_some (λ (x : Provider). f x.geom < f b.consumer.geom) (provider_at t p.item) b.provider
+      let less = at-some (provider_at t p.item) (λ (x : Provider). f x.geom < f b.consumer.geom) b.provider
       (attached_geom b.consumer.provider b.provider b.attached p.item p.is) one in
       rw (b.below, b.above) at less
 
@@ -115,7 +104,7 @@ module _ {C : Type 0} (t : Topology C) where
   climbs_at f so c here None e live = rw e tt
   climbs_at f so c here (Some p) e live =
       let y = has (provider_at t p) (rw e at live) in
-      rw e (some_and (λ (x : Provider). f x.geom < f c.geom) (provider_at t p) y.item y.is
+      rw e (some-with (provider_at t p) (λ (x : Provider). f x.geom < f c.geom) y.item y.is
       (so c.geom y.item.geom (edge_of c here p e y.item y.is)))
 
   -- and at all of them

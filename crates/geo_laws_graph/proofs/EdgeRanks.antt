@@ -1,6 +1,6 @@
 -- Ranks and ways where edges are the same, fewer, or one more.
-use Rattle.std.specs.Prelude.{◌≡◌, ◌≢◌, ◌↔◌, ℕ, ◌<◌, ◌≤◌, ◌==◌, true, false, List, [], ◌∷◌, length, Option, Some, None, Contains, IfSome, IsSome, IsSomeAnd}
-use Rattle.std.proofs.Common.{inl, inr, refl, ◌∙◌, subst, arith}
+use Rattle.std.specs.Prelude.{◌≡◌, ◌≢◌, ◌↔◌, ℕ, ◌<◌, ◌≤◌, ◌==◌, true, false, List, [], ◌∷◌, length, Some, Contains, IfSome, IsSome, IsSomeAnd}
+use Rattle.std.proofs.Common.{inl, inr, ◌∙◌, subst, arith}
 use Rattle.std.proofs.lemmas.Bool.{eqb-true, eq-eqb, cases_Bool, false_from_ne_true}
 use Rattle.geo_model.specs.Topology.{Topology, Provider, Consumer, provider_at, providers_of}
 use Rattle.geo_model.specs.Rank.{rank, reaches, Ranked}
@@ -8,17 +8,13 @@ use Rattle.geo_laws_graph.specs.Edges.{Below, Climbs, AddsEdge, HasEdgesOf, IsPa
 use Rattle.geo_laws_graph.specs.RankLaws.{AllRanksStay, RanksStay, RanksRise}
 use Rattle.geo_laws_graph.proofs.Members.{find-Contains, Contains-filter, nothing_in}
 use Rattle.std.proofs.lemmas.List.Elements.{All-weaker}
-use Rattle.geo_base.proofs.Tests.{same_tests}
+use Rattle.geo_model.proofs.Tests.{same_tests}
+use Rattle.geo_model.proofs.Options.{there_with_fact}
 use Rattle.geo_laws_graph.proofs.Climbing.{provider_there, attached_geom, ranked-from_climbing, climbs_along, climbs_from, rank-falls}
 use Rattle.geo_laws_graph.proofs.Paths.{reaches-same_edges, reaches-kept, reaches-from_path, path-from_reaches, path-edges, path-ranks}
 use Rattle.geo_laws_graph.proofs.AddedEdges.{rank-ways, ranked-fewer, rank-fewer, rank-kept, rank-same_edges, rank-rises, rank-elsewhere, rank-above_edge, rank-mended, old_edge}
 use Rattle.geo_model.specs.Graph.{GeomsLive, ProvidersLive}
 use Rattle.geo_laws_graph.proofs.Living.{if_some_weaker}
-
--- in a ranked graph each attached consumer's provider lives
-is_there : {X : Type 0} (P : X → Type 0) (o : Option X) → IsSomeAnd o P → IsSome o
-is_there P None fact = absurd fact
-is_there P (Some x) fact = refl
 
 -- where some function climbs each attached consumer's provider lives
 pub climbing-live : {C : Type 0} (t : Topology C) (f : ℕ → ℕ) → Climbs t f → ProvidersLive t
@@ -26,7 +22,7 @@ climbing-live t f up =
     All-weaker (λ (c : Consumer). IfSome c.provider (λ p. IsSomeAnd (provider_at t p) (λ x. f x.geom < f c.geom)))
     (λ (c : Consumer). IfSome c.provider (λ p. IsSome (provider_at t p)))
     (λ c. if_some_weaker (λ p. IsSomeAnd (provider_at t p) (λ x. f x.geom < f c.geom)) (λ p. IsSome (provider_at t p))
-    (λ p. is_there (λ (x : Provider). f x.geom < f c.geom) (provider_at t p)) c.provider)
+    (λ p. there_with_fact (λ (x : Provider). f x.geom < f c.geom) (provider_at t p)) c.provider)
     t.consumers up
 
 -- so it does in a ranked graph

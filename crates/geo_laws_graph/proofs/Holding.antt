@@ -3,8 +3,8 @@ use Rattle.std.specs.Prelude.{◌+◌, option_map, ◌≡◌, ◌≢◌, ◌⊎�
 use Rattle.std.proofs.Common.{inl, inr, refl, sym, ◌∙◌, ap, subst, arith}
 use Rattle.std.proofs.lemmas.List.Elements.{All-push, All-weaker, All-filter, recursion_from_All, All-from_recursion}
 use Rattle.std.proofs.lemmas.Bool.{cases_eq}
-use Rattle.geo_base.specs.declared.kind.Kind.{Kind}
-use Rattle.geo_base.specs.declared.limits.TheConstants.{MAX_RANK}
+use Rattle.geo_model.specs.Kind.{Kind}
+use Rattle.geo_model.specs.TheConstants.{MAX_RANK}
 use Rattle.geo_model.specs.GeomCommands.{with_geom_at, rank_over}
 use Rattle.geo_laws_graph.proofs.Members.{has}
 use Rattle.geo_laws_graph.proofs.Depth.{depth}
@@ -160,7 +160,7 @@ geom_added t kind name config automatic hold live order =
     }
 
 -- consumers change neither geoms nor providers
-over_bare : (n g : ℕ) (ps : List Provider) (u : Topology Config) → StandsBare u g → StandsBare (over n u ps) g
+pub over_bare : (n g : ℕ) (ps : List Provider) (u : Topology Config) → StandsBare u g → StandsBare (over n u ps) g
 over_bare n g [] u bare = bare
 over_bare n g (p ∷ ps) u bare =
     over_bare n g ps (add_consumer u n (Some p.number)) (record {

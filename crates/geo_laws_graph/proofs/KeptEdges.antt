@@ -3,7 +3,7 @@ use Rattle.std.specs.Prelude.{◌≡◌, ℕ, ◌==◌, Bool, true, List, [], fi
 use Rattle.std.proofs.Common.{inl, inr, refl, sym, ◌∙◌, ap, subst}
 use Rattle.std.proofs.lemmas.Bool.{cases_eq}
 use Rattle.std.proofs.lemmas.List.Elements.{recursion_from_All}
-use Rattle.geo_base.proofs.Tests.{filter_map-same}
+use Rattle.geo_model.proofs.FilterLists.{filter_map-same}
 use Rattle.geo_model.specs.Topology.{Topology, Provider, Consumer, provider_at, consumers_of, attached_to, providers_under, add_provider, remove_provider, set_error, set_size, set_marks}
 use Rattle.geo_model.specs.Rank.{geoms_under}
 use Rattle.geo_model.specs.Words.{change_where}

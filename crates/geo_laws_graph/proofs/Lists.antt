@@ -8,6 +8,7 @@ use Rattle.std.proofs.lemmas.List.Elements.{All-head, All-tail, All-cons, All-ni
 use Rattle.geo_model.specs.Words.{change_where}
 use Rattle.geo_model.specs.Graph.{AreNumbers}
 use Rattle.geo_laws_graph.proofs.Members.{Contains-cases, nothing_in}
+pub use Rattle.geo_model.proofs.FilterLists.{filter-filter}
 
 module _ {X : Type 0} (hit : X → Bool) (change : X → X) where
   -- an item after the change
@@ -131,20 +132,6 @@ module _ {X : Type 0} (keep test : X → Bool) where
   pub find-gone : ((x : X) → test x ≡ true → keep x ≡ false) → (xs : List X) → find test (filter keep xs) ≡ None
   find-gone so [] = refl
   find-gone so (x ∷ xs) = gone_step x xs (test x) (keep x) refl refl (so x) (find-gone so xs)
-
-  -- one item more of the two filters
-  twice_step : (x : X) (xs : List X) (b c : Bool) → test x ≡ b → keep x ≡ c
-      → filter test (filter keep xs) ≡ filter keep (filter test xs)
-      → filter test (filter keep (x ∷ xs)) ≡ filter keep (filter test (x ∷ xs))
-  twice_step x xs true true e f rest = rw (f, e, f, rest) refl
-  twice_step x xs true false e f rest = rw (f, e, f) rest
-  twice_step x xs false true e f rest = rw (f, e) rest
-  twice_step x xs false false e f rest = rw (f, e) rest
-
-  -- two filters in either order
-  pub filter-filter : (xs : List X) → filter test (filter keep xs) ≡ filter keep (filter test xs)
-  filter-filter [] = refl
-  filter-filter (x ∷ xs) = twice_step x xs (test x) (keep x) refl refl (filter-filter xs)
 
   -- one item more of those that pass, where they stay
   still_step : (x : X) (xs : List X) (b c : Bool) → test x ≡ b → keep x ≡ c → (test x ≡ true → keep x ≡ true)

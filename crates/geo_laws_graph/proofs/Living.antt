@@ -1,26 +1,17 @@
 -- What lives goes on living through each change of one thing.
-use Rattle.std.specs.Prelude.{◌≡◌, ◌≢◌, ℕ, ◌+◌, ◌==◌, Bool, true, not, List, [], ◌++◌, find, Option, Some, None, All, Contains, IfSome, IsSome, option_map, option_and_then}
+use Rattle.std.specs.Prelude.{◌≡◌, ◌≢◌, ℕ, ◌+◌, ◌==◌, Bool, true, not, List, [], find, Option, Some, None, All, Contains, IfSome, IsSome, option_and_then}
 use Rattle.std.proofs.Common.{refl, sym, ◌∙◌, ap, subst}
 use Rattle.std.proofs.lemmas.Bool.{eqb-true, eq-eqb, ne_eqb}
 use Rattle.std.proofs.lemmas.List.Elements.{recursion_from_All, All-from_recursion, All-push, All-filter, All-weaker}
-use Rattle.std.proofs.lemmas.List.Folds.{find-append}
-use Rattle.geo_base.specs.declared.kind.Kind.{Kind}
+use Rattle.geo_model.specs.Kind.{Kind}
 use Rattle.geo_model.specs.Words.{change_where, names_number}
 use Rattle.geo_model.specs.Topology.{Topology, Geom, Provider, Consumer, geom_at, provider_at, providers_of, consumers_of, attached_to, add_geom, add_provider, add_consumer, remove_geom, remove_provider, remove_consumer, attach, set_error, set_size, set_marks}
 use Rattle.geo_model.specs.Graph.{OfferersLive, GeomsLive, ProvidersLive, PartsLive}
 use Rattle.geo_laws_graph.specs.LookupLaws.{PartsStayAlive, SoundIsInOrder, SteadyPartsLive}
 use Rattle.geo_laws_graph.proofs.Members.{has, Contains-filter, All-from_contained, at_contained, nothing_in}
 use Rattle.geo_laws_graph.proofs.Lists.{changed, find-changed, all-changed, find-kept, find-gone}
-
--- what is found stays found where items are added behind
-pub found-before : {X : Type 0} (test : X → Bool) (xs ys : List X) (x : X) → find test xs ≡ Some x
-    → find test (xs ++ ys) ≡ Some x
-found-before test xs ys x e = find-append test xs ys ∙ (rw e refl)
-
--- a fact of what there is, if anything, that follows from another
-pub if_some_weaker : {X : Type 0} (P Q : X → Type 0) → ((x : X) → P x → Q x) → (o : Option X) → IfSome o P → IfSome o Q
-if_some_weaker P Q so None fact = fact
-if_some_weaker P Q so (Some x) fact = so x fact
+pub use Rattle.geo_model.proofs.FindLists.{found-before}
+pub use Rattle.geo_model.proofs.Options.{if_some_weaker, map_there}
 
 -- a fact of each member that follows from another
 pub all_members : {X : Type 0} (P Q : X → Type 0) (xs : List X) → ((x : X) → Contains xs x → P x → Q x)
@@ -28,11 +19,6 @@ pub all_members : {X : Type 0} (P Q : X → Type 0) (xs : List X) → ((x : X) �
 all_members P Q xs so facts =
     All-from_recursion Q xs
     (All-from_contained Q xs (λ x here. so x here (at_contained P xs x (recursion_from_All P xs facts) here)))
-
--- where there is something, there is something when it is seen otherwise
-pub map_there : {X Y : Type 0} (f : X → Y) (o : Option X) → IsSome o → IsSome (option_map f o)
-map_there f None there = there
-map_there f (Some x) there = refl
 
 module _ {C : Type 0} (t : Topology C) where
   module _ (geom : ℕ) (name : List ℕ) (size sector : ℕ) where

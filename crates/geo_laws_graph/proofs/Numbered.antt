@@ -1,19 +1,18 @@
 -- What is found at a number in a list of numbered things, after a change of one of them.
 use Rattle.std.specs.Prelude.{◌≡◌, ◌≢◌, ℕ, ◌==◌, Bool, true, false, not, ◌&&◌, ◌||◌, List, [], ◌∷◌, ◌++◌, map, filter, find, Option, Some, None, Contains, IsSome, option_map}
 use Rattle.std.specs.List.{AllByRecursion, list_any}
-use Rattle.std.specs.Option.{option_or}
-use Rattle.std.proofs.Common.{inl, inr, refl, sym, ◌∙◌, ap, subst, arith}
-use Rattle.std.proofs.lemmas.Bool.{eqb-true, eq-eqb, ne_eqb, and_left, and_parts, and_from, or_right}
+use Rattle.std.proofs.Common.{refl, sym, ◌∙◌, ap, subst, arith}
+use Rattle.std.proofs.lemmas.Bool.{eqb-true, eq-eqb, ne_eqb, and_left, and_parts, and_from}
 use Rattle.std.proofs.Math.Bool.{or-false}
 use Rattle.std.proofs.lemmas.List.{append-nil}
-use Rattle.std.proofs.lemmas.List.Folds.{find-append, list_any-append}
+use Rattle.std.proofs.lemmas.List.Folds.{list_any-append}
 use Rattle.std.proofs.lemmas.List.Elements.{filter-append}
-use Rattle.geo_base.proofs.Tests.{or_none}
 use Rattle.geo_model.specs.Words.{change_where}
 use Rattle.geo_model.specs.Graph.{AreNumbers}
 use Rattle.geo_model.proofs.DemandLemmas.{find_passes}
-use Rattle.geo_laws_graph.proofs.Members.{has, find-Contains, Contains-map, All-from_contained, Contains-cases, nothing_in}
+use Rattle.geo_laws_graph.proofs.Members.{has, find-Contains, Contains-map, All-from_contained}
 use Rattle.geo_laws_graph.proofs.Lists.{changed, find-changed, any-changed, find-kept, find-gone, any-kept, found_fresh, found_itself}
+pub use Rattle.geo_model.proofs.FindLists.{find-pushed, find-pushed_hit, any-contained}
 
 -- in a list of one item that doesn't pass nothing is found
 single_miss : {X : Type 0} (test : X → Bool) (y : X) → test y ≡ false → find test (y ∷ []) ≡ None
@@ -32,11 +31,6 @@ filter_hit : {X : Type 0} (test : X → Bool) (y : X) → test y ≡ true → fi
 filter_hit test y e = rw e refl
 
 module _ {X : Type 0} (test : X → Bool) (xs : List X) (y : X) where
-  -- one more that doesn't pass: what is found and kept is as before
-  pub find-pushed : test y ≡ false → find test (xs ++ y ∷ []) ≡ find test xs
-  find-pushed e = find-append test xs (y ∷ []) ∙ ap (option_or (find test xs)) (single_miss test y e)
-      ∙ or_none (find test xs)
-
   -- so what is kept is as before
   pub filter-pushed : test y ≡ false → filter test (xs ++ y ∷ []) ≡ filter test xs
   filter-pushed e = filter-append test xs (y ∷ []) ∙ ap (λ ys. filter test xs ++ ys) (filter_miss test y e)
@@ -45,10 +39,6 @@ module _ {X : Type 0} (test : X → Bool) (xs : List X) (y : X) where
   -- one that passes
   pub filter-pushed_hit : test y ≡ true → filter test (xs ++ y ∷ []) ≡ filter test xs ++ y ∷ []
   filter-pushed_hit e = filter-append test xs (y ∷ []) ∙ ap (λ ys. filter test xs ++ ys) (filter_hit test y e)
-
-  -- it is found where nothing was
-  pub find-pushed_hit : find test xs ≡ None → test y ≡ true → find test (xs ++ y ∷ []) ≡ Some y
-  find-pushed_hit none e = find-append test xs (y ∷ []) ∙ (rw (none, e) refl)
 
   -- with one more some item passes just where one did or the new one does
   pub any-pushed : list_any test (xs ++ y ∷ []) ≡ (list_any test xs || test y)
@@ -65,16 +55,6 @@ none_step test x xs false e so none = rw e (so (rw e at none))
 pub find-none : {X : Type 0} (test : X → Bool) (xs : List X) → list_any test xs ≡ false → find test xs ≡ None
 find-none test [] none = refl
 find-none test (x ∷ xs) none = none_step test x xs (test x) refl (λ h. find-none test xs h) none
-
--- one that is contained and passes
-pub any-contained : {X : Type 0} (test : X → Bool) (xs : List X) (x : X) → Contains xs x → test x ≡ true
-    → list_any test xs ≡ true
-any-contained test [] x c e = absurd (nothing_in x c)
-any-contained test (y ∷ xs) x c e =
-    elim (Contains-cases y x xs c) [
-      | inl same ↦ let first : test y ≡ true = rw same e in rw first refl
-      | inr rest ↦ or_right (test y) (list_any test xs) (any-contained test xs x rest e)
-    ]
 
 module _ {X : Type 0} (number : X → ℕ) where
   -- what is found at a number

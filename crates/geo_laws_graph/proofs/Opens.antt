@@ -1,11 +1,12 @@
 -- Ranks where a geom without providers gets consumers: DEV at an open, TASTE at a taste, a new geom over its
 -- components.
-use Rattle.std.specs.Prelude.{◌≡◌, ◌≢◌, ℕ, ◌+◌, ◌==◌, max, false, List, [], ◌∷◌, length, map, fold, Option, Some, None, All, Contains, IsSome}
+use Rattle.std.specs.Prelude.{◌≡◌, ◌≢◌, ℕ, ◌+◌, ◌==◌, max, false, List, [], ◌∷◌, length, map, fold, Some, None, All, Contains, IsSome}
 use Rattle.std.specs.List.{AllByRecursion}
 use Rattle.std.proofs.Common.{refl, ◌∙◌, ap, subst, arith}
 use Rattle.std.proofs.lemmas.Bool.{eqb-true, eq-eqb}
 use Rattle.std.proofs.lemmas.List.Elements.{recursion_from_All}
-use Rattle.geo_base.specs.declared.kind.Kind.{Kind}
+use Rattle.geo_model.proofs.Options.{none-there}
+use Rattle.geo_model.specs.Kind.{Kind}
 use Rattle.geo_model.specs.Words.{largest}
 use Rattle.geo_model.specs.Topology.{Topology, Geom, Provider, Consumer, geom_at, provider_at, providers_of, add_geom, add_consumer}
 use Rattle.geo_model.specs.Rank.{rank, geoms_under, Ranked}
@@ -85,11 +86,6 @@ module _ {C : Type 0} (n : ℕ) where
       ≡ max (rank u n) (1 + largest (map (λ (q : Provider). rank u q.geom) ps)) = rest.1 in
       (record { ranked = rest.0.ranked; same = λ g apart. rest.0.same g apart ∙ first.0.same g apart }, omega arith)
 
--- nothing and something
-none_there : {X : Type 0} (o : Option X) → o ≡ None → IsSome o → ⊥
-none_there None e some = cc
-none_there (Some x) e some = cc
-
 module _ {C : Type 0} (t : Topology C) (order : IsInOrder t) where
   -- the next geom doesn't live yet
   not_yet : (g : ℕ) → g ≡ t.next_geom → IsSome (geom_at t g) → ⊥
@@ -97,7 +93,7 @@ module _ {C : Type 0} (t : Topology C) (order : IsInOrder t) where
       let none : geom_at t t.next_geom ≡ None =
       found_fresh (λ (y : Geom C). y.number) t.next_geom t.next_geom t.geoms order.geoms (omega arith) in
       let here : IsSome (geom_at t t.next_geom) = subst (λ (n : ℕ). IsSome (geom_at t n)) same lives in
-      none_there (geom_at t t.next_geom) none here
+      none-there (geom_at t t.next_geom) none here
 
   -- so it offers nothing, and nothing is below it
   pub offers-nothing : OfferersLive t → providers_of t t.next_geom ≡ []

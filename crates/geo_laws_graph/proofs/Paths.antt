@@ -4,7 +4,7 @@ use Rattle.std.specs.List.{list_any}
 use Rattle.std.proofs.Common.{inl, inr, refl, sym, ◌∙◌, arith}
 use Rattle.std.proofs.lemmas.Bool.{eqb-true, eq-eqb, or_cases, or_left, or_right}
 use Rattle.std.proofs.lemmas.List.Folds.{list_any-append}
-use Rattle.geo_base.proofs.Tests.{same_tests}
+use Rattle.geo_model.proofs.Tests.{same_tests}
 use Rattle.geo_model.specs.Topology.{Topology}
 use Rattle.geo_model.specs.Rank.{rank, geoms_under, geoms_reached_within, reaches, Ranked}
 use Rattle.geo_model.proofs.DemandLemmas.{rank_within-le, rank_within-positive}

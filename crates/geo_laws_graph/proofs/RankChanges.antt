@@ -1,7 +1,7 @@
 -- Ranks after each change of one thing.
 use Rattle.std.specs.Prelude.{◌≡◌, ◌↔◌, ℕ, ◌+◌, ◌==◌, Bool, true, false, [], ◌∷◌, Some, None, IfSome, IsSome}
 use Rattle.std.proofs.Common.{refl, sym, ◌∙◌}
-use Rattle.geo_base.specs.declared.errno.Errno.TheVariants.{ENXIO, ELOOP, EDEEP}
+use Rattle.geo_model.specs.Errno.TheVariants.{ENXIO, ELOOP, EDEEP}
 use Rattle.std.proofs.lemmas.List.{length-map}
 use Rattle.geo_laws_graph.specs.LookupLaws.{seen_geom}
 use Rattle.geo_model.specs.Words.{first_error}

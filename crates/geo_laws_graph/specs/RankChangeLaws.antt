@@ -1,7 +1,7 @@
 -- What each change of one thing does to ranks, for any configuration C of a class.
 use Rattle.std.specs.Prelude.{◌⊎◌, ◌≡◌, ◌≢◌, ◌↔◌, ℕ, ◌+◌, ◌≤◌, max, Bool, true, false, List, [], Some, None, IsSome, All}
-use Rattle.geo_base.specs.declared.kind.Kind.{Kind}
-use Rattle.geo_base.specs.declared.limits.TheConstants.{MAX_RANK}
+use Rattle.geo_model.specs.Kind.{Kind}
+use Rattle.geo_model.specs.TheConstants.{MAX_RANK}
 use Rattle.geo_model.specs.Topology.{with_configs, Topology, Provider, Consumer, geom_at, provider_at, consumer_at, providers_of, consumers_of, attached_to, add_geom, add_provider, add_consumer, remove_geom, remove_provider, remove_consumer, attach, set_error, set_size, set_withering, set_marks, set_config, note_started, detach}
 use Rattle.geo_model.specs.Rank.{rank, reaches, Ranked, would_loop, attach_refusal, is_too_deep}
 use Rattle.geo_model.specs.World.{Config}

@@ -1,6 +1,6 @@
 -- Laws of ranks (geom(4)), for any configuration C of a class.
 use Rattle.std.specs.Prelude.{◌⊎◌, ◌≡◌, ◌≢◌, ◌↔◌, ℕ, ◌+◌, ◌≤◌, max, true, false, [], length, map, All}
-use Rattle.geo_base.specs.declared.limits.TheConstants.{MAX_RANK}
+use Rattle.geo_model.specs.TheConstants.{MAX_RANK}
 use Rattle.geo_model.specs.Words.{largest}
 use Rattle.geo_model.specs.Topology.{Topology, providers_of}
 use Rattle.geo_model.specs.Rank.{rank, rank_within, geoms_under, reaches, Ranked, is_too_deep}

@@ -1,7 +1,8 @@
 -- What an append that isn't refused keeps of ranks and counts.
-use Rattle.std.specs.Prelude.{◌≡◌, ℕ, ◌+◌, Bool, true, false, ◌∷◌, [], length, Option, Some, None, IsSome}
+use Rattle.std.specs.Prelude.{◌≡◌, ℕ, ◌+◌, Bool, true, false, ◌∷◌, [], length, Some, None}
 use Rattle.std.proofs.Common.{refl, sym, ◌∙◌, subst}
 use Rattle.std.proofs.lemmas.Bool.{false_from_ne_true}
+use Rattle.geo_base.proofs.Options.{some-there}
 use Rattle.geo_base.specs.declared.errno.Errno.TheVariants.{ENXIO, ELOOP, EDEEP}
 use Rattle.geo_model.specs.Words.{first_error}
 use Rattle.geo_model.specs.Topology.{Topology, Provider, geom_at, provider_at, consumer_at, is_errored, add_consumer, attach, set_config}
@@ -27,10 +28,6 @@ use Rattle.geo_laws_growth.specs.GrowthLaws.{IsFoundGrowing, AppendsHold, grown}
 use Rattle.geo_laws_growth.proofs.Joining.{joins_without_loop}
 use Rattle.geo_laws_growth.proofs.JoiningAllowed.{joins_are_allowed}
 use Rattle.geo_laws_growth.proofs.Grown.{growth_is_not_seen}
-
--- a geom that is found is there
-is_there : {X : Type 0} (o : Option X) (x : X) → o ≡ Some x → IsSome o
-is_there o x e = rw e refl
 
 -- an attach isn't refused where there is no error, no loop and nothing too deep
 not_refused : (a b c : Bool) → a ≡ false → b ≡ false → c ≡ false
@@ -76,7 +73,7 @@ module _ (w : World) (x : Growing) (q : Provider) where
       -- and so with the new one
       geoms_live_too : GeomsLive t
       geoms_live_too = add_consumer-geoms w.topology x.geom.number None
-          (is_there (geom_at w.topology x.geom.number) x.geom found.geom) geoms_live
+          (some-there (geom_at w.topology x.geom.number) x.geom found.geom) geoms_live
 
       -- the new consumer can be attached
       can : CanAttach t c q.number
@@ -93,7 +90,7 @@ module _ (w : World) (x : Growing) (q : Provider) where
       append_joins =
           joins_without_loop t c q.number can
           (adding-stay.consumer w.topology x.geom.number sound.ranks.ranked geoms_live
-          (is_there (geom_at w.topology x.geom.number) x.geom found.geom)).ranked
+          (some-there (geom_at w.topology x.geom.number) x.geom found.geom)).ranked
           geoms_live_too (added-consumer.order w.topology x.geom.number None (sound-order w sound.numbers)) allowed.loop
 
       -- the provider itself carries no error
@@ -120,7 +117,7 @@ module _ (w : World) (x : Growing) (q : Provider) where
           let place : Config = add_place x.geom.config c q.size in
           let before : RanksHold t =
           sound-ranks.consumer_added w.topology x.geom.number sound.ranks geoms_live
-          (is_there (geom_at w.topology x.geom.number) x.geom found.geom) in
+          (some-there (geom_at w.topology x.geom.number) x.geom found.geom) in
           let after : RanksHold (attach t c q.number) =
           sound-ranks.attached t c q.number can before geoms_live_too
           (added-consumer.order w.topology x.geom.number None (sound-order w sound.numbers)) sound.numbers.classes

@@ -1,10 +1,11 @@
 -- A handle is closed: a firm mesh stays firm.
-use Rattle.std.specs.Prelude.{◌≡◌, ◌≢◌, ℕ, ◌≤◌, ◌==◌, Bool, true, false, not, ◌&&◌, List, [], ◌∷◌, length, map, filter, find, count_by, Option, Some, None, Contains, IsSomeAnd, MatchOption}
+use Rattle.std.specs.Prelude.{◌≡◌, ◌≢◌, ℕ, ◌≤◌, ◌==◌, Bool, true, false, not, ◌&&◌, List, length, map, filter, find, count_by, Option, Some, None, Contains, IsSomeAnd, MatchOption}
 use Rattle.std.specs.List.{AllByRecursion}
-use Rattle.std.proofs.Common.{inl, inr, refl, sym, ◌∙◌, ap, subst, arith}
+use Rattle.std.proofs.Common.{refl, sym, ◌∙◌, ap, subst, arith}
 use Rattle.std.proofs.lemmas.Bool.{eq-eqb, ne_eqb}
 use Rattle.std.proofs.lemmas.List.Elements.{All-contains, All-filter}
 use Rattle.std.proofs.lemmas.List.Sums.{length-filter}
+use Rattle.geo_base.proofs.MemberLists.{one_only}
 use Rattle.geo_model.specs.Words.{same_name, names_number}
 use Rattle.geo_model.specs.Topology.{Topology, Consumer, consumer_at, consumers_of, remove_consumer}
 use Rattle.geo_model.specs.World.{World, Config, Handle, handle_of, is_active}
@@ -13,7 +14,7 @@ use Rattle.geo_model.specs.Graph.{AreNumbers}
 use Rattle.geo_model.specs.Sound.{IsHandleConsumer, HasItsConsumer}
 use Rattle.geo_model.specs.Fitting.{Firm}
 use Rattle.geo_model.proofs.DemandLemmas.{all_weaker}
-use Rattle.geo_laws_graph.proofs.Members.{find-Contains, filter-Contains, Contains-filter, Contains-cases, nothing_in}
+use Rattle.geo_laws_graph.proofs.Members.{find-Contains, filter-Contains, Contains-filter}
 use Rattle.geo_laws_graph.proofs.Lists.{numbers-kept, found_itself}
 use Rattle.geo_laws_graph.proofs.Numbered.{number_found, unique}
 use Rattle.geo_laws_graph.proofs.Found.{removed-consumer}
@@ -24,19 +25,6 @@ use Rattle.geo_laws_life.proofs.Found.{found-with, one-found}
 use Rattle.geo_laws_handles.specs.CloseLaws.{ClosesStayFirm}
 use Rattle.geo_laws_handles.proofs.Handles.{AreSteady, handles-firm}
 use Rattle.geo_laws_handles.proofs.Released.{AreReleased, without-firm}
-
--- a list of at most one item has not two
-pub one_item : {X : Type 0} (x y : X) (xs : List X) → length xs ≤ 1 → Contains xs x → Contains xs y → x ≡ y
-one_item x y [] short first second = absurd (nothing_in x first)
-one_item x y (z ∷ []) short first second =
-    elim (Contains-cases z x [] first) [
-      | inl a ↦ elim (Contains-cases z y [] second) [
-        | inl b ↦ sym a ∙ b
-        | inr none ↦ absurd (nothing_in y none)
-      ]
-      | inr none ↦ absurd (nothing_in x none)
-    ]
-one_item x y (z ∷ v ∷ zs) short first second = absurd (omega (arith, short))
 
 module _ (w : World) (firm : Firm w) where
   -- the graph
@@ -82,7 +70,7 @@ module _ (w : World) (firm : Firm w) where
       subst (λ m. count_by (λ (y : Handle). names_number y.consumer m) w.handles ≡ 1) c.number one in
       let same = length-filter (λ (y : Handle). names_number y.consumer n) w.handles in
       omega (arith, same, count)) in
-      one_item x h (filter (λ (y : Handle). names_number y.consumer n) w.handles) short
+      one_only (filter (λ (y : Handle). names_number y.consumer n) w.handles) x h short
       (Contains-filter (λ (y : Handle). names_number y.consumer n) w.handles x x_here
       (rw x_names (eq-eqb n n refl)))
       (Contains-filter (λ (y : Handle). names_number y.consumer n) w.handles h h_here

@@ -2,6 +2,7 @@
 use Rattle.std.specs.Prelude.{◌≡◌, ◌≢◌, ◌⊎◌, ℕ, ◌==◌, true, [], Some, Contains, IsSome}
 use Rattle.std.proofs.Common.{inl, inr, refl, sym, ◌∙◌, ap, subst}
 use Rattle.std.proofs.lemmas.Bool.{eq-eqb, eqb-true}
+use Rattle.geo_base.proofs.Tests.{from_false_true}
 use Rattle.geo_base.specs.declared.kind.Kind.{Kind}
 use Rattle.geo_base.specs.declared.kind.Kind.TheVariants as kinds
 use Rattle.geo_model.specs.Words.{is_kind, is_granted_kind}
@@ -16,30 +17,30 @@ use Rattle.geo_laws_graph.proofs.Lists.{found_itself}
 use Rattle.geo_laws_graph.proofs.Numbered.{number_found}
 use Rattle.geo_laws_graph.proofs.Living.{sound-order}
 use Rattle.geo_laws_life.proofs.Found.{some-with}
-use Rattle.geo_laws_life.proofs.MarksKept.{stands-at, class-at, not_set, taste_kind}
+use Rattle.geo_laws_life.proofs.MarksKept.{stands-at, class-at, taste_kind}
 
 -- the class with DEV's number is DEV
 dev_kind : (kind : Kind) → is_kind kind kinds.Dev ≡ true → kind ≡ kinds.Dev
 dev_kind kinds.Dev e = refl
-dev_kind kinds.Disk e = not_set e
-dev_kind kinds.Taste e = not_set e
-dev_kind kinds.Mbr e = not_set e
-dev_kind kinds.Ebr e = not_set e
-dev_kind kinds.Label e = not_set e
-dev_kind kinds.Concat e = not_set e
-dev_kind kinds.Stripe e = not_set e
-dev_kind kinds.Nop e = not_set e
+dev_kind kinds.Disk e = from_false_true e
+dev_kind kinds.Taste e = from_false_true e
+dev_kind kinds.Mbr e = from_false_true e
+dev_kind kinds.Ebr e = from_false_true e
+dev_kind kinds.Label e = from_false_true e
+dev_kind kinds.Concat e = from_false_true e
+dev_kind kinds.Stripe e = from_false_true e
+dev_kind kinds.Nop e = from_false_true e
 
 -- a geom of DEV has no configuration
 dev_nothing : (config : Config) → fits_kind kinds.Dev config ≡ true → config ≡ Nothing
 dev_nothing Nothing e = refl
-dev_nothing (Disk disk) e = not_set e
-dev_nothing (Mbr below slices) e = not_set e
-dev_nothing (Ebr below parts) e = not_set e
-dev_nothing (Label below) e = not_set e
-dev_nothing (Concat id places sizes) e = not_set e
-dev_nothing (Stripe id stripe places sizes) e = not_set e
-dev_nothing (Nop below offset fail) e = not_set e
+dev_nothing (Disk disk) e = from_false_true e
+dev_nothing (Mbr below slices) e = from_false_true e
+dev_nothing (Ebr below parts) e = from_false_true e
+dev_nothing (Label below) e = from_false_true e
+dev_nothing (Concat id places sizes) e = from_false_true e
+dev_nothing (Stripe id stripe places sizes) e = from_false_true e
+dev_nothing (Nop below offset fail) e = from_false_true e
 
 module _ (w : World) (firm : Firm w) where
   -- the graph

@@ -4,6 +4,7 @@ use Rattle.std.specs.Option.{option_map_or}
 use Rattle.std.proofs.Common.{inl, inr, refl, sym, ◌∙◌, ap, subst}
 use Rattle.std.proofs.lemmas.Bool.{eq-eqb, cases_eq}
 use Rattle.std.proofs.lemmas.List.Elements.{All-map}
+use Rattle.geo_base.proofs.Options.{none-mapped}
 use Rattle.geo_base.specs.declared.request.Counts.{Counts}
 use Rattle.geo_model.specs.declared.step.Entry.{Entry}
 use Rattle.geo_model.specs.declared.step.Event.TheVariants as events
@@ -23,7 +24,6 @@ use Rattle.geo_laws_graph.proofs.Lists.{changed, find-changed}
 use Rattle.geo_laws_graph.proofs.Found.{removed-consumer}
 use Rattle.geo_laws_graph.proofs.Living.{found-before}
 use Rattle.geo_laws_counts.proofs.LimitFacts.{all_of}
-use Rattle.geo_laws_offers.proofs.Quiet.{none-before}
 use Rattle.geo_laws_offers.proofs.Frees.{consumer-found, provider-found}
 use Rattle.geo_laws_handles.proofs.Released.{AreReleased, no_source}
 use Rattle.geo_laws_handles.proofs.Closed.{others, others_released, has_dev, one_holder}
@@ -66,7 +66,7 @@ marks-keep t test = record {
   geoms = refl;
   providers = refl;
   consumers = λ n gone.
-      none-before (changed test (λ (x : Consumer). record x { spoiled = true })) (consumer_at t n)
+      none-mapped (changed test (λ (x : Consumer). record x { spoiled = true })) (consumer_at t n)
       (sym (find-changed test (λ (x : Consumer). record x { spoiled = true }) (λ (x : Consumer). x.number == n)
       (λ x e. refl) t.consumers) ∙ gone);
 }

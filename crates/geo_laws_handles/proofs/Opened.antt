@@ -6,6 +6,7 @@ use Rattle.std.proofs.Common.{inl, inr, refl, sym, ◌∙◌, ap, subst, arith}
 use Rattle.std.proofs.lemmas.Bool.{eq-eqb, eqb-true, ne_eqb, cases_eq}
 use Rattle.std.proofs.lemmas.List.Elements.{All-contains, All-weaker, All-push}
 use Rattle.std.proofs.lemmas.List.Sums.{length-filter}
+use Rattle.geo_base.proofs.FindLists.{some-passes, none_passes}
 use Rattle.geo_base.specs.declared.request.Counts.{Counts}
 use Rattle.geo_base.specs.declared.limits.TheConstants.{UNTASTED_RANK}
 use Rattle.geo_model.specs.declared.step.Owner.{Owner}
@@ -39,9 +40,8 @@ use Rattle.geo_laws_counts.specs.DemandLaws.{StaysAround}
 use Rattle.geo_laws_counts.specs.AllowedLaws.{IsAllowed}
 use Rattle.geo_laws_counts.proofs.Openers.{came_stays, came_wants}
 use Rattle.geo_laws_counts.proofs.Refusing.{errors_came}
-use Rattle.geo_laws_bios.proofs.Items.{none_kept, none_passes}
+use Rattle.geo_laws_bios.proofs.Items.{none_kept}
 use Rattle.geo_laws_life.proofs.Found.{found-with, some-with, some-there, if-found, at-found, one-found, all_zip-weaker}
-use Rattle.geo_laws_life.proofs.LessSteady.{some-passes}
 use Rattle.geo_laws_handles.proofs.Devs.{holds_grants, dev_there, dev_config, not_of_dev}
 
 -- who serves a bio, serves it with more counts

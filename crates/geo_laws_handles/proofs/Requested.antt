@@ -4,6 +4,7 @@ use Rattle.std.specs.Option.{option_map_or}
 use Rattle.std.proofs.Common.{inl, refl, sym, ◌∙◌, ap, subst, arith}
 use Rattle.std.proofs.lemmas.Bool.{eq-eqb, eqb-true, eqb-false, or_parts, not-false, ltb-false, not-true}
 use Rattle.std.proofs.lemmas.List.Elements.{All-contains}
+use Rattle.geo_base.proofs.FindLists.{none_passes}
 use Rattle.geo_base.specs.declared.request.BioCmd.TheVariants as cmds
 use Rattle.geo_base.specs.declared.request.Counts.{Counts}
 use Rattle.geo_base.specs.declared.errno.Errno.{Errno}
@@ -31,7 +32,6 @@ use Rattle.geo_laws_counts.proofs.Openers.{wants_grant}
 use Rattle.geo_laws_life.proofs.Found.{some-with}
 use Rattle.geo_laws_handles.proofs.Devs.{holds_grants}
 use Rattle.geo_laws_handles.proofs.Closed.{has_dev, one_holder}
-use Rattle.geo_laws_bios.proofs.Items.{none_passes}
 use Rattle.geo_laws_graph.proofs.Members.{at_contained}
 use Rattle.geo_laws_handles.specs.RequestLaws.{HasItsBytes, FillsSectors, RequestsStayFirm}
 use Rattle.geo_laws_handles.proofs.Submitted.{submitted-firm}

@@ -5,7 +5,8 @@ use Rattle.std.specs.Option.{option_map_or, option_and_then}
 use Rattle.std.proofs.Common.{inl, inr, refl, sym, ◌∙◌, ap, subst}
 use Rattle.std.proofs.lemmas.Bool.{eq-eqb, and_parts, or_parts}
 use Rattle.std.proofs.lemmas.List.Elements.{All-contains, All-head, All-tail, All-map, All-filter}
-use Rattle.geo_base.specs.declared.kind.Kind.TheVariants as kinds
+use Rattle.geo_model.proofs.Tests.{from_false_true}
+use Rattle.geo_model.specs.Kind.TheVariants as kinds
 use Rattle.geo_model.specs.declared.step.Event.TheVariants as events
 use Rattle.geo_model.specs.Words.{is_kind, names_number}
 use Rattle.geo_model.specs.Topology.{Topology, Geom, Provider, Consumer, geom_at, provider_at, geom_of_provider, attached_to, consumers_of, is_errored, set_marks}
@@ -19,7 +20,7 @@ use Rattle.geo_laws_graph.proofs.Members.{All-from_contained, Contains-filter, f
 use Rattle.geo_laws_graph.proofs.Numbered.{number_found}
 use Rattle.geo_laws_counts.proofs.LimitFacts.{all_of}
 use Rattle.geo_laws_life.specs.EffectLaws.{Lives, AnnouncesKeepFirm, EventsKeepFirm}
-use Rattle.geo_laws_life.proofs.MarksKept.{posted-firm, marked-firm, announced-firm, stands-at, made-at, class-at, not_set}
+use Rattle.geo_laws_life.proofs.MarksKept.{posted-firm, marked-firm, announced-firm, stands-at, made-at, class-at}
 use Rattle.geo_laws_life.proofs.Withering.{withered-firm, unless-firm, whichever-firm}
 
 -- Offers and spoils
@@ -28,7 +29,7 @@ use Rattle.geo_laws_life.proofs.Withering.{withered-firm, unless-firm, whichever
 offered_lives : (t : Topology Config) (o : Option Provider)
     → option_map_or (λ (g : Geom Config). g.withering) (option_and_then (λ (x : Provider). geom_at t x.geom) o)
     true ≡ false → IsSome o
-offered_lives t None e = not_set (sym e)
+offered_lives t None e = from_false_true (sym e)
 offered_lives t (Some x) e = refl
 
 -- an offer
@@ -93,7 +94,7 @@ spoil_one w c other firm =
     unless-firm (record w { topology = set_marks w.topology (λ x. x.number == c.number) false }) c.geom other.0 other.1
     (marked-firm w (λ x. x.number == c.number) false
     (all_of (λ (d : Consumer). d.geom ≡ 1 → false ≡ true → (d.number == c.number) ≡ false) w.topology.consumers
-    (λ d here own set. not_set set)) firm)
+    (λ d here own set. from_false_true set)) firm)
 
 -- so some of them
 spoil_some : (cs : List Consumer) (w : World) → AllByRecursion IsOtherConsumer cs → Firm w
@@ -118,7 +119,7 @@ spoil-firm w p none firm =
         let clean : c.spoiled ≡ false =
         All-contains (λ (z : Consumer). z.spoiled ≡ false) (consumers_of w.topology 1) c firm.steady.unmarked
         (Contains-filter (λ (z : Consumer). z.geom == 1) w.topology.consumers c here (eq-eqb c.geom 1 own)) in
-        not_set (sym clean ∙ marked)
+        from_false_true (sym clean ∙ marked)
 
 -- a consumer whose geom isn't of DEV isn't one of geom 1
 not_of_dev : (w : World) → Firm w → (c : Consumer) → is_of_dev w.topology c ≡ false → c.geom ≢ 1
@@ -128,7 +129,8 @@ not_of_dev w firm c e own =
     let number : g.item.number ≡ 1 = number_found (λ (x : Geom Config). x.number) w.topology.geoms c.geom g.item g.is
     ∙ own in
     let kind : is_kind g.item.kind kinds.Dev ≡ true = class.dev ∙ ap (λ n. n == 1) number in
-    not_set (sym e ∙ ap (λ (o : Option (Geom Config)). option_map_or (λ (x : Geom Config). is_kind x.kind kinds.Dev) o
+    from_false_true
+    (sym e ∙ ap (λ (o : Option (Geom Config)). option_map_or (λ (x : Geom Config). is_kind x.kind kinds.Dev) o
     false) g.is ∙ kind)
 
 -- a consumer hears that its provider is orphaned
@@ -165,7 +167,8 @@ outgrown_other w firm c e which =
     let both : (g.item.automatic && not g.item.withering) ≡ true =
     sym (ap (λ (o : Option (Geom Config)). option_map_or (λ (x : Geom Config). x.automatic && not x.withering) o
     false) g.is) ∙ automatic in
-    not_set (sym (made-at w firm c.geom g.item which g.is) ∙ (and_parts g.item.automatic (not g.item.withering) both).0)
+    from_false_true
+    (sym (made-at w firm c.geom g.item which g.is) ∙ (and_parts g.item.automatic (not g.item.withering) both).0)
 
 -- a geom goes that its provider has outgrown
 outgrow_one : (w : World) (c : Consumer) → Firm w

@@ -5,9 +5,10 @@ use Rattle.std.specs.Option.{option_map_or}
 use Rattle.std.proofs.Common.{inl, inr, refl, sym, ◌∙◌, ap, subst, arith}
 use Rattle.std.proofs.lemmas.Bool.{or_parts, leb-false, eq-eqb, cases_eq}
 use Rattle.std.proofs.lemmas.List.Elements.{All-contains, All-weaker, All-push}
-use Rattle.geo_base.specs.declared.request.Counts.{Counts}
-use Rattle.geo_base.specs.declared.kind.Kind.TheVariants as kinds
-use Rattle.geo_base.specs.declared.limits.TheConstants.{UNTASTED_RANK}
+use Rattle.geo_model.proofs.Tests.{from_false_true}
+use Rattle.geo_model.specs.Counts.{Counts}
+use Rattle.geo_model.specs.Kind.TheVariants as kinds
+use Rattle.geo_model.specs.TheConstants.{UNTASTED_RANK}
 use Rattle.geo_model.specs.declared.step.Owner.{Owner}
 use Rattle.geo_model.specs.declared.step.Owner.TheVariants as owners
 use Rattle.geo_model.specs.Words.{names_number, is_read, is_granted_kind}
@@ -52,24 +53,24 @@ use Rattle.geo_model.specs.Step.{step, event, event_of}
 use Rattle.geo_laws_life.specs.EventLaws.{EventStepKeepsFirm}
 use Rattle.geo_laws_life.proofs.Killed.{all_killed-firm}
 use Rattle.geo_laws_life.proofs.Announced.{spoil-firm, orphan-firm, resize-firm, killed_queued}
-use Rattle.geo_laws_life.proofs.MarksKept.{queues_keep, stands-at, class-at, not_set, taste_kind}
+use Rattle.geo_laws_life.proofs.MarksKept.{queues_keep, stands-at, class-at, taste_kind}
 
 -- a geom of TASTE has no configuration
 pub taste_nothing : (config : Config) → fits_kind kinds.Taste config ≡ true → config ≡ Nothing
 taste_nothing Nothing e = refl
-taste_nothing (Disk disk) e = not_set e
-taste_nothing (Mbr below slices) e = not_set e
-taste_nothing (Ebr below parts) e = not_set e
-taste_nothing (Label below) e = not_set e
-taste_nothing (Concat id places sizes) e = not_set e
-taste_nothing (Stripe id stripe places sizes) e = not_set e
-taste_nothing (Nop below offset fail) e = not_set e
+taste_nothing (Disk disk) e = from_false_true e
+taste_nothing (Mbr below slices) e = from_false_true e
+taste_nothing (Ebr below parts) e = from_false_true e
+taste_nothing (Label below) e = from_false_true e
+taste_nothing (Concat id places sizes) e = from_false_true e
+taste_nothing (Stripe id stripe places sizes) e = from_false_true e
+taste_nothing (Nop below offset fail) e = from_false_true e
 
 -- what the test of a taste says of the geom
 geom_tasted : (t : Topology Config) (o : Option (Geom Config))
     → option_map_or (λ g. g.withering || nat_le UNTASTED_RANK (rank t g.number)) o true ≡ false
     → FoundWith o (λ g. rank t g.number < UNTASTED_RANK)
-geom_tasted t None e = not_set (sym e)
+geom_tasted t None e = from_false_true (sym e)
 geom_tasted t (Some g) e = record {
   item = g;
   is = refl;
@@ -184,7 +185,7 @@ module _ (w : World) (p : ℕ) (firm : Firm w) (none : w.taste ≡ None) (x : Pr
 
   -- the consumers of DEV are the same
   same_dev : consumers_of u 1 ≡ consumers_of t 1
-  same_dev = added-consumer.others_of t 2 (Some p) 1 (λ e. not_set (eq-eqb 1 2 e))
+  same_dev = added-consumer.others_of t 2 (Some p) 1 (λ e. from_false_true (eq-eqb 1 2 e))
 
   -- a place is still inside
   inside : (h : Geom Config) (q : Provider) (spot : Spot) → IsPlaceInside t h q spot → IsPlaceInside u h q spot

@@ -1,7 +1,7 @@
 -- The changes of one thing by which a graph comes to less.
 use Rattle.std.specs.Prelude.{◌+◌, ◌≡◌, ◌⊎◌, ℕ, ◌==◌, Bool, true, false, List, [], ◌∷◌, length, find, Option, Some, None, Contains, IsSome, MatchOption, option_map, if◌then◌else◌}
 use Rattle.std.proofs.Common.{inl, inr, refl, sym, ◌∙◌, ap, subst}
-use Rattle.geo_base.proofs.Tests.{is_some-map}
+use Rattle.geo_model.proofs.Options.{is_some-map}
 use Rattle.geo_model.specs.Words.{change_where}
 use Rattle.geo_model.specs.Topology.{Topology, Geom, Provider, Consumer, consumer_at, providers_of, consumers_of, set_error, set_withering, set_marks, note_started}
 use Rattle.geo_model.specs.Rank.{rank}

@@ -1,14 +1,16 @@
 -- What is found, and pairs of a list in order of numbers.
-use Rattle.std.specs.Prelude.{◌≡◌, ◌≢◌, ℕ, ◌+◌, ◌<◌, ◌≤◌, ◌==◌, Bool, true, false, not, List, [], ◌∷◌, map, filter, find, Option, Some, None, AllPairs, Contains, IfSome, IsSomeAnd, IsSome}
-use Rattle.std.specs.List.{AllByRecursion, AllZip}
+use Rattle.std.specs.Prelude.{◌≡◌, ℕ, ◌+◌, ◌<◌, ◌≤◌, ◌==◌, List, [], ◌∷◌, map, find, Option, Some, None, AllPairs, Contains, IsSomeAnd}
+use Rattle.std.specs.List.{AllZip}
 use Rattle.std.proofs.Common.{inl, inr, refl, sym, ◌∙◌, ap, subst, arith}
-use Rattle.std.proofs.lemmas.Bool.{eq-eqb}
 use Rattle.geo_model.specs.Graph.{AreNumbers}
 use Rattle.geo_laws_graph.proofs.Members.{Contains-here, Contains-there, Contains-cases, nothing_in, All-from_contained, at_contained, find-Contains}
 use Rattle.geo_laws_graph.proofs.Lists.{Rise, rise-from, found_itself}
 use Rattle.geo_laws_graph.proofs.Numbered.{number_found}
 use Rattle.geo_laws_life.proofs.Standers.{PairsByRecursion, pairs-from_recursion, recursion-from_pairs}
 use Rattle.geo_laws_life.specs.LessLaws.{ComesFrom}
+pub use Rattle.geo_model.proofs.Options.{some-with, some-there, if-found, at-found, at-some, one-found, none-there}
+pub use Rattle.geo_model.proofs.FilterLists.{keeps_all}
+pub use Rattle.geo_model.proofs.Tests.{passes_apart}
 
 -- a thing that is found, and what holds of it
 pub record FoundWith {X : Type 0} (o : Option X) (P : X → Type 0) : Type 0 where
@@ -21,46 +23,6 @@ module _ {X : Type 0} where
   pub found-with : (o : Option X) (P : X → Type 0) → IsSomeAnd o P → FoundWith o P
   found-with None P fact = absurd fact
   found-with (Some x) P fact = record { item = x; is = refl; fact = fact }
-
-  -- a fact of what is found
-  pub some-with : (o : Option X) (P : X → Type 0) (x : X) → o ≡ Some x → P x → IsSomeAnd o P
-  some-with o P x e fact = subst (λ z. IsSomeAnd z P) (sym e) fact
-
-  -- what is found is there
-  pub some-there : (o : Option X) (x : X) → o ≡ Some x → IsSome o
-  some-there o x e = subst (λ z. IsSome z) (sym e) refl
-
-  -- a fact of whatever is found
-  pub if-found : (o : Option X) (P : X → Type 0) → ((x : X) → o ≡ Some x → P x) → IfSome o P
-  if-found None P so = tt
-  if-found (Some x) P so = so x refl
-
-  -- such a fact of what is found
-  pub at-found : (o : Option X) (P : X → Type 0) (x : X) → o ≡ Some x → IfSome o P → P x
-  at-found o P x e fact = subst (λ z. IfSome z P) e fact
-
-  -- what holds of whatever is found there holds of what is found
-  pub at-some : (o : Option X) (P : X → Type 0) (x : X) → o ≡ Some x → IsSomeAnd o P → P x
-  at-some o P x e fact = subst (λ z. IsSomeAnd z P) e fact
-
-  -- two things that are found in one place are one
-  pub one-found : (o : Option X) (x y : X) → o ≡ Some x → o ≡ Some y → x ≡ y
-  one-found o x y e f = cc
-
-  -- nothing isn't something
-  pub none-there : (o : Option X) → o ≡ None → IsSome o → ⊥
-  none-there o e there = let no : false ≡ true = subst (λ z. IsSome z) e there in cc
-
--- a test that all items pass keeps them all
-pub keeps_all : {X : Type 0} (test : X → Bool) (xs : List X) → AllByRecursion (λ x. test x ≡ true) xs
-    → filter test xs ≡ xs
-keeps_all test [] facts = refl
-keeps_all test (x ∷ xs) facts = rw (facts.0, keeps_all test xs facts.1) refl
-
--- a number that passes isn't the one that goes
-pub passes_apart : (n p : ℕ) → not (n == p) ≡ true → n ≢ p
-passes_apart n p e same = let is : (n == p) ≡ true = eq-eqb n p same in let no : false ≡ true =
-    sym (ap not is) ∙ e in cc
 
 -- a fact of each two items of two lists that follows from another
 pub all_zip-weaker : {A B : Type 0} (R S : A → B → Type 0) → ((a : A) (b : B) → R a b → S a b)

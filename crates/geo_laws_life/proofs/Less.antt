@@ -1,7 +1,7 @@
 -- How things stay what they are in a graph that has come to less.
 use Rattle.std.specs.Prelude.{Bool, true, false, ◌≡◌, ℕ, ◌≤◌, Some, IsSome}
 use Rattle.std.proofs.Common.{inl, refl, sym, ◌∙◌, ap, subst, arith}
-use Rattle.geo_base.specs.declared.request.Counts.{Counts}
+use Rattle.geo_model.specs.Counts.{Counts}
 use Rattle.geo_model.specs.Topology.{Topology, Geom, Provider, Consumer, consumer_at}
 use Rattle.geo_model.specs.World.{World, Config}
 use Rattle.geo_model.specs.Graph.{IsInOrder}

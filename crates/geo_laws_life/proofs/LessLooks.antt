@@ -3,8 +3,9 @@ use Rattle.std.specs.Prelude.{◌≡◌, ◌⊎◌, ℕ, ◌==◌, Bool, true, f
 use Rattle.std.proofs.Common.{inl, inr, refl, sym, ◌∙◌, ap, subst}
 use Rattle.std.proofs.lemmas.Bool.{eqb-true, eq-eqb}
 use Rattle.std.proofs.lemmas.List.Elements.{All-contains}
-use Rattle.geo_base.specs.declared.kind.Kind.{Kind}
-use Rattle.geo_base.specs.declared.kind.Kind.TheVariants as kinds
+use Rattle.geo_model.proofs.Tests.{from_false_true}
+use Rattle.geo_model.specs.Kind.{Kind}
+use Rattle.geo_model.specs.Kind.TheVariants as kinds
 use Rattle.geo_model.specs.Words.{is_kind, is_granted_kind}
 use Rattle.geo_model.specs.Topology.{Topology, Geom, Provider, Consumer, geom_at, provider_at, consumer_at, geom_of_provider, providers_of}
 use Rattle.geo_model.specs.Demand.{have, want, no_counts}
@@ -44,10 +45,6 @@ components-below _ c here = refl
 pub record IsMiddleKind (kind : Kind) : Type 0 where
   pub granted : is_granted_kind kind ≡ false
   pub disk : is_kind kind kinds.Disk ≡ false
-
--- false is never true, so all follows from it
-pub from_false_true : {A : Type 0} → false ≡ true → A
-from_false_true e = absurd (let no : ⊥ = cc in no)
 
 -- the configuration of a disk, of DEV and of TASTE has nothing below
 bare_disk : (config : Config) → fits_kind kinds.Disk config ≡ true → has_below config ≡ false

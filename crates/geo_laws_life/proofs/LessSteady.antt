@@ -1,11 +1,10 @@
 -- A graph that has come to less is steady.
-use Rattle.std.specs.Prelude.{◌≡◌, ◌⊎◌, ℕ, ◌≤◌, Bool, true, false, not, List, [], ◌∷◌, length, Option, Some, None, All, Contains, IsSome, IsSomeAnd, IfSome, IsTrue, option_and_then}
-use Rattle.std.specs.List.{list_any}
+use Rattle.std.specs.Prelude.{◌≡◌, ◌⊎◌, ℕ, ◌≤◌, true, false, not, List, [], ◌∷◌, length, Option, Some, None, All, Contains, IsSome, IsSomeAnd, IfSome, IsTrue, option_and_then}
 use Rattle.std.proofs.Common.{inl, inr, refl, sym, ◌∙◌, ap, subst, arith}
-use Rattle.std.proofs.lemmas.Bool.{or_cases}
 use Rattle.std.proofs.lemmas.List.Elements.{All-contains}
+use Rattle.geo_model.proofs.FindLists.{some-passes}
 use Rattle.geo_model.specs.declared.step.Event.{Event}
-use Rattle.geo_base.specs.declared.request.Counts.{Counts}
+use Rattle.geo_model.specs.Counts.{Counts}
 use Rattle.geo_model.specs.Topology.{Topology, Geom, Provider, Consumer, geom_at, provider_at, consumer_at, providers_of, consumers_of}
 use Rattle.geo_model.specs.Demand.{have, no_counts, is_zero}
 use Rattle.geo_model.specs.Place.{components}
@@ -13,7 +12,6 @@ use Rattle.geo_model.specs.World.{World, Config, granted_in}
 use Rattle.geo_model.specs.Sound.{IsOfItsClass}
 use Rattle.geo_model.specs.Steady.{Steady, has_free_place, has_open_provider, HasItsComponents, WaitsForPlaces}
 use Rattle.geo_model.specs.Fitting.{Firm}
-use Rattle.geo_laws_graph.proofs.Members.{Contains-here, Contains-there}
 use Rattle.geo_laws_graph.proofs.Lists.{found_itself}
 use Rattle.geo_laws_graph.proofs.Numbered.{any-contained}
 use Rattle.geo_laws_counts.proofs.LimitFacts.{all_of}
@@ -21,23 +19,6 @@ use Rattle.geo_laws_life.proofs.Found.{found-with, some-with, one-found}
 use Rattle.geo_laws_life.specs.LessLaws.{IsGeomOf, IsSpent, IsLess}
 use Rattle.geo_laws_life.proofs.Less.{upright-before, remade, geom-number, provider-number}
 use Rattle.geo_laws_life.proofs.LessLooks.{has_below, components-below, before_order, stays_or_spent, of_geom, spent-closed}
-
--- a member that passes a test, where one does
-pub record Passes {X : Type 0} (test : X → Bool) (xs : List X) : Type 0 where
-  pub item : X
-  pub here : Contains xs item
-  pub passes : test item ≡ true
-
--- one that a list has that passes
-pub some-passes : {X : Type 0} (test : X → Bool) (xs : List X) → list_any test xs ≡ true → Passes test xs
-some-passes test [] some = absurd (let no : ⊥ = cc in no)
-some-passes test (x ∷ xs) some =
-    elim (or_cases (test x) (list_any test xs) some) [
-      | inl first ↦ record { item = x; here = Contains-here x xs; passes = first }
-      | inr rest ↦
-          (let more = some-passes test xs rest in
-          record { item = more.item; here = Contains-there x more.item xs more.here; passes = more.passes })
-    ]
 
 -- a list that isn't longer than none
 no_longer : {X : Type 0} (xs ys : List X) → length xs ≤ length ys → ys ≡ [] → xs ≡ []

@@ -5,8 +5,9 @@ use Rattle.std.specs.Option.{option_map_or}
 use Rattle.std.proofs.Common.{inl, inr, refl, sym, ◌∙◌, ap, subst}
 use Rattle.std.proofs.lemmas.Bool.{eqb-true, or_from}
 use Rattle.std.proofs.lemmas.List.Elements.{All-contains, All-weaker, All-push, All-tail, All-from_recursion}
-use Rattle.geo_base.specs.declared.kind.Kind.{Kind}
-use Rattle.geo_base.specs.declared.kind.Kind.TheVariants as kinds
+use Rattle.geo_model.proofs.Tests.{from_false_true}
+use Rattle.geo_model.specs.Kind.{Kind}
+use Rattle.geo_model.specs.Kind.TheVariants as kinds
 use Rattle.geo_model.specs.declared.step.Event.{Event}
 use Rattle.geo_model.specs.declared.step.Event.TheVariants as events
 use Rattle.geo_model.specs.Words.{change_where, is_kind, names_number}
@@ -25,7 +26,6 @@ use Rattle.geo_laws_life.specs.EffectLaws.{Lives, QueuesKeepFirm, KillsKeepFirm,
 use Rattle.geo_laws_life.proofs.Found.{found-with}
 use Rattle.geo_laws_life.proofs.Less.{less-self}
 use Rattle.geo_laws_life.proofs.LessFitting.{less-firm}
-pub use Rattle.geo_laws_life.proofs.LessLooks.{from_false_true as not_set}
 use Rattle.geo_laws_life.proofs.Changes.{less-marks}
 use Rattle.geo_laws_life.proofs.Killed.{killed-firm, all_killed-firm}
 
@@ -167,14 +167,14 @@ announced-firm w p lives firm =
 -- the class with TASTE's number is TASTE
 pub taste_kind : (kind : Kind) → is_kind kind kinds.Taste ≡ true → kind ≡ kinds.Taste
 taste_kind kinds.Taste e = refl
-taste_kind kinds.Disk e = not_set e
-taste_kind kinds.Dev e = not_set e
-taste_kind kinds.Mbr e = not_set e
-taste_kind kinds.Ebr e = not_set e
-taste_kind kinds.Label e = not_set e
-taste_kind kinds.Concat e = not_set e
-taste_kind kinds.Stripe e = not_set e
-taste_kind kinds.Nop e = not_set e
+taste_kind kinds.Disk e = from_false_true e
+taste_kind kinds.Dev e = from_false_true e
+taste_kind kinds.Mbr e = from_false_true e
+taste_kind kinds.Ebr e = from_false_true e
+taste_kind kinds.Label e = from_false_true e
+taste_kind kinds.Concat e = from_false_true e
+taste_kind kinds.Stripe e = from_false_true e
+taste_kind kinds.Nop e = from_false_true e
 
 -- marks keep a firm world firm
 pub marks_keep : MarksKeepFirm
@@ -185,7 +185,7 @@ marks_keep = record {
       (λ c none own set. none own) w.topology.consumers so) firm;
   taken = λ w test firm.
       marked-firm w test false (all_of (λ (c : Consumer). c.geom ≡ 1 → false ≡ true → test c ≡ false)
-      w.topology.consumers (λ c here own set. not_set set)) firm;
+      w.topology.consumers (λ c here own set. from_false_true set)) firm;
   spoiled = spoiled-firm;
   announced = announced-firm;
 }

@@ -7,8 +7,8 @@ use Rattle.std.proofs.lemmas.List.Elements.{All-from_recursion}
 use Rattle.geo_model.specs.declared.step.Event.{Event}
 use Rattle.geo_model.specs.Topology.{Topology, Geom, Provider, geom_at, provider_at, providers_of, attached_to, is_withering}
 use Rattle.geo_model.specs.Rank.{rank}
-use Rattle.geo_base.specs.declared.kind.Kind.TheVariants as kinds
-use Rattle.geo_base.specs.declared.limits.TheConstants.{MAX_ACCESS_COUNT}
+use Rattle.geo_model.specs.Kind.TheVariants as kinds
+use Rattle.geo_model.specs.TheConstants.{MAX_ACCESS_COUNT}
 use Rattle.geo_model.specs.Names.{dev_name, taste_name}
 use Rattle.geo_model.specs.Demand.{have, stand_together}
 use Rattle.geo_model.specs.Place.{disk_of}

@@ -5,8 +5,8 @@ use Rattle.std.proofs.Common.{inl, inr, refl, ◌∙◌, ap, arith}
 use Rattle.std.proofs.lemmas.List.Elements.{recursion_from_All, All-from_recursion}
 use Rattle.std.proofs.lemmas.List.Kept.{AllPairs-cons}
 use Rattle.std.proofs.Math.Nat.{mul-mod_right}
-use Rattle.geo_base.proofs.Tests.{pairs_head, pairs_tail}
-use Rattle.geo_base.specs.declared.limits.TheConstants.{MAX_IMAGE_BYTES}
+use Rattle.geo_model.proofs.AllLists.{pairs_head, pairs_tail}
+use Rattle.geo_model.specs.TheConstants.{MAX_IMAGE_BYTES}
 use Rattle.geo_model.specs.declared.command.DiskDecl.{DiskDecl}
 use Rattle.geo_model.specs.World.{Plan, HeaderDisk}
 use Rattle.geo_model.specs.Plans.{IsPlan, FactsFit, IsFact, IsDiskDecl, Differ}

@@ -5,6 +5,7 @@ use Rattle.std.specs.Option.{option_map, option_or, option_and_then, option_map_
 use Rattle.std.proofs.Common.{inl, inr, refl, sym, ◌∙◌, ap, subst, arith}
 use Rattle.std.proofs.lemmas.Bool.{eqb-true, ne_eqb, cases_eq, and_parts, and_from}
 use Rattle.std.proofs.lemmas.List.Elements.{All-contains}
+use Rattle.geo_model.proofs.FindLists.{some-passes}
 use Rattle.geo_model.specs.declared.step.Entry.{Entry}
 use Rattle.geo_model.specs.declared.step.Step.TheVariants as steps
 use Rattle.geo_model.specs.declared.step.WashWork.{WashWork}
@@ -32,7 +33,6 @@ use Rattle.geo_laws_life.proofs.Found.{FoundWith, found-with, some-there, one-fo
 use Rattle.geo_laws_life.specs.LessLaws.{IsSpent}
 use Rattle.geo_laws_life.proofs.Less.{less-self}
 use Rattle.geo_laws_life.proofs.LessBios.{bio-stands, no_count}
-use Rattle.geo_laws_life.proofs.LessSteady.{some-passes}
 use Rattle.geo_laws_life.proofs.Removals.{IsBareGeom, without_provider-firm, without_consumer-firm, without_geom-firm, no_consumer, no_provider, not_upright, consumer_there}
 
 -- what can go: a provider with nothing attached, a consumer that is spent, a geom that is bare

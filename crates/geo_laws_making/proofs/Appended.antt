@@ -2,6 +2,7 @@
 -- refused.
 use Rattle.std.specs.Prelude.{◌≡◌, ℕ, false, List, [], ◌∷◌, Option, Some, None, IsSome, find, ◌==◌}
 use Rattle.std.proofs.Common.{refl, sym, subst}
+use Rattle.geo_model.proofs.RefusalLemmas.{none_refused}
 use Rattle.geo_base.specs.declared.errno.Errno.{Errno}
 use Rattle.geo_base.specs.declared.errno.Errno.TheVariants.{EBUSY, EINVAL}
 use Rattle.geo_base.specs.declared.request.Counts.{Counts}
@@ -19,7 +20,6 @@ use Rattle.geo_laws_graph.proofs.Living.{sound-order}
 use Rattle.geo_laws_life.proofs.Announced.{announces_keep}
 use Rattle.geo_laws_life.proofs.MarksKept.{queues_keep}
 use Rattle.geo_laws_making.proofs.Made.{through}
-use Rattle.geo_laws_making.proofs.Inserted.{none_refused}
 use Rattle.geo_laws_making.proofs.Nopped.{found_by_number}
 use Rattle.geo_laws_making.specs.AppendLaws.{AppendsStayFirm}
 use Rattle.geo_laws_making.proofs.Numbers.{number_firm}

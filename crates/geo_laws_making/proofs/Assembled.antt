@@ -173,14 +173,3 @@ zip-set R [] (y ∷ ys) k a b facts new = absurd facts
 zip-set R (x ∷ xs) [] k a b facts new = absurd facts
 zip-set R (x ∷ xs) (y ∷ ys) zero a b facts new = (new, facts.1)
 zip-set R (x ∷ xs) (y ∷ ys) (suc k) a b facts new = (facts.0, zip-set R xs ys k a b facts.1 new)
-
--- a fact that follows for each that is among the places
-pub zip-among : {A B : Type 0} (R S : A → B → Type 0) (xs : List A) (ys : List B)
-    → ((a : A) (b : B) → Contains xs a → R a b → S a b) → AllZip R xs ys → AllZip S xs ys
-zip-among R S [] [] so facts = facts
-zip-among R S [] (y ∷ ys) so facts = absurd facts
-zip-among R S (x ∷ xs) [] so facts = absurd facts
-zip-among R S (x ∷ xs) (y ∷ ys) so facts = (
-  so x y (Contains-here x xs) facts.0,
-  zip-among R S xs ys (λ a b here. so a b (Contains-there x a xs here)) facts.1,
-)

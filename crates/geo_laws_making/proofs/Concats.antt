@@ -91,20 +91,6 @@ still_fits kind config c size concat fits =
     subst (λ k. fits_kind k (add_place config c size) ≡ true) (sym concat)
     (subst (λ z. fits_kind kinds.Concat (add_place z c size) ≡ true) (sym a.is) refl)
 
--- two members of a list of one are one
-pub one_only : {X : Type 0} (xs : List X) (a b : X) → length xs ≤ 1 → Contains xs a → Contains xs b → a ≡ b
-one_only [] a b short first second = absurd (nothing_in a first)
-one_only (x ∷ []) a b short first second =
-    elim (Contains-cases x a [] first) [
-      | inl same ↦
-          elim (Contains-cases x b [] second) [
-            | inl too ↦ sym same ∙ too
-            | inr rest ↦ absurd (nothing_in b rest)
-          ]
-      | inr rest ↦ absurd (nothing_in a rest)
-    ]
-one_only (x ∷ y ∷ xs) a b short first second = absurd (omega (arith, short))
-
 -- without a member a list is shorter
 shorter : (x : ℕ) (y : ℕ) (ys : List ℕ) → (Contains ys x → length (filter (λ z. not (z == x)) ys) < length ys)
     → Contains (y ∷ ys) x → (b : Bool) → (y == x) ≡ b → length (filter (λ z. not (z == x)) (y ∷ ys))
@@ -154,17 +140,6 @@ filled_still (Some d ∷ places) c none = filled_still places c none
 pub place-component : (places : List (Option ℕ)) (c : ℕ) → Contains places (Some c)
     → Contains (flat_map option_to_list places) c
 place-component places c here = in_flat_map option_to_list places (Some c) c here (Contains-here c [])
-
--- a fact of each two items of two lists, with the membership of the first
-pub zip_members : {A B : Type 0} (R S : A → B → Type 0) (xs : List A) (ys : List B)
-    → ((a : A) (b : B) → Contains xs a → R a b → S a b) → AllZip R xs ys → AllZip S xs ys
-zip_members R S [] [] so facts = facts
-zip_members R S [] (y ∷ ys) so facts = facts
-zip_members R S (x ∷ xs) [] so facts = facts
-zip_members R S (x ∷ xs) (y ∷ ys) so facts = (
-  so x y (Contains-here x xs) facts.0,
-  zip_members R S xs ys (λ a b here. so a b (Contains-there x a xs here)) facts.1,
-)
 
 -- and one pair more
 pub zip_push : {A B : Type 0} (R : A → B → Type 0) (xs : List A) (ys : List B) (a : A) (b : B) → AllZip R xs ys

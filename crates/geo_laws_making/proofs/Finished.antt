@@ -1,11 +1,12 @@
 -- An assembly whose places are all filled gets its provider: the graph has come to more, and a firm world with it
 -- is firm.
-use Rattle.std.specs.Prelude.{◌≡◌, ◌≢◌, ◌⊎◌, ℕ, zero, suc, ◌+◌, ◌%◌, ◌<◌, ◌≤◌, ◌==◌, Bool, true, false, List, [], ◌∷◌, ◌++◌, length, Option, Some, None, is_some, is_none, All, Contains, IsSome, IsSomeAnd, IfSome, option_and_then, slice_get}
+use Rattle.std.specs.Prelude.{◌≡◌, ◌≢◌, ◌⊎◌, ℕ, ◌+◌, ◌%◌, ◌<◌, ◌≤◌, ◌==◌, Bool, true, false, List, [], ◌∷◌, ◌++◌, length, Option, Some, None, is_some, is_none, All, Contains, IsSome, IsSomeAnd, IfSome, option_and_then}
 use Rattle.std.specs.List.{AllZip, list_all, list_any}
 use Rattle.std.specs.Option.{option_flatten}
 use Rattle.std.proofs.Common.{inl, inr, refl, sym, ◌∙◌, ap, subst, arith}
 use Rattle.std.proofs.lemmas.Bool.{eq-eqb, eqb-true}
 use Rattle.std.proofs.lemmas.List.Elements.{All-contains, All-from_recursion, Contains-push_cases}
+use Rattle.geo_base.proofs.MemberLists.{zip_members}
 use Rattle.geo_base.specs.declared.limits.TheConstants.{UNTASTED_RANK}
 use Rattle.geo_model.specs.Topology.{Topology, Geom, Provider, Consumer, geom_at, provider_at, consumer_at, geom_of_provider, providers_of, add_provider}
 use Rattle.geo_model.specs.Rank.{rank}
@@ -20,7 +21,7 @@ use Rattle.geo_model.specs.Sound.{IsMediaSize, IsPlaceInside, IsPlaced, IsTasteI
 use Rattle.geo_model.specs.Steady.{HasItsComponents}
 use Rattle.geo_model.specs.Fitting.{IsWholeIn, FitsBelow, sizes_of, FitsPlace, FitsPlaces, PlacesHold, Firm}
 use Rattle.geo_laws_graph.specs.LookupLaws.{new_provider}
-use Rattle.geo_laws_graph.proofs.Members.{has, find-Contains, Contains-here, Contains-there}
+use Rattle.geo_laws_graph.proofs.Members.{has, find-Contains}
 use Rattle.geo_laws_graph.proofs.Found.{added-provider}
 use Rattle.geo_laws_graph.proofs.Living.{found-before, sound-order, steady-parts}
 use Rattle.geo_laws_counts.specs.CountWords.{IsAtMost}
@@ -32,7 +33,7 @@ use Rattle.geo_laws_making.proofs.Made.{through}
 use Rattle.geo_laws_making.proofs.Offered.{KeepsGraph, offered-keeps, offered-living, offered-names}
 use Rattle.geo_laws_making.specs.MoreLaws.{IsUntouched, GeomFits, ProviderFits, IsMore}
 use Rattle.geo_laws_making.proofs.MoreFirm.{more-firm}
-use Rattle.geo_laws_making.proofs.Assembled.{has-places, in-places, zip-among}
+use Rattle.geo_laws_making.proofs.Assembled.{has-places, in-places}
 use Rattle.geo_laws_making.proofs.OpenAssembly.{is-there, its-class, isnt-dev, isnt-taste, offers-not, only-one, component-there}
 use Rattle.geo_laws_making.specs.PlaceLaws.{IsOpenAssembly}
 use Rattle.geo_laws_making.specs.AssemblyLaws.{CanFinish, FinishesStayFirm}
@@ -43,12 +44,6 @@ none_free : (places : List (Option ℕ)) → list_all is_some places ≡ true �
 none_free [] full = refl
 none_free (Some c ∷ places) full = none_free places full
 none_free (None ∷ places) full = false_true full
-
--- an item of a list that is at a place of it
-at_place : {X : Type 0} (xs : List X) (k : ℕ) (x : X) → slice_get xs k ≡ Some x → Contains xs x
-at_place [] k x e = absurd (let no : ⊥ = cc in no)
-at_place (y ∷ xs) zero x e = subst (Contains (y ∷ xs)) (let same : y ≡ x = cc in same) (Contains-here y xs)
-at_place (y ∷ xs) (suc k) x e = Contains-there y x xs (at_place xs k x e)
 
 module _ (w : World) (g : Geom Config) (name : List ℕ) (sector : ℕ) (firm : Firm w) (waits : IsOpenAssembly w g)
     (can : CanFinish w g name sector) where
@@ -114,7 +109,7 @@ module _ (w : World) (g : Geom Config) (name : List ℕ) (sector : ℕ) (firm : 
   -- each place has its component below
   all_below : AllZip (HasBelow t n sector) (places_of g.config) (sizes_of g.config)
   all_below =
-      zip-among (FitsPlace t n) (HasBelow t n sector) (places_of g.config) (sizes_of g.config) one
+      zip_members (FitsPlace t n) (HasBelow t n sector) (places_of g.config) (sizes_of g.config) one
       (All-contains (FitsPlaces t) t.geoms g firm.fitting.places here)
     where
       -- one place
@@ -153,7 +148,7 @@ module _ (w : World) (g : Geom Config) (name : List ℕ) (sector : ℕ) (firm : 
   size_is = record {
     positive = can.some;
     whole = assembly-whole g.config sector waits.assembly can.whole
-        (zip-among (HasBelow t n sector) (λ (a : Option ℕ) b. b % sector ≡ 0) (places_of g.config)
+        (zip_members (HasBelow t n sector) (λ (a : Option ℕ) b. b % sector ≡ 0) (places_of g.config)
         (sizes_of g.config)
         (λ a b stands has_below. subst (λ m. b % m ≡ 0) has_below.same has_below.whole) all_below);
     limited = can.limited;
@@ -201,7 +196,7 @@ module _ (w : World) (g : Geom Config) (name : List ℕ) (sector : ℕ) (firm : 
   -- its places fit
   fits_places : FitsPlaces u g
   fits_places =
-      zip-among (FitsPlace t n) (FitsPlace u n) (places_of g.config) (sizes_of g.config) one
+      zip_members (FitsPlace t n) (FitsPlace u n) (places_of g.config) (sizes_of g.config) one
       (All-contains (FitsPlaces t) t.geoms g firm.fitting.places here)
     where
       -- one place

@@ -1,8 +1,9 @@
 -- An insert: the disk stands, with one provider, which is offered for taste; or the command is refused.
-use Rattle.std.specs.Prelude.{◌≡◌, ℕ, ◌+◌, suc, Bool, true, false, List, [], ◌∷◌, Option, Some, None, All, Contains, slice_get}
+use Rattle.std.specs.Prelude.{◌≡◌, ℕ, ◌+◌, suc, false, List, [], ◌∷◌, Option, Some, None, All, Contains, slice_get}
 use Rattle.std.specs.List.{list_any, enumerate_from}
 use Rattle.std.proofs.Common.{inl, inr, refl, ap, subst, arith}
 use Rattle.std.proofs.lemmas.List.Elements.{All-contains, All-from_recursion}
+use Rattle.geo_model.proofs.RefusalLemmas.{none_refused}
 use Rattle.geo_base.specs.declared.errno.Errno.TheVariants.{EBUSY, EEXIST}
 use Rattle.geo_base.specs.declared.kind.Kind.TheVariants as kinds
 use Rattle.geo_model.specs.Words.{first_error, same_name}
@@ -19,12 +20,6 @@ use Rattle.geo_laws_making.specs.GeomLaws.{InsertsStayFirm}
 use Rattle.geo_laws_making.specs.MakingLaws.{CanOffer, CanMake}
 use Rattle.geo_laws_making.proofs.Pulled.{answered-firm}
 use Rattle.geo_laws_making.proofs.Made.{made-firm}
-
--- where nothing is refused, the first test fails, and nothing of the rest refuses
-pub none_refused : {E : Type 0} (b : Bool) (e : E) (rows : List (Bool × E)) → first_error ((b, e) ∷ rows) ≡ None
-    → (b ≡ false) × (first_error rows ≡ None)
-none_refused true e rows none = absurd (let no : ⊥ = cc in no)
-none_refused false e rows none = (refl, none)
 
 -- a numbered item: the item at the number
 pub record IsNumbered {X : Type 0} (k : ℕ) (xs : List X) (item : ℕ × X) : Type 0 where

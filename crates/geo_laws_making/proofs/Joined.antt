@@ -9,6 +9,7 @@ use Rattle.std.proofs.lemmas.List.FromFn.{length-map-range_with_len}
 use Rattle.std.proofs.lemmas.List.Elements.{All-contains, All-from_recursion}
 use Rattle.std.proofs.lemmas.Nat.Gcd.{dvd_of_mod-eq-zero, mod-eq-zero_of_dvd}
 use Rattle.std.proofs.Math.Nat.{dvd-mul_left_of_dvd, div-mul-le_self}
+use Rattle.geo_model.proofs.RefusalLemmas.{none_refused}
 use Rattle.geo_base.specs.Sectors.{IsSectorSize}
 use Rattle.geo_base.specs.declared.errno.Errno.TheVariants.{EEXIST, ENOENT, ENXIO, EINVAL, EDEEP}
 use Rattle.geo_base.specs.declared.kind.Kind.TheVariants as kinds
@@ -31,7 +32,6 @@ use Rattle.geo_laws_making.proofs.Over.{false_true, below-among}
 use Rattle.geo_laws_making.proofs.Made.{through, made-firm}
 use Rattle.geo_laws_making.specs.GeomLaws.{ConcatsStayFirm, StripesStayFirm}
 use Rattle.geo_laws_making.proofs.Pulled.{answered-firm}
-use Rattle.geo_laws_making.proofs.Inserted.{none_refused}
 use Rattle.geo_laws_making.proofs.Nopped.{found_by_number}
 use Rattle.geo_laws_making.proofs.NewPlaces.{whole_sizes, filled-list, none-free, all-filled, all-differ, zip-places, IsAtPlace, at-place, concat-lands, sum-whole, smallest-le, stripe-lands}
 

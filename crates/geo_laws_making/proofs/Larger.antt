@@ -10,6 +10,7 @@ use Rattle.std.proofs.lemmas.List.Elements.{All-contains, All-push, All-weaker, 
 use Rattle.std.proofs.lemmas.List.Quantifiers.{all_pairs_push}
 use Rattle.std.proofs.lemmas.Nat.Gcd.{dvd_of_mod-eq-zero, mod-eq-zero_of_dvd}
 use Rattle.std.proofs.Math.Nat.{dvd-add}
+use Rattle.geo_base.proofs.MemberLists.{zip_members}
 use Rattle.geo_base.specs.Sectors.{IsSectorSize}
 use Rattle.geo_base.specs.declared.kind.Kind.TheVariants as kinds
 use Rattle.geo_base.specs.declared.limits.TheConstants.{MAX_COMPONENTS, MAX_MEDIA_BYTES, UNTASTED_RANK}
@@ -44,7 +45,7 @@ use Rattle.geo_laws_making.specs.MoreLaws.{IsGrownFrom, StandsGrown, IsUntouched
 use Rattle.geo_laws_making.proofs.MoreFirm.{more-firm}
 use Rattle.geo_laws_making.proofs.Over.{false_true}
 use Rattle.geo_laws_making.proofs.Made.{through}
-use Rattle.geo_laws_making.proofs.Concats.{IsConcat, concat_of, IsStanding, still_fits, no_more, all-components, filled_still, place-component, zip_members, zip_push, zip_length}
+use Rattle.geo_laws_making.proofs.Concats.{IsConcat, concat_of, IsStanding, still_fits, no_more, all-components, filled_still, place-component, zip_push, zip_length}
 use Rattle.geo_laws_making.proofs.Rises.{order, live, geom_here, provider_here, provider_own, own_only, apart_from, wants_more, opened_upright, rank_away}
 
 -- what an append asks of the concat and the provider: not too many consumers, one sector size, and a size that

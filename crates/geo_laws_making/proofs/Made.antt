@@ -11,7 +11,7 @@ use Rattle.geo_base.specs.Sectors.{IsSectorSize}
 use Rattle.geo_base.specs.declared.kind.Kind.{Kind}
 use Rattle.geo_base.specs.declared.limits.TheConstants.{MAX_RANK, UNTASTED_RANK}
 use Rattle.geo_model.specs.Words.{largest, same_name}
-use Rattle.geo_model.specs.Topology.{Topology, Geom, Provider, Consumer, geom_at, provider_at, consumer_at, geom_of_provider, providers_of, is_name_taken, add_geom, add_consumer}
+use Rattle.geo_model.specs.Topology.{Topology, Geom, Provider, Consumer, geom_at, provider_at, consumer_at, geom_of_provider, providers_of, is_name_taken, add_geom}
 use Rattle.geo_model.specs.Rank.{rank}
 use Rattle.geo_model.specs.Demand.{want, is_zero}
 use Rattle.geo_model.specs.Events.{QueuedTopology, provider_of_event}
@@ -21,7 +21,7 @@ use Rattle.geo_model.specs.Place.{place, component, components, disk_of}
 use Rattle.geo_model.specs.Acceptance.{NewSlice, places_of, joined_size}
 use Rattle.geo_model.specs.GeomCommands.{is_geom_of_disk}
 use Rattle.geo_model.specs.Graph.{IsInOrder, PartsLive}
-use Rattle.geo_model.specs.Sound.{RanksHold, StandsBare, DifferInName, DifferInDisk, IsMediaSize, HasDiskSizes, IsPlaceInside, IsPlaced, IsTasteInOrder}
+use Rattle.geo_model.specs.Sound.{RanksHold, DifferInName, DifferInDisk, IsMediaSize, HasDiskSizes, IsPlaceInside, IsPlaced, IsTasteInOrder}
 use Rattle.geo_model.specs.Fitting.{IsWholeIn, sizes_of, FitsPlace, FitsPlaces, Firm}
 use Rattle.geo_model.proofs.DemandLemmas.{map_same}
 use Rattle.geo_laws_graph.specs.LookupLaws.{new_geom}
@@ -32,7 +32,7 @@ use Rattle.geo_laws_graph.proofs.Found.{each-found, added-geom}
 use Rattle.geo_laws_graph.proofs.Living.{found-before, parts-alive, add_geom-geoms, sound-order, steady-parts}
 use Rattle.geo_laws_graph.proofs.RankChanges.{adding-stay}
 use Rattle.geo_laws_graph.proofs.Opens.{over, over-ranks, offers-nothing, rank-next}
-use Rattle.geo_laws_graph.proofs.Holding.{sound-ranks}
+use Rattle.geo_laws_graph.proofs.Holding.{sound-ranks, over_bare}
 use Rattle.geo_laws_counts.specs.CountWords.{IsAtMost, DemandStays}
 use Rattle.geo_laws_counts.proofs.LimitFacts.{all_of}
 use Rattle.geo_laws_counts.proofs.Stays.{geom_came}
@@ -45,13 +45,6 @@ use Rattle.geo_laws_making.specs.MoreLaws.{IsUntouched, GeomFits, ProviderFits, 
 use Rattle.geo_laws_making.proofs.Over.{IsNewOne, attached_one, below-among, over-geoms, over-providers, over-found, over-new, over-cases, over-others, over-order, over-live, over-demand}
 use Rattle.geo_laws_making.proofs.Offered.{offered, IsOffered, KeepsGraph, offered-geoms, offered-consumers, offered-found, offered-cases, offered-others, offered-number, offered-living, offered-keeps, offered-names}
 use Rattle.geo_laws_making.proofs.MoreFirm.{more-firm}
-
--- consumers change neither geoms nor providers
-bare_over : (n m : ℕ) (ps : List Provider) (t : Topology Config) → StandsBare t m → StandsBare (over n t ps) m
-bare_over n m [] t bare = bare
-bare_over n m (p ∷ ps) t bare =
-    bare_over n m ps (add_consumer t n (Some p.number))
-    (record { stands = bare.stands; no_provider = bare.no_provider })
 
 -- the provider that is found through a number that there may be
 pub record Through {X Y : Type 0} (f : X → Option Y) (o : Option X) (y : Y) : Type 0 where
@@ -211,8 +204,8 @@ module _ (w : World) (kind : Kind) (name : List ℕ) (config : Config) (automati
               let is : rank v x.number ≡ rank t x.number = others x.number (old_geom_apart x here) in
               omega arith))
               (λ dev taste. omega arith));
-          dev = bare_over n 1 ps base held.dev;
-          taste = bare_over n 2 ps base held.taste;
+          dev = over_bare n 1 ps base held.dev;
+          taste = over_bare n 2 ps base held.taste;
         };
         same = others;
       }

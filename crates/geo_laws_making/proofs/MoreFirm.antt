@@ -5,6 +5,7 @@ use Rattle.std.specs.Option.{option_map_or}
 use Rattle.std.proofs.Common.{inl, inr, sym, ◌∙◌, ap, subst, arith}
 use Rattle.std.proofs.lemmas.Bool.{eqb-true, cases_eq, not-true}
 use Rattle.std.proofs.lemmas.List.Elements.{All-contains, All-weaker}
+use Rattle.geo_base.proofs.FindLists.{some-passes}
 use Rattle.geo_base.specs.Sectors.{IsSectorSize}
 use Rattle.geo_base.specs.declared.kind.Kind.TheVariants as kinds
 use Rattle.geo_model.specs.declared.class.Facts.{Facts}
@@ -25,7 +26,6 @@ use Rattle.geo_laws_graph.proofs.Numbered.{any-contained, number_found}
 use Rattle.geo_laws_counts.proofs.LimitFacts.{all_of}
 use Rattle.geo_laws_life.proofs.Found.{found-with, some-with, some-there, if-found, at-found, at-some, one-found, all_zip-weaker}
 use Rattle.geo_laws_life.proofs.Less.{remade}
-use Rattle.geo_laws_life.proofs.LessSteady.{some-passes}
 use Rattle.geo_laws_making.specs.MoreLaws.{IsGrownFrom, IsMore, MoreIsFirm}
 use Rattle.geo_laws_making.proofs.More.{WasBelow, before_order, target_stands, taste_stands, more-providers, more-counts, more-numbers, more-handles, more-places, more-bios, more-families, more-disks, more-events}
 

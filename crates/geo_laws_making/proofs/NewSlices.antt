@@ -141,3 +141,10 @@ logical-tells below k fits =
     fold-append with_byte 0 (below ++ codes "l") (decimal (k + 1))
     ∙ ap (λ m. fold with_byte m (decimal (k + 1))) (fold-append with_byte 0 below (codes "l"))
     ∙ decimal-number (k + 1) fits
+
+-- there are no more new slices than entries
+pub new_few : {X : Type 0} (name : ℕ → List ℕ) (count : X → ℕ) (k : ℕ) (xs : List (Option X))
+    → length (new_of name count k xs) ≤ length xs
+new_few name count k [] = omega arith
+new_few name count k (None ∷ xs) = let rest = new_few name count (k + 1) xs in omega (arith, rest)
+new_few name count k (Some x ∷ xs) = let rest = new_few name count (k + 1) xs in omega (arith, rest)

@@ -3,6 +3,7 @@ use Rattle.std.specs.Prelude.{◌≡◌, ◌≢◌, ℕ, ◌+◌, ◌<◌, ◌�
 use Rattle.std.proofs.Common.{inl, inr, refl, sym, ◌∙◌, subst, arith}
 use Rattle.std.proofs.lemmas.Bool.{or_parts, not-false, ltb-false, eqb-true, eq-eqb}
 use Rattle.std.proofs.lemmas.List.Elements.{All-contains, All-from_recursion}
+use Rattle.geo_model.proofs.RefusalLemmas.{none_refused}
 use Rattle.geo_base.specs.Name.{is_name}
 use Rattle.geo_base.specs.Sectors.{IsSectorSize}
 use Rattle.geo_base.specs.declared.errno.Errno.TheVariants.{ENXIO, EEXIST, EINVAL, EDEEP}
@@ -24,7 +25,6 @@ use Rattle.geo_laws_making.specs.MakingLaws.{below_new, HasPlace, CanOffer, CanM
 use Rattle.geo_laws_making.proofs.Pulled.{answered-firm}
 use Rattle.geo_laws_making.proofs.Over.{false_true, below-here}
 use Rattle.geo_laws_making.proofs.Made.{through, made-firm}
-use Rattle.geo_laws_making.proofs.Inserted.{none_refused}
 
 -- a provider that is found by its number
 pub found_by_number : (w : World) (n : ℕ) (p : Provider) → provider_at w.topology n ≡ Some p

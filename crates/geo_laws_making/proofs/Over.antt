@@ -22,10 +22,7 @@ use Rattle.geo_laws_counts.proofs.Stays.{consumer_came}
 use Rattle.geo_laws_life.proofs.Found.{some-there}
 use Rattle.geo_laws_life.proofs.Less.{demand-trans}
 use Rattle.geo_laws_making.specs.MakingLaws.{below_new}
-
--- false isn't true
-pub false_true : {A : Type 0} → false ≡ true → A
-false_true e = absurd (let no : ⊥ = cc in no)
+pub use Rattle.geo_base.proofs.Tests.{from_false_true as false_true}
 
 -- a new consumer: the provider to which it is attached, and its geom
 pub record IsNewOne (n next : ℕ) (ps : List Provider) (c : Consumer) : Type 0 where

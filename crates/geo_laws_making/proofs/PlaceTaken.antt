@@ -7,6 +7,7 @@ use Rattle.std.proofs.lemmas.List.{length-set}
 use Rattle.std.proofs.lemmas.List.Elements.{All-contains, All-nil, Contains-push_cases}
 use Rattle.std.proofs.lemmas.Nat.Gcd.{dvd_of_mod-eq-zero, mod-eq-zero_of_dvd, dvd_refl}
 use Rattle.std.proofs.Math.Nat.{dvd-sub}
+use Rattle.geo_base.proofs.MemberLists.{zip_members}
 use Rattle.geo_base.specs.declared.limits.TheConstants.{MAX_COMPONENTS, MAX_RANK, UNTASTED_RANK}
 use Rattle.geo_model.specs.Words.{change_where}
 use Rattle.geo_model.specs.Topology.{Topology, Geom, Provider, Consumer, geom_at, provider_at, consumer_at, geom_of_provider, providers_of, add_consumer, set_config}
@@ -42,7 +43,7 @@ use Rattle.geo_laws_making.specs.MoreLaws.{IsUntouched, GeomFits, ConsumerFits, 
 use Rattle.geo_laws_making.proofs.MoreFirm.{more-firm}
 use Rattle.geo_laws_making.specs.PlaceLaws.{CanTakePlace, IsOpenAssembly, TakesStayFirm}
 use Rattle.geo_laws_making.proofs.OpenAssembly.{is-there, its-class, its-assembly, isnt-dev, isnt-taste, offers-not, only-one, component-there}
-use Rattle.geo_laws_making.proofs.Assembled.{has-places, filled-is, filled_of, filled-cases, filled-differ, in-places, zip-set, zip-among, IsOfAssembly}
+use Rattle.geo_laws_making.proofs.Assembled.{has-places, filled-is, filled_of, filled-cases, filled-differ, in-places, zip-set, IsOfAssembly}
 
 -- a geom that is one of the list with another configuration, or is as it was
 configured : (n : ℕ) (config : Config) (xs : List (Geom Config)) (y : Geom Config)
@@ -285,7 +286,7 @@ module _ (w : World) (p : Provider) (g : Geom Config) (k : ℕ) (firm : Firm w) 
       subst (λ xs. AllZip (FitsPlace u n) xs (sizes_of filled)) (sym is.places_are)
       (subst (λ ys. AllZip (FitsPlace u n) (slice_set (places_of g.config) k (Some c)) ys) (sym is.sizes_are)
       (zip-set (FitsPlace u n) (places_of g.config) (sizes_of g.config) k (Some c) size
-      (zip-among (FitsPlace t n) (FitsPlace u n) (places_of g.config) (sizes_of g.config) old
+      (zip_members (FitsPlace t n) (FitsPlace u n) (places_of g.config) (sizes_of g.config) old
       (All-contains (FitsPlaces t) t.geoms g firm.fitting.places here)) new))
     where
       -- the new place

@@ -1,11 +1,12 @@
 -- The place that a record names: in the standing geom of the assembly or in a new one, and its completion.
 use Rattle.std.specs.Prelude.{◌≡◌, ◌≢◌, ℕ, zero, suc, ◌-◌, ◌%◌, ◌<◌, ◌≤◌, ◌==◌, nat_le, Bool, true, false, not, ◌&&◌, List, [], ◌∷◌, length, replicate, Option, Some, None, is_some, is_none, All, AllPairs, Contains, IfSome, IsSome, option_and_then, slice_get, if◌then◌else◌}
-use Rattle.std.specs.List.{AllZip, list_all, list_any}
+use Rattle.std.specs.List.{AllZip, list_all}
 use Rattle.std.specs.Option.{option_flatten}
 use Rattle.std.proofs.Common.{inl, inr, refl, sym, ◌∙◌, ap, subst, arith}
 use Rattle.std.proofs.lemmas.Bool.{and_parts, not-true, leb-true, eqb-true}
 use Rattle.std.proofs.lemmas.List.{length-replicate}
 use Rattle.std.proofs.lemmas.List.Elements.{All-contains, All-nil}
+use Rattle.geo_base.proofs.PlaceLists.{free_at}
 use Rattle.geo_base.specs.Sectors.{IsSectorSize}
 use Rattle.geo_base.specs.declared.kind.Kind.{Kind}
 use Rattle.geo_base.specs.declared.kind.Kind.TheVariants as kinds
@@ -197,15 +198,6 @@ same_stripe (Mbr below slices) id stripe count sector whole e = false_true e
 same_stripe (Ebr below parts) id stripe count sector whole e = false_true e
 same_stripe (Label below) id stripe count sector whole e = false_true e
 same_stripe (Nop below offset fail) id stripe count sector whole e = false_true e
-
--- a place of the list that nobody fills is free
-free_at : (places : List (Option ℕ)) (k : ℕ) → k < length places
-    → is_none (option_flatten (slice_get places k)) ≡ true → list_any is_none places ≡ true
-free_at [] k short e = absurd (omega (arith, short))
-free_at (None ∷ places) zero short e = refl
-free_at (Some c ∷ places) zero short e = false_true e
-free_at (None ∷ places) (suc k) short e = refl
-free_at (Some c ∷ places) (suc k) short e = free_at places k (omega (arith, short)) e
 
 -- New geoms
 

@@ -1,7 +1,8 @@
 -- A place of a concat or a stripe: what its record says, and that the mesh with it is firm.
-use Rattle.std.specs.Prelude.{◌≡◌, ℕ, ◌%◌, ◌≤◌, ◌==◌, nat_le, nat_lt, Bool, false, not, ◌&&◌, List, [], ◌∷◌, ◌++◌, length, Option, Some, None}
+use Rattle.std.specs.Prelude.{◌≡◌, ℕ, ◌%◌, ◌≤◌, ◌==◌, nat_le, nat_lt, false, not, ◌&&◌, List, [], ◌∷◌, length, Option, Some, None}
 use Rattle.std.proofs.Common.{refl, subst, arith}
 use Rattle.std.proofs.lemmas.Bool.{and_parts, not-false, leb-true, ltb-true, eqb-true}
+use Rattle.geo_model.proofs.RefusalLemmas.{none_refused, none_behind}
 use Rattle.geo_base.specs.declared.decline.DeclineCause.{DeclineCause}
 use Rattle.geo_base.specs.declared.decline.DeclineCause.TheVariants as causes
 use Rattle.geo_base.specs.declared.kind.Kind.TheVariants as kinds
@@ -18,7 +19,6 @@ use Rattle.geo_model.specs.WorldEvents.{with_queued}
 use Rattle.geo_model.specs.Acceptance.{verdict_of}
 use Rattle.geo_model.specs.Records.{u16_at, u32_at, head_tests, place_test, size_test, concat_magic, stripe_magic, concat_tests, stripe_tests, is_stripe_size}
 use Rattle.geo_model.specs.Fitting.{Firm}
-use Rattle.geo_laws_making.proofs.Inserted.{none_refused}
 use Rattle.geo_laws_texts.specs.RecordLaws.{IsPlace}
 use Rattle.geo_laws_making.proofs.Placed.{concat_places_stay, stripe_places_stay}
 use Rattle.geo_laws_making.specs.AcceptLaws.{IsAccepted, PlacesStayFirm}
@@ -42,7 +42,7 @@ stripe_read None x found e = record { none = refl; same = cc }
 stripe_read (Some cause) x found e = absurd (let no : ⊥ = cc in no)
 
 -- a place that isn't declined
-good_place : (place count : ℕ) → not (nat_le 1 count && (nat_le count MAX_COMPONENTS && nat_lt place count)) ≡ false
+pub good_place : (place count : ℕ) → not (nat_le 1 count && (nat_le count MAX_COMPONENTS && nat_lt place count)) ≡ false
     → IsPlace place count
 good_place place count e =
     let a = and_parts (nat_le 1 count) (nat_le count MAX_COMPONENTS && nat_lt place count)
@@ -57,11 +57,6 @@ good_size stripe sector e =
     (not-false (is_stripe_size stripe sector) e) in
     let b = and_parts (nat_le stripe MAX_STRIPE_BYTES) (stripe % sector == 0) a.1 in
     (leb-true 1 stripe a.0, eqb-true (stripe % sector) 0 b.1)
-
--- nothing is against the tests behind others
-none_behind : (xs ys : List (Bool × DeclineCause)) → first_error (xs ++ ys) ≡ None → first_error ys ≡ None
-none_behind [] ys none = none
-none_behind (row ∷ xs) ys none = none_behind xs ys (none_refused row.0 row.1 (xs ++ ys) none).1
 
 -- the place in a concat's record
 concat_place : (bytes : List ℕ) → first_error (concat_tests bytes) ≡ None

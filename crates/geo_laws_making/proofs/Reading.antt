@@ -5,6 +5,7 @@ use Rattle.std.specs.Option.{option_map_or}
 use Rattle.std.proofs.Common.{inl, inr, refl, sym, ◌∙◌, ap, subst}
 use Rattle.std.proofs.lemmas.Bool.{eq-eqb, eqb-true, ne_eqb, cases_eq}
 use Rattle.std.proofs.lemmas.List.Elements.{All-contains, All-weaker}
+use Rattle.geo_base.proofs.FindLists.{some-passes}
 use Rattle.geo_base.specs.declared.request.Counts.{Counts}
 use Rattle.geo_base.specs.declared.kind.Kind.{Kind}
 use Rattle.geo_model.specs.Words.{names_number}
@@ -32,7 +33,6 @@ use Rattle.geo_laws_counts.proofs.Refusing.{allowed}
 use Rattle.geo_laws_bios.specs.BioFrames.{RestHolds}
 use Rattle.geo_laws_bios.proofs.Apart.{rest_of}
 use Rattle.geo_laws_life.proofs.Found.{found-with, some-with, one-found}
-use Rattle.geo_laws_life.proofs.LessSteady.{some-passes}
 use Rattle.geo_laws_life.proofs.Killed.{grants-same}
 use Rattle.geo_laws_making.specs.TasteLaws.{asking, IsAsking, IsGranted}
 use Rattle.geo_laws_making.proofs.Asking.{none_granted}

@@ -5,6 +5,8 @@ use Rattle.std.specs.List.{list_any}
 use Rattle.std.proofs.Common.{inl, inr, refl, sym, ◌∙◌, ap, subst}
 use Rattle.std.proofs.lemmas.Bool.{and_from, eqb-true, eq-eqb, false_from_ne_true}
 use Rattle.std.proofs.lemmas.List.Elements.{All-contains}
+use Rattle.geo_base.proofs.FindLists.{some-passes}
+use Rattle.geo_base.proofs.MemberLists.{one_only}
 use Rattle.geo_model.specs.Topology.{Topology, Geom, Provider, Consumer, geom_at, provider_at, providers_of, is_errored, is_withering, add_consumer, attach}
 use Rattle.geo_model.specs.Rank.{rank, reaches, would_loop}
 use Rattle.geo_model.specs.Opens.{below, is_below}
@@ -34,10 +36,9 @@ use Rattle.geo_laws_growth.proofs.JoiningAllowed.{joins_are_allowed}
 use Rattle.geo_laws_growth.proofs.Grown.{growth_is_not_seen}
 use Rattle.geo_laws_growth.proofs.Appended.{appends_hold}
 use Rattle.geo_laws_life.proofs.Found.{some-with, some-there}
-use Rattle.geo_laws_life.proofs.LessSteady.{some-passes}
 use Rattle.geo_laws_making.proofs.Over.{false_true}
 use Rattle.geo_laws_making.proofs.Made.{through}
-use Rattle.geo_laws_making.proofs.Concats.{IsStanding, one_only}
+use Rattle.geo_laws_making.proofs.Concats.{IsStanding}
 
 module _ (w : World) (x : Growing) (firm : Firm w) (is : IsStanding w.topology x) where
   -- the graph before

@@ -8,13 +8,14 @@ use Rattle.std.proofs.lemmas.Grind.{flat_map-append}
 use Rattle.std.proofs.lemmas.List.{map-append, drop-drop, take_all}
 use Rattle.std.proofs.lemmas.List.Elements.{All-contains, All-append, All-nil}
 use Rattle.std.proofs.lemmas.Simd.{map-map}
+use Rattle.geo_laws_bios.proofs.Serving.{no_pieces}
 use Rattle.geo_base.specs.declared.request.BioCmd.{BioCmd}
 use Rattle.geo_base.specs.declared.request.BioCmd.TheVariants as cmds
 use Rattle.geo_base.specs.Sectors.{IsSectorSize}
 use Rattle.geo_model.specs.declared.span.Piece.{Piece}
 use Rattle.geo_model.specs.Words.{is_flush, is_write, same_cmd}
 use Rattle.geo_model.specs.Topology.{Topology, Geom, Provider, Consumer, geom_at, provider_at, consumer_at, provider_of_consumer}
-use Rattle.geo_model.specs.World.{World, Config, Nothing, Disk, Mbr, Ebr, Label, Concat, Stripe, Nop, Bio, children_of, is_waiting, is_done, is_child_of}
+use Rattle.geo_model.specs.World.{World, Config, Bio, children_of, is_waiting, is_done, is_child_of}
 use Rattle.geo_model.specs.Place.{DiskSector, Spot, place, component, components, disk_of, pieces, flat, ends, PieceIsPlaced, Follow}
 use Rattle.geo_model.specs.Bios.{PieceTarget, piece_targets, empty_piece, bytes_of_piece, is_complete}
 use Rattle.geo_model.specs.SoundBios.{IsBioInOrder, IsFamilyInOrder, IsRangeInside, HasCountFor, ChildShape, shape_of_child, shape_of_piece}
@@ -63,22 +64,6 @@ matched x k (y ∷ ys) (z ∷ zs) e =
       },
       matched x (k + 1) ys zs rest,
     )
-
--- a request to a disk has no pieces
-disk_targets : (config : Config) (p : Provider) (x : Bio) (d : ℕ) → disk_of config ≡ Some d
-    → piece_targets config p x ≡ []
-disk_targets (Disk disk) p x d e = by (is_flush x.cmd) refl where
-  -- by whether it is a FLUSH
-  by : (b : Bool) → is_flush x.cmd ≡ b → piece_targets (Disk disk) p x ≡ []
-  by true is = rw is refl
-  by false is = rw is refl
-disk_targets Nothing p x d e = absurd (let no : ⊥ = cc in no)
-disk_targets (Mbr below slices) p x d e = absurd (let no : ⊥ = cc in no)
-disk_targets (Ebr below parts) p x d e = absurd (let no : ⊥ = cc in no)
-disk_targets (Label below) p x d e = absurd (let no : ⊥ = cc in no)
-disk_targets (Concat id places sizes) p x d e = absurd (let no : ⊥ = cc in no)
-disk_targets (Stripe id stripe places sizes) p x d e = absurd (let no : ⊥ = cc in no)
-disk_targets (Nop below offset fail) p x d e = absurd (let no : ⊥ = cc in no)
 
 -- what has no shapes is empty
 no_shapes : (cs : List Bio) → map shape_of_child cs ≡ [] → cs ≡ []
@@ -138,7 +123,7 @@ module _ (w : World) (firm : Firm w) (x : Bio) (here : Contains w.bios x) (waiti
     by (Some d) e =
         let none : cs ≡ [] =
         no_shapes cs (shapes ∙ ap (λ zs. map (λ (item : ℕ × PieceTarget). shape_of_piece x item.0 item.1)
-        (enumerate_from 0 zs)) (disk_targets g.config p x d e)) in
+        (enumerate_from 0 zs)) (no_pieces g.config p x d e)) in
         let complete : is_complete w x.number ≡ true =
         ap (λ (ys : List Bio). list_all (λ (y : Bio). is_done y.phase) ys) none in
         absurd (let no : true ≡ false = sym complete ∙ family.not_complete waiting in let bad : ⊥ = cc in bad)

@@ -1,7 +1,8 @@
 -- Changes by which each part of a graph stays: the effects that offer nothing for taste.
-use Rattle.std.specs.Prelude.{◌≡◌, ℕ, ◌+◌, ◌==◌, Bool, true, false, not, List, [], ◌∷◌, ◌++◌, length, map, filter, find, fold, Option, Some, None, count_by, option_map, if◌then◌else◌}
+use Rattle.std.specs.Prelude.{◌≡◌, ℕ, ◌+◌, ◌==◌, Bool, true, false, not, List, [], ◌∷◌, ◌++◌, length, map, filter, find, fold, Option, Some, None, count_by, if◌then◌else◌}
 use Rattle.std.proofs.Common.{refl, sym, ◌∙◌, ap, arith}
 use Rattle.std.proofs.lemmas.List.Sums.{length-filter}
+use Rattle.geo_base.proofs.Options.{none-mapped}
 use Rattle.geo_base.specs.declared.kind.Kind.{Kind}
 use Rattle.geo_base.specs.declared.request.Counts.{Counts}
 use Rattle.geo_model.specs.declared.step.Event.{Event}
@@ -15,11 +16,6 @@ use Rattle.geo_laws_graph.proofs.Lists.{changed, find-changed}
 use Rattle.geo_laws_graph.proofs.Living.{found-before}
 use Rattle.geo_laws_graph.proofs.Numbered.{filter-pushed}
 use Rattle.geo_laws_offers.specs.OfferingLaws.{StaysThere, OnlyAdds}
-
--- what is nothing after a change was nothing
-pub none-before : {X Y : Type 0} (f : X → Y) (o : Option X) → option_map f o ≡ None → o ≡ None
-none-before f None e = refl
-none-before f (Some x) e = absurd (let bad : ⊥ = cc in bad)
 
 -- an event that isn't such an offer isn't counted
 pub not-counted : (p : ℕ) (queue : List Event) (e : Event) → is_offer_of p e ≡ false
@@ -59,7 +55,7 @@ module _ {X : Type 0} (test : X → Bool) (xs : List X) where
   none-changed : (hit : X → Bool) (change : X → X) → ((x : X) → test (change x) ≡ test x)
       → find test (change_where hit change xs) ≡ None → find test xs ≡ None
   none-changed hit change same gone =
-      none-before (changed hit change) (find test xs)
+      none-mapped (changed hit change) (find test xs)
       (sym (find-changed hit change test (λ x e. same x) xs) ∙ gone)
 
 module _ (t : Topology Config) where

@@ -1,8 +1,8 @@
 -- A wash and the end of a taste offer nothing for taste.
-use Rattle.std.specs.Prelude.{ℕ, ◌≤◌, Bool, not, ◌==◌, List, length, filter, Option, Some, None, Ok, Err, count_by}
+use Rattle.std.specs.Prelude.{ℕ, ◌≤◌, not, ◌==◌, Option, Some, None, Ok, Err, count_by}
 use Rattle.std.specs.Option.{option_map_or}
-use Rattle.std.proofs.Common.{ap, subst, sym, arith}
-use Rattle.std.proofs.lemmas.List.Sums.{length-filter, count_by-le-length}
+use Rattle.std.proofs.Common.{subst, sym, arith}
+use Rattle.geo_base.proofs.FilterLists.{count-kept}
 use Rattle.geo_model.specs.declared.step.Event.{Event}
 use Rattle.geo_model.specs.declared.step.Found.TheVariants as refusals
 use Rattle.geo_model.specs.declared.step.Outcome.TheVariants as outcomes
@@ -17,18 +17,7 @@ use Rattle.geo_model.specs.Step.{step, wash_next}
 use Rattle.geo_model.specs.Log.{world_after}
 use Rattle.geo_model.specs.Laws.{world_by}
 use Rattle.geo_model.specs.Steady.{is_offer_of, OffersOnlyLiving}
-use Rattle.geo_laws_graph.proofs.Lists.{filter-filter}
 use Rattle.geo_laws_offers.specs.OfferingLaws.{EndsTaste}
-
--- of some items that are kept no more are counted than of all
-kept-counts : {X : Type 0} (test keep : X → Bool) (xs : List X) → count_by test (filter keep xs) ≤ count_by test xs
-kept-counts test keep xs =
-    let one = length-filter test (filter keep xs) in
-    let two = ap (λ ys. length ys) (filter-filter keep test xs) in
-    let three = length-filter keep (filter test xs) in
-    let four = count_by-le-length keep (filter test xs) in
-    let five = length-filter test xs in
-    omega (arith, one, two, three, four, five)
 
 -- where no more offers stand in the queue, nothing is offered
 fewer-offers : (w after : World)
@@ -40,7 +29,7 @@ wash-offers : (w : World) (work : WashWork) → OffersOnlyLiving w (wash w work)
 unfolding wash
 wash-offers w (washes.Provider p) =
     fewer-offers w (wash w (washes.Provider p))
-    (λ n. kept-counts (is_offer_of n) (λ (e : Event). not (provider_of_event e == p)) w.events)
+    (λ n. count-kept (is_offer_of n) (λ (e : Event). not (provider_of_event e == p)) w.events)
 wash-offers w (washes.Consumer c) = fewer-offers w (wash w (washes.Consumer c)) (λ n. omega arith)
 wash-offers w (washes.Geom g) = fewer-offers w (wash w (washes.Geom g)) (λ n. omega arith)
 

@@ -6,6 +6,7 @@ use Rattle.std.proofs.Common.{refl, sym, ◌∙◌, ap, subst, arith}
 use Rattle.std.proofs.lemmas.Bool.{not-false}
 use Rattle.std.proofs.lemmas.List.Elements.{All-contains}
 use Rattle.std.proofs.lemmas.List.Sums.{sum_by-cons, sum_by-append}
+use Rattle.geo_model.proofs.BioLemmas.{quiet_phase}
 use Rattle.geo_base.specs.declared.errno.Errno.TheVariants.{EIO}
 use Rattle.geo_model.specs.declared.step.BioResult.TheVariants as results
 use Rattle.geo_model.specs.declared.step.Outcome.{Outcome}
@@ -35,20 +36,10 @@ busy x = cond (is_busy x.phase) 1 0
 abbrev pub BiosInOrder : World → Type 0
 BiosInOrder w = AreNumbers (map (λ (x : Bio). x.number) w.bios) w.next_bio
 
--- a bio in a phase that passes a test which Busy doesn't, isn't Busy
-pub not_busy : (test : Phase → Bool) → ((seat : ℕ) → test (phases.Busy seat) ≡ false) → (p : Phase) → test p ≡ true
-    → is_busy p ≡ false
-not_busy test out (phases.Busy seat) e = (let idle : test (phases.Busy seat) ≡ false = out seat in absurd cc)
-not_busy test out phases.Down e = refl
-not_busy test out phases.Sent e = refl
-not_busy test out phases.Waiting e = refl
-not_busy test out phases.Up e = refl
-not_busy test out phases.Done e = refl
-
 -- so it counts nothing
 pub idle : (test : Phase → Bool) → ((seat : ℕ) → test (phases.Busy seat) ≡ false) → (x : Bio) → test x.phase ≡ true
     → busy x ≡ 0
-idle test out x e = rw (not_busy test out x.phase e) refl
+idle test out x e = rw (quiet_phase test out x.phase e) refl
 
 -- a bio that is changed
 pub change_owes : (w : World) (x : Bio) (change : Bio → Bio) → BiosInOrder w → bio_at w x.number ≡ Some x

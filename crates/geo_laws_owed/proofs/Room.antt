@@ -1,21 +1,19 @@
 -- A log within its limit stays within it.
-use Rattle.std.specs.Prelude.{◌≡◌, ℕ, ◌+◌, ◌≤◌, Bool, true, false, not, List, [], ◌∷◌, ◌++◌, length, fold, filter, zip, Ok, Err, IsOkAnd, if◌then◌else◌}
-use Rattle.std.specs.List.{enumerate_from}
+use Rattle.std.specs.Prelude.{◌≡◌, ℕ, ◌+◌, ◌≤◌, Bool, true, false, List, [], ◌∷◌, ◌++◌, length, Ok, Err, IsOkAnd, if◌then◌else◌}
 use Rattle.std.proofs.Common.{refl, sym, ◌∙◌, ap, subst, arith}
 use Rattle.std.proofs.lemmas.Bool.{le-ltb, ltb-false}
 use Rattle.std.proofs.lemmas.List.{length-append, append-nil, append_assoc}
+use Rattle.geo_model.proofs.OpeningLemmas.{opening_owes}
 use Rattle.geo_base.specs.declared.limits.TheConstants.{MAX_LOG_ENTRIES}
 use Rattle.geo_model.specs.declared.step.Entry.{Entry}
 use Rattle.geo_model.specs.declared.step.Outcome.{Outcome}
 use Rattle.geo_model.specs.declared.step.Step.{Step}
 use Rattle.geo_model.specs.declared.step.Step.TheVariants as steps
-use Rattle.geo_model.specs.declared.command.DiskDecl.{DiskDecl}
-use Rattle.geo_model.specs.World.{World, Plan}
-use Rattle.geo_model.specs.GeomCommands.{stand}
+use Rattle.geo_model.specs.World.{World}
 use Rattle.geo_model.specs.Step.{Answer, step}
 use Rattle.geo_model.specs.Log.{replay, world_after, after_entry, Legal, IsMade, IsSplitBy, owed, Fits, is_full, is_full_after}
 use Rattle.geo_model.specs.History.{next_command}
-use Rattle.geo_model.specs.Opening.{disk_in_size, bare_world, opening}
+use Rattle.geo_model.specs.Opening.{opening}
 use Rattle.geo_model.specs.Fitting.{Firm}
 use Rattle.geo_model.proofs.LogLemmas.{replay-append, Legal-append, Legal-back}
 use Rattle.geo_laws_steps.proofs.Stepped.{steps_stay_firm}
@@ -88,19 +86,6 @@ never_shorter w (e ∷ log) firm =
     let one = no_shorter w e.seat e.step firm (step w e.seat e.step) refl in
     let rest = never_shorter (after_entry w e) log (steps_stay_firm w e.seat e.step firm) in
     omega (arith, one, rest)
-
--- disks that stand owe nothing
-stands_owe : (items : List (ℕ × (DiskDecl × (ℕ × ℕ)))) (w : World)
-    → owed (fold (λ w item. stand w (item.0, disk_in_size item.1)) w items) ≡ owed w
-stands_owe [] w = refl
-stands_owe (item ∷ items) w = stands_owe items (stand w (item.0, disk_in_size item.1))
-
--- nor does an opened world
-opening_owes : (plan : Plan) (facts : List (ℕ × ℕ)) → owed (opening plan facts) ≡ 0
-unfolding opening
-opening_owes plan facts =
-    stands_owe (filter (λ item. not item.1.0.later) (enumerate_from 0 (zip plan.disks facts)))
-    (bare_world plan facts)
 
 module _ (opened : World) where
   -- a log of which each entry had its place fits, some of it after some

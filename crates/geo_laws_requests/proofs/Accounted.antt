@@ -29,7 +29,8 @@ use Rattle.geo_laws_requests.proofs.Logged.{unnamed, no_reply}
 pub count_past : {X : Type 0} (test : X → Bool) (xs : List X) (y : X) → test y ≡ false
     → count_by test (xs ++ y ∷ []) ≡ count_by test xs
 count_past test xs y other =
-    sym (length-filter test (xs ++ y ∷ [])) ∙ ap (λ zs. length zs) (filter-pushed test xs y other) ∙ length-filter test xs
+    sym (length-filter test (xs ++ y ∷ [])) ∙ ap (λ zs. length zs) (filter-pushed test xs y other)
+    ∙ length-filter test xs
 
 -- with one more entry that isn't a reply to a bio there are as many replies as before
 pub replies_stay : (h : List Moment) (m : Moment) (b : ℕ) → is_reply_to b m.entry ≡ false

@@ -1,8 +1,9 @@
 -- A Busy bio was asked and isn't delivered, so where all are delivered none is Busy.
-use Rattle.std.specs.Prelude.{◌≡◌, ℕ, false, List, [], ◌∷◌, find, Option, Some, None, IsSome, IsSomeAnd, option_and_then}
+use Rattle.std.specs.Prelude.{◌≡◌, ℕ, false, List, [], ◌∷◌, find, None, IsSome, option_and_then}
 use Rattle.std.specs.List.{AllByRecursion}
 use Rattle.std.proofs.Common.{refl, sym, ap, subst}
 use Rattle.std.proofs.lemmas.List.Elements.{All-map, recursion_from_All}
+use Rattle.geo_base.proofs.Options.{there_with_fact}
 use Rattle.geo_model.specs.declared.step.Entry.{Entry}
 use Rattle.geo_model.specs.declared.step.Phase.{Phase}
 use Rattle.geo_model.specs.declared.step.Phase.TheVariants as phases
@@ -32,11 +33,6 @@ unanswered b h never =
     (recursion_from_All (λ (e : Entry). is_deliver_of b e.step ≡ false) (entries_of h)
     (All-map (λ (e : Entry). is_deliver_of b e.step ≡ false) (λ (m : Moment). m.entry) h never)))
 
--- something that has a property is something
-is_some : {X : Type 0} (P : X → Type 0) (o : Option X) → IsSomeAnd o P → IsSome o
-is_some P None has = absurd has
-is_some P (Some x) has = refl
-
 -- so a logged bio isn't Busy
 quiet : (h : List Moment) (w : World) (x : Bio) → IsLogged h w x
     → ((b : ℕ) → IsSome (request_of (entries_of h) b) → IsSome (device_answer_of (entries_of h) b))
@@ -46,7 +42,7 @@ quiet h w x logged answers = by x.phase refl
     at : WasAsked h w x → is_busy x.phase ≡ false
     at asked =
         let some : IsSome (device_answer_of (entries_of h) x.number) =
-        answers x.number (is_some _ (request_of (entries_of h) x.number) asked.asked) in
+        answers x.number (there_with_fact _ (request_of (entries_of h) x.number) asked.asked) in
         absurd (let none = unanswered x.number h asked.undelivered in (let bad : ⊥ = cc in bad))
 
     by : (p : Phase) → x.phase ≡ p → is_busy x.phase ≡ false

@@ -36,13 +36,15 @@ maps_stay w e firm =
 pub ledger_after : (h : List Moment) (w : World) (e : Entry) → Ledger h w → Firm w → IsMade w e
     → Ledger (h ++ record { before = w; entry = e } ∷ []) (after_entry w e)
 ledger_after h w e ledger firm made =
-    steps_keep_ledger h w (after_entry w e) e.seat e.step e.outcome ledger firm (maps_stay w e firm) (entry_made w e made)
+    steps_keep_ledger h w (after_entry w e) e.seat e.step e.outcome ledger firm (maps_stay w e firm)
+    (entry_made w e made)
 
 -- along a legal log
 pub ledger_along : (h : List Moment) (w : World) (log : List Entry) → Ledger h w → Firm w → Legal w log
     → Ledger (h ++ moments w log) (replay w log)
 ledger_along h w [] ledger firm legal = subst (λ k. Ledger k w) (sym (append-nil h)) ledger
 ledger_along h w (e ∷ log) ledger firm legal =
-    subst (λ k. Ledger k (replay w (e ∷ log))) (append_assoc h (record { before = w; entry = e } ∷ []) (moments (after_entry w e) log))
+    subst (λ k. Ledger k (replay w (e ∷ log)))
+    (append_assoc h (record { before = w; entry = e } ∷ []) (moments (after_entry w e) log))
     (ledger_along (h ++ record { before = w; entry = e } ∷ []) (after_entry w e) log
     (ledger_after h w e ledger firm legal.0) (steps_stay_firm w e.seat e.step firm) legal.1)

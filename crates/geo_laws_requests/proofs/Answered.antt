@@ -14,7 +14,8 @@ use Rattle.geo_laws_requests.specs.Histories.{Never}
 use Rattle.geo_laws_requests.proofs.Looks.{entries_of_both}
 
 -- nothing is found where nothing passes
-pub never_found : (test : Step → Bool) (h : List Moment) → Never test h → find (λ (m : Moment). test m.entry.step) h ≡ None
+pub never_found : (test : Step → Bool) (h : List Moment) → Never test h
+    → find (λ (m : Moment). test m.entry.step) h ≡ None
 never_found test h never = by h (recursion_from_All (λ m. test m.entry.step ≡ false) h never)
   where
     by : (xs : List Moment) → AllByRecursion (λ (m : Moment). test m.entry.step ≡ false) xs

@@ -41,7 +41,13 @@ apart : (w v : World) (o : Outcome) (actor : ℕ) (rest : List LineCommand)
 apart w v o actor rest (inl stay) = inl (record { bios = stay.0.bios; next = stay.0.next }, stay.1)
 apart w v o actor rest (inr come) =
     let here = come.1.0 in
-    inr (come.0, (record { bios = here.bios; next = here.next; number = here.number; phase = here.phase; root = here.root }, come.1.1))
+    inr (
+      come.0,
+      (
+        record { bios = here.bios; next = here.next; number = here.number; phase = here.phase; root = here.root },
+        come.1.1,
+      ),
+    )
 
 -- a Go, by what its command waits for
 go_by : (w v : World) (actor : ℕ) (o : Outcome) (c : LineCommand) (rest : List LineCommand) (waits : Option Found)
@@ -128,14 +134,16 @@ reaped w (Some c) = record { bios = refl; next = refl }
 
 -- a Reap, by the handle that can be reaped
 reap_by : (w v : World) (o : Outcome) (h : Option Handle)
-    → option_map_or {U = Answer} (λ x. Ok (reap w x, outcomes.Ran)) h (Err found.NothingToReap) ≡ Ok (v, o) → StayOrArrive w v o
+    → option_map_or {U = Answer} (λ x. Ok (reap w x, outcomes.Ran)) h (Err found.NothingToReap) ≡ Ok (v, o)
+    → StayOrArrive w v o
 unfolding reap
 reap_by w v o None e = absurd (let bad : ⊥ = cc in bad)
 reap_by w v o (Some h) e = of_made w v o (reap_handle w h.consumer, outcomes.Ran) (ran w _ (reaped w h.consumer)) e
 
 -- a Wash, by what can be washed
 wash_by : (w v : World) (o : Outcome) (work : Option WashWork)
-    → option_map_or {U = Answer} (λ x. Ok (wash w x, outcomes.Ran)) work (Err found.NothingToWash) ≡ Ok (v, o) → StayOrArrive w v o
+    → option_map_or {U = Answer} (λ x. Ok (wash w x, outcomes.Ran)) work (Err found.NothingToWash) ≡ Ok (v, o)
+    → StayOrArrive w v o
 unfolding wash
 wash_by w v o None e = absurd (let bad : ⊥ = cc in bad)
 wash_by w v o (Some work) e =

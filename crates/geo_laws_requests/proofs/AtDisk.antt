@@ -177,7 +177,8 @@ take_covers w x disk got order sizes is =
         let whole : x.offset % d.provider.sector ≡ 0 = (inside (not-true (is_flush x.cmd) moves)).offset_whole in
         ap (λ xs. map (λ (s : DiskSector). Some s) xs)
         (append-nil (sectors_of_request (request_of_bio w disk x))
-        ∙ ap (λ s. map (λ k. record { disk = disk; sector = k }) (range_with_len (x.offset / s) (x.len / s))) its_sector)
+        ∙ ap (λ s. map (λ k. record { disk = disk; sector = k }) (range_with_len (x.offset / s) (x.len / s)))
+        its_sector)
         ∙ sectors_at w.topology x.target disk d x.offset d.provider.sector (x.offset / d.provider.sector) 0
         (x.len / d.provider.sector) refl some whole (omega arith)
         ∙ ap (λ n. map (flat w.topology n) (sector_offsets d.provider.sector x.offset x.len)) (sym its_number)

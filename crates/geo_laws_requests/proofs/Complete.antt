@@ -7,6 +7,7 @@ use Rattle.std.proofs.Math.Numerals.{suc-eq-add-one}
 use Rattle.std.proofs.lemmas.List.{append_assoc, length-append, nil_from_length}
 use Rattle.std.proofs.lemmas.List.Elements.{All-contains, All-map, recursion_from_All}
 use Rattle.std.proofs.lemmas.List.Sums.{length-filter}
+use Rattle.geo_model.proofs.BioLemmas.{phase_sent}
 use Rattle.geo_model.specs.declared.step.Entry.{Entry}
 use Rattle.geo_model.specs.declared.step.Outcome.TheVariants as outcomes
 use Rattle.geo_model.specs.declared.step.Phase.TheVariants as phases
@@ -35,7 +36,7 @@ use Rattle.geo_laws_requests.proofs.Looks.{entries_of_both}
 use Rattle.geo_laws_requests.proofs.Entries.{entries_are_moments}
 use Rattle.geo_laws_requests.specs.Ledger.{AcceptsAreAccounted, IsAccounted, IsCompleted, IsLogged, IsOnItsWay, Ledger, SoFar}
 use Rattle.geo_laws_requests.proofs.Accounted.{count_past}
-use Rattle.geo_laws_requests.proofs.Takes.{phase_sent, takes_it}
+use Rattle.geo_laws_requests.proofs.Takes.{takes_it}
 use Rattle.geo_laws_requests.proofs.Replies.{reply_is}
 use Rattle.geo_laws_requests.specs.RequestLaws.{BiosAreTakenOnce, LegalLogsCompleteRequests}
 use Rattle.geo_laws_requests.proofs.Along.{entry_made, ledger_after, ledger_along}

@@ -4,6 +4,8 @@ use Rattle.std.specs.List.{AllByRecursion}
 use Rattle.std.proofs.Common.{refl, sym, ◌∙◌, ap, append-nil, subst, arith}
 use Rattle.std.proofs.lemmas.Bool.{both_ways, eq-eqb, eqb-true, ne_eqb, not-true, or_left, and_right}
 use Rattle.std.proofs.lemmas.List.Elements.{All-append, All-contains, All-filter, All-from_recursion, filter_passes, recursion_from_All}
+use Rattle.geo_base.proofs.FindLists.{none_passes}
+use Rattle.geo_model.proofs.BioLemmas.{phase_waiting}
 use Rattle.geo_model.specs.declared.step.BioResult.{BioResult}
 use Rattle.geo_model.specs.declared.step.Outcome.{Outcome}
 use Rattle.geo_model.specs.declared.step.Outcome.TheVariants as outcomes
@@ -26,7 +28,7 @@ use Rattle.geo_laws_graph.proofs.Members.{All-from_contained, Contains-map, at_c
 use Rattle.geo_laws_graph.proofs.Numbered.{at-here, at-unchanged, unique}
 use Rattle.geo_laws_graph.proofs.Spared.{IsSpared, filter-spared, find-spared}
 use Rattle.geo_laws_bios.specs.BioSteps.{turn}
-use Rattle.geo_laws_bios.proofs.Items.{all_both, all_changed, none_passes}
+use Rattle.geo_laws_bios.proofs.Items.{all_both, all_changed}
 use Rattle.geo_laws_bios.proofs.Ascending.{apart, gathered, over, result, same_bios, same_results}
 use Rattle.geo_laws_bios.proofs.Completing.{not_own_child, risen}
 use Rattle.geo_laws_bios.proofs.Joined.{got}
@@ -45,15 +47,6 @@ use Rattle.geo_laws_requests.proofs.Turning.{IsNewChild, turned_keeps}
 use Rattle.geo_laws_requests.proofs.Starts.{in_phase, keeps_phase}
 use Rattle.geo_laws_requests.proofs.Roots.{up_names_it}
 use Rattle.geo_laws_requests.proofs.Gathered.{IsBack, children_cover, joined_now, leaves_now}
-
--- a phase that is Waiting
-phase_waiting : (p : Phase) → is_waiting p ≡ true → p ≡ phases.Waiting
-phase_waiting phases.Down e = absurd (let bad : ⊥ = cc in bad)
-phase_waiting phases.Sent e = absurd (let bad : ⊥ = cc in bad)
-phase_waiting (phases.Busy seat) e = absurd (let bad : ⊥ = cc in bad)
-phase_waiting phases.Waiting e = refl
-phase_waiting phases.Up e = absurd (let bad : ⊥ = cc in bad)
-phase_waiting phases.Done e = absurd (let bad : ⊥ = cc in bad)
 
 -- an Up that gathers is no reply to any bio
 gather_unreplied : (h : List Moment) (m : Moment) (n : ℕ) → is_reply m.entry.outcome ≡ false
@@ -125,15 +118,17 @@ module _ (h : List Moment) (w v : World) (seat b : ℕ) (o : Outcome) (ledger : 
           let back = result_up h w x logged (or_left (is_up x.phase) (is_done x.phase) up) in
           record {
             unreplied = gather_unreplied h this x.number no_reply logged.unreplied;
-            so_far = subst (λ z. IsSomeAnd z (HasResult (h ++ this ∷ []) v (in_phase phases.Done x))) (sym back.is) (record {
-              is = finished_stay.results h (this ∷ []) x.number back.result back.has.is;
-              covers = λ success.
-                  rw (finished_stay.leaves h (this ∷ []) x.number back.result ledger.taken back.has.is)
-                  (covers_request v x (in_phase phases.Done x) (leaves h x.number) ((keeps_phase phases.Done).request x)
-                  (covers_stay w v x (leaves h x.number)
-                  (All-contains (λ (z : Bio). SameMap w.topology v.topology z.target) w.bios x maps x_here)
-                  (back.has.covers success)));
-            });
+            so_far = subst (λ z. IsSomeAnd z (HasResult (h ++ this ∷ []) v (in_phase phases.Done x)))
+                (sym back.is) (record {
+                  is = finished_stay.results h (this ∷ []) x.number back.result back.has.is;
+                  covers = λ success.
+                      rw (finished_stay.leaves h (this ∷ []) x.number back.result ledger.taken back.has.is)
+                      (covers_request v x (in_phase phases.Done x) (leaves h x.number)
+                      ((keeps_phase phases.Done).request x)
+                      (covers_stay w v x (leaves h x.number)
+                      (All-contains (λ (z : Bio). SameMap w.topology v.topology z.target) w.bios x maps x_here)
+                      (back.has.covers success)));
+                });
           }
 
   -- The last child
@@ -248,7 +243,8 @@ module _ (h : List Moment) (w v : World) (seat b : ℕ) (o : Outcome) (ledger : 
 
     -- what the history tells of the parent
     split : WasSplit h w y
-    split = subst (SoFar h w y) (phase_waiting y.phase waits) (All-contains (IsLogged h w) w.bios y ledger.live y_here).so_far
+    split = subst (SoFar h w y) (phase_waiting y.phase waits)
+        (All-contains (IsLogged h w) w.bios y ledger.live y_here).so_far
 
     -- its children are back
     back : All (IsBack h w) (children_of w y.number)
@@ -277,7 +273,8 @@ module _ (h : List Moment) (w v : World) (seat b : ℕ) (o : Outcome) (ledger : 
     }
       where
         is_joined : joined ≡ joined_result y.cmd (map got (children_of w y.number))
-        is_joined = ap (λ rs. joined_result y.cmd rs) (same_results w firm x y index found up of_it there waits complete)
+        is_joined = ap (λ rs. joined_result y.cmd rs)
+            (same_results w firm x y index found up of_it there waits complete)
 
     -- another bio that stays
     logged_other : (z : Bio) → Contains w.bios z → is_gone z ≡ false → (z.number == y.number) ≡ false → IsLogged h w z

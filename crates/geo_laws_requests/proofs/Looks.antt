@@ -4,15 +4,11 @@ use Rattle.std.specs.Option.{option_or}
 use Rattle.std.proofs.Common.{refl, ◌∙◌, ap}
 use Rattle.std.proofs.lemmas.List.{map-append}
 use Rattle.std.proofs.lemmas.List.Folds.{find-append}
+use Rattle.geo_base.proofs.FindLists.{found-before}
 use Rattle.geo_model.specs.declared.step.DeviceResult.{DeviceResult}
 use Rattle.geo_model.specs.declared.step.Request.{Request}
 use Rattle.geo_model.specs.Log.{Moment}
 use Rattle.geo_model.specs.Results.{start_moment, request_of, request_in, device_answer_of, device_answer_in, entries_of, is_start_of, is_take_of, is_deliver_of}
-
--- what is found in front stays found
-pub find_in_front : {X : Type 0} (test : X → Bool) (xs ys : List X) (x : X)
-    → find test xs ≡ Some x → find test (xs ++ ys) ≡ Some x
-find_in_front test xs ys x found = find-append test xs ys ∙ ap (λ o. option_or o (find test ys)) found
 
 -- where nothing is found in front, the rest decides
 pub find_behind : {X : Type 0} (test : X → Bool) (xs ys : List X)
@@ -29,11 +25,12 @@ part_in_front : {X Y : Type 0} (test : X → Bool) (part : X → Option Y) (xs y
     → option_and_then part (find test (xs ++ ys)) ≡ Some y
 part_in_front test part xs ys y None found given = absurd (let bad : ⊥ = cc in bad)
 part_in_front test part xs ys y (Some x) found given =
-    ap (λ o. option_and_then part o) (find_in_front test xs ys x found) ∙ given
+    ap (λ o. option_and_then part o) (found-before test xs ys x found) ∙ given
 
 -- the Start of a bio stays the one that was found
-pub start_stays : (h k : List Moment) (b : ℕ) (m : Moment) → start_moment h b ≡ Some m → start_moment (h ++ k) b ≡ Some m
-start_stays h k b m found = find_in_front (λ x. is_start_of b x.entry.step) h k m found
+pub start_stays : (h k : List Moment) (b : ℕ) (m : Moment) → start_moment h b ≡ Some m
+    → start_moment (h ++ k) b ≡ Some m
+start_stays h k b m found = found-before (λ x. is_start_of b x.entry.step) h k m found
 
 -- so does the request of its Take
 pub request_stays : (h k : List Moment) (b : ℕ) (q : Request)

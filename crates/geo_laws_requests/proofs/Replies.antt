@@ -55,7 +55,8 @@ covers_then h w a x found number are way covers = by (bio_at a.world a.bio) refl
         (covers_request a.world x y found (same_request_back y x some) before)
 
 -- an entry that is the Up of a bio and a reply is a reply to it
-pub reply_is : (b : ℕ) (e : Entry) (line : ℕ) (given : Reply) → e.step ≡ steps.Up b → e.outcome ≡ outcomes.Replied line given
+pub reply_is : (b : ℕ) (e : Entry) (line : ℕ) (given : Reply) → e.step ≡ steps.Up b
+    → e.outcome ≡ outcomes.Replied line given
     → is_reply_to b e ≡ true
 reply_is b e line given up is = rw (up, is, eq-eqb b b refl) refl
 
@@ -101,7 +102,8 @@ module _ (h : List Moment) (w v : World) (seat b : ℕ) (line : ℕ) (r : BioRes
           elim (Contains-append_cases (entries_of h) (this.entry ∷ []) e
           (subst (λ log. Contains log e) (entries_of_both h (this ∷ [])) in_log)) [
             | inl before ↦
-                absurd (both_ways (is_reply_to a.bio e) (none_before a.bio it e before) (reply_is a.bio e l given is_up is))
+                absurd
+                (both_ways (is_reply_to a.bio e) (none_before a.bio it e before) (reply_is a.bio e l given is_up is))
             | inr new ↦ this_one e l given (only_one e this.entry new) is
           ];
       covers = λ any. subst (λ n. IsSomeAnd (result_of (h ++ this ∷ []) n)

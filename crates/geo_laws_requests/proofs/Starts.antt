@@ -4,6 +4,7 @@ use Rattle.std.specs.List.{AllByRecursion, enumerate_from, range_with_len}
 use Rattle.std.proofs.Common.{refl, sym, ◌∙◌, ap, subst, arith, append-nil}
 use Rattle.std.proofs.lemmas.Bool.{eq-eqb, ne_eqb}
 use Rattle.std.proofs.lemmas.List.Elements.{All-append, All-from_recursion, recursion_from_All, filter-append}
+use Rattle.geo_model.proofs.BioLemmas.{phase_down}
 use Rattle.geo_base.specs.declared.errno.Errno.{Errno}
 use Rattle.geo_base.specs.declared.errno.Errno.TheVariants.{ENXIO, EIO}
 use Rattle.geo_model.specs.declared.step.BioResult.{BioResult}
@@ -128,7 +129,8 @@ down_childless w x families found down =
     by_owner owners.Taste parent = refl
     by_owner (owners.Child parent index) waits =
         ne_eqb parent x.number
-        (λ same. not_both x.phase down (rw found at (subst (λ n. IsSomeAnd (bio_at w n) (λ y. IsTrue (is_waiting y.phase))) same waits)))
+        (λ same. not_both x.phase down
+        (rw found at (subst (λ n. IsSomeAnd (bio_at w n) (λ y. IsTrue (is_waiting y.phase))) same waits)))
 
 module _ (h : List Moment) (w v : World) (seat b : ℕ) (x : Bio) (o : Outcome) (ledger : Ledger h w)
     (are : AreNumbers (map (λ (y : Bio). y.number) w.bios) w.next_bio) (families : All (IsFamilyInOrder w) w.bios)
@@ -304,15 +306,6 @@ pub record StartsIt (w v : World) (b : ℕ) (o : Outcome) : Type 0 where
   pub found : bio_at w b ≡ Some bio
   pub down : bio.phase ≡ phases.Down
   pub made : (v, o) ≡ start_by w bio (way_of w.topology bio)
-
--- a phase that is Down
-pub phase_down : (p : Phase) → is_down p ≡ true → p ≡ phases.Down
-phase_down phases.Down e = refl
-phase_down phases.Sent e = absurd (let bad : ⊥ = cc in bad)
-phase_down (phases.Busy seat) e = absurd (let bad : ⊥ = cc in bad)
-phase_down phases.Waiting e = absurd (let bad : ⊥ = cc in bad)
-phase_down phases.Up e = absurd (let bad : ⊥ = cc in bad)
-phase_down phases.Done e = absurd (let bad : ⊥ = cc in bad)
 
 -- an enabled Start names a bio that is Down
 pub starts_it : (w v : World) (seat b : ℕ) (o : Outcome) → step w seat (steps.Start b) ≡ Ok (v, o) → StartsIt w v b o

@@ -3,6 +3,7 @@ use Rattle.std.specs.Prelude.{◌≡◌, ℕ, ◌==◌, Bool, true, false, List,
 use Rattle.std.proofs.Common.{refl, sym, ◌∙◌, ap, append-nil, subst, arith}
 use Rattle.std.proofs.lemmas.Bool.{eq-eqb, eqb-true, ne_eqb}
 use Rattle.std.proofs.lemmas.List.Elements.{All-append, All-contains, All-from_recursion}
+use Rattle.geo_model.proofs.BioLemmas.{phase_sent}
 use Rattle.geo_base.specs.Sectors.{IsSectorSize}
 use Rattle.geo_model.specs.declared.step.DeviceResult.{DeviceResult}
 use Rattle.geo_model.specs.declared.step.Found.{Found}
@@ -12,7 +13,7 @@ use Rattle.geo_model.specs.declared.step.Phase.{Phase}
 use Rattle.geo_model.specs.declared.step.Phase.TheVariants as phases
 use Rattle.geo_model.specs.declared.step.Request.{Request}
 use Rattle.geo_model.specs.declared.step.Step.TheVariants as steps
-use Rattle.geo_model.specs.World.{World, Bio, bio_at, change_number, is_sent, is_busy}
+use Rattle.geo_model.specs.World.{World, Bio, bio_at, change_number, is_busy}
 use Rattle.geo_model.specs.SoundBios.{IsBioInOrder}
 use Rattle.geo_model.specs.Bios.{take_bio, deliver, request_of_bio, result_of_device, up_with}
 use Rattle.geo_model.specs.Step.{take_of, deliver_of, take_found, deliver_found, unless_found, step}
@@ -62,15 +63,6 @@ takes_it w v seat disk b o e = by (bio_at w b) refl e
     by : (z : Option Bio) → bio_at w b ≡ z → take_of w seat disk z ≡ Ok (v, o) → TakesIt w v seat disk b o
     by None is e = absurd (let bad : ⊥ = cc in bad)
     by (Some x) is e = at x is (take_found w disk x) refl e
-
--- a phase that is Sent, or Busy
-pub phase_sent : (p : Phase) → is_sent p ≡ true → p ≡ phases.Sent
-phase_sent phases.Down e = absurd (let bad : ⊥ = cc in bad)
-phase_sent phases.Sent e = refl
-phase_sent (phases.Busy seat) e = absurd (let bad : ⊥ = cc in bad)
-phase_sent phases.Waiting e = absurd (let bad : ⊥ = cc in bad)
-phase_sent phases.Up e = absurd (let bad : ⊥ = cc in bad)
-phase_sent phases.Done e = absurd (let bad : ⊥ = cc in bad)
 
 -- a phase that is Busy, with its seat
 phase_busy : (p : Phase) → is_busy p ≡ true → (seat : ℕ) × (p ≡ phases.Busy seat)

@@ -141,7 +141,8 @@ module _ (h : List Moment) (w v : World) (seat : ℕ) (s : Step) (o : Outcome) (
         stands = at_it (eqb-true a.bio x.number e) (bio_at w a.bio) refl was.stands;
       }
       by false e =
-          let apart : a.bio ≢ x.number = (λ same. both_ways (a.bio == x.number) e (rw same (eq-eqb x.number x.number refl))) in
+          let apart : a.bio ≢ x.number =
+          (λ same. both_ways (a.bio == x.number) e (rw same (eq-eqb x.number x.number refl))) in
           accounted_quietly h this w v a ledger.taken turns.maps (turns.others a.bio apart) turns.next
           (found_turned a.bio was.made
           ∙ at-unchanged (λ (z : Bio). z.number) change turns.keeps.number x.number a.bio apart w.bios) was

@@ -1,12 +1,13 @@
 -- What is made of an accepted verdict: a geom above the tasted provider's, of which at most so many providers are
 -- offered as the class can make.
-use Rattle.std.specs.Prelude.{◌≡◌, ℕ, zero, suc, ◌-◌, ◌<◌, ◌≤◌, ◌==◌, Bool, true, false, not, ◌&&◌, List, [], ◌∷◌, length, map, replicate, Option, Some, None, Contains, IsSome, is_some, is_none, slice_get, if◌then◌else◌}
-use Rattle.std.specs.List.{list_all, list_any}
+use Rattle.std.specs.Prelude.{◌≡◌, ℕ, ◌-◌, ◌<◌, ◌≤◌, ◌==◌, Bool, true, false, not, ◌&&◌, List, [], ◌∷◌, length, map, replicate, Option, Some, None, Contains, IsSome, is_some, is_none, slice_get, if◌then◌else◌}
+use Rattle.std.specs.List.{list_all}
 use Rattle.std.specs.Option.{option_flatten}
 use Rattle.std.proofs.Common.{refl, sym, ◌∙◌, subst, arith}
 use Rattle.std.proofs.lemmas.Bool.{and_parts, eqb-true}
 use Rattle.std.proofs.lemmas.List.{length-replicate}
 use Rattle.std.proofs.lemmas.List.Elements.{All-contains}
+use Rattle.geo_base.proofs.PlaceLists.{free_at}
 use Rattle.geo_base.specs.declared.kind.Kind.{Kind}
 use Rattle.geo_base.specs.declared.kind.Kind.TheVariants as kinds
 use Rattle.geo_model.specs.Words.{same_name}
@@ -131,15 +132,6 @@ same_stripe (Stripe None s places sizes) id stripe count e = false_true e
 same_stripe (Concat (Some a) places sizes) id stripe count e = false_true e
 same_stripe (Concat None places sizes) id stripe count e = false_true e
 same_stripe _ id stripe count e = false_true e
-
--- a place of the list that nobody fills is free
-free_at : (places : List (Option ℕ)) (k : ℕ) → k < length places
-    → is_none (option_flatten (slice_get places k)) ≡ true → list_any is_none places ≡ true
-free_at [] k short e = absurd (omega (arith, short))
-free_at (None ∷ places) zero short e = refl
-free_at (Some c ∷ places) zero short e = false_true e
-free_at (None ∷ places) (suc k) short e = refl
-free_at (Some c ∷ places) (suc k) short e = free_at places k (omega (arith, short)) e
 
 -- What each class makes
 

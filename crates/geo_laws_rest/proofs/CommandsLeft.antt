@@ -59,7 +59,8 @@ module _ (w : World) (actor other : ℕ) (apart : other ≢ actor) where
       → Leaves (unless_found waits (do_command (with_commands w other rest) c.line other c.command))
   go_by c rest (Some f) = refl
   go_by c rest None =
-      ap (λ (xs : List (List LineCommand)). slice_get xs actor) (keeps (with_commands w other rest) c.line other c.command)
+      ap (λ (xs : List (List LineCommand)). slice_get xs actor)
+      (keeps (with_commands w other rest) c.line other c.command)
       ∙ set_elsewhere w.actors other actor rest apart
 
   -- a Go of another, by the commands that it has left

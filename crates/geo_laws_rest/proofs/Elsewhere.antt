@@ -1,11 +1,12 @@
 -- What tasting may cost where a rank changes of a geom that offers nothing, and where providers go.
-use Rattle.std.specs.Prelude.{◌≡◌, ◌≢◌, ◌⊎◌, ℕ, ◌+◌, ◌*◌, ◌<◌, ◌≤◌, ◌==◌, Bool, true, false, not, List, [], ◌∷◌, filter, length, sum_by, Option, Some, None, Contains, option_and_then}
+use Rattle.std.specs.Prelude.{◌≡◌, ◌≢◌, ◌⊎◌, ℕ, ◌+◌, ◌*◌, ◌<◌, ◌≤◌, ◌==◌, Bool, true, false, List, [], ◌∷◌, filter, length, sum_by, Option, Some, None, Contains, option_and_then}
 use Rattle.std.specs.List.{AllByRecursion, list_any}
 use Rattle.std.specs.Option.{option_map_or}
 use Rattle.std.proofs.Common.{inl, inr, refl, sym, ◌∙◌, ap, subst, arith}
 use Rattle.std.proofs.lemmas.Bool.{eq-eqb, or_parts}
 use Rattle.std.proofs.lemmas.List.Sums.{sum_by-cons}
 use Rattle.std.proofs.Math.Nat.{mul-le-mul_left}
+use Rattle.geo_base.proofs.FilterLists.{length-kept}
 use Rattle.geo_base.specs.declared.limits.TheConstants.{UNTASTED_RANK}
 use Rattle.geo_model.specs.declared.step.Event.{Event}
 use Rattle.geo_model.specs.declared.step.Event.TheVariants as events
@@ -102,17 +103,6 @@ no_offers v (e ∷ es) none =
 
 -- Lengths
 
--- one item more that is kept or not
-kept_step : {X : Type 0} (keep : X → Bool) (x : X) (xs : List X) (b : Bool) → keep x ≡ b
-    → length (filter keep xs) ≤ length xs → length (filter keep (x ∷ xs)) ≤ length (x ∷ xs)
-kept_step keep x xs true e most = rw e (omega (arith, most))
-kept_step keep x xs false e most = rw e (omega (arith, most))
-
--- what is kept is no longer
-pub kept_length : {X : Type 0} (keep : X → Bool) (xs : List X) → length (filter keep xs) ≤ length xs
-kept_length keep [] = omega arith
-kept_length keep (x ∷ xs) = kept_step keep x xs (keep x) refl (kept_length keep xs)
-
 -- one item more, where one is left out
 out_step : {X : Type 0} (keep : X → Bool) (x : X) (xs : List X) (b : Bool) → keep x ≡ b
     → length (filter keep xs) < length xs → length (filter keep (x ∷ xs)) < length (x ∷ xs)
@@ -127,6 +117,6 @@ left_out_length keep (y ∷ ys) x here out =
     elim (Contains-cases y x ys here) [
       | inl same ↦
           let gone : keep y ≡ false = rw same out in
-          rw gone (omega (arith, kept_length keep ys))
+          rw gone (omega (arith, length-kept keep ys))
       | inr rest ↦ out_step keep y ys (keep y) refl (left_out_length keep ys x rest out)
     ]

@@ -270,7 +270,8 @@ module _ (w : World) (firm : Firm w) (s : Taste) (is : w.taste ≡ Some s) where
       (omega (arith, judges, low)) (omega (arith, can)))
 
   -- the next class
-  module _ (p : Provider) (kind : Kind) (rest : List Kind) (e : s.asked ≡ NoClass) (left : s.classes ≡ kind ∷ rest) where
+  module _ (p : Provider) (kind : Kind) (rest : List Kind) (e : s.asked ≡ NoClass)
+      (left : s.classes ≡ kind ∷ rest) where
     -- the taste with the classes that are left
     abbrev after : Taste
     after = record s { classes = rest; asked = NoClass; reads = 0; chain = no_links }

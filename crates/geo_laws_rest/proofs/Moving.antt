@@ -1,6 +1,6 @@
 -- In a firm mesh without a Busy bio some bio can go on, where there is one: a bio that waits has a child that isn't
 -- done, and the numbers of bios rise from parents to children.
-use Rattle.std.specs.Prelude.{◌≡◌, ◌⊎◌, ℕ, zero, suc, ◌+◌, ◌<◌, ◌≤◌, ◌==◌, Bool, true, false, ◌&&◌, ◌||◌, List, [], ◌∷◌, find, map, Option, Some, None, Contains, All, IsSome, IsTrue, is_none}
+use Rattle.std.specs.Prelude.{◌≡◌, ◌⊎◌, ℕ, zero, suc, ◌+◌, ◌<◌, ◌≤◌, ◌==◌, Bool, true, false, ◌&&◌, ◌||◌, List, [], ◌∷◌, map, Option, Some, None, Contains, All, IsSome, IsTrue, is_none}
 use Rattle.std.specs.List.{AllByRecursion, list_all}
 use Rattle.std.specs.Option.{option_map_or}
 use Rattle.std.proofs.Common.{inl, inr, refl, sym, ap, subst, arith}
@@ -20,19 +20,6 @@ use Rattle.geo_model.specs.Laws.{NoneBusy}
 use Rattle.geo_model.proofs.DemandLemmas.{find_passes}
 use Rattle.geo_laws_graph.proofs.Members.{Origin, All-from_contained, Contains-map, Contains-here, Contains-there, at_contained, filter-Contains, find-Contains, has}
 use Rattle.geo_laws_life.proofs.Found.{found-with}
-
--- where nothing is found, no item passes
-none_step : {X : Type 0} (test : X → Bool) (x : X) (xs : List X) (b : Bool) → test x ≡ b
-    → find test (x ∷ xs) ≡ None → (find test xs ≡ None → AllByRecursion (λ (y : X). test y ≡ false) xs)
-    → AllByRecursion (λ (y : X). test y ≡ false) (x ∷ xs)
-none_step test x xs true e none rest = absurd (let found : Some x ≡ None = rw e at none in let no : ⊥ = cc in no)
-none_step test x xs false e none rest = (e, rest (rw e at none))
-
--- so for the whole list
-pub none_passes : {X : Type 0} (test : X → Bool) (xs : List X) → find test xs ≡ None
-    → AllByRecursion (λ (y : X). test y ≡ false) xs
-none_passes test [] none = tt
-none_passes test (x ∷ xs) none = none_step test x xs (test x) refl none (λ e. none_passes test xs e)
 
 -- where not all items pass, one doesn't
 fails_step : {X : Type 0} (test : X → Bool) (x : X) (xs : List X) (b : Bool) → test x ≡ b

@@ -5,6 +5,8 @@ use Rattle.std.specs.List.{AllByRecursion, list_all, list_any, enumerate_from}
 use Rattle.std.specs.Option.{option_map_or, option_or}
 use Rattle.std.proofs.Common.{refl, sym, ◌∙◌, ap, subst, arith}
 use Rattle.std.proofs.lemmas.Bool.{eq-eqb, and_parts, and_right}
+use Rattle.geo_base.proofs.AllLists.{all_appended}
+use Rattle.geo_base.proofs.FindLists.{none_passes}
 use Rattle.geo_model.specs.declared.command.Command.{Command}
 use Rattle.geo_model.specs.declared.command.Command.TheVariants as commands
 use Rattle.geo_model.specs.declared.command.LineCommand.{LineCommand}
@@ -31,7 +33,7 @@ use Rattle.geo_laws_graph.proofs.Lists.{found_itself}
 use Rattle.geo_laws_graph.proofs.Members.{find-Contains}
 use Rattle.geo_laws_steps.proofs.Logs.{firm_after}
 use Rattle.geo_laws_rest.proofs.EachStep.{steps_lower}
-use Rattle.geo_laws_rest.proofs.Moving.{none_passes, no_bios}
+use Rattle.geo_laws_rest.proofs.Moving.{no_bios}
 
 -- what an order wants of its step
 abbrev pub IsGood : World → Step → Type 0
@@ -227,12 +229,6 @@ pub earliest_none : (items : List (ℕ × ℕ)) → earliest items ≡ None → 
 earliest_none [] e = refl
 earliest_none (item ∷ rest) e = absurd (earliest_some item rest e)
 
--- facts of two lists are facts of both together
-all_both : {X : Type 0} (P : X → Type 0) (xs ys : List X) → AllByRecursion P xs → AllByRecursion P ys
-    → AllByRecursion P (xs ++ ys)
-all_both P [] ys one two = two
-all_both P (x ∷ xs) ys one two = (one.0, all_both P xs ys one.1 two)
-
 module _ (w : World) where
   -- an actor that is ready is enabled, by whether it is
   ready_by : (actor line : ℕ) (b : Bool) → is_enabled w 0 (steps.Go actor) ≡ b
@@ -253,7 +249,7 @@ module _ (w : World) where
       → AllByRecursion (λ (item : ℕ × ℕ). IsTrue (is_enabled w 0 (steps.Go item.0))) (flat_map (ready_actor w) items)
   ready_enabled [] = tt
   ready_enabled (item ∷ items) =
-      all_both (λ (x : ℕ × ℕ). IsTrue (is_enabled w 0 (steps.Go x.0))) (ready_actor w item)
+      all_appended (λ (x : ℕ × ℕ). IsTrue (is_enabled w 0 (steps.Go x.0))) (ready_actor w item)
       (flat_map (ready_actor w) items) (ready_line item.0 (next_line item.1)) (ready_enabled items)
 
   -- Where all else is done

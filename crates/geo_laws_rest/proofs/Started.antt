@@ -2,7 +2,7 @@
 use Rattle.std.specs.Prelude.{◌≡◌, ◌⊎◌, ℕ, zero, suc, ◌+◌, ◌<◌, ◌≤◌, ◌==◌, Bool, true, false, ◌||◌, if◌then◌else◌, option_map, List, [], ◌∷◌, ◌++◌, length, map, find, sum_by, Option, Some, None, Contains, IsSome, IsSomeAnd, is_ok, IsTrue, option_and_then, unwrap_or}
 use Rattle.std.specs.List.{AllByRecursion, enumerate_from}
 use Rattle.std.proofs.Common.{inl, inr, refl, sym, ◌∙◌, ap, subst, arith}
-use Rattle.std.proofs.lemmas.Bool.{eqb-true, eqb-false, eq-eqb}
+use Rattle.std.proofs.lemmas.Bool.{eq-eqb}
 use Rattle.std.proofs.lemmas.List.Elements.{All-contains}
 use Rattle.std.proofs.lemmas.List.Sums.{sum_by-append, sum_by-cons}
 use Rattle.geo_base.specs.declared.errno.Errno.{Errno}
@@ -27,12 +27,12 @@ use Rattle.geo_model.proofs.DemandLemmas.{all_weaker, rank_within-le}
 use Rattle.geo_model.proofs.WayLemmas.{starts_in_parts}
 use Rattle.geo_laws_graph.proofs.Lists.{changed, changed-keeps, find-changed, length-changed}
 use Rattle.geo_laws_graph.proofs.Members.{find-Contains, Contains-map}
-use Rattle.geo_laws_graph.proofs.Numbered.{at-here, at-unchanged, number_found}
+use Rattle.geo_laws_graph.proofs.Numbered.{number_found}
 use Rattle.geo_laws_graph.specs.Edges.{Below}
 use Rattle.geo_laws_graph.proofs.Climbing.{rank-falls}
 use Rattle.geo_laws_bios.proofs.Restarted.{noted_stays_firm}
 use Rattle.geo_laws_bios.proofs.Turning.{found_there}
-use Rattle.geo_laws_bios.proofs.Starting.{SplitsAt, splits_at, starts_stay_firm}
+use Rattle.geo_laws_bios.proofs.Starting.{SplitsAt, splits_at, starts_stay_firm, counted_elsewhere, splits_by}
 use Rattle.geo_laws_life.proofs.Found.{one-found}
 use Rattle.geo_laws_maps.specs.Ways.{IsWays, GoesDown, LeadsInto, IsOpen}
 use Rattle.geo_laws_maps.proofs.Opened.{live-open, open-down}
@@ -321,39 +321,6 @@ counted_falls v w n firm falls = record {
 }
 
 -- The ways of a Start
-
--- where a bio is split, once a request more is counted somewhere
-counted_elsewhere : (t : Topology Config) (x : Bio) (targets : List PieceTarget) (n : ℕ) (b : Bool)
-    (s : SplitsAt t x targets) → (s.provider.geom == n) ≡ b → SplitsAt (note_started t n) x targets
-counted_elsewhere t x targets n true s e = record {
-  provider = s.provider;
-  geom = record s.geom { started = s.geom.started + 1 };
-  to_it = s.to_it;
-  of_it =
-      let same : s.provider.geom ≡ n = eqb-true s.provider.geom n e in
-      subst (λ (m : ℕ). geom_at (note_started t m) s.provider.geom ≡ Some
-      (record s.geom { started = s.geom.started + 1 })) same
-      (at-here (λ (v : Geom Config). v.number) (λ v. record v { started = v.started + 1 })
-      (λ v. refl) s.provider.geom t.geoms s.geom s.of_it);
-  no_disk = s.no_disk;
-  are = s.are;
-}
-counted_elsewhere t x targets n false s e = record {
-  provider = s.provider;
-  geom = s.geom;
-  to_it = s.to_it;
-  of_it = at-unchanged (λ (v : Geom Config). v.number) (λ v. record v { started = v.started + 1 })
-      (λ v. refl) n s.provider.geom
-      (eqb-false s.provider.geom n e) t.geoms ∙ s.of_it;
-  no_disk = s.no_disk;
-  are = s.are;
-}
-
--- the pieces of a way by which a bio is split
-abbrev splits_by : Way → Option (List PieceTarget)
-splits_by (Splits targets) = Some targets
-splits_by (Passes geom targets) = Some targets
-splits_by _ = None
 
 -- a bio that is Down and sent lets the steps fall
 send_falls : (w : World) (firm : Firm w) (x : Bio) → bio_at w x.number ≡ Some x → is_down x.phase ≡ true

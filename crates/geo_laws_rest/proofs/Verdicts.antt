@@ -3,6 +3,7 @@ use Rattle.std.specs.Prelude.{◌≡◌, ℕ, ◌+◌, ◌-◌, ◌*◌, ◌/◌
 use Rattle.std.proofs.Common.{refl, sym, ◌∙◌, ap, subst, arith}
 use Rattle.std.proofs.lemmas.Bool.{and_parts, not-false, ltb-true}
 use Rattle.std.proofs.lemmas.List.{length-append, length-map, length-replicate}
+use Rattle.geo_model.proofs.RefusalLemmas.{none_refused, none_behind}
 use Rattle.geo_base.specs.declared.decline.DeclineCause.{DeclineCause}
 use Rattle.geo_base.specs.declared.decline.DeclineCause.TheVariants as causes
 use Rattle.geo_base.specs.declared.kind.Kind.{Kind}
@@ -35,8 +36,7 @@ use Rattle.geo_model.specs.Fitting.{Firm}
 use Rattle.geo_laws_life.proofs.Found.{at-found}
 use Rattle.geo_laws_making.specs.AcceptLaws.{IsAccepted}
 use Rattle.geo_laws_making.proofs.Accepted.{found, tasting}
-use Rattle.geo_laws_making.proofs.NewSlices.{new_of}
-use Rattle.geo_laws_making.proofs.Inserted.{none_refused}
+use Rattle.geo_laws_making.proofs.NewSlices.{new_of, new_few}
 use Rattle.geo_laws_rest.proofs.Accepting.{Makes, slices-make, label-makes, member-makes, same_concat, same_stripe}
 
 -- Tables
@@ -59,13 +59,6 @@ links_shape : (c : Chain) (bytes : List ℕ) (shape : Shape) (o : Option Decline
     → chain_verdict c bytes o ≡ Accept shape → Logical (table_of c.links) ≡ shape
 links_shape c bytes shape None e = chain_shape c bytes shape (leads_on bytes) e
 links_shape c bytes shape (Some cause) e = absurd (let no : ⊥ = cc in no)
-
--- there are no more providers than places of the table
-new_few : {X : Type 0} (name : ℕ → List ℕ) (count : X → ℕ) (k : ℕ) (xs : List (Option X))
-    → length (new_of name count k xs) ≤ length xs
-new_few name count k [] = omega arith
-new_few name count k (None ∷ xs) = let rest = new_few name count (k + 1) xs in omega (arith, rest)
-new_few name count k (Some x ∷ xs) = let rest = new_few name count (k + 1) xs in omega (arith, rest)
 
 -- so there are at most as many as there are places
 few_of : {X : Type 0} (name : ℕ → List ℕ) (count : X → ℕ) (xs : List (Option X)) (n : ℕ) → length xs ≡ n
@@ -125,11 +118,6 @@ stripe_shape : (o : Option DeclineCause) (x : StripeRecord) (shape : Shape)
     → verdict_of Striped (unless o x) ≡ Accept shape → IsRead Striped o x shape
 stripe_shape None x shape e = record { none = refl; is = cc }
 stripe_shape (Some cause) x shape e = absurd (let no : ⊥ = cc in no)
-
--- nothing is against the tests behind others
-none_behind : (xs ys : List (Bool × DeclineCause)) → first_error (xs ++ ys) ≡ None → first_error ys ≡ None
-none_behind [] ys none = none
-none_behind (row ∷ xs) ys none = none_behind xs ys (none_refused row.0 row.1 (xs ++ ys) none).1
 
 -- a place that isn't declined is below the count
 place_inside : (place count : ℕ) → (place_test place count).0 ≡ false → place < count

@@ -5,6 +5,8 @@ use Rattle.std.specs.Option.{option_map_or, option_or}
 use Rattle.std.proofs.Common.{inl, inr, refl, sym, ◌∙◌, ap, subst, arith}
 use Rattle.std.proofs.lemmas.Bool.{eq-eqb, or_parts}
 use Rattle.std.proofs.lemmas.Bool.Decides.{eqb_tells}
+use Rattle.geo_base.proofs.Options.{none_of}
+use Rattle.geo_base.proofs.FilterLists.{length-kept}
 use Rattle.geo_base.specs.declared.limits.TheConstants.{UNTASTED_RANK}
 use Rattle.geo_model.specs.declared.step.Event.{Event}
 use Rattle.geo_model.specs.declared.step.Found.{Found}
@@ -41,7 +43,7 @@ use Rattle.geo_laws_rest.proofs.Costs.{weight_some, weights_same, left_same}
 use Rattle.geo_laws_rest.proofs.Walks.{Keeps, StandsAs}
 use Rattle.geo_laws_rest.proofs.Turned.{now_most}
 use Rattle.geo_laws_rest.specs.LossLaws.{WashesLower}
-use Rattle.geo_laws_rest.proofs.Elsewhere.{rank_by, elsewhere, Cheaper, same_cheaper, event_most, left_most, no_offers, kept_length, left_out_length}
+use Rattle.geo_laws_rest.proofs.Elsewhere.{rank_by, elsewhere, Cheaper, event_most, left_most, no_offers, left_out_length}
 
 -- What stands of what is washed
 
@@ -221,11 +223,6 @@ module _ (w : World) (firm : Firm w) where
 
   -- A consumer
 
-  -- nothing that isn't there is something
-  none_by : {X : Type 0} (o : Option X) → is_some o ≡ false → o ≡ None
-  none_by None e = refl
-  none_by (Some x) e = absurd cc
-
   module _ (c : ℕ) where
     -- the world without it
     abbrev consumer_gone : World
@@ -237,7 +234,7 @@ module _ (w : World) (firm : Firm w) where
     consumer_lower found after late =
         let quiet = or_parts (is_some w.taste) (list_any is_offer w.events) late in
         let queue : sum_by (event_weight consumer_gone) w.events ≡ 0 = no_offers consumer_gone w.events quiet.1 in
-        let over : w.taste ≡ None = none_by w.taste quiet.0 in
+        let over : w.taste ≡ None = none_of w.taste quiet.0 in
         let taste : taste_left consumer_gone w.taste ≡ 0 = ap (taste_left consumer_gone) over in
         let bios = now_most consumer_gone w after (without_consumer_keeps w.topology c) (omega arith) in
         let here : Contains w.topology.consumers found.item =
@@ -283,7 +280,7 @@ module _ (w : World) (firm : Firm w) where
         let queue = weights_same geom_gone w geom_ranks w.events in
         let taste = left_same geom_gone w geom_ranks w.taste in
         let bios = now_most geom_gone w after (without_geom_keeps w.topology g)
-        (kept_length (λ (x : Geom Config). not (x.number == g)) w.topology.geoms) in
+        (length-kept (λ (x : Geom Config). not (x.number == g)) w.topology.geoms) in
         let here : Contains w.topology.geoms bare.geom =
         find-Contains (λ (x : Geom Config). x.number == g) w.topology.geoms bare.geom bare.found in
         let number : bare.geom.number ≡ g =

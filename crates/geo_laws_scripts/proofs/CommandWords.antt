@@ -77,7 +77,8 @@ few ns words first within small n most =
     let line = line_within ns words within in inl (omega (arith, line, small, most))
 
 -- a word that is written as it stands, of at most eight bytes
-pub literal : (word : List ℕ) → (nat_le 1 (length word) && (nat_le (length word) 8 && list_all is_clean_byte word)) ≡ true
+pub literal : (word : List ℕ)
+    → (nat_le 1 (length word) && (nat_le (length word) 8 && list_all is_clean_byte word)) ≡ true
     → IsWordWithin 8 word
 literal word is =
     let first = and_parts (nat_le 1 (length word)) _ is in
@@ -205,7 +206,10 @@ write_are h off bytes is =
       first = codes "write";
       others = h ∷ decimal off ∷ map run_text (runs_of bytes);
       are = refl;
-      clean = ((literal (codes "write") refl).clean, ((short_within h is.0).clean, ((number_within off is.1).clean, runs.clean)));
+      clean = (
+        (literal (codes "write") refl).clean,
+        ((short_within h is.0).clean, ((number_within off is.1).clean, runs.clean)),
+      );
       reads = by (decimal off) (map run_text (runs_of bytes)) (number_read off is.1) runs.reads;
       long = λ n fits most. inr (fits, refl);
     }
@@ -237,10 +241,13 @@ alone c word within reads = few_words c (8 ∷ []) word [] (within, tt) (omega a
 nop_are : (prov : List ℕ) (off size fail : ℕ) → Written (commands.Nop prov off size fail)
 nop_are prov off size fail is =
     few_words (commands.Nop prov off size fail) (8 ∷ 63 ∷ 20 ∷ 20 ∷ 20 ∷ []) (codes "nop")
-    (prov ∷ decimal off ∷ decimal size ∷ decimal fail ∷ [])
-    (literal (codes "nop") refl, (name_within prov is.0, (number_within off is.1, (number_within size is.2, (number_within fail is.3, tt)))))
+    (prov ∷ decimal off ∷ decimal size ∷ decimal fail ∷ []) (
+      literal (codes "nop") refl,
+      (name_within prov is.0, (number_within off is.1, (number_within size is.2, (number_within fail is.3, tt)))),
+    )
     (omega arith)
-    (by (decimal off) (decimal size) (decimal fail) (number_read off is.1) (number_read size is.2) (number_read fail is.3))
+    (by (decimal off) (decimal size) (decimal fail) (number_read off is.1) (number_read size is.2)
+    (number_read fail is.3))
   where
     by : (o s f : List ℕ) → number_of o ≡ Some off → number_of s ≡ Some size → number_of f ≡ Some fail
         → by_word command_table (codes "nop" ∷ prov ∷ o ∷ s ∷ f ∷ []) ≡ Ok (commands.Nop prov off size fail)
@@ -350,18 +357,27 @@ mark_numbers : (id place count : ℕ) → IsMark id place count
 mark_numbers id place count is =
     let a = is.id_fits in
     let b = is.place_fits in
-    let c = is.few_places in
-    (number_within id (omega (arith, a)), number_within place (omega (arith, b)), number_within count (omega (arith, c)))
+    let c = is.few_places in (
+      number_within id (omega (arith, a)),
+      number_within place (omega (arith, b)),
+      number_within count (omega (arith, c)),
+    )
 
 mark_concat_are : (h name : List ℕ) (id place count : ℕ) → Written (commands.MarkConcat h name id place count)
 mark_concat_are h name id place count is =
     let numbers = mark_numbers id place count is.2 in
     few_words (commands.MarkConcat h name id place count) (8 ∷ 16 ∷ 8 ∷ 16 ∷ 20 ∷ 20 ∷ 20 ∷ []) (codes "mark")
-    (h ∷ codes "concat" ∷ name ∷ decimal id ∷ decimal place ∷ decimal count ∷ [])
-    (literal (codes "mark") refl, (short_within h is.0, (literal (codes "concat") refl, (short_within name is.1, (numbers.0, (numbers.1, (numbers.2, tt)))))))
+    (h ∷ codes "concat" ∷ name ∷ decimal id ∷ decimal place ∷ decimal count ∷ []) (
+      literal (codes "mark") refl,
+      (
+        short_within h is.0,
+        (literal (codes "concat") refl, (short_within name is.1, (numbers.0, (numbers.1, (numbers.2, tt))))),
+      ),
+    )
     (omega arith)
     (by (decimal id ∷ decimal place ∷ decimal count ∷ []) (decimal place ∷ decimal count ∷ []) (decimal count ∷ [])
-    (id_read id _ is.2.id_fits) (place_read place _ is.2.place_fits) (count_read count [] is.2.some_place is.2.few_places))
+    (id_read id _ is.2.id_fits) (place_read place _ is.2.place_fits)
+    (count_read count [] is.2.some_place is.2.few_places))
   where
     by : (words more last : Words) → record_id words ≡ Ok (id, more) → record_place more ≡ Ok (place, last)
         → record_count last ≡ Ok (count, [])
@@ -376,8 +392,19 @@ mark_stripe_are h name id place count stripe is =
     let limit = is.3.limited in
     few_words (commands.MarkStripe h name id place count stripe) (8 ∷ 16 ∷ 8 ∷ 16 ∷ 20 ∷ 20 ∷ 20 ∷ 20 ∷ [])
     (codes "mark")
-    (h ∷ codes "stripe" ∷ name ∷ decimal id ∷ decimal place ∷ decimal count ∷ decimal stripe ∷ [])
-    (literal (codes "mark") refl, (short_within h is.0, (literal (codes "stripe") refl, (short_within name is.1, (numbers.0, (numbers.1, (numbers.2, (number_within stripe (omega (arith, limit)), tt))))))))
+    (h ∷ codes "stripe" ∷ name ∷ decimal id ∷ decimal place ∷ decimal count ∷ decimal stripe ∷ []) (
+      literal (codes "mark") refl,
+      (
+        short_within h is.0,
+        (
+          literal (codes "stripe") refl,
+          (
+            short_within name is.1,
+            (numbers.0, (numbers.1, (numbers.2, (number_within stripe (omega (arith, limit)), tt)))),
+          ),
+        ),
+      ),
+    )
     (omega arith)
     (by (decimal id ∷ decimal place ∷ decimal count ∷ decimal stripe ∷ [])
     (decimal place ∷ decimal count ∷ decimal stripe ∷ []) (decimal count ∷ decimal stripe ∷ []) (decimal stripe ∷ [])

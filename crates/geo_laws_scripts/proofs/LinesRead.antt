@@ -173,23 +173,27 @@ actor_within name short = (literal (codes "actor") refl, (short_within name shor
 ram_read : (name : List ℕ) (sector sectors : ℕ) (later : Bool) → is_short_name name ≡ true → IsSectorSize sector
     → 1 ≤ sectors → sectors * sector ≤ MAX_MEMORY_DISK_BYTES
     → AddsHeader (line_of (ram_line_words name sector sectors later))
-    (λ plan next. add_disk plan (record { kind = disk_kinds.Ram; name = name; sector = sector; sectors = sectors; later = later }) ≡ Ok next)
+    (λ plan next. add_disk plan
+    (record { kind = disk_kinds.Ram; name = name; sector = sector; sectors = sectors; later = later }) ≡ Ok next)
 ram_read name sector sectors later short size some limit plan next n few none adds =
     let room_left = later_room later in
     let within = ram_within name sector sectors later short size limit in
     line_read plan next n (codes "ram") name (decimal sector ∷ decimal sectors ∷ later_in_words later) few
     (words_clean (ram_lengths later) (ram_line_words name sector sectors later) within)
-    (short_line (ram_lengths later) (ram_line_words name sector sectors later) name within (omega (arith, room_left))) refl
+    (short_line (ram_lengths later) (ram_line_words name sector sectors later) name within (omega (arith, room_left)))
+    refl
     (by (decimal sector ∷ decimal sectors ∷ later_in_words later) (decimal sectors ∷ later_in_words later)
     (later_in_words later) (size_read sector _ size) (sectors_read sectors sector _ size some limit) (later_read later))
   where
-    by : (words more last : Words) → sector_size words ≡ Ok (sector, more) → sector_count sector more ≡ Ok (sectors, last)
+    by : (words more last : Words) → sector_size words ≡ Ok (sector, more)
+        → sector_count sector more ≡ Ok (sectors, last)
         → later_word last ≡ Ok (later, []) → words_line plan n (codes "ram" ∷ name ∷ words) ≡ Ok next
     by words more last first second third = rw (none, short, first, second, third) adds
 
 shelf_read : (name : List ℕ) (sector : ℕ) (later : Bool) → is_short_name name ≡ true → IsSectorSize sector
     → AddsHeader (line_of (shelf_line_words name sector later))
-    (λ plan next. add_disk plan (record { kind = disk_kinds.Shelf; name = name; sector = sector; sectors = 0; later = later }) ≡ Ok next)
+    (λ plan next. add_disk plan
+    (record { kind = disk_kinds.Shelf; name = name; sector = sector; sectors = 0; later = later }) ≡ Ok next)
 shelf_read name sector later short size plan next n few none adds =
     let room_left = later_room later in
     let within = shelf_within name sector later short size in
@@ -209,13 +213,16 @@ disk_read d is plan next n few none adds = by d.kind refl is.sectors
     by : (kind : DiskKind) → d.kind ≡ kind → HasSectors kind d.sector d.sectors
         → next_line (Ok plan) (n, spaced (disk_in_words kind d)) ≡ Ok next
     by disk_kinds.Ram e has =
-        let same : record { kind = disk_kinds.Ram; name = d.name; sector = d.sector; sectors = d.sectors; later = d.later } ≡ d =
+        let same :
+        record { kind = disk_kinds.Ram; name = d.name; sector = d.sector; sectors = d.sectors; later = d.later } ≡ d =
         ap (λ (k : DiskKind). record d { kind = k }) (sym e) in
         ram_read d.name d.sector d.sectors d.later is.name is.sector has.0 has.1 plan next n few none
         (ap (add_disk plan) same ∙ adds)
     by disk_kinds.Shelf e has =
-        let same : record { kind = disk_kinds.Shelf; name = d.name; sector = d.sector; sectors = 0; later = d.later } ≡ d =
-        ap (λ (k : DiskKind). record d { kind = k; sectors = 0 }) (sym e) ∙ ap (λ (k : ℕ). record d { sectors = k }) (sym has) in
+        let same : record { kind = disk_kinds.Shelf; name = d.name; sector = d.sector; sectors = 0; later = d.later }
+        ≡ d =
+        ap (λ (k : DiskKind). record d { kind = k; sectors = 0 }) (sym e)
+        ∙ ap (λ (k : ℕ). record d { sectors = k }) (sym has) in
         shelf_read d.name d.sector d.later is.name is.sector plan next n few none (ap (add_disk plan) same ∙ adds)
 
 -- the line of an actor adds it
@@ -233,13 +240,16 @@ no_comment : (b : ℕ) → is_word_byte b ≡ true → (b == 35) ≡ false
 no_comment b e = grind (arith, nat_tests)
 
 -- a line that begins with a short name isn't skipped
-pub name_shown : (name : List ℕ) (words : Words) → is_short_name name ≡ true → is_skipped (line_of (name ∷ words)) ≡ false
+pub name_shown : (name : List ℕ) (words : Words) → is_short_name name ≡ true
+    → is_skipped (line_of (name ∷ words)) ≡ false
 name_shown [] words is = absurd (let bad : ⊥ = cc in bad)
 name_shown (b ∷ bs) [] is =
-    let all = (and_parts (nat_le 1 (length (b ∷ bs)) && nat_le (length (b ∷ bs)) 16) (list_all is_word_byte (b ∷ bs)) is).1 in
+    let all =
+    (and_parts (nat_le 1 (length (b ∷ bs)) && nat_le (length (b ∷ bs)) 16) (list_all is_word_byte (b ∷ bs)) is).1 in
     no_comment b (and_parts (is_word_byte b) (list_all is_word_byte bs) all).0
 name_shown (b ∷ bs) (word ∷ words) is =
-    let all = (and_parts (nat_le 1 (length (b ∷ bs)) && nat_le (length (b ∷ bs)) 16) (list_all is_word_byte (b ∷ bs)) is).1 in
+    let all =
+    (and_parts (nat_le 1 (length (b ∷ bs)) && nat_le (length (b ∷ bs)) 16) (list_all is_word_byte (b ∷ bs)) is).1 in
     no_comment b (and_parts (is_word_byte b) (list_all is_word_byte bs) all).0
 
 -- names that differ, the other way round
@@ -259,7 +269,8 @@ no_header plan name none =
     let first = or_parts (same_name name (codes "ram")) _ none in
     let second = or_parts (same_name name (codes "disk")) _ first.1 in
     let third = or_parts (same_name name (codes "actor")) false second.1 in
-    rw (turned name (codes "ram") first.0, turned name (codes "disk") second.0, turned name (codes "actor") third.0) refl
+    rw (turned name (codes "ram") first.0, turned name (codes "disk") second.0, turned name (codes "actor") third.0)
+    refl
 
 -- a plan with a command line more
 abbrev pub with_command : Plan → ℕ → ℕ → Command → Plan
@@ -286,7 +297,8 @@ command_read plan n actor name c few is place command fits =
         length-append name (32 ∷ line_of (are.first ∷ are.others)) in
         let room_for : HasRoom c (length (line_of (name ∷ are.first ∷ are.others))) =
         subst (λ (l : List ℕ). HasRoom c (length l)) same fits in
-        let none : beside (header_table plan) name ≡ None = no_header plan name (not-true (list_any (same_name name) header_words) is.no_header_word) in
+        let none : beside (header_table plan) name ≡ None =
+        no_header plan name (not-true (list_any (same_name name) header_words) is.no_header_word) in
         ap (λ l. next_line (Ok plan) (n, l)) same
         ∙ line_read plan (with_command plan n actor c) n name are.first are.others few (within.clean, are.clean)
         (are.long (length (line_of (name ∷ are.first ∷ are.others))) room_for (omega (arith, long, short)))

@@ -34,7 +34,8 @@ fault_stays fault [] = refl
 fault_stays fault (item ∷ items) = fault_stays fault items
 
 -- a line that adds to a plan isn't too long
-not_long : (plan next : Plan) (n : ℕ) (line : List ℕ) → is_skipped line ≡ false → next_line (Ok plan) (n, line) ≡ Ok next
+not_long : (plan next : Plan) (n : ℕ) (line : List ℕ) → is_skipped line ≡ false
+    → next_line (Ok plan) (n, line) ≡ Ok next
     → is_long line ≡ false
 not_long plan next n line shown read = by (nat_lt MAX_SCRIPT_LINES n) refl (is_long line) refl
   where
@@ -115,8 +116,8 @@ written : (plan next : Plan) (n : ℕ) (c : LineCommand) → All IsActor plan.ac
     → next_line (Ok plan) (n, command_line plan.actors c) ≡ Ok next → IsWritable plan.actors c
 written plan next n c are is read = record {
   is = is;
-  fits = command_fits plan next n (entry_at plan.actors c.actor) c.command (actor_named plan.actors c.actor are is.actor)
-      (command_words c.command is.command) read;
+  fits = command_fits plan next n (entry_at plan.actors c.actor) c.command
+      (actor_named plan.actors c.actor are is.actor) (command_words c.command is.command) read;
 }
 
 -- what is read of a line's answer and the lines behind it
@@ -144,7 +145,8 @@ lines_fit disks actors done (c ∷ cs) n found are apart all up e =
     let reached : n + (c.line - n) ≡ c.line = omega (arith, first) in
     let whole : fold next_line (next_line (Ok plan) (c.line, command_line actors c))
     (enumerate_from (c.line + 1) (command_lines actors (c.line + 1) cs)) ≡ Ok found =
-    ap (λ k. fold next_line (Ok plan) (enumerate_from k (command_line actors c ∷ command_lines actors (c.line + 1) cs))) (sym reached)
+    ap (λ k. fold next_line (Ok plan) (enumerate_from k (command_line actors c ∷ command_lines actors (c.line + 1) cs)))
+    (sym reached)
     ∙ sym (blank plan (c.line - n) n (command_line actors c ∷ command_lines actors (c.line + 1) cs)) ∙ e in
     let are_read = reads (next_line (Ok plan) (c.line, command_line actors c))
     (enumerate_from (c.line + 1) (command_lines actors (c.line + 1) cs)) found whole in
@@ -152,7 +154,8 @@ lines_fit disks actors done (c ∷ cs) n found are apart all up e =
     let step = step_read plan c.line c all.0.line are apart is in (
       is.fits,
       lines_fit disks actors (done ++ c ∷ []) cs (c.line + 1) found are apart all.1 up.1
-          (ap (λ r. fold next_line r (enumerate_from (c.line + 1) (command_lines actors (c.line + 1) cs))) (sym step) ∙ whole),
+          (ap (λ r. fold next_line r (enumerate_from (c.line + 1) (command_lines actors (c.line + 1) cs))) (sym step)
+          ∙ whole),
     )
 
 -- The first command
@@ -188,7 +191,8 @@ actor_begins n plan k (Some actor) words begins = by (by_word command_table word
     by (Err cause) = tt
 
 -- so does any line, by its words
-words_begins : (n : ℕ) (plan : Plan) (k : ℕ) (words : Words) → BeginsAt n plan.commands → GivesAt n (words_line plan k words)
+words_begins : (n : ℕ) (plan : Plan) (k : ℕ) (words : Words) → BeginsAt n plan.commands
+    → GivesAt n (words_line plan k words)
 words_begins n plan k [] begins = tt
 words_begins n plan k (word ∷ words) begins = by (beside (header_table plan) word)
   where
@@ -214,7 +218,8 @@ line_begins n (Ok plan) item begins = by (is_skipped item.1)
     by false = told (plan_with_line plan item.0 item.1) (tested (first_error (line_tests item.0 item.1)))
 
 -- so do all
-lines_begin : (n : ℕ) (r : Result Plan Fault) (items : List (ℕ × List ℕ)) → GivesAt n r → GivesAt n (fold next_line r items)
+lines_begin : (n : ℕ) (r : Result Plan Fault) (items : List (ℕ × List ℕ)) → GivesAt n r
+    → GivesAt n (fold next_line r items)
 lines_begin n r [] begins = begins
 lines_begin n r (item ∷ items) begins = lines_begin n (next_line r item) items (line_begins n r item begins)
 
@@ -246,7 +251,8 @@ stands_behind plan is c cs same e = by (nat_lt (length plan.disks + length plan.
         let below : c.line ≤ length plan.disks + length plan.actors =
         ltb-false (length plan.disks + length plan.actors) c.line above in
         let none : first_line plan + (c.line - first_line plan) ≡ first_line plan = omega (arith, below) in
-        let whole : fold next_line (next_line (Ok header) (first_line plan, command_line plan.actors c)) items ≡ Ok plan =
+        let whole : fold next_line (next_line (Ok header) (first_line plan, command_line plan.actors c)) items
+        ≡ Ok plan =
         ap (λ k. fold next_line (Ok header)
         (enumerate_from k (command_line plan.actors c ∷ command_lines plan.actors (c.line + 1) cs))) (sym none)
         ∙ sym (blank header (c.line - first_line plan) (first_line plan)
@@ -255,7 +261,8 @@ stands_behind plan is c cs same e = by (nat_lt (length plan.disks + length plan.
         let writable = written header are_read.next (first_line plan) c is.actors line are_read.first in
         let step = step_read header (first_line plan) c few is.actors is.actor_names writable in
         let begins : BeginsAt (first_line plan) plan.commands =
-        subst (λ (r : Result Plan Fault). GivesAt (first_line plan) r) (ap (λ r. fold next_line r items) (sym step) ∙ whole)
+        subst (λ (r : Result Plan Fault). GivesAt (first_line plan) r)
+        (ap (λ r. fold next_line r items) (sym step) ∙ whole)
         (lines_begin (first_line plan) (Ok (with_command header (first_line plan) c.actor c.command)) items refl) in
         let at : c.line ≡ first_line plan = subst (BeginsAt (first_line plan)) same begins in
         absurd (omega (arith, at, below))

@@ -12,7 +12,7 @@ use Rattle.std.proofs.lemmas.List.Splits.{slice_split_at}
 use Rattle.std.proofs.lemmas.List.Sums.{position_or_len_is}
 use Rattle.std.proofs.lemmas.Option.{unwrap_or-slice_get}
 use Rattle.std.proofs.lemmas.Slice.Eq.{bytes_eq-Decides}
-use Rattle.geo_base.proofs.Tests.{pairs_head, pairs_tail}
+use Rattle.geo_base.proofs.AllLists.{pairs_head, pairs_tail, in_middle, all_appended}
 use Rattle.geo_base.specs.declared.limits.TheConstants.{MAX_ACTORS, MAX_DISKS, MAX_SCRIPT_LINES}
 use Rattle.geo_model.specs.declared.command.DiskDecl.{DiskDecl}
 use Rattle.geo_model.specs.declared.command.LineCommand.{LineCommand}
@@ -27,24 +27,13 @@ use Rattle.geo_laws_scripts.proofs.LinesRead.{IsUnended, actor_read, actor_unend
 
 -- Lists
 
--- what holds of all holds of the one behind some
-at_seam : {X : Type 0} (P : X → Type 0) (xs : List X) (y : X) (ys : List X) → AllByRecursion P (xs ++ y ∷ ys) → P y
-at_seam P [] y ys all = all.0
-at_seam P (x ∷ xs) y ys all = at_seam P xs y ys all.1
-
 -- what holds of any two holds of each before the one behind some
 before_seam : {X : Type 0} (R : X → X → Type 0) (xs : List X) (y : X) (ys : List X) → AllPairs R (xs ++ y ∷ ys)
     → AllByRecursion (λ x. R x y) xs
 before_seam R [] y ys pairs = tt
 before_seam R (x ∷ xs) y ys pairs =
     let each = recursion_from_All (R x) (xs ++ y ∷ ys) (pairs_head R x (xs ++ y ∷ ys) pairs) in
-    (at_seam (R x) xs y ys each, before_seam R xs y ys (pairs_tail R x (xs ++ y ∷ ys) pairs))
-
--- what holds of each of two lists
-all_both : {X : Type 0} (P : X → Type 0) (xs ys : List X) → AllByRecursion P xs → AllByRecursion P ys
-    → AllByRecursion P (xs ++ ys)
-all_both P [] ys first second = second
-all_both P (x ∷ xs) ys first second = (first.0, all_both P xs ys first.1 second)
+    (in_middle (R x) xs y ys each, before_seam R xs y ys (pairs_tail R x (xs ++ y ∷ ys) pairs))
 
 -- Lines
 
@@ -103,7 +92,8 @@ disks_read done (d ∷ ds) n more few lines all names =
     let apart : AllPairs Differ (map (λ (x : DiskDecl). x.name) done ++ d.name ∷ map (λ (x : DiskDecl). x.name) ds) =
     subst (AllPairs Differ) (map-append (λ (x : DiskDecl). x.name) done (d ∷ ds)) names in
     let other : list_any (λ x. same_name x.name d.name) done ≡ false =
-    no_disk done d.name (before_seam Differ (map (λ (x : DiskDecl). x.name) done) d.name (map (λ (x : DiskDecl). x.name) ds) apart) in
+    no_disk done d.name
+    (before_seam Differ (map (λ (x : DiskDecl). x.name) done) d.name (map (λ (x : DiskDecl). x.name) ds) apart) in
     let place : nat_le MAX_DISKS (length done) ≡ false =
     not_many MAX_DISKS (length done) (length ds) (omega (arith, few)) in
     let added : add_disk (of_disks done) d ≡ Ok (of_disks (done ++ d ∷ [])) = rw (other, place) refl in
@@ -147,7 +137,8 @@ actors_read disks done (name ∷ rest) n more few lines all names =
     let added : add_actor (of_header disks done) name ≡ Ok (of_header disks (done ++ name ∷ [])) =
     rw (other, none, place) refl in
     let step : next_line (Ok (of_header disks done)) (n, actor_line name) ≡ Ok (of_header disks (done ++ name ∷ [])) =
-    actor_read name all.0.short (of_header disks done) (of_header disks (done ++ name ∷ [])) n (omega (arith, lines)) refl added in
+    actor_read name all.0.short (of_header disks done) (of_header disks (done ++ name ∷ [])) n (omega (arith, lines))
+    refl added in
     let grown = length-append done (name ∷ []) in
     let whole : (done ++ name ∷ []) ++ rest ≡ done ++ name ∷ rest = append_assoc done (name ∷ []) rest in
     let next : (n + 1) + length rest ≡ n + length (name ∷ rest) = omega arith in
@@ -212,7 +203,8 @@ named : (actors : List (List ℕ)) (k : ℕ) → entry_at actors k ≡ get_or ac
 named actors k = unwrap_or-slice_get actors k []
 
 -- it is one
-pub actor_named : (actors : List (List ℕ)) (k : ℕ) → All IsActor actors → k < length actors → IsActor (entry_at actors k)
+pub actor_named : (actors : List (List ℕ)) (k : ℕ) → All IsActor actors → k < length actors
+    → IsActor (entry_at actors k)
 actor_named actors k are inside = subst IsActor (sym (named actors k)) (are k [] inside)
 
 -- a command's line adds it, at whatever number it stands
@@ -244,7 +236,8 @@ commands_read disks actors done (c ∷ cs) n are apart all up =
     ≡ Ok (record { disks = disks; actors = actors; commands = done ++ c ∷ [] }) =
     step_read plan c.line c all.0.is.line are apart all.0 in
     blank plan (c.line - n) n (command_line actors c ∷ command_lines actors (c.line + 1) cs)
-    ∙ ap (λ k. fold next_line (Ok plan) (enumerate_from k (command_line actors c ∷ command_lines actors (c.line + 1) cs))) reached
+    ∙ ap (λ k. fold next_line (Ok plan)
+    (enumerate_from k (command_line actors c ∷ command_lines actors (c.line + 1) cs))) reached
     ∙ ap (λ r. fold next_line r (enumerate_from (c.line + 1) (command_lines actors (c.line + 1) cs))) step
     ∙ commands_read disks actors (done ++ c ∷ []) cs (c.line + 1) are apart all.1 up.1
     ∙ ap (λ xs. Ok (record { disks = disks; actors = actors; commands = xs })) whole
@@ -252,7 +245,8 @@ commands_read disks actors done (c ∷ cs) n are apart all up =
 -- Line feeds
 
 -- no line of the header has one
-disks_unended : (disks : List DiskDecl) → AllByRecursion IsDiskDecl disks → AllByRecursion IsUnended (map disk_line disks)
+disks_unended : (disks : List DiskDecl) → AllByRecursion IsDiskDecl disks
+    → AllByRecursion IsUnended (map disk_line disks)
 disks_unended [] all = tt
 disks_unended (d ∷ ds) all = (disk_unended d all.0, disks_unended ds all.1)
 
@@ -271,9 +265,10 @@ commands_unended : (actors : List (List ℕ)) (n : ℕ) (cs : List LineCommand) 
     → AllByRecursion (IsCommandLine (length actors)) cs → AllByRecursion IsUnended (command_lines actors n cs)
 commands_unended actors n [] are all = tt
 commands_unended actors n (c ∷ cs) are all =
-    all_both IsUnended (replicate (c.line - n) []) (command_line actors c ∷ command_lines actors (c.line + 1) cs)
+    all_appended IsUnended (replicate (c.line - n) []) (command_line actors c ∷ command_lines actors (c.line + 1) cs)
     (blanks_unended (c.line - n)) (
-      command_unended (entry_at actors c.actor) c.command (actor_named actors c.actor are all.0.actor).short all.0.command,
+      command_unended (entry_at actors c.actor) c.command (actor_named actors c.actor are all.0.actor).short
+          all.0.command,
       commands_unended actors (c.line + 1) cs are all.1,
     )
 
@@ -286,11 +281,13 @@ writable plan is fits =
     (λ k d inside. record { is = is.commands k d inside; fits = fits k d inside })
 
 -- and rise behind the header
-pub behind : (n : ℕ) (cs : List LineCommand) → StandsBehind n cs → IsStrictlyIncreasing (map (λ (c : LineCommand). c.line) cs)
+pub behind : (n : ℕ) (cs : List LineCommand) → StandsBehind n cs
+    → IsStrictlyIncreasing (map (λ (c : LineCommand). c.line) cs)
     → Rising (n + 1) cs
 behind n [] stands up = tt
 behind n (c ∷ cs) stands up =
-    rising (n + 1) c cs (omega (arith, stands)) (AllPairs-from_increasing (map (λ (x : LineCommand). x.line) (c ∷ cs)) up)
+    rising (n + 1) c cs (omega (arith, stands))
+    (AllPairs-from_increasing (map (λ (x : LineCommand). x.line) (c ∷ cs)) up)
 
 -- the line at which the first command of a plan may stand
 abbrev pub first_line : Plan → ℕ
@@ -311,13 +308,14 @@ header_read plan is =
     let last : List (List ℕ) = command_lines plan.actors (first_line plan) plan.commands in
     let reached : (1 + length plan.disks) + length plan.actors ≡ first_line plan = omega arith in
     let unended : AllByRecursion IsUnended (plan_lines plan) =
-    all_both IsUnended (map disk_line plan.disks ++ map actor_line plan.actors) last
-    (all_both IsUnended (map disk_line plan.disks) (map actor_line plan.actors) (disks_unended plan.disks disks)
+    all_appended IsUnended (map disk_line plan.disks ++ map actor_line plan.actors) last
+    (all_appended IsUnended (map disk_line plan.disks) (map actor_line plan.actors) (disks_unended plan.disks disks)
     (actors_unended plan.actors actors))
     (commands_unended plan.actors (first_line plan) plan.commands is.actors commands) in
     ap (λ ls. fold next_line (Ok empty_plan) (enumerate_from 1 ls))
     (lines_back (plan_lines plan) unended ∙ append_assoc (map disk_line plan.disks) (map actor_line plan.actors) last)
-    ∙ disks_read [] plan.disks 1 (map actor_line plan.actors ++ last) (omega (arith, few_disks)) (omega (arith, few_disks))
+    ∙ disks_read [] plan.disks 1 (map actor_line plan.actors ++ last) (omega (arith, few_disks))
+    (omega (arith, few_disks))
     disks is.disk_names
     ∙ actors_read plan.disks [] plan.actors (1 + length plan.disks) last (omega (arith, few_actors))
     (omega (arith, few_disks, few_actors)) actors is.actor_names

@@ -87,7 +87,8 @@ number_within n fits = record {
 counts_spelled : (a : Counts) → a.r ≤ 9 → a.w ≤ 9 → a.e ≤ 9
     → counts_text a ≡ 114 ∷ (48 + a.r) ∷ 119 ∷ (48 + a.w) ∷ 101 ∷ (48 + a.e) ∷ []
 counts_spelled a r w e =
-    rw (decimal_digit a.r (omega (arith, r)), decimal_digit a.w (omega (arith, w)), decimal_digit a.e (omega (arith, e)))
+    rw
+    (decimal_digit a.r (omega (arith, r)), decimal_digit a.w (omega (arith, w)), decimal_digit a.e (omega (arith, e)))
     refl
 
 -- a digit more than zero isn't `0`
@@ -111,7 +112,15 @@ not_all_zero r w e some = grind (arith, nat_tests)
 pub counts_read : (a : Counts) → IsGrant a → counts_of (counts_text a) ≡ Some a
 counts_read a is =
     ap counts_of (counts_spelled a is.r is.w is.e)
-    ∙ (rw (digit_is a.r is.r, digit_is a.w is.w, digit_is a.e is.e, not_all_zero a.r a.w a.e is.some, digit_value a.r, digit_value a.w, digit_value a.e) refl)
+    ∙ (rw (
+      digit_is a.r is.r,
+      digit_is a.w is.w,
+      digit_is a.e is.e,
+      not_all_zero a.r a.w a.e is.some,
+      digit_value a.r,
+      digit_value a.w,
+      digit_value a.e,
+    ) refl)
 
 -- and are a word of six bytes
 pub counts_within : (a : Counts) → IsGrant a → IsWordWithin 6 (counts_text a)
@@ -120,7 +129,11 @@ counts_within a is =
     rw spelled (record {
       clean = record {
         some_byte = omega arith;
-        bytes = rw (digit_clean (48 + a.r) (digit_is a.r is.r), digit_clean (48 + a.w) (digit_is a.w is.w), digit_clean (48 + a.e) (digit_is a.e is.e)) refl;
+        bytes = rw (
+          digit_clean (48 + a.r) (digit_is a.r is.r),
+          digit_clean (48 + a.w) (digit_is a.w is.w),
+          digit_clean (48 + a.e) (digit_is a.e is.e),
+        ) refl;
       };
       short = omega arith;
     })

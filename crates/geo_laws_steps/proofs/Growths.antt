@@ -4,6 +4,7 @@ use Rattle.std.specs.List.{list_any}
 use Rattle.std.specs.Option.{option_map_or}
 use Rattle.std.proofs.Common.{inr, refl, sym, ◌∙◌, ap, subst}
 use Rattle.std.proofs.lemmas.Bool.{eqb-true, eq-eqb, or_parts}
+use Rattle.geo_model.proofs.RefusalLemmas.{none_refused}
 use Rattle.geo_base.specs.declared.errno.Errno.{Errno}
 use Rattle.geo_base.specs.declared.errno.Errno.TheVariants.{EBUSY, EINVAL}
 use Rattle.geo_model.specs.Words.{first_error}
@@ -23,7 +24,6 @@ use Rattle.geo_laws_graph.proofs.Numbered.{any-contained, number_found}
 use Rattle.geo_laws_graph.proofs.Living.{sound-order}
 use Rattle.geo_laws_counts.proofs.Reach.{below_self, below_closed}
 use Rattle.geo_laws_life.proofs.Found.{some-with, one-found}
-use Rattle.geo_laws_making.proofs.Inserted.{none_refused}
 use Rattle.geo_laws_making.proofs.Concats.{IsStanding, growing_stands}
 use Rattle.geo_laws_making.proofs.Rises.{own_only}
 use Rattle.geo_laws_maps.specs.Ways.{IsNextUnder, IsWay, Used, GoesDown, LeadsInto}

@@ -135,7 +135,8 @@ module _ (w v : World) (firm : Firm w) (after : Firm v) (T : ℕ → Type 0)
       let attached : was.consumer.provider ≡ Some q =
       sym (ap (option_and_then (λ (z : Consumer). z.provider)) was.found) ∙ next.attached in
       let now = leads p used opened next.provider next.found next.geom next.of next.component next.is in
-      let is = same_consumer p used opened next.provider next.found next.geom next.of next.component next.is was.consumer
+      let is = same_consumer p used opened next.provider next.found next.geom next.of next.component next.is
+      was.consumer
       was.found in
       subst (IsOpen v)
       (one-found now.consumer.provider now.under q now.attached (is.provider ∙ attached)) now.inside

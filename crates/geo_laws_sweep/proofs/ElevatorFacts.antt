@@ -78,8 +78,10 @@ least_is [] x is = tt
 least_is (y ∷ ys) x is =
     either (list_all (λ z. nat_le y.first z.first) ys) y x (least_place ys) (AreAhead x.first (y ∷ ys)) is
     (λ e same.
-    let first : AreAhead y.first (y ∷ ys) =
-    (omega arith, all_tell (λ z. nat_le y.first z.first) (λ z. y.first ≤ z.first) (λ z. leb-true y.first z.first) ys e) in
+    let first : AreAhead y.first (y ∷ ys) = (
+      omega arith,
+      all_tell (λ z. nat_le y.first z.first) (λ z. y.first ≤ z.first) (λ z. leb-true y.first z.first) ys e,
+    ) in
     subst (λ (z : Waiting). AreAhead z.first (y ∷ ys)) same first)
     (λ e rest.
     let later = least_is ys x rest in (

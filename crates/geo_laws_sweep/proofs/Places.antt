@@ -7,6 +7,7 @@ use Rattle.std.proofs.lemmas.Bool.{eq-eqb}
 use Rattle.std.proofs.lemmas.List.{append_assoc}
 use Rattle.std.proofs.lemmas.List.Elements.{All-from_recursion, recursion_from_All}
 use Rattle.std.proofs.lemmas.List.Sums.{fold-append}
+use Rattle.geo_base.proofs.AllLists.{all_weaker}
 use Rattle.geo_model.specs.declared.step.Entry.{Entry}
 use Rattle.geo_model.specs.declared.step.Outcome.{Outcome}
 use Rattle.geo_model.specs.declared.step.Outcome.TheVariants as outcomes
@@ -34,7 +35,6 @@ use Rattle.geo_laws_sweep.specs.SweepLaws.{WaitingChanges, Asks, is_queued, is_a
 use Rattle.geo_laws_sweep.specs.Elevator.{AreAhead, Shrinks, TakesFrom}
 use Rattle.geo_laws_sweep.proofs.ElevatorFacts.{among_candidates, next_holds, takes_fall_once}
 use Rattle.geo_laws_sweep.proofs.Looks.{is_other}
-use Rattle.geo_laws_sweep.proofs.SentBios.{weaker}
 use Rattle.geo_laws_sweep.proofs.Sweeping.{one_of, first_holds}
 use Rattle.geo_laws_sweep.proofs.WaitingFacts.{steps_change_waiting, takes_ask_waiting}
 
@@ -83,7 +83,7 @@ first_none : (low high : ℕ) (x : Waiting) (xs : List Waiting) → RisesFrom lo
     → NoneEarlier (x ∷ xs) x
 first_none low high x xs rise = (
   λ e. omega arith,
-  weaker (λ (z : Waiting). x.bio ≤ z.bio) (λ (z : Waiting). z.flush ≡ true → x.bio ≤ z.bio) (λ z most e. most) xs
+  all_weaker (λ (z : Waiting). x.bio ≤ z.bio) (λ (z : Waiting). z.flush ≡ true → x.bio ≤ z.bio) (λ z most e. most) xs
       (all_high x.bio (x.bio + 1) high xs rise.2 (omega arith)),
 )
 
@@ -91,7 +91,7 @@ first_none low high x xs rise = (
 behind_none : (x : Waiting) (xs zs : List Waiting) → x.flush ≡ false → AllByRecursion (NoneEarlier xs) zs
     → AllByRecursion (NoneEarlier (x ∷ xs)) zs
 behind_none x xs zs other facts =
-    weaker (NoneEarlier xs) (NoneEarlier (x ∷ xs))
+    all_weaker (NoneEarlier xs) (NoneEarlier (x ∷ xs))
     (λ z fact. ((λ e. (let no : false ≡ true = sym other ∙ e in absurd (let bad : ⊥ = cc in bad))), fact)) zs facts
 
 -- those that stand before the first FLUSH
@@ -286,7 +286,7 @@ module _ (w : World) (firm : Firm w) (log : List Entry) (e : Entry) (disk : ℕ)
       ap (λ (z : Waiting). z.first) same ∙ sym asks_so.0,
       subst (Shrinks before) (sym (changes.taken b by_take.1))
           (shrinks b before
-          (weaker (λ (y : Waiting). (y.bio == b) ≡ true → y ≡ asks.0)
+          (all_weaker (λ (y : Waiting). (y.bio == b) ≡ true → y ≡ asks.0)
           (λ (y : Waiting). (y.bio == b) ≡ true → y.flush ≡ false)
           (λ y only hit. ap (λ (z : Waiting). z.flush) (only hit) ∙ sym asks_so.1 ∙ moves) before
           (only_one b asks.0 asks.1 asks.2))),
@@ -388,7 +388,7 @@ module _ (plan : Plan) (facts : List (ℕ × ℕ)) (is_plan : IsPlan plan) (fit 
       waiting_rises w disk 0 w.next_bio w.bios
       (rise-from w.next_bio (map (λ (x : Bio). x.number) w.bios) (firm_at earlier).sound.numbers.bios) in
       All-from_recursion (λ (x : Waiting). IsTrue x.flush → b ≤ x.bio) (waiting_for w disk)
-      (weaker (λ (x : Waiting). x.flush ≡ true → one.one.bio ≤ x.bio) (λ (x : Waiting). IsTrue x.flush → b ≤ x.bio)
+      (all_weaker (λ (x : Waiting). x.flush ≡ true → one.one.bio ≤ x.bio) (λ (x : Waiting). IsTrue x.flush → b ≤ x.bio)
       (λ x low flush. subst (λ (n : ℕ). n ≤ x.bio) one.number (low flush)) (waiting_for w disk)
       (among_candidates (NoneEarlier (waiting_for w disk)) (head_of (so_far earlier) disk)
       (candidates (waiting_for w disk)) one.one (candidates_none 0 w.next_bio (waiting_for w disk) rise) one.next))

@@ -6,6 +6,7 @@ use Rattle.std.specs.Option.{option_map_or}
 use Rattle.std.proofs.Common.{inl, inr, refl, sym, ◌∙◌, ap, subst, arith}
 use Rattle.std.proofs.lemmas.Bool.{eqb-true}
 use Rattle.std.proofs.lemmas.List.Elements.{All-contains}
+use Rattle.geo_base.proofs.AllLists.{all_weaker}
 use Rattle.geo_model.specs.declared.step.BioResult.{BioResult}
 use Rattle.geo_model.specs.declared.step.DeviceResult.{DeviceResult}
 use Rattle.geo_model.specs.declared.step.Found.{Found}
@@ -44,12 +45,6 @@ abbrev pub NotSentAt : ℕ → List Bio → Type 0
 NotSentAt n bios = AllByRecursion (λ (x : Bio). (x.number == n) ≡ true → is_sent x.phase ≡ false) bios
 
 -- Lists of bios
-
--- a fact of each that follows from another
-pub weaker : {X : Type 0} (P Q : X → Type 0) → ((x : X) → P x → Q x) → (xs : List X) → AllByRecursion P xs
-    → AllByRecursion Q xs
-weaker P Q so [] facts = tt
-weaker P Q so (x ∷ xs) facts = (so x facts.0, weaker P Q so xs facts.1)
 
 -- one more bio, that is changed or stays
 changed_step : (n : ℕ) (change : Bio → Bio) (x : Bio) (xs : List Bio) (b : Bool) → (x.number == n) ≡ b
@@ -93,7 +88,7 @@ pub gone_same : (n : ℕ) (xs : List Bio) → NotSentAt n xs
     → sent_in (filter (λ (x : Bio). not (x.number == n)) xs) ≡ sent_in xs
 gone_same n xs before =
     kept_same (λ (x : Bio). not (x.number == n)) xs
-    (weaker (λ (x : Bio). (x.number == n) ≡ true → is_sent x.phase ≡ false)
+    (all_weaker (λ (x : Bio). (x.number == n) ≡ true → is_sent x.phase ≡ false)
     (λ (x : Bio). is_sent x.phase ≡ true → not (x.number == n) ≡ true)
     (λ x so. passes_by n x (x.number == n) refl so) xs before)
 
@@ -101,7 +96,7 @@ gone_same n xs before =
 pub found_not_sent : (next n : ℕ) (xs : List Bio) (x : Bio) → AreNumbers (map (λ (y : Bio). y.number) xs) next
     → find (λ (y : Bio). y.number == n) xs ≡ Some x → is_sent x.phase ≡ false → NotSentAt n xs
 found_not_sent next n xs x are found quiet =
-    weaker (λ (y : Bio). (y.number == n) ≡ true → y ≡ x)
+    all_weaker (λ (y : Bio). (y.number == n) ≡ true → y ≡ x)
     (λ (y : Bio). (y.number == n) ≡ true → is_sent y.phase ≡ false)
     (λ y only e. subst (λ (z : Bio). is_sent z.phase ≡ false) (sym (only e)) quiet) xs
     (unique (λ (y : Bio). y.number) next n xs x are found)
@@ -201,7 +196,8 @@ module _ (w : World) (firm : Firm w) where
           → sent_in (complete_parent gathered y).bios ≡ sent_in w.bios
       parent_same y number complete =
           let result : BioResult = joined_result y.cmd (child_results gathered y.number) in
-          kept_same (λ (z : Bio). not (is_child_of z.owner y.number)) (change_number y.number (up_with result) gathered.bios)
+          kept_same (λ (z : Bio). not (is_child_of z.owner y.number))
+          (change_number y.number (up_with result) gathered.bios)
           (all-changed (λ (z : Bio). z.number == y.number) (up_with result) (NoChild y.number)
           (λ z e was sent. absurd (let no : ⊥ = cc in no)) gathered.bios
           (All-from_contained (NoChild y.number) gathered.bios (λ z here.

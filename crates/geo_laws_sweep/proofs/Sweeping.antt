@@ -7,6 +7,7 @@ use Rattle.std.proofs.Common.{refl, sym, ◌∙◌, subst, arith}
 use Rattle.std.proofs.lemmas.Option.{slice_get_within}
 use Rattle.std.proofs.lemmas.Bool.{eqb-true, eq-eqb, leb-true, leb-false, and_parts}
 use Rattle.std.proofs.lemmas.List.Elements.{All-contains}
+use Rattle.geo_base.proofs.FindLists.{none_passes}
 use Rattle.geo_model.specs.declared.step.Entry.{Entry}
 use Rattle.geo_model.specs.declared.step.Step.{Step}
 use Rattle.geo_model.specs.declared.step.Step.TheVariants as steps
@@ -30,7 +31,7 @@ use Rattle.geo_laws_steps.proofs.Logs.{firm_after}
 use Rattle.geo_headline.specs.Sweep.{Waiting, waiting_of, is_sent_to, waiting_for, candidates, next_of, head_of, next_take, first_take, enabled_one, pick_sweep}
 use Rattle.geo_laws_sweep.specs.SweepLaws.{SweepGoesOn}
 use Rattle.geo_laws_sweep.proofs.ElevatorFacts.{some_is_next, next_holds}
-use Rattle.geo_laws_rest.proofs.Moving.{none_passes, no_bios, free_by}
+use Rattle.geo_laws_rest.proofs.Moving.{no_bios, free_by}
 use Rattle.geo_laws_rest.proofs.Picking.{IsGood, first_of, from_some, from_none, given, withheld, take_by, no_taste, no_events_by, judge_not, event_not, reap_not, wash_not, earliest_none, at_rest, good, goes_up, starts, tried, late, goes}
 
 -- The first of some

@@ -63,7 +63,8 @@ module _ (w v : World) (firm : Firm w) (seat b : ℕ) (o : Outcome) (made : step
       ∙ filter-append (λ (y : Bio). is_sent y.phase)
       (change_number started.number (λ y. record y { phase = phases.Waiting }) w.bios)
       (map (λ item. piece_child t w.next_bio started item.0 item.1) (enumerate_from 0 targets))
-      ∙ ap (λ (ys : List Bio). sent_in (change_number started.number (λ y. record y { phase = phases.Waiting }) w.bios) ++ ys)
+      ∙ ap (λ (ys : List Bio). sent_in (change_number started.number (λ y. record y { phase = phases.Waiting }) w.bios)
+      ++ ys)
       (no_child_sent t w.next_bio started (enumerate_from 0 targets))
       ∙ append-nil (sent_in (change_number started.number (λ y. record y { phase = phases.Waiting }) w.bios))
       ∙ changed_same started.number (λ y. record y { phase = phases.Waiting }) (λ y. refl) w.bios quiet

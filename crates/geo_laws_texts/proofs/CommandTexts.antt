@@ -66,13 +66,15 @@ number_word n fits = record {
   number = n;
   reads = number_read n (omega (arith, fits));
   clean = written_clean n (omega (arith, fits));
-  short = let few : length (decimal n) ≤ 6 = length-decimal-le 6 n (omega arith) fits (omega (arith, fits)) in omega (arith, few);
+  short = let few : length (decimal n) ≤ 6 = length-decimal-le 6 n (omega arith) fits (omega (arith, fits)) in
+      omega (arith, few);
 }
 
 -- the two handles
 handle_by : (k : ℕ) → k < 2 → IsHandleWord (codes "h" ++ decimal k)
 unfolding digits
-handle_by zero below = record { name = refl; clean = record { some_byte = omega arith; bytes = refl }; short = omega arith }
+handle_by zero below =
+    record { name = refl; clean = record { some_byte = omega arith; bytes = refl }; short = omega arith }
 handle_by (suc zero) below =
     record { name = refl; clean = record { some_byte = omega arith; bytes = refl }; short = omega arith }
 handle_by (suc (suc k)) below = absurd (omega (arith, below))
@@ -248,8 +250,10 @@ open_text h p c handle provider counts = record {
 
 -- a word of the six providers
 provider_by : (k : ℕ) → k < 6 → IsProviderWord (open_provider k)
-provider_by zero b = record { name = refl; clean = record { some_byte = omega arith; bytes = refl }; short = omega arith }
-provider_by (suc zero) b = record { name = refl; clean = record { some_byte = omega arith; bytes = refl }; short = omega arith }
+provider_by zero b =
+    record { name = refl; clean = record { some_byte = omega arith; bytes = refl }; short = omega arith }
+provider_by (suc zero) b =
+    record { name = refl; clean = record { some_byte = omega arith; bytes = refl }; short = omega arith }
 provider_by (suc (suc zero)) b =
     record { name = refl; clean = record { some_byte = omega arith; bytes = refl }; short = omega arith }
 provider_by (suc (suc (suc zero))) b =
@@ -294,12 +298,14 @@ drawn_command d1 d2 d3 = by (d1 % 8) refl (omega arith)
         ++ byte_text (d3 % 256) ++ codes "*" ++ len_text d2)
     write =
         subst IsCommandText
-        (sym (append_assoc (codes "write " ++ handle_text d2 ++ codes " " ++ offset_text d3 ++ codes " " ++ byte_text (d3 % 256)) (codes "*") (len_text d2)
-        ∙ append_assoc (codes "write " ++ handle_text d2 ++ codes " " ++ offset_text d3 ++ codes " ") (byte_text (d3 % 256)) (codes "*" ++ len_text d2)))
+        (sym (append_assoc (codes "write " ++ handle_text d2 ++ codes " " ++ offset_text d3 ++ codes " "
+        ++ byte_text (d3 % 256)) (codes "*") (len_text d2)
+        ∙ append_assoc (codes "write " ++ handle_text d2 ++ codes " " ++ offset_text d3 ++ codes " ")
+        (byte_text (d3 % 256)) (codes "*" ++ len_text d2)))
         (write_text (handle_text d2) (offset_text d3)
         (hex_digit ((d3 % 256) / 16) ∷ hex_digit ((d3 % 256) % 16) ∷ 42 ∷ len_text d2) handle (offset_word d3)
-        (run_word ((d3 % 256) / 16) ((d3 % 256) % 16) (512 * (1 + (d2 / 2) % 8)) (omega arith) (omega arith) (omega arith)
-        (omega arith)))
+        (run_word ((d3 % 256) / 16) ((d3 % 256) % 16) (512 * (1 + (d2 / 2) % 8)) (omega arith) (omega arith)
+        (omega arith) (omega arith)))
 
     by : (k : ℕ) → d1 % 8 ≡ k → k < 8 → IsCommandText (command_text d1 d2 d3)
     by zero e b = rw e opened

@@ -1,8 +1,8 @@
 -- Each command of a plan keeps names.
 use Rattle.std.specs.Prelude.{◌≡◌, ℕ, ◌+◌, ◌%◌, ◌==◌, nat_lt, Bool, true, false, not, ◌&&◌, ◌||◌, List, [], ◌∷◌, length, find, Option, Some, None, IfSome, is_some}
 use Rattle.std.specs.Option.{option_map_or}
-use Rattle.std.proofs.Common.{refl}
 use Rattle.std.proofs.lemmas.Bool.{not-false, or_parts}
+use Rattle.geo_model.proofs.RefusalLemmas.{none_refused}
 use Rattle.geo_base.specs.Name.{is_name}
 use Rattle.geo_base.specs.declared.errno.Errno.{Errno}
 use Rattle.geo_base.specs.declared.errno.Errno.TheVariants.{EEXIST, ENXIO, EBUSY, EINVAL, EDEEP}
@@ -33,12 +33,6 @@ use Rattle.geo_laws_texts.proofs.Lists.{fact_found}
 use Rattle.geo_laws_texts.proofs.Words.{name_of_concat, name_of_stripe}
 use Rattle.geo_laws_texts.proofs.Graphs.{size_named, wither_named, offer_named, consumers_named}
 use Rattle.geo_laws_texts.proofs.Worlds.{IsNamedDisk, KeepsNames, with_queue, opened_keeps, closed_keeps, removed_named, answer_keeps, whichever_keeps}
-
--- where nothing is refused, the first test fails, and nothing of the rest refuses
-none_refused : {E : Type 0} (b : Bool) (e : E) (rows : List (Bool × E)) → first_error ((b, e) ∷ rows) ≡ None
-    → (b ≡ false) × (first_error rows ≡ None)
-none_refused true e rows none = absurd (let no : ⊥ = cc in no)
-none_refused false e rows none = (refl, none)
 
 -- a disk stands whose name is one
 pub stand_keeps : (w : World) (item : ℕ × HeaderDisk) → KeepsNames w → IsNamedDisk item.1 → KeepsNames (stand w item)

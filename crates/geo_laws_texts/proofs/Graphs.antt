@@ -9,7 +9,8 @@ use Rattle.geo_model.specs.World.{Config}
 use Rattle.geo_model.specs.Events.{QueuedTopology, post, offer, orphan_provider, wither, wither_unless_withering, spoil_at, offer_again, announce_risen, announce_fallen, spoil_consumer, spoil, is_of_dev, orphan_consumer, orphan, is_outgrown, outgrow_consumer, resize}
 use Rattle.geo_model.specs.Acceptance.{NewSlice}
 use Rattle.std.specs.Option.{option_map_or}
-use Rattle.geo_laws_texts.proofs.Lists.{all_changed, all_kept, all_pushed, each_of, kept_over, either}
+use Rattle.geo_base.proofs.AllLists.{all_kept, all_pushed, of_each}
+use Rattle.geo_laws_texts.proofs.Lists.{all_changed, kept_over, either}
 
 -- the provider has a name that is one
 abbrev pub IsNamed : Provider → Type 0
@@ -50,7 +51,7 @@ folded : {X : Type 0} (f : QueuedTopology Config → X → QueuedTopology Config
     → (q : QueuedTopology Config) → QueueNamed q → QueueNamed (fold f q xs)
 folded {X} f keeps xs q named =
     kept_over QueueNamed (λ (x : X). Unit {0}) f (λ r x so any. keeps r x so) xs q
-    (each_of (λ (x : X). Unit {0}) (λ x. tt) xs) named
+    (of_each (λ (x : X). Unit {0}) (λ x. tt) xs) named
 
 orphaned : (q : QueuedTopology Config) (p : ℕ) → QueueNamed q → QueueNamed (orphan_provider q p)
 orphaned q p named = error_named q.topology p named

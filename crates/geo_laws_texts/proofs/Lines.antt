@@ -101,7 +101,8 @@ adds_command a text actor of = record {
   actor = actor.actor;
   adds = λ plan n few are.
       let tests : first_error (line_tests n (a ++ codes " " ++ text)) ≡ None =
-      passes_tests n (a ++ codes " " ++ text) a (of.first ∷ of.others) is few (omega (arith, long, of.short, actor.two)) clean in
+      passes_tests n (a ++ codes " " ++ text) a (of.first ∷ of.others) is few (omega (arith, long, of.short, actor.two))
+      clean in
       let words : words_of (a ++ codes " " ++ text) ≡ a ∷ of.first ∷ of.others =
       ap words_of is ∙ words_back a (of.first ∷ of.others) clean in
       rw (tests, words) (actor.reads plan n (of.first ∷ of.others) of.command are of.reads);

@@ -1,5 +1,5 @@
 -- A fact of each item of a list, after items were changed, dropped, added and counted.
-use Rattle.std.specs.Prelude.{ℕ, zero, suc, ◌+◌, Bool, true, false, cond, List, [], ◌∷◌, ◌++◌, find, filter, fold, zip, Some, IfSome, slice_get, slice_set, if◌then◌else◌}
+use Rattle.std.specs.Prelude.{ℕ, zero, suc, ◌+◌, Bool, true, false, cond, List, [], ◌∷◌, find, fold, zip, Some, IfSome, slice_get, slice_set, if◌then◌else◌}
 use Rattle.std.specs.List.{AllByRecursion, enumerate_from}
 use Rattle.geo_model.specs.Words.{change_where}
 
@@ -13,21 +13,6 @@ module _ {X : Type 0} (P : X → Type 0) where
       one : (b : Bool) → P (if b then change x else x)
       one true = keeps x all.0
       one false = all.0
-
-  -- those that are kept
-  pub all_kept : (keep : X → Bool) (xs : List X) → AllByRecursion P xs → AllByRecursion P (filter keep xs)
-  all_kept keep [] all = tt
-  all_kept keep (x ∷ xs) all = by (keep x) (all_kept keep xs all.1)
-    where
-      by : (b : Bool) → AllByRecursion P (filter keep xs)
-          → AllByRecursion P (cond b (x ∷ filter keep xs) (filter keep xs))
-      by true rest = (all.0, rest)
-      by false rest = rest
-
-  -- one more
-  pub all_pushed : (xs : List X) (x : X) → AllByRecursion P xs → P x → AllByRecursion P (xs ++ x ∷ [])
-  all_pushed [] x all new = (new, tt)
-  all_pushed (y ∷ xs) x all new = (all.0, all_pushed xs x all.1 new)
 
   -- another one in a place
   pub all_placed : (xs : List X) (k : ℕ) (x : X) → P x → AllByRecursion P xs → AllByRecursion P (slice_set xs k x)
@@ -64,11 +49,6 @@ module _ {X : Type 0} (P : X → Type 0) where
   all_paired [] ys all = tt
   all_paired (x ∷ xs) [] all = tt
   all_paired (x ∷ xs) (y ∷ ys) all = (all.0, all_paired xs ys all.1)
-
--- what holds of each item, by each
-pub each_of : {X : Type 0} (P : X → Type 0) → ((x : X) → P x) → (xs : List X) → AllByRecursion P xs
-each_of P so [] = tt
-each_of P so (x ∷ xs) = (so x, each_of P so xs)
 
 -- what each step over the items keeps holds after all of them
 pub kept_over : {A X : Type 0} (Q : A → Type 0) (P : X → Type 0) (f : A → X → A)

@@ -1,7 +1,8 @@
 -- Where a legal log leads each provider has a name.
-use Rattle.std.specs.Prelude.{◌≡◌, ℕ, ◌==◌, true, not, List, [], ◌∷◌, length, map, filter, zip}
+use Rattle.std.specs.Prelude.{◌≡◌, ℕ, ◌==◌, true, not, List, [], ◌∷◌, length, filter, zip}
 use Rattle.std.specs.List.{AllByRecursion, enumerate_from, range_with_len}
 use Rattle.std.proofs.lemmas.List.Elements.{All-from_recursion, recursion_from_All}
+use Rattle.geo_base.proofs.AllLists.{all_kept, all_mapped}
 use Rattle.geo_base.specs.Name.{is_name}
 use Rattle.geo_model.specs.declared.command.DiskDecl.{DiskDecl}
 use Rattle.geo_model.specs.declared.command.LineCommand.{LineCommand}
@@ -13,7 +14,7 @@ use Rattle.geo_model.specs.Opening.{disk_in_size, bare_world, opening}
 use Rattle.geo_model.specs.Log.{replay, after_entry}
 use Rattle.geo_model.proofs.DemandLemmas.{all_weaker, map_all}
 use Rattle.geo_laws_texts.specs.Naming.{LegalLogsHaveNames}
-use Rattle.geo_laws_texts.proofs.Lists.{all_kept, all_counted, all_paired, kept_over}
+use Rattle.geo_laws_texts.proofs.Lists.{all_counted, all_paired, kept_over}
 use Rattle.geo_laws_texts.proofs.Words.{short_name}
 use Rattle.geo_laws_texts.proofs.Graphs.{IsNamed}
 use Rattle.geo_laws_texts.proofs.Worlds.{IsNamedDisk, AreCommands, KeepsNames}
@@ -23,12 +24,6 @@ use Rattle.geo_laws_texts.proofs.Stepped.{step_keeps}
 -- a disk of the plan has a name
 abbrev HasName : DiskDecl → Type 0
 HasName d = is_name d.name ≡ true
-
--- what is mapped
-mapped : {X Y : Type 0} (P : Y → Type 0) (f : X → Y) (xs : List X) → AllByRecursion (λ x. P (f x)) xs
-    → AllByRecursion P (map f xs)
-mapped P f [] all = tt
-mapped P f (x ∷ xs) all = (all.0, mapped P f xs all.1)
 
 module _ (plan : Plan) (facts : List (ℕ × ℕ)) (is : IsPlan plan) where
   -- the disks of the plan
@@ -48,7 +43,7 @@ module _ (plan : Plan) (facts : List (ℕ × ℕ)) (is : IsPlan plan) where
   bare_keeps : KeepsNames (bare_world plan facts)
   bare_keeps = record {
     graph = tt;
-    disks = mapped IsNamedDisk disk_in_size (zip plan.disks facts) pairs;
+    disks = all_mapped IsNamedDisk disk_in_size (zip plan.disks facts) pairs;
     left = map_all AreCommands (commands_of plan)
         (λ actor. all_kept (λ (c : LineCommand). IsCommand c.command) (λ c. c.actor == actor) plan.commands commands)
         (range_with_len 0 (length plan.actors));

@@ -6,6 +6,7 @@ use Rattle.std.proofs.Common.{refl, ◌∙◌, ap, arith}
 use Rattle.std.proofs.lemmas.List.{append_assoc, length-append}
 use Rattle.std.proofs.lemmas.List.Splits.{slice_split_at}
 use Rattle.std.proofs.lemmas.List.Sums.{fold-append}
+use Rattle.geo_base.proofs.PlaceLists.{numbered_both}
 use Rattle.geo_base.specs.declared.limits.TheConstants.{MAX_SCRIPT_LINES}
 use Rattle.geo_model.specs.declared.command.DiskDecl.{DiskDecl}
 use Rattle.geo_model.specs.World.{Plan}
@@ -15,7 +16,7 @@ use Rattle.geo_laws_texts.specs.GeneratorLaws.{GeneratedPlans, SaysWhatIsAsked}
 use Rattle.geo_laws_texts.proofs.Lines.{AddsCommand, drawn_line, drawn_text, four_actors}
 
 -- the lines that are drawn from a number, as texts
-abbrev drawn_texts : ℕ → ℕ → ℕ → List (List ℕ)
+abbrev pub drawn_texts : ℕ → ℕ → ℕ → List (List ℕ)
 drawn_texts i zero x = []
 drawn_texts i (suc n) x =
     drawn_text i (draw_value (next_draw x)) (draw_value (next_draw (next_draw x)))
@@ -68,12 +69,12 @@ drop_end i (suc n) x =
     by (b ∷ t) ts some = refl
 
 -- a plan that goes on from another by so many commands
-record GoesOn (plan : Plan) (from : ℕ) (lines : List (List ℕ)) (count : ℕ) : Type 0 where
-  then_plan : Plan
-  is : fold next_line (Ok plan) (enumerate_from from lines) ≡ Ok then_plan
-  disks : then_plan.disks ≡ plan.disks
-  actors : then_plan.actors ≡ plan.actors
-  commands : length then_plan.commands ≡ length plan.commands + count
+pub record GoesOn (plan : Plan) (from : ℕ) (lines : List (List ℕ)) (count : ℕ) : Type 0 where
+  pub then_plan : Plan
+  pub is : fold next_line (Ok plan) (enumerate_from from lines) ≡ Ok then_plan
+  pub disks : then_plan.disks ≡ plan.disks
+  pub actors : then_plan.actors ≡ plan.actors
+  pub commands : length then_plan.commands ≡ length plan.commands + count
 
 -- the lines that are drawn add a command each
 draws_add : (plan : Plan) (from i n x : ℕ) → plan.actors ≡ four_actors → from + n ≤ MAX_SCRIPT_LINES + 1
@@ -104,24 +105,15 @@ draws_add plan from i (suc n) x are few =
       disks = rest.disks;
       actors = rest.actors;
       commands =
-          let longer = length-append plan.commands (record { line = from; actor = line.actor; command = line.command } ∷ []) in
+          let longer = length-append plan.commands
+          (record { line = from; actor = line.actor; command = line.command } ∷ []) in
           omega (arith, rest.commands, longer);
     }
 
 -- The lines that come first
 
--- numbered texts in a row
-numbered_both : (n : ℕ) (xs ys : List (List ℕ))
-    → enumerate_from n (xs ++ ys) ≡ enumerate_from n xs ++ enumerate_from (n + length xs) ys
-numbered_both n [] ys = ap (λ k. enumerate_from k ys) (let e : n ≡ n + 0 = omega arith in e)
-numbered_both n (x ∷ xs) ys =
-    ap (λ zs. (n, x) ∷ zs)
-    (numbered_both (n + 1) xs ys
-    ∙ ap (λ k. enumerate_from (n + 1) xs ++ enumerate_from k ys)
-    (let e : (n + 1) + length xs ≡ n + length (x ∷ xs) = omega arith in e))
-
 -- their texts
-abbrev first_texts : List (List ℕ)
+abbrev pub first_texts : List (List ℕ)
 first_texts =
     codes "ram md0 512 1024" ∷ codes "ram md1 512 1024" ∷ codes "ram md2 512 1024" ∷ codes "ram md3 512 1024"
     ∷ codes "actor a0" ∷ codes "actor a1" ∷ codes "actor a2" ∷ codes "actor a3"
@@ -140,16 +132,16 @@ keep_first : (ts : List (List ℕ)) → drop_empty_end (first_texts ++ ts) ≡ f
 keep_first ts = refl
 
 -- what they say
-abbrev first_read : Result Plan Fault
+abbrev pub first_read : Result Plan Fault
 first_read = fold next_line (Ok empty_plan) (enumerate_from 1 first_texts)
 
--- the plan of an answer that is one
-abbrev plan_or : Result Plan Fault → Plan
+-- the plan that a reading gives
+abbrev pub plan_or : Result Plan Fault → Plan
 plan_or (Ok plan) = plan
 plan_or (Err fault) = empty_plan
 
 -- the plan of the lines that come first
-abbrev first_plan : Plan
+abbrev pub first_plan : Plan
 first_plan = plan_or first_read
 
 -- it is a plan, of four disks, four actors and six commands
@@ -185,25 +177,39 @@ lines_are start count =
     ∙ keep_first (drawn_texts 0 count start ++ [] ∷ [])
     ∙ ap (λ ts. first_texts ++ ts) (drop_end 0 count start)
 
--- a generated text has its plan
-says : (start count : ℕ) → CanBeGenerated start count → (plan : Plan) × SaysWhatIsAsked start count plan
+-- a generated text is read as a plan that goes on from that of the lines that come first
+pub record IsRead (start count : ℕ) : Type 0 where
+  pub rest : GoesOn first_plan 15 (drawn_texts 0 count start) count
+  pub is : script (generated start count) ≡ Ok rest.then_plan
+
+-- so is each that can be generated
+pub reads : (start count : ℕ) → CanBeGenerated start count → IsRead start count
 unfolding script
-says start count mode =
+reads start count mode =
     let rest : GoesOn first_plan 15 (drawn_texts 0 count start) count =
-    draws_add first_plan 15 0 count start first_actors (omega (arith, mode.1)) in (
-      rest.then_plan,
+    draws_add first_plan 15 0 count start first_actors (omega (arith, mode.1)) in
+    record {
+      rest = rest;
+      is =
+          ap (λ ls. fold next_line (Ok empty_plan) (enumerate_from 1 ls)) (lines_are start count)
+          ∙ ap (λ xs. fold next_line (Ok empty_plan) xs)
+          (numbered_both 1 first_texts (drawn_texts 0 count start))
+          ∙ fold-append next_line (Ok empty_plan) (enumerate_from 1 first_texts)
+          (enumerate_from 15 (drawn_texts 0 count start))
+          ∙ ap (λ r. fold next_line r (enumerate_from 15 (drawn_texts 0 count start))) first_ok
+          ∙ rest.is;
+    }
+
+-- it has so many disks, actors and commands
+says : (start count : ℕ) → CanBeGenerated start count → (plan : Plan) × SaysWhatIsAsked start count plan
+says start count mode =
+    let made = reads start count mode in (
+      made.rest.then_plan,
       record {
-        is =
-            ap (λ ls. fold next_line (Ok empty_plan) (enumerate_from 1 ls)) (lines_are start count)
-            ∙ ap (λ xs. fold next_line (Ok empty_plan) xs)
-            (numbered_both 1 first_texts (drawn_texts 0 count start))
-            ∙ fold-append next_line (Ok empty_plan) (enumerate_from 1 first_texts)
-            (enumerate_from 15 (drawn_texts 0 count start))
-            ∙ ap (λ r. fold next_line r (enumerate_from 15 (drawn_texts 0 count start))) first_ok
-            ∙ rest.is;
-        disks = ap (λ (ds : List DiskDecl). length ds) rest.disks ∙ first_disks;
-        actors = ap (λ (xs : List (List ℕ)). length xs) (rest.actors ∙ first_actors);
-        commands = let first = first_commands in omega (arith, rest.commands, first);
+        is = made.is;
+        disks = ap (λ (ds : List DiskDecl). length ds) made.rest.disks ∙ first_disks;
+        actors = ap (λ (xs : List (List ℕ)). length xs) (made.rest.actors ∙ first_actors);
+        commands = let first = first_commands in omega (arith, made.rest.commands, first);
       },
     )
 

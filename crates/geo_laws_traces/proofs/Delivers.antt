@@ -1,9 +1,9 @@
 -- Each Deliver of bytes in a legal log has some, and no more than a request can ask for.
-use Rattle.std.specs.Prelude.{◌≡◌, ℕ, ◌≤◌, true, false, List, [], ◌∷◌, ◌==◌, length, Option, Some, None, IsOkAnd, Contains}
+use Rattle.std.specs.Prelude.{◌≡◌, ℕ, ◌≤◌, false, List, [], ◌∷◌, ◌==◌, length, Option, Some, None, IsOkAnd, Contains}
 use Rattle.std.specs.List.{AllByRecursion}
 use Rattle.std.proofs.Common.{refl, arith}
 use Rattle.std.proofs.lemmas.List.Elements.{All-from_recursion, All-contains}
-use Rattle.geo_base.specs.declared.request.BioCmd.{BioCmd}
+use Rattle.geo_model.proofs.BioLemmas.{read_moves}
 use Rattle.geo_base.specs.declared.request.BioCmd.TheVariants as cmds
 use Rattle.geo_base.specs.declared.limits.TheConstants.{MAX_REQUEST_BYTES}
 use Rattle.geo_model.specs.declared.step.DeviceResult.TheVariants as devices
@@ -12,7 +12,7 @@ use Rattle.geo_model.specs.declared.step.Found.{Found}
 use Rattle.geo_model.specs.declared.step.Outcome.{Outcome}
 use Rattle.geo_model.specs.declared.step.Step.{Step}
 use Rattle.geo_model.specs.declared.step.Step.TheVariants as steps
-use Rattle.geo_model.specs.Words.{is_read, is_flush}
+use Rattle.geo_model.specs.Words.{is_flush}
 use Rattle.geo_model.specs.Topology.{provider_at}
 use Rattle.geo_model.specs.World.{World, Bio, bio_at}
 use Rattle.geo_model.specs.Bios.{deliver, sector_of_bio}
@@ -32,22 +32,16 @@ record AreFew (bytes : List ℕ) : Type 0 where
   some : 1 ≤ length bytes
   few : length bytes ≤ MAX_REQUEST_BYTES
 
--- a READ is no FLUSH
-read_is_no_flush : (cmd : BioCmd) → is_read cmd ≡ true → is_flush cmd ≡ false
-read_is_no_flush cmds.Read e = refl
-read_is_no_flush cmds.Write e = absurd (let bad : ⊥ = cc in bad)
-read_is_no_flush cmds.Delete e = absurd (let bad : ⊥ = cc in bad)
-read_is_no_flush cmds.Flush e = absurd (let bad : ⊥ = cc in bad)
-
 -- bytes that fit a bio are as many as it asks for
 fitting_few : (w : World) (x : Bio) (seat : ℕ) (bytes : List ℕ) → Firm w → Contains w.bios x
     → deliver_found w seat x (devices.Bytes bytes) x.phase ≡ None → AreFew bytes
 fitting_few w x seat bytes firm here none =
     let order : IsBioInOrder w x = All-contains (IsBioInOrder w) w.bios x firm.sound.bios here in
-    let fits = fitting_result (sector_of_bio w x) x (devices.Bytes bytes) (can_deliver w seat x (devices.Bytes bytes) x.phase none).1 in
+    let fits = fitting_result (sector_of_bio w x) x (devices.Bytes bytes)
+    (can_deliver w seat x (devices.Bytes bytes) x.phase none).1 in
     let p = found-with (provider_at w.topology x.target)
     (λ q. is_flush x.cmd ≡ false → IsRangeInside x q) order.target in
-    let range : IsRangeInside x p.item = p.fact (read_is_no_flush x.cmd fits.0) in
+    let range : IsRangeInside x p.item = p.fact (read_moves x.cmd fits.0) in
     let long : length bytes ≡ x.len = fits.1 in
     record { some = omega (arith, range.some_byte, long); few = omega (arith, range.not_long, long) }
 

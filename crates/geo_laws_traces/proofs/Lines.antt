@@ -107,7 +107,8 @@ begins_behind start [] = start
 begins_behind start (b ∷ bs) = begins_behind (b == 10) bs
 
 -- a text behind which a line begins ends with a line feed
-pub is_ended : (b : ℕ) (bs : List ℕ) → begins_behind (b == 10) bs ≡ true → (front : List ℕ) × (b ∷ bs ≡ front ++ 10 ∷ [])
+pub is_ended : (b : ℕ) (bs : List ℕ) → begins_behind (b == 10) bs ≡ true
+    → (front : List ℕ) × (b ∷ bs ≡ front ++ 10 ∷ [])
 is_ended b [] e = ([], ap (λ x. x ∷ []) (eqb-true b 10 e))
 is_ended b (c ∷ cs) e = let more = is_ended c cs e in (b ∷ more.0, ap (λ xs. b ∷ xs) more.1)
 

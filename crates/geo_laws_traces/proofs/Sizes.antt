@@ -115,7 +115,7 @@ memory_size disk_kinds.Ram sector sectors memory has = record { some = has.0; li
 memory_size disk_kinds.Shelf sector sectors memory has = absurd (let bad : ⊥ = cc in bad)
 
 -- a memory disk's size is read of no line
-memory_step : (n : ℕ) (d : DiskDecl) (ds : List DiskDecl) (parts : List (List ℕ)) → is_shelf d.kind ≡ false
+pub memory_step : (n : ℕ) (d : DiskDecl) (ds : List DiskDecl) (parts : List (List ℕ)) → is_shelf d.kind ≡ false
     → 1 ≤ length parts
     → read_sizes n (d ∷ ds) parts ≡ then_read (read_sizes n ds parts) (add_fact (d.sector, d.sectors))
 memory_step n d ds [] memory some = absurd (omega arith)
@@ -123,7 +123,7 @@ memory_step n d ds (last ∷ []) memory some = rw memory refl
 memory_step n d ds (line ∷ next ∷ parts) memory some = rw memory refl
 
 -- that of a disk of the shelf is read of a line
-shelf_step : (n : ℕ) (d : DiskDecl) (ds : List DiskDecl) (line : List ℕ) (parts : List (List ℕ)) (sectors : ℕ)
+pub shelf_step : (n : ℕ) (d : DiskDecl) (ds : List DiskDecl) (line : List ℕ) (parts : List (List ℕ)) (sectors : ℕ)
     → is_shelf d.kind ≡ true → 1 ≤ length parts → size_of_line d.sector line ≡ Ok sectors
     → read_sizes n (d ∷ ds) (line ∷ parts) ≡ then_read (read_sizes (n + 1) ds parts) (add_fact (d.sector, sectors))
 shelf_step n d ds line [] sectors shelf some is = absurd (omega arith)

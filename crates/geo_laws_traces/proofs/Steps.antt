@@ -182,10 +182,12 @@ step_back steps.Reap fits = refl
 step_back steps.Wash fits = refl
 step_back (steps.Start b) fits = ap (λ r. r >>= λ n. at_end (steps.Start n.0) n.1) (any_back b [] fits)
 step_back (steps.Take disk b) fits =
-    ap (λ r. r >>= λ d. any_number d.1 >>= λ n. at_end (steps.Take d.0 n.0) n.1) (small_back disk (decimal b ∷ []) fits.0)
+    ap (λ r. r >>= λ d. any_number d.1 >>= λ n. at_end (steps.Take d.0 n.0) n.1)
+    (small_back disk (decimal b ∷ []) fits.0)
     ∙ ap (λ r. r >>= λ n. at_end (steps.Take disk n.0) n.1) (any_back b [] fits.1)
 step_back (steps.Deliver b got) fits =
-    ap (λ r. r >>= λ n. by_word answer_table n.1 >>= λ x. Ok (steps.Deliver n.0 x)) (any_back b (answer_words got) fits.0)
+    ap (λ r. r >>= λ n. by_word answer_table n.1 >>= λ x. Ok (steps.Deliver n.0 x))
+    (any_back b (answer_words got) fits.0)
     ∙ ap (λ r. r >>= λ x. Ok (steps.Deliver b x)) (answer_back got fits.1)
 step_back (steps.Up b) fits = ap (λ r. r >>= λ n. at_end (steps.Up n.0) n.1) (any_back b [] fits)
 

@@ -34,7 +34,8 @@ small_tells : (words : Words) (found : ℕ × Words) → small_number words ≡ 
     → IsFirst (λ n. nat_lt n (2 ^ 32)) words found.0 found.1
 small_tells words found e = ranged_tells (λ n. nat_lt n (2 ^ 32)) words found e
 
-any_tells : (words : Words) (found : ℕ × Words) → any_number words ≡ Ok found → IsFirst (λ n. true) words found.0 found.1
+any_tells : (words : Words) (found : ℕ × Words) → any_number words ≡ Ok found
+    → IsFirst (λ n. true) words found.0 found.1
 any_tells words found e = ranged_tells (λ n. true) words found e
 
 -- a small number is one
@@ -134,9 +135,11 @@ take_tells words s e are =
 
 deliver_tells : (words : Words) (s : Step) → deliver_words words ≡ Ok s → TellsStep (codes "deliver" ∷ words) s
 deliver_tells words s e are =
-    let first = then_tells (any_number words) (λ b. by_word answer_table b.1 >>= λ got. Ok (steps.Deliver b.0 got)) s e in
+    let first = then_tells (any_number words) (λ b. by_word answer_table b.1 >>= λ got. Ok (steps.Deliver b.0 got)) s
+    e in
     let n = any_tells words first.value first.read in
-    let second = then_tells (by_word answer_table first.value.1) (λ got. Ok (steps.Deliver first.value.0 got)) s first.rest in
+    let second = then_tells (by_word answer_table first.value.1) (λ got. Ok (steps.Deliver first.value.0 got)) s
+    first.rest in
     let got = answer_tells first.value.1 second.value second.read
     (behind words (decimal first.value.0) first.value.1 n.stands are.1) in
     let same : steps.Deliver first.value.0 second.value ≡ s = let e = second.rest in cc in

@@ -1,11 +1,12 @@
 -- No line of a script begins with `%`.
 use Rattle.std.specs.Prelude.{◌≡◌, ℕ, ◌+◌, ◌==◌, true, List, [], ◌∷◌, ◌++◌, length, fold, position, Option, Some, None, Result, Ok, Err}
 use Rattle.std.specs.List.{enumerate_from, list_all, slice_split, onto_first}
-use Rattle.std.proofs.Common.{refl, sym, ◌∙◌, ap, arith, subst, get_or}
+use Rattle.std.proofs.Common.{refl, sym, ◌∙◌, ap, subst, get_or}
 use Rattle.std.proofs.lemmas.Bool.{and_parts, false≢true}
 use Rattle.std.proofs.lemmas.List.Quantifiers.{position-Some}
 use Rattle.std.proofs.lemmas.List.Sums.{fold-append}
 use Rattle.std.proofs.lemmas.Slice.Eq.{bytes_eq-Decides}
+use Rattle.geo_base.proofs.PlaceLists.{numbered_both}
 use Rattle.geo_base.specs.Name.{is_short_name, is_word_byte}
 use Rattle.geo_model.specs.declared.command.Cause.{Cause}
 use Rattle.geo_model.specs.declared.command.Cause.TheVariants as causes
@@ -72,16 +73,6 @@ line_refused plan n line is =
 fault_stays : (fault : Fault) (items : List (ℕ × List ℕ)) → fold next_line (Err fault) items ≡ Err fault
 fault_stays fault [] = refl
 fault_stays fault (item ∷ items) = fault_stays fault items
-
--- numbered lines on both sides
-numbered_both : (n : ℕ) (xs ys : List (List ℕ))
-    → enumerate_from n (xs ++ ys) ≡ enumerate_from n xs ++ enumerate_from (n + length xs) ys
-numbered_both n [] ys = ap (λ k. enumerate_from k ys) (let e : n ≡ n + 0 = omega arith in e)
-numbered_both n (x ∷ xs) ys =
-    ap (λ zs. (n, x) ∷ zs)
-    (numbered_both (n + 1) xs ys
-    ∙ ap (λ k. enumerate_from (n + 1) xs ++ enumerate_from k ys)
-    (let e : (n + 1) + length xs ≡ n + length (x ∷ xs) = omega arith in e))
 
 -- a text that begins with the mark has a line that does
 record BeginsMarked (lines : List (List ℕ)) : Type 0 where

@@ -57,7 +57,8 @@ word_before word words is =
     slice_split_at (λ b. b == 32) word 32 (line_of words) (All-from_recursion (λ b. (b == 32) ≡ false) word is) refl
 
 -- the words of the line of some words are these
-pub words_back : (word : List ℕ) (words : Words) → AreWords (word ∷ words) → words_of (line_of (word ∷ words)) ≡ word ∷ words
+pub words_back : (word : List ℕ) (words : Words) → AreWords (word ∷ words)
+    → words_of (line_of (word ∷ words)) ≡ word ∷ words
 words_back word [] are =
     slice_split_none (λ b. b == 32) word (All-from_recursion (λ b. (b == 32) ≡ false) word are.0)
 words_back word (next ∷ words) are =
@@ -107,7 +108,8 @@ alone : (b n : ℕ) → (not (b == 48) || (n == 0)) ≡ true → b ≡ 48 → n 
 alone b n e is = grind (arith, nat_tests)
 
 -- digits that are a number are written for their value
-written_so : (digits : List ℕ) → is_decimal digits ≡ true → value_of digits < 2 ^ 64 → decimal (value_of digits) ≡ digits
+written_so : (digits : List ℕ) → is_decimal digits ≡ true → value_of digits < 2 ^ 64
+    → decimal (value_of digits) ≡ digits
 written_so [] e fits = absurd (let bad : ⊥ = cc in bad)
 written_so (b ∷ bs) e fits =
     let both = and_parts (list_all is_digit (b ∷ bs)) (not (b == 48) || (length bs == 0)) e in
@@ -162,7 +164,8 @@ ranged_tells test (word ∷ words) found e = by (number_of word) refl e
         record { stands = ap (λ w. w ∷ words) is.spelled; fits = is.fits; passes = passes } in
         subst (λ (f : ℕ × Words). IsFirst test (word ∷ words) f.0 f.1) same here
 
-    by : (o : Option ℕ) → number_of word ≡ o → in_range test words o ≡ Ok found → IsFirst test (word ∷ words) found.0 found.1
+    by : (o : Option ℕ) → number_of word ≡ o → in_range test words o ≡ Ok found
+        → IsFirst test (word ∷ words) found.0 found.1
     by None is e = absurd (let bad : ⊥ = cc in bad)
     by (Some n) is e = tested n (number_written word n is) (test n) refl e
 
@@ -190,7 +193,8 @@ then_tells (Err cause) then_read found e = absurd (let bad : ⊥ = cc in bad)
 -- what holds of the words behind that of a row of a table
 abbrev pub EachRow : {A : Type 0} → (Words → A → Type 0) → List (List ℕ × (Words → Result A Cause)) → Type 0
 EachRow P [] = Unit {0}
-EachRow {A = A} P (row ∷ rows) = ((words : Words) (found : A) → row.1 words ≡ Ok found → P (row.0 ∷ words) found) × EachRow P rows
+EachRow {A = A} P (row ∷ rows) =
+    ((words : Words) (found : A) → row.1 words ≡ Ok found → P (row.0 ∷ words) found) × EachRow P rows
 
 -- holds of words that are read by the table
 pub by_word_tells : {A : Type 0} (P : Words → A → Type 0) (table : List (List ℕ × (Words → Result A Cause)))

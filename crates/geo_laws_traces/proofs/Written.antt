@@ -100,7 +100,8 @@ sizes_marked (d ∷ ds) [] text is = is
 sizes_marked (d ∷ ds) (fact ∷ facts) text is = by (is_shelf d.kind) (sizes_marked ds facts text is)
   where
     by : (t : Bool) → IsMarked (sizes_before ds facts text)
-        → IsMarked ((if t then codes "% disk " ++ decimal fact.1 ++ end_line else []) ++ flat_map size_line (zip ds facts) ++ text)
+        → IsMarked
+        ((if t then codes "% disk " ++ decimal fact.1 ++ end_line else []) ++ flat_map size_line (zip ds facts) ++ text)
     by true more = record { rest = _; is = refl }
     by false more = more
 

@@ -75,7 +75,8 @@ abbrev pub LegalIsVerified : Type 0
 LegalIsVerified =
     (plan : Plan) (facts : List (ℕ × ℕ)) (log : List Entry) (text : List ℕ) → Legal (opening plan facts) log
     → Rest (replay (opening plan facts) log)
-    → IsTrace text (record { plan = plan; facts = facts; steps = steps_of log; report = report plan (opening plan facts) log })
+    → IsTrace text
+    (record { plan = plan; facts = facts; steps = steps_of log; report = report plan (opening plan facts) log })
     → verified text ≡ Ok found.Yes
 
 -- What legal logs give a writer and a verifier

@@ -2,8 +2,8 @@
 use Rattle.std.specs.Prelude.{◌≡◌, ℕ, List, All, Any, Contains}
 use Rattle.geo_lock.specs.Pass.{PassView, IsGoodIn}
 
--- where each pass is good in a log and each entry has the number of a pass, each entry is an own entry of the pass whose
--- number is its seat
+-- where each pass is good in a log and each entry has the number of a pass, each entry is an own entry of the pass
+-- whose number is its seat
 abbrev pub EachIsOwn : (B E : Type 0) → (E → ℕ) → Type 0
 EachIsOwn B E seat_of =
     (ps : List (PassView B E)) (log : List E)

@@ -5,12 +5,13 @@ use Rattle.std.proofs.Common.{refl, ◌∙◌, ap, arith}
 use Rattle.std.proofs.lemmas.Bool.{eqb-true}
 use Rattle.std.proofs.lemmas.List.Elements.{recursion_from_All}
 use Rattle.geo_base.specs.declared.request.Counts.{Counts}
--- what a search finds passes the test
-pub use Rattle.geo_base.proofs.Tests.{found_passes as find_passes}
 use Rattle.geo_model.specs.Words.{names_number, largest}
 use Rattle.geo_model.specs.Topology.{Topology, Geom, Provider, Consumer, provider_at, geom_at, attached_to, providers_of}
 use Rattle.geo_model.specs.Rank.{rank, rank_within, geoms_under, Ranked}
 use Rattle.geo_model.specs.Demand.{have, have_within, want, want_given, sum_counts}
+pub use Rattle.geo_base.proofs.AllLists.{all_weaker}
+-- what a search finds passes the test
+pub use Rattle.geo_base.proofs.FindLists.{found_passes as find_passes}
 
 -- functions that agree on each item give the same list
 pub map_same : {X Y : Type 0} (f g : X → Y) (xs : List X) → AllByRecursion (λ x. f x ≡ g x) xs → map f xs ≡ map g xs
@@ -100,12 +101,6 @@ module _ {C : Type 0} (granted : ℕ → Counts) (t : Topology C) where
       ))
       t.providers
       known
-
--- a fact for each item that follows from another
-pub all_weaker : {X : Type 0} (P Q : X → Type 0) → ((x : X) → P x → Q x) → (xs : List X) → AllByRecursion P xs
-    → AllByRecursion Q xs
-all_weaker P Q so [] facts = facts
-all_weaker P Q so (x ∷ xs) facts = (so x facts.0, all_weaker P Q so xs facts.1)
 
 module _ {C : Type 0} (granted : ℕ → Counts) (t : Topology C) (ranked : Ranked t)
     (known : AllByRecursion (λ (y : Provider). provider_at t y.number ≡ Some y) t.providers) where

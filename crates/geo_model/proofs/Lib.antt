@@ -1,4 +1,13 @@
+pub mod Options
+pub mod MemberLists
+pub mod AllLists
+pub mod FilterLists
+pub mod FindLists
+pub mod Tests
 pub mod LogLemmas
+pub mod BioLemmas
+pub mod RefusalLemmas
+pub mod OpeningLemmas
 pub mod FullLemmas
 pub mod NeverFull
 pub mod ErrorLemmas

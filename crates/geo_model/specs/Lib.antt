@@ -44,3 +44,9 @@ pub mod History
 pub mod FixedOrder
 pub mod Laws
 pub mod FormatLaws
+pub use Rattle.geo_base.specs.Sectors
+pub use Rattle.geo_base.specs.declared.errno.Errno
+pub use Rattle.geo_base.specs.declared.kind.Kind
+pub use Rattle.geo_base.specs.declared.limits.TheConstants
+pub use Rattle.geo_base.specs.declared.request.BioCmd
+pub use Rattle.geo_base.specs.declared.request.Counts

@@ -1,11 +1,13 @@
 -- Requests out, and the handle that is reaped next, by what is kept beside the parts.
-use Rattle.std.specs.Prelude.{◌≡◌, ◌≢◌, ℕ, suc, ◌==◌, Bool, true, false, not, ◌&&◌, ◌||◌, cond, List, [], ◌∷◌, length, map, filter, find, count_by, Option, Some, None, Ok, Err, Contains, IsSome, option_map}
+use Rattle.std.specs.Prelude.{◌≡◌, ◌≢◌, ℕ, ◌==◌, Bool, true, false, not, ◌&&◌, List, [], ◌∷◌, find, count_by, Option, Some, None, Ok, Err, Contains, IsSome, option_map}
 use Rattle.std.specs.List.{AllByRecursion, list_any}
 use Rattle.std.specs.Option.{option_map_or, option_and_then}
-use Rattle.std.proofs.Common.{refl, sym, ◌∙◌, ap, subst, arith}
+use Rattle.std.proofs.Common.{refl, sym, ◌∙◌, ap, subst}
 use Rattle.std.proofs.Math.Bool.{not-not}
-use Rattle.std.proofs.lemmas.Bool.{and_parts, eqb-true, ne_eqb}
+use Rattle.std.proofs.lemmas.Bool.{and_parts, eqb-true}
 use Rattle.std.proofs.lemmas.List.Sums.{length-filter}
+use Rattle.geo_base.proofs.Options.{none-mapped}
+use Rattle.geo_base.proofs.FindLists.{any-map, any-kept_some}
 use Rattle.geo_model.specs.declared.command.LineCommand.{LineCommand}
 use Rattle.geo_model.specs.declared.step.Entry.{Entry}
 use Rattle.geo_model.specs.declared.step.Found.{Found}
@@ -35,33 +37,15 @@ use Rattle.geo_state.specs.Trips.{is_out as goes_through}
 use Rattle.geo_state.specs.Holds.{Holds}
 use Rattle.geo_state.specs.World.{world}
 use Rattle.geo_state.specs.Steps.{against}
-use Rattle.geo_state.proofs.Lists.{none-mapped}
-
--- what is asked of what is seen
-any_seen : {X Y : Type 0} (test : Y → Bool) (see : X → Y) (xs : List X)
-    → list_any test (map see xs) ≡ list_any (λ x. test (see x)) xs
-any_seen test see [] = refl
-any_seen test see (x ∷ xs) = ap (λ b. test (see x) || b) (any_seen test see xs)
-
--- some pass where not none is kept
-some_kept : {X : Type 0} (test : X → Bool) (xs : List X) → list_any test xs ≡ not (length (filter test xs) == 0)
-some_kept test [] = refl
-some_kept {X} test (x ∷ xs) = by (test x) (some_kept test xs)
-  where
-    by : (b : Bool) → list_any test xs ≡ not (length (filter test xs) == 0)
-        → (b || list_any test xs) ≡ not (length (cond b (x ∷ filter test xs) (filter test xs)) == 0)
-    by true so =
-        sym (ap not (ne_eqb (suc (length (filter test xs))) 0 (λ e. absurd (omega (arith, e)))))
-    by false so = so
 
 -- whether a request is out through a consumer in the world
 pub active-is : (log : List Entry) (bios : List (BioOf Held)) (c : ℕ)
     → list_any (λ (x : Bio). (x.source == c) && not (is_done x.phase)) (shown (delivered_at log) bios)
     ≡ not (out_through (trips bios) c == 0)
 active-is log bios c =
-    any_seen (λ (x : Bio). (x.source == c) && not (is_done x.phase)) (shown_bio (delivered_at log)) bios
-    ∙ sym (any_seen (goes_through c) (trip_of {R = Held}) bios)
-    ∙ some_kept (goes_through c) (trips bios)
+    any-map (λ (x : Bio). (x.source == c) && not (is_done x.phase)) (shown_bio (delivered_at log)) bios
+    ∙ sym (any-map (goes_through c) (trip_of {R = Held}) bios)
+    ∙ any-kept_some (goes_through c) (trips bios)
     ∙ ap (λ n. not (n == 0)) (length-filter (goes_through c) (trips bios))
 
 -- a fact of each bio of the world is one of each request on its way

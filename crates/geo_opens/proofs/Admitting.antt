@@ -2,6 +2,7 @@
 use Rattle.std.specs.Prelude.{◌≡◌, ℕ, ◌+◌, ◌*◌, ◌≤◌, ◌==◌, Bool, true, false, not, ◌||◌, List, [], length, Option, Some, None, Result, Ok, Err, OnOk, OnErr, Contains, IsSome, IfSome, is_some, is_none, option_map, if◌then◌else◌}
 use Rattle.std.specs.Option.{option_map_or}
 use Rattle.std.proofs.Common.{refl, sym, ◌∙◌, ap, subst, arith}
+use Rattle.geo_base.proofs.Options.{at-found, if-with}
 use Rattle.geo_base.specs.declared.request.Counts.{Counts}
 use Rattle.geo_base.specs.declared.errno.Errno.{Errno}
 use Rattle.geo_base.specs.declared.block.NoMemory.{NoMemory}
@@ -33,7 +34,6 @@ use Rattle.geo_opens.specs.Handles.{IsOpenRefusal, IsRoomed, HasRoom, refused_wo
 use Rattle.geo_opens.proofs.Grants.{none_before, none_stored}
 use Rattle.geo_opens.proofs.Settling.{comer-of, come-settled, roomed-world, roomed-kept}
 use Rattle.geo_opens.proofs.Opening.{IsFree, free-open, refused-open, nobodys-next, opened-world}
-use Rattle.geo_opens.proofs.Stepping.{if_there, of_there}
 
 -- A number that is used up
 
@@ -132,7 +132,8 @@ module _ (old s : State) (roomed : IsRoomed old s) (kept : Holds s) (actor : ℕ
   free : (actors : List (List LineCommand)) (log : List Entry) → IsFree (world actors log s) 0 actor name prov grant
   free actors log =
       free-open (world actors log s) 0 actor name prov grant
-      (decided actors log ∙ ap (λ (w : World). refusal_in w actor name prov grant) (sym (roomed-world old s roomed actors log)))
+      (decided actors log
+      ∙ ap (λ (w : World). refusal_in w actor name prov grant) (sym (roomed-world old s roomed actors log)))
 
   -- its provider is found
   pub free-found : find_provider s.topo.topology prov ≡ None → ⊥
@@ -162,9 +163,8 @@ pub roomed-made : (old s new : State) → IsRoomed old s → (actor : ℕ) (name
     → IfSome (find_provider old.topo.topology prov) (λ p. world actors log new
     ≡ after_open (world actors log old) (with_handle (world actors log old) actor name p grant))
 roomed-made old s new roomed actor name prov grant p found made actors log =
-    if_there (λ n. world actors log new
-    ≡ after_open (world actors log old) (with_handle (world actors log old) actor name n grant))
-    (find_provider old.topo.topology prov) p
+    if-with (find_provider old.topo.topology prov) (λ n. world actors log new
+    ≡ after_open (world actors log old) (with_handle (world actors log old) actor name n grant)) p
     (ap (λ (x : State). find_provider x.topo.topology prov) (sym roomed.rest) ∙ found)
     (made actors log
     ∙ ap (λ (w : World). after_open w (with_handle w actor name p grant)) (roomed-world old s roomed actors log))
@@ -182,7 +182,8 @@ module _ (s new : State) (line actor : ℕ) (name prov : List ℕ) (grant : Coun
       → do_open w line actor name prov grant ≡ (world actors log new, o)
   open-refused e decided made is =
       refused-open w line actor name prov grant e (decided actors log)
-      ∙ ap (λ (x : World). let pair : World × Outcome = (x, outcomes.Replied line (replies.Refused e)) in pair) (sym made)
+      ∙ ap (λ (x : World). let pair : World × Outcome = (x, outcomes.Replied line (replies.Refused e)) in pair)
+      (sym made)
       ∙ ap (λ (r : Outcome). let pair : World × Outcome = (world actors log new, r) in pair) (sym is)
 
   pub open-done : IsOpenRefusal s actor name prov grant None
@@ -194,8 +195,9 @@ module _ (s new : State) (line actor : ℕ) (name prov : List ℕ) (grant : Coun
       let fine = free-open w line actor name prov grant (decided actors log) in
       fine.answer
       ∙ ap (λ (x : World). let pair : World × Outcome = (x, outcomes.Replied line replies.Ok) in pair)
-      (sym (of_there (λ p. world actors log new ≡ after_open w (with_handle w actor name p grant))
-      (find_provider s.topo.topology prov) fine.provider fine.found made))
+      (sym
+      (at-found (find_provider s.topo.topology prov)
+      (λ p. world actors log new ≡ after_open w (with_handle w actor name p grant)) fine.provider fine.found made))
       ∙ ap (λ (r : Outcome). let pair : World × Outcome = (world actors log new, r) in pair) (sym is)
 
 -- What is made, by how the calls end
@@ -234,6 +236,7 @@ made-then (Ok v) old s new roomed actor name prov grant p found made =
     roomed-made old s new roomed actor name prov grant p found made
 made-then (Err e) old s new roomed actor name prov grant p found made = made
 
-pub same-then : (r : Ends) (old s new : State) → IsRoomed old s → OnErr r (SameWorld s new) → OnErr r (SameWorld old new)
+pub same-then : (r : Ends) (old s new : State) → IsRoomed old s → OnErr r (SameWorld s new)
+    → OnErr r (SameWorld old new)
 same-then (Ok v) old s new roomed same = same
 same-then (Err e) old s new roomed same = λ actors log. same actors log ∙ roomed-world old s roomed actors log

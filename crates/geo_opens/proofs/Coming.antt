@@ -1,11 +1,13 @@
 -- A new consumer of DEV is attached to any provider without an error.
-use Rattle.std.specs.Prelude.{◌≡◌, ◌≢◌, ℕ, ◌==◌, nat_lt, Bool, true, false, cond, not, ◌&&◌, List, [], ◌∷◌, filter, length, Option, Some, None, IsSome, IsSomeAnd, IfSome, Contains}
+use Rattle.std.specs.Prelude.{◌≡◌, ℕ, ◌==◌, nat_lt, Bool, true, false, not, ◌&&◌, List, [], ◌∷◌, filter, length, Option, Some, None, IsSome, IsSomeAnd, IfSome, Contains}
 use Rattle.std.specs.List.{list_any}
 use Rattle.std.specs.Option.{option_map_or}
 use Rattle.std.proofs.Common.{refl, sym, ◌∙◌, ap, subst, inl, inr}
 use Rattle.std.proofs.lemmas.Bool.{cases_eq, ne_eqb, false_from_ne_true}
 use Rattle.std.proofs.lemmas.List.Elements.{All-contains}
 use Rattle.std.proofs.lemmas.List.Folds.{list_any_none}
+use Rattle.geo_base.proofs.Options.{there_with_fact}
+use Rattle.geo_access.proofs.Coming.{bare_of}
 use Rattle.geo_base.specs.declared.request.Counts.{Counts}
 use Rattle.geo_base.specs.declared.errno.Errno.TheVariants.{ENXIO, ELOOP, EDEEP}
 use Rattle.geo_base.specs.declared.kind.Kind.TheVariants as kinds
@@ -23,7 +25,6 @@ use Rattle.geo_laws_graph.proofs.Numbered.{any-contained, filter-pushed}
 use Rattle.geo_laws_graph.proofs.Found.{each-found, added-consumer}
 use Rattle.geo_laws_graph.proofs.TwoChanges.{two-changes}
 use Rattle.geo_laws_counts.specs.CountWords.{HoldsGrants}
-use Rattle.geo_laws_counts.proofs.Members.{in_head, in_tail}
 use Rattle.geo_laws_counts.proofs.LimitFacts.{all_of}
 use Rattle.geo_laws_graph.proofs.EdgeRanks.{reaches-none}
 use Rattle.geo_laws_graph.proofs.Opens.{open-rises, open-other}
@@ -35,29 +36,15 @@ use Rattle.geo_access.specs.GoneLaws.{HasUsedNumber}
 use Rattle.geo_access.proofs.Gone.{refused_consumers_go}
 use Rattle.geo_opens.specs.Holders.{opened_mesh}
 
--- of a geom without providers none stands
-bare_of : (ps : List Provider) (g : ℕ) → ((y : Provider) → Contains ps y → y.geom ≢ g)
-    → filter (λ (y : Provider). y.geom == g) ps ≡ []
-bare_of [] g none = refl
-bare_of (y ∷ ys) g none =
-    ap (λ b. cond b (y ∷ filter (λ (z : Provider). z.geom == g) ys) (filter (λ (z : Provider). z.geom == g) ys))
-    (ne_eqb y.geom g (none y (in_head y ys)))
-    ∙ bare_of ys g (λ z there. none z (in_tail y ys z there))
-
 -- an attach isn't refused where there is no error, no loop and nothing too deep
 not_refused : (a b c : Bool) → a ≡ false → b ≡ false → c ≡ false
     → first_error ((a, ENXIO) ∷ (b, ELOOP) ∷ (c, EDEEP) ∷ []) ≡ None
 not_refused a b c ea eb ec = rw (ea, eb, ec) refl
 
--- a geom that is there, and what is said of it
-there_of : {X : Type 0} (P : X → Type 0) (o : Option X) → IsSomeAnd o P → IsSome o
-there_of P None never = absurd never
-there_of P (Some x) fact = refl
-
 module _ {C : Type 0} (t : Topology C) (sound : IsSoundGraph t) where
   -- DEV stands
   pub dev_stands : IsSome (geom_at t 1)
-  dev_stands = there_of (λ (x : Geom C). x.kind ≡ kinds.Dev) (geom_at t 1) sound.orderly.first.dev
+  dev_stands = there_with_fact (λ (x : Geom C). x.kind ≡ kinds.Dev) (geom_at t 1) sound.orderly.first.dev
 
   -- DEV holds grants
   pub dev_holds : HoldsGrants t 1
@@ -178,7 +165,8 @@ module _ {C : Type 0} (t : Topology C) (sound : IsSoundGraph t) where
 -- The steps of an attach
 
 module _ {C : Type 0} (t m : TopoView C) (sound : IsSoundGraph t.topology)
-    (made : m ≡ record (with_consumer t 1) { room = m.room }) (cons : ℕ) (number : cons ≡ t.topology.next_consumer) where
+    (made : m ≡ record (with_consumer t 1) { room = m.room }) (cons : ℕ)
+    (number : cons ≡ t.topology.next_consumer) where
   -- the graph with the new consumer
   graph_is : m.topology ≡ add_consumer t.topology 1 None
   graph_is = ap (λ (v : TopoView C). v.topology) made

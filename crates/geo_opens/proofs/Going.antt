@@ -5,6 +5,7 @@ use Rattle.std.specs.Option.{option_map_or}
 use Rattle.std.proofs.Common.{refl, sym, ◌∙◌, ap, subst, arith}
 use Rattle.std.proofs.lemmas.Bool.{eq-eqb, ne_eqb, eqb-true}
 use Rattle.std.proofs.lemmas.List.Elements.{All-contains, All-weaker}
+use Rattle.geo_base.proofs.Options.{some_and_of}
 use Rattle.geo_base.specs.declared.request.Counts.{Counts}
 use Rattle.geo_model.specs.declared.command.LineCommand.{LineCommand}
 use Rattle.geo_model.specs.declared.step.Entry.{Entry}
@@ -38,11 +39,6 @@ use Rattle.geo_state.specs.Holds.{Holds}
 use Rattle.geo_state.specs.World.{world, StandsFirm}
 use Rattle.geo_opens.specs.Holders.{written, HasGone}
 use Rattle.geo_opens.proofs.Coming.{dev_holds}
-
--- what is said of what may be there
-pub some_of : {X : Type 0} (P : X → Type 0) (o : Option X) → IsSomeAnd o P → (x : X) × (o ≡ Some x) × P x
-some_of P None never = absurd never
-some_of P (Some x) fact = (x, refl, fact)
 
 -- no write count comes to zero where all stay
 none_falls : {X : Type 0} (test : X → Bool) (xs : List X) → filter (λ x. not (test x) && test x) xs ≡ []
@@ -165,7 +161,7 @@ module _ (s : State) (kept : Holds s) where
     held h c here names =
         let its : HasItsConsumer w_at h =
         All-contains (HasItsConsumer w_at) hs h firm.sound.handles.handles here in
-        let d = some_of (λ (x : Consumer). x.geom ≡ 1) (consumer_at t c)
+        let d = some_and_of (λ (x : Consumer). x.geom ≡ 1) (consumer_at t c)
         (subst (λ o. MatchOption o (h.dead ≡ true) (λ m. IsSomeAnd (consumer_at t m) (λ x. x.geom ≡ 1))) names its) in
         record {
           one = d.0;
@@ -231,7 +227,8 @@ module _ (s : State) (kept : Holds s) where
         closed-world sound actors any u q v gone handles next =
             let is = held h c closing-here names in
             let was : World = world actors any s in
-            let same : record was { topology = u.topology; handles = v.handles; events = q.events; next_handle = v.next }
+            let same :
+            record was { topology = u.topology; handles = v.handles; events = q.events; next_handle = v.next }
             ≡ record was { topology = u.topology; handles = closed hs h.number; events = q.events } =
             λ i. record was {
               topology = u.topology;
@@ -305,7 +302,8 @@ module _ (s : State) (kept : Holds s) where
         reaped-world sound actors any u q v gone handles next =
             let is = held h c closing-here names in
             let was : World = world actors any s in
-            let same : record was { topology = u.topology; handles = v.handles; events = q.events; next_handle = v.next }
+            let same :
+            record was { topology = u.topology; handles = v.handles; events = q.events; next_handle = v.next }
             ≡ record was { topology = u.topology; handles = released hs c; events = q.events } =
             λ i. record was {
               topology = u.topology;

@@ -66,7 +66,7 @@ module _ {C : Type 0} (t : TopoView C) (G : ℕ → Counts) where
   }
 
 -- without notes of rises counts are kept
-rises_counted : {C : Type 0} (t : TopoView C) → IsCounted t → IsCounted (without_rises t)
+pub rises_counted : {C : Type 0} (t : TopoView C) → IsCounted t → IsCounted (without_rises t)
 rises_counted t counted = record {
   kinds = counted.kinds;
   haves = counted.haves;
@@ -258,8 +258,8 @@ module _ {C : Type 0} (t : TopoView C) (sound : IsSoundGraph t.topology) (counte
 
 -- The steps of an open
 
-module _ {C : Type 0} (t : TopoView C) (sound : IsSoundGraph t.topology) (counted : IsCounted t) (p : ℕ) (m : TopoView C)
-    (attached : m ≡ opened_mesh t p m.room) (cons : ℕ) (number : cons ≡ t.topology.next_consumer) where
+module _ {C : Type 0} (t : TopoView C) (sound : IsSoundGraph t.topology) (counted : IsCounted t) (p : ℕ)
+    (m : TopoView C) (attached : m ≡ opened_mesh t p m.room) (cons : ℕ) (number : cons ≡ t.topology.next_consumer) where
   -- counts are kept, no note is set, and the consumer holds nothing yet
   pub comer_counted : IsCounted m
   comer_counted = subst IsCounted (sym attached) (opened_counted t sound counted p m.room)

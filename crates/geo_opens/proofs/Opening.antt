@@ -100,7 +100,8 @@ module _ (w : World) (line actor : ℕ) (name prov : List ℕ) (grant : Counts) 
         allowed = sym none;
         answer =
             ap opened_by free
-            ∙ ap (λ o. open_answered w line actor name o grant (open_refusal_at (granted_in w) w.topology o grant)) found
+            ∙ ap (λ o. open_answered w line actor name o grant (open_refusal_at (granted_in w) w.topology o grant))
+            found
             ∙ ap (λ r. open_answered w line actor name (Some p) grant r) (sym none);
       }
 

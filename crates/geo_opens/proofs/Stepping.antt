@@ -2,6 +2,7 @@
 use Rattle.std.specs.Prelude.{◌≡◌, ℕ, ◌+◌, ◌≤◌, ◌==◌, Bool, true, false, not, List, filter, find, Option, Some, None, Result, Ok, Err, Contains, IsSome, IsSomeAnd, IfSome, option_map, if◌then◌else◌}
 use Rattle.std.specs.Option.{option_map_or, option_and_then}
 use Rattle.std.proofs.Common.{refl, sym, ◌∙◌, ap, subst, arith}
+use Rattle.geo_base.proofs.Options.{none-mapped, some_and_of, at-found, if-with}
 use Rattle.geo_base.specs.declared.errno.Errno.TheVariants.{EBADF, EBUSY}
 use Rattle.geo_model.specs.declared.command.LineCommand.{LineCommand}
 use Rattle.geo_model.specs.declared.step.Entry.{Entry}
@@ -34,18 +35,9 @@ use Rattle.geo_state.specs.Steps.{IsFirm, IsAgainst}
 use Rattle.geo_state.specs.Changes.{KeptWithHandles}
 use Rattle.geo_opens.specs.Holders.{HasGone}
 use Rattle.geo_opens.specs.Handles.{IsIdle, steps_of}
-use Rattle.geo_state.proofs.Lists.{none-mapped}
 use Rattle.geo_opens.proofs.Actives.{IsNext, out-told, idle-stored, next-to-reap}
-use Rattle.geo_opens.proofs.Going.{placed-all, held, held-holder, held-lives, closed-world, forgotten-world, reaped-world, some_of}
+use Rattle.geo_opens.proofs.Going.{placed-all, held, held-holder, held-lives, closed-world, forgotten-world, reaped-world}
 use Rattle.geo_opens.proofs.Settling.{goer-of, gone-settled}
-
--- what is said of what is there, of what may be
-pub if_there : {X : Type 0} (P : X → Type 0) (o : Option X) (x : X) → o ≡ Some x → P x → IfSome o P
-if_there P o x is fact = subst (λ p. IfSome p P) (sym is) fact
-
--- and back
-pub of_there : {X : Type 0} (P : X → Type 0) (o : Option X) (x : X) → o ≡ Some x → IfSome o P → P x
-of_there P o x is fact = subst (λ p. IfSome p P) is fact
 
 module _ (s : State) (kept : Holds s) (firm : IsFirm s) where
   -- the graph and the handles
@@ -69,7 +61,8 @@ module _ (s : State) (kept : Holds s) (firm : IsFirm s) where
     -- the handle, and what is known of it
     abbrev its : (h : Handle) × (handle_at hs id ≡ Some h)
         × ((h.consumer ≡ Some cons) × (value_at s.topo.active cons ≡ Some 0))
-    its = some_of (λ (h : Handle). (h.consumer ≡ Some cons) × (value_at s.topo.active cons ≡ Some 0)) (handle_at hs id)
+    its = some_and_of (λ (h : Handle). (h.consumer ≡ Some cons) × (value_at s.topo.active cons ≡ Some 0))
+        (handle_at hs id)
         idle
 
     abbrev h : Handle
@@ -127,10 +120,10 @@ module _ (s : State) (kept : Holds s) (firm : IsFirm s) where
             → world actors log (record s { topo = u; queue = q; handles = v })
             ≡ after_close (world actors log s) (without_handle (world actors log s) h))
         close-made =
-            if_there (λ (k : Handle).
+            if-with (handle_at hs id) (λ (k : Handle).
             (actors : List (List LineCommand)) (log : List Entry)
             → world actors log (record s { topo = u; queue = q; handles = v })
-            ≡ after_close (world actors log s) (without_handle (world actors log s) k)) (handle_at hs id) h its.1
+            ≡ after_close (world actors log s) (without_handle (world actors log s) k)) h its.1
             (λ actors log. closed-world s kept firm.0 firm.1 h there cons its.2.0 sound actors log u q v gone
             (ap (λ (x : HandlesView). x.handles) by_number) (ap (λ (x : HandlesView). x.next) by_number))
 
@@ -150,10 +143,9 @@ module _ (s : State) (kept : Holds s) (firm : IsFirm s) where
             (actors : List (List LineCommand)) (log : List Entry)
             → world actors log (record s { topo = u; queue = q; handles = v }) ≡ reap (world actors log s) h)
         reap-made =
-            if_there (λ (k : Handle).
+            if-with (handle_at hs id) (λ (k : Handle).
             (actors : List (List LineCommand)) (log : List Entry)
-            → world actors log (record s { topo = u; queue = q; handles = v }) ≡ reap (world actors log s) k)
-            (handle_at hs id) h its.1
+            → world actors log (record s { topo = u; queue = q; handles = v }) ≡ reap (world actors log s) k) h its.1
             (λ actors log. reaped-world s kept firm.0 firm.1 h there cons its.2.0 sound actors log u q v gone
             (ap (λ (x : HandlesView). x.handles) is) (ap (λ (x : HandlesView). x.next) is))
 
@@ -178,7 +170,7 @@ module _ (s : State) (kept : Holds s) (firm : IsFirm s) where
       }) where
     -- the handle
     abbrev it : (h : Handle) × (handle_at hs id ≡ Some h) × (h.consumer ≡ None)
-    it = some_of (λ (h : Handle). h.consumer ≡ None) (handle_at hs id) reaped
+    it = some_and_of (λ (h : Handle). h.consumer ≡ None) (handle_at hs id) reaped
 
     same : it.0.number ≡ id
     same = number_found (λ (x : Handle). x.number) hs id it.0 it.1
@@ -198,9 +190,9 @@ module _ (s : State) (kept : Holds s) (firm : IsFirm s) where
         (actors : List (List LineCommand)) (log : List Entry) → world actors log (record s { handles = v })
         ≡ after_close (world actors log s) (without_handle (world actors log s) h))
     forget-made =
-        if_there (λ (k : Handle).
+        if-with (handle_at hs id) (λ (k : Handle).
         (actors : List (List LineCommand)) (log : List Entry) → world actors log (record s { handles = v })
-        ≡ after_close (world actors log s) (without_handle (world actors log s) k)) (handle_at hs id) it.0 it.1
+        ≡ after_close (world actors log s) (without_handle (world actors log s) k)) it.0 it.1
         (λ actors log. forgotten-world s kept firm.0 firm.1 it.0 found it.2 actors log v
         (ap (λ (x : HandlesView). x.handles) so) (ap (λ (x : HandlesView). x.next) so))
 
@@ -216,7 +208,8 @@ module _ (s : State) (kept : Holds s) (firm : IsFirm s) where
         → close_handle (world actors log s) line (handle_of (world actors log s) actor name)
         ≡ (world actors log s, o)
     close-none none o is actors log =
-        ap (close_handle (world actors log s) line) (none-mapped (λ (x : Handle). x.number) (named_handle hs actor name) none)
+        ap (close_handle (world actors log s) line)
+        (none-mapped (λ (x : Handle). x.number) (named_handle hs actor name) none)
         ∙ ap (λ (r : Outcome). let pair : World × Outcome = (world actors log s, r) in pair) (sym is)
 
     -- whether a request is out through its consumer
@@ -300,9 +293,9 @@ module _ (s : State) (kept : Holds s) (firm : IsFirm s) where
           → close_handle (world actors log s) line (handle_of (world actors log s) actor name)
           ≡ (world actors log new, o)
       close-done free new made o is actors log =
-          let whole = of_there (λ (h : Handle).
+          let whole = at-found (handle_at hs id) (λ (h : Handle).
           (actors : List (List LineCommand)) (log : List Entry) → world actors log new
-          ≡ after_close (world actors log s) (without_handle (world actors log s) h)) (handle_at hs id) k is_k made in
+          ≡ after_close (world actors log s) (without_handle (world actors log s) h)) k is_k made in
           answer_by false free actors log
           ∙ ap (λ (w : World). let pair : World × Outcome = (w, outcomes.Replied line replies.Ok) in pair)
           (sym (whole actors log))
@@ -356,9 +349,9 @@ module _ (s : State) (kept : Holds s) (firm : IsFirm s) where
     unfolding reap_next
     reap-done new made actors log =
         let x : IsNext s kept actors log n = next_at actors log in
-        let whole = of_there (λ (h : Handle).
+        let whole = at-found (handle_at hs n) (λ (h : Handle).
         (actors : List (List LineCommand)) (log : List Entry) → world actors log new ≡ reap (world actors log s) h)
-        (handle_at hs n) x.handle x.there made in
+        x.handle x.there made in
         ap (λ o. option_map_or (λ (h : Handle). Ok (reap (world actors log s) h, outcomes.Ran)) o
         (Err refusals.NothingToReap)) x.work
         ∙ ap (λ (w : World). Ok (w, outcomes.Ran)) (sym (whole actors log))
@@ -368,7 +361,8 @@ module _ (s : State) (kept : Holds s) (firm : IsFirm s) where
         → steps_of s (reap_work (world actors log s)) ≡ consumers_below t (place_of t c)
     reap-steps c idle actors log =
         let x : IsNext s kept actors log n = next_at actors log in
-        let k = some_of (λ (h : Handle). (h.consumer ≡ Some c) × (value_at s.topo.active c ≡ Some 0)) (handle_at hs n)
+        let k = some_and_of (λ (h : Handle). (h.consumer ≡ Some c) × (value_at s.topo.active c ≡ Some 0))
+        (handle_at hs n)
         idle in
         let two : Some x.handle ≡ Some k.0 = sym x.there ∙ k.1 in
         let one : x.handle ≡ k.0 = cc in
@@ -382,14 +376,14 @@ module _ (s : State) (kept : Holds s) (firm : IsFirm s) where
     pub forget-steps : (o : Option ℕ) → IsSomeAnd (handle_at hs id) (λ h. h.consumer ≡ o)
         → steps_of s (handle_at hs id) ≡ option_map_or (λ c. consumers_below t (place_of t c)) o 0
     forget-steps o there =
-        let k = some_of (λ (h : Handle). h.consumer ≡ o) (handle_at hs id) there in
+        let k = some_and_of (λ (h : Handle). h.consumer ≡ o) (handle_at hs id) there in
         ap (steps_of s) k.1 ∙ ap (λ r. option_map_or (λ c. consumers_below t (place_of t c)) r 0) k.2
 
     -- one with a consumer is idle
     pub forget-idle : (c : ℕ) → IsSomeAnd (handle_at hs id) (λ h. h.consumer ≡ Some c)
         → option_map_or (is_out s.topo) (Some c) false ≡ false → IsIdle s id c
     forget-idle c there free =
-        let k = some_of (λ (h : Handle). h.consumer ≡ Some c) (handle_at hs id) there in
+        let k = some_and_of (λ (h : Handle). h.consumer ≡ Some c) (handle_at hs id) there in
         let here : Contains hs k.0 = find-Contains (λ (x : Handle). x.number == id) hs k.0 k.1 in
         let lives = held-lives s kept firm.0 firm.1 c (held s kept firm.0 firm.1 k.0 c here k.2) in
         let idle : is_active (world firm.1.0 firm.0 s) c ≡ false =

@@ -18,7 +18,8 @@ use Rattle.geo_state.specs.World.{world}
 
 -- Opens
 
--- what refuses an open, if anything does: the actor has a handle of the name, or what refuses the counts at the provider
+-- what refuses an open, if anything does: the actor has a handle of the name, or what refuses the counts at the
+-- provider
 abbrev pub refusal_in : World → ℕ → List ℕ → List ℕ → Counts → Option Errno
 refusal_in w actor name prov grant =
     if is_some (handle_of w actor name) then Some EEXIST else open_refusal (granted_in w) w.topology prov grant

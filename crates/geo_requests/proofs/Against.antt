@@ -1,10 +1,11 @@
 -- What is against a step of a request in the world that a state stands for.
-use Rattle.std.specs.Prelude.{◌≡◌, ℕ, ◌==◌, Bool, true, false, ◌&&◌, List, [], ◌∷◌, map, find, Option, Some, None, Result, Ok, Err, Contains, IsSome, IsSomeAnd, IfSome, option_and_then, slice_get, if◌then◌else◌}
+use Rattle.std.specs.Prelude.{◌≡◌, ℕ, ◌==◌, Bool, true, false, ◌&&◌, List, find, Option, Some, None, Result, Ok, Err, Contains, IsSome, IsSomeAnd, IfSome, option_and_then, slice_get, if◌then◌else◌}
 use Rattle.std.specs.Option.{option_map, option_map_or}
 use Rattle.std.proofs.Common.{refl, sym, ◌∙◌, ap, subst}
 use Rattle.std.proofs.lemmas.Bool.{eqb-true}
 use Rattle.std.proofs.lemmas.List.Elements.{All-contains}
 use Rattle.std.proofs.lemmas.Option.{slice_get-map}
+use Rattle.geo_base.proofs.FindLists.{find-map}
 use Rattle.geo_model.specs.declared.command.LineCommand.{LineCommand}
 use Rattle.geo_model.specs.declared.step.DeviceResult.{DeviceResult}
 use Rattle.geo_model.specs.declared.step.Entry.{Entry}
@@ -40,18 +41,6 @@ pub against_unless : (o : Option Found) (made : World × Outcome) → against (u
 against_unless None made = refl
 against_unless (Some f) made = refl
 
--- what is found after a map
-find_step : {X Y : Type 0} (test : Y → Bool) (f : X → Y) (x : X) (xs : List X) (b : Bool) → test (f x) ≡ b
-    → find test (map f xs) ≡ option_map f (find (λ y. test (f y)) xs)
-    → find test (map f (x ∷ xs)) ≡ option_map f (find (λ y. test (f y)) (x ∷ xs))
-find_step test f x xs true e rest = rw e refl
-find_step test f x xs false e rest = rw e rest
-
-pub find_map : {X Y : Type 0} (test : Y → Bool) (f : X → Y) (xs : List X)
-    → find test (map f xs) ≡ option_map f (find (λ y. test (f y)) xs)
-find_map test f [] = refl
-find_map test f (x ∷ xs) = find_step test f x xs (test (f x)) refl (find_map test f xs)
-
 -- Seats
 
 -- the disk of a provider is one of the header
@@ -59,7 +48,8 @@ disk_geom : (w : World) → Firm w → (g : Geom Config) → Contains w.topology
     → disk_of g.config ≡ o → (disk : ℕ) → o ≡ Some disk → IsSome (slice_get w.disks disk)
 disk_geom w firm g here None e disk is = absurd cc
 disk_geom w firm g here (Some d) e disk is =
-    let sizes : HasDiskSizes w g = All-contains (HasDiskSizes w) w.topology.geoms g firm.sound.numbers.disk_sizes here in
+    let sizes : HasDiskSizes w g =
+    All-contains (HasDiskSizes w) w.topology.geoms g firm.sound.numbers.disk_sizes here in
     let same : d ≡ disk = cc in
     subst (λ n. IsSome (slice_get w.disks n)) same (some_and _ (slice_get w.disks d) (rw e at sizes))
   where
@@ -180,7 +170,7 @@ module _ (actors : List (List LineCommand)) (log : List Entry) (s : State) where
       ∙ at_disk disk (find (λ (y : BioOf Held). is_busy y.phase
       && option_map_or (λ d. d == disk) (disk_at s.topo.topology y.target) false) s.traffic.bios)
       ∙ ap (λ o. option_map (λ b. found.DiskBusy b) (option_map (λ (z : Trip). z.number) o))
-      (sym (find_map (is_at_disk s.topo.topology disk) (trip_of {R = Held}) s.traffic.bios))
+      (sym (find-map (is_at_disk s.topo.topology disk) (trip_of {R = Held}) s.traffic.bios))
       ∙ ap (option_map (λ b. found.DiskBusy b)) (sym is.busy_is)
 
   module _ (holds : Holds s) (firm : IsFirm s) (disk : ℕ) (x : BioOf Held) where

@@ -1,6 +1,5 @@
 -- Pieces and consumers as the targets of the mesh's definitions.
-use Rattle.std.specs.Prelude.{◌≡◌, ℕ, List, [], ◌∷◌, map}
-use Rattle.std.specs.List.{AllByRecursion}
+use Rattle.std.specs.Prelude.{◌≡◌, ℕ, List, map}
 use Rattle.std.proofs.Common.{sym, ◌∙◌, ap}
 use Rattle.std.proofs.lemmas.Simd.{map-map}
 use Rattle.geo_model.specs.declared.span.Piece.{Piece}
@@ -21,9 +20,3 @@ cut_of t cut zs ways list are pieces targets = record {
       ∙ ap (map (through t)) (sym are.consumers)
       ∙ map-map (through t) (λ (z : PieceTarget). z.consumer) zs;
 }
-
--- what holds of each item holds of what is mapped from it
-pub all_mapped : {X Y : Type 0} (P : Y → Type 0) (f : X → Y) (xs : List X) → AllByRecursion (λ x. P (f x)) xs
-    → AllByRecursion P (map f xs)
-all_mapped P f [] all = tt
-all_mapped P f (x ∷ xs) all = (all.0, all_mapped P f xs all.1)

@@ -117,7 +117,8 @@ pub record CutWell (s : State) (cut : Cut) : Type 0 where
   pub same_number : length cut.targets.items ≡ length cut.pieces.items
   pub through : AllByRecursion (λ (z : ℕ × ℕ). IsNoHandles s z.0) cut.targets.items
 
-well_cut : (s : State) (cut : Cut) (zs : List PieceTarget) → IsCut s.topo.topology cut zs → SplitsWell s zs → CutWell s cut
+well_cut : (s : State) (cut : Cut) (zs : List PieceTarget) → IsCut s.topo.topology cut zs → SplitsWell s zs
+    → CutWell s cut
 well_cut s cut zs is well =
     let pieces : length cut.pieces.items ≡ length zs =
     ap length is.pieces ∙ length-map zs (λ (z : PieceTarget). z.piece) in

@@ -1,8 +1,8 @@
 -- One more started request of a geom is seen by nothing that is kept.
-use Rattle.std.specs.Prelude.{◌≡◌, ℕ, ◌+◌, ◌==◌, Bool, true, false, List, [], ◌∷◌, map, Option, if◌then◌else◌}
-use Rattle.std.proofs.Common.{refl, sym, ◌∙◌, ap}
+use Rattle.std.specs.Prelude.{◌≡◌, ℕ, ◌+◌, ◌==◌, Option}
+use Rattle.std.proofs.Common.{refl, sym, ap}
+use Rattle.geo_laws_counts.proofs.Unseen.{map-changed}
 use Rattle.geo_base.specs.declared.kind.Kind.{Kind}
-use Rattle.geo_model.specs.Words.{change_where}
 use Rattle.geo_model.specs.Topology.{Topology, Geom, note_started}
 use Rattle.geo_model.specs.World.{Config}
 use Rattle.geo_mesh.specs.Topo.{TopoView, with_topology}
@@ -14,18 +14,6 @@ use Rattle.geo_state.specs.Parts.{SameParts, disk_row}
 use Rattle.geo_state.proofs.LawLemmas.{holds_after_effects}
 use Rattle.geo_requests.proofs.Parting.{noted_at}
 
--- a change that isn't seen
-pub map_changed : {X Y : Type 0} (see : X → Y) (test : X → Bool) (change : X → X) → ((x : X) → see (change x) ≡ see x)
-    → (xs : List X) → map see (change_where test change xs) ≡ map see xs
-map_changed see test change same [] = refl
-map_changed {X} {Y} see test change same (x ∷ xs) =
-    ap (λ y. y ∷ map see (change_where test change xs)) (one (test x))
-    ∙ ap (λ ys. see x ∷ ys) (map_changed see test change same xs)
-  where
-    one : (b : Bool) → see (if b then change x else x) ≡ see x
-    one true = same x
-    one false = refl
-
 -- one more started request
 abbrev more_started : Geom Config → Geom Config
 more_started x = record x { started = x.started + 1 }
@@ -34,13 +22,13 @@ more_started x = record x { started = x.started + 1 }
 counts_same : (t : Topology Config) (g : ℕ) → seen_by_counts (note_started t g) ≡ seen_by_counts t
 counts_same t g =
     ap (λ gs. record (seen_by_counts t) { geoms = gs })
-    (map_changed (λ (x : Geom Config). let seen : ℕ × Kind = (x.number, x.kind) in seen) (λ x. x.number == g)
+    (map-changed (λ (x : Geom Config). let seen : ℕ × Kind = (x.number, x.kind) in seen) (λ x. x.number == g)
     more_started (λ x. refl) t.geoms)
 
 -- nor do the parts
 parts_same : (t : Topology Config) (g : ℕ) → SameParts t (note_started t g)
 parts_same t g = record {
-  geoms = map_changed disk_row (λ x. x.number == g) more_started (λ x. refl) t.geoms;
+  geoms = map-changed disk_row (λ x. x.number == g) more_started (λ x. refl) t.geoms;
   providers = refl;
   consumers = refl;
 }

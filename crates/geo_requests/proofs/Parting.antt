@@ -1,5 +1,5 @@
 -- What each way does to the state.
-use Rattle.std.specs.Prelude.{◌≡◌, ℕ, ◌+◌, List, ◌++◌, length, map, Option, Some, None, Result, Ok, Err, IfSome, IfOk, OnErr, IsTrue}
+use Rattle.std.specs.Prelude.{◌≡◌, ℕ, ◌+◌, List, ◌++◌, length, map, Option, Some, None, IfSome, IfOk, IsTrue}
 use Rattle.std.specs.Option.{option_map_or}
 use Rattle.std.proofs.Common.{refl, sym, ◌∙◌, ap, subst}
 use Rattle.std.proofs.lemmas.List.{length-map}
@@ -30,16 +30,6 @@ use Rattle.geo_requests.specs.declared.cut.Cut.{Cut}
 use Rattle.geo_requests.specs.Ways.{IsCut}
 use Rattle.geo_requests.specs.Started.{HasStarted}
 use Rattle.geo_requests.proofs.Serving.{world_moved}
-
--- what holds of each holds of what there is
-pub if_any : {X : Type 0} (P : X → Type 0) (o : Option X) → ((x : X) → P x) → IfSome o P
-if_any P None so = tt
-if_any P (Some x) so = so x
-
--- what holds holds where there is an error
-pub on_error : {A E : Type 0} (P : Type 0) (r : Result A E) → P → OnErr r P
-on_error P (Ok a) fact = tt
-on_error P (Err e) fact = fact
 
 -- the state with other bios
 abbrev pub with_bios : State → List (BioOf Held) → State

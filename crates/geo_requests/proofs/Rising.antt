@@ -1,15 +1,16 @@
 -- What a firm mesh tells of a bio that goes up: it came through a consumer that is there, of its owner.
-use Rattle.std.specs.Prelude.{◌≡◌, ◌≢◌, ℕ, zero, suc, ◌+◌, ◌≤◌, ◌==◌, Bool, true, false, List, [], ◌∷◌, map, count_by, Option, Some, None, Ok, Contains, IsSome, IsSomeAnd, IfSome, IsTrue}
+use Rattle.std.specs.Prelude.{◌≡◌, ◌≢◌, ℕ, zero, suc, ◌+◌, ◌≤◌, ◌==◌, true, false, List, [], ◌∷◌, map, count_by, Option, Some, None, Ok, Contains, IsSome, IsSomeAnd, IfSome, IsTrue}
 use Rattle.std.specs.List.{AllByRecursion, enumerate_from}
 use Rattle.std.specs.Option.{option_map, option_map_or}
 use Rattle.std.proofs.Common.{refl, sym, ◌∙◌, ap, subst, arith}
 use Rattle.std.proofs.lemmas.Bool.{eq-eqb}
 use Rattle.std.proofs.lemmas.List.Elements.{All-contains}
+use Rattle.geo_base.proofs.Options.{there_with_fact}
+use Rattle.geo_laws_bios.proofs.Serving.{no_pieces}
 use Rattle.geo_model.specs.declared.step.Owner.{Owner}
 use Rattle.geo_model.specs.declared.step.Owner.TheVariants as owners
-use Rattle.geo_model.specs.Words.{is_flush}
 use Rattle.geo_model.specs.Topology.{Topology, Geom, Provider, Consumer, geom_at, provider_at, consumer_at, consumers_of}
-use Rattle.geo_model.specs.World.{World, Bio, Config, Nothing, Disk, Mbr, Ebr, Label, Concat, Stripe, Nop, Handle, Taste, bio_at, children_of, is_child_of, is_waiting, is_taste_root}
+use Rattle.geo_model.specs.World.{World, Bio, Config, Handle, Taste, bio_at, children_of, is_child_of, is_waiting, is_taste_root}
 use Rattle.geo_model.specs.Place.{disk_of}
 use Rattle.geo_model.specs.Bios.{PieceTarget, piece_targets}
 use Rattle.geo_model.specs.Sound.{HasTasteConsumer, IsTasting}
@@ -42,27 +43,6 @@ use Rattle.geo_requests.proofs.Descent.{all_through, nobodys}
 use Rattle.geo_requests.proofs.Against.{there}
 use Rattle.geo_requests.proofs.Serving.{world_moved}
 use Rattle.geo_requests.proofs.Started.{here}
-
--- what is there with a fact is there
-some_and : {X : Type 0} (P : X → Type 0) (o : Option X) → IsSomeAnd o P → IsSome o
-some_and P None has = absurd has
-some_and P (Some x) has = refl
-
--- nothing goes down at the geom of a disk
-no_pieces_by : (disk : ℕ) (p : Provider) (y : Bio) (b : Bool) → is_flush y.cmd ≡ b → piece_targets (Disk disk) p y ≡ []
-no_pieces_by disk p y true e = rw e refl
-no_pieces_by disk p y false e = rw e refl
-
-no_pieces : (config : Config) (p : Provider) (y : Bio) (disk : ℕ) → disk_of config ≡ Some disk
-    → piece_targets config p y ≡ []
-no_pieces Nothing p y disk is = absurd cc
-no_pieces (Disk d) p y disk is = no_pieces_by d p y (is_flush y.cmd) refl
-no_pieces (Mbr below slices) p y disk is = absurd cc
-no_pieces (Ebr below parts) p y disk is = absurd cc
-no_pieces (Label below) p y disk is = absurd cc
-no_pieces (Concat id places sizes) p y disk is = absurd cc
-no_pieces (Stripe id stripe places sizes) p y disk is = absurd cc
-no_pieces (Nop below offset fail) p y disk is = absurd cc
 
 module _ (w : World) (firm : Firm w) where
   abbrev t : Topology Config
@@ -129,7 +109,7 @@ module _ (w : World) (firm : Firm w) where
     pub source_lives : IsSome (consumer_at t x.source)
     source_lives =
         let order : IsBioInOrder w x = All-contains (IsBioInOrder w) w.bios x firm.sound.bios here in
-        some_and (λ c. (c.provider ≡ Some x.target) × HasCountFor w x c) (consumer_at t x.source) order.source
+        there_with_fact (λ c. (c.provider ≡ Some x.target) × HasCountFor w x c) (consumer_at t x.source) order.source
 
     by_parent : (parent index : ℕ) → x.owner ≡ owners.Child parent index → (o : Option Bio) → bio_at w parent ≡ o
         → IsSomeAnd o (λ y. IsTrue (is_waiting y.phase)) → Nobodys x.source

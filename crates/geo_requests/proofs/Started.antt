@@ -3,6 +3,7 @@ use Rattle.std.specs.Prelude.{◌≡◌, ℕ, ◌+◌, ◌≤◌, ◌==◌, Bool
 use Rattle.std.specs.List.{AllByRecursion}
 use Rattle.std.specs.Option.{option_map, option_map_or}
 use Rattle.std.proofs.Common.{refl, sym, ◌∙◌, ap, subst, arith}
+use Rattle.geo_base.proofs.AllLists.{all_mapped}
 use Rattle.geo_base.specs.declared.errno.Errno.TheVariants.{EIO}
 use Rattle.geo_model.specs.declared.command.LineCommand.{LineCommand}
 use Rattle.geo_model.specs.declared.step.Entry.{Entry}
@@ -34,7 +35,6 @@ use Rattle.geo_state.specs.World.{world, header_disk, HasBytes}
 use Rattle.geo_state.specs.Steps.{IsFirm, Makes}
 use Rattle.geo_requests.specs.Ways.{CanGoDown, IsCut, through}
 use Rattle.geo_requests.specs.Started.{HasStarted, bios_after, next_after, graph_after, outcome_of}
-use Rattle.geo_requests.proofs.Cuts.{all_mapped}
 use Rattle.geo_requests.proofs.Descent.{can_be_cut, some_targets, all_through, GoesThrough}
 use Rattle.geo_requests.proofs.Ways.{plain, way_plain}
 

@@ -1,9 +1,9 @@
 -- The tests of Fitting say what Fitting says.
-use Rattle.std.specs.Prelude.{◌≡◌, ◌≢◌, ℕ, ◌<◌, ◌%◌, ◌/◌, ◌^◌, ◌==◌, nat_lt, nat_le, true, false, not, ◌&&◌, ◌||◌, List, length, count_by, Option, IsTrue, option_and_then}
+use Rattle.std.specs.Prelude.{◌≡◌, ◌≢◌, ℕ, ◌<◌, ◌%◌, ◌/◌, ◌^◌, ◌==◌, nat_lt, nat_le, true, not, ◌&&◌, ◌||◌, List, length, count_by, Option, IsTrue, option_and_then}
 use Rattle.std.specs.Bool.{Decides}
 use Rattle.std.proofs.Common.{refl, sym, subst}
-use Rattle.std.proofs.lemmas.Bool.{true≢false}
 use Rattle.std.proofs.lemmas.Bool.Decides.{Decides-and, Decides-or, Decides-not, Decides-like, Decides-eqb, Decides-ltb}
+use Rattle.geo_base.proofs.Tests.{from_false_true}
 use Rattle.geo_rows.proofs.TestFacts.{always, itself, at_most, under, each, if_there, there_and, beside, pairs, three, four}
 use Rattle.geo_base.specs.Sectors.{IsSectorSize}
 use Rattle.geo_base.specs.Name.{is_name, is_short_name}
@@ -33,45 +33,41 @@ pub kind_is : (k : Kind) (c : Kind) → IsTrue (is_kind c c) → (is_kind k c �
     → Decides (is_kind k c) (k ≡ c)
 kind_is k c same told = (told, λ e. subst (λ x. is_kind x c ≡ true) (sym e) same)
 
--- what isn't true isn't so
-pub no_kind : {P : Type 0} → false ≡ true → P
-no_kind e = absurd (true≢false (sym e))
-
 -- the test tells the class
 concat_told : (k : Kind) → is_kind k kinds.Concat ≡ true → k ≡ kinds.Concat
-concat_told kinds.Disk e = no_kind e
-concat_told kinds.Dev e = no_kind e
-concat_told kinds.Taste e = no_kind e
-concat_told kinds.Mbr e = no_kind e
-concat_told kinds.Ebr e = no_kind e
-concat_told kinds.Label e = no_kind e
+concat_told kinds.Disk e = from_false_true e
+concat_told kinds.Dev e = from_false_true e
+concat_told kinds.Taste e = from_false_true e
+concat_told kinds.Mbr e = from_false_true e
+concat_told kinds.Ebr e = from_false_true e
+concat_told kinds.Label e = from_false_true e
 concat_told kinds.Concat e = refl
-concat_told kinds.Stripe e = no_kind e
-concat_told kinds.Nop e = no_kind e
+concat_told kinds.Stripe e = from_false_true e
+concat_told kinds.Nop e = from_false_true e
 
 -- the test tells the class
 nop_told : (k : Kind) → is_kind k kinds.Nop ≡ true → k ≡ kinds.Nop
-nop_told kinds.Disk e = no_kind e
-nop_told kinds.Dev e = no_kind e
-nop_told kinds.Taste e = no_kind e
-nop_told kinds.Mbr e = no_kind e
-nop_told kinds.Ebr e = no_kind e
-nop_told kinds.Label e = no_kind e
-nop_told kinds.Concat e = no_kind e
-nop_told kinds.Stripe e = no_kind e
+nop_told kinds.Disk e = from_false_true e
+nop_told kinds.Dev e = from_false_true e
+nop_told kinds.Taste e = from_false_true e
+nop_told kinds.Mbr e = from_false_true e
+nop_told kinds.Ebr e = from_false_true e
+nop_told kinds.Label e = from_false_true e
+nop_told kinds.Concat e = from_false_true e
+nop_told kinds.Stripe e = from_false_true e
 nop_told kinds.Nop e = refl
 
 -- the test tells the class
 stripe_told : (k : Kind) → is_kind k kinds.Stripe ≡ true → k ≡ kinds.Stripe
-stripe_told kinds.Disk e = no_kind e
-stripe_told kinds.Dev e = no_kind e
-stripe_told kinds.Taste e = no_kind e
-stripe_told kinds.Mbr e = no_kind e
-stripe_told kinds.Ebr e = no_kind e
-stripe_told kinds.Label e = no_kind e
-stripe_told kinds.Concat e = no_kind e
+stripe_told kinds.Disk e = from_false_true e
+stripe_told kinds.Dev e = from_false_true e
+stripe_told kinds.Taste e = from_false_true e
+stripe_told kinds.Mbr e = from_false_true e
+stripe_told kinds.Ebr e = from_false_true e
+stripe_told kinds.Label e = from_false_true e
+stripe_told kinds.Concat e = from_false_true e
 stripe_told kinds.Stripe e = refl
-stripe_told kinds.Nop e = no_kind e
+stripe_told kinds.Nop e = from_false_true e
 
 -- the class is CONCAT
 is_concat : (k : Kind) → Decides (is_kind k kinds.Concat) (k ≡ kinds.Concat)

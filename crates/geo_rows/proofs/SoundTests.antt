@@ -14,9 +14,10 @@ use Rattle.std.proofs.lemmas.Bool.Decides.{Decides-and, Decides-not, Decides-lik
 use Rattle.std.proofs.lemmas.List.Kept.{AllPairs-from_increasing}
 use Rattle.std.proofs.lemmas.Slice.Eq.{bytes_eq-Decides}
 use Rattle.std.proofs.lemmas.Option.{same_Some}
+use Rattle.geo_base.proofs.Tests.{from_false_true}
 use Rattle.geo_rows.proofs.TestFacts.{always, itself, at_most, under, each, if_there, there_and, pairs}
 use Rattle.geo_rows.proofs.SteadyTests.{untrue, bare, named}
-use Rattle.geo_rows.proofs.FittingTests.{kind_is, no_kind, media_size}
+use Rattle.geo_rows.proofs.FittingTests.{kind_is, media_size}
 use Rattle.geo_base.specs.declared.kind.Kind.{Kind}
 use Rattle.geo_base.specs.declared.kind.Kind.TheVariants as kinds
 use Rattle.geo_base.specs.declared.request.BioCmd.{BioCmd}
@@ -284,18 +285,18 @@ cmd_told cmds.Read cmds.Read e = refl
 cmd_told cmds.Write cmds.Write e = refl
 cmd_told cmds.Delete cmds.Delete e = refl
 cmd_told cmds.Flush cmds.Flush e = refl
-cmd_told cmds.Read cmds.Write e = no_kind e
-cmd_told cmds.Read cmds.Delete e = no_kind e
-cmd_told cmds.Read cmds.Flush e = no_kind e
-cmd_told cmds.Write cmds.Read e = no_kind e
-cmd_told cmds.Write cmds.Delete e = no_kind e
-cmd_told cmds.Write cmds.Flush e = no_kind e
-cmd_told cmds.Delete cmds.Read e = no_kind e
-cmd_told cmds.Delete cmds.Write e = no_kind e
-cmd_told cmds.Delete cmds.Flush e = no_kind e
-cmd_told cmds.Flush cmds.Read e = no_kind e
-cmd_told cmds.Flush cmds.Write e = no_kind e
-cmd_told cmds.Flush cmds.Delete e = no_kind e
+cmd_told cmds.Read cmds.Write e = from_false_true e
+cmd_told cmds.Read cmds.Delete e = from_false_true e
+cmd_told cmds.Read cmds.Flush e = from_false_true e
+cmd_told cmds.Write cmds.Read e = from_false_true e
+cmd_told cmds.Write cmds.Delete e = from_false_true e
+cmd_told cmds.Write cmds.Flush e = from_false_true e
+cmd_told cmds.Delete cmds.Read e = from_false_true e
+cmd_told cmds.Delete cmds.Write e = from_false_true e
+cmd_told cmds.Delete cmds.Flush e = from_false_true e
+cmd_told cmds.Flush cmds.Read e = from_false_true e
+cmd_told cmds.Flush cmds.Write e = from_false_true e
+cmd_told cmds.Flush cmds.Delete e = from_false_true e
 
 cmd_same : (a : BioCmd) → same_cmd a a ≡ true
 cmd_same cmds.Read = refl
@@ -340,8 +341,8 @@ joined x y xs ys e f = cc
 
 shapes : (xs ys : List ChildShape) → Decides (same_shapes xs ys) (xs ≡ ys)
 shapes [] [] = (λ e. refl, λ e. refl)
-shapes [] (y ∷ ys) = (λ e. no_kind e, λ e. absurd (not_longer y ys (sym e)))
-shapes (x ∷ xs) [] = (λ e. no_kind e, λ e. absurd (not_longer x xs e))
+shapes [] (y ∷ ys) = (λ e. from_false_true e, λ e. absurd (not_longer y ys (sym e)))
+shapes (x ∷ xs) [] = (λ e. from_false_true e, λ e. absurd (not_longer x xs e))
 shapes (x ∷ xs) (y ∷ ys) =
     Decides-like _
     (λ h. joined x y xs ys h.0 h.1)
@@ -352,7 +353,7 @@ shapes (x ∷ xs) (y ∷ ys) =
 there_with : (p : Provider) (o : Option (Geom Config)) (test : Provider × Geom Config → Bool) (P : Provider
     → Geom Config → Type 0) → ((q : Provider) (g : Geom Config) → Decides (test (q, g)) (P q g))
     → Decides (some_and (o >>= λ g. Some (p, g)) test) (IsSomeAnd o (λ g. P p g))
-there_with p None test P one = (λ e. no_kind e, λ h. absurd h)
+there_with p None test P one = (λ e. from_false_true e, λ h. absurd h)
 there_with p (Some g) test P one = one p g
 
 there_both : (o : Option Provider) (geom : Provider → Option (Geom Config)) (test : Provider × Geom Config
@@ -360,7 +361,7 @@ there_both : (o : Option Provider) (geom : Provider → Option (Geom Config)) (t
     → ((q : Provider) (g : Geom Config) → Decides (test (q, g)) (P q g))
     → Decides (some_and (o >>= λ x. (geom x >>= λ g. Some (x, g))) test)
     (IsSomeAnd o (λ p. IsSomeAnd (geom p) (λ g. P p g)))
-there_both None geom test P one = (λ e. no_kind e, λ h. absurd h)
+there_both None geom test P one = (λ e. from_false_true e, λ h. absurd h)
 there_both (Some p) geom test P one = there_with p (geom p) test P one
 
 -- a bio's pieces, its parent, its family
@@ -456,15 +457,15 @@ one_chain n asked made c =
 
 -- the test tells the class
 ebr_told : (k : Kind) → is_kind k kinds.Ebr ≡ true → k ≡ kinds.Ebr
-ebr_told kinds.Disk e = no_kind e
-ebr_told kinds.Dev e = no_kind e
-ebr_told kinds.Taste e = no_kind e
-ebr_told kinds.Mbr e = no_kind e
+ebr_told kinds.Disk e = from_false_true e
+ebr_told kinds.Dev e = from_false_true e
+ebr_told kinds.Taste e = from_false_true e
+ebr_told kinds.Mbr e = from_false_true e
 ebr_told kinds.Ebr e = refl
-ebr_told kinds.Label e = no_kind e
-ebr_told kinds.Concat e = no_kind e
-ebr_told kinds.Stripe e = no_kind e
-ebr_told kinds.Nop e = no_kind e
+ebr_told kinds.Label e = from_false_true e
+ebr_told kinds.Concat e = from_false_true e
+ebr_told kinds.Stripe e = from_false_true e
+ebr_told kinds.Nop e = from_false_true e
 
 -- the class in an option
 abbrev kind_in : Option Kind → Kind
@@ -473,7 +474,7 @@ kind_in (Some k) = k
 
 -- EBR is asked
 ebr_asked : (o : Option Kind) → Decides (some_and o (λ k. is_kind k kinds.Ebr)) (o ≡ Some kinds.Ebr)
-ebr_asked None = (λ e. no_kind e, λ e. no_kind (ap (λ o. is_some o) e))
+ebr_asked None = (λ e. from_false_true e, λ e. from_false_true (ap (λ o. is_some o) e))
 ebr_asked (Some k) = (
   λ e. ap (λ j. Some j) (ebr_told k e),
   λ e. (kind_is k kinds.Ebr refl (ebr_told k)).1 (ap (λ o. kind_in o) e),
@@ -543,7 +544,7 @@ all_begin t g p h =
 -- one of two tests
 either : (a b : Bool) → (a ≡ true) ⊎ (b ≡ true) → (a || b) ≡ true
 either true b h = refl
-either false b (inl e) = no_kind e
+either false b (inl e) = from_false_true e
 either false b (inr e) = e
 
 -- a way down, as a test

@@ -6,7 +6,7 @@ use Rattle.std.proofs.Common.{refl, arith, sym}
 use Rattle.std.proofs.lemmas.Bool.{true≢false, leb-true, le-leb}
 use Rattle.std.proofs.lemmas.Bool.Decides.{Decides-and, Decides-like, Decides-by_and}
 use Rattle.std.proofs.lemmas.List.Kept.{AllPairs-cons}
-use Rattle.geo_base.proofs.Tests.{pairs_head, pairs_tail}
+use Rattle.geo_base.proofs.AllLists.{pairs_head, pairs_tail}
 use Rattle.geo_rows.specs.WorkedSound.{some_and, none_or, all_pairs}
 use Rattle.geo_rows.specs.WorkedFitting.{all_beside}
 

@@ -31,7 +31,8 @@ hides_read-refused call mode plan ending wrong kept =
 pub gives_again-refused : IsRefused GivesAgain
 gives_again-refused call mode plan ending wrong kept =
     wrong.failed (kept.outside.calls.gives wrong.name
-    ∙ ap (λ (names : List (List ℕ)). counted_if (list_any (same_name wrong.name) names) (call.before.shelf.give_faults wrong.name))
+    ∙ ap (λ (names : List (List ℕ)).
+    counted_if (list_any (same_name wrong.name) names) (call.before.shelf.give_faults wrong.name))
     wrong.all_back)
 
 -- at status 0 no take failed
@@ -82,7 +83,8 @@ asks_in_secret-refused call mode plan ending wrong kept =
 -- Of the first disk
 
 -- the disks of the plan, where the call reports one
-first_disk : (call : Call) (mode : Mode) (plan : Plan) (ending : Ending) (disk : DiskDecl) → (reports : ReportsDisk call disk)
+first_disk : (call : Call) (mode : Mode) (plan : Plan) (ending : Ending) (disk : DiskDecl)
+    → (reports : ReportsDisk call disk)
     → KeepsAll call mode plan ending → plan.disks ≡ disk ∷ reports.rest
 first_disk call mode plan ending disk reports kept =
     let has_log =
@@ -95,7 +97,8 @@ first_disk call mode plan ending disk reports kept =
     reports.text plan good
 
 -- the log of such a call
-log_of_first : (call : Call) (mode : Mode) (plan : Plan) (ending : Ending) (disk : DiskDecl) → (reports : ReportsDisk call disk)
+log_of_first : (call : Call) (mode : Mode) (plan : Plan) (ending : Ending) (disk : DiskDecl)
+    → (reports : ReportsDisk call disk)
     → KeepsAll call mode plan ending → IsSome call.log
 log_of_first call mode plan ending disk reports kept =
     by_report call mode plan ending (ends 0 call mode plan ending kept (λ e. omega (arith, e)) reports.status)
@@ -126,7 +129,8 @@ otherwise : (call : Call) (mode : Mode) (plan : Plan) (ending : Ending) (wrong :
 otherwise call mode plan ending wrong kept None some disks other = let bad : ⊥ = cc in bad
 otherwise call mode plan ending wrong kept (Some l) some disks other =
     other (first_kept plan wrong.disk wrong.reports.rest call.before.shelf call.after.shelf l
-    (first_disk call mode plan ending wrong.disk wrong.reports kept) disks wrong.reports.of_shelf wrong.given_back).asked
+    (first_disk call mode plan ending wrong.disk wrong.reports kept) disks wrong.reports.of_shelf
+    wrong.given_back).asked
 
 pub asks_otherwise-refused : IsRefused AsksOtherwise
 asks_otherwise-refused call mode plan ending wrong kept =
@@ -139,7 +143,8 @@ hidden : (call : Call) (mode : Mode) (plan : Plan) (ending : Ending) (wrong : Hi
 hidden call mode plan ending wrong kept None some disks none = let bad : ⊥ = cc in bad
 hidden call mode plan ending wrong kept (Some l) some disks none =
     wrong.failed ((first_kept plan wrong.disk wrong.reports.rest call.before.shelf call.after.shelf l
-    (first_disk call mode plan ending wrong.disk wrong.reports kept) disks wrong.reports.of_shelf wrong.given_back).failures
+    (first_disk call mode plan ending wrong.disk wrong.reports kept) disks wrong.reports.of_shelf
+    wrong.given_back).failures
     ∙ ap (λ (k : ℕ). counted_many k (call.before.shelf.faults_of wrong.disk.name)) none)
 
 pub hides_disk_fault-refused : IsRefused HidesDiskFault
@@ -156,7 +161,8 @@ invents_size-refused call mode plan ending wrong kept =
     let moved : All (HasFactSectors call.before.shelf call.after.shelf)
     ((wrong.disk, (wrong.bytes, wrong.sectors)) ∷ zip wrong.reports.rest wrong.rest) =
     rw (disks, wrong.facts) at sizes in
-    wrong.other (moved 0 (wrong.disk, (wrong.bytes, wrong.sectors)) (omega arith) wrong.reports.of_shelf wrong.given_back)
+    wrong.other
+    (moved 0 (wrong.disk, (wrong.bytes, wrong.sectors)) (omega arith) wrong.reports.of_shelf wrong.given_back)
 
 -- where the first name that was had is this one, so is that of the first take
 first_take : (start calls rest : List ShelfCall) (first other : List ℕ) (had more missed : List (List ℕ))

@@ -3,6 +3,7 @@ use Rattle.std.specs.Prelude.{◌≡◌, ◌≢◌, ℕ, ◌+◌, ◌-◌, ◌�
 use Rattle.std.proofs.Common.{sym, ◌∙◌, ap, subst, arith}
 use Rattle.std.proofs.Math.Seq.{get_or-append_seam}
 use Rattle.std.proofs.lemmas.List.{length-append}
+use Rattle.geo_model.proofs.OpeningLemmas.{opening_owes}
 use Rattle.geo_base.specs.Faults.{Rose}
 use Rattle.geo_base.specs.Images.{Images, IsDiskSize}
 use Rattle.geo_base.specs.declared.limits.TheConstants.{MAX_LOG_ENTRIES}
@@ -21,7 +22,6 @@ use Rattle.geo_headline.specs.Endings.{Call, Ending, Reported, ReportedButFault,
 use Rattle.geo_headline.specs.Traces.{TraceFault, InScript, InTrace, read_after, read_trace, script_part}
 use Rattle.geo_headline.specs.Verifying.{found_read, verified}
 use Rattle.geo_headline.specs.Headline.{KeepsAll}
-use Rattle.geo_laws_life.proofs.Standing.{opening-stood}
 use Rattle.geo_rows.specs.WrongPrograms.{IsRefused, AnswersUsage, AnswersFaultOfScript, AnswersFaultOfTrace, AnswersReadFault, AnswersWriteFault, AnswersDiskFault, AnswersFullWithoutLog, AnswersFullAtOnce, AnswersFullTooEarly, AnswersTooLong, AnswersNo, SaysYes, RunsTrace}
 
 -- at a status other than 4 the ending has that status
@@ -57,7 +57,8 @@ by_usage call mode plan (BadSize name) s words cause = omega (arith, s)
 by_usage call mode plan OutOfMemory s words cause = omega (arith, s)
 by_usage call mode plan LogFull s words cause = omega (arith, s)
 by_usage call mode plan TooLong s words cause = omega (arith, s)
-by_usage call mode plan (Answered found) s words cause = answered 1 found s (λ e. omega (arith, e)) (λ e. omega (arith, e))
+by_usage call mode plan (Answered found) s words cause =
+    answered 1 found s (λ e. omega (arith, e)) (λ e. omega (arith, e))
 by_usage call mode plan (NoTrace line) s words cause = omega (arith, s)
 
 pub usage-refused : IsRefused AnswersUsage
@@ -156,7 +157,8 @@ by_read call mode plan (BadSize name) s none cause = omega (arith, s)
 by_read call mode plan OutOfMemory s none cause = omega (arith, s)
 by_read call mode plan LogFull s none cause = omega (arith, s)
 by_read call mode plan TooLong s none cause = omega (arith, s)
-by_read call mode plan (Answered found) s none cause = answered 3 found s (λ e. omega (arith, e)) (λ e. omega (arith, e))
+by_read call mode plan (Answered found) s none cause =
+    answered 3 found s (λ e. omega (arith, e)) (λ e. omega (arith, e))
 by_read call mode plan (NoTrace line) s none cause = omega (arith, s)
 
 pub read_fault-refused : IsRefused AnswersReadFault
@@ -210,14 +212,10 @@ ran_full : (call : Call) (mode : Mode) (plan : Plan) (ending : Ending) → call.
 ran_full call mode plan ending status kept =
     by_full call mode plan ending (ends 7 call mode plan ending kept (λ e. omega (arith, e)) status) kept.ends.cause
 
--- at the opening no place is owed
-nothing_owed : (plan : Plan) (facts : List (ℕ × ℕ)) → owed (opening plan facts) ≡ 0
-nothing_owed plan facts = ap owed (opening-stood plan facts)
-
 pub full_at_once-refused : IsRefused AnswersFullAtOnce
 full_at_once-refused call mode plan ending wrong kept =
     let full = rw wrong.1 at (ran_full call mode plan ending wrong.0 kept) in
-    omega (arith, full.nearly, nothing_owed plan call.facts)
+    omega (arith, full.nearly, opening_owes plan call.facts)
 
 too_early : (mode : Mode) (plan : Plan) (opened : World) (log : Option (List Entry))
     → IsSomeAnd log (LogRanFull mode plan opened)
@@ -337,7 +335,8 @@ by_disk call mode plan (BadSize name) s wrong cause =
 by_disk call mode plan OutOfMemory s wrong cause = omega (arith, s)
 by_disk call mode plan LogFull s wrong cause = omega (arith, s)
 by_disk call mode plan TooLong s wrong cause = omega (arith, s)
-by_disk call mode plan (Answered found) s wrong cause = answered 5 found s (λ e. omega (arith, e)) (λ e. omega (arith, e))
+by_disk call mode plan (Answered found) s wrong cause =
+    answered 5 found s (λ e. omega (arith, e)) (λ e. omega (arith, e))
 by_disk call mode plan (NoTrace line) s wrong cause = omega (arith, s)
 
 pub disk_fault-refused : IsRefused AnswersDiskFault

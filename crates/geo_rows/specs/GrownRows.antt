@@ -143,7 +143,8 @@ sized_label_text = text_of
     ∷ codes "5 ok"
     ∷ codes "6 ok"
     ∷ codes "7 ok"
-    ∷ codes "8 ok 52*1 47*1 45*1 4f*1 4d*1 3a*2 4c*1 41*1 42*1 45*1 4c*1 00*4 02*1 00*3 76*1 6f*1 6c*1 00*14 0e*1 00*474"
+    ∷ codes
+    "8 ok 52*1 47*1 45*1 4f*1 4d*1 3a*2 4c*1 41*1 42*1 45*1 4c*1 00*4 02*1 00*3 76*1 6f*1 6c*1 00*14 0e*1 00*474"
     ∷ codes "9 ok"
     ∷ codes "geom DISK md0 rank 1"
     ∷ codes "  provider md0 size 4096 sector 512 r0w0e0"

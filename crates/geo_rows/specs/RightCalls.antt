@@ -51,6 +51,7 @@ quiet_call = record {
   status = 0;
   written = [];
   log = Some [];
-  before = record { source = stream_before; sink = record { taken = []; held = None; faults = 0 }; shelf = silent_shelf };
+  before =
+      record { source = stream_before; sink = record { taken = []; held = None; faults = 0 }; shelf = silent_shelf };
   after = record { source = stream_after; sink = record { taken = []; held = None; faults = 0 }; shelf = shelf_after };
 }

@@ -51,7 +51,9 @@ none_first : (ds : List DiskDecl) (P : DiskDecl → Type 0)
     → IsSomeAnd (find (λ (d : DiskDecl). is_shelf d.kind && false) ds) P → ⊥
 none_first [] P h = h
 none_first (d ∷ ds) P h =
-    none_first ds P (subst (λ t. IsSomeAnd (if t then Some d else find (λ (z : DiskDecl). is_shelf z.kind && false) ds) P) (never d.kind) h)
+    none_first ds P
+    (subst (λ t. IsSomeAnd (if t then Some d else find (λ (z : DiskDecl). is_shelf z.kind && false) ds) P)
+    (never d.kind) h)
 
 -- where a disk was kept back, some name was
 some_kept : (ds : List DiskDecl) (names : List (List ℕ)) (P : DiskDecl → Type 0)
@@ -100,7 +102,8 @@ in_memory plan name F shelf s all =
     (recursion_from_All (λ (d : DiskDecl). IsShelf d.kind → ⊥) plan.disks all)) s.of_shelf
 
 -- the plan of the text that was to be given is the plan of the text
-same_plan : (text to_give : List ℕ) (p plan : Plan) → to_give ≡ text → script to_give ≡ Ok p → script text ≡ Ok plan → p ≡ plan
+same_plan : (text to_give : List ℕ) (p plan : Plan) → to_give ≡ text → script to_give ≡ Ok p → script text ≡ Ok plan
+    → p ≡ plan
 same_plan text to_give p plan e a b = one_plan p plan (script to_give) a (ap script e ∙ b)
 
 no_fault_there : (text to_give : List ℕ) (p : Plan) (fault : Fault) → to_give ≡ text → script to_give ≡ Ok p
@@ -121,7 +124,8 @@ IsGood ending = (status_of ending ≡ 0) ⊎ (status_of ending ≡ 6) ⊎ (statu
 
 kept_rose : (call : Call) (plan : Plan) (ending : Ending) (name : List ℕ)
     → IsSomeAnd (first_kept_back plan call.before.shelf call.after.shelf) (λ d. d.name ≡ name)
-    → RoseBy (failed_takes ending + length (kept_back call.before.shelf call.after.shelf)) call.before.shelf.faults call.after.shelf.faults
+    → RoseBy (failed_takes ending + length (kept_back call.before.shelf call.after.shelf)) call.before.shelf.faults
+    call.after.shelf.faults
     → Rose call.before.shelf.faults call.after.shelf.faults
 kept_rose call plan ending name first rose =
     let some : 1 ≤ length (kept_back call.before.shelf call.after.shelf) =
@@ -182,7 +186,8 @@ script_ends call mode plan (NoTrace line) other whole text a k fine s =
     absurd (not_verified call mode plan (NoTrace line) other k k.ends.cause.0)
 
 -- where the script is made
-generated_ends : (call : Call) (plan : Plan) (ending : Ending) (start count : ℕ) → Accepts call.words (GenMode start count)
+generated_ends : (call : Call) (plan : Plan) (ending : Ending) (start count : ℕ)
+    → Accepts call.words (GenMode start count)
     → KeepsAll call (GenMode start count) plan ending → NoFault call.before call.after → IsGood ending
 generated_ends call plan Reported s c a k fine = inl refl
 generated_ends call plan (ReportedButFault name) s c a k fine =

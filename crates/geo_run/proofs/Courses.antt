@@ -134,7 +134,8 @@ images_fate a m b [] xs kept decls h f = tt
 images_fate a m b (d ∷ ds) [] kept decls h f = absurd h
 images_fate a m b (d ∷ ds) (x ∷ xs) kept decls h f = (one d.kind h.0 f.0, images_fate a m b ds xs kept decls.1 h.1 f.1)
   where
-    one : (kind : DiskKind) → IsHad a m d x kind → Fate m b d.name x kept kind → IsShelf kind → ImageFate a b kept d.name
+    one : (kind : DiskKind) → IsHad a m d x kind → Fate m b d.name x kept kind → IsShelf kind
+        → ImageFate a b kept d.name
     one disk_kinds.Ram had fate s = absurd (let bad : false ≡ true = s in cc)
     one disk_kinds.Shelf had fate s = elim fate [
       | inl given ↦ inl (
@@ -169,7 +170,8 @@ images_stay a m b ds xs kept c name =
 
     told : IsForeign name ds ⊎ ImageFate a b kept name
         → IfSome a.told (λ had. IsSomeAnd b.told (λ has.
-        ((Contains (kept_back a b) name → ⊥) → has name ≡ had name) × (Contains (kept_back a b) name → has name ≡ None)))
+        ((Contains (kept_back a b) name → ⊥) → has name ≡ had name)
+        × (Contains (kept_back a b) name → has name ≡ None)))
     told (inl foreign) = (goes (λ back. course_foreign a m b ds xs xs kept c name foreign back)
         (course_told a m b ds xs xs kept c name foreign)).is
     told (inr (inl given)) =

@@ -28,7 +28,8 @@ own = numerals_by_value AreDigits tells_all_ascii_digits
 pub plain_decimal : (n : ℕ) → n < 2 ^ 64 → IsPlain (decimal n)
 unfolding digits
 plain_decimal n fits = record {
-  no_plus = not_in_digits own (decimal n) 43 (digits_decimal own n fits) (λ range. absurd (omega (arith, range.0))) 0 (decimal_nonempty n fits);
+  no_plus = not_in_digits own (decimal n) 43 (digits_decimal own n fits) (λ range. absurd (omega (arith, range.0))) 0
+      (decimal_nonempty n fits);
   no_zero = λ e. by n fits e;
 }
   where
@@ -39,12 +40,14 @@ plain_decimal n fits = record {
         absurd (omega (arith, first, e))
 
 -- a plain word that is read is written so
-pub read_plain : (word : List ℕ) (n : ℕ) → IsPlain word → ParsesUnsigned {E = Unit {0}} 32 10 word (Ok n) → word ≡ decimal n
+pub read_plain : (word : List ℕ) (n : ℕ) → IsPlain word → ParsesUnsigned {E = Unit {0}} 32 10 word (Ok n)
+    → word ≡ decimal n
 read_plain word n plain read =
     let all = parse_plain own {E = Unit {0}} 32 word (Ok n) read plain.no_plus in
     let is : decimal (digits_value 10 word) ≡ word =
     decimal-digits_value own word all.0.0 all.0.1
-    (λ e. let few : length word ≤ 1 = plain.no_zero e in let some : 0 < length word = all.0.1 in omega (arith, few, some))
+    (λ e. let few : length word ≤ 1 = plain.no_zero e in let some : 0 < length word = all.0.1 in
+    omega (arith, few, some))
     (let small : digits_value 10 word < 2 ^ 32 = all.0.2 in omega (arith, small)) in
     sym is ∙ ap decimal (sym all.1)
 
@@ -57,7 +60,8 @@ unread_plain word n small is unread =
     parse_plain own {E = Unit {0}} 32 word (Err tt) unread plain.no_plus (
       subst AreDigits (sym is) (digits_decimal own n fits),
       subst (λ (w : List ℕ). 0 < length w) (sym is) (decimal_nonempty n fits),
-      (let value : digits_value 10 word ≡ n = ap (λ w. digits_value 10 w) is ∙ digits_value-decimal own n fits in omega (arith, value, small)),
+      (let value : digits_value 10 word ≡ n = ap (λ w. digits_value 10 w) is ∙ digits_value-decimal own n fits in
+          omega (arith, value, small)),
     )
 
 -- what is read is a number of 32 bits
@@ -105,7 +109,8 @@ no_start start count none = not_generated (codes "gen") start count (λ s c few 
 -- START is a number, and COUNT is one or isn't
 pub with_start : (start count : List ℕ) (n : ℕ) (r : Option Work) → IsNumberWithin MAX_START start (Some n)
     → AsksCount n count r → AsksFor (codes "gen" ∷ start ∷ count ∷ []) r
-with_start start count n None is none = not_generated (codes "gen") start count (λ s c few less e other. none c less other)
+with_start start count n None is none =
+    not_generated (codes "gen") start count (λ s c few less e other. none c less other)
 with_start start count n (Some work) is counted =
     subst (λ (w : Work). Accepts (codes "gen" ∷ start ∷ count ∷ []) (mode_of w)) (sym counted.1) (record {
       spelled = ap (λ s. codes "gen" ∷ s ∷ count ∷ []) is.0 ∙ ap (λ c. codes "gen" ∷ decimal n ∷ c ∷ []) counted.2.0;
@@ -137,7 +142,8 @@ pub asks_word : (mode : Mode) (word only : List ℕ) → words_for mode ≡ only
 asks_word mode word only e range same = record { spelled = ap (λ w. w ∷ []) same ∙ sym e; in_range = range }
 
 -- the word `gen` and two others
-pub asks_generation : (first text start count : List ℕ) (r : Option Work) → text ≡ first → true ≡ bytes_eq text (codes "gen")
+pub asks_generation : (first text start count : List ℕ) (r : Option Work) → text ≡ first
+    → true ≡ bytes_eq text (codes "gen")
     → AsksFor (codes "gen" ∷ start ∷ count ∷ []) r → AsksFor (first ∷ start ∷ count ∷ []) r
 asks_generation first text start count r is e asks =
     subst (λ (w : List ℕ). AsksFor (w ∷ start ∷ count ∷ []) r) (sym (sym is ∙ same_text text (codes "gen") e)) asks
@@ -164,7 +170,8 @@ pub is_word : (words : List (String Global)) (w : String Global) (text only : Li
     → (IsTrue b → word_bytes words ≡ only ∷ []) × (word_bytes words ≡ only ∷ [] → IsTrue b)
 is_word [] w text only b some few at is e = absurd (omega (arith, some))
 is_word (x ∷ []) w text only b some few at is e = (
-  λ t. ap (λ z. z ∷ []) (ap (λ (s : String Global). string_bytes s) (sym at) ∙ sym is ∙ same_text text only (sym t ∙ e)),
+  λ t. ap (λ z. z ∷ [])
+      (ap (λ (s : String Global). string_bytes s) (sym at) ∙ sym is ∙ same_text text only (sym t ∙ e)),
   λ a. e ∙ (bytes_eq-Decides text only).1
       (is ∙ ap (λ (s : String Global). string_bytes s) at ∙ first_same (string_bytes x) only [] [] a),
 )

@@ -2,7 +2,7 @@
 use Rattle.std.proofs.Common.{◌≡◌, ◌≢◌, ℕ, ◌+◌, ◌-◌, ◌^◌, ◌≤◌, min, Bool, true, false, List, [], ◌∷◌, ◌++◌, length, map, All, Option, Some, None, refl, sym, ◌∙◌, ap, subst, inl, inr, arith, Contains, IfSome, IfNone, IsSome, IsSomeAnd, IsTrue, bytes_eq, ◌&&◌, ◌||◌, slice_get, zip}
 use Rattle.std.specs.Prelude.{⊤}
 use Rattle.std.specs.List.{AllByRecursion, enumerate_from, list_any}
-use Rattle.std.proofs.lemmas.List.{append-nil, map-append}
+use Rattle.std.proofs.lemmas.List.{map-append}
 use Rattle.std.proofs.lemmas.List.Elements.{All-from_recursion, recursion_from_All, Contains-append_left}
 use Rattle.geo_base.specs.Faults.{Rose, RoseBy}
 use Rattle.geo_base.specs.Images.{Images, IsDiskSize}
@@ -16,25 +16,26 @@ use Rattle.geo_model.specs.World.{World, Plan}
 use Rattle.geo_model.specs.Opening.{opening}
 use Rattle.geo_model.specs.Plans.{IsPlan, IsDiskDecl, FactsFit}
 use Rattle.geo_headline.specs.Modes.{Mode}
-use Rattle.geo_headline.specs.Outside.{ShelfView, HasFactSectors, IsShelf, is_shelf, kept_back, IsThere, IsMissing, IsBadSize, HasToldSize, ImagesStay, ImagesStand, OthersStay, DisksAreKept, KeepsLength, PlannedDisk, planned_disk, IsDiskKept, CountsStay, is_of_plan, IsForeign as IsForeignName}
+use Rattle.geo_headline.specs.Outside.{ShelfView, HasFactSectors, IsShelf, is_shelf, kept_back, IsThere, IsMissing, IsBadSize, HasToldSize, ImagesStay, ImagesStand, DisksAreKept, PlannedDisk, planned_disk, IsDiskKept, CountsStay, is_of_plan, IsForeign as IsForeignName}
 use Rattle.geo_headline.specs.Endings.{Ending, Reported, ReportedButFault, BadWords, NoScript, ReadFault, ShelfFault, NoDisk, BadSize, OutOfMemory, LogFull, TooLong, Answered, NoTrace, HasLog, LogRanFull, StopsAt, failed_takes}
-use Rattle.geo_headline.specs.Headline.{CallsAreTold, GivesAreTold, HaveFactSectors, IsMissedAt, LentAfter, NoneAsked, TakesAreToldAt}
+use Rattle.geo_headline.specs.Headline.{GivesAreTold, HaveFactSectors, IsMissedAt, LentAfter, NoneAsked, TakesAreToldAt}
 use Rattle.geo_run.specs.Drives.{DriveView, size_of}
 use Rattle.geo_run.specs.declared.stop.Stop.{Stop}
 use Rattle.geo_run.specs.declared.stop.Stop.TheVariants as stops
 use Rattle.geo_run.specs.Stops.{ending_of}
 use Rattle.geo_run.specs.Lending.{AreApart, AreOther, GivesBack, GivesDrive, GivesUp, OpensDrive, OpensDrives, OpensNoDrive, TakeCause, TakesBack, is_blamed, names_of}
 use Rattle.geo_run.specs.Ends.{LentCause, PlanCause, RunsDrives, RunsPlan, Served}
-use Rattle.geo_run.proofs.Tests.{contains_none, other_names, same_itself, same_or_other}
-use Rattle.geo_run.proofs.Told.{OfName, IsSame, chain, of_name, same, same_twice, weaker}
+use Rattle.geo_run.proofs.Tests.{other_names, same_itself, same_or_other}
+use Rattle.geo_run.proofs.Told.{OfName, IsSame, chain, of_name, same, same_twice}
 use Rattle.geo_run.proofs.Taking.{EachHad, IsForeign, IsHad, each_had, takes_count, takes_no_fault, takes_lend, takes_stay}
 use Rattle.geo_run.proofs.Giving.{GivesAll, SameKinds, gives_all, gives_stay}
-use Rattle.geo_run.proofs.Fates.{counted_rose, first_kept, first_of, gives_fault, is_of, kept_of_plan, kept_back_is}
+use Rattle.geo_run.proofs.Fates.{counted_rose, first_kept, first_of, gives_fault, is_of, kept_of_plan}
 use Rattle.geo_run.proofs.Outs.{apart_front}
 use Rattle.geo_run.proofs.Visits.{all_in_order, none_in_order, stopped_in_order}
 use Rattle.geo_run.proofs.Telling.{gives_no_fault, gives_take_none, gives_told, none_blamed}
 use Rattle.geo_run.proofs.Planned.{all_there, apart_from, disks_kept, facts_had, kinds_had, kinds_served, sizes_told}
-use Rattle.geo_run.proofs.Courses.{Course, course_back, course_fate, course_lent, course_rose, course_told, images_stand, images_stand_still, images_stay, kept_stay, none_asked, same_length, sizes_back}
+use Rattle.geo_run.proofs.Courses.{Course, course_back, course_fate, course_lent, course_rose, course_told, images_stand, images_stand_still, images_stay, kept_stay, none_asked, sizes_back}
+use Rattle.geo_run.proofs.Untaken.{images_stand_same, images_stay_same, lent_still, others_still, told_still}
 
 -- The parts of a course
 
@@ -105,10 +106,12 @@ lent_after : (ending : Ending) (a m b : ShelfView) (ds : List DiskDecl) (xs ys :
     → LentAfter ending a b
 lent_after ending a m b ds xs ys kept c rose = record {
   faults =
-      let back : length (kept_back a b) ≡ length kept = ap (λ (ks : List (List ℕ)). length ks) (course_back a m b ds xs ys kept c) in
+      let back : length (kept_back a b) ≡ length kept =
+      ap (λ (ks : List (List ℕ)). length ks) (course_back a m b ds xs ys kept c) in
       let first : min (a.faults + failed_takes ending) (2 ^ 64 - 1) ≤ m.faults = rose in
       let then_gives : min (m.faults + length kept) (2 ^ 64 - 1) ≤ b.faults = gives_fault m b ds ys kept c.given in
-      both (failed_takes ending) (length (kept_back a b)) (length kept) a.faults m.faults b.faults back first then_gives;
+      both (failed_takes ending) (length (kept_back a b)) (length kept) a.faults m.faults b.faults back first
+      then_gives;
   gives = course_rose a m b ds xs ys kept c;
 }
   where
@@ -135,7 +138,8 @@ kept_of a m b ds xs ys kept c =
 still_lent : (a m b : ShelfView) (ds : List DiskDecl) (xs ys : List DriveView) (kept : List (List ℕ))
     → Course a m b ds xs ys kept → (name : List ℕ) → Contains a.lent name → Contains b.lent name
 still_lent a m b ds xs ys kept c name lent =
-    subst (λ ns. Contains ns name) (sym (course_lent a m b ds xs ys kept c)) (Contains-append_left a.lent kept name lent)
+    subst (λ ns. Contains ns name) (sym (course_lent a m b ds xs ys kept c))
+    (Contains-append_left a.lent kept name lent)
 
 foreign_counts : (a m b : ShelfView) (ds : List DiskDecl) (xs ys : List DriveView) (kept : List (List ℕ))
     → Course a m b ds xs ys kept → (name : List ℕ) → m.take_faults name ≡ a.take_faults name → IsForeign name ds
@@ -153,7 +157,8 @@ foreign_counts a m b ds xs ys kept c name takes foreign =
 -- Over drives
 
 -- no take failed where the drives were had
-no_failed : (mode : Mode) (plan : Plan) (opened : World) (log : Option (List Entry)) (kept : List (List ℕ)) (ending : Ending)
+no_failed : (mode : Mode) (plan : Plan) (opened : World) (log : Option (List Entry)) (kept : List (List ℕ))
+    (ending : Ending)
     → LentCause mode plan opened log kept ending → failed_takes ending ≡ 0
 no_failed mode plan opened log kept Reported h = refl
 no_failed mode plan opened log kept (ReportedButFault name) h = refl
@@ -170,7 +175,8 @@ no_failed mode plan opened log kept (Answered found) h = refl
 no_failed mode plan opened log kept (NoTrace line) h = refl
 
 -- nor was one missed
-none_missed : (mode : Mode) (plan : Plan) (opened : World) (log : Option (List Entry)) (kept : List (List ℕ)) (ending : Ending)
+none_missed : (mode : Mode) (plan : Plan) (opened : World) (log : Option (List Entry)) (kept : List (List ℕ))
+    (ending : Ending)
     → LentCause mode plan opened log kept ending → IsMissedAt ending []
 none_missed mode plan opened log kept Reported h = refl
 none_missed mode plan opened log kept (ReportedButFault name) h = refl
@@ -186,11 +192,13 @@ none_missed mode plan opened log kept TooLong h = refl
 none_missed mode plan opened log kept (Answered found) h = refl
 none_missed mode plan opened log kept (NoTrace line) h = refl
 
-some_log : (mode : Mode) (plan : Plan) (opened : World) (log : Option (List Entry)) → IsSomeAnd log (LogRanFull mode plan opened) → IsSome log
+some_log : (mode : Mode) (plan : Plan) (opened : World) (log : Option (List Entry))
+    → IsSomeAnd log (LogRanFull mode plan opened) → IsSome log
 some_log mode plan opened None h = absurd h
 some_log mode plan opened (Some l) h = refl
 
-has_log : (mode : Mode) (plan : Plan) (opened : World) (log : Option (List Entry)) (kept : List (List ℕ)) (ending : Ending)
+has_log : (mode : Mode) (plan : Plan) (opened : World) (log : Option (List Entry)) (kept : List (List ℕ))
+    (ending : Ending)
     → LentCause mode plan opened log kept ending → HasLog ending log
 has_log mode plan opened log kept Reported h = h.0
 has_log mode plan opened log kept (ReportedButFault name) h = h.0
@@ -206,8 +214,8 @@ has_log mode plan opened log kept TooLong h = absurd h
 has_log mode plan opened log kept (Answered found) h = absurd h
 has_log mode plan opened log kept (NoTrace line) h = absurd h
 
-plan_cause : (mode : Mode) (plan : Plan) (opened : World) (log : Option (List Entry)) (a m b : ShelfView) (xs ys : List DriveView)
-    (kept : List (List ℕ)) (ending : Ending) → Course a m b plan.disks xs ys kept
+plan_cause : (mode : Mode) (plan : Plan) (opened : World) (log : Option (List Entry)) (a m b : ShelfView)
+    (xs ys : List DriveView) (kept : List (List ℕ)) (ending : Ending) → Course a m b plan.disks xs ys kept
     → LentCause mode plan opened log kept ending → PlanCause mode plan opened log a b ending
 plan_cause mode plan opened log a m b xs ys kept Reported c h = (h.0, course_back a m b plan.disks xs ys kept c ∙ h.1)
 plan_cause mode plan opened log a m b xs ys kept (ReportedButFault name) c h = (
@@ -296,7 +304,8 @@ runs_plan mode plan facts log ending xs a m b is opens r = record {
   mesh = r.mesh;
   disks = disks_by plan log a m b xs r.served r.kept course r.serves;
   lent = lent_after ending a m b plan.disks xs r.served r.kept course
-      (rose_none (failed_takes ending) a.faults m.faults (no_failed mode plan (opening plan facts) log r.kept ending r.cause)
+      (rose_none (failed_takes ending) a.faults m.faults
+      (no_failed mode plan (opening plan facts) log r.kept ending r.cause)
       (not_less (takes_no_fault a m plan.disks xs opens)));
   calls = record {
     takes = none_blamed ending a b (no_failed mode plan (opening plan facts) log r.kept ending r.cause)
@@ -309,7 +318,8 @@ runs_plan mode plan facts log ending xs a m b is opens r = record {
   in_order = all_in_order plan ending log a m b xs r.served r.kept
       (none_missed mode plan (opening plan facts) log r.kept ending r.cause) opens course.given;
   others = record {
-    bytes = λ name foreign. (course_told a m b plan.disks xs r.served r.kept course name (names_foreign name foreign)).is;
+    bytes =
+        λ name foreign. (course_told a m b plan.disks xs r.served r.kept course name (names_foreign name foreign)).is;
     counts = λ name foreign. foreign_counts a m b plan.disks xs r.served r.kept course name
         ((takes_count a m plan.disks xs opens).takes name) (names_foreign name foreign);
     still_lent = still_lent a m b plan.disks xs r.served r.kept course;
@@ -337,56 +347,6 @@ runs_plan mode plan facts log ending xs a m b is opens r = record {
     names_foreign : (name : List ℕ) → IsForeignName plan name → IsForeign name plan.disks
     names_foreign name foreign =
         recursion_from_All (λ (d : DiskDecl). IsShelf d.kind → d.name ≢ name) plan.disks foreign
-
--- Where nothing is taken
-
--- a shelf on which nothing happened
-pub nothing_back : (a : ShelfView) → kept_back a a ≡ []
-nothing_back a = kept_back_is a a [] (sym (append-nil a.lent)) tt
-
-pub lent_still : (ending : Ending) (a : ShelfView) → failed_takes ending ≡ 0 → LentAfter ending a a
-lent_still ending a none = record {
-  faults = none_rose (failed_takes ending) (length (kept_back a a)) a.faults none
-      (ap (λ (ks : List (List ℕ)). length ks) (nothing_back a));
-  gives = subst (λ (ks : List (List ℕ)). All (λ name. Rose (a.give_faults name) (a.give_faults name)) ks) (sym (nothing_back a))
-      (All-from_recursion (λ name. Rose (a.give_faults name) (a.give_faults name)) [] tt);
-}
-  where
-    none_rose : (f n x : ℕ) → f ≡ 0 → n ≡ 0 → RoseBy (f + n) x x
-    none_rose f n x e z = omega arith
-
-pub told_still : (ending : Ending) (a : ShelfView) → failed_takes ending ≡ 0 → CallsAreTold ending a a
-told_still ending a none = record {
-  takes = none_blamed ending a a none (λ name. refl);
-  gives = λ name. sym (ap (λ (ks : List (List ℕ)). counted_if (list_any (bytes_eq name) ks) (a.give_faults name)) (nothing_back a));
-  no_fault = λ other no_take none_kept. refl;
-}
-
-pub others_still : (plan : Plan) (a : ShelfView) → OthersStay plan a a
-others_still plan a = record {
-  bytes = λ name foreign. (same a.told name).is;
-  counts = λ name foreign. record { disk = refl; takes = refl; gives = refl; asked = refl; sectors = refl };
-  still_lent = λ name lent. lent;
-  of_plan = subst (λ (ks : List (List ℕ)). All (λ name. IsTrue (is_of_plan plan name)) ks) (sym (nothing_back a))
-      (All-from_recursion (λ name. IsTrue (is_of_plan plan name)) [] tt);
-}
-
-pub images_stay_same : (a : ShelfView) → ImagesStay a a
-images_stay_same a name = told.is
-  where
-    told : OfName a.told a.told name (λ had has. ((Contains (kept_back a a) name → ⊥) → has ≡ had) × (Contains (kept_back a a) name → has ≡ None))
-    told = weaker a.told a.told name
-        (λ u w p. (
-          (λ not_back. p),
-          (λ back. absurd (contains_none name (subst (λ (ks : List (List ℕ)). Contains ks name) (nothing_back a) back))),
-        ))
-        (same a.told name)
-
-pub images_stand_same : (a : ShelfView) → ImagesStand a a
-images_stand_same a name not_back = told.is
-  where
-    told : OfName a.told a.told name KeepsLength
-    told = weaker a.told a.told name same_length (same a.told name)
 
 -- Where a disk couldn't be had
 
@@ -456,9 +416,11 @@ stopped_takes a m n b d stop disk_kinds.Shelf h before after = by stop h.cause h
     counted t name c = elim (same_or_other d.name name) [
       | inl e ↦ subst (λ (z : List ℕ). b.take_faults z ≡ counted_if (t && bytes_eq d.name z) (a.take_faults z)) e
           (after d.name ∙ c.own ∙ ap (λ (k : ℕ). counted_if t k) (before d.name)
-          ∙ ap (λ (u : Bool). counted_if u (a.take_faults d.name)) (sym (and_true t) ∙ ap (λ (u : Bool). t && u) (sym (same_itself d.name))))
+          ∙ ap (λ (u : Bool). counted_if u (a.take_faults d.name))
+          (sym (and_true t) ∙ ap (λ (u : Bool). t && u) (sym (same_itself d.name))))
       | inr other ↦ after name ∙ c.others name (λ e. other (sym e)) ∙ before name
-          ∙ ap (λ (u : Bool). counted_if u (a.take_faults name)) (sym (and_false t) ∙ ap (λ (u : Bool). t && u) (sym (other_names d.name name other)))
+          ∙ ap (λ (u : Bool). counted_if u (a.take_faults name))
+          (sym (and_false t) ∙ ap (λ (u : Bool). t && u) (sym (other_names d.name name other)))
     ]
       where
         and_true : (t : Bool) → (t && true) ≡ t
@@ -472,7 +434,8 @@ stopped_takes a m n b d stop disk_kinds.Shelf h before after = by stop h.cause h
     by : (s : Stop) → TakeCause m d s n → CountsCall (is_blamed s) d.name m.take_faults n.take_faults
         → TakesAreToldAt (ending_of s) a b
     by (stops.ShelfFault name) c takes = λ z.
-        subst (λ (k : List ℕ). b.take_faults z ≡ counted_if (bytes_eq k z) (a.take_faults z)) (sym c.0) (counted true z takes)
+        subst (λ (k : List ℕ). b.take_faults z ≡ counted_if (bytes_eq k z) (a.take_faults z)) (sym c.0)
+        (counted true z takes)
     by (stops.NoDisk name) c takes = λ z. counted false z takes
     by (stops.BadSize name) c takes = λ z. counted false z takes
     by stops.NoMemory c takes = (None, λ z. counted false z takes)
@@ -524,11 +487,13 @@ had_along a m n (d ∷ ds) (x ∷ xs) told h = (one d.kind h.0, had_along a m n 
       image = chain a.told m.told n.told d.name (λ u v w p q. (p.0, q ∙ p.1)) had.image (told d.name);
     }
 
-front_of : (P : DiskDecl → Type 0) (front back : List DiskDecl) → AllByRecursion P (front ++ back) → AllByRecursion P front
+front_of : (P : DiskDecl → Type 0) (front back : List DiskDecl) → AllByRecursion P (front ++ back)
+    → AllByRecursion P front
 front_of P [] back all = tt
 front_of P (d ∷ front) back all = (all.0, front_of P front back all.1)
 
-back_of : (P : DiskDecl → Type 0) (front back : List DiskDecl) → AllByRecursion P (front ++ back) → AllByRecursion P back
+back_of : (P : DiskDecl → Type 0) (front back : List DiskDecl) → AllByRecursion P (front ++ back)
+    → AllByRecursion P back
 back_of P [] back all = all
 back_of P (d ∷ front) back all = back_of P front back all.1
 
@@ -544,7 +509,8 @@ foreign_front (e ∷ front) d back apart = (λ s. differ front apart.0, foreign_
 
 -- the names of the front are of the plan
 more_of : (front back : List DiskDecl) (names : List (List ℕ))
-    → AllByRecursion (λ name. is_of front name ≡ true) names → AllByRecursion (λ name. is_of (front ++ back) name ≡ true) names
+    → AllByRecursion (λ name. is_of front name ≡ true) names
+    → AllByRecursion (λ name. is_of (front ++ back) name ≡ true) names
 more_of front back [] all = tt
 more_of front back (n ∷ names) all = (one front all.0, more_of front back names all.1)
   where
@@ -584,14 +550,17 @@ stops_for plan a front d back name F e shelf named there cause = record {
 }
 
 -- why a plan ends so whose disks couldn't be had
-stopped_cause : (mode : Mode) (plan : Plan) (facts : List (ℕ × ℕ)) (a m n b : ShelfView) (front : List DiskDecl) (d : DiskDecl)
+stopped_cause : (mode : Mode) (plan : Plan) (facts : List (ℕ × ℕ)) (a m n b : ShelfView) (front : List DiskDecl)
+    (d : DiskDecl)
     (back : List DiskDecl) (stop : Stop) (kind : DiskKind) → d.kind ≡ kind → plan.disks ≡ front ++ d ∷ back
-    → AllByRecursion (IsThere a) front → OfName a.told m.told d.name IsSame → m.take_faults d.name ≡ a.take_faults d.name
+    → AllByRecursion (IsThere a) front → OfName a.told m.told d.name IsSame
+    → m.take_faults d.name ≡ a.take_faults d.name
     → b.take_faults d.name ≡ n.take_faults d.name → OpensNoDrive m d stop n kind
     → PlanCause mode plan (opening plan facts) None a b (ending_of stop)
 stopped_cause mode plan facts a m n b front d back stop disk_kinds.Ram k e there told before after h =
     subst (λ (s : Stop). PlanCause mode plan (opening plan facts) None a b (ending_of s)) (sym h.0) tt
-stopped_cause mode plan facts a m n b front d back stop disk_kinds.Shelf k e there told before after h = by stop h.cause h.takes
+stopped_cause mode plan facts a m n b front d back stop disk_kinds.Shelf k e there told before after h =
+    by stop h.cause h.takes
   where
     shelf : IsShelf d.kind
     shelf = ap is_shelf k
@@ -614,7 +583,8 @@ stopped_cause mode plan facts a m n b front d back stop disk_kinds.Shelf k e the
     by (stops.BadSize name) c takes =
         stops_for plan a front d back name IsBadSize e shelf c.0 there
         (told_before a.told m.told d.name (λ o. IsSomeAnd o (λ bytes. IsDiskSize d.sector (length bytes) → ⊥)) told
-        (subst (λ (z : List ℕ). IfSome m.told (λ images. IsSomeAnd (images z) (λ bytes. IsDiskSize d.sector (length bytes) → ⊥))) c.0 c.1))
+        (subst (λ (z : List ℕ). IfSome m.told
+        (λ images. IsSomeAnd (images z) (λ bytes. IsDiskSize d.sector (length bytes) → ⊥))) c.0 c.1))
     by stops.NoMemory c takes = tt
     by stops.BadWords c takes = absurd c
     by (stops.NoScript line cause) c takes = absurd c
@@ -624,7 +594,8 @@ stopped_cause mode plan facts a m n b front d back stop disk_kinds.Shelf k e the
     by (stops.Answered answer) c takes = absurd c
     by (stops.NoTrace line) c takes = absurd c
 
-no_log : (mode : Mode) (plan : Plan) (opened : World) (a b : ShelfView) (ending : Ending) → PlanCause mode plan opened None a b ending
+no_log : (mode : Mode) (plan : Plan) (opened : World) (a b : ShelfView) (ending : Ending)
+    → PlanCause mode plan opened None a b ending
     → HasLog ending None
 no_log mode plan opened a b Reported c = c.0
 no_log mode plan opened a b (ReportedButFault name) c = c.0
@@ -641,7 +612,8 @@ no_log mode plan opened a b (Answered found) c = absurd c
 no_log mode plan opened a b (NoTrace line) c = absurd c
 
 -- a plan of which nothing was done
-nothing_done : (mode : Mode) (plan : Plan) (facts : List (ℕ × ℕ)) (a : ShelfView) → RunsPlan mode plan facts None OutOfMemory a a
+nothing_done : (mode : Mode) (plan : Plan) (facts : List (ℕ × ℕ)) (a : ShelfView)
+    → RunsPlan mode plan facts None OutOfMemory a a
 nothing_done mode plan facts a = record {
   cause = tt;
   has_log = tt;
@@ -670,7 +642,8 @@ gave_up mode plan facts stop a b is g = record {
   mesh = tt;
   disks = tt;
   lent = lent_after (ending_of stop) a n b front xs xs g.kept course
-      (later (failed_takes (ending_of stop)) a.faults m.faults n.faults (not_less (takes_no_fault a m front xs g.stops.earlier)) left.faults);
+      (later (failed_takes (ending_of stop)) a.faults m.faults n.faults
+      (not_less (takes_no_fault a m front xs g.stops.earlier)) left.faults);
   calls = record {
     takes = stopped_takes a m n b disk stop disk.kind g.stops.stopped
         (λ name. (takes_count a m front xs g.stops.earlier).takes name)
@@ -702,9 +675,11 @@ gave_up mode plan facts stop a b is g = record {
       let each : AllByRecursion (λ (d : DiskDecl). IsShelf d.kind → ⊥) (front ++ disk ∷ back) =
       subst (λ (ds : List DiskDecl). AllByRecursion (λ (d : DiskDecl). IsShelf d.kind → ⊥) ds) e
       (recursion_from_All (λ (d : DiskDecl). IsShelf d.kind → ⊥) plan.disks none) in
-      no_gives n b front xs g.kept (front_of (λ (d : DiskDecl). IsShelf d.kind → ⊥) front (disk ∷ back) each) course.given
+      no_gives n b front xs g.kept (front_of (λ (d : DiskDecl). IsShelf d.kind → ⊥) front (disk ∷ back) each)
+      course.given
       ∙ no_stop disk.kind (back_of (λ (d : DiskDecl). IsShelf d.kind → ⊥) front (disk ∷ back) each).0 g.stops.stopped
-      ∙ no_takes a m front xs (front_of (λ (d : DiskDecl). IsShelf d.kind → ⊥) front (disk ∷ back) each) g.stops.earlier;
+      ∙ no_takes a m front xs (front_of (λ (d : DiskDecl). IsShelf d.kind → ⊥) front (disk ∷ back) each)
+      g.stops.earlier;
 }
   where
     front : List DiskDecl
@@ -743,7 +718,8 @@ gave_up mode plan facts stop a b is g = record {
 
     course : Course a n b front xs xs g.kept
     course = record {
-      decls = front_of IsDiskDecl front (disk ∷ back) (subst (λ (ds : List DiskDecl). AllByRecursion IsDiskDecl ds) e (decls_of plan is));
+      decls = front_of IsDiskDecl front (disk ∷ back)
+          (subst (λ (ds : List DiskDecl). AllByRecursion IsDiskDecl ds) e (decls_of plan is));
       apart = apart_fronts;
       had = had_along a m n front xs left.told had;
       lent = left.lent ∙ takes_lend a m front xs g.stops.earlier;
@@ -751,7 +727,8 @@ gave_up mode plan facts stop a b is g = record {
       gives = λ name. left.gives name ∙ (takes_count a m front xs g.stops.earlier).gives name;
       asked = λ name. left.asked name ∙ (takes_count a m front xs g.stops.earlier).asked name;
       sectors = λ name. left.sectors name ∙ (takes_count a m front xs g.stops.earlier).sectors name;
-      foreign = λ name foreign. same_twice a.told m.told n.told name (takes_stay a m front xs name g.stops.earlier foreign).told (left.told name);
+      foreign = λ name foreign. same_twice a.told m.told n.told name
+          (takes_stay a m front xs name g.stops.earlier foreign).told (left.told name);
       given = gives_all n b front xs g.kept (kinds_had a m front xs had)
           (subst (λ (ns : List (List ℕ)). GivesBack n ns xs g.kept b) g.stops.named g.given);
     }
@@ -791,5 +768,6 @@ pub runs_stopped : (mode : Mode) (plan : Plan) (facts : List (ℕ × ℕ)) (stop
     → TakesBack a plan.disks stop b → RunsPlan mode plan facts None (ending_of stop) a b
 runs_stopped mode plan facts stop a b is (inl same_shelf) =
     subst (λ (s : Stop). RunsPlan mode plan facts None (ending_of s) a b) (sym same_shelf.0)
-    (subst (λ (v : ShelfView). RunsPlan mode plan facts None OutOfMemory a v) (sym same_shelf.1) (nothing_done mode plan facts a))
+    (subst (λ (v : ShelfView). RunsPlan mode plan facts None OutOfMemory a v) (sym same_shelf.1)
+    (nothing_done mode plan facts a))
 runs_stopped mode plan facts stop a b is (inr g) = gave_up mode plan facts stop a b is g

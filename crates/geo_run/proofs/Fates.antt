@@ -98,7 +98,8 @@ one_stays a b n x k name disk_kinds.Ram h other = stays_along a b name h.1
 one_stays a b n x k name disk_kinds.Shelf h other =
     elim h [
       | inl given ↦ record {
-        told = of_name a.told b.told name (IsGivenTo n x.held) (λ o v p. p.others name (λ e. other (sym e))) given.1.told;
+        told = of_name a.told b.told name (IsGivenTo n x.held) (λ o v p. p.others name (λ e. other (sym e)))
+            given.1.told;
         disks = given.1.disks.others name (λ e. other (sym e));
         takes = given.1.takes name;
         gives = given.1.gives name;
@@ -143,7 +144,8 @@ fate_first a m b name x first rest kept disk_kinds.Shelf h e others stays =
       | inl given ↦ inl (record {
         not_kept = subst (λ ks. AreOther name ks) (sym (e ∙ ap (λ ks. ks ++ rest) given.0)) others;
         told = chain a.told m.told b.told name (λ u v w p q. subst (λ o. HasSectors x u o) (sym q) p)
-            (of_name a.told m.told name (IsGivenTo name x.held) {F = HasSectors x} (λ o v p. p.bytes) given.1.told) stays.told;
+            (of_name a.told m.told name (IsGivenTo name x.held) {F = HasSectors x} (λ o v p. p.bytes) given.1.told)
+            stays.told;
         counted = given.1.counted;
         faults = stays.disks ∙ given.1.disks.own;
         asked = stays.asked ∙ given.1.asked.own;
@@ -151,8 +153,10 @@ fate_first a m b name x first rest kept disk_kinds.Shelf h e others stays =
       })
       | inr held ↦ inr (record {
         among = subst (λ ks. Contains ks name) (sym (e ∙ ap (λ ks. ks ++ rest) held.0)) (contains_first name rest);
-        told = chain a.told m.told b.told name (λ u v w p q. q ∙ p) (of_name a.told m.told name IsAsBefore {F = IsSame} (λ o v p. p name) held.1.told) stays.told;
-        gives = counted_rose (a.give_faults name) (m.give_faults name) (b.give_faults name) held.1.gives.own stays.gives;
+        told = chain a.told m.told b.told name (λ u v w p q. q ∙ p)
+            (of_name a.told m.told name IsAsBefore {F = IsSame} (λ o v p. p name) held.1.told) stays.told;
+        gives = counted_rose (a.give_faults name) (m.give_faults name) (b.give_faults name) held.1.gives.own
+            stays.gives;
         stays = record {
           faults = stays.disks ∙ held.1.disks name;
           asked = stays.asked ∙ held.1.asked name;
@@ -168,7 +172,8 @@ each_fate a b [] [] kept apart h = tt
 each_fate a b [] (x ∷ xs) kept apart h = absurd h
 each_fate a b (d ∷ ds) [] kept apart h = absurd h
 each_fate a b (d ∷ ds) (x ∷ xs) kept apart h = (
-  fate_first a h.0 b d.name x h.1 h.2 kept d.kind h.4 h.3 (kept_other h.0 b ds xs h.2 d.name h.5 (foreign_from d.name ds apart.0))
+  fate_first a h.0 b d.name x h.1 h.2 kept d.kind h.4 h.3
+      (kept_other h.0 b ds xs h.2 d.name h.5 (foreign_from d.name ds apart.0))
       (gives_stay h.0 b ds xs h.2 d.name h.5 (foreign_from d.name ds apart.0)),
   each_before a h.0 b d.name x h.1 h.2 kept d.kind ds xs h.4 h.3 apart.0 (each_fate h.0 b ds xs h.2 apart.1 h.5),
 )
@@ -364,11 +369,13 @@ gives_fault a b (d ∷ ds) (x ∷ xs) kept h = by d.kind h.4 (gives_fault h.0 b 
         let r : min (h.0.faults + length h.2) (2 ^ 64 - 1) ≤ b.faults = rest in omega (arith, few, same, r)
     by disk_kinds.Shelf g rest = elim g [
       | inl given ↦
-          let few : length kept ≡ length h.2 = ap (λ (ks : List (List ℕ)). length ks) (h.3 ∙ ap (λ ks. ks ++ h.2) given.0) in
+          let few : length kept ≡ length h.2 =
+          ap (λ (ks : List (List ℕ)). length ks) (h.3 ∙ ap (λ ks. ks ++ h.2) given.0) in
           let same : h.0.faults ≡ a.faults = given.1.no_fault in
           let r : min (h.0.faults + length h.2) (2 ^ 64 - 1) ≤ b.faults = rest in omega (arith, few, same, r)
       | inr held ↦
-          let more : length kept ≡ suc (length h.2) = ap (λ (ks : List (List ℕ)). length ks) (h.3 ∙ ap (λ ks. ks ++ h.2) held.0) in
+          let more : length kept ≡ suc (length h.2) =
+          ap (λ (ks : List (List ℕ)). length ks) (h.3 ∙ ap (λ ks. ks ++ h.2) held.0) in
           let rose : min (a.faults + 1) (2 ^ 64 - 1) ≤ h.0.faults = held.1.rose in
           let r : min (h.0.faults + length h.2) (2 ^ 64 - 1) ≤ b.faults = rest in omega (arith, more, rose, r)
     ]
@@ -421,7 +428,8 @@ pub first_kept : (a b : ShelfView) (ds : List DiskDecl) (xs : List DriveView) (k
     → AreApart (names_of ds) → GivesAll a ds xs kept b → slice_get kept 0 ≡ Some name
     → IsSomeAnd (first_of ds kept) (λ d. d.name ≡ name)
 first_kept a b [] [] kept name apart h e =
-    absurd (let bad : slice_get [] 0 ≡ Some name = subst (λ (ks : List (List ℕ)). slice_get ks 0 ≡ Some name) h.0 e in cc)
+    absurd (let bad : slice_get [] 0 ≡ Some name = subst (λ (ks : List (List ℕ)). slice_get ks 0 ≡ Some name) h.0 e in
+    cc)
 first_kept a b [] (x ∷ xs) kept name apart h e = absurd h
 first_kept a b (d ∷ ds) [] kept name apart h e = absurd h
 first_kept a b (d ∷ ds) (x ∷ xs) kept name apart h e =
@@ -450,7 +458,9 @@ first_kept a b (d ∷ ds) (x ∷ xs) kept name apart h e =
           let fewer : kept ≡ h.2 = h.3 ∙ ap (λ ks. ks ++ h.2) given.0 in
           skip
           (ap (λ q. is_shelf q && list_any (bytes_eq d.name) kept) k
-          ∙ other-among d.name kept (subst (λ ks. AreOther d.name ks) (sym fewer) (kept_other h.0 b ds xs h.2 d.name h.5 (foreign_from d.name ds apart.0))))
+          ∙ other-among d.name kept
+          (subst (λ ks. AreOther d.name ks) (sym fewer)
+          (kept_other h.0 b ds xs h.2 d.name h.5 (foreign_from d.name ds apart.0))))
           fewer more
       | inr held ↦
           let one_more : kept ≡ d.name ∷ h.2 = h.3 ∙ ap (λ ks. ks ++ h.2) held.0 in

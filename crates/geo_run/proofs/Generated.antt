@@ -108,7 +108,8 @@ draws_add plan from i (suc n) x are few =
       disks = rest.disks;
       actors = rest.actors;
       commands =
-          let longer = length-append plan.commands (record { line = from; actor = line.actor; command = line.command } ∷ []) in
+          let longer = length-append plan.commands
+          (record { line = from; actor = line.actor; command = line.command } ∷ []) in
           omega (arith, rest.commands, longer);
     }
 

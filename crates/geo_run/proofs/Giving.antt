@@ -129,7 +129,8 @@ give_stays a b n x k name disk_kinds.Ram h other = stays_along a b name h.1
 give_stays a b n x k name disk_kinds.Shelf h other =
     elim h [
       | inl given ↦ record {
-        told = of_name a.told b.told name (IsGivenTo n x.held) (λ o v p. p.others name (λ e. other refl (sym e))) given.1.told;
+        told = of_name a.told b.told name (IsGivenTo n x.held) (λ o v p. p.others name (λ e. other refl (sym e)))
+            given.1.told;
         disks = given.1.disks.others name (λ e. other refl (sym e));
         takes = given.1.takes name;
         gives = given.1.gives name;

@@ -13,7 +13,8 @@ use Rattle.geo_elev.specs.Meshes.{MeshView, opened, world_of}
 
 -- disks that stand bring no bio and no handle
 stands_bios : (w : World) (items : List (ℕ × (DiskDecl × (ℕ × ℕ))))
-    → (fold (λ (v : World) (item : ℕ × (DiskDecl × (ℕ × ℕ))). stand v (item.0, disk_in_size item.1)) w items).bios ≡ w.bios
+    → (fold (λ (v : World) (item : ℕ × (DiskDecl × (ℕ × ℕ))). stand v (item.0, disk_in_size item.1)) w items).bios
+    ≡ w.bios
 stands_bios w [] = refl
 stands_bios w (x ∷ xs) = stands_bios (stand w (x.0, disk_in_size x.1)) xs
 

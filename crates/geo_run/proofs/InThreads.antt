@@ -134,7 +134,8 @@ in_mode mode follows due old (Some new) xs ys answer ran = record {
   follows = follows new.plan (opened new) (ending_after answer) new.log ran.follows;
   served = ran.served;
   rest = ran.rest;
-  full = λ e. let told = ran.full e in record { due = due new.plan (opened new) new.log told.due; nearly = told.nearly };
+  full = λ e. let told = ran.full e in
+      record { due = due new.plan (opened new) new.log told.due; nearly = told.nearly };
 }
 
 due_of_watch : (plan : Plan) (w : World) (log : List Entry) → DueIsFull RunMode plan w log

@@ -29,7 +29,7 @@ use Rattle.geo_run.specs.Ends.{HasNoShelfDisk, MeshRan, PlanCause, RunsPlan, ent
 use Rattle.geo_run.specs.Stops.{IsDue, ending_by, ending_of}
 use Rattle.geo_run.specs.Work.{mode_of}
 use Rattle.geo_run.proofs.Digits.{own}
-use Rattle.geo_run.proofs.Endings.{images_stand_same, images_stay_same, lent_still, others_still, told_still}
+use Rattle.geo_run.proofs.Untaken.{images_stand_same, images_stay_same, lent_still, others_still, told_still}
 use Rattle.geo_run.proofs.Visits.{none_failed, none_in_order}
 use Rattle.geo_run.proofs.Generated.{generated_in_memory, one_plan, plan_in, plan_or_fault}
 
@@ -163,9 +163,11 @@ early call mode plan ending read gave cause none shelf has not_whole none_missed
   is_opened = λ some. absurd (let bad : false ≡ true = subst (λ (l : Option (List Entry)). IsSome l) none some in cc);
   history = subst (λ (l : Option (List Entry)). IfSome l (KeepsHistory (opening plan call.facts))) (sym none) tt;
   to_its_end = λ whole. absurd (not_whole whole);
-  order = subst (λ (l : Option (List Entry)). IfSome l (FollowsMode mode plan (opening plan call.facts) ending)) (sym none) tt;
+  order = subst (λ (l : Option (List Entry)). IfSome l (FollowsMode mode plan (opening plan call.facts) ending))
+      (sym none) tt;
   fits = subst (λ (l : Option (List Entry)). IfSome l (Fits (opening plan call.facts))) (sym none) tt;
-  disks = subst (λ (l : Option (List Entry)). IfSome l (DisksAreKept plan call.before.shelf call.after.shelf)) (sym none) tt;
+  disks = subst (λ (l : Option (List Entry)). IfSome l (DisksAreKept plan call.before.shelf call.after.shelf))
+      (sym none) tt;
   lent = subst (λ (v : ShelfView). LentAfter ending call.before.shelf v) (sym shelf)
       (lent_still ending call.before.shelf (none_failed ending none_missed));
   reads = reads;
@@ -173,7 +175,8 @@ early call mode plan ending read gave cause none shelf has not_whole none_missed
       (told_still ending call.before.shelf (none_failed ending none_missed));
   in_order = subst (λ (v : ShelfView). CallsInOrder plan ending call.log call.before.shelf v) (sym shelf)
       (none_in_order plan ending call.log call.before.shelf none_missed none);
-  others = subst (λ (v : ShelfView). OthersStay plan call.before.shelf v) (sym shelf) (others_still plan call.before.shelf);
+  others = subst (λ (v : ShelfView). OthersStay plan call.before.shelf v) (sym shelf)
+      (others_still plan call.before.shelf);
   unasked = subst (λ (l : Option (List Entry)). IfNone l (NoneAsked call.before.shelf call.after.shelf)) (sym none)
       (λ name. record {
         faults = ap (λ (v : ShelfView). v.faults_of name) shelf;
@@ -186,8 +189,10 @@ early call mode plan ending read gave cause none shelf has not_whole none_missed
     sectors = ap (λ (v : ShelfView). v.sectors_of name) shelf;
   };
   images = subst (λ (l : Option (List Entry)). IfNone l (ImagesStayAt call ending)) (sym none)
-      (stay_at ending (subst (λ (v : ShelfView). ImagesStay call.before.shelf v) (sym shelf) (images_stay_same call.before.shelf)));
-  images_stand = subst (λ (v : ShelfView). ImagesStand call.before.shelf v) (sym shelf) (images_stand_same call.before.shelf);
+      (stay_at ending
+      (subst (λ (v : ShelfView). ImagesStay call.before.shelf v) (sym shelf) (images_stay_same call.before.shelf)));
+  images_stand = subst (λ (v : ShelfView). ImagesStand call.before.shelf v) (sym shelf)
+      (images_stand_same call.before.shelf);
   outside = record { source = source; shelf = λ which. shelf };
 }
   where
@@ -227,7 +232,8 @@ plan_cause call mode plan (Answered found) p h = absurd h
 plan_cause call mode plan (NoTrace line) p h = absurd h
 
 -- a run of a plan doesn't end before disks are taken
-not_before : (mode : Mode) (plan : Plan) (opened : World) (log : Option (List Entry)) (a b : ShelfView) (ending : Ending)
+not_before : (mode : Mode) (plan : Plan) (opened : World) (log : Option (List Entry)) (a b : ShelfView)
+    (ending : Ending)
     → PlanCause mode plan opened log a b ending → IsBeforeDisks ending → ⊥
 not_before mode plan opened log a b Reported h before = before
 not_before mode plan opened log a b (ReportedButFault name) h before = before
@@ -329,11 +335,15 @@ planned call mode plan ending read gave parsed ran source told none = record {
   outside = record {
     source = λ which. elim which [
       | inl gen ↦ source gen
-      | inr bad ↦ absurd (not_before mode plan (opening plan call.facts) call.log call.before.shelf call.after.shelf ending ran.cause (bad_is_before ending bad))
+      | inr bad ↦ absurd
+          (not_before mode plan (opening plan call.facts) call.log call.before.shelf call.after.shelf ending ran.cause
+          (bad_is_before ending bad))
     ];
     shelf = λ which. elim which [
       | inl gen ↦ ran.untouched (none gen)
-      | inr before ↦ absurd (not_before mode plan (opening plan call.facts) call.log call.before.shelf call.after.shelf ending ran.cause before)
+      | inr before ↦ absurd
+          (not_before mode plan (opening plan call.facts) call.log call.before.shelf call.after.shelf ending ran.cause
+          before)
     ];
   };
 }
@@ -341,14 +351,15 @@ planned call mode plan ending read gave parsed ran source told none = record {
 -- How a run finished
 
 -- the call of a run that finished so, whatever is then written
-abbrev pub finished : List (List ℕ) → Finish → SourceView → SourceView → ShelfView → ShelfView → ℕ → SinkView → SinkView → Call
+abbrev pub finished : List (List ℕ) → Finish → SourceView → SourceView → ShelfView → ShelfView → ℕ → SinkView → SinkView
+    → Call
 finished words finish source source_after shelf shelf_after status sink sink_after =
     call_of words (record { status = status; log = finish.log; facts = finish.facts }) (outside_of source sink shelf)
     (outside_of source_after sink_after shelf_after)
 
 -- whether the source was read whole doesn't depend on what is written
-read_again : (words : List (List ℕ)) (finish : Finish) (source source_after : SourceView) (shelf shelf_after : ShelfView)
-    (m n : ℕ) (sink other sink_after other_after : SinkView) (mode : Mode)
+read_again : (words : List (List ℕ)) (finish : Finish) (source source_after : SourceView)
+    (shelf shelf_after : ShelfView) (m n : ℕ) (sink other sink_after other_after : SinkView) (mode : Mode)
     → WasReadWhole (finished words finish source source_after shelf shelf_after m sink sink_after) mode
     → WasReadWhole (finished words finish source source_after shelf shelf_after n other other_after) mode
 read_again words finish source source_after shelf shelf_after m n sink other sink_after other_after mode w = by mode w
@@ -372,20 +383,24 @@ no_entries : (finish : Finish) → finish.log ≡ None → entries_in finish.log
 no_entries finish e = ap (λ l. entries_in l) e
 
 -- a run that stopped before a disk was taken
-pub stops_early : (words : List (List ℕ)) (finish : Finish) (source source_after : SourceView) (shelf shelf_after : ShelfView)
+pub stops_early : (words : List (List ℕ)) (finish : Finish) (source source_after : SourceView)
+    (shelf shelf_after : ShelfView)
     (mode : Mode) (stop : Stop) → Accepts words mode → EndsEarly finish stop shelf shelf_after
     → Gave source (added_to source.given source_after.given) source_after
     → ((status : ℕ) (sink sink_after : SinkView) (plan : Plan)
-    → CauseOf (finished words finish source source_after shelf shelf_after status sink sink_after) mode plan (ending_of stop))
+    → CauseOf (finished words finish source source_after shelf shelf_after status sink sink_after) mode plan
+    (ending_of stop))
     → HasLog (ending_of stop) None → (IsWhole (ending_of stop) → ⊥) → missed_by (ending_of stop) ≡ []
     → (IsGen mode ⊎ IsBadWords (ending_of stop) → source_after ≡ source)
     → (ending_of stop ≢ ReadFault → source_after.faults ≡ source.faults)
     → Finishes words finish source source_after shelf shelf_after
-stops_early words finish source source_after shelf shelf_after mode stop accepts ends gave cause has not_whole none_missed
+stops_early words finish source source_after shelf shelf_after mode stop accepts ends gave cause has not_whole
+    none_missed
     same told = record {
       mode = mode;
       plan = (read_as (finished words finish source source_after shelf shelf_after 0 none_yet none_yet) mode accepts).0;
-      due = subst (λ (due : Due). IsDue due (reported mode (added_to source.given source_after.given) plan finish.facts.items (entries_in finish.log)))
+      due = subst (λ (due : Due). IsDue due
+          (reported mode (added_to source.given source_after.given) plan finish.facts.items (entries_in finish.log)))
           (sym ends.due) tt;
       keeps = λ status sink sink_after.
           let e : ending_by finish.due ≡ ending_of stop = ap ending_by ends.due in
@@ -410,10 +425,12 @@ stops_early words finish source source_after shelf shelf_after mode stop accepts
     again status sink sink_after r = record {
       mode_is = r.mode_is;
       plan_is = λ w. r.plan_is
-          (read_again words finish source source_after shelf shelf_after status 0 sink none_yet sink_after none_yet mode w);
+          (read_again words finish source source_after shelf shelf_after status 0 sink none_yet sink_after none_yet mode
+          w);
       no_plan = r.no_plan;
       not_read = λ unread. r.not_read (λ w. unread
-          (read_again words finish source source_after shelf shelf_after 0 status none_yet sink none_yet sink_after mode w));
+          (read_again words finish source source_after shelf shelf_after 0 status none_yet sink none_yet sink_after mode
+          w));
     }
 
 -- a mode that opens a mesh, and takes no disk, makes its script
@@ -438,28 +455,30 @@ runs_text : (words : List (List ℕ)) (finish : Finish) (source source_after : S
     → script (script_of mode (added_to source.given source_after.given)) ≡ Ok plan
     → Gave source (added_to source.given source_after.given) source_after
     → RunsPlan mode plan finish.facts.items (entries_in finish.log) (ending_by finish.due) shelf shelf_after
-    → IsDue finish.due (reported mode (added_to source.given source_after.given) plan finish.facts.items (entries_in finish.log))
+    → IsDue finish.due
+    (reported mode (added_to source.given source_after.given) plan finish.facts.items (entries_in finish.log))
     → ((status : ℕ) (sink sink_after : SinkView)
     → WasReadWhole (finished words finish source source_after shelf shelf_after status sink sink_after) mode)
     → (IsGen mode → source_after ≡ source) → source_after.faults ≡ source.faults
     → (IsGen mode → HasNoShelfDisk plan)
     → Finishes words finish source source_after shelf shelf_after
-runs_text words finish source source_after shelf shelf_after mode plan opens accepts is gave ran due whole same told none = record {
-  mode = mode;
-  plan = plan;
-  due = due;
-  keeps = λ status sink sink_after.
-      let call = finished words finish source source_after shelf shelf_after status sink sink_after in
-      planned call mode plan (ending_by finish.due)
-      (read_as_whole call mode (Ok plan) accepts (whole status sink sink_after) is)
-      gave
-      (record { accepted = accepts; mesh = opens; read = whole status sink sink_after; script = is })
-      ran same told (λ no_disk. none (no_disk_taken mode opens no_disk));
-}
+runs_text words finish source source_after shelf shelf_after mode plan opens accepts is gave ran due whole same told
+    none = record {
+      mode = mode;
+      plan = plan;
+      due = due;
+      keeps = λ status sink sink_after.
+          let call = finished words finish source source_after shelf shelf_after status sink sink_after in
+          planned call mode plan (ending_by finish.due)
+          (read_as_whole call mode (Ok plan) accepts (whole status sink sink_after) is)
+          gave
+          (record { accepted = accepts; mesh = opens; read = whole status sink sink_after; script = is })
+          ran same told (λ no_disk. none (no_disk_taken mode opens no_disk));
+    }
 
 -- the end of a text by its reading
-pub of_text : (words : List (List ℕ)) (finish : Finish) (source source_after : SourceView) (shelf shelf_after : ShelfView)
-    (mode : Mode) (r : Result Plan Fault) → OpensMesh mode → Accepts words mode
+pub of_text : (words : List (List ℕ)) (finish : Finish) (source source_after : SourceView)
+    (shelf shelf_after : ShelfView) (mode : Mode) (r : Result Plan Fault) → OpensMesh mode → Accepts words mode
     → script (script_of mode (added_to source.given source_after.given)) ≡ r
     → Gave source (added_to source.given source_after.given) source_after
     → FinishesPlan (added_to source.given source_after.given) r mode finish shelf shelf_after
@@ -471,26 +490,31 @@ pub of_text : (words : List (List ℕ)) (finish : Finish) (source source_after :
     → (IsGen mode ⊎ ((status : ℕ) (sink sink_after : SinkView)
     → ReadsScript (finished words finish source source_after shelf shelf_after status sink sink_after) mode))
     → Finishes words finish source source_after shelf shelf_after
-of_text words finish source source_after shelf shelf_after mode (Ok plan) opens accepts is gave ends whole same told none no_fault reads =
-    runs_text words finish source source_after shelf shelf_after mode plan opens accepts is gave ends.0 ends.1 whole same told
-    (λ gen. none gen plan refl)
-of_text words finish source source_after shelf shelf_after mode (Err fault) opens accepts is gave ends whole same told none no_fault (inl gen) =
+of_text words finish source source_after shelf shelf_after mode (Ok plan) opens accepts is gave ends whole same told
+    none no_fault reads =
+    runs_text words finish source source_after shelf shelf_after mode plan opens accepts is gave ends.0 ends.1 whole
+    same told (λ gen. none gen plan refl)
+of_text words finish source source_after shelf shelf_after mode (Err fault) opens accepts is gave ends whole same told
+    none no_fault (inl gen) =
     absurd (no_fault gen fault refl)
-of_text words finish source source_after shelf shelf_after mode (Err fault) opens accepts is gave ends whole same told none no_fault (inr reads) =
+of_text words finish source source_after shelf shelf_after mode (Err fault) opens accepts is gave ends whole same told
+    none no_fault (inr reads) =
     stops_early words finish source source_after shelf shelf_after mode (stops.NoScript fault.line fault.cause)
     accepts ends gave
     (λ status sink sink_after plan. (reads status sink sink_after, whole status sink sink_after, is))
     refl (λ w. w) refl (λ which. elim which [ inl gen ↦ same gen | inr bad ↦ absurd bad ]) (λ other. told)
 
 -- memory ran out before the mesh opened
-pub no_memory : (words : List (List ℕ)) (finish : Finish) (source source_after : SourceView) (shelf shelf_after : ShelfView)
+pub no_memory : (words : List (List ℕ)) (finish : Finish) (source source_after : SourceView)
+    (shelf shelf_after : ShelfView)
     (mode : Mode) → Accepts words mode → EndsEarly finish stops.NoMemory shelf shelf_after
     → Gave source (added_to source.given source_after.given) source_after
     → (IsGen mode → source_after ≡ source) → source_after.faults ≡ source.faults
     → Finishes words finish source source_after shelf shelf_after
 no_memory words finish source source_after shelf shelf_after mode accepts ends gave same told =
     stops_early words finish source source_after shelf shelf_after mode stops.NoMemory accepts ends gave
-    (λ status sink sink_after plan. tt) tt (λ w. w) refl (λ which. elim which [ inl gen ↦ same gen | inr bad ↦ absurd bad ]) (λ other. told)
+    (λ status sink sink_after plan. tt) tt (λ w. w) refl
+    (λ which. elim which [ inl gen ↦ same gen | inr bad ↦ absurd bad ]) (λ other. told)
 
 -- the text that a source gave is what came behind what it had given
 pub text_is : (source source_after : SourceView) (text : List ℕ) → Gave source text source_after
@@ -516,15 +540,17 @@ pub finishes_generated : (words : List (List ℕ)) (finish : Finish) (source : S
     → FinishesText (generated start count) (GenMode start count) finish shelf shelf_after
     → Finishes words finish source source shelf shelf_after
 finishes_generated words finish source shelf shelf_after start count accepts (inl out) =
-    no_memory words finish source source shelf shelf_after (GenMode start count) accepts out (gave_nothing source) (λ gen. refl) refl
+    no_memory words finish source source shelf shelf_after (GenMode start count) accepts out (gave_nothing source)
+    (λ gen. refl) refl
 finishes_generated words finish source shelf shelf_after start count accepts (inr done) =
     of_text words finish source source shelf shelf_after (GenMode start count) (script (generated start count))
-    tt accepts refl (gave_nothing source) (aside (script (generated start count)) done) (λ status sink sink_after. tt) (λ gen. refl) refl
-    (λ gen plan e. generated_in_memory start count accepts.in_range plan e)
+    tt accepts refl (gave_nothing source) (aside (script (generated start count)) done) (λ status sink sink_after. tt)
+    (λ gen. refl) refl (λ gen plan e. generated_in_memory start count accepts.in_range plan e)
     (λ gen fault e. no_fault fault e)
     (inl tt)
   where
-    aside : (r : Result Plan Fault) → FinishesPlan (generated start count) r (GenMode start count) finish shelf shelf_after
+    aside : (r : Result Plan Fault)
+        → FinishesPlan (generated start count) r (GenMode start count) finish shelf shelf_after
         → FinishesPlan (added_to source.given source.given) r (GenMode start count) finish shelf shelf_after
     aside (Ok plan) h = (
       h.0,
@@ -551,12 +577,14 @@ pub finishes_none : (words : List (List ℕ)) (finish : Finish) (source : Source
 finishes_none words finish source shelf none due_is log_is = record {
   mode = StepMode;
   plan = empty_plan;
-  due = subst (λ (due : Due). IsDue due (reported StepMode (added_to source.given source.given) empty_plan finish.facts.items (entries_in finish.log)))
+  due = subst (λ (due : Due). IsDue due
+      (reported StepMode (added_to source.given source.given) empty_plan finish.facts.items (entries_in finish.log)))
       (sym due_is) tt;
   keeps = λ status sink sink_after.
       let call = finished words finish source source shelf shelf status sink sink_after in
       subst (λ (ending : Ending). KeepsInside call StepMode empty_plan ending) (sym (ap ending_by due_is))
-      (early call StepMode empty_plan BadWords (reading call refl refl) (gave_nothing source) none (no_entries finish log_is) refl
+      (early call StepMode empty_plan BadWords (reading call refl refl) (gave_nothing source) none
+      (no_entries finish log_is) refl
       refl (λ w. w) refl (λ which. refl) (λ other. refl));
 }
   where

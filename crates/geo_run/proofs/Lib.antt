@@ -12,6 +12,7 @@ pub mod Outs
 pub mod Visits
 pub mod Planned
 pub mod Courses
+pub mod Untaken
 pub mod Endings
 pub mod Plans
 pub mod Generated

@@ -78,8 +78,8 @@ next_out s names n name x xs lt at out =
     (drop_more names n name lt ∙ ap (λ m. m ∷ drop (n + 1) names) (sym at)) out
 
 -- one more was given back
-pub gives_next : (a b c : ShelfView) (names : List (List ℕ)) (n : ℕ) (name : List ℕ) (xs : List DriveView) (x : DriveView)
-    (kept k : List (List ℕ)) → n < length names → name ≡ get_or names n name
+pub gives_next : (a b c : ShelfView) (names : List (List ℕ)) (n : ℕ) (name : List ℕ) (xs : List DriveView)
+    (x : DriveView) (kept k : List (List ℕ)) → n < length names → name ≡ get_or names n name
     → GivesBack a (take n names) xs kept b → GivesDrive b name x k c (kind_of x)
     → GivesBack a (take (n + 1) names) (xs ++ x ∷ []) (kept ++ k) c
 gives_next a b c names n name xs x kept k lt at given one =
@@ -88,7 +88,8 @@ gives_next a b c names n name xs x kept k lt at given one =
     (gives_more a b c (take n names) name xs x kept k given one)
 
 -- the first that is kept stays the first
-pub first_stays : (kept k : List (List ℕ)) (name : List ℕ) → slice_get kept 0 ≡ Some name → slice_get (kept ++ k) 0 ≡ Some name
+pub first_stays : (kept k : List (List ℕ)) (name : List ℕ) → slice_get kept 0 ≡ Some name
+    → slice_get (kept ++ k) 0 ≡ Some name
 first_stays [] k name e = absurd (let bad : None ≡ Some name = e in cc)
 first_stays (n ∷ kept) k name e = e
 
@@ -109,8 +110,8 @@ none_kept [] e = refl
 none_kept (n ∷ kept) e = absurd (let bad : Some n ≡ None = e in cc)
 
 -- each drive is given back in turn
-pub gave_next : (a b c : ShelfView) (names : List (List ℕ)) (n : ℕ) (name : List ℕ) (xs : List DriveView) (x : DriveView)
-    (first next : Option (List ℕ)) (given : Bool) → n < length names → name ≡ get_or names n name
+pub gave_next : (a b c : ShelfView) (names : List (List ℕ)) (n : ℕ) (name : List ℕ) (xs : List DriveView)
+    (x : DriveView) (first next : Option (List ℕ)) (given : Bool) → n < length names → name ≡ get_or names n name
     → next ≡ first_kept first given name
     → (kept : List (List ℕ)) × (first ≡ slice_get kept 0) × GivesBack a (take n names) xs kept b
     → GivesDrive b name x (kept_name given name) c (kind_of x)
@@ -159,7 +160,8 @@ opens_item f a b c ds i d items more x lt at e opens one =
 
 -- the next item is out
 pub item_out : {X : Type 0} (f : X → DriveView) (s : ShelfView) (names : List (List ℕ)) (n : ℕ) (left : List X) (x : X)
-    (rest : List X) → left ≡ x ∷ rest → AreOut s (drop n names) (map f left) → AreOut s (drop n names) (f x ∷ map f rest)
+    (rest : List X) → left ≡ x ∷ rest → AreOut s (drop n names) (map f left)
+    → AreOut s (drop n names) (f x ∷ map f rest)
 item_out f s names n left x rest e out = subst (λ xs. AreOut s (drop n names) (map f xs)) e out
 
 -- one item more was given back

@@ -81,7 +81,8 @@ swept old left xs ys answer r = ran_in SweepMode old left xs ys answer (λ plan 
 pub drawn : (start count : ℕ) (old : MeshView) (left : Option MeshView) (xs ys : List DriveView)
     (answer : Result (Unit {0}) DrainRefusal) → RanAlone fixed_order old left xs ys answer
     → RanOrNot (GenMode start count) old left xs ys answer
-drawn start count old left xs ys answer r = ran_in (GenMode start count) old left xs ys answer (λ plan w ending log f. f) r
+drawn start count old left xs ys answer r =
+    ran_in (GenMode start count) old left xs ys answer (λ plan w ending log f. f) r
 
 -- The report
 

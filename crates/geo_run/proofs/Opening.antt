@@ -100,8 +100,8 @@ pub script_stops : (text : List ℕ) (plan : Plan) (stop : Stop) (a b : ShelfVie
 script_stops text plan stop a b is stops mode finish due log =
     text_ran text mode finish plan a b is
     (subst (λ (d : Due). RunsPlan mode plan finish.facts.items (entries_in finish.log) (ending_by d) a b) (sym due)
-    (subst (λ (l : Option (Room Entry)). RunsPlan mode plan finish.facts.items (entries_in l) (ending_of stop) a b) (sym log)
-    (stops mode finish.facts.items)))
+    (subst (λ (l : Option (Room Entry)). RunsPlan mode plan finish.facts.items (entries_in l) (ending_of stop) a b)
+    (sym log) (stops mode finish.facts.items)))
     (subst (λ (d : Due). IsDue d (reported mode text plan finish.facts.items (entries_in finish.log))) (sym due) tt)
 
 pub script_stops_if : {T : Type 0} (r : Result T Stop) (text : List ℕ) (plan : Plan) (a b : ShelfView)
@@ -118,7 +118,8 @@ pub script_ran : (text : List ℕ) (mode : Mode) (mesh : MeshView) (left : Optio
     → FinishesRun mode text names left facts ys answer finish m b → FinishesText text mode finish a b
 script_ran text mode mesh left facts names xs ys answer finish a m b (is, o) ran closes =
     text_ran text mode finish mesh.plan a b is
-    (runs_plan mode mesh.plan finish.facts.items (entries_in finish.log) (ending_by finish.due) xs a m b o.is_plan o.opens
+    (runs_plan mode mesh.plan finish.facts.items (entries_in finish.log) (ending_by finish.due) xs a m b o.is_plan
+    o.opens
     (subst (λ (ns : List (List ℕ)). RunsDrives mode mesh.plan ns xs finish.facts.items (entries_in finish.log)
     (ending_by finish.due) m b) o.named (closes.runs mesh xs ran o.facts_are o.sizes)))
     (closes.due mesh xs ran o.facts_are o.sizes)

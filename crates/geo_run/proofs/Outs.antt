@@ -39,7 +39,8 @@ all_out a b (d ∷ ds) (x ∷ xs) counts apart lent h = (
     more disk_kinds.Ram name c = c
     more disk_kinds.Shelf name c = contains_more d.name name (shelf_names ds) c
 
-    one : (kind : DiskKind) → ((name : List ℕ) → Contains (with_shelf kind d.name (shelf_names ds)) name → Contains b.lent name)
+    one : (kind : DiskKind)
+        → ((name : List ℕ) → Contains (with_shelf kind d.name (shelf_names ds)) name → Contains b.lent name)
         → IsHad a b d x kind → kind_of x ≡ disk_kinds.Shelf → IsOut b d.name x
     one disk_kinds.Ram l had s = absurd (let bad : disk_kinds.Ram ≡ disk_kinds.Shelf = sym had.kind ∙ s in cc)
     one disk_kinds.Shelf l had s = record {

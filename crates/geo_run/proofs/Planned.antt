@@ -62,7 +62,8 @@ kinds_served log n [] [] (y ∷ ys) k s = absurd s
 kinds_served log n [] (x ∷ xs) ys k s = absurd k
 kinds_served log n (d ∷ ds) [] ys k s = absurd k
 kinds_served log n (d ∷ ds) (x ∷ xs) [] k s = absurd s
-kinds_served log n (d ∷ ds) (x ∷ xs) (y ∷ ys) k s = (ap kind_by s.0.kind ∙ k.0, kinds_served log (n + 1) ds xs ys k.1 s.1)
+kinds_served log n (d ∷ ds) (x ∷ xs) (y ∷ ys) k s =
+    (ap kind_by s.0.kind ∙ k.0, kinds_served log (n + 1) ds xs ys k.1 s.1)
 
 fact_had : (a b : ShelfView) (d : DiskDecl) (x : DriveView) (kind : DiskKind) → d.kind ≡ kind → IsDiskDecl d
     → IsHad a b d x kind → IsFact d (size_of x)
@@ -71,7 +72,8 @@ fact_had a b d x disk_kinds.Ram k decl h =
     subst (λ (q : DiskKind). HasHeaderSectors q d.sector d.sectors) k decl.sectors in
     let few : d.sectors * d.sector ≤ MAX_MEMORY_DISK_BYTES = sizes.1 in
     let some : 1 ≤ d.sectors = sizes.0 in
-    let prod : x.count * x.sector ≡ d.sectors * d.sector = ap (λ n. n * x.sector) h.count ∙ ap (λ n. d.sectors * n) h.sector in
+    let prod : x.count * x.sector ≡ d.sectors * d.sector =
+    ap (λ n. n * x.sector) h.count ∙ ap (λ n. d.sectors * n) h.sector in
     record {
       sector = h.sector;
       sectors = subst (λ (q : DiskKind). HasPlanSectors q d.sectors x.count) (sym k) h.count;
@@ -96,7 +98,8 @@ facts_had a b (d ∷ ds) (x ∷ xs) decls h =
 
 -- What was there
 
-image_told : (d : DiskDecl) (x : DriveView) (a b : Option Images) → OfName a b d.name (WentInto d x) → IfSome a (HasImage d)
+image_told : (d : DiskDecl) (x : DriveView) (a b : Option Images) → OfName a b d.name (WentInto d x)
+    → IfSome a (HasImage d)
 image_told d x None b h = tt
 image_told d x (Some u) None h = absurd h.is
 image_told d x (Some u) (Some v) h = by (u d.name) h.is.0
@@ -207,7 +210,8 @@ shelf_kept a m b log n d x y kept had served given = record {
   where
     told : ((u v w : Option (List ℕ)) → WentInto d x u v → HasSectors y v w
         → IsSomeAnd u (λ bytes. w ≡ Some (image_after log (record { number = n; decl = d }) bytes)))
-        → OfName a.told b.told d.name (λ u w. IsSomeAnd u (λ bytes. w ≡ Some (image_after log (record { number = n; decl = d }) bytes)))
+        → OfName a.told b.told d.name
+        (λ u w. IsSomeAnd u (λ bytes. w ≡ Some (image_after log (record { number = n; decl = d }) bytes)))
     told f = chain a.told m.told b.told d.name f had.image given.told
 
     told_too : ((u v w : Option (List ℕ)) → WentInto d x u v → HasSectors y v w

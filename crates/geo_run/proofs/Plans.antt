@@ -30,7 +30,8 @@ pub decls_all : (plan : Plan) (ds : List DiskDecl) → IsPlan plan → ds ≡ pl
 decls_all plan ds is e = subst (λ (es : List DiskDecl). All IsDiskDecl es) (sym e) is.disks
 
 -- the sizes of the drives fit the plan
-pub sizes_fit : (plan : Plan) (ds : List DiskDecl) (xs : List DriveView) (a m : ShelfView) → IsPlan plan → ds ≡ plan.disks
+pub sizes_fit : (plan : Plan) (ds : List DiskDecl) (xs : List DriveView) (a m : ShelfView) → IsPlan plan
+    → ds ≡ plan.disks
     → OpensDrives a ds xs m → FactsFit plan (map size_of xs)
 sizes_fit plan ds xs a m is e opens =
     let moved : OpensDrives a plan.disks xs m = subst (λ (es : List DiskDecl). OpensDrives a es xs m) e opens in
@@ -53,16 +54,17 @@ plan_ran mode plan ds names facts log ending xs a m b is e named opens ran =
     (named ∙ ap (λ (es : List DiskDecl). names_of es) e) ran)
 
 -- a plan whose disks couldn't be had
-pub plan_stopped : (mode : Mode) (plan : Plan) (ds : List DiskDecl) (facts : List (ℕ × ℕ)) (log : Option (Room Entry)) (due : Due)
-    (stop : Stop) (a b : ShelfView) → IsPlan plan → ds ≡ plan.disks → TakesBack a ds stop b
+pub plan_stopped : (mode : Mode) (plan : Plan) (ds : List DiskDecl) (facts : List (ℕ × ℕ)) (log : Option (Room Entry))
+    (due : Due) (stop : Stop) (a b : ShelfView) → IsPlan plan → ds ≡ plan.disks → TakesBack a ds stop b
     → due ≡ dues.Stopped stop → log ≡ None → RunsPlan mode plan facts (entries_in log) (ending_by due) a b
 plan_stopped mode plan ds facts log due stop a b is e takes due_is log_is =
     subst (λ (d : Due). RunsPlan mode plan facts (entries_in log) (ending_by d) a b) (sym due_is)
-    (subst (λ (l : Option (Room Entry)). RunsPlan mode plan facts (entries_in l) (ending_by (dues.Stopped stop)) a b) (sym log_is)
+    (subst (λ (l : Option (Room Entry)). RunsPlan mode plan facts (entries_in l) (ending_by (dues.Stopped stop)) a b)
+    (sym log_is)
     (runs_stopped mode plan facts stop a b is (subst (λ (es : List DiskDecl). TakesBack a es stop b) e takes)))
 
 -- no report is due where a run stopped
-pub stopped_due : (mode : Mode) (text : List ℕ) (plan : Plan) (facts : List (ℕ × ℕ)) (log : Option (Room Entry)) (due : Due)
-    (stop : Stop) → due ≡ dues.Stopped stop → IsDue due (reported mode text plan facts (entries_in log))
+pub stopped_due : (mode : Mode) (text : List ℕ) (plan : Plan) (facts : List (ℕ × ℕ)) (log : Option (Room Entry))
+    (due : Due) (stop : Stop) → due ≡ dues.Stopped stop → IsDue due (reported mode text plan facts (entries_in log))
 stopped_due mode text plan facts log due stop e =
     subst (λ (d : Due). IsDue d (reported mode text plan facts (entries_in log))) (sym e) tt

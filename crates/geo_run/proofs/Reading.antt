@@ -59,7 +59,8 @@ text_faulty text mode finish refusal line cause a answer is due log =
     (early_end finish (stops.NoScript line cause) a due log))
 
 -- memory ran out before a mesh opened
-pub text_lost : (text : List ℕ) (mode : Mode) (finish : Finish) (a : ShelfView) → finish.due ≡ dues.Stopped stops.NoMemory
+pub text_lost : (text : List ℕ) (mode : Mode) (finish : Finish) (a : ShelfView)
+    → finish.due ≡ dues.Stopped stops.NoMemory
     → finish.log ≡ None → FinishesText text mode finish a a
 text_lost text mode finish a due log = inl (early_end finish stops.NoMemory a due log)
 

@@ -114,7 +114,8 @@ pub ran_drives : (mode : Mode) (read : List ℕ) (old new : MeshView) (left : Op
     → (kept : List (List ℕ)) × (first ≡ slice_get kept 0) × GivesBack a names ys kept b
     → facts ≡ old.facts → old.facts ≡ map size_of xs → log ≡ Some entries → entries.items ≡ new.log
     → RunsDrives mode old.plan names xs facts (entries_in log) (ending_by due) a b
-ran_drives mode read old new left xs ys answer first due names facts log entries a b some ran is given same_facts sizes log_is items =
+ran_drives mode read old new left xs ys answer first due names facts log entries a b some ran is given same_facts sizes
+    log_is items =
     moved (ap (λ l. entries_in l) log_is ∙ ap (λ (l : List Entry). Some l) items) (same_facts ∙ sym its.facts)
   where
     its : Ran mode old new xs ys answer
@@ -167,7 +168,8 @@ pub gave_back : (mode : Mode) (plan : Plan) (names : List (List ℕ)) (xs : List
     → RunsDrives mode plan names xs facts (entries_in log) (ending_by due) a b
 gave_back mode plan names xs facts log due a b due_is log_is first given =
     subst (λ (d : Due). RunsDrives mode plan names xs facts (entries_in log) (ending_by d) a b) (sym due_is)
-    (subst (λ (l : Option (Room Entry)). RunsDrives mode plan names xs facts (entries_in l) OutOfMemory a b) (sym log_is)
+    (subst (λ (l : Option (Room Entry)). RunsDrives mode plan names xs facts (entries_in l) OutOfMemory a b)
+    (sym log_is)
     (record {
       served = xs;
       kept = given.0;

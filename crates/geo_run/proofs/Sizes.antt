@@ -28,7 +28,8 @@ times_more : (n size : ℕ) → n * size + size ≡ suc n * size
 times_more n size = grind arith
 
 -- the bytes of sectors that were cut are the bytes, where they are whole sectors
-pub joined_cut : (n size : ℕ) (bytes : List ℕ) → n * size ≡ length bytes → joined_sectors (cut_into n size bytes) ≡ bytes
+pub joined_cut : (n size : ℕ) (bytes : List ℕ) → n * size ≡ length bytes
+    → joined_sectors (cut_into n size bytes) ≡ bytes
 joined_cut zero size [] e = refl
 joined_cut zero size (b ∷ bytes) e = absurd (let bad : zero * size ≡ suc (length bytes) = e in grind arith)
 joined_cut (suc n) size bytes e =
@@ -40,7 +41,8 @@ joined_cut (suc n) size bytes e =
 -- the sectors of an image are its bytes
 pub joined_image : (size : ℕ) (bytes : List ℕ) → IsSectorSize size → IsDiskSize size (length bytes)
     → joined_sectors (sectors_of size bytes) ≡ bytes
-joined_image size bytes is fits = joined_cut (length bytes / size) size bytes (whole_bytes size (length bytes) is fits.whole)
+joined_image size bytes is fits =
+    joined_cut (length bytes / size) size bytes (whole_bytes size (length bytes) is fits.whole)
 
 -- each of them has its size
 cut_whole : (n size : ℕ) (bytes : List ℕ) → n * size ≤ length bytes
@@ -64,7 +66,8 @@ joined_length : (size : ℕ) (sectors : List (List ℕ)) → AllByRecursion (λ 
     → length (joined_sectors sectors) ≡ length sectors * size
 joined_length size [] all = let e : 0 ≡ 0 * size = omega arith in e
 joined_length size (s ∷ ss) all =
-    let both : length (s ++ joined_sectors ss) ≡ length s + length (joined_sectors ss) = length-append s (joined_sectors ss) in
+    let both : length (s ++ joined_sectors ss) ≡ length s + length (joined_sectors ss) =
+    length-append s (joined_sectors ss) in
     let more : length (joined_sectors ss) ≡ length ss * size = joined_length size ss all.1 in
     let one : length s ≡ size = all.0 in
     let sum : size + length ss * size ≡ suc (length ss) * size = suc_mul (length ss) size in
@@ -87,13 +90,15 @@ zeros_cut (suc n) size =
     let enough : size ≤ suc n * size = omega (arith, more) in
     let left : suc n * size - size ≡ n * size = omega (arith, more) in
     ap (λ s. s ∷ cut_into n size (drop size (replicate (suc n * size) 0))) (take-replicate size (suc n * size) 0 enough)
-    ∙ ap (λ bs. replicate size 0 ∷ cut_into n size bs) (drop-replicate size (suc n * size) 0 ∙ ap (λ k. replicate k 0) left)
+    ∙ ap (λ bs. replicate size 0 ∷ cut_into n size bs)
+    (drop-replicate size (suc n * size) 0 ∙ ap (λ k. replicate k 0) left)
     ∙ ap (λ ss. replicate size 0 ∷ ss) (zeros_cut n size)
 
 -- zeros are sectors of zeros
 pub zeros_are : (size n : ℕ) → IsSectorSize size → sectors_of size (replicate (size * n) 0) ≡ zero_sectors n size
 zeros_are size n is =
-    ap (λ k. cut_into k size (replicate (size * n) 0)) (ap (λ k. k / size) (length-replicate (size * n) 0) ∙ quotient is)
+    ap (λ k. cut_into k size (replicate (size * n) 0))
+    (ap (λ k. k / size) (length-replicate (size * n) 0) ∙ quotient is)
     ∙ ap (λ k. cut_into n size (replicate k 0)) (let e : size * n ≡ n * size = grind arith in e)
     ∙ zeros_cut n size
   where
@@ -117,7 +122,8 @@ pub made_zero : (d : DiskDecl) (m : Memory) (bytes fails : List ℕ) → IsDiskD
     } → IsZeroDisk d m
 made_zero d m bytes fails decl e none is = record {
   sector = ap (λ (x : Memory). x.sector) is;
-  sectors = ap (λ (x : Memory). x.sectors) is ∙ ap (λ bs. sectors_of d.sector bs) e ∙ zeros_are d.sector d.sectors decl.sector;
+  sectors = ap (λ (x : Memory). x.sectors) is ∙ ap (λ bs. sectors_of d.sector bs) e
+      ∙ zeros_are d.sector d.sectors decl.sector;
   faults = ap (λ (x : Memory). x.faults) is;
   fails = ap (λ (x : Memory). x.fails) is ∙ none;
 }

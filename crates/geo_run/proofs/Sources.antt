@@ -75,7 +75,8 @@ module _ (words : List (List ℕ)) (mode : Mode) (finish : Finish) (source sourc
   asked : (status : ℕ) (sink sink_after : SinkView)
       → ReadsScript (finished words finish source source_after shelf shelf_after status sink sink_after) mode
   asked status sink sink_after =
-      reads_script (finished words finish source source_after shelf shelf_after status sink sink_after) mode not_gen accepts
+      reads_script (finished words finish source source_after shelf shelf_after status sink sink_after) mode not_gen
+      accepts
 
   pub unread_stops : (stop : Stop)
       → UnreadCause (source_limit mode) (added_to source.given source_after.given) source source_after stop
@@ -232,15 +233,18 @@ found_finishes words finish source source_after shelf shelf_after accepts ends =
     by : (stop : Stop) → IsFoundIn (verified text) stop → EndsEarly finish stop shelf shelf_after
         → Finishes words finish source source_after shelf shelf_after
     by (stops.Answered answer) found early =
-        stops_early words finish source source_after shelf shelf_after VerifyMode (stops.Answered answer) accepts early gave
+        stops_early words finish source source_after shelf shelf_after VerifyMode (stops.Answered answer) accepts early
+        gave
         (λ status sink sink_after plan. (accepts, whole status sink sink_after, found)) refl (λ w. w) refl no_gen
         (λ other. ends.whole.told)
     by (stops.NoTrace line) found early =
-        stops_early words finish source source_after shelf shelf_after VerifyMode (stops.NoTrace line) accepts early gave
+        stops_early words finish source source_after shelf shelf_after VerifyMode (stops.NoTrace line) accepts early
+        gave
         (λ status sink sink_after plan. (accepts, whole status sink sink_after, found)) refl (λ w. w) refl no_gen
         (λ other. ends.whole.told)
     by (stops.NoScript line c) found early =
-        stops_early words finish source source_after shelf shelf_after VerifyMode (stops.NoScript line c) accepts early gave
+        stops_early words finish source source_after shelf shelf_after VerifyMode (stops.NoScript line c) accepts early
+        gave
         (λ status sink sink_after plan. (accepts, whole status sink sink_after, script_first text line c found)) refl
         (λ w. w) refl no_gen (λ other. ends.whole.told)
     by stops.NoMemory found early =

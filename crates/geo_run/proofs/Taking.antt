@@ -73,7 +73,8 @@ pub take_stays : (a b : ShelfView) (d : DiskDecl) (x : DriveView) (name : List �
     → OpensDrive a d x b kind → (IsShelf kind → d.name ≢ name) → NameStays a b name
 take_stays a b d x name disk_kinds.Ram h other = stays_along a b name h.1
 take_stays a b d x name disk_kinds.Shelf h other = record {
-  told = of_name a.told b.told name (IsTakenFrom d.name d.sector x.held) (λ o n p. p.others name (λ e. other refl (sym e))) h.told;
+  told = of_name a.told b.told name (IsTakenFrom d.name d.sector x.held)
+      (λ o n p. p.others name (λ e. other refl (sym e))) h.told;
   disks = h.counts.disks name;
   takes = h.counts.takes name;
   gives = h.counts.gives name;
@@ -210,7 +211,12 @@ had_before a b c d x e y disk_kinds.Shelf h other had =
       asked = had.asked ∙ kept.asked;
       counted = had.counted;
       image = chain a.told b.told c.told e.name
-          (λ u v w p q. (subst (λ o. IsSomeAnd o (λ bytes. IsDiskSize e.sector (length bytes) × (y.held ≡ Some (sectors_of e.sector bytes)))) p q.0, q.1))
+          (λ u v w p q. (
+            subst (λ o.
+                IsSomeAnd o (λ bytes. IsDiskSize e.sector (length bytes) × (y.held ≡ Some (sectors_of e.sector bytes))))
+                p q.0,
+            q.1,
+          ))
           kept.told had.image;
     }
 
@@ -239,7 +245,8 @@ had_first a b c d x disk_kinds.Shelf h kept = record {
   asked = h.asked;
   counted = h.counted;
   image = chain a.told b.told c.told d.name (λ u v w p q. (p.0, q ∙ p.1))
-      (of_name a.told b.told d.name (IsTakenFrom d.name d.sector x.held) {F = WentInto d x} (λ o n p. (p.bytes, p.gone)) h.told) kept.told;
+      (of_name a.told b.told d.name (IsTakenFrom d.name d.sector x.held) {F = WentInto d x} (λ o n p. (p.bytes, p.gone))
+      h.told) kept.told;
 }
 
 -- what each drive is

@@ -43,7 +43,8 @@ gives_told a b (d ∷ ds) (x ∷ xs) kept name apart h =
     failed one_more (inl e) own others more =
         subst (λ (n : List ℕ). b.give_faults n ≡ counted_if (list_any (bytes_eq n) kept) (a.give_faults n)) e
         ((gives_stay h.0 b ds xs h.2 d.name h.5 (foreign_from d.name ds apart.0)).gives ∙ own
-        ∙ ap (λ (t : Bool). counted_if (t || list_any (bytes_eq d.name) h.2) (a.give_faults d.name)) (sym (same_itself d.name))
+        ∙ ap (λ (t : Bool). counted_if (t || list_any (bytes_eq d.name) h.2) (a.give_faults d.name))
+        (sym (same_itself d.name))
         ∙ ap (λ (ks : List (List ℕ)). counted_if (list_any (bytes_eq d.name) ks) (a.give_faults d.name)) (sym one_more))
     failed one_more (inr other) own others more =
         more ∙ ap (λ (n : ℕ). counted_if (list_any (bytes_eq name) h.2) n) (others name (λ e. other (sym e)))
@@ -63,7 +64,8 @@ gives_told a b (d ∷ ds) (x ∷ xs) kept name apart h =
     ]
 
 -- a give is no take
-pub gives_take_none : (a b : ShelfView) (ds : List DiskDecl) (xs : List DriveView) (kept : List (List ℕ)) (name : List ℕ)
+pub gives_take_none : (a b : ShelfView) (ds : List DiskDecl) (xs : List DriveView) (kept : List (List ℕ))
+    (name : List ℕ)
     → GivesAll a ds xs kept b → b.take_faults name ≡ a.take_faults name
 gives_take_none a b [] [] kept name h = ap (λ (v : ShelfView). v.take_faults name) h.1
 gives_take_none a b [] (x ∷ xs) kept name h = absurd h

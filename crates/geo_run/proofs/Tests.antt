@@ -75,7 +75,8 @@ other-from name (x ∷ names) none = (
 )
 
 -- no name of two lists is this one
-pub other-append : (name : List ℕ) (xs ys : List (List ℕ)) → AreOther name xs → AreOther name ys → AreOther name (xs ++ ys)
+pub other-append : (name : List ℕ) (xs ys : List (List ℕ)) → AreOther name xs → AreOther name ys
+    → AreOther name (xs ++ ys)
 other-append name [] ys none more = more
 other-append name (x ∷ xs) ys none more = (none.0, other-append name xs ys none.1 more)
 
@@ -89,21 +90,25 @@ other-back name [] ys none = none
 other-back name (x ∷ xs) ys none = other-back name xs ys none.1
 
 -- where a test of names passes, the name is among them
-pub among-contains : (name : List ℕ) (names : List (List ℕ)) → list_any (bytes_eq name) names ≡ true → Contains names name
+pub among-contains : (name : List ℕ) (names : List (List ℕ)) → list_any (bytes_eq name) names ≡ true
+    → Contains names name
 among-contains name [] e = absurd (let bad : false ≡ true = e in cc)
 among-contains name (x ∷ names) e = by (bytes_eq name x) refl (λ h. among-contains name names h) e
   where
     by : (t : Bool) → bytes_eq name x ≡ t → (list_any (bytes_eq name) names ≡ true → Contains names name)
         → (t || list_any (bytes_eq name) names) ≡ true → Contains (x ∷ names) name
-    by true same more h = subst (λ (n : List ℕ). Contains (x ∷ names) n) (sym (same_names name x same)) (contains_first x names)
+    by true same more h =
+        subst (λ (n : List ℕ). Contains (x ∷ names) n) (sym (same_names name x same)) (contains_first x names)
     by false other more h = contains_more x name names (more h)
 
 -- where a name is among them, the test passes
-pub contains-among : (name : List ℕ) (names : List (List ℕ)) → Contains names name → list_any (bytes_eq name) names ≡ true
+pub contains-among : (name : List ℕ) (names : List (List ℕ)) → Contains names name
+    → list_any (bytes_eq name) names ≡ true
 contains-among name [] c = absurd (contains_none name c)
 contains-among name (x ∷ names) c =
     elim (contains_cases x name names c) [
-      | inl e ↦ ap (λ t. t || list_any (bytes_eq name) names) (subst (λ (n : List ℕ). bytes_eq name n ≡ true) (sym e) (same_itself name))
+      | inl e ↦ ap (λ t. t || list_any (bytes_eq name) names)
+          (subst (λ (n : List ℕ). bytes_eq name n ≡ true) (sym e) (same_itself name))
       | inr more ↦ or_right (bytes_eq name x) (list_any (bytes_eq name) names) (contains-among name names more)
     ]
 
@@ -111,7 +116,8 @@ contains-among name (x ∷ names) c =
 pub other-among : (name : List ℕ) (names : List (List ℕ)) → AreOther name names → list_any (bytes_eq name) names ≡ false
 other-among name [] others = refl
 other-among name (x ∷ names) others =
-    ap (λ t. t || list_any (bytes_eq name) names) (other_names name x (λ e. others.0 (sym e))) ∙ other-among name names others.1
+    ap (λ t. t || list_any (bytes_eq name) names) (other_names name x (λ e. others.0 (sym e)))
+    ∙ other-among name names others.1
 
 -- where no name is this one, taking it away changes nothing
 pub without_none : (name : List ℕ) (names : List (List ℕ)) → AreOther name names → without name names ≡ names
@@ -126,7 +132,8 @@ without_first name names =
     ap (λ t. if not t then name ∷ without name names else without name names) (same_itself name)
 
 -- names in two parts without one
-pub without_both : (name : List ℕ) (xs ys : List (List ℕ)) → without name (xs ++ ys) ≡ without name xs ++ without name ys
+pub without_both : (name : List ℕ) (xs ys : List (List ℕ))
+    → without name (xs ++ ys) ≡ without name xs ++ without name ys
 without_both name [] ys = refl
 without_both name (x ∷ xs) ys = by (bytes_eq name x) (without_both name xs ys)
   where

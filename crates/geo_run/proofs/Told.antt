@@ -4,7 +4,8 @@ use Rattle.geo_base.specs.Images.{Images}
 use Rattle.geo_disk.specs.Shelf.{WhereTold}
 
 -- a fact on what a name had and has, where it is told
-pub record OfName (old new : Option Images) (name : List ℕ) (F : Option (List ℕ) → Option (List ℕ) → Type 0) : Type 0 where
+pub record OfName (old new : Option Images) (name : List ℕ)
+    (F : Option (List ℕ) → Option (List ℕ) → Type 0) : Type 0 where
   pub is : IfSome old (λ had. IsSomeAnd new (λ has. F (had name) (has name)))
 
 -- a name has what it had
@@ -34,7 +35,8 @@ same None name = record { is = tt }
 same (Some x) name = record { is = refl }
 
 -- what doesn't change twice doesn't change
-pub same_twice : (a b c : Option Images) (name : List ℕ) → OfName a b name IsSame → OfName b c name IsSame → OfName a c name IsSame
+pub same_twice : (a b c : Option Images) (name : List ℕ) → OfName a b name IsSame → OfName b c name IsSame
+    → OfName a c name IsSame
 same_twice a b c name p q = chain a b c name (λ x y z s t. t ∙ s) p q
 
 -- a fact that follows

@@ -24,7 +24,8 @@ use Rattle.geo_run.proofs.Visits.{order_at_last}
 orders_at : (mode : Mode) (plan : Plan) (opened : World) (ending : Ending) (log : Option (List Entry))
     → IfSome log (FollowsMode mode plan opened ending) → IfSome log (FollowsMode mode plan opened OutOfMemory)
 orders_at mode plan opened ending None h = h
-orders_at mode plan opened ending (Some l) h = follows_at mode plan opened ending OutOfMemory l (λ whole. absurd whole) h
+orders_at mode plan opened ending (Some l) h =
+    follows_at mode plan opened ending OutOfMemory l (λ whole. absurd whole) h
 
 stay_at : (call : Call) (ending : Ending) → ImagesStayAt call ending → ImagesStayAt call OutOfMemory
 stay_at call OutOfMemory h = h
@@ -129,7 +130,8 @@ took : (call : Call) (status due : ℕ) (text : List ℕ) → Writes status due 
     → call.after.sink.taken ≡ call.before.sink.taken ++ call.written
 took call status due text w e =
     w.took ∙ ap (λ bs. call.before.sink.taken ++ bs)
-    (sym (e ∙ ap (λ bs. drop (length call.before.sink.taken) bs) w.took ∙ drop-append_seam call.before.sink.taken w.written))
+    (sym
+    (e ∙ ap (λ bs. drop (length call.before.sink.taken) bs) w.took ∙ drop-append_seam call.before.sink.taken w.written))
 
 -- no disk was asked, whatever the ending
 unasked_at : (call : Call) (ending : Ending) (log : Option (List Entry))
@@ -189,7 +191,8 @@ keeps_all call mode plan ending k w e = record {
 pub keeps : (words : List (List ℕ)) (finish : Finish) (status : ℕ) (source source_after : SourceView)
     (sink sink_after : SinkView) (shelf shelf_after : ShelfView)
     → (f : Finishes words finish source source_after shelf shelf_after)
-    → ((reported : List ℕ) → IsDue finish.due reported → WritesEnding reported (ending_by finish.due) status sink sink_after)
+    → ((reported : List ℕ) → IsDue finish.due reported
+    → WritesEnding reported (ending_by finish.due) status sink sink_after)
     → Keeps (call_of words (record { status = status; log = finish.log; facts = finish.facts })
     (outside_of source sink shelf) (outside_of source_after sink_after shelf_after))
 keeps words finish status source source_after sink sink_after shelf shelf_after f writes =
@@ -208,7 +211,8 @@ keeps words finish status source source_after sink sink_after shelf shelf_after 
     inside : KeepsInside call f.mode f.plan (ending_by finish.due)
     inside = f.keeps status sink sink_after
 
-    by : (actual : Ending) → (actual ≡ ending_by finish.due) ⊎ ((actual ≡ OutOfMemory) × IsTextMade (ending_by finish.due))
+    by : (actual : Ending)
+        → (actual ≡ ending_by finish.due) ⊎ ((actual ≡ OutOfMemory) × IsTextMade (ending_by finish.due))
         → Writes status (status_of actual) (due_text text actual) sink sink_after → Keeps call
     by actual (inl e) w = record {
       mode = f.mode;
@@ -239,7 +243,8 @@ pub call_keeps : (words : List (List ℕ)) (finish : Finish) (ended : Ended) (so
     → WritesEnding reported (ending_by finish.due) ended.status sink sink_after)
     → Keeps (call_of words ended (outside_of source sink shelf) (outside_of source_after sink_after shelf_after))
 call_keeps words finish ended source source_after sink sink_after shelf shelf_after f log facts writes =
-    subst (λ (e : Ended). Keeps (call_of words e (outside_of source sink shelf) (outside_of source_after sink_after shelf_after)))
+    subst (λ (e : Ended).
+    Keeps (call_of words e (outside_of source sink shelf) (outside_of source_after sink_after shelf_after)))
     (sym (ap (λ l. record ended { log = l }) log ∙ ap (λ fs. record ended { log = finish.log; facts = fs }) facts))
     (keeps words finish ended.status source source_after sink sink_after shelf shelf_after f writes)
 

@@ -79,7 +79,8 @@ stop_called a b d stop disk_kinds.Shelf h = h.called
 -- Gives
 
 -- so is a give, whether it fails or not
-give_called : (a b : ShelfView) (n : List ℕ) (x : DriveView) (k : List (List ℕ)) (rest : List (List ℕ)) (kind : DiskKind)
+give_called : (a b : ShelfView) (n : List ℕ) (x : DriveView) (k : List (List ℕ)) (rest : List (List ℕ))
+    (kind : DiskKind)
     → GivesDrive a n x k b kind → b.calls ++ gives_of rest ≡ a.calls ++ gives_of (with_shelf kind n rest)
 give_called a b n x k rest disk_kinds.Ram h = ap (λ (v : ShelfView). v.calls ++ gives_of rest) h.1
 give_called a b n x k rest disk_kinds.Shelf h =

@@ -22,7 +22,8 @@ cut_off due n text before after less took rose = record {
 }
   where
     some_left : drop n text ≢ []
-    some_left none = let h : length text - n ≡ 0 = sym (length-drop {A = ℕ} n text) ∙ ap length none in omega (arith, less, h)
+    some_left none = let h : length text - n ≡ 0 = sym (length-drop {A = ℕ} n text) ∙ ap length none in
+        omega (arith, less, h)
 
 -- the due text of an ending is written
 pub ends : (reported : List ℕ) (ending : Ending) (status : ℕ) (before after : SinkView)

@@ -30,7 +30,8 @@ entries_in log = option_map (λ (l : Room Entry). l.items) log
 -- Over drives that are out
 
 -- what a mesh of a plan did, as far as it came before the run ended so
-pub record MeshRan (mode : Mode) (plan : Plan) (facts : List (ℕ × ℕ)) (ending : Ending) (log : List Entry) : Type 0 where
+pub record MeshRan (mode : Mode) (plan : Plan) (facts : List (ℕ × ℕ)) (ending : Ending)
+    (log : List Entry) : Type 0 where
   pub history : KeepsHistory (opening plan facts) log
   pub fits : Fits (opening plan facts) log
   pub follows : FollowsMode mode plan (opening plan facts) ending log
@@ -50,8 +51,8 @@ Served None before after = after ≡ before
 Served (Some log) before after = ServeAll log 0 before after
 
 -- drives that were out served a mesh of the plan, as far as it came, and were given back
-pub record RunsDrives (mode : Mode) (plan : Plan) (names : List (List ℕ)) (drives : List DriveView) (facts : List (ℕ × ℕ))
-    (log : Option (List Entry)) (ending : Ending) (before after : ShelfView) : Type 0 where
+pub record RunsDrives (mode : Mode) (plan : Plan) (names : List (List ℕ)) (drives : List DriveView)
+    (facts : List (ℕ × ℕ)) (log : Option (List Entry)) (ending : Ending) (before after : ShelfView) : Type 0 where
   pub served : List DriveView
   pub kept : List (List ℕ)
   pub serves : Served log drives served

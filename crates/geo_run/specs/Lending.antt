@@ -73,7 +73,8 @@ TakeCause before d (stops.ShelfFault name) after = (name ≡ d.name) × Rose bef
 TakeCause before d (stops.NoDisk name) after =
     (name ≡ d.name) × IfSome before.told (λ images. images name ≡ None) × (after.faults ≡ before.faults)
 TakeCause before d (stops.BadSize name) after =
-    (name ≡ d.name) × IfSome before.told (λ images. IsSomeAnd (images name) (λ bytes. IsDiskSize d.sector (length bytes) → ⊥))
+    (name ≡ d.name)
+    × IfSome before.told (λ images. IsSomeAnd (images name) (λ bytes. IsDiskSize d.sector (length bytes) → ⊥))
     × (after.faults ≡ before.faults)
 TakeCause before d stops.NoMemory after = ⊤
 TakeCause before d _ after = ⊥

@@ -26,8 +26,8 @@ ending_after (Ok _) = Reported
 ending_after (Err refusals.LogFull) = LogFull
 ending_after (Err refusals.NoMemory) = OutOfMemory
 
--- one thread made the steps of a mesh that had none in an order, as far as the answer tells, and the drives did what its
--- log says
+-- one thread made the steps of a mesh that had none in an order, as far as the answer tells, and the drives did what
+-- its log says
 pub record RanAlone (order : StepOrder) (old : MeshView) (left : Option MeshView) (before after : List DriveView)
     (answer : Result (Unit {0}) DrainRefusal) : Type 0 where
   pub new : MeshView

@@ -82,9 +82,9 @@ fn undriven<D>(drives: Vec<Drive<D>>) -> Driven<D>
     }
 }
 
-/// Runs a mesh that has no step yet in threads, and then makes what they left. If `shown` is there, it is the mesh as it
-/// is printed before the first step: it is shown, and what was seen last comes back. Where memory is wanting before the
-/// first thread nothing is done.
+/// Runs a mesh that has no step yet in threads, and then makes what they left. If `shown` is there, it is the mesh as
+/// it is printed before the first step: it is shown, and what was seen last comes back. Where memory is wanting before
+/// the first thread nothing is done.
 fn run_in_threads<D: Disk + Drop + Send, R: Threads + Wait + Sync + AllocGlobal, G: Gate + Sync>(
     rt: &R,
     gate: &G,

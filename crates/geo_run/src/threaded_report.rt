@@ -24,8 +24,8 @@ use std::alloc::Global;
 pub enum ThreadedReport {
     /// The report: the word `run`.
     Run,
-    /// The report, and behind it the mesh as it was shown last: the word `watch`. `opening` is the mesh as it was printed
-    /// before the first step.
+    /// The report, and behind it the mesh as it was shown last: the word `watch`. `opening` is the mesh as it was
+    /// printed before the first step.
     Watch { opening: MeshList, seen: Seen },
     /// The trace: the word `trace`.
     Trace,

@@ -80,9 +80,9 @@ fn write_finish<K: Sink>(alloc: Global, finish: Finish, sink: &mut K) -> Ended
 /// that the source gives is run over the disks of the shelf by a thread for each of its actors and five more, and its
 /// report is written; on `trace` the same, and the trace of the run is written. The threads make the steps under one
 /// lock, as far as they come, and are joined; what they leave is made by the caller's. On `watch` the first actor's
-/// thread besides shows the mesh as it is printed, before the first step and at each `mesh` of its own that it makes, and
-/// one thread more looks at what is shown, without waiting; behind the report stands what was shown last. The gate may
-/// hold a thread at its places, for as long as it likes.
+/// thread besides shows the mesh as it is printed, before the first step and at each `mesh` of its own that it makes,
+/// and one thread more looks at what is shown, without waiting; behind the report stands what was shown last. The gate
+/// may hold a thread at its places, for as long as it likes.
 pub fn run<R: Threads + Wait + Sync + AllocGlobal, S: Source, K: Sink, H: Shelf, G: Gate + Sync>(
     rt: &R,
     words: &[String],

@@ -1,8 +1,7 @@
 -- So many sectors as bytes.
-use Rattle.std.proofs.Common.{◌≡◌, ℕ, ◌+◌, ◌*◌, ◌/◌, ◌%◌, ◌<◌, ◌≤◌, List, ◌++◌, length, take, drop, sym, ◌∙◌, ap, subst, arith}
+use Rattle.std.proofs.Common.{◌≡◌, ℕ, ◌+◌, ◌*◌, ◌/◌, ◌%◌, ◌<◌, ◌≤◌, List, length, take, sym, ◌∙◌, ap, subst}
 use Rattle.std.proofs.Math.Nat.{mul-div_cancel, mul-mod_left}
-use Rattle.std.proofs.lemmas.List.{length-take-le, take-append-le, take_all}
-use Rattle.geo_base.specs.Written.{written_over}
+use Rattle.std.proofs.lemmas.List.{length-take-le}
 use Rattle.geo_disk.specs.Disk.{AreSectors}
 
 -- the bytes of n sectors are n sectors
@@ -17,13 +16,6 @@ are_sectors sector count first n bytes some inside is = record {
   whole = ap (λ b. b % sector) is ∙ mul-mod_left n sector;
   inside = subst (λ k. first + k ≤ count) (sym (sectors_in sector n bytes some is)) inside;
 }
-
--- bytes that are wholly written over are the others
-pub all_written : (bytes others : List ℕ) → length others ≡ length bytes → written_over bytes others ≡ others
-all_written bytes others same =
-    ap (λ n. take n (others ++ drop (length others) bytes)) (sym same)
-    ∙ take-append-le (length others) others (drop (length others) bytes) (omega arith)
-    ∙ take_all (length others) others (omega arith)
 
 -- a room that was cut to some sectors has their bytes
 pub cut_length : (count sector size : ℕ) (room cut lent : List ℕ) → lent ≡ cut → cut ≡ take (count * size) room

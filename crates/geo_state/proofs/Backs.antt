@@ -2,6 +2,7 @@
 use Rattle.std.specs.Prelude.{◌≡◌, ℕ, ◌-◌, ◌≤◌, Bool, List, map, Option, Some, IsSome, IfSome}
 use Rattle.std.specs.Option.{option_map}
 use Rattle.std.proofs.Common.{refl, sym, ◌∙◌, ap, subst}
+use Rattle.geo_base.proofs.Options.{at-some}
 use Rattle.geo_model.specs.declared.step.Phase.{Phase}
 use Rattle.geo_model.specs.Graph.{AreNumbers}
 use Rattle.geo_model.specs.Topology.{consumer_at}
@@ -19,7 +20,6 @@ use Rattle.geo_state.specs.Bios.{CameThrough, CanLeave, IsOfItsOwner, OnlyBios, 
 use Rattle.geo_state.specs.Holds.{Holds}
 use Rattle.geo_state.specs.World.{header_disk}
 use Rattle.geo_state.proofs.Unseen.{InPhase}
-use Rattle.geo_state.proofs.Turns.{at-some-and}
 use Rattle.geo_state.proofs.Rises.{active-at, can-leave, holds-rose, rises, some-out}
 
 -- the bio in its phase is the one that is found
@@ -33,8 +33,8 @@ module _ (s : State) (b : ℕ) (x : BioOf Held) (log : ℕ → Option (List ℕ)
     (at : InPhase is_up s.traffic.bios b) (is : at.bio ≡ x) (came : CameThrough s b) (h : Holds s) where
   through : IsSome (consumer_at s.topo.topology x.source) × IsOfItsOwner s x.source x.owner
   through =
-      at-some-and (λ (y : BioOf Held). IsSome (consumer_at s.topo.topology y.source) × IsOfItsOwner s y.source y.owner)
-      (bio_among s.traffic.bios b) x found came
+      at-some (bio_among s.traffic.bios b)
+      (λ (y : BioOf Held). IsSome (consumer_at s.topo.topology y.source) × IsOfItsOwner s y.source y.owner) x found came
 
   -- its consumer is there
   pub back-lives : IsSome (consumer_at s.topo.topology x.source)

@@ -4,6 +4,7 @@ use Rattle.std.specs.List.{AllByRecursion}
 use Rattle.std.proofs.Common.{refl, sym, ◌∙◌, ap, subst, arith}
 use Rattle.std.proofs.lemmas.Bool.{eqb-true}
 use Rattle.std.proofs.lemmas.List.{map-append}
+use Rattle.geo_base.proofs.AllLists.{all_weaker}
 use Rattle.geo_model.specs.declared.span.Piece.{Piece}
 use Rattle.geo_model.specs.declared.step.Phase.TheVariants as phases
 use Rattle.geo_model.specs.Graph.{AreNumbers}
@@ -20,7 +21,7 @@ use Rattle.geo_state.specs.Trips.{Trip, trip_of, trips}
 use Rattle.geo_state.specs.Bios.{IsNoHandles, OnlyBios, all_out}
 use Rattle.geo_state.specs.Holds.{Holds}
 use Rattle.geo_state.specs.World.{header_disk}
-use Rattle.geo_state.proofs.Lists.{around-all, all-weaker}
+use Rattle.geo_state.proofs.Lists.{around-all}
 use Rattle.geo_state.proofs.TripLemmas.{trips-same}
 use Rattle.geo_state.proofs.Unseen.{InPhase, in-phase, down-is}
 use Rattle.geo_state.proofs.Moves.{kept-of, kept-children, holds-moved}
@@ -91,7 +92,7 @@ module _ (s new : State) (next b : ℕ) (x : BioOf Held) (pieces : List Piece) (
       (rw (seen, topo, handles, read, disks, own)
       (kept-children s.handles s.own.items s.read s.disks.items next x pieces targets s.topo (trips s.traffic.bios) 0
       same
-      (all-weaker (λ (z : ℕ × ℕ). IsNoHandles s z.0) (λ z. holding_handle s.handles.handles z.0 ≡ None)
+      (all_weaker (λ (z : ℕ × ℕ). IsNoHandles s z.0) (λ z. holding_handle s.handles.handles z.0 ≡ None)
       (λ z of. of.nobodys) targets through) (kept-of s h)))
       h
 
@@ -132,7 +133,7 @@ pub few-enough : (rows : List (ℕ × ℕ)) (k : ℕ) (zs : List (ℕ × ℕ)) �
     → AllByRecursion (λ (z : ℕ × ℕ). IfSome (value_at rows z.0) (λ n. n < 2 ^ 62)) zs
     → AllByRecursion (λ (z : ℕ × ℕ). IfSome (value_at rows z.0) (λ n. n + k ≤ 2 ^ 63)) zs
 few-enough rows k zs few all =
-    all-weaker (λ (z : ℕ × ℕ). IfSome (value_at rows z.0) (λ n. n < 2 ^ 62))
+    all_weaker (λ (z : ℕ × ℕ). IfSome (value_at rows z.0) (λ n. n < 2 ^ 62))
     (λ z. IfSome (value_at rows z.0) (λ n. n + k ≤ 2 ^ 63)) (λ z. on (value_at rows z.0)) zs all
   where
     on : (o : Option ℕ) → IfSome o (λ n. n < 2 ^ 62) → IfSome o (λ n. n + k ≤ 2 ^ 63)

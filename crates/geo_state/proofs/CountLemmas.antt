@@ -18,23 +18,6 @@ use Rattle.geo_state.specs.Cursors.{others, IsCursor, with_one, with_last, IsCou
 use Rattle.geo_state.proofs.OrderLemmas.{Rising, stands_at}
 use Rattle.geo_state.proofs.CursorLemmas.{stays, left, entered, count_stays, count_comes, count_goes, length_moved}
 
--- the phases that tests name
-pub down_is : (p : Phase) → is_down p ≡ true → p ≡ phases.Down
-down_is phases.Down e = refl
-down_is phases.Sent e = absurd cc
-down_is (phases.Busy seat) e = absurd cc
-down_is phases.Waiting e = absurd cc
-down_is phases.Up e = absurd cc
-down_is phases.Done e = absurd cc
-
-pub sent_is : (p : Phase) → is_sent p ≡ true → p ≡ phases.Sent
-sent_is phases.Down e = absurd cc
-sent_is phases.Sent e = refl
-sent_is (phases.Busy seat) e = absurd cc
-sent_is phases.Waiting e = absurd cc
-sent_is phases.Up e = absurd cc
-sent_is phases.Done e = absurd cc
-
 pub up_is : (p : Phase) → is_up p ≡ true → p ≡ phases.Up
 up_is phases.Down e = absurd cc
 up_is phases.Sent e = absurd cc

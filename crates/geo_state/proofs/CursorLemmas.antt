@@ -5,6 +5,7 @@ use Rattle.std.specs.Option.{option_map_or, option_eq}
 use Rattle.std.proofs.lemmas.Bool.{eqb-true, eq-eqb, ne_eqb, le-leb, lt-leb, leb-true, leb-false}
 use Rattle.std.proofs.lemmas.List.{length-append}
 use Rattle.std.proofs.lemmas.List.Sums.{count_by-le-length}
+use Rattle.geo_base.proofs.FindLists.{find_agree}
 use Rattle.geo_model.specs.declared.step.Phase.{Phase}
 use Rattle.geo_model.specs.World.{BioOf, change_number}
 use Rattle.geo_bio.specs.declared.bio.Held.{Held}
@@ -14,7 +15,7 @@ use Rattle.geo_state.specs.declared.cursor.Cursor.{Cursor}
 use Rattle.geo_state.specs.Traffic.{first_in, count_in}
 use Rattle.geo_state.specs.Cursors.{others, first_from, IsCursor, with_one}
 use Rattle.geo_state.proofs.OrderLemmas.{Rising, StandsAt, stands_at, others_are, change_is}
-use Rattle.geo_state.proofs.PhaseLemmas.{none_counted, find_agree, count_with, find_with_miss, first_with_hit, first_without_other, first_without_first}
+use Rattle.geo_state.proofs.PhaseLemmas.{none_counted, count_with, find_with_miss, first_with_hit, first_without_other, first_without_first}
 
 -- The walk from a number on
 

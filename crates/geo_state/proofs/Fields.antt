@@ -2,6 +2,8 @@
 use Rattle.std.specs.Prelude.{◌≡◌, ℕ, ◌==◌, Bool, true, false, List, [], ◌∷◌, Option, Some, None, map, IfSome, slice_get, if◌then◌else◌}
 use Rattle.std.proofs.Common.{refl, sym, ◌∙◌, ap, subst, eq-eqb}
 use Rattle.std.proofs.lemmas.Bool.{eqb-true}
+use Rattle.geo_base.proofs.Options.{if_some_weaker, at-found}
+use Rattle.geo_base.proofs.PlaceLists.{slot-same, slot-other, slot-seen}
 use Rattle.geo_model.specs.Topology.{Topology, Consumer}
 use Rattle.geo_model.specs.World.{Config, Handle}
 use Rattle.geo_mesh.specs.Topo.{TopoView}
@@ -14,25 +16,10 @@ use Rattle.geo_state.specs.Holds.{Holds, AreOut, AreOwn, AreSeats, IsSeat}
 use Rattle.geo_state.specs.World.{header_disk}
 use Rattle.geo_state.proofs.Unseen.{SameReads}
 use Rattle.geo_state.proofs.ReadyLemmas.{ready-same}
-use Rattle.geo_state.proofs.Slots.{slot-same, slot-other, slot-seen}
 
 -- numbers of which a test says that they differ
 pub apart : (m n : ℕ) → (m == n) ≡ false → m ≡ n → ⊥
 apart m n e same = let never : true ≡ false = sym (eq-eqb m n same) ∙ e in cc
-
--- a fact of what may be there, by each fact of it
-pub if-weaker : {X : Type 0} (P Q : X → Type 0) → ((x : X) → P x → Q x) → (o : Option X) → IfSome o P → IfSome o Q
-if-weaker P Q so None fact = fact
-if-weaker P Q so (Some x) fact = so x fact
-
--- a fact of what is there
-pub at-some : {X : Type 0} (P : X → Type 0) (o : Option X) (x : X) → o ≡ Some x → IfSome o P → P x
-at-some P o x is fact = rw is at fact
-
--- a fact of what may be there
-pub if-some : {X : Type 0} (P : X → Type 0) (o : Option X) → ((x : X) → o ≡ Some x → P x) → IfSome o P
-if-some P None so = tt
-if-some P (Some x) so = so x refl
 
 -- as many are out
 pub out-same : (t : TopoView Config) (xs ys : List Trip) → ((c : ℕ) → out_through ys c ≡ out_through xs c)
@@ -49,7 +36,7 @@ out-same t xs ys same out = out ∙ rows t.topology.consumers
 pub owns-same : (owns : List OwnBios) (handles : List Handle) (xs ys : List Trip) → SameReads xs ys
     → AreOwn owns handles xs → AreOwn owns handles ys
 owns-same owns handles xs ys same own actor =
-    if-weaker (λ (o : OwnBios). IsOwnCount handles xs actor o.count o.low)
+    if_some_weaker (λ (o : OwnBios). IsOwnCount handles xs actor o.count o.low)
     (λ (o : OwnBios). IsOwnCount handles ys actor o.count o.low)
     (λ o is. same.own handles actor o.count o.low is) (slice_get owns actor) (own actor)
 
@@ -57,9 +44,10 @@ owns-same owns handles xs ys same own actor =
 pub seats-same : (seats : List DiskSeat) (t : Topology Config) (xs ys : List Trip)
     → ((disk : ℕ) → busy_at t ys disk ≡ busy_at t xs disk) → AreSeats seats t xs → AreSeats seats t ys
 seats-same seats t xs ys same are disk =
-    if-weaker (λ (seat : DiskSeat). IsSeat t xs disk seat.geom seat.busy)
+    if_some_weaker (λ (seat : DiskSeat). IsSeat t xs disk seat.geom seat.busy)
     (λ (seat : DiskSeat). IsSeat t ys disk seat.geom seat.busy)
-    (λ seat is. record { geom_is = is.geom_is; busy_is = is.busy_is ∙ sym (same disk) }) (slice_get seats disk) (are disk)
+    (λ seat is. record { geom_is = is.geom_is; busy_is = is.busy_is ∙ sym (same disk) }) (slice_get seats disk)
+    (are disk)
 
 -- the seats, where another is at one disk
 pub seats-busy : (seats : List DiskSeat) (t : Topology Config) (xs ys : List Trip) (disk : ℕ) (busy : Option ℕ)
@@ -75,7 +63,7 @@ seats-busy seats t xs ys disk busy same are = on (slice_get seats disk) refl
         let at : slice_get (change_seat (λ x. record x { busy = busy }) seats disk (Some seat)) disk ≡ Some new =
         slot-same seats disk new seat is in
         let old : IsSeat t xs disk seat.geom seat.busy =
-        at-some (λ (x : DiskSeat). IsSeat t xs disk x.geom x.busy) (slice_get seats disk) seat is (are disk) in
+        at-found (slice_get seats disk) (λ (x : DiskSeat). IsSeat t xs disk x.geom x.busy) seat is (are disk) in
         rw (here, is, at)
         (record {
           geom_is = old.geom_is;
@@ -85,7 +73,7 @@ seats-busy seats t xs ys disk busy same are = on (slice_get seats disk) refl
         let at : slice_get (change_seat (λ x. record x { busy = busy }) seats disk (Some seat)) d ≡ slice_get seats d =
         slot-other seats disk d (record seat { busy = busy }) (apart d disk e) in
         rw (is, at)
-        (if-weaker (λ (x : DiskSeat). IsSeat t xs d x.geom x.busy) (λ (x : DiskSeat). IsSeat t ys d x.geom x.busy)
+        (if_some_weaker (λ (x : DiskSeat). IsSeat t xs d x.geom x.busy) (λ (x : DiskSeat). IsSeat t ys d x.geom x.busy)
         (λ x old. record {
           geom_is = old.geom_is;
           busy_is = old.busy_is ∙ sym (same d ∙ ap (λ c. if c then busy else busy_at t xs d) e);
@@ -98,7 +86,7 @@ seats-busy seats t xs ys disk busy same are = on (slice_get seats disk) refl
         rw (here, is, is) tt
     none is d false e =
         rw is
-        (if-weaker (λ (x : DiskSeat). IsSeat t xs d x.geom x.busy) (λ (x : DiskSeat). IsSeat t ys d x.geom x.busy)
+        (if_some_weaker (λ (x : DiskSeat). IsSeat t xs d x.geom x.busy) (λ (x : DiskSeat). IsSeat t ys d x.geom x.busy)
         (λ x old. record {
           geom_is = old.geom_is;
           busy_is = old.busy_is ∙ sym (same d ∙ ap (λ c. if c then busy else busy_at t xs d) e);

@@ -4,6 +4,8 @@ use Rattle.std.specs.List.{AllByRecursion}
 use Rattle.std.proofs.Common.{refl, sym, ◌∙◌, ap, subst, eq-eqb, inr}
 use Rattle.std.proofs.lemmas.Bool.{eqb-true}
 use Rattle.std.proofs.lemmas.List.Elements.{recursion_from_All}
+use Rattle.geo_base.proofs.AllLists.{all_weaker, two_facts}
+use Rattle.geo_base.proofs.Options.{there_with_fact, some_weaker}
 use Rattle.geo_model.specs.declared.command.LineCommand.{LineCommand}
 use Rattle.geo_model.specs.declared.step.Entry.{Entry}
 use Rattle.geo_model.specs.declared.step.Owner.{Owner}
@@ -24,17 +26,8 @@ use Rattle.geo_state.specs.declared.state.State.{State}
 use Rattle.geo_state.specs.Parts.{IsUnderWay, AreUnderWay, HasLineHandle}
 use Rattle.geo_state.specs.Trips.{Trip, trip_of, trips, is_out, out_through}
 use Rattle.geo_state.specs.World.{world, StandsFirm}
-use Rattle.geo_state.proofs.Lists.{count-none, find-none, all-weaker, all-both}
+use Rattle.geo_state.proofs.Lists.{count-none, find-none}
 use Rattle.geo_state.proofs.Owned.{none-counted}
-
--- a fact of what is there
-some-lives : {X : Type 0} (P : X → Type 0) (o : Option X) → IsSomeAnd o P → IsSome o
-some-lives P None never = absurd never
-some-lives P (Some x) fact = refl
-
-weaken : {X : Type 0} (P Q : X → Type 0) → ((x : X) → P x → Q x) → (o : Option X) → IsSomeAnd o P → IsSomeAnd o Q
-weaken P Q so None never = never
-weaken P Q so (Some x) fact = so x fact
 
 module _ (log : List Entry) (s : State) (actors : List (List LineCommand)) where
   one : (x : BioOf Held) → IsBioInOrder (world actors log s) (shown_bio (delivered_at log) x)
@@ -43,10 +36,10 @@ module _ (log : List Entry) (s : State) (actors : List (List LineCommand)) where
       → IsUnderWay s.topo.topology s.handles.handles (trip_of x)
   one x order owner family = record {
     source =
-        weaken (λ (c : Consumer). (c.provider ≡ Some x.target)
+        some_weaker (λ (c : Consumer). (c.provider ≡ Some x.target)
         × HasCountFor (world actors log s) (shown_bio (delivered_at log) x) c) (λ c. c.provider ≡ Some x.target)
         (λ c facts. facts.0) (consumer_at s.topo.topology x.source) order.source;
-    target = some-lives _ (provider_at s.topo.topology x.target) order.target;
+    target = there_with_fact _ (provider_at s.topo.topology x.target) order.target;
     owner = of x.owner owner;
     root = family.root;
   }
@@ -79,7 +72,7 @@ module _ (log : List Entry) (s : State) (actors : List (List LineCommand)) where
       → AllByRecursion (λ (h : Handle). (c : ℕ) → h.consumer ≡ Some c → IsSome (consumer_at s.topo.topology c))
       s.handles.handles
   holders-live firm =
-      all-weaker (HasItsConsumer (world actors log s))
+      all_weaker (HasItsConsumer (world actors log s))
       (λ h. (c : ℕ) → h.consumer ≡ Some c → IsSome (consumer_at s.topo.topology c))
       (λ h has c is. lives h c is has) s.handles.handles
       (recursion_from_All (HasItsConsumer (world actors log s)) s.handles.handles firm.sound.handles.handles)
@@ -87,7 +80,7 @@ module _ (log : List Entry) (s : State) (actors : List (List LineCommand)) where
       lives : (h : Handle) (c : ℕ) → h.consumer ≡ Some c → HasItsConsumer (world actors log s) h
           → IsSome (consumer_at s.topo.topology c)
       lives h c is has =
-          some-lives (λ (x : Consumer). x.geom ≡ 1) (consumer_at s.topo.topology c)
+          there_with_fact (λ (x : Consumer). x.geom ≡ 1) (consumer_at s.topo.topology c)
           (subst (λ o. MatchOption o (h.dead ≡ true) (λ d. IsSomeAnd (consumer_at s.topo.topology d) (λ x. x.geom ≡ 1)))
           is has)
 
@@ -115,13 +108,14 @@ module _ (t : Topology Config) (handles : List Handle) (xs : List Trip) where
   pub none-out : (c : ℕ) → consumer_at t c ≡ None → AreUnderWay t handles xs → out_through xs c ≡ 0
   none-out c none are =
       count-none (is_out c) xs
-      (all-weaker (IsUnderWay t handles) (λ x. is_out c x ≡ false)
+      (all_weaker (IsUnderWay t handles) (λ x. is_out c x ≡ false)
       (λ x way. at x way (x.source == c) refl) xs are)
     where
       at : (x : Trip) → IsUnderWay t handles x → (b : Bool) → (x.source == c) ≡ b → is_out c x ≡ false
       at x way true e =
           let same : x.source ≡ c = eqb-true x.source c e in
-          absurd (subst (λ o. IsSomeAnd o (λ (y : Consumer). y.provider ≡ Some x.target)) (ap (consumer_at t) same ∙ none)
+          absurd
+          (subst (λ o. IsSomeAnd o (λ (y : Consumer). y.provider ≡ Some x.target)) (ap (consumer_at t) same ∙ none)
           way.source)
       at x way false e = rw e refl
 
@@ -129,14 +123,15 @@ module _ (t : Topology Config) (handles : List Handle) (xs : List Trip) where
   pub none-of : (n : ℕ) → handle_at handles n ≡ None → AreUnderWay t handles xs
       → AllByRecursion (λ (x : Trip). is_of_handle x.owner n ≡ false) xs
   none-of n none are =
-      all-weaker (IsUnderWay t handles) (λ (x : Trip). is_of_handle x.owner n ≡ false)
+      all_weaker (IsUnderWay t handles) (λ (x : Trip). is_of_handle x.owner n ≡ false)
       (λ x way. of x x.owner refl way) xs are
     where
       on : (x : Trip) (hd line : ℕ) → IsSomeAnd (handle_at handles hd) (λ h. h.consumer ≡ Some x.source) → (b : Bool)
           → (hd == n) ≡ b → (hd == n) ≡ false
       on x hd line has true e =
           let same : hd ≡ n = eqb-true hd n e in
-          absurd (subst (λ o. IsSomeAnd o (λ (h : Handle). h.consumer ≡ Some x.source)) (ap (handle_at handles) same ∙ none)
+          absurd
+          (subst (λ o. IsSomeAnd o (λ (h : Handle). h.consumer ≡ Some x.source)) (ap (handle_at handles) same ∙ none)
           has)
       on x hd line has false e = e
 
@@ -152,10 +147,10 @@ module _ (t : Topology Config) (handles : List Handle) (xs : List Trip) where
       → ((c : ℕ) → h.consumer ≡ Some c → out_through xs c ≡ 0) → AreUnderWay t handles xs
       → AllByRecursion (λ (x : Trip). is_of_handle x.owner n ≡ false) xs
   idle-of n h found idle are =
-      all-weaker (λ (x : Trip). IsUnderWay t handles x × ((c : ℕ) → h.consumer ≡ Some c → is_out c x ≡ false))
+      all_weaker (λ (x : Trip). IsUnderWay t handles x × ((c : ℕ) → h.consumer ≡ Some c → is_out c x ≡ false))
       (λ (x : Trip). is_of_handle x.owner n ≡ false)
       (λ x facts. of x x.owner refl facts.0 facts.1) xs
-      (all-both (IsUnderWay t handles) (λ (x : Trip). (c : ℕ) → h.consumer ≡ Some c → is_out c x ≡ false) xs are quiet)
+      (two_facts (IsUnderWay t handles) (λ (x : Trip). (c : ℕ) → h.consumer ≡ Some c → is_out c x ≡ false) xs are quiet)
     where
       quiet : AllByRecursion (λ (x : Trip). (c : ℕ) → h.consumer ≡ Some c → is_out c x ≡ false) xs
       quiet = by h.consumer refl
@@ -169,7 +164,7 @@ module _ (t : Topology Config) (handles : List Handle) (xs : List Trip) where
               → AllByRecursion (λ (x : Trip). (c : ℕ) → h.consumer ≡ Some c → is_out c x ≡ false) xs
           by None is = fill xs is
           by (Some d) is =
-              all-weaker (λ (x : Trip). is_out d x ≡ false) (λ x. (c : ℕ) → h.consumer ≡ Some c → is_out c x ≡ false)
+              all_weaker (λ (x : Trip). is_out d x ≡ false) (λ x. (c : ℕ) → h.consumer ≡ Some c → is_out c x ≡ false)
               (λ x no c has.
               let e : Some d ≡ Some c = sym is ∙ has in
               let same : d ≡ c = cc in

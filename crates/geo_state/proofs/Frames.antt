@@ -87,7 +87,8 @@ disk_read t p =
     flat (Some g) = refl
 
     on : (o : Option Provider)
-        → option_and_then (λ (g : Geom Config). disk_of g.config) (option_and_then (λ (x : Provider). geom_at t x.geom) o)
+        → option_and_then (λ (g : Geom Config). disk_of g.config)
+        (option_and_then (λ (x : Provider). geom_at t x.geom) o)
         ≡ option_and_then
         (λ g. option_flatten (under (map disk_row t.geoms) g))
         (option_map (λ (x : Provider). x.geom) o)

@@ -3,6 +3,7 @@ use Rattle.std.specs.Prelude.{◌≡◌, ℕ, ◌==◌, Bool, true, false, ◌&&
 use Rattle.std.specs.Option.{option_map, option_map_or}
 use Rattle.std.proofs.Common.{refl, sym, ◌∙◌, ap, subst, eq-eqb}
 use Rattle.std.proofs.lemmas.Bool.{eqb-true, ne_eqb}
+use Rattle.geo_base.proofs.FindLists.{none_passes}
 use Rattle.geo_base.specs.declared.request.Counts.{Counts}
 use Rattle.geo_model.specs.Words.{names_number}
 use Rattle.geo_model.specs.Topology.{Consumer, consumer_at}
@@ -16,7 +17,7 @@ use Rattle.geo_handles.specs.Handles.{holding_handle}
 use Rattle.geo_state.specs.Holds.{granted_of}
 use Rattle.geo_state.specs.Changes.{with_consumer_at, coming}
 use Rattle.geo_state.specs.Grants.{ComersHoldNothing, TastesGrantNothing, TastesGrantReads, GrantsFollow}
-use Rattle.geo_state.proofs.Lists.{find-before, find-past, none-found}
+use Rattle.geo_state.proofs.Lists.{find-before, find-past}
 use Rattle.geo_state.proofs.GrantLemmas.{grant-at, granted-after}
 
 -- rows of items have what is found among the items
@@ -63,19 +64,20 @@ module _ (t : TopoView Config) (geom prov : ℕ) where
       found : consumer_at (with_consumer_at t geom prov).topology (coming t) ≡ Some newcomer
       found =
           find-past (λ (c : Consumer). c.number == coming t) t.topology.consumers (newcomer ∷ [])
-          (none-found (λ (c : Consumer). c.number == coming t) t.topology.consumers fresh)
+          (none_passes (λ (c : Consumer). c.number == coming t) t.topology.consumers fresh)
           ∙ ap (λ b. if b then Some newcomer else None) same
 
       none : find (λ (row : ℕ × Counts). row.0 == coming t) t.wants ≡ None
       none =
           ap (find (λ (row : ℕ × Counts). row.0 == coming t)) counted.wants
-          ∙ rows-none (λ (c : Consumer). c.number) (want (granted_by t) t.topology) (coming t) t.topology.consumers fresh
+          ∙ rows-none (λ (c : Consumer). c.number) (want (granted_by t) t.topology) (coming t) t.topology.consumers
+          fresh
 
       nothing : value_at (t.wants ++ (coming t, no_counts) ∷ []) (coming t) ≡ Some no_counts
       nothing =
           ap (option_map (λ (row : ℕ × Counts). row.1))
           (find-past (λ (row : ℕ × Counts). row.0 == coming t) t.wants ((coming t, no_counts) ∷ [])
-          (none-found (λ (row : ℕ × Counts). row.0 == coming t) t.wants none)
+          (none_passes (λ (row : ℕ × Counts). row.0 == coming t) t.wants none)
           ∙ ap (λ b. if b then Some (let row : ℕ × Counts = (coming t, no_counts) in row) else None) same)
 
       by : (b : Bool) → (if b then unwrap_or (Some no_counts) no_counts else no_counts) ≡ no_counts
@@ -118,7 +120,8 @@ tastes_grant_reads handles s out nobodys c = by (c == s.consumer) refl
         ∙ sym (grant-at (granted_of handles None) s.consumer one_read c true e)
     by false e =
         ap (λ g. option_map_or (λ (h : Handle). h.grant) (find (λ (h : Handle). names_number h.consumer c) handles) g)
-        (given false (ne_eqb s.consumer c (λ same. let never : true ≡ false = sym (eq-eqb c s.consumer (sym same)) ∙ e in cc)))
+        (given false
+        (ne_eqb s.consumer c (λ same. let never : true ≡ false = sym (eq-eqb c s.consumer (sym same)) ∙ e in cc)))
         ∙ sym (grant-at (granted_of handles None) s.consumer one_read c false e)
 
 pub grants_follow : GrantsFollow

@@ -3,8 +3,8 @@ use Rattle.std.specs.Prelude.{◌≡◌, ℕ, ◌==◌, Bool, true, false, List,
 use Rattle.std.specs.Option.{option_map_or}
 use Rattle.std.proofs.Common.{refl, sym, ◌∙◌, ap, subst}
 use Rattle.std.proofs.lemmas.Bool.{eqb-true}
+use Rattle.geo_base.proofs.FindLists.{found_passes}
 use Rattle.geo_base.specs.declared.request.Counts.{Counts}
-use Rattle.geo_base.proofs.Tests.{found_passes}
 use Rattle.geo_model.specs.Words.{is_granted_kind}
 use Rattle.geo_model.specs.Topology.{Topology, Geom, Provider, Consumer, consumer_at, geom_at, providers_of}
 use Rattle.geo_base.specs.declared.kind.Kind.{Kind}
@@ -68,7 +68,8 @@ module _ {C : Type 0} where
       on None never = absurd cc
       on (Some x) fact = fact
 
-  module _ (t : TopoView C) (c : ℕ) (add : Counts) (kind : IsSomeAnd (consumer_at t.topology c) (λ x. HoldsGrants t.topology x.geom)) where
+  module _ (t : TopoView C) (c : ℕ) (add : Counts)
+      (kind : IsSomeAnd (consumer_at t.topology c) (λ x. HoldsGrants t.topology x.geom)) where
     abbrev after : ℕ → Counts
     after = with_grant (granted_by t) c add
 
@@ -77,7 +78,8 @@ module _ {C : Type 0} where
     seen d o =
         option_map_or
         (λ (x : Consumer). if holds_grants t.topology x.geom
-        then unwrap_or (value_at (map (λ (y : Consumer). let row : ℕ × Counts = (y.number, want after t.topology y) in row)
+        then unwrap_or
+        (value_at (map (λ (y : Consumer). let row : ℕ × Counts = (y.number, want after t.topology y) in row)
         t.topology.consumers) d) no_counts
         else no_counts)
         o no_counts
@@ -107,7 +109,8 @@ module _ {C : Type 0} where
         → seen d (Some x) ≡ after d
     holder_has d x found holds =
         ap (λ b. if b
-        then unwrap_or (value_at (map (λ (y : Consumer). let row : ℕ × Counts = (y.number, want after t.topology y) in row)
+        then unwrap_or
+        (value_at (map (λ (y : Consumer). let row : ℕ × Counts = (y.number, want after t.topology y) in row)
         t.topology.consumers) d) no_counts
         else no_counts) holds
         ∙ ap (λ o. unwrap_or o no_counts)
@@ -120,7 +123,8 @@ module _ {C : Type 0} where
         → seen d (Some x) ≡ after d
     other_has d x found none =
         ap (λ b. if b
-        then unwrap_or (value_at (map (λ (y : Consumer). let row : ℕ × Counts = (y.number, want after t.topology y) in row)
+        then unwrap_or
+        (value_at (map (λ (y : Consumer). let row : ℕ × Counts = (y.number, want after t.topology y) in row)
         t.topology.consumers) d) no_counts
         else no_counts) none
         ∙ sym (grant-at (granted_by t) c add d false (apart (d == c) refl)

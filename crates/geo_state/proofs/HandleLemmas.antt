@@ -5,6 +5,9 @@ use Rattle.std.specs.Option.{option_map, option_map_or}
 use Rattle.std.proofs.Common.{refl, sym, ◌∙◌, ap, arith, eq-eqb}
 use Rattle.std.proofs.Math.Bool.{and-false}
 use Rattle.std.proofs.lemmas.Bool.{eqb-true, ne_eqb, not-false}
+use Rattle.geo_base.proofs.FindLists.{none_passes}
+use Rattle.geo_base.proofs.AllLists.{all_appended, all_weaker, two_facts}
+use Rattle.geo_base.proofs.Options.{if_some_weaker}
 use Rattle.geo_model.specs.Graph.{AreNumbers}
 use Rattle.geo_model.specs.Words.{names_number}
 use Rattle.geo_model.specs.Demand.{no_counts}
@@ -18,9 +21,8 @@ use Rattle.geo_laws_graph.proofs.Lists.{find-changed}
 use Rattle.geo_state.specs.declared.state.OwnBios.{OwnBios}
 use Rattle.geo_state.specs.Trips.{Trip, can_be_reaped, is_own, IsOwnCount}
 use Rattle.geo_state.specs.Holds.{AreOwn, granted_of}
-use Rattle.geo_state.proofs.Lists.{Around, around, around-all, around-count, all-append, all-weaker, all-both, count-append, count-same, count-step, counts, find-before, find-kept_by, find-past, none-found}
+use Rattle.geo_state.proofs.Lists.{Around, around, around-all, around-count, count-append, count-same, count-step, counts, find-before, find-kept_by, find-past}
 use Rattle.geo_state.proofs.Owned.{none-counted}
-use Rattle.geo_state.proofs.Fields.{if-weaker}
 use Rattle.geo_state.proofs.GrantLemmas.{grant-at}
 
 -- with handles that have the same actors for these requests, as many are own
@@ -28,14 +30,15 @@ pub owns-alike_at : (owns : List OwnBios) (hs ks : List Handle) (xs : List Trip)
     → ((actor : ℕ) → AllByRecursion (λ (x : Trip). is_own ks actor x ≡ is_own hs actor x) xs)
     → AreOwn owns hs xs → AreOwn owns ks xs
 owns-alike_at owns hs ks xs same own actor =
-    if-weaker (λ (o : OwnBios). IsOwnCount hs xs actor o.count o.low)
+    if_some_weaker (λ (o : OwnBios). IsOwnCount hs xs actor o.count o.low)
     (λ (o : OwnBios). IsOwnCount ks xs actor o.count o.low)
     (λ o is. record {
       count_is = is.count_is ∙ sym (count-same (is_own hs actor) (is_own ks actor) xs (same actor));
       low_is =
-          all-weaker (λ (x : Trip). (is_own hs actor x ≡ true → o.low ≤ x.number) × (is_own ks actor x ≡ is_own hs actor x))
+          all_weaker
+          (λ (x : Trip). (is_own hs actor x ≡ true → o.low ≤ x.number) × (is_own ks actor x ≡ is_own hs actor x))
           (λ x. is_own ks actor x ≡ true → o.low ≤ x.number) (λ x facts e. facts.0 (sym facts.1 ∙ e)) xs
-          (all-both (λ (x : Trip). is_own hs actor x ≡ true → o.low ≤ x.number)
+          (two_facts (λ (x : Trip). is_own hs actor x ≡ true → o.low ≤ x.number)
           (λ x. is_own ks actor x ≡ is_own hs actor x) xs is.low_is (same actor));
     }) (slice_get owns actor) (own actor)
 
@@ -46,7 +49,7 @@ module _ (hs : List Handle) (h : Handle) where
   pub came-own : (xs : List Trip) → AllByRecursion (λ (x : Trip). is_of_handle x.owner h.number ≡ false) xs
       → (actor : ℕ) → AllByRecursion (λ (x : Trip). is_own (hs ++ h ∷ []) actor x ≡ is_own hs actor x) xs
   came-own xs none actor =
-      all-weaker (λ (x : Trip). is_of_handle x.owner h.number ≡ false)
+      all_weaker (λ (x : Trip). is_of_handle x.owner h.number ≡ false)
       (λ x. is_own (hs ++ h ∷ []) actor x ≡ is_own hs actor x)
       (λ x no. ap (λ o. option_map_or (λ (k : Handle). k.actor == actor) o false)
       (find-before (λ (k : Handle). is_of_handle x.owner k.number) hs (h ∷ []) (no, tt))) xs none
@@ -70,7 +73,7 @@ module _ (hs : List Handle) (h : Handle) where
           let same : d ≡ n = eqb-true d n e in
           ap (λ o. option_map_or (λ (k : Handle). k.grant) o (taste_grant taste d))
           (find-past (λ (k : Handle). names_number k.consumer d) hs (h ∷ [])
-          (none-found (λ (k : Handle). names_number k.consumer d) hs
+          (none_passes (λ (k : Handle). names_number k.consumer d) hs
           (ap (λ m. find (λ (k : Handle). names_number k.consumer m) hs) same ∙ nobodys))
           ∙ one true (named true (eq-eqb n d (sym same))))
           ∙ sym (grant-at (granted_of hs taste) n h.grant d true e)
@@ -87,7 +90,7 @@ module _ (hs : List Handle) (n : ℕ) where
   pub gone-own : (xs : List Trip) → AllByRecursion (λ (x : Trip). is_of_handle x.owner n ≡ false) xs
       → (actor : ℕ) → AllByRecursion (λ (x : Trip). is_own (closed hs n) actor x ≡ is_own hs actor x) xs
   gone-own xs none actor =
-      all-weaker (λ (x : Trip). is_of_handle x.owner n ≡ false)
+      all_weaker (λ (x : Trip). is_of_handle x.owner n ≡ false)
       (λ x. is_own (closed hs n) actor x ≡ is_own hs actor x)
       (λ x no. ap (λ o. option_map_or (λ (k : Handle). k.actor == actor) o false)
       (find-kept_by (λ (k : Handle). is_of_handle x.owner k.number) (λ k. not (k.number == n)) hs
@@ -108,7 +111,7 @@ module _ (hs : List Handle) (n : ℕ) where
   forgotten-granted taste next h numbers found none d =
       ap (λ o. option_map_or (λ (k : Handle). k.grant) o (taste_grant taste d))
       (find-kept_by (λ (k : Handle). names_number k.consumer d) (λ k. not (k.number == n)) hs
-      (all-weaker (λ (k : Handle). (k.number == n) ≡ true → names_number k.consumer d ≡ false)
+      (all_weaker (λ (k : Handle). (k.number == n) ≡ true → names_number k.consumer d ≡ false)
       (λ k. not (k.number == n) ≡ false → names_number k.consumer d ≡ false)
       (λ k so e. so (not-false (k.number == n) e)) hs
       (around-all (λ (k : Handle). k.number) n h hs (around (λ (k : Handle). k.number) next n h hs numbers found)
@@ -143,11 +146,11 @@ only hs next n c h numbers found has one =
       mine = around-all (λ (k : Handle). k.number) n h hs r (λ k. k ≡ h) refl;
       others =
           rw r.is
-          (all-append (λ k. (k.number == n) ≡ false → names_number k.consumer c ≡ false) r.front (h ∷ r.back)
-          (all-weaker (λ (k : Handle). p k ≡ false) (λ k. (k.number == n) ≡ false → names_number k.consumer c ≡ false)
+          (all_appended (λ k. (k.number == n) ≡ false → names_number k.consumer c ≡ false) r.front (h ∷ r.back)
+          (all_weaker (λ (k : Handle). p k ≡ false) (λ k. (k.number == n) ≡ false → names_number k.consumer c ≡ false)
           (λ k no e. no) r.front (none-counted p r.front front)) (
             (λ e. let never : true ≡ false = sym r.here ∙ e in absurd cc),
-            all-weaker (λ (k : Handle). p k ≡ false) (λ k. (k.number == n) ≡ false → names_number k.consumer c ≡ false)
+            all_weaker (λ (k : Handle). p k ≡ false) (λ k. (k.number == n) ≡ false → names_number k.consumer c ≡ false)
                 (λ k no e. no) r.back (none-counted p r.back rest),
           ));
     }
@@ -156,10 +159,10 @@ module _ (hs : List Handle) (n c : ℕ) (h : Handle) (it : IsOnly hs n c h) wher
   -- it alone has the consumer
   named-it : AllByRecursion (λ (k : Handle). names_number k.consumer c ≡ (k.number == n)) hs
   named-it =
-      all-weaker (λ (k : Handle). ((k.number == n) ≡ true → k ≡ h)
+      all_weaker (λ (k : Handle). ((k.number == n) ≡ true → k ≡ h)
       × ((k.number == n) ≡ false → names_number k.consumer c ≡ false))
       (λ k. names_number k.consumer c ≡ (k.number == n)) (λ k facts. by k (k.number == n) refl facts.0 facts.1) hs
-      (all-both (λ (k : Handle). (k.number == n) ≡ true → k ≡ h)
+      (two_facts (λ (k : Handle). (k.number == n) ≡ true → k ≡ h)
       (λ k. (k.number == n) ≡ false → names_number k.consumer c ≡ false) hs it.mine it.others)
     where
       by : (k : Handle) (b : Bool) → (k.number == n) ≡ b → ((k.number == n) ≡ true → k ≡ h)
@@ -187,7 +190,7 @@ module _ (hs : List Handle) (n c : ℕ) (h : Handle) (it : IsOnly hs n c h) wher
       ≡ find (λ (k : Handle). names_number k.consumer d) hs
   closed-other d other =
       find-kept_by (λ (k : Handle). names_number k.consumer d) (λ k. not (k.number == n)) hs
-      (all-weaker (λ (k : Handle). (k.number == n) ≡ true → k ≡ h)
+      (all_weaker (λ (k : Handle). (k.number == n) ≡ true → k ≡ h)
       (λ k. not (k.number == n) ≡ false → names_number k.consumer d ≡ false)
       (λ k mine e. ap (λ (j : Handle). names_number j.consumer d) (mine (not-false (k.number == n) e)) ∙ not_it)
       hs it.mine)

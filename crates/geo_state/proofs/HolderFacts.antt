@@ -6,7 +6,7 @@ use Rattle.std.proofs.lemmas.Bool.{eqb-true}
 use Rattle.std.proofs.lemmas.List.Elements.{recursion_from_All}
 use Rattle.geo_base.specs.declared.kind.Kind.{Kind}
 use Rattle.geo_base.specs.declared.kind.Kind.TheVariants as kinds
-use Rattle.geo_base.proofs.Tests.{found_in, found_passes}
+use Rattle.geo_base.proofs.FindLists.{found_in, found_passes}
 use Rattle.geo_model.specs.declared.command.LineCommand.{LineCommand}
 use Rattle.geo_model.specs.declared.step.Entry.{Entry}
 use Rattle.geo_model.specs.Demand.{no_counts, one_read}
@@ -106,7 +106,8 @@ module _ (log : List Entry) (s : State) (actors : List (List LineCommand)) (firm
           tasting.consumer firm.sound.numbers.consumers one.0.0 in
           let it : Some x ≡ Some tasting.consumer =
           sym found ∙ ap (consumer_at s.topo.topology) (sym (tasting.number ∙ same)) ∙ itself in
-          let geom : x.geom ≡ tasting.consumer.geom = ap (λ (y : Consumer). y.geom) (let e : x ≡ tasting.consumer = cc in e) in
+          let geom : x.geom ≡ tasting.consumer.geom =
+          ap (λ (y : Consumer). y.geom) (let e : x ≡ tasting.consumer = cc in e) in
           let two : tasting.consumer.geom ≡ 2 = eqb-true tasting.consumer.geom 2 one.0.1 in
           let bad : 1 ≡ 2 = sym dev ∙ geom ∙ two in
           omega (arith, bad)

@@ -5,6 +5,8 @@ use Rattle.std.specs.Option.{option_map, option_map_or}
 use Rattle.std.proofs.Common.{refl, sym, ◌∙◌, ap, subst, arith, eq-eqb}
 use Rattle.std.proofs.lemmas.Bool.{ne_eqb}
 use Rattle.std.proofs.lemmas.List.{map-append, length-map}
+use Rattle.geo_base.proofs.FindLists.{none_passes}
+use Rattle.geo_base.proofs.AllLists.{all_weaker}
 use Rattle.geo_base.specs.declared.request.Counts.{Counts}
 use Rattle.geo_model.specs.Demand.{no_counts}
 use Rattle.geo_model.specs.Graph.{AreNumbers}
@@ -29,7 +31,7 @@ use Rattle.geo_state.specs.Parts.{SameParts, DisksStay, disk_row, geom_row}
 use Rattle.geo_state.specs.Trips.{Trip, trips, out_through, can_be_reaped, is_own}
 use Rattle.geo_state.specs.Holds.{Holds, AreOut, AreReady, AreOwn, granted_of, owed_events}
 use Rattle.geo_state.specs.Changes.{Effects, IsSettled, HasGoer, with_consumer_at, coming, KeptAfterOpen, KeptAfterRefusal, KeptAfterClose, KeptAfterForget, KeptAfterReap, KeptWithHandles}
-use Rattle.geo_state.proofs.Lists.{all-weaker, find-before, find-none, find-past, none-found}
+use Rattle.geo_state.proofs.Lists.{find-before, find-none, find-past}
 use Rattle.geo_state.proofs.Frames.{parts-geom, parts-disk}
 use Rattle.geo_state.proofs.Fields.{apart}
 use Rattle.geo_state.proofs.Rises.{active-at}
@@ -133,7 +135,7 @@ module _ (t : TopoView Config) (prov : ℕ) (fresh : consumer_at t.topology (com
   comer_found : consumer_at (with_consumer_at t 1 prov).topology (coming t) ≡ Some comer
   comer_found =
       find-past (λ (c : Consumer). c.number == coming t) t.topology.consumers (comer ∷ [])
-      (none-found (λ (c : Consumer). c.number == coming t) t.topology.consumers fresh)
+      (none_passes (λ (c : Consumer). c.number == coming t) t.topology.consumers fresh)
       ∙ ap (λ b. if b then Some comer else None) (eq-eqb (coming t) (coming t) refl)
 
   comer_kind : IsSomeAnd (consumer_at (with_consumer_at t 1 prov).topology (coming t))
@@ -182,10 +184,11 @@ kept_after_open log s t u q v prov actor name grant h firm came settled opened =
       dead = false;
     } in
     let fresh : consumer_at s.topo.topology n ≡ None =
-    found_fresh (λ (c : Consumer). c.number) n n s.topo.topology.consumers (consumer-numbers log s firm) (omega arith) in
+    found_fresh (λ (c : Consumer). c.number) n n s.topo.topology.consumers (consumer-numbers log s firm)
+    (omega arith) in
     let none_has : find (λ (j : Handle). names_number j.consumer n) hs ≡ None =
     find-none (λ (j : Handle). names_number j.consumer n) hs
-    (all-weaker (λ (j : Handle). (c : ℕ) → j.consumer ≡ Some c → IsSome (consumer_at s.topo.topology c))
+    (all_weaker (λ (j : Handle). (c : ℕ) → j.consumer ≡ Some c → IsSome (consumer_at s.topo.topology c))
     (λ j. names_number j.consumer n ≡ false) (λ j lives. nobody s n fresh j lives (names_number j.consumer n) refl) hs
     (holders log s firm)) in
     let none_of : handle_at hs s.handles.next ≡ None =
@@ -330,7 +333,8 @@ kept_after_close log s t f u q v k c h firm found has idle gone settled same =
     let next : v.next ≡ s.handles.next = ap (λ (w : HandlesView). w.next) same in
     let ready : v.ready ≡ without s.handles.ready n = ap (λ (w : HandlesView). w.ready) same in
     holds-with s u q v h settled (goer_sites s t f u c h is gone)
-    (rw (handles, next) (numbers-kept (λ (j : Handle). j.number) (λ j. not (j.number == n)) s.handles.next hs h.numbers))
+    (rw (handles, next)
+    (numbers-kept (λ (j : Handle). j.number) (λ j. not (j.number == n)) s.handles.next hs h.numbers))
     (λ d. goer_granted s t f u c h is gone d
     ∙ sym (closed-granted hs n c k it s.taste is.untasted d)
     ∙ ap (λ (js : List Handle). granted_of js s.taste d) (sym handles))
@@ -355,7 +359,8 @@ kept_after_forget log s v k h firm found none same =
     let ready : v.ready ≡ without s.handles.ready n = ap (λ (w : HandlesView). w.ready) same in
     holds-with s s.topo s.queue v h (record { counted = h.counted; quiet = h.quiet; room = h.room })
     (sites-self s.topo.topology)
-    (rw (handles, next) (numbers-kept (λ (j : Handle). j.number) (λ j. not (j.number == n)) s.handles.next hs h.numbers))
+    (rw (handles, next)
+    (numbers-kept (λ (j : Handle). j.number) (λ j. not (j.number == n)) s.handles.next hs h.numbers))
     (λ d. granted-is s h d
     ∙ sym (forgotten-granted hs n s.taste s.handles.next k h.numbers found none d)
     ∙ ap (λ (js : List Handle). granted_of js s.taste d) (sym handles))

@@ -4,7 +4,9 @@ use Rattle.std.specs.List.{AllByRecursion}
 use Rattle.std.specs.Option.{option_map, option_map_or}
 use Rattle.std.proofs.Common.{refl, sym, ◌∙◌, ap, subst}
 use Rattle.std.proofs.lemmas.Bool.{eqb-true}
-use Rattle.geo_base.proofs.Tests.{found_passes}
+use Rattle.geo_base.proofs.FindLists.{found_passes, none_passes}
+use Rattle.geo_base.proofs.AllLists.{two_facts}
+use Rattle.geo_base.proofs.Options.{if_some_weaker}
 use Rattle.geo_model.specs.Graph.{AreNumbers}
 use Rattle.geo_model.specs.Topology.{consumer_at}
 use Rattle.geo_model.specs.Words.{names_number}
@@ -20,16 +22,15 @@ use Rattle.geo_state.specs.declared.state.OwnBios.{OwnBios}
 use Rattle.geo_state.specs.Trips.{Trip, trips, out_through, can_be_reaped, is_own, IsOwnCount}
 use Rattle.geo_state.specs.Ready.{is_idle_now, renoted, refreshed}
 use Rattle.geo_state.specs.Holds.{Holds, AreOwn, AreReady, granted_of}
-use Rattle.geo_state.proofs.Lists.{count-same, all-both, none-found}
+use Rattle.geo_state.proofs.Lists.{count-same}
 use Rattle.geo_state.proofs.ReadyLemmas.{IsHolder, holder}
 use Rattle.geo_state.proofs.Rises.{active-at}
-use Rattle.geo_state.proofs.Fields.{if-weaker}
 
 -- with another list of handles, each of which has the grants and the actors of the first
 pub owns-alike : (owns : List OwnBios) (hs ks : List Handle) (xs : List Trip)
     → ((actor : ℕ) (x : Trip) → is_own ks actor x ≡ is_own hs actor x) → AreOwn owns hs xs → AreOwn owns ks xs
 owns-alike owns hs ks xs same own actor =
-    if-weaker (λ (o : OwnBios). IsOwnCount hs xs actor o.count o.low)
+    if_some_weaker (λ (o : OwnBios). IsOwnCount hs xs actor o.count o.low)
     (λ (o : OwnBios). IsOwnCount ks xs actor o.count o.low)
     (λ o is. record {
       count_is = is.count_is ∙ sym (count-same (is_own hs actor) (is_own ks actor) xs (each xs));
@@ -90,7 +91,7 @@ module _ (hs : List Handle) (c : ℕ) where
   killed-none : holding_handle hs c ≡ None → killed hs c ≡ hs
   killed-none none =
       unhit (λ (h : Handle). names_number h.consumer c) (λ h. record h { dead = true }) hs
-      (none-found (λ (h : Handle). names_number h.consumer c) hs none)
+      (none_passes (λ (h : Handle). names_number h.consumer c) hs none)
 
   module _ (h : Handle) (xs : List Trip) (has : h.consumer ≡ Some c) where
     -- what is noted of the dead one
@@ -163,7 +164,7 @@ killed-ready v t c xs numbers alone out ready = on (holding_handle v.handles c) 
         ∙ ap (λ b. with_value v.ready h.number b) idle
         ∙ ap (λ rows. with_value rows h.number (out_through xs c == 0)) ready
         ∙ rows_killed v.handles c h xs one.has v.handles
-        (all-both (λ (k : Handle). (k.number == h.number) ≡ true → k ≡ h)
+        (two_facts (λ (k : Handle). (k.number == h.number) ≡ true → k ≡ h)
         (λ k. names_number k.consumer c ≡ (k.number == h.number)) v.handles one.numbered at)
 
 -- all is kept

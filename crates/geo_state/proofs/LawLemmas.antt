@@ -4,6 +4,9 @@ use Rattle.std.specs.List.{AllByRecursion}
 use Rattle.std.specs.Option.{option_map, option_map_or}
 use Rattle.std.proofs.Common.{refl, sym, ◌∙◌, ap}
 use Rattle.std.proofs.lemmas.List.{map-append}
+use Rattle.geo_base.proofs.AllLists.{all_weaker}
+use Rattle.geo_base.proofs.Options.{if_some_weaker}
+use Rattle.geo_base.proofs.FindLists.{find_agree}
 use Rattle.geo_base.specs.declared.request.Counts.{Counts}
 use Rattle.geo_model.specs.Topology.{Topology, Consumer}
 use Rattle.geo_model.specs.World.{Config}
@@ -16,8 +19,6 @@ use Rattle.geo_state.specs.Trips.{Trip, trips, out_through, is_at_disk}
 use Rattle.geo_state.specs.Parts.{SameParts, DisksStay}
 use Rattle.geo_state.specs.Holds.{AreSeats, IsSeat}
 use Rattle.geo_state.specs.Laws.{EffectsKeepParts, HoldsAfterEffects, FieldsFollow}
-use Rattle.geo_state.proofs.Lists.{find-same, all-weaker}
-use Rattle.geo_state.proofs.Fields.{if-weaker}
 use Rattle.geo_state.proofs.Frames.{parts-geom, parts-disk, parts-count, parts-risen, parts-fallen, parts-spoil_at, parts-offer_again, parts-wither, parts-unless, parts-spoil, parts-orphan, parts-resize}
 
 pub effects_keep_parts : (granted : ℕ → Counts) (q : QueuedTopology Config) → EffectsKeepParts granted q
@@ -48,15 +49,15 @@ rows_out xs (c ∷ cs) = ap (λ rows. row_out xs c.number ∷ rows) (rows_out xs
 pub seats-stay : (seats : List DiskSeat) (t u : Topology Config) (xs : List Trip) → DisksStay t u xs
     → AreSeats seats t xs → AreSeats seats u xs
 seats-stay seats t u xs stay are disk =
-    if-weaker (λ (seat : DiskSeat). IsSeat t xs disk seat.geom seat.busy)
+    if_some_weaker (λ (seat : DiskSeat). IsSeat t xs disk seat.geom seat.busy)
     (λ (seat : DiskSeat). IsSeat u xs disk seat.geom seat.busy)
     (λ seat is. record {
       geom_is = is.geom_is ∙ sym (stay.geoms disk);
       busy_is =
           is.busy_is
           ∙ sym (ap (option_map (λ (x : Trip). x.number))
-          (find-same (is_at_disk t disk) (is_at_disk u disk) xs
-          (all-weaker (λ (x : Trip). disk_at u x.target ≡ disk_at t x.target)
+          (find_agree (is_at_disk u disk) (is_at_disk t disk) xs
+          (all_weaker (λ (x : Trip). disk_at u x.target ≡ disk_at t x.target)
           (λ x. is_at_disk u disk x ≡ is_at_disk t disk x)
           (λ x e. ap (λ o. x.busy && option_map_or (λ d. d == disk) o false) e) xs stay.targets)));
     }) (slice_get seats disk) (are disk)
@@ -84,7 +85,8 @@ holds_after_effects s u q h same active granted counted quiet room =
       own = h.own;
       read = h.read;
       seats =
-          seats-stay s.disks.items s.topo.topology u.topology xs (parts-stay s.topo.topology u.topology xs same) h.seats;
+          seats-stay s.disks.items s.topo.topology u.topology xs (parts-stay s.topo.topology u.topology xs same)
+          h.seats;
       providers = h.providers ∙ sym (parts-count s.topo.topology u.topology same);
       room = room;
     }

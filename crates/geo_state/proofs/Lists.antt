@@ -1,18 +1,13 @@
 -- Counts and searches in lists, after one more item, after some are gone, and around the one item of a number.
-use Rattle.std.specs.Prelude.{◌≡◌, ℕ, ◌+◌, ◌==◌, Bool, true, false, not, List, [], ◌∷◌, ◌++◌, map, filter, find, count_by, Option, Some, None, if◌then◌else◌}
+use Rattle.std.specs.Prelude.{◌≡◌, ℕ, ◌+◌, ◌==◌, Bool, true, false, not, List, [], ◌∷◌, ◌++◌, map, filter, find, count_by, Some, None, if◌then◌else◌}
 use Rattle.std.specs.List.{AllByRecursion}
-use Rattle.std.specs.Option.{option_map}
 use Rattle.std.proofs.Common.{refl, sym, ◌∙◌, ap, arith, inl}
 use Rattle.std.proofs.lemmas.Bool.{eqb-true}
 use Rattle.std.proofs.lemmas.List.Sums.{sum_by-append}
+use Rattle.geo_base.proofs.AllLists.{all_appended}
 use Rattle.geo_model.specs.Graph.{AreNumbers}
 use Rattle.geo_model.specs.Words.{change_where}
 use Rattle.geo_laws_graph.proofs.Lists.{Rise, rise-from, none_outside, unhit}
-
--- nothing is there where nothing of it is
-pub none-mapped : {X Y : Type 0} (f : X → Y) (o : Option X) → option_map f o ≡ None → o ≡ None
-none-mapped f None e = refl
-none-mapped f (Some x) e = absurd cc
 
 module _ {X : Type 0} (p : X → Bool) where
   -- how many pass of two lists
@@ -36,11 +31,6 @@ module _ {X : Type 0} (p : X → Bool) where
       let step = count-step x xs in
       omega (arith, e, step)
 
-  -- the same is found by a test that gives the same at each
-  pub find-same : (q : X → Bool) (xs : List X) → AllByRecursion (λ x. q x ≡ p x) xs → find q xs ≡ find p xs
-  find-same q [] same = refl
-  find-same q (x ∷ xs) same = rw (same.0, find-same q xs same.1) refl
-
   -- none passes
   pub count-none : (xs : List X) → AllByRecursion (λ x. p x ≡ false) xs → count_by p xs ≡ 0
   count-none [] none = refl
@@ -50,26 +40,6 @@ module _ {X : Type 0} (p : X → Bool) where
   pub find-none : (xs : List X) → AllByRecursion (λ x. p x ≡ false) xs → find p xs ≡ None
   find-none [] none = refl
   find-none (x ∷ xs) none = rw none.0 (find-none xs none.1)
-
-  -- where none is found none passes
-  pub none-found : (xs : List X) → find p xs ≡ None → AllByRecursion (λ x. p x ≡ false) xs
-  none-found [] none = tt
-  none-found (x ∷ xs) none = at (p x) refl (none-found xs)
-    where
-      at : (b : Bool) → p x ≡ b → (find p xs ≡ None → AllByRecursion (λ y. p y ≡ false) xs)
-          → AllByRecursion (λ y. p y ≡ false) (x ∷ xs)
-      at true e rest = let never : Some x ≡ None = (rw e at none) in absurd cc
-      at false e rest = (e, rest (rw e at none))
-
-  -- what is found among the first is found
-  pub find-first : (xs ys : List X) (x : X) → find p xs ≡ Some x → find p (xs ++ ys) ≡ Some x
-  find-first [] ys x never = absurd cc
-  find-first (z ∷ zs) ys x found = at (p z) refl (find-first zs ys x)
-    where
-      at : (b : Bool) → p z ≡ b → (find p zs ≡ Some x → find p (zs ++ ys) ≡ Some x)
-          → find p ((z ∷ zs) ++ ys) ≡ Some x
-      at true e rest = rw e (rw e at found)
-      at false e rest = rw e (rest (rw e at found))
 
   -- where none of the first passes, it is found among the last
   pub find-past : (xs ys : List X) → AllByRecursion (λ x. p x ≡ false) xs → find p (xs ++ ys) ≡ find p ys
@@ -122,11 +92,6 @@ count-same p q (x ∷ xs) same =
     ∙ sym (count-step p x xs)
 
 module _ {X : Type 0} (P : X → Type 0) where
-  -- a fact of each of two lists
-  pub all-append : (xs ys : List X) → AllByRecursion P xs → AllByRecursion P ys → AllByRecursion P (xs ++ ys)
-  all-append [] ys front back = back
-  all-append (x ∷ xs) ys front back = (front.0, all-append xs ys front.1 back)
-
   pub all-front : (xs ys : List X) → AllByRecursion P (xs ++ ys) → AllByRecursion P xs
   all-front [] ys all = tt
   all-front (x ∷ xs) ys all = (all.0, all-front xs ys all.1)
@@ -134,27 +99,6 @@ module _ {X : Type 0} (P : X → Type 0) where
   pub all-back : (xs ys : List X) → AllByRecursion P (xs ++ ys) → AllByRecursion P ys
   all-back [] ys all = all
   all-back (x ∷ xs) ys all = all-back xs ys all.1
-
-  -- a fact of each that is kept
-  pub all-kept : (keep : X → Bool) (xs : List X) → AllByRecursion P xs → AllByRecursion P (filter keep xs)
-  all-kept keep [] all = tt
-  all-kept keep (x ∷ xs) all = at (keep x) refl (all-kept keep xs all.1)
-    where
-      at : (b : Bool) → keep x ≡ b → AllByRecursion P (filter keep xs) → AllByRecursion P (filter keep (x ∷ xs))
-      at true e rest = rw e (all.0, rest)
-      at false e rest = rw e rest
-
-  -- a weaker fact of each
-  pub all-weaker : (Q : X → Type 0) → ((x : X) → P x → Q x) → (xs : List X) → AllByRecursion P xs
-      → AllByRecursion Q xs
-  all-weaker Q so [] all = tt
-  all-weaker Q so (x ∷ xs) all = (so x all.0, all-weaker Q so xs all.1)
-
--- two facts of each
-pub all-both : {X : Type 0} (P Q : X → Type 0) (xs : List X) → AllByRecursion P xs → AllByRecursion Q xs
-    → AllByRecursion (λ x. P x × Q x) xs
-all-both P Q [] all both = tt
-all-both P Q (x ∷ xs) all both = ((all.0, both.0), all-both P Q xs all.1 both.1)
 
 -- The one item of a number
 
@@ -238,7 +182,7 @@ module _ {X : Type 0} (number : X → ℕ) where
     pub around-all : (P : X → Type 0) → P x → AllByRecursion (λ y. (number y == n) ≡ true → P y) xs
     around-all P fact =
         rw r.is
-        (all-append (λ y. (number y == n) ≡ true → P y) r.front (x ∷ r.back)
+        (all_appended (λ y. (number y == n) ≡ true → P y) r.front (x ∷ r.back)
         (others r.front r.before)
         ((λ e. fact), others r.back r.after))
       where

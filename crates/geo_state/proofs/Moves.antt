@@ -5,6 +5,10 @@ use Rattle.std.specs.Option.{option_map, option_map_or}
 use Rattle.std.proofs.Common.{refl, sym, ◌∙◌, ap, subst, arith, eq-eqb, append_assoc}
 use Rattle.std.proofs.lemmas.Bool.{eqb-true, ne_eqb}
 use Rattle.std.proofs.lemmas.List.{map-append, append-nil}
+use Rattle.geo_base.proofs.AllLists.{all_weaker, two_facts}
+use Rattle.geo_base.proofs.Options.{if_some_weaker, at-found}
+use Rattle.geo_base.proofs.PlaceLists.{slot-same, slot-other}
+use Rattle.geo_base.proofs.FindLists.{find_agree}
 use Rattle.geo_base.specs.declared.request.BioCmd.{BioCmd}
 use Rattle.geo_model.specs.declared.span.Piece.{Piece}
 use Rattle.geo_model.specs.declared.step.Owner.{Owner}
@@ -27,12 +31,11 @@ use Rattle.geo_state.specs.Trips.{Trip, trip_of, trips, out_through, handle_of_o
 use Rattle.geo_state.specs.Own.{with_bio, change_own, entered}
 use Rattle.geo_state.specs.Bios.{all_out}
 use Rattle.geo_state.specs.Holds.{Holds, AreOut, AreReady, AreOwn, AreSeats}
-use Rattle.geo_state.proofs.Lists.{Around, around, around-all, around-fact, all-weaker, all-both, find-same}
+use Rattle.geo_state.proofs.Lists.{Around, around, around-all, around-fact}
 use Rattle.geo_state.proofs.Outs.{eqb_sym, rows-changed, out-more}
 use Rattle.geo_state.proofs.Owned.{own-other, own-more, read-other, read-first, busy-other}
 use Rattle.geo_state.proofs.ReadyLemmas.{ready-alive, nobodys-alive}
-use Rattle.geo_state.proofs.Slots.{slot-same, slot-other}
-use Rattle.geo_state.proofs.Fields.{apart, if-weaker, at-some, seats-same}
+use Rattle.geo_state.proofs.Fields.{apart, seats-same}
 
 -- the fields that read the requests on their way
 pub record Kept (t : TopoView Config) (v : HandlesView) (owns : List OwnBios) (read : Option ℕ)
@@ -133,7 +136,7 @@ module _ (t : TopoView Config) (v : HandlesView) (xs : List Trip) (z : Trip) (c 
   pub owns-other : (owns : List OwnBios) → ((actor : ℕ) → is_own v.handles actor z ≡ false)
       → AreOwn owns v.handles xs → AreOwn owns v.handles (xs ++ z ∷ [])
   owns-other owns nobodys own actor =
-      if-weaker (λ (o : OwnBios). IsOwnCount v.handles xs actor o.count o.low)
+      if_some_weaker (λ (o : OwnBios). IsOwnCount v.handles xs actor o.count o.low)
       (λ (o : OwnBios). IsOwnCount v.handles (xs ++ z ∷ []) actor o.count o.low)
       (λ o is. own-other v.handles actor xs z o.count o.low (nobodys actor) is) (slice_get owns actor) (own actor)
 
@@ -144,7 +147,7 @@ module _ (t : TopoView Config) (v : HandlesView) (xs : List Trip) (z : Trip) (c 
     where
       kept : (actor == a) ≡ false → IfSome (slice_get owns a) (λ o. IsOwnCount v.handles (xs ++ z ∷ []) a o.count o.low)
       kept e =
-          if-weaker (λ (o : OwnBios). IsOwnCount v.handles xs a o.count o.low)
+          if_some_weaker (λ (o : OwnBios). IsOwnCount v.handles xs a o.count o.low)
           (λ (o : OwnBios). IsOwnCount v.handles (xs ++ z ∷ []) a o.count o.low)
           (λ o is. own-other v.handles a xs z o.count o.low (mine a ∙ e) is) (slice_get owns a) (own a)
 
@@ -162,7 +165,7 @@ module _ (t : TopoView Config) (v : HandlesView) (xs : List Trip) (z : Trip) (c 
           ap (slice_get (change_own (with_bio z.number) owns actor (Some o))) (sym same)
           ∙ slot-same owns actor (with_bio z.number o) o is in
           let old : IsOwnCount v.handles xs a o.count o.low =
-          at-some (λ (x : OwnBios). IsOwnCount v.handles xs a x.count x.low) (slice_get owns a) o
+          at-found (slice_get owns a) (λ (x : OwnBios). IsOwnCount v.handles xs a x.count x.low) o
           (ap (slice_get owns) (sym same) ∙ is) (own a) in
           rw (is, at) (own-more v.handles a xs z o.count o.low (mine a ∙ e) old)
       on (Some o) is false e =
@@ -186,10 +189,10 @@ asker-alive v c hd h numbers alone found has lives =
     around-fact (λ (k : Handle). k.number) hd h v.handles r (λ k. names_number k.consumer c ≡ is_at o k.number) alone in
     let named : names_number h.consumer c ≡ true = ap (λ p. names_number p c) has ∙ eq-eqb c c refl in
     let here : is_at o h.number ≡ true = sym at ∙ named in
-    all-weaker (λ (k : Handle). ((k.number == hd) ≡ true → k.dead ≡ false)
+    all_weaker (λ (k : Handle). ((k.number == hd) ≡ true → k.dead ≡ false)
     × (names_number k.consumer c ≡ is_at o k.number)) (λ k. names_number k.consumer c ≡ true → k.dead ≡ false)
     (λ k facts e. facts.0 (one o k.number (sym facts.1 ∙ e) here (eqb-true h.number hd r.here))) v.handles
-    (all-both (λ (k : Handle). (k.number == hd) ≡ true → k.dead ≡ false)
+    (two_facts (λ (k : Handle). (k.number == hd) ≡ true → k.dead ≡ false)
     (λ k. names_number k.consumer c ≡ is_at o k.number) v.handles mine alone)
   where
     one : (p : Option ℕ) (m : ℕ) → is_at p m ≡ true → is_at p h.number ≡ true → h.number ≡ hd → (m == hd) ≡ true
@@ -203,7 +206,7 @@ pub own-of_line : (handles : List Handle) (hd line : ℕ) (h : Handle) (z : Trip
 own-of_line handles hd line h z found owner a =
     ap (λ o. option_map_or (λ (k : Handle). k.actor == a) (handle_of_owner handles o) false) owner
     ∙ ap (λ o. option_map_or (λ (k : Handle). k.actor == a) o false)
-    (find-same (λ (k : Handle). k.number == hd) (λ k. hd == k.number) handles (each handles) ∙ found)
+    (find_agree (λ (k : Handle). hd == k.number) (λ (k : Handle). k.number == hd) handles (each handles) ∙ found)
   where
     each : (ks : List Handle) → AllByRecursion (λ k. (hd == k.number) ≡ (k.number == hd)) ks
     each [] = tt

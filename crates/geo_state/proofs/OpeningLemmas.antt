@@ -100,4 +100,5 @@ spare-only s n h = record {
 pub holds-spare : (s : State) (t : TrafficView) → t ≡ record s.traffic { spare = t.spare } → Holds s
     → Holds (record s { traffic = t })
 holds-spare s t spare h =
-    subst (λ (u : TrafficView). let z : State = record s { traffic = u } in Holds z) (sym spare) (spare-only s t.spare h)
+    subst (λ (u : TrafficView). let z : State = record s { traffic = u } in Holds z) (sym spare)
+    (spare-only s t.spare h)

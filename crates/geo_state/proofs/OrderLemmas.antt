@@ -1,10 +1,11 @@
 -- Bios in order of their numbers, and the one of a number among them.
-use Rattle.std.proofs.Common.{◌≡◌, ℕ, suc, ◌+◌, ◌<◌, ◌≤◌, ◌==◌, List, [], ◌∷◌, ◌++◌, length, map, filter, not, cond, Bool, true, false, Option, Some, None, sym, refl, ap, ◌∙◌, subst, arith}
+use Rattle.std.proofs.Common.{◌≡◌, ℕ, suc, ◌+◌, ◌<◌, ◌≤◌, ◌==◌, List, [], ◌∷◌, ◌++◌, length, map, not, cond, Bool, true, false, Option, Some, None, sym, refl, ap, ◌∙◌, subst, arith}
 use Rattle.std.specs.List.{AllByRecursion}
 use Rattle.std.specs.List.Sorted.{IsStrictlyIncreasing}
 use Rattle.std.proofs.lemmas.Bool.{eqb-true, eq-eqb, ne_eqb}
 use Rattle.std.proofs.lemmas.List.{map-append}
 use Rattle.std.proofs.lemmas.List.Elements.{filter-append, recursion_from_All}
+use Rattle.geo_base.proofs.FilterLists.{keeps_all}
 use Rattle.geo_model.specs.declared.step.Phase.{Phase}
 use Rattle.geo_model.specs.World.{BioOf, change_number}
 use Rattle.geo_bio.specs.declared.bio.Held.{Held}
@@ -127,12 +128,6 @@ stands_at (y ∷ ys) n x rising found = at (y.number == n) refl (stands_at ys n 
         above = rest.above;
       }
 
--- what is kept where all pass
-pub filter_all : {X : Type 0} (keep : X → Bool) (xs : List X) → AllByRecursion (λ x. keep x ≡ true) xs
-    → filter keep xs ≡ xs
-filter_all keep [] all = refl
-filter_all keep (x ∷ xs) all = rw all.0 (ap (λ ys. x ∷ ys) (filter_all keep xs all.1))
-
 module _ (n : ℕ) where
   -- lower numbers are other ones
   differ_below : (ys : List (BioOf Held)) → AllByRecursion (λ y. y.number < n) ys
@@ -148,7 +143,7 @@ module _ (n : ℕ) where
 
   -- those of other numbers stay
   kept : (ys : List (BioOf Held)) → AllByRecursion (λ y. (y.number == n) ≡ false) ys → others n ys ≡ ys
-  kept ys all = filter_all (λ y. not (y.number == n)) ys (passes ys all) where
+  kept ys all = keeps_all (λ y. not (y.number == n)) ys (passes ys all) where
     passes : (zs : List (BioOf Held)) → AllByRecursion (λ y. (y.number == n) ≡ false) zs
         → AllByRecursion (λ y. not (y.number == n) ≡ true) zs
     passes [] all = tt

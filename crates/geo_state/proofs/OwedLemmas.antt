@@ -87,7 +87,8 @@ module _ (before after : ℕ → Counts) (less : (p : ℕ) → IsAtMost (after p
   rows-less (p ∷ ps) =
       let one = one-less p in
       let rest = rows-less ps in
-      let a : count_by writes (map row_after (p ∷ ps)) ≡ counts writes (row_after p) + count_by writes (map row_after ps) =
+      let a : count_by writes (map row_after (p ∷ ps))
+      ≡ counts writes (row_after p) + count_by writes (map row_after ps) =
       count-step writes (row_after p) (map row_after ps) in
       let f : count_by (λ (row : ℕ × Bool). row.1) (map row_fallen (p ∷ ps))
       ≡ counts (λ (row : ℕ × Bool). row.1) (row_fallen p)

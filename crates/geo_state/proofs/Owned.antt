@@ -5,13 +5,16 @@ use Rattle.std.specs.List.{AllByRecursion}
 use Rattle.std.specs.Option.{option_map, option_map_or}
 use Rattle.std.proofs.Common.{refl, sym, ◌∙◌, ap, arith, eq-eqb}
 use Rattle.std.proofs.lemmas.Bool.{eqb-true, not-false}
+use Rattle.geo_base.proofs.Options.{none-mapped}
+use Rattle.geo_base.proofs.FindLists.{none_passes}
+use Rattle.geo_base.proofs.AllLists.{all_appended, all_kept, all_weaker}
 use Rattle.geo_model.specs.Topology.{Topology}
 use Rattle.geo_model.specs.Words.{change_where}
 use Rattle.geo_model.specs.World.{Config, Handle, is_taste_root}
 use Rattle.geo_model.specs.Bios.{disk_at}
 use Rattle.geo_state.specs.Trips.{Trip, taste_read, is_at_disk, busy_at, is_own, IsOwnCount}
 use Rattle.geo_state.proofs.Outs.{eqb_sym}
-use Rattle.geo_state.proofs.Lists.{Around, around-changed, around-gone, around-count, around-all, count-append, counts, count-step, count-skip, count-kept, count-none, find-none, find-past, find-before, find-kept_by, none-found, none-mapped, all-append, all-kept, all-weaker, all-front, all-back}
+use Rattle.geo_state.proofs.Lists.{Around, around-changed, around-gone, around-count, around-all, count-append, counts, count-step, count-skip, count-kept, count-none, find-none, find-past, find-before, find-kept_by, all-front, all-back}
 
 -- where none is counted none passes
 pub none-counted : {X : Type 0} (p : X → Bool) (xs : List X) → count_by p xs ≡ 0 → AllByRecursion (λ x. p x ≡ false) xs
@@ -38,10 +41,11 @@ module _ (handles : List Handle) (actor : ℕ) where
         ∙ (let all : count_by (is_own handles actor) (xs ++ z ∷ [])
         ≡ count_by (is_own handles actor) xs + count_by (is_own handles actor) (z ∷ []) =
         count-append (is_own handles actor) xs (z ∷ []) in
-        let none : count_by (is_own handles actor) (z ∷ []) ≡ 0 = count-none (is_own handles actor) (z ∷ []) (other, tt) in
+        let none : count_by (is_own handles actor) (z ∷ []) ≡ 0 =
+        count-none (is_own handles actor) (z ∷ []) (other, tt) in
         omega (arith, all, none));
     low_is =
-        all-append (λ x. is_own handles actor x ≡ true → low ≤ x.number) xs (z ∷ []) is.low_is
+        all_appended (λ x. is_own handles actor x ≡ true → low ≤ x.number) xs (z ∷ []) is.low_is
         ((λ e. let never : true ≡ false = sym e ∙ other in absurd cc), tt);
   }
 
@@ -67,16 +71,16 @@ module _ (handles : List Handle) (actor : ℕ) where
           (xs ++ z ∷ [])
       by true e =
           rw e
-          (all-append (λ x. is_own handles actor x ≡ true → z.number ≤ x.number) xs (z ∷ [])
-          (all-weaker (λ (x : Trip). is_own handles actor x ≡ false)
+          (all_appended (λ x. is_own handles actor x ≡ true → z.number ≤ x.number) xs (z ∷ [])
+          (all_weaker (λ (x : Trip). is_own handles actor x ≡ false)
           (λ x. is_own handles actor x ≡ true → z.number ≤ x.number)
           (λ x no e. let never : false ≡ true = sym no ∙ e in absurd cc) xs
           (none-counted (is_own handles actor) xs (sym is.count_is ∙ eqb-true count 0 e)))
           ((λ e. omega arith), tt))
       by false e =
           rw e
-          (all-append (λ x. is_own handles actor x ≡ true → min low z.number ≤ x.number) xs (z ∷ [])
-          (all-weaker (λ (x : Trip). is_own handles actor x ≡ true → low ≤ x.number)
+          (all_appended (λ x. is_own handles actor x ≡ true → min low z.number ≤ x.number) xs (z ∷ [])
+          (all_weaker (λ (x : Trip). is_own handles actor x ≡ true → low ≤ x.number)
           (λ x. is_own handles actor x ≡ true → min low z.number ≤ x.number)
           (λ x above e. let l = above e in omega (arith, l)) xs is.low_is)
           ((λ e. omega arith), tt))
@@ -97,7 +101,7 @@ module _ (handles : List Handle) (actor : ℕ) where
         let was = is.count_is in
         omega (arith, gone, whole, with_it, step, one, was);
     low_is =
-        all-kept (λ x. is_own handles actor x ≡ true → low ≤ x.number) (λ z. not (z.number == b)) xs is.low_is;
+        all_kept (λ x. is_own handles actor x ≡ true → low ≤ x.number) (λ z. not (z.number == b)) xs is.low_is;
   }
 
   -- there was one at least
@@ -119,14 +123,14 @@ module _ (handles : List Handle) (actor : ℕ) where
       → IsOwnCount handles xs actor count low → IsOwnCount handles (filter keep xs) actor count low
   own-kept keep xs count low others is = record {
     count_is = is.count_is ∙ sym (count-kept (is_own handles actor) keep xs others);
-    low_is = all-kept (λ x. is_own handles actor x ≡ true → low ≤ x.number) keep xs is.low_is;
+    low_is = all_kept (λ x. is_own handles actor x ≡ true → low ≤ x.number) keep xs is.low_is;
   }
 
 -- only the one of a number fails a test of other numbers
 pub only-fails : (b : ℕ) (x : Trip) (xs : List Trip) (p : Trip → Bool) → Around (λ (z : Trip). z.number) b x xs
     → p x ≡ false → AllByRecursion (λ z. not (z.number == b) ≡ false → p z ≡ false) xs
 only-fails b x xs p r fails =
-    all-weaker (λ z. (z.number == b) ≡ true → p z ≡ false) (λ z. not (z.number == b) ≡ false → p z ≡ false)
+    all_weaker (λ z. (z.number == b) ≡ true → p z ≡ false) (λ z. not (z.number == b) ≡ false → p z ≡ false)
     (λ z so e. so (not-false (z.number == b) e)) xs
     (around-all (λ (z : Trip). z.number) b x xs r (λ z. p z ≡ false) fails)
 
@@ -142,7 +146,7 @@ pub read-first : (xs : List Trip) (z : Trip) → is_taste_root z.owner ≡ true 
 read-first xs z reads none =
     ap (option_map (λ (x : Trip). x.number))
     (find-past (λ x. is_taste_root x.owner) xs (z ∷ [])
-    (none-found (λ (x : Trip). is_taste_root x.owner) xs
+    (none_passes (λ (x : Trip). is_taste_root x.owner) xs
     (none-mapped (λ (x : Trip). x.number) (find (λ (x : Trip). is_taste_root x.owner) xs) none))
     ∙ found)
   where
@@ -249,7 +253,7 @@ module _ (t : Topology Config) (disk b : ℕ) (x : Trip) (xs : List Trip) (r : A
           ≡ (if c then Some x.number else busy_at t xs d)
       by true e =
           let same : d ≡ disk = eqb-true d disk e in
-          let all = none-found (is_at_disk t disk) xs
+          let all = none_passes (is_at_disk t disk) xs
           (none-mapped (λ (z : Trip). z.number) (find (is_at_disk t disk) xs) none) in
           let front = all-front (λ z. is_at_disk t disk z ≡ false) r.front (x ∷ r.back) (rw r.is at all) in
           rw same
@@ -278,10 +282,12 @@ module _ (t : Topology Config) (disk b : ℕ) (x : Trip) (xs : List Trip) (r : A
       whole = rw r.is at alone
 
       back : AllByRecursion (λ z. is_at_disk t disk z ≡ false) r.back
-      back = apart r.back (all-back (λ z. is_at_disk t disk z ≡ true → (z.number == b) ≡ true) r.front (x ∷ r.back) whole).1 r.after
+      back = apart r.back
+          (all-back (λ z. is_at_disk t disk z ≡ true → (z.number == b) ≡ true) r.front (x ∷ r.back) whole).1 r.after
 
       front : AllByRecursion (λ z. is_at_disk t disk z ≡ false) r.front
-      front = apart r.front (all-front (λ z. is_at_disk t disk z ≡ true → (z.number == b) ≡ true) r.front (x ∷ r.back) whole) r.before
+      front = apart r.front
+          (all-front (λ z. is_at_disk t disk z ≡ true → (z.number == b) ≡ true) r.front (x ∷ r.back) whole) r.before
 
       by : (c : Bool) → (d == disk) ≡ c
           → busy_at t (change_where (λ z. z.number == b) (λ z. record z { busy = false }) xs) d

@@ -5,6 +5,7 @@ use Rattle.std.specs.Option.{option_map_or, option_or}
 use Rattle.std.proofs.lemmas.Bool.{le-leb, lt-leb}
 use Rattle.std.proofs.lemmas.List.Folds.{find-append}
 use Rattle.std.proofs.lemmas.List.Sums.{sum_by-append, sum_by-cons}
+use Rattle.geo_base.proofs.FindLists.{find_agree}
 use Rattle.geo_model.specs.declared.step.Phase.{Phase}
 use Rattle.geo_model.specs.World.{BioOf}
 use Rattle.geo_bio.specs.declared.bio.Held.{Held}
@@ -27,12 +28,6 @@ none_counted test (x ∷ xs) none =
     at false e whole rest =
         let left : 0 + count_in test xs ≡ 0 = rw e at whole in
         rw e (rest (omega (arith, left)))
-
--- tests that agree on each item find the same
-pub find_agree : {X : Type 0} (p q : X → Bool) (xs : List X) → AllByRecursion (λ x. p x ≡ q x) xs
-    → find p xs ≡ find q xs
-find_agree p q [] same = refl
-find_agree p q (x ∷ xs) same = (λ i. cond (same.0 i) (Some x) (find_agree p q xs same.1 i))
 
 module _ (test : Phase → Bool) (front back : List (BioOf Held)) where
   -- a search by phase

@@ -3,6 +3,8 @@ use Rattle.std.specs.Prelude.{◌≡◌, ◌≢◌, ℕ, ◌==◌, Bool, true, f
 use Rattle.std.specs.List.{AllByRecursion}
 use Rattle.std.specs.Option.{option_map, option_map_or}
 use Rattle.std.proofs.Common.{refl, sym, ◌∙◌, ap}
+use Rattle.geo_base.proofs.FindLists.{none_passes}
+use Rattle.geo_base.proofs.AllLists.{all_weaker, two_facts}
 use Rattle.geo_model.specs.Graph.{AreNumbers}
 use Rattle.geo_model.specs.Words.{names_number}
 use Rattle.geo_model.specs.World.{Config, Handle}
@@ -14,7 +16,7 @@ use Rattle.geo_handles.specs.HandleLaws.{noted}
 use Rattle.geo_handles.proofs.HandleLawLemmas.{notes_follow}
 use Rattle.geo_state.specs.Trips.{Trip, out_through, can_be_reaped}
 use Rattle.geo_state.specs.Ready.{is_idle_now, renoted, refreshed}
-use Rattle.geo_state.proofs.Lists.{Around, around, around-all, all-both, all-weaker, none-found}
+use Rattle.geo_state.proofs.Lists.{Around, around, around-all}
 use Rattle.geo_state.proofs.Outs.{reaped-same}
 
 -- notes by another test that gives the same
@@ -23,7 +25,7 @@ pub noted-same : (test other : Handle → Bool) (handles : List Handle)
 noted-same test other handles same =
     map_same (λ (h : Handle). let row : ℕ × Bool = (h.number, other h) in row)
     (λ (h : Handle). let row : ℕ × Bool = (h.number, test h) in row) handles
-    (all-weaker (λ (h : Handle). other h ≡ test h)
+    (all_weaker (λ (h : Handle). other h ≡ test h)
     (λ (h : Handle). ◌≡◌ {A = ℕ × Bool} (h.number, other h) (h.number, test h))
     (λ h e. ap (λ b. let row : ℕ × Bool = (h.number, b) in row) e) handles same)
 
@@ -50,17 +52,17 @@ pub ready-alive : (v : HandlesView) (c : ℕ) (xs ys : List Trip)
 ready-alive v c xs ys others alive ready =
     ready
     ∙ sym (noted-same (can_be_reaped xs) (can_be_reaped ys) v.handles
-    (all-weaker (λ (h : Handle). names_number h.consumer c ≡ true → h.dead ≡ false)
+    (all_weaker (λ (h : Handle). names_number h.consumer c ≡ true → h.dead ≡ false)
     (λ h. can_be_reaped ys h ≡ can_be_reaped xs h) (λ h lives. reaped-same c xs ys others h lives) v.handles alive))
 
 -- the consumer that no handle has
 pub nobodys-alive : (c : ℕ) (handles : List Handle) → holding_handle handles c ≡ None
     → AllByRecursion (λ h. names_number h.consumer c ≡ true → h.dead ≡ false) handles
 nobodys-alive c handles none =
-    all-weaker (λ (h : Handle). names_number h.consumer c ≡ false)
+    all_weaker (λ (h : Handle). names_number h.consumer c ≡ false)
     (λ h. names_number h.consumer c ≡ true → h.dead ≡ false)
     (λ h no yes. let never : false ≡ true = sym no ∙ yes in absurd cc) handles
-    (none-found (λ (h : Handle). names_number h.consumer c) handles none)
+    (none_passes (λ (h : Handle). names_number h.consumer c) handles none)
 
 -- the one handle that has a consumer
 pub record IsHolder (v : HandlesView) (c : ℕ) (h : Handle) : Type 0 where
@@ -82,16 +84,16 @@ holder v c h numbers alone is found names =
     rw (ap (option_map (λ (k : Handle). k.number)) is) at alone in
     record {
       holds =
-          all-weaker (λ (k : Handle). ((k.number == h.number) ≡ true → k ≡ h)
+          all_weaker (λ (k : Handle). ((k.number == h.number) ≡ true → k ≡ h)
           × (names_number k.consumer c ≡ (k.number == h.number)))
           (λ k. names_number k.consumer c ≡ true → k ≡ h)
           (λ k both e. both.0 (sym both.1 ∙ e)) v.handles
-          (all-both (λ (k : Handle). (k.number == h.number) ≡ true → k ≡ h)
+          (two_facts (λ (k : Handle). (k.number == h.number) ≡ true → k ≡ h)
           (λ k. names_number k.consumer c ≡ (k.number == h.number)) v.handles mine at);
       has = names_some h.consumer c names;
       numbered = mine;
       alone =
-          all-weaker (λ (k : Handle). names_number k.consumer c ≡ (k.number == h.number))
+          all_weaker (λ (k : Handle). names_number k.consumer c ≡ (k.number == h.number))
           (λ k. (k.number == h.number) ≡ false → names_number k.consumer c ≡ false)
           (λ k same e. same ∙ e) v.handles at;
     }
@@ -109,12 +111,12 @@ module _ (v : HandlesView) (t : TopoView Config) (c : ℕ) (ys : List Trip) (bef
       ap (λ o. renoted v.ready (is_idle_now t c) o) none
       ∙ ready
       ∙ sym (noted-same before (can_be_reaped ys) v.handles
-      (all-weaker (λ (h : Handle). (names_number h.consumer c ≡ false → can_be_reaped ys h ≡ before h)
+      (all_weaker (λ (h : Handle). (names_number h.consumer c ≡ false → can_be_reaped ys h ≡ before h)
       × (names_number h.consumer c ≡ false)) (λ h. can_be_reaped ys h ≡ before h)
       (λ h both. both.0 both.1) v.handles
-      (all-both (λ (h : Handle). names_number h.consumer c ≡ false → can_be_reaped ys h ≡ before h)
+      (two_facts (λ (h : Handle). names_number h.consumer c ≡ false → can_be_reaped ys h ≡ before h)
       (λ h. names_number h.consumer c ≡ false) v.handles others
-      (none-found (λ (h : Handle). names_number h.consumer c) v.handles none))))
+      (none_passes (λ (h : Handle). names_number h.consumer c) v.handles none))))
 
   pub refreshed-one : (h : Handle) → holding_handle v.handles c ≡ Some h → IsHolder v c h
       → v.ready ≡ noted before v.handles → refreshed v t c ≡ noted (can_be_reaped ys) v.handles
@@ -124,15 +126,15 @@ module _ (v : HandlesView) (t : TopoView Config) (c : ℕ) (ys : List Trip) (bef
       ∙ (notes_follow before v.handles).notes h.number (h.dead && is_idle_now t c)
       ∙ sym (noted-same (λ k. if k.number == h.number then h.dead && is_idle_now t c else before k)
       (can_be_reaped ys) v.handles
-      (all-weaker (λ (k : Handle). ((k.number == h.number) ≡ true → k ≡ h)
+      (all_weaker (λ (k : Handle). ((k.number == h.number) ≡ true → k ≡ h)
       × (((k.number == h.number) ≡ false → names_number k.consumer c ≡ false)
       × (names_number k.consumer c ≡ false → can_be_reaped ys k ≡ before k)))
       (λ k. can_be_reaped ys k ≡ (if k.number == h.number then h.dead && is_idle_now t c else before k))
       (λ k facts. by k (k.number == h.number) refl facts.0 facts.1.0 facts.1.1) v.handles
-      (all-both (λ (k : Handle). (k.number == h.number) ≡ true → k ≡ h)
+      (two_facts (λ (k : Handle). (k.number == h.number) ≡ true → k ≡ h)
       (λ k. ((k.number == h.number) ≡ false → names_number k.consumer c ≡ false)
       × (names_number k.consumer c ≡ false → can_be_reaped ys k ≡ before k)) v.handles one.numbered
-      (all-both (λ (k : Handle). (k.number == h.number) ≡ false → names_number k.consumer c ≡ false)
+      (two_facts (λ (k : Handle). (k.number == h.number) ≡ false → names_number k.consumer c ≡ false)
       (λ k. names_number k.consumer c ≡ false → can_be_reaped ys k ≡ before k) v.handles one.alone others))))
     where
       mine : can_be_reaped ys h ≡ (h.dead && is_idle_now t c)

@@ -4,6 +4,7 @@ use Rattle.std.specs.List.{AllByRecursion}
 use Rattle.std.proofs.lemmas.Bool.{and_parts}
 use Rattle.std.proofs.lemmas.List.Filters.{length-filter_both}
 use Rattle.std.proofs.lemmas.List.Sums.{length-filter, sum_by-cons}
+use Rattle.geo_model.proofs.BioLemmas.{phase_waiting}
 use Rattle.geo_model.specs.declared.step.Owner.{Owner}
 use Rattle.geo_model.specs.declared.step.Owner.TheVariants as owners
 use Rattle.geo_model.specs.declared.step.Phase.{Phase}
@@ -24,15 +25,6 @@ use Rattle.geo_state.proofs.OrderLemmas.{Rising, StandsAt, stands_at, change_is,
 use Rattle.geo_state.proofs.CursorLemmas.{others_cursor, count_others, length_others}
 use Rattle.geo_state.proofs.CountLemmas.{from_up_done, from_waiting_up}
 use Rattle.geo_state.proofs.ShownLemmas.{count-map}
-
--- one that waits
-waiting_is : (p : Phase) → is_waiting p ≡ true → p ≡ phases.Waiting
-waiting_is phases.Down e = absurd cc
-waiting_is phases.Sent e = absurd cc
-waiting_is (phases.Busy seat) e = absurd cc
-waiting_is phases.Waiting e = refl
-waiting_is phases.Up e = absurd cc
-waiting_is phases.Done e = absurd cc
 
 -- one that is done
 done_is : (p : Phase) → is_done p ≡ true → p ≡ phases.Done
@@ -187,7 +179,7 @@ module _ (bios : List (BioOf Held)) (x : BioOf Held) (rising : Rising bios) (fou
     apart same =
         let both : Some y ≡ Some x = sym there ∙ ap (bio_among bios) same ∙ found in
         let one : y ≡ x = cc in
-        let never : phases.Waiting ≡ phases.Up = sym (waiting_is y.phase waits) ∙ ap (λ z. z.phase) one ∙ was in
+        let never : phases.Waiting ≡ phases.Up = sym (phase_waiting y.phase waits) ∙ ap (λ z. z.phase) one ∙ was in
         cc
 
     still_there : bio_among gathering p ≡ Some y
@@ -205,7 +197,7 @@ module _ (bios : List (BioOf Held)) (x : BioOf Held) (rising : Rising bios) (fou
       ended_counted : IsCounted ended down sent (with_one u p) busy live
       ended_counted =
           from_waiting_up gathering p y still_rising still_there down sent u busy live still_counted (up_with h) refl
-          (waiting_is y.phase waits) refl
+          (phase_waiting y.phase waits) refl
 
       -- its children are still done
       children_done : are_in gathering p ≡ true → AllByRecursion (ChildIsDone p) ended
@@ -214,7 +206,7 @@ module _ (bios : List (BioOf Held)) (x : BioOf Held) (rising : Rising bios) (fou
           let each = subst (AllByRecursion (ChildIsDone p)) s.is (each_done p gathering all) in
           let parts = parts_all (ChildIsDone p) s.front (y ∷ s.back) each in
           let here : ChildIsDone p (up_with h y) =
-          λ child. absurd (let never : phases.Waiting ≡ phases.Done = sym (waiting_is y.phase waits)
+          λ child. absurd (let never : phases.Waiting ≡ phases.Done = sym (phase_waiting y.phase waits)
           ∙ done_is y.phase (parts.1.0 child) in cc) in
           subst (AllByRecursion (ChildIsDone p)) (sym (change_is p gathering y s (up_with h)))
           (both_all (ChildIsDone p) s.front (up_with h y ∷ s.back) parts.0 (here, parts.1.1))

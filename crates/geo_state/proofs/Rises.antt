@@ -4,6 +4,10 @@ use Rattle.std.specs.List.{AllByRecursion}
 use Rattle.std.specs.Option.{option_map, option_map_or}
 use Rattle.std.proofs.Common.{refl, sym, ◌∙◌, ap, eq-eqb}
 use Rattle.std.proofs.lemmas.Bool.{eqb-true, ne_eqb, and_parts, not-false}
+use Rattle.geo_base.proofs.FindLists.{found_passes}
+use Rattle.geo_base.proofs.AllLists.{all_weaker}
+use Rattle.geo_base.proofs.Options.{if_some_weaker, at-found, if-found}
+use Rattle.geo_base.proofs.PlaceLists.{slot-same, slot-other}
 use Rattle.geo_model.specs.declared.step.Owner.{Owner}
 use Rattle.geo_model.specs.declared.step.Owner.TheVariants as owners
 use Rattle.geo_model.specs.declared.step.Phase.{Phase}
@@ -23,7 +27,6 @@ use Rattle.geo_handles.specs.Handles.{HandlesView, HoldsAlone, holding_handle, h
 use Rattle.geo_handles.specs.HandleLaws.{noted}
 use Rattle.geo_laws_graph.proofs.Lists.{find-changed, all-changed, found_itself}
 use Rattle.geo_laws_graph.proofs.Members.{find-Contains}
-use Rattle.geo_base.proofs.Tests.{found_passes}
 use Rattle.geo_state.specs.declared.state.State.{State}
 use Rattle.geo_state.specs.declared.state.OwnBios.{OwnBios}
 use Rattle.geo_state.specs.Trips.{Trip, trip_of, trips, out_through, can_be_reaped, taste_read, is_at_disk, busy_at, is_own, IsOwnCount}
@@ -31,14 +34,13 @@ use Rattle.geo_state.specs.Own.{without_bio, change_own, left_by}
 use Rattle.geo_state.specs.Bios.{own_after, read_after, CanLeave, IsOfItsOwner}
 use Rattle.geo_state.specs.Ready.{refreshed}
 use Rattle.geo_state.specs.Holds.{Holds, AreOut, AreReady, AreOwn, AreSeats}
-use Rattle.geo_state.proofs.Lists.{Around, around-all, all-weaker}
+use Rattle.geo_state.proofs.Lists.{Around, around-all}
 use Rattle.geo_state.proofs.TripLemmas.{trips-changed, trips-same, trips-kept}
 use Rattle.geo_state.proofs.Outs.{rows-changed, out-back, out-gone, out-some, reaped-same}
 use Rattle.geo_state.proofs.Owned.{own-gone, own-some, own-kept, only-fails, read-kept, read-gone, busy-kept}
 use Rattle.geo_state.proofs.Unseen.{SameReads, reads-same, reads-gone, busy-gone, IsGoneChild, count-changed, InPhase, in-phase, trips-around, up-is, waiting-is, done-is}
 use Rattle.geo_state.proofs.ReadyLemmas.{holder, refreshed-none, refreshed-one}
-use Rattle.geo_state.proofs.Slots.{slot-same, slot-other}
-use Rattle.geo_state.proofs.Fields.{apart, if-weaker, at-some, if-some, seats-same}
+use Rattle.geo_state.proofs.Fields.{apart, seats-same}
 use Rattle.geo_state.proofs.Moves.{holds-moved, own-of_line, own-of_nobody}
 
 -- from the one list to the other one request less is out through a consumer, and the rest is kept
@@ -55,7 +57,7 @@ pub rise-on : (s : State) (x : Trip) (ys zs : List Trip) → SameReads ys zs
 rise-on s x ys zs same busy r = record {
   out = λ d. same.out d ∙ r.out d;
   own = λ actor.
-      if-weaker (λ (o : OwnBios). IsOwnCount s.handles.handles ys actor o.count o.low)
+      if_some_weaker (λ (o : OwnBios). IsOwnCount s.handles.handles ys actor o.count o.low)
       (λ (o : OwnBios). IsOwnCount s.handles.handles zs actor o.count o.low)
       (λ o is. same.own s.handles.handles actor o.count o.low is) (slice_get (own_after s x.owner) actor) (r.own actor);
   taste = r.taste ∙ sym same.read;
@@ -72,7 +74,7 @@ module _ (handles : List Handle) (b : ℕ) (x : Trip) (xs : List Trip) (r : Arou
       → IfSome (slice_get owns a) (λ (o : OwnBios). IsOwnCount handles xs a o.count o.low)
       → IfSome (slice_get owns a) (λ (o : OwnBios). IsOwnCount handles rest a o.count o.low)
   one-kept a other is =
-      if-weaker (λ (o : OwnBios). IsOwnCount handles xs a o.count o.low)
+      if_some_weaker (λ (o : OwnBios). IsOwnCount handles xs a o.count o.low)
       (λ (o : OwnBios). IsOwnCount handles rest a o.count o.low)
       (λ o own. own-kept handles a (λ z. not (z.number == b)) xs o.count o.low
       (only-fails b x xs (is_own handles a) r other) own) (slice_get owns a) is
@@ -99,7 +101,7 @@ module _ (handles : List Handle) (b : ℕ) (x : Trip) (xs : List Trip) (r : Arou
           ap (slice_get (change_own without_bio owns actor (Some o))) (sym same)
           ∙ slot-same owns actor (without_bio o) o is in
           let old : IsOwnCount handles xs a o.count o.low =
-          at-some (λ (y : OwnBios). IsOwnCount handles xs a y.count y.low) (slice_get owns a) o
+          at-found (slice_get owns a) (λ (y : OwnBios). IsOwnCount handles xs a y.count y.low) o
           (ap (slice_get owns) (sym same) ∙ is) (own a) in
           rw (is, at) (own-gone handles a b x xs o.count o.low r (mine a ∙ e) old)
       on (Some o) is false e =
@@ -167,7 +169,7 @@ module _ (s : State) (b : ℕ) (x : BioOf Held) (at : InPhase is_up s.traffic.bi
     rise-child parent index owner = record {
       out = λ d. out-back b z xs r going d;
       own = rw owner (λ actor.
-          if-weaker (λ (o : OwnBios). IsOwnCount s.handles.handles xs actor o.count o.low)
+          if_some_weaker (λ (o : OwnBios). IsOwnCount s.handles.handles xs actor o.count o.low)
           (λ (o : OwnBios). IsOwnCount s.handles.handles
           (change_where (λ (y : Trip). y.number == b) (λ y. record y { done = true }) xs) actor o.count o.low)
           (λ o own. record {
@@ -265,12 +267,13 @@ module _ (log : ℕ → Option (List ℕ)) (bios : List (BioOf Held)) (parent : 
   up_trips : (result : Held) → trips (change_number parent (up_with result) bios) ≡ trips bios
   up_trips result =
       trips-same parent (up_with result) bios
-      (all-weaker (λ (y : BioOf Held). (y.number == parent) ≡ true → is_waiting y.phase ≡ true)
+      (all_weaker (λ (y : BioOf Held). (y.number == parent) ≡ true → is_waiting y.phase ≡ true)
       (λ y. (y.number == parent) ≡ true → trip_of (up_with result y) ≡ trip_of y)
       (λ y so e. waiting-unseen result y (so e)) bios waits)
 
   left_trips : (result : Held)
-      → trips (filter (λ (y : BioOf Held). not (is_child_of y.owner parent)) (change_number parent (up_with result) bios))
+      → trips
+      (filter (λ (y : BioOf Held). not (is_child_of y.owner parent)) (change_number parent (up_with result) bios))
       ≡ filter (λ (w : Trip). not (is_child_of w.owner parent)) (trips bios)
   left_trips result =
       trips-kept (λ (y : BioOf Held). not (is_child_of y.owner parent)) (λ (w : Trip). not (is_child_of w.owner parent))
@@ -284,7 +287,8 @@ module _ (log : ℕ → Option (List ℕ)) (bios : List (BioOf Held)) (parent : 
           → SameReads (trips bios)
           (trips
           (option_map_or
-          (λ x. filter (λ y. not (is_child_of y.owner parent)) (change_number parent (up_with (gathered log bios x)) bios))
+          (λ x. filter (λ y. not (is_child_of y.owner parent))
+          (change_number parent (up_with (gathered log bios x)) bios))
           o bios))
       on None = reads-same (trips bios) (trips bios) refl
       on (Some y) =
@@ -299,7 +303,8 @@ module _ (log : ℕ → Option (List ℕ)) (bios : List (BioOf Held)) (parent : 
           → busy_at t
           (trips
           (option_map_or
-          (λ x. filter (λ y. not (is_child_of y.owner parent)) (change_number parent (up_with (gathered log bios x)) bios))
+          (λ x. filter (λ y. not (is_child_of y.owner parent))
+          (change_number parent (up_with (gathered log bios x)) bios))
           o bios)) disk ≡ busy_at t (trips bios) disk
       on None = refl
       on (Some y) =
@@ -410,15 +415,16 @@ module _ (s : State) (next b : ℕ) (x : BioOf Held) (log : ℕ → Option (List
   can-leave owners.Taste owner = tt
   can-leave (owners.Child parent index) owner = tt
   can-leave (owners.Line hd line) owner =
-      if-some (λ (k : Handle). IfSome (slice_get s.own.items k.actor) (λ own. 1 ≤ own.count))
-      (handle_at s.handles.handles hd)
-      (λ k found. if-some (λ (own : OwnBios). 1 ≤ own.count) (slice_get s.own.items k.actor)
+      if-found (handle_at s.handles.handles hd)
+      (λ (k : Handle). IfSome (slice_get s.own.items k.actor) (λ own. 1 ≤ own.count))
+      (λ k found. if-found (slice_get s.own.items k.actor) (λ (own : OwnBios). 1 ≤ own.count)
       (λ own stands.
       own-some s.handles.handles k.actor b (trip_of x) (trips s.traffic.bios) own.count own.low
       (trips-around b x s.traffic.bios (rw is at at.alone))
       (own-of_line s.handles.handles hd line k (trip_of x) found owner k.actor ∙ eq-eqb k.actor k.actor refl)
-      (at-some (λ (y : OwnBios). IsOwnCount s.handles.handles (trips s.traffic.bios) k.actor y.count y.low)
-      (slice_get s.own.items k.actor) own stands (h.own k.actor))))
+      (at-found (slice_get s.own.items k.actor)
+      (λ (y : OwnBios). IsOwnCount s.handles.handles (trips s.traffic.bios) k.actor y.count y.low) own stands
+      (h.own k.actor))))
 
 -- how many are out through a consumer that lives, as it is kept
 pub active-at : (t : TopoView Config) (xs : List Trip) (c : ℕ) → AreOut t xs → IsSome (consumer_at t.topology c)

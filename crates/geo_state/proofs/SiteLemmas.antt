@@ -7,7 +7,10 @@ use Rattle.std.proofs.lemmas.Bool.{eqb-true, ne_eqb, not-false}
 use Rattle.std.proofs.lemmas.List.{map-append, length-append, length-map}
 use Rattle.std.proofs.lemmas.List.Elements.{recursion_from_All}
 use Rattle.geo_base.specs.declared.request.Counts.{Counts}
-use Rattle.geo_base.proofs.Tests.{pairs_head, pairs_tail}
+use Rattle.geo_base.proofs.AllLists.{pairs_head, pairs_tail, all_appended, all_weaker}
+use Rattle.geo_base.proofs.Options.{none-mapped, if_some_weaker, at-found, map_there}
+use Rattle.geo_base.proofs.FindLists.{none_passes, found-before, find_agree}
+use Rattle.geo_base.proofs.PlaceLists.{slot-same, slot-other}
 use Rattle.geo_model.specs.declared.step.Entry.{Entry}
 use Rattle.geo_model.specs.Words.{names_number}
 use Rattle.geo_model.specs.Topology.{Topology, Geom, Provider, Consumer, attached_to, consumer_at, geom_at, provider_at, providers_of}
@@ -29,9 +32,8 @@ use Rattle.geo_state.specs.World.{StandsFirm}
 use Rattle.geo_state.specs.Holds.{Holds, AreOut, AreSeats, IsSeat, granted_of}
 use Rattle.geo_state.specs.Changes.{IsSettled}
 use Rattle.geo_state.specs.Sites.{AreFresh, no_row, seats_without, KeptAfterComers, KeptAfterInsert, KeptAfterProvider, KeptAfterConsumer, KeptAfterGeom, KeptWithSites}
-use Rattle.geo_state.proofs.Lists.{Around, around, around-all, all-weaker, all-append, find-before, find-first, find-past, find-kept_by, find-same, none-found, none-mapped}
-use Rattle.geo_state.proofs.Slots.{slot-same, slot-other}
-use Rattle.geo_state.proofs.Fields.{apart, at-some, if-weaker}
+use Rattle.geo_state.proofs.Lists.{Around, around, around-all, find-before, find-past, find-kept_by}
+use Rattle.geo_state.proofs.Fields.{apart}
 use Rattle.geo_state.proofs.Frames.{first_of, first_read, under, under_read, disk_under, disk_read}
 use Rattle.geo_state.proofs.Rises.{active-at}
 use Rattle.geo_state.proofs.LawLemmas.{fields_follow, rows_out, row_out, seats-stay}
@@ -48,8 +50,8 @@ pub busy-stays : (t u : Topology Config) (xs : List Trip) → TargetsStay t u xs
     → busy_at u xs disk ≡ busy_at t xs disk
 busy-stays t u xs stay disk =
     ap (option_map (λ (x : Trip). x.number))
-    (find-same (is_at_disk t disk) (is_at_disk u disk) xs
-    (all-weaker (λ (x : Trip). disk_at u x.target ≡ disk_at t x.target)
+    (find_agree (is_at_disk u disk) (is_at_disk t disk) xs
+    (all_weaker (λ (x : Trip). disk_at u x.target ≡ disk_at t x.target)
     (λ x. is_at_disk u disk x ≡ is_at_disk t disk x)
     (λ x e. ap (λ o. x.busy && option_map_or (λ d. d == disk) o false) e) xs stay))
 
@@ -60,7 +62,7 @@ seats-geom seats t u xs disk geom same stay are = on (slice_get seats disk) refl
   where
     kept : (d : ℕ) → (d == disk) ≡ false → IfSome (slice_get seats d) (λ (x : DiskSeat). IsSeat u xs d x.geom x.busy)
     kept d e =
-        if-weaker (λ (x : DiskSeat). IsSeat t xs d x.geom x.busy) (λ (x : DiskSeat). IsSeat u xs d x.geom x.busy)
+        if_some_weaker (λ (x : DiskSeat). IsSeat t xs d x.geom x.busy) (λ (x : DiskSeat). IsSeat u xs d x.geom x.busy)
         (λ x old. record {
           geom_is = old.geom_is ∙ sym (same d ∙ ap (λ c. if c then geom else geom_of_disk t d) e);
           busy_is = old.busy_is ∙ sym (busy-stays t u xs stay d);
@@ -74,7 +76,7 @@ seats-geom seats t u xs disk geom same stay are = on (slice_get seats disk) refl
         let at : slice_get (change_seat (λ x. record x { geom = geom }) seats disk (Some seat)) disk ≡ Some new =
         slot-same seats disk new seat is in
         let old : IsSeat t xs disk seat.geom seat.busy =
-        at-some (λ (x : DiskSeat). IsSeat t xs disk x.geom x.busy) (slice_get seats disk) seat is (are disk) in
+        at-found (slice_get seats disk) (λ (x : DiskSeat). IsSeat t xs disk x.geom x.busy) seat is (are disk) in
         rw (here, is, at)
         (record {
           geom_is = sym (same disk ∙ ap (λ c. if c then geom else geom_of_disk t disk) (rw here at e));
@@ -108,17 +110,13 @@ under-more {V} rows more n there = on (find (λ (row : ℕ × V). row.0 == n) ro
         → under (rows ++ more) n ≡ under rows n
     on None e never = absurd cc
     on (Some row) e lives =
-        ap (option_map (λ (r : ℕ × V). r.1)) (find-first (λ (r : ℕ × V). r.0 == n) rows more row e ∙ sym e)
-
-some-map : {X Y : Type 0} (f : X → Y) (o : Option X) → IsSome o → IsSome (option_map f o)
-some-map f None never = absurd cc
-some-map f (Some x) there = refl
+        ap (option_map (λ (r : ℕ × V). r.1)) (found-before (λ (r : ℕ × V). r.0 == n) rows more row e ∙ sym e)
 
 -- what is found is found among the rows
 under-some : {X V : Type 0} (number : X → ℕ) (see : X → V) (n : ℕ) (xs : List X) → IsSome (find (λ x. number x == n) xs)
     → IsSome (under (map (λ x. let row : ℕ × V = (number x, see x) in row) xs) n)
 under-some number see n xs there =
-    subst IsSome (under_read number see n xs) (some-map see (find (λ x. number x == n) xs) there)
+    subst IsSome (under_read number see n xs) (map_there see (find (λ x. number x == n) xs) there)
 
 module _ (t u : Topology Config) (gs : List (ℕ × Option ℕ)) (ps : List (ℕ × ℕ))
     (geoms : map disk_row u.geoms ≡ map disk_row t.geoms ++ gs)
@@ -137,8 +135,8 @@ module _ (t u : Topology Config) (gs : List (ℕ × Option ℕ)) (ps : List (ℕ
           sym (under_read (λ (y : Provider). y.number) (λ y. y.geom) p t.providers)
           ∙ ap (option_map (λ (y : Provider). y.geom)) e in
           let more : under (map geom_row t.providers ++ ps) p ≡ Some x.geom =
-          under-more (map geom_row t.providers) ps p (under-some (λ (y : Provider). y.number) (λ y. y.geom) p t.providers
-          (subst IsSome (sym e) refl)) ∙ at in
+          under-more (map geom_row t.providers) ps p
+          (under-some (λ (y : Provider). y.number) (λ y. y.geom) p t.providers (subst IsSome (sym e) refl)) ∙ at in
           disk_read u p
           ∙ ap (λ rows. disk_under rows (map disk_row u.geoms) p) providers
           ∙ ap (λ rows. disk_under (map geom_row t.providers ++ ps) rows p) geoms
@@ -151,7 +149,7 @@ module _ (t u : Topology Config) (gs : List (ℕ × Option ℕ)) (ps : List (ℕ
 
   pub grown-targets : (handles : List Handle) (xs : List Trip) → AreUnderWay t handles xs → TargetsStay t u xs
   grown-targets handles xs way =
-      all-weaker (IsUnderWay t handles) (λ (x : Trip). disk_at u x.target ≡ disk_at t x.target)
+      all_weaker (IsUnderWay t handles) (λ (x : Trip). disk_at u x.target ≡ disk_at t x.target)
       (λ x is. grown-disk x.target is.target) xs way
 
 -- the geom of each disk, where no other geom of one comes
@@ -163,7 +161,7 @@ grown-geoms t u gs geoms none disk =
     ∙ ap (λ rows. first_of rows disk) geoms
     ∙ ap (option_map (λ (row : ℕ × Option ℕ). row.0))
     (find-before (λ (row : ℕ × Option ℕ). option_map_or (λ d. d == disk) row.1 false) (map disk_row t.geoms) gs
-    (all-weaker (λ (row : ℕ × Option ℕ). row.1 ≡ None) (λ row. option_map_or (λ d. d == disk) row.1 false ≡ false)
+    (all_weaker (λ (row : ℕ × Option ℕ). row.1 ≡ None) (λ row. option_map_or (λ d. d == disk) row.1 false ≡ false)
     (λ row e. ap (λ o. option_map_or (λ d. d == disk) o false) e) gs none))
     ∙ sym (first_read t.geoms disk)
 
@@ -184,12 +182,12 @@ come-geoms t u disk geom geoms none d = first_read u.geoms d ∙ ap (λ rows. fi
         (ap (option_map (λ (row : ℕ × Option ℕ). row.0))
         (find-past (λ (row : ℕ × Option ℕ). option_map_or (λ m. m == disk) row.1 false) (map disk_row t.geoms)
         ((geom, Some disk) ∷ [])
-        (none-found (λ (row : ℕ × Option ℕ). option_map_or (λ m. m == disk) row.1 false) (map disk_row t.geoms)
+        (none_passes (λ (row : ℕ × Option ℕ). option_map_or (λ m. m == disk) row.1 false) (map disk_row t.geoms)
         (none-mapped (λ (row : ℕ × Option ℕ). row.0)
         (find (λ (row : ℕ × Option ℕ). option_map_or (λ m. m == disk) row.1 false) (map disk_row t.geoms))
         (sym (first_read t.geoms disk) ∙ none))))
-        ∙ ap (λ b. option_map (λ (row : ℕ × Option ℕ). row.0) (if b then Some (let r : ℕ × Option ℕ = (geom, Some disk) in r) else None))
-        (eq-eqb disk disk refl))
+        ∙ ap (λ b. option_map (λ (row : ℕ × Option ℕ). row.0)
+        (if b then Some (let r : ℕ × Option ℕ = (geom, Some disk) in r) else None)) (eq-eqb disk disk refl))
     by false e =
         let other : (disk == d) ≡ false = ne_eqb disk d (λ same. apart d disk e (sym same)) in
         ap (option_map (λ (row : ℕ × Option ℕ). row.0))
@@ -221,7 +219,7 @@ grown-out s u cs xs consumers active none out =
 fresh-none : (log : List Entry) (s : State) (cs : List ℕ) → Holds s → StandsFirm log s → AreFresh s.topo cs
     → AllByRecursion (λ c. out_through (trips s.traffic.bios) c ≡ 0) cs
 fresh-none log s cs h firm fresh =
-    all-weaker (λ c. value_at s.topo.active c ≡ None) (λ c. out_through (trips s.traffic.bios) c ≡ 0)
+    all_weaker (λ c. value_at s.topo.active c ≡ None) (λ c. out_through (trips s.traffic.bios) c ≡ 0)
     (λ c e. none-out s.topo.topology s.handles.handles (trips s.traffic.bios) c (absent c e) (under-way log s firm)) cs
     fresh
   where
@@ -260,7 +258,8 @@ kept_after_comers log s u q taste new h firm came fresh none granted settled =
       numbers = h.numbers;
       grants = λ i c. granted c i;
       active =
-          grown-out s u new.consumers xs came.consumers came.active (fresh-none log s new.consumers h firm fresh) h.active;
+          grown-out s u new.consumers xs came.consumers came.active (fresh-none log s new.consumers h firm fresh)
+          h.active;
       ready = h.ready;
       own = h.own;
       read = h.read;
@@ -354,7 +353,8 @@ module _ (t u : Topology Config) (prov : ℕ)
 
         seen : find (λ (x : Provider). x.number == p) (filter (λ (x : Provider). not (x.number == prov)) t.providers)
             ≡ find (λ (x : Provider). x.number == p) t.providers
-            → disk_at (record t { providers = filter (λ (x : Provider). not (x.number == prov)) t.providers }) p ≡ disk_at t p
+            → disk_at (record t { providers = filter (λ (x : Provider). not (x.number == prov)) t.providers }) p
+            ≡ disk_at t p
         seen e =
             ap (λ (o : Option Provider). option_and_then (λ (g : Geom Config). disk_of g.config)
             (option_and_then (λ (x : Provider). geom_at t x.geom) o)) e
@@ -363,7 +363,7 @@ module _ (t u : Topology Config) (prov : ℕ)
 unused : (t : Topology Config) (handles : List Handle) (prov : ℕ) (xs : List Trip) → AreUnderWay t handles xs
     → attached_to t prov ≡ [] → AllByRecursion (λ (x : Trip). (x.target == prov) ≡ false) xs
 unused t handles prov xs way none =
-    all-weaker (IsUnderWay t handles) (λ (x : Trip). (x.target == prov) ≡ false)
+    all_weaker (IsUnderWay t handles) (λ (x : Trip). (x.target == prov) ≡ false)
     (λ x is. by x (x.target == prov) refl (consumer_at t x.source) refl is.source) xs way
   where
     by : (x : Trip) (b : Bool) → (x.target == prov) ≡ b → (o : Option Consumer) → consumer_at t x.source ≡ o
@@ -393,7 +393,7 @@ kept_after_provider log s u q prov h firm none gone granted settled =
       geoms = λ disk. ap (λ (gs : List (Geom Config)). option_map (λ (g : Geom Config). g.number)
           (find (is_geom_of_disk disk) gs)) geoms;
       targets =
-          all-weaker (λ (x : Trip). (x.target == prov) ≡ false) (λ x. disk_at v x.target ≡ disk_at t x.target)
+          all_weaker (λ (x : Trip). (x.target == prov) ≡ false) (λ x. disk_at v x.target ≡ disk_at t x.target)
           (λ x other. provider-gone t v prov rest geoms x.target other) xs
           (unused t s.handles.handles prov xs (under-way log s firm) none);
     }) refl
@@ -413,7 +413,8 @@ kept_after_consumer s u q taste cons h gone granted settled =
     })
     (h.providers ∙ sym (ap (λ (w : TopoView Config). length w.topology.providers) gone))
   where
-    each : (ys : List Trip) → AllByRecursion (λ (x : Trip). disk_at u.topology x.target ≡ disk_at s.topo.topology x.target) ys
+    each : (ys : List Trip)
+        → AllByRecursion (λ (x : Trip). disk_at u.topology x.target ≡ disk_at s.topo.topology x.target) ys
     each [] = tt
     each (y ∷ ys) = (ap (λ (w : TopoView Config). disk_at w.topology y.target) gone, each ys)
 
@@ -425,10 +426,10 @@ pairs-around : {X : Type 0} (R : X → X → Type 0) (number : X → ℕ) (n : �
     → AllByRecursion (λ y. (number y == n) ≡ false → R x y) xs
 pairs-around {X} R number n x xs turn r pairs =
     rw r.is
-    (all-append (λ y. (number y == n) ≡ false → R x y) r.front (x ∷ r.back)
+    (all_appended (λ y. (number y == n) ≡ false → R x y) r.front (x ∷ r.back)
     (front r.front r.back (rw r.is at pairs)) (
       (λ e. let never : true ≡ false = sym r.here ∙ e in absurd cc),
-      all-weaker (R x) (λ y. (number y == n) ≡ false → R x y) (λ y fact e. fact) r.back
+      all_weaker (R x) (λ y. (number y == n) ≡ false → R x y) (λ y fact e. fact) r.back
           (later r.front r.back (rw r.is at pairs)),
     ))
   where
@@ -461,7 +462,7 @@ module _ (t : Topology Config) (geom : ℕ) (g : Geom Config) (r : Around (λ (x
   other-disk : (d : ℕ) → is_geom_of_disk d g ≡ false → find (is_geom_of_disk d) left ≡ find (is_geom_of_disk d) t.geoms
   other-disk d other =
       find-kept_by (is_geom_of_disk d) (λ (x : Geom Config). not (x.number == geom)) t.geoms
-      (all-weaker (λ (x : Geom Config). (x.number == geom) ≡ true → is_geom_of_disk d x ≡ false)
+      (all_weaker (λ (x : Geom Config). (x.number == geom) ≡ true → is_geom_of_disk d x ≡ false)
       (λ x. not (x.number == geom) ≡ false → is_geom_of_disk d x ≡ false)
       (λ x so e. so (not-false (x.number == geom) e)) t.geoms
       (around-all (λ (x : Geom Config). x.number) geom g t.geoms r
@@ -493,7 +494,8 @@ module _ (t : Topology Config) (geom : ℕ) (g : Geom Config) (r : Around (λ (x
               rw (e, fails) rest
 
 -- the geom of a provider isn't one that has no provider
-module _ (t u : Topology Config) (geom : ℕ) (rest : u.geoms ≡ filter (λ (x : Geom Config). not (x.number == geom)) t.geoms)
+module _ (t u : Topology Config) (geom : ℕ)
+    (rest : u.geoms ≡ filter (λ (x : Geom Config). not (x.number == geom)) t.geoms)
     (providers : u.providers ≡ t.providers) (bare : providers_of t geom ≡ []) where
   abbrev without_it : Topology Config
   without_it = record t { geoms = filter (λ (x : Geom Config). not (x.number == geom)) t.geoms }
@@ -603,7 +605,8 @@ kept_after_geom log s new geom g h firm found bare gone granted settled disks is
         by : (d : ℕ) (b : Bool) → (d == disk) ≡ b → geom_of_disk u d ≡ (if b then None else geom_of_disk t d)
         by d true f =
             let same : d ≡ disk = eqb-true d disk f in
-            ap (λ (gs : List (Geom Config)). option_map (λ (x : Geom Config). x.number) (find (is_geom_of_disk d) gs)) rest
+            ap (λ (gs : List (Geom Config)). option_map (λ (x : Geom Config). x.number) (find (is_geom_of_disk d) gs))
+            rest
             ∙ ap (option_map (λ (x : Geom Config). x.number))
             (none-left t geom g r apart_all d (e ∙ ap (λ n. Some n) (sym same)))
         by d false f =

@@ -1,21 +1,17 @@
 -- The requests of a split, noted one after another.
 use Rattle.std.specs.Prelude.{◌≡◌, ℕ, ◌+◌, ◌<◌, ◌≤◌, ◌^◌, List, ◌∷◌, length, drop, get_or, Some, Option, None, IsSome, IfSome}
 use Rattle.std.specs.List.{AllByRecursion}
-use Rattle.std.proofs.Common.{refl, sym, subst, arith, drop-cons, add-one}
+use Rattle.std.proofs.Common.{sym, subst, arith}
 use Rattle.std.proofs.Math.ListN.{drop_of_length-le}
+use Rattle.geo_base.proofs.AllLists.{all_weaker}
+use Rattle.geo_base.proofs.PlaceLists.{first_left}
 use Rattle.geo_model.specs.Topology.{consumer_at}
 use Rattle.geo_model.specs.World.{Config}
 use Rattle.geo_slots.specs.Slots.{value_at}
 use Rattle.geo_mesh.specs.Topo.{TopoView, with_active}
 use Rattle.geo_state.specs.declared.state.State.{State}
 use Rattle.geo_state.specs.Bios.{IsNoHandles, all_out}
-use Rattle.geo_state.proofs.Lists.{all-weaker}
 use Rattle.geo_state.proofs.Children.{few-after, few-enough}
-
--- the first of the items that are left
-front : {X : Type 0} (xs : List X) (i : ℕ) (x : X) → i < length xs → x ≡ get_or xs i x
-    → drop i xs ≡ x ∷ drop (i + 1) xs
-front xs i x less is = rw (add-one, drop-cons xs i x, ← is) refl
 
 -- how far the requests are noted: what is left makes of this mesh what all make of the first one
 pub record NotedSoFar (t u : TopoView Config) (rest all : List (ℕ × ℕ)) : Type 0 where
@@ -31,7 +27,7 @@ one_more t u z rest all far = record {
   live = far.live.1;
   few =
       few-after u.active z.0 (length rest) rest
-      (all-weaker (λ (y : ℕ × ℕ). IfSome (value_at u.active y.0) (λ n. n + length (z ∷ rest) ≤ 2 ^ 63))
+      (all_weaker (λ (y : ℕ × ℕ). IfSome (value_at u.active y.0) (λ n. n + length (z ∷ rest) ≤ 2 ^ 63))
       (λ y. IfSome (value_at u.active y.0) (λ n. n + (1 + length rest) ≤ 2 ^ 63))
       (λ y. on (value_at u.active y.0)) rest far.few.1);
 }
@@ -48,17 +44,17 @@ module _ (t u : TopoView Config) (i : ℕ) (zs : List (ℕ × ℕ)) where
   noted_step v z less is made far =
       subst (λ (w : TopoView Config). NotedSoFar t w (drop (i + 1) zs) zs) (sym made)
       (one_more t u z (drop (i + 1) zs) zs
-      (subst (λ xs. NotedSoFar t u xs zs) (front zs i z less is) far))
+      (subst (λ xs. NotedSoFar t u xs zs) (first_left zs i z less is) far))
 
   -- the next one lives, and can be counted
   pub noted_lives : (z : ℕ × ℕ) → i < length zs → z ≡ get_or zs i z → NotedSoFar t u (drop i zs) zs
       → IsSome (consumer_at u.topology z.0)
-  noted_lives z less is far = (subst (λ xs. NotedSoFar t u xs zs) (front zs i z less is) far).live.0
+  noted_lives z less is far = (subst (λ xs. NotedSoFar t u xs zs) (first_left zs i z less is) far).live.0
 
   pub noted_few : (z : ℕ × ℕ) → i < length zs → z ≡ get_or zs i z → NotedSoFar t u (drop i zs) zs
       → IfSome (value_at u.active z.0) (λ n. n < 2 ^ 63)
   noted_few z less is far =
-      on (value_at u.active z.0) (subst (λ xs. NotedSoFar t u xs zs) (front zs i z less is) far).few.0
+      on (value_at u.active z.0) (subst (λ xs. NotedSoFar t u xs zs) (first_left zs i z less is) far).few.0
     where
       on : (o : Option ℕ) → IfSome o (λ n. n + length (z ∷ drop (i + 1) zs) ≤ 2 ^ 63)
           → IfSome o (λ n. n < 2 ^ 63)
@@ -74,7 +70,7 @@ module _ (t u : TopoView Config) (i : ℕ) (zs : List (ℕ × ℕ)) where
 module _ {X : Type 0} (P : X → Type 0) (xs : List X) (i : ℕ) where
   pub all_step : (x : X) → i < length xs → x ≡ get_or xs i x → P x
       → (AllByRecursion P (drop i xs) → AllByRecursion P xs) → AllByRecursion P (drop (i + 1) xs) → AllByRecursion P xs
-  all_step x less is fact so rest = so (subst (AllByRecursion P) (sym (front xs i x less is)) (fact, rest))
+  all_step x less is fact so rest = so (subst (AllByRecursion P) (sym (first_left xs i x less is)) (fact, rest))
 
   pub all_end : length xs ≤ i → (AllByRecursion P (drop i xs) → AllByRecursion P xs) → AllByRecursion P xs
   all_end all so = so (subst (AllByRecursion P) (sym (drop_of_length-le xs all)) tt)
@@ -84,7 +80,7 @@ module _ {X : Type 0} (P : X → Type 0) (xs : List X) (i : ℕ) where
 pub through-live : (s : State) (zs : List (ℕ × ℕ)) → AllByRecursion (λ (z : ℕ × ℕ). IsNoHandles s z.0) zs
     → AllByRecursion (λ (z : ℕ × ℕ). IsSome (consumer_at s.topo.topology z.0)) zs
 through-live s zs through =
-    all-weaker (λ (z : ℕ × ℕ). IsNoHandles s z.0) (λ z. IsSome (consumer_at s.topo.topology z.0)) (λ z of. of.lives)
+    all_weaker (λ (z : ℕ × ℕ). IsNoHandles s z.0) (λ z. IsSome (consumer_at s.topo.topology z.0)) (λ z of. of.lives)
     zs through
 
 pub through-few : (s : State) (zs : List (ℕ × ℕ)) → length zs < 2 ^ 62

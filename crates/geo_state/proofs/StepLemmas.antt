@@ -6,6 +6,8 @@ use Rattle.std.proofs.lemmas.Bool.{eqb-true}
 use Rattle.std.proofs.lemmas.List.{map-append}
 use Rattle.std.proofs.lemmas.List.Folds.{list_all-map}
 use Rattle.std.proofs.lemmas.List.FromFn.{length-enumerate_from}
+use Rattle.geo_base.proofs.FindLists.{find-map}
+use Rattle.geo_base.proofs.FilterLists.{filter-map}
 use Rattle.geo_model.specs.declared.step.BioResult.{BioResult}
 use Rattle.geo_model.specs.declared.step.BioResult.TheVariants as results
 use Rattle.geo_model.specs.declared.step.DeviceResult.TheVariants as devices
@@ -29,7 +31,7 @@ use Rattle.geo_log.proofs.PlaceLemmas.{delivered_is_result}
 use Rattle.geo_log.specs.Places.{delivered_at}
 use Rattle.geo_state.specs.Shown.{shown, shown_bio, errno_of}
 use Rattle.geo_state.specs.ShownLaws.{BiosAreOfWorld, WorldShowsBios, DeliveriesAreShown, PlaceIsAnswer}
-use Rattle.geo_state.proofs.ShownLemmas.{find-map, filter-map, length-of_map, changed-map, change_shown}
+use Rattle.geo_state.proofs.ShownLemmas.{length-of_map, changed-map, change_shown}
 
 -- a result is the same once it is held
 resolved_as : (log : ℕ → Option (List ℕ)) (r : BioResult) → resolved log (Some (held_as r)) ≡ r
@@ -73,7 +75,8 @@ module _ (log : ℕ → Option (List ℕ)) (w : World) (bios : List (BioOf Held)
   -- whether all children are in
   in_shown : (p : ℕ) → is_complete with_shown p ≡ are_in bios p
   in_shown p =
-      ap (list_all (λ (x : Bio). is_done x.phase)) (filter-map (shown_bio log) (λ x. is_child_of x.owner p) bios)
+      ap (list_all (λ (x : Bio). is_done x.phase))
+      (filter-map (λ (x : Bio). is_child_of x.owner p) (shown_bio log) bios)
       ∙ list_all-map (λ (x : Bio). is_done x.phase) (shown_bio log) (children_among bios p)
 
   -- what a parent gathers
@@ -82,7 +85,7 @@ module _ (log : ℕ → Option (List ℕ)) (w : World) (bios : List (BioOf Held)
       ≡ joined_result y.cmd (map (λ x. resolved log x.result) (children_among bios p))
   gathers p y = ap (joined_result y.cmd)
       (ap (map (λ (x : Bio). unwrap_or x.result results.Done))
-      (filter-map (shown_bio log) (λ x. is_child_of x.owner p) bios)
+      (filter-map (λ (x : Bio). is_child_of x.owner p) (shown_bio log) bios)
       ∙ results_shown log (children_among bios p))
 
   -- a parent that is complete
@@ -103,7 +106,7 @@ module _ (log : ℕ → Option (List ℕ)) (w : World) (bios : List (BioOf Held)
       (sym (change_shown log p (up_with (gathered log bios y)) (up_with (resolved log (Some (gathered log bios y))))
       (λ x. refl) bios))
       ∙ ap (λ xs. record w { bios = xs })
-      (filter-map (shown_bio log) (λ z. not (is_child_of z.owner p))
+      (filter-map (λ (z : Bio). not (is_child_of z.owner p)) (shown_bio log)
       (change_number p (up_with (gathered log bios y)) bios))
 
   -- the parent, if it is there
@@ -112,7 +115,7 @@ module _ (log : ℕ → Option (List ℕ)) (w : World) (bios : List (BioOf Held)
       ≡ record w { bios = shown log (completed log bios p) }
   completed_shown p =
       ap (λ o. option_map_or (λ (y : Bio). complete_parent with_shown y) o with_shown)
-      (find-map (shown_bio log) (λ x. x.number == p) bios)
+      (find-map (λ (x : Bio). x.number == p) (shown_bio log) bios)
       ∙ at (bio_among bios p) refl
     where
       at : (o : Option (BioOf Held)) → bio_among bios p ≡ o
@@ -147,7 +150,7 @@ module _ (log : ℕ → Option (List ℕ)) (bios : List (BioOf Held)) (w : World
       → filter (λ (y : Bio). not (y.number == b)) w.bios ≡ shown log (filter (λ y. not (y.number == b)) bios)
   without_shown b =
       ap (filter (λ (y : Bio). not (y.number == b))) is
-      ∙ filter-map (shown_bio log) (λ (y : Bio). not (y.number == b)) bios
+      ∙ filter-map (λ (y : Bio). not (y.number == b)) (shown_bio log) bios
 
   split_is : (x : BioOf Held) (zs : List PieceTarget)
       → split_bio w (shown_bio log x) zs
@@ -198,11 +201,11 @@ module _ (log : ℕ → Option (List ℕ)) (bios : List (BioOf Held)) (w : World
 
   bios_are : BiosAreOfWorld log bios w
   bios_are = record {
-    finds = λ b. ap (find (λ (x : Bio). x.number == b)) is ∙ find-map (shown_bio log) (λ (x : Bio). x.number == b) bios;
+    finds = λ b. ap (find (λ (x : Bio). x.number == b)) is ∙ find-map (λ (x : Bio). x.number == b) (shown_bio log) bios;
     children =
         λ b.
         ap (filter (λ (x : Bio). is_child_of x.owner b)) is
-        ∙ filter-map (shown_bio log) (λ (x : Bio). is_child_of x.owner b) bios;
+        ∙ filter-map (λ (x : Bio). is_child_of x.owner b) (shown_bio log) bios;
     submits =
         λ cmd offset len bytes source target owner.
         ap (λ xs. record w {

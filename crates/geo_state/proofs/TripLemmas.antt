@@ -49,7 +49,8 @@ pub record SameTrips (xs ys : List Trip) : Type 0 where
   pub out : (c : ℕ) → out_through ys c ≡ out_through xs c
   pub read : taste_read ys ≡ taste_read xs
   pub busy : (t : Topology Config) (disk : ℕ) → busy_at t ys disk ≡ busy_at t xs disk
-  pub count : (handles : List Handle) (actor : ℕ) → count_by (is_own handles actor) ys ≡ count_by (is_own handles actor) xs
+  pub count : (handles : List Handle) (actor : ℕ)
+      → count_by (is_own handles actor) ys ≡ count_by (is_own handles actor) xs
   pub low : (handles : List Handle) (actor low : ℕ)
       → AllByRecursion (λ x. is_own handles actor x ≡ true → low ≤ x.number) xs
       → AllByRecursion (λ x. is_own handles actor x ≡ true → low ≤ x.number) ys

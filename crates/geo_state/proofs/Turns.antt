@@ -2,6 +2,7 @@
 use Rattle.std.specs.Prelude.{◌≡◌, ℕ, ◌==◌, Bool, true, false, List, Option, Some, None, map, IsTrue, IsSomeAnd, slice_get, if◌then◌else◌}
 use Rattle.std.proofs.Common.{refl, sym, ◌∙◌, ap, subst}
 use Rattle.std.proofs.lemmas.Bool.{eqb-true}
+use Rattle.geo_base.proofs.Options.{at-found, at-some}
 use Rattle.geo_base.specs.declared.errno.Errno.{Errno}
 use Rattle.geo_model.specs.declared.step.Phase.{Phase}
 use Rattle.geo_model.specs.declared.step.Phase.TheVariants as phases
@@ -23,11 +24,7 @@ use Rattle.geo_state.proofs.Lists.{around-all}
 use Rattle.geo_state.proofs.TripLemmas.{trips-changed, trips-same}
 use Rattle.geo_state.proofs.Owned.{busy-taken, busy-freed}
 use Rattle.geo_state.proofs.Unseen.{reads-same, reads-changed, InPhase, in-phase, trips-around, down-is, sent-is, busy-is}
-use Rattle.geo_state.proofs.Fields.{at-some, seats-same, seats-busy, disks-busy, holds-unseen}
-
--- what holds of what is there
-pub at-some-and : {X : Type 0} (P : X → Type 0) (o : Option X) (x : X) → o ≡ Some x → IsSomeAnd o P → P x
-at-some-and P o x is fact = rw is at fact
+use Rattle.geo_state.proofs.Fields.{seats-same, seats-busy, disks-busy, holds-unseen}
 
 -- a request goes on in a way that the other parts don't see
 pub holds-turned : (s new : State) (next b : ℕ) (test : Phase → Bool) (change : BioOf Held → BioOf Held)
@@ -84,7 +81,7 @@ module _ (s new : State) (next b disk : ℕ) (are : AreNumbers (map (λ (x : Bio
   there : (test : Phase → Bool) → (at : InPhase test s.traffic.bios b)
       → disk_at s.topo.topology (trip_of at.bio).target ≡ Some disk
   there test at =
-      at-some-and (λ (x : BioOf Held). disk_at s.topo.topology x.target ≡ Some disk) (bio_among s.traffic.bios b)
+      at-some (bio_among s.traffic.bios b) (λ (x : BioOf Held). disk_at s.topo.topology x.target ≡ Some disk)
       at.bio at.found goes
 
   -- it is taken
@@ -118,8 +115,10 @@ module _ (s new : State) (next b disk : ℕ) (are : AreNumbers (map (λ (x : Bio
           → busy_at s.topo.topology (trips s.traffic.bios) disk ≡ None
       nothing None e never = absurd never
       nothing (Some seat) e idle =
-          sym (at-some (λ (x : DiskSeat). IsSeat s.topo.topology (trips s.traffic.bios) disk x.geom x.busy)
-          (slice_get s.disks.items disk) seat e (h.seats disk)).busy_is ∙ idle
+          sym
+          (at-found (slice_get s.disks.items disk)
+          (λ (x : DiskSeat). IsSeat s.topo.topology (trips s.traffic.bios) disk x.geom x.busy) seat e
+          (h.seats disk)).busy_is ∙ idle
 
   -- its disk has answered
   pub holds-answered : (place : ℕ) (errno : Option Errno) → IsTrue (has_phase is_busy s.traffic.bios b)

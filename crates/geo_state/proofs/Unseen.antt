@@ -4,6 +4,7 @@ use Rattle.std.specs.List.{AllByRecursion}
 use Rattle.std.specs.Option.{option_map, option_map_or}
 use Rattle.std.proofs.Common.{refl, sym, ◌∙◌, ap}
 use Rattle.std.proofs.Math.Bool.{and-false}
+use Rattle.geo_base.proofs.AllLists.{all_weaker}
 use Rattle.geo_model.specs.declared.step.Phase.{Phase}
 use Rattle.geo_model.specs.declared.step.Phase.TheVariants as phases
 use Rattle.geo_model.specs.Graph.{AreNumbers}
@@ -13,7 +14,7 @@ use Rattle.geo_model.specs.World.{BioOf, Config, Handle, is_busy, is_done, is_do
 use Rattle.geo_bio.specs.BioTable.{bio_among, has_phase}
 use Rattle.geo_laws_graph.proofs.Lists.{changed-keeps, find-changed, all-changed}
 use Rattle.geo_state.specs.Trips.{Trip, trip_of, trips, is_out, out_through, taste_read, is_at_disk, busy_at, is_own, IsOwnCount}
-use Rattle.geo_state.proofs.Lists.{Around, around, counts, count-step, count-kept, find-kept_by, all-weaker}
+use Rattle.geo_state.proofs.Lists.{Around, around, counts, count-step, count-kept, find-kept_by}
 use Rattle.geo_state.proofs.Owned.{own-kept}
 
 -- from the one list to the other as many are out through each consumer, the taste's read is the same, and what is kept
@@ -94,16 +95,16 @@ module _ (keep : Trip → Bool) (xs : List Trip) (gone : AllByRecursion (λ x. k
   reads-gone = record {
     out =
         λ c. count-kept (is_out c) keep xs
-        (all-weaker (λ (x : Trip). keep x ≡ false → IsGoneChild x) (λ x. keep x ≡ false → is_out c x ≡ false)
+        (all_weaker (λ (x : Trip). keep x ≡ false → IsGoneChild x) (λ x. keep x ≡ false → is_out c x ≡ false)
         (λ x so e. rw (so e).done (and-false (x.source == c))) xs gone);
     read =
         ap (option_map (λ (z : Trip). z.number))
         (find-kept_by (λ z. is_taste_root z.owner) keep xs
-        (all-weaker (λ (x : Trip). keep x ≡ false → IsGoneChild x) (λ x. keep x ≡ false → is_taste_root x.owner ≡ false)
+        (all_weaker (λ (x : Trip). keep x ≡ false → IsGoneChild x) (λ x. keep x ≡ false → is_taste_root x.owner ≡ false)
         (λ x so e. (so e).taste) xs gone));
     own =
         λ handles actor count low is. own-kept handles actor keep xs count low
-        (all-weaker (λ (x : Trip). keep x ≡ false → IsGoneChild x)
+        (all_weaker (λ (x : Trip). keep x ≡ false → IsGoneChild x)
         (λ x. keep x ≡ false → is_own handles actor x ≡ false)
         (λ x so e. (so e).line handles actor) xs gone) is;
   }
@@ -112,7 +113,7 @@ module _ (keep : Trip → Bool) (xs : List Trip) (gone : AllByRecursion (λ x. k
   busy-gone t disk =
       ap (option_map (λ (z : Trip). z.number))
       (find-kept_by (is_at_disk t disk) keep xs
-      (all-weaker (λ (x : Trip). keep x ≡ false → IsGoneChild x) (λ x. keep x ≡ false → is_at_disk t disk x ≡ false)
+      (all_weaker (λ (x : Trip). keep x ≡ false → IsGoneChild x) (λ x. keep x ≡ false → is_at_disk t disk x ≡ false)
       (λ x so e. rw (so e).busy refl) xs gone))
 
 -- Phases

@@ -5,6 +5,7 @@ use Rattle.std.specs.Option.{option_map, option_map_or}
 use Rattle.std.proofs.Common.{refl, sym, ◌∙◌, ap, subst, arith, inl}
 use Rattle.std.proofs.Math.Bool.{and-false, and-true, or-false, not-not}
 use Rattle.std.proofs.lemmas.Bool.{eqb-true, ne_eqb}
+use Rattle.geo_base.proofs.Options.{at-found}
 use Rattle.geo_base.specs.declared.request.Counts.{Counts}
 use Rattle.geo_model.specs.declared.step.Owner.{Owner}
 use Rattle.geo_model.specs.declared.step.Owner.TheVariants as owners
@@ -28,7 +29,6 @@ use Rattle.geo_state.specs.Holds.{Holds, IsSeat}
 use Rattle.geo_state.specs.Views.{StatesShow}
 use Rattle.geo_state.proofs.Lists.{counts, count-skip, count-step}
 use Rattle.geo_state.proofs.Outs.{eqb_sym}
-use Rattle.geo_state.proofs.Fields.{at-some}
 use Rattle.geo_state.proofs.ReadyLemmas.{noted-same}
 use Rattle.geo_state.proofs.FirmLemmas.{under-way_in, none-out}
 use Rattle.geo_state.proofs.Rises.{active-at}
@@ -147,15 +147,18 @@ active-is : (s : State) (c : ℕ) → Holds s
 active-is s c h none = on (consumer_at s.topo.topology c) refl
   where
     lost : (cs : List Consumer) → find (λ (y : Consumer). y.number == c) cs ≡ None
-        → value_at (map (λ (y : Consumer). let row : ℕ × ℕ = (y.number, out_through (trips s.traffic.bios) y.number) in row) cs) c
+        → value_at
+        (map (λ (y : Consumer). let row : ℕ × ℕ = (y.number, out_through (trips s.traffic.bios) y.number) in row) cs) c
         ≡ None
     lost [] e = refl
     lost (y ∷ ys) e = at (y.number == c) refl (lost ys)
       where
         at : (b : Bool) → (y.number == c) ≡ b
             → (find (λ (z : Consumer). z.number == c) ys ≡ None
-            → value_at (map (λ (z : Consumer). let row : ℕ × ℕ = (z.number, out_through (trips s.traffic.bios) z.number) in row) ys) c ≡ None)
-            → value_at (map (λ (z : Consumer). let row : ℕ × ℕ = (z.number, out_through (trips s.traffic.bios) z.number) in row) (y ∷ ys)) c ≡ None
+            → value_at (map (λ (z : Consumer). let row : ℕ × ℕ =
+            (z.number, out_through (trips s.traffic.bios) z.number) in row) ys) c ≡ None)
+            → value_at (map (λ (z : Consumer). let row : ℕ × ℕ =
+            (z.number, out_through (trips s.traffic.bios) z.number) in row) (y ∷ ys)) c ≡ None
         at true f rest = let never : Some y ≡ None = (rw f at e) in absurd cc
         at false f rest = rw f (rest (rw f at e))
 
@@ -185,7 +188,8 @@ states_show log s actors h firm =
           ∙ sym (noted-same (can_be_reaped xs) (is_to_reap w) s.handles.handles (each s.handles.handles)));
       read =
           h.read
-          ∙ sym (first-shown (delivered_at log) (λ (x : Bio). is_taste_root x.owner) (λ (x : Trip). is_taste_root x.owner)
+          ∙ sym
+          (first-shown (delivered_at log) (λ (x : Bio). is_taste_root x.owner) (λ (x : Trip). is_taste_root x.owner)
           (λ x. refl) s.traffic.bios);
       geom = λ disk seat at. (seat_of disk seat at).geom_is;
       busy = λ disk seat at.
@@ -219,5 +223,5 @@ states_show log s actors h firm =
     seat_of : (disk : ℕ) (seat : DiskSeat) → slice_get s.disks.items disk ≡ Some seat
         → IsSeat s.topo.topology (trips s.traffic.bios) disk seat.geom seat.busy
     seat_of disk seat at =
-        at-some (λ (x : DiskSeat). IsSeat s.topo.topology (trips s.traffic.bios) disk x.geom x.busy)
-        (slice_get s.disks.items disk) seat at (h.seats disk)
+        at-found (slice_get s.disks.items disk)
+        (λ (x : DiskSeat). IsSeat s.topo.topology (trips s.traffic.bios) disk x.geom x.busy) seat at (h.seats disk)

@@ -5,6 +5,8 @@ use Rattle.std.specs.Option.{option_map}
 use Rattle.std.proofs.Common.{refl, sym, ◌∙◌, ap, subst, arith}
 use Rattle.std.proofs.Math.Bool.{and-false}
 use Rattle.std.proofs.lemmas.Bool.{eq-eqb, ne_eqb, le-leb, lt-leb, leb-true, leb-false}
+use Rattle.geo_base.proofs.Options.{at-found}
+use Rattle.geo_base.proofs.FindLists.{find_agree}
 use Rattle.geo_model.specs.declared.step.Owner.TheVariants as owners
 use Rattle.geo_model.specs.World.{BioOf, Handle}
 use Rattle.geo_bio.specs.declared.bio.Held.{Held}
@@ -12,16 +14,14 @@ use Rattle.geo_bio.specs.BioTable.{first_bio}
 use Rattle.geo_handles.specs.Handles.{handle_at}
 use Rattle.geo_state.proofs.OrderLemmas.{Rising}
 use Rattle.geo_state.proofs.CursorLemmas.{reached_above}
-use Rattle.geo_state.proofs.PhaseLemmas.{find_agree}
 use Rattle.geo_state.specs.declared.state.State.{State}
 use Rattle.geo_state.specs.declared.state.OwnBios.{OwnBios}
 use Rattle.geo_state.specs.Trips.{Trip, trip_of, trips, handle_of_owner, is_own, own_first, IsOwnCount}
 use Rattle.geo_state.specs.Oldest.{passes, first_passing}
 use Rattle.geo_state.specs.Holds.{Holds}
-use Rattle.geo_state.proofs.Lists.{find-none, find-same}
+use Rattle.geo_state.proofs.Lists.{find-none}
 use Rattle.geo_state.proofs.Outs.{eqb_sym}
 use Rattle.geo_state.proofs.Owned.{none-counted}
-use Rattle.geo_state.proofs.Fields.{at-some}
 
 -- The walk from a number on
 
@@ -101,12 +101,15 @@ module _ (test : BioOf Held → Bool) where
 -- the first that passes, by trips
 first-trips : (handles : List Handle) (actor low : ℕ) (bios : List (BioOf Held))
     → AllByRecursion (λ (x : Trip). is_own handles actor x ≡ true → low ≤ x.number) (trips bios)
-    → first_passing (λ (x : BioOf Held). is_own handles actor (trip_of x)) bios low ≡ own_first handles (trips bios) actor
+    → first_passing (λ (x : BioOf Held). is_own handles actor (trip_of x)) bios low
+    ≡ own_first handles (trips bios) actor
 first-trips handles actor low [] above = refl
-first-trips handles actor low (x ∷ xs) above = at (is_own handles actor (trip_of x)) refl (first-trips handles actor low xs above.1)
+first-trips handles actor low (x ∷ xs) above =
+    at (is_own handles actor (trip_of x)) refl (first-trips handles actor low xs above.1)
   where
     at : (b : Bool) → is_own handles actor (trip_of x) ≡ b
-        → first_passing (λ (y : BioOf Held). is_own handles actor (trip_of y)) xs low ≡ own_first handles (trips xs) actor
+        → first_passing (λ (y : BioOf Held). is_own handles actor (trip_of y)) xs low
+        ≡ own_first handles (trips xs) actor
         → first_passing (λ (y : BioOf Held). is_own handles actor (trip_of y)) (x ∷ xs) low
         ≡ own_first handles (trips (x ∷ xs)) actor
     at true e rest = rw (e, le-leb low x.number (above.0 e)) refl
@@ -122,8 +125,8 @@ none-first handles actor xs none =
 module _ (s : State) (h : Holds s) (actor : ℕ) (o : OwnBios) (found : slice_get s.own.items actor ≡ Some o) where
   own_count : IsOwnCount s.handles.handles (trips s.traffic.bios) actor o.count o.low
   own_count =
-      at-some (λ (x : OwnBios). IsOwnCount s.handles.handles (trips s.traffic.bios) actor x.count x.low)
-      (slice_get s.own.items actor) o found (h.own actor)
+      at-found (slice_get s.own.items actor)
+      (λ (x : OwnBios). IsOwnCount s.handles.handles (trips s.traffic.bios) actor x.count x.low) o found (h.own actor)
 
   -- where none is out there is no first
   pub oldest-none : o.count ≡ 0 → own_first s.handles.handles (trips s.traffic.bios) actor ≡ None
@@ -148,7 +151,7 @@ oldest-of-all handles actor bios = first-trips handles actor 0 bios (each (trips
 pub owner_line : (handles : List Handle) (hd line : ℕ)
     → handle_of_owner handles (owners.Line hd line) ≡ handle_at handles hd
 owner_line handles hd line =
-    find-same (λ (h : Handle). h.number == hd) (λ h. hd == h.number) handles (each handles)
+    find_agree (λ (h : Handle). hd == h.number) (λ (h : Handle). h.number == hd) handles (each handles)
   where
     each : (hs : List Handle) → AllByRecursion (λ (h : Handle). (hd == h.number) ≡ (h.number == hd)) hs
     each [] = tt

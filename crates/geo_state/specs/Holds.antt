@@ -40,7 +40,8 @@ AreReady v xs = v.ready ≡ noted (can_be_reaped xs) v.handles
 
 -- each actor's own requests are counted
 abbrev pub AreOwn : List OwnBios → List Handle → List Trip → Type 0
-AreOwn owns handles xs = (actor : ℕ) → IfSome (slice_get owns actor) (λ own. IsOwnCount handles xs actor own.count own.low)
+AreOwn owns handles xs =
+    (actor : ℕ) → IfSome (slice_get owns actor) (λ own. IsOwnCount handles xs actor own.count own.low)
 
 -- Disks
 

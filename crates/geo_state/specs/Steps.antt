@@ -24,7 +24,8 @@ IsAgainst step s f = (actors : List (List LineCommand)) (log : List Entry) → a
 
 -- the step is enabled, and makes of the old state's world the new one's, with this outcome
 abbrev pub Makes : (World → Answer) → List Entry → State → State → Outcome → Type 0
-Makes step log old new o = (actors : List (List LineCommand)) → step (world actors log old) ≡ Ok (world actors log new, o)
+Makes step log old new o =
+    (actors : List (List LineCommand)) → step (world actors log old) ≡ Ok (world actors log new, o)
 
 -- the command does so
 abbrev pub Does : (World → World × Outcome) → List Entry → State → State → Outcome → Type 0

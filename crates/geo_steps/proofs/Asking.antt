@@ -1,6 +1,7 @@
 -- What a Take asks of a disk.
-use Rattle.std.specs.Prelude.{◌≡◌, ℕ, ◌*◌, zero, suc, List, [], ◌∷◌, ◌++◌, map, zip, Option, Some, None, Ok, is_some, IsSomeAnd, slice_get}
+use Rattle.std.specs.Prelude.{◌≡◌, ℕ, ◌*◌, zero, suc, List, [], ◌∷◌, ◌++◌, map, zip, Option, Some, None, Ok, is_some, slice_get}
 use Rattle.std.proofs.Common.{refl, sym, ◌∙◌, ap, subst}
+use Rattle.geo_base.proofs.Options.{some_and_of}
 use Rattle.geo_model.specs.declared.command.DiskDecl.{DiskDecl}
 use Rattle.geo_model.specs.declared.step.Entry.{Entry}
 use Rattle.geo_model.specs.declared.step.Found.{Found}
@@ -80,11 +81,6 @@ header_facts (decl ∷ decls) (fact ∷ facts) (suc disk) header at =
     let rest : HasFacts facts disk header = header_facts decls facts disk header at in
     record { sizes = rest.sizes; at = rest.at; sector = rest.sector; size = rest.size }
 
--- what stands where something does
-standing : {A : Type 0} (P : A → Type 0) (o : Option A) → IsSomeAnd o P → (x : A) × (o ≡ Some x) × P x
-standing P None is = absurd is
-standing P (Some x) is = (x, refl, is)
-
 -- a request that was asked of a disk: the disk is one of the header, and has sizes among the facts, and what is asked
 -- lies inside it
 pub record IsAskedAt (s : MeshStart) (disk : ℕ) (q : Request) : Type 0 where
@@ -121,7 +117,7 @@ asked_at s log earlier later e disk bio q history split takes asks = record {
     its = let same : outcomes.Asked q ≡ outcomes.Asked asked.request = sym asks ∙ asked.is in cc
 
     there : (header : HeaderDisk) × (slice_get (opened_by s).disks disk ≡ Some header) × LiesInside asked.request header
-    there = standing (LiesInside asked.request) (slice_get (opened_by s).disks disk) asked.inside
+    there = some_and_of (LiesInside asked.request) (slice_get (opened_by s).disks disk) asked.inside
 
     header : HeaderDisk
     header = there.0

@@ -1,8 +1,8 @@
 -- A pass that put few enough tickets has room for the next one.
-use Rattle.std.specs.Prelude.{◌+◌, ◌-◌, ◌^◌, ◌<◌, ◌≤◌, List, ◌∷◌, length, filter, eqb, Bool}
-use Rattle.std.proofs.Common.{sym, ap, subst, arith}
+use Rattle.std.specs.Prelude.{◌+◌, ◌-◌, ◌^◌, ◌<◌, ◌≤◌, List, ◌∷◌, length, eqb}
+use Rattle.std.proofs.Common.{ap, arith}
 use Rattle.std.proofs.lemmas.List.{length-append}
-use Rattle.std.proofs.lemmas.List.Sums.{count_by-le-length, length-filter}
+use Rattle.geo_base.proofs.FilterLists.{length-kept}
 use Rattle.geo_base.specs.declared.limits.TheConstants.{MAX_LOG_ENTRIES}
 use Rattle.geo_model.specs.declared.step.Entry.{Entry}
 use Rattle.geo_lane.specs.declared.ticket.TicketStep.{TicketStep}
@@ -16,9 +16,6 @@ use Rattle.geo_steps.specs.Putting.{IsWithin, PutsAll}
 use Rattle.geo_steps.proofs.Joins.{history_of}
 use Rattle.geo_steps.proofs.Tickets.{puts_length}
 
-fewer : {X : Type 0} (test : X → Bool) (xs : List X) → length (filter test xs) ≤ length xs
-fewer test xs = subst (λ n. n ≤ length xs) (sym (length-filter test xs)) (count_by-le-length test xs)
-
 -- a pass has at most as many own entries as a log has entries
 pub few_own : (y : YardView MeshStart) (p : MeshPass) → IsPassOf y p → IsGoodPass p → length p.own ≤ MAX_LOG_ENTRIES
 few_own y p of good =
@@ -26,7 +23,7 @@ few_own y p of good =
     omega (
       arith,
       history.lawful.1,
-      fewer (λ (e : Entry). eqb e.seat p.number) p.seen,
+      length-kept (λ (e : Entry). eqb e.seat p.number) p.seen,
       ap (λ (own : List Entry). length own) good.good.own_seen,
     )
 

@@ -59,10 +59,6 @@ has_sector t prov p sound found =
 
 -- Facts
 
--- what is there is what was found
-pub of_found : {X : Type 0} (o : Option X) (P : X → Type 0) (x : X) → o ≡ Some x → P x → IfSome o P
-of_found o P x e fact = subst (λ z. IfSome z P) (sym e) fact
-
 -- an answer for more facts
 weaker : (a : Accepted) (v : TopoView Config) (s : Queued) (m : QueuedMesh) (made : Option QueuedMesh)
     (facts more : Type 0) → (more → facts) → IsAccepted a v s m made facts → IsAccepted a v s m made more

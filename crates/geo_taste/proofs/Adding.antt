@@ -7,6 +7,7 @@ use Rattle.std.proofs.lemmas.Bool.{ne_eqb, false_from_ne_true}
 use Rattle.std.proofs.lemmas.List.{map-append}
 use Rattle.std.proofs.lemmas.List.Elements.{All-contains, All-push, All-weaker, All-from_recursion, recursion_from_All, Contains-push_cases}
 use Rattle.std.proofs.lemmas.List.Folds.{list_any_none}
+use Rattle.geo_base.proofs.Options.{none-there}
 use Rattle.geo_base.specs.declared.request.Counts.{Counts}
 use Rattle.geo_base.specs.declared.kind.Kind.{Kind}
 use Rattle.geo_model.specs.Words.{is_granted_kind, names_number, change_where}
@@ -42,11 +43,6 @@ among granted t u cs stays = record {
   limit = stays.limit;
 }
 
--- a row more
-row_more : {X V : Type 0} (row : X → ℕ × V) (xs : List X) (x : X) (rows : List (ℕ × V)) → rows ≡ map row xs
-    → rows ++ row x ∷ [] ≡ map row (xs ++ x ∷ [])
-row_more row xs x rows is = ap (λ rs. rs ++ row x ∷ []) is ∙ sym (map-append row xs (x ∷ []))
-
 -- none of a number is found where all have other ones
 absent : {X : Type 0} (key : X → ℕ) (n : ℕ) (xs : List X) → All (λ x. key x ≢ n) xs
     → find (λ x. key x == n) xs ≡ None
@@ -54,11 +50,6 @@ absent key n xs others =
     find-none (λ x. key x == n) xs
     (list_any_none (λ x. key x == n) xs
     (All-weaker (λ x. key x ≢ n) (λ x. (key x == n) ≡ false) (λ x other. ne_eqb (key x) n other) xs others))
-
--- what is none isn't there
-pub none_lives : {X : Type 0} (o : Option X) → o ≡ None → IsSome o → ⊥
-none_lives None none lives = let no : false ≡ true = lives in absurd (cc)
-none_lives (Some x) none lives = absurd (cc)
 
 -- nothing is kept where none passes
 none_kept : {X : Type 0} (test : X → Bool) (xs : List X) → ((x : X) → Contains xs x → test x ≡ false)
@@ -105,7 +96,7 @@ module _ {C : Type 0} (t : TopoView C) (counted : IsCounted t) (order : IsInOrde
       λ c there same.
       let lives : IsSome (geom_at t.topology c.geom) =
       All-contains (λ (d : Consumer). IsSome (geom_at t.topology d.geom)) t.topology.consumers c live.geoms there in
-      none_lives (geom_at t.topology t.topology.next_geom) no_geom
+      none-there (geom_at t.topology t.topology.next_geom) no_geom
       (subst (λ n. IsSome (geom_at t.topology n)) same lives) in
       record {
         order = added-geom.order t.topology kind name config automatic order;
@@ -147,7 +138,7 @@ module _ {C : Type 0} (t : TopoView C) (counted : IsCounted t) (order : IsInOrde
       t.topology.consumers c live there in
       let at : IsSome (provider_at t.topology n) =
       subst (λ o. IfSome o (λ p. IsSome (provider_at t.topology p))) (names_some c.provider n named) lives in
-      absurd (none_lives (provider_at t.topology n) no_provider at))) in
+      absurd (none-there (provider_at t.topology n) no_provider at))) in
       record {
         order = added-provider.order t.topology geom name size sector order;
         kinds = counted.kinds;

@@ -46,7 +46,8 @@ module _ (t : TopoView Config) (events : List Event) where
   pub read_made : (u : TopoView Config) (s z : Taste) (j : Judged) → u.topology ≡ t.topology → z ≡ s
       → judging t events s j ≡ judging u events z j
   read_made u s z j graph same =
-      ap (λ x. let r : Judging = record { queued = record { topology = x; events = events }; taste = s; judged = j } in r)
+      ap (λ x. let r : Judging = record { queued = record { topology = x; events = events }; taste = s; judged = j } in
+      r)
       (sym graph)
       ∙ ap (λ y. judging u events y j) (sym same)
 

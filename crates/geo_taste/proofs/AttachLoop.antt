@@ -1,8 +1,9 @@
 -- The consumers of a new geom, one after another.
 use Rattle.std.specs.Prelude.{◌≡◌, ℕ, ◌+◌, ◌<◌, ◌≤◌, List, [], ◌∷◌, length, drop, get_or, IsSome}
 use Rattle.std.specs.List.{AllByRecursion}
-use Rattle.std.proofs.Common.{refl, sym, ◌∙◌, ap, subst, arith, drop-cons, add-one}
+use Rattle.std.proofs.Common.{sym, ◌∙◌, ap, subst, arith}
 use Rattle.std.proofs.Math.ListN.{drop_of_length-le}
+use Rattle.geo_base.proofs.PlaceLists.{first_left}
 use Rattle.geo_model.specs.Topology.{Topology, geom_at, providers_of}
 use Rattle.geo_model.specs.World.{Config}
 use Rattle.geo_mesh.specs.Graph.{IsSoundGraph}
@@ -10,11 +11,6 @@ use Rattle.geo_mesh.specs.Topo.{TopoView, Room, IsButForRoom}
 use Rattle.geo_taste.specs.Making.{with_attached, with_all_attached}
 use Rattle.geo_taste.specs.Standing.{CanStandOn}
 use Rattle.geo_taste.proofs.Attaching.{attach_more, attached_roomed}
-
--- the first of the items that are left
-pub front : {X : Type 0} (xs : List X) (i : ℕ) (x : X) → i < length xs → x ≡ get_or xs i x
-    → drop i xs ≡ x ∷ drop (i + 1) xs
-front xs i x less is = rw (add-one, drop-cons xs i x, ← is) refl
 
 -- how far the consumers are made: what is left makes of this mesh what all make of the first one
 pub record AttachedSoFar (t u : TopoView Config) (geom : ℕ) (rest all : List ℕ) : Type 0 where
@@ -59,13 +55,13 @@ module _ (t u : TopoView Config) (geom i : ℕ) (provs : List ℕ) where
       → AttachedSoFar t v geom (drop (i + 1) provs) provs
   attach_step v prov less is far one =
       one_more t u v geom prov (drop (i + 1) provs) provs
-      (subst (λ xs. AttachedSoFar t u geom xs provs) (front provs i prov less is) far) one
+      (subst (λ xs. AttachedSoFar t u geom xs provs) (first_left provs i prov less is) far) one
 
   -- the next one may be stood on, and has room
   pub attach_next : (prov : ℕ) → i < length provs → prov ≡ get_or provs i prov
       → AttachedSoFar t u geom (drop i provs) provs → CanStandOn u.topology prov × (1 ≤ u.room.consumers)
   attach_next prov less is far =
-      let now = subst (λ xs. AttachedSoFar t u geom xs provs) (front provs i prov less is) far in
+      let now = subst (λ xs. AttachedSoFar t u geom xs provs) (first_left provs i prov less is) far in
       (now.stand.0, omega (arith, now.room))
 
   -- at the end all are made

@@ -7,6 +7,7 @@ use Rattle.geo_model.specs.Topology.{Topology, Geom, Provider, Consumer, geom_at
 use Rattle.geo_model.specs.Rank.{rank, would_loop, is_too_deep, attach_refusal}
 use Rattle.geo_mesh.specs.Graph.{IsSoundGraph}
 use Rattle.std.proofs.lemmas.Bool.{or_parts, ltb-false, le-ltb, eqb-true, eq-eqb}
+use Rattle.geo_base.proofs.AllLists.{all_weaker}
 use Rattle.geo_base.specs.declared.limits.TheConstants.{MAX_RANK}
 use Rattle.geo_laws_graph.specs.LookupLaws.{new_consumer}
 use Rattle.geo_laws_graph.proofs.Numbered.{unique}
@@ -34,12 +35,6 @@ any_none test [] none = tt
 any_none test (x ∷ xs) none = let both = or_parts (test x) (list_any test xs) none in
     (both.0, any_none test xs both.1)
 
--- facts of items that follow one from another
-pub all_follow : {X : Type 0} (P Q : X → Type 0) (xs : List X) → ((x : X) → P x → Q x) → AllByRecursion P xs
-    → AllByRecursion Q xs
-all_follow P Q [] so facts = tt
-all_follow P Q (x ∷ xs) so facts = (so x facts.0, all_follow P Q xs so facts.1)
-
 -- a rank that is no greater than one that isn't too great, or than the limit, isn't too great
 deep_by : (granted : Bool) (n m : ℕ) → m ≤ max n MAX_RANK → (not granted && nat_lt MAX_RANK n) ≡ false
     → (not granted && nat_lt MAX_RANK m) ≡ false
@@ -60,9 +55,9 @@ module _ {C : Type 0} (t : Topology C) (sound : IsSoundGraph t) (prov : ℕ) (x 
   pub no_error : x.errored ≡ false → is_errored t prov ≡ false
   no_error fine =
       none_any (λ (y : Provider). (y.number == prov) && y.errored) t.providers
-      (all_follow (λ (y : Provider). (y.number == prov) ≡ true → y ≡ x)
-      (λ (y : Provider). ((y.number == prov) && y.errored) ≡ false) t.providers
-      (λ y same. error_by prov x y (y.number == prov) fine refl same)
+      (all_weaker (λ (y : Provider). (y.number == prov) ≡ true → y ≡ x)
+      (λ (y : Provider). ((y.number == prov) && y.errored) ≡ false)
+      (λ y same. error_by prov x y (y.number == prov) fine refl same) t.providers
       (unique (λ (y : Provider). y.number) t.next_provider prov t.providers x sound.orderly.order.providers found))
 
   module _ (geom : ℕ) (lives : IsSome (geom_at t geom)) (bare : providers_of t geom ≡ [])
@@ -97,9 +92,9 @@ module _ {C : Type 0} (t : Topology C) (sound : IsSoundGraph t) (prov : ℕ) (x 
     not_deep : is_too_deep with_one ≡ false
     not_deep =
         none_any (λ (y : Geom C). not (is_granted_kind y.kind) && nat_lt MAX_RANK (rank with_one y.number)) t.geoms
-        (all_follow (λ (y : Geom C). (not (is_granted_kind y.kind) && nat_lt MAX_RANK (rank t y.number)) ≡ false)
-        (λ (y : Geom C). (not (is_granted_kind y.kind) && nat_lt MAX_RANK (rank with_one y.number)) ≡ false) t.geoms
-        (λ y. deep_at y (y.number == geom) refl)
+        (all_weaker (λ (y : Geom C). (not (is_granted_kind y.kind) && nat_lt MAX_RANK (rank t y.number)) ≡ false)
+        (λ (y : Geom C). (not (is_granted_kind y.kind) && nat_lt MAX_RANK (rank with_one y.number)) ≡ false)
+        (λ y. deep_at y (y.number == geom) refl) t.geoms
         (any_none (λ (y : Geom C). not (is_granted_kind y.kind) && nat_lt MAX_RANK (rank t y.number)) t.geoms
         sound.not_deep))
 
@@ -172,8 +167,8 @@ attach_more t u geom prov provs sound made lives bare can all =
     let graph : u.topology ≡ add_consumer t.topology geom (Some prov) =
     ap (λ (v : TopoView Config). v.topology) made in
     subst (λ (g : Topology Config). AllByRecursion (CanStandOn g) provs) (sym graph)
-    (all_follow (CanStandOn t.topology) (CanStandOn (add_consumer t.topology geom (Some prov))) provs
-    (still_at t.topology sound prov x.item x.is geom lives bare x.fact.0 x.fact.1) all)
+    (all_weaker (CanStandOn t.topology) (CanStandOn (add_consumer t.topology geom (Some prov)))
+    (still_at t.topology sound prov x.item x.is geom lives bare x.fact.0 x.fact.1) provs all)
 
 -- another room is carried along
 pub attached_roomed : (t : TopoView Config) (room : Room) (geom : ℕ) (provs : List ℕ)

@@ -151,7 +151,8 @@ module _ {C : Type 0} (t : TopoView C) where
 -- Beginning
 
 module _ {C : Type 0} (t m : TopoView C) (sound : IsSoundGraph t.topology)
-    (made : m ≡ record (with_consumer t 2) { room = m.room }) (cons : ℕ) (number : cons ≡ t.topology.next_consumer) where
+    (made : m ≡ record (with_consumer t 2) { room = m.room }) (cons : ℕ)
+    (number : cons ≡ t.topology.next_consumer) where
   -- the graph with the new consumer
   graph_is : m.topology ≡ add_consumer t.topology 2 None
   graph_is = ap (λ (v : TopoView C). v.topology) made

@@ -8,6 +8,7 @@ use Rattle.std.proofs.lemmas.List.Elements.{filter_agree}
 use Rattle.geo_base.specs.declared.kind.Kind.{Kind}
 use Rattle.geo_base.specs.declared.kind.Kind.TheVariants as kinds
 use Rattle.geo_base.proofs.Tests.{same_tests}
+use Rattle.geo_base.proofs.FindLists.{some-passes, Passes}
 use Rattle.geo_model.specs.Words.{is_kind, names_number}
 use Rattle.geo_model.specs.Topology.{Topology, Geom, Consumer, geom_at, consumers_of, attached_to}
 use Rattle.geo_model.specs.Graph.{IsInOrder}
@@ -22,7 +23,7 @@ use Rattle.geo_laws_counts.proofs.LimitFacts.{of_filter}
 use Rattle.geo_laws_counts.proofs.Members.{in_filter}
 use Rattle.geo_mesh.specs.Graph.{IsSoundGraph}
 use Rattle.geo_taste.specs.Over.{may_be_of, over, stands_as}
-use Rattle.geo_taste.proofs.Tests.{Passes, one_passes, some_passes}
+use Rattle.geo_taste.proofs.Tests.{some_passes}
 
 module _ (t : Topology Config) (order : IsInOrder t) (kind : Kind) (p : ℕ) where
   -- whether a geom is of the class and isn't withering, and whether it is over the provider
@@ -37,8 +38,8 @@ module _ (t : Topology Config) (order : IsInOrder t) (kind : Kind) (p : ℕ) whe
       → is_attached_class t kind p ≡ true
   leads_up some =
       let one : Passes (λ (c : Consumer). stands_as t kind c.geom) (attached_to t p) =
-      one_passes (λ (c : Consumer). stands_as t kind c.geom) (attached_to t p) some in
-      let at = of_filter (λ (c : Consumer). names_number c.provider p) t.consumers one.item one.there in
+      some-passes (λ (c : Consumer). stands_as t kind c.geom) (attached_to t p) some in
+      let at = of_filter (λ (c : Consumer). names_number c.provider p) t.consumers one.item one.here in
       let found = some_passes is_of (geom_at t one.item.geom) one.passes in
       let number : found.0.number ≡ one.item.geom =
       eqb-true found.0.number one.item.geom
@@ -58,18 +59,18 @@ module _ (t : Topology Config) (order : IsInOrder t) (kind : Kind) (p : ℕ) whe
   leads_down : is_attached_class t kind p ≡ true
       → list_any (λ (c : Consumer). stands_as t kind c.geom) (attached_to t p) ≡ true
   leads_down some =
-      let one : Passes covers t.geoms = one_passes covers t.geoms some in
+      let one : Passes covers t.geoms = some-passes covers t.geoms some in
       let g : Geom Config = one.item in
       let parts = and_parts (is_kind g.kind kind) (not g.withering && is_over t p g) one.passes in
       let rest = and_parts (not g.withering) (is_over t p g) parts.1 in
       let below : Passes (λ (c : Consumer). names_number c.provider p) (consumers_of t g.number) =
-      one_passes (λ (c : Consumer). names_number c.provider p) (consumers_of t g.number) rest.1 in
-      let at = of_filter (λ (c : Consumer). c.geom == g.number) t.consumers below.item below.there in
+      some-passes (λ (c : Consumer). names_number c.provider p) (consumers_of t g.number) rest.1 in
+      let at = of_filter (λ (c : Consumer). c.geom == g.number) t.consumers below.item below.here in
       let same : below.item.geom ≡ g.number = eqb-true below.item.geom g.number at.1 in
       let each : EachIsFound Config = each-found in
       let found : geom_at t below.item.geom ≡ Some g =
       ap (geom_at t) same
-      ∙ at_contained (λ (x : Geom Config). geom_at t x.number ≡ Some x) t.geoms g (each.geoms t order) one.there in
+      ∙ at_contained (λ (x : Geom Config). geom_at t x.number ≡ Some x) t.geoms g (each.geoms t order) one.here in
       any-contained (λ (c : Consumer). stands_as t kind c.geom) (attached_to t p) below.item
       (in_filter (λ (c : Consumer). names_number c.provider p) t.consumers below.item at.0 below.passes)
       (ap (λ o. option_map_or is_of o false) found

@@ -5,6 +5,7 @@ use Rattle.std.proofs.Common.{refl, sym, ◌∙◌, ap, inl, inr, arith}
 use Rattle.std.proofs.lemmas.Bool.{eqb-true, and_parts, and_from, or_cases}
 use Rattle.std.proofs.lemmas.List.Elements.{All-contains}
 use Rattle.geo_base.proofs.Tests.{same_tests}
+use Rattle.geo_base.proofs.FindLists.{some-passes, Passes}
 use Rattle.geo_model.specs.Topology.{Topology, Provider, Consumer, provider_at, consumer_at, is_errored}
 use Rattle.geo_model.specs.Graph.{IsInOrder}
 use Rattle.geo_model.specs.Tasting.{is_ended}
@@ -16,7 +17,7 @@ use Rattle.geo_laws_graph.proofs.Members.{at_contained, find-Contains}
 use Rattle.geo_laws_graph.proofs.Numbered.{any-contained}
 use Rattle.geo_laws_graph.proofs.Found.{each-found}
 use Rattle.geo_taste.specs.Going.{going}
-use Rattle.geo_taste.proofs.Tests.{Passes, one_passes, some_passes}
+use Rattle.geo_taste.proofs.Tests.{some_passes}
 
 -- whether a provider carries an error is what stands at it
 pub errored_told : {C : Type 0} (t : Topology C) → IsInOrder t → (p : ℕ)
@@ -29,13 +30,13 @@ errored_told {C} t order p = same_tests (is_errored t p) told forth back
     forth : is_errored t p ≡ true → told ≡ true
     forth some =
         let one : Passes (λ (x : Provider). (x.number == p) && x.errored) t.providers =
-        one_passes (λ (x : Provider). (x.number == p) && x.errored) t.providers some in
+        some-passes (λ (x : Provider). (x.number == p) && x.errored) t.providers some in
         let parts = and_parts (one.item.number == p) one.item.errored one.passes in
         let each : EachIsFound C = each-found in
         ap (λ o. option_map_or (λ (x : Provider). x.errored) o false)
         (ap (provider_at t) (sym (eqb-true one.item.number p parts.0))
         ∙ at_contained (λ (x : Provider). provider_at t x.number ≡ Some x) t.providers one.item
-        (each.providers t order) one.there)
+        (each.providers t order) one.here)
         ∙ parts.1
 
     back : told ≡ true → is_errored t p ≡ true

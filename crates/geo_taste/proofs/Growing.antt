@@ -7,6 +7,9 @@ use Rattle.std.proofs.lemmas.Bool.{and_parts, false_from_ne_true}
 use Rattle.std.proofs.lemmas.List.{length-replicate, map-append}
 use Rattle.std.proofs.lemmas.List.Elements.{All-contains, All-from_recursion, All-push, All-weaker}
 use Rattle.std.proofs.lemmas.List.Folds.{find-append}
+use Rattle.geo_base.proofs.FindLists.{found-still}
+use Rattle.geo_base.proofs.Options.{none-there}
+use Rattle.geo_access.proofs.Coming.{bare_of}
 use Rattle.geo_base.specs.declared.kind.Kind.{Kind}
 use Rattle.geo_base.specs.declared.kind.Kind.TheVariants as kinds
 use Rattle.geo_base.specs.declared.request.Counts.{Counts}
@@ -35,8 +38,8 @@ use Rattle.geo_taste.proofs.ModelLemmas.{accepted_is}
 use Rattle.geo_taste.proofs.StandingLemmas.{standing_at, standing_may}
 use Rattle.geo_access.specs.Access.{granted_by}
 use Rattle.geo_taste.specs.Taster.{held_by, IsSettled, IsTasteOf}
-use Rattle.geo_taste.proofs.Adding.{config_kept, consumer_kept, geom_kept, no_geom, none_lives, provider_kept}
-use Rattle.geo_taste.proofs.Coming.{bare_of, taste_stands}
+use Rattle.geo_taste.proofs.Adding.{config_kept, consumer_kept, geom_kept, no_geom, provider_kept}
+use Rattle.geo_taste.proofs.Coming.{taste_stands}
 use Rattle.geo_taste.proofs.Kept.{kept_counted}
 
 -- a value that is found is found among more
@@ -50,16 +53,6 @@ kept_value {V} rows r n v e =
         → option_map (λ (row : ℕ × V). row.1) (option_or o (find (λ (row : ℕ × V). row.0 == n) (r ∷ []))) ≡ Some v
     by None never = absurd (cc)
     by (Some row) is = is
-
--- what is found is there among more
-still_there : {X : Type 0} (test : X → Bool) (xs : List X) (y : X) → IsSome (find test xs)
-    → IsSome (find test (xs ++ y ∷ []))
-still_there {X} test xs y there =
-    subst (λ (o : Option X). IsSome o) (sym (find-append test xs (y ∷ []))) (by (find test xs) there)
-  where
-    by : (o : Option X) → IsSome o → IsSome (option_or o (find test (y ∷ [])))
-    by None never = absurd (let no : false ≡ true = never in cc)
-    by (Some x) there = refl
 
 -- a geom that isn't of DEV or TASTE, over which there is no provider yet
 pub record IsBare (t : Topology Config) (geom : ℕ) : Type 0 where
@@ -148,7 +141,7 @@ module _ (s : Taste) where
             → IfSome o (λ p. IsSome (provider_at (add_provider t.topology geom name size sector) p))
         lives None nothing = tt
         lives (Some p) there =
-            still_there (λ (x : Provider). x.number == p) t.topology.providers
+            found-still (λ (x : Provider). x.number == p) t.topology.providers
             (new_provider t.topology geom name size sector) there
 
         noted_more : {rows : List (ℕ × Bool)}
@@ -248,7 +241,8 @@ module _ (s : Taste) where
 
       with_place : HoldsTaste s (placed m p.number geom filled).mesh
       with_place =
-          config_held (with_attached m.mesh geom p.number) (consumer_held m.mesh is geom p.number bare there) geom filled
+          config_held (with_attached m.mesh geom p.number) (consumer_held m.mesh is geom p.number bare there) geom
+          filled
 
       by : (b : Bool)
           → AllHold s
@@ -272,11 +266,12 @@ module _ (s : Taste) where
       kind = other;
       none = bare_of t.providers t.next_geom
           (λ y here same.
-          none_lives (geom_at t t.next_geom) (no_geom m.mesh is.settled.counted is.order m.mesh.room)
+          none-there (geom_at t t.next_geom) (no_geom m.mesh is.settled.counted is.order m.mesh.room)
           (subst (λ n. IsSome (geom_at t n)) same
-          (All-contains (λ (x : Provider). IsSome (geom_at t x.geom)) t.providers y sound.orderly.parts.offerers here)));
+          (All-contains (λ (x : Provider). IsSome (geom_at t x.geom)) t.providers y sound.orderly.parts.offerers
+          here)));
       apart = λ same.
-          none_lives (geom_at t t.next_geom) (no_geom m.mesh is.settled.counted is.order m.mesh.room)
+          none-there (geom_at t t.next_geom) (no_geom m.mesh is.settled.counted is.order m.mesh.room)
           (subst (λ n. IsSome (geom_at t n)) same (taste_stands t sound));
     }
 

@@ -1,5 +1,5 @@
 -- A member that joins an assembly, in a new geom or in the standing one.
-use Rattle.std.specs.Prelude.{◌≡◌, ℕ, ◌-◌, ◌<◌, Bool, true, false, List, length, Option, Some, None, Result, Ok, Err, IfOk, is_none, IfSome, IsSome, IsSomeAnd, option_map, slice_get}
+use Rattle.std.specs.Prelude.{◌≡◌, ℕ, ◌-◌, ◌<◌, Bool, true, false, List, length, Option, Some, None, is_none, IfSome, IsSome, IsSomeAnd, option_map, slice_get}
 use Rattle.std.specs.Option.{option_flatten}
 use Rattle.std.proofs.Common.{refl, sym, ◌∙◌, ap, subst}
 use Rattle.std.proofs.lemmas.Bool.{and_parts}
@@ -12,7 +12,7 @@ use Rattle.geo_mesh.specs.Topo.{TopoView, with_geom, with_topology, IsButForRoom
 use Rattle.geo_event.specs.EventQueue.{Queued}
 use Rattle.geo_laws_graph.proofs.Members.{has}
 use Rattle.geo_laws_graph.proofs.Found.{config-found}
-use Rattle.geo_laws_life.proofs.Found.{some-with, some-there, at-found, one-found}
+use Rattle.geo_laws_life.proofs.Found.{some-with, some-there, one-found}
 use Rattle.geo_taste.specs.declared.offer.Offer.{Offer}
 use Rattle.geo_taste.specs.declared.place.Plan.{Plan}
 use Rattle.geo_taste.specs.declared.shapes.Accepted.{Accepted}
@@ -94,15 +94,6 @@ standing_may_offer t geom g found stays bare =
 pub can_join_is : (t : Topology Config) (p : Provider) (g : Geom Config) (k : ℕ) (b : Bool)
     → k < length (places_of g.config) → b ≡ can_take t p.sector g.config k → b ≡ can_join t p g k
 can_join_is t p g k b less e = e ∙ takes_as_joins t p g g.config k refl less
-
--- a fact of the value of a result
-pub ok_follows : {A E : Type 0} (P Q : A → Type 0) (r : Result A E) → ((a : A) → P a → Q a) → IfOk r P → IfOk r Q
-ok_follows P Q (Ok a) so fact = so a fact
-ok_follows P Q (Err e) so fact = tt
-
--- a fact of what was found
-pub at_there : {X : Type 0} (o : Option X) (P : X → Type 0) (x : X) → o ≡ Some x → IfSome o P → P x
-at_there o P x e fact = at-found o P x e fact
 
 -- In a new geom
 

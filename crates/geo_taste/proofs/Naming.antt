@@ -1,13 +1,13 @@
 -- A class that accepts a place of an assembly names one of its places.
-use Rattle.std.specs.Prelude.{◌≡◌, ℕ, ◌*◌, nat_le, nat_lt, Bool, true, false, not, ◌&&◌, List, [], ◌∷◌, ◌++◌, length, Option, Some, None, Result, Ok, Err, option_map, unwrap_or, if◌then◌else◌}
+use Rattle.std.specs.Prelude.{◌≡◌, ℕ, ◌*◌, Bool, true, false, List, [], ◌∷◌, ◌++◌, length, Option, Some, None, Result, Ok, Err, option_map, unwrap_or, if◌then◌else◌}
 use Rattle.std.proofs.Common.{refl, ap, subst}
-use Rattle.std.proofs.lemmas.Bool.{and_parts, not-false, leb-true, ltb-true}
+use Rattle.geo_laws_making.proofs.PlacedInside.{good_place}
+use Rattle.geo_model.proofs.RefusalLemmas.{none_refused, none_behind}
 use Rattle.geo_base.specs.declared.decline.DeclineCause.{DeclineCause}
 use Rattle.geo_base.specs.declared.decline.DeclineCause.TheVariants as causes
 use Rattle.geo_base.specs.declared.kind.Kind.{Kind}
 use Rattle.geo_base.specs.declared.kind.Kind.TheVariants as kinds
 use Rattle.geo_base.specs.declared.request.Counts.{Counts}
-use Rattle.geo_base.specs.declared.limits.TheConstants.{MAX_COMPONENTS}
 use Rattle.geo_model.specs.declared.class.Facts.{Facts}
 use Rattle.geo_model.specs.declared.class.LabelRecord.{LabelRecord}
 use Rattle.geo_model.specs.declared.class.Shape.{Shape}
@@ -25,26 +25,6 @@ use Rattle.geo_laws_texts.specs.RecordLaws.{IsPlace}
 use Rattle.geo_taste.specs.Accepts.{NamesAPlace}
 
 -- Places
-
--- a place that isn't declined
-good_place : (place count : ℕ) → not (nat_le 1 count && (nat_le count MAX_COMPONENTS && nat_lt place count)) ≡ false
-    → IsPlace place count
-good_place place count e =
-    let a = and_parts (nat_le 1 count) (nat_le count MAX_COMPONENTS && nat_lt place count)
-    (not-false (nat_le 1 count && (nat_le count MAX_COMPONENTS && nat_lt place count)) e) in
-    let b = and_parts (nat_le count MAX_COMPONENTS) (nat_lt place count) a.1 in
-    record { some = leb-true 1 count a.0; few = leb-true count MAX_COMPONENTS b.0; inside = ltb-true place count b.1 }
-
--- where nothing is refused, the first test fails, and nothing of the rest refuses
-none_refused : {E : Type 0} (b : Bool) (e : E) (rows : List (Bool × E)) → first_error ((b, e) ∷ rows) ≡ None
-    → (b ≡ false) × (first_error rows ≡ None)
-none_refused true e rows none = absurd (let no : ⊥ = cc in no)
-none_refused false e rows none = (refl, none)
-
--- nothing is against the tests behind others
-none_behind : (xs ys : List (Bool × DeclineCause)) → first_error (xs ++ ys) ≡ None → first_error ys ≡ None
-none_behind [] ys none = none
-none_behind (row ∷ xs) ys none = none_behind xs ys (none_refused row.0 row.1 (xs ++ ys) none).1
 
 -- the place in a record, before other tests
 record_place : (bytes : List ℕ) (head rest : List (Bool × DeclineCause))
@@ -92,7 +72,7 @@ chain_of c bytes (Some cause) shape e = absurd (let no : ⊥ = cc in no)
 chain_of c bytes None shape e = chain_by c shape (leads_on bytes) e
 
 -- so is each shape that is accepted
-verdict_named : (granted : ℕ → Counts) (s : Taste) (bytes : List ℕ) (f : Facts) (shape : Shape) (kind : Kind)
+pub verdict_named : (granted : ℕ → Counts) (s : Taste) (bytes : List ℕ) (f : Facts) (shape : Shape) (kind : Kind)
     → verdict_on granted s kind bytes f ≡ Accept shape → NamesAPlace shape
 verdict_named granted s bytes f shape kinds.Mbr e = shape_any Slices (mbr_table bytes f.sectors) shape (λ x. tt) e
 verdict_named granted s bytes f shape kinds.Ebr e =

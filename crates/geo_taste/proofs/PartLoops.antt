@@ -4,6 +4,7 @@ use Rattle.std.specs.List.{AllByRecursion}
 use Rattle.std.proofs.Common.{refl, sym, ◌∙◌, ap, subst, arith, append_assoc, append-nil}
 use Rattle.std.proofs.Math.ListN.{drop_of_length-le}
 use Rattle.std.proofs.lemmas.List.Folds.{list_all-append}
+use Rattle.geo_base.proofs.PlaceLists.{first_left}
 use Rattle.geo_base.specs.Name.{is_name, name_of}
 use Rattle.geo_model.specs.Acceptance.{NewSlice}
 use Rattle.geo_model.specs.World.{Config}
@@ -16,21 +17,9 @@ use Rattle.geo_taste.specs.Accepting.{with_slices_of}
 use Rattle.geo_taste.specs.Parts.{are_names, named_all, IsPlaced, IsPushed, CanAddPart, Differ}
 use Rattle.geo_taste.specs.Standing.{MayOffer}
 use Rattle.geo_taste.proofs.Following.{with_room, both-are}
-use Rattle.geo_taste.proofs.AttachLoop.{front}
 use Rattle.geo_taste.proofs.PartLemmas.{add_more, may_more, offers_carry}
 
 -- Lists
-
--- there are no more parts than places
-pub count_new : {X : Type 0} (name : ℕ → List ℕ) (count : X → ℕ) (k : ℕ) (xs : List (Option X))
-    → length (new_of name count k xs) ≤ length xs
-count_new name count k [] = omega arith
-count_new name count k (None ∷ xs) =
-    let rest : length (new_of name count (k + 1) xs) ≤ length xs = count_new name count (k + 1) xs in
-    omega (arith, rest)
-count_new name count k (Some s ∷ xs) =
-    let rest : length (new_of name count (k + 1) xs) ≤ length xs = count_new name count (k + 1) xs in
-    omega (arith, rest)
 
 -- what a function makes of an option, where that is known
 pub mapped_some : {A B : Type 0} (f : A → B) (o : Option A) (x : A) (r : Option B) → o ≡ Some x → option_map f o ≡ r
@@ -112,7 +101,7 @@ module _ {X : Type 0} (name : ℕ → List ℕ) (count : X → ℕ) (all : List 
       (placed : IsPlaced (name_of (name place)) (option_map count o) named items more) where
     -- what was so far
     now : NamedSoFar place items (o ∷ drop (i + 1) all)
-    now = subst (NamedSoFar place items) (front all i o less is) far
+    now = subst (NamedSoFar place items) (first_left all i o less is) far
 
     -- one of the list
     pub named_more : named ≡ true → NamedSoFar (place + 1) more (drop (i + 1) all)
@@ -126,7 +115,7 @@ module _ {X : Type 0} (name : ℕ → List ℕ) (count : X → ℕ) (all : List 
   pub named_place : (place i : ℕ) (items : List NewSlice) (o : Option X) → i < length all → o ≡ get_or all i o
       → NamedSoFar place items (drop i all) → place < length all
   named_place place i items o less is far =
-      let now = subst (NamedSoFar place items) (front all i o less is) far in
+      let now = subst (NamedSoFar place items) (first_left all i o less is) far in
       let e : place + (1 + length (drop (i + 1) all)) ≡ length all = omega (arith, now.number) in
       omega (arith, e)
 
@@ -193,13 +182,13 @@ module _ (t u : TopoView Config) (q r : Queued) (geom i : ℕ) (parts : List New
       → OfferedSoFar t v q s geom (drop (i + 1) parts) parts
   offer_step v s x less is far one =
       one_offer t u v q r s geom x (drop (i + 1) parts) parts
-      (subst (λ xs. OfferedSoFar t u q r geom xs parts) (front parts i x less is) far) one
+      (subst (λ xs. OfferedSoFar t u q r geom xs parts) (first_left parts i x less is) far) one
 
   -- the next one can be made
   pub offer_next : (x : NewSlice) → i < length parts → x ≡ get_or parts i x
       → OfferedSoFar t u q r geom (drop i parts) parts → NeedsOne u r x
   offer_next x less is far =
-      let now = subst (λ xs. OfferedSoFar t u q r geom xs parts) (front parts i x less is) far in
+      let now = subst (λ xs. OfferedSoFar t u q r geom xs parts) (first_left parts i x less is) far in
       let enough : 1 + length (drop (i + 1) parts) ≤ u.room.providers = omega (arith, now.room) in
       let spare : 1 + length (drop (i + 1) parts) ≤ r.spare = omega (arith, now.spare) in
       record { can = now.can.0; room = omega (arith, enough); spare = omega (arith, spare) }

@@ -1,8 +1,10 @@
 -- A new geom, over some providers.
-use Rattle.std.specs.Prelude.{◌≡◌, ◌≢◌, ℕ, ◌<◌, ◌==◌, Bool, true, false, ◌&&◌, List, [], ◌∷◌, Option, IsSome, IsSomeAnd, All}
+use Rattle.std.specs.Prelude.{◌≡◌, ◌≢◌, ℕ, ◌<◌, ◌==◌, Bool, true, false, ◌&&◌, List, [], ◌∷◌, IsSome, All}
 use Rattle.std.specs.List.{AllByRecursion}
 use Rattle.std.proofs.Common.{inr, refl, sym, ◌∙◌, ap, subst, arith}
 use Rattle.std.proofs.lemmas.List.Elements.{recursion_from_All}
+use Rattle.geo_base.proofs.Options.{there_with_fact}
+use Rattle.geo_base.proofs.AllLists.{all_weaker}
 use Rattle.geo_base.specs.declared.kind.Kind.{Kind}
 use Rattle.geo_base.specs.declared.limits.TheConstants.{MAX_RANK}
 use Rattle.geo_model.specs.Topology.{Topology, Geom, Provider, geom_at, provider_at, providers_of, add_geom, is_name_taken, is_withering}
@@ -20,11 +22,7 @@ use Rattle.geo_event.specs.EventQueue.{Queued}
 use Rattle.geo_taste.specs.Making.{AreBoth, both, with_attached, with_all_attached, with_geom_on, with_offer}
 use Rattle.geo_taste.specs.Standing.{CanStandOn, MayOffer}
 use Rattle.geo_taste.proofs.Following.{followed}
-use Rattle.geo_taste.proofs.Attaching.{none_any, all_follow, attached_roomed}
-
--- a fact of what is there says that it is there
-there_of : {X : Type 0} (o : Option X) (P : X → Type 0) → IsSomeAnd o P → IsSome o
-there_of o P fact = let x = found-with o P fact in some-there o x.item x.is
+use Rattle.geo_taste.proofs.Attaching.{none_any, attached_roomed}
 
 -- an item of another number passes no test at a number
 other_number : (n m : ℕ) (b c : Bool) → (n == m) ≡ false → ((n == m) && c) ≡ false
@@ -40,19 +38,19 @@ module _ {C : Type 0} (t : Topology C) (sound : IsSoundGraph t) where
 
   -- so not DEV
   pub new_not_dev : t.next_geom ≢ 1
-  new_not_dev = not_there 1 (there_of (geom_at t 1) _ sound.orderly.first.dev)
+  new_not_dev = not_there 1 (there_with_fact _ (geom_at t 1) sound.orderly.first.dev)
 
   -- and not TASTE
   pub new_not_taste : t.next_geom ≢ 2
-  new_not_taste = not_there 2 (there_of (geom_at t 2) _ sound.orderly.first.taste)
+  new_not_taste = not_there 2 (there_with_fact _ (geom_at t 2) sound.orderly.first.taste)
 
   -- it doesn't wither
   new_stays : is_withering t t.next_geom ≡ false
   new_stays =
       none_any (λ (y : Geom C). (y.number == t.next_geom) && y.withering) t.geoms
-      (all_follow (λ (y : Geom C). (y.number == t.next_geom) ≡ false)
-      (λ (y : Geom C). ((y.number == t.next_geom) && y.withering) ≡ false) t.geoms
-      (λ y e. other_number y.number t.next_geom true y.withering e)
+      (all_weaker (λ (y : Geom C). (y.number == t.next_geom) ≡ false)
+      (λ (y : Geom C). ((y.number == t.next_geom) && y.withering) ≡ false)
+      (λ y e. other_number y.number t.next_geom true y.withering e) t.geoms
       (none_outside (λ (y : Geom C). y.number) 0 t.next_geom t.next_geom t.geoms
       (rise-from t.next_geom _ sound.orderly.order.geoms) (inr (omega arith))))
 
@@ -106,8 +104,8 @@ module _ (t u : TopoView Config) (kind : Kind) (name : List ℕ) (config : Confi
     bare = subst (λ (g : Topology Config). providers_of g t.topology.next_geom ≡ []) (sym graph)
         (offers-nothing t.topology sound.orderly.order sound.orderly.parts.offerers);
     stand = subst (λ (g : Topology Config). AllByRecursion (CanStandOn g) provs) (sym graph)
-        (all_follow (CanStandOn t.topology) (CanStandOn (add_geom t.topology kind name config automatic)) provs
-        (stands_still t.topology sound kind name config automatic)
+        (all_weaker (CanStandOn t.topology) (CanStandOn (add_geom t.topology kind name config automatic))
+        (stands_still t.topology sound kind name config automatic) provs
         (recursion_from_All (CanStandOn t.topology) provs all));
     may = subst (λ (g : Topology Config). MayOffer g t.topology.next_geom) (sym graph)
         (new_may t.topology sound kind name config automatic);

@@ -136,7 +136,8 @@ said_plain (Some (More sector)) t c = refl
 said_plain (Some (Accept shape)) t c = refl
 
 -- what became of a read that is back, for the step
-pub said_back : (t : TopoView Config) (s : Taste) (p : Provider) (z : Taste) (kind : Kind) (got : BioResult) (said : Said)
+pub said_back : (t : TopoView Config) (s : Taste) (p : Provider) (z : Taste) (kind : Kind) (got : BioResult)
+    (said : Said)
     → s.asked ≡ ReadBack kind got
     → ((events : List Event) → IsTaken (granted_by t) (queued t events) s p kind got z said)
     → IsSaidOn t s p t z said

@@ -1,10 +1,13 @@
 -- The standing geom of an assembly, and what can take a place there.
-use Rattle.std.specs.Prelude.{◌≡◌, ◌≢◌, ◌⊎◌, ℕ, zero, suc, ◌+◌, ◌^◌, ◌<◌, ◌≤◌, ◌==◌, nat_le, Bool, true, false, not, ◌&&◌, List, [], ◌∷◌, ◌++◌, length, find, filter, flat_map, filter_map, Option, Some, None, is_none, IsSomeAnd, IsTrue, option_map, Contains, slice_get, option_and_then}
-use Rattle.std.specs.List.{list_any, list_all}
+use Rattle.std.specs.Prelude.{◌≡◌, ◌≢◌, ◌⊎◌, ℕ, ◌+◌, ◌^◌, ◌<◌, ◌≤◌, ◌==◌, nat_le, Bool, true, false, not, ◌&&◌, List, [], ◌∷◌, ◌++◌, length, find, filter, flat_map, filter_map, Option, Some, None, is_none, IsSomeAnd, IsTrue, option_map, Contains, slice_get, option_and_then}
+use Rattle.std.specs.List.{list_all}
 use Rattle.std.specs.Option.{option_flatten, option_map_or, option_to_list}
 use Rattle.std.proofs.Common.{inl, inr, refl, sym, ◌∙◌, ap, subst, arith}
 use Rattle.std.proofs.lemmas.Bool.{and_parts, not-true, eqb-true, eq-eqb, ne_eqb}
 use Rattle.std.proofs.lemmas.List.Elements.{All-contains}
+use Rattle.geo_base.proofs.Options.{is_nothing}
+use Rattle.geo_base.proofs.PlaceLists.{free_at}
+use Rattle.geo_base.proofs.AllLists.{all_weaker}
 use Rattle.geo_model.specs.Words.{same_name}
 use Rattle.geo_model.specs.Topology.{Topology, Geom, Provider, geom_at, provider_at, provider_of_consumer, providers_of, is_withering}
 use Rattle.geo_model.specs.World.{Config, Nothing, Disk, Mbr, Ebr, Label, Concat, Stripe, Nop}
@@ -24,7 +27,7 @@ use Rattle.geo_taste.specs.Making.{QueuedMesh}
 use Rattle.geo_taste.specs.Accepting.{joined_at}
 use Rattle.geo_taste.specs.Accepts.{MakesSizes}
 use Rattle.geo_taste.specs.Joining.{MayBeMember, MayJoin, fits_sector, can_take, is_bare, is_of_assembly}
-use Rattle.geo_taste.proofs.Attaching.{none_any, all_follow}
+use Rattle.geo_taste.proofs.Attaching.{none_any}
 
 -- Components of one sector size
 
@@ -87,14 +90,6 @@ can_take_is t sector config k b r cs free holds fit are =
     ∙ ap (λ z. z && list_all (fits_sector t sector) (components config)) (sym holds ∙ free)
 
 -- Places
-
--- a place that is free is one of those
-free_among : (ps : List (Option ℕ)) (k : ℕ) → k < length ps → is_none (option_flatten (slice_get ps k)) ≡ true
-    → list_any is_none ps ≡ true
-free_among [] k less free = absurd (no_place k less)
-free_among (None ∷ ps) k less free = refl
-free_among (Some c ∷ ps) zero less free = absurd (let no : ⊥ = cc in no)
-free_among (Some c ∷ ps) (suc k) less free = free_among ps k (omega (arith, less)) free
 
 -- two configurations of one assembly have as many places
 same_places : (a b : Config) → is_same_assembly a b ≡ true → length (places_of a) ≡ length (places_of b)
@@ -160,9 +155,9 @@ module _ (t : Topology Config) (sound : IsSoundGraph t) (name : List ℕ) (empty
   pub standing_stays : is_withering t id ≡ false
   standing_stays =
       none_any (λ (y : Geom Config). (y.number == id) && y.withering) t.geoms
-      (all_follow (λ (y : Geom Config). (y.number == id) ≡ true → y ≡ g)
-      (λ (y : Geom Config). ((y.number == id) && y.withering) ≡ false) t.geoms
-      (λ y same. stays_by id g y (y.number == id) (assembly_of name empty g is).stays refl same)
+      (all_weaker (λ (y : Geom Config). (y.number == id) ≡ true → y ≡ g)
+      (λ (y : Geom Config). ((y.number == id) && y.withering) ≡ false)
+      (λ y same. stays_by id g y (y.number == id) (assembly_of name empty g is).stays refl same) t.geoms
       (unique (λ (y : Geom Config). y.number) t.next_geom id t.geoms g sound.orderly.order.geoms found))
 
   -- and has the place
@@ -206,7 +201,7 @@ module _ (m : QueuedMesh) (p : Provider) (x : Member) (g : Geom Config) (sound :
       not_taste = λ is. other (inr is);
       waits = λ free.
           All-contains (λ (h : Geom Config). IsTrue (has_free_place h) → providers_of t h.number ≡ []) t.geoms g
-          may.waiting stands (free_among (places_of g.config) x.place
+          may.waiting stands (free_at (places_of g.config) x.place
           (standing_place t sound x.geom_name x.empty g.number g standing_at passes x.place inside) free);
       sizes = subst (λ (o : Option (Geom Config)). MakesSizes (joined_at m p x o)) found may.sizes;
     }
@@ -306,11 +301,6 @@ walk_begin name empty xs =
 
 -- Geoms without providers
 
--- what isn't there is nothing
-none_is : {X : Type 0} (o : Option X) → is_none o ≡ true → o ≡ None
-none_is None e = refl
-none_is (Some x) e = absurd (let no : ⊥ = cc in no)
-
 -- what the test of a bare geom tells
 pub record IsBare (t : Topology Config) (geom : ℕ) : Type 0 where
   pub not_dev : geom ≢ 1
@@ -331,7 +321,7 @@ bare_of t geom e =
           let never : ⊥ = cc in
           never;
       bare = walk.empty (λ (x : Provider). x.number) (providers_of t geom)
-          (none_is (first_provider (providers_of t geom) 0) second.1);
+          (is_nothing (first_provider (providers_of t geom) 0) second.1);
     }
 
 -- and a bare geom passes it

@@ -3,6 +3,7 @@ use Rattle.std.specs.Prelude.{◌≡◌, ◌<◌, ◌==◌, Bool, true, false, L
 use Rattle.std.specs.Option.{option_map_or}
 use Rattle.std.proofs.Common.{refl, sym, ◌∙◌, ap, subst, arith}
 use Rattle.std.proofs.lemmas.Bool.{eqb-true, not-true, or_parts}
+use Rattle.geo_base.proofs.Options.{at-found}
 use Rattle.geo_base.specs.declared.limits.TheConstants.{MAX_RANK, UNTASTED_RANK}
 use Rattle.geo_model.specs.declared.class.Judged.{Judged}
 use Rattle.geo_model.specs.declared.class.Judged.TheVariants.{Read, Next, Made, Ended}
@@ -138,10 +139,6 @@ taken_as m s shape t q settled tasting sound place idle p found a is =
     })
     sound (ap is_some at) place idle a is
 
--- what is found is what is there
-pub if_found : {X : Type 0} (P : X → Type 0) (o : Option X) (x : X) → o ≡ Some x → IfSome o P → P x
-if_found {X} P o x is fact = subst (λ (z : Option X). IfSome z P) is fact
-
 -- The tasted provider
 
 module _ (t : Topology Config) (s : Taste) where
@@ -159,8 +156,8 @@ module _ (t : Topology Config) (s : Taste) where
   goes_sound p sound goes =
       sym (ap (λ o. option_map_or (λ (x : Provider). x.errored) o false) (goes_found p goes).1)
       ∙ sym (errored_told t sound.orderly.order s.provider)
-      ∙ (or_parts (is_errored t s.provider) (option_map_or (λ (c : Consumer). c.spoiled) (consumer_at t s.consumer) false)
-      (goes_found p goes).0).0
+      ∙ (or_parts (is_errored t s.provider)
+      (option_map_or (λ (c : Consumer). c.spoiled) (consumer_at t s.consumer) false) (goes_found p goes).0).0
 
   -- so a geom can stand on it where it isn't too high
   pub goes_stands : (p : Provider) → IsSoundGraph t → going t s ≡ Some p
@@ -168,7 +165,7 @@ module _ (t : Topology Config) (s : Taste) where
   goes_stands p sound goes low =
       let found = (goes_found p goes).1 in
       let below : rank t p.geom < UNTASTED_RANK =
-      if_found (λ (x : Provider). rank t x.geom < UNTASTED_RANK) _ p found low in
+      at-found _ (λ (x : Provider). rank t x.geom < UNTASTED_RANK) p found low in
       let under : rank t p.geom < MAX_RANK = omega (arith, below) in
       subst (λ (o : Option Provider). IsSomeAnd o (λ x. (x.errored ≡ false) × (rank t x.geom < MAX_RANK))) (sym found)
       (goes_sound p sound goes, under)
@@ -192,7 +189,8 @@ module _ (m : QueuedMesh) (s : Taste) (t : TopoView Config) (q : Queued) where
     mesh = by j plain mesh;
   }
     where
-      by : (j : Judged) → makes j ≡ false → t ≡ with_judged m.mesh s.consumer j → IsMadeOf (making m s) (MayJudge m s) m s t q j
+      by : (j : Judged) → makes j ≡ false → t ≡ with_judged m.mesh s.consumer j
+          → IsMadeOf (making m s) (MayJudge m s) m s t q j
       by (Read sector) none same = record {
         mesh = but_for_room t (with_judged m.mesh s.consumer (Read sector)) same;
         events = events;

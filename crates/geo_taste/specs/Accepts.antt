@@ -30,8 +30,8 @@ HaveSizes t = All (λ x. is_provider_size x.size x.sector ≡ true) t.providers
 abbrev pub MakesSizes : Option QueuedMesh → Type 0
 MakesSizes made = IfSome made (λ m. HaveSizes m.mesh.topology)
 
--- what holds of a sound, steady and fitting mesh in which a class accepts a shape: geoms are of their classes, the first
--- two aren't automatic, an assembly with a free place has no provider, and what is made has sizes of providers
+-- what holds of a sound, steady and fitting mesh in which a class accepts a shape: geoms are of their classes, the
+-- first two aren't automatic, an assembly with a free place has no provider, and what is made has sizes of providers
 pub record MayAccept (q : QueuedTopology Config) (p : Provider) (shape : Shape) : Type 0 where
   pub classes : All IsOfItsClass q.topology.geoms
   pub made : AreMade q.topology

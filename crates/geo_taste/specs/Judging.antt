@@ -52,8 +52,8 @@ abbrev pub IsKnownAfter : {E : Type 0} → Result Judged E → Type 0 → Type 0
 IsKnownAfter (Ok j) may fact = IsKnownWith j may fact
 IsKnownAfter (Err e) may fact = fact
 
--- the mesh and its events after a step that came to this: what could be made is made of the provider, if it might be; or
--- nothing is, and a read may be granted
+-- the mesh and its events after a step that came to this: what could be made is made of the provider, if it might be;
+-- or nothing is, and a read may be granted
 abbrev pub IsMadeOf : Option QueuedMesh → Type 0 → QueuedMesh → Taste → TopoView Config → Queued → Judged → Type 0
 IsMadeOf made may m s t q Made = may → IsSomeAnd made (AreBoth t q)
 IsMadeOf made may m s t q judged = AreBoth t q (record m { mesh = with_judged m.mesh s.consumer judged })

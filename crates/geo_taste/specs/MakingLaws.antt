@@ -9,8 +9,8 @@ use Rattle.geo_model.specs.GeomCommands.{build, stand_disk}
 use Rattle.geo_taste.specs.Making.{QueuedMesh, queued, with_built, with_disk}
 use Rattle.geo_taste.specs.Accepting.{accepted}
 
--- the graph with the events is that of the model: with the geom of a command, with that of a disk, and with what a class
--- makes of a shape that it accepts
+-- the graph with the events is that of the model: with the geom of a command, with that of a disk, and with what a
+-- class makes of a shape that it accepts
 pub record MakesAsTheModel : Type 0 where
   pub build : (m : QueuedMesh) (kind : Kind) (geom_name : List ℕ) (config : Config) (ps : List Provider)
       (name : List ℕ) (size sector : ℕ)

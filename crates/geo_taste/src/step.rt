@@ -46,7 +46,8 @@ pub fn judge_step<L: Ledger>(
     ensures same { OnErr result (AreBoth topo.new queue.new (both topo.old queue.old)) }
     ensures taste { OnErr result (taste.new ≡ taste.old) }
     ensures settled { IsKnownAfter result (MayJudge (both topo.old queue.old) taste.old) (IsSettled topo.new) }
-    ensures tasting { IsKnownAfter result (MayJudge (both topo.old queue.old) taste.old) (IsTasteOf topo.new taste.new) }
+    ensures tasting { IsKnownAfter result (MayJudge (both topo.old queue.old) taste.old)
+        (IsTasteOf topo.new taste.new) }
     ensures spare { queue.old.spare ≤ queue.new.spare + MAX_LINKS }
     ensures bound { steps.new ≤ steps.old + consumers_below topo.old.topology taste.old.provider }
 {

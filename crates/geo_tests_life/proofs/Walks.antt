@@ -60,7 +60,8 @@ module _ {C : Type 0} (t : Topology C) where
       -- one fewer is left behind it
       pub many_step : many_left t from_number ≡ 1 + many_left t (n + 1)
       many_step =
-          let more : many_left t from_number ≡ suc (many_left t (n + 1)) = ap length many_next.left in omega (arith, more)
+          let more : many_left t from_number ≡ suc (many_left t (n + 1)) = ap length many_next.left in
+          omega (arith, more)
 
       pub many_past : from_number ≤ n
       many_past = many_next.past

@@ -246,7 +246,8 @@ module _ {D : Type 0} (y : MeshYard) (seen : Drive D → DriveView) (drives : Li
         let w = replay (opened_by y.start) (log ++ earlier) in
         let made : IsMade w e =
         (Legal-back (opened_by y.start) (log ++ earlier) (e ∷ later)
-        (subst (λ (l : List Entry). Legal (opened_by y.start) l) (sym (append_assoc log earlier (e ∷ later))) legal)).0 in
+        (subst (λ (l : List Entry). Legal (opened_by y.start) l) (sym (append_assoc log earlier (e ∷ later)))
+        legal)).0 in
         elim where_is [
           | inl lt ↦
               let at = worker_at y seen count drives 1 ws actor ended (omega (arith, lt, many)) in
@@ -304,8 +305,8 @@ module _ {D : Type 0} (y : MeshYard) (seen : Drive D → DriveView) (drives : Li
         record {
           clients = λ actor earlier e split.
               stopped actor earlier split.split.0 e
-              (subst (λ (l : List Entry). Legal (opened_by y.start) (log ++ l)) split.split.1 legal) split.go split.first
-              (below_or_not actor count);
+              (subst (λ (l : List Entry). Legal (opened_by y.start) (log ++ l)) split.split.1 legal) split.go
+              split.first (below_or_not actor count);
           judge = last_idle (opened_by y.start) log (event_seat plan_of_yard) q steps.Judge its number tried.0;
           event = last_idle (opened_by y.start) log (event_seat plan_of_yard) q steps.Event its number tried.1.0;
           reap = last_idle (opened_by y.start) log (event_seat plan_of_yard) q steps.Reap its number tried.1.1.0;

@@ -186,7 +186,8 @@ module _ {D : Type 0} (y : MeshYard) (seen : Drive D → DriveView) (drives : Li
       (All-from_recursion (λ (p : MeshPass). All (IsMineOf p.number) p.own) (first ∷ passes_of ws) (
         subst (λ (l : List Entry). All (IsMineOf first.number) l) (sym none) (All-nil (IsMineOf first.number)),
         mine_all 1 ws ended
-            (recursion_from_All (λ (p : MeshPass). IsGoodIn (λ (e : Entry). e.seat) p log) (first ∷ passes_of ws) good).1,
+            (recursion_from_All (λ (p : MeshPass). IsGoodIn (λ (e : Entry). e.seat) p log) (first ∷ passes_of ws)
+            good).1,
       ))
 
 -- What that tells

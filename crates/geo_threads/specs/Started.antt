@@ -62,8 +62,8 @@ AreStarted y lanes seen actors drives n (w ∷ ws) =
     IsStarted y lanes seen actors drives n w × AreStarted y lanes seen actors drives (n + 1) ws
 
 -- some clients of so many actors have begun, and the passes of the next one are made of these
-pub record HasBegun {D : Type 0} (y : MeshYard) (lanes : Lanes) (seen : Drive D → DriveView) (actors : ℕ) (first : MeshPass)
-    (down : LanePassView) (ws : List (Worker D)) : Type 0 where
+pub record HasBegun {D : Type 0} (y : MeshYard) (lanes : Lanes) (seen : Drive D → DriveView) (actors : ℕ)
+    (first : MeshPass) (down : LanePassView) (ws : List (Worker D)) : Type 0 where
   pub few : length ws ≤ actors
   pub first_is : IsFirst y (length ws + 1) first
   pub down_is : down ≡ taker_of lanes.down (length ws)

@@ -84,8 +84,8 @@ fn gather_all<D: Drop>(mut lists: Vec<DriveList<D>>, mut back: Vec<Drive<D>>) ->
     back
 }
 
-/// Takes the passes and the drives of workers that have ended, closes the yard, and says how the jobs ended, and what was
-/// seen last. The room is empty, with room for all.
+/// Takes the passes and the drives of workers that have ended, closes the yard, and says how the jobs ended, and what
+/// was seen last. The room is empty, with room for all.
 pub fn close_all<D: Drop, R: AllocGlobal>(
     rt: &R,
     yard: Yard<Mesh>,

@@ -16,8 +16,8 @@ use geo_disk::{Disk, Drive};
 use geo_model::MeshList;
 use geo_work::{Lanes, Mesh, Pass, Watcher, Worker, Yard};
 
-/// What a run is given beside the mesh: the drives in header order, and the mesh as it is printed before the first step,
-/// if it is to be shown.
+/// What a run is given beside the mesh: the drives in header order, and the mesh as it is printed before the first
+/// step, if it is to be shown.
 #[derive(Drop)]
 pub struct Given<D> {
     pub drives: Vec<Drive<D>>,

@@ -10,8 +10,8 @@ use geo_lock::PassList;
 use geo_work::{DriveList, Lanes, Mesh, Worker};
 use std::alloc::Global;
 
-/// Room in which the workers of a run begin: for the workers, and for the drives of the two disk workers; and the passes
-/// of the lanes.
+/// Room in which the workers of a run begin: for the workers, and for the drives of the two disk workers; and the
+/// passes of the lanes.
 #[derive(Drop)]
 pub struct StartRoom<D> {
     pub workers: Vec<Worker<D>>,

@@ -161,9 +161,9 @@ fn run_in_room<D: Disk + Drop + Send, G: Gate + Sync, R: Threads + Wait + Sync +
 /// Runs the jobs of a mesh that has made no step, each in a thread of its own where one can be made: a client for each
 /// actor, the event worker, the down worker, the up worker, and two disk workers, to which the drives go in turn. The
 /// drives are those of the mesh, in header order. If `shown` is there, it is the mesh as it is printed before the first
-/// step: the client of the first actor shows it and each listing that it is replied, and one thread more looks at what is
-/// shown, a thousand times and once more when all jobs have ended. On `Err` memory was wanting before the first job: the
-/// drives come back as they were, and the mesh is dropped.
+/// step: the client of the first actor shows it and each listing that it is replied, and one thread more looks at what
+/// is shown, a thousand times and once more when all jobs have ended. On `Err` memory was wanting before the first job:
+/// the drives come back as they were, and the mesh is dropped.
 pub fn run_threads<D: Disk + Drop + Send, G: Gate + Sync, R: Threads + Wait + Sync + AllocGlobal>(
     rt: &R,
     gate: &G,

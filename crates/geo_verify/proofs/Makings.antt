@@ -3,7 +3,7 @@ use Rattle.std.specs.Prelude.{◌≡◌, ℕ, ◌+◌, ◌<◌, ◌≤◌, nat_l
 use Rattle.std.proofs.Common.{refl, sym, ◌∙◌, ap, arith, subst}
 use Rattle.std.proofs.lemmas.Bool.{le-ltb, lt-ltb}
 use Rattle.std.proofs.lemmas.List.{append_assoc, append-nil, length-append}
-use Rattle.geo_base.specs.declared.limits.TheConstants.{MAX_LOG_ENTRIES}
+use Rattle.geo_base.specs.declared.limits.TheConstants.{MAX_LOG_ENTRIES, MAX_TRACE_BYTES}
 use Rattle.geo_model.specs.declared.step.Entry.{Entry}
 use Rattle.geo_model.specs.declared.step.Outcome.{Outcome}
 use Rattle.geo_model.specs.declared.step.Step.{Step}
@@ -29,7 +29,7 @@ room_by : (n : ℕ) (w : World) (a : Answer) → n + 1 + owed (world_after w a) 
 room_by n w (Ok m) fits = le-ltb MAX_LOG_ENTRIES (n + 1 + owed m.0) fits
 room_by n w (Err found) fits = refl
 
-pub never_full : (m : MeshView) (seat : ℕ) (s : Step) → IsHistory m → length m.log ≤ 67108865
+pub never_full : (m : MeshView) (seat : ℕ) (s : Step) → IsHistory m → length m.log ≤ MAX_TRACE_BYTES + 1
     → is_full m.log (world_of m) seat s ≡ false
 unfolding is_full
 never_full m seat s history few =
@@ -41,7 +41,7 @@ never_full m seat s history few =
 
 -- so no step of it is refused for want of one
 pub full_never : (result : Result (Unit {0}) ApplyRefusal) (old new : MeshView) (seat : ℕ) (s : Step) → IsHistory old
-    → length old.log ≤ 67108865 → result ≡ Err refusals.LogFull → Advances result old new seat s → ⊥
+    → length old.log ≤ MAX_TRACE_BYTES + 1 → result ≡ Err refusals.LogFull → Advances result old new seat s → ⊥
 full_never result old new seat s history few is advances =
     let refuses : IsTrue (is_full old.log (world_of old) seat s) × (new ≡ old) =
     subst (λ (x : Result (Unit {0}) ApplyRefusal). Advances x old new seat s) is advances in
@@ -125,7 +125,8 @@ record IsNext (left : List (ℕ × Step)) (report : List ℕ) (item : ℕ × Ste
   reads : rest ≡ Ok (further, report)
 
 next_is : (left : List (ℕ × Step)) (report : List ℕ) (item : ℕ × Step) (rest : Result Rest ℕ)
-    → then_read {A = Rest} {B = Rest} rest (λ more. Ok (item ∷ more.0, more.1)) ≡ Ok (left, report) → IsNext left report item rest
+    → then_read {A = Rest} {B = Rest} rest (λ more. Ok (item ∷ more.0, more.1)) ≡ Ok (left, report)
+    → IsNext left report item rest
 next_is left report item (Ok more) is =
     let same : (item ∷ more.0) ≡ left = ap left_of is in
     let same_report : more.1 ≡ report = ap report_of is in
@@ -202,7 +203,8 @@ goes_on old now new start number text line behind going parts other tries =
     let log : new.log ≡ now.log ++ e ∷ [] = ap (λ (m : MeshView). m.log) one.logged in
     let longer : length new.log ≡ length now.log + 1 = ap length log ∙ length-append now.log (e ∷ []) in
     let some : length going.left ≡ 1 + length next.further =
-    ap length next.left_is ∙ (let more : length (item ∷ next.further) ≡ 1 + length next.further = omega arith in more) in
+    ap length next.left_is
+    ∙ (let more : length (item ∷ next.further) ≡ 1 + length next.further = omega arith in more) in
     record {
       plan = ap (λ (m : MeshView). m.plan) one.logged ∙ going.plan;
       facts = ap (λ (m : MeshView). m.facts) one.logged ∙ going.facts;

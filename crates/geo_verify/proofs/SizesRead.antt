@@ -1,5 +1,5 @@
 -- Sizes that are read one after the other.
-use Rattle.std.specs.Prelude.{◌≡◌, ℕ, ◌+◌, ◌≤◌, false, true, List, [], ◌∷◌, ◌++◌, length, Result, Ok, Err}
+use Rattle.std.specs.Prelude.{◌≡◌, ℕ, ◌+◌, ◌≤◌, true, List, [], ◌∷◌, ◌++◌, length, Result, Ok, Err}
 use Rattle.std.proofs.Common.{refl, sym, ◌∙◌, ap, arith, subst, ◌<◌, get_or, drop}
 use Rattle.std.proofs.lemmas.List.{append_assoc, drop_more}
 use Rattle.geo_model.specs.declared.command.Cause.{Cause}
@@ -33,21 +33,6 @@ fault_behind whole r done (refusals.Script line cause) is fault = fault
 fault_behind whole r done (refusals.Trace line) is fault =
     is ∙ ap (λ (x : Reading Sized). then_read x (add_facts done)) fault
 fault_behind whole r done refusals.NoMemory is fault = tt
-
--- a memory disk's size is read of no line
-pub memory_step : (n : ℕ) (d : DiskDecl) (ds : List DiskDecl) (parts : List (List ℕ)) → is_shelf d.kind ≡ false
-    → 1 ≤ length parts
-    → read_sizes n (d ∷ ds) parts ≡ then_read (read_sizes n ds parts) (add_fact (d.sector, d.sectors))
-memory_step n d ds [] memory some = absurd (omega arith)
-memory_step n d ds (last ∷ []) memory some = rw memory refl
-memory_step n d ds (line ∷ next ∷ parts) memory some = rw memory refl
-
--- that of a disk of the shelf is read of a line
-pub shelf_step : (n : ℕ) (d : DiskDecl) (ds : List DiskDecl) (line : List ℕ) (parts : List (List ℕ)) (sectors : ℕ)
-    → is_shelf d.kind ≡ true → 1 ≤ length parts → size_of_line d.sector line ≡ Ok sectors
-    → read_sizes n (d ∷ ds) (line ∷ parts) ≡ then_read (read_sizes (n + 1) ds parts) (add_fact (d.sector, sectors))
-shelf_step n d ds line [] sectors shelf some is = absurd (omega arith)
-shelf_step n d ds line (next ∷ parts) sectors shelf some is = rw (shelf, is) refl
 
 -- a line that isn't of its form is a fault
 pub shelf_fault : (n : ℕ) (d : DiskDecl) (ds : List DiskDecl) (line : List ℕ) (parts : List (List ℕ)) (cause : Cause)

@@ -42,12 +42,18 @@ steps_replayed plan facts place old r report began items read is makes =
     let same : (makes.items, makes.report) ≡ (items, report) =
     (let a = makes.read in let b = read in cc) in
     let t : ReadTrace =
-    record { trace = record { plan = plan; facts = facts; steps = makes.items; report = makes.report }; line = place.line } in
+    record {
+      trace = record { plan = plan; facts = facts; steps = makes.items; report = makes.report };
+      line = place.line;
+    } in
     let begins : opened old ≡ opened (record { plan = plan; facts = facts; log = [] }) = ap opened began in (
       t,
       (
         ap (λ (x : Reading (List (ℕ × Step) × List ℕ)). then_read x (λ more.
-            Ok (record { trace = record { plan = plan; facts = facts; steps = more.0; report = more.1 }; line = place.line })))
+            Ok (record {
+              trace = record { plan = plan; facts = facts; steps = more.0; report = more.1 };
+              line = place.line;
+            })))
             makes.read,
         record {
           mesh =

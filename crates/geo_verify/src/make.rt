@@ -1,5 +1,6 @@
 //! The steps of a trace are made again.
 ghost use Rattle.std.specs.Prelude.{◌≡◌, ℕ, [], ◌<◌, ◌≤◌, ◌+◌, ◌^◌, List, Ok, length, IfOk};
+ghost use Rattle.geo_base.specs.declared.limits.TheConstants.{MAX_TRACE_BYTES};
 ghost use Rattle.geo_core.specs.Mesh.{IsHistory};
 ghost use Rattle.geo_verify.specs.Forms.{IsOfForm};
 ghost use Rattle.geo_verify.specs.Making.{MakesSteps, Tries, TriesLine, IsStepLine};
@@ -40,7 +41,7 @@ fn pooled(pool: &mut Pool, step: Step) -> Step
 /// Makes a step, if it is enabled, and tells whether it was.
 fn try_step(mesh: &mut Mesh, seat: u32, step: Step) -> Result<bool, NoMemory>
     requires history { IsHistory mesh.old }
-    requires few { length mesh.old.log ≤ 67108865 }
+    requires few { length mesh.old.log ≤ MAX_TRACE_BYTES + 1 }
     ensures made { IfOk result (λ was. Tries was mesh.old mesh.new seat step) }
     ensures history { IsHistory mesh.new }
 {
@@ -63,7 +64,7 @@ fn try_line(
     requires short { length line.now < 2 ^ 32 }
     requires step { IsStepLine line.now }
     requires history { IsHistory mesh.old }
-    requires few { length mesh.old.log ≤ 67108865 }
+    requires few { length mesh.old.log ≤ MAX_TRACE_BYTES + 1 }
     ensures made { IfOk result (λ was. TriesLine was mesh.old mesh.new line.now) }
     ensures history { IsHistory mesh.new }
 {
@@ -79,7 +80,7 @@ fn try_line(
 pub fn make_steps(alloc: Global, mesh: &mut Mesh, place: Place<'_>) -> Result<Option<u32>, NoMemory>
     requires history { IsHistory mesh.old }
     requires empty { mesh.old.log ≡ [] }
-    requires few { place.line + length place.text.now ≤ 67108865 }
+    requires few { place.line + length place.text.now ≤ MAX_TRACE_BYTES + 1 }
     requires form { (report : List ℕ) × IsOfForm place report }
     ensures made { IfOk result (λ stopped. MakesSteps mesh.old mesh.new place.entry stopped) }
     ensures history { IsHistory mesh.new }

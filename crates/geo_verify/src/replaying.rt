@@ -33,7 +33,7 @@ fn replay_steps(
     place: Place<'_>,
 ) -> Result<Replayed, VerifyRefusal>
     requires fit { FactsFit plan facts.now.items }
-    requires few { place.line + length place.text.now ≤ 67108865 }
+    requires few { place.line + length place.text.now ≤ MAX_TRACE_BYTES + 1 }
     ensures { ReplaysRead (trace_from plan facts.now.items place.entry) result }
 {
     let behind = read_report(alloc, place)?;
@@ -49,7 +49,7 @@ fn replay_steps(
 
 /// Reads the sizes of the disks of a plan from a place on, and then the steps, which are made.
 fn replay_behind(alloc: Global, plan: Plan, place: Place<'_>) -> Result<Replayed, VerifyRefusal>
-    requires few { place.line + length place.text.now ≤ 67108865 }
+    requires few { place.line + length place.text.now ≤ MAX_TRACE_BYTES + 1 }
     ensures { ReplaysRead (read_behind place.entry.line plan (parts_of place.entry.text.now)) result }
 {
     let mut facts = DiskFacts::new(alloc);

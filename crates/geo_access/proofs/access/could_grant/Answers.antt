@@ -1,11 +1,11 @@
 use Rattle.std.proofs.Common.{sym, ap, ◌∙◌, arith}
 use Rattle.std.specs.Prelude.{Option, option_map}
+use Rattle.geo_base.proofs.Options.{some_of}
 use Rattle.geo_base.specs.declared.errno.Errno.{Errno}
 use Rattle.geo_model.specs.Words.{unless}
 use Rattle.geo_model.specs.Topology.{provider_at}
 use Rattle.geo_access.specs.declared.counts.Way.TheVariants.{Rises}
 use Rattle.geo_access.specs.Views.{errno_of_refused}
-use Rattle.geo_access.proofs.Trying.{some_of}
 use Rattle.geo_access.proofs.Decided.{counted_told, steps_bound}
 use Rattle.geo_access.proofs.Coming.{open_lives, open_tells, open_apart, open_end, open_refused}
 use Rattle.geo_access.proofs.access.could_grant.Goals as goal

@@ -1,7 +1,8 @@
 use Rattle.std.proofs.Common.{sym, ◌∙◌}
+use Rattle.geo_base.proofs.Options.{none_of}
 use Rattle.geo_model.specs.Topology.{Provider, providers_of}
 use Rattle.geo_access.specs.Views.{fault_at, fault_in}
-use Rattle.geo_access.proofs.Folding.{some_begin, some_more, none_of_some}
+use Rattle.geo_access.proofs.Folding.{some_begin, some_more}
 use Rattle.geo_access.proofs.decide.fault_in.Goals as goal
 
 pub loop-id-init : goal.loop-id-init
@@ -16,4 +17,4 @@ loop-id-preserved g c =
     (providers_of c.args.topo.now.topology c.args.geom)
     _ _ _ (fault_in c.args.topo.now c.args.asked c.args.geom) c.in-Some.ensures.next.left
     (sym c.fault_at-fault.ensures
-    ∙ none_of_some c.fault_at-fault.result (sym c.is_some.ensures ∙ c.if-is_some.false)) c.loop-id.invariant)
+    ∙ none_of c.fault_at-fault.result (sym c.is_some.ensures ∙ c.if-is_some.false)) c.loop-id.invariant)

@@ -1,9 +1,9 @@
 use Rattle.std.proofs.Common.{sym, ap, ◌∙◌, IsSome}
 use Rattle.std.proofs.lemmas.List.Elements.{All-rest}
 use Rattle.std.specs.Option.{option_or}
+use Rattle.geo_base.proofs.Options.{none_of}
 use Rattle.geo_model.specs.Topology.{geom_at}
 use Rattle.geo_access.specs.Views.{order_of, fault_in, first_some}
-use Rattle.geo_access.proofs.Folding.{none_of_some}
 use Rattle.geo_access.proofs.decide.first_fault.Goals as goal
 
 pub loop-geom-preserved : goal.loop-geom-preserved
@@ -16,7 +16,7 @@ loop-geom-preserved g c = record {
       sym (ap (λ o.
       option_or o (first_some (fault_in c.args.topo.now c.args.asked) (order_of c.args.topo.now c.take.new.order)))
       (sym c.fault_in-fault.ensures
-      ∙ none_of_some c.fault_in-fault.result (sym c.is_some.ensures ∙ c.if-is_some.false)))
+      ∙ none_of c.fault_in-fault.result (sym c.is_some.ensures ∙ c.if-is_some.false)))
       ∙ sym (ap (first_some (fault_in c.args.topo.now c.args.asked)) c.in-Some.ensures.next)
       ∙ c.loop-geom.invariant.first;
 }

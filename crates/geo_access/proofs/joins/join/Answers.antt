@@ -1,5 +1,6 @@
 use Rattle.std.proofs.Common.{◌≡◌, refl, sym, ap, ◌∙◌, subst, arith, Some, None, IsSome, All}
 use Rattle.std.specs.Prelude.{IsOk, fold}
+use Rattle.geo_base.proofs.Options.{some_of}
 use Rattle.geo_model.specs.Topology.{geom_at, provider_at, consumer_at}
 use Rattle.geo_model.specs.Rank.{attach_refusal}
 use Rattle.geo_model.specs.Demand.{no_counts, want, risen}
@@ -12,7 +13,6 @@ use Rattle.geo_access.specs.Access.{granted_by, noted, IsCounted}
 use Rattle.geo_access.specs.Tries.{Apart}
 use Rattle.geo_access.specs.Views.{order_of, finish_geom}
 use Rattle.geo_access.specs.Join.{IsLoose, joined_view, join_answer}
-use Rattle.geo_access.proofs.Trying.{some_of}
 use Rattle.geo_access.proofs.Decided.{steps_bound}
 use Rattle.geo_access.proofs.Coming.{open_is, open_lives, open_tells, open_apart, open_end}
 use Rattle.geo_access.proofs.JoinStart.{loose_is, but_told, nothing_stored, wanted_is}

@@ -1,6 +1,7 @@
+use Rattle.geo_base.proofs.Options.{on_error}
 use Rattle.geo_state.specs.declared.state.State.{State}
 use Rattle.geo_state.specs.Holds.{Holds}
-use Rattle.geo_commands.proofs.Grown.{on_error, roomy-kept}
+use Rattle.geo_commands.proofs.Grown.{roomy-kept}
 use Rattle.geo_commands.proofs.makes.grow.Goals as goal
 
 pub returns-in_err-id-clause-kept : goal.returns-in_err-id-clause-kept

@@ -24,8 +24,8 @@ last_request-requires g c =
 pub answer-got-requires-clause-inside : goal.answer-got-requires-clause-inside
 answer-got-requires-clause-inside g c =
     let seen = drive_view g.D.Disk.view in
-    let it : TakesRequest c.args.mesh.now c.make.new.mesh (map seen c.args.disks.now) c.args.bio c.in_ok-make.ensures.made.0
-    c.last_request.result.now =
+    let it : TakesRequest c.args.mesh.now c.make.new.mesh (map seen c.args.disks.now) c.args.bio
+    c.in_ok-make.ensures.made.0 c.last_request.result.now =
     takes_last c.args.mesh.now c.make.new.mesh (map seen c.args.disks.now) c.args.disk c.args.bio
     c.in_ok-make.ensures.made.0 c.last_request.result.now c.requires.history c.in_ok-make.ensures.history
     c.requires.fit c.in_ok-make.ensures.made.1 c.last_request.ensures in
@@ -53,8 +53,8 @@ answer-got-requires-clause-room g c =
 pub deliver-requires : goal.deliver-requires
 deliver-requires g c =
     let seen = drive_view g.D.Disk.view in
-    last_enabled c.args.mesh.now c.make.new.mesh (map seen c.args.disks.now) (map seen c.answer-got.new.disks) c.args.bio
-    c.in_ok-make.ensures.made.0 c.last_request.result.now c.answer-got.result
+    last_enabled c.args.mesh.now c.make.new.mesh (map seen c.args.disks.now) (map seen c.answer-got.new.disks)
+    c.args.bio c.in_ok-make.ensures.made.0 c.last_request.result.now c.answer-got.result
     (takes_last c.args.mesh.now c.make.new.mesh (map seen c.args.disks.now) c.args.disk c.args.bio
     c.in_ok-make.ensures.made.0 c.last_request.result.now c.requires.history c.in_ok-make.ensures.history
     c.requires.fit c.in_ok-make.ensures.made.1 c.last_request.ensures)
@@ -63,8 +63,8 @@ deliver-requires g c =
 pub returns-clause-made : goal.returns-clause-made
 returns-clause-made g c =
     let seen = drive_view g.D.Disk.view in
-    let it : TakesRequest c.args.mesh.now c.make.new.mesh (map seen c.args.disks.now) c.args.bio c.in_ok-make.ensures.made.0
-    c.last_request.result.now =
+    let it : TakesRequest c.args.mesh.now c.make.new.mesh (map seen c.args.disks.now) c.args.bio
+    c.in_ok-make.ensures.made.0 c.last_request.result.now =
     takes_last c.args.mesh.now c.make.new.mesh (map seen c.args.disks.now) c.args.disk c.args.bio
     c.in_ok-make.ensures.made.0 c.last_request.result.now c.requires.history c.in_ok-make.ensures.history
     c.requires.fit c.in_ok-make.ensures.made.1 c.last_request.ensures in

@@ -7,7 +7,8 @@ use Rattle.geo_elev.proofs.gathering.walk.Given as goal
 
 abbrev pub invariant-loop-bio : goal.invariant-loop-bio
 invariant-loop-bio l = record {
-  walked : (log : List Entry) (n : ℕ) → l.fn.disks ≡ bare_heads log n → l.disks ≡ heads_below (world_of l.mesh) log l.from n;
+  walked : (log : List Entry) (n : ℕ) → l.fn.disks ≡ bare_heads log n
+      → l.disks ≡ heads_below (world_of l.mesh) log l.from n;
   length : length l.disks ≡ length l.fn.disks;
 }
 

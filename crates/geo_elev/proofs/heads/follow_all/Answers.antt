@@ -15,7 +15,7 @@ loop-at-preserved c =
           (there c.loop-at.at c.entries-entries.result.now c.index-entries-at.result c.loop-at-test.true
           (sym c.index-entries-at.is)))
           (ap (λ (es : List Entry). c.loop-at.at + 1 == length es) all)
-          c.loop-at.disks c.follow.new.disks c.in_ok-follow.field-0 c.if-not-branch.false c.in_ok-follow.ensures.followed
-          (c.loop-at.invariant.followed n old);
+          c.loop-at.disks c.follow.new.disks c.in_ok-follow.field-0 c.if-not-branch.false
+          c.in_ok-follow.ensures.followed (c.loop-at.invariant.followed n old);
       length = c.in_ok-follow.ensures.length ∙ c.loop-at.invariant.length;
     }

@@ -8,5 +8,6 @@ abbrev pub invariant-loop-key : goal.invariant-loop-key
 invariant-loop-key l = record {
   can_next : (goal.iterator-loop-key).can_next l.key-iterator;
   is_finite : (goal.iterator-loop-key).is_finite l.key-iterator;
-  rest : list_all (λ k. nat_lt (k % 2 ^ 64) l.bio) l.key-iterator ≡ list_all (λ k. nat_lt (k % 2 ^ 64) l.bio) l.front.keys;
+  rest : list_all (λ k. nat_lt (k % 2 ^ 64) l.bio) l.key-iterator
+      ≡ list_all (λ k. nat_lt (k % 2 ^ 64) l.bio) l.front.keys;
 }

@@ -1,6 +1,7 @@
+use Rattle.geo_base.proofs.Options.{on_error}
 use Rattle.geo_model.specs.declared.step.Event.TheVariants as heads
 use Rattle.geo_events.proofs.Effects.{head-there}
-use Rattle.geo_events.proofs.Offering.{taste-settled, began-kept, began-done, roomed-kept, roomed-world, on-err}
+use Rattle.geo_events.proofs.Offering.{taste-settled, began-kept, began-done, roomed-kept, roomed-world}
 use Rattle.geo_events.proofs.events.begin_taste.Goals as goal
 
 pub begin-requires-clause-settled : goal.begin-requires-clause-settled
@@ -13,7 +14,7 @@ returns-in_err-taste-clause-kept c =
 
 pub returns-in_err-taste-clause-same : goal.returns-in_err-taste-clause-same
 returns-in_err-taste-clause-same c =
-    on-err c.from_residual.result
+    on_error _ c.from_residual.result
     (roomed-world c.args.state.now c.requires.kept c.requires.firm c.begin.new.topo c.in_err-taste.ensures.same)
 
 pub drop_head-requires : goal.drop_head-requires

@@ -3,8 +3,8 @@ use Rattle.std.proofs.Common.{subst}
 use Rattle.geo_access.specs.Access.{consumers_below}
 use Rattle.geo_model.specs.Step.{judge_next}
 use Rattle.std.specs.Prelude.{None}
+use Rattle.geo_base.proofs.Options.{on_error}
 use Rattle.geo_state.specs.declared.state.State.{State}
-use Rattle.geo_events.proofs.Offering.{on-err}
 use Rattle.geo_events.proofs.Rooming.{same-world, firm-still, due-still, makes-still, same-still, logged-still}
 use Rattle.geo_events.proofs.judges.judge.Goals as goal
 
@@ -39,7 +39,7 @@ returns-clause-bound g c =
 
 pub returns-in_err-make_room-clause-same : goal.returns-in_err-make_room-clause-same
 returns-in_err-make_room-clause-same g c =
-    on-err c.from_residual.result
+    on_error _ c.from_residual.result
     (same-world c.args.state.now c.make_room.new.state c.make_room.ensures.roomed)
 
 pub returns-in_err-make_room-clause-logged : goal.returns-in_err-make_room-clause-logged

@@ -28,4 +28,5 @@ pub returns-clause-kept : goal.returns-clause-kept
 returns-clause-kept g c =
     close-kept c.args.state.now c.requires.kept c.requires.firm c.args.id c.args.cons c.requires.idle
     c.look.ensures.sound
-    c.give_back.new.topo c.give_back.new.queue c.remove.new.self c.give_back.ensures.gone c.remove.ensures.removed kept_with_handles
+    c.give_back.new.topo c.give_back.new.queue c.remove.new.self c.give_back.ensures.gone c.remove.ensures.removed
+    kept_with_handles

@@ -20,6 +20,7 @@ pub returns-clause-made : goal.returns-clause-made
 returns-clause-made g c =
     λ log actors.
     open-done c.args.state.now c.admit.new.state c.args.line c.args.actor c.args.name.now c.args.prov.now
-    c.args.grant c.done.result actors log (subst (IsOpenRefusal c.args.state.now c.args.actor c.args.name.now c.args.prov.now c.args.grant) c.in_default.is
+    c.args.grant c.done.result actors log
+    (subst (IsOpenRefusal c.args.state.now c.args.actor c.args.name.now c.args.prov.now c.args.grant) c.in_default.is
     c.requires.decided)
     (c.in_ok-admit.ensures.made actors log) c.done.ensures

@@ -7,7 +7,8 @@ use Rattle.geo_requests.proofs.requests.write_at.Goals as goal
 
 pub request-requires-clause-bytes_fit : goal.request-requires-clause-bytes_fit
 request-requires-clause-bytes_fit c write =
-    ap length c.from_block-bytes.ensures ∙ c.in_ok-block.ensures.len ∙ sym (ap (λ (z : Span). z.len) c.last_sector-span.ensures)
+    ap length c.from_block-bytes.ensures ∙ c.in_ok-block.ensures.len
+    ∙ sym (ap (λ (z : Span). z.len) c.last_sector-span.ensures)
 
 pub returns-clause-does : goal.returns-clause-does
 returns-clause-does c log =

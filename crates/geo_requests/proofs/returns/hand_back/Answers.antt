@@ -1,7 +1,8 @@
 use Rattle.std.proofs.Common.{arith, length, ◌∙◌, ap}
+use Rattle.geo_base.proofs.Options.{on_error}
 use Rattle.geo_state.specs.Steps.{SameWorld}
 use Rattle.geo_requests.specs.Returned.{root_result}
-use Rattle.geo_requests.proofs.Parting.{same_moved, on_error}
+use Rattle.geo_requests.proofs.Parting.{same_moved}
 use Rattle.geo_requests.proofs.Returned.{read_up, came_back, settled_mid, reading_mid, holds_back, read_of, same_taste, nobodys_mid, kind_mid, makes_back, logged_back, read_steps, steps_mid}
 use Rattle.geo_requests.proofs.returns.hand_back.Goals as goal
 

@@ -1,5 +1,6 @@
 use Rattle.std.proofs.Common.{length}
-use Rattle.geo_requests.proofs.Parting.{same_moved, on_error}
+use Rattle.geo_base.proofs.Options.{on_error}
+use Rattle.geo_requests.proofs.Parting.{same_moved}
 use Rattle.geo_state.specs.Steps.{SameWorld}
 use Rattle.geo_requests.proofs.Rising.{came, rise_made, rise_logged}
 use Rattle.geo_requests.proofs.rises.rise.Goals as goal

@@ -1,12 +1,13 @@
 use Rattle.std.proofs.Common.{◌≡◌, sym, subst}
 use Rattle.std.specs.Prelude.{IsTrue}
+use Rattle.geo_base.proofs.Options.{if-any}
 use Rattle.geo_model.specs.declared.step.Outcome.TheVariants as outcomes
 use Rattle.geo_model.specs.World.{is_down}
 use Rattle.geo_model.specs.Bios.{Fails}
 use Rattle.geo_bio.specs.BioTable.{bio_among, has_phase}
 use Rattle.geo_state.specs.declared.state.State.{State}
 use Rattle.geo_requests.specs.Started.{HasStarted}
-use Rattle.geo_requests.proofs.Parting.{if_any, failed_started}
+use Rattle.geo_requests.proofs.Parting.{failed_started}
 use Rattle.geo_requests.proofs.starts.fail_at.Goals as goal
 
 pub bounce-requires-clause-down : goal.bounce-requires-clause-down
@@ -16,7 +17,7 @@ bounce-requires-clause-down c =
 
 pub returns-clause-started : goal.returns-clause-started
 returns-clause-started c =
-    if_any (λ x. HasStarted c.args.state.now c.bounce.new.state c.args.bio x (Fails c.args.geom) outcomes.Bounced)
-    (bio_among c.args.state.now.traffic.bios c.args.bio)
+    if-any (bio_among c.args.state.now.traffic.bios c.args.bio)
+    (λ x. HasStarted c.args.state.now c.bounce.new.state c.args.bio x (Fails c.args.geom) outcomes.Bounced)
     (λ x. failed_started c.args.state.now c.note_started.new.state c.bounce.new.state c.args.bio x c.args.geom
     c.note_started.ensures.noted c.bounce.ensures.bounced)

@@ -4,4 +4,5 @@ use Rattle.geo_run.proofs.alone.report_of.Goals as goal
 
 pub returns : goal.returns
 returns c =
-    report_is c.args.mesh.now _ _ _ _ c.plan.ensures.plan c.log.ensures.log c.in_ok-lines.ensures c.report.ensures.report
+    report_is c.args.mesh.now _ _ _ _ c.plan.ensures.plan c.log.ensures.log c.in_ok-lines.ensures
+    c.report.ensures.report

@@ -10,5 +10,7 @@ fixed_over-answer-requires-clause-idle g c = idle_mesh c.args.mesh c.requires.ne
 
 pub returns : goal.returns
 returns g c =
-    ran_alone fixed_order c.args.mesh c.fixed_over-answer.new.mesh _ _ _ _ c.requires.new refl c.fixed_over-answer.ensures.added
-    c.fixed_over-answer.ensures.history c.fixed_over-answer.ensures.fits c.fixed_over-answer.ensures.rest c.fixed_over-answer.ensures.full
+    ran_alone fixed_order c.args.mesh c.fixed_over-answer.new.mesh _ _ _ _ c.requires.new refl
+    c.fixed_over-answer.ensures.added
+    c.fixed_over-answer.ensures.history c.fixed_over-answer.ensures.fits c.fixed_over-answer.ensures.rest
+    c.fixed_over-answer.ensures.full

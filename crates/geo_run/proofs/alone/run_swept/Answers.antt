@@ -10,5 +10,7 @@ swept_over-answer-requires-clause-idle g c = idle_mesh c.args.mesh c.requires.ne
 
 pub returns : goal.returns
 returns g c =
-    ran_alone sweep_order c.args.mesh c.swept_over-answer.new.mesh _ _ _ _ c.requires.new refl c.swept_over-answer.ensures.added
-    c.swept_over-answer.ensures.history c.swept_over-answer.ensures.fits c.swept_over-answer.ensures.rest c.swept_over-answer.ensures.full
+    ran_alone sweep_order c.args.mesh c.swept_over-answer.new.mesh _ _ _ _ c.requires.new refl
+    c.swept_over-answer.ensures.added
+    c.swept_over-answer.ensures.history c.swept_over-answer.ensures.fits c.swept_over-answer.ensures.rest
+    c.swept_over-answer.ensures.full

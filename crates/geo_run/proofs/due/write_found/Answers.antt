@@ -7,7 +7,8 @@ use Rattle.geo_run.proofs.due.write_found.Goals as goal
 
 pub returns-in-Yes : goal.returns-in-Yes
 returns-in-Yes g c =
-    same_ends _ (Answered found.Yes) _ _ _ _ (ap Answered c.in-Yes.is) (ends _ (Answered found.Yes) _ _ _ c.written.ensures)
+    same_ends _ (Answered found.Yes) _ _ _ _ (ap Answered c.in-Yes.is)
+    (ends _ (Answered found.Yes) _ _ _ c.written.ensures)
 
 pub returns-in-NotEnabled : goal.returns-in-NotEnabled
 returns-in-NotEnabled g c =

@@ -12,11 +12,13 @@ returns-in-BadWords g c =
 pub returns-in-NoScript : goal.returns-in-NoScript
 returns-in-NoScript g c =
     same_ends _ (NoScript c.in-NoScript.line c.in-NoScript.cause) _ _ _ _ (ap ending_of c.in-NoScript.is)
-    (made_ends _ (NoScript c.in-NoScript.line c.in-NoScript.cause) _ _ _ _ tt c.fault_text.ensures c.written_made.ensures)
+    (made_ends _ (NoScript c.in-NoScript.line c.in-NoScript.cause) _ _ _ _ tt c.fault_text.ensures
+    c.written_made.ensures)
 
 pub returns-in-ReadFault : goal.returns-in-ReadFault
 returns-in-ReadFault g c =
-    same_ends _ ReadFault _ _ _ _ (ap ending_of c.in-ReadFault.is) (ends _ ReadFault _ _ _ c.written-in-ReadFault.ensures)
+    same_ends _ ReadFault _ _ _ _ (ap ending_of c.in-ReadFault.is)
+    (ends _ ReadFault _ _ _ c.written-in-ReadFault.ensures)
 
 pub returns-in-ShelfFault : goal.returns-in-ShelfFault
 returns-in-ShelfFault g c =
@@ -31,11 +33,13 @@ returns-in-NoDisk g c =
 pub returns-in-BadSize : goal.returns-in-BadSize
 returns-in-BadSize g c =
     same_ends _ (BadSize c.in-BadSize.name) _ _ _ _ (ap ending_of c.in-BadSize.is)
-    (made_ends _ (BadSize c.in-BadSize.name) _ _ _ _ tt c.named_text-in-BadSize.ensures c.written_made-in-BadSize.ensures)
+    (made_ends _ (BadSize c.in-BadSize.name) _ _ _ _ tt c.named_text-in-BadSize.ensures
+    c.written_made-in-BadSize.ensures)
 
 pub returns-in-NoMemory : goal.returns-in-NoMemory
 returns-in-NoMemory g c =
-    same_ends _ OutOfMemory _ _ _ _ (ap ending_of c.in-NoMemory.is) (ends _ OutOfMemory _ _ _ c.written-in-NoMemory.ensures)
+    same_ends _ OutOfMemory _ _ _ _ (ap ending_of c.in-NoMemory.is)
+    (ends _ OutOfMemory _ _ _ c.written-in-NoMemory.ensures)
 
 pub returns-in-LogFull : goal.returns-in-LogFull
 returns-in-LogFull g c =

@@ -26,10 +26,15 @@ give_drive-given-requires g c =
     let n = length c.loop-drive.yielded in
     let here = item_out f s names n (into_iter_items c.loop-drive.drive-iterator) c.in-Some.drive
     (into_iter_items c.next.new.self) c.in-Some.ensures.steps.0 c.loop-drive.invariant.out in
-    let lt : n < length names = name_left s names n (f c.in-Some.drive) (map f (into_iter_items c.next.new.self)) here in
+    let lt : n < length names =
+    name_left s names n (f c.in-Some.drive) (map f (into_iter_items c.next.new.self)) here in
     let at : c.index-name.result.now ≡ get_or names n c.index-name.result.now =
-    subst (λ (k : ℕ). c.index-name.result.now ≡ get_or names k c.index-name.result.now) c.loop-drive.invariant.place c.index-name.ensures in
-    record { out = (next_out s names n c.index-name.result.now (f c.in-Some.drive) (map f (into_iter_items c.next.new.self)) lt at here).0 }
+    subst (λ (k : ℕ). c.index-name.result.now ≡ get_or names k c.index-name.result.now) c.loop-drive.invariant.place
+    c.index-name.ensures in
+    record {
+      out = (next_out s names n c.index-name.result.now (f c.in-Some.drive)
+          (map f (into_iter_items c.next.new.self)) lt at here).0;
+    }
 
 pub loop-drive-init : goal.loop-drive-init
 loop-drive-init g c =
@@ -51,18 +56,23 @@ loop-drive-preserved g c =
     let names = c.args.lent.names.items in
     let items = c.loop-drive.yielded in
     let rest = into_iter_items c.next.new.self in
-    let here = item_out f (v c.loop-drive.shelf) names (length items) (into_iter_items c.loop-drive.drive-iterator) c.in-Some.drive
+    let here = item_out f (v c.loop-drive.shelf) names (length items) (into_iter_items c.loop-drive.drive-iterator)
+    c.in-Some.drive
     rest c.in-Some.ensures.steps.0 c.loop-drive.invariant.out in
-    let lt : length items < length names = name_left (v c.loop-drive.shelf) names (length items) (f c.in-Some.drive) (map f rest) here in
+    let lt : length items < length names =
+    name_left (v c.loop-drive.shelf) names (length items) (f c.in-Some.drive) (map f rest) here in
     let at : c.index-name.result.now ≡ get_or names (length items) c.index-name.result.now =
-    subst (λ (k : ℕ). c.index-name.result.now ≡ get_or names k c.index-name.result.now) c.loop-drive.invariant.place c.index-name.ensures in
+    subst (λ (k : ℕ). c.index-name.result.now ≡ get_or names k c.index-name.result.now) c.loop-drive.invariant.place
+    c.index-name.ensures in
     record {
-      place = let more = length-append items (c.in-Some.drive ∷ []) in omega (arith, more, c.loop-drive.invariant.place);
+      place = let more = length-append items (c.in-Some.drive ∷ []) in
+          omega (arith, more, c.loop-drive.invariant.place);
       all = c.loop-drive.invariant.all ∙ ap (λ xs. items ++ xs) c.in-Some.ensures.steps.0
           ∙ sym (append_assoc items (c.in-Some.drive ∷ []) rest);
-      given = gave_item f (v c.args.shelf.now) (v c.loop-drive.shelf) (v c.give_drive-given.new.shelf) names items c.in-Some.drive
-          c.index-name.result.now c.loop-drive.kept c.first_kept-kept.result c.give_drive-given.result lt at c.first_kept-kept.ensures
-          c.loop-drive.invariant.given c.give_drive-given.ensures;
+      given = gave_item f (v c.args.shelf.now) (v c.loop-drive.shelf) (v c.give_drive-given.new.shelf) names items
+          c.in-Some.drive
+          c.index-name.result.now c.loop-drive.kept c.first_kept-kept.result c.give_drive-given.result lt at
+          c.first_kept-kept.ensures c.loop-drive.invariant.given c.give_drive-given.ensures;
       out = rest_out f (v c.loop-drive.shelf) (v c.give_drive-given.new.shelf) names items c.in-Some.drive rest
           c.index-name.result.now _ lt at here c.give_drive-given.ensures;
     }
@@ -75,7 +85,8 @@ returns g c =
     omega (arith, c.loop-drive.drive-iterator.rest.ok.0, c.in-None.ensures.steps.0) in (
       c.loop-drive.invariant.given.0,
       c.loop-drive.invariant.given.1,
-      gave_all f (v c.args.shelf.now) (v c.loop-drive.shelf) c.args.lent.names.items c.args.lent.drives.items c.loop-drive.yielded
+      gave_all f (v c.args.shelf.now) (v c.loop-drive.shelf) c.args.lent.names.items c.args.lent.drives.items
+          c.loop-drive.yielded
           (into_iter_items c.loop-drive.drive-iterator) c.loop-drive.invariant.given.0 c.loop-drive.invariant.all none
           c.loop-drive.invariant.out c.loop-drive.invariant.given.2,
     )

@@ -7,7 +7,8 @@ use Rattle.geo_run.proofs.lent.take_into.Goals as goal
 pub returns-in-Err-clause-stopped : goal.returns-in-Err-clause-stopped
 returns-in-Err-clause-stopped g c =
     let v = g.H.Shelf.view in
-    stops_at (v c.args.shelf.now) (v c.loop-decl.shelf) (v c.open_drive.new.shelf) c.args.decls.now c.loop-decl.decl-index
+    stops_at (v c.args.shelf.now) (v c.loop-decl.shelf) (v c.open_drive.new.shelf) c.args.decls.now
+    c.loop-decl.decl-index
     c.decl-item.result c.loop-decl.lent.names.items _ c.in-Err.stop c.loop-decl-test.true c.decl-item.is
     c.loop-decl.invariant.named c.loop-decl.invariant.opened c.in-Err.ensures.stopped
 

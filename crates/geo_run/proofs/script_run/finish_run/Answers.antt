@@ -11,5 +11,6 @@ returns g c = record {
       c.give_back-kept.ensures facts sizes refl c.into_log.ensures.log;
   due = λ old xs ran facts sizes.
       ran_due _ _ old c.in-Some.mesh _ xs _ _ c.give_back-kept.result c.due_of-due.result c.args.facts.items
-      (Some c.into_log.result) c.into_log.result c.in-Some.is ran c.due_of-due.ensures facts refl c.into_log.ensures.log;
+      (Some c.into_log.result) c.into_log.result c.in-Some.is ran c.due_of-due.ensures facts refl
+      c.into_log.ensures.log;
 }

@@ -11,5 +11,6 @@ returns-in-Ok g c =
 
 pub returns-in-Err : goal.returns-in-Err
 returns-in-Err g c =
-    inr (source_unread _ MAX_SCRIPT_BYTES _ _ c.unopened.result c.in-Err.stop _ (sym c.requires.limit) c.in-Err.ensures.part
+    inr
+    (source_unread _ MAX_SCRIPT_BYTES _ _ c.unopened.result c.in-Err.stop _ (sym c.requires.limit) c.in-Err.ensures.part
     c.unopened.ensures.due c.unopened.ensures.log)

@@ -26,4 +26,5 @@ returns-in-Some-Verify g c =
 
 pub returns-in-None : goal.returns-in-None
 returns-in-None g c =
-    finishes_none _ c.unopened.result _ _ (c.in-None.ensures c.requires.alone) c.unopened.ensures.due c.unopened.ensures.log
+    finishes_none _ c.unopened.result _ _ (c.in-None.ensures c.requires.alone) c.unopened.ensures.due
+    c.unopened.ensures.log

@@ -4,4 +4,5 @@ use Rattle.geo_run.proofs.threaded.run_in_threads.Goals as goal
 
 pub returns-in-Ok : goal.returns-in-Ok
 returns-in-Ok g c =
-    threads_ran c.args.mesh _ c.after_threads-answer.new.mesh _ _ _ _ _ c.in-Ok.ensures.ok c.after_threads-answer.ensures
+    threads_ran c.args.mesh _ c.after_threads-answer.new.mesh _ _ _ _ _ c.in-Ok.ensures.ok
+    c.after_threads-answer.ensures

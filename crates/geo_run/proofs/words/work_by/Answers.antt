@@ -16,4 +16,5 @@ returns-in-verify c = asks_word VerifyMode _ (codes "verify") refl tt (sym c.as_
 pub returns-in_default : goal.returns-in_default
 returns-in_default c =
     asks_nothing _ (λ e. c.in_default.not-step (c.as_str.ensures.value ∙ e))
-    (λ e. c.in_default.not-sweep (c.as_str.ensures.value ∙ e)) (λ e. c.in_default.not-verify (c.as_str.ensures.value ∙ e))
+    (λ e. c.in_default.not-sweep (c.as_str.ensures.value ∙ e))
+    (λ e. c.in_default.not-verify (c.as_str.ensures.value ∙ e))

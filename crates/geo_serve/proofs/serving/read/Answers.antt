@@ -1,8 +1,9 @@
 use Rattle.std.proofs.Common.{◌≡◌, ℕ, ◌*◌, ◌/◌, ◌≤◌, length, arith, rules, ◌∙◌, ap}
+use Rattle.geo_disk.proofs.SectorLemmas.{written_over-all}
 use Rattle.geo_disk.specs.Drive.{view_by}
 use Rattle.geo_base.specs.Written.{written_over}
 use Rattle.geo_model.specs.Words.{is_read}
-use Rattle.geo_serve.proofs.Whole.{all_written, are_sectors, cut_length, sectors_in}
+use Rattle.geo_serve.proofs.Whole.{are_sectors, cut_length, sectors_in}
 use Rattle.geo_serve.proofs.serving.read.Goals as goal
 
 pub read-requires : goal.read-requires
@@ -26,7 +27,7 @@ returns-in-Ok g c =
     let long : length c.read.new.out ≡ length c.cut.new.self =
     c.read.auto.out ∙ ap length c.bytes_mut.ensures.value in
     let all : written_over c.cut.new.self c.read.new.out ≡ c.read.new.out =
-    all_written c.cut.new.self c.read.new.out long in
+    written_over-all c.cut.new.self c.read.new.out long in
     let bytes : length c.read.new.out ≡ c.args.request.now.count * sector = c.read.auto.out ∙ lent in
     let many : length c.read.new.out / sector ≡ c.args.request.now.count =
     sectors_in sector c.args.request.now.count (length c.read.new.out) c.requires.can.some_size bytes in

@@ -1,4 +1,5 @@
 use Rattle.std.proofs.Common.{refl, ap, ◌∙◌, ◌≡◌, Some, false}
+use Rattle.geo_base.proofs.Options.{at-some}
 use Rattle.geo_model.specs.declared.step.Owner.TheVariants as owners
 use Rattle.geo_model.specs.World.{BioOf, Handle}
 use Rattle.geo_model.specs.Bios.{new_bio}
@@ -6,7 +7,6 @@ use Rattle.geo_bio.specs.declared.bio.Held.{Held}
 use Rattle.geo_handles.specs.Handles.{handle_at, handle_seen}
 use Rattle.geo_state.specs.declared.state.State.{State}
 use Rattle.geo_state.specs.Own.{entered}
-use Rattle.geo_state.proofs.Turns.{at-some-and}
 use Rattle.geo_state.proofs.Moves.{holds-line, new-bio}
 use Rattle.geo_state.proofs.bios.submit_line.Goals as goal
 
@@ -19,8 +19,8 @@ returns-clause-kept c =
     let x : BioOf Held = new_bio s.traffic.next c.args.bio.cmd c.args.bio.span.offset c.args.bio.span.len
     c.args.bio.bytes c.args.bio.from c.args.bio.to (owners.Line c.args.handle c.args.line) in
     let found : handle_at s.handles.handles c.args.handle ≡ Some k = c.in-Some.ensures in
-    let asks = at-some-and (λ (h : Handle). (h.consumer ≡ Some c.args.bio.from) × (h.dead ≡ false))
-    (handle_at s.handles.handles c.args.handle) k found c.requires.asking.holds in
+    let asks = at-some (handle_at s.handles.handles c.args.handle)
+    (λ (h : Handle). (h.consumer ≡ Some c.args.bio.from) × (h.dead ≡ false)) k found c.requires.asking.holds in
     let numbered = c.number.ensures ∙ c.in_ok-number.ensures.number in
     let was = ap (λ (z : State). z.own.items) c.in_ok-number.ensures.one in
     holds-line s new c.args.bio.from x c.in_ok-number.ensures.submitted

@@ -11,7 +11,8 @@ returns-in_default c =
 pub returns-then-own-eq0 : goal.returns-then-own-eq0
 returns-then-own-eq0 c =
     let s : State = c.args.state.now in
-    sym (oldest-none s c.requires.kept c.args.actor c.in-Some.own (sym c.own_of.ensures ∙ c.in-Some.is) c.if-own-eq0.true)
+    sym
+    (oldest-none s c.requires.kept c.args.actor c.in-Some.own (sym c.own_of.ensures ∙ c.in-Some.is) c.if-own-eq0.true)
 
 pub returns : goal.returns
 returns c =

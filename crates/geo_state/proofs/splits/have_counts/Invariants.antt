@@ -6,5 +6,6 @@ use Rattle.geo_state.proofs.splits.have_counts.Given as goal
 
 abbrev pub invariant-loop-target : goal.invariant-loop-target
 invariant-loop-target l =
-    AllByRecursion (λ (z : ℕ × ℕ). IfSome (value_at l.topo.active z.0) (λ n. n < 2 ^ 62)) (drop l.target-index l.targets)
+    AllByRecursion (λ (z : ℕ × ℕ). IfSome (value_at l.topo.active z.0) (λ n. n < 2 ^ 62))
+    (drop l.target-index l.targets)
     → AllByRecursion (λ (z : ℕ × ℕ). IfSome (value_at l.topo.active z.0) (λ n. n < 2 ^ 62)) l.targets

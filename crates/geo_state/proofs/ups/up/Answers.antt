@@ -1,4 +1,5 @@
 use Rattle.std.proofs.Common.{◌≡◌, ◌∙◌, ◌-◌, Some, sym, ap}
+use Rattle.geo_base.proofs.Options.{at-found}
 use Rattle.geo_model.specs.World.{BioOf, is_up}
 use Rattle.geo_bio.specs.declared.bio.Held.{Held}
 use Rattle.geo_bio.specs.BioTable.{BioTableView, bio_among}
@@ -7,7 +8,6 @@ use Rattle.geo_bio.specs.Up.{after_up}
 use Rattle.geo_mesh.specs.Topo.{with_active}
 use Rattle.geo_state.specs.declared.state.State.{State}
 use Rattle.geo_state.specs.Ready.{refreshed}
-use Rattle.geo_state.proofs.Fields.{at-some}
 use Rattle.geo_state.proofs.Unseen.{InPhase, in-phase}
 use Rattle.geo_state.proofs.Backs.{in-phase-is, back-lives, back-out, back-own, holds-back}
 use Rattle.geo_state.proofs.ups.up.Goals as goal
@@ -43,8 +43,9 @@ returns-clause-kept g c =
     holds-back s c.args.bio x log found order at is c.requires.came c.requires.kept new c.in-Some.ensures.parent
     c.come_back.ensures.alone
     (ap (λ (v : BioTableView). v.bios) t
-    ∙ at-some (λ (y : BioOf Held). c.up.new.self.bios ≡ after_up log s.traffic.bios y y.owner)
-    (bio_among s.traffic.bios c.args.bio) x found c.in_ok-risen.ensures.rises)
+    ∙ at-found (bio_among s.traffic.bios c.args.bio)
+    (λ (y : BioOf Held). c.up.new.self.bios ≡ after_up log s.traffic.bios y y.owner)
+    x found c.in_ok-risen.ensures.rises)
     c.come_back.ensures.own c.come_back.ensures.read
     (c.come_back.ensures.rest
     ∙ ap (λ (v : BioTableView). let z : State = record s {

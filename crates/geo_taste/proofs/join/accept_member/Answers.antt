@@ -1,8 +1,9 @@
+use Rattle.geo_base.proofs.Options.{if_ok_weaker, at-found}
 use Rattle.geo_model.specs.Topology.{geom_at}
 use Rattle.geo_laws_life.proofs.Found.{found-with, some-with}
 use Rattle.geo_mesh.specs.Cells.{provider_seen}
 use Rattle.geo_taste.specs.Members.{member_of}
-use Rattle.geo_taste.proofs.JoinLemmas.{at_there, member_new, member_standing, ok_follows}
+use Rattle.geo_taste.proofs.JoinLemmas.{member_new, member_standing}
 use Rattle.geo_taste.proofs.StandingLemmas.{standing_place, standing_stays}
 use Rattle.geo_taste.proofs.join.accept_member.Goals as goal
 
@@ -24,16 +25,16 @@ join_standing-requires-clause-place c =
 pub returns-in-Some-clause-made : goal.returns-in-Some-clause-made
 returns-in-Some-clause-made c =
     let x = found-with (geom_at c.args.topo.now.topology c.in-Some.geom) _ c.in-Some.ensures.found in
-    ok_follows _ _ c.join_standing.result (λ a is.
+    if_ok_weaker _ _ c.join_standing.result (λ a is.
     member_standing c.args.topo.now c.args.queue.now (provider_seen c.args.prov c.args.below.now) (member_of
     c.args.member) c.in-Some.ensures.sound c.requires.place
     a c.join_standing.new.topo c.join_standing.new.queue c.in-Some.geom x.item x.is
     (λ may. c.in-Some.ensures.first may.classes)
-    (at_there (geom_at c.args.topo.now.topology c.in-Some.geom) _ x.item x.is is)) c.join_standing.ensures.made
+    (at-found (geom_at c.args.topo.now.topology c.in-Some.geom) _ x.item x.is is)) c.join_standing.ensures.made
 
 pub returns-in-None-clause-made : goal.returns-in-None-clause-made
 returns-in-None-clause-made c =
-    ok_follows _ _ c.join_new.result (λ a is.
+    if_ok_weaker _ _ c.join_new.result (λ a is.
     member_new c.args.topo.now c.args.queue.now (provider_seen c.args.prov c.args.below.now) (member_of
     c.args.member) c.in-None.ensures.sound c.requires.place
     a c.join_new.new.topo c.join_new.new.queue

@@ -1,12 +1,12 @@
 use Rattle.std.proofs.Common.{◌≡◌, ◌-◌, None, ◌∙◌, subst, sym}
 use Rattle.std.specs.Prelude.{Some, [], length, ◌<◌, IfSome}
+use Rattle.geo_base.proofs.Options.{if-with}
 use Rattle.geo_model.specs.Acceptance.{places_of}
 use Rattle.geo_model.specs.Topology.{Geom, geom_at, providers_of}
 use Rattle.geo_laws_life.proofs.Found.{at-some}
 use Rattle.geo_mesh.specs.Cells.{geom_seen, provider_seen}
 use Rattle.geo_taste.specs.Members.{CanBeOffered, joined_name, member_of, plan_of}
 use Rattle.geo_taste.specs.Standing.{CanStandOn, MayOffer}
-use Rattle.geo_taste.proofs.AcceptLemmas.{of_found}
 use Rattle.geo_taste.proofs.JoinLemmas.{can_join_is, kept_taken, room_kept, standing_joined, standing_may_offer, standing_no, standing_no_bare, standing_no_plan}
 use Rattle.geo_taste.proofs.MemberLemmas.{plan_offers}
 use Rattle.geo_taste.proofs.StandingLemmas.{bare_of}
@@ -22,7 +22,7 @@ returns-then-not-branch-clause-made c =
     (λ (x : Geom _). c.args.member.now.place < length (places_of x.config)) g c.in-Some.ensures.geom c.requires.place in
     let cannot = is_no c.in_ok-can_join.field-0 _ (can_join_is t p g c.args.member.now.place
     c.in_ok-can_join.field-0 inside c.in_ok-can_join.ensures) c.if-not-branch.true in
-    of_found (geom_at t c.args.geom) _ g c.in-Some.ensures.geom (
+    if-with (geom_at t c.args.geom) _ g c.in-Some.ensures.geom (
       unchanged c.args.topo.now c.args.queue.now,
       λ may. standing_no c.args.topo.now c.args.queue.now p (member_of c.args.member.now) g cannot,
     )
@@ -36,7 +36,7 @@ returns-then-not-is_bare-clause-made c =
     (λ (x : Geom _). c.args.member.now.place < length (places_of x.config)) g c.in-Some.ensures.geom c.requires.place in
     let can = is_yes c.in_ok-can_join.field-0 _ (can_join_is t p g c.args.member.now.place
     c.in_ok-can_join.field-0 inside c.in_ok-can_join.ensures) c.if-not-branch.false in
-    of_found (geom_at t c.args.geom) _ g c.in-Some.ensures.geom (
+    if-with (geom_at t c.args.geom) _ g c.in-Some.ensures.geom (
       unchanged c.args.topo.now c.args.queue.now,
       λ may. standing_no_bare c.args.topo.now c.args.queue.now p (member_of c.args.member.now) g can
           (is_no c.is_bare.result _ c.is_bare.ensures c.if-not-is_bare.true) may,
@@ -60,7 +60,7 @@ returns-in_default-2-clause-made c =
     let plan = subst (λ n. plan_of t (c.args.below.now.size - n) c.args.below.now.sector c.in-Some.standing.now.config
     c.args.member.now.place (joined_name c.args.member.now.kind c.args.member.now.geom_name) ≡ None)
     c.from.ensures (sym c.in_ok-plan.ensures ∙ c.in_default-2.is) in
-    of_found (geom_at t c.args.geom) _ g c.in-Some.ensures.geom (
+    if-with (geom_at t c.args.geom) _ g c.in-Some.ensures.geom (
       unchanged c.args.topo.now c.args.queue.now,
       standing_no_plan c.args.topo.now c.args.queue.now p (member_of c.args.member.now) g can plan,
     )
@@ -103,7 +103,7 @@ returns-clause-made c =
     let plan = subst (λ n. plan_of t (c.args.below.now.size - n) c.args.below.now.sector c.in-Some.standing.now.config
     c.args.member.now.place (joined_name c.args.member.now.kind c.args.member.now.geom_name) ≡ Some c.in-Some-2.plan)
     c.from.ensures (sym c.in_ok-plan.ensures ∙ c.in-Some-2.is) in
-    of_found (geom_at t c.args.geom) _ g c.in-Some.ensures.geom
+    if-with (geom_at t c.args.geom) _ g c.in-Some.ensures.geom
     (λ may. standing_joined c.args.topo.now c.args.queue.now p (member_of c.args.member.now) g c.take_place.new.topo
     c.take_place.new.queue c.in-Some-2.plan can plan
     (kept_taken c.args.topo.now c.reserve.new.self c.take_place.new.topo c.args.queue.now c.reserve-2.new.self

@@ -35,7 +35,8 @@ pub returns-in-Some-clause-tasting : goal.returns-in-Some-clause-tasting
 returns-in-Some-clause-tasting c t kind got asked is =
     subst (λ z. IsTasteOf t z) (sym (c.weigh_back.ensures.taste (λ n. no_counts)))
     (rest_tasting t c.args.taste.now
-    (weighed (λ n. no_counts) c.args.taste.now c.args.facts.now c.weigh_back.result) (is_back c.args.taste.now kind got asked)
+    (weighed (λ n. no_counts) c.args.taste.now c.args.facts.now c.weigh_back.result)
+    (is_back c.args.taste.now kind got asked)
     (weighed_rest (λ n. no_counts) c.args.taste.now c.args.facts.now c.weigh_back.result
     (is_back c.args.taste.now kind got asked)) is)
 
@@ -43,6 +44,7 @@ pub returns-in-None-clause-tasting : goal.returns-in-None-clause-tasting
 returns-in-None-clause-tasting c t kind got asked is =
     subst (λ z. IsTasteOf t z) (sym (c.weigh_back.ensures.taste (λ n. no_counts)))
     (rest_tasting t c.args.taste.now
-    (weighed (λ n. no_counts) c.args.taste.now c.args.facts.now c.weigh_back.result) (is_back c.args.taste.now kind got asked)
+    (weighed (λ n. no_counts) c.args.taste.now c.args.facts.now c.weigh_back.result)
+    (is_back c.args.taste.now kind got asked)
     (weighed_rest (λ n. no_counts) c.args.taste.now c.args.facts.now c.weigh_back.result
     (is_back c.args.taste.now kind got asked)) is)

@@ -1,4 +1,5 @@
 use Rattle.std.proofs.Common.{refl, subst}
+use Rattle.geo_base.proofs.Options.{if_ok_weaker, if-with}
 use Rattle.geo_model.specs.declared.class.Shape.TheVariants.{Slices, Logical, Named, Joined, Striped}
 use Rattle.geo_model.specs.Acceptance.{concat_member, stripe_member}
 use Rattle.geo_model.specs.Topology.{provider_at}
@@ -6,8 +7,7 @@ use Rattle.geo_mesh.specs.Cells.{provider_seen}
 use Rattle.geo_taste.specs.Accepts.{NamesAPlace}
 use Rattle.geo_taste.specs.Making.{both}
 use Rattle.geo_taste.specs.Members.{member_of}
-use Rattle.geo_taste.proofs.AcceptLemmas.{accepted_for, concat_inside, for_shape, has_sector, member_for, of_found, stripe_inside}
-use Rattle.geo_taste.proofs.JoinLemmas.{ok_follows}
+use Rattle.geo_taste.proofs.AcceptLemmas.{accepted_for, concat_inside, for_shape, has_sector, member_for, stripe_inside}
 use Rattle.geo_taste.proofs.shapes.accept.Goals as goal
 
 pub accept_label-requires-clause-sector : goal.accept_label-requires-clause-sector
@@ -39,8 +39,8 @@ pub returns-in-Slices-clause-made : goal.returns-in-Slices-clause-made
 returns-in-Slices-clause-made c =
     let m = both c.args.topo.now c.args.queue.now in
     let p = provider_seen c.args.prov c.in-Some.below.now in
-    ok_follows _ _ c.accept_slices.result
-    (λ a is. of_found (provider_at c.args.topo.now.topology c.args.prov) _ p c.in-Some.ensures.provider
+    if_ok_weaker _ _ c.accept_slices.result
+    (λ a is. if-with (provider_at c.args.topo.now.topology c.args.prov) _ p c.in-Some.ensures.provider
     (for_shape m p c.args.shape.now (Slices c.in-Slices.table) c.in-Slices.is a
     c.accept_slices.new.topo c.accept_slices.new.queue
     (accepted_for m p (Slices c.in-Slices.table) a c.accept_slices.new.topo c.accept_slices.new.queue is)))
@@ -50,8 +50,8 @@ pub returns-in-Logical-clause-made : goal.returns-in-Logical-clause-made
 returns-in-Logical-clause-made c =
     let m = both c.args.topo.now c.args.queue.now in
     let p = provider_seen c.args.prov c.in-Some.below.now in
-    ok_follows _ _ c.accept_partitions.result
-    (λ a is. of_found (provider_at c.args.topo.now.topology c.args.prov) _ p c.in-Some.ensures.provider
+    if_ok_weaker _ _ c.accept_partitions.result
+    (λ a is. if-with (provider_at c.args.topo.now.topology c.args.prov) _ p c.in-Some.ensures.provider
     (for_shape m p c.args.shape.now (Logical c.in-Logical.table) c.in-Logical.is a
     c.accept_partitions.new.topo c.accept_partitions.new.queue
     (accepted_for m p (Logical c.in-Logical.table) a c.accept_partitions.new.topo c.accept_partitions.new.queue is)))
@@ -61,8 +61,8 @@ pub returns-in-Named-clause-made : goal.returns-in-Named-clause-made
 returns-in-Named-clause-made c =
     let m = both c.args.topo.now c.args.queue.now in
     let p = provider_seen c.args.prov c.in-Some.below.now in
-    ok_follows _ _ c.accept_label.result
-    (λ a is. of_found (provider_at c.args.topo.now.topology c.args.prov) _ p c.in-Some.ensures.provider
+    if_ok_weaker _ _ c.accept_label.result
+    (λ a is. if-with (provider_at c.args.topo.now.topology c.args.prov) _ p c.in-Some.ensures.provider
     (for_shape m p c.args.shape.now (Named c.in-Named.found) c.in-Named.is a
     c.accept_label.new.topo c.accept_label.new.queue
     (accepted_for m p (Named c.in-Named.found) a c.accept_label.new.topo c.accept_label.new.queue is)))
@@ -72,8 +72,8 @@ pub returns-in_ok-member-in-Joined-clause-made : goal.returns-in_ok-member-in-Jo
 returns-in_ok-member-in-Joined-clause-made c =
     let m = both c.args.topo.now c.args.queue.now in
     let p = provider_seen c.args.prov c.in-Some.below.now in
-    ok_follows _ _ c.accept_member.result
-    (λ a is. of_found (provider_at c.args.topo.now.topology c.args.prov) _ p c.in-Some.ensures.provider
+    if_ok_weaker _ _ c.accept_member.result
+    (λ a is. if-with (provider_at c.args.topo.now.topology c.args.prov) _ p c.in-Some.ensures.provider
     (for_shape m p c.args.shape.now (Joined c.in-Joined.found) c.in-Joined.is a
     c.accept_member.new.topo c.accept_member.new.queue
     (member_for m p (Joined c.in-Joined.found) (member_of c.in_ok-member-in-Joined.member)
@@ -85,8 +85,8 @@ pub returns-in_ok-member-in-Striped-clause-made : goal.returns-in_ok-member-in-S
 returns-in_ok-member-in-Striped-clause-made c =
     let m = both c.args.topo.now c.args.queue.now in
     let p = provider_seen c.args.prov c.in-Some.below.now in
-    ok_follows _ _ c.accept_member-in-Striped.result
-    (λ a is. of_found (provider_at c.args.topo.now.topology c.args.prov) _ p c.in-Some.ensures.provider
+    if_ok_weaker _ _ c.accept_member-in-Striped.result
+    (λ a is. if-with (provider_at c.args.topo.now.topology c.args.prov) _ p c.in-Some.ensures.provider
     (for_shape m p c.args.shape.now (Striped c.in-Striped.found) c.in-Striped.is a
     c.accept_member-in-Striped.new.topo c.accept_member-in-Striped.new.queue
     (member_for m p (Striped c.in-Striped.found) (member_of c.in_ok-member-in-Striped.member)

@@ -1,11 +1,12 @@
 use Rattle.std.proofs.Common.{◌≡◌, Some, sym, subst}
+use Rattle.geo_base.proofs.Options.{at-found}
 use Rattle.geo_model.specs.Topology.{provider_at}
 use Rattle.geo_taste.specs.Accepting.{accepted, IsAccepted}
 use Rattle.geo_taste.specs.Accepts.{MayAccept}
 use Rattle.geo_taste.specs.Making.{both, queued}
 use Rattle.geo_taste.specs.Standing.{CanStandOn}
 use Rattle.geo_taste.specs.Judging.{IsTakenAs, judged_of}
-use Rattle.geo_taste.proofs.Taking.{if_found, some_stands, taken_as}
+use Rattle.geo_taste.proofs.Taking.{some_stands, taken_as}
 use Rattle.geo_taste.proofs.step.take_shape.Goals as goal
 
 pub accept-requires-clause-stands : goal.accept-requires-clause-stands
@@ -25,7 +26,7 @@ returns-clause-taken c p found =
     (subst (λ z. IsTakenAs m s p shape t q z (judged_of answer)) (sym c.end_class.ensures)
     (taken_as m s shape t q c.requires.settled c.requires.tasting c.tasted-prov.ensures.sound c.requires.place
     c.requires.idle p found answer
-    (if_found (λ x. IsAccepted answer t q m (accepted m x shape) (MayAccept (queued m) x shape))
-    (provider_at c.args.topo.now.topology c.tasted-prov.result) p
+    (at-found (provider_at c.args.topo.now.topology c.tasted-prov.result)
+    (λ x. IsAccepted answer t q m (accepted m x shape) (MayAccept (queued m) x shape)) p
     (subst (λ n. provider_at c.args.topo.now.topology n ≡ Some p) (sym c.tasted-prov.ensures.number) found)
     c.in_ok-accepted.ensures.made)))

@@ -1,4 +1,5 @@
 use Rattle.std.proofs.Common.{◌≡◌, ◌≤◌, ◌∙◌, Some, List, true, ap, arith, length, subst, sym}
+use Rattle.geo_laws_making.proofs.NewSlices.{new_few}
 use Rattle.geo_base.specs.declared.kind.Kind.TheVariants as kinds
 use Rattle.geo_model.specs.Acceptance.{NewSlice, new_parts}
 use Rattle.geo_model.specs.Names.{logical_name}
@@ -6,7 +7,7 @@ use Rattle.geo_model.specs.World.{Ebr}
 use Rattle.geo_laws_life.proofs.Standers.{PairsByRecursion}
 use Rattle.geo_taste.specs.Parts.{are_names, Differ}
 use Rattle.geo_taste.proofs.PartLemmas.{partitions_differ}
-use Rattle.geo_taste.proofs.PartLoops.{count_new, mapped_none, mapped_some, named_nothing, named_some}
+use Rattle.geo_taste.proofs.PartLoops.{mapped_none, mapped_some, named_nothing, named_some}
 use Rattle.geo_taste.proofs.TableLemmas.{sliced_as, table_unnamed, unchanged}
 use Rattle.geo_taste.proofs.tables.accept_partitions.Goals as goal
 
@@ -51,5 +52,5 @@ returns-clause-spare c =
     let same : length c.deref.result.now ≡ length (new_parts c.args.name.now c.args.table.now.parts) =
     ap (λ (xs : List NewSlice). length xs) (c.deref.ensures.value ∙ n.1) in
     let most : length (new_parts c.args.name.now c.args.table.now.parts) ≤ length c.args.table.now.parts =
-    count_new (logical_name c.args.name.now) (λ s. s.count) 0 c.args.table.now.parts in
+    new_few (logical_name c.args.name.now) (λ s. s.count) 0 c.args.table.now.parts in
     omega (arith, c.accept_parts.ensures.spare, same, most, c.partition_parts.ensures.few)

@@ -1,4 +1,5 @@
 use Rattle.std.proofs.Common.{◌≡◌, ◌≤◌, ◌∙◌, Some, List, true, ap, arith, length, subst, sym}
+use Rattle.geo_laws_making.proofs.NewSlices.{new_few}
 use Rattle.geo_base.specs.declared.kind.Kind.TheVariants as kinds
 use Rattle.geo_model.specs.Acceptance.{NewSlice, new_slices}
 use Rattle.geo_model.specs.Names.{slice_name}
@@ -6,7 +7,7 @@ use Rattle.geo_model.specs.World.{Mbr}
 use Rattle.geo_laws_life.proofs.Standers.{PairsByRecursion}
 use Rattle.geo_taste.specs.Parts.{are_names, Differ}
 use Rattle.geo_taste.proofs.PartLemmas.{slices_differ}
-use Rattle.geo_taste.proofs.PartLoops.{count_new, mapped_none, mapped_some, named_nothing, named_some}
+use Rattle.geo_taste.proofs.PartLoops.{mapped_none, mapped_some, named_nothing, named_some}
 use Rattle.geo_taste.proofs.TableLemmas.{sliced_as, table_unnamed, unchanged}
 use Rattle.geo_taste.proofs.tables.accept_slices.Goals as goal
 
@@ -51,5 +52,5 @@ returns-clause-spare c =
     let same : length c.deref.result.now ≡ length (new_slices c.args.name.now c.args.table.now.slices) =
     ap (λ (xs : List NewSlice). length xs) (c.deref.ensures.value ∙ n.1) in
     let most : length (new_slices c.args.name.now c.args.table.now.slices) ≤ length c.args.table.now.slices =
-    count_new (slice_name c.args.name.now) (λ s. s.count) 0 c.args.table.now.slices in
+    new_few (slice_name c.args.name.now) (λ s. s.count) 0 c.args.table.now.slices in
     omega (arith, c.accept_parts.ensures.spare, same, most, c.slice_parts.ensures.few)

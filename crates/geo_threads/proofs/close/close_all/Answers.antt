@@ -30,7 +30,8 @@ close-requires g c =
 pub gather_all-drives-requires-clause-two : goal.gather_all-drives-requires-clause-two
 gather_all-drives-requires-clause-two g c =
     subst (λ l. AreTwo (vec_capacity c.args.room.back) l)
-    (sym (c.take_back.ensures.lists ∙ ap (λ l. l ++ lists_of c.args.workers.items) c.requires.room.no_list)) c.requires.two
+    (sym (c.take_back.ensures.lists ∙ ap (λ l. l ++ lists_of c.args.workers.items) c.requires.room.no_list))
+    c.requires.two
 
 pub returns-clause-mesh : goal.returns-clause-mesh
 returns-clause-mesh g c =

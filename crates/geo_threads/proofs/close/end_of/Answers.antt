@@ -1,7 +1,7 @@
 use Rattle.std.proofs.Common.{◌≡◌, ◌+◌, ◌++◌, ◌∷◌, ◌∙◌, [], ap, arith, length, refl, subst, suc, sym, take}
 use Rattle.std.proofs.lemmas.List.{take_all}
 use Rattle.std.proofs.lemmas.Option.{slice_get_read}
-use Rattle.geo_work.proofs.Openings.{take_one}
+use Rattle.geo_base.proofs.PlaceLists.{take_one}
 use Rattle.geo_work.specs.declared.run.Worker.{Worker}
 use Rattle.geo_threads.specs.Closing.{IsEndOf, worse}
 use Rattle.geo_threads.proofs.Homing.{ends_push}
@@ -15,10 +15,12 @@ loop-k-preserved g c =
     let more : take (k + 1) ws ≡ take k ws ++ w ∷ [] =
     ap (λ n. take n ws) (let e : k + 1 ≡ suc k = omega arith in e)
     ∙ take_one ws k w (slice_get_read ws (length ws) k w refl c.loop-k-test.true c.index-workers-k.is) in
-    subst (λ e. IsEndOf (take (k + 1) ws) e) (sym (c.worse-ended.ensures ∙ ap (λ (x : Worker _). worse c.loop-k.ended x.answer) (sym c.index-workers-k.is)))
+    subst (λ e. IsEndOf (take (k + 1) ws) e)
+    (sym (c.worse-ended.ensures ∙ ap (λ (x : Worker _). worse c.loop-k.ended x.answer) (sym c.index-workers-k.is)))
     (subst (λ l. IsEndOf l (worse c.loop-k.ended w.answer)) (sym more)
     (ends_push (take k ws) w c.loop-k.ended c.loop-k.invariant))
 
 pub returns : goal.returns
 returns g c =
-    subst (λ l. IsEndOf l c.loop-k.ended) (take_all c.loop-k.k c.args.workers.now c.loop-k-test.false) c.loop-k.invariant
+    subst (λ l. IsEndOf l c.loop-k.ended) (take_all c.loop-k.k c.args.workers.now c.loop-k-test.false)
+    c.loop-k.invariant

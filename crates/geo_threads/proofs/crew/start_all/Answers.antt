@@ -17,6 +17,6 @@ returns-in-Ok-clause-ok g c =
           (subst (λ l. HasDrives facts seen l) (sym c.deal.ensures.even) (fit 0))
           (subst (λ l. HasDrives facts seen l) (sym c.deal.ensures.odd) (fit 1));
       many = c.start.ensures.count;
-      looks = begins_view c.in-Ok.watcher c.start_view.new.workers.items c.start.new.workers.items c.start.ensures.begins
-          c.in-Ok.ensures.view;
+      looks = begins_view c.in-Ok.watcher c.start_view.new.workers.items c.start.new.workers.items
+          c.start.ensures.begins c.in-Ok.ensures.view;
     }

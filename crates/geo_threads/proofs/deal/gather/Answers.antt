@@ -31,7 +31,8 @@ loop-drive-preserved g c =
     let moved_long = length-map (take 1 o) (λ x. x.1) in
     let fits = inv.2 in (
       ap (λ l. l ++ gathered c.take_first.new.self.items c.move_first.new.list.items) back
-          ∙ ap (λ l. b ++ d ∷ [] ++ drives_in (take 1 o) ++ gathered l c.move_first.new.list.items) c.take_first.ensures.rest
+          ∙ ap (λ l. b ++ d ∷ [] ++ drives_in (take 1 o) ++ gathered l c.move_first.new.list.items)
+          c.take_first.ensures.rest
           ∙ ap (λ l. b ++ d ∷ [] ++ drives_in (take 1 o) ++ gathered (drop 1 e) l) moved.list
           ∙ append_assoc (b ++ d ∷ []) (drives_in (take 1 o)) (gathered (drop 1 e) (drop 1 o))
           ∙ append_assoc b (d ∷ []) (drives_in (take 1 o) ++ gathered (drop 1 e) (drop 1 o))

@@ -39,5 +39,7 @@ returns-clause-started g c drives evens odds fit_even fit_odd =
 pub returns-clause-begins : goal.returns-clause-begins
 returns-clause-begins g c =
     prefix_trans c.args.workers.now.items c.start_clients.new.workers.items c.start_others.new.workers.items
-    c.start_clients.ensures.begins
-    (others c.start_clients.new.first c.passes_of-passes.result c.args.even c.args.odd, sym c.start_others.ensures.items)
+    c.start_clients.ensures.begins (
+      others c.start_clients.new.first c.passes_of-passes.result c.args.even c.args.odd,
+      sym c.start_others.ensures.items,
+    )

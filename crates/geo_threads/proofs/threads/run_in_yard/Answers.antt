@@ -102,7 +102,8 @@ returns-in-Ok-clause-ok g c =
     threads_ran y (drive_view g.D.Disk.view) c.args.given.drives.items c.close_all.result.drives.items first after
     c.close_all.result.mesh c.close_all.result.ended c.requires.fit c.in-Ok.ensures.ok.first_is.own all.ended all.many
     (subst (λ ps. EndsYard y (first ∷ ps) c.close_all.result.mesh) taken.passes end.mesh)
-    (end.drives ∙ ap (λ l. gathered_of l) taken.lists) (ends_alike after home taken.answers c.close_all.result.ended end.ended)
+    (end.drives ∙ ap (λ l. gathered_of l) taken.lists)
+    (ends_alike after home taken.answers c.close_all.result.ended end.ended)
 
 pub returns-in-Ok-clause-unseen : goal.returns-in-Ok-clause-unseen
 returns-in-Ok-clause-unseen g c none =

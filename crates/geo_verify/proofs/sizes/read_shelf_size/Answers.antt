@@ -1,7 +1,8 @@
 use Rattle.std.proofs.Common.{sym, ◌∙◌, ap, ◌∷◌}
+use Rattle.geo_laws_traces.proofs.Sizes.{shelf_step}
 use Rattle.geo_headline.specs.Traces.{read_sizes, parts_of}
 use Rattle.geo_laws_traces.proofs.Lines.{some_part}
-use Rattle.geo_verify.proofs.SizesRead.{shelf_step, shelf_fault}
+use Rattle.geo_verify.proofs.SizesRead.{shelf_fault}
 use Rattle.geo_verify.proofs.sizes.read_shelf_size.Goals as goal
 
 pub returns-in-Ok-clause-read : goal.returns-in-Ok-clause-read

@@ -1,8 +1,8 @@
 use Rattle.std.proofs.Common.{ap}
+use Rattle.geo_laws_traces.proofs.Sizes.{memory_step}
 use Rattle.geo_headline.specs.Outside.{is_shelf}
 use Rattle.geo_headline.specs.Traces.{parts_of}
 use Rattle.geo_laws_traces.proofs.Lines.{some_part}
-use Rattle.geo_verify.proofs.SizesRead.{memory_step}
 use Rattle.geo_verify.proofs.sizes.read_size.Goals as goal
 
 pub returns-in-Ram-clause-read : goal.returns-in-Ram-clause-read

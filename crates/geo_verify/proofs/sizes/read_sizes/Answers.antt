@@ -9,7 +9,8 @@ pub returns-in_err-sectors-clause-read : goal.returns-in_err-sectors-clause-read
 returns-in_err-sectors-clause-read c =
     let p = err_from_is_err_and c.from_residual.result c.from_residual.ensures.1 in
     let left : List DiskDecl = drop (c.loop-disk.disk-index + 1) c.args.disks.now in
-    let here = from_here c.args.disks.now c.loop-disk.disk-index c.disk-item.result c.loop-disk-test.true c.disk-item.is in
+    let here = from_here c.args.disks.now c.loop-disk.disk-index c.disk-item.result c.loop-disk-test.true
+    c.disk-item.is in
     let P : List DiskDecl → Type 0 = λ ds. IsFormFault (sizes_from c.loop-disk.at ds) c.in_err-sectors.field-0.0 in
     rw (p.1, p.2)
     (fault_behind (sizes_from c.args.place c.args.disks.now)

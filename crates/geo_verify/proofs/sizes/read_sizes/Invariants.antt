@@ -6,7 +6,8 @@ use Rattle.geo_verify.proofs.sizes.read_sizes.Given as goal
 
 abbrev pub invariant-loop-disk : goal.invariant-loop-disk
 invariant-loop-disk l = record {
-  reads : sizes_from l.fn.place l.disks ≡ then_read (sizes_from l.at (drop l.disk-index l.disks)) (add_facts l.facts.items);
+  reads : sizes_from l.fn.place l.disks
+      ≡ then_read (sizes_from l.at (drop l.disk-index l.disks)) (add_facts l.facts.items);
   behind : IsBehind l.at l.fn.place;
   room : length l.disks ≤ l.facts.spare + l.disk-index;
 }

@@ -1,7 +1,8 @@
 use Rattle.std.proofs.Common.{◌≡◌, ◌||◌, true, bytes_eq, ◌∙◌, sym, inl, inr}
 use Rattle.std.proofs.lemmas.Bool.{or_cases}
+use Rattle.geo_base.proofs.Tests.{same_from_bytes_eq}
 use Rattle.geo_disk.specs.Names.{is_among}
-use Rattle.geo_disk.proofs.NameLemmas.{among-push, same_from_bytes_eq}
+use Rattle.geo_disk.proofs.NameLemmas.{among-push}
 use Rattle.geo_disk.proofs.lending.Lending.lend.Goals as goal
 
 pub invariant_of-self-2 : goal.invariant_of-self-2

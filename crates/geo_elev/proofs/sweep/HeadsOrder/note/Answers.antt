@@ -4,4 +4,5 @@ use Rattle.geo_elev.proofs.sweep.HeadsOrder.note.Goals as goal
 
 pub returns-clause-forgot : goal.returns-clause-forgot
 returns-clause-forgot c =
-    forgotten_then c.note.result c.args.mesh.now c.args.self.now c.note.new.self c.requires.earlier c.note.ensures.forgot
+    forgotten_then c.note.result c.args.mesh.now c.args.self.now c.note.new.self c.requires.earlier
+    c.note.ensures.forgot

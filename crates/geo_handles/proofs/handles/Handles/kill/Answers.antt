@@ -1,5 +1,5 @@
 use Rattle.std.proofs.Common.{◌≡◌, Some, true, sym, refl}
-use Rattle.geo_base.proofs.Tests.{some_of}
+use Rattle.geo_base.proofs.Options.{some_of}
 use Rattle.geo_handles.specs.Keys.{number_of_consumer}
 use Rattle.geo_handles.specs.Inside.{dead_one}
 use Rattle.geo_handles.proofs.InsideLemmas.{changed, held-there, held-none, held-change, inside-marked}

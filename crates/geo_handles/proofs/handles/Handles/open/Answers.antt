@@ -1,6 +1,6 @@
 use Rattle.std.specs.Prelude.{◌≤◌, ◌+◌, Some, false}
 use Rattle.std.proofs.Common.{refl, ap, arith}
-use Rattle.geo_base.proofs.Tests.{on_ok}
+use Rattle.geo_base.proofs.Options.{on_ok}
 use Rattle.geo_handles.specs.Inside.{room_of}
 use Rattle.geo_handles.proofs.RowLemmas.{rows-few}
 use Rattle.geo_handles.proofs.InsideLemmas.{named-free, held-free, inside-opened}

@@ -1,4 +1,5 @@
 use Rattle.std.proofs.Common.{◌≡◌, ◌∙◌, true, sym, ap, refl, subst, arith}
+use Rattle.geo_model.proofs.BioLemmas.{phase_down}
 use Rattle.geo_model.specs.Bios.{up_with}
 use Rattle.geo_model.specs.World.{is_down, is_up}
 use Rattle.geo_bio.specs.declared.bio.Held.TheVariants as held
@@ -6,7 +7,7 @@ use Rattle.geo_bio.specs.BioTable.{BioTableView, has_phase}
 use Rattle.geo_state.specs.Cursors.{with_one}
 use Rattle.geo_state.proofs.OrderLemmas.{table_rises, fewer_than_next, bio_in}
 use Rattle.geo_state.proofs.CursorLemmas.{room_for_one}
-use Rattle.geo_state.proofs.CountLemmas.{down_is, from_down_up}
+use Rattle.geo_state.proofs.CountLemmas.{from_down_up}
 use Rattle.geo_state.proofs.traffic.Traffic.bounce.Goals as goal
 
 pub with_one-self-inside-requires : goal.with_one-self-inside-requires
@@ -16,7 +17,7 @@ with_one-self-inside-requires c =
     (subst (λ (v : BioTableView). has_phase is_down v.bios c.args.bio ≡ true) (sym c.self.view_is) c.requires) in
     let order = c.without_one-self-inside.ensures.in_order in
     let room = room_for_one is_up old.bios c.args.bio x.0 (table_rises old order) x.1
-    (ap is_up (down_is x.0.phase x.2)) in
+    (ap is_up (phase_down x.0.phase x.2)) in
     let few = fewer_than_next old order in
     omega (arith, room, few, c.without_one-self-inside.ensures.bound, c.self.invariant.ups.count)
 
@@ -28,7 +29,7 @@ invariant_of-self c =
     let order = c.without_one-self-inside.ensures.in_order in
     let counted = from_down_up now.bios.bios c.args.bio x.0 (table_rises now.bios order) x.1 now.down now.sent now.up
     now.busy now.live c.self.invariant (up_with (held.Failed c.args.errno)) refl c.without_one-self-inside.result
-    (down_is x.0.phase x.2) refl c.without_one-self-inside.ensures.cursor in
+    (phase_down x.0.phase x.2) refl c.without_one-self-inside.ensures.cursor in
     let bios = ap (λ (t : BioTableView). t.bios) c.bounce.ensures in
     let up = c.with_one-self-inside.ensures ∙ ap (with_one now.up) c.number.ensures in
     rw (bios, up) counted

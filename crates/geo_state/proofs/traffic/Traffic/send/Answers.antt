@@ -1,11 +1,12 @@
 use Rattle.std.proofs.Common.{◌≡◌, ◌∙◌, true, sym, ap, refl, subst, arith}
+use Rattle.geo_model.proofs.BioLemmas.{phase_down}
 use Rattle.geo_model.specs.World.{is_down, is_sent}
 use Rattle.geo_model.specs.declared.step.Phase.TheVariants as phases
 use Rattle.geo_bio.specs.BioTable.{BioTableView, has_phase, with_phase}
 use Rattle.geo_state.specs.Cursors.{with_one}
 use Rattle.geo_state.proofs.OrderLemmas.{table_rises, fewer_than_next, bio_in}
 use Rattle.geo_state.proofs.CursorLemmas.{room_for_one}
-use Rattle.geo_state.proofs.CountLemmas.{down_is, from_down_sent}
+use Rattle.geo_state.proofs.CountLemmas.{from_down_sent}
 use Rattle.geo_state.proofs.traffic.Traffic.send.Goals as goal
 
 pub with_one-self-inside-requires : goal.with_one-self-inside-requires
@@ -15,7 +16,7 @@ with_one-self-inside-requires c =
     (subst (λ (v : BioTableView). has_phase is_down v.bios c.args.bio ≡ true) (sym c.self.view_is) c.requires) in
     let order = c.without_one-self-inside.ensures.in_order in
     let room = room_for_one is_sent old.bios c.args.bio x.0 (table_rises old order) x.1
-    (ap is_sent (down_is x.0.phase x.2)) in
+    (ap is_sent (phase_down x.0.phase x.2)) in
     let few = fewer_than_next old order in
     omega (arith, room, few, c.without_one-self-inside.ensures.bound, c.self.invariant.takes.count)
 
@@ -27,7 +28,7 @@ invariant_of-self c =
     let order = c.without_one-self-inside.ensures.in_order in
     let counted = from_down_sent now.bios.bios c.args.bio x.0 (table_rises now.bios order) x.1 now.down now.sent now.up
     now.busy now.live c.self.invariant (with_phase phases.Sent) refl c.without_one-self-inside.result
-    (down_is x.0.phase x.2) refl c.without_one-self-inside.ensures.cursor in
+    (phase_down x.0.phase x.2) refl c.without_one-self-inside.ensures.cursor in
     let bios = ap (λ (t : BioTableView). t.bios) c.send.ensures in
     let sent = c.with_one-self-inside.ensures ∙ ap (with_one now.sent) c.number.ensures in
     rw (bios, sent) counted

@@ -8,8 +8,9 @@ use Rattle.geo_state.proofs.OrderLemmas.{table_rises, fewer_than_next, bio_in}
 use Rattle.std.proofs.Common.{IfSome}
 use Rattle.std.proofs.lemmas.List.{length-append}
 use Rattle.std.proofs.lemmas.List.Sums.{count_by-le-length}
+use Rattle.geo_model.proofs.BioLemmas.{phase_down}
 use Rattle.geo_bio.specs.Split.{split_into}
-use Rattle.geo_state.proofs.CountLemmas.{down_is, from_down_waiting, down_come, split_down, split_length, split_first}
+use Rattle.geo_state.proofs.CountLemmas.{from_down_waiting, down_come, split_down, split_length, split_first}
 use Rattle.geo_state.proofs.traffic.Traffic.start.Goals as goal
 
 pub with_last-self-inside-requires : goal.with_last-self-inside-requires
@@ -19,7 +20,7 @@ with_last-self-inside-requires c =
     (subst (λ (v : BioTableView). has_phase is_down v.bios c.args.bio ≡ true) (sym c.self.view_is) c.requires.down) in
     let rising = table_rises now.bios c.without_one-down.ensures.in_order in
     let waits = from_down_waiting now.bios.bios c.args.bio x.0 rising x.1 now.down now.sent now.up now.busy now.live
-    c.self.invariant (with_phase phases.Waiting) refl c.without_one-down.result (down_is x.0.phase x.2) refl
+    c.self.invariant (with_phase phases.Waiting) refl c.without_one-down.result (phase_down x.0.phase x.2) refl
     c.without_one-down.ensures.cursor in
     let split = subst (λ o. IfSome o (λ (y : BioOf Held). c.start.new.self.bios
     ≡ change_number c.args.bio (with_phase phases.Waiting) now.bios.bios
@@ -42,7 +43,7 @@ overflow_add-self c =
     (subst (λ (v : BioTableView). has_phase is_down v.bios c.args.bio ≡ true) (sym c.self.view_is) c.requires.down) in
     let rising = table_rises now.bios c.without_one-down.ensures.in_order in
     let waits = from_down_waiting now.bios.bios c.args.bio x.0 rising x.1 now.down now.sent now.up now.busy now.live
-    c.self.invariant (with_phase phases.Waiting) refl c.without_one-down.result (down_is x.0.phase x.2) refl
+    c.self.invariant (with_phase phases.Waiting) refl c.without_one-down.result (phase_down x.0.phase x.2) refl
     c.without_one-down.ensures.cursor in
     let split = subst (λ o. IfSome o (λ (y : BioOf Held). c.start.new.self.bios
     ≡ change_number c.args.bio (with_phase phases.Waiting) now.bios.bios
@@ -63,8 +64,9 @@ invariant_of-self-2 c =
     (subst (λ (v : BioTableView). has_phase is_down v.bios c.args.bio ≡ true) (sym c.self.view_is) c.requires.down) in
     let children = split_into now.bios.next x.0 0 c.args.pieces.now.items c.args.targets.now.items in
     let rising = table_rises now.bios c.without_one-down.ensures.in_order in
-    let waits = from_down_waiting now.bios.bios c.args.bio x.0 rising x.1 now.down now.sent now.up now.busy now.live c.self.invariant (with_phase phases.Waiting) refl
-    c.without_one-down.result (down_is x.0.phase x.2) refl c.without_one-down.ensures.cursor in
+    let waits = from_down_waiting now.bios.bios c.args.bio x.0 rising x.1 now.down now.sent now.up now.busy now.live
+    c.self.invariant (with_phase phases.Waiting) refl
+    c.without_one-down.result (phase_down x.0.phase x.2) refl c.without_one-down.ensures.cursor in
     let counted = down_come (change_number c.args.bio (with_phase phases.Waiting) now.bios.bios) children
     c.without_one-down.result now.sent now.up now.busy now.live now.bios.next (length c.args.pieces.now.items) waits
     (split_down now.bios.next x.0 0 c.args.pieces.now.items c.args.targets.now.items)

@@ -1,10 +1,11 @@
 use Rattle.std.proofs.Common.{◌≡◌, true, sym, ap, refl, subst, arith}
+use Rattle.geo_model.proofs.BioLemmas.{phase_sent}
 use Rattle.geo_model.specs.World.{is_sent, is_busy}
 use Rattle.geo_model.specs.declared.step.Phase.TheVariants as phases
 use Rattle.geo_bio.specs.BioTable.{BioTableView, has_phase, with_phase}
 use Rattle.geo_state.proofs.OrderLemmas.{table_rises, fewer_than_next, bio_in}
 use Rattle.geo_state.proofs.CursorLemmas.{room_for_one}
-use Rattle.geo_state.proofs.CountLemmas.{sent_is, from_sent_busy}
+use Rattle.geo_state.proofs.CountLemmas.{from_sent_busy}
 use Rattle.geo_state.proofs.traffic.Traffic.take.Goals as goal
 
 pub overflow_add-self : goal.overflow_add-self
@@ -14,7 +15,7 @@ overflow_add-self c =
     (subst (λ (v : BioTableView). has_phase is_sent v.bios c.args.bio ≡ true) (sym c.self.view_is) c.requires) in
     let order = c.without_one-self-inside.ensures.in_order in
     let room = room_for_one is_busy old.bios c.args.bio x.0 (table_rises old order) x.1
-    (ap is_busy (sent_is x.0.phase x.2)) in
+    (ap is_busy (phase_sent x.0.phase x.2)) in
     let few = fewer_than_next old order in
     omega (arith, room, few, c.without_one-self-inside.ensures.bound, c.self.invariant.taken)
 
@@ -26,6 +27,6 @@ invariant_of-self c =
     let order = c.without_one-self-inside.ensures.in_order in
     let counted = from_sent_busy now.bios.bios c.args.bio x.0 (table_rises now.bios order) x.1 now.down now.sent now.up
     now.busy now.live c.self.invariant (with_phase (phases.Busy c.args.seat)) refl c.without_one-self-inside.result
-    c.args.seat (sent_is x.0.phase x.2) refl c.without_one-self-inside.ensures.cursor in
+    c.args.seat (phase_sent x.0.phase x.2) refl c.without_one-self-inside.ensures.cursor in
     let bios = ap (λ (t : BioTableView). t.bios) c.take.ensures in
     rw bios counted
