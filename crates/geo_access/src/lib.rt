@@ -1,5 +1,26 @@
 //! The running access counts of g_access(9): what a demand at a provider does to the counts of all that stands below
 //! it, and what refuses it.
+//!
+//! All is said of the view of geo_mesh's `Topo`, for any configuration; [`Steps`] is seen as a number. Each call
+//! keeps `IsCounted`: the stored counts are the model's sums, exclusive and within the limit.
+//!
+//! [`allowed`], [`could_grant`] and [`grant`] answer exactly the model's refusal, in its order (`answer`). They name
+//! the errored provider with the smallest number, the writer and the exclusive consumer, or the provider past the
+//! limit (`named`). After a refusal the whole view is as before (`same`). After [`grant`] and [`release`] every count
+//! is the model's, and exactly the providers are noted whose write count left zero or came to it (`risen`, `fallen`).
+//! [`next_risen`] and [`next_fallen`] hand out the least noted provider and drop its note alone. [`join`] attaches a
+//! consumer while its geom may be open. It answers exactly the model's refusal of a join, and names what the others
+//! name. Else the graph has the consumer, every count is the model's, and exactly the risen are noted (`joined`).
+//!
+//! No call takes memory. `bound` counts the steps that the body ticks: at most one for each consumer that belongs to
+//! a geom of a provider reached downwards, and for [`join`] one more. A consumer just made meets the conditions of
+//! [`join`] ([`new_consumers_may_join`]), and a mesh in which nothing is open those of all calls
+//! ([`shut_meshes_are_counted`], [`meshes_stay_shut`]). A consumer that was made, refused and taken away again,
+//! attached in between or not, leaves nothing but a number that is used up, and all counts are kept. One of DEV or
+//! TASTE that joined only was attached ([`refused_consumers_go`] says both).
+//!
+//! Only tested, in geo_tests_core: that meshes can be built so far that the calls decide something. geo_life,
+//! geo_taste, geo_opens, geo_requests and geo_commands call it. Read `src/access.rt` and `specs/Access.antt` first.
 #![tactic(auto)]
 
 mod access;

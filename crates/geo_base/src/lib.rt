@@ -1,4 +1,18 @@
-//! Plain values that every crate speaks of: errors, classes, commands of requests, counts, numbers, names and bytes.
+//! Plain values that every crate speaks of: errors as in errno(2), classes (geom(4)), commands of requests
+//! (g_bio(9)), access counts (g_access(9)), numbers, names and bytes. Beside them the limits of the profile, each
+//! stated once.
+//!
+//! Contracts see a number as itself, and a [`Name`], a [`Block`] and a [`SharedBytes`] as the list of its bytes,
+//! whoever else holds them.
+//!
+//! [`Name::new`] and [`Name::with_tail`] answer a name exactly where the bytes are one (`name_of`).
+//! [`SharedBytes::share`] and [`SharedBytes::copy`] leave the bytes as they are; [`SharedBytes::part`] gives so many
+//! from a place on. [`runs_text`] gives the one text of 1 to 65,536 bytes. [`read_runs`] reads exactly the texts of
+//! runs (`IsRuns`), and else says how many bytes at the front begin one (`IsRunsRefusal`). What was written is read
+//! back ([`runs_are_read_back`], [`runs_have_one_reading`]). No clause says that shared bytes take no memory of their
+//! own: docs/MEASURED.md has what was measured.
+//!
+//! Nearly all crates use it. Its tests stand in geo_tests_low. Read `src/name.rt` and `src/runs.rt` first.
 #![tactic(auto)]
 
 mod block;

@@ -1,5 +1,32 @@
 //! Commands of lines over the state of the running mesh: what a command waits for, what is decided of it before it is
 //! made, what it leaves owed to the log, and what it does.
+//!
+//! All is said of geo_state's `State`: each call is the model's command in the world that the state stands for
+//! (`does`), in a firm world, and keeps `Holds` (`kept`). Where memory is wanting the world stays the same (`same`).
+//!
+//! [`wait_found`] tells what a sync or a settle waits for. [`decide`] tells what refuses an open, and whether a close
+//! is answered ok. [`owed_after`] is how many places of the log are then owed. Each is as the model has it, and
+//! nothing changes. [`do_command`] is the model's command of the line; a close that is answered ok takes no memory
+//! (`no_memory`).
+//!
+//! - [`stand`], [`insert`]: a disk of the header stands as a geom with a provider of its name (disk(9)); `insert` is
+//!   refused exactly as the model has it.
+//! - [`pull`], [`destroy`]: the disk's geom withers, or the geom of a class and a name that isn't in use
+//!   (g_wither_geom(9)). They are refused exactly as the model has it, and take no memory.
+//! - [`nop`]: a window of a provider, some of whose requests fail (gnop(8)). It asks that providers' names are names
+//!   (`HaveNames`), which `legal_logs_have_names` gives.
+//! - [`concat`], [`stripe`]: a geom over the providers of the names, in their order (gconcat(8), gstripe(8)), with
+//!   the refusals in the model's order.
+//! - [`append`]: a standing concat grows by one component (g_resize_provider(9)). A consumer that is refused uses up
+//!   a number. It ticks at most one step for each consumer below the provider, and two more (`bound`).
+//! - [`named_geom`], [`growing_concat`], [`all_named`], [`joined_refusal`], [`nop_refusal`], [`is_in_use`]: what
+//!   these look for, and what is against them. [`is_growth_busy`] reads each request that is out once; no clause says
+//!   so.
+//! - [`listing`]: exactly the model's lines of the mesh as it is printed, in one pass over the geoms, with the counts
+//!   that are stored.
+//!
+//! There are no tests of its own: geo_tests_program and `rows/` run it. geo_core calls it. Read `src/dispatch.rt`
+//! first, one arm a command.
 #![tactic(auto)]
 
 mod above;

@@ -1,4 +1,13 @@
-//! The class CONCAT: providers one behind the other.
+//! The class CONCAT: providers one behind the other (gconcat(8)).
+//!
+//! A [`ConcatMap`] is seen as the sizes of its components and its sector size, and meets geo_range's `AddressMap`.
+//! [`ConcatMap::add`] puts a component behind the others: each old offset keeps its place ([`places_stay`]), and each
+//! new one lies in the new component ([`new_places_are_in_the_new_component`]).
+//!
+//! [`decode`] answers exactly the model's record or the first cause to decline it (`concat_record`). [`encode`]
+//! leaves the record and zeros behind it. [`what_is_encoded_is_decoded`], where the place is one of 1 to 16 places.
+//!
+//! geo_class uses it. Tests stand in geo_tests_low. Read `src/concat_map.rt` first.
 #![tactic(auto)]
 
 mod concat_map;

@@ -1,4 +1,15 @@
-//! The class EBR: the logical partitions of a chain of links.
+//! The class EBR: the logical partitions of a chain of links, read sector by sector (gpart(8)).
+//!
+//! Contracts see a [`Chain`] as the number of the provider's sectors and the chain so far: its links, and the sector
+//! of the next one. An [`EbrMap`] is seen as the window of one partition.
+//!
+//! [`Chain::feed`] answers exactly what the model says to the sector of the next link (`feed`): that it wants another
+//! sector, that the chain is whole, or the first cause of a decline. A chain read along its answers has exactly the
+//! table of its media ([`read_chain`]: `chain_table`). Each provider lies as the map of its partition says
+//! ([`maps_are_the_models`]).
+//!
+//! geo_class judges by it while a taste is under way. Tests of chains that lead back, too far or on for too long
+//! stand in geo_tests_low. Read `src/chain.rt` first.
 #![tactic(auto)]
 
 mod chain;

@@ -1,4 +1,11 @@
-//! The class LABEL: a provider under another name.
+//! The class LABEL: a provider under another name, one sector shorter, by a record in its last sector (glabel(8)).
+//!
+//! A [`LabelMap`] is seen as its window, and meets geo_range's `AddressMap`. [`decode`] answers exactly the model's
+//! record, of version 1 or 2, or the first cause to decline it (`label_record`). [`encode`] leaves the record and
+//! zeros behind it (`label_sector`). [`what_is_encoded_is_decoded`].
+//!
+//! geo_class asks and judges by it, and geo_requests writes the records. Tests stand in geo_tests_low. Read
+//! `src/record.rt`.
 #![tactic(auto)]
 
 mod label_map;

@@ -1,4 +1,13 @@
-//! Laws of the address maps of a sound, steady and fitting mesh (geom(4)).
+//! Laws of the address maps of a sound, steady and fitting mesh (geom(4)): what below a request is open, and how its
+//! map goes down. There is no code: each contract is a law.
+//!
+//! A provider to which a bio goes has a count ([`live_is_open`]). Below an open provider each component is a consumer
+//! at an open provider ([`open_goes_down`]), so all that bios use is open ([`used_goes_down`]). Where an offset lies,
+//! and which disks are reached, is told by the providers below ([`map_goes_down`]). Where the leaves of each child
+//! cover that child, together they cover the request ([`joined_covers`]).
+//!
+//! geo_laws_steps needs them to show that no step changes a map in use; so do the laws of rest, requests and the
+//! elevator order. Read `specs/MapLaws.antt` first.
 #![tactic(auto)]
 
 ghost use Rattle.geo_laws_maps.specs.Covers.{JoinedCovers};

@@ -1,5 +1,13 @@
 //! Laws of what is owed: a place of the log for the close of each handle, and one for the Deliver of each Busy bio.
-//! Each step changes it by just what it begins to owe and what it pays, and a log within its limit stays within it.
+//! There is no code: each contract is a law.
+//!
+//! Each step owes just the places more that it begins to owe, and just those less that it pays
+//! ([`steps_change_what_is_owed`]). A lawful log stays lawful with an entry that has its place, and a legal log is
+//! within its limit exactly if each entry had its place ([`logs_stay_lawful`]). Where a step has no place, the log
+//! with what is owed is at its limit but for one, and that sum never falls ([`full_logs_stay_long`]).
+//!
+//! geo_commands and geo_drain need them, geo_threads for the answer of a job that found the log full, and
+//! geo_laws_traces. Read `specs/OwedLaws.antt` first.
 #![tactic(auto)]
 
 ghost use Rattle.geo_laws_owed.specs.FullLaws.{FullLogsAreLong, OwedNeverFalls};

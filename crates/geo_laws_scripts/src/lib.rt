@@ -1,4 +1,12 @@
-//! Laws of scripts: that a plan is read back from the script that it is written as, wherever that has room for it.
+//! Laws of scripts: a plan is read back from the script that it is written as. There is no code: each contract is a
+//! law.
+//!
+//! A plan that is written as a script, by a printer that follows the grammar and not the reader, is read back, each
+//! field of each command in its place ([`plans_are_read`]). It is exactly where its commands stand behind its header,
+//! and no `write`, `concat` or `stripe` makes a line that is too long ([`read_plans_have_room`]).
+//!
+//! No crate stands on this one: it shows that the grammar forgets nothing. Read `specs/PlanTexts.antt`, the printer,
+//! first.
 #![tactic(auto)]
 
 ghost use Rattle.geo_laws_scripts.specs.ScriptLaws.{PlansAreRead, ReadPlansHaveRoom};

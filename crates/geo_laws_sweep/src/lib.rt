@@ -1,5 +1,15 @@
-//! Laws of the elevator order (geom(4)): it goes on until rest and ends there; while nothing comes, the place at which a
-//! disk takes its requests falls at most once; and no bio passes a FLUSH.
+//! Laws of the elevator order (geom(4)). There is no code: each function has an empty body, and its contract is the
+//! law.
+//!
+//! It comes to rest as the fixed order does. Where a legal log leads without a Busy bio, and not to rest, it gives an
+//! enabled step that lowers the measure ([`sweep_goes_on`]), and at rest none ([`sweep_ends`]). After any first part
+//! of a legal log the place at which a disk's requests begin falls at most once while nothing comes to it. No request
+//! is taken before a FLUSH of its disk that waits and has a smaller number ([`sweeps_keep_places`] says both). That
+//! rests on what is next ([`some_is_next`], [`next_is_among`], [`takes_fall_once`]), and on what waits
+//! ([`steps_change_waiting`], [`takes_ask_waiting`]).
+//!
+//! geo_elev needs them: its `Heads` is an order that goes on. Read `specs/SweepLaws.antt` first; the order itself is
+//! `sweep_order` of geo_headline.
 #![tactic(auto)]
 
 ghost use Rattle.geo_laws_sweep.specs.Elevator.{NextIsAmong, SomeIsNext, TakesFallOnce};
@@ -49,7 +59,8 @@ pub fn takes_ask_waiting()
 {}
 
 /// Along a legal log in the elevator order the place at which a disk takes its requests falls at most once between the
-/// FLUSHes that it takes and the requests that come to it, and no request is taken before a FLUSH that waits for longer.
+/// FLUSHes that it takes and the requests that come to it, and no request is taken before a FLUSH that waits for
+/// longer.
 #[tactic(auto, using(crate::proofs::Places::sweeps_keep_places))]
 pub fn sweeps_keep_places()
     ensures { SweepsKeepPlaces }

@@ -1,5 +1,16 @@
-//! Laws of traces: that the steps of a legal log make it again, that what is written as a trace is read as it and the
-//! other way round, and what it means that a trace is verified.
+//! Laws of traces. There is no code: each function has an empty body, and its contract is the law.
+//!
+//! Who made which steps determines a legal log: its steps make it again ([`steps_make_a_log_again`]), and what steps
+//! make is legal ([`what_steps_make_is_legal`]). A trace is read as it was written, and only so
+//! ([`what_is_written_is_read`], [`what_is_read_was_written`]), and is a script with sizes and steps that fit
+//! ([`what_is_read_fits`]). A yes is said exactly of a trace whose steps make a whole log that ends at rest and has
+//! its report ([`yes_is_said_of_what_is_verified`]); the trace of each such log gets it
+//! ([`traces_of_legal_logs_are_verified`]).
+//!
+//! Two laws are for the code: each Deliver of bytes has no more than a request can ask for ([`delivers_are_short`]),
+//! and a legal log owes no more places than it has entries ([`steps_owe_few_places`]).
+//!
+//! geo_verify needs them all. Read `specs/TraceLaws.antt` first; what a trace is says `Traces.antt` of geo_headline.
 #![tactic(auto)]
 
 ghost use Rattle.geo_headline.specs.Verifying.{MadeAgain, MadeIsLegal};

@@ -1,8 +1,21 @@
 //! The topology lock: one state with a log, shared by threads that take turns at its steps.
 //!
-//! A [`Yard`] holds any [`Logged`] state. Each thread has a [`Pass`], which names its seat and
-//! remembers the log as it last saw it. The state is never handed out: [`Yard::apply`] makes one step
-//! of it under the lock, and [`Yard::close`] gives it back once every pass has come home.
+//! A [`Yard`] holds any [`Logged`] state. Each thread has a [`Pass`], which names its seat and remembers the log as
+//! it last saw it. The state is never handed out: [`Yard::apply`] makes one step of it under the lock, and
+//! [`Yard::close`] gives it back once every pass has come home.
+//!
+//! Contracts see a [`Yard`] as which one it is and the start of its state. A [`Pass`] is seen as its yard, its
+//! number, what it has seen of the log, its own entries, and how many passes were made of it (`PassView`).
+//!
+//! After [`Yard::apply`] what the pass had seen is a prefix of what it has seen now (`longer`). On Ok that ends with
+//! its entry, and its own entries gained just this one (`made`). A refusal is the state's, at exactly what the pass
+//! has seen (`refused`). What it has seen is lawful from its start (`good`). [`Yard::close`] gives the state with the
+//! whole log, of which each pass's entries are those of its number (`ok`); it is never refused (`sure`). Each entry
+//! has the number of a pass, so it is one of that pass's own ([`each_entry_is_own`]).
+//!
+//! [`Tally`] is the smallest such state, for tests; geo_core's mesh is the real one. geo_tests_threads has two
+//! threads on one yard, of a sum and of a mesh. geo_steps makes steps by it, and geo_threads opens and closes the
+//! yard. Read `src/yard.rt` first; docs/ARCHITECTURE.md tells the rule (`IsKept`).
 //!
 //! Nothing is promised of progress, fairness or time.
 #![tactic(auto)]

@@ -1,4 +1,9 @@
-//! The class MBR: the slices of a partition table.
+//! The class MBR: the slices of a partition table in the first sector of a provider (gpart(8)).
+//!
+//! An [`MbrMap`] is seen as the window of one slice, and meets geo_range's `AddressMap`. [`decode`] answers exactly
+//! the model's table (`mbr_table`) or the first cause to decline it: `Signature`, `Protective`, `Nothing`.
+//!
+//! geo_class uses it. Tests of hostile entries stand in geo_tests_low. Read `src/table.rt`.
 #![tactic(auto)]
 
 mod mbr_map;

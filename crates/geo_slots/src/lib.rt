@@ -1,4 +1,15 @@
-//! Tables whose values stand under numbers that count from 1 and are never given out again.
+//! Tables whose values stand under numbers that count from 1 and are never given out again, over the kept library
+//! `slab`. The numbers of geoms, providers, consumers, handles and bios are such.
+//!
+//! Contracts see a [`Slots`] as its rows, each a number with its value, in rising order of numbers, beside the next
+//! number and the spare room (`SlotsView`). At run time an index leads from numbers to the keys of the slab.
+//!
+//! [`Slots::insert`] into spare room takes no memory and gives the next number (`number`, `inserted`), so no number
+//! comes twice. [`Slots::get`], [`Slots::get_mut`], [`Slots::remove`] and [`Slots::first_from`] find exactly what is
+//! there (`value`, `first`). [`Slots::reserve`] makes room; where memory is wanting the values stay.
+//!
+//! Only tested, in geo_tests_low: that there is memory, and the table at concrete types. geo_family, geo_names,
+//! geo_mesh, geo_bio and geo_handles keep their rows in it. Read `src/slots.rt` and `specs/Slots.antt`.
 #![tactic(auto)]
 
 mod slots;

@@ -1,4 +1,11 @@
-//! The class STRIPE: providers in turn, strip by strip.
+//! The class STRIPE: providers in turn, strip by strip, as far as the smallest goes (gstripe(8)).
+//!
+//! A [`StripeMap`] is seen as four numbers: how many components there are, the strip, the smallest component and the
+//! sector size. It meets geo_range's `AddressMap`, and cuts at every strip's end. [`decode`] answers exactly the
+//! model's record or the first cause to decline it (`stripe_record`). [`encode`] leaves the record and zeros behind
+//! it. [`what_is_encoded_is_decoded`], where place and stripe size fit.
+//!
+//! geo_class uses it. Tests stand in geo_tests_low. Read `src/stripe_map.rt` first.
 #![tactic(auto)]
 
 mod record;

@@ -1,5 +1,10 @@
 //! Tests of the low layers: plain types, tables, bytes in and out, disks, scripts, address maps and records. They
 //! stand in one crate, since a crate with tests is proved twice.
+//!
+//! Each file has the tests of one crate, at concrete values. They show what no clause says: that the calls which
+//! allocate succeed with ample memory, and that the calls can be made at all. `file.rt` works on real image files,
+//! `io.rt` on a reader and a writer of std: what these edges give and take is tested alone. `script.rt` has the table
+//! of good and bad lines; `mbr.rt` and `ebr.rt` have tables and chains that lie.
 #![tactic(auto)]
 
 #[cfg(test)]

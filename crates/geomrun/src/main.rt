@@ -1,5 +1,9 @@
-//! The program `geomrun`: its words, standard input and standard output, and the images of the current folder, given to
-//! the top call.
+//! The program `geomrun`: its words, standard input and standard output, and the images of the current folder, given
+//! to the top call.
+//!
+//! It hands these and a gate that holds nobody to geo_run's `run`, and ends with its status; where not even the words
+//! have memory it ends by `without_memory`. It is proved safe. What the environment gives as words no clause can say.
+//! The manual is docs/geomrun.8.
 #![tactic(auto)]
 
 use geo_file::FileShelf;
